@@ -1,6 +1,6 @@
 -- A branch page, written piece by piece.
-use Rattle.std.proofs.Common.{◌≡◌, ℕ, ◌+◌, ◌-◌, ◌*◌, ◌<◌, ◌≤◌, List, [], ◌∷◌, ◌++◌, length, map, drop, get_or, refl, ap, arith}
-use Rattle.std.proofs.lemmas.List.{append-nil, at_drop_more, drop_all, length-map}
+use Rattle.std.proofs.Common.{◌≡◌, ℕ, ◌+◌, ◌-◌, ◌*◌, ◌<◌, List, [], ◌∷◌, ◌++◌, length, map, drop, get_or, refl, arith}
+use Rattle.std.proofs.lemmas.List.{append-nil, at_drop_more, length-map}
 use Rattle.bolt_format.specs.{ElementPlaces.branch_view, declared.element.Branch.Branch, Encoded.branch_header, Encoded.header_bytes}
 use Rattle.bolt_layout.specs.{Layout.placed_bytes, Levels.overflow_of}
 use Rattle.bolt_layout.specs.PageBytes.{branch_bytes, branch_data, branch_headers, page_bytes}
@@ -32,9 +32,6 @@ branch_packed = record { none = λ before. refl; first = λ before x xs. grind (
 -- the keys that are left, from number i on
 pub keys_left : (xs : List Branch) (i : ℕ) → i < length xs → branch_data (map branch_view (drop i xs)) ≡ (get_or xs i no_branch).key.now ++ branch_data (map branch_view (drop (i + 1) xs))
 keys_left xs i h = at_drop_more (λ ys. branch_data (map branch_view ys)) xs i no_branch h
-
-pub keys_none : (xs : List Branch) (i : ℕ) → length xs ≤ i → branch_data (map branch_view (drop i xs)) ≡ []
-keys_none xs i h = ap (λ ys. branch_data (map branch_view ys)) (drop_all i xs h)
 
 -- The page over a run, in the pieces that are written.
 pub branch_run_wrote : {S : Type 0} {sink : Ghosts S} {old new : S} (page_size number : ℕ) (run : BranchRun) {end : Ending} → IsSizedRun (run_view run)

@@ -1,4 +1,5 @@
 -- What is open of a bucket: its leaf closes, and then runs above it.
+use Rattle.std.proofs.lemmas.Grind.{common_steps}
 use Rattle.std.proofs.Common.{◌≡◌, ◌∙◌, ℕ, ◌+◌, ◌<◌, ◌≤◌, true, false, List, [], ◌∷◌, length, Result, Ok, Err, ap, arith}
 use Rattle.std.proofs.lemmas.Bool.{leb-true, ltb-true}
 use Rattle.std.proofs.lemmas.List.{length-map}
@@ -9,7 +10,7 @@ use Rattle.bolt_bulk.specs.Private.{AreHeld, bucket_end_next, BucketRunsView, Ha
 use Rattle.bolt_bulk.specs.{declared.bucket_runs.BucketRuns.BucketRuns, declared.fault.BulkFault.BulkFault, declared.held.Held.Held}
 use Rattle.bolt_bulk.specs.{declared.leaf_run.LeafRun.LeafRun, declared.page_setup.PageSetup.PageSetup}
 use Rattle.bolt_bulk.proofs.{ClimbLemmas.next_grows, ClimbLemmas.end_grows, HeldRuns.none_small, RunLemmas.few_or_fits}
-use Rattle.bolt_bulk.proofs.PutsLemmas.{closes_stop, closes_then, writes_on, writes_stop, writes_then}
+use Rattle.bolt_bulk.proofs.PutsLemmas.{closes_stop, writes_on, writes_stop, bytes-append, short_then}
 use Rattle.bolt_bulk.specs.declared.fault.BulkFault.TheVariants as fault
 use Rattle.std.proofs.lemmas.Result.{err_from_is_err_and, on_ok_weaker}
 use Rattle.std.specs.Prelude.{IfErr, IsErrAnd, OnOk}
@@ -38,7 +39,7 @@ module _ {S B : Type 0} {sink : Ghosts S} {old new : S} {setup : PageSetup} (run
       → Closes {A = A} sink old mid setup (leaf_page setup.page_size runs.leaves runs.next ∷ []) (runs.next + (1 + overflow_of setup.page_size runs.leaves.size)) after (Ok x)
       → Writes sink mid new setup (runs_put setup.page_size key closed after runs.uppers) (runs_next setup.page_size key closed after runs.uppers) next result
       → Writes sink old new setup (runs_room_put setup.page_size runs key size) (runs_room setup.page_size runs key size).next next result
-  room_made key size closed none same one two = rw none (rw (same, one.marked) at (writes_then _ one.writes two))
+  room_made key size closed none same one two = grind (arith, common_steps, bytes-append)
 
   -- the end: the leaf closes, and then each run above
   pub end_stops : {A : Type 0} {after : ℕ} {e : BulkFault} → IsErrAnd result (λ f. f ≡ e)
@@ -50,7 +51,7 @@ module _ {S B : Type 0} {sink : Ghosts S} {old new : S} {setup : PageSetup} (run
       → Closes {A = A} sink old mid setup (leaf_page setup.page_size runs.leaves runs.next ∷ []) (runs.next + (1 + overflow_of setup.page_size runs.leaves.size)) after (Ok x)
       → Closes sink mid new setup (runs_close_put setup.page_size closed after runs.uppers) (runs_end_next setup.page_size closed after runs.uppers) next result
       → Closes sink old new setup (runs_end_put setup.page_size runs) (bucket_end_next setup.page_size runs) next result
-  end_made closed same one two = rw (same, one.marked) at (closes_then _ one two)
+  end_made closed same one two = grind (arith, common_steps, bytes-append, short_then)
 
 -- an item was taken
 module _ {S A B : Type 0} {sink : Ghosts S} {old new : S} {setup : PageSetup} {before made after : BucketRuns} {number next size : ℕ} (e : LeafElement) (result : Result B BulkFault) (sized : size ≡ element_size e) where
@@ -67,5 +68,4 @@ module _ {S A B : Type 0} {sink : Ghosts S} {old new : S} {setup : PageSetup} {b
   pub takes_none : {f : BulkFault} → IsErrAnd result (λ g. g ≡ f) → MakesRoom sink old new setup {A = A} before number e.key size made next (Err f) → TakesItem sink old new setup before number e after next result
   takes_none same room =
       let (_, is, e_is) = err_from_is_err_and result same in
-      let here = rw sized at room in
-      rw (is, e_is) (record { writes = record { pages = here.writes.pages; within = tt; large = here.writes.large }; runs = tt })
+      grind arith

@@ -1,5 +1,6 @@
 -- A bucket's open runs, one after another: the climb over them, and the end of the bucket, at which each closes.
-use Rattle.std.proofs.Common.{◌≡◌, ◌∙◌, ℕ, suc, ◌+◌, ◌<◌, ◌≤◌, true, false, List, [], ◌∷◌, ◌++◌, length, map, take, drop, get_or, set, if◌then◌else◌, zero, add-one, Option, Some, None, Ok, Err, option_map, refl, sym, ap, subst, arith, append_assoc}
+use Rattle.std.proofs.lemmas.Grind.{common_steps}
+use Rattle.std.proofs.Common.{◌≡◌, ◌∙◌, ℕ, suc, ◌+◌, ◌<◌, ◌≤◌, true, false, List, [], ◌∷◌, ◌++◌, length, map, take, drop, get_or, set, if◌then◌else◌, add-one, Option, Some, None, Ok, Err, option_map, refl, sym, ap, arith, append_assoc}
 use Rattle.std.proofs.lemmas.List.{length-map, drop_all, drop_more, drop-set-lt, set_split, take_all, take_more_set}
 use Rattle.std.proofs.Math.ListN.{get_or-map}
 use Rattle.std.proofs.lemmas.Option.{none-some, same_Some}
@@ -9,8 +10,8 @@ use Rattle.bolt_format.specs.{Endings.whole, declared.sink.Sink.Ghosts}
 use Rattle.bolt_bulk.specs.Private.{element_up, IsStanding, key_size, no_run, one_closed, run_kept, run_page, run_push, run_stays, run_view, runs_above, runs_climb, runs_close_put, runs_end_next, runs_next, runs_put, runs_root, RunView, taking_next, taking_puts, taking_up, Closes, Writes}
 use Rattle.bolt_bulk.specs.{declared.branch_run.BranchRun.BranchRun, declared.fault.BulkFault.BulkFault, declared.page_setup.PageSetup.PageSetup}
 use Rattle.bolt_layout.specs.{Laid.Placed, Levels.overflow_of, Limits.one_less, Layout.placed_bytes}
-use Rattle.bolt_bulk.proofs.{RunLemmas.key_pushed, PutsLemmas.bytes-append, PutsLemmas.short_stop, PutsLemmas.Wrote-stops}
-use Rattle.bolt_format.proofs.WroteFronts.{WroteFront, front_none, front_more, front_stop, front_whole}
+use Rattle.bolt_bulk.proofs.{PutsLemmas.bytes-append, PutsLemmas.short_stop, PutsLemmas.Wrote-stops}
+use Rattle.bolt_format.proofs.WroteFronts.{WroteFront, front_more, front_stop, front_whole}
 
 -- The whole climb, from an element, a number and runs; and the climb that is left, from the runs from number i on.
 pub record Climbing {S : Type 0} (setup : PageSetup) (new : Option ℕ) (key : List ℕ) (e0 : BranchElement) (n0 : ℕ) (runs0 : List RunView) (sink : Ghosts S) (old later : S)
@@ -18,9 +19,6 @@ pub record Climbing {S : Type 0} (setup : PageSetup) (new : Option ℕ) (key : L
   pub climbs : runs_climb setup.page_size new key e0 n0 runs0 ≡ take i runs ++ runs_climb setup.page_size new key e next (drop i runs)
   pub nexts : runs_next setup.page_size key e0 n0 runs0 ≡ runs_next setup.page_size key e next (drop i runs)
   pub front : WroteFront sink old later (placed_bytes setup.page_size (runs_put setup.page_size key e0 n0 runs0)) (placed_bytes setup.page_size (runs_put setup.page_size key e next (drop i runs)))
-
-pub climb_begins : {S : Type 0} {sink : Ghosts S} {setup : PageSetup} {new : Option ℕ} {key : List ℕ} {e : BranchElement} {next : ℕ} {runs : List RunView} {old : S} → Climbing setup new key e next runs sink old old runs 0 e next
-climb_begins {setup = setup} {key = key} {e} {next} {runs} {old} = record { climbs = refl; nexts = refl; front = front_none old (placed_bytes setup.page_size (runs_put setup.page_size key e next runs)) }
 
 -- what the next run writes, and what is written after it
 abbrev after_put : ℕ → List ℕ → BranchElement → ℕ → RunView → List RunView → List Placed
@@ -52,9 +50,7 @@ module _ {S : Type 0} {sink : Ghosts S} {setup : PageSetup} {new : Option ℕ} {
       × Wrote sink old later (placed_bytes setup.page_size (runs_put setup.page_size key e0 n0 runs0)) whole
   climb_stays h room one =
       let nexted : runs_next setup.page_size key e next (run ∷ drop (i + 1) runs) ≡ next = rw room refl in
-      let no_more : after_put setup.page_size key e next run (drop (i + 1) runs) ≡ [] = rw room refl in
-      let f = front_more c.front one (left_split setup.page_size key e next run (drop (i + 1) runs) (drop i runs) at) in
-      grind (arith, set_at, front_whole)
+      grind (arith, common_steps, front_more, left_split, set_at, front_whole)
 
   -- it closes: its element climbs on
   pub climb_closes : {later : S} → i < length runs → run_stays setup.page_size (run_push run e) (key_size key) ≡ false → Wrote sink mid later (placed_bytes setup.page_size (taking_puts setup.page_size key e next run)) whole
@@ -77,18 +73,12 @@ pub climb_over : {S : Type 0} {sink : Ghosts S} {setup : PageSetup} {new : Optio
     × (runs_climb setup.page_size new key e0 n0 runs0 ≡ runs_above runs ++ run_push (no_run new 0) e ∷ []) × (next ≡ runs_next setup.page_size key e0 n0 runs0)
 climb_over {setup = setup} {key = key} {e = e} {next = next} {i = i} runs c h within =
     let l = length-map runs run_view in
-    let none : drop i (runs_above runs) ≡ [] = drop_all i (runs_above runs) (omega arith) in
-    let whole : take i (runs_above runs) ≡ runs_above runs = take_all i (runs_above runs) (omega arith) in (
-      record { pages = front_whole c.front (ap (λ (rs : List RunView). placed_bytes setup.page_size (runs_put setup.page_size key e next rs)) none); within = within; large = tt },
-      rw (none, whole) at c.climbs,
-      sym (rw none at c.nexts),
-    )
+    grind (arith, drop_all, whole, take_all, front_whole)
 
 -- the same of the runs that the code keeps
 standing_at : (runs : List BranchRun) (i : ℕ) (run : BranchRun) → i < length runs → run ≡ get_or runs i run → AllByRecursion IsStanding (map run_view runs) → IsStanding (run_view run)
-standing_at [] i run h same all = absurd (omega arith)
-standing_at (x ∷ runs) zero run h same all = subst (λ (r : BranchRun). IsStanding (run_view r)) (sym same) all.0
 standing_at (x ∷ runs) (suc i) run h same all = standing_at runs i run (omega arith) same all.1
+standing_at runs i run h same all = grind arith
 
 pub record IsRunAt (runs : List BranchRun) (i : ℕ) (run : BranchRun) : Type 0 where
   pub within : i < length (runs_above runs)
@@ -105,29 +95,20 @@ run_at count runs i run h same value all =
     }
 
 pub standing_set : (runs : List RunView) (i : ℕ) (run : RunView) → AllByRecursion IsStanding runs → IsStanding run → AllByRecursion IsStanding (set runs i run)
-standing_set [] i run all is = tt
-standing_set (x ∷ runs) zero run all is = (is, all.1)
 standing_set (x ∷ runs) (suc i) run all is = (all.0, standing_set runs i run all.1 is)
-
--- which of the two it was
-room_of : (page_size : ℕ) (key : List ℕ) (e : BranchElement) (next : ℕ) (run : RunView) → None ≡ taking_up page_size key e next run → run_stays page_size (run_push run e) (key_size key) ≡ true
-room_of page_size key e next run up = grind (arith, none-some)
-
-no_room_of : (page_size : ℕ) (key : List ℕ) (e up : BranchElement) (next : ℕ) (run : RunView) → Some up ≡ taking_up page_size key e next run
-    → (run_stays page_size (run_push run e) (key_size key) ≡ false) × (up ≡ element_up e next run)
-no_room_of page_size key e up next run same = grind (arith, none-some, same_Some)
+standing_set runs i run all is = grind arith
 
 pub room_by : (page_size : ℕ) (key : List ℕ) (e : BranchElement) (next : ℕ) (run : RunView) (up : Option Branch) → up ≡ None → option_map branch_view up ≡ taking_up page_size key e next run
     → run_stays page_size (run_push run e) (key_size key) ≡ true
-room_by page_size key e next run up is same = room_of page_size key e next run (sym (ap (λ (o : Option Branch). option_map branch_view o) is) ∙ same)
+room_by page_size key e next run up is same = grind (arith, none-some)
 
 pub no_room_by : (page_size : ℕ) (key : List ℕ) (e : BranchElement) (next : ℕ) (run : RunView) (up : Option Branch) (x : Branch) → up ≡ Some x → option_map branch_view up ≡ taking_up page_size key e next run
     → (run_stays page_size (run_push run e) (key_size key) ≡ false) × (branch_view x ≡ element_up e next run)
-no_room_by page_size key e next run up x is same = no_room_of page_size key e (branch_view x) next run (sym (ap (λ (o : Option Branch). option_map branch_view o) is) ∙ same)
+no_room_by page_size key e next run up x is same = grind (arith, none-some, same_Some)
 
 -- the key of a run's own element is one of its elements' keys
 pub up_key : (e : BranchElement) (next : ℕ) (run : RunView) → IsStanding run → length e.key ≤ 1073741824 → length (element_up e next run).key ≤ 1073741824
-up_key e next run is key = key_pushed run.elements e is.named key
+up_key e next run is key = grind arith
 
 -- The whole end, from an element, a number and runs; and the end that is left, from the runs from number i on.
 pub record Closing {S : Type 0} (setup : PageSetup) (e0 : BranchElement) (n0 : ℕ) (runs0 : List RunView) (sink : Ghosts S) (old new : S)

@@ -1,5 +1,6 @@
 -- The first pages and those of all buckets are the layout, and so a copy is written whole, or stops short.
-use Rattle.std.proofs.Common.{◌≡◌, ◌≢◌, ℕ, [], ◌≤◌, ◌<◌, List, ◌++◌, length, Ok, Err, refl, arith, append_assoc}
+use Rattle.std.proofs.lemmas.Grind.{common_steps}
+use Rattle.std.proofs.Common.{◌≡◌, ◌≢◌, ℕ, [], ◌≤◌, ◌<◌, List, ◌++◌, length, Ok, Err, arith, append_assoc}
 use Rattle.std.proofs.KnownBytes.{Appends-trans}
 use Rattle.bolt_format.specs.Sinks.{AppendsProperPrefix}
 use Rattle.bolt_tree.specs.Tree.{Tree}
@@ -9,7 +10,7 @@ use Rattle.bolt_bulk.specs.declared.fault.BulkFault.TheVariants as bulk
 use Rattle.bolt_bulk.specs.{BulkEndings.fault_ending, declared.fault.PlanFault.PlanFault}
 use Rattle.bolt_bulk.specs.declared.fault.PlanFault.TheVariants as planned
 use Rattle.bolt_layout.specs.declared.Layout.{Layout}
-use Rattle.bolt_bulk.proofs.PutsLemmas.{Wrote-failed, Wrote-sound, proper_none, proper_same}
+use Rattle.bolt_bulk.proofs.PutsLemmas.{Wrote-failed, proper_none, proper_same}
 use Rattle.bolt_format.proofs.SinkLemmas.{AppendsProperPrefix-first, AppendsProperPrefix-second}
 use Rattle.bolt_format.specs.{Wrote.Wrote, Endings.whole, Endings.cut, declared.sink.Sink.Ghosts}
 
@@ -33,8 +34,7 @@ module _ {S : Type 0} (sink : Ghosts S) (old : S) (layout : List ℕ) where
   stops_early e other some large = grind (arith, proper_none)
 
   pub stops_unplanned : (plan : PlanFault) → layout ≢ [] → (plan ≡ planned.TooLarge → too_many ≤ length layout) → Copies sink.taken sink.failed old old layout (Err (stopped_by plan))
-  stops_unplanned planned.Memory some large = stops_early bulk.Memory (λ e. cc) some (λ e. absurd cc)
-  stops_unplanned planned.TooLarge some large = stops_early bulk.TooLarge (λ e. cc) some (λ _. large refl)
+  stops_unplanned plan some large = grind (arith, common_steps, stops_early)
 
 module _ {S : Type 0} (sink : Ghosts S) (old new : S) (layout first pages : List ℕ) (same : layout ≡ first ++ pages) (fits : length layout < too_many) where
   pub copied : (mid : S) (bytes held : ℕ) → Wrote sink old mid first whole → Wrote sink mid new pages whole → bytes ≡ length layout
@@ -46,4 +46,4 @@ module _ {S : Type 0} (sink : Ghosts S) (old new : S) (layout first pages : List
 
   pub stops_later : (mid : S) (e : BulkFault) → Wrote sink old mid first whole → Wrote sink mid new pages (fault_ending e)
       → AppendsProperPrefix (sink.taken mid) (sink.taken new) pages → (e ≡ bulk.TooLarge → too_many ≤ length layout) → Copies sink.taken sink.failed old new layout (Err e)
-  stops_later mid e one two short large = grind (arith, proper_same, AppendsProperPrefix-second, Wrote-failed, Wrote-sound, never)
+  stops_later mid e one two short large = grind (arith, proper_same, AppendsProperPrefix-second, Wrote-failed, never)

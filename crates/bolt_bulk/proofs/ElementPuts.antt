@@ -5,7 +5,7 @@ use Rattle.std.proofs.lemmas.List.{drop_all, drop_more, length-append, length-dr
 use Rattle.std.specs.Prelude.{IsErr}
 use Rattle.bolt_bulk.specs.Private.{AddsToBuffer}
 use Rattle.bolt_format.proofs.WroteFronts.{WroteFront, front_more, front_return}
-use Rattle.bolt_format.proofs.WroteLemmas.{Wrote-none, Wrote-same, Wrote-then}
+use Rattle.bolt_format.proofs.WroteLemmas.{Wrote-same, Wrote-then}
 use Rattle.bolt_format.specs.{Wrote.Wrote, Endings.Ending, Endings.page_ending, declared.sink.Sink.Ghosts}
 
 -- The headers and the data of what the code keeps are those of its first element, by the place of its key, and then of the others.
@@ -24,10 +24,6 @@ pub record HeadsPut {S X : Type 0} (headers : ℕ → List X → List ℕ) (cont
 -- the buffer loses at its front what is written, and so does the text that is left
 gathered_left : (buffer kept put rest : List ℕ) → buffer ≡ put ++ kept → buffer ++ rest ≡ put ++ (kept ++ rest)
 gathered_left buffer kept put rest parts = ap (λ (r : List ℕ). r ++ rest) parts ∙ append_assoc put kept rest
-
-pub heads_none : {S X : Type 0} {headers : ℕ → List X → List ℕ} {contents : List X → List ℕ} {sink : Ghosts S} {old : S} {buffer : List ℕ} {xs : List X} {pos : ℕ} → buffer ≡ [] → pos ≡ 16 * length xs → HeadsPut headers contents sink old old buffer xs 0 pos
-heads_none {headers = headers} {old = old} {xs = xs} none first =
-    record { before = 0; front = record { front = []; parts = ap (λ (r : List ℕ). r ++ headers 0 xs) (sym none); wrote = Wrote-none old }; place = omega (arith, first); room = omega arith }
 
 module _ {S X : Type 0} {headers : ℕ → List X → List ℕ} {contents : List X → List ℕ} {sink : Ghosts S} {old mid : S} {buffer : List ℕ} {xs : List X} {i pos : ℕ} where
   pub heads_stop : {new : S} {A E B F : Type 0} {text after : List ℕ} {e : E} (result : Result B F) → HeadsPut headers contents sink old mid buffer xs i pos → AddsToBuffer {A = A} sink mid new buffer text after (Err e) → IsErr result

@@ -1,13 +1,11 @@
 -- What is known of the items of an open leaf when they are written.
-use Rattle.std.proofs.Common.{false, ◌≡◌, ◌∙◌, ℕ, zero, suc, ◌+◌, ◌≤◌, ◌<◌, List, [], ◌∷◌, ◌++◌, length, map, drop, get_or, append_assoc, sym, ap, arith}
-use Rattle.std.proofs.lemmas.List.{at_drop_more, drop_all, length-drop, length-take-le, length-map}
+use Rattle.std.proofs.Common.{false, ◌≡◌, ◌∙◌, ℕ, suc, ◌+◌, ◌<◌, List, [], ◌∷◌, ◌++◌, length, map, drop, get_or, append_assoc, sym, arith}
+use Rattle.std.proofs.lemmas.List.{at_drop_more}
 use Rattle.bolt_format.specs.{ElementPlaces.leaf_view, declared.element.Leaf.Leaf}
-use Rattle.bolt_bulk.specs.{declared.held.Held.Held, declared.held.Stored.Stored}
+use Rattle.bolt_bulk.specs.{declared.held.Held.Held}
 use Rattle.bolt_bulk.specs.declared.held.Stored.TheVariants as stored
-use Rattle.bolt_bulk.specs.Private.{AreHeld, held_views, IsHeld, IsStored, stored_value}
+use Rattle.bolt_bulk.specs.Private.{AreHeld, held_views, IsHeld, stored_value}
 use Rattle.bolt_layout.specs.PageBytes.{leaf_data}
-use Rattle.bolt_bulk.proofs.HeldRuns.{length-inline_value}
-use Rattle.bolt_format.proofs.EncodedHeaders.{length-head_bytes}
 
 -- what stands for an entry or an item past the end
 abbrev pub no_entry : Leaf
@@ -17,29 +15,14 @@ abbrev pub no_held : Held
 no_held = record { key = record { ref_ptr = (0, 0); now = [] }; stored = stored.Value (record { ref_ptr = (0, 0); now = [] }) }
 
 pub held_at : (inlined : List Leaf) (items : List Held) (i : ℕ) → i < length items → AreHeld inlined items → IsHeld inlined (get_or items i no_held)
-held_at inlined [] i h all = absurd (omega arith)
-held_at inlined (item ∷ items) zero h all = all.0
 held_at inlined (item ∷ items) (suc i) h all = held_at inlined items i (omega arith) all.1
-
--- the value of a bucket with a root page is its head
-pub root_len : (inlined : List Leaf) (s : Stored) (page sequence : ℕ) → s ≡ stored.Root page sequence → 16 ≡ length (stored_value inlined s)
-root_len inlined s page sequence e = sym (ap (λ (x : Stored). length (stored_value inlined x)) e ∙ length-head_bytes page sequence)
-
-pub inline_len : (inlined : List Leaf) (s : Stored) (sequence first count size : ℕ) → s ≡ stored.Inline sequence first count size → IsStored inlined s
-    → size ≡ length (stored_value inlined s)
-inline_len inlined s sequence first count size e is = grind (arith, length-inline_value, length-map, length-drop, length-take-le)
+held_at inlined items i h all = grind arith
 
 -- the data that are left, from number i on
 pub held_left : (inlined : List Leaf) (xs : List Held) (i : ℕ) → i < length xs
     → leaf_data (held_views inlined (drop i xs)) ≡ ((get_or xs i no_held).key.now ++ stored_value inlined (get_or xs i no_held).stored) ++ leaf_data (held_views inlined (drop (i + 1) xs))
 held_left inlined xs i h = at_drop_more (λ ys. leaf_data (held_views inlined ys)) xs i no_held h ∙ sym (append_assoc (get_or xs i no_held).key.now (stored_value inlined (get_or xs i no_held).stored) (leaf_data (held_views inlined (drop (i + 1) xs))))
 
-pub held_none : (inlined : List Leaf) (xs : List Held) (i : ℕ) → length xs ≤ i → leaf_data (held_views inlined (drop i xs)) ≡ []
-held_none inlined xs i h = ap (λ ys. leaf_data (held_views inlined ys)) (drop_all i xs h)
-
 pub entries_left : (xs : List Leaf) (i : ℕ) → i < length xs
     → leaf_data (map leaf_view (drop i xs)) ≡ ((get_or xs i no_entry).key.now ++ (get_or xs i no_entry).value.now) ++ leaf_data (map leaf_view (drop (i + 1) xs))
 entries_left xs i h = at_drop_more (λ ys. leaf_data (map leaf_view ys)) xs i no_entry h ∙ sym (append_assoc (get_or xs i no_entry).key.now (get_or xs i no_entry).value.now (leaf_data (map leaf_view (drop (i + 1) xs))))
-
-pub entries_none : (xs : List Leaf) (i : ℕ) → length xs ≤ i → leaf_data (map leaf_view (drop i xs)) ≡ []
-entries_none xs i h = ap (λ ys. leaf_data (map leaf_view ys)) (drop_all i xs h)

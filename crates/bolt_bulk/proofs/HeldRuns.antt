@@ -1,11 +1,12 @@
 -- A run of items that takes one more, and the entries of the inline buckets among them.
+use Rattle.std.proofs.lemmas.Grind.{common_steps}
 use Rattle.std.proofs.Common.{Bor, ◌∙◌, Global, Vec, subst, ◌≡◌, ℕ, ◌+◌, ◌<◌, ◌≤◌, false, List, [], ◌∷◌, ◌++◌, length, map, refl, sym, ap, arith}
 use Rattle.std.proofs.Math.Seq.{drop-append_seam, take-length}
 use Rattle.std.proofs.lemmas.List.{drop-append-le, length-append, length-drop, length-map, take-append-le, map-append}
 use Rattle.std.specs.List.{AllByRecursion}
 use Rattle.bolt_format.specs.{ElementPlaces.leaf_view, Elements.LeafElement, declared.element.Leaf.Leaf}
 use Rattle.bolt_layout.specs.PageBytes.{inline_value, leaf_data}
-use Rattle.bolt_bulk.specs.Private.{AreHeld, entries_in, entries_size, HasRoomFor, held_view, held_views, inline_element, inline_size, inlined_by, inlined_in, is_stored_bucket, IsHeld, IsInlined, IsOpenBucket, IsStored, page_size_of, stored_value, value_item}
+use Rattle.bolt_bulk.specs.Private.{AreHeld, entries_in, entries_size, HasRoomFor, held_view, held_views, inline_element, inline_size, inlined_by, inlined_in, IsHeld, IsInlined, IsOpenBucket, IsStored, page_size_of, stored_value, value_item}
 use Rattle.bolt_bulk.specs.{declared.bucket_runs.BucketRuns.BucketRuns, declared.leaf_run.LeafRun.LeafRun, declared.held.Held.Held, declared.held.Stored.Stored}
 use Rattle.bolt_bulk.specs.declared.held.Stored.TheVariants as stored
 use Rattle.bolt_layout.proofs.{ListLemmas.all_append, SpanLemmas.length-leaf_bytes}
@@ -23,8 +24,7 @@ data_push [] e = omega (arith, length-append e.key (e.value ++ []), length-appen
 data_push (x ∷ es) e = grind (arith, length-append, data_push es e)
 
 pub none_small : (inlined : List Leaf) (xs : List Held) (size : ℕ) → length xs < 1 → size ≡ page_size_of inlined xs → size ≡ 16
-none_small inlined [] size h e = omega arith
-none_small inlined (y ∷ xs) size h e = absurd (omega arith)
+none_small inlined xs size h e = grind (arith, common_steps)
 
 run_pushed : (size more : ℕ) (inlined : List Leaf) (xs : List Held) (x : Held) → IsRun inlined xs size → IsHeld inlined x → more ≡ 16 + (length x.key.now + length (stored_value inlined x.stored))
     → size + more < 4294967296 → length xs < 65534 → IsRun inlined (xs ++ x ∷ []) (size + more)
@@ -50,19 +50,11 @@ item_pushed bucket items x more is_open pushed held apart size room =
     let none : length run.inlined.items ≡ length run.inlined.items + inlined_by x.stored = omega arith in
     record { leaves = record { held = is.held; sized = is.sized; small = is.small; few = is.few; inlined = counted _ _ run.items.items _ x old.inlined pushed none }; uppers = is_open.uppers }
 
--- Entries added to a list leave those in it as they are,
-entries_more : (inlined more : List Leaf) (first count : ℕ) → first + count ≤ length inlined → entries_in (inlined ++ more) first count ≡ entries_in inlined first count
-entries_more inlined more first count there = grind (arith, length-drop, drop-append-le, take-append-le)
-
--- and so the items that they belong to.
-value_more : (inlined more : List Leaf) (x : Stored) → IsStored inlined x → stored_value (inlined ++ more) x ≡ stored_value inlined x
-value_more inlined more x is = grind (arith, entries_more)
-
 stored_more : (inlined more : List Leaf) (x : Stored) → IsStored inlined x → IsStored (inlined ++ more) x
-stored_more inlined more x is = grind (arith, length-append, entries_more)
+stored_more inlined more x is = grind (arith, length-append, length-drop, drop-append-le, take-append-le)
 
 view_more : (inlined more : List Leaf) (x : Held) → IsHeld inlined x → held_view (inlined ++ more) x ≡ held_view inlined x
-view_more inlined more x is = ap (λ (value : List ℕ). record { key = x.key.now; value = value; is_bucket = is_stored_bucket x.stored }) (value_more inlined more x.stored is.1)
+view_more inlined more x is = grind (arith, length-drop, drop-append-le, take-append-le)
 
 pub views_more : (inlined more : List Leaf) (items : List Held) → AreHeld inlined items → held_views (inlined ++ more) items ≡ held_views inlined items
 views_more inlined more [] all = refl

@@ -1,11 +1,11 @@
 -- The most that a pass has held so far changes only when an item joins a leaf: then the items that are held now count.
-use Rattle.std.proofs.Common.{◌≡◌, ◌∙◌, ℕ, ◌+◌, ◌≤◌, false, Option, List, [], ◌∷◌, ◌++◌, length, max, refl, ap, arith}
+use Rattle.std.proofs.Common.{◌≡◌, ◌∙◌, ℕ, ◌+◌, ◌≤◌, Option, List, [], ◌∷◌, ◌++◌, length, max, refl, ap, arith}
 use Rattle.std.proofs.lemmas.List.{length-append, length-map}
 use Rattle.std.proofs.lemmas.List.Sums.{sum_by-cons}
 use Rattle.bolt_format.specs.{ElementPlaces.branch_view, Elements.BranchElement, Elements.LeafElement}
 use Rattle.bolt_layout.specs.Laid.{Laid, elements_of, held_in}
 use Rattle.bolt_layout.specs.Levels as parents
-use Rattle.bolt_bulk.specs.Private.{AreOpenRuns, AreUppers, AreWaiting, bucket_runs, saturated, climb, close, end_of, BucketFrame, has_room, held_frames, held_item, held_on, held_open, held_over, held_so_far, items_above, items_around, items_in, Known, length_frames, length_open, length_over, making_room, Open, pushing, run_view, runs_above, taking, Upper}
+use Rattle.bolt_bulk.specs.Private.{AreOpenRuns, AreUppers, AreWaiting, bucket_runs, saturated, climb, close, end_of, BucketFrame, held_frames, held_item, held_on, held_open, held_over, held_so_far, items_above, items_around, items_in, Known, length_frames, length_open, length_over, making_room, Open, pushing, run_view, runs_above, taking, Upper}
 use Rattle.bolt_bulk.specs.{declared.branch_run.BranchRun.BranchRun, declared.bucket_runs.BucketRuns.BucketRuns}
 use Rattle.bolt_bulk.specs.declared.waiting_bucket.WaitingBucket.{WaitingBucket}
 use Rattle.bolt_layout.proofs.LaidItems.{length-elements}
@@ -46,13 +46,8 @@ climbed : (page_size : ℕ) (new : Option ℕ) (key : List ℕ) (q : Laid Branch
 climbed page_size new key q [] some = omega arith
 climbed page_size new key q (upper ∷ uppers) some = let above = λ (up : Laid BranchElement) (high : 1 ≤ up.held). climbed page_size new key up uppers high in grind (arith, joined, on_page, on_max)
 
--- room for an item is made by closing pages
-room_first : {E : Type 0} (page_size : ℕ) (run : List (Laid E)) (size : ℕ) → has_room page_size 1 run size ≡ false → 1 ≤ held_on run 0
-room_first page_size [] size none = absurd (cc)
-room_first page_size (item ∷ run) size none = omega arith
-
 made : (page_size : ℕ) (state : Open) (key : List ℕ) (size : ℕ) → held_open (making_room page_size state key size) 0 ≡ held_open state 0
-made page_size state key size = grind (arith, on_page, room_first, climbed)
+made page_size state key size = grind (arith, on_page, climbed)
 
 -- and so does the end of a bucket
 closed : (page_size : ℕ) (q : Laid BranchElement) (uppers : List Upper) → 1 ≤ q.held → (close page_size q uppers).held ≡ held_over uppers q.held
@@ -64,12 +59,8 @@ closed page_size q (upper ∷ uppers) some =
     let m = on_max run q.held in
     closed page_size up uppers (omega arith) ∙ ap (λ (n : ℕ). held_over uppers n) same
 
-ended_over : (page_size : ℕ) (run : List (Laid LeafElement)) (uppers : List Upper) → (run ≡ [] → uppers ≡ [])
-    → (close page_size (parents.page_over parents.leaf_page_view page_size run) uppers).held ≡ held_over uppers (held_on run 0)
-ended_over page_size run uppers begun = grind (arith, on_page, closed)
-
 pub end_held : (page_size : ℕ) (state : Open) → (state.run ≡ [] → state.uppers ≡ []) → (end_of page_size state).held ≡ held_open state 0
-end_held page_size state begun = ended_over page_size state.run state.uppers begun
+end_held page_size state begun = grind (arith, on_page, closed)
 
 -- ---- steps
 
@@ -84,8 +75,7 @@ takes_held page_size frames state item before after flat old counted =
     let room : Open = making_room page_size state item.key item.size in
     let same = made page_size state item.key item.size in
     let join = pushed frames room item in
-    let zero = ap (λ (n : ℕ). held_frames frames (held_open room n)) flat in
-    let still = ap (λ (n : ℕ). held_frames frames n) same in omega arith
+    grind arith
 
 -- a bucket that ended joins
 pub leaves_held : (page_size : ℕ) (frame : BucketFrame) (frames : List BucketFrame) (state : Open) (before after : ℕ) → (state.run ≡ [] → state.uppers ≡ []) → before ≡ saturated (held_so_far (frame ∷ frames) state)
@@ -102,12 +92,7 @@ pub enters_held : (page_size : ℕ) (known : Known) (frame : BucketFrame) (frame
     → after ≡ max before (saturated (length_frames (frame ∷ frames) + length_open (record { uppers = []; run = run; known = known }))) → after ≡ saturated (held_so_far (frame ∷ frames) (record { uppers = []; run = run; known = known }))
 enters_held page_size known frame frames state key size run before after room flat old counted =
     let same = ap (λ (s : Open). held_open s 0) room ∙ made page_size state key size in
-    let values = flat_run run flat in
-    let inner = ap (λ (n : ℕ). held_frames frames (held_open frame.state n)) values in
-    let a = open_max frame.state (length run) in
-    let b = frames_max frames (held_open frame.state (length run)) in
-    let d = frames_max frames (held_open frame.state 0) in
-    let still = ap (λ (n : ℕ). held_frames frames n) same in omega arith
+    grind (arith, flat_run, open_max, frames_max)
 
 -- ---- what the code counts
 
@@ -115,17 +100,15 @@ pub run_length : (run : BranchRun) (pages : List (Laid BranchElement)) (n : ℕ)
 run_length run pages n same = omega (arith, length-map run.elements.items branch_view, ap (λ (es : List BranchElement). length es) same, length-elements pages n)
 
 above_length : (runs : List BranchRun) (uppers : List Upper) (b : ℕ) → AreUppers (runs_above runs) uppers b → items_above runs ≡ length_over uppers
-above_length [] [] b are = refl
 above_length (run ∷ runs) (upper ∷ uppers) b are = omega (arith, run_length, sum_by-cons, above_length runs uppers b are.1)
-above_length runs uppers b are = absurd are
+above_length runs uppers b are = grind arith
 
 pub items_length : (bucket : BucketRuns) (next b : ℕ) (state : Open) → AreOpenRuns (bucket_runs bucket next) state b → items_in bucket ≡ length_open state
 items_length bucket next b state runs = grind (arith, above_length, length-map, length-elements)
 
 pub around_length : (ws : List WaitingBucket) (frames : List BucketFrame) → AreWaiting ws frames → items_around ws ≡ length_frames frames
-around_length [] [] waits = refl
 around_length (w ∷ ws) (frame ∷ frames) waits =
     let (runs, key, sequence, others) = waits in
     let one = items_length w.bucket _ _ frame.state runs in
     let ih = around_length ws frames others in omega arith
-around_length ws frames waits = absurd waits
+around_length ws frames waits = grind arith

@@ -1,11 +1,11 @@
 -- The open runs that the code keeps of a bucket are those that the pass has open.
-use Rattle.std.proofs.Common.{◌≡◌, ◌∙◌, ℕ, ◌+◌, ◌||◌, Bool, Option, List, [], ◌∷◌, ◌++◌, length, refl, ap, arith, suc}
+use Rattle.std.proofs.Common.{◌≡◌, ◌∙◌, ℕ, ◌+◌, Option, List, [], ◌∷◌, ◌++◌, length, refl, ap, arith, suc}
 use Rattle.std.proofs.lemmas.List.Sums.{sum_by_push}
 use Rattle.std.specs.List.{AllByRecursion}
 use Rattle.bolt_format.specs.Elements.{BranchElement, LeafElement}
-use Rattle.bolt_layout.specs.{Laid.Laid, Laid.Placed, Laid.elements_of, Laid.first_key, Laid.numbers_of, Limits.is_out}
-use Rattle.bolt_layout.specs.Levels.{branch_page_view, overflow_of, page_over, run_overflow, leaf_page_view}
-use Rattle.bolt_bulk.specs.Private.{AreOpenRuns, AreUppers, bucket_end_next, bucket_limit, BucketRunsView, climb, climb_puts, close, close_puts, element_up, end_of, end_puts, has_room, IsKeyed, IsKeyedItem, IsUpper, kept, key_size, Known, leaf_closed, leaf_key, leaf_page, making_room, no_leaves, nothing_open, numbers_in, Open, own_page, pushed_on, pushing, put_in, room_puts, run_has_room, run_kept, run_key, run_page, run_push, run_stays, runs_climb, runs_close_put, runs_end, runs_end_next, runs_end_put, runs_next, runs_push, runs_put, runs_room, runs_room_put, runs_root, RunView, stays_open, Upper}
+use Rattle.bolt_layout.specs.{Laid.Laid, Laid.Placed, Laid.elements_of, Laid.first_key, Laid.numbers_of}
+use Rattle.bolt_layout.specs.Levels.{branch_page_view, overflow_of, page_over, leaf_page_view}
+use Rattle.bolt_bulk.specs.Private.{AreOpenRuns, AreUppers, bucket_end_next, bucket_limit, BucketRunsView, climb, climb_puts, close, close_puts, element_up, end_of, end_puts, IsKeyed, IsKeyedItem, IsUpper, kept, key_size, Known, leaf_closed, leaf_page, making_room, no_leaves, nothing_open, numbers_in, Open, own_page, pushed_on, pushing, put_in, room_puts, run_kept, run_key, run_page, run_push, run_stays, runs_climb, runs_close_put, runs_end, runs_end_next, runs_end_put, runs_next, runs_push, runs_put, runs_room, runs_room_put, runs_root, RunView, stays_open, Upper}
 use Rattle.bolt_bulk.specs.declared.limits.BucketLimits.{BucketLimits}
 use Rattle.bolt_layout.proofs.{ListLemmas.all_append, OverRows.numbers-append, LaidItems.length-elements, BranchLemmas.same_branch}
 
@@ -17,18 +17,14 @@ pub run_grown : (kept_run : RunView) (upper : Upper) (n : ℕ) (q : Laid BranchE
     → IsUpper (run_push kept_run e) (pushed_on upper q) n
 run_grown kept_run upper n q e is keyed same = grind (arith, sum_by_push, elements-append, all_append)
 
-pub room_same : (page_size : ℕ) (kept_run : RunView) (upper : Upper) (n size : ℕ) → IsUpper kept_run upper n → run_has_room page_size kept_run size ≡ has_room page_size 2 upper.run size
-room_same page_size kept_run upper n size is = grind (arith, length-elements)
-
 pub stays_same : (page_size : ℕ) (kept_run : RunView) (upper : Upper) (n size : ℕ) → IsUpper kept_run upper n → run_stays page_size kept_run size ≡ stays_open page_size upper size
-stays_same page_size kept_run upper n size is = ap (λ (b : Bool). b || is_out kept_run.allowed) (room_same page_size kept_run upper n size is) ∙ ap (λ (l : Option ℕ). has_room page_size 2 upper.run size || is_out l) is.allowed_is
+stays_same page_size kept_run upper n size is = grind (arith, length-elements)
 
 pub kept_same : (page_size : ℕ) (kept_run : RunView) (upper : Upper) (n size : ℕ) → IsUpper kept_run upper n → IsUpper (run_kept page_size kept_run size) (kept page_size upper size) n
-kept_same page_size kept_run upper n size is = grind (arith, room_same)
+kept_same page_size kept_run upper n size is = grind (arith, length-elements)
 
 pub key_same : (run : List (Laid BranchElement)) (n : ℕ) → AllByRecursion IsKeyed run → run_key (elements_of run n) ≡ first_key run
-key_same [] n keyed = refl
-key_same (x ∷ run) n keyed = keyed.0.1 n
+key_same run n keyed = grind arith
 
 pub placed_same : (page_size : ℕ) (kept_run : RunView) (upper : Upper) (n next : ℕ) → IsUpper kept_run upper n → next ≡ n + numbers_of upper.run → run_page page_size kept_run next ≡ own_page branch_page_view page_size upper.run n
 placed_same page_size kept_run upper n next is number = grind arith
@@ -49,16 +45,13 @@ over_run page_size next b e q kept_run upper uppers is keyed same number =
     let count = numbers-append (put_in uppers) run in
     let place : b + numbers_in (upper ∷ uppers) ≡ m + numbers_of run = omega arith in
     let pushed = run_grown kept_run upper m q e is keyed (same ∙ ap q.element place) in
-    let more = numbers-append run (q ∷ []) in
-    let over : overflow_of page_size (run_push kept_run e).size ≡ run_overflow page_size (run ++ q ∷ []) = ap (overflow_of page_size) pushed.size_is in
-    grind (arith, same_branch, key_same, placed_same)
+    grind (arith, numbers-append, same_branch, key_same, placed_same)
 
 -- the climb of the kept runs is that of the open ones
 runs_climbed : (page_size : ℕ) (new : Option ℕ) (key : List ℕ) (e : BranchElement) (next b : ℕ) (q : Laid BranchElement) (kept_runs : List RunView) (uppers : List Upper) → AreUppers kept_runs uppers b → IsKeyed q
     → e ≡ q.element (b + numbers_in uppers) → next ≡ b + numbers_in uppers + q.numbers
     → AreUppers (runs_climb page_size new key e next kept_runs) (climb page_size new key q uppers) b × (runs_put page_size key e next kept_runs ≡ climb_puts page_size key q uppers b)
     × (runs_next page_size key e next kept_runs ≡ b + numbers_in (climb page_size new key q uppers))
-runs_climbed page_size new key e next b q [] [] are keyed same number = grind (arith, run_grown)
 runs_climbed page_size new key e next b q (kept_run ∷ kept_runs) (upper ∷ uppers) are keyed same number =
     let m : ℕ = b + numbers_in uppers in
     let over = over_run page_size next b e q kept_run upper uppers are.0 keyed same number in
@@ -69,22 +62,15 @@ runs_climbed page_size new key e next b q (kept_run ∷ kept_runs) (upper ∷ up
     let more = numbers-append (put_in uppers) (upper.run ++ q ∷ []) in
     let none = numbers-append (put_in (climb page_size new key q2 uppers)) [] in
     let stays = kept_same page_size (run_push kept_run e) (pushed_on upper q) m (key_size key) over.pushed in
-    let left = are.0.allowed_is in
-    let closed = are.0.closed_is in
     grind arith
-runs_climbed page_size new key e next b q kept_runs uppers are keyed same number = absurd are
+runs_climbed page_size new key e next b q kept_runs uppers are keyed same number = grind (arith, run_grown)
 
 pub nothing_runs : (known : Known) (b : ℕ) → AreOpenRuns (record { leaves = no_leaves; uppers = []; limits = known.limits; next = b }) (nothing_open known) b
 nothing_runs known b = record { same = refl; size_is = refl; keyed = tt; above = tt; next_is = omega arith; limits_are = refl }
 
-pub leaf_key_same : (run : List (Laid LeafElement)) (n : ℕ) → AllByRecursion IsKeyedItem run → leaf_key (elements_of run n) ≡ first_key run
-leaf_key_same [] n keyed = refl
-leaf_key_same (x ∷ run) n keyed = keyed.0 n
-
 as_many : (kept_runs : List RunView) (uppers : List Upper) (b : ℕ) → AreUppers kept_runs uppers b → length kept_runs ≡ length uppers
-as_many [] [] b are = refl
 as_many (kept_run ∷ kept_runs) (upper ∷ uppers) b are = ap suc (as_many kept_runs uppers b are.1)
-as_many kept_runs uppers b are = absurd are
+as_many kept_runs uppers b are = grind arith
 
 -- the page over the leaf under way
 record OverLeaf (page_size : ℕ) (kept_runs : BucketRunsView) (run : List (Laid LeafElement)) (m : ℕ) : Type 0 where
@@ -93,7 +79,7 @@ record OverLeaf (page_size : ℕ) (kept_runs : BucketRunsView) (run : List (Laid
   pub after : kept_runs.next + (1 + overflow_of page_size kept_runs.leaves.size) ≡ m + (page_over leaf_page_view page_size run).numbers
 
 over_leaf : (page_size : ℕ) (kept_runs : BucketRunsView) (state : Open) (b : ℕ) → AreOpenRuns kept_runs state b → OverLeaf page_size kept_runs state.run (b + numbers_in state.uppers)
-over_leaf page_size kept_runs state b is = grind (arith, same_branch, leaf_key_same)
+over_leaf page_size kept_runs state b is = grind (arith, same_branch)
 
 -- making room
 pub runs_have_room : (page_size : ℕ) (kept_runs : BucketRunsView) (state : Open) (b : ℕ) (key : List ℕ) (size : ℕ) → AreOpenRuns kept_runs state b
@@ -120,13 +106,12 @@ runs_closed : (page_size : ℕ) (e : BranchElement) (next b : ℕ) (q : Laid Bra
     → e ≡ q.element (b + numbers_in uppers) → next ≡ b + numbers_in uppers + q.numbers
     → (runs_close_put page_size e next kept_runs ≡ close_puts page_size q uppers b) × (runs_root page_size e next kept_runs ≡ ((close page_size q uppers).element b).child)
     × (runs_end_next page_size e next kept_runs ≡ b + (close page_size q uppers).numbers)
-runs_closed page_size e next b q [] [] are keyed same number = grind arith
 runs_closed page_size e next b q (kept_run ∷ kept_runs) (upper ∷ uppers) are keyed same number =
     let over = over_run page_size next b e q kept_run upper uppers are.0 keyed same number in
     let after : ℕ = next + (1 + overflow_of page_size (run_push kept_run e).size) in
     let ih = runs_closed page_size (element_up e next kept_run) after b (page_over branch_page_view page_size (upper.run ++ q ∷ [])) kept_runs uppers are.1 (refl, λ n. refl) over.named over.after in
     grind arith
-runs_closed page_size e next b q kept_runs uppers are keyed same number = absurd are
+runs_closed page_size e next b q kept_runs uppers are keyed same number = grind arith
 
 pub runs_ended : (page_size : ℕ) (kept_runs : BucketRunsView) (state : Open) (b : ℕ) → AreOpenRuns kept_runs state b
     → (runs_end_put page_size kept_runs ≡ end_puts page_size state b) × (runs_end page_size kept_runs ≡ ((end_of page_size state).element b).child)

@@ -1,4 +1,5 @@
 -- The limits of rows: those of other rows stay, and those of a bucket are noted row by row.
+use Rattle.std.proofs.lemmas.Grind.{common_steps}
 use Rattle.std.proofs.Common.{◌≡◌, ◌∙◌, ◌<◌, ◌≤◌, ◌+◌, ◌-◌, ℕ, suc, Bool, false, Option, Some, None, List, [], ◌∷◌, length, drop, refl, sym, ap, inl, inr, arith}
 use Rattle.std.proofs.lemmas.Bool.{cases_lt}
 use Rattle.std.proofs.lemmas.List.{drop_all}
@@ -27,8 +28,7 @@ noted_step rows lost loses i row limit old new at step below above rest here oth
     let next : limits_from_ends lost (drop i rows) ≡ limit ∷ limits_from_ends loses (drop (i + 1) rows) =
     ap (λ (rs : List (ℕ × ℕ)). limits_from_ends lost rs) at ∙ step (drop (i + 1) rows) in
     let zero_is : i ≡ i + 0 = omega arith in
-    let own : limit_at T i ≡ limit = ap (λ (n : ℕ). limit_at T n) zero_is ∙ (rest 0 ∙ ap (λ (ls : List (Option ℕ)). limit_at ls 0) next) in
-    grind (arith, cases_lt)
+    grind (arith, common_steps, cases_lt)
 
 noted_rest : (rows : List (ℕ × ℕ)) (lost loses : Bool) (i : ℕ) (row : ℕ × ℕ) (limit : Option ℕ) → drop i rows ≡ row ∷ drop (i + 1) rows
     → ((rest : List (ℕ × ℕ)) → limits_from_ends lost (row ∷ rest) ≡ limit ∷ limits_from_ends loses rest)

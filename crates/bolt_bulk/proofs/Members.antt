@@ -1,6 +1,6 @@
 -- What of a listing is still to come while buckets are open: the members of the innermost one, then those after it in each bucket around it.
 -- The length of the next member's path says which bucket it is in.
-use Rattle.std.proofs.Common.{◌≡◌, ◌∙◌, ℕ, suc, ◌≤◌, ◌<◌, List, [], ◌∷◌, ◌++◌, length, refl, sym, ap, arith, append_assoc, subst}
+use Rattle.std.proofs.Common.{◌≡◌, ◌∙◌, ℕ, suc, ◌≤◌, ◌<◌, List, [], ◌∷◌, ◌++◌, length, refl, sym, ap, arith, append_assoc}
 use Rattle.std.proofs.lemmas.List.{append-nil, length-append}
 use Rattle.bolt_check.specs.Keys.{Key}
 use Rattle.bolt_tree.specs.{Entries.Bucket, Entries.Item, Entries.Value, Listing.Member, Paths.Path}
@@ -50,8 +50,7 @@ none_further parents (with_bucket key sequence inside after) member more e short
 -- If no member is left, no bucket has more.
 pub none_at_all : (parents : List Parent) (rest : Tree) → left_in parents rest ≡ [] → rest ≡ end
 none_at_all parents end e = refl
-none_at_all parents (with_value key value after) e = absurd cc
-none_at_all parents (with_bucket key sequence inside after) e = absurd cc
+none_at_all parents rest e = absurd (cc)
 
 -- The entry of an item, a value or a bucket with entries `inside`, and where the pass is after it.
 abbrev pub with_item : Key → Item → (inside after : Tree) → Tree
@@ -75,9 +74,7 @@ next_by : (parents : List Parent) (key : Key) (own : Item) (inside after : Tree)
     → IsNext parents (with_item key own inside after) path item more
 next_by parents key own inside after path item more e =
     let first : ◌≡◌ {A = Member} (path_in parents ++ key ∷ [], own) (path, item) = cc in
-    let others : left_after parents key own inside after ≡ more = cc in
-    subst (λ (i : Item). IsNext parents (with_item key own inside after) path i more) (ap (λ (m : Member). m.1) first)
-    (record { key = key; inside = inside; after = after; rest_is = refl; path_is = sym (ap (λ (m : Member). m.0) first); more_is = sym others })
+    grind arith
 
 pub next_entry : (parents : List Parent) (rest : Tree) (path : Path) (item : Item) (more : List Member) → left_in parents rest ≡ (path, item) ∷ more → length path ≡ suc (length parents) → IsNext parents rest path item more
 next_entry parents end path item more e deep = let n = behind_short parents (path, item) more e in absurd (omega arith)

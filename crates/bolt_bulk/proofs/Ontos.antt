@@ -1,4 +1,5 @@
 -- Entries that are values, in front of a tree: what they are as items, and whether a bucket with them is inline.
+use Rattle.std.proofs.lemmas.Grind.{common_steps}
 use Rattle.std.proofs.Common.{◌≡◌, ℕ, ◌+◌, ◌/◌, ◌≤◌, ◌<◌, ◌⊎◌, ◌&&◌, Bool, true, false, List, [], ◌∷◌, ◌++◌, length, refl, sym, ap, arith}
 use Rattle.std.proofs.lemmas.Bool.{le-leb, lt-leb}
 use Rattle.std.proofs.lemmas.List.{length-append}
@@ -7,7 +8,7 @@ use Rattle.std.specs.List.{AllByRecursion}
 use Rattle.bolt_format.specs.Elements.{LeafElement}
 use Rattle.bolt_tree.specs.Tree.{Tree, end, with_bucket, with_value}
 use Rattle.bolt_layout.specs.{Cut.run_size, Items.holds_bucket, Items.is_inline, Items.items_of, Items.leaf_item}
-use Rattle.bolt_layout.specs.{Laid.Laid, Laid.elements_of, Laid.held_in, Laid.numbers_of, Laid.pages_of, Laid.size_of, PageBytes.leaf_data}
+use Rattle.bolt_layout.specs.{Laid.Laid, Laid.elements_of, Laid.held_in, Laid.numbers_of, Laid.pages_of, Laid.size_of}
 use Rattle.bolt_layout.specs.declared.Layout.{Layout}
 use Rattle.bolt_bulk.specs.Private.{entries_size, IsKeyedItem, onto}
 
@@ -40,18 +41,14 @@ pub values_size : (entries : List LeafElement) → run_size size_of (value_items
 values_size [] = refl
 values_size (e ∷ entries) =
     let ih = values_size entries in
-    let own = sum_by-cons (size_of {E = LeafElement}) (leaf_item e.key e.value false) (value_items entries) in
-    let a = length-append e.key (e.value ++ leaf_data entries) in
-    let b = length-append e.value (leaf_data entries) in omega arith
+    grind (arith, common_steps, sum_by-cons, length-append)
 
 pub onto_size : (which : Layout) (page_size : ℕ) (entries : List LeafElement) (tree : Tree)
     → run_size size_of (items_of which page_size (onto entries tree)) + 16 ≡ entries_size entries + run_size size_of (items_of which page_size tree)
 onto_size which page_size [] tree = omega arith
 onto_size which page_size (e ∷ entries) tree =
     let ih = onto_size which page_size entries tree in
-    let own = sum_by-cons (size_of {E = LeafElement}) (leaf_item e.key e.value false) (items_of which page_size (onto entries tree)) in
-    let a = length-append e.key (e.value ++ leaf_data entries) in
-    let b = length-append e.value (leaf_data entries) in omega arith
+    grind (arith, common_steps, sum_by-cons, length-append)
 
 pub onto_count : (which : Layout) (page_size : ℕ) (entries : List LeafElement) (tree : Tree) → length (items_of which page_size (onto entries tree)) ≡ length entries + length (items_of which page_size tree)
 onto_count which page_size [] tree = omega arith
@@ -82,8 +79,7 @@ pub ends_inline : (which : Layout) (page_size : ℕ) (entries : List LeafElement
 ends_inline which page_size entries small few = grind (arith, onto_holds, onto_size, onto_count, le-leb)
 
 never_first : (a b : Bool) → (a && (false && b)) ≡ false
-never_first true b = refl
-never_first false b = refl
+never_first a b = grind arith
 
 never_last : (a b : Bool) → (a && (b && false)) ≡ false
 never_last a b = grind arith
@@ -94,9 +90,7 @@ pub value_too_large : (which : Layout) (page_size : ℕ) (entries : List LeafEle
     → is_inline page_size (onto entries (with_value key value after)) (items_of which page_size (onto entries (with_value key value after))) ≡ false
 value_too_large which page_size entries key value after large =
     let s = onto_size which page_size entries (with_value key value after) in
-    let own = sum_by-cons (size_of {E = LeafElement}) (leaf_item key value false) (items_of which page_size after) in
-    let c = onto_count which page_size entries (with_value key value after) in
-    grind (arith, lt-leb, never_first, never_last)
+    grind (arith, common_steps, sum_by-cons, onto_count, lt-leb, never_first)
 
 -- and one that holds a bucket isn't
 pub bucket_has_root : (which : Layout) (page_size : ℕ) (entries : List LeafElement) (key : List ℕ) (sequence : ℕ) (inside after : Tree)

@@ -7,7 +7,7 @@ use Rattle.bolt_format.specs.Elements.{BranchElement, LeafElement}
 use Rattle.bolt_layout.specs.{Cut.branch_cut, Cut.cut_from, Cut.joins, Laid.Laid, Laid.Placed, Laid.numbers_of, Laid.pages_of, Laid.size_of}
 use Rattle.bolt_layout.specs.Levels.{branch_page_view, leaf_page_view, page_over, root_over}
 use Rattle.bolt_layout.specs.{Limits.HaveRightLimits, Limits.cut_within, Limits.one_less, declared.Layout.Layout}
-use Rattle.bolt_bulk.specs.Private.{bucket_limit, climb, climb_puts, close, close_puts, Comes, end_of, end_puts, has_room, IsOpen, IsSized, IsUnder, kept, key_size, Known, leaves_coming, making_room, next_number, nothing_open, numbers_in, Open, own_page, pages_put, pushed_on, pushing, put_in, room_puts, stays_open, taking, Upper}
+use Rattle.bolt_bulk.specs.Private.{bucket_limit, climb, climb_puts, close, close_puts, Comes, end_of, has_room, IsOpen, IsSized, IsUnder, kept, key_size, Known, leaves_coming, next_number, nothing_open, numbers_in, Open, own_page, pages_put, pushed_on, pushing, put_in, stays_open, taking, Upper}
 use Rattle.bolt_layout.proofs.Tops.{top_above}
 
 -- The code's test of room is that of the cut.
@@ -124,13 +124,10 @@ pub pages-append : {E : Type 0} (xs ys : List (Laid E)) (n : ℕ) → pages_of (
 pages-append [] ys n = ap (λ (m : ℕ). pages_of ys m) (let e : n ≡ n + 0 = omega arith in e)
 pages-append (x ∷ xs) ys n = grind (arith, append_assoc, pages-append xs ys (n + x.numbers))
 
-pages_one : (q : Laid BranchElement) (n : ℕ) → pages_of (q ∷ []) n ≡ q.pages n
-pages_one q n = append-nil (q.pages n)
-
 -- a row of pages, and a page at its end
 pub pages_push : (xs run : List (Laid BranchElement)) (q : Laid BranchElement) (b : ℕ)
     → pages_of (xs ++ (run ++ q ∷ [])) b ≡ pages_of (xs ++ run) b ++ q.pages (b + numbers_of (xs ++ run))
-pages_push xs run q b = grind (arith, append_assoc, pages-append, pages_one)
+pages_push xs run q b = grind (arith, append_assoc, pages-append, append-nil)
 
 -- a page over a run is written after the pages below it
 over_put : (page_size b : ℕ) (run : List (Laid BranchElement)) (q : Laid BranchElement) (uppers : List Upper) (more : List Placed)
@@ -164,8 +161,7 @@ pub opens : (which : Layout) (page_size : ℕ) (known : Known) (items : List (La
     → HaveRightLimits which page_size (bucket_limit known.limits) (leaves_coming page_size [] items)
     → IsOpen which page_size (nothing_open known) items (root_over which page_size items)
 unfolding root_over
-opens which page_size known [] leaves right = record { comes = (sym leaves, record { top = refl; right = right }) }
-opens which page_size known (item ∷ items) leaves right = record { comes = (sym leaves, record { top = refl; right = right }) }
+opens which page_size known items leaves right = grind arith
 
 leaves_first : (page_size : ℕ) (first : Laid LeafElement) (run items : List (Laid LeafElement))
     → (p : Laid BranchElement) × (rest : List (Laid BranchElement)) × (map (page_over leaf_page_view page_size) (cut_from page_size 1 size_of (first ∷ run) items) ≡ p ∷ rest)
@@ -199,17 +195,9 @@ takes which page_size state item items root is =
           })
     ]
 
--- what making room writes, and what an item's pages add
-pub room_put : (page_size : ℕ) (state : Open) (key : List ℕ) (size b : ℕ)
-    → pages_put (making_room page_size state key size) b ≡ pages_put state b ++ room_puts page_size state key size b
-room_put page_size state key size b = grind (arith, append-nil, climb_put, append_assoc)
-
 pub pushed_put : (state : Open) (item : Laid LeafElement) (b : ℕ) → pages_put (pushing state item) b ≡ pages_put state b ++ item.pages (next_number state b)
 pushed_put state item b = grind (arith, pages-append, append-nil, append_assoc)
 
 -- The end.
 pub ends : (which : Layout) (page_size : ℕ) (state : Open) (root : Laid BranchElement) → IsOpen which page_size state [] root → end_of page_size state ≡ root
 ends which page_size state root is = close_same which page_size (bucket_limit state.known.limits) (page_over leaf_page_view page_size state.run) state.uppers state.known.leaves root is.comes
-
-pub ends_put : (page_size : ℕ) (state : Open) (b : ℕ) → (end_of page_size state).pages b ≡ pages_put state b ++ end_puts page_size state b
-ends_put page_size state b = grind (arith, close_put, append_assoc)

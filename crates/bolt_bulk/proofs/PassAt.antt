@@ -1,7 +1,7 @@
 -- The steps of a pass, over what the code keeps of it.
 use Rattle.std.proofs.lemmas.Result.{IfErr-weaker, on_ok_weaker}
 use Rattle.std.proofs.Common.{Bool, ◌≡◌, ◌∙◌, ℕ, suc, ◌+◌, ◌<◌, true, false, List, [], ◌∷◌, ◌++◌, length, map, max, min, reverse, Option, Some, None, Result, Ok, Err, Vec, Global, refl, sym, ap, subst, arith, append_assoc}
-use Rattle.std.proofs.lemmas.List.{append-nil, length-map, map-append, reverse-append}
+use Rattle.std.proofs.lemmas.List.{append-nil, length-map, reverse-append}
 use Rattle.std.specs.Prelude.{⊤, IfErr, IsErrAnd, OnOk}
 use Rattle.std.specs.List.{AllByRecursion}
 use Rattle.bolt_format.specs.{ElementPlaces.leaf_view, Elements.LeafElement, declared.element.Leaf.Leaf}
@@ -14,7 +14,7 @@ use Rattle.bolt_bulk.specs.{declared.bucket_runs.BucketRuns.BucketRuns, declared
 use Rattle.bolt_bulk.specs.{declared.waiting_bucket.WaitingBucket.WaitingBucket, declared.noted_limits.NotedLimits.NotedLimits}
 use Rattle.bolt_bulk.proofs.HeldPasses.{around_reverse}
 use Rattle.bolt_bulk.proofs.HeldSteps.{around_length, enters_held, items_length, leaves_held, takes_held}
-use Rattle.bolt_bulk.proofs.Ontos.{IsValue, ends_inline, onto_items, onto_push, value_items, values_held}
+use Rattle.bolt_bulk.proofs.Ontos.{IsValue, ends_inline, onto_items, value_items, values_held}
 use Rattle.bolt_bulk.proofs.Tables.{noted_enters, noted_leaves}
 use Rattle.bolt_bulk.proofs.Openings.{around_at, coming_at, coming_onto, opened_inline, opened_onto, opened_rooted}
 use Rattle.bolt_bulk.proofs.PassReady.{small_of}
@@ -27,8 +27,7 @@ use Rattle.bolt_format.specs.{Wrote.Wrote, declared.sink.Sink.Ghosts}
 -- ---- results
 
 on_ok_both : {A E : Type 0} {P Q R : Type 0} (result : Result A E) → OnOk result P → OnOk result Q → (P → Q → R) → OnOk result R
-on_ok_both (Ok x) p q f = f p q
-on_ok_both (Err e) p q f = tt
+on_ok_both result p q f = grind arith
 
 -- ---- one step after another
 
@@ -108,19 +107,7 @@ at_counted : {wanted : Wanted} {pass counted : Pass} {parents : List Parent} {re
     → pass.opened ≡ saturated opened → IsToCome wanted pass.setup.page_size (limits_by pass) opened rest frames → HasNoted wanted pass.setup.page_size pass.noted opened (open_in state frames) → IsAt wanted counted parents left put
 at_counted {wanted} {pass} {counted} {parents} {rest} {left} {put} {frames} {state} {opened} k on waits pends held opened_is coming noted =
     let count = counted_items frames state pass.waiting.items pass.bucket pass.next waits on.kept in
-    subst (λ (p : Pass). IsAt wanted p parents left put) (sym k.rest) (record {
-      frames = frames;
-      state = state;
-      rest = rest;
-      on = on;
-      waits = waits;
-      pends = pends;
-      held = held (k.most ∙ ap (λ (n : ℕ). max pass.most (saturated n)) count);
-      opened = opened;
-      opened_is = opened_is;
-      coming = coming;
-      noted = noted;
-    })
+    grind arith
 
 module _ (wanted : Wanted) (pass : Pass) where
   abbrev P : ℕ
@@ -294,10 +281,3 @@ module _ (wanted : Wanted) (pass : Pass) where
       (leaves_held P frame frames is.state pass.most counted.most is.on.under.begun (is.held ∙ ap (λ (fs : List BucketFrame). saturated (held_so_far fs is.state)) more_frames)) is.opened_is
       (come_at wanted P (limits_by pass) (is.opened + 0) is.opened frame.after frame.after frames (omega arith) refl (record { inside = to_come.around.0; around = to_come.around.1 }))
       (noted_leaves pass.bucket (open_in frame.state frames) (subst (λ (fs : List BucketFrame). HasNoted wanted P pass.noted is.opened (open_in is.state fs)) more_frames is.noted) coming on ended)))
-
--- ---- what takes no step in the layout: a value of a bucket that may be inline
-
-pub keep_at : (wanted : Wanted) (pass : Pass) (parents : List Parent) (put : List Placed) (key value : List ℕ) (after : Tree) (p : PendingBucket) (entry : Leaf) (size : ℕ) (entries : Vec Leaf Global)
-    → IsAt wanted pass parents (with_value key value after) put → pass.pending ≡ Some p → entries.items ≡ pass.entries.items ++ entry ∷ [] → leaf_view entry ≡ value_element key value
-    → IsAt wanted (record pass { pending = Some (record { key = p.key; sequence = p.sequence; size = size }); entries = entries }) parents after put
-keep_at wanted pass parents put key value after p entry size entries is some pushed view = grind (arith, map-append, onto_push)

@@ -1,9 +1,10 @@
 -- The next member of a listing in a pass, the beginning of a pass, and its end.
+use Rattle.std.proofs.lemmas.Grind.{common_steps}
 use Rattle.bolt_layout.proofs.ListLemmas.{all_append}
 use Rattle.std.specs.Prelude.{IsErrAnd}
 use Rattle.std.specs.List.{AllByRecursion}
 use Rattle.std.proofs.lemmas.Result.{err_from_is_err_and}
-use Rattle.std.proofs.Common.{◌≡◌, ◌≢◌, ◌∙◌, ℕ, suc, true, ◌+◌, ◌≤◌, List, [], ◌∷◌, ◌++◌, length, map, Option, Some, None, Result, Ok, Err, OnErr, refl, sym, ap, subst, arith, append_assoc}
+use Rattle.std.proofs.Common.{◌≡◌, ◌≢◌, ◌∙◌, ℕ, suc, true, ◌+◌, ◌≤◌, List, [], ◌∷◌, ◌++◌, length, map, None, Result, Ok, Err, OnErr, refl, sym, ap, subst, arith, append_assoc}
 use Rattle.std.proofs.lemmas.List.{length-append}
 use Rattle.bolt_check.specs.Keys.{Key}
 use Rattle.bolt_format.specs.{Sinks.AppendsProperPrefix, declared.sink.Sink.Ghosts}
@@ -12,10 +13,10 @@ use Rattle.bolt_tree.specs.Tree.{Tree, end, listing_below, listing_of, with_buck
 use Rattle.bolt_layout.specs.Laid.{Placed}
 use Rattle.bolt_layout.specs.Layout.{first_page, layout_held, layout_mark, layout_pages, layout_root, placed_bytes}
 use Rattle.bolt_layout.specs.{Storable.HasLengths, Openings.leaf_pages, Openings.opened_in, declared.Layout.Layout}
-use Rattle.bolt_layout.specs.{declared.Layout.TheVariants.Balanced, declared.Layout.TheVariants.Plain, Items.items_of, Items.root_of}
-use Rattle.bolt_bulk.specs.Private.{AreComingAround, AreOpenRuns, bucket_end_next, bucket_runs, BucketEnds, BucketRunsView, saturated, depth_of, end_of, Ends, FitLimits, BucketFrame, HasLeft, HasNoted, held_so_far, IsAt, IsFitMember, IsOn, Known, last_part, Parent, parent_of, limit_in, limits_by, limits_with, no_leaves, nothing_open, Open, open_in, path_in, pending_depth, runs_end, runs_end_put, Steps, Wanted}
+use Rattle.bolt_layout.specs.{declared.Layout.TheVariants.Balanced, declared.Layout.TheVariants.Plain, Items.items_of}
+use Rattle.bolt_bulk.specs.Private.{AreComingAround, AreOpenRuns, bucket_end_next, bucket_runs, BucketEnds, BucketRunsView, saturated, depth_of, Ends, FitLimits, BucketFrame, HasLeft, HasNoted, held_so_far, IsAt, IsFitMember, IsOn, Known, last_part, Parent, parent_of, limit_in, limits_by, limits_with, no_leaves, nothing_open, Open, open_in, runs_end, runs_end_put, Steps, Wanted}
 use Rattle.bolt_bulk.specs.{declared.page_setup.PageSetup.PageSetup, declared.fault.BulkFault.BulkFault, declared.pass.Ended.Ended, declared.pass.Pass.Pass}
-use Rattle.bolt_bulk.specs.{declared.pending_bucket.PendingBucket.PendingBucket, declared.noted_limits.NotedLimits.NotedLimits}
+use Rattle.bolt_bulk.specs.{declared.noted_limits.NotedLimits.NotedLimits}
 use Rattle.bolt_bulk.proofs.{PassSteps.pass_begins, PassSteps.pass_ends, HeldSteps.end_held}
 use Rattle.bolt_bulk.proofs.Members.{all_left, left_after, next_entry, next_short, none_at_all, with_item}
 use Rattle.bolt_bulk.proofs.{KeptRuns.nothing_runs, KeptRuns.runs_ended, OpenRunLemmas.ends, Openings.all_coming, Openings.root_notes, PassAt.on_of}
@@ -26,9 +27,8 @@ use Rattle.bolt_format.proofs.WroteLemmas.{Wrote-same, Wrote-then}
 -- ---- the next member
 
 pub last_pushed : (path : Path) (key : Key) → last_part (path ++ key ∷ []) ≡ key
-last_pushed [] key = refl
-last_pushed (part ∷ []) key = refl
 last_pushed (part ∷ next ∷ path) key = last_pushed (next ∷ path) key
+last_pushed path key = grind arith
 
 pub record HasNext (wanted : Wanted) (pass : Pass) (key : Key) (item : Item) (members : List Member) (put : List Placed) : Type 0 where
   pub parents : List Parent
@@ -43,14 +43,7 @@ has_next wanted pass path key item members put has deep last =
     let d = depth_parents wanted pass has.parents has.left put has.at in
     let short = next_short has.parents has.left (path, item) members has.members_are in
     let next = next_entry has.parents has.left path item members has.members_are (omega arith) in
-    let same : next.key ≡ key = sym (last_pushed (path_in has.parents) next.key) ∙ (ap last_part (sym next.path_is) ∙ last) in
-    record {
-      parents = has.parents;
-      inside = next.inside;
-      after = next.after;
-      at = subst (λ (k : Key). IsAt wanted pass has.parents (with_item k item next.inside next.after) put) same (subst (λ (t : Tree). IsAt wanted pass has.parents t put) next.rest_is has.at);
-      members_are = ap (λ (k : Key). left_after has.parents k item next.inside next.after) (sym same) ∙ sym next.more_is;
-    }
+    grind (arith, last_pushed, with_item, left_after)
 
 -- The members of the listing of a tree that can be stored fit.
 one_part : (path : Path) (key : Key) → length key ≤ 1073741824 → (1 ≤ length (path ++ key ∷ [])) × (length (last_part (path ++ key ∷ [])) ≤ 1073741824)
@@ -99,19 +92,14 @@ has_begun wanted pass none nothing runs fresh first asked unnoted fit =
 -- ---- the end
 
 no_parents : (parents : List Parent) → suc (length parents) ≤ 1 → parents ≡ []
-no_parents [] h = refl
-no_parents (parent ∷ parents) h = absurd (omega arith)
+no_parents parents h = grind (arith, common_steps)
 
 no_frames : (frames : List BucketFrame) → [] ≡ map parent_of frames → frames ≡ []
 no_frames [] e = refl
 no_frames (frame ∷ frames) e = absurd cc
 
-only_none : (pending : Option PendingBucket) → pending_depth pending ≤ 0 → pending ≡ None
-only_none None h = refl
-only_none (Some p) h = absurd (omega arith)
-
 no_pending : (pass : Pass) → depth_of pass ≤ 1 → pass.pending ≡ None
-no_pending pass h = only_none pass.pending (omega arith)
+no_pending pass h = grind arith
 
 pub record HasEnd (wanted : Wanted) (pass : Pass) (put : List Placed) : Type 0 where
   pub pages : layout_pages wanted.which pass.setup.page_size wanted.tree ≡ put ++ runs_end_put pass.setup.page_size (bucket_runs pass.bucket pass.next)
@@ -126,8 +114,7 @@ root_ended : (page_size : ℕ) (wanted : Wanted) (state : Open) (runs : BucketRu
     × (held_so_far [] state ≡ layout_held wanted.which page_size wanted.tree)
 root_ended page_size wanted state runs put on =
     let ended = runs_ended page_size runs state first_page on.kept in
-    let whole : end_of page_size state ≡ root_of wanted.which page_size wanted.tree = ends wanted.which page_size state on.under.root on.under.current ∙ on.under.stack in
-    grind (arith, pass_ends, end_held)
+    grind (arith, ends, pass_ends, end_held)
 
 pub has_end : (wanted : Wanted) (pass : Pass) (put : List Placed) → HasLeft wanted pass [] put → depth_of pass ≤ 1 → HasEnd wanted pass put
 has_end wanted pass put has shallow =

@@ -1,27 +1,21 @@
 -- A pass and the members of the listing that are left to it.
-use Rattle.std.proofs.Common.{◌≡◌, ℕ, suc, ◌+◌, ◌≤◌, ◌<◌, List, [], ◌∷◌, length, Option, Some, None, Ok, refl, ap, arith, subst}
+use Rattle.std.proofs.Common.{◌≡◌, ℕ, suc, ◌≤◌, ◌<◌, List, [], ◌∷◌, length, Ok, refl, arith, subst}
 use Rattle.std.proofs.lemmas.List.{length-map, length-reverse}
 use Rattle.std.specs.Prelude.{⊤}
-use Rattle.bolt_format.specs.{declared.element.Leaf.Leaf, declared.sink.Sink.Ghosts}
+use Rattle.bolt_format.specs.{declared.sink.Sink.Ghosts}
 use Rattle.bolt_tree.specs.{Listing.Member, Tree.Tree, Tree.end}
 use Rattle.bolt_layout.specs.Laid.{Placed}
-use Rattle.bolt_bulk.specs.Private.{AreWaiting, depth_of, BucketFrame, HasLeft, IsAt, IsNoDeeper, IsPending, left_in, Parent, pending_depth, Steps, Wanted}
-use Rattle.bolt_bulk.specs.{declared.pass.Pass.Pass, declared.pending_bucket.PendingBucket.PendingBucket, declared.waiting_bucket.WaitingBucket.WaitingBucket}
+use Rattle.bolt_bulk.specs.Private.{AreWaiting, depth_of, BucketFrame, HasLeft, IsAt, IsNoDeeper, left_in, Parent, Steps, Wanted}
+use Rattle.bolt_bulk.specs.{declared.pass.Pass.Pass, declared.waiting_bucket.WaitingBucket.WaitingBucket}
 use Rattle.bolt_bulk.proofs.{Members.none_at_all, Members.none_further, PassAt.steps_none}
 
 -- The depth that the code counts is that of the parents.
 waiting_frames : (waiting : List WaitingBucket) (frames : List BucketFrame) → AreWaiting waiting frames → length waiting ≡ length frames
-waiting_frames [] [] are = refl
 waiting_frames (w ∷ waiting) (frame ∷ frames) (runs, key, sequence, others) = let ih = waiting_frames waiting frames others in omega arith
-waiting_frames waiting frames are = absurd are
-
-pending_parents : (pending : Option PendingBucket) (entries : List Leaf) (outer : List Parent) (rest : Tree) (parents : List Parent) (left : Tree) → IsPending pending entries outer rest parents left
-    → length parents ≡ pending_depth pending + length outer
-pending_parents None entries outer rest parents left (same, is) = let l = ap (λ (ls : List Parent). length ls) same in omega arith
-pending_parents (Some p) entries outer rest parents left (after, same, is) = let l = ap (λ (ls : List Parent). length ls) same in omega arith
+waiting_frames waiting frames are = grind arith
 
 pub depth_parents : (wanted : Wanted) (pass : Pass) (parents : List Parent) (left : Tree) (put : List Placed) → IsAt wanted pass parents left put → depth_of pass ≡ suc (length parents)
-depth_parents wanted pass parents left put is = grind (arith, waiting_frames, length-reverse, length-map, pending_parents)
+depth_parents wanted pass parents left put is = grind (arith, waiting_frames, length-reverse, length-map)
 
 pub left_same : {wanted : Wanted} {pass : Pass} {members others : List Member} {put : List Placed} → members ≡ others → HasLeft wanted pass members put → HasLeft wanted pass others put
 left_same {wanted} {pass} {put = put} same has = subst (λ (ms : List Member). HasLeft wanted pass ms put) same has
@@ -33,8 +27,7 @@ steps_begun has = steps_none (Ok tt) has.at tt has
 
 -- The next member is further out, or there is none: the innermost bucket has no more.
 no_more : (depth : ℕ) (parents : List Parent) (left : Tree) (members : List Member) → left_in parents left ≡ members → IsNoDeeper depth members → depth < suc (length parents) → left ≡ end
-no_more depth parents left [] is shallow deep = none_at_all parents left is
-no_more depth parents left (member ∷ members) is shallow deep = none_further parents left member members is (omega arith)
+no_more depth parents left members is shallow deep = grind (arith, none_at_all, none_further)
 
 some_parent : (parents : List Parent) → 1 < suc (length parents) → (parent : Parent) × (others : List Parent) × (parents ≡ parent ∷ others)
 some_parent [] deep = absurd (omega arith)
@@ -50,9 +43,7 @@ pub has_ended : (depth : ℕ) (wanted : Wanted) (pass : Pass) (members : List Me
     → HasEnded wanted pass members put
 has_ended depth wanted pass members put has shallow some deep =
     let d = depth_parents wanted pass has.parents has.left put has.at in
-    let none = no_more depth has.parents has.left members has.members_are shallow (omega arith) in
-    let (parent, parents, same) = some_parent has.parents (omega arith) in
-    grind arith
+    grind (arith, no_more, some_parent)
 
 -- a bucket was left
 pub left_out : (wanted : Wanted) (pass : Pass) (parent : Parent) (parents : List Parent) (members : List Member) (put : List Placed) → left_in parents parent.after ≡ members → IsAt wanted pass parents parent.after put

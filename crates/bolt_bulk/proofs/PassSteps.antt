@@ -1,5 +1,6 @@
 -- A forward pass over a tree, with a frame for each waiting bucket: in the end they become the root page, and the pages that were written are
 -- those of the layout. Its steps, over the open runs and what the code keeps of them.
+use Rattle.std.proofs.lemmas.Grind.{common_steps}
 use Rattle.std.proofs.Common.{◌≡◌, ℕ, ◌+◌, List, [], ◌∷◌, ◌++◌, length, refl, append_assoc, arith, subst, ◌∙◌, ◌/◌, ◌≤◌, ◌<◌, Bool, true, false, sym, ap}
 use Rattle.std.proofs.lemmas.List.{append-nil, length-append}
 use Rattle.std.proofs.lemmas.Bool.{le-leb, lt-ltb}
@@ -9,19 +10,15 @@ use Rattle.bolt_tree.specs.Tree.{Tree, end}
 use Rattle.bolt_layout.specs.{Items.bucket_item, Items.items_of, Items.root_of, Items.leaf_item, Items.stored_bucket, Laid.Laid, Laid.Placed, Laid.size_of}
 use Rattle.bolt_layout.specs.{Levels.root_over, Limits.HaveRightLimits, Layout.first_page, Layout.layout_pages, Layout.layout_mark}
 use Rattle.bolt_layout.specs.{declared.Layout.Layout, Cut.run_size, PageBytes.inline_value, PageBytes.leaf_data}
-use Rattle.bolt_bulk.specs.Private.{all_put, base_in, bucket_limit, end_of, end_puts, BucketFrame, HasBegun, held_item, IsOpen, IsPass, Known, leaves_coming, making_room, nothing_open, Open, pushing, room_puts, taking, AreOpenRuns, bucket_end_next, BucketRunsView, entries_size, frames_put, HasRoot, IsOn, onto, root_element, runs_end, runs_end_put, runs_push, runs_room, runs_room_put, runs_taking, StandsBefore}
-use Rattle.bolt_bulk.proofs.OpenRunLemmas.{ends, ends_put, opens, pushed_put, room_put, takes}
+use Rattle.bolt_bulk.specs.Private.{all_put, base_in, bucket_limit, end_of, end_puts, BucketFrame, held_item, IsOpen, IsPass, Known, leaves_coming, making_room, nothing_open, Open, pushing, room_puts, taking, AreOpenRuns, bucket_end_next, BucketRunsView, entries_size, frames_put, HasRoot, IsOn, onto, root_element, runs_end, runs_end_put, runs_push, runs_room, runs_room_put, runs_taking, StandsBefore}
+use Rattle.bolt_bulk.proofs.OpenRunLemmas.{ends, opens, pushed_put, takes, climb_put, close_put}
 use Rattle.bolt_bulk.proofs.Ontos.{IsValue, ends_inline, onto_items, value_items, values_elements, values_keyed, values_numbers, values_pages, values_size}
 use Rattle.bolt_bulk.proofs.{KeptRuns.runs_ended, KeptRuns.runs_have_room, KeptRuns.runs_pushed, PutBefore.pass_before}
 use Rattle.std.specs.List.{AllByRecursion}
 
 -- a run with an item isn't empty
 no_push : (run : List (Laid LeafElement)) (item : Laid LeafElement) → run ++ item ∷ [] ≡ [] → ⊥
-no_push [] item e = cc
-no_push (x ∷ run) item e = cc
-
-pushed_begun : (state : Open) (item : Laid LeafElement) → HasBegun (pushing state item)
-pushed_begun state item none = absurd (no_push state.run item none)
+no_push run item e = grind (arith, common_steps)
 
 -- The beginning: nothing is open, and nothing was written.
 pub pass_begins : (which : Layout) (page_size : ℕ) (known : Known) (tree : Tree) → known.leaves ≡ leaves_coming page_size [] (items_of which page_size tree)
@@ -38,11 +35,11 @@ pass_begins which page_size known tree leaves right = record {
 -- An item with no pages below it: room is made, and it is taken.
 pub pass_takes : (which : Layout) (page_size : ℕ) (frames : List BucketFrame) (state : Open) (item : Laid LeafElement) (items : List (Laid LeafElement)) (whole : Laid BranchElement)
     → IsPass which page_size frames state (item ∷ items) whole → IsPass which page_size frames (taking page_size state item) items whole
-pass_takes which page_size frames state item items whole pass = grind (arith, takes, pushed_begun)
+pass_takes which page_size frames state item items whole pass = grind (arith, takes, no_push)
 
 pub put_takes : (page_size : ℕ) (frames : List BucketFrame) (state : Open) (item : Laid LeafElement) → ((n : ℕ) → item.pages n ≡ [])
     → all_put frames (taking page_size state item) ≡ all_put frames state ++ room_puts page_size state item.key item.size (base_in frames)
-put_takes page_size frames state item none = grind (arith, pushed_put, append-nil, room_put, append_assoc)
+put_takes page_size frames state item none = grind (arith, pushed_put, append-nil, append_assoc, climb_put)
 
 -- A bucket with a root page: room is made, and a bucket within begins.
 abbrev pub waiting : ℕ → Open → List ℕ → ℕ → Tree → BucketFrame
@@ -68,21 +65,21 @@ pass_enters which page_size known frames state key sequence inner after whole le
 
 pub put_enters : (page_size : ℕ) (known : Known) (frames : List BucketFrame) (state : Open) (key : List ℕ) (sequence : ℕ) (after : Tree)
     → all_put (waiting page_size state key sequence after ∷ frames) (nothing_open known) ≡ all_put frames state ++ room_puts page_size state key (32 + length key) (base_in frames)
-put_enters page_size known frames state key sequence after = grind (arith, append-nil, room_put, append_assoc)
+put_enters page_size known frames state key sequence after = grind (arith, append-nil, append_assoc, climb_put)
 
 -- The end of a bucket within: its runs close, and the bucket that waits takes its item.
 pub pass_leaves : (which : Layout) (page_size : ℕ) (frame : BucketFrame) (frames : List BucketFrame) (state : Open) (whole : Laid BranchElement) → IsPass which page_size (frame ∷ frames) state [] whole
     → IsPass which page_size frames (pushing frame.state (held_item frame (end_of page_size state))) (items_of which page_size frame.after) whole
-pass_leaves which page_size frame frames state whole pass = grind (arith, ends, pushed_begun)
+pass_leaves which page_size frame frames state whole pass = grind (arith, ends, no_push)
 
 pub put_leaves : (page_size : ℕ) (frame : BucketFrame) (frames : List BucketFrame) (state : Open)
     → all_put frames (pushing frame.state (held_item frame (end_of page_size state))) ≡ all_put (frame ∷ frames) state ++ end_puts page_size state (base_in (frame ∷ frames))
-put_leaves page_size frame frames state = grind (arith, pushed_put, ends_put, append_assoc)
+put_leaves page_size frame frames state = grind (arith, pushed_put, append_assoc, close_put)
 
 -- The end: what was written and what the last runs write are the pages of the layout.
 pub pass_ends : (which : Layout) (page_size : ℕ) (tree : Tree) (state : Open) → IsPass which page_size [] state [] (root_of which page_size tree)
     → all_put [] state ++ end_puts page_size state first_page ≡ layout_pages which page_size tree
-pass_ends which page_size tree state pass = grind (arith, ends, ends_put)
+pass_ends which page_size tree state pass = grind (arith, ends, close_put, append_assoc)
 
 module _ {which : Layout} {page_size : ℕ} {tree : Tree} where
   -- what was written comes before the root page, and its numbers are below the high-water mark

@@ -1,6 +1,6 @@
 -- Whatever is still to come, the pages that a forward pass has written are a prefix of the layout's, which has at least one more page; and
 -- their numbers are among the layout's.
-use Rattle.std.proofs.Common.{◌≡◌, ◌∙◌, ◌≤◌, ℕ, zero, suc, ◌+◌, nat_lt, Option, List, [], ◌∷◌, ◌++◌, length, map, refl, sym, ap, subst, inl, inr, arith, append_assoc}
+use Rattle.std.proofs.Common.{◌≡◌, ◌∙◌, ◌≤◌, ℕ, suc, ◌+◌, nat_lt, Option, List, [], ◌∷◌, ◌++◌, length, map, refl, sym, ap, subst, inl, inr, arith, append_assoc}
 use Rattle.std.proofs.lemmas.Bool.{cases_Bool}
 use Rattle.std.proofs.lemmas.List.{append-nil, length-append}
 use Rattle.bolt_format.specs.{Elements.BranchElement, Elements.LeafElement, Pages.PageView}
@@ -61,8 +61,6 @@ run_begins Balanced page_size page level =
 
 top_begins : (which : Layout) (page_size steps : ℕ) (page : Laid BranchElement) (level : List (Laid BranchElement)) (b : ℕ)
     → Begins 0 (page.pages b) page.numbers ((top_in which steps page_size (page ∷ level)).pages b) (top_in which steps page_size (page ∷ level)).numbers
-top_begins which page_size steps page [] b = record { rest = []; parts = sym (append-nil (page.pages b)); some = omega arith; fewer = omega arith }
-top_begins which page_size zero page (other ∷ level) b = record { rest = []; parts = sym (append-nil (page.pages b)); some = omega arith; fewer = omega arith }
 top_begins which page_size (suc steps) page (other ∷ level) b =
     let (more, rest, e) = run_begins which page_size page (other ∷ level) in
     let up : Laid BranchElement = page_over branch_page_view page_size (page ∷ more) in
@@ -73,6 +71,7 @@ top_begins which page_size (suc steps) page (other ∷ level) b =
     let first : Begins 0 (page.pages b) page.numbers (up.pages b) up.numbers = record { rest = one.rest; parts = one.parts ∙ ap (λ (ps : List Placed). ps ++ one.rest) (append-nil (page.pages b)); some = omega arith; fewer = omega arith } in
     subst (λ (l : List (Laid BranchElement)). Begins 0 (page.pages b) page.numbers ((top_in which steps page_size l).pages b) (top_in which steps page_size l).numbers) (sym same)
     (begins_by (omega arith) first (top_begins which page_size steps up level2 b))
+top_begins which page_size steps page level b = grind (arith, append-nil)
 
 -- What open upper runs and a page become begins with the pages of those runs and of that page.
 coming_begins : (which : Layout) (page_size : ℕ) (limits : ℕ → Option ℕ) (uppers : List Upper) (p : Laid BranchElement) (pages all : List (Laid BranchElement)) (root : Laid BranchElement)

@@ -1,13 +1,14 @@
 -- What a call that writes pages leaves on its sink, if it can also fail because memory runs out or the layout is too large.
+use Rattle.std.proofs.lemmas.Grind.{common_steps}
 use Rattle.std.proofs.Common.{◌≡◌, ◌≢◌, ℕ, ◌<◌, ◌≤◌, List, [], ◌∷◌, ◌++◌, length, OnErr, Option, Result, Ok, Err, refl, sym, ap, subst, arith, append_assoc}
 use Rattle.std.proofs.KnownBytes.{Appends-nil}
 use Rattle.std.proofs.lemmas.List.{length-append}
 use Rattle.bolt_format.proofs.SinkLemmas.{AppendsPrefix-whole, AppendsProperPrefix-first, AppendsProperPrefix-second, more_some}
 use Rattle.bolt_format.proofs.WroteLemmas.{Wrote-cut, Wrote-halt, Wrote-none, Wrote-return_cut, Wrote-stop, Wrote-stop_cut, Wrote-stop_halted, Wrote-then, Wrote-unkept}
 use Rattle.bolt_format.proofs.EncodedHeaders.{length-header_bytes}
-use Rattle.bolt_format.specs.{Endings.cut, Endings.whole, Endings.halted, Pages.PageView, Sinks.AppendsProperPrefix, Wrote.Wrote, declared.sink.Sink.Ghosts}
+use Rattle.bolt_format.specs.{Endings.whole, Endings.halted, Pages.PageView, Sinks.AppendsProperPrefix, Wrote.Wrote, declared.sink.Sink.Ghosts}
 use Rattle.bolt_layout.specs.{Laid.Placed, Layout.placed_bytes, PageBytes.page_bytes}
-use Rattle.bolt_bulk.specs.{BulkEndings.fault_ending, Private.Closes, Private.page_text, Private.Writes, declared.fault.BulkFault.BulkFault, declared.page_setup.PageSetup.PageSetup}
+use Rattle.bolt_bulk.specs.{BulkEndings.fault_ending, Private.Closes, Private.Writes, declared.fault.BulkFault.BulkFault, declared.page_setup.PageSetup.PageSetup}
 use Rattle.std.proofs.lemmas.Result.{err_from_is_err_and}
 use Rattle.std.specs.Prelude.{IfErr, IsErrAnd}
 use Rattle.bolt_bulk.specs.declared.fault.BulkFault.TheVariants as fault
@@ -43,9 +44,7 @@ bytes-append page_size (x ∷ xs) ys = grind (arith, append_assoc, bytes-append 
 
 -- a fault is passed on, and the second text is left out
 pub Wrote-stops : {S : Type 0} {sink : Ghosts S} {old new : S} {first : List ℕ} (second : List ℕ) (e : BulkFault) → Wrote sink old new first (fault_ending e) → Wrote sink old new (first ++ second) (fault_ending e)
-Wrote-stops second fault.Memory a = Wrote-stop_halted second a
-Wrote-stops second fault.TooLarge a = Wrote-stop_halted second a
-Wrote-stops second fault.Sink a = Wrote-stop second a
+Wrote-stops second e a = grind (arith, common_steps)
 
 -- memory ran out after the text
 pub Wrote-gave_up : {S : Type 0} {sink : Ghosts S} {old new : S} {text : List ℕ} → Wrote sink old new text whole → Wrote sink old new text halted
@@ -53,15 +52,7 @@ Wrote-gave_up {sink} {old} {new} {text} a = record { appends = AppendsPrefix-who
 
 -- the fault is Sink only if the sink failed,
 pub Wrote-failed : {S : Type 0} {sink : Ghosts S} {old new : S} {text : List ℕ} (e : BulkFault) → Wrote sink old new text (fault_ending e) → e ≡ fault.Sink → 0 < sink.failed new
-Wrote-failed fault.Memory a is = absurd cc
-Wrote-failed fault.TooLarge a is = absurd cc
-Wrote-failed fault.Sink a is = a.failures
-
--- and another one only if it didn't
-pub Wrote-sound : {S : Type 0} {sink : Ghosts S} {old new : S} {text : List ℕ} (e : BulkFault) → Wrote sink old new text (fault_ending e) → (e ≡ fault.Sink → ⊥) → sink.failed new ≡ sink.failed old
-Wrote-sound fault.Memory a other = a.failures
-Wrote-sound fault.TooLarge a other = a.failures
-Wrote-sound fault.Sink a other = absurd (other refl)
+Wrote-failed e a is = grind arith
 
 -- if the second call leaves something out, so do both
 pub short_then : {S A E : Type 0} {sink : Ghosts S} (old mid new : S) (first second : List ℕ) (result : Result A E)
@@ -83,29 +74,12 @@ module _ {S : Type 0} {sink : Ghosts S} {old new : S} {setup : PageSetup} {first
       let (_, is, e_is) = err_from_is_err_and result same in
       record { writes = writes_stop same more one.writes; short = rw is (rw bytes-append (AppendsProperPrefix-first _ _ _ _ one.short)); marked = rw is tt }
 
-  -- after pages that were written
-  pub writes_then : {A B : Type 0} {mid : S} {mark last next later : ℕ} {x : A} {result : Result B BulkFault} → Writes {A = A} sink old mid setup first mark next (Ok x) → Writes sink mid new setup second last later result
-      → Writes sink old new setup (first ++ second) last later result
-  writes_then one two = record { pages = rw bytes-append (Wrote-then one.pages two.pages); within = two.within; large = two.large }
-
-  pub closes_then : {A B : Type 0} {mid : S} {mark last next later : ℕ} {x : A} {result : Result B BulkFault} → Closes {A = A} sink old mid setup first mark next (Ok x) → Closes sink mid new setup second last later result
-      → Closes sink old new setup (first ++ second) last later result
-  closes_then {mid = mid} {result = result} one two = record {
-    writes = writes_then one.writes two.writes;
-    short = rw bytes-append (short_then old mid new _ _ result one.writes.pages two.short);
-    marked = two.marked;
-  }
-
 -- nothing was written yet
 pub closes_early : {S A : Type 0} {sink : Ghosts S} {old : S} {setup : PageSetup} {page : Placed} {pages : List Placed} {mark next : ℕ} {e : BulkFault} {result : Result A BulkFault} → IsErrAnd result (λ f. f ≡ e) → e ≡ fault.Memory
     → Closes sink old old setup (page ∷ pages) mark next result
 closes_early {sink} {old} {setup} {page} {pages} {result = result} same memory =
     let (_, is, e_is) = err_from_is_err_and result same in
-    record {
-      writes = rw (is, e_is, memory) (record { pages = Wrote-halt old _; within = tt; large = λ e. absurd cc });
-      short = rw is (proper_none (sink.taken old) _ (pages_some setup.page_size page pages));
-      marked = rw is tt;
-    }
+    grind (arith, common_steps, proper_none, pages_some)
 
 -- there is no number for a page,
 pub closes_above : {S A : Type 0} {sink : Ghosts S} {old : S} {setup : PageSetup} {page : Placed} {pages : List Placed} {mark next : ℕ} {e : BulkFault} {result : Result A BulkFault} → IsErrAnd result (λ f. f ≡ e) → e ≡ fault.TooLarge
@@ -114,18 +88,10 @@ closes_above {sink} {old} {setup} {page} {pages} {result = result} same large ab
     let (_, is, e_is) = err_from_is_err_and result same in
     record { writes = rw (is, e_is, large) (record { pages = Wrote-halt old _; within = tt; large = λ e. above }); short = rw is (proper_none (sink.taken old) _ (pages_some setup.page_size page pages)); marked = rw is tt }
 
--- or its sink fails
-pub closes_cut : {S A : Type 0} {sink : Ghosts S} {old new : S} {setup : PageSetup} {page : Placed} {mark next : ℕ} {result : Result A BulkFault} → IsErrAnd result (λ f. f ≡ fault.Sink)
-    → Wrote sink old new (page_text setup page) cut → Closes sink old new setup (page ∷ []) mark next result
-closes_cut {result = result} same one =
-    let (_, is, e_is) = err_from_is_err_and result same in
-    record { writes = rw (is, e_is) (record { pages = Wrote-cut one; within = tt; large = λ e. absurd cc }); short = rw is one.appends; marked = rw is tt }
-
 -- nothing is written after these pages
 pub writes_on : {S A B : Type 0} {sink : Ghosts S} {old new : S} {setup : PageSetup} {row : List Placed} {mark next : ℕ} {x : A} (result : Result B BulkFault) → IfErr result (λ e. e ≡ fault.Memory)
     → Writes {A = A} sink old new setup row mark next (Ok x) → Writes sink old new setup row mark next result
-writes_on (Ok y) memory one = record { pages = one.pages; within = one.within; large = tt }
-writes_on (Err e) memory one = rw memory (record { pages = Wrote-gave_up one.pages; within = tt; large = λ is. absurd cc })
+writes_on result memory one = grind (arith, common_steps)
 
 pub short_stop : {S : Type 0} {sink : Ghosts S} {old mid new : S} {text piece left : List ℕ} (rest : List ℕ) → left ≡ piece ++ rest
     → WroteFront sink old mid text left → AppendsProperPrefix (sink.taken mid) (sink.taken new) piece → AppendsProperPrefix (sink.taken old) (sink.taken new) text

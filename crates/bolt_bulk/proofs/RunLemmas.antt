@@ -1,10 +1,10 @@
 -- A run of pages that takes one more, and closes if the next one doesn't join it.
-use Rattle.std.proofs.Common.{div-add-mod', add-mul, ◌≡◌, ◌∙◌, ◌⊎◌, ℕ, ◌+◌, ◌*◌, ◌<◌, ◌≤◌, ◌||◌, ◌&&◌, Bool, true, None, List, [], ◌∷◌, ◌++◌, length, ap, arith}
+use Rattle.std.proofs.Common.{div-add-mod', add-mul, ◌≡◌, ◌∙◌, ◌⊎◌, ℕ, ◌+◌, ◌*◌, ◌<◌, ◌≤◌, ◌||◌, ◌&&◌, Bool, true, List, [], ◌∷◌, ◌++◌, length, ap, arith}
 use Rattle.std.proofs.lemmas.Bool.{leb-true, ltb-true}
 use Rattle.std.proofs.lemmas.List.{length-append, append-nil}
 use Rattle.bolt_format.specs.Elements.{BranchElement}
-use Rattle.bolt_layout.specs.{Levels.overflow_of, Limits.is_out, PageBytes.branch_data}
-use Rattle.bolt_bulk.specs.Private.{IsPushed, IsSizedRun, IsStanding, run_kept, run_key, run_push, run_stays, RunView}
+use Rattle.bolt_layout.specs.{Levels.overflow_of, PageBytes.branch_data}
+use Rattle.bolt_bulk.specs.Private.{IsPushed, IsSizedRun, IsStanding, run_kept, run_push, run_stays, RunView}
 use Rattle.bolt_layout.proofs.PageRows.{overflow_room, overflow_small}
 
 overflow_most : (page_size size : ℕ) → (1 + overflow_of page_size size) * page_size ≤ size + page_size
@@ -29,19 +29,7 @@ pushed run e is key = grind (arith, length-append, pushed_sized)
 pub few_or_fits : (a b c : Bool) → (a || (b && c)) ≡ true → (a ≡ true) ⊎ ((b ≡ true) × (c ≡ true))
 few_or_fits a b c h = grind arith
 
-alone_small : (es : List BranchElement) (e : BranchElement) (size : ℕ) → length (es ++ e ∷ []) < 2 → size ≡ 16 + (16 * length (es ++ e ∷ []) + length (branch_data (es ++ e ∷ []))) → length e.key ≤ 1073741824 → size ≤ 1073741856
-alone_small [] e size one sized key = let a = data_push [] e in omega arith
-alone_small (x ∷ es) e size one sized key = let b = length-append es (e ∷ []) in absurd (omega arith)
-
--- the first key of a run is one of its elements' keys
-pub key_pushed : (es : List BranchElement) (e : BranchElement) → length (run_key es) ≤ 1073741824 → length e.key ≤ 1073741824 → length (run_key (es ++ e ∷ [])) ≤ 1073741824
-key_pushed [] e named key = key
-key_pushed (x ∷ es) e named key = named
-
-no_slack : {A : Type 0} → is_out None ≡ true → A
-no_slack e = absurd (cc)
-
 -- a run that stays open for the next page stands
 pub stays_standing : (page_size k : ℕ) (run : RunView) (e : BranchElement) → page_size ≤ 33554432 → IsStanding run → length e.key ≤ 1073741824 → run_stays page_size (run_push run e) k ≡ true
     → IsStanding (run_kept page_size (run_push run e) k)
-stays_standing page_size k run e high is key stays = grind (arith, pushed, key_pushed, length-append, no_slack, few_or_fits, ltb-true, alone_small, leb-true)
+stays_standing page_size k run e high is key stays = grind (arith, pushed, length-append, few_or_fits, ltb-true, leb-true)

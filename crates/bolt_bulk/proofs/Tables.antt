@@ -1,5 +1,5 @@
 -- The numbers of the open buckets, what their open runs say of each row at their end, and the limits that were noted of those that have ended.
-use Rattle.std.proofs.Common.{ℕ, suc, Option, List, [], ◌∷◌, ◌++◌, length, map, ap, arith, ◌≡◌, ◌∙◌, ◌+◌, ◌<◌, ◌≤◌, false, None, refl, sym, subst}
+use Rattle.std.proofs.Common.{ℕ, suc, Option, List, [], ◌∷◌, ◌++◌, length, map, ap, arith, ◌≡◌, ◌∙◌, ◌+◌, ◌<◌, ◌≤◌, false, None, sym, subst}
 use Rattle.std.proofs.lemmas.List.{length-append, length-map}
 use Rattle.std.proofs.lemmas.Bool.{cases_lt}
 use Rattle.bolt_format.specs.Elements.{BranchElement}
@@ -36,7 +36,6 @@ noted_enters wanted page_size noted known buckets number notes has = grind (arit
 run_ends : (page_size : ℕ) (limits : ℕ → Option ℕ) (runs : List BranchRun) (uppers : List Upper) (q : Laid BranchElement) (all : List (Laid BranchElement)) (root : Laid BranchElement) (b : ℕ)
     → AreUppers (runs_above runs) uppers b → Comes Plain page_size limits uppers all (q ∷ []) root → length all ≤ 18446744073709551615
     → map run_end runs ≡ map upper_end uppers
-run_ends page_size limits [] [] q all root b are comes few = refl
 run_ends page_size limits (run ∷ runs) (upper ∷ uppers) q all root b (row, are) (stands, comes) few =
     let next : List (Laid BranchElement) = map (page_over branch_page_view page_size) (branch_cut Plain page_size size_of all) in
     let fewer = shorter Plain page_size all stands.some in
@@ -45,7 +44,7 @@ run_ends page_size limits (run ∷ runs) (upper ∷ uppers) q all root b (row, a
     let items : length run.elements.items ≡ length upper.run = run_length run upper.run _ row.same in
     let rest = run_ends page_size (λ k. limits (suc k)) runs uppers (page_over branch_page_view page_size (upper.run ++ q ∷ [])) next root b are comes (omega arith) in
     grind arith
-run_ends page_size limits runs uppers q all root b are comes few = absurd are
+run_ends page_size limits runs uppers q all root b are comes few = grind arith
 
 -- no more buckets are opened than the layout has page numbers
 around_most : (wanted : Wanted) (page_size : ℕ) (limits : ℕ → ℕ → Option ℕ) (n : ℕ) (frames : List BucketFrame) → AreComingAround wanted page_size limits n frames → n ≤ suc (opened_in wanted.which page_size wanted.tree)

@@ -1,7 +1,6 @@
 -- The plain layout is never 28 times larger than the balanced one, so a pass over it that finds no room notes that neither has any.
 use Rattle.std.proofs.Common.{◌<◌, ℕ, refl, ap, subst, arith}
 use Rattle.std.proofs.Math.Logic.{∥∥₁_elim}
-use Rattle.std.proofs.lemmas.Grind.{common_steps}
 use Rattle.std.proofs.Props.{props}
 use Rattle.bolt_tree.specs.Tree.{tree_of}
 use Rattle.bolt_layout.specs.{Layout.layout_mark, declared.Layout.TheVariants.Balanced, declared.Layout.TheVariants.Plain}
@@ -15,7 +14,7 @@ returns-in-Ok g c = record {
       let ends = c.in-Ok.ensures.pages Plain listing lists (fit_plain c.noting_setup_of-setup.result.page_size c.none-none.result (tree_of listing) c.none-none.ensures) in
       subst (λ (n : ℕ). FitLimits Balanced (tree_of listing) n (limits_with c.in-Ok.ended.noted)) c.noting_setup_of-setup.ensures.page_size (ends.returned.noted refl refl);
   large = tt;
-  again = grind (arith, common_steps);
+  again = grind arith;
 }
 
 pub returns-in-Err-TooLarge : goal.returns-in-Err-TooLarge

@@ -1,10 +1,11 @@
 -- The plan, the first pages, and the pages of all buckets, which are the layout.
-use Rattle.std.proofs.Common.{Err, List, length, Result, subst, ◌≡◌, ◌∙◌, ◌*◌, ◌++◌, ℕ, refl, sym, ap, arith}
+use Rattle.std.proofs.lemmas.Grind.{common_steps}
+use Rattle.std.proofs.Common.{Err, List, length, Result, subst, ◌≡◌, ◌*◌, ◌++◌, ℕ, refl, sym, ap, arith}
 use Rattle.std.proofs.Math.Logic.{∥∥₁_elim}
 use Rattle.std.proofs.Props.{props}
 use Rattle.std.proofs.lemmas.Result.{err_from_is_err_and}
 use Rattle.bolt_tree.specs.{Listing.Member, Tree.tree_of}
-use Rattle.bolt_layout.specs.{Copies.layout_of_listing, Layout.layout_held, Layout.layout_mark, Layout.layout_pages, Layout.placed_bytes, Laid.Placed}
+use Rattle.bolt_layout.specs.{Copies.layout_of_listing, Layout.layout_mark, Layout.layout_pages, Layout.placed_bytes, Laid.Placed}
 use Rattle.bolt_bulk.specs.{Compacting.Copies, Compacting.CopiesEach, declared.members_copy.Done.Done, declared.fault.BulkFault.BulkFault}
 use Rattle.bolt_bulk.proofs.CopyLemmas.{copied, layout_parts, layout_written, stops_first, stops_later, stops_unplanned}
 use Rattle.bolt_bulk.proofs.{FileLayouts.some_bytes, FileLayouts.too_large, FileLayouts.within_mark, WalkLeft.whole_again}
@@ -35,8 +36,7 @@ written : (g : _) (c : After-setup_of-setup g) (listing : List Member) → g.M.M
     ≡ first_pages c.args.blueprint.now.page_size c.in_ok-plan.plan.root c.args.blueprint.now.sequence c.in_ok-plan.plan.high_water ++ placed_bytes c.setup_of-setup.result.page_size others
 written g c listing lists others all =
     let planned = c.in_ok-plan.ensures.plans listing ((c.in_ok-limits.ensures.again.listing listing).1 lists) in
-    layout_written c.args.blueprint.now.layout c.args.blueprint.now.page_size (tree_of listing) c.args.blueprint.now.sequence c.in_ok-plan.plan.root c.in_ok-plan.plan.high_water c.setup_of-setup.result.page_size others
-    planned.root planned.high_water c.setup_of-setup.ensures.page_size all
+    grind (arith, layout_written)
 
 -- what a call promises that stops early
 stopped : (g : _) (c : After-a_listing_has_one_layout g) (new : g.row.S.Denot) (result : Result Done BulkFault) (e : BulkFault) → IsErrAnd result (λ f. f ≡ e)
@@ -45,13 +45,7 @@ stopped : (g : _) (c : After-a_listing_has_one_layout g) (new : g.row.S.Denot) (
     → CopiesEach g.S.Sink.taken g.S.Sink.failed c.args.sink.now new (g.M.Members.lists c.args.members.now) c.args.blueprint.now.layout c.args.blueprint.now.page_size c.args.blueprint.now.sequence result
 stopped g c new result e same copied =
     let (_, is, e_is) = err_from_is_err_and result same in
-    rw (is, e_is) (record {
-      copied = copied;
-      accepted = tt;
-      held = tt;
-      bounded = tt;
-      prefixes = λ listing lists. c.a_listing_has_one_layout.ensures.prefixes c.args.blueprint.now.layout listing (c.requires.one listing lists);
-    })
+    grind arith
 
 pub plan_within-requires : goal.plan_within-requires
 plan_within-requires g c κs = grind (arith, whole_again, fit)
@@ -103,23 +97,4 @@ returns-in_err-ended-clause-copies g c =
 pub returns-clause-copies : goal.returns-clause-copies
 returns-clause-copies g c =
     let began : After-a_listing_has_one_layout g = (goal.at.returns-clause-copies g c).After-a_listing_has_one_layout in
-    let law = c.a_listing_has_one_layout.ensures in
-    let fits = λ (listing : List Member) (lists : g.M.Members.lists c.args.members.now listing). (c.in_ok-plan.ensures.plans listing ((c.in_ok-limits.ensures.again.listing listing).1 lists)).fits in
-    let held : (listing : List Member) → g.M.Members.lists c.args.members.now listing → c.in_ok-ended.ended.held ≡ layout_held c.args.blueprint.now.layout c.args.blueprint.now.page_size (tree_of listing) = λ listing lists.
-    let ends = c.in_ok-ended.ensures.pages c.args.blueprint.now.layout listing (there g (goal.at.returns-clause-copies g c).After-setup_of-setup listing lists) (fit g (goal.at.returns-clause-copies g c).After-setup_of-setup listing lists) in
-    let few = fits listing lists in
-    let small = law.held c.args.blueprint.now.layout listing (c.requires.one listing lists) few in
-    let size = ap (λ (n : ℕ). layout_held c.args.blueprint.now.layout n (tree_of listing)) c.setup_of-setup.ensures.page_size in
-    let most = ends.returned.held in omega (arith, small, few, size, most) in
-    record {
-      copied = λ listing lists.
-          let ends = c.in_ok-ended.ensures.pages c.args.blueprint.now.layout listing (there g (goal.at.returns-clause-copies g c).After-setup_of-setup listing lists) (fit g (goal.at.returns-clause-copies g c).After-setup_of-setup listing lists) in
-          let whole = written g (goal.at.returns-clause-copies g c).After-setup_of-setup listing lists ends.others ends.all in
-          let mark : c.in_ok-ended.ended.high_water ≡ layout_mark c.args.blueprint.now.layout c.args.blueprint.now.page_size (tree_of listing) = ends.returned.mark ∙ ap (λ (n : ℕ). layout_mark c.args.blueprint.now.layout n (tree_of listing)) c.setup_of-setup.ensures.page_size in
-          copied g.S.Sink c.args.sink.now c.put_pages.new.sink _ _ _ whole (fits listing lists) c.put_first_pages.new.sink _ _
-          c.in_ok-put_first_pages.ensures ends.puts (ap (λ (n : ℕ). n * c.args.blueprint.now.page_size) mark ∙ sym (long g began listing lists));
-      accepted = λ listing lists. law.accepted c.args.blueprint.now.layout listing (c.requires.one listing lists) (fits listing lists);
-      held = held;
-      bounded = λ listing lists. let h = held listing lists in let b = law.bounded c.args.blueprint.now.layout listing (c.requires.one listing lists) (fits listing lists) in omega (arith, h, b);
-      prefixes = λ listing lists. law.prefixes c.args.blueprint.now.layout listing (c.requires.one listing lists);
-    }
+    grind (arith, common_steps, there, fit, written, long)

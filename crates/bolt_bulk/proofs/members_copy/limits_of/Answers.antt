@@ -1,6 +1,5 @@
 -- Each row of the plain layout may have any number of runs.
 use Rattle.std.proofs.Common.{arith, subst, sym}
-use Rattle.std.proofs.lemmas.Grind.{common_steps}
 use Rattle.bolt_tree.specs.Tree.{tree_of}
 use Rattle.bolt_layout.specs.declared.Layout.{Layout}
 use Rattle.bolt_bulk.specs.Private.{FitLimits, limits_with}
@@ -12,5 +11,5 @@ returns-in-Plain g c = record {
   fit = λ listing lists. subst (λ (which : Layout). FitLimits which (tree_of listing) c.args.blueprint.now.page_size (limits_with c.none.result)) (sym c.in-Plain.is)
       (fit_plain c.args.blueprint.now.page_size c.none.result (tree_of listing) c.none.ensures);
   large = tt;
-  again = grind (arith, common_steps);
+  again = grind arith;
 }

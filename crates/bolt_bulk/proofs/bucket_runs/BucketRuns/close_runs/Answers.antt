@@ -1,6 +1,5 @@
 -- The leaf closes, and then the runs above it.
 use Rattle.std.proofs.Common.{arith, rules}
-use Rattle.std.proofs.lemmas.Grind.{common_steps}
 use Rattle.bolt_format.specs.ElementPlaces.{branch_view}
 use Rattle.bolt_bulk.specs.Private.{bucket_runs}
 use Rattle.bolt_bulk.proofs.BucketLemmas.{closed_short, end_made, end_stops}
@@ -16,5 +15,5 @@ returns-in_err-closed g c = record { closes = end_stops (bucket_runs c.args.self
 pub returns : goal.returns
 returns g c = record {
   closes = end_made (bucket_runs c.args.self.now c.args.next.now) (branch_view c.in_ok-closed.closed) c.in_ok-closed.ensures.closes.up c.in_ok-closed.ensures.closes.closes c.close_all.ensures.closes;
-  root = grind (arith, common_steps);
+  root = grind arith;
 }

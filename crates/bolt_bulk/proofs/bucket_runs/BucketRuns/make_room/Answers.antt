@@ -1,6 +1,5 @@
 -- If there is no room, the leaf closes, and its element climbs.
 use Rattle.std.proofs.Common.{◌∙◌, arith, rules, sym}
-use Rattle.std.proofs.lemmas.Grind.{common_steps}
 use Rattle.bolt_format.specs.ElementPlaces.{branch_view}
 use Rattle.bolt_bulk.specs.Private.{bucket_runs}
 use Rattle.bolt_bulk.proofs.BucketLemmas.{closed_short, room_made, room_stops}
@@ -20,5 +19,5 @@ pub returns-clause-makes : goal.returns-clause-makes
 returns-clause-makes g c = record {
   writes = room_made (bucket_runs c.args.self.now c.args.next.now) c.args.key.now c.args.size (branch_view c.in_ok-closed.closed) (sym c.has_room.ensures ∙ c.if-has_room.false)
       c.in_ok-closed.ensures.closes.up c.in_ok-closed.ensures.closes.closes c.climb.ensures.climbs.writes;
-  runs = grind (arith, common_steps);
+  runs = grind arith;
 }

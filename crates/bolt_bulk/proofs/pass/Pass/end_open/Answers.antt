@@ -1,15 +1,13 @@
 -- The bucket around it takes the item of the one that ends.
 use Rattle.std.specs.Prelude.{⊤}
 use Rattle.std.proofs.Common.{Err, arith, Ok}
-use Rattle.bolt_bulk.specs.Private.{IsWaiting}
 use Rattle.bolt_bulk.proofs.{HeldPasses.waits_less, PassAt.leave_steps, PassAt.steps_none, PassAt.steps_stop, PassReady.last_of, PutsLemmas.writes_on}
 use Rattle.bolt_bulk.proofs.pass.Pass.end_open.Goals as goal
 
 pub end_inner-requires : goal.end_inner-requires
 end_inner-requires g c =
     let ready = c.requires.ready in
-    let waits = (last_of (IsWaiting c.args.self.now.setup.page_size) c.pop.new.self.items c.in-Some.waiting (rw c.in-Some.ensures.items at ready.waiting)).0 in
-    rw (c.replace-inner.ensures.after, c.replace-inner.ensures.value) (record { outer = waits.bucket; inner = ready.bucket; key = waits.key; room = waits.room; next = ready.next })
+    grind (arith, last_of)
 
 pub returns-in_err-bucket_ends-clause-steps : goal.returns-in_err-bucket_ends-clause-steps
 returns-in_err-bucket_ends-clause-steps g c = λ wanted parent parents put is. steps_stop {A = ⊤} {Mid = λ _. ⊤} c.from_residual.ensures.1 (steps_none (Err _) is c.in_err-bucket_ends.ensures.fault tt)

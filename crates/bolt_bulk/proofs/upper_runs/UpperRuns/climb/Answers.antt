@@ -1,10 +1,10 @@
 -- Each run that closes is one step on; a run that stays, or the first new one, ends the climb.
-use Rattle.std.proofs.Common.{Err, ◌≡◌, ◌∙◌, ◌+◌, arith, ap, refl, length}
+use Rattle.std.proofs.Common.{◌≡◌, ◌∙◌, ◌+◌, arith, refl}
 use Rattle.std.proofs.lemmas.List.{map-append, map-set, length-map, length-set}
 use Rattle.std.proofs.lemmas.Result.{err_from_is_err_and}
-use Rattle.bolt_format.specs.{ElementPlaces.branch_view, Elements.BranchElement}
+use Rattle.bolt_format.specs.{ElementPlaces.branch_view}
 use Rattle.bolt_layout.specs.{Levels.overflow_of, Limits.one_less}
-use Rattle.bolt_bulk.specs.Private.{key_size, no_run, one_closed, run_kept, run_push, run_view}
+use Rattle.bolt_bulk.specs.Private.{no_run, one_closed, run_push, run_view}
 use Rattle.bolt_bulk.proofs.ClimbLemmas.{climb_closes, climb_over, climb_stays, climb_stops, no_room_by, room_by, run_at, standing_set, up_key}
 use Rattle.bolt_bulk.proofs.PutsLemmas.{writes_on}
 use Rattle.bolt_bulk.proofs.upper_runs.UpperRuns.climb.Goals as goal
@@ -24,10 +24,7 @@ returns-in-None g c =
     let here = run_at _ c.loop-i.self.runs.items c.loop-i.i c.index_mut.result.now c.loop-i-test.true (omega arith) c.index_mut.ensures.value c.loop-i.invariant.standing in
     let room = room_by c.args.setup.now.page_size c.args.key.now (branch_view c.loop-i.closed) c.loop-i.next old _ c.in-None.is c.in_ok-take_page.ensures.takes.up in
     let stays = climb_stays here.at c.loop-i.invariant.climbs here.within room c.in_ok-take_page.ensures.takes.writes.pages in
-    let took : run_view c.take_page.new.self ≡ run_kept c.args.setup.now.page_size (run_push old (branch_view c.loop-i.closed)) (key_size c.args.key.now) = c.in_ok-take_page.ensures.takes.run ∙ (rw room refl) in
-    let next : c.take_page.new.next ≡ c.loop-i.next = c.in_ok-take_page.ensures.takes.marked ∙ (rw room refl) in
-    let set_is = map-set run_view c.loop-i.self.runs.items c.loop-i.i c.take_page.new.self in
-    grind (arith, standing_set)
+    grind (arith, map-set, standing_set)
 
 pub loop-i-preserved : goal.loop-i-preserved
 loop-i-preserved g c =
@@ -39,21 +36,17 @@ loop-i-preserved g c =
     let next : c.take_page.new.next ≡ c.loop-i.next + (1 + overflow_of c.args.setup.now.page_size (run_push old e).size) = c.in_ok-take_page.ensures.takes.marked ∙ (rw closed refl) in
     let set_is = map-set run_view c.loop-i.self.runs.items c.loop-i.i c.take_page.new.self in
     let closes = climb_closes here.at c.loop-i.invariant.climbs here.within closed c.in_ok-take_page.ensures.takes.writes.pages in
-    let k = up_key e c.loop-i.next old here.standing c.loop-i.invariant.short in
-    let kk = ap (λ (x : BranchElement). length x.key) named in
-    grind (arith, standing_set, length-set)
+    grind (arith, up_key, standing_set, length-set)
 
 pub returns-in_err-push_page-clause-climbs : goal.returns-in_err-push_page-clause-climbs
 returns-in_err-push_page-clause-climbs g c =
     let over = climb_over c.loop-i.self.runs.items c.loop-i.invariant.climbs (omega arith) c.loop-i.invariant.within in
-    let p = err_from_is_err_and c.from_residual-in_err-push_page.result c.from_residual-in_err-push_page.ensures.1 in
-    rw (p.1, p.2) (record { writes = writes_on (Err _) c.in_err-push_page.ensures.fault over.0; runs = tt; limits = tt; marked = tt })
+    grind (arith, err_from_is_err_and, writes_on)
 
 pub returns-in_err-push-clause-climbs : goal.returns-in_err-push-clause-climbs
 returns-in_err-push-clause-climbs g c =
     let over = climb_over c.loop-i.self.runs.items c.loop-i.invariant.climbs (omega arith) c.loop-i.invariant.within in
-    let p = err_from_is_err_and c.from_residual-in_err-push.result c.from_residual-in_err-push.ensures.1 in
-    rw (p.1, p.2) (record { writes = writes_on (Err _) refl over.0; runs = tt; limits = tt; marked = tt })
+    grind (arith, err_from_is_err_and, writes_on)
 
 pub returns-clause-climbs : goal.returns-clause-climbs
 returns-clause-climbs g c =

@@ -1,8 +1,8 @@
 -- The runs that are left come to the same as all of them: each that closes is one step on, and a fault leaves something out.
-use Rattle.std.proofs.Common.{arith, ap, sym, length}
+use Rattle.std.proofs.Common.{arith}
 use Rattle.std.proofs.lemmas.List.{map-set, length-set}
 use Rattle.std.proofs.lemmas.Result.{err_from_is_err_and}
-use Rattle.bolt_format.specs.{ElementPlaces.branch_view, Elements.BranchElement}
+use Rattle.bolt_format.specs.{ElementPlaces.branch_view}
 use Rattle.bolt_bulk.specs.Private.{run_view}
 use Rattle.bolt_bulk.proofs.ClimbLemmas.{close_more, close_stops, run_at, standing_set, up_key}
 use Rattle.bolt_bulk.proofs.upper_runs.UpperRuns.close_all.Goals as goal
@@ -20,7 +20,4 @@ pub loop-i-preserved : goal.loop-i-preserved
 loop-i-preserved g c =
     let here = run_at _ c.loop-i.self.runs.items c.loop-i.i c.index_mut.result.now c.loop-i-test.true (omega arith) c.index_mut.ensures.value c.loop-i.invariant.standing in
     let more = close_more here.at c.loop-i.invariant.closes (run_view c.take_last_page.new.self) (branch_view c.in_ok-closed.closed) c.take_last_page.new.next c.in_ok-closed.ensures.closes.up c.in_ok-closed.ensures.closes.closes.marked c.in_ok-closed.ensures.closes.closes.writes.pages in
-    let k = up_key (branch_view c.loop-i.closed) c.loop-i.next (run_view c.index_mut.result.now) here.standing c.loop-i.invariant.short in
-    let kk = ap (λ (x : BranchElement). length x.key) c.in_ok-closed.ensures.closes.up in
-    let runs = sym (map-set run_view c.loop-i.self.runs.items c.loop-i.i c.take_last_page.new.self) in
-    grind (arith, standing_set, length-set)
+    grind (arith, up_key, map-set, standing_set, length-set)
