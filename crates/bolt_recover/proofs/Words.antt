@@ -63,7 +63,7 @@ unfoldable pub use Rattle.bolt_recover.specs.Recoveries.{recovery_begun, recover
 unfoldable pub use Rattle.bolt_recover.specs.Recoveries.{recovery_path, recovery_visited, recovery_work}
 pub use Rattle.bolt_tree.proofs.{EntryOrder.contains_at, Filters.filter_all, Filters.filter_none}
 pub use Rattle.bolt_check.proofs.Lists.{Each, RisesBy, contains_from_has, get_before, has_at, has_from_contains, has_left, has_right, has_split, map_has}
-pub use Rattle.bolt_check.proofs.Lists.{rises_append, rises_map}
+pub use Rattle.bolt_check.proofs.Lists.{rises_append, rises_map, Has as Among}
 pub use Rattle.bolt_tree.proofs.{Lists.contains_cases, Lists.contains_head, Lists.contains_none, Lists.contains_tail, Lists.rises_once}
 pub use Rattle.bolt_tree.proofs.PathOrder.{before_longer, key_same, key_total, same_front}
 pub use Rattle.bolt_tree.proofs.Single.{lists_once, member_total}
@@ -85,6 +85,7 @@ pub use Rattle.std.proofs.lemmas.List.{take-append-le, take-map, take_all}
 pub use Rattle.std.proofs.lemmas.List.Elements.{All-head, All-nil, All-push, All-tail, Contains-append_cases}
 pub use Rattle.std.proofs.lemmas.List.Elements.{Contains-append_left, Contains-append_right, Contains-push_cases, filter-append}
 pub use Rattle.std.proofs.lemmas.List.Sums.{sum_by-append, sum_by-cons}
+pub use Rattle.std.proofs.lemmas.Result.{IfOk-weaker, on_err_weaker, on_ok_weaker}
 pub use Rattle.std.proofs.lemmas.Option.{none-some, same_Some, slice_get-map, slice_get_cases, slice_get_within}
 pub use Rattle.std.specs.Cmp.{both_ways, nat_cmp_is}
 pub use Rattle.std.specs.List.{All, Contains, count_by}
