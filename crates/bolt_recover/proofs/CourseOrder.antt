@@ -1,10 +1,8 @@
 -- A course visits ways in their order.
 use Rattle.std.proofs.Common.{◌≡◌, ◌∙◌, ◌<◌, inl, inr, ℕ, zero, suc, Bool, List, [], ◌∷◌, ◌++◌, Option, Some, None, slice_get, arith, refl, sym, ap, subst, append_assoc}
-use Rattle.bolt_recover.proofs.Words.{append-nil, Before, Each, entry_tasks, Event, Finding, further, gives_at, LeafElement, Path, step_site, tasks_from, visits_at, Has, has_split, Meta, rises_append, RisesBy, Site, SurveyedWay, Task, tasks_after, To_give, To_visit, visits_of, Way}
+use Rattle.bolt_recover.proofs.Words.{append-nil, Before, Each, entry_tasks, Event, Finding, further, gives_at, LeafElement, Path, step_site, tasks_from, visits_at, Has, has_split, Meta, rises_append, RisesBy, Site, SurveyedWay, Task, tasks_after, To_give, To_visit, visits_of, Way, Among}
 use Rattle.bolt_recover.proofs.Courses.{Course, Course.done, Course.give, Course.visit}
 use Rattle.bolt_recover.proofs.{SurveyIsOne.parent_before, SurveyIsOne.ways, TaskLists.IsAt, TaskLists.after_at, TaskLists.entry_at, TaskLists.from_at}
-use Rattle.bolt_check.specs.{Lists.RisesBy, Ways.Before}
-use Rattle.bolt_check.proofs.Lists.{Has as Among}
 
 siblings : (w : Way) (i j : ℕ) (rest : Way) → i < j → Before ((w ++ i ∷ []) ++ rest) (w ++ j ∷ [])
 siblings [] i j rest lt = inl lt

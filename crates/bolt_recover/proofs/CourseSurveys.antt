@@ -1,13 +1,11 @@
 -- What a course visits is a survey, and what it returns are the elements at the kept ways.
 use Rattle.std.proofs.Common.{◌≡◌, ◌∙◌, ◌⊎◌, ◌↔◌, ◌≤◌, ◌<◌, inl, inr, ℕ, ◌+◌, Bool, true, ◌||◌, ◌&&◌, List, [], ◌∷◌, ◌++◌, nat_le, Option, Some, None, Result, Ok, Err, refl, sym, ap, subst, arith, append_assoc, cond}
-use Rattle.bolt_recover.proofs.Words.{after_event, after_events, all_events, and_parts, append-nil, At_inline, At_page, claimed_after, claims_of, Contains, contains_at, contains_cases, contains_head, contains_none, contains_tail, counted, Each, Event, false≢true, Finding, further, Given, Gives, Has, has_left, has_right, has_split, in_span, is_at_page, IsClaimedIn, IsKeptPage, IsMetaPage, IsOpen, IsRecoveredMember, IsSurvey, Item, item_of, kept, LeafElement, loss_at, losses_of, lost_at, members_of, Meta, meta_pages, nat_tests, Node, node_at, Nodes, or_cases, or_left, or_right, Outcome, outcome_of, page_visit, page_ways, Path, Reach, reached, root_site, root_tasks, same_Some, Site, site_at, site_size, span_of, SpanAt, SpanHas, SpanOf, Spot, step_site, sum_by-cons, SurveyedWay, Task, tasks_after, To_give, To_visit, Visited, visits_of, Way}
+use Rattle.bolt_recover.proofs.Words.{after_event, after_events, all_events, and_parts, append-nil, At_inline, At_page, claimed_after, claims_of, Contains, contains_at, contains_cases, contains_head, contains_none, contains_tail, counted, Each, Event, false≢true, Finding, further, Given, Gives, Has, has_left, has_right, has_split, in_span, is_at_page, IsClaimedIn, IsKeptPage, IsMetaPage, IsOpen, IsRecoveredMember, IsSurvey, Item, item_of, kept, LeafElement, loss_at, losses_of, lost_at, members_of, Meta, meta_pages, nat_tests, Node, node_at, Nodes, or_cases, or_left, or_right, Outcome, outcome_of, page_visit, page_ways, Path, Reach, reached, root_site, root_tasks, same_Some, Site, site_at, site_size, span_of, SpanAt, SpanHas, SpanOf, Spot, step_site, sum_by-cons, SurveyedWay, Task, tasks_after, To_give, To_visit, Visited, visits_of, Way, Among, RisesBy, Before}
 use Rattle.bolt_recover.proofs.{Courses.Course, Courses.Course.done, Courses.Course.give, Courses.Course.visit, Courses.course, CourseOrder.rises_course}
 use Rattle.bolt_recover.proofs.SiteFacts.{leads_within, site_further, site_is, size_enough, slice_of, spot_is, step_spot}
 use Rattle.bolt_recover.proofs.SurveyIsOne.{Suffix, earlier, gives_same, next_suffix, ways}
 use Rattle.bolt_recover.proofs.MembersInBuckets.{well_at}
 use Rattle.bolt_recover.proofs.TaskLists.{IsAt, after_at, at_from}
-use Rattle.bolt_check.specs.{Lists.RisesBy, Ways.Before}
-use Rattle.bolt_check.proofs.Lists.{Has as Among}
 
 -- the claims of a spot are its span
 span_in : (r : Result Node ℕ) (number n : ℕ) → (in_span r number n ≡ true) ↔ SpanOf r number n
@@ -61,11 +59,10 @@ module _ (file : List ℕ) (meta : Meta) where
   pub record Tallied (o : Outcome) (events : List Event) : Type 0 where
     pub losses : (after_events nodes o events).losses ≡ o.losses ++ losses_of file meta (visits_of events)
     pub pages : counted (after_events nodes o events).visited 0 ≡ counted o.visited (page_ways reach (visits_of events))
-    pub claimed : (n : ℕ) → ((after_events nodes o events).claimed n ≡ true) ↔ ((o.claimed n ≡ true) ⊎ ByKept (Has (visits_of events)) n)
 
   tallied : (o : Outcome) (events : List Event) → ((w : Way) (p : Site) (found : Option Finding) → Among events (Visited w p found) → site_at file meta w ≡ Some p) → Tallied o events
-  tallied o [] placed = record { losses = sym (append-nil o.losses); pages = refl; claimed = λ n. (λ is. inl is, λ is. elim is [ inl was ↦ was | inr (v, (has, span)) ↦ absurd has ]) }
-  tallied o (Given path e ∷ events) placed = let rest = tallied o events (λ w p found h. placed w p found (inr h)) in record { losses = rest.losses; pages = rest.pages; claimed = rest.claimed }
+  tallied o [] placed = record { losses = sym (append-nil o.losses); pages = refl }
+  tallied o (Given path e ∷ events) placed = let rest = tallied o events (λ w p found h. placed w p found (inr h)) in record { losses = rest.losses; pages = rest.pages }
   tallied o (Visited w p found ∷ events) placed =
       let at = placed w p found (inl refl) in
       let rest = tallied (after_event nodes o (Visited w p found)) events (λ v q f h. placed v q f (inr h)) in
@@ -76,16 +73,6 @@ module _ (file : List ℕ) (meta : Meta) where
         losses = rest.losses ∙ append_assoc o.losses (lost_at p found) (losses_of file meta (visits_of events))
             ∙ ap (λ ls. o.losses ++ (ls ++ losses_of file meta (visits_of events))) (loss_first (site_at file meta w) p found at);
         pages = omega (arith, here, all, pages);
-        claimed = λ n. let later = rest.claimed n in let this = by_visit w p found n at in (
-          λ is. elim (later.0 is) [
-            | inl before ↦ elim (or_cases (o.claimed n) (span_of nodes p.spot found n) before) [ inl was ↦ inl was | inr now ↦ let (u, (same, span)) = this.0 now in inr (u, (inl same, span)) ]
-            | inr (u, (has, span)) ↦ inr (u, (inr has, span))
-          ],
-          λ is. later.1 (elim is [
-            | inl was ↦ inl (or_left (o.claimed n) (span_of nodes p.spot found n) was)
-            | inr (u, (has, span)) ↦ elim has [ inl same ↦ inl (or_right (o.claimed n) (span_of nodes p.spot found n) (this.1 (u, (same, span)))) | inr there ↦ inr (u, (there, span)) ]
-          ]),
-        );
       }
 
 module _ (file : List ℕ) (meta : Meta) (survey : List SurveyedWay) where
@@ -122,8 +109,9 @@ module _ (file : List ℕ) (meta : Meta) (survey : List SurveyedWay) where
   tasks_of (Given path e) = []
   tasks_of (Visited w p found) = tasks_after file meta w p found
 
-  -- what comes of a course: the tasks are done, and those at the sites that are visited
-  record Comes (tasks : List Task) (events : List Event) : Type 0 where
+  -- what comes of a course: the tasks are done, and those at the sites that are visited, and the kept visits claim what is claimed at the end
+  record Comes (claimed : ℕ → Bool) (tasks : List Task) (events : List Event) : Type 0 where
+    claims : (o : Outcome) → o.claimed ≡ claimed → AreClaims (Has survey) (after_events (nodes file meta) o events).claimed
     only : Each IsEvent events
     led : Each (Done events) tasks
     kids : (x : Event) → Among events x → Each (Done events) (tasks_of x)
@@ -154,9 +142,10 @@ module _ (file : List ℕ) (meta : Meta) (survey : List SurveyedWay) where
         | inr (v, (front, span)) ↦ elim front [ inl before ↦ inl (inr (v, (before, span))) | inr same ↦ inr (v, (same, span)) ]
       ])
 
-  comes_more : (x : Event) (task : Task) (first tasks : List Task) (events : List Event) → IsEvent x → Done (x ∷ events) task → tasks_of x ≡ first → Comes (first ++ tasks) events
-      → Comes (task ∷ tasks) (x ∷ events)
-  comes_more x task first tasks events is ends own later = record {
+  comes_more : (claimed after : ℕ → Bool) (x : Event) (task : Task) (first tasks : List Task) (events : List Event) → ((o : Outcome) → o.claimed ≡ claimed → (after_event (nodes file meta) o x).claimed ≡ after)
+      → IsEvent x → Done (x ∷ events) task → tasks_of x ≡ first → Comes after (first ++ tasks) events → Comes claimed (task ∷ tasks) (x ∷ events)
+  comes_more claimed after x task first tasks events next is ends own later = record {
+    claims = λ o same. later.claims (after_event (nodes file meta) o x) (next o same);
     only = λ y h. elim h [ inl same ↦ subst IsEvent same is | inr more ↦ later.only y more ];
     led = λ t h. elim h [ inl same ↦ subst (Done (x ∷ events)) same ends | inr more ↦ done_later x events t (later.led t (has_right first tasks t more)) ];
     kids = λ y h t child. done_later x events t (elim h [
@@ -166,10 +155,18 @@ module _ (file : List ℕ) (meta : Meta) (survey : List SurveyedWay) where
   }
 
   comes_course : (claimed : ℕ → Bool) (tasks : List Task) (events : List Event) → Course file meta claimed tasks events
-      → (InFront : SurveyedWay → Type 0) → Suffix survey InFront (visits_of events) → AreClaims InFront claimed → Each IsTask tasks → Comes tasks events
-  comes_course claimed tasks events done InFront at claims are = record { only = λ x h. absurd h; led = λ t h. absurd h; kids = λ x h. absurd h }
+      → (InFront : SurveyedWay → Type 0) → Suffix survey InFront (visits_of events) → AreClaims InFront claimed → Each IsTask tasks → Comes claimed tasks events
+  comes_course claimed tasks events done InFront at claims are = record {
+    claims = λ o same n. (
+      λ is. elim ((claims n).0 (ap (λ (f : ℕ → Bool). f n) (sym same) ∙ is)) [ inl low ↦ inl low | inr (v, (front, span)) ↦ inr (v, (at.front (kept v) front, span)) ],
+      λ is. ap (λ (f : ℕ → Bool). f n) same ∙ (claims n).1 (elim is [ inl low ↦ inl low | inr (v, (has, span)) ↦ elim (at.split (kept v) has) [ inl front ↦ inr (v, (front, span)) | inr none ↦ absurd none ] ]),
+    );
+    only = λ x h. absurd h;
+    led = λ t h. absurd h;
+    kids = λ x h. absurd h;
+  }
   comes_course claimed tasks events (give {path = path} {e = e} {tasks = more} {events = rest} course) InFront at claims are =
-      comes_more (Given path e) (To_give path e) [] more rest (are (To_give path e) (inl refl)) (inl refl) refl
+      comes_more claimed claimed (Given path e) (To_give path e) [] more rest (λ o same. same) (are (To_give path e) (inl refl)) (inl refl) refl
       (comes_course claimed more rest course InFront at claims (λ task h. are task (inr h)))
   comes_course claimed tasks events (visit {way = w} {p = p} {found = found} {tasks = more} {events = rest} gives course) InFront at claims are =
       let this : SurveyedWay = record { way = w; found = found } in
@@ -177,7 +174,7 @@ module _ (file : List ℕ) (meta : Meta) (survey : List SurveyedWay) where
       let first = tasks_after file meta w p found in
       let here = gives_same (nodes file meta) (λ n. claimed n ≡ true) (IsClaimedIn (nodes file meta) (reach file meta) survey w) p.spot found
       (claimed_there InFront this (visits_of rest) claimed at claims) (claimed_here InFront this (visits_of rest) claimed at claims) gives in
-      comes_more (Visited w p found) (To_visit w p) first more rest (opened, there, here) (found, inl refl) refl
+      comes_more claimed _ (Visited w p found) (To_visit w p) first more rest (λ o same. ap (λ (f : ℕ → Bool). claimed_after (nodes file meta) f p.spot found) same) (opened, there, here) (found, inl refl) refl
       (comes_course _ (first ++ more) rest course (λ v. InFront v ⊎ (v ≡ this))
       (next_suffix (nodes file meta) (reach file meta) survey InFront this this (visits_of rest) refl at) (claims_after InFront w p found claimed there claims)
       (λ task h. elim (has_split first more task h) [
@@ -226,7 +223,7 @@ module _ (file : List ℕ) (meta : Meta) where
   rise : RisesBy Before (ways survey_of)
   rise = (rises_course file meta meta_pages (root_tasks file meta) (all_events file meta) (course file meta (root_tasks file meta) meta_pages) (λ b h. absurd h, tt)).0
 
-  comes : Comes file meta survey_of (root_tasks file meta) (all_events file meta)
+  comes : Comes file meta survey_of meta_pages (root_tasks file meta) (all_events file meta)
   comes =
       comes_course file meta survey_of meta_pages (root_tasks file meta) (all_events file meta) (course file meta (root_tasks file meta) meta_pages) (λ v. ⊥)
       (record { split = λ v has. inr has; inside = λ v has. has; front = λ v front. absurd front; after = λ v w front has. absurd front; rises = rise })
@@ -287,7 +284,4 @@ module _ (file : List ℕ) (meta : Meta) where
 
   -- the pages that its kept visits take in
   pub all_claimed : (begun n : ℕ) → ((outcome_of (nodes file meta) begun (all_events file meta)).claimed n ≡ true) ↔ IsKeptPage file meta survey_of n
-  all_claimed begun n = (
-    λ is. elim (((tally begun).claimed n).0 is) [ inl low ↦ inl (grind (arith, nat_tests)) | inr way ↦ inr way ],
-    λ is. ((tally begun).claimed n).1 (elim is [ inl low ↦ inl (grind (arith, nat_tests)) | inr way ↦ inr way ]),
-  )
+  all_claimed begun n = comes.claims (record { losses = []; visited = begun; claimed = meta_pages }) refl n

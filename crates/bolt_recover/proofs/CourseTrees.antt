@@ -1,10 +1,9 @@
 -- What a course returns is what a tree lists: each site that is visited comes to a tree, in which a bucket holds what its own site comes to. The keys
 -- of each bucket rise, within the bounds of its site.
 use Rattle.std.proofs.Common.{◌≡◌, ◌∙◌, ◌≤◌, inl, inr, ℕ, zero, suc, Bool, true, false, List, [], ◌∷◌, ◌++◌, ◌⊎◌, Option, Some, None, slice_get, refl, sym, ap, subst, arith, append_assoc}
-use Rattle.bolt_recover.proofs.Words.{Visited, all_events, append-nil, below_less, Bucket, cases_Bool, cases_order, end, entry_tasks, Event, Finding, from_more, get_before, Gives, gives_at, head_sequence, is_below, is_from, is_lt, Item, item_of, Key, key_lt, key_same, LeafElement, listing_below, listing_of, lower_of, lt_not_trans, lt_trans, Member, member_cmp, members_of, Meta, meta_pages, node_at, none-some, not_true, Path, Rises, root_tasks, same_Some, Site, Spot, step_site, Task, tasks_after, tasks_from, To_give, To_visit, Tree, upper_of, Value, visits_at, Way, with_bucket, with_value, further}
+use Rattle.bolt_recover.proofs.Words.{Visited, all_events, append-nil, below_less, Bucket, cases_Bool, cases_order, end, entry_tasks, Event, Finding, from_more, get_before, Gives, gives_at, head_sequence, is_below, is_from, is_lt, Item, item_of, Key, key_lt, key_same, LeafElement, listing_below, listing_of, lower_of, lt_not_trans, lt_trans, Member, member_cmp, members_of, Meta, meta_pages, node_at, none-some, not_true, Path, Rises, root_tasks, same_Some, Site, Spot, step_site, Task, tasks_after, tasks_from, To_give, To_visit, Tree, upper_of, Value, visits_at, Way, with_bucket, with_value, further, Among}
 use Rattle.bolt_recover.proofs.{Courses.Course, Courses.Course.done, Courses.Course.give, Courses.Course.visit, Courses.course, SiteKeys.IsChild, SiteKeys.Keyed, SiteKeys.keyed}
 use Rattle.bolt_recover.proofs.{CourseSurveys.placed, MembersInBuckets.well_at, SiteSteps.IsTidy}
-use Rattle.bolt_check.proofs.Lists.{Has}
 use Rattle.bolt_recover.proofs.TreeOrder.{HasKey, IsFirst, Ordered, ordered_rises}
 
 -- one tree after another
@@ -186,7 +185,7 @@ module _ (file : List ℕ) (meta : Meta) where
   visit_tree w p (Some x) before tasks members tidy gives pieces = (end, members, refl, tt, (λ k h. absurd h), pieces)
 
   pieces_course : (claimed : ℕ → Bool) (tasks : List Task) (events : List Event) → Course file meta claimed tasks events
-      → ((w : Way) (p : Site) (found : Option Finding) → Has events (Visited w p found) → IsTidy file meta p) → Pieces tasks (members_of events)
+      → ((w : Way) (p : Site) (found : Option Finding) → Among events (Visited w p found) → IsTidy file meta p) → Pieces tasks (members_of events)
   pieces_course claimed tasks events done tidy = refl
   pieces_course claimed tasks events (give {tasks = more} {events = rest} course) tidy = (members_of rest, refl, pieces_course claimed more rest course (λ v q f h. tidy v q f (inr h)))
   pieces_course claimed tasks events (visit {way = w} {p = p} {found = found} {tasks = more} {events = rest} gives course) tidy =

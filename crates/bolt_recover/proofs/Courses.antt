@@ -1,9 +1,8 @@
 -- The course of tasks: they come to one list of events, that of the function.
 use Rattle.std.proofs.Common.{◌≡◌, ◌≢◌, ◌∙◌, inl, inr, ℕ, zero, suc, ◌<◌, ◌≤◌, Bool, true, false, ◌||◌, List, [], ◌∷◌, ◌++◌, length, Option, Some, None, Result, Ok, refl, sym, ap, subst, arith}
-use Rattle.bolt_recover.proofs.Words.{At_inline, At_page, claimed_after, Event, events, false_from_ne_true, false≢true, Finding, Given, give_all, Gives, in_span, Key, LeafElement, Meta, nat_tests, Node, node_at, node_below, Nodes, none-some, or_parts, PageSpot, Path, run_all, run_on, run_to, Site, site_tasks, Spot, step_from, Task, tasks_after, test, To_give, To_visit, Visited, Way}
+use Rattle.bolt_recover.proofs.Words.{At_inline, At_page, claimed_after, Event, events, false_from_ne_true, false≢true, Finding, Given, give_all, Gives, in_span, Key, LeafElement, Meta, nat_tests, Node, node_at, node_below, Nodes, none-some, or_parts, PageSpot, Path, run_all, run_on, run_to, Site, site_tasks, Spot, step_from, Task, tasks_after, test, To_give, To_visit, Visited, Way, Among}
 use Rattle.bolt_recover.proofs.{SiteFacts.step_spot, SurveyIsOne.gives_one, TaskLists.after_at, Tested.test_finds}
 use Rattle.bolt_check.proofs.TourExists.{has_number, numbers, shorter, still, without}
-use Rattle.bolt_check.proofs.Lists.{Has}
 
 pub or_none : (b : Bool) → (b || false) ≡ b
 or_none true = refl
@@ -27,12 +26,12 @@ module _ (file : List ℕ) (meta : Meta) where
 
   -- each page below the mark that isn't claimed is among these
   abbrev Covers : (ℕ → Bool) → List ℕ → Type 0
-  Covers claimed left = (n : ℕ) → n < meta.high_water → claimed n ≡ false → Has left n
+  Covers claimed left = (n : ℕ) → n < meta.high_water → claimed n ≡ false → Among left n
 
   own_span : (number : ℕ) (node : Node) → in_span (Ok node) number number ≡ true
   own_span number node = grind (arith, nat_tests)
 
-  covers_less : (claimed : ℕ → Bool) (left : List ℕ) (s : PageSpot) (node : Node) (has : Has left s.number) → nodes s.number ≡ Ok node → Covers claimed left
+  covers_less : (claimed : ℕ → Bool) (left : List ℕ) (s : PageSpot) (node : Node) (has : Among left s.number) → nodes s.number ≡ Ok node → Covers claimed left
       → Covers (claimed_after nodes claimed (At_page s) None) (without s.number left has)
   covers_less claimed left s node has page covers n below free =
       let both = or_parts (claimed n) (in_span (nodes s.number) s.number n) free in
@@ -40,13 +39,13 @@ module _ (file : List ℕ) (meta : Meta) where
       still s.number n left has other (covers n below both.0)
 
   -- the elements at an inline page
-  course_gives : (claimed : ℕ → Bool) (first tasks : List Task) (later : List Event) → ((way : Way) (p : Site) → Has first (To_visit way p) → ⊥) → Course claimed tasks later
+  course_gives : (claimed : ℕ → Bool) (first tasks : List Task) (later : List Event) → ((way : Way) (p : Site) → Among first (To_visit way p) → ⊥) → Course claimed tasks later
       → Course claimed (first ++ tasks) (give_all first later)
   course_gives claimed [] tasks later only course = course
   course_gives claimed (To_visit way p ∷ first) tasks later only course = absurd (only way p (inl refl))
   course_gives claimed (To_give path e ∷ first) tasks later only course = give (course_gives claimed first tasks later (λ way p h. only way p (inr h)) course)
 
-  inline_gives : (way v : Way) (p t : Site) (host : ℕ) (keys : List Key) → p.spot ≡ At_inline host keys → Has (site_tasks file meta way p) (To_visit v t) → ⊥
+  inline_gives : (way v : Way) (p t : Site) (host : ℕ) (keys : List Key) → p.spot ≡ At_inline host keys → Among (site_tasks file meta way p) (To_visit v t) → ⊥
   inline_gives way v p t host keys is h =
       let (none, i, at) = after_at file meta way p None (To_visit v t) h in
       let f : None ≡ Some t.spot = ap (λ (s : Spot). step_from nodes s i) (sym is) ∙ step_spot file meta p t i at.1 in

@@ -129,27 +129,15 @@ module _ (file : List ℕ) (meta : Meta) where
       ∙ ap (λ (ms : List Member). joined_listing ms (with_elements is.found)) (one_recovered file meta is.recovered recovered is.recovers back)
       ∙ ap (λ (ns : List ℕ). joined_listing recovered (with_elements ns)) (one_found file meta is.found found is.are_found are)
 
-  pub one_joined : (a b : List Member) → IsJoined file meta a → IsJoined file meta b → a ≡ b
-  one_joined a b h k = joined_of a k.recovered k.found h k.recovers k.are_found ∙ sym k.joined
-
   pub has_joined : (listing : List Member) × IsJoined file meta listing
   has_joined =
       let (recovered, back) = has_recovered file meta in
       let (found, are) = has_found file meta in
       (joined_listing recovered (with_elements found), record { recovered = recovered; recovers = back; found = found; are_found = are; joined = refl })
 
-  joined_tree : (recovered : List Member) (found : List (ℕ × List LeafElement)) → (tree : Tree) × (recovered ≡ listing_of tree) → (tree : Tree) × (joined_listing recovered found ≡ listing_of tree)
+  pub joined_tree : (recovered : List Member) (found : List (ℕ × List LeafElement)) → (tree : Tree) × (recovered ≡ listing_of tree) → (tree : Tree) × (joined_listing recovered found ≡ listing_of tree)
   joined_tree recovered [] of = of
   joined_tree recovered (page ∷ found) of = (put_bucket lost_and_found (found_tree (page ∷ found)) (tree_of recovered), refl)
-
-  pub joined_of_tree : (listing : List Member) → IsJoined file meta listing → (tree : Tree) × (listing ≡ listing_of tree)
-  joined_of_tree listing is =
-      let (tree, of) = joined_tree is.recovered (with_elements is.found) (tree_recovered is.recovered is.recovers) in
-      (tree, is.joined ∙ of)
-
-  pub joined_recovered : (listing recovered : List Member) → IsJoined file meta listing → IsRecovered file meta recovered → LacksBucketKey recovered → filter stays listing ≡ recovered
-  joined_recovered listing recovered is back lacks =
-      ap (filter stays) (joined_of listing recovered is.found is back is.are_found) ∙ joined_keeps recovered (with_elements is.found) back lacks
 
   pages_same : (found : List Found) → All (IsFoundView file meta) found → with_elements (numbers_of found) ≡ pages_of found
   pages_same [] views = refl

@@ -1,10 +1,9 @@
 -- A joined listing is in the order of paths.
-use Rattle.std.proofs.Common.{◌≡◌, ◌≢◌, ◌∙◌, inl, inr, ℕ, zero, suc, ◌<◌, ◌+◌, ◌*◌, ◌^◌, true, false, List, [], ◌∷◌, Option, Some, None, length, map, refl, sym, ap, subst, arith}
-use Rattle.bolt_recover.proofs.Words.{AreFound, contains_from_has, Each, Entry, finding_of, found_tree, FoundBelow, inside_of, IsJoined, IsKeptPage, IsLoneLeaf, IsRecovered, joined_listing, Key, key_lt, key_rise, keys_of, keys_order_fault, KeysRise, leaf_entry, LeafElement, leaves_of, LeavesRoom, lt_of_mul-lt-mul_right, map_has, Member, member_cmp, Meta, Node, node_at, node_finding, node_within, page_at, page_key, Rises, rises_append, rises_map, RisesBy, root_spot, tree_with}
-use Rattle.bolt_recover.proofs.{FoundAll.lost_or_none, FoundLemmas.found_here, FoundLemmas.found_leaf, SiteSteps.HasForm, SiteSteps.page_form}
+use Rattle.std.proofs.Common.{◌≡◌, ◌≢◌, ◌∙◌, inl, inr, ℕ, zero, suc, ◌<◌, ◌+◌, ◌*◌, ◌^◌, true, false, List, [], ◌∷◌, Option, Some, None, length, map, refl, sym, ap, subst, arith, slice_get}
+use Rattle.bolt_recover.proofs.Words.{AreFound, contains_from_has, Each, Entry, finding_of, found_tree, FoundBelow, inside_of, IsJoined, IsKeptPage, IsLoneLeaf, IsRecovered, joined_listing, Key, key_lt, key_rise, keys_of, keys_order_fault, KeysRise, leaf_entry, LeafElement, leaves_of, LeavesRoom, lt_of_mul-lt-mul_right, map_has, Member, member_cmp, Meta, Node, node_at, node_finding, node_within, page_at, page_key, Rises, rises_append, rises_map, RisesBy, root_spot, tree_with, Among, At_page, none-some, same_Some}
+use Rattle.bolt_recover.proofs.{FoundAll.lost_or_none, FoundLemmas.found_here, FoundLemmas.found_leaf, SiteKeys.keyed, SiteSteps.keys_in}
 use Rattle.bolt_recover.proofs.{JoinedLemmas.joined_between, JoinedLemmas.with_elements, PageNames.digits_rise}
 use Rattle.bolt_recover.proofs.TreeOrder.{HasKey, Ordered, elements_ordered, inside_ordered}
-use Rattle.bolt_check.proofs.Lists.{Has as Among}
 
 -- found pages with rising numbers
 abbrev Page : Type 0
@@ -35,26 +34,19 @@ module _ (file : List ℕ) (meta : Meta) where
   found_rise kept (suc mark) found (before, below, inr (none, is)) = subst (RisesBy (λ n m. n < m)) (sym is) (found_rise kept mark before below)
 
   -- the keys of an intact leaf rise
-  no_fault : (fault : Option ℕ) (n : ℕ) → finding_of fault n ≡ None → fault ≡ None
-  no_fault None n none = refl
-  no_fault (Some x) n none = absurd (cc)
-
-  leaf_keys : (node : Node) (n : ℕ) → node.is_leaf ≡ true → node_finding node (root_spot n) ≡ None → keys_order_fault None None None (keys_of node.entries) ≡ None
-  leaf_keys node n leaf none = no_fault (keys_order_fault None None None (keys_of node.entries)) n (rw leaf at none)
-
-  shown_keys : (elements : List LeafElement) → keys_of (map leaf_entry elements) ≡ map (λ (e : LeafElement). e.key) elements
-  shown_keys [] = refl
-  shown_keys (e ∷ elements) = ap (λ (keys : List Key). e.key ∷ keys) (shown_keys elements)
-
-  keys_rise : (node : Node) (n : ℕ) (elements : List LeafElement) → HasForm node elements → node.is_leaf ≡ true → node_finding node (root_spot n) ≡ None → KeysRise (map (λ (e : LeafElement). e.key) elements)
-  keys_rise node n elements (inl (leaf, entries)) is none =
-      subst KeysRise (shown_keys elements) (subst (λ (es : List Entry). KeysRise (keys_of es)) entries (key_rise None None None (keys_of node.entries) (leaf_keys node n leaf none)))
-  keys_rise node n elements (inr (branch, empty)) is none = absurd (let f : true ≡ false = sym is ∙ branch in cc)
+  key_get : (elements : List LeafElement) (i : ℕ) (key : Key) → slice_get (keys_in elements) i ≡ Some key → (e : LeafElement) × (slice_get elements i ≡ Some e) × (e.key ≡ key)
+  key_get [] i key e = absurd (none-some key e)
+  key_get (x ∷ elements) zero key e = (x, refl, same_Some x.key key e)
+  key_get (x ∷ elements) (suc i) key e = key_get elements i key e
 
   leaf_ordered : (kept : ℕ → Type 0) (n : ℕ) → IsLoneLeaf (node_at file meta) kept n → Ordered (tree_with inside_of (leaves_of (page_at file meta n)))
   leaf_ordered kept n lone =
-      elements_ordered inside_of (leaves_of (page_at file meta n)) inside_ordered
-      (keys_rise lone.passes.node n (leaves_of (page_at file meta n)) (page_form file meta n lone.passes.node lone.passes.page) lone.leaf lone.passes.content)
+      let elements = leaves_of (page_at file meta n) in
+      let (keys, known) = keyed file meta kept (record { spot = At_page (root_spot n); path = []; elements = elements }) refl lone.passes in
+      elements_ordered inside_of elements inside_ordered (λ i j a b lt at_a at_b.
+      let (x, get_x, is_x) = key_get elements i a at_a in
+      let (y, get_y, is_y) = key_get elements j b at_b in
+      known.rise i j a b lt (known.own i x get_x ∙ ap Some is_x) (known.own j y get_y ∙ ap Some is_y))
 
   number_small : (kept : ℕ → Type 0) (n : ℕ) → length file < 10 ^ 16 * meta.page_size → IsLoneLeaf (node_at file meta) kept n → n < 10 ^ 16
   number_small kept n small lone =

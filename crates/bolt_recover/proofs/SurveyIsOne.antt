@@ -1,7 +1,6 @@
 -- There is at most one survey. Where two first differ, the preceding kept ways are the same, and so is what the tests find.
 use Rattle.std.proofs.Common.{◌≡◌, ◌∙◌, ℕ, ◌⊎◌, inl, inr, List, [], ◌∷◌, ◌++◌, map, Option, Some, None, refl, sym, ap, subst}
-use Rattle.bolt_recover.proofs.Words.{Before, before_irreflexive, before_strict, before_total, before_trans, Finding, Gives, Has, Each, IsClaimedIn, IsOpen, IsSurvey, kept, Meta, node_at, Nodes, passes_fewer, passes_silent, Reach, reached, Spot, Surveys, tests_same, SurveyedWay}
-use Rattle.bolt_check.specs.{Lists.RisesBy, Ways.Before}
+use Rattle.bolt_recover.proofs.Words.{Before, before_irreflexive, before_strict, before_total, before_trans, Finding, Gives, Has, Each, IsClaimedIn, IsOpen, IsSurvey, kept, Meta, node_at, Nodes, passes_fewer, passes_silent, Reach, reached, Spot, Surveys, tests_same, SurveyedWay, RisesBy}
 use Rattle.bolt_check.proofs.Single.{tests_one}
 
 abbrev pub ways : List SurveyedWay → List (List ℕ)
@@ -19,11 +18,6 @@ before_each : (way : List ℕ) (rest : List SurveyedWay) → Each (Before way) (
 before_each way [] h w has = absurd has
 before_each way (x ∷ rest) h w (inl e) = rw e (h x.way (inl refl))
 before_each way (x ∷ rest) h w (inr has) = before_each way rest (λ u inside. h u (inr inside)) w has
-
--- before the first of them, before all
-before_all : (x y : SurveyedWay) (rest : List SurveyedWay) → RisesBy Before (ways (y ∷ rest)) → Before x.way y.way → (w : SurveyedWay) → Has (y ∷ rest) w → Before x.way w.way
-before_all x y rest rises lt w (inl e) = subst (λ (z : SurveyedWay). Before x.way z.way) (sym e) lt
-before_all x y rest rises lt w (inr has) = before_trans x.way y.way w.way lt (before_each y.way rest rises.0 w has)
 
 pub parent_before : (parent : List ℕ) (i : ℕ) → Before parent (parent ++ i ∷ [])
 parent_before [] i = tt
@@ -58,17 +52,24 @@ gives_one nodes a s (Some x) None h k = absurd (passes_silent nodes a s x k h)
 gives_one nodes a s (Some x) (Some y) h k = ap Some (tests_one nodes a s x y h k)
 
 module _ (nodes : Nodes) (reach : Reach) where
-  -- the other survey can't pass over the first visit of the rest
-  not_missing : (a b : List SurveyedWay) → Surveys nodes reach a → Surveys nodes reach b → (InFront : SurveyedWay → Type 0) (x : SurveyedWay) (xs ys : List SurveyedWay)
-      → Suffix a InFront (x ∷ xs) → Suffix b InFront ys → ((w : SurveyedWay) → Has ys w → Before x.way w.way) → ⊥
-  not_missing a b of_a of_b InFront x xs ys at_a at_b later =
-      let only = of_a.only x (at_a.inside x (inl refl)) in
-      let p = of_b.all x.way only.1.0 (open_over a b InFront x xs ys at_a at_b only.0) only.1.1 in
-      let v : SurveyedWay = record { way = x.way; found = p.0 } in
-      elim (at_b.split v p.1) [
-        | inl f ↦ before_irreflexive x.way (at_a.after v x f (inl refl))
-        | inr h ↦ before_irreflexive x.way (later v h)
-      ]
+  -- the way of the first visit of the rest is in the rest of the other survey too
+  there : (a b : List SurveyedWay) → Surveys nodes reach a → Surveys nodes reach b → (InFront : SurveyedWay → Type 0) (x : SurveyedWay) (xs ys : List SurveyedWay)
+      → Suffix a InFront (x ∷ xs) → Suffix b InFront ys → (found : Option Finding) × Has ys (record { way = x.way; found = found })
+  there a b of_a of_b InFront x xs ys at_a at_b =
+      let (opened, (s, led, gives)) = of_a.only x (at_a.inside x (inl refl)) in
+      let (found, has) = of_b.all x.way s (open_over a b InFront x xs ys at_a at_b opened) led in
+      let v : SurveyedWay = record { way = x.way; found = found } in
+      (found, elim (at_b.split v has) [ inl f ↦ absurd (before_irreflexive x.way (at_a.after v x f (inl refl))) | inr h ↦ h ])
+
+  same_way : (a b : List SurveyedWay) → Surveys nodes reach a → Surveys nodes reach b → (InFront : SurveyedWay → Type 0) (x y : SurveyedWay) (xs ys : List SurveyedWay)
+      → Suffix a InFront (x ∷ xs) → Suffix b InFront (y ∷ ys) → x.way ≡ y.way
+  same_way a b of_a of_b InFront x y xs ys at_a at_b = elim (there a b of_a of_b InFront x xs (y ∷ ys) at_a at_b).1 [
+    | inl e ↦ ap (λ (v : SurveyedWay). v.way) e
+    | inr h ↦ elim (there b a of_b of_a InFront y ys (x ∷ xs) at_b at_a).1 [
+      | inl e ↦ sym (ap (λ (v : SurveyedWay). v.way) e)
+      | inr k ↦ absurd (before_strict x.way y.way (before_each x.way xs at_a.rises.0 _ k) (before_each y.way ys at_b.rises.0 _ h))
+    ]
+  ]
 
   claims_over : (a b : List SurveyedWay) (InFront : SurveyedWay → Type 0) (x : SurveyedWay) (xs ys : List SurveyedWay) → Suffix a InFront (x ∷ xs) → Suffix b InFront ys
       → (n : ℕ) → IsClaimedIn nodes reach a x.way n → IsClaimedIn nodes reach b x.way n
@@ -101,20 +102,14 @@ module _ (nodes : Nodes) (reach : Reach) where
   same_from : (a b : List SurveyedWay) → Surveys nodes reach a → Surveys nodes reach b → (InFront : SurveyedWay → Type 0) (xs ys : List SurveyedWay)
       → Suffix a InFront xs → Suffix b InFront ys → xs ≡ ys
   same_from a b of_a of_b InFront [] [] at_a at_b = refl
-  same_from a b of_a of_b InFront [] (y ∷ ys) at_a at_b = absurd (not_missing b a of_b of_a InFront y ys [] at_b at_a (λ w h. absurd h))
-  same_from a b of_a of_b InFront (x ∷ xs) [] at_a at_b = absurd (not_missing a b of_a of_b InFront x xs [] at_a at_b (λ w h. absurd h))
+  same_from a b of_a of_b InFront [] (y ∷ ys) at_a at_b = absurd ((there b a of_b of_a InFront y ys [] at_b at_a).1)
+  same_from a b of_a of_b InFront (x ∷ xs) [] at_a at_b = absurd ((there a b of_a of_b InFront x xs [] at_a at_b).1)
   same_from a b of_a of_b InFront (x ∷ xs) (y ∷ ys) at_a at_b =
-      elim (before_total x.way y.way) [
-        | inl e ↦
-            let found : x.found ≡ y.found = same_found a b of_a of_b InFront x.way x.found y.found xs ys at_a (subst (λ (w : List ℕ). Suffix b InFront (record { way = w; found = y.found } ∷ ys)) (sym e) at_b) in
-            let same : x ≡ y = λ i. record { way = e i; found = found i } in
-            let rest = same_from a b of_a of_b (λ v. InFront v ⊎ (v ≡ x)) xs ys (next_suffix a InFront x x xs refl at_a) (next_suffix b InFront y x ys same at_b) in
-            rw (same, rest) refl
-        | inr d ↦ elim d [
-          | inl lt ↦ absurd (not_missing a b of_a of_b InFront x xs (y ∷ ys) at_a at_b (before_all x y ys at_b.rises lt))
-          | inr gt ↦ absurd (not_missing b a of_b of_a InFront y ys (x ∷ xs) at_b at_a (before_all y x xs at_a.rises gt))
-        ]
-      ]
+      let way = same_way a b of_a of_b InFront x y xs ys at_a at_b in
+      let found : x.found ≡ y.found = same_found a b of_a of_b InFront x.way x.found y.found xs ys at_a (subst (λ (w : List ℕ). Suffix b InFront (record { way = w; found = y.found } ∷ ys)) (sym way) at_b) in
+      let same : x ≡ y = λ i. record { way = way i; found = found i } in
+      let rest = same_from a b of_a of_b (λ v. InFront v ⊎ (v ≡ x)) xs ys (next_suffix a InFront x x xs refl at_a) (next_suffix b InFront y x ys same at_b) in
+      rw (same, rest) refl
 
   whole : (a : List SurveyedWay) → Surveys nodes reach a → Suffix a (λ v. ⊥) a
   whole a of_a = record {

@@ -1,7 +1,6 @@
 -- What there is to do at a site, entry by entry.
 use Rattle.std.proofs.Common.{◌≡◌, ◌≤◌, ◌<◌, inl, inr, ℕ, zero, suc, ◌+◌, List, [], ◌∷◌, ◌++◌, Option, Some, None, slice_get, refl, sym, ap, subst, arith}
-use Rattle.bolt_recover.proofs.Words.{cases_lt, entry_tasks, Finding, further, gives_at, has_left, has_right, has_split, LeafElement, Meta, Path, Site, step_site, Task, tasks_after, tasks_from, To_give, To_visit, visits_at, Way}
-use Rattle.bolt_check.proofs.Lists.{Has as Among}
+use Rattle.bolt_recover.proofs.Words.{cases_lt, entry_tasks, Finding, further, gives_at, has_left, has_right, has_split, LeafElement, Meta, Path, Site, step_site, Task, tasks_after, tasks_from, To_give, To_visit, visits_at, Way, Among}
 
 module _ (file : List ℕ) (meta : Meta) where
   -- this is to be done at entry i of a site

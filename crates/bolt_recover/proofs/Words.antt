@@ -35,12 +35,12 @@ pub use Rattle.bolt_recover.specs.KeptPages.{AreKeptPages, IsKeptPage}
 pub use Rattle.bolt_recover.specs.Losses.{AreLosses, LossView, everything, loss_at, loss_of, losses_of, lower_of, parts, upper_of}
 pub use Rattle.bolt_recover.specs.{PageKeys.last_digits, PageKeys.page_key, PageWays.ArePageWays, PageWays.is_at_page, PageWays.page_ways}
 pub use Rattle.bolt_recover.specs.Sites.{Site, elements_at, follow_sites, leaves_of, next_site, site_at, site_on, root_site, step_site}
-pub use Rattle.bolt_recover.specs.Private.FoundLeft.{below_bucket, bucket_members, pages_of}
+pub use Rattle.bolt_recover.specs.Private.FoundLeft.{bucket_members, pages_of}
 pub use Rattle.bolt_recover.specs.Private.Frames.{Advances, AreOpen, Ends, GivesHead, GoesOn, IsAllLeft, IsContent, IsGoodContent, IsGoodPage, IsOn, IsPlaced}
 pub use Rattle.bolt_recover.specs.Private.Frames.{IsShallow, StaysOn, ahead_path_len, ahead_tasks, claims_nodes, claims_with, content_elements, content_site, content_size}
 pub use Rattle.bolt_recover.specs.Private.Frames.{content_spot, members_left, open_tasks, page_tasks, page_weight, spot_site, step_path, steps_left}
 pub use Rattle.bolt_recover.specs.Private.Frames.{steps_path, steps_weight, tally_of, tasks_left, way_of}
-pub use Rattle.bolt_recover.specs.Private.Joining.{AreJoinable, first_cmp, next_kept_members, holds_key, left_at, put_members}
+pub use Rattle.bolt_recover.specs.Private.Joining.{AreJoinable, first_cmp, holds_key, left_at, put_members}
 pub use Rattle.bolt_recover.specs.Private.KeptMembers.{kept_file, kept_left, kept_meta}
 pub use Rattle.bolt_recover.specs.Private.Courses.{Event, Given, Outcome, Task, To_give, To_visit, Visited, Way, after_event, after_events, all_events}
 pub use Rattle.bolt_recover.specs.Private.Courses.{claimed_after, claims_of, entry_count, entry_tasks, further, give_all, gives_at, in_span, lost_at, members_of}
@@ -63,7 +63,7 @@ unfoldable pub use Rattle.bolt_recover.specs.Recoveries.{recovery_begun, recover
 unfoldable pub use Rattle.bolt_recover.specs.Recoveries.{recovery_path, recovery_visited, recovery_work}
 pub use Rattle.bolt_tree.proofs.{EntryOrder.contains_at, Filters.filter_all, Filters.filter_none}
 pub use Rattle.bolt_check.proofs.Lists.{Each, RisesBy, contains_from_has, get_before, has_at, has_from_contains, has_left, has_right, has_split, map_has}
-pub use Rattle.bolt_check.proofs.Lists.{rises_append, rises_map}
+pub use Rattle.bolt_check.proofs.Lists.{rises_append, rises_map, Has as Among}
 pub use Rattle.bolt_tree.proofs.{Lists.contains_cases, Lists.contains_head, Lists.contains_none, Lists.contains_tail, Lists.rises_once}
 pub use Rattle.bolt_tree.proofs.PathOrder.{before_longer, key_same, key_total, same_front}
 pub use Rattle.bolt_tree.proofs.Single.{lists_once, member_total}
@@ -71,7 +71,7 @@ pub use Rattle.bolt_tree.specs.Entries.{Bucket, Inline_page, IsEntry, Item, Root
 pub use Rattle.bolt_tree.specs.{Listing.IsListing, Listing.Member, Listing.member_cmp, Order.Rises}
 pub use Rattle.bolt_tree.specs.{Paths.Holds, Paths.Names, Paths.Path, Paths.path_cmp, Paths.path_of, ShownEntries.item_view}
 pub use Rattle.bolt_tree.specs.{Tree.Tree, Tree.end, Tree.listing_below, Tree.listing_of, Tree.tree_of, Tree.with_bucket, Tree.with_value, Walks.GivesNext}
-unfoldable pub use Rattle.bolt_tree.specs.Walks.{left_of, walk_checked, walk_path}
+unfoldable pub use Rattle.bolt_tree.specs.Walks.{left_of, walk_checked}
 pub use Rattle.std.proofs.Math.Logic.{∥∥₁_elim, ∥∥₁_map}
 pub use Rattle.std.proofs.Math.Nat.{div-lt_iff_lt-mul, le-div_iff_mul-le, lt_of_mul-lt-mul_right}
 pub use Rattle.std.proofs.Props.{props}
@@ -85,6 +85,7 @@ pub use Rattle.std.proofs.lemmas.List.{take-append-le, take-map, take_all}
 pub use Rattle.std.proofs.lemmas.List.Elements.{All-head, All-nil, All-push, All-tail, Contains-append_cases}
 pub use Rattle.std.proofs.lemmas.List.Elements.{Contains-append_left, Contains-append_right, Contains-push_cases, filter-append}
 pub use Rattle.std.proofs.lemmas.List.Sums.{sum_by-append, sum_by-cons}
+pub use Rattle.std.proofs.lemmas.Result.{IfOk-weaker, on_err_weaker, on_ok_weaker}
 pub use Rattle.std.proofs.lemmas.Option.{none-some, same_Some, slice_get-map, slice_get_cases, slice_get_within}
 pub use Rattle.std.specs.Cmp.{both_ways, nat_cmp_is}
 pub use Rattle.std.specs.List.{All, Contains, count_by}

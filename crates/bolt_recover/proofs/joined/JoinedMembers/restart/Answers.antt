@@ -1,6 +1,5 @@
 -- Begun again, over the same pages.
-use Rattle.bolt_recover.proofs.Words.{joined_file, joined_left, joined_meta, kept_file, kept_meta, props, ∥∥₁_elim}
-use Rattle.std.proofs.lemmas.Result.{on_ok_weaker}
+use Rattle.bolt_recover.proofs.Words.{joined_file, joined_left, joined_meta, kept_file, kept_meta, props, ∥∥₁_elim, on_ok_weaker}
 use Rattle.bolt_recover.proofs.JoinedLemmas.{begun_left}
 use Rattle.bolt_recover.proofs.joined.JoinedMembers.restart.Goals as goal
 

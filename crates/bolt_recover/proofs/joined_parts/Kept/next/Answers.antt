@@ -1,8 +1,7 @@
 -- A recovery returns what is recovered, and so does the walk over sound trees.
 use Rattle.std.proofs.Common.{◌≡◌}
-use Rattle.std.proofs.lemmas.Result.{IfOk-weaker, on_err_weaker}
 use Rattle.bolt_tree.proofs.Measured.{walk_falls}
-use Rattle.bolt_recover.proofs.{Words.left_of, Words.props, Words.recovery_file, Words.recovery_left, Words.recovery_meta, Words.recovery_path, Words.walk_checked}
+use Rattle.bolt_recover.proofs.{Words.left_of, Words.props, Words.recovery_file, Words.recovery_left, Words.recovery_meta, Words.recovery_path, Words.walk_checked, Words.IfOk-weaker, Words.on_err_weaker}
 use Rattle.bolt_recover.proofs.{Existing.recovers, SoundWalks.gives_prop, SoundWalks.walked}
 use Rattle.bolt_recover.proofs.joined_parts.Kept.next.Goals as goal
 

@@ -1,7 +1,6 @@
 -- Nothing is recovered if the root page is lost. What sound trees list is recovered.
 use Rattle.std.proofs.Common.{◌≡◌, sym}
-use Rattle.std.proofs.lemmas.Result.{on_ok_weaker}
-use Rattle.bolt_recover.proofs.{Words.left_of, Words.props, Words.recovery_file, Words.recovery_left, Words.recovery_meta, Words.walk_checked, Words.∥∥₁_elim, Existing.recovers, FoundAll.nothing_recovered, SoundWalks.walked}
+use Rattle.bolt_recover.proofs.{Words.left_of, Words.props, Words.recovery_file, Words.recovery_left, Words.recovery_meta, Words.walk_checked, Words.∥∥₁_elim, Existing.recovers, FoundAll.nothing_recovered, SoundWalks.walked, Words.on_ok_weaker}
 use Rattle.bolt_recover.proofs.joined_parts.Kept.restart.Goals as goal
 
 pub returns-in-Nothing-clause-all : goal.returns-in-Nothing-clause-all
