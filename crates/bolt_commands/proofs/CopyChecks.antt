@@ -6,7 +6,8 @@ use Rattle.bolt_commands.proofs.Vocabulary.{everything, has_losses, parts}
 use Rattle.bolt_check.specs.declared.fault.CheckFault.TheVariants as check
 use Rattle.bolt_etcd.specs.declared.snapshot.SnapshotFault.{SnapshotFault}
 use Rattle.bolt_etcd.proofs.SnapshotLemmas.{no_fault_iff}
-use Rattle.bolt_recover.specs.Surveys.{Has, IsSurvey, SurveyedWay}
+use Rattle.bolt_check.specs.Lists.{Has}
+use Rattle.bolt_recover.specs.Surveys.{IsSurvey, SurveyedWay}
 use Rattle.bolt_job.specs.declared.choices.Extent.TheVariants.{LostAndFound}
 use Rattle.bolt_commands.specs.declared.failure.Failure.TheVariants as failure
 use Rattle.bolt_commands.proofs.ReadFiles.{read_active, refused_active}

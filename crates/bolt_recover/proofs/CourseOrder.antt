@@ -83,7 +83,7 @@ module _ (file : List ℕ) (meta : Meta) where
       (λ a b child inside. let (none, j, at) = after_at file meta w p found a child in child_ahead w p j a b at (rise.0 b inside))) in (
         (before_all w (visits_of rest) (λ u has. (below w u.way p found more rise.0 (later.1 u has)).0), later.0),
         λ u has. elim has [
-          | inl same ↦ (w, p, [], inl refl, ap (λ (z : SurveyedWay). z.way) same ∙ sym (append-nil w))
+          | inl same ↦ (w, p, [], inl refl, ap (λ (z : SurveyedWay). z.way) (sym same) ∙ sym (append-nil w))
           | inr inside ↦ (below w u.way p found more rise.0 (later.1 u inside)).1
         ],
       )

@@ -188,14 +188,14 @@ module _ (file : List ℕ) (meta : Meta) (survey : List SurveyedWay) where
 visit_in : (events : List Event) (u : SurveyedWay) → Has (visits_of events) u → (p : Site) × Among events (Visited u.way p u.found)
 visit_in [] u h = absurd h
 visit_in (Given path e ∷ events) u h = let (p, at) = visit_in events u h in (p, inr at)
-visit_in (Visited w p found ∷ events) u (inl same) = (p, inl (ap (λ (v : SurveyedWay). Visited v.way p v.found) (sym same)))
+visit_in (Visited w p found ∷ events) u (inl same) = (p, inl (ap (λ (v : SurveyedWay). Visited v.way p v.found) same))
 visit_in (Visited w p found ∷ events) u (inr h) = let (q, at) = visit_in events u h in (q, inr at)
 
 in_visits : (events : List Event) (w : Way) (p : Site) (found : Option Finding) → Among events (Visited w p found) → Has (visits_of events) (record { way = w; found = found })
 in_visits [] w p found h = absurd h
 in_visits (Given path e ∷ events) w p found (inl same) = absurd (cc)
 in_visits (Given path e ∷ events) w p found (inr h) = in_visits events w p found h
-in_visits (Visited v q f ∷ events) w p found (inl same) = let way : w ≡ v = cc in let is : found ≡ f = cc in inl (λ i. record { way = way i; found = is i })
+in_visits (Visited v q f ∷ events) w p found (inl same) = let way : v ≡ w = cc in let is : f ≡ found = cc in inl (λ i. record { way = way i; found = is i })
 in_visits (Visited v q f ∷ events) w p found (inr h) = inr (in_visits events w p found h)
 
 member_in : (events : List Event) (path : Path) (item : Item) → Contains (members_of events) (path, item) → (e : LeafElement) × Among events (Given path e) × (item ≡ item_of e)

@@ -15,9 +15,9 @@ lost_or_none (v ∷ survey) = first v survey v.found refl (lost_or_none survey)
     first : (v : SurveyedWay) (survey : List SurveyedWay) (f : Option Finding) → v.found ≡ f
         → LosesNothing survey ⊎ ((way : List ℕ) × (x : Finding) × Has survey (lost way x))
         → LosesNothing (v ∷ survey) ⊎ ((way : List ℕ) × (x : Finding) × Has (v ∷ survey) (lost way x))
-    first v survey (Some x) e rest = inr (v.way, x, inl (λ i. record { way = v.way; found = sym e i }))
+    first v survey (Some x) e rest = inr (v.way, x, inl (λ i. record { way = v.way; found = e i }))
     first v survey None e (inr (way, x, has)) = inr (way, x, inr has)
-    first v survey None e (inl none) = inl (λ u has. elim has [ inl same ↦ ap (λ (z : SurveyedWay). z.found) same ∙ e | inr later ↦ none u later ])
+    first v survey None e (inl none) = inl (λ u has. elim has [ inl same ↦ ap (λ (z : SurveyedWay). z.found) (sym same) ∙ e | inr later ↦ none u later ])
 
 module _ (file : List ℕ) (meta : Meta) where
   -- if nothing is lost, nothing is found; otherwise what is found next to the kept pages
@@ -128,7 +128,7 @@ module _ (file : List ℕ) (meta : Meta) (x : Finding) (loses : LosesRoot file m
       ∙ ap (λ (es : List Event). Visited [] (root_site file meta) (Some x) ∷ es) (events_none file meta _)
 
   not_kept : (way : List ℕ) → Has alone (kept way) → ⊥
-  not_kept way (inl same) = let f : None ≡ Some x = ap (λ (v : SurveyedWay). v.found) same in cc
+  not_kept way (inl same) = let f : None ≡ Some x = ap (λ (v : SurveyedWay). v.found) (sym same) in cc
   not_kept way (inr has) = has
 
   pub found_rootless : (taken : ℕ → Bool) (found : List ℕ) → ((n : ℕ) → (taken n ≡ true) ↔ IsMetaPage n)

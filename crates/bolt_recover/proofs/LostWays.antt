@@ -42,7 +42,7 @@ module _ (file : List ℕ) (meta : Meta) where
   loss_there [] way x p has at = absurd has
   loss_there (v ∷ survey) way x p (inl same) at =
       at_front (site_at file meta v.way) v.found p x (losses_of file meta survey)
-      (ap (λ (u : SurveyedWay). site_at file meta u.way) (sym same) ∙ at) (ap (λ (u : SurveyedWay). u.found) (sym same))
+      (ap (λ (u : SurveyedWay). site_at file meta u.way) same ∙ at) (ap (λ (u : SurveyedWay). u.found) same)
   loss_there (v ∷ survey) way x p (inr later) at =
       Contains-append_right (loss_at (site_at file meta v.way) v.found) (losses_of file meta survey) (loss_of p x) (loss_there survey way x p later at)
 
@@ -51,7 +51,7 @@ module _ (file : List ℕ) (meta : Meta) where
   way_there [] l has = absurd (contains_none l has)
   way_there (v ∷ survey) l has =
       elim (which (site_at file meta v.way) v.found (losses_of file meta survey) l has) [
-        | inl (p, x, at, found, is) ↦ (v.way, x, p, inl (λ i. record { way = v.way; found = sym found i }), at, is)
+        | inl (p, x, at, found, is) ↦ (v.way, x, p, inl (λ i. record { way = v.way; found = found i }), at, is)
         | inr later ↦ let (way, x, p, there, at, is) = way_there survey l later in (way, x, p, inr there, at, is)
       ]
 

@@ -16,7 +16,7 @@ pub record Suffix (survey : List SurveyedWay) (InFront : SurveyedWay → Type 0)
 
 before_each : (way : List ℕ) (rest : List SurveyedWay) → Each (Before way) (ways rest) → (w : SurveyedWay) → Has rest w → Before way w.way
 before_each way [] h w has = absurd has
-before_each way (x ∷ rest) h w (inl e) = rw e (h x.way (inl refl))
+before_each way (x ∷ rest) h w (inl e) = subst (λ (z : SurveyedWay). Before way z.way) e (h x.way (inl refl))
 before_each way (x ∷ rest) h w (inr has) = before_each way rest (λ u inside. h u (inr inside)) w has
 
 pub parent_before : (parent : List ℕ) (i : ℕ) → Before parent (parent ++ i ∷ [])
@@ -30,7 +30,7 @@ earlier survey InFront x rest suffix v has lt =
     elim (suffix.split v has) [
       | inl f ↦ f
       | inr h ↦ elim h [
-        | inl e ↦ absurd (before_irreflexive x.way (subst (λ (z : SurveyedWay). Before z.way x.way) e lt))
+        | inl e ↦ absurd (before_irreflexive x.way (subst (λ (z : SurveyedWay). Before z.way x.way) (sym e) lt))
         | inr k ↦ absurd (before_strict v.way x.way lt (before_each x.way rest suffix.rises.0 v k))
       ]
     ]
@@ -64,9 +64,9 @@ module _ (nodes : Nodes) (reach : Reach) where
   same_way : (a b : List SurveyedWay) → Surveys nodes reach a → Surveys nodes reach b → (InFront : SurveyedWay → Type 0) (x y : SurveyedWay) (xs ys : List SurveyedWay)
       → Suffix a InFront (x ∷ xs) → Suffix b InFront (y ∷ ys) → x.way ≡ y.way
   same_way a b of_a of_b InFront x y xs ys at_a at_b = elim (there a b of_a of_b InFront x xs (y ∷ ys) at_a at_b).1 [
-    | inl e ↦ ap (λ (v : SurveyedWay). v.way) e
+    | inl e ↦ sym (ap (λ (v : SurveyedWay). v.way) e)
     | inr h ↦ elim (there b a of_b of_a InFront y ys (x ∷ xs) at_b at_a).1 [
-      | inl e ↦ sym (ap (λ (v : SurveyedWay). v.way) e)
+      | inl e ↦ ap (λ (v : SurveyedWay). v.way) e
       | inr k ↦ absurd (before_strict x.way y.way (before_each x.way xs at_a.rises.0 _ k) (before_each y.way ys at_b.rises.0 _ h))
     ]
   ]
@@ -89,9 +89,9 @@ module _ (nodes : Nodes) (reach : Reach) where
   pub next_suffix : (a : List SurveyedWay) (InFront : SurveyedWay → Type 0) (x z : SurveyedWay) (xs : List SurveyedWay) → z ≡ x → Suffix a InFront (x ∷ xs)
       → Suffix a (λ v. InFront v ⊎ (v ≡ z)) xs
   next_suffix a InFront x z xs same at = record {
-    split = λ v has. elim (at.split v has) [ inl f ↦ inl (inl f) | inr h ↦ elim h [ inl e ↦ inl (inr (e ∙ sym same)) | inr k ↦ inr k ] ];
+    split = λ v has. elim (at.split v has) [ inl f ↦ inl (inl f) | inr h ↦ elim h [ inl e ↦ inl (inr (sym e ∙ sym same)) | inr k ↦ inr k ] ];
     inside = λ v has. at.inside v (inr has);
-    front = λ v f. elim f [ inl g ↦ at.front v g | inr e ↦ at.inside v (inl (e ∙ same)) ];
+    front = λ v f. elim f [ inl g ↦ at.front v g | inr e ↦ at.inside v (inl (sym (e ∙ same))) ];
     after = λ v w f has. elim f [
       | inl g ↦ at.after v w g (inr has)
       | inr e ↦ subst (λ (u : SurveyedWay). Before u.way w.way) (sym (e ∙ same)) (before_each x.way xs at.rises.0 w has)

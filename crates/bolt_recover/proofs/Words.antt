@@ -14,6 +14,7 @@ pub use Rattle.bolt_check.specs.Counts.{counted}
 pub use Rattle.bolt_check.specs.Findings.{IsClaimedBefore, IsFirst, IsMetaPage, Passes, Tests, early, early_finding, finding, finding_of, inline_finding}
 pub use Rattle.bolt_check.specs.Findings.{keys_of, late, node_finding, open_finding, twice}
 pub use Rattle.bolt_check.specs.Keys.{Key, KeysRise, is_below, is_from, key_cmp, key_lt, keys_order_fault}
+pub use Rattle.bolt_check.specs.Lists.{Has}
 pub use Rattle.bolt_check.specs.LoneLeaves.{IsListedFree, IsLoneLeaf}
 pub use Rattle.bolt_check.specs.Nodes.{Entry, IsInSpan, Node, Nodes, leaf_entry, node_seen}
 pub use Rattle.bolt_check.specs.{Shape.child_at, Shape.child_in, Shape.child_of, Shape.leads, ShownNodes.entries_of, ShownSpots.page_spot, ShownSpots.spot_at}
@@ -52,7 +53,7 @@ pub use Rattle.bolt_recover.specs.Private.TreesLeft.{AreTreesOf, IsSearched, los
 pub use Rattle.bolt_recover.specs.{Recovered.ForRecovered, Recovered.IsRecovered, Recovered.IsRecoveredMember, Recoveries.AreFirst, Recoveries.ForLosses}
 pub use Rattle.bolt_recover.specs.Refusals.{IsRefusedRoot, KeepsRoot, LosesRoot}
 pub use Rattle.bolt_recover.specs.{ShownFound.IsFoundView, ShownLosses.loss_view}
-pub use Rattle.bolt_recover.specs.Surveys.{Gives, Has, IsClaimedIn, IsOpen, IsSurvey, LosesNothing, Surveys, SurveyedWay, kept, lost}
+pub use Rattle.bolt_recover.specs.Surveys.{Gives, IsClaimedIn, IsOpen, IsSurvey, LosesNothing, Surveys, SurveyedWay, kept, lost}
 pub use Rattle.bolt_recover.specs.{declared.content.Content.Content, declared.content.Content.TheVariants.Page, declared.content.OpenPage.OpenPage}
 pub use Rattle.bolt_recover.specs.{declared.found.Found.Found, declared.joined_parts.Kept.Kept}
 pub use Rattle.bolt_recover.specs.declared.lost_and_found.Trees.TheVariants.{Damaged, Rootless, Sound}

@@ -1,8 +1,8 @@
 -- The pages that kept ways take in: docs/RECOVERY.md, "Found pages".
 use Rattle.std.specs.Prelude.{◌≡◌, ◌↔◌, ℕ, ◌⊎◌, Bool, true, List}
 use Rattle.bolt_format.specs.declared.meta.Meta.{Meta}
-use Rattle.bolt_check.specs.{Findings.IsMetaPage, Nodes.node_at, Ways.SpanHas, Ways.reached}
-use Rattle.bolt_recover.specs.Surveys.{Has, IsSurvey, SurveyedWay, kept}
+use Rattle.bolt_check.specs.{Findings.IsMetaPage, Lists.Has, Nodes.node_at, Ways.SpanHas, Ways.reached}
+use Rattle.bolt_recover.specs.Surveys.{IsSurvey, SurveyedWay, kept}
 
 -- page n is a meta page, or lies in the span of a kept way
 abbrev pub IsKeptPage : List ℕ → Meta → List SurveyedWay → ℕ → Type 0

@@ -1,9 +1,10 @@
 -- What a damaged file still holds: docs/RECOVERY.md, "The recovered listing".
 use Rattle.std.specs.Prelude.{◌≡◌, ◌↔◌, ℕ, List, [], ◌∷◌, ◌++◌, Contains, Some}
+use Rattle.bolt_check.specs.Lists.{Has}
 use Rattle.bolt_format.specs.{Elements.LeafElement, declared.meta.Meta.Meta}
 use Rattle.bolt_tree.specs.{Entries.IsEntry, Entries.Item, Entries.Root_page, Entries.item_of, Listing.Member, Listing.member_cmp, Order.Rises}
 use Rattle.bolt_tree.specs.Paths.{Holds, Path}
-use Rattle.bolt_recover.specs.{Sites.Site, Sites.site_at, Surveys.Has, Surveys.IsSurvey, Surveys.SurveyedWay, Surveys.kept}
+use Rattle.bolt_recover.specs.{Sites.Site, Sites.site_at, Surveys.IsSurvey, Surveys.SurveyedWay, Surveys.kept}
 
 -- an element of the leaf page or inline page at a kept way, under the path of its bucket
 pub record IsRecoveredMember (file : List ℕ) (meta : Meta) (survey : List SurveyedWay) (path : Path) (item : Item) : Type 0 where

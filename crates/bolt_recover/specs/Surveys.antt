@@ -2,7 +2,7 @@
 use Rattle.std.specs.Prelude.{◌≡◌, ℕ, ◌⊎◌, List, [], ◌∷◌, ◌++◌, Option, Some, None, map}
 use Rattle.bolt_format.specs.declared.meta.Meta.{Meta}
 use Rattle.bolt_check.specs.{Findings.IsMetaPage, Findings.Passes, Findings.Tests, Nodes.Nodes, Nodes.node_at, Lists.RisesBy}
-use Rattle.bolt_check.specs.{Ways.Before, Ways.Reach, Ways.SpanHas, Ways.Spot, Ways.reached, declared.finding.Finding.Finding}
+use Rattle.bolt_check.specs.{Lists.Has, Ways.Before, Ways.Reach, Ways.SpanHas, Ways.Spot, Ways.reached, declared.finding.Finding.Finding}
 
 -- A way and what the tests find at it: nothing if the way is kept, and a finding if it is lost.
 pub record SurveyedWay : Type 0 where
@@ -14,11 +14,6 @@ kept way = record { way = way; found = None }
 
 abbrev pub lost : List ℕ → Finding → SurveyedWay
 lost way x = record { way = way; found = Some x }
-
--- a survey has this visit
-abbrev pub Has : List SurveyedWay → SurveyedWay → Type 0
-Has [] v = ⊥
-Has (x ∷ survey) v = (v ≡ x) ⊎ Has survey v
 
 -- the empty way, or one whose parent is kept
 abbrev pub IsOpen : List SurveyedWay → List ℕ → Type 0
