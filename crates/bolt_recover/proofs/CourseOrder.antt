@@ -1,6 +1,6 @@
 -- A course visits ways in their order.
 use Rattle.std.proofs.Common.{◌≡◌, ◌∙◌, ◌<◌, inl, inr, ℕ, zero, suc, Bool, List, [], ◌∷◌, ◌++◌, Option, Some, None, slice_get, arith, refl, sym, ap, subst, append_assoc}
-use Rattle.bolt_recover.proofs.Words.{append-nil, Before, Each, entry_tasks, Event, Finding, further, gives_at, LeafElement, Path, step_site, tasks_from, visits_at, Has, has_split, Meta, rises_append, RisesBy, Site, SurveyedWay, Task, tasks_after, To_give, To_visit, visits_of, Way, Among}
+use Rattle.bolt_recover.proofs.Words.{append-nil, Before, Each, entry_tasks, Event, Finding, further, gives_at, LeafElement, Path, step_site, tasks_from, visits_at, Has, has_split, Meta, rises_append, RisesBy, Site, SurveyedWay, Task, tasks_after, To_give, To_visit, visits_of, Way, Has}
 use Rattle.bolt_recover.proofs.Courses.{Course, Course.done, Course.give, Course.visit}
 use Rattle.bolt_recover.proofs.{SurveyIsOne.parent_before, SurveyIsOne.ways, TaskLists.IsAt, TaskLists.after_at, TaskLists.entry_at, TaskLists.from_at}
 
@@ -22,7 +22,7 @@ Ahead (To_visit v p) (To_visit u q) = (rest : Way) → Before (v ++ rest) u
 
 -- a way at or below one that is to be visited
 abbrev Under : List Task → Way → Type 0
-Under tasks u = (v : Way) × (p : Site) × (rest : Way) × Among tasks (To_visit v p) × (u ≡ v ++ rest)
+Under tasks u = (v : Way) × (p : Site) × (rest : Way) × Has tasks (To_visit v p) × (u ≡ v ++ rest)
 
 module _ (file : List ℕ) (meta : Meta) where
   across : (w : Way) (p : Site) (i j : ℕ) (a b : Task) → i < j → IsAt file meta w p i a → IsAt file meta w p j b → Ahead a b
@@ -56,7 +56,7 @@ module _ (file : List ℕ) (meta : Meta) where
   before_all w (x ∷ visits) h = λ u has. elim has [ inl e ↦ subst (Before w) e (h x (inl refl)) | inr later ↦ before_all w visits (λ v inside. h v (inr inside)) u later ]
 
   -- all below what is to be visited next, and all below what comes after it
-  below : (w u : Way) (p : Site) (found : Option Finding) (tasks : List Task) → ((b : Task) → Among tasks b → Ahead (To_visit w p) b) → Under (tasks_after file meta w p found ++ tasks) u
+  below : (w u : Way) (p : Site) (found : Option Finding) (tasks : List Task) → ((b : Task) → Has tasks b → Ahead (To_visit w p) b) → Under (tasks_after file meta w p found ++ tasks) u
       → Before w u × Under (To_visit w p ∷ tasks) u
   below w u p found tasks before (v, q, rest, inside, same) =
       elim (has_split (tasks_after file meta w p found) tasks (To_visit v q) inside) [

@@ -1,6 +1,6 @@
 -- What a course visits is a survey, and what it returns are the elements at the kept ways.
 use Rattle.std.proofs.Common.{◌≡◌, ◌∙◌, ◌⊎◌, ◌↔◌, ◌≤◌, ◌<◌, inl, inr, ℕ, ◌+◌, Bool, true, ◌||◌, ◌&&◌, List, [], ◌∷◌, ◌++◌, nat_le, Option, Some, None, Result, Ok, Err, refl, sym, ap, subst, arith, append_assoc, cond}
-use Rattle.bolt_recover.proofs.Words.{after_event, after_events, all_events, and_parts, append-nil, At_inline, At_page, claimed_after, claims_of, Contains, contains_at, contains_cases, contains_head, contains_none, contains_tail, counted, Each, Event, false≢true, Finding, further, Given, Gives, Has, has_left, has_right, has_split, in_span, is_at_page, IsClaimedIn, IsKeptPage, IsMetaPage, IsOpen, IsRecoveredMember, IsSurvey, Item, item_of, kept, LeafElement, loss_at, losses_of, lost_at, members_of, Meta, meta_pages, nat_tests, Node, node_at, Nodes, or_cases, or_left, or_right, Outcome, outcome_of, page_visit, page_ways, Path, Reach, reached, root_site, root_tasks, same_Some, Site, site_at, site_size, span_of, SpanAt, SpanHas, SpanOf, Spot, step_site, sum_by-cons, SurveyedWay, Task, tasks_after, To_give, To_visit, Visited, visits_of, Way, Among, RisesBy, Before}
+use Rattle.bolt_recover.proofs.Words.{after_event, after_events, all_events, and_parts, append-nil, At_inline, At_page, claimed_after, claims_of, Contains, contains_at, contains_cases, contains_head, contains_none, contains_tail, counted, Each, Event, false≢true, Finding, further, Given, Gives, Has, has_left, has_right, has_split, in_span, is_at_page, IsClaimedIn, IsKeptPage, IsMetaPage, IsOpen, IsRecoveredMember, IsSurvey, Item, item_of, kept, LeafElement, loss_at, losses_of, lost_at, members_of, Meta, meta_pages, nat_tests, Node, node_at, Nodes, or_cases, or_left, or_right, Outcome, outcome_of, page_visit, page_ways, Path, Reach, reached, root_site, root_tasks, same_Some, Site, site_at, site_size, span_of, SpanAt, SpanHas, SpanOf, Spot, step_site, sum_by-cons, SurveyedWay, Task, tasks_after, To_give, To_visit, Visited, visits_of, Way, Has, RisesBy, Before}
 use Rattle.bolt_recover.proofs.{Courses.Course, Courses.Course.done, Courses.Course.give, Courses.Course.visit, Courses.course, CourseOrder.rises_course}
 use Rattle.bolt_recover.proofs.SiteFacts.{leads_within, site_further, site_is, size_enough, slice_of, spot_is, step_spot}
 use Rattle.bolt_recover.proofs.SurveyIsOne.{Suffix, earlier, gives_same, next_suffix, ways}
@@ -38,7 +38,7 @@ module _ (file : List ℕ) (meta : Meta) where
 
   -- page n is claimed by a visit, if that is kept
   abbrev ByKept : (SurveyedWay → Type 0) → ℕ → Type 0
-  ByKept Among n = (v : Way) × (Among (kept v) × SpanHas nodes (reach v) n)
+  ByKept IsVisit n = (v : Way) × (IsVisit (kept v) × SpanHas nodes (reach v) n)
 
   by_visit : (w : Way) (p : Site) (found : Option Finding) (n : ℕ) → site_at file meta w ≡ Some p → (span_of nodes p.spot found n ≡ true) ↔ ByKept (λ v. v ≡ record { way = w; found = found }) n
   by_visit w p None n at = (
@@ -60,7 +60,7 @@ module _ (file : List ℕ) (meta : Meta) where
     pub losses : (after_events nodes o events).losses ≡ o.losses ++ losses_of file meta (visits_of events)
     pub pages : counted (after_events nodes o events).visited 0 ≡ counted o.visited (page_ways reach (visits_of events))
 
-  tallied : (o : Outcome) (events : List Event) → ((w : Way) (p : Site) (found : Option Finding) → Among events (Visited w p found) → site_at file meta w ≡ Some p) → Tallied o events
+  tallied : (o : Outcome) (events : List Event) → ((w : Way) (p : Site) (found : Option Finding) → Has events (Visited w p found) → site_at file meta w ≡ Some p) → Tallied o events
   tallied o [] placed = record { losses = sym (append-nil o.losses); pages = refl }
   tallied o (Given path e ∷ events) placed = let rest = tallied o events (λ w p found h. placed w p found (inr h)) in record { losses = rest.losses; pages = rest.pages }
   tallied o (Visited w p found ∷ events) placed =
@@ -98,8 +98,8 @@ module _ (file : List ℕ) (meta : Meta) (survey : List SurveyedWay) where
 
   -- a task is done
   abbrev Done : List Event → Task → Type 0
-  Done events (To_give path e) = Among events (Given path e)
-  Done events (To_visit w p) = (found : Option Finding) × Among events (Visited w p found)
+  Done events (To_give path e) = Has events (Given path e)
+  Done events (To_visit w p) = (found : Option Finding) × Has events (Visited w p found)
 
   done_later : (x : Event) (events : List Event) (task : Task) → Done events task → Done (x ∷ events) task
   done_later x events (To_give path e) h = inr h
@@ -114,7 +114,7 @@ module _ (file : List ℕ) (meta : Meta) (survey : List SurveyedWay) where
     claims : (o : Outcome) → o.claimed ≡ claimed → AreClaims (Has survey) (after_events (nodes file meta) o events).claimed
     only : Each IsEvent events
     led : Each (Done events) tasks
-    kids : (x : Event) → Among events x → Each (Done events) (tasks_of x)
+    kids : (x : Event) → Has events x → Each (Done events) (tasks_of x)
 
   -- the claims in front are those that test 18 looks at
   claimed_here : (InFront : SurveyedWay → Type 0) (x : SurveyedWay) (rest : List SurveyedWay) (claimed : ℕ → Bool) → Suffix survey InFront (x ∷ rest) → AreClaims InFront claimed
@@ -149,7 +149,7 @@ module _ (file : List ℕ) (meta : Meta) (survey : List SurveyedWay) where
     only = λ y h. elim h [ inl same ↦ subst IsEvent same is | inr more ↦ later.only y more ];
     led = λ t h. elim h [ inl same ↦ subst (Done (x ∷ events)) same ends | inr more ↦ done_later x events t (later.led t (has_right first tasks t more)) ];
     kids = λ y h t child. done_later x events t (elim h [
-      | inl same ↦ later.led t (has_left first tasks t (subst (λ (ts : List Task). Among ts t) (ap tasks_of (sym same) ∙ own) child))
+      | inl same ↦ later.led t (has_left first tasks t (subst (λ (ts : List Task). Has ts t) (ap tasks_of (sym same) ∙ own) child))
       | inr more ↦ later.kids y more t child
     ]);
   }
@@ -185,20 +185,20 @@ module _ (file : List ℕ) (meta : Meta) (survey : List SurveyedWay) where
       ]))
 
 -- visits and members among events
-visit_in : (events : List Event) (u : SurveyedWay) → Has (visits_of events) u → (p : Site) × Among events (Visited u.way p u.found)
+visit_in : (events : List Event) (u : SurveyedWay) → Has (visits_of events) u → (p : Site) × Has events (Visited u.way p u.found)
 visit_in [] u h = absurd h
 visit_in (Given path e ∷ events) u h = let (p, at) = visit_in events u h in (p, inr at)
 visit_in (Visited w p found ∷ events) u (inl same) = (p, inl (ap (λ (v : SurveyedWay). Visited v.way p v.found) same))
 visit_in (Visited w p found ∷ events) u (inr h) = let (q, at) = visit_in events u h in (q, inr at)
 
-in_visits : (events : List Event) (w : Way) (p : Site) (found : Option Finding) → Among events (Visited w p found) → Has (visits_of events) (record { way = w; found = found })
+in_visits : (events : List Event) (w : Way) (p : Site) (found : Option Finding) → Has events (Visited w p found) → Has (visits_of events) (record { way = w; found = found })
 in_visits [] w p found h = absurd h
 in_visits (Given path e ∷ events) w p found (inl same) = absurd (cc)
 in_visits (Given path e ∷ events) w p found (inr h) = in_visits events w p found h
 in_visits (Visited v q f ∷ events) w p found (inl same) = let way : v ≡ w = cc in let is : f ≡ found = cc in inl (λ i. record { way = way i; found = is i })
 in_visits (Visited v q f ∷ events) w p found (inr h) = inr (in_visits events w p found h)
 
-member_in : (events : List Event) (path : Path) (item : Item) → Contains (members_of events) (path, item) → (e : LeafElement) × Among events (Given path e) × (item ≡ item_of e)
+member_in : (events : List Event) (path : Path) (item : Item) → Contains (members_of events) (path, item) → (e : LeafElement) × Has events (Given path e) × (item ≡ item_of e)
 member_in [] path item h = absurd (contains_none (path, item) h)
 member_in (Visited w p found ∷ events) path item h = let (e, at, is) = member_in events path item h in (e, inr at, is)
 member_in (Given q x ∷ events) path item h = elim (contains_cases (q, item_of x) (path, item) (members_of events) h) [
@@ -206,7 +206,7 @@ member_in (Given q x ∷ events) path item h = elim (contains_cases (q, item_of 
   | inr later ↦ let (e, at, is) = member_in events path item later in (e, inr at, is)
 ]
 
-in_members : (events : List Event) (path : Path) (e : LeafElement) → Among events (Given path e) → Contains (members_of events) (path, item_of e)
+in_members : (events : List Event) (path : Path) (e : LeafElement) → Has events (Given path e) → Contains (members_of events) (path, item_of e)
 in_members [] path e h = absurd h
 in_members (Visited w p found ∷ events) path e (inl same) = absurd (cc)
 in_members (Visited w p found ∷ events) path e (inr h) = in_members events path e h
@@ -230,18 +230,18 @@ module _ (file : List ℕ) (meta : Meta) where
       (λ n. (λ is. inl (grind (arith, nat_tests)), λ is. elim is [ inl low ↦ grind (arith, nat_tests) | inr (v, (front, span)) ↦ absurd front ]))
       (λ task h. elim h [ inl same ↦ subst (IsTask file meta survey_of) same (inl refl, refl) | inr none ↦ absurd none ])
 
-  pub placed : (w : Way) (p : Site) (found : Option Finding) → Among (all_events file meta) (Visited w p found) → site_at file meta w ≡ Some p
+  pub placed : (w : Way) (p : Site) (found : Option Finding) → Has (all_events file meta) (Visited w p found) → site_at file meta w ≡ Some p
   placed w p found there = (comes.only (Visited w p found) there).1
 
   -- a site that is visited, and what there is to do at a kept one
-  site_of : (u : SurveyedWay) → Has survey_of u → (p : Site) × Among (all_events file meta) (Visited u.way p u.found) × (site_at file meta u.way ≡ Some p)
+  site_of : (u : SurveyedWay) → Has survey_of u → (p : Site) × Has (all_events file meta) (Visited u.way p u.found) × (site_at file meta u.way ≡ Some p)
       × Gives (nodes file meta) (IsClaimedIn (nodes file meta) (reach file meta) survey_of u.way) p.spot u.found
   site_of u has =
       let (p, there) = visit_in (all_events file meta) u has in
       let (opened, at, gives) = comes.only (Visited u.way p u.found) there in
       (p, there, at, gives)
 
-  done_at : (w : Way) (p : Site) (i : ℕ) (task : Task) → Among (all_events file meta) (Visited w p None) → i < site_size (nodes file meta) p.spot p.elements → IsAt file meta w p i task
+  done_at : (w : Way) (p : Site) (i : ℕ) (task : Task) → Has (all_events file meta) (Visited w p None) → i < site_size (nodes file meta) p.spot p.elements → IsAt file meta w p i task
       → Done file meta survey_of (all_events file meta) task
   done_at w p i task there lt at = comes.kids (Visited w p None) there task (at_from file meta w p 0 _ i task (omega arith) (omega (arith, lt)) at)
 
