@@ -12,7 +12,7 @@ use Rattle.bolt_tree.proofs.{Filters.kept as passes, Lists.asymmetric, Lists.irr
 use Rattle.bolt_tree.specs.Order.{Rises}
 use Rattle.bolt_etcd.specs.{Compactions.IsCompaction, Current.place_cmp, EtcdCompactions.etcd_keeps, EtcdCompactions.is_same}
 use Rattle.bolt_etcd.specs.{Histories.Transaction, Histories.history, Histories.state_at}
-use Rattle.bolt_etcd.specs.{Newest.is_named, Newest.is_until, Newest.newest, Newest.until, Revisions.RevisionView, Revisions.name_of, Runs.IsRun}
+use Rattle.bolt_etcd.specs.{Newest.is_named, Newest.is_until, Newest.newest, Newest.until, Revisions.RevisionView, Revisions.name_of, Possible.ArePossible}
 use Rattle.bolt_etcd.proofs.{Filtered.filter_rises, Filtered.kept_from, HistorySteps.places_rise, HistorySteps.same_order}
 use Rattle.bolt_etcd.proofs.{HistoryUntil.held_at, HistoryUntil.until_early, LastOnes.last_after, LastOnes.last_in, MissingExact.main_le}
 use Rattle.bolt_etcd.proofs.{NameHistories.held_parts}
@@ -21,7 +21,7 @@ use Rattle.bolt_etcd.proofs.StoreLemmas.{itself}
 places_total : IsTotalOrder place_cmp
 places_total = on_total (λ (r : RevisionView). r.place) nat_list_cmp_total
 
-module _ (ts : List Transaction) (new : Bool) (compacted : ℕ) (run : IsRun ts) where
+module _ (ts : List Transaction) (new : Bool) (compacted : ℕ) (possible : ArePossible ts) where
   abbrev keeps : RevisionView → Bool
   keeps r = etcd_keeps new compacted (history ts) r
 
@@ -34,7 +34,7 @@ module _ (ts : List Transaction) (new : Bool) (compacted : ℕ) (run : IsRun ts)
       passes (is_named name) (until compacted (history ts)) r early (rw same (itself name))
 
   own_rise : (name : Key) → Rises place_cmp (own name)
-  own_rise name = filter_rises place_cmp (is_named name) _ (filter_rises place_cmp (is_until compacted) (history ts) (places_rise ts run))
+  own_rise name = filter_rises place_cmp (is_named name) _ (filter_rises place_cmp (is_until compacted) (history ts) (places_rise ts possible))
 
   -- none of its name is between the newest one and the compaction
   none_after : (a b : RevisionView) (o : Option RevisionView) → last_or None (own (name_of a)) ≡ o → is_same a o ≡ true
@@ -71,7 +71,7 @@ module _ (ts : List Transaction) (new : Bool) (compacted : ℕ) (run : IsRun ts)
     | inl lt ↦ keeps_later b lt
     | inr le ↦ elim (or_cases _ _ keep) [
       | inl above ↦ (
-          let low = main_le a.key b.key (sym (same_order ts run a b has also) ∙ less) in
+          let low = main_le a.key b.key (sym (same_order ts possible a b has also) ∙ less) in
           let lt = ltb-true compacted a.key.main above in
           absurd (omega (arith, low, lt, le)))
       | inr newest_one ↦

@@ -8,8 +8,8 @@ use Rattle.std.specs.declared.cmp.Ordering.TheVariants.{Equal, Greater, Less}
 use Rattle.bolt_tree.proofs.Lists.{contains_cases, contains_none}
 use Rattle.bolt_tree.specs.Order.{Rises}
 use Rattle.bolt_etcd.specs.Histories.{State, Transaction, Write, after, after_all, history, history_from, nothing, revision_by, written}
-use Rattle.bolt_etcd.specs.{Current.place_cmp, RevisionKeys.spelling, Revisions.RevisionView, Runs.CanRun, Runs.CanWrite, Runs.CanWriteAll}
-use Rattle.bolt_etcd.specs.{Runs.IsRun, Told.number_cmp}
+use Rattle.bolt_etcd.specs.{Current.place_cmp, RevisionKeys.spelling, Revisions.RevisionView, Possible.CanFollow, Possible.CanWrite, Possible.CanWriteAll}
+use Rattle.bolt_etcd.specs.{Possible.ArePossible, Told.number_cmp}
 use Rattle.bolt_etcd.specs.declared.revision_key.RevisionKey.{RevisionKey}
 use Rattle.bolt_etcd.proofs.{KeyNumbers.less, KeyNumbers.spellings_cmp, Rising.rises_as}
 
@@ -33,7 +33,7 @@ more_go state main sub (w ∷ ws) rest (can, more) go = (
   more_go (after (revision_by state main sub w) state) main (sub + 1) ws rest more (λ n le. go n (omega (arith, le))),
 )
 
-next_go : (state : State) (main sub : ℕ) (ts : List Transaction) → 0 < sub → CanRun state (main + 1) ts
+next_go : (state : State) (main sub : ℕ) (ts : List Transaction) → 0 < sub → CanFollow state (main + 1) ts
     → Goes state main sub (history_from state (main + 1) ts)
 next_go state main sub [] some can = tt
 next_go state main sub ([] ∷ later) some can = absurd (let lt = can.0 in omega (arith, lt))
@@ -44,7 +44,7 @@ next_go state main sub ((w ∷ ws) ∷ later) some (lt, (can, more), rest) = (
       (λ n le. next_go (after_all (written state (main + 1) 0 (w ∷ ws)) state) (main + 1) n later (omega (arith, le)) rest),
 )
 
-first_go : (state : State) (main : ℕ) (ts : List Transaction) → CanRun state main ts → Goes state main 0 (history_from state main ts)
+first_go : (state : State) (main : ℕ) (ts : List Transaction) → CanFollow state main ts → Goes state main 0 (history_from state main ts)
 first_go state main [] can = tt
 first_go state main ([] ∷ later) can = absurd (let lt = can.0 in omega (arith, lt))
 first_go state main ((w ∷ ws) ∷ later) (lt, (can, more), rest) = (
@@ -54,8 +54,8 @@ first_go state main ((w ∷ ws) ∷ later) (lt, (can, more), rest) = (
       (λ n le. next_go (after_all (written state main 0 (w ∷ ws)) state) main n later (omega (arith, le)) rest),
 )
 
-pub goes : (ts : List Transaction) → IsRun ts → Goes nothing 2 0 (history ts)
-goes ts run = first_go nothing 2 ts run.allowed
+pub goes : (ts : List Transaction) → ArePossible ts → Goes nothing 2 0 (history ts)
+goes ts possible = first_go nothing 2 ts possible.allowed
 
 -- ---- what holds of each revision that is written
 
@@ -115,22 +115,22 @@ numbers_rise rs =
     rises_as pair_cmp number_cmp rs (λ a b has also less'.
     number_less (nat_cmp a.key.main b.key.main) (nat_cmp a.key.sub b.key.sub) (bool_cmp a.key.deleted b.key.deleted) less')
 
-pub history_rises : (ts : List Transaction) → IsRun ts → Rises pair_cmp (history ts)
-history_rises ts run = pairs_rise nothing 2 0 (history ts) (goes ts run)
+pub history_rises : (ts : List Transaction) → ArePossible ts → Rises pair_cmp (history ts)
+history_rises ts possible = pairs_rise nothing 2 0 (history ts) (goes ts possible)
 
 -- ---- and so do the places
 
 is_spelled : (state : State) (r : RevisionView) → IsWritten state r → r.place ≡ spelling r.key
 is_spelled state r (w, can, is) = ap (λ (x : RevisionView). x.place) is ∙ ap (λ (x : RevisionView). spelling x.key) (sym is)
 
-place_is : (ts : List Transaction) → IsRun ts → (r : RevisionView) → Contains (history ts) r → r.place ≡ spelling r.key
-place_is ts run r has = each (λ (s : RevisionView). s.place ≡ spelling s.key) is_spelled nothing 2 0 (history ts) (goes ts run) r has
+place_is : (ts : List Transaction) → ArePossible ts → (r : RevisionView) → Contains (history ts) r → r.place ≡ spelling r.key
+place_is ts possible r has = each (λ (s : RevisionView). s.place ≡ spelling s.key) is_spelled nothing 2 0 (history ts) (goes ts possible) r has
 
-pub same_order : (ts : List Transaction) → IsRun ts → (a b : RevisionView) → Contains (history ts) a → Contains (history ts) b
+pub same_order : (ts : List Transaction) → ArePossible ts → (a b : RevisionView) → Contains (history ts) a → Contains (history ts) b
     → place_cmp a b ≡ number_cmp a b
-same_order ts run a b has also = rw (place_is ts run a has, place_is ts run b also) (spellings_cmp a.key b.key (run.fits a has) (run.fits b also))
+same_order ts possible a b has also = rw (place_is ts possible a has, place_is ts possible b also) (spellings_cmp a.key b.key (possible.fits a has) (possible.fits b also))
 
-pub places_rise : (ts : List Transaction) → IsRun ts → Rises place_cmp (history ts)
-places_rise ts run =
-    rises_as number_cmp place_cmp (history ts) (λ a b has also less'. same_order ts run a b has also ∙ less')
-    (numbers_rise (history ts) (history_rises ts run))
+pub places_rise : (ts : List Transaction) → ArePossible ts → Rises place_cmp (history ts)
+places_rise ts possible =
+    rises_as number_cmp place_cmp (history ts) (λ a b has also less'. same_order ts possible a b has also ∙ less')
+    (numbers_rise (history ts) (history_rises ts possible))

@@ -13,7 +13,7 @@ use Rattle.bolt_tree.proofs.{Lists.contains_none}
 use Rattle.bolt_tree.proofs.{Lists.contains_tail}
 use Rattle.bolt_tree.specs.Order.{Rises}
 use Rattle.bolt_etcd.specs.{Compactions.IsCompaction, Compactions.kept, Current.place_cmp, Histories.Transaction, Histories.history}
-use Rattle.bolt_etcd.specs.{Newest.is_named, Newest.is_until, Newest.newest, Newest.until, Revisions.RevisionView, Revisions.name_of, Runs.IsRun}
+use Rattle.bolt_etcd.specs.{Newest.is_named, Newest.is_until, Newest.newest, Newest.until, Revisions.RevisionView, Revisions.name_of, Possible.ArePossible}
 use Rattle.bolt_etcd.proofs.{Filtered.filter_both, Filtered.filter_rises, Filtered.kept_from, HistorySteps.places_rise, HistoryUntil.until_early}
 use Rattle.bolt_etcd.proofs.{HistoryUntil.until_late, HistoryUntil.held_at, LastOnes.last_in}
 use Rattle.bolt_etcd.proofs.NameHistories.{held_of, held_parts}
@@ -21,7 +21,7 @@ use Rattle.bolt_etcd.proofs.NameHistories.{held_of, held_parts}
 pub filter_swap : {A : Type 0} (p q : A → Bool) (xs : List A) → filter p (filter q xs) ≡ filter q (filter p xs)
 filter_swap p q xs = filter_both p q xs ∙ filter_same _ _ xs (λ x has. and_comm (p x) (q x)) ∙ sym (filter_both q p xs)
 
-module _ (compacted : ℕ) (ts : List Transaction) (keeps : RevisionView → Bool) (run : IsRun ts) (compaction : IsCompaction compacted ts keeps)
+module _ (compacted : ℕ) (ts : List Transaction) (keeps : RevisionView → Bool) (possible : ArePossible ts) (compaction : IsCompaction compacted ts keeps)
     (name : Key) where
   abbrev all_named : List RevisionView
   all_named = filter (is_named name) (history ts)
@@ -79,7 +79,7 @@ module _ (compacted : ℕ) (ts : List Transaction) (keeps : RevisionView → Boo
   own r has = let (there, passes) = kept_from (is_named name) (history ts) r has in (there, same_text (name_of r) name (sym passes))
 
   own_rise : Rises place_cmp all_named
-  own_rise = filter_rises place_cmp (is_named name) (history ts) (places_rise ts run)
+  own_rise = filter_rises place_cmp (is_named name) (history ts) (places_rise ts possible)
 
   module _ (removed rest : List RevisionView) (is : IsSplit all_named removed rest) where
     is_early : (r : RevisionView) → Contains removed r → r.key.main ≤ compacted

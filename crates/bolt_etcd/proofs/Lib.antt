@@ -11,9 +11,9 @@ pub mod HistoryUntil
 pub mod KeptOfNames
 pub mod KeyNumbers
 pub mod Keys
+pub mod LastOfAll
 pub mod LastOnes
 pub mod Leases
-pub mod LastOfAll
 pub mod ListedTexts
 pub mod Messages
 pub mod MissingExact

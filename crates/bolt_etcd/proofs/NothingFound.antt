@@ -14,7 +14,7 @@ use Rattle.bolt_etcd.specs.{Misplaced.is_misplaced, Misplaced.misplaced, Missing
 use Rattle.bolt_etcd.specs.{MissingNumbers.missing_after, MissingNumbers.missing_numbers}
 use Rattle.bolt_etcd.specs.{NameFaults.name_faults, Others.OtherView, Others.other_of, Others.others_of, Revisions.RevisionView}
 use Rattle.bolt_etcd.specs.{Revisions.revision_of}
-use Rattle.bolt_etcd.specs.{Runs.IsRun, StoreBuckets.StoreView, Stores.revisions, WholeStores.GrantsLeases, WholeStores.HoldsExactly}
+use Rattle.bolt_etcd.specs.{Possible.ArePossible, StoreBuckets.StoreView, Stores.revisions, WholeStores.GrantsLeases, WholeStores.HoldsExactly}
 use Rattle.bolt_etcd.specs.StoreFaults.{bucket_lines, bucket_names, entry_lines, key_lines, line_without, name_lines, store_granted, store_lines}
 use Rattle.bolt_etcd.proofs.{FaultsOfNames.faults_named, FaultsOfNames.none_of_any, Filtered.filter_both, Filtered.filter_rises}
 use Rattle.bolt_etcd.proofs.{Filtered.kept_from, HistoryNumbers.none_missing}
@@ -69,17 +69,17 @@ not_misplaced state r (Put name value lease, can, is) =
     and_right _ _ (ap not (eq-eqb r.content.modified r.key.main (ap (λ (x : RevisionView). x.content.modified) is)))
 not_misplaced state r (Delete name, can, is) = and_left _ _ (ap (λ (x : RevisionView). not x.key.deleted) is)
 
-module _ (compacted : ℕ) (ts : List Transaction) (keeps : RevisionView → Bool) (run : IsRun ts) (compaction : IsCompaction compacted ts keeps) where
+module _ (compacted : ℕ) (ts : List Transaction) (keeps : RevisionView → Bool) (possible : ArePossible ts) (compaction : IsCompaction compacted ts keeps) where
   there : (r : RevisionView) → Contains (kept keeps ts) r → Contains (history ts) r
   there r has = (kept_from keeps (history ts) r has).0
 
   kept_rises : Rises place_cmp (kept keeps ts)
-  kept_rises = filter_rises place_cmp keeps (history ts) (places_rise ts run)
+  kept_rises = filter_rises place_cmp keeps (history ts) (places_rise ts possible)
 
   none_misplaced : misplaced (kept keeps ts) ≡ []
   none_misplaced =
       filter_none is_misplaced (kept keeps ts) (λ r has.
-      each (λ (s : RevisionView). is_misplaced s ≡ false) not_misplaced nothing 2 0 (history ts) (goes ts run) r (there r has))
+      each (λ (s : RevisionView). is_misplaced s ≡ false) not_misplaced nothing 2 0 (history ts) (goes ts possible) r (there r has))
 
   above_kept : (r : RevisionView) (b : Bool) → is_above compacted r ≡ b → Contains (history ts) r
       → (is_above compacted r && keeps r) ≡ is_above compacted r
@@ -94,7 +94,7 @@ module _ (compacted : ℕ) (ts : List Transaction) (keeps : RevisionView → Boo
       above_kept r (is_above compacted r) refl has))
 
   no_number : missing_numbers compacted (kept keeps ts) ≡ []
-  no_number = ap (missing_after (max compacted 1) 0) keys_kept ∙ none_missing compacted nothing (history ts) (goes ts run)
+  no_number = ap (missing_after (max compacted 1) 0) keys_kept ∙ none_missing compacted nothing (history ts) (goes ts possible)
 
   module _ (store : StoreView) (is : HoldsExactly store compacted (kept keeps ts)) (grants : GrantsLeases store ts) where
     own : revisions is.entries ≡ kept keeps ts
@@ -109,7 +109,7 @@ module _ (compacted : ℕ) (ts : List Transaction) (keeps : RevisionView → Boo
         ap (flat_map fault_lines)
         (none_of_any (name_faults (Some compacted) (store_granted store) None store.by_name) (λ name.
         faults_named (Some compacted) (store_granted store) (kept keeps ts) store.by_name name kept_rises is.sorted
-        ∙ no_faults compacted ts keeps run compaction name (store_granted store) (grants name)))
+        ∙ no_faults compacted ts keeps possible compaction name (store_granted store) (grants name)))
 
     pub nothing_found : store_lines store ≡ []
     nothing_found =

@@ -3,7 +3,6 @@ use Rattle.std.proofs.Common.{◌≡◌, ◌∙◌, ◌<◌, ◌≤◌, true, fa
 use Rattle.std.specs.List.{cons_option}
 use Rattle.std.specs.Option.{is_some, option_map}
 use Rattle.std.specs.Prelude.{IfSome}
-use Rattle.bolt_format.specs.Elements.{LeafElement}
 use Rattle.bolt_tree.specs.Entries.{EntryView}
 use Rattle.bolt_etcd.specs.{Others.GivesOther, Others.OtherView, Others.other_of, Others.others_of, Passes.ShowsFirst}
 use Rattle.bolt_etcd.specs.RevisionsLeft.{ForPass, ahead_of, number_ahead, pass_checked, pass_start}

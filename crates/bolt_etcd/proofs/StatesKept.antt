@@ -9,7 +9,7 @@ use Rattle.bolt_check.specs.Keys.{Key}
 use Rattle.bolt_tree.proofs.{Filters.filter_all, Filters.kept as passes, Lists.contains_none}
 use Rattle.bolt_etcd.specs.{Compactions.IsCompaction, Compactions.kept, Current.AreCurrent, Current.IsCurrent, HeldNames.AreHeld}
 use Rattle.bolt_etcd.specs.{Histories.Transaction, Histories.history, Histories.state_at}
-use Rattle.bolt_etcd.specs.{Newest.is_named, Newest.is_until, Newest.newest, Newest.until, Revisions.RevisionView, Revisions.name_of, Runs.IsRun}
+use Rattle.bolt_etcd.specs.{Newest.is_named, Newest.is_until, Newest.newest, Newest.until, Revisions.RevisionView, Revisions.name_of, Possible.ArePossible}
 use Rattle.bolt_etcd.proofs.{HistoryUntil.held_at, HistoryUntil.until_early, KeptOfNames.IsCut, KeptOfNames.cut, KeptOfNames.filter_swap}
 use Rattle.bolt_etcd.proofs.{NameHistories.held_of, NameHistories.held_parts, LastOnes.last_of_both}
 
@@ -20,9 +20,9 @@ current_is_held rs r = (
   held_parts (newest (name_of r) rs) r,
 )
 
-module _ (compacted at : ℕ) (ts : List Transaction) (keeps : RevisionView → Bool) (run : IsRun ts) (compaction : IsCompaction compacted ts keeps)
+module _ (compacted at : ℕ) (ts : List Transaction) (keeps : RevisionView → Bool) (possible : ArePossible ts) (compaction : IsCompaction compacted ts keeps)
     (le : compacted ≤ at) where
-  module _ (name : Key) (removed rest : List RevisionView) (is : IsCut compacted ts keeps run compaction name removed rest) where
+  module _ (name : Key) (removed rest : List RevisionView) (is : IsCut compacted ts keeps possible compaction name removed rest) where
     same_last : (rs : List RevisionView) → filter (is_until at) rest ≡ rs → held_of (last_or None rs) ≡ held_of (last_or None (removed ++ rs))
     same_last [] none =
         let later = λ (r : RevisionView) (has : Contains rest r). elim (cases_lt compacted r.key.main) as (λ x. compacted < r.key.main) [
@@ -55,7 +55,7 @@ module _ (compacted at : ℕ) (ts : List Transaction) (keeps : RevisionView → 
         ∙ sym (held_at at ts name ∙ ap (λ (l : List RevisionView). held_of (last_or None l)) all_at)
 
   held_kept : (name : Key) → held_of (newest name (until at (kept keeps ts))) ≡ state_at at ts name
-  held_kept name = let (removed, rest, is) = cut compacted ts keeps run compaction name in held_alike name removed rest is
+  held_kept name = let (removed, rest, is) = cut compacted ts keeps possible compaction name in held_alike name removed rest is
 
   current_held : (r : RevisionView) → IsCurrent (until at (kept keeps ts)) r ↔ (state_at at ts (name_of r) ≡ Some r)
   current_held r =

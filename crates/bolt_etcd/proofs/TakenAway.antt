@@ -7,7 +7,7 @@ use Rattle.std.specs.declared.cmp.Ordering.TheVariants.{Less}
 use Rattle.bolt_tree.proofs.Lists.{contains_head}
 use Rattle.bolt_tree.specs.Order.{Rises}
 use Rattle.bolt_etcd.specs.{Compactions.kept, Current.place_cmp, Histories.Transaction, Histories.history, Histories.nothing}
-use Rattle.bolt_etcd.specs.{MissingNumbers.missing_numbers, Revisions.RevisionView, Runs.IsRun, Taken.IsTaken}
+use Rattle.bolt_etcd.specs.{MissingNumbers.missing_numbers, Revisions.RevisionView, Possible.ArePossible, Taken.IsTaken}
 use Rattle.bolt_etcd.specs.{Told.IsTold, ToldRevisions.IsToldRevision}
 use Rattle.bolt_etcd.proofs.{Filtered.filter_rises, Filtered.kept_from, HistorySteps.from, HistorySteps.goes, HistorySteps.history_rises}
 use Rattle.bolt_etcd.proofs.{HistorySteps.numbers_rise, HistorySteps.pair_cmp, HistorySteps.places_rise}
@@ -17,10 +17,10 @@ use Rattle.bolt_etcd.proofs.{MissingExact.missing_told, RevisionsExact.revisions
 apart : (a b : RevisionView) → pair_cmp a b ≡ Less → a.key.main ≡ b.key.main → a.key.sub ≡ b.key.sub → ⊥
 apart a b less main sub = let tied = rw (main, sub, tied_itself nat_cmp_total b.key.main, tied_itself nat_cmp_total b.key.sub) at less in cc
 
-module _ (compacted : ℕ) (ts : List Transaction) (keeps : RevisionView → Bool) (run : IsRun ts) (r : RevisionView) (left : List RevisionView)
+module _ (compacted : ℕ) (ts : List Transaction) (keeps : RevisionView → Bool) (possible : ArePossible ts) (r : RevisionView) (left : List RevisionView)
     (is : IsTaken compacted (kept keeps ts) r left) where
   pub all_rise : Rises pair_cmp (is.before ++ r ∷ is.after)
-  all_rise = subst (Rises pair_cmp) is.there (filter_rises pair_cmp keeps (history ts) (history_rises ts run))
+  all_rise = subst (Rises pair_cmp) is.there (filter_rises pair_cmp keeps (history ts) (history_rises ts possible))
 
   left_rises : Rises pair_cmp left
   left_rises = subst (Rises pair_cmp) (sym is.gone) (without_rises r pair_cmp is.before is.after all_rise)
@@ -50,7 +50,7 @@ module _ (compacted : ℕ) (ts : List Transaction) (keeps : RevisionView → Boo
       let above = is.above in
       (missing_told compacted r.key.main left (numbers_rise left left_rises)).1
       (record {
-        after = elim (from nothing 2 0 (history ts) (goes ts run) r there) [
+        after = elim (from nothing 2 0 (history ts) (goes ts possible) r there) [
           | inl up ↦ omega (arith, above, up)
           | inr (e, le) ↦ omega (arith, above, e)
         ];
@@ -62,5 +62,5 @@ module _ (compacted : ℕ) (ts : List Transaction) (keeps : RevisionView → Boo
 
   pub left_places : Rises place_cmp left
   left_places =
-      let all = subst (Rises place_cmp) is.there (filter_rises place_cmp keeps (history ts) (places_rise ts run)) in
+      let all = subst (Rises place_cmp) is.there (filter_rises place_cmp keeps (history ts) (places_rise ts possible)) in
       subst (Rises place_cmp) (sym is.gone) (without_rises r place_cmp is.before is.after all)

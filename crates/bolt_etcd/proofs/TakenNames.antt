@@ -10,7 +10,7 @@ use Rattle.bolt_etcd.specs.{Compactions.IsCompaction, Compactions.kept, Follows.
 use Rattle.bolt_etcd.specs.{Histories.Delete, Histories.Put, Histories.State, Histories.Transaction, Histories.history, Histories.nothing}
 use Rattle.bolt_etcd.specs.{Histories.version_after}
 use Rattle.bolt_etcd.specs.{NameFaults.AreByName, NameFaults.NameFaultView, NameFaults.fault_of, NameFaults.name_faults, Newest.is_named}
-use Rattle.bolt_etcd.specs.{Newest.newest, Newest.value_if, Revisions.RevisionView, Revisions.name_of, Runs.IsRun, Taken.IsShownBy}
+use Rattle.bolt_etcd.specs.{Newest.newest, Newest.value_if, Revisions.RevisionView, Revisions.name_of, Possible.ArePossible, Taken.IsShownBy}
 use Rattle.bolt_etcd.specs.{Taken.IsTaken, Taken.TellsOneBefore, Told.number_cmp}
 use Rattle.bolt_etcd.proofs.{HistorySteps.IsWritten, HistorySteps.each, HistorySteps.goes, HistorySteps.numbers_rise, StoreLemmas.itself}
 use Rattle.bolt_etcd.proofs.{WholeNames.IsOwn, WholeNames.LaterFollow, WholeNames.kept_follow, WholeNames.own_before}
@@ -125,7 +125,7 @@ fault_in c granted o (z ∷ xs) x ys is =
     let g = fault_of c granted o z (xs ++ x ∷ ys) in
     one_more (g.one_before || g.lease) g _ (name_faults c granted (Some z) (xs ++ x ∷ ys)) (fault_in c granted (Some z) xs x ys is)
 
-module _ (compacted : ℕ) (ts : List Transaction) (keeps : RevisionView → Bool) (run : IsRun ts) (compaction : IsCompaction compacted ts keeps)
+module _ (compacted : ℕ) (ts : List Transaction) (keeps : RevisionView → Bool) (possible : ArePossible ts) (compaction : IsCompaction compacted ts keeps)
     (r next : RevisionView) (left : List RevisionView) (is : IsTaken compacted (kept keeps ts) r left)
     (shown : IsShownBy next r is.before is.after) where
   its_next : IsFound (is_named (name_of r)) is.after next
@@ -152,7 +152,7 @@ module _ (compacted : ℕ) (ts : List Transaction) (keeps : RevisionView → Boo
 
   above : compacted < next.key.main
   above =
-      let all = numbers_rise (is.before ++ r ∷ is.after) (all_rise compacted ts keeps run r left is) in
+      let all = numbers_rise (is.before ++ r ∷ is.after) (all_rise compacted ts keeps possible r left is) in
       let less = after_it r number_cmp is.before is.after next all its_next.2 in
       let low = is.above in
       let le = main_le r.key next.key less in
@@ -170,12 +170,12 @@ module _ (compacted : ℕ) (ts : List Transaction) (keeps : RevisionView → Boo
   has_one : (b : RevisionView) → held_of (last_or None earlier) ≡ Some b → 0 < b.content.version
   has_one b e =
       let (last, live) = held_parts (last_or None earlier) b e in
-      each HasVersion has_version nothing 2 0 (history ts) (goes ts run) b (in_history b last).0 live
+      each HasVersion has_version nothing 2 0 (history ts) (goes ts possible) b (in_history b last).0 live
 
   not_follows : follows (last_or None earlier) next ≡ false
   unfolding newest
   not_follows =
-      let own = subst (LaterFollow compacted None) own_kept (kept_follow compacted ts keeps run compaction (name_of r)) in
+      let own = subst (LaterFollow compacted None) own_kept (kept_follow compacted ts keeps possible compaction (name_of r)) in
       let all = follow_at compacted None earlier (r ∷ next ∷ later) own in
       false_from_ne_true _
       (follows_both (last_or None earlier) r next (held_of (last_or None earlier)) refl has_one
@@ -198,6 +198,6 @@ module _ (compacted : ℕ) (ts : List Transaction) (keeps : RevisionView → Boo
     fault_found by_name sorted =
         let here = fault_in (Some compacted) granted None earlier next later is_missing in
         let all =
-        faults_named (Some compacted) granted left by_name (name_of r) (left_places compacted ts keeps run r left is) sorted
+        faults_named (Some compacted) granted left by_name (name_of r) (left_places compacted ts keeps possible r left is) sorted
         ∙ ap (name_faults (Some compacted) granted None) own_left in
         (fault, (kept_from _ _ fault (subst (λ (l : List NameFaultView). Contains l fault) (sym all) here)).0, refl, is_missing)

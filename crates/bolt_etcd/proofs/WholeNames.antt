@@ -13,7 +13,7 @@ use Rattle.bolt_etcd.specs.{Histories.State, Histories.Transaction, Histories.af
 use Rattle.bolt_etcd.specs.{MissingNumbers.is_above, NameFaults.before_of, NameFaults.is_newest, NameFaults.lacks_lease}
 use Rattle.bolt_etcd.specs.{NameFaults.lacks_one_before, NameFaults.name_faults, Newest.is_named, Newest.newest, Revisions.RevisionView}
 use Rattle.bolt_etcd.specs.{Revisions.name_of}
-use Rattle.bolt_etcd.specs.{Runs.IsRun, Told.number_cmp}
+use Rattle.bolt_etcd.specs.{Possible.ArePossible, Told.number_cmp}
 use Rattle.bolt_etcd.proofs.{Filtered.filter_rises, Filtered.kept_from, HistorySteps.IsWritten, HistorySteps.each, HistorySteps.goes}
 use Rattle.bolt_etcd.proofs.{HistorySteps.history_rises, HistorySteps.numbers_rise}
 use Rattle.bolt_etcd.proofs.{KeptOfNames.IsCut, KeptOfNames.cut, LastOnes.last_in, LastOnes.last_of_both, LastOnes.last_some}
@@ -66,7 +66,7 @@ no_lease : (state : State) (r : RevisionView) → IsWritten state r → HasNoLea
 no_lease state r (Put name value lease, can, is) deleted = let put = ap (λ (x : RevisionView). x.key.deleted) is in cc
 no_lease state r (Delete name, can, is) deleted = ap (λ (x : RevisionView). x.content.lease) is
 
-module _ (compacted : ℕ) (ts : List Transaction) (keeps : RevisionView → Bool) (run : IsRun ts) (compaction : IsCompaction compacted ts keeps)
+module _ (compacted : ℕ) (ts : List Transaction) (keeps : RevisionView → Bool) (possible : ArePossible ts) (compaction : IsCompaction compacted ts keeps)
     (name : Key) where
   abbrev own_kept : List RevisionView
   own_kept = filter (is_named name) (kept keeps ts)
@@ -74,12 +74,12 @@ module _ (compacted : ℕ) (ts : List Transaction) (keeps : RevisionView → Boo
   own_rise : Rises number_cmp own_kept
   own_rise =
       filter_rises number_cmp (is_named name) (kept keeps ts)
-      (filter_rises number_cmp keeps (history ts) (numbers_rise (history ts) (history_rises ts run)))
+      (filter_rises number_cmp keeps (history ts) (numbers_rise (history ts) (history_rises ts possible)))
 
   all_own : AllFollow None (filter (is_named name) (history ts))
-  all_own = all_follow name nothing 2 0 (history ts) None (goes ts run) refl
+  all_own = all_follow name nothing 2 0 (history ts) None (goes ts possible) refl
 
-  rest_follow : (removed rest : List RevisionView) → IsCut compacted ts keeps run compaction name removed rest → Rises number_cmp rest
+  rest_follow : (removed rest : List RevisionView) → IsCut compacted ts keeps possible compaction name removed rest → Rises number_cmp rest
       → AllFollow None (removed ++ rest) → LaterFollow compacted None rest
   rest_follow removed [] is rise all = tt
   rest_follow removed (r ∷ rs) is rise all =
@@ -90,7 +90,7 @@ module _ (compacted : ℕ) (ts : List Transaction) (keeps : RevisionView → Boo
 
   pub kept_follow : LaterFollow compacted None own_kept
   kept_follow =
-      let (removed, rest, is) = cut compacted ts keeps run compaction name in
+      let (removed, rest, is) = cut compacted ts keeps possible compaction name in
       subst (LaterFollow compacted None) (sym is.is_rest)
       (rest_follow removed rest is (subst (Rises number_cmp) is.is_rest own_rise) (subst (AllFollow None) is.joined all_own))
 
@@ -102,7 +102,7 @@ module _ (compacted : ℕ) (ts : List Transaction) (keeps : RevisionView → Boo
   newest_kept : (r : RevisionView) → last_or None own_kept ≡ Some r → newest name (history ts) ≡ Some r
   unfolding newest
   newest_kept r e =
-      let (removed, rest, is) = cut compacted ts keeps run compaction name in
+      let (removed, rest, is) = cut compacted ts keeps possible compaction name in
       ap (last_or None) is.joined ∙ last_of_both None removed rest ∙ last_some (last_or None removed) rest r (ap (last_or None) (sym is.is_rest) ∙ e)
 
   lease_there : (granted : ℕ → Bool) → Grants granted → (r : RevisionView) → last_or None own_kept ≡ Some r → (zero none : Bool)
@@ -113,7 +113,7 @@ module _ (compacted : ℕ) (ts : List Transaction) (keeps : RevisionView → Boo
     | inl nowhere ↦ cc
     | inr has ↦
         let there = (kept_from keeps (history ts) r (kept_from (is_named name) (kept keeps ts) r has).0).0 in
-        absurd (eqb-false r.content.lease 0 test (each HasNoLeaseIfDeleted no_lease nothing 2 0 (history ts) (goes ts run) r there deleted))
+        absurd (eqb-false r.content.lease 0 test (each HasNoLeaseIfDeleted no_lease nothing 2 0 (history ts) (goes ts possible) r there deleted))
   ]
   lease_there granted grants r e false false test deleted =
       let holds = newest_held name (history ts) ∙ ap held_of (newest_kept r e) ∙ cond-false r.key.deleted None (Some r) deleted in

@@ -1,4 +1,4 @@
--- What a compaction keeps of a run. It keeps all later revisions, and what each name held after its own transaction. Of the other revisions
+-- What a compaction keeps of a history. It keeps all later revisions, and what each name held after its own transaction. Of the other revisions
 -- it removes the older ones of a name first, but maybe not all: new versions of etcd keep a deletion in its own transaction, and it may have
 -- been interrupted.
 use Rattle.std.specs.Prelude.{◌≡◌, ◌<◌, ℕ, Bool, IsTrue, List, Some, filter}

@@ -1,4 +1,4 @@
--- What etcd writes: the transactions of a run, from an empty store on, and the revisions that they make. The first transaction has number 2,
+-- What etcd writes: transactions, one after another from an empty store on, and the revisions that they make. The first transaction has number 2,
 -- and each later one the next number. Each of its writes makes a revision: they have the numbers 0, 1, 2 and so on.
 use Rattle.std.specs.Prelude.{ℕ, ◌+◌, ◌-◌, Bool, true, false, List, [], ◌∷◌, ◌++◌, take, Option, Some, None, if◌then◌else◌}
 use Rattle.bolt_check.specs.Keys.{Key}

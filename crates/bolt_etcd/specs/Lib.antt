@@ -4,6 +4,7 @@ pub mod Compactions
 pub mod Current
 pub mod EtcdCompactions
 pub mod FaultsLeft
+pub mod FewTransactions
 pub mod Follows
 pub mod HeldNames
 pub mod Histories
@@ -15,17 +16,16 @@ pub mod NameFaults
 pub mod Newest
 pub mod Others
 pub mod Passes
+pub mod Possible
 pub mod Records
 pub mod Returns
 pub mod RevisionKeys
 pub mod RevisionLines
 pub mod Revisions
 pub mod RevisionsLeft
-pub mod Runs
 pub mod Shown
 pub mod ShownOthers
 pub mod ShownRevisions
-pub mod SmallRun
 pub mod SnapshotFaults
 pub mod StoreBuckets
 pub mod StoreFaults

@@ -7,12 +7,12 @@ ghost use Rattle.bolt_format.specs.{Bytes.IsBytes, Elements.LeafElement, declare
 ghost use Rattle.bolt_tree.specs.{Entries.EntryView, Entries.IsEntry, Entries.IsStart, Entries.Start, Order.Rises};
 ghost use Rattle.bolt_etcd.specs.{Current.AreCurrent, Current.place_cmp, NameFaults.AreByName, NameFaults.name_faults, StoreBuckets.IsStore, StoreBuckets.StoreView};
 ghost use Rattle.bolt_etcd.specs.{MissingNumbers.missing_numbers, Revisions.RevisionView, Told.IsMissing, Told.IsTold, Told.number_cmp};
-ghost use Rattle.bolt_etcd.specs.{EtcdCompactions.etcd_keeps, Histories.history, SmallRun.deletion_of_a, SmallRun.first_a, SmallRun.first_b, SmallRun.second_a, SmallRun.second_b, SmallRun.small_run};
+ghost use Rattle.bolt_etcd.specs.{EtcdCompactions.etcd_keeps, Histories.history, FewTransactions.deletion_of_a, FewTransactions.first_a, FewTransactions.first_b, FewTransactions.second_a, FewTransactions.second_b, FewTransactions.few_transactions};
 ghost use Rattle.bolt_etcd.specs.{HeldNames.AreHeld, Histories.state_at, Newest.until, Taken.IsShownBy, Taken.IsTaken, Taken.TellsOneBefore, ToldRevisions.IsMissingRevision, ToldRevisions.IsToldRevision};
 ghost use Rattle.bolt_etcd.specs.{Others.other_of, Others.others_of, Revisions.revision_of, Stores.others};
 ghost use Rattle.bolt_etcd.specs.{RevisionKeys.IsSpelled, RevisionKeys.numbers_cmp, RevisionKeys.revision_key, RevisionKeys.spelling, Wire.field_and_later, Wire.fields};
 ghost use Rattle.bolt_etcd.specs.declared.revision_key.RevisionKey.{RevisionKey};
-ghost use Rattle.bolt_etcd.specs.{Compactions.IsCompaction, Compactions.kept, Histories.Transaction, Runs.IsRun, StoreFaults.store_lines, WholeStores.GrantsLeases, WholeStores.HoldsExactly};
+ghost use Rattle.bolt_etcd.specs.{Compactions.IsCompaction, Compactions.kept, Histories.Transaction, Possible.ArePossible, StoreFaults.store_lines, WholeStores.GrantsLeases, WholeStores.HoldsExactly};
 
 /// A message is a field, and then a message, up to its end.
 #[tactic(auto, using(crate::proofs::Messages::first_and_later))]
@@ -74,33 +74,33 @@ pub fn missing_revisions_are_told_exactly()
         → IsToldRevision t sub (missing_numbers compacted rs) ↔ IsMissingRevision compacted t sub rs }
 {}
 
-/// An example of a run: the revisions that it makes, what a name holds after each transaction, and
+/// An example of a few transactions: the revisions that they make, what a name holds after each, and
 /// what old and new versions of etcd keep in a compaction.
-pub fn an_example_of_a_run()
-    ensures runs { IsRun small_run }
-    ensures writes { history small_run ≡ first_a ∷ first_b ∷ deletion_of_a ∷ second_b ∷ second_a ∷ [] }
-    ensures held { (state_at 2 small_run (codes "a") ≡ Some first_a) × (state_at 3 small_run (codes "a") ≡ None) × (state_at 4 small_run (codes "a") ≡ Some second_a) }
-    ensures kept_by_old { kept (etcd_keeps false 3 (history small_run)) small_run ≡ first_b ∷ second_b ∷ second_a ∷ [] }
-    ensures kept_by_new { kept (etcd_keeps true 3 (history small_run)) small_run ≡ first_b ∷ deletion_of_a ∷ second_b ∷ second_a ∷ [] }
+pub fn an_example_of_transactions()
+    ensures possible { ArePossible few_transactions }
+    ensures writes { history few_transactions ≡ first_a ∷ first_b ∷ deletion_of_a ∷ second_b ∷ second_a ∷ [] }
+    ensures held { (state_at 2 few_transactions (codes "a") ≡ Some first_a) × (state_at 3 few_transactions (codes "a") ≡ None) × (state_at 4 few_transactions (codes "a") ≡ Some second_a) }
+    ensures kept_by_old { kept (etcd_keeps false 3 (history few_transactions)) few_transactions ≡ first_b ∷ second_b ∷ second_a ∷ [] }
+    ensures kept_by_new { kept (etcd_keeps true 3 (history few_transactions)) few_transactions ≡ first_b ∷ deletion_of_a ∷ second_b ∷ second_a ∷ [] }
 {}
 
 /// What an old or a new version of etcd keeps in a compaction is a compaction as `IsCompaction`
 /// defines it.
 pub fn what_etcd_keeps_is_a_compaction()
-    ensures { (ts : List Transaction) (new : Bool) (compacted : ℕ) → IsRun ts → IsCompaction compacted ts (etcd_keeps new compacted (history ts)) }
+    ensures { (ts : List Transaction) (new : Bool) (compacted : ℕ) → ArePossible ts → IsCompaction compacted ts (etcd_keeps new compacted (history ts)) }
 {}
 
-/// Two compactions of a run are one: that at the later transaction.
+/// Two compactions of a history are one: that at the later transaction.
 pub fn two_compactions_are_one()
     ensures { (ts : List Transaction) (early late : ℕ) (first second : RevisionView → Bool)
         → early ≤ late → IsCompaction early ts first → IsCompaction late ts second → IsCompaction late ts (λ r. first r && second r) }
 {}
 
 /// `etcd-check` prints no line of a store from which nothing is missing: it has the revisions of
-/// transactions that etcd ran, but for those that a compaction removed, and each lease that a name has.
+/// transactions that etcd did, but for those that a compaction removed, and each lease that a name has.
 pub fn nothing_is_found_in_a_whole_store()
     ensures { (ts : List Transaction) (compacted : ℕ) (keeps : RevisionView → Bool) (store : StoreView)
-        → IsRun ts → IsCompaction compacted ts keeps → HoldsExactly store compacted (kept keeps ts) → GrantsLeases store ts → store_lines store ≡ [] }
+        → ArePossible ts → IsCompaction compacted ts keeps → HoldsExactly store compacted (kept keeps ts) → GrantsLeases store ts → store_lines store ≡ [] }
 {}
 
 /// If one revision after the compaction is taken away from such a store, it is found:
@@ -110,15 +110,15 @@ pub fn nothing_is_found_in_a_whole_store()
 /// - by the next revision of its name, unless that is a deletion, and a put comes before both.
 pub fn a_revision_that_is_taken_away_is_found()
     ensures by_number { (ts : List Transaction) (compacted : ℕ) (keeps : RevisionView → Bool) (r later : RevisionView) (left : List RevisionView)
-        → IsRun ts → IsTaken compacted (kept keeps ts) r left
+        → ArePossible ts → IsTaken compacted (kept keeps ts) r left
         → Contains left later → later.key.main ≡ r.key.main → r.key.sub < later.key.sub
         → IsToldRevision r.key.main r.key.sub (missing_numbers compacted left) }
     ensures by_transaction { (ts : List Transaction) (compacted : ℕ) (keeps : RevisionView → Bool) (r later : RevisionView) (left : List RevisionView)
-        → IsRun ts → IsTaken compacted (kept keeps ts) r left
+        → ArePossible ts → IsTaken compacted (kept keeps ts) r left
         → Contains left later → r.key.main < later.key.main → ((other : RevisionView) → Contains left other → other.key.main ≢ r.key.main)
         → IsTold r.key.main (missing_numbers compacted left) }
     ensures by_name { (ts : List Transaction) (compacted : ℕ) (keeps : RevisionView → Bool) (r next : RevisionView) (left by_name : List RevisionView)
-        → IsRun ts → IsCompaction compacted ts keeps → (is : IsTaken compacted (kept keeps ts) r left)
+        → ArePossible ts → IsCompaction compacted ts keeps → (is : IsTaken compacted (kept keeps ts) r left)
         → AreByName left by_name → IsShownBy next r is.before is.after
         → (granted : ℕ → Bool) → TellsOneBefore next (name_faults (Some compacted) granted None by_name) }
 {}
@@ -127,6 +127,6 @@ pub fn a_revision_that_is_taken_away_is_found()
 /// exactly what the names held after that transaction.
 pub fn keys_are_what_names_held()
     ensures { (ts : List Transaction) (compacted at : ℕ) (keeps : RevisionView → Bool) (current : List RevisionView)
-        → IsRun ts → IsCompaction compacted ts keeps → compacted ≤ at
+        → ArePossible ts → IsCompaction compacted ts keeps → compacted ≤ at
         → AreCurrent (until at (kept keeps ts)) current ↔ AreHeld (state_at at ts) current }
 {}

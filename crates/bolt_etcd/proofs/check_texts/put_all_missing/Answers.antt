@@ -1,4 +1,4 @@
-use Rattle.std.proofs.Common.{ap, arith, length, map}
+use Rattle.std.proofs.Common.{ap, map}
 use Rattle.bolt_etcd.specs.CheckLines.{missing_line}
 use Rattle.bolt_etcd.proofs.ListedTexts.{listed_fault, listed_one}
 use Rattle.bolt_etcd.proofs.check_texts.put_all_missing.Goals as goal

@@ -4,8 +4,8 @@ use Rattle.bolt_etcd.proofs.laws.a_revision_that_is_taken_away_is_found.Goals as
 
 pub returns : goal.returns
 returns c = record {
-  by_number = λ ts compacted keeps r later left run is. told_by_number compacted ts keeps run r left is later;
-  by_transaction = λ ts compacted keeps r later left run is. told_by_transaction compacted ts keeps run r left is later;
-  by_name = λ ts compacted keeps r next left by_name run compaction is sorted shown granted.
-      fault_found compacted ts keeps run compaction r next left is shown granted by_name sorted;
+  by_number = λ ts compacted keeps r later left possible is. told_by_number compacted ts keeps possible r left is later;
+  by_transaction = λ ts compacted keeps r later left possible is. told_by_transaction compacted ts keeps possible r left is later;
+  by_name = λ ts compacted keeps r next left by_name possible compaction is sorted shown granted.
+      fault_found compacted ts keeps possible compaction r next left is shown granted by_name sorted;
 }

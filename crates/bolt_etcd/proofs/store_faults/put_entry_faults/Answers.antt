@@ -1,4 +1,4 @@
-use Rattle.std.proofs.Common.{◌≡◌, ◌∙◌, List, ap, length, map}
+use Rattle.std.proofs.Common.{◌∙◌, List, ap, length, map}
 use Rattle.std.specs.List.{concat}
 use Rattle.bolt_check.specs.Counts.{counted}
 use Rattle.bolt_format.proofs.WroteLemmas.{Wrote-ends, Wrote-return, Wrote-same, Wrote-then, broken_by}

@@ -1,4 +1,4 @@
--- Which transactions etcd runs, from an empty store on.
+-- Which transactions etcd can do, one after another, from an empty store on.
 use Rattle.std.specs.Prelude.{◌<◌, ◌+◌, ℕ, IsSome, List, [], ◌∷◌, length}
 use Rattle.std.specs.List.{Contains}
 use Rattle.bolt_etcd.specs.{Histories.Delete, Histories.Put, Histories.State, Histories.Transaction, Histories.Write, Histories.after}
@@ -16,11 +16,11 @@ CanWriteAll state main sub [] = Unit {0}
 CanWriteAll state main sub (w ∷ ws) = CanWrite state w × CanWriteAll (after (revision_by state main sub w) state) main (sub + 1) ws
 
 -- a transaction without writes gets no number, so none is empty
-abbrev pub CanRun : State → (main : ℕ) → List Transaction → Type 0
-CanRun state main [] = Unit {0}
-CanRun state main (t ∷ later) = (0 < length t) × CanWriteAll state main 0 t × CanRun (after_all (written state main 0 t) state) (main + 1) later
+abbrev pub CanFollow : State → (main : ℕ) → List Transaction → Type 0
+CanFollow state main [] = Unit {0}
+CanFollow state main (t ∷ later) = (0 < length t) × CanWriteAll state main 0 t × CanFollow (after_all (written state main 0 t) state) (main + 1) later
 
 -- and all numbers are below 2^63
-pub record IsRun (ts : List Transaction) : Type 0 where
-  pub allowed : CanRun nothing 2 ts
+pub record ArePossible (ts : List Transaction) : Type 0 where
+  pub allowed : CanFollow nothing 2 ts
   pub fits : (r : RevisionView) → Contains (history ts) r → IsSpelled r.key

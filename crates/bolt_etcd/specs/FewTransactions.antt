@@ -1,9 +1,9 @@
--- A small run, as an example: two names are put, and one is deleted and put again.
+-- A few transactions, as an example: two names are put, and one is deleted and put again.
 use Rattle.std.specs.Prelude.{ℕ, false, true, List, [], ◌∷◌, codes}
 use Rattle.bolt_etcd.specs.{Histories.Delete, Histories.Put, Histories.Transaction, Histories.revision_under, Records.empty, Revisions.RevisionView}
 
-abbrev pub small_run : List Transaction
-small_run =
+abbrev pub few_transactions : List Transaction
+few_transactions =
     (Put (codes "a") (codes "red") 0 ∷ Put (codes "b") (codes "blue") 26 ∷ [])
     ∷ (Delete (codes "a") ∷ [])
     ∷ (Put (codes "b") (codes "green") 0 ∷ Put (codes "a") (codes "white") 0 ∷ [])
