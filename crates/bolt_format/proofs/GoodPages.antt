@@ -7,7 +7,7 @@ use Rattle.std.proofs.lemmas.List.{take_rest}
 use Rattle.std.proofs.lemmas.List.Folds.{list_any_at}
 use Rattle.std.proofs.lemmas.Option.{slice_get-get_or}
 use Rattle.std.specs.List.{list_any, range_with_len}
-use Rattle.bolt_format.specs.Elements.{IsBucketValue, branch_element, branch_elements, branch_end, branch_fault, branch_key_length, branch_key_start, branches_fault, data_fault, element_at, faults_from, has_bucket, head_fault, head_root, inline_bytes, inline_fault, inline_page_fault, is_bucket_at, key_length_fault, leaf_element, leaf_elements, leaf_end, leaf_flags, leaf_flags_fault, leaf_key_length, leaf_key_start, leaf_value, leaf_value_length, leaves_fault, plain_leaf_fault, table_fault, value_fault, value_length_fault}
+use Rattle.bolt_format.specs.Elements.{IsBucketValue, branch_element, branch_elements, branch_end, branch_fault, branch_key_length, branch_key_start, branches_fault, data_fault, element_at, faults_from, has_bucket, head_fault, head_root, inline_bytes, inline_fault, inline_page_fault, first_of, is_bucket_at, key_length_fault, leaf_element, leaf_fault, leaf_elements, leaf_end, leaf_flags, leaf_flags_fault, leaf_key_length, leaf_key_start, leaf_value, leaf_value_length, leaves_fault, plain_leaf_fault, table_fault, value_fault, value_length_fault}
 use Rattle.bolt_format.specs.Headers.{count_field, flags_field, id_field, kind_of}
 use Rattle.bolt_format.specs.Pages.{content_fault, fault_as, from_page, page_at, page_fault, page_overflow, shown_as, span_bytes, span_fault}
 use Rattle.bolt_format.specs.{Private.Spans.IsSpan, Private.Spans.IsWithin, declared.meta.Meta.Meta, declared.open_page.Span.Span, declared.header.Kind.Kind}
@@ -179,6 +179,20 @@ none-at test count i true none h is =
 
 pub no_bucket-at : (bytes : List ℕ) (count i : ℕ) → has_bucket bytes count ≡ false → i < count → is_bucket_at bytes i ≡ false
 no_bucket-at bytes count i none h = none-at (is_bucket_at bytes) count i (is_bucket_at bytes i) none h refl
+
+-- So the tests of all buckets' values find nothing either.
+same-faults : (bytes : List ℕ) (free i n : ℕ) → ((k : ℕ) → i ≤ k → k < i + n → is_bucket_at bytes k ≡ false)
+    → faults_from (leaf_fault value_fault bytes) (leaf_end bytes) free i n ≡ faults_from (leaf_fault head_fault bytes) (leaf_end bytes) free i n
+same-faults bytes free i zero flat = refl
+same-faults bytes free i (suc n) flat =
+    let here : leaf_fault value_fault bytes free i ≡ leaf_fault head_fault bytes free i = rw (flat i (omega arith) (omega arith)) refl in
+    rw here (ap (first_of (leaf_fault head_fault bytes free i)) (same-faults bytes (leaf_end bytes i) (suc i) n (λ k low high. flat k (omega arith) (omega arith))))
+
+pub flat_leaves : (bytes : List ℕ) (count : ℕ) → leaves_fault head_fault bytes count ≡ None → has_bucket bytes count ≡ false
+    → leaves_fault value_fault bytes count ≡ None
+unfolding leaves_fault
+flat_leaves bytes count good flat =
+    ap (first_of (table_fault bytes count)) (same-faults bytes (element_at count) 0 count (λ k low high. no_bucket-at bytes count k flat (omega arith))) ∙ good
 
 pub length-branch_elements : (bytes : List ℕ) (count : ℕ) → length (branch_elements bytes count) ≡ count
 unfolding branch_elements

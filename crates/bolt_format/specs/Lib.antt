@@ -14,4 +14,5 @@ pub mod Shown
 pub mod ShownIds
 pub mod ShownInline
 pub mod Sinks
+pub mod TreePages
 pub mod Wrote

@@ -6,9 +6,10 @@ ghost use Rattle.bolt_format.specs.Elements.{element_at, has_bucket, head_fault,
 ghost use Rattle.bolt_format.specs.{ElementPlaces.leaf_view, Headers.count_field};
 
 use crate::bytes::u64_at;
-use crate::element::{Leaf, is_bucket, leaf_at, test_leaf, test_table};
+use crate::element::{Leaf, is_bucket, test_leaf, test_table};
 use crate::header::{HEADER_LEN, Header, Kind};
 use crate::page_fault::PageFault;
+use crate::tree_page::LeafPage;
 
 /// The length of a bucket's root page and sequence, with which its value begins.
 pub const HEAD_LEN: usize = 16;
@@ -31,24 +32,28 @@ impl Head {
     }
 }
 
-/// The page of an inline bucket, which passed all tests. Its elements are read in place, each in
-/// constant time.
+/// The page of an inline bucket, which passed all tests. Its elements are values.
 #[derive(Clone, Copy)]
 pub struct Inline<'a> {
-    pub(crate) count: u16,
-    pub(crate) bytes: &'a [u8],
-    ghost good: { leaves_fault head_fault bytes.now count ≡ None } by { Prim.hlevel props },
-    ghost flat: { has_bucket bytes.now count ≡ false } by { Prim.hlevel props },
+    pub(crate) page: LeafPage<'a>,
+    ghost flat: { has_bucket page.bytes.now page.count ≡ false } by { Prim.hlevel props },
 }
 
 impl<'a> Inline<'a> {
-    ghost use Rattle.bolt_format.specs.ShownInline.{shown_inline};
+    ghost use Rattle.bolt_format.specs.{ShownInline.shown_inline, TreePages.leaves_on};
+
+    /// The page as a leaf.
+    pub fn page(&self) -> LeafPage<'a>
+        ensures { leaves_on result ≡ shown_inline self.now }
+    {
+        self.page
+    }
 
     /// The number of its elements.
     pub fn count(&self) -> u16
         ensures { result ≡ length (shown_inline self.now) }
     {
-        self.count
+        self.page.count()
     }
 
     /// Element `i`, which is a value. `i` is below `count`.
@@ -57,7 +62,7 @@ impl<'a> Inline<'a> {
         ensures element { slice_get (shown_inline self.now) i ≡ Some (leaf_view result) }
         ensures flat { result.is_bucket ≡ false }
     {
-        leaf_at(self.bytes, i)
+        self.page.element(i)
     }
 }
 

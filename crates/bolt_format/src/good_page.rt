@@ -1,10 +1,13 @@
 //! A page that passed its tests.
-ghost use Rattle.std.specs.Prelude.{◌≡◌, ◌<◌, None, Some, IsTrue, length, slice_get};
+ghost use Rattle.std.specs.Prelude.{◌≡◌, ◌<◌, None, IfSome, Some, IsTrue, false, length, slice_get};
+ghost use Rattle.std.specs.Option.{IfNone};
 ghost use Rattle.std.proofs.Props.{props};
 ghost use Rattle.bolt_format.specs.{ElementPlaces.branch_view, ElementPlaces.leaf_view, Elements.IsBucketValue, Pages.content_fault};
+ghost use Rattle.bolt_format.specs.TreePages.{is_tree_kind, shown_page};
 
 use crate::element::{Branch, Leaf, branch_at, leaf_at};
 use crate::header::Kind;
+use crate::tree_page::{BranchPage, LeafPage, TreePage};
 
 /// A page that passed all tests. Its elements are read in place, each in constant time.
 #[derive(Clone, Copy)]
@@ -34,6 +37,26 @@ impl<'a> Page<'a> {
         ensures leaves { (shown self.now).kind ≡ Kind.Leaf → length (shown self.now).leaves ≡ result }
     {
         self.count
+    }
+
+    /// The page as a branch or a leaf, if it is one.
+    pub fn tree_page(&self) -> Option<TreePage<'a>>
+        ensures some { IfSome result (λ page. shown_page page ≡ shown self.now) }
+        ensures none { IfNone result (is_tree_kind (shown self.now).kind ≡ false) }
+    {
+        match self.kind {
+            Kind::Branch => Some(TreePage::Branch(BranchPage {
+                count: self.count,
+                overflow: self.overflow,
+                bytes: self.span,
+            })),
+            Kind::Leaf => Some(TreePage::Leaf(LeafPage {
+                count: self.count,
+                overflow: self.overflow,
+                bytes: self.span,
+            })),
+            Kind::Meta | Kind::Freelist => None,
+        }
     }
 
     /// The number of further pages of its span.

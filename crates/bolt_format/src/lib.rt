@@ -18,6 +18,7 @@ mod open_bucket;
 mod open_page;
 mod page_fault;
 mod sink;
+mod tree_page;
 
 pub use bucket::{HEAD_LEN, Head, Inline};
 pub use bytes::fnv1a;
@@ -35,3 +36,4 @@ pub use open_bucket::{head, inline};
 pub use open_page::{known, page};
 pub use page_fault::PageFault;
 pub use sink::{MemSink, Sink, SinkFault, WriteSink};
+pub use tree_page::{BranchPage, LeafPage, TreePage};

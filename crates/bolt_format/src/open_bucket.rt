@@ -5,6 +5,7 @@ ghost use Rattle.bolt_format.specs.{Elements.IsBucketValue, Elements.head_root, 
 use crate::bucket::{HEAD_LEN, Head, Inline};
 use crate::bytes::u64_at;
 use crate::header::Header;
+use crate::tree_page::LeafPage;
 
 /// The root page and the sequence of a bucket, from its value. The value is that of a bucket on a
 /// good page.
@@ -22,7 +23,7 @@ pub fn head(value: &[u8]) -> Head
 
 /// The page of an inline bucket, from its value. The value is that of a bucket on a good page, and
 /// its root is 0.
-#[tactic(auto, using(crate::proofs::GoodPages::good_inline, crate::proofs::GoodPages::good_elements, crate::proofs::GoodPages::flat_elements), unfolding(crate::specs::ShownInline::shown_inline))]
+#[tactic(auto, using(crate::proofs::GoodPages::good_inline, crate::proofs::GoodPages::flat_elements))]
 pub fn inline(value: &[u8]) -> Inline<'_>
     requires bucket { IsBucketValue value.now }
     requires inline { head_root value.now ≡ 0 }
@@ -30,7 +31,10 @@ pub fn inline(value: &[u8]) -> Inline<'_>
 {
     let bytes = &value[HEAD_LEN..];
     Inline {
-        count: Header::read(bytes).count,
-        bytes,
+        page: LeafPage {
+            count: Header::read(bytes).count,
+            overflow: 0,
+            bytes,
+        },
     }
 }

@@ -1,0 +1,18 @@
+use Rattle.std.proofs.Common.{◌∙◌, ℕ, List, ap}
+use Rattle.std.proofs.lemmas.List.{take_rest}
+use Rattle.bolt_format.specs.Elements.{leaf_elements}
+use Rattle.bolt_format.specs.{Headers.count_field, TreePages.leaves_on}
+use Rattle.bolt_format.proofs.GoodPages.{flat_elements, flat_leaves, good_elements}
+use Rattle.bolt_format.proofs.open_bucket.inline.Goals as goal
+
+pub invariant_of-result : goal.invariant_of-result
+invariant_of-result c =
+    let value = c.args.value.now in
+    record {
+      good = flat_leaves _ _ (good_elements value _ c.read.ensures.count c.requires.bucket c.requires.inline)
+          (flat_elements value _ c.read.ensures.count c.requires.bucket c.requires.inline);
+    }
+
+pub returns : goal.returns
+unfolding leaves_on
+returns c = ap (leaf_elements _) c.read.ensures.count ∙ ap (λ (bytes : List ℕ). leaf_elements bytes (count_field bytes)) (take_rest c.args.value.now 16)

@@ -1,0 +1,7 @@
+use Rattle.std.proofs.Common.{refl}
+use Rattle.bolt_format.specs.Elements.{leaves_fault}
+use Rattle.bolt_format.proofs.tree_page.TreePageDefault.default.Goals as goal
+
+pub invariant_of-result : goal.invariant_of-result
+unfolding leaves_fault
+invariant_of-result c = record { good = refl }
