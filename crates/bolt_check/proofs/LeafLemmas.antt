@@ -1,8 +1,12 @@
 -- Leaves by themselves, and what is listed as free.
-use Rattle.std.proofs.Common.{◌≡◌, ◌≢◌, ◌∙◌, ◌==◌, ◌<◌, ◌+◌, ℕ, true, false, not, List, [], length, Option, Result, Ok, sym, ap, subst, arith}
+use Rattle.std.proofs.Common.{◌≡◌, ◌≢◌, ◌∙◌, ◌==◌, ◌<◌, ◌+◌, ℕ, true, false, not, List, [], length, Option, Result, Ok, refl, sym, ap, map, subst, arith}
 use Rattle.std.specs.Option.{IfNone}
 use Rattle.std.specs.Prelude.{IsTrue, nat_lt}
-use Rattle.bolt_check.proofs.Words.{At_page, Entry, HasRoom, ltb-true, Meta, nat_tests, Node, node_at, Nodes, PagePasses, PageUse, root_spot, shown_node, SpanAt, TreePage}
+use Rattle.bolt_check.proofs.Words.{At_page, Entry, HasRoom, ltb-true, Meta, nat_tests, Node, node_at, Nodes, PagePasses, PageUse, root_spot, SpanAt, leaf_entry, shown_node}
+use Rattle.bolt_format.specs.TreePages.{leaves_on}
+use Rattle.bolt_format.specs.{declared.tree_page.BranchPage.BranchPage, declared.tree_page.LeafPage.LeafPage}
+use Rattle.bolt_format.specs.declared.tree_page.TreePage.TheVariants.{Branch, Leaf}
+use Rattle.std.proofs.lemmas.List.{length-map, nil_from_length}
 use Rattle.bolt_check.proofs.MarkLemmas.{node_within}
 use Rattle.bolt_check.specs.{LoneLeaves.IsLoneLeaf, Private.LeafTests.IsFilledLeaf}
 
@@ -42,17 +46,26 @@ none_listed t e = grind (arith, nat_tests)
 pub listed_none : (t : ℕ) → t ≡ 0 → not (t == 0) ≡ false
 listed_none t e = grind (arith, nat_tests)
 
--- a page of the code that is a leaf, and has an element
-pub leaf_shown : (page : TreePage) → page.is_leaf ≡ true → IsTrue (shown_node page).is_leaf
-unfolding shown_node
-leaf_shown page is = is
-
-pub not_filled : (seen : Result Node ℕ) (page : TreePage) → seen ≡ Ok (shown_node page) → page.is_leaf ≡ false → IsFilledLeaf seen → ⊥
-unfolding shown_node
-not_filled seen page is not (node, of, leaf, some) = grind arith
-
+-- a list with an element
 pub some_entries : (entries : List Entry) (count : ℕ) → count ≡ length entries → nat_lt 0 count ≡ true → entries ≢ []
 some_entries entries count is more none = omega (arith, ltb-true 0 count more, is ∙ ap length none)
+
+-- a page of the code that is a leaf and has an element, and one that is a branch
+pub leaf_filled : (seen : Result Node ℕ) (page : LeafPage) → seen ≡ Ok (shown_node (Leaf page)) → nat_lt 0 (length (leaves_on page)) ≡ true → IsFilledLeaf seen
+unfolding shown_node
+leaf_filled seen page is more =
+    (shown_node (Leaf page), is, refl, some_entries _ (length (leaves_on page)) (sym (length-map (leaves_on page) leaf_entry)) more)
+
+pub leaf_empty : (seen : Result Node ℕ) (page : LeafPage) → seen ≡ Ok (shown_node (Leaf page)) → nat_lt 0 (length (leaves_on page)) ≡ false → IsFilledLeaf seen → ⊥
+unfolding shown_node
+leaf_empty seen page is none (node, of, leaf, some) =
+    let same : shown_node (Leaf page) ≡ node = cc in
+    let empty : length (leaves_on page) ≡ 0 = grind (arith, nat_tests) in
+    some (ap (λ (n : Node). n.entries) (sym same) ∙ ap (map leaf_entry) (nil_from_length (leaves_on page) empty))
+
+pub branch_unfilled : (seen : Result Node ℕ) (page : BranchPage) → seen ≡ Ok (shown_node (Branch page)) → IsFilledLeaf seen → ⊥
+unfolding shown_node
+branch_unfilled seen page is (node, of, leaf, some) = grind arith
 
 pub if_none : {X P Q : Type 0} (o : Option X) → (P → Q) → IfNone o P → IfNone o Q
 if_none o to h = grind arith

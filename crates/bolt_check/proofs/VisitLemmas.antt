@@ -1,7 +1,7 @@
 -- A page that is in the file has its place in the table, and what a visit claims.
 use Rattle.std.proofs.Common.{◌≡◌, ◌+◌, ◌*◌, ◌<◌, ◌≤◌, ℕ, List, length, arith, refl, subst}
-use Rattle.bolt_check.proofs.Words.{HasRoom, Meta, PageUse, PageView, shown, shown_node, TreePage, use_of}
-use Rattle.bolt_format.specs.Pages.{IsInFile}
+use Rattle.bolt_check.proofs.Words.{HasRoom, Meta, PageUse, PageView, shown_node, TreePage}
+use Rattle.bolt_format.specs.{Pages.IsInFile, TreePages.shown_page}
 
 pub in_room : (file : List ℕ) (meta : Meta) (id : ℕ) (view : PageView) (table : List PageUse) → IsInFile file meta id view → HasRoom file meta table
     → id + view.overflow < length table
@@ -10,11 +10,6 @@ in_room file meta id view table inside room =
     room (id + view.overflow) (subst (λ (n : ℕ). n * meta.page_size ≤ length file) same inside.end) inside.below
 
 -- the overflow of a node is its page's
-pub overflow-is : (node : TreePage) (n : ℕ) → n ≡ (shown node.page).overflow → n ≡ (shown_node node).overflow
+pub overflow_shown : (node : TreePage) → (shown_page node).overflow ≡ (shown_node node).overflow
 unfolding shown_node
-overflow-is node n e = e
-
--- what the first page of a node is for
-pub leaf-is : (node : TreePage) → use_of node.is_leaf ≡ use_of (shown_node node).is_leaf
-unfolding shown_node
-leaf-is node = refl
+overflow_shown node = refl

@@ -18,7 +18,7 @@ pub use Rattle.bolt_check.specs.{declared.checked.Checked.Checked, declared.faul
 pub use Rattle.bolt_check.specs.declared.finding.TheConstants.Finding.{FREED_TWICE, FREE_RANGE, TWICE}
 pub use Rattle.bolt_check.specs.{declared.freelist.Freelist.Freelist, declared.role_table.Role.Role, declared.table.PageUse.PageUse}
 pub use Rattle.bolt_check.specs.declared.table.PageUse.TheVariants.{Free, FreeTwice, Unused, UsedFree, UsedFreeTwice}
-pub use Rattle.bolt_check.specs.declared.tree_page.TreePage.{TreePage}
+pub use Rattle.bolt_format.specs.declared.tree_page.TreePage.{TreePage}
 unfoldable pub use Rattle.bolt_check.specs.{CheckedFiles.bytes_of, CheckedFiles.meta_of, Claims.claims_file, Nodes.node_at, Private.Freelists.listed_times}
 unfoldable pub use Rattle.bolt_check.specs.{Private.Pending.kids, RoledFiles.roles_checked, ShownNodes.shown_node}
 pub use Rattle.bolt_format.proofs.{FaultLemmas.first_of-none, PageFacts.span_within}

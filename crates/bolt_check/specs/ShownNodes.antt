@@ -1,15 +1,20 @@
 -- A page of the code as a node.
 use Rattle.std.specs.Prelude.{Bool, true, false, List, map}
-use Rattle.bolt_format.specs.{Pages.PageView, Shown.shown}
-use Rattle.bolt_check.specs.{Nodes.Entry, Nodes.Node, Nodes.branch_entry, Nodes.leaf_entry, declared.tree_page.TreePage.TreePage}
+use Rattle.bolt_format.specs.{TreePages.branches_on, TreePages.leaves_on, TreePages.shown_page, declared.tree_page.TreePage.TreePage}
+use Rattle.bolt_format.specs.declared.tree_page.TreePage.TheVariants.{Branch, Leaf}
+use Rattle.bolt_check.specs.{Nodes.Entry, Nodes.Node, Nodes.branch_entry, Nodes.leaf_entry}
 
-abbrev pub entries_of : Bool → PageView → List Entry
-entries_of true view = map leaf_entry view.leaves
-entries_of false view = map branch_entry view.branches
+abbrev pub is_leaf_page : TreePage → Bool
+is_leaf_page (Branch page) = false
+is_leaf_page (Leaf page) = true
+
+abbrev pub entries_on : TreePage → List Entry
+entries_on (Branch page) = map branch_entry (branches_on page)
+entries_on (Leaf page) = map leaf_entry (leaves_on page)
 
 unfoldable pub shown_node : TreePage → Node
-shown_node node = record {
-  is_leaf = node.is_leaf;
-  overflow = (shown node.page).overflow;
-  entries = entries_of node.is_leaf (shown node.page);
+shown_node page = record {
+  is_leaf = is_leaf_page page;
+  overflow = (shown_page page).overflow;
+  entries = entries_on page;
 }

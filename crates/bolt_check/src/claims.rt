@@ -1,6 +1,6 @@
 //! The claimed pages of a file, and the tests of one more page.
 ghost use Rattle.std.specs.Prelude.{◌≡◌, ◌↔◌, ◌⊎◌, ◌<◌, ◌≤◌, ◌^◌, ℕ, true, IfErr, IfOk, Ok, OnErr, OnOk, Some};
-ghost use Rattle.bolt_format.specs.{Bytes.IsBytes, Pages.page_at, Shown.shown};
+ghost use Rattle.bolt_format.specs.{Bytes.IsBytes, Pages.page_at, TreePages.shown_page};
 ghost use Rattle.bolt_check.specs.{Counts.counted, Findings.IsMetaPage, Findings.PagePasses, Findings.PageTests, Nodes.node_at, Private.Freelists.IsUnlisted};
 ghost use Rattle.bolt_check.specs.{Private.Tables.HasRoom, ShownNodes.shown_node, ShownSpots.page_spot, TableLengths.table_length, Ways.At_page, Ways.SpanAt};
 
@@ -8,9 +8,8 @@ use crate::fault::NoMemory;
 use crate::finding::Finding;
 use crate::spot::PageSpot;
 use crate::table::{PageUse, new_table, reset};
-use crate::tree_page::TreePage;
 use crate::visit::visit;
-use bolt_format::Meta;
+use bolt_format::{Meta, TreePage};
 use std::alloc::Global;
 
 /// The claimed pages of a file: the two meta pages, and the spans of the visited pages that passed
@@ -100,7 +99,7 @@ impl<'a> Claims<'a> {
         ensures passes { OnOk result (PagePasses (node_at (claims_file self.old) (claims_meta self.old))
             (λ n. is_claimed self.old n ≡ true) (page_spot spot.now)) }
         ensures node { IfOk result (λ node. node_at (claims_file self.old) (claims_meta self.old) spot.now.number ≡ Ok (shown_node node)) }
-        ensures page { IfOk result (λ node. page_at (claims_file self.old) (claims_meta self.old) spot.now.number ≡ Some (shown node.page)) }
+        ensures page { IfOk result (λ node. page_at (claims_file self.old) (claims_meta self.old) spot.now.number ≡ Some (shown_page node)) }
         ensures claims { OnOk result ((n : ℕ) → (is_claimed self.new n ≡ true)
             ↔ ((is_claimed self.old n ≡ true) ⊎ SpanAt (node_at (claims_file self.old) (claims_meta self.old)) (At_page (page_spot spot.now)) n)) }
         ensures fewer { OnOk result (pages_left self.new < pages_left self.old) }

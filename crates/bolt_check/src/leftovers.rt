@@ -1,7 +1,8 @@
 //! What is left over of a file once all ways were followed: pages that no kept way takes in.
 ghost use Rattle.std.specs.Option.{IfNone};
 ghost use Rattle.std.specs.Prelude.{◌≡◌, ◌↔◌, ◌⊎◌, ◌≤◌, ◌<◌, ℕ, false, true, IfSome, Ok, Some, length};
-ghost use Rattle.bolt_format.specs.{Pages.page_at, Shown.shown};
+ghost use Rattle.bolt_format.specs.{Pages.page_at, TreePages.shown_page};
+ghost use Rattle.bolt_format.specs.declared.tree_page.TreePage.TheVariants as page;
 ghost use Rattle.bolt_check.specs.{Claims.claims_file, Claims.claims_meta, Claims.is_claimed, LoneLeaves.IsListedFree, LoneLeaves.IsLoneLeaf};
 ghost use Rattle.bolt_check.specs.{Nodes.Node, Nodes.node_at, Private.LeafTests.IsFilledLeaf, Private.Freelists.IsUnlisted};
 ghost use Rattle.bolt_check.specs.Private.Pending.{ClaimsSpan};
@@ -12,9 +13,8 @@ use crate::claims::Claims;
 use crate::freelist::list_ids_within;
 use crate::spot::PageSpot;
 use crate::table::{PageUse, is_listed};
-use crate::tree_page::TreePage;
 use crate::visit::{open, visit};
-use bolt_format::{Meta, free_ids};
+use bolt_format::{LeafPage, Meta, TreePage, free_ids};
 
 /// The pages of a file that were not claimed, and which of them are listed as free. Intact leaves are
 /// taken from them one after another, each with its span (docs/RECOVERY.md, "Found pages"). They are
@@ -58,12 +58,12 @@ impl<'a> Leftovers<'a> {
 
     /// Takes page `number` and its span, if it is an intact leaf, isn't listed as free, and shares no
     /// page with what was claimed or taken before.
-    pub fn take(&mut self, number: u64) -> Option<TreePage<'a>>
+    pub fn take(&mut self, number: u64) -> Option<LeafPage<'a>>
         ensures file { leftovers_file self.new ≡ leftovers_file self.old }
         ensures meta { leftovers_meta self.new ≡ leftovers_meta self.old }
         ensures length { leftovers_length self.new ≡ leftovers_length self.old }
-        ensures node { IfSome result (λ page. leftovers_nodes self.old number ≡ Ok (shown_node page)) }
-        ensures page { IfSome result (λ page. page_at (leftovers_file self.old) (leftovers_meta self.old) number ≡ Some (shown page.page)) }
+        ensures node { IfSome result (λ leaf. leftovers_nodes self.old number ≡ Ok (shown_node (page.Leaf leaf))) }
+        ensures page { IfSome result (λ leaf. page_at (leftovers_file self.old) (leftovers_meta self.old) number ≡ Some (shown_page (page.Leaf leaf))) }
         ensures leaf { IfSome result (λ _. IsLoneLeaf (leftovers_nodes self.old) (λ n. is_taken self.old n ≡ true) number) }
         ensures unlisted { IfSome result (λ _. is_listed self.old number ≡ false) }
         ensures none { IfNone result (IsLoneLeaf (leftovers_nodes self.old) (λ n. is_taken self.old n ≡ true) number → is_listed self.old number ≡ false → ⊥) }
@@ -95,10 +95,10 @@ fn take_leaf<'a>(
     meta: &Meta,
     number: u64,
     table: &mut [PageUse],
-) -> Option<TreePage<'a>>
+) -> Option<LeafPage<'a>>
     requires { HasRoom file.now meta.now table.old }
-    ensures node { IfSome result (λ page. node_at file.now meta.now number ≡ Ok (shown_node page)) }
-    ensures page { IfSome result (λ page. page_at file.now meta.now number ≡ Some (shown page.page)) }
+    ensures node { IfSome result (λ leaf. node_at file.now meta.now number ≡ Ok (shown_node (page.Leaf leaf))) }
+    ensures page { IfSome result (λ leaf. page_at file.now meta.now number ≡ Some (shown_page (page.Leaf leaf))) }
     ensures leaf { IfSome result (λ _. IsLoneLeaf (node_at file.now meta.now) (IsClaimed table.old) number) }
     ensures unlisted { IfSome result (λ _. times_of (use_at table.old number) ≡ 0) }
     ensures none { IfNone result (IsLoneLeaf (node_at file.now meta.now) (IsClaimed table.old) number → times_of (use_at table.old number) ≡ 0 → ⊥) }
@@ -120,19 +120,19 @@ fn take_leaf<'a>(
         upper: None,
     };
     match visit(file, meta, &spot, table) {
-        Ok(page) => Some(page),
-        Err(_) => None,
+        Ok(TreePage::Leaf(leaf)) => Some(leaf),
+        Ok(TreePage::Branch(_)) | Err(_) => None,
     }
 }
 
 /// Whether page `number` is a good leaf with an element.
-#[tactic(auto, using(crate::proofs::LeafLemmas::leaf_shown, crate::proofs::LeafLemmas::not_filled, crate::proofs::LeafLemmas::some_entries))]
+#[tactic(auto, using(crate::proofs::LeafLemmas::leaf_filled, crate::proofs::LeafLemmas::leaf_empty, crate::proofs::LeafLemmas::branch_unfilled))]
 fn is_filled_leaf(file: &[u8], meta: &Meta, number: u64) -> bool
     ensures filled { result ≡ true → IsFilledLeaf (node_at file.now meta.now number) }
     ensures other { result ≡ false → IsFilledLeaf (node_at file.now meta.now number) → ⊥ }
 {
     match open(file, meta, number) {
-        Ok(page) => page.is_leaf && page.count() > 0,
-        Err(_) => false,
+        Ok(TreePage::Leaf(leaf)) => leaf.count() > 0,
+        Ok(TreePage::Branch(_)) | Err(_) => false,
     }
 }

@@ -19,8 +19,8 @@ mod search;
 mod sound;
 mod sound_roles;
 mod spot;
+mod step;
 mod table;
-mod tree_page;
 mod visit;
 
 pub use assumed::assumed_meta;
@@ -34,5 +34,4 @@ pub use role_table::{Role, Roles};
 pub use sound::{check, check_roles, check_slot, check_under};
 pub use sound_roles::roles;
 pub use spot::{BucketSpot, PageSpot, Spot};
-pub use tree_page::TreePage;
 pub use visit::MAX_DEPTH;

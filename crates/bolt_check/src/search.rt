@@ -11,13 +11,12 @@ ghost use Rattle.bolt_check.specs.declared.table.PageUse.{PageUse};
 use crate::fault::CheckFault;
 use crate::spot::{PageSpot, Spot};
 use crate::table::{PageUse, new_table};
-use crate::tree_page::TreePage;
 use crate::visit::visit;
-use bolt_format::Meta;
+use bolt_format::{Meta, TreePage};
 use std::alloc::{AllocError, Global};
 
 /// Pushes what a page leads to onto the pending spots, in reverse, so that the first is on top.
-#[tactic(auto, using(crate::proofs::Pendings::kids_none, crate::proofs::Pendings::kids_some, crate::proofs::Pendings::kids_end, crate::proofs::Pendings::kids_all, crate::proofs::Pendings::spots_push))]
+#[tactic(auto, using(crate::proofs::NodeLemmas::length_entries, crate::proofs::Pendings::kids_none, crate::proofs::Pendings::kids_some, crate::proofs::Pendings::kids_end, crate::proofs::Pendings::kids_all, crate::proofs::Pendings::spots_push))]
 fn push_kids<'a>(
     node: &TreePage<'a>,
     spot: &PageSpot<'a>,
@@ -30,7 +29,7 @@ fn push_kids<'a>(
     let mut i = node.count();
     while i > 0 {
         i -= 1;
-        if let Some(kid) = node.spot(i, spot) {
+        if let Some(kid) = spot.step(node, i) {
             pending.push(kid)?;
         }
     }

@@ -1,8 +1,8 @@
 //! The visit of a page: it is opened as a node, which is a branch or a leaf; it is tested; and its
 //! span is claimed.
-ghost use Rattle.std.specs.Prelude.{◌≡◌, ◌<◌, ◌≤◌, ℕ, IfErr, IfOk, MatchResult, Err, None, Ok, OnErr, OnOk, Some};
+ghost use Rattle.std.specs.Prelude.{◌≡◌, ◌==◌, ◌&&◌, not, length, ◌<◌, ◌≤◌, ℕ, IfErr, IfOk, MatchResult, Err, None, Ok, OnErr, OnOk, Some};
 ghost use Rattle.std.specs.Result.{result_err};
-ghost use Rattle.bolt_format.specs.{Pages.IsInFile, Pages.page_at, Shown.shown};
+ghost use Rattle.bolt_format.specs.{Pages.IsInFile, Pages.page_at, TreePages.page_keys, TreePages.shown_page};
 ghost use Rattle.bolt_check.specs.{Findings.PagePasses, Findings.PageTests, Findings.keys_of, Findings.node_finding, Keys.keys_order_fault, Nodes.node_at};
 ghost use Rattle.bolt_check.specs.{Private.Freelists.IsUnlisted, Private.Pending.ClaimsSpan, Private.Uses.use_of};
 ghost use Rattle.bolt_check.specs.Private.Tables.{HasRoom, IsClaimed, IsUnclaimed, unclaimed, use_at};
@@ -12,8 +12,7 @@ use crate::finding::Finding;
 use crate::keys::test_key;
 use crate::spot::PageSpot;
 use crate::table::{PageUse, claim, first_claimed};
-use crate::tree_page::TreePage;
-use bolt_format::{Kind, Meta, PageFault, page};
+use bolt_format::{Meta, PageFault, TreePage, page};
 
 /// The greatest depth of a page. The root page of a bucket has depth 1.
 pub const MAX_DEPTH: usize = 64;
@@ -28,7 +27,7 @@ pub(crate) fn visit<'a>(
     requires { HasRoom file.now meta.now table.old }
     ensures found { IfErr result (PageTests (node_at file.now meta.now) (IsClaimed table.old) (page_spot spot.now)) }
     ensures same { OnErr result (table.new ≡ table.old) }
-    ensures page { IfOk result (λ node. page_at file.now meta.now spot.now.number ≡ Some (shown node.page)) }
+    ensures page { IfOk result (λ node. page_at file.now meta.now spot.now.number ≡ Some (shown_page node)) }
     ensures node { IfOk result (λ node. node_at file.now meta.now spot.now.number ≡ Ok (shown_node node)) }
     ensures passes { OnOk result (PagePasses (node_at file.now meta.now) (IsClaimed table.old) (page_spot spot.now)) }
     ensures claims { OnOk result (ClaimsSpan (node_at file.now meta.now) (At_page (page_spot spot.now)) table.old table.new) }
@@ -42,7 +41,7 @@ pub(crate) fn visit<'a>(
     }
     let node = open(file, meta, spot.number)?;
     let from = spot.number as usize;
-    let last = from + node.page.overflow() as usize;
+    let last = from + node.overflow() as usize;
     if let Some(n) = first_claimed(table, from, last) {
         return Err(Finding::of_page(Finding::TWICE, n as u64));
     }
@@ -56,47 +55,47 @@ pub(crate) fn visit<'a>(
 /// # Errors
 ///
 /// The page's first fault, or `PAGE_KIND` if it is neither a branch nor a leaf.
-#[tactic(auto, unfolding(crate::specs::Nodes::node_at, crate::specs::ShownNodes::shown_node))]
+#[tactic(auto, using(crate::proofs::NodeLemmas::node_faulty, crate::proofs::NodeLemmas::node_shown, crate::proofs::NodeLemmas::node_refused))]
 pub(crate) fn open<'a>(file: &'a [u8], meta: &Meta, id: u64) -> Result<TreePage<'a>, PageFault>
     ensures node { MatchResult result (λ node. node_at file.now meta.now id ≡ Ok (shown_node node))
         (λ fault. (node_at file.now meta.now id ≡ Err fault.number) × (fault.page ≡ id)) }
-    ensures page { IfOk result (λ node. page_at file.now meta.now id ≡ Some (shown node.page)) }
-    ensures within { IfOk result (λ node. IsInFile file.now meta.now id (shown node.page)) }
+    ensures page { IfOk result (λ node. page_at file.now meta.now id ≡ Some (shown_page node)) }
+    ensures within { IfOk result (λ node. IsInFile file.now meta.now id (shown_page node)) }
 {
-    let page = page(file, meta, id)?;
-    match page.kind() {
-        Kind::Branch => Ok(TreePage {
-            is_leaf: false,
-            page,
-        }),
-        Kind::Leaf => Ok(TreePage {
-            is_leaf: true,
-            page,
-        }),
-        Kind::Meta | Kind::Freelist => Err(PageFault {
-            number: PageFault::PAGE_KIND,
-            page: id,
-        }),
-    }
+    page(file, meta, id)?.tree_page().ok_or(PageFault {
+        number: PageFault::PAGE_KIND,
+        page: id,
+    })
 }
 
 /// The use of the first page of a node.
+#[tactic(auto, unfolding(crate::specs::ShownNodes::shown_node))]
 fn first_use(node: &TreePage<'_>) -> PageUse
-    ensures { result ≡ use_of node.now.is_leaf }
+    ensures { result ≡ use_of (shown_node node.now).is_leaf }
 {
-    if node.is_leaf {
-        PageUse::Leaf
-    } else {
-        PageUse::Branch
+    match node {
+        TreePage::Branch(_) => PageUse::Branch,
+        TreePage::Leaf(_) => PageUse::Leaf,
+    }
+}
+
+/// Whether a page is a branch without elements.
+#[tactic(auto, unfolding(crate::specs::ShownNodes::shown_node))]
+fn is_empty_branch(node: &TreePage<'_>) -> bool
+    ensures { result ≡ (not (shown_node node.now).is_leaf && (length (shown_node node.now).entries == 0)) }
+{
+    match node {
+        TreePage::Branch(branch) => branch.count() == 0,
+        TreePage::Leaf(_) => false,
     }
 }
 
 /// Tests the content of a page: a branch has an element, and then the keys.
-#[tactic(auto, unfolding(crate::specs::ShownNodes::shown_node))]
+#[tactic(auto, using(crate::proofs::NodeLemmas::keys_entries))]
 fn test_node(node: &TreePage<'_>, spot: &PageSpot<'_>) -> Result<(), Finding>
     ensures { result_err result ≡ node_finding (shown_node node.now) (page_spot spot.now) }
 {
-    if !node.is_leaf && node.count() == 0 {
+    if is_empty_branch(node) {
         return Err(Finding::of_page(Finding::EMPTY_BRANCH, spot.number));
     }
     match test_keys(node, spot.lower, spot.upper) {
@@ -108,7 +107,7 @@ fn test_node(node: &TreePage<'_>, spot: &PageSpot<'_>) -> Result<(), Finding>
 /// Tests the keys of a page, one after another, against each other and their bounds.
 #[tactic(auto, using(bolt_format::proofs::ListLemmas::drop_next, std::proofs::lemmas::List::drop_all))]
 fn test_keys(node: &TreePage<'_>, lower: Option<&[u8]>, upper: Option<&[u8]>) -> Result<(), u8>
-    ensures { result_err result ≡ keys_order_fault None (bound_of lower.entry) (bound_of upper.entry) (keys_of (shown_node node.now).entries) }
+    ensures { result_err result ≡ keys_order_fault None (bound_of lower.entry) (bound_of upper.entry) (page_keys node.now) }
 {
     let mut before: Option<&[u8]> = None;
     for i in 0..node.count() {

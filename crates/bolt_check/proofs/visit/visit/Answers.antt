@@ -1,15 +1,15 @@
 use Rattle.bolt_check.proofs.Spans.{outside}
-use Rattle.std.proofs.Common.{sym, refl, arith}
+use Rattle.std.proofs.Common.{◌∙◌, sym, refl, arith}
 use Rattle.bolt_check.proofs.{Words.IsClaimed, Words.late, Words.node_at, Words.page_spot, Words.PageTests, Words.shown_node, Lawful.early_passes}
-use Rattle.bolt_check.proofs.{Spans.not_both, Spans.still_unlisted, Visited.passed_on, VisitLemmas.in_room, VisitLemmas.leaf-is, VisitLemmas.overflow-is}
+use Rattle.bolt_check.proofs.{Spans.not_both, Spans.still_unlisted, Visited.passed_on, VisitLemmas.in_room, VisitLemmas.overflow_shown}
 use Rattle.bolt_check.specs.Findings.{twice}
 use Rattle.bolt_check.proofs.visit.visit.Goals as goal
 
 pub returns-in-Some-clause-found : goal.returns-in-Some-clause-found
 returns-in-Some-clause-found c =
     let node = c.in_ok-node.node in
+    let last = c.overflow.ensures ∙ overflow_shown node in
     let (from, to, was, lowest) = c.in-Some.ensures.lowest in
-    let last = overflow-is node _ c.overflow.ensures in
     rw c.of_page-in-Some.ensures
     (twice (shown_node node) (early_passes (node_at c.args.file.now c.args.meta.now) (page_spot c.args.spot.now) (shown_node node) (omega (arith, c.from.ensures, c.if-from-gt-MAX_DEPTH.false)) c.in_ok-node.ensures.node) c.in_ok-node.ensures.node
     (record { in_span = (from, omega (arith, to, last)); was = was; lowest = λ k span lt h. not_both c.args.table.now k (lowest k span.0 lt) h }) refl)
@@ -17,16 +17,16 @@ returns-in-Some-clause-found c =
 pub returns-in_err-test_node-clause-found : goal.returns-in_err-test_node-clause-found
 returns-in_err-test_node-clause-found c =
     let node = c.in_ok-node.node in
-    let last = overflow-is node _ c.overflow.ensures in
+    let last = c.overflow.ensures ∙ overflow_shown node in
     passed_on c.from_residual-in_err-test_node.result c.in_err-test_node.field-0.0 (PageTests (node_at c.args.file.now c.args.meta.now) (IsClaimed c.args.table.now) (page_spot c.args.spot.now))
     (late (shown_node node) (early_passes (node_at c.args.file.now c.args.meta.now) (page_spot c.args.spot.now) (shown_node node) (omega (arith, c.from.ensures, c.if-from-gt-MAX_DEPTH.false)) c.in_ok-node.ensures.node) c.in_ok-node.ensures.node
     (λ n span h. not_both c.args.table.now n (c.in_default.ensures.none n span.0 (let to = span.1 in omega (arith, to, last))) h) (sym c.in_err-test_node.ensures)) c.from_residual-in_err-test_node.ensures.1
 
 pub returns-clause-passes : goal.returns-clause-passes
-returns-clause-passes c = grind (arith, overflow-is, early_passes)
+returns-clause-passes c = grind (arith, early_passes, overflow_shown)
 
 pub returns-clause-claims : goal.returns-clause-claims
-returns-clause-claims c = grind (arith, overflow-is, leaf-is)
+returns-clause-claims c = grind (arith, overflow_shown)
 
 pub overflow_add-last : goal.overflow_add-last
 overflow_add-last c = let room = in_room _ _ _ _ _ c.in_ok-node.ensures.within c.requires in omega (arith, room, c.overflow.ensures)
