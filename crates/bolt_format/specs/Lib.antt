@@ -2,6 +2,7 @@ pub mod Bytes
 pub mod ElementLengths
 pub mod ElementPlaces
 pub mod Elements
+pub mod ElementsLeft
 pub mod Encoded
 pub mod Endings
 pub mod Freelists

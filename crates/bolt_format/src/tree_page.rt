@@ -92,14 +92,27 @@ impl<'a> LeafPage<'a> {
 /// The page of an inline bucket without elements.
 const NO_ELEMENTS: &[u8] = b"\0\0\0\0\0\0\0\0\0\0\0\0\0\0\0\0";
 
-impl<'a> Default for TreePage<'a> {
+#[tactic(auto, unfolding(crate::specs::TreePages::leaves_on, crate::specs::Elements::leaf_elements))]
+impl<'a> Default for LeafPage<'a> {
+    ghost use Rattle.std.specs.Prelude.{[]};
+    ghost use Rattle.bolt_format.specs.TreePages.{leaves_on};
+
     /// A leaf without elements.
-    fn default() -> TreePage<'a> {
-        TreePage::Leaf(LeafPage {
+    fn default() -> LeafPage<'a>
+        ensures { leaves_on result ≡ [] }
+    {
+        LeafPage {
             count: 0,
             overflow: 0,
             bytes: NO_ELEMENTS,
-        })
+        }
+    }
+}
+
+impl<'a> Default for TreePage<'a> {
+    /// A leaf without elements.
+    fn default() -> TreePage<'a> {
+        TreePage::Leaf(LeafPage::default())
     }
 }
 
