@@ -35,19 +35,13 @@ impl Head {
 /// The page of an inline bucket, which passed all tests. Its elements are values.
 #[derive(Clone, Copy)]
 pub struct Inline<'a> {
-    pub(crate) page: LeafPage<'a>,
+    /// The page as a leaf.
+    pub page: LeafPage<'a>,
     ghost flat: { has_bucket page.bytes.now page.count ≡ false } by { Prim.hlevel props },
 }
 
 impl<'a> Inline<'a> {
-    ghost use Rattle.bolt_format.specs.{ShownInline.shown_inline, TreePages.leaves_on};
-
-    /// The page as a leaf.
-    pub fn page(&self) -> LeafPage<'a>
-        ensures { leaves_on result ≡ shown_inline self.now }
-    {
-        self.page
-    }
+    ghost use Rattle.bolt_format.specs.ShownInline.{shown_inline};
 
     /// The number of its elements.
     pub fn count(&self) -> u16

@@ -1,23 +1,28 @@
 -- Found pages, one number after another.
 use Rattle.std.proofs.Common.{◌≡◌, ◌∙◌, ◌≤◌, ◌<◌, ◌⊎◌, ◌↔◌, inl, inr, ℕ, zero, suc, ◌+◌, Bool, true, false, List, [], ◌∷◌, ◌++◌, Some, Ok, ◌≢◌, refl, sym, ap, subst, arith}
-use Rattle.bolt_recover.proofs.Words.{At_page, cases_lt, cases_order, Contains, Contains-append_left, Contains-append_right, Contains-push_cases, contains_head, contains_none, false≢true, Found, FoundBelow, IsFoundNext, IsFoundPage, IsFoundView, IsListedFree, IsLoneLeaf, IsTrue, Meta, Node, node_at, Nodes, page_at, root_spot, shown, shown_node, SpanAt}
+use Rattle.bolt_recover.proofs.Words.{At_page, cases_lt, cases_order, Contains, Contains-append_left, Contains-append_right, Contains-push_cases, contains_head, contains_none, false≢true, Found, FoundBelow, IsFoundNext, IsFoundPage, IsFoundView, IsListedFree, IsLoneLeaf, IsTrue, Meta, Node, node_at, Nodes, page_at, root_spot, shown_node, SpanAt}
+use Rattle.bolt_format.specs.{TreePages.leaves_on, TreePages.shown_page, declared.tree_page.LeafPage.LeafPage, declared.tree_page.TreePage.TheVariants.Leaf}
 use Rattle.bolt_check.proofs.LeafLemmas.{lone_free, lone_same, lone_span}
 
 pub not_true : (b : Bool) → (b ≡ true → ⊥) → b ≡ false
 not_true true never = absurd (never refl)
 not_true false never = refl
 
+no_entries : (page : LeafPage) → leaves_on page ≡ [] → (shown_node (Leaf page)).entries ≡ []
+unfolding shown_node
+no_entries page none = rw none refl
+
 module _ (file : List ℕ) (meta : Meta) where
   abbrev nodes : Nodes
   nodes = node_at file meta
 
   -- a page of the code that is an intact leaf
-  pub view_of : (before : ℕ → Type 0) (f : Found) → page_at file meta f.number ≡ Some (shown f.page.page) → node_at file meta f.number ≡ Ok (shown_node f.page)
+  pub view_of : (before : ℕ → Type 0) (f : Found) → page_at file meta f.number ≡ Some (shown_page (Leaf f.page)) → node_at file meta f.number ≡ Ok (shown_node (Leaf f.page))
       → IsLoneLeaf nodes before f.number → IsFoundView file meta f
   view_of before f page node lone =
-      let both : Ok lone.passes.node ≡ Ok (shown_node f.page) = sym lone.passes.page ∙ node in
-      let same : lone.passes.node ≡ shown_node f.page = cc in
-      record { page = page; node = node; leaf = subst (λ (x : Node). IsTrue x.is_leaf) same lone.leaf; some = subst (λ (x : Node). x.entries ≢ []) same lone.some }
+      let both : Ok lone.passes.node ≡ Ok (shown_node (Leaf f.page)) = sym lone.passes.page ∙ node in
+      let same : lone.passes.node ≡ shown_node (Leaf f.page) = cc in
+      record { page = page; node = node; some = λ none. subst (λ (x : Node). x.entries ≢ []) same lone.some (no_entries f.page none) }
 
   -- the pages of one found page more
   page_more : (found : List ℕ) (n k : ℕ) → IsFoundPage file meta (found ++ n ∷ []) k → IsFoundPage file meta found k ⊎ SpanAt nodes (At_page (root_spot n)) k

@@ -1,7 +1,8 @@
 -- Where an element of an open page leads, as a site.
 use Rattle.std.proofs.Common.{◌≡◌, ◌∙◌, ℕ, ◌<◌, Bool, true, false, List, Option, Some, None, Ok, IfSome, length, slice_get, refl, sym, ap, arith, inl, inr}
-use Rattle.bolt_recover.proofs.Words.{At_inline, content_site, Entry, Key, LeafElement, length-leaf, Meta, node_at, option_map, Page, page_spot, PageSpot, Path, site_on, shown, shown_node, slice_get_cases, spot_at, spot_site, step_entry, step_on, step_path, step_site, tree_kind, TreePage}
-use Rattle.bolt_format.proofs.PageLaws.{length-shown_leaves}
+use Rattle.bolt_recover.proofs.Words.{At_inline, content_site, Entry, Key, LeafElement, length-map, Meta, node_at, option_map, page_spot, PageSpot, Path, site_on, shown_node, slice_get_cases, spot_at, spot_site, step_entry, step_on, step_path, step_site, TreePage}
+use Rattle.bolt_format.specs.TreePages.{leaves_on, page_keys, shown_page}
+use Rattle.bolt_format.specs.declared.tree_page.TreePage.TheVariants.{Branch, Leaf}
 use Rattle.bolt_check.specs.{ShownSpots.IsInner, declared.spot.PageSpot.PageSpot as CodePageSpot, declared.spot.Spot.Spot}
 use Rattle.bolt_check.specs.declared.spot.Spot.TheVariants as spots
 
@@ -11,11 +12,13 @@ from_leaf true s e next host keys h = refl
 from_leaf false s None next host keys h = absurd (cc)
 from_leaf false s (Some e) next host keys h = absurd (cc)
 
-no_leaf : (page : TreePage) (i : ℕ) → page.is_leaf ≡ true → i < length (shown_node page).entries → slice_get (shown page.page).leaves i ≡ None → ⊥
-no_leaf page i is below none =
-    elim (slice_get_cases (shown page.page).leaves i).1 [
+no_leaf : (page : TreePage) (i : ℕ) → (shown_node page).is_leaf ≡ true → i < length (page_keys page) → slice_get (shown_page page).leaves i ≡ None → ⊥
+unfolding shown_node
+no_leaf (Branch page) i is below none = absurd (cc)
+no_leaf (Leaf page) i is below none =
+    elim (slice_get_cases (leaves_on page) i).1 [
       | inl (e, lt, some, h) ↦ (let both : None ≡ Some e = sym none ∙ some in cc)
-      | inr (past, h) ↦ absurd (omega (arith, past, below, length-leaf page is, length-shown_leaves page.page (page.kind ∙ ap tree_kind is)))
+      | inr (past, h) ↦ absurd (omega (arith, past, below, length-map (leaves_on page) (λ (e : LeafElement). e.key)))
     ]
 
 site_of : (file : List ℕ) (meta : Meta) (path : Path) (o : Option LeafElement) (r : Option Spot)
@@ -29,13 +32,12 @@ site_of file meta path (Some e) (Some (spots.Page s)) not inner = refl
 site_of file meta path (Some e) (Some (spots.Bucket s)) not inner = rw (inner e refl) refl
 
 pub leads_to : (file : List ℕ) (meta : Meta) (path : Path) (page : TreePage) (s : CodePageSpot) (i : ℕ) (r : Option Spot)
-    → node_at file meta s.number ≡ Ok (shown_node page) → i < length (shown_node page).entries
+    → node_at file meta s.number ≡ Ok (shown_node page) → i < length (page_keys page)
     → option_map spot_at r ≡ step_on (shown_node page) (page_spot s) i
-    → IfSome r (λ (spot : Spot). (e : LeafElement) → slice_get (shown page.page).leaves i ≡ Some e → IsInner e.value spot)
-    → step_site file meta (content_site path (Page page s)) i ≡ option_map (spot_site file meta (step_path path (slice_get (shown page.page).leaves i))) r
-unfolding shown_node
+    → IfSome r (λ (spot : Spot). (e : LeafElement) → slice_get (shown_page page).leaves i ≡ Some e → IsInner e.value spot)
+    → step_site file meta (content_site path (record { spot = spots.Page s; page = page })) i ≡ option_map (spot_site file meta (step_path path (slice_get (shown_page page).leaves i))) r
 leads_to file meta path page s i r node below leads inner =
-    rw (node, ← leads) (site_of file meta path (slice_get (shown page.page).leaves i) r
+    rw (node, ← leads) (site_of file meta path (slice_get (shown_page page).leaves i) r
     (λ t is none host keys at.
     let led : Some (At_inline host keys) ≡ step_on (shown_node page) (page_spot s) i = ap Some (sym at) ∙ ap (option_map spot_at) (sym is) ∙ leads in
     no_leaf page i (from_leaf (shown_node page).is_leaf _ _ _ host keys led) below none)

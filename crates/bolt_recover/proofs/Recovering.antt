@@ -1,14 +1,16 @@
 -- A recovery between its calls: what comes of it in the end is all that comes of its file.
 use Rattle.std.proofs.Common.{◌≡◌, ◌∙◌, ◌≤◌, ◌<◌, ◌^◌, ℕ, true, ◌↔◌, List, [], ◌∷◌, ◌++◌, length, map, take, Option, Some, None, Result, Ok, Err, IfOk, OnErr, refl, sym, ap, subst, arith, append_assoc, Vec, Global}
-use Rattle.bolt_recover.proofs.Words.{Advances, after_event, after_events, all_events, append-nil, AreFirst, AreKeptPages, AreLosses, AreOpen, ArePageWays, claims_file, claims_meta, claims_nodes, claims_visited, Content, counted, Ends, Event, Given, GoesOn, is_claimed, IsAllLeft, IsGoodContent, IsGoodPage, IsKeptPage, IsOn, IsPlaced, IsRecovered, loss_view, losses_of, LossView, lost_at, Member, members_left, Meta, node_at, Nodes, OpenPage, Outcome, outcome_of, Page, page_ways, props, reached, StaysOn, steps_left, SurveyedWay, take-append-le, take_all, tally_of, Visited}
+use Rattle.bolt_recover.proofs.Words.{Advances, after_event, after_events, all_events, append-nil, AreFirst, AreKeptPages, AreLosses, AreOpen, ArePageWays, claims_file, claims_meta, claims_nodes, claims_visited, TreePage, counted, Ends, Event, Given, GoesOn, is_claimed, IsAllLeft, IsGoodContent, IsGoodPage, IsKeptPage, IsOn, IsPlaced, IsRecovered, loss_view, losses_of, LossView, lost_at, Member, members_left, Meta, node_at, Nodes, OpenPage, Outcome, outcome_of, page_ways, props, reached, StaysOn, steps_left, SurveyedWay, take-append-le, take_all, tally_of, Visited}
 use Rattle.bolt_recover.proofs.{Existing.one_recovered, Existing.recovers, CourseSurveys.all_claimed, CourseSurveys.survey_of, CourseSurveys.surveyed, CourseSurveys.tally, SurveyIsOne.same_survey}
 use Rattle.bolt_format.specs.declared.element.Leaf.{Leaf}
-use Rattle.bolt_recover.specs.{declared.content.Content.TheVariants.Bucket, declared.steps.Steps.Steps}
+use Rattle.bolt_check.specs.declared.spot.Spot.{Spot}
+use Rattle.bolt_check.specs.declared.spot.Spot.TheVariants as spots
+use Rattle.bolt_recover.specs.{Private.Frames.IsGoodAt, declared.steps.Steps.Steps}
 
 -- that pages are open in good order is known or not, and no more
-content_prop : (file : List ℕ) (meta : Meta) (content : Content) (x y : IsGoodContent file meta content) → x ≡ y
-content_prop file meta (Page page s) = hlevel props
-content_prop file meta (Bucket s) = hlevel props
+content_prop : (file : List ℕ) (meta : Meta) (page : TreePage) (spot : Spot) (x y : IsGoodAt file meta page spot) → x ≡ y
+content_prop file meta page (spots.Page s) = hlevel props
+content_prop file meta page (spots.Bucket s) = hlevel props
 
 good_prop : (file : List ℕ) (meta : Meta) (page : OpenPage) (x y : IsGoodPage file meta page) → x ≡ y
 good_prop file meta page = hlevel (props, content_prop)

@@ -1,8 +1,12 @@
 -- What the steps of a recovering walk leave to be done.
 use Rattle.std.proofs.Common.{◌≡◌, ◌∙◌, ◌≤◌, ◌<◌, ℕ, suc, ◌+◌, ◌-◌, Bool, true, ◌↔◌, List, [], ◌∷◌, ◌++◌, length, map, take, Option, Some, None, slice_get, drop, refl, sym, ap, arith, append_assoc, sum_by, Vec, Global, Bor}
-use Rattle.bolt_recover.proofs.Words.{after_event, after_events, ahead_path_len, ahead_tasks, all_events, append-nil, AreOpen, At_page, both_ways, claimed_after, claims_file, claims_meta, claims_nodes, claims_visited, claims_with, Event, loss_of, Passes, Tests, Content, content_elements, content_site, content_size, content_spot, counted, Ends, entry_tasks, events, Finding, further, Given, Gives, gives_at, GivesHead, GoesOn, is_claimed, IsAllLeft, IsContent, IsGoodContent, IsGoodPage, IsMetaPage, IsPlaced, IsShallow, LeafElement, length-take-le, loss_view, lost_at, map-append, members_of, Meta, meta_pages, nat_tests, NextVisit, node_at, Nodes, open_tasks, OpenPage, option_map, Outcome, outcome_of, Page, page_tasks, page_visit, page_weight, Path, path_of, root_spot, Site, site_size, site_tasks, spot_at, spot_site, steps_left, steps_path, steps_weight, sum_by-append, take-append-drop, take-append-le, tally_of, Task, tasks_after, tasks_from, tasks_left, Visited, visits_at, Way, way_of, step_site}
+use Rattle.bolt_recover.proofs.Words.{after_event, after_events, ahead_path_len, ahead_tasks, all_events, append-nil, AreOpen, At_page, both_ways, claimed_after, claims_file, claims_meta, claims_nodes, claims_visited, claims_with, Event, loss_of, Passes, Tests, KeptPage, content_elements, content_site, content_size, content_spot, counted, Ends, entry_tasks, events, Finding, further, Given, Gives, gives_at, GivesHead, GoesOn, is_claimed, IsAllLeft, IsContent, IsGoodContent, IsGoodPage, IsMetaPage, IsPlaced, IsShallow, LeafElement, length_entries, length-map, length-take-le, loss_view, lost_at, map-append, members_of, Meta, meta_pages, nat_tests, NextVisit, node_at, Nodes, open_tasks, OpenPage, option_map, Outcome, outcome_of, page_tasks, page_visit, page_weight, Path, path_of, root_spot, Site, site_size, site_tasks, spot_at, spot_site, steps_left, steps_path, steps_weight, TreePage, sum_by-append, take-append-drop, take-append-le, tally_of, Task, tasks_after, tasks_from, tasks_left, Visited, visits_at, Way, way_of, step_site}
+use Rattle.bolt_format.specs.TreePages.{leaves_on, page_keys, shown_page}
+use Rattle.bolt_check.specs.ShownNodes.{is_leaf_page}
+use Rattle.bolt_format.specs.declared.tree_page.TreePage.TheVariants.{Branch, Leaf}
+use Rattle.bolt_recover.specs.Private.Frames.{IsGoodAt, IsShallowAt}
 use Rattle.bolt_check.specs.{declared.claims.Claims.Claims, declared.spot.Spot.Spot}
-use Rattle.bolt_recover.specs.{declared.content.Content.TheVariants.Bucket, declared.losses.Loss.Loss, declared.steps.Steps.Steps}
+use Rattle.bolt_recover.specs.{declared.losses.Loss.Loss, declared.steps.Steps.Steps}
 use Rattle.bolt_check.specs.declared.spot.Spot.TheVariants as spots
 use Rattle.bolt_recover.proofs.Courses.{events_give, events_none, events_visit, or_none}
 use Rattle.bolt_recover.proofs.SurveyIsOne.{gives_same}
@@ -53,11 +57,18 @@ module _ (file : List ℕ) (meta : Meta) where
       ∙ same_open page.path_len high pages next a b (page_tasks file meta b way page ++ rest) are.2 same
 
   -- an opened page as the site that it was visited as
-  size_is : (content : Content) → IsGoodContent file meta content → content_size content ≡ site_size (node_at file meta) (content_spot content) (content_elements content)
-  size_is (Page page s) good = rw good.0 refl
-  size_is (Bucket s) good = refl
+  inline_size : (page : TreePage) → is_leaf_page page ≡ true → length (page_keys page) ≡ length (shown_page page).leaves
+  inline_size (Branch page) is = absurd (cc)
+  inline_size (Leaf page) is = length-map (leaves_on page) (λ (e : LeafElement). e.key)
 
-  opened : (path : Path) (pages : List OpenPage) (s : Spot) (content : Content) (path_len count : ℕ) → IsContent file meta s content → count ≡ content_size content
+  size_at : (page : TreePage) (s : Spot) → IsGoodAt file meta page s → length (page_keys page) ≡ site_size (node_at file meta) (spot_at s) (shown_page page).leaves
+  size_at page (spots.Page s) good = rw good.0 (sym (length_entries page))
+  size_at page (spots.Bucket s) good = inline_size page good.0
+
+  size_is : (content : KeptPage) → IsGoodContent file meta content → content_size content ≡ site_size (node_at file meta) (content_spot content) (content_elements content)
+  size_is content good = size_at content.page content.spot good
+
+  opened : (path : Path) (pages : List OpenPage) (s : Spot) (content : KeptPage) (path_len count : ℕ) → IsContent file meta s content → count ≡ content_size content
       → open_tasks file meta path [] (pages ++ record { content = content; path_len = path_len; count = count; next = 0 } ∷ []) []
       ≡ site_tasks file meta (way_of pages) (spot_site file meta (take path_len path) s) ++ open_tasks file meta path [] pages []
   opened path pages s content path_len count is long =
@@ -127,7 +138,7 @@ module _ (s : Steps) (claims : Claims) (stack : Vec OpenPage Global) (losses : V
       (rw stays (are_open_up (claims_file s.claims) (claims_meta s.claims) 0 s.open.items ahead.path_len (length (steps_path s)) are within)) (omega (arith, weight))
 
   -- it is open
-  pub goes_in : (content : Content) (count : ℕ) → Passes (claims_nodes s.claims) (λ n. is_claimed s.claims n ≡ true) (spot_at ahead.spot)
+  pub goes_in : (content : KeptPage) (count : ℕ) → Passes (claims_nodes s.claims) (λ n. is_claimed s.claims n ≡ true) (spot_at ahead.spot)
       → IsContent (claims_file s.claims) (claims_meta s.claims) ahead.spot content
       → ((n : ℕ) → is_claimed claims n ≡ claims_with s.claims (spot_at ahead.spot) n) → count ≡ content_size content → count < 65536
       → stack.items ≡ s.open.items ++ record { content = content; path_len = ahead.path_len; count = count; next = 0 } ∷ [] → losses.items ≡ s.losses.items → GoesOn s visited
@@ -276,9 +287,12 @@ module _ (s : Steps) (front : List OpenPage) (top : OpenPage) (has : IsPlaced s)
 pub next_below : (file : List ℕ) (meta : Meta) (page : OpenPage) → IsGoodPage file meta page → (page.next ≡ page.count → ⊥) → page.next < content_size page.content
 next_below file meta page good more = let count = good.count in let taken = good.taken in omega (arith, count, taken, more)
 
-pub is_shallow : (file : List ℕ) (meta : Meta) (content : Content) → IsGoodContent file meta content → IsShallow content
-is_shallow file meta (Page page s) good = good.2
-is_shallow file meta (Bucket s) good = tt
+shallow_at : (file : List ℕ) (meta : Meta) (page : TreePage) (s : Spot) → IsGoodAt file meta page s → IsShallowAt s
+shallow_at file meta page (spots.Page s) good = good.2
+shallow_at file meta page (spots.Bucket s) good = tt
+
+pub is_shallow : (file : List ℕ) (meta : Meta) (content : KeptPage) → IsGoodContent file meta content → IsShallow content
+is_shallow file meta content good = shallow_at file meta content.page content.spot good
 
 -- nothing was open
 pub took_nothing : (s : Steps) (stack : Vec OpenPage Global) (path : Vec (Bor (List ℕ)) Global) → s.ahead ≡ None → s.open.items ≡ [] → stack.items ≡ [] → path.items ≡ []
@@ -309,7 +323,7 @@ root_gives claims found metas h =
 abbrev pub root_visit : Meta → NextVisit
 root_visit meta = record { spot = spots.Page (record { number = meta.root; depth = 1; lower = None; upper = None }); path_len = 0 }
 
-pub begins : (s : Steps) (claims : Claims) (stack : Vec OpenPage Global) (loss_path : Vec (Bor (List ℕ)) Global) (content : Content) (count : ℕ)
+pub begins : (s : Steps) (claims : Claims) (stack : Vec OpenPage Global) (loss_path : Vec (Bor (List ℕ)) Global) (content : KeptPage) (count : ℕ)
     → s.ahead ≡ Some (root_visit (claims_meta s.claims)) → s.open.items ≡ [] → s.losses.items ≡ [] → ((n : ℕ) → (is_claimed s.claims n ≡ true) ↔ IsMetaPage n)
     → claims_file claims ≡ claims_file s.claims → claims_meta claims ≡ claims_meta s.claims → claims_visited claims ≡ counted (claims_visited s.claims) 1
     → Passes (claims_nodes s.claims) (λ n. is_claimed s.claims n ≡ true) (At_page (root_spot (claims_meta s.claims).root))

@@ -3,7 +3,7 @@ pub use Rattle.bolt_check.proofs.ClaimLemmas.{claims_bytes, counted_none, visite
 pub use Rattle.bolt_check.proofs.Judging.{passes_fewer, passes_silent, span_spot, tests_same}
 pub use Rattle.bolt_check.proofs.KeyLaws.{below_less, from_more, less_of, lt_not_trans, lt_trans, not_true}
 pub use Rattle.bolt_check.proofs.{KeyOrder.key_each, KeyOrder.key_rise, Lawful.shape_passes, Lawful.sound_reports_nothing}
-pub use Rattle.bolt_check.proofs.{MarkLemmas.node_below, MarkLemmas.node_within, NodeLemmas.length-leaf, Shaping.finding_none, Shaping.shape_of}
+pub use Rattle.bolt_check.proofs.{MarkLemmas.node_below, MarkLemmas.node_within, NodeLemmas.length_entries, Shaping.finding_none, Shaping.shape_of}
 pub use Rattle.bolt_check.proofs.{Visited.passed_on, WayFacts.follow_append, WayFacts.key_at, WayFacts.leads_none, WayFacts.leaf_node}
 pub use Rattle.bolt_check.proofs.WayOrder.{before_irreflexive, before_strict, before_total, before_trans}
 unfoldable pub use Rattle.bolt_check.specs.CheckedFiles.{bytes_of, meta_of}
@@ -17,13 +17,13 @@ pub use Rattle.bolt_check.specs.Keys.{Key, KeysRise, is_below, is_from, key_cmp,
 pub use Rattle.bolt_check.specs.Lists.{Has}
 pub use Rattle.bolt_check.specs.LoneLeaves.{IsListedFree, IsLoneLeaf}
 pub use Rattle.bolt_check.specs.Nodes.{Entry, IsInSpan, Node, Nodes, leaf_entry, node_seen}
-pub use Rattle.bolt_check.specs.{Shape.child_at, Shape.child_in, Shape.child_of, Shape.leads, ShownNodes.entries_of, ShownSpots.page_spot, ShownSpots.spot_at}
-pub use Rattle.bolt_check.specs.{Sound.HasSoundTrees, TreeKinds.tree_kind}
+pub use Rattle.bolt_check.specs.{Shape.child_at, Shape.child_in, Shape.child_of, Shape.leads, ShownSpots.page_spot, ShownSpots.spot_at}
+pub use Rattle.bolt_check.specs.Sound.{HasSoundTrees}
 pub use Rattle.bolt_check.specs.Ways.{At_inline, At_page, Before, PageSpot, Reach, SpanAt, SpanHas, SpanOf, Spot, bucket_spot, bucket_spots, child_spot, follow}
 pub use Rattle.bolt_check.specs.Ways.{reached, root_spot, step, step_at, step_entry, step_from, step_on, upper_from}
 pub use Rattle.bolt_check.specs.declared.checked.Checked.{Checked}
 pub use Rattle.bolt_check.specs.declared.fault.CheckFault.TheVariants.{Structure}
-pub use Rattle.bolt_check.specs.{declared.finding.Finding.Finding, declared.tree_page.TreePage.TreePage}
+pub use Rattle.bolt_check.specs.declared.finding.Finding.{Finding}
 pub use Rattle.bolt_format.specs.{ElementPlaces.leaf_view, Elements.LeafElement, Elements.head_root, Elements.head_sequence, Elements.inline_elements}
 pub use Rattle.bolt_format.specs.Headers.{count_field, flags_field, kind_of}
 pub use Rattle.bolt_format.specs.Pages.{PageView, from_page, page_overflow, shown_as, shown_leaves, span_bytes}
@@ -54,7 +54,8 @@ pub use Rattle.bolt_recover.specs.{Recovered.ForRecovered, Recovered.IsRecovered
 pub use Rattle.bolt_recover.specs.Refusals.{IsRefusedRoot, KeepsRoot, LosesRoot}
 pub use Rattle.bolt_recover.specs.{ShownFound.IsFoundView, ShownLosses.loss_view}
 pub use Rattle.bolt_recover.specs.Surveys.{Gives, IsClaimedIn, IsOpen, IsSurvey, LosesNothing, Surveys, SurveyedWay, kept, lost}
-pub use Rattle.bolt_recover.specs.{declared.content.Content.Content, declared.content.Content.TheVariants.Page, declared.content.OpenPage.OpenPage}
+pub use Rattle.bolt_format.specs.declared.tree_page.TreePage.{TreePage}
+pub use Rattle.bolt_recover.specs.{declared.content.KeptPage.KeptPage, declared.content.OpenPage.OpenPage}
 pub use Rattle.bolt_recover.specs.{declared.found.Found.Found, declared.joined_parts.Kept.Kept}
 pub use Rattle.bolt_recover.specs.declared.lost_and_found.Trees.TheVariants.{Damaged, Rootless, Sound}
 pub use Rattle.bolt_recover.specs.{declared.steps.NextVisit.NextVisit}

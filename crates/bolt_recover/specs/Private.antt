@@ -1,5 +1,4 @@
 -- What private contracts and proofs cite, and no public one.
-pub mod ElementsLeft
 pub mod FoundLeft
 pub mod Frames
 pub mod Joining

@@ -1,27 +1,26 @@
 //! A kept page, and how many of its elements are done.
-ghost use Rattle.std.specs.Prelude.{◌≡◌, ◌<◌, ℕ, List, true, IfErr, IfOk, IfSome, OnErr, OnOk, IsTrue, slice_get, None, Some};
+ghost use Rattle.std.specs.Prelude.{◌≡◌, ◌<◌, ℕ, true, IfErr, IfOk, IfSome, OnErr, OnOk, IsTrue, slice_get};
 ghost use Rattle.std.specs.Option.{option_map};
 ghost use Rattle.bolt_format.specs.{Elements.IsBucketValue, ElementPlaces.leaf_view};
 ghost use Rattle.bolt_check.specs.{Claims.claims_file, Claims.claims_meta, Claims.claims_visited, Claims.is_claimed, Counts.counted};
 ghost use Rattle.bolt_check.specs.{Findings.Passes, Findings.Tests, ShownSpots.spot_at};
 ghost use Rattle.bolt_recover.specs.Private.Frames.{IsContent, IsShallow, ElementLeads, claims_nodes, claims_with, content_elements, content_size};
 ghost use Rattle.bolt_recover.specs.Private.Courses.{page_visit};
-ghost use Rattle.bolt_recover.specs.Private.ElementsLeft.{GivesElement, elements_left, elements_of};
 
-use bolt_check::{BucketSpot, Claims, Finding, PageSpot, Spot, TreePage};
-use bolt_format::Leaf;
+use bolt_check::{Claims, Finding, Spot};
+use bolt_format::{Leaf, TreePage};
 
-/// A page that passed its tests, or the page of an inline bucket, with the spot that led to it.
+/// A page that passed its tests, and the spot that led to it. The page of an inline bucket is a leaf.
 #[derive(Clone, Copy)]
-pub(crate) enum Content<'a> {
-    Page(TreePage<'a>, PageSpot<'a>),
-    Bucket(BucketSpot<'a>),
+pub(crate) struct KeptPage<'a> {
+    pub spot: Spot<'a>,
+    pub page: TreePage<'a>,
 }
 
 /// An open page on the current way.
 #[derive(Clone, Copy)]
 pub(crate) struct OpenPage<'a> {
-    pub content: Content<'a>,
+    pub content: KeptPage<'a>,
     /// The number of parts of its bucket's path.
     pub path_len: usize,
     /// The number of its elements.
@@ -30,9 +29,9 @@ pub(crate) struct OpenPage<'a> {
     pub next: u16,
 }
 
-impl<'a> Content<'a> {
+impl<'a> KeptPage<'a> {
     /// Tests what a way leads to. If the tests find nothing, the page is claimed.
-    pub fn visit(claims: &mut Claims<'a>, spot: Spot<'a>) -> Result<Content<'a>, Finding>
+    pub fn visit(claims: &mut Claims<'a>, spot: Spot<'a>) -> Result<KeptPage<'a>, Finding>
         ensures file { claims_file claims.new ≡ claims_file claims.old }
         ensures meta { claims_meta claims.new ≡ claims_meta claims.old }
         ensures visited { claims_visited claims.new ≡ counted (claims_visited claims.old) (page_visit (spot_at spot.entry)) }
@@ -43,10 +42,16 @@ impl<'a> Content<'a> {
         ensures claims { OnOk result ((n : ℕ) → is_claimed claims.new n ≡ claims_with claims.old (spot_at spot.entry) n) }
     {
         match spot {
-            Spot::Page(spot) => Ok(Content::Page(claims.visit(&spot)?, spot)),
-            Spot::Bucket(spot) => {
-                spot.test()?;
-                Ok(Content::Bucket(spot))
+            Spot::Page(at) => Ok(KeptPage {
+                spot,
+                page: claims.visit(&at)?,
+            }),
+            Spot::Bucket(bucket) => {
+                bucket.test()?;
+                Ok(KeptPage {
+                    spot,
+                    page: TreePage::Leaf(bucket.page.page),
+                })
             }
         }
     }
@@ -55,10 +60,7 @@ impl<'a> Content<'a> {
     pub fn count(&self) -> u16
         ensures { result ≡ content_size self.now }
     {
-        match self {
-            Content::Page(page, _) => page.count(),
-            Content::Bucket(spot) => spot.page.count(),
-        }
+        self.page.count()
     }
 
     /// Element `i`, unless the page is a branch.
@@ -67,10 +69,9 @@ impl<'a> Content<'a> {
         ensures element { option_map leaf_view result ≡ slice_get (content_elements self.now) i }
         ensures bucket { IfSome result (λ leaf. IsTrue leaf.is_bucket → IsBucketValue leaf.value.now) }
     {
-        match self {
-            Content::Page(page, _) if page.is_leaf => Some(page.page.leaf(i)),
-            Content::Page(_, _) => None,
-            Content::Bucket(spot) => Some(spot.page.leaf(i)),
+        match &self.page {
+            TreePage::Branch(_) => None,
+            TreePage::Leaf(page) => Some(page.element(i)),
         }
     }
 
@@ -80,52 +81,9 @@ impl<'a> Content<'a> {
         requires below { i < content_size self.now }
         ensures { ElementLeads self.now i result }
     {
-        match self {
-            Content::Page(page, spot) => page.spot(i, spot),
-            Content::Bucket(_) => None,
+        match &self.spot {
+            Spot::Page(spot) => spot.step(&self.page, i),
+            Spot::Bucket(_) => None,
         }
-    }
-}
-
-/// What is left of the elements of a page.
-#[derive(Clone, Copy)]
-pub(crate) struct Elements<'a> {
-    pub content: Content<'a>,
-    /// The next element.
-    pub next: u16,
-}
-
-impl<'a> Elements<'a> {
-    /// All elements of a page.
-    pub fn new(content: Content<'a>) -> Elements<'a>
-        ensures { result ≡ record { content = content.entry; next = 0 } }
-    {
-        Elements { content, next: 0 }
-    }
-
-    /// Returns the first element that is left, if any.
-    pub fn next(&mut self) -> Option<Leaf<'a>>
-        ensures given { GivesElement (elements_left self.old) (elements_left self.new) (option_map leaf_view result) }
-        ensures bucket { IfSome result (λ leaf. IsTrue leaf.is_bucket → IsBucketValue leaf.value.now) }
-    {
-        if self.next >= self.content.count() {
-            return None;
-        }
-        let Some(leaf) = self.content.leaf(self.next) else {
-            return None;
-        };
-        self.next += 1;
-        Some(leaf)
-    }
-}
-
-/// Returns the first element that is left of an open page, if any.
-pub(crate) fn next_of<'a>(elements: &mut Option<Elements<'a>>) -> Option<Leaf<'a>>
-    ensures given { GivesElement (elements_of elements.old) (elements_of elements.new) (option_map leaf_view result) }
-    ensures bucket { IfSome result (λ leaf. IsTrue leaf.is_bucket → IsBucketValue leaf.value.now) }
-{
-    match elements {
-        Some(elements) => elements.next(),
-        None => None,
     }
 }

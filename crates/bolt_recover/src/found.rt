@@ -2,7 +2,7 @@
 ghost use Rattle.std.specs.Prelude.{◌≡◌};
 ghost use Rattle.bolt_recover.specs.PageKeys.{page_key};
 
-use bolt_check::TreePage;
+use bolt_format::LeafPage;
 
 /// A page that is found though nothing leads to it: an intact leaf (docs/RECOVERY.md, "Found pages").
 #[derive(Clone, Copy)]
@@ -12,7 +12,7 @@ pub struct Found<'a> {
     /// The number in sixteen decimal digits: the key of the page's bucket in the joined listing.
     pub name: [u8; 16],
     /// The page. It has an element.
-    pub page: TreePage<'a>,
+    pub page: LeafPage<'a>,
     pub ghost named: { name ≡ page_key number },
 }
 
@@ -31,7 +31,7 @@ fn digits_of(number: u64) -> [u8; 16]
 
 impl<'a> Found<'a> {
     /// A found page with its name.
-    pub(crate) fn new(number: u64, page: TreePage<'a>) -> Found<'a>
+    pub(crate) fn new(number: u64, page: LeafPage<'a>) -> Found<'a>
         ensures number { result.number ≡ number }
         ensures page { result.page ≡ page.entry }
     {

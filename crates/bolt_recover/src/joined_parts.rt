@@ -3,18 +3,17 @@
 //! elements, and what the inline buckets among them hold.
 ghost use Rattle.std.specs.Prelude.{◌≡◌, ◌<◌, ◌≤◌, ◌∷◌, [], IfOk, IfSome, IsTrue, None, OnErr, OnOk, false};
 ghost use Rattle.std.specs.Option.{option_map};
-ghost use Rattle.bolt_format.specs.{Bytes.IsBytes, ElementPlaces.leaf_view, Elements.IsBucketValue, Elements.LeafElement, Shown.shown};
+ghost use Rattle.bolt_format.specs.{Bytes.IsBytes, ElementPlaces.leaf_view, Elements.IsBucketValue, Elements.LeafElement, ElementsLeft.leaves_left};
 ghost use Rattle.bolt_check.specs.declared.finding.Finding.{Finding};
 ghost use Rattle.bolt_tree.specs.{Paths.path_of, ShownEntries.item_view, Tree.end};
 ghost use Rattle.bolt_recover.specs.Joined.{inside_of, lost_and_found, tree_with};
-ghost use Rattle.bolt_recover.specs.{Private.Courses.recovered_of, Private.ElementsLeft.elements_left, Private.ElementsLeft.elements_of, Refusals.LosesRoot};
+ghost use Rattle.bolt_recover.specs.{Private.Courses.recovered_of, Refusals.LosesRoot};
 
 use crate::bucket_key::lost_and_found;
-use crate::content::{Content, Elements, next_of};
 use crate::found::Found;
 use crate::recovery::Recovery;
-use bolt_check::{BucketSpot, NoMemory, PageSpot, TreePage};
-use bolt_format::{Leaf, Meta, head, inline};
+use bolt_check::{BucketSpot, NoMemory};
+use bolt_format::{Leaf, Leaves, Meta, head, inline};
 use bolt_tree::{Item, Walk};
 use std::alloc::Global;
 
@@ -93,11 +92,11 @@ pub(crate) struct FoundMembers<'a> {
     /// The key of the current page's bucket.
     pub name: &'a [u8],
     /// What is left of the current page.
-    pub elements: Option<Elements<'a>>,
+    pub elements: Leaves<'a>,
     /// The key of the current inline bucket.
     pub key: &'a [u8],
     /// What is left of the current inline bucket.
-    pub inner: Option<Elements<'a>>,
+    pub inner: Leaves<'a>,
     /// The path of the last member that was returned.
     pub path: ShortPath<'a>,
 }
@@ -111,35 +110,22 @@ pub(crate) struct ShortPath<'a> {
     ghost short: { length ≤ 4 },
 }
 
-/// All elements of a found page.
-fn elements_on<'a>(number: u64, page: TreePage<'a>) -> Elements<'a>
-    ensures { elements_left result ≡ (shown page.entry.page).leaves }
-{
-    let spot = PageSpot {
-        number,
-        depth: 1,
-        lower: None,
-        upper: None,
-    };
-    Elements::new(Content::Page(page, spot))
-}
-
 /// What an element holds: the elements of an inline bucket whose keys rise, and else nothing.
-fn inner_of<'a>(leaf: &Leaf<'a>) -> Option<Elements<'a>>
+fn inner_of<'a>(leaf: &Leaf<'a>) -> Leaves<'a>
     requires { IsTrue leaf.now.is_bucket → IsBucketValue leaf.now.value.now }
-    ensures value { leaf.now.is_bucket ≡ false → result ≡ None }
-    ensures bucket { IsTrue leaf.now.is_bucket → tree_with (λ (inner : LeafElement). end) (elements_of result) ≡ inside_of (leaf_view leaf.now) }
+    ensures value { leaf.now.is_bucket ≡ false → leaves_left result ≡ [] }
+    ensures bucket { IsTrue leaf.now.is_bucket → tree_with (λ (inner : LeafElement). end) (leaves_left result) ≡ inside_of (leaf_view leaf.now) }
 {
     if !leaf.is_bucket || !head(leaf.value).is_inline() {
-        return None;
+        return Leaves::default();
     }
     let spot = BucketSpot {
         host: 0,
         page: inline(leaf.value),
     };
     match spot.test() {
-        Ok(()) => Some(Elements::new(Content::Bucket(spot))),
-        Err(_) => None,
+        Ok(()) => spot.page.page.elements(),
+        Err(_) => Leaves::default(),
     }
 }
 
@@ -156,9 +142,9 @@ impl<'a> FoundMembers<'a> {
             found,
             next: 0,
             name: key,
-            elements: None,
+            elements: Leaves::default(),
             key,
-            inner: None,
+            inner: Leaves::default(),
             path: ShortPath {
                 parts: [key; 4],
                 length: 1,
@@ -170,14 +156,14 @@ impl<'a> FoundMembers<'a> {
     pub fn next(&mut self) -> Option<Item<'a>>
         ensures { GivesMember self.old self.new (option_map item_view result) }
     {
-        if let Some(leaf) = next_of(&mut self.inner) {
+        if let Some(leaf) = self.inner.next() {
             self.path = ShortPath {
                 parts: [lost_and_found(), self.name, self.key, leaf.key],
                 length: 4,
             };
             return Some(Item::of(&leaf));
         }
-        if let Some(leaf) = next_of(&mut self.elements) {
+        if let Some(leaf) = self.elements.next() {
             self.key = leaf.key;
             self.inner = inner_of(&leaf);
             self.path = ShortPath {
@@ -191,8 +177,8 @@ impl<'a> FoundMembers<'a> {
 
     /// Returns the bucket of the next page, if any.
     fn next_page(&mut self) -> Option<Item<'a>>
-        requires inner { elements_of self.old.inner ≡ [] }
-        requires elements { elements_of self.old.elements ≡ [] }
+        requires inner { leaves_left self.old.inner ≡ [] }
+        requires elements { leaves_left self.old.elements ≡ [] }
         ensures { GivesMember self.old self.new (option_map item_view result) }
     {
         let Some(found) = self.found.get(self.next) else {
@@ -201,7 +187,7 @@ impl<'a> FoundMembers<'a> {
         let name = found.name.as_slice();
         self.next += 1;
         self.name = name;
-        self.elements = Some(elements_on(found.number, found.page));
+        self.elements = found.page.elements();
         self.path = ShortPath {
             parts: [lost_and_found(), name, name, name],
             length: 2,

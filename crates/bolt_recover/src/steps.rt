@@ -8,7 +8,7 @@ ghost use Rattle.bolt_format.specs.Elements.{IsBucketValue};
 ghost use Rattle.bolt_recover.specs.Private.Frames.{Advances, GoesOn, IsAllLeft, IsPlaced, Takes, TakesBucket, steps_path};
 ghost use Rattle.bolt_recover.specs.{Losses.loss_on, Refusals.IsRefusedRoot, Refusals.KeepsRoot, ShownLosses.loss_view};
 
-use crate::content::{Content, OpenPage};
+use crate::content::{KeptPage, OpenPage};
 use crate::losses::Loss;
 use bolt_check::{CheckFault, Claims, Finding, NoMemory, PageSpot, Spot};
 use bolt_format::{Leaf, Meta};
@@ -92,7 +92,7 @@ impl<'a> Steps<'a> {
         ensures refused { IfErr result (IsRefusedRoot (claims_file claims.entry) (claims_meta claims.entry)) }
     {
         let root = root_of(&claims.meta());
-        let content = Content::visit(&mut claims, root)?;
+        let content = KeptPage::visit(&mut claims, root)?;
         let mut open = Vec::new(alloc);
         open.reserve(1)?;
         open.push_reserved(OpenPage {
@@ -132,7 +132,7 @@ impl<'a> Steps<'a> {
         self.open.reserve(1)?;
         self.claims.restart();
         let root = root_of(&self.claims.meta());
-        let content = match Content::visit(&mut self.claims, root) {
+        let content = match KeptPage::visit(&mut self.claims, root) {
             Ok(content) => content,
             Err(_) => unreachable!(),
         };
@@ -183,7 +183,7 @@ impl<'a> Steps<'a> {
         self.losses.reserve(1)?;
         self.loss_path.clear();
         self.loss_path.reserve(ahead.path_len)?;
-        let content = match Content::visit(&mut self.claims, ahead.spot) {
+        let content = match KeptPage::visit(&mut self.claims, ahead.spot) {
             Ok(content) => content,
             Err(finding) => {
                 self.lose(finding, &ahead);

@@ -1,18 +1,19 @@
 -- The open pages of the code as what is still to be done.
-use Rattle.std.specs.Prelude.{◌≡◌, ◌≤◌, ◌<◌, IsTrue, ℕ, ◌+◌, ◌-◌, ◌*◌, Bool, List, [], ◌∷◌, ◌++◌, length, map, take, Option, Some, None, Ok, slice_get, sum_by}
+use Rattle.std.specs.Prelude.{◌≡◌, ◌≤◌, ◌<◌, IsTrue, ℕ, ◌+◌, ◌-◌, ◌*◌, Bool, true, List, [], ◌∷◌, ◌++◌, length, map, take, Option, Some, None, Ok, slice_get, sum_by}
 use Rattle.std.specs.Option.{option_map}
 use Rattle.bolt_format.specs.{ElementPlaces.leaf_view, Elements.IsBucketValue, Elements.LeafElement}
 use Rattle.bolt_format.specs.declared.element.Leaf as element
-use Rattle.bolt_format.specs.{Pages.page_at, Shown.shown, ShownInline.shown_inline, declared.meta.Meta.Meta}
+use Rattle.bolt_format.specs.{Pages.page_at, ShownInline.shown_inline, TreePages.page_keys, TreePages.shown_page, declared.meta.Meta.Meta}
+use Rattle.bolt_format.specs.declared.tree_page.TreePage.{TreePage}
 use Rattle.bolt_check.specs.{Claims.claims_file, Claims.claims_meta, Claims.claims_visited, Claims.is_claimed, Nodes.Nodes, Nodes.node_at}
-use Rattle.bolt_check.specs.{ShownNodes.shown_node, ShownSpots.inline_keys, ShownSpots.page_spot, ShownSpots.spot_at, Ways.At_inline, Ways.At_page, Ways.Spot}
+use Rattle.bolt_check.specs.{ShownNodes.is_leaf_page, ShownNodes.shown_node, ShownSpots.inline_keys, ShownSpots.page_spot, ShownSpots.spot_at, Ways.At_inline, Ways.At_page, Ways.Spot}
 use Rattle.bolt_check.specs.{declared.claims.Claims.Claims, declared.spot.Spot.Spot as CodeSpot}
 use Rattle.bolt_check.specs.declared.spot.Spot.TheVariants as spots
 use Rattle.bolt_tree.specs.{Entries.item_of, Listing.Member, Paths.Path, Paths.path_of}
 use Rattle.bolt_recover.specs.{Sites.Site, Sites.leaves_of, Sites.step_site}
 use Rattle.bolt_recover.specs.Private.Courses.{Event, Outcome, Task, To_visit, Way, after_events, all_events, claimed_after, events, further, members_of, outcome_of, tasks_from}
-use Rattle.bolt_recover.specs.{ShownLosses.loss_view, declared.content.Content.Content}
-use Rattle.bolt_recover.specs.{declared.content.Content.TheVariants.Bucket, declared.content.Content.TheVariants.Page, declared.content.OpenPage.OpenPage}
+use Rattle.bolt_recover.specs.{ShownLosses.loss_view, declared.content.KeptPage.KeptPage}
+use Rattle.bolt_recover.specs.declared.content.OpenPage.{OpenPage}
 use Rattle.bolt_recover.specs.{declared.steps.NextVisit.NextVisit, declared.steps.Steps.Steps, declared.steps.Taken.Taken}
 use Rattle.bolt_recover.specs.declared.steps.Taken.TheVariants.{End, Leaf, Nothing}
 
@@ -28,29 +29,32 @@ abbrev pub spot_site : List ℕ → Meta → Path → CodeSpot → Site
 spot_site file meta path s = record { spot = spot_at s; path = path; elements = spot_elements file meta s }
 
 -- an open page as a site
-abbrev pub content_spot : Content → Spot
-content_spot (Page page s) = At_page (page_spot s)
-content_spot (Bucket s) = At_inline s.host (inline_keys s.page)
+abbrev pub content_spot : KeptPage → Spot
+content_spot content = spot_at content.spot
 
-abbrev pub content_elements : Content → List LeafElement
-content_elements (Page page s) = (shown page.page).leaves
-content_elements (Bucket s) = shown_inline s.page
+abbrev pub content_elements : KeptPage → List LeafElement
+content_elements content = (shown_page content.page).leaves
 
-abbrev pub content_size : Content → ℕ
-content_size (Page page s) = length (shown_node page).entries
-content_size (Bucket s) = length (shown_inline s.page)
+abbrev pub content_size : KeptPage → ℕ
+content_size content = length (page_keys content.page)
 
-abbrev pub content_site : Path → Content → Site
+abbrev pub content_site : Path → KeptPage → Site
 content_site path content = record { spot = content_spot content; path = path; elements = content_elements content }
 
 -- the page is the one that the file has under its number, no more than 64 pages deep in its bucket
-abbrev pub IsGoodContent : List ℕ → Meta → Content → Type 0
-IsGoodContent file meta (Page page s) = (node_at file meta s.number ≡ Ok (shown_node page)) × (page_at file meta s.number ≡ Some (shown page.page)) × (s.depth ≤ 64)
-IsGoodContent file meta (Bucket s) = Unit {0}
+abbrev pub IsGoodAt : List ℕ → Meta → TreePage → CodeSpot → Type 0
+IsGoodAt file meta page (spots.Page s) = (node_at file meta s.number ≡ Ok (shown_node page)) × (page_at file meta s.number ≡ Some (shown_page page)) × (s.depth ≤ 64)
+IsGoodAt file meta page (spots.Bucket s) = (is_leaf_page page ≡ true) × ((shown_page page).leaves ≡ shown_inline s.page)
 
-abbrev pub IsShallow : Content → Type 0
-IsShallow (Page page s) = s.depth ≤ 64
-IsShallow (Bucket s) = Unit {0}
+abbrev pub IsGoodContent : List ℕ → Meta → KeptPage → Type 0
+IsGoodContent file meta content = IsGoodAt file meta content.page content.spot
+
+abbrev pub IsShallowAt : CodeSpot → Type 0
+IsShallowAt (spots.Page s) = s.depth ≤ 64
+IsShallowAt (spots.Bucket s) = Unit {0}
+
+abbrev pub IsShallow : KeptPage → Type 0
+IsShallow content = IsShallowAt content.spot
 
 -- the path of the bucket that a step comes to
 abbrev pub step_path : Path → Option LeafElement → Path
@@ -58,7 +62,7 @@ step_path path None = path
 step_path path (Some e) = path ++ e.key ∷ []
 
 -- where element i of an open page leads, in whatever bucket that is
-abbrev pub ElementLeads : Content → ℕ → Option CodeSpot → Type 0
+abbrev pub ElementLeads : KeptPage → ℕ → Option CodeSpot → Type 0
 ElementLeads content i to = (file : List ℕ) (meta : Meta) (path : Path) → IsGoodContent file meta content
     → step_site file meta (content_site path content) i ≡ option_map (spot_site file meta (step_path path (slice_get (content_elements content) i))) to
 
@@ -67,7 +71,7 @@ abbrev pub claims_with : Claims → Spot → ℕ → Bool
 claims_with claims s = claimed_after (claims_nodes claims) (is_claimed claims) s None
 
 -- what a visit of a spot opens
-pub record IsContent (file : List ℕ) (meta : Meta) (s : CodeSpot) (content : Content) : Type 0 where
+pub record IsContent (file : List ℕ) (meta : Meta) (s : CodeSpot) (content : KeptPage) : Type 0 where
   pub spot : content_spot content ≡ spot_at s
   pub elements : content_elements content ≡ spot_elements file meta s
   pub good : IsGoodContent file meta content

@@ -11,4 +11,4 @@ pub returns : goal.returns
 returns c =
     let self = c.args.self.now in
     let found = c.in-Some.found.now in
-    rw (c.requires.inner, c.requires.elements, drop_more self.found.now self.next found (omega (arith, c.in-Some.ensures.lookup)), ← c.in-Some.ensures.lookup.1, c.lost_and_found.ensures, c.as_slice-name.ensures, c.elements_on.ensures, found.named)
+    rw (c.requires.inner, c.requires.elements, drop_more self.found.now self.next found (omega (arith, c.in-Some.ensures.lookup)), ← c.in-Some.ensures.lookup.1, c.lost_and_found.ensures, c.as_slice-name.ensures, c.elements-self.ensures, found.named)
