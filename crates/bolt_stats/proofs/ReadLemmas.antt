@@ -1,45 +1,44 @@
 -- What reading a page opens and finds.
-use Rattle.std.proofs.Common.{◌≡◌, ◌∙◌, ◌+◌, ℕ, true, false, List, [], ◌∷◌, ◌++◌, Some, flat_map, map, take, slice_get, refl, sym, ap, add-one, append_assoc, arith, max}
+use Rattle.std.proofs.Common.{◌≡◌, ◌∙◌, ◌+◌, ℕ, true, false, List, [], ◌∷◌, ◌++◌, Option, None, Some, flat_map, map, take, slice_get, refl, sym, ap, add-one, append_assoc, arith, max}
 use Rattle.bolt_stats.proofs.Words.{BranchElement, Enough, enough_node, flat_map-take_more, greatest, inline_depth, kid_pages, leaf_entry, LeafElement, map-append, Meta, node_at, node_is, page_at, root_page_of, unread_page, UnreadPage}
-use Rattle.bolt_format.specs.Pages.{PageView}
+use Rattle.std.specs.Option.{IfNone}
+use Rattle.std.specs.Prelude.{IfSome, IsSome}
+use Rattle.bolt_format.specs.{Pages.PageView, TreePages.is_tree_kind, TreePages.shown_page, declared.header.Kind.Kind, declared.tree_page.TreePage.TreePage}
 use Rattle.bolt_format.specs.declared.header.Kind.TheVariants as kind
 use Rattle.bolt_check.specs.Nodes.{branch_entry}
 use Rattle.bolt_stats.proofs.DepthSums.{greatest_append}
 use Rattle.bolt_format.proofs.ListLemmas.{take_next}
 
--- one child more was opened
-pub children_next : (cur new old : List UnreadPage) (p : UnreadPage) (opened : BranchElement → UnreadPage) (xs : List BranchElement) (i : ℕ) (e : BranchElement)
-    → new ≡ cur ++ p ∷ [] → p ≡ opened e → slice_get xs i ≡ Some e → cur ≡ old ++ map opened (take i xs) → new ≡ old ++ map opened (take (i + 1) xs)
-children_next cur new old p opened xs i e pushed same found before =
-    let more : map opened (take (i + 1) xs) ≡ map opened (take i xs) ++ opened e ∷ [] = ap (λ k. map opened (take k xs)) (add-one i) ∙ ap (map opened) (take_next xs i e found) ∙ map-append opened (take i xs) (e ∷ []) in
-    pushed ∙ ap (λ l. l ++ p ∷ []) before ∙ append_assoc old (map opened (take i xs)) (p ∷ []) ∙ ap (λ q. old ++ (map opened (take i xs) ++ q ∷ [])) same ∙ ap (λ l. old ++ l) (sym more)
-
--- the buckets of one element more were found
-pub roots_next : (cur new old : List ℕ) (xs : List LeafElement) (i : ℕ) (e : LeafElement)
-    → new ≡ cur ++ root_page_of e → slice_get xs i ≡ Some e → cur ≡ old ++ flat_map root_page_of (take i xs) → new ≡ old ++ flat_map root_page_of (take (i + 1) xs)
-roots_next cur new old xs i e pushed found before =
-    let more = ap (λ k. flat_map root_page_of (take k xs)) (add-one i) ∙ flat_map-take_more root_page_of xs i e found in
-    pushed ∙ ap (λ l. l ++ root_page_of e) before ∙ append_assoc old (flat_map root_page_of (take i xs)) (root_page_of e) ∙ ap (λ l. old ++ l) (sym more)
-
+-- what the elements of a page lead to
 pub branch_kids : (depth : ℕ) (xs : List BranchElement) → map (unread_page depth) (kid_pages false (map branch_entry xs)) ≡ map (λ (x : BranchElement). unread_page depth x.child) xs
 branch_kids depth [] = refl
 branch_kids depth (x ∷ xs) = ap (λ (l : List UnreadPage). unread_page depth x.child ∷ l) (branch_kids depth xs)
-
--- the depth of the inline buckets of one element more
-pub inline_next : (old new here : ℕ) (xs : List LeafElement) (i : ℕ) (e : LeafElement) → here ≡ inline_depth (leaf_entry e) → new ≡ max old here → slice_get xs i ≡ Some e
-    → old ≡ greatest (λ (x : LeafElement). inline_depth (leaf_entry x)) (take i xs) → new ≡ greatest (λ (x : LeafElement). inline_depth (leaf_entry x)) (take (i + 1) xs)
-inline_next old new here xs i e is most found before =
-    let depth : LeafElement → ℕ = λ x. inline_depth (leaf_entry x) in
-    let more = ap (λ k. greatest depth (take k xs)) (add-one i) ∙ ap (greatest depth) (take_next xs i e found) ∙ greatest_append depth (take i xs) (e ∷ []) in
-    omega (arith, is, most, before, more)
 
 pub leaf_kids : (xs : List LeafElement) → kid_pages true (map leaf_entry xs) ≡ flat_map root_page_of xs
 leaf_kids [] = refl
 leaf_kids (x ∷ xs) = ap (λ (l : List ℕ). root_page_of x ++ l) (leaf_kids xs)
 
 module _ (file : List ℕ) (meta : Meta) (n : ℕ) (view : PageView) (at : page_at file meta n ≡ Some view) where
-  pub no_meta : (k : ℕ) → Enough (node_at file meta) k n → view.kind ≡ kind.Meta → ⊥
+  no_meta : (k : ℕ) → Enough (node_at file meta) k n → view.kind ≡ kind.Meta → ⊥
   no_meta k h is = let (node, page) = enough_node (node_at file meta) k n h in let e = sym page ∙ node_is file meta n view kind.Meta at is in cc
 
-  pub no_freelist : (k : ℕ) → Enough (node_at file meta) k n → view.kind ≡ kind.Freelist → ⊥
+  no_freelist : (k : ℕ) → Enough (node_at file meta) k n → view.kind ≡ kind.Freelist → ⊥
   no_freelist k h is = let (node, page) = enough_node (node_at file meta) k n h in let e = sym page ∙ node_is file meta n view kind.Freelist at is in cc
+
+  -- so it is a branch or a leaf
+  tree_kind_by : (k : ℕ) (l : Kind) → Enough (node_at file meta) k n → view.kind ≡ l → is_tree_kind l ≡ true
+  tree_kind_by k kind.Branch h is = refl
+  tree_kind_by k kind.Leaf h is = refl
+  tree_kind_by k kind.Meta h is = absurd (no_meta k h is)
+  tree_kind_by k kind.Freelist h is = absurd (no_freelist k h is)
+
+  pub is_tree : (k : ℕ) → Enough (node_at file meta) k n → is_tree_kind view.kind ≡ true
+  is_tree k h = tree_kind_by k view.kind h refl
+
+-- an opened page that is known to be a branch or a leaf, and what it shows
+pub some_tree : (o : Option TreePage) (k : Kind) → is_tree_kind k ≡ true → IfNone o (is_tree_kind k ≡ false) → IsSome o
+some_tree None k is not = absurd (cc)
+some_tree (Some page) k is not = refl
+
+pub opened_as : (o : Option TreePage) (page branch : TreePage) (view : PageView) → o ≡ Some page → page ≡ branch → IfSome o (λ (p : TreePage). shown_page p ≡ view) → shown_page branch ≡ view
+opened_as o page branch view of is shows = rw (← is) (rw of at shows)

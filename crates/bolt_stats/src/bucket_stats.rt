@@ -2,7 +2,7 @@
 //! recursive: lists have the buckets that are still to be read, and the pages of the one that is
 //! being read.
 ghost use Rattle.std.specs.Prelude.{◌≡◌, ◌<◌, ◌+◌, ◌∷◌, ◌++◌, ◌⊎◌, ℕ, [], IfOk, IsTrue, Ok, OnOk, flat_map, map, max, sum_by};
-ghost use Rattle.bolt_format.specs.{ElementPlaces.leaf_view, Elements.IsBucketValue, Shown.shown};
+ghost use Rattle.bolt_format.specs.{ElementPlaces.leaf_view, Elements.IsBucketValue, TreePages.branches_on, TreePages.leaves_on};
 ghost use Rattle.bolt_check.specs.{CheckedFiles.bytes_of, CheckedFiles.meta_of, Nodes.Node, Nodes.leaf_entry, Nodes.node_at, Subtrees.Enough, Lists.Has};
 ghost use Rattle.bolt_stats.specs.Deepest.{deepest_in, depth_in, depth_of, greatest, height_of, inline_depth, inner_inline, leaf_depth};
 ghost use Rattle.bolt_stats.specs.Figures.{Figure, bucket_figure, saturated, figure};
@@ -10,9 +10,9 @@ ghost use Rattle.bolt_stats.specs.Readings.{AreGood, figure_in, pages_below, inn
 ghost use Rattle.bolt_stats.specs.{StatsOf.AreStats, declared.bucket_stats.UnreadBucket.UnreadBucket};
 
 use crate::figures::{Stats, add};
-use crate::page_stats::{inline_stats, page_stats};
+use crate::page_stats::{branch_stats, inline_stats, leaf_stats};
 use bolt_check::{Checked, NoMemory};
-use bolt_format::{Kind, Leaf, Page, head, known};
+use bolt_format::{BranchPage, Leaf, LeafPage, TreePage, head, known};
 use bolt_tree::{At, Bucket};
 use std::alloc::{AllocError, Global};
 
@@ -28,7 +28,7 @@ pub fn stats(alloc: Global, bucket: &Bucket<'_>) -> Result<Stats, NoMemory>
         At::Page(root) => Ok(paged_stats(alloc, &bucket.checked(), root)?),
         At::Inline(page) => Ok(Stats {
             depth: 1,
-            ..inline_stats(&page)
+            ..inline_stats(&page.page)
         }),
     }
 }
@@ -141,37 +141,37 @@ fn read_page(
 {
     let meta = checked.meta();
     let page = known(checked.bytes(), &meta, next.number);
-    let stats = page_stats(&page, meta.page_size);
-    match page.kind() {
-        Kind::Branch => {
-            add_children(&page, next.depth, pages)?;
+    match page.tree_page().unwrap() {
+        TreePage::Branch(branch) => {
+            add_children(&branch, next.depth, pages)?;
             Ok(Read {
-                stats,
+                stats: branch_stats(&branch, meta.page_size),
                 height: 0,
                 inline_depth: 0,
             })
         }
-        Kind::Leaf => {
-            let inline_depth = find_buckets(&page, roots)?;
+        TreePage::Leaf(leaf) => {
+            let inline_depth = find_buckets(&leaf, roots)?;
             Ok(Read {
-                stats,
+                stats: leaf_stats(&leaf, meta.page_size),
                 height: next.depth,
                 inline_depth,
             })
         }
-        Kind::Meta => unreachable!(),
-        Kind::Freelist => unreachable!(),
     }
 }
 
 /// Opens the children of a branch.
-fn add_children(page: &Page<'_>, depth: u64, pages: &mut Vec<UnreadPage>) -> Result<(), AllocError>
-    requires { (shown page.now).kind ≡ Kind.Branch }
-    ensures { OnOk result (pages.new.items ≡ pages.old.items ++ map (λ e. unread_page (saturated (depth + 1)) e.child) (shown page.now).branches) }
+fn add_children(
+    page: &BranchPage<'_>,
+    depth: u64,
+    pages: &mut Vec<UnreadPage>,
+) -> Result<(), AllocError>
+    ensures { OnOk result (pages.new.items ≡ pages.old.items ++ map (λ e. unread_page (saturated (depth + 1)) e.child) (branches_on page.now)) }
 {
-    for i in 0..page.count() {
+    for branch in page.elements() {
         pages.push(UnreadPage {
-            number: page.branch(i).child,
+            number: branch.child,
             depth: depth.saturating_add(1),
         })?;
     }
@@ -180,14 +180,12 @@ fn add_children(page: &Page<'_>, depth: u64, pages: &mut Vec<UnreadPage>) -> Res
 
 /// Finds the root pages of the buckets on a leaf. Returns the depth of the inline ones: 1, or 0 if
 /// there are none.
-fn find_buckets(page: &Page<'_>, roots: &mut Vec<u64>) -> Result<u64, AllocError>
-    requires { (shown page.now).kind ≡ Kind.Leaf }
-    ensures roots { OnOk result (roots.new.items ≡ roots.old.items ++ flat_map root_page_of (shown page.now).leaves) }
-    ensures depth { IfOk result (λ depth. depth ≡ greatest (λ e. inline_depth (leaf_entry e)) (shown page.now).leaves) }
+fn find_buckets(page: &LeafPage<'_>, roots: &mut Vec<u64>) -> Result<u64, AllocError>
+    ensures roots { OnOk result (roots.new.items ≡ roots.old.items ++ flat_map root_page_of (leaves_on page.now)) }
+    ensures depth { IfOk result (λ depth. depth ≡ greatest (λ e. inline_depth (leaf_entry e)) (leaves_on page.now)) }
 {
     let mut deepest = 0;
-    for i in 0..page.count() {
-        let leaf = page.leaf(i);
+    for leaf in page.elements() {
         deepest = deepest.max(inline_depth(&leaf));
         push_root(&leaf, roots)?;
     }

@@ -1,10 +1,11 @@
 //! The figures of one page: its own, and those of the inline buckets in it.
-ghost use Rattle.std.specs.Prelude.{◌≡◌, ◌+◌, IsTrue, length, sum_by};
-ghost use Rattle.bolt_format.specs.{Elements.IsBucketValue, ElementPlaces.leaf_view, Shown.shown, ShownInline.shown_inline};
-ghost use Rattle.bolt_stats.specs.Figures.{Figure, allocated, used_by_branches, branch_figure, saturated, element_figure, figure, inline_figure, kind_figure, used_by_leaves, leaf_figure};
+ghost use Rattle.std.specs.Prelude.{◌≡◌, ◌+◌, ◌*◌, IsTrue, length, sum_by};
+ghost use Rattle.bolt_format.specs.{Elements.IsBucketValue, ElementPlaces.leaf_view, TreePages.branches_on, TreePages.leaves_on, TreePages.shown_page};
+ghost use Rattle.bolt_format.specs.declared.tree_page.TreePage.TheVariants as tree;
+ghost use Rattle.bolt_stats.specs.Figures.{Figure, used_by_branches, branch_figure, saturated, element_figure, figure, inline_figure, used_by_leaves, leaf_figure};
 
 use crate::figures::{Stats, add};
-use bolt_format::{ELEMENT_LEN, HEADER_LEN, Inline, Kind, Leaf, Page, head, inline};
+use bolt_format::{BranchPage, ELEMENT_LEN, HEADER_LEN, Leaf, LeafPage, head, inline};
 
 /// The length of a page's header.
 const PAGE_HEADER: u64 = HEADER_LEN as u64;
@@ -21,23 +22,23 @@ fn leaf_size(leaf: &Leaf<'_>) -> u64
         .saturating_add(leaf.value.len() as u64)
 }
 
-/// The bytes used of an inline bucket's page: its header and its elements.
+/// The bytes used of a leaf or of an inline page: its header and its elements.
 #[tactic(auto, using(crate::proofs::FigureLemmas::sums))]
-fn inline_used(page: &Inline<'_>) -> u64
-    ensures { result ≡ saturated (used_by_leaves (shown_inline page.now)) }
+fn leaf_used(page: &LeafPage<'_>) -> u64
+    ensures { result ≡ saturated (used_by_leaves (leaves_on page.now)) }
 {
     let mut used = PAGE_HEADER;
-    for i in 0..page.count() {
-        used = used.saturating_add(leaf_size(&page.leaf(i)));
+    for leaf in page.elements() {
+        used = used.saturating_add(leaf_size(&leaf));
     }
     used
 }
 
 /// The figures of an inline bucket.
-pub(crate) fn inline_stats(page: &Inline<'_>) -> Stats
-    ensures { (f : Figure) → figure f result ≡ saturated (inline_figure f (shown_inline page.now)) }
+pub(crate) fn inline_stats(page: &LeafPage<'_>) -> Stats
+    ensures { (f : Figure) → figure f result ≡ saturated (inline_figure f (leaves_on page.now)) }
 {
-    let used = inline_used(page);
+    let used = leaf_used(page);
     Stats {
         buckets: 1,
         inline_buckets: 1,
@@ -56,7 +57,7 @@ fn element_stats(leaf: &Leaf<'_>) -> Stats
         return Stats::default();
     }
     if head(leaf.value).is_inline() {
-        return inline_stats(&inline(leaf.value));
+        return inline_stats(&inline(leaf.value).page);
     }
     Stats {
         buckets: 1,
@@ -64,67 +65,51 @@ fn element_stats(leaf: &Leaf<'_>) -> Stats
     }
 }
 
-/// The bytes of a page's span.
-fn allocated(page: &Page<'_>, page_size: u32) -> u64
-    ensures { result ≡ allocated page_size (shown page.now) }
+/// The bytes of a page's span, which has so many further pages.
+fn allocated(overflow: u32, page_size: u32) -> u64
+    ensures { result ≡ (1 + overflow) * page_size }
 {
-    (1 + u64::from(page.overflow())) * u64::from(page_size)
+    (1 + u64::from(overflow)) * u64::from(page_size)
 }
 
 /// The bytes used of a branch: its header and its elements.
-#[tactic(auto, using(bolt_format::proofs::ListLemmas::drop_next, std::proofs::lemmas::List::drop_all))]
-fn branch_used(page: &Page<'_>) -> u64
-    requires { (shown page.now).kind ≡ Kind.Branch }
-    ensures { result ≡ saturated (used_by_branches (shown page.now).branches) }
+#[tactic(auto, using(crate::proofs::FigureLemmas::sums))]
+fn branch_used(page: &BranchPage<'_>) -> u64
+    ensures { result ≡ saturated (used_by_branches (branches_on page.now)) }
 {
     let mut used = PAGE_HEADER;
-    for i in 0..page.count() {
+    for branch in page.elements() {
         used = used
             .saturating_add(ELEMENT_HEADER)
-            .saturating_add(page.branch(i).key.len() as u64);
+            .saturating_add(branch.key.len() as u64);
     }
     used
 }
 
 /// The figures of a branch.
-fn branch_stats(page: &Page<'_>, page_size: u32) -> Stats
-    requires { (shown page.now).kind ≡ Kind.Branch }
-    ensures { (f : Figure) → figure f result ≡ saturated (branch_figure f page_size (shown page.now)) }
+pub(crate) fn branch_stats(page: &BranchPage<'_>, page_size: u32) -> Stats
+    ensures { (f : Figure) → figure f result ≡ saturated (branch_figure f page_size (shown_page (tree.Branch page.now))) }
 {
     let used = branch_used(page);
     Stats {
         branch_pages: 1,
         branch_overflow: u64::from(page.overflow()),
-        branch_allocated: allocated(page, page_size),
+        branch_allocated: allocated(page.overflow(), page_size),
         branch_used: used,
         ..Stats::default()
     }
 }
 
-/// The bytes used of a leaf: its header and its elements.
-#[tactic(auto, using(crate::proofs::FigureLemmas::sums))]
-fn leaf_used(page: &Page<'_>) -> u64
-    requires { (shown page.now).kind ≡ Kind.Leaf }
-    ensures { result ≡ saturated (used_by_leaves (shown page.now).leaves) }
-{
-    let mut used = PAGE_HEADER;
-    for i in 0..page.count() {
-        used = used.saturating_add(leaf_size(&page.leaf(i)));
-    }
-    used
-}
-
 /// The figures of a leaf itself.
-fn own_stats(page: &Page<'_>, page_size: u32) -> Stats
-    requires { (shown page.now).kind ≡ Kind.Leaf }
-    ensures { (f : Figure) → figure f result ≡ saturated (leaf_figure f page_size (shown page.now)) }
+fn own_stats(page: &LeafPage<'_>, page_size: u32) -> Stats
+    ensures { (f : Figure) → figure f result ≡ saturated (leaf_figure f page_size (shown_page (tree.Leaf page.now))) }
 {
     let used = leaf_used(page);
     Stats {
         keys: u64::from(page.count()),
         leaf_pages: 1,
         leaf_overflow: u64::from(page.overflow()),
-        leaf_allocated: allocated(page, page_size),
+        leaf_allocated: allocated(page.overflow(), page_size),
         leaf_used: used,
         ..Stats::default()
     }
@@ -132,32 +117,20 @@ fn own_stats(page: &Page<'_>, page_size: u32) -> Stats
 
 /// What the elements of a leaf add.
 #[tactic(auto, using(crate::proofs::FigureLemmas::sums))]
-fn inner_stats(page: &Page<'_>) -> Stats
-    requires { (shown page.now).kind ≡ Kind.Leaf }
-    ensures { (f : Figure) → figure f result ≡ saturated (sum_by (element_figure f) (shown page.now).leaves) }
+fn inner_stats(page: &LeafPage<'_>) -> Stats
+    ensures { (f : Figure) → figure f result ≡ saturated (sum_by (element_figure f) (leaves_on page.now)) }
 {
     let mut inner = Stats::default();
-    for i in 0..page.count() {
-        inner = add(inner, element_stats(&page.leaf(i)));
+    for leaf in page.elements() {
+        inner = add(inner, element_stats(&leaf));
     }
     inner
 }
 
 /// The figures of a leaf with the inline buckets in it.
-fn leaf_stats(page: &Page<'_>, page_size: u32) -> Stats
-    requires { (shown page.now).kind ≡ Kind.Leaf }
-    ensures { (f : Figure) → figure f result ≡ saturated (leaf_figure f page_size (shown page.now) + sum_by (element_figure f) (shown page.now).leaves) }
+pub(crate) fn leaf_stats(page: &LeafPage<'_>, page_size: u32) -> Stats
+    ensures { (f : Figure) → figure f result
+        ≡ saturated (leaf_figure f page_size (shown_page (tree.Leaf page.now)) + sum_by (element_figure f) (leaves_on page.now)) }
 {
     add(own_stats(page, page_size), inner_stats(page))
-}
-
-/// The figures of a page.
-pub(crate) fn page_stats(page: &Page<'_>, page_size: u32) -> Stats
-    ensures { (f : Figure) → figure f result ≡ saturated (kind_figure (shown page.now).kind f page_size (shown page.now)) }
-{
-    match page.kind() {
-        Kind::Branch => branch_stats(page, page_size),
-        Kind::Leaf => leaf_stats(page, page_size),
-        Kind::Meta | Kind::Freelist => Stats::default(),
-    }
 }

@@ -1,7 +1,9 @@
-use Rattle.std.proofs.Common.{◌≡◌, ◌+◌, ◌++◌, map, take}
-use Rattle.bolt_stats.proofs.Words.{BranchElement, saturated, shown, unread_page}
+use Rattle.std.proofs.Common.{◌≡◌, ◌+◌, ◌++◌, map}
+use Rattle.bolt_stats.proofs.Words.{branches_left, branches_on, BranchElement, saturated, unread_page}
 use Rattle.bolt_stats.proofs.bucket_stats.add_children.Given as goal
 
--- the children of the elements before this one were opened
-abbrev pub invariant-loop-i : goal.invariant-loop-i
-invariant-loop-i l = l.pages.items ≡ l.initial.pages.items ++ map (λ (e : BranchElement). unread_page (saturated (l.depth + 1)) e.child) (take l.i (shown l.page).branches)
+-- with the children of the elements that are left, all will be opened
+abbrev pub invariant-loop-branch : goal.invariant-loop-branch
+invariant-loop-branch l =
+    l.pages.items ++ map (λ (e : BranchElement). unread_page (saturated (l.depth + 1)) e.child) (branches_left l.branch-iterator)
+    ≡ l.initial.pages.items ++ map (λ (e : BranchElement). unread_page (saturated (l.depth + 1)) e.child) (branches_on l.page)

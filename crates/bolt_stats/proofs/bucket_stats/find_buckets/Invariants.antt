@@ -1,10 +1,11 @@
-use Rattle.std.proofs.Common.{◌≡◌, ◌++◌, flat_map, take}
-use Rattle.bolt_stats.proofs.Words.{greatest, inline_depth, leaf_entry, LeafElement, root_page_of, shown}
+use Rattle.std.proofs.Common.{◌≡◌, ◌++◌, flat_map, max}
+use Rattle.bolt_stats.proofs.Words.{greatest, inline_depth, leaf_entry, LeafElement, leaves_left, leaves_on, root_page_of}
 use Rattle.bolt_stats.proofs.bucket_stats.find_buckets.Given as goal
 
--- the buckets of the elements before this one were found
-abbrev pub invariant-loop-i : goal.invariant-loop-i
-invariant-loop-i l = record {
-  roots : l.roots.items ≡ l.initial.roots.items ++ flat_map root_page_of (take l.i (shown l.page).leaves);
-  depth : l.deepest ≡ greatest (λ (e : LeafElement). inline_depth (leaf_entry e)) (take l.i (shown l.page).leaves);
+-- with the buckets of the elements that are left, all will be found
+abbrev pub invariant-loop-leaf : goal.invariant-loop-leaf
+invariant-loop-leaf l = record {
+  roots : l.roots.items ++ flat_map root_page_of (leaves_left l.leaf-iterator) ≡ l.initial.roots.items ++ flat_map root_page_of (leaves_on l.page);
+  depth : max l.deepest (greatest (λ (e : LeafElement). inline_depth (leaf_entry e)) (leaves_left l.leaf-iterator))
+      ≡ greatest (λ (e : LeafElement). inline_depth (leaf_entry e)) (leaves_on l.page);
 }
