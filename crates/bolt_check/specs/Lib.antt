@@ -23,5 +23,4 @@ pub mod Sound
 pub mod Subtrees
 pub mod TableLengths
 pub mod Tours
-pub mod TreeKinds
 pub mod Ways

@@ -2,9 +2,8 @@
 use Rattle.std.proofs.Common.{◌≡◌, ◌≢◌, ◌∙◌, ℕ, Bool, true, List, [], ◌∷◌, Option, ap, ap₂, map, refl, sym}
 use Rattle.std.proofs.lemmas.List.Elements.{All-head, All-tail}
 use Rattle.bolt_commands.proofs.Vocabulary.{All, AreFoundPages, Found, FoundView, IsFoundLeaf, IsJoined, IsJoinedOf, IsSalvaged, IsSearchOf, LostAndFound, Member, Meta, MetaChoice}
-use Rattle.bolt_commands.proofs.Vocabulary.{all_lost, found_page, found_view, leaf_entry, leaves_of}
-use Rattle.bolt_check.specs.{ShownNodes.entries_of, ShownNodes.shown_node, TreeKinds.tree_kind}
-use Rattle.bolt_format.specs.{Pages.PageView, Shown.shown}
+use Rattle.bolt_commands.proofs.Vocabulary.{all_lost, found_page, found_view, leaves_of}
+use Rattle.bolt_format.specs.Pages.{PageView}
 use Rattle.bolt_recover.specs.{Found.AreFound, Found.numbers_of, ShownFound.IsFoundView, declared.joined.Joined.Joined}
 
 module _ (file : List ℕ) (meta : Meta) where
@@ -21,18 +20,10 @@ module _ (file : List ℕ) (meta : Meta) where
   pub are_pages : (found : List Found) → AreFound file meta (numbers_of found) → All (IsFoundView file meta) found → AreFoundPages file meta (map found_view found)
   are_pages found are all = (numbers_of found, are, views_are found all)
 
-  -- ---- each of them is a leaf of at least one element
-
-  is_leaf : (f : Found) → IsFoundView file meta f → f.page.is_leaf ≡ true
-  unfolding shown_node
-  is_leaf f is = is.leaf
-
-  some_elements : (f : Found) → IsFoundView file meta f → (shown f.page.page).leaves ≢ []
-  unfolding shown_node
-  some_elements f is none = is.some (ap (λ (b : Bool). entries_of b (shown f.page.page)) (is_leaf f is) ∙ ap (map leaf_entry) none)
+  -- ---- each of them has at least one element
 
   leaf_view : (f : Found) → IsFoundView file meta f → IsFoundLeaf f
-  leaf_view f is = record { kind = f.page.kind ∙ ap tree_kind (is_leaf f is); some = some_elements f is }
+  leaf_view f is = record { some = is.some }
 
   pub are_leaves : (found : List Found) → All (IsFoundView file meta) found → All IsFoundLeaf found
   are_leaves found all k d within = leaf_view _ (all k d within)

@@ -1,18 +1,9 @@
--- The elements of a page: as many as its count says, and the buckets among the first of them.
+-- The buckets among the first elements of a page.
 use Rattle.std.proofs.Common.{◌≡◌, length, subst, sym, ◌≢◌, ◌∙◌, ◌+◌, ◌<◌, ℕ, Bool, true, false, List, [], ◌∷◌, Some, ap, arith, refl, slice_get, take}
-use Rattle.std.proofs.lemmas.List.FromFn.{length-map-range_with_len}
-use Rattle.bolt_report.proofs.Words.{bucket_count, LeafElement, shown}
-use Rattle.bolt_format.specs.Elements.{leaf_element, leaf_elements}
-use Rattle.bolt_format.specs.Pages.{shown_leaves}
-use Rattle.bolt_format.specs.declared.header.Kind.TheVariants as kind
-use Rattle.bolt_format.specs.declared.good_page.Page.{Page}
+use Rattle.bolt_report.proofs.Words.{bucket_count, LeafElement}
 use Rattle.std.specs.Prelude.{cond}
 use Rattle.std.proofs.lemmas.List.Filters.{length-filter_more}
 use Rattle.std.proofs.lemmas.Option.{get_or_from_slice_get, slice_get_within}
-
-length-leaves : (page : Page) → (shown page).kind ≡ kind.Leaf → length (shown page).leaves ≡ (shown page).count
-unfolding shown leaf_elements
-length-leaves page is = subst (λ k. length (shown_leaves k page.count page.span.now) ≡ page.count) (sym is) (length-map-range_with_len (leaf_element page.span.now) 0 page.count)
 
 module _ (elements : List LeafElement) (i : ℕ) (e : LeafElement) (found : slice_get elements i ≡ Some e) where
   counted : (is : Bool) → e.is_bucket ≡ is → bucket_count (take (i + 1) elements) ≡ bucket_count (take i elements) + cond is 1 0
@@ -26,9 +17,6 @@ module _ (elements : List LeafElement) (i : ℕ) (e : LeafElement) (found : slic
   pub counts_none : (count : ℕ) → e.is_bucket ≡ false → count ≡ bucket_count (take i elements) → count ≡ bucket_count (take (i + 1) elements)
   counts_none count is before = let more = counted false is in omega (arith, more, before)
 
-nonempty : {X : Type 0} (xs : List X) → xs ≢ [] → 0 < length xs
-nonempty [] some = absurd (some refl)
-nonempty (x ∷ xs) some = omega arith
-
-pub some_elements : (page : Page) → (shown page).kind ≡ kind.Leaf → (shown page).leaves ≢ [] → 0 < (shown page).count
-some_elements page is some = subst (λ (n : ℕ). 0 < n) (length-leaves page is) (nonempty (shown page).leaves some)
+pub not_empty : {X : Type 0} (xs : List X) → xs ≢ [] → 0 < length xs
+not_empty [] some = absurd (some refl)
+not_empty (x ∷ xs) some = omega arith

@@ -2,8 +2,7 @@
 use Rattle.std.specs.Prelude.{◌≡◌, ◌≢◌, ◌+◌, ◌-◌, ℕ, List, [], ◌++◌, codes, decimal, flat_map, length, option_map, slice_get, unwrap_or}
 use Rattle.std.specs.List.{filter}
 use Rattle.hex.specs.Hex.{encode_lower}
-use Rattle.bolt_format.specs.{Elements.LeafElement, Shown.shown}
-use Rattle.bolt_format.specs.declared.header.Kind.TheVariants as kind
+use Rattle.bolt_format.specs.{Elements.LeafElement, TreePages.leaves_on}
 use Rattle.bolt_check.specs.Keys.{Key}
 use Rattle.bolt_recover.specs.{Losses.LostView, declared.found.Found.Found}
 use Rattle.bolt_report.specs.{FaultWords.count_line, LossLines.lost_count, LossLines.lost_lines}
@@ -15,12 +14,11 @@ pub record FoundView : Type 0 where
   pub elements : List LeafElement
 
 abbrev pub found_view : Found → FoundView
-found_view found = record { number = found.number; elements = (shown found.page.page).leaves }
+found_view found = record { number = found.number; elements = leaves_on found.page }
 
--- it is a leaf of at least one element
+-- it has at least one element
 pub record IsFoundLeaf (found : Found) : Type 0 where
-  pub kind : (shown found.page.page).kind ≡ kind.Leaf
-  pub some : (shown found.page.page).leaves ≢ []
+  pub some : leaves_on found.page ≢ []
 
 -- the key of an element
 abbrev pub key_at : List LeafElement → ℕ → Key

@@ -1,7 +1,7 @@
 //! The lines of what is lost of a damaged file, and of what is found in it though nothing leads to it.
 ghost use Rattle.std.specs.Prelude.{◌≡◌, ◌++◌, map, ◌≤◌};
 ghost use Rattle.std.specs.List.{All};
-ghost use Rattle.bolt_format.specs.{Endings.ending, Wrote.Wrote, Shown.shown};
+ghost use Rattle.bolt_format.specs.{Endings.ending, Wrote.Wrote, TreePages.leaves_on};
 ghost use Rattle.bolt_recover.specs.ShownLosses.{loss_view, lost_view};
 ghost use Rattle.bolt_tree.specs.Paths.{path_of};
 ghost use Rattle.bolt_text.specs.Lines.{line};
@@ -9,7 +9,7 @@ ghost use Rattle.bolt_report.specs.LossLines.{bounds_line, bucket_words, loss_te
 ghost use Rattle.bolt_report.specs.FoundLines.{IsFoundLeaf, bucket_count, counted_lost_text, found_line, found_text, found_view, lost_text};
 
 use crate::fault_lines::{put_count, put_sentence};
-use bolt_format::{Kind, Page, Sink, SinkFault};
+use bolt_format::{LeafPage, Sink, SinkFault};
 use bolt_recover::{Found, Loss, Lost};
 use bolt_text::{PathForm, Piece, put, put_pieces};
 
@@ -155,7 +155,7 @@ fn put_found<S: Sink>(found: &Found<'_>, sink: &mut S) -> Result<(), SinkFault>
     requires { IsFoundLeaf found.now }
     ensures { Wrote S.Sink sink.old sink.new (found_line (found_view found.now)) (ending result) }
 {
-    let page = &found.page.page;
+    let page = &found.page;
     let count = page.count();
     let pieces = [
         Piece::Field(b"page ", found.number),
@@ -163,21 +163,20 @@ fn put_found<S: Sink>(found: &Found<'_>, sink: &mut S) -> Result<(), SinkFault>
         Piece::Bytes(b" entries, "),
         Piece::Number(u64::from(count_buckets(page))),
         Piece::Bytes(b" of them buckets, keys from "),
-        Piece::Hex(page.leaf(0).key),
+        Piece::Hex(page.element(0).key),
         Piece::Bytes(b" to "),
-        Piece::Hex(page.leaf(count - 1).key),
+        Piece::Hex(page.element(count - 1).key),
         Piece::Bytes(b"\n"),
     ];
     put_pieces(&pieces, sink)
 }
 
-fn count_buckets(page: &Page<'_>) -> u16
-    requires { (shown page.now).kind ≡ Kind.Leaf }
-    ensures { result ≡ bucket_count (shown page.now).leaves }
+fn count_buckets(page: &LeafPage<'_>) -> u16
+    ensures { result ≡ bucket_count (leaves_on page.now) }
 {
     let mut count = 0;
     for i in 0..page.count() {
-        if page.leaf(i).is_bucket {
+        if page.element(i).is_bucket {
             count += 1;
         }
     }

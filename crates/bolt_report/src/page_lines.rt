@@ -1,8 +1,9 @@
 //! A page as a text.
-ghost use Rattle.std.specs.Prelude.{◌≡◌, ◌≢◌, ◌↔◌, Err, IfOk, Some, ◌++◌, IsTrue, flat_map};
+ghost use Rattle.std.specs.Prelude.{◌≡◌, ◌≢◌, ◌↔◌, None, Err, IfOk, Some, ◌++◌, IsTrue, flat_map};
 ghost use Rattle.std.specs.Option.{option_map};
 ghost use Rattle.std.specs.Result.{result_err};
 ghost use Rattle.bolt_format.specs.{Endings.ending, Freelists.free_ids_at, Pages.page_at, Shown.shown, ShownIds.shown_ids, Wrote.Wrote};
+ghost use Rattle.bolt_format.specs.TreePages.{branches_on, leaves_on};
 ghost use Rattle.bolt_format.specs.{ElementPlaces.branch_view, ElementPlaces.leaf_view, Elements.IsBucketValue};
 ghost use Rattle.bolt_report.specs.PageLines.{head_lines, head_of, item_lines, items_on, kind_text, known_ids, page_lines, branch_line, bucket_end, id_line, leaf_line};
 ghost use Rattle.bolt_text.specs.ListLines.{value_end};
@@ -11,7 +12,8 @@ ghost use Rattle.bolt_text.specs.ReportEndings.{report_ending};
 ghost use Rattle.hex.specs.Hex.{encode_lower};
 
 use bolt_format::{
-    Branch, FreeIds, Kind, Leaf, Meta, Page, PageFault, Sink, SinkFault, free_ids_at, head, page,
+    Branch, BranchPage, FreeIds, Kind, Leaf, LeafPage, Meta, Page, PageFault, Sink, SinkFault,
+    TreePage, free_ids_at, head, page,
 };
 use bolt_text::{Piece, ReportFault, put_pieces};
 
@@ -53,6 +55,7 @@ fn find<'a>(file: &'a [u8], meta: &Meta, id: u64) -> Result<PageWithIds<'a>, Pag
     ensures page { IfOk result (λ found. page_at file.now meta.now id ≡ Some (shown found.page)) }
     ensures ids { IfOk result (λ found. (shown found.page).kind ≡ Kind.Freelist
         → known_ids (option_map shown_ids found.ids) ≡ free_ids_at file.now meta.now id) }
+    ensures no_ids { IfOk result (λ found. (shown found.page).kind ≡ Kind.Meta → found.ids ≡ None) }
     ensures fault { result_err result ≡ page_text_fault file.now meta.now id }
 {
     let page = page(file, meta, id)?;
@@ -74,6 +77,7 @@ fn put_page<S: Sink>(
     ids: Option<FreeIds<'_>>,
     sink: &mut S,
 ) -> Result<(), SinkFault>
+    requires { (shown page.now).kind ≡ Kind.Meta → ids ≡ None }
     ensures { Wrote S.Sink sink.old sink.new (page_lines id (shown page.now) (known_ids (option_map shown_ids ids.entry))) (ending result) }
 {
     put_head(id, page, &ids, sink)?;
@@ -88,6 +92,7 @@ fn put_head<S: Sink>(
     ids: &Option<FreeIds<'_>>,
     sink: &mut S,
 ) -> Result<(), SinkFault>
+    requires { (shown page.now).kind ≡ Kind.Meta → ids.now ≡ None }
     ensures { Wrote S.Sink sink.old sink.new (head_of id (shown page.now) (known_ids (option_map shown_ids ids.now))) (ending result) }
 {
     put_pieces(
@@ -104,15 +109,13 @@ fn put_head<S: Sink>(
 }
 
 fn item_count(page: &Page<'_>, ids: &Option<FreeIds<'_>>) -> u64
+    requires { (shown page.now).kind ≡ Kind.Meta → ids.now ≡ None }
     ensures { result ≡ items_on (shown page.now).kind (shown page.now).count (known_ids (option_map shown_ids ids.now)) }
 {
-    match page.kind() {
-        Kind::Branch | Kind::Leaf => u64::from(page.count()),
-        Kind::Meta => 0,
-        Kind::Freelist => match ids {
-            Some(ids) => ids.len() as u64,
-            None => 0,
-        },
+    match (page.tree_page(), ids) {
+        (Some(page), _) => u64::from(page.count()),
+        (None, Some(ids)) => ids.len() as u64,
+        (None, None) => 0,
     }
 }
 
@@ -132,37 +135,33 @@ fn put_items<S: Sink>(
     ids: Option<FreeIds<'_>>,
     sink: &mut S,
 ) -> Result<(), SinkFault>
+    requires { (shown page.now).kind ≡ Kind.Meta → ids ≡ None }
     ensures { Wrote S.Sink sink.old sink.new (item_lines (shown page.now).kind (shown page.now) (known_ids (option_map shown_ids ids.entry))) (ending result) }
 {
-    match page.kind() {
-        Kind::Branch => put_branches(page, sink),
-        Kind::Leaf => put_leaves(page, sink),
-        Kind::Meta => Ok(()),
-        Kind::Freelist => match ids {
-            Some(ids) => put_ids(&ids, sink),
-            None => Ok(()),
-        },
+    match (page.tree_page(), ids) {
+        (Some(TreePage::Branch(page)), _) => put_branches(&page, sink),
+        (Some(TreePage::Leaf(page)), _) => put_leaves(&page, sink),
+        (None, Some(ids)) => put_ids(&ids, sink),
+        (None, None) => Ok(()),
     }
 }
 
 /// Writes a line for each element of a branch page.
-fn put_branches<S: Sink>(page: &Page<'_>, sink: &mut S) -> Result<(), SinkFault>
-    requires { (shown page.now).kind ≡ Kind.Branch }
-    ensures { Wrote S.Sink sink.old sink.new (flat_map branch_line (shown page.now).branches) (ending result) }
+fn put_branches<S: Sink>(page: &BranchPage<'_>, sink: &mut S) -> Result<(), SinkFault>
+    ensures { Wrote S.Sink sink.old sink.new (flat_map branch_line (branches_on page.now)) (ending result) }
 {
     for i in 0..page.count() {
-        put_branch(&page.branch(i), sink)?;
+        put_branch(&page.element(i), sink)?;
     }
     Ok(())
 }
 
 /// Writes a line for each element of a leaf page.
-fn put_leaves<S: Sink>(page: &Page<'_>, sink: &mut S) -> Result<(), SinkFault>
-    requires { (shown page.now).kind ≡ Kind.Leaf }
-    ensures { Wrote S.Sink sink.old sink.new (flat_map leaf_line (shown page.now).leaves) (ending result) }
+fn put_leaves<S: Sink>(page: &LeafPage<'_>, sink: &mut S) -> Result<(), SinkFault>
+    ensures { Wrote S.Sink sink.old sink.new (flat_map leaf_line (leaves_on page.now)) (ending result) }
 {
     for i in 0..page.count() {
-        put_leaf(&page.leaf(i), sink)?;
+        put_leaf(&page.element(i), sink)?;
     }
     Ok(())
 }

@@ -1,7 +1,8 @@
 -- The pieces are those of the line.
 use Rattle.std.proofs.Common.{◌≡◌, ◌∙◌, ◌-◌, List, [], ℕ, Option, Some, ap, arith, length, option_map, slice_get, sym, unwrap_or}
-use Rattle.bolt_report.proofs.FoundLemmas.{some_elements}
-use Rattle.bolt_report.proofs.Words.{bucket_count, found_line, leaf_view, LeafElement, shown}
+use Rattle.bolt_report.proofs.FoundLemmas.{not_empty}
+use Rattle.bolt_report.proofs.Words.{bucket_count, found_line, leaf_view, LeafElement}
+use Rattle.bolt_format.specs.TreePages.{leaves_on}
 use Rattle.bolt_report.specs.FoundLines.{key_at}
 use Rattle.bolt_report.proofs.loss_lines.put_found.Goals as goal
 
@@ -10,14 +11,14 @@ key_of : (elements : List LeafElement) (i : ℕ) (e : LeafElement) → slice_get
 key_of elements i e found = sym (ap (λ (o : Option LeafElement). unwrap_or (option_map (λ (x : LeafElement). x.key) o) []) found)
 
 pub overflow_sub-count : goal.overflow_sub-count
-overflow_sub-count g c = let some = some_elements c.args.found.now.page.page c.requires.kind c.requires.some in omega (arith, some, c.count-count.ensures.count)
+overflow_sub-count g c = let some = not_empty (leaves_on c.args.found.now.page) c.requires.some in omega (arith, some, c.count-count.ensures)
 
 pub returns : goal.returns
 unfolding found_line
 returns g c =
-    let elements = (shown c.args.found.now.page.page).leaves in
-    let first = key_of elements 0 (leaf_view c.leaf.result) c.leaf.ensures.element in
-    let entries : c.from.result ≡ length elements = c.from.ensures ∙ sym (c.count-count.ensures.leaves c.requires.kind) in
+    let elements = leaves_on c.args.found.now.page in
+    let first = key_of elements 0 (leaf_view c.element.result) c.element.ensures.element in
+    let entries : c.from.result ≡ length elements = c.from.ensures ∙ c.count-count.ensures in
     let buckets : c.from-2.result ≡ bucket_count elements = c.from-2.ensures ∙ c.count_buckets.ensures in
-    let last = key_of elements (length elements - 1) (leaf_view c.leaf-2.result) (rw (← c.count-count.ensures.leaves c.requires.kind) at c.leaf-2.ensures.element) in
+    let last = key_of elements (length elements - 1) (leaf_view c.element-2.result) (rw c.count-count.ensures at c.element-2.ensures.element) in
     rw (entries, buckets, first, last) at c.put_pieces.ensures
