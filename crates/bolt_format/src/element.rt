@@ -13,9 +13,9 @@ use crate::page_fault::PageFault;
 /// The length of an element's header.
 pub const ELEMENT_LEN: usize = 16;
 /// The length of the longest key.
-const MAX_KEY_LEN: usize = 0x4000_0000;
+pub const MAX_KEY_LEN: usize = 0x4000_0000;
 /// The length of the longest value.
-const MAX_VALUE_LEN: usize = 0x7FFF_FFFE;
+pub const MAX_VALUE_LEN: usize = 0x7FFF_FFFE;
 /// The flags of a leaf element that is a bucket.
 pub(crate) const BUCKET_FLAGS: u32 = 1;
 

@@ -23,7 +23,7 @@ mod tree_page;
 
 pub use bucket::{HEAD_LEN, Head, Inline};
 pub use bytes::fnv1a;
-pub use element::{Branch, ELEMENT_LEN, Leaf};
+pub use element::{Branch, ELEMENT_LEN, Leaf, MAX_KEY_LEN, MAX_VALUE_LEN};
 pub use elements::{Branches, Leaves};
 pub use encode::{branch_header, bucket_head, leaf_header, meta_page, page_header};
 pub use freelist::{free_ids, free_ids_at};

@@ -11,14 +11,10 @@ ghost use Rattle.bolt_tree.specs.Entries as entries;
 ghost use Rattle.bolt_load.specs.LineFaults as faults;
 
 use crate::fault::LineFault;
+use bolt_format::{MAX_KEY_LEN, MAX_VALUE_LEN};
 use bolt_text::{ItemWord, LineWords, cut_at, decode_digits, first_line, words_of};
 use bolt_tree::NoMemory;
 use std::alloc::Global;
-
-/// The most bytes of a key, and of a value.
-const MAX_KEY: usize = 0x4000_0000;
-
-const MAX_VALUE: usize = 0x7FFF_FFFE;
 
 /// The lines of a text before the first that is no line of a listing or has a part that is too long,
 /// and bytes that begin with what these lines have in hexadecimal.
@@ -88,19 +84,19 @@ fn has_long_key(word: &[u8]) -> bool
 {
     let mut rest = word;
     while let Some((part, after)) = cut_at(b'/', rest) {
-        if part.len() / 2 > MAX_KEY {
+        if part.len() / 2 > MAX_KEY_LEN {
             return true;
         }
         rest = after;
     }
-    rest.len() / 2 > MAX_KEY
+    rest.len() / 2 > MAX_KEY_LEN
 }
 
 fn is_long_item(item: &ItemWord<'_>) -> bool
     ensures { (told : entries.Item) → word_item item.now ≡ Some told → result ≡ faults.is_long_item told }
 {
     match item {
-        ItemWord::Digits(digits) => digits.len() / 2 > MAX_VALUE,
+        ItemWord::Digits(digits) => digits.len() / 2 > MAX_VALUE_LEN,
         ItemWord::Sequence(_) => false,
     }
 }
