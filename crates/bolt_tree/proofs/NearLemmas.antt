@@ -1,14 +1,13 @@
 -- The nearest leaf to a key: the way down to it, step by step, and what lies ahead of the key there.
 use Rattle.std.proofs.Common.{◌≡◌, ℕ, suc, ◌+◌, ◌-◌, ◌≤◌, inl, inr, true, false, List, [], ◌∷◌, ◌++◌, Some, slice_get, length, map, drop, take, refl, sym, ap, ◌∙◌, subst, arith, append_assoc, length-append, append-nil}
-use Rattle.bolt_tree.proofs.Words.{AreBelow, BranchElement, BucketView, Content, Contents, Frame, HasSoundTrees, HasStack, Inline_page, IsBetween, IsLeafTop, IsNear, IsNearFrom, IsNearTo, IsNearTop, IsNearest, IsOnWayDown, IsPlaceOf, IsSought, IsSoundBucket, IsStart, Key, KeysRise, LeafElement, Meta, Of_branch, Of_leaf, Root_page, Start, TourPage, address_on, ahead_of, branch_key, branch_node, cases_lt, content_at, content_at_start, content_keys, content_length, contents_in, elements_in, elements_of, key_lt, least_from, passed_of, none-some, on_child, opened_content, option_map, pages_in, props, later_of, root_content, shown, slice_get-map, spot_node, tour, ∥∥₁_elim, ∥∥₁_map, ∥∥₁_prop}
+use Rattle.bolt_tree.proofs.Words.{AreBelow, BranchElement, BucketView, Content, Contents, Frame, HasSoundTrees, HasStack, Inline_page, IsBetween, IsLeafTop, IsNear, IsNearFrom, IsNearTo, IsNearTop, IsNearest, IsOnWayDown, IsPlaceOf, IsSought, IsSoundBucket, IsStart, Key, KeysRise, LeafElement, Meta, Of_branch, Of_leaf, Root_page, Start, TourPage, address_on, ahead_of, branch_key, branch_node, cases_lt, content_at, content_at_start, content_keys, content_length, contents_in, elements_in, elements_of, key_lt, least_from, passed_of, none-some, on_child, opened_content, option_map, pages_in, props, later_of, root_content, slice_get-map, spot_node, tour, ∥∥₁_elim, ∥∥₁_map, ∥∥₁_prop}
 use Rattle.bolt_tree.proofs.{PlaceMoves.drop_front, PlaceMoves.leaf_parts}
 use Rattle.bolt_check.proofs.Lists.{Has, has_right, rises_gets}
 use Rattle.bolt_tree.proofs.{SeekLemmas.are_append, SeekLemmas.drop_get, SeekLemmas.is_above, SeekLemmas.not_above, SeekLemmas.take_get, SortedLemmas.visit_is}
 use Rattle.bolt_tree.proofs.{TourLemmas.IsBelowElement, TourLemmas.filled, WayPages.a_branch, WayPages.a_leaf, WayPages.on_way_page, WayPages.branch_page}
 use Rattle.bolt_tree.proofs.StackLemmas.{retaken}
-use Rattle.bolt_format.specs.ShownInline.{shown_inline}
-use Rattle.bolt_tree.specs.{declared.opened.BranchPage.BranchPage, declared.opened.Opened.Opened}
-use Rattle.bolt_tree.specs.declared.opened.Opened.TheVariants.{Branch, Inline, Leaf, Nothing}
+use Rattle.bolt_format.specs.{TreePages.leaves_on, declared.tree_page.BranchPage.BranchPage, declared.tree_page.TreePage.TreePage}
+use Rattle.bolt_format.specs.declared.tree_page.TreePage.TheVariants.{Branch, Leaf}
 
 -- the element with a key
 key_at : {X : Type 0} (f : X → Key) (xs : List X) (i : ℕ) (a : Key) → slice_get (map f xs) i ≡ Some a → (x : X) × (slice_get xs i ≡ Some x) × (f x ≡ a)
@@ -136,11 +135,9 @@ pub begins : (contents : Contents) (key : Key) → IsBetween contents key []
 begins contents key = grind arith
 
 -- what is no branch shows a leaf
-pub shows_leaf : (opened : Opened) → ((page : BranchPage) → opened ≡ Branch page → ⊥) → (es : List LeafElement) × (opened_content opened ≡ Of_leaf es)
-shows_leaf Nothing h = ([], refl)
-shows_leaf (Branch page) h = absurd (h page refl)
-shows_leaf (Leaf page) h = ((shown page.page).leaves, refl)
-shows_leaf (Inline page) h = (shown_inline page, refl)
+pub shows_leaf : (page : TreePage) → ((branch : BranchPage) → page ≡ Branch branch → ⊥) → (es : List LeafElement) × (opened_content page ≡ Of_leaf es)
+shows_leaf (Branch branch) h = absurd (h branch refl)
+shows_leaf (Leaf leaf) h = (leaves_on leaf, refl)
 
 -- The way down has come to a leaf, which is put on the stack.
 pub record IsLanded (bucket : BucketView) (key : Key) (frames : List Frame) : Type 0 where

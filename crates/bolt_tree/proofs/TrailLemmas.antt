@@ -1,9 +1,10 @@
 -- What the moves of a trail do to its stack.
 use Rattle.std.proofs.lemmas.Grind.{common_steps}
 use Rattle.std.proofs.Common.{◌≡◌, ◌==◌, ℕ, suc, ◌+◌, ◌-◌, ◌≤◌, ◌<◌, Bool, true, false, List, [], ◌∷◌, ◌++◌, Some, None, slice_get, length, map, reverse, drop, refl, sym, ap, ◌∙◌, subst, arith, append_assoc, append-nil}
-use Rattle.bolt_tree.proofs.Words.{BranchElement, BucketView, Checked, Content, Contents, Frame, HasBucket, HasStack, HasTrail, IsBranchContent, IsBranchTop, IsEntered, IsOn, IsOnWay, IsMoved, IsTrue, LeafElement, Meta, Of_branch, Of_leaf, PageView, Position, Trail, TourPage, address_on, ahead_of, bytes_of, checked_trees, content_length, contents_in, drop_all, drop_at, frame_of, frames_of, here_of, here_under, is_tree_kind, length-map, length-reverse, meta_of, nat_tests, option_to_list, page_at, props, reverse-append, later_of, later_under, tour, trail_bucket, trail_frames, under_at, ∥∥₁_elim, ∥∥₁_map}
+use Rattle.bolt_tree.proofs.Words.{BranchElement, BucketView, Content, Contents, Frame, HasBucket, HasStack, HasTrail, IsBranchContent, IsBranchTop, IsEntered, IsOn, IsMoved, LeafElement, Of_branch, Of_leaf, Position, RestsOn, Trail, TourPage, TreePage, address_on, ahead_of, content_length, contents_in, drop_all, drop_at, frame_of, frames_of, here_of, here_under, length-map, length-reverse, nat_tests, opened_content, option_to_list, props, reverse-append, later_of, later_under, tour, trail_bucket, trail_frames, under_at, ∥∥₁_elim, ∥∥₁_map}
 use Rattle.bolt_tree.proofs.StackLemmas.{branch_room, stack_short, under_next}
-use Rattle.bolt_tree.proofs.WayPages.{IsWayPage, on_way_page}
+use Rattle.bolt_format.specs.declared.tree_page.LeafPage.{LeafPage}
+use Rattle.bolt_format.specs.declared.tree_page.TreePage.TheVariants as page
 
 -- one equation moves every fact of a bucket
 pub same_bucket : (old new : Trail) → IsMoved old new → trail_bucket new ≡ trail_bucket old
@@ -23,15 +24,6 @@ no_frames items empty e t = grind (arith, common_steps, nat_tests)
 
 pub nonempty : (items : List Position) (empty : Bool) → empty ≡ (length items == 0) → empty ≡ false → frames_of items ≡ [] → ⊥
 nonempty items empty e f nil = grind (arith, length-frames, nat_tests)
-
--- the pages of the tree have its kinds
-tree_kind_at : (file : List ℕ) (meta : Meta) (number : ℕ) (view : PageView) → IsWayPage file meta number → page_at file meta number ≡ Some view → IsTrue (is_tree_kind view.kind)
-tree_kind_at file meta number view h e = grind arith
-
-pub way_kind : (checked : Checked) (number : ℕ) (view : PageView) → ∥ ((depth : ℕ) × IsOnWay (bytes_of checked) (meta_of checked) number depth) ∥₁
-    → page_at (bytes_of checked) (meta_of checked) number ≡ Some view → IsTrue (is_tree_kind view.kind)
-way_kind checked number view on e = ∥∥₁_elim on (Prim.hlevel props) (λ (depth, w). ∥∥₁_elim (checked_trees checked) (Prim.hlevel props) (λ trees.
-    tree_kind_at (bytes_of checked) (meta_of checked) number view (on_way_page (bytes_of checked) (meta_of checked) trees number depth w) e))
 
 -- the tour of a page is the page and what lies under it
 tour_top : (contents : Contents) (n h : ℕ) (address : List ℕ) (content : Content) → ((elements : List BranchElement) → content ≡ Of_branch elements → n ≡ suc (62 - h))
@@ -119,3 +111,8 @@ empty_stack trail is none = subst (HasStack (trail_bucket trail)) (sym none) (�
 -- a stack that was kept is still one of the bucket
 pub kept_stack : (old new : Trail) (items : List Position) → IsMoved old new → items ≡ old.stack.items → HasTrail old → HasStack (trail_bucket new) (frames_of items)
 kept_stack old new items same e stack = rw (same.file, same.at, e) stack
+
+-- a page that rests is a leaf
+pub leaf_rests : (opened : TreePage) (taken : ℕ) → RestsOn (opened_content opened) taken → ((leaf : LeafPage) → opened ≡ page.Leaf leaf → ⊥) → ⊥
+leaf_rests (page.Branch branch) taken rest none = rest
+leaf_rests (page.Leaf leaf) taken rest none = none leaf refl

@@ -1,6 +1,7 @@
 -- The pages that ways lead to, as contents.
-use Rattle.std.proofs.Common.{◌≡◌, ℕ, List, Some, Ok, ap, ◌∙◌, sym}
-use Rattle.bolt_tree.proofs.Words.{BranchElement, HasSoundTrees, IsOnWay, Kind, Meta, Of_branch, Of_leaf, PageView, content_at, content_by, content_of, content_seen, node_at, page_at}
+use Rattle.std.proofs.Common.{◌≡◌, ℕ, List, Some, Ok, ap, arith, length, refl, ◌∙◌, sym}
+use Rattle.bolt_tree.proofs.Words.{BranchElement, Checked, HasSoundTrees, IsOnWay, IsTrue, Kind, LeafElement, Meta, Of_branch, Of_leaf, PageView, TreePage, branches_on, bytes_of, checked_trees, content_at, content_by, content_keys, content_length, content_of, content_seen, is_tree_kind, leaves_on, length-map, meta_of, node_at, opened_content, page_at, page_keys, props, shown_page, ∥∥₁_elim}
+use Rattle.bolt_format.specs.declared.tree_page.TreePage.TheVariants.{Branch, Leaf}
 use Rattle.bolt_format.specs.declared.header.Kind.TheVariants as kind
 use Rattle.bolt_check.proofs.TreePages as pages
 
@@ -11,6 +12,23 @@ content_shown file meta number view at = ap content_seen at
 
 pub content_is : (file : List ℕ) (meta : Meta) (number : ℕ) (view : PageView) (k : Kind) → page_at file meta number ≡ Some view → view.kind ≡ k → content_at file meta number ≡ content_by k view
 content_is file meta number view k at is = content_shown file meta number view at ∙ ap (λ (x : Kind). content_by x view) is
+
+-- the same, as the code opens it
+pub content_opened : (file : List ℕ) (meta : Meta) (number : ℕ) (view : PageView) (page : TreePage) → page_at file meta number ≡ Some view → shown_page page ≡ view
+    → opened_content page ≡ content_at file meta number
+content_opened file meta number view page at shown = opened page ∙ ap content_of shown ∙ sym (content_shown file meta number view at) where
+  opened : (p : TreePage) → opened_content p ≡ content_of (shown_page p)
+  opened (Branch branch) = refl
+  opened (Leaf leaf) = refl
+
+-- its keys
+pub keys_opened : (page : TreePage) → page_keys page ≡ content_keys (opened_content page)
+keys_opened (Branch branch) = refl
+keys_opened (Leaf leaf) = refl
+
+pub length_keys : (page : TreePage) → length (page_keys page) ≡ content_length (opened_content page)
+length_keys (Branch branch) = length-map (branches_on branch) (λ (e : BranchElement). e.key)
+length_keys (Leaf leaf) = length-map (leaves_on leaf) (λ (e : LeafElement). e.key)
 
 -- a page on a way is a leaf or a branch
 pub data IsWayPage (file : List ℕ) (meta : Meta) (number : ℕ) : Type 0 where
@@ -39,3 +57,12 @@ branch_page file meta trees number depth elements on shown = elim (on_way_page f
   | a_leaf view at is node content ↦ absurd (let c : Of_leaf view.leaves ≡ Of_branch elements = sym content ∙ shown in cc)
   | a_branch view at is node content ↦ record { view = view; at = at; is = is; node = node; branches = (let c : Of_branch view.branches ≡ Of_branch elements = sym content ∙ shown in cc) }
 ]
+
+-- the pages of the tree have its kinds
+tree_kind_at : (file : List ℕ) (meta : Meta) (number : ℕ) (view : PageView) → IsWayPage file meta number → page_at file meta number ≡ Some view → IsTrue (is_tree_kind view.kind)
+tree_kind_at file meta number view h e = grind arith
+
+pub way_kind : (checked : Checked) (number : ℕ) (view : PageView) → ∥ ((depth : ℕ) × IsOnWay (bytes_of checked) (meta_of checked) number depth) ∥₁
+    → page_at (bytes_of checked) (meta_of checked) number ≡ Some view → IsTrue (is_tree_kind view.kind)
+way_kind checked number view on e = ∥∥₁_elim on (Prim.hlevel props) (λ (depth, w). ∥∥₁_elim (checked_trees checked) (Prim.hlevel props) (λ trees.
+    tree_kind_at (bytes_of checked) (meta_of checked) number view (on_way_page (bytes_of checked) (meta_of checked) trees number depth w) e))

@@ -11,10 +11,11 @@ pub use Rattle.bolt_check.specs.Ways.{At_page, Before, PageSpot, Spot, bucket_sp
 pub use Rattle.bolt_check.specs.declared.checked.Checked.{Checked}
 pub use Rattle.bolt_format.proofs.ListLemmas.{drop_at, one_some, take_next}
 pub use Rattle.bolt_format.proofs.PageFacts.{below_mark, bucket_value, flat_inline}
-pub use Rattle.bolt_format.proofs.PageLaws.{length-shown_branches, length-shown_leaves}
 pub use Rattle.bolt_format.specs.ElementPlaces.{branch_view, leaf_view}
 pub use Rattle.bolt_format.specs.Elements.{BranchElement, LeafElement, head_root, head_sequence, inline_elements}
-pub use Rattle.bolt_format.specs.{Pages.PageView, Pages.page_at, Shown.shown, declared.element.Leaf.Leaf, declared.header.Kind.Kind, declared.meta.Meta.Meta}
+pub use Rattle.bolt_format.specs.{Pages.PageView, Pages.page_at, TreePages.branches_on, TreePages.is_tree_kind, TreePages.leaves_on, TreePages.page_keys}
+pub use Rattle.bolt_format.specs.{TreePages.shown_page, declared.element.Leaf.Leaf, declared.header.Kind.Kind, declared.meta.Meta.Meta}
+pub use Rattle.bolt_format.specs.{declared.tree_page.BranchPage.BranchPage, declared.tree_page.TreePage.TreePage}
 pub use Rattle.bolt_tree.specs.BucketViews.{AreSorted, BucketView, bucket_in, entries_of}
 pub use Rattle.bolt_tree.specs.CursorBounds.{OpensByNext, OpensGap, OpensSeek, SeeksInBounds}
 pub use Rattle.bolt_tree.specs.Entries.{AreEntries, EntryView, Inline_page, IsEntry, IsStart, Item, Root_page, ShowsEntry, Start, Value, entry_cmp, entry_view}
@@ -28,7 +29,6 @@ pub use Rattle.bolt_tree.specs.Places.{Fresh, Move, Moves, On, Past, Place, Show
 pub use Rattle.bolt_tree.specs.Places.{prev_move, seek_move}
 pub use Rattle.bolt_tree.specs.Private.BucketPages.{IsSoundBucket, contents_in, elements_in, pages_in, root_content}
 pub use Rattle.bolt_tree.specs.Private.Contents.{Content, Contents, Of_branch, Of_leaf, content_by, content_keys, content_length, content_of, content_seen}
-pub use Rattle.bolt_tree.specs.Private.Contents.{is_tree_kind}
 pub use Rattle.bolt_tree.specs.Private.CursorViews.{AreOfFile, IsInnermost, Keeps, MovesLast, Opens, cursor_view, fresh_view, innermost_views}
 pub use Rattle.bolt_tree.specs.{Private.Entered.IsEntered, Private.Entered.opened_to, Private.Entered.taken_at, Private.Resting.IsResting, Private.Resting.place_by}
 pub use Rattle.bolt_tree.specs.Private.Resting.{place_on}

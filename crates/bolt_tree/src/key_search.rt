@@ -1,10 +1,10 @@
 //! The search for a key in a page.
-ghost use Rattle.std.specs.Prelude.{◌≡◌, ◌≤◌};
+ghost use Rattle.std.specs.Prelude.{◌≡◌, ◌≤◌, length};
+ghost use Rattle.bolt_format.specs.TreePages.{page_keys};
 ghost use Rattle.bolt_check.specs.Keys.{KeysRise};
-ghost use Rattle.bolt_tree.specs.{Private.Contents.content_keys, Private.Contents.content_length, Private.ShownPages.opened_content};
 ghost use Rattle.bolt_tree.specs.Private.PageKeys.{IsPlaceOf, stands_before};
 
-use crate::opened::Opened;
+use bolt_format::TreePage;
 
 /// The place that a search has found, and how many keys it has compared.
 #[derive(Clone, Copy)]
@@ -28,10 +28,10 @@ fn is_before(key: &[u8], sought: &[u8], or_equal: bool) -> bool
 /// The number of keys of a page that are below a key or, if `or_equal` is set, not above it.
 /// Compares at most 16 keys.
 #[tactic(auto, using(crate::proofs::KeySearchLemmas::above_middle, crate::proofs::KeySearchLemmas::below_middle, crate::proofs::KeySearchLemmas::halved, crate::proofs::KeySearchLemmas::sixteen))]
-pub(crate) fn keys_before(page: &Opened<'_>, sought: &[u8], or_equal: bool) -> KeyPlace
-    requires { KeysRise (content_keys (opened_content page.now)) }
-    ensures within { result.before ≤ content_length (opened_content page.now) }
-    ensures place { IsPlaceOf (content_keys (opened_content page.now)) or_equal sought.now result.before }
+pub(crate) fn keys_before(page: &TreePage<'_>, sought: &[u8], or_equal: bool) -> KeyPlace
+    requires { KeysRise (page_keys page.now) }
+    ensures within { result.before ≤ length (page_keys page.now) }
+    ensures place { IsPlaceOf (page_keys page.now) or_equal sought.now result.before }
     ensures few { result.compared ≤ 16 }
 {
     let mut from = 0;

@@ -13,7 +13,6 @@ pub mod laws;
 mod members;
 mod open_buckets;
 mod open_cursors;
-mod opened;
 mod pager;
 mod stack;
 mod trail;

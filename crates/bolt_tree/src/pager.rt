@@ -4,7 +4,7 @@ ghost use Rattle.bolt_format.specs.{Pages.page_at, Shown.shown};
 ghost use Rattle.bolt_check.specs.{CheckedFiles.bytes_of, CheckedFiles.meta_of, OnWays.IsOnWay};
 
 use bolt_check::Checked;
-use bolt_format::{Page, known};
+use bolt_format::{Page, TreePage, known};
 
 /// Opens the pages of a sound file, and counts them. It can't be copied, and none of its calls
 /// returns the file. So code that has nothing else of the file can't open a page uncounted.
@@ -19,6 +19,7 @@ pub struct Pager<'a> {
 impl<'a> Pager<'a> {
     ghost use Rattle.bolt_check.specs.Counts.{counted};
     ghost use Rattle.bolt_tree.specs.Pagers.{pager_checked, pager_opened};
+    ghost use Rattle.bolt_tree.specs.{Private.Contents.content_at, Private.ShownPages.opened_content};
 
     /// A pager that has opened no page.
     pub fn new(checked: Checked<'a>) -> Pager<'a>
@@ -37,6 +38,17 @@ impl<'a> Pager<'a> {
     {
         self.opened = self.opened.saturating_add(1);
         known(self.checked.bytes(), &self.checked.meta(), id)
+    }
+
+    /// Opens page `id` as a page of a tree. A way leads to it.
+    #[tactic(auto, using(crate::proofs::WayPages::content_opened, crate::proofs::WayPages::way_kind))]
+    pub(crate) fn open_tree_page(&mut self, id: u64) -> TreePage<'a>
+        requires { ∥ ((depth : ℕ) × IsOnWay (bytes_of (pager_checked self.old)) (meta_of (pager_checked self.old)) id depth) ∥₁ }
+        ensures content { opened_content result ≡ content_at (bytes_of (pager_checked self.old)) (meta_of (pager_checked self.old)) id }
+        ensures checked { pager_checked self.new ≡ pager_checked self.old }
+        ensures opened { pager_opened self.new ≡ counted (pager_opened self.old) 1 }
+    {
+        self.open(id).tree_page().unwrap()
     }
 
     /// Counts an inline page, which is in a value.

@@ -3,14 +3,14 @@
 ghost use Rattle.std.specs.Prelude.{◌≡◌, ◌+◌, ◌≤◌, MatchOption, length};
 ghost use Rattle.bolt_check.specs.declared.visit.TheConstants.{MAX_DEPTH};
 
-use crate::opened::Opened;
 use arrayvec::ArrayVec;
 use bolt_check::MAX_DEPTH;
+use bolt_format::TreePage;
 
 /// A page on the stack.
 #[derive(Clone, Copy, Default)]
 pub(crate) struct Position<'a> {
-    pub page: Opened<'a>,
+    pub page: TreePage<'a>,
     /// The number of elements up to the current one, which the cursor is on or below. The count of
     /// elements and one means past the end. So one loop serves the end of a leaf, an empty leaf and
     /// a branch.
@@ -22,6 +22,7 @@ impl<'a> Position<'a> {
     ghost use Rattle.bolt_tree.specs.{Private.Stacks.IsBeside, Private.Stacks.IsLast, Private.Trails.frame_of};
 
     /// The next element or, if `back` is set, the preceding one.
+    #[tactic(auto, using(crate::proofs::WayPages::length_keys))]
     pub fn beside(&self, back: bool) -> Option<u16>
         requires bound { self.now.taken ≤ content_length (opened_content self.now.page) + 1 }
         requires fits { self.now.taken ≤ 65536 }

@@ -1,7 +1,7 @@
 //! The open pages of a bucket: moves from entry to entry, and how they go down from page to page.
 ghost use Rattle.std.specs.Prelude.{◌≡◌, ◌∷◌, [], ◌<◌, ◌≤◌, ◌+◌, ◌-◌, ◌*◌, IfSome, IsTrue, MatchOption, Some, drop, false, length, slice_get};
 ghost use Rattle.std.specs.Option.{option_map};
-ghost use Rattle.bolt_format.specs.{ElementPlaces.leaf_view, Elements.BranchElement, Elements.IsBucketValue, Shown.shown};
+ghost use Rattle.bolt_format.specs.{ElementPlaces.leaf_view, Elements.BranchElement, Elements.IsBucketValue, TreePages.branches_on};
 ghost use Rattle.bolt_check.specs.Counts.{counted};
 ghost use Rattle.bolt_tree.specs.{CursorBounds.OpensSeek, CursorBounds.SeeksInBounds, Pagers.pager_opened, Places.least_from};
 ghost use Rattle.bolt_tree.specs.Private.BucketPages.{contents_in, elements_in, pages_in, root_content};
@@ -12,10 +12,9 @@ ghost use Rattle.bolt_tree.specs.Private.Stacks.{HasStack, IsAtRest, IsLeafTop, 
 
 use crate::at::At;
 use crate::key_search::keys_before;
-use crate::opened::{BranchPage, Opened};
 use crate::pager::Pager;
 use crate::stack::{Position, Stack, set_positions};
-use bolt_format::Leaf;
+use bolt_format::{BranchPage, Leaf, TreePage};
 
 /// The open pages of a bucket, from its root page on, each with the number of elements up to where
 /// the cursor is.
@@ -95,7 +94,10 @@ impl<'a> Trail<'a> {
         ensures bucket { IfSome result (λ leaf. IsTrue leaf.is_bucket → IsBucketValue leaf.value.now) }
     {
         let top = self.stack.last()?;
-        Some(top.page.entry((top.taken - 1) as u16))
+        let TreePage::Leaf(page) = top.page else {
+            return None;
+        };
+        Some(page.element((top.taken - 1) as u16))
     }
 
     /// Moves to the next entry if it is in the same leaf. Otherwise it stays.
@@ -111,10 +113,13 @@ impl<'a> Trail<'a> {
     {
         let last = self.stack.len().checked_sub(1)?;
         let top = &self.stack[last];
-        if top.taken >= u32::from(top.page.count()) {
+        let TreePage::Leaf(page) = top.page else {
+            return None;
+        };
+        if top.taken >= u32::from(page.count()) {
             return None;
         }
-        let leaf = top.page.entry(top.taken as u16);
+        let leaf = page.element(top.taken as u16);
         self.stack[last].taken += 1;
         Some(leaf)
     }
@@ -172,8 +177,8 @@ impl<'a> Trail<'a> {
     }
 
     /// Opens the root page of the bucket, or its inline page, which isn't on the stack yet.
-    #[tactic(auto, using(crate::proofs::StackLemmas::root_way, crate::proofs::TrailLemmas::way_kind, crate::proofs::WayPages::content_shown))]
-    fn open_root(&mut self) -> Opened<'a>
+    #[tactic(auto, using(crate::proofs::StackLemmas::root_way))]
+    fn open_root(&mut self) -> TreePage<'a>
         requires { HasBucket self.old }
         ensures moved { IsMoved self.old self.new }
         ensures content { opened_content result ≡ root_content (trail_bucket self.old) }
@@ -182,10 +187,10 @@ impl<'a> Trail<'a> {
     {
         self.stack.clear();
         match self.at {
-            At::Page(id) => Opened::of_page(self.pager.open(id)),
-            At::Inline(page) => {
+            At::Page(id) => self.pager.open_tree_page(id),
+            At::Inline(inline) => {
                 self.pager.note();
-                Opened::Inline(page)
+                TreePage::Leaf(inline.page())
             }
         }
     }
@@ -193,8 +198,8 @@ impl<'a> Trail<'a> {
     /// Goes down from the root page to the leaf that is near a key, and stops before its first
     /// entry that isn't below the key. Returns how many keys were compared, at most 16 for each
     /// page.
-    #[tactic(auto, using(crate::proofs::StackLemmas::retaken, crate::proofs::StackLemmas::stack_short, crate::proofs::NearLemmas::stack_rises))]
-    fn descend(&mut self, root: Opened<'a>, key: &[u8]) -> u64
+    #[tactic(auto, using(crate::proofs::StackLemmas::retaken, crate::proofs::StackLemmas::stack_short, crate::proofs::WayPages::length_keys))]
+    fn descend(&mut self, root: TreePage<'a>, key: &[u8]) -> u64
         requires bucket { HasBucket self.old }
         requires empty { trail_frames self.old ≡ [] }
         requires root { opened_content root ≡ root_content (trail_bucket self.old) }
@@ -207,7 +212,7 @@ impl<'a> Trail<'a> {
     {
         let mut opened = root;
         let mut compared = 0;
-        while let Opened::Branch(page) = opened {
+        while let TreePage::Branch(page) = opened {
             let found = keys_before(&opened, key, true);
             compared += found.compared;
             opened = self.go_under(page, found.before.saturating_sub(1));
@@ -220,7 +225,7 @@ impl<'a> Trail<'a> {
     /// Goes to element `i` of a page, and pushes the page again. The element is an entry of a leaf,
     /// which is returned; or it leads from a branch to a page, which is opened and pushed, before
     /// its first element or past its last.
-    fn enter(&mut self, page: Opened<'a>, i: u16, at_end: bool) -> Option<Leaf<'a>>
+    fn enter(&mut self, page: TreePage<'a>, i: u16, at_end: bool) -> Option<Leaf<'a>>
         requires stack { HasStack (trail_bucket self.old) (record { content = opened_content page; taken = 0 } ∷ trail_frames self.old) }
         requires below { i < content_length (opened_content page) }
         ensures moved { IsMoved self.old self.new }
@@ -230,16 +235,11 @@ impl<'a> Trail<'a> {
         ensures bucket { IfSome result (λ leaf. IsTrue leaf.is_bucket → IsBucketValue leaf.value.now) }
     {
         match page {
-            Opened::Nothing => unreachable!(),
-            Opened::Leaf(leaf) => {
+            TreePage::Leaf(leaf) => {
                 self.push(page, u32::from(i) + 1);
                 Some(leaf.element(i))
             }
-            Opened::Inline(inline) => {
-                self.push(page, u32::from(i) + 1);
-                Some(inline.leaf(i))
-            }
-            Opened::Branch(branch) => {
+            TreePage::Branch(branch) => {
                 let child = self.go_under(branch, i);
                 self.push_at_edge(child, at_end);
                 None
@@ -248,22 +248,23 @@ impl<'a> Trail<'a> {
     }
 
     /// Opens the page under element `i` of a branch, and pushes the branch.
-    fn go_under(&mut self, page: BranchPage<'a>, i: u16) -> Opened<'a>
-        requires stack { HasStack (trail_bucket self.old) (record { content = Of_branch (shown page.page).branches; taken = 0 } ∷ trail_frames self.old) }
-        requires below { i < length (shown page.page).branches }
+    fn go_under(&mut self, page: BranchPage<'a>, i: u16) -> TreePage<'a>
+        requires stack { HasStack (trail_bucket self.old) (record { content = Of_branch (branches_on page); taken = 0 } ∷ trail_frames self.old) }
+        requires below { i < length (branches_on page) }
         ensures moved { IsMoved self.old self.new }
-        ensures frames { trail_frames self.new ≡ record { content = Of_branch (shown page.entry.page).branches; taken = i + 1 } ∷ trail_frames self.old }
-        ensures child { (e : BranchElement) × (slice_get (shown page.entry.page).branches i ≡ Some e)
+        ensures frames { trail_frames self.new ≡ record { content = Of_branch (branches_on page.entry); taken = i + 1 } ∷ trail_frames self.old }
+        ensures child { (e : BranchElement) × (slice_get (branches_on page.entry) i ≡ Some e)
             × (opened_content result ≡ contents_in (trail_bucket self.old) e.child) }
         ensures stack { HasStack (trail_bucket self.new) (record { content = opened_content result; taken = 0 } ∷ trail_frames self.new) }
         ensures opened { pager_opened self.new.pager ≡ counted (pager_opened self.old.pager) 1 }
     {
-        self.push(Opened::Branch(page), u32::from(i) + 1);
-        Opened::of_page(self.pager.open(page.element(i).child))
+        self.push(TreePage::Branch(page), u32::from(i) + 1);
+        self.pager.open_tree_page(page.element(i).child)
     }
 
     /// Pushes a page onto the stack, before its first element or past its last.
-    fn push_at_edge(&mut self, page: Opened<'a>, at_end: bool)
+    #[tactic(auto, using(crate::proofs::StackLemmas::retaken, crate::proofs::WayPages::length_keys))]
+    fn push_at_edge(&mut self, page: TreePage<'a>, at_end: bool)
         requires { HasStack (trail_bucket self.old) (record { content = opened_content page; taken = 0 } ∷ trail_frames self.old) }
         ensures moved { IsMoved self.old self.new }
         ensures frames { trail_frames self.new
@@ -279,7 +280,7 @@ impl<'a> Trail<'a> {
 
     /// Pushes a page onto the stack.
     #[tactic(auto, using(crate::proofs::TrailLemmas::stack_room))]
-    fn push(&mut self, page: Opened<'a>, taken: u32)
+    fn push(&mut self, page: TreePage<'a>, taken: u32)
         requires { HasStack (trail_bucket self.old) (record { content = opened_content page; taken = taken } ∷ trail_frames self.old) }
         ensures moved { IsMoved self.old self.new }
         ensures frames { trail_frames self.new ≡ record { content = opened_content page.entry; taken = taken } ∷ trail_frames self.old }

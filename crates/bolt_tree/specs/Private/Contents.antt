@@ -1,5 +1,5 @@
 -- What a page of the tree shows, as a leaf or a branch: what the cursor sees of it.
-use Rattle.std.specs.Prelude.{ℕ, List, [], Bool, true, false, length, map, Option, Some, None}
+use Rattle.std.specs.Prelude.{ℕ, List, [], length, map, Option, Some, None}
 use Rattle.bolt_format.specs.{Elements.BranchElement, Elements.LeafElement, Pages.PageView, Pages.page_at, declared.header.Kind.Kind}
 use Rattle.bolt_format.specs.declared.header.Kind.TheVariants as kind
 use Rattle.bolt_format.specs.declared.meta.Meta.{Meta}
@@ -38,10 +38,3 @@ content_length (Of_branch elements) = length elements
 abbrev pub content_keys : Content → List Key
 content_keys (Of_leaf elements) = map (λ (e : LeafElement). e.key) elements
 content_keys (Of_branch elements) = map (λ (e : BranchElement). e.key) elements
-
--- the kinds of page that the tree has
-abbrev pub is_tree_kind : Kind → Bool
-is_tree_kind kind.Branch = true
-is_tree_kind kind.Leaf = true
-is_tree_kind kind.Meta = false
-is_tree_kind kind.Freelist = false

@@ -1,11 +1,8 @@
--- What an opened page shows.
-use Rattle.std.specs.Prelude.{[]}
-use Rattle.bolt_format.specs.{Shown.shown, ShownInline.shown_inline}
-use Rattle.bolt_tree.specs.{Private.Contents.Content, Private.Contents.Of_branch, Private.Contents.Of_leaf, declared.opened.Opened.Opened}
-use Rattle.bolt_tree.specs.declared.opened.Opened.TheVariants.{Branch, Inline, Leaf, Nothing}
+-- What a page on the stack shows.
+use Rattle.bolt_format.specs.{TreePages.branches_on, TreePages.leaves_on, declared.tree_page.TreePage.TreePage}
+use Rattle.bolt_format.specs.declared.tree_page.TreePage.TheVariants.{Branch, Leaf}
+use Rattle.bolt_tree.specs.Private.Contents.{Content, Of_branch, Of_leaf}
 
-abbrev pub opened_content : Opened → Content
-opened_content Nothing = Of_leaf []
-opened_content (Branch page) = Of_branch (shown page.page).branches
-opened_content (Leaf page) = Of_leaf (shown page.page).leaves
-opened_content (Inline page) = Of_leaf (shown_inline page)
+abbrev pub opened_content : TreePage → Content
+opened_content (Branch page) = Of_branch (branches_on page)
+opened_content (Leaf page) = Of_leaf (leaves_on page)

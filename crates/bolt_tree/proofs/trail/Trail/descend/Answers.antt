@@ -1,8 +1,8 @@
-use Rattle.std.proofs.Common.{◌≡◌, ◌∷◌, ◌∙◌, ◌-◌, suc, length, List, sym, ap, arith, refl, subst}
-use Rattle.bolt_tree.proofs.Words.{BucketView, Frame, HasStack, IsNearTop, IsOnWayDown, IsSought, Of_branch, ahead_of, contents_in, counted, elements_in, opened_content, pager_opened, shown, trail_bucket, trail_frames}
+use Rattle.std.proofs.Common.{◌≡◌, ◌∷◌, ◌∙◌, ◌-◌, false, suc, length, List, sym, ap, arith, refl, subst}
+use Rattle.bolt_tree.proofs.Words.{BranchElement, BucketView, Frame, HasStack, IsNearTop, IsOnWayDown, IsPlaceOf, IsSought, Key, KeysRise, Of_branch, ahead_of, contents_in, counted, elements_in, branches_on, length-map, opened_content, page_keys, pager_opened, trail_bucket, trail_frames}
 use Rattle.bolt_tree.proofs.NearLemmas.{begins, branch_filled, landed, moved_between, moved_way, shows_leaf, stack_rises, way_begins, way_down}
 use Rattle.bolt_tree.proofs.{PagerLemmas.counted_more, PagerLemmas.counted_zero, StackLemmas.popped, StackLemmas.root_stack, StackLemmas.branch_room, SeekLemmas.between_down}
-use Rattle.bolt_tree.proofs.TrailLemmas.{same_bucket}
+use Rattle.bolt_tree.proofs.{TrailLemmas.same_bucket, WayPages.keys_opened, WayPages.length_keys}
 use Rattle.bolt_tree.proofs.trail.Trail.descend.Goals as goal
 
 pub loop-opened-init : goal.loop-opened-init
@@ -19,22 +19,23 @@ loop-opened-init c =
     }
 
 pub keys_before-found-requires : goal.keys_before-found-requires
-keys_before-found-requires c = stack_rises (trail_bucket c.loop-opened.self) (Of_branch (shown c.in-Branch.page.page).branches) 0 (trail_frames c.loop-opened.self) (rw c.in-Branch.is at c.loop-opened.invariant.stack)
+keys_before-found-requires c = stack_rises (trail_bucket c.loop-opened.self) (Of_branch (branches_on c.in-Branch.page)) 0 (trail_frames c.loop-opened.self) (rw c.in-Branch.is at c.loop-opened.invariant.stack)
 
 pub go_under-opened-requires-clause-stack : goal.go_under-opened-requires-clause-stack
 go_under-opened-requires-clause-stack c = rw c.in-Branch.is at c.loop-opened.invariant.stack
 
 pub go_under-opened-requires-clause-below : goal.go_under-opened-requires-clause-below
 go_under-opened-requires-clause-below c =
-    let some = branch_filled (trail_bucket c.loop-opened.self) (shown c.in-Branch.page.page).branches 0 (trail_frames c.loop-opened.self) (rw c.in-Branch.is at c.loop-opened.invariant.stack) in
-    omega (arith, some, c.keys_before-found.ensures.within, c.saturating_sub.ensures)
+    let some = branch_filled (trail_bucket c.loop-opened.self) (branches_on c.in-Branch.page) 0 (trail_frames c.loop-opened.self) (rw c.in-Branch.is at c.loop-opened.invariant.stack) in
+    let long = length-map (branches_on c.in-Branch.page) (λ (e : BranchElement). e.key) in
+    omega (arith, some, long, c.keys_before-found.ensures.within, c.saturating_sub.ensures)
 
 pub loop-opened-preserved : goal.loop-opened-preserved
 loop-opened-preserved c =
     let old = trail_bucket c.loop-opened.self in
     let now = trail_bucket c.go_under-opened.new.self in
     let key = c.args.key.now in
-    let bs = (shown c.in-Branch.page.page).branches in
+    let bs = branches_on c.in-Branch.page in
     let n = c.keys_before-found.result.before in
     let i = c.saturating_sub.result in
     let below = trail_frames c.loop-opened.self in
@@ -48,6 +49,9 @@ loop-opened-preserved c =
     let on = way_down old key below bs n i 0 e.0 stack way c.keys_before-found.ensures.place c.saturating_sub.ensures e.1 in
     grind (arith, moved_between, moved_way, counted_more)
 
+pub keys_before-found-requires-2 : goal.keys_before-found-requires-2
+keys_before-found-requires-2 c = subst KeysRise (sym (keys_opened c.loop-opened.opened)) (stack_rises (trail_bucket c.loop-opened.self) (opened_content c.loop-opened.opened) 0 (trail_frames c.loop-opened.self) c.loop-opened.invariant.stack)
+
 pub returns : goal.returns
 returns c =
     let bucket = trail_bucket c.loop-opened.self in
@@ -57,7 +61,8 @@ returns c =
     let below = trail_frames c.loop-opened.self in
     let frames : trail_frames c.push.new.self ≡ record { content = opened_content c.loop-opened.opened; taken = c.keys_before-found-2.result.before } ∷ below = rw c.from.ensures at c.push.ensures.frames in
     let is = landed bucket key (opened_content c.loop-opened.opened) leaf.0 c.keys_before-found-2.result.before (trail_frames c.push.new.self) below leaf.1 frames inv.stack
-    c.keys_before-found-2.ensures.place c.keys_before-found-2.ensures.within (omega arith) inv.between inv.way in
+    (subst (λ (keys : List Key). IsPlaceOf keys false key c.keys_before-found-2.result.before) (keys_opened c.loop-opened.opened) c.keys_before-found-2.ensures.place)
+    (omega (arith, c.keys_before-found-2.ensures.within, length_keys c.loop-opened.opened)) (omega arith) inv.between inv.way in
     let more : length (trail_frames c.push.new.self) ≡ suc (length below) = ap (λ (fs : List Frame). length fs) frames in
     let less : length below ≡ length (trail_frames c.push.new.self) - 1 = omega (arith, more) in
     let same = same_bucket c.args.self.now c.loop-opened.self inv.moved in
