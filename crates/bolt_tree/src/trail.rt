@@ -190,7 +190,7 @@ impl<'a> Trail<'a> {
             At::Page(id) => self.pager.open_tree_page(id),
             At::Inline(inline) => {
                 self.pager.note();
-                TreePage::Leaf(inline.page())
+                TreePage::Leaf(inline.page)
             }
         }
     }
