@@ -34,6 +34,8 @@ pub mod TourExists
 pub mod TourLemmas
 pub mod TourSums
 pub mod TreePages
+pub mod UnreadSteps
+pub mod UnreadWays
 pub mod UsesClaimed
 pub mod VisitLemmas
 pub mod Visited
