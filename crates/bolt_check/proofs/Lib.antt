@@ -3,6 +3,7 @@ pub mod AccountFindingsOnce
 pub mod AccountLemmas
 pub mod AccountsAlong
 pub mod Agreeing
+pub mod AnyLemmas
 pub mod CheckedLemmas
 pub mod ClaimLemmas
 pub mod CountLemmas
@@ -12,6 +13,7 @@ pub mod FreelistSteps
 pub mod Judging
 pub mod KeyLaws
 pub mod KeyOrder
+pub mod KnownPages
 pub mod Lawful
 pub mod LeafLemmas
 pub mod ListedIds

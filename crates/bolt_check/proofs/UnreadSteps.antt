@@ -1,12 +1,14 @@
 -- Which spots are still to be read: ways lead to each of them, and all pages below them are good, of which fewer are left after each step.
-use Rattle.std.proofs.Common.{◌≡◌, ◌∙◌, ℕ, ◌+◌, ◌≤◌, ◌<◌, inl, inr, List, [], ◌∷◌, ◌++◌, Some, Ok, ap, map, refl, subst, sum_by, sym, arith}
-use Rattle.bolt_check.proofs.Words.{At_inline, At_page, follow, forest, Has, HasSoundTrees, kids, Meta, Node, node_at, Nodes, PageSpot, places, root_spot, somes, Spot, sum_by-cons}
+use Rattle.std.proofs.Common.{◌≡◌, ◌∙◌, ◌&&◌, ℕ, ◌+◌, ◌≤◌, inl, inr, true, List, [], ◌∷◌, ◌++◌, Some, Result, Ok, Err, ap, not, refl, subst, sum_by, arith}
+use Rattle.bolt_check.proofs.Words.{At_inline, At_page, forest, Has, HasSoundTrees, kids, Meta, Node, node_at, Nodes, PageSpot, places, props, root_spot, somes, Spot, sum_by-cons, ∥∥₁_elim}
+use Rattle.bolt_check.proofs.Pendings.{unread_push}
 use Rattle.bolt_check.proofs.Forest.{inline_visits, lift, page_visits, root_visits, tail}
-use Rattle.bolt_check.proofs.{Lists.has_left, Lists.has_right, Lists.has_split}
+use Rattle.bolt_check.proofs.{Lists.has_split}
 use Rattle.bolt_check.proofs.TourSums.{bucket_sum, enough_kids, enough_node, pages_append, pages_of, pages_of_kids, sum_append, weight_kids}
-use Rattle.bolt_check.proofs.UnreadWays.{spots_in}
+use Rattle.bolt_check.proofs.UnreadWays.{spots_in, spots_kids}
 use Rattle.bolt_check.specs.{Subtrees.Enough, Subtrees.kid_pages, Subtrees.weight, Ways.reached}
-use Rattle.bolt_check.specs.Private.Unread.{IsReadable, Unread, mark, unread_kids}
+use Rattle.bolt_check.specs.Private.Unread.{IsReadable, Unread, mark, most_kids, unread_at, unread_kids, unread_of}
+use Rattle.bolt_check.specs.declared.for_bbolt.UnreadSpot.{UnreadSpot}
 
 -- each spot is one that a way leads to, and so many steps are enough below each page
 pub record AreReached (nodes : Nodes) (root steps : ℕ) (spots : List Spot) : Type 0 where
@@ -67,3 +69,41 @@ module _ (nodes : Nodes) (root steps : ℕ) where
     from = λ way t e. (tail way, (root_visits nodes (At_page (root_spot root))).same way t e);
     good = λ n h. elim h [ inl is ↦ subst (Enough nodes steps) is enough | inr none ↦ absurd none ];
   }
+
+  -- after a step
+  pub step_reached : (u : Unread) (rest after : List Unread) → after ≡ unread_kids nodes u ++ rest → AreReached nodes root steps (spots_in (u ∷ rest)) → AreReached nodes root steps (spots_in after)
+  unfolding kids
+  step_reached u rest after e r = by u.spot refl (rw e refl)
+    where
+      by : (spot : Spot) → u.spot ≡ spot → after ≡ unread_kids nodes u ++ rest → AreReached nodes root steps (spots_in after)
+      by (At_page s) is same =
+          let (node, page) = enough_node nodes steps s.number ((rw is at r).good s.number (inl refl)) in
+          rw (same, is, page, spots_kids (u.in_root && not node.is_leaf) rest (somes (places node.is_leaf s node.entries))) (page_reached s node page (spots_in rest) (rw is at r))
+      by (At_inline host keys) is same = rw (same, is) (inline_reached host keys (spots_in rest) (rw is at r))
+
+  -- less is left
+  pub step_left : (u : Unread) (rest after : List Unread) → after ≡ unread_kids nodes u ++ rest → AreReached nodes root steps (spots_in (u ∷ rest))
+      → left_below nodes steps (spots_in after) + most_kids u.spot ≤ left_below nodes steps (spots_in (u ∷ rest))
+  unfolding kids
+  step_left u rest after e r = by u.spot refl
+    where
+      by : (spot : Spot) → u.spot ≡ spot → left_below nodes steps (spots_in after) + most_kids u.spot ≤ left_below nodes steps (spots_in (u ∷ rest))
+      by (At_page s) is =
+          let (node, page) = enough_node nodes steps s.number ((rw is at r).good s.number (inl refl)) in
+          let left = page_left s node page (spots_in rest) ((rw is at r).good s.number (inl refl)) in
+          rw (e, is, page, spots_kids (u.in_root && not node.is_leaf) rest (somes (places node.is_leaf s node.entries))) (omega (arith, left))
+      by (At_inline host keys) is = rw (e, is) (omega arith)
+
+-- a good page has a node
+pub node_of_page : (r : Result Node ℕ) → ∥ ((node : Node) × (r ≡ Ok node)) ∥₁ → (node : Node) × (r ≡ Ok node)
+node_of_page (Ok node) good = (node, refl)
+node_of_page (Err fault) good = absurd (∥∥₁_elim good (Prim.hlevel props) (λ (node, e). cc))
+
+-- at the start the root page alone is left
+pub first_reached : (file : List ℕ) (meta : Meta) → HasSoundTrees file meta
+    → AreReached (node_at file meta) meta.root meta.high_water (spots_in (mark true (At_page (root_spot meta.root)) ∷ []))
+first_reached file meta trees = root_reached (node_at file meta) meta.root meta.high_water (bucket_sum file meta trees [] meta.root refl (λ n. 0)).0
+
+-- the topmost was taken away
+pub unread_pop : (items rest : List UnreadSpot) (u : UnreadSpot) → items ≡ rest ++ u ∷ [] → unread_of items ≡ unread_at u ∷ unread_of rest
+unread_pop items rest u e = rw e (unread_push rest u)

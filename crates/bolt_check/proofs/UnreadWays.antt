@@ -62,6 +62,11 @@ module _ {old new : Reach} {o : Option Spot} {first : List ℕ} {f : List ℕ �
 
 -- ---- a page
 
+-- what a spot leads to, and then the rest
+pub spots_kids : (in_root : Bool) (rest : List Unread) (ks : List Spot) → spots_in (map (mark in_root) ks ++ rest) ≡ ks ++ spots_in rest
+spots_kids in_root rest [] = refl
+spots_kids in_root rest (k ∷ ks) = ap (λ (l : List Spot). k ∷ l) (spots_kids in_root rest ks)
+
 and_true : (b : Bool) → (b && true) ≡ b
 and_true true = refl
 and_true false = refl
@@ -120,16 +125,12 @@ module _ (nodes : Nodes) (s : PageSpot) (in_root : Bool) (rest : List Unread) (n
   own_first : forest_findings nodes (here ∷ rest) (0 ∷ []) ≡ own_findings nodes here
   own_first = ap (λ (b : Bool). spot_findings nodes b (Some (At_page s))) (and_true in_root)
 
-  spots_kids : (ks : List Spot) → spots_in (map (mark below) ks ++ rest) ≡ ks ++ spots_in rest
-  spots_kids [] = refl
-  spots_kids (k ∷ ks) = ap (λ (l : List Spot). k ∷ l) (spots_kids ks)
-
   page_along : (found : List Finding) → AreAlong (forest nodes (spots_in (map (mark below) (somes os) ++ rest))) (forest_findings nodes (map (mark below) (somes os) ++ rest)) found
       → AreAlong (forest nodes (At_page s ∷ spots_in rest)) (forest_findings nodes (here ∷ rest)) (own_findings nodes here ++ found)
   page_along found along =
       rw (← own_first)
       (along_visit (page_visits nodes s node (spots_in rest) page) (forest_findings nodes (here ∷ rest)) (forest_findings nodes (map (mark below) (somes os) ++ rest))
-      (λ b t e. page_same b) (At_page s) refl found (rw (spots_kids (somes os)) at along))
+      (λ b t e. page_same b) (At_page s) refl found (rw (spots_kids below rest (somes os)) at along))
 
 -- ---- an inline bucket
 

@@ -6,7 +6,7 @@ ghost use Rattle.std.specs.List.{list_any};
 ghost use Rattle.bolt_check.specs.BboltFindings.{AreBboltFindings, finding_if, has_one_child, has_value, is_too_large, node_findings};
 ghost use Rattle.bolt_check.specs.{CheckedFiles.bytes_of, CheckedFiles.meta_of, Findings.keys_of, Nodes.Entry, Nodes.node_at};
 ghost use Rattle.bolt_check.specs.{Private.Pending.kids, ShownNodes.shown_node, ShownSpots.inline_keys, ShownSpots.page_spot, ShownSpots.spot_at};
-ghost use Rattle.bolt_check.specs.Private.Unread.{IsReadable, mark, own_findings, unread_at, unread_kids, unread_of};
+ghost use Rattle.bolt_check.specs.Private.Unread.{IsReadable, mark, most_kids, own_findings, unread_at, unread_kids, unread_of};
 ghost use Rattle.bolt_check.specs.{Subtrees.Enough, Ways.At_page, Ways.root_spot};
 
 use crate::checked::Checked;
@@ -77,7 +77,7 @@ fn read<'a>(
         ≡ findings.old.items ++ own_findings (node_at (bytes_of checked.now) (meta_of checked.now)) (unread_at next.entry)) }
     ensures kids { OnOk result (unread_of unread.new.items
         ≡ unread_kids (node_at (bytes_of checked.now) (meta_of checked.now)) (unread_at next.entry) ++ unread_of unread.old.items) }
-    ensures few { OnOk result (vec_len unread.new < vec_len unread.old + 65536) }
+    ensures few { OnOk result (vec_len unread.new ≤ vec_len unread.old + most_kids (spot_at next.entry.spot)) }
 {
     match next.spot {
         Spot::Page(spot) => {

@@ -36,10 +36,3 @@ inline_next old new here xs i e is most found before =
 pub leaf_kids : (xs : List LeafElement) → kid_pages true (map leaf_entry xs) ≡ flat_map root_page_of xs
 leaf_kids [] = refl
 leaf_kids (x ∷ xs) = ap (λ (l : List ℕ). root_page_of x ++ l) (leaf_kids xs)
-
-module _ (file : List ℕ) (meta : Meta) (n : ℕ) (view : PageView) (at : page_at file meta n ≡ Some view) where
-  pub no_meta : (k : ℕ) → Enough (node_at file meta) k n → view.kind ≡ kind.Meta → ⊥
-  no_meta k h is = let (node, page) = enough_node (node_at file meta) k n h in let e = sym page ∙ node_is file meta n view kind.Meta at is in cc
-
-  pub no_freelist : (k : ℕ) → Enough (node_at file meta) k n → view.kind ≡ kind.Freelist → ⊥
-  no_freelist k h is = let (node, page) = enough_node (node_at file meta) k n h in let e = sym page ∙ node_is file meta n view kind.Freelist at is in cc

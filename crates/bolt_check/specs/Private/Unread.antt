@@ -39,3 +39,8 @@ unread_kids nodes u = spot_kids nodes u.in_root u.spot
 abbrev pub IsReadable : Nodes → (steps : ℕ) → Spot → Type 0
 IsReadable nodes steps (At_page s) = (s.depth ≤ 64) × Enough nodes steps s.number
 IsReadable nodes steps (At_inline host keys) = Unit {0}
+
+-- it leads to at most so many
+abbrev pub most_kids : Spot → ℕ
+most_kids (At_page s) = 65535
+most_kids (At_inline host keys) = 0

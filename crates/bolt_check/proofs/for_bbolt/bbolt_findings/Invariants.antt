@@ -1,4 +1,4 @@
-use Rattle.std.proofs.Common.{◌≡◌, ◌+◌, ◌++◌, List, vec_len}
+use Rattle.std.proofs.Common.{◌+◌, ◌++◌, List, vec_len}
 use Rattle.bolt_check.proofs.Words.{bytes_of, Finding, forest, meta_of, node_at}
 use Rattle.bolt_check.proofs.{UnreadSteps.AreReached, UnreadSteps.left_below, UnreadWays.AreAlong, UnreadWays.forest_findings, UnreadWays.spots_in}
 use Rattle.bolt_check.specs.{BboltFindings.way_findings, Private.Unread.unread_of, Ways.reached}
@@ -11,7 +11,7 @@ invariant-loop-next l =
     let root = (meta_of l.checked).root in
     let unread = unread_of l.unread.items in
     record {
-      reached : ∥ AreReached nodes root (meta_of l.checked).high_water (spots_in unread) ∥₁;
+      stands : ∥ AreReached nodes root (meta_of l.checked).high_water (spots_in unread) ∥₁;
       carried : (found : List Finding) → AreAlong (forest nodes (spots_in unread)) (forest_findings nodes unread) found
           → AreAlong (reached nodes root) (way_findings nodes root) (l.findings.items ++ found);
     }

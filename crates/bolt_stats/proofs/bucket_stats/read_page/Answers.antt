@@ -1,8 +1,8 @@
 use Rattle.std.proofs.Common.{◌∙◌, ◌+◌, ◌++◌, List, ℕ, ap, append-nil, refl, sym}
 use Rattle.bolt_stats.proofs.Words.{bytes_of, saturated, inline_depth, leaf_entry, meta_of, node_is, props, shown, UnreadPage, ∥∥₁_elim}
 use Rattle.bolt_format.specs.declared.header.Kind.TheVariants as kind
-use Rattle.bolt_check.proofs.TourSums.{enough_shown}
-use Rattle.bolt_stats.proofs.{DepthSums.greatest_map, ReadLemmas.branch_kids, ReadLemmas.leaf_kids, ReadLemmas.no_freelist, ReadLemmas.no_meta}
+use Rattle.bolt_check.proofs.{KnownPages.no_freelist, KnownPages.no_meta, TourSums.enough_shown}
+use Rattle.bolt_stats.proofs.{DepthSums.greatest_map, ReadLemmas.branch_kids, ReadLemmas.leaf_kids}
 use Rattle.bolt_stats.proofs.bucket_stats.read_page.Goals as goal
 
 pub known-page-requires : goal.known-page-requires
