@@ -10,7 +10,7 @@ _luntsegi_options() {
         info) echo "--form --meta -h --help" ;;
         page) echo "--assume-meta -h --help" ;;
         pages) echo "--map -h --help" ;;
-        check) echo "--all --lost-and-found --etcd-snapshot --meta --assume-meta -h --help" ;;
+        check) echo "--all --lost-and-found --for-bbolt --etcd-snapshot --meta --assume-meta -h --help" ;;
         buckets) echo "--sizes --form --parts --meta --assume-meta -h --help" ;;
         keys) echo "--prefix --form --parts --meta --assume-meta -h --help" ;;
         get) echo "-n --no-newline --form --parts --meta --assume-meta -h --help" ;;

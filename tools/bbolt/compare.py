@@ -11,6 +11,9 @@ file after each round. Last, bbolt has to stop with a panic on a copy that has a
 branch of one child, and never on the copy of the same file for bbolt: without the first, nothing
 would show that these transactions can find such a branch. It has to do the same when it deletes every
 key. From each copy that the commands of DOCUMENT made, bbolt deletes every key: each was made for it.
+
+Each file in which `check --for-bbolt` finds nothing, bbolt empties key by key, and copies by its own compact. Of each of
+the three things that it finds, one file makes bbolt fail.
 """
 
 import argparse
@@ -24,6 +27,13 @@ KINDS = ["wide", "nested", "inline", "long", "churn"]
 COUNTED = [b"keys", b"branch pages", b"branch overflow", b"leaf pages", b"leaf overflow"]
 PANIC = 3
 FOR_BBOLT = "--for-bbolt"
+ONE_CHILD = b": branch of one child"
+# Listings of what bbolt fails on, and the line that `check --for-bbolt` prints of a file with it.
+FAILING = {
+    "root_value": ("61 = 62\n", b"page 3: value in the root bucket"),
+    "large_key": (f"62 bucket 0\n62/{'6b' * 32_769} = 76\n", b"page 3: key too large for bbolt"),
+}
+COMPACTED_AT_ONCE = "65536"
 STEPS = "60"
 RUNS = 12
 
@@ -94,10 +104,31 @@ class Programs:
         want(self.lone_children(out) == 0, file, "what is loaded for bbolt has a branch of one child")
         return out
 
+    def found_for_bbolt(self, file):
+        """What `check --for-bbolt` finds in a sound file."""
+        return [line for line in ended(self.program, "check", FOR_BBOLT, file)[1].splitlines() if b": " in line]
+
     def lone_children(self, file):
         """How many branch pages have one child."""
         rows = [line.split() for line in ended(self.program, "pages", file)[1].splitlines()]
-        return sum(row[1:3] == [b"branch", b"1"] for row in rows)
+        count = sum(row[1:3] == [b"branch", b"1"] for row in rows)
+        found = sum(line.endswith(ONE_CHILD) for line in self.found_for_bbolt(file))
+        want(count == found, file, "branches of one child:", count, "and not", found)
+        return count
+
+    def compact(self, file, folder):
+        """The status of bbolt's own compact."""
+        out = os.path.join(folder, "compacted.db")
+        if os.path.exists(out):
+            os.remove(out)
+        return ended(self.bbolt, "compact", file, out, COMPACTED_AT_ONCE)[0]
+
+    def write_if_it_can(self, file, folder):
+        """If nothing is found in a file that bbolt fails on, it deletes every key, and compacts the file."""
+        if self.found_for_bbolt(file):
+            return
+        want(self.empty(file, folder) == 0, file, "bbolt can't delete every key")
+        want(self.compact(file, folder) == 0, file, "bbolt can't compact it")
 
     def change(self, file, seed):
         """Random transactions by bbolt: its status."""
@@ -115,6 +146,7 @@ def compare_file(programs, file, folder):
     if not programs.is_sound(file):
         return
     programs.compare(file)
+    programs.write_if_it_can(file, folder)
     out = os.path.join(folder, "copy.db")
     copies = [programs.copy, programs.copy_for_bbolt]
     if programs.has_entries(file):
@@ -122,6 +154,7 @@ def compare_file(programs, file, folder):
     for copy in copies:
         want(programs.is_sound(copy(file, out)), file, "a copy isn't accepted")
         programs.compare(out)
+        programs.write_if_it_can(out, folder)
 
 
 def change_file(programs, file, rounds):
@@ -153,6 +186,21 @@ def compare_panics(programs, file, folder):
     want(panics(programs, copy, folder, RUNS) == 0, file, "bbolt panics on the copy for bbolt")
     want(programs.empty(copy, folder) == 0, file, "bbolt can't delete every key of the copy for bbolt")
     return count
+
+
+def compare_failing(programs, folder):
+    """Bbolt fails on a file of each of these listings, and `check --for-bbolt` says why."""
+    for name, (text, line) in FAILING.items():
+        file = os.path.join(folder, name + ".db")
+        if os.path.exists(file):
+            os.remove(file)
+        with open(file + ".list", "w", encoding="ascii") as lines:
+            lines.write(text)
+        want(ended(programs.program, "load", FOR_BBOLT, "-o", file, file + ".list")[0] == 0, file, "isn't loaded")
+        want(ended(programs.program, "check", file)[0] == 0, file, "isn't sound")
+        found = programs.found_for_bbolt(file)
+        want(found == [line], file, "found is", found)
+        want(programs.compact(file, folder) != 0, file, "bbolt compacts it")
 
 
 def empty_copies(programs, guide, folder):
@@ -187,6 +235,7 @@ def main():
     for file in words.files + made:
         compare_file(programs, file, words.folder)
     count = compare_panics(programs, made[KINDS.index("long")], words.folder)
+    compare_failing(programs, words.folder)
     for file in made:
         change_file(programs, programs.copy_for_bbolt(file, file + ".copy"), words.rounds)
         change_file(programs, programs.load_for_bbolt(file, file + ".loaded"), words.rounds)
@@ -194,8 +243,8 @@ def main():
     emptied = empty_copies(programs, words.guide, words.folder) if words.guide else 0
     print(f"{len(words.files) + len(made)} files compared with bbolt; {len(made)}, their copies for "
           f"bbolt and what is loaded of them after each of {words.rounds} rounds of {STEPS} transactions; {count} of {RUNS} runs on a "
-          f"branch of one child panic, and none on the copy for bbolt; every key deleted from {emptied} copies "
-          "of the guide")
+          f"branch of one child panic, and none on the copy for bbolt; it fails on {len(FAILING)} others that "
+          f"check --for-bbolt finds; every key deleted from {emptied} copies of the guide")
 
 
 if __name__ == "__main__":

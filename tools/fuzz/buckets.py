@@ -44,6 +44,8 @@ def draw_number(draw):
 
 def draw_key(draw, page_size):
     kind = draw.randrange(20)
+    if kind == 0 and draw.random() < 0.05:
+        return draw.randbytes(draw.choice([32_767, 32_768]) + draw.randint(1, 2))
     if kind == 0:
         return draw.randbytes(draw.randint(1, 2 * page_size))
     if kind < 7:

@@ -5,6 +5,7 @@ import os
 from assumed import compare_assumed
 from copies import compare_copy, compare_prefixes, compare_slot
 from findings import ACCOUNT_FAULTS, compare_accounts, compare_bad_page, findings_of
+from for_bbolt import compare_for_bbolt, compare_refused_for_bbolt
 from listings import compare_keys, compare_missing, compare_order, compare_rests, compare_values
 from loads import compare_loads
 from options import compare_options
@@ -37,6 +38,7 @@ def compare_sound(file):
     compare_copy(file, listing)
     compare_prefixes(file, os.path.join(file.folder, "copy.db"))
     compare_snapshot(file, listing)
+    compare_for_bbolt(file)
     compare_loads(file, listing)
     compare_store(file, entries)
     for slot in (0, 1):
@@ -114,6 +116,7 @@ def compare(file):
         compare_unsound(file, checked)
     if not checked.is_ok():
         compare_unread_store(file, checked)
+        compare_refused_for_bbolt(file, checked)
     compare_hash(file)
     compare_hash(file, "--all")
     if not checked.err:

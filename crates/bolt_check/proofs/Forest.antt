@@ -19,11 +19,11 @@ flat None = None
 flat (Some o) = o
 
 -- the k-th of the spots in `os`, and then of the rest: at which pair, or which of the rest
-abbrev up : ℕ ⊎ ℕ → ℕ ⊎ ℕ
+abbrev pub up : ℕ ⊎ ℕ → ℕ ⊎ ℕ
 up (inl j) = inl (suc j)
 up (inr k) = inr k
 
-abbrev where_is : List (Option Spot) → ℕ → ℕ ⊎ ℕ
+abbrev pub where_is : List (Option Spot) → ℕ → ℕ ⊎ ℕ
 where_is [] k = inr k
 where_is (None ∷ os) k = up (where_is os k)
 where_is (Some s ∷ os) zero = inl 0
@@ -65,7 +65,7 @@ where_all (None ∷ os) rest (inr k) t e = let p = where_all os rest (inr k) t e
 where_all (Some s ∷ os) rest (inr k) t e = let p = where_all os rest (inr k) t e in (suc p.0, ap up p.1)
 where_all os rest x t e = grind (arith, nothing_is)
 
-abbrev way_of : ℕ ⊎ ℕ → List ℕ → List ℕ
+abbrev pub way_of : ℕ ⊎ ℕ → List ℕ → List ℕ
 way_of (inl j) v = 0 ∷ (j ∷ v)
 way_of (inr k) v = suc k ∷ v
 

@@ -3,6 +3,7 @@ pub mod AccountFindingsOnce
 pub mod AccountLemmas
 pub mod AccountsAlong
 pub mod Agreeing
+pub mod AnyLemmas
 pub mod CheckedLemmas
 pub mod ClaimLemmas
 pub mod CountLemmas
@@ -12,6 +13,7 @@ pub mod FreelistSteps
 pub mod Judging
 pub mod KeyLaws
 pub mod KeyOrder
+pub mod KnownPages
 pub mod Lawful
 pub mod LeafLemmas
 pub mod ListedIds
@@ -34,6 +36,8 @@ pub mod TourExists
 pub mod TourLemmas
 pub mod TourSums
 pub mod TreePages
+pub mod UnreadSteps
+pub mod UnreadWays
 pub mod UsesClaimed
 pub mod VisitLemmas
 pub mod Visited

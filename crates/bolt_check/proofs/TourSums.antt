@@ -17,7 +17,7 @@ pages_of (At_inline host keys ∷ spots) = pages_of spots
 abbrev result_of : Node → Result Node ℕ
 result_of node = Ok node
 
-pages_append : (a b : List Spot) → pages_of (a ++ b) ≡ pages_of a ++ pages_of b
+pub pages_append : (a b : List Spot) → pages_of (a ++ b) ≡ pages_of a ++ pages_of b
 pages_append [] b = refl
 pages_append (At_page s ∷ a) b = ap (λ (l : List ℕ). s.number ∷ l) (pages_append a b)
 pages_append (At_inline host keys ∷ a) b = pages_append a b
@@ -27,7 +27,7 @@ somes_bucket : (bucket small : Bool) (host : ℕ) (e : Entry) (os : List (Option
 somes_bucket bucket small host e os = grind arith
 
 -- the pages that a page leads to are those of its kids
-pages_of_kids : (is_leaf : Bool) (s : PageSpot) (entries : List Entry) → pages_of (somes (places is_leaf s entries)) ≡ kid_pages is_leaf entries
+pub pages_of_kids : (is_leaf : Bool) (s : PageSpot) (entries : List Entry) → pages_of (somes (places is_leaf s entries)) ≡ kid_pages is_leaf entries
 pages_of_kids is_leaf s [] = refl
 pages_of_kids false s (e ∷ entries) = ap (λ (l : List ℕ). e.child ∷ l) (pages_of_kids false s entries)
 pages_of_kids true s (e ∷ entries) = somes_bucket e.is_bucket (e.child == 0) s.number e (places true s entries) ∙ ap (λ (l : List ℕ). root_page e ++ l) (pages_of_kids true s entries)

@@ -36,7 +36,7 @@ ended nodes items {d = d} carried none =
     let h = rw none at carried in
     (h.clean (clean_end nodes d), λ n. (λ m. (h.covered n).0 (inl m), λ m. covered_end nodes d n ((h.covered n).1 m)))
 
-pub none_left : (items rest : List CodeSpot) (n : ℕ) → n ≡ 0 → rest ≡ take (n - 1) items → items ≡ rest ++ [] → items ≡ []
+pub none_left : {X : Type 0} (items rest : List X) (n : ℕ) → n ≡ 0 → rest ≡ take (n - 1) items → items ≡ rest ++ [] → items ≡ []
 none_left items rest n z r e = grind arith
 
 -- the topmost was taken away

@@ -1,6 +1,7 @@
 pub mod AccountFindings
 pub mod Accounts
 pub mod Assumed
+pub mod BboltFindings
 pub mod CheckedFiles
 pub mod Claims
 pub mod Counts

@@ -6,4 +6,5 @@ pub mod Pending
 pub mod RoleTables
 pub mod SearchFaults
 pub mod Tables
+pub mod Unread
 pub mod Uses

@@ -36,6 +36,12 @@ impl Finding {
     pub const UNREACHABLE: u8 = 26;
     /// The page is listed as free, but is a meta page, or at or above the high-water mark.
     pub const FREE_RANGE: u8 = 27;
+    /// A branch has one element, which bbolt can't delete below.
+    pub const ONE_CHILD: u8 = 37;
+    /// A leaf of the root bucket has an element that isn't a bucket.
+    pub const ROOT_VALUE: u8 = 38;
+    /// A key is longer than bbolt writes one.
+    pub const LARGE_KEY: u8 = 39;
 
     /// A finding of one page.
     pub fn of_page(code: u8, page: u64) -> Finding

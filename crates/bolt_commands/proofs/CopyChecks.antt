@@ -1,5 +1,5 @@
 -- What `check` answers to a good copy, and to its proper prefixes.
-use Rattle.std.proofs.Common.{◌≡◌, ◌≢◌, ◌∙◌, ◌⊎◌, ◌∷◌, ◌<◌, ℕ, List, [], Bool, true, false, IsTrue, Option, None, Some, Ok, ap, codes, inl, inr, length, refl}
+use Rattle.std.proofs.Common.{◌≡◌, ◌≢◌, ◌∙◌, ◌&&◌, ◌⊎◌, ◌∷◌, ◌<◌, ℕ, List, [], Bool, true, false, IsTrue, Option, None, Some, Ok, ap, codes, inl, inr, length, refl}
 use Rattle.std.proofs.Common.{subst, sym, take}
 use Rattle.bolt_commands.proofs.Vocabulary.{Active, Answer, AnswersLost, AreLosses, CheckFault, Extent, FileFaults, First, HasBothMetas, HasSoundTrees, IsCheckAnswer, IsCheckAnswerAfter, IsActive, IsFoundAnswer, IsGoodCopy, IsLostAnswer, IsMetaOf, IsMetasFault, IsOtherFault, IsSnapshot, IsSound, LossView, Losses, Member, Meta, MetaFault, Site, RefusesFile, Slot, cases_lt, check_refusal, copy_of, done, found, hash_fault, hash_found, loss_at, losses_of, none_found, site_at, refused}
 use Rattle.bolt_commands.proofs.Vocabulary.{everything, has_losses, parts}
@@ -12,6 +12,8 @@ use Rattle.bolt_job.specs.declared.choices.Extent.TheVariants.{LostAndFound}
 use Rattle.bolt_commands.specs.declared.failure.Failure.TheVariants as failure
 use Rattle.bolt_commands.proofs.ReadFiles.{read_active, refused_active}
 use Rattle.bolt_commands.proofs.SoundReads.{NamesOne, keeps_not_loses, unread}
+use Rattle.bolt_commands.specs.{Answers.AreFoundFor, Answers.all_found, FileFaults.is_fine}
+use Rattle.bolt_check.specs.declared.finding.Finding.{Finding}
 
 -- what the laws of the crates below say
 pub record Laws : Type 0 where
@@ -50,21 +52,33 @@ no_other_fault : (extent : Extent) (file : List ℕ) → HasBothMetas file → (
 no_other_fault First file both other is = is
 no_other_fault extent file both other is = no_other file both other is
 
-wrong_hash : (faults : FileFaults) (fault : SnapshotFault) → faults.hash ≡ Some fault → none_found faults ≡ found faults []
-wrong_hash faults fault is = rw is refl
+wrong_hash : (faults : FileFaults) (fault : SnapshotFault) → faults.hash ≡ Some fault → (findings : List Finding) → all_found faults findings ≡ found faults findings
+wrong_hash faults fault is [] = rw is refl
+wrong_hash faults fault is (x ∷ findings) = refl
+
+-- nothing is found if it isn't looked for what bbolt fails on
+pub none_looked_for : (file : List ℕ) (meta : Meta) (findings : List Finding) → AreFoundFor false file meta findings → findings ≡ []
+none_looked_for file meta findings none = none
 
 -- ---- a file that `check` accepts, and nothing else is wrong with it
 
 abbrev IsFine : Answer → Type 0
 IsFine answer = (answer ≡ done (codes "OK\n")) ⊎ (answer ≡ refused failure.Memory)
 
-module _ (laws : Laws) (faults : FileFaults) (file : List ℕ) (slot : Slot) (meta : Meta) (answer : Answer) (right : faults ≡ no_faults) (chosen : IsActive file slot meta)
-    (sound : IsSound file meta true) where
+module _ (laws : Laws) (for_bbolt : Bool) (faults : FileFaults) (file : List ℕ) (slot : Slot) (meta : Meta) (answer : Answer) (right : faults ≡ no_faults)
+    (chosen : IsActive file slot meta) (sound : IsSound file meta true) (clean : (findings : List Finding) → AreFoundFor for_bbolt file meta findings → findings ≡ []) where
   one : NamesOne file Active meta
   one = one_active laws file slot meta chosen
 
-  fine_found : IsFoundAnswer faults file Active answer → IsFine answer
-  fine_found (inl (own, under, said)) = inl (said ∙ ap none_found right)
+  looked_for : (own : Meta) (findings : List Finding) → IsMetaOf file Active own → AreFoundFor (for_bbolt && is_fine faults) file own findings → findings ≡ []
+  looked_for own findings is are = clean findings (by for_bbolt (rw (right, one own is) at are))
+    where
+      by : (asked : Bool) → AreFoundFor (asked && true) file meta findings → AreFoundFor asked file meta findings
+      by true found = found
+      by false found = found
+
+  fine_found : IsFoundAnswer for_bbolt faults file Active answer → IsFine answer
+  fine_found (inl (own, findings, under, are, said)) = inl (said ∙ (ap (all_found faults) (looked_for own findings under.0 are) ∙ ap none_found right))
   fine_found (inr (fault, is, said)) = inr (said ∙ ap (check_refusal faults) (unread file meta sound.trees Active fault one (read_active file slot meta chosen sound) is))
 
   none_lost : (own : Meta) (losses : List LossView) → IsMetaOf file Active own → AreLosses file own losses → losses ≡ []
@@ -72,27 +86,28 @@ module _ (laws : Laws) (faults : FileFaults) (file : List ℕ) (slot : Slot) (me
       let trees = subst (HasSoundTrees file) (sym (one own is)) sound.trees in
       same ∙ none_of file own survey (λ v has. laws.lose file own survey v trees surveys has)
 
-  fine_lost : (extent : Extent) → IsLostAnswer extent faults file Active answer → IsFine answer
+  fine_lost : (extent : Extent) → IsLostAnswer extent for_bbolt faults file Active answer → IsFine answer
   fine_lost extent (inl (own, parts reported, pages, is, (keeps, all), finds, answers)) =
       let (losses, are) = has_losses file own in
-      fine_found (subst (λ (ls : List LossView). AnswersLost faults file Active (parts ls) pages answer) (all losses are ∙ none_lost own losses is are) answers)
+      fine_found (subst (λ (ls : List LossView). AnswersLost for_bbolt faults file Active (parts ls) pages answer) (all losses are ∙ none_lost own losses is are) answers)
   fine_lost extent (inl (own, everything x, pages, is, loses, finds, said)) = absurd (keeps_not_loses file meta sound.trees own x (one own is) loses)
   fine_lost extent (inr (inl (fault, (bad, none), said))) = absurd (none slot meta chosen.valid)
   fine_lost extent (inr (inr (may, said))) = inr said
 
-  fine : (extent : Extent) → IsCheckAnswerAfter extent faults file Active answer → IsFine answer
+  fine : (extent : Extent) → IsCheckAnswerAfter extent for_bbolt faults file Active answer → IsFine answer
   fine First is = fine_found is
   fine Losses is = fine_lost Losses is
   fine LostAndFound is = fine_lost LostAndFound is
 
-pub passes : Laws → (extent : Extent) (snapshot : Bool) (layout : List ℕ) (listing : List Member) (answer : Answer) → IsGoodCopy snapshot layout listing
-    → IsCheckAnswer extent snapshot (copy_of snapshot layout) Active answer → (answer ≡ done (codes "OK\n")) ⊎ (answer ≡ refused failure.Memory)
-passes laws extent snapshot layout listing answer good (faults, are, is) =
+pub passes : Laws → (extent : Extent) (snapshot for_bbolt : Bool) (layout : List ℕ) (listing : List Member) (answer : Answer) → IsGoodCopy snapshot layout listing
+    → ((slot : Slot) (meta : Meta) → IsActive (copy_of snapshot layout) slot meta → (findings : List Finding) → AreFoundFor for_bbolt (copy_of snapshot layout) meta findings → findings ≡ [])
+    → IsCheckAnswer extent snapshot for_bbolt (copy_of snapshot layout) Active answer → (answer ≡ done (codes "OK\n")) ⊎ (answer ≡ refused failure.Memory)
+passes laws extent snapshot for_bbolt layout listing answer good clean (faults, are, is) =
     let (slot, meta, chosen, sound, lists) = good.accepted in
     let file = copy_of snapshot layout in
     let hash = are.hash ∙ no_hash_fault snapshot file good.hash in
     let other = no_other_fault extent file good.metas faults.other are.metas in
-    fine laws faults file slot meta answer (rw (hash, other) refl) chosen sound extent is
+    fine laws for_bbolt faults file slot meta answer (rw (hash, other) refl) chosen sound (clean slot meta chosen) extent is
 
 -- ---- a file that `check` refuses, or whose hash isn't right
 
@@ -104,28 +119,28 @@ not_ok faults fault same = cc
 ends_so : {answer other : Answer} → answer ≡ other → other.ending ≢ Ok 0 → answer.ending ≢ Ok 0
 ends_so said not same = not (sym (ap (λ (a : Answer). a.ending) said) ∙ same)
 
-module _ (laws : Laws) (faults : FileFaults) (file : List ℕ) (answer : Answer) where
-  fails_found : RefusesFile file ⊎ ((fault : SnapshotFault) × (faults.hash ≡ Some fault)) → IsFoundAnswer faults file Active answer → answer.ending ≢ Ok 0
+module _ (laws : Laws) (for_bbolt : Bool) (faults : FileFaults) (file : List ℕ) (answer : Answer) where
+  fails_found : RefusesFile file ⊎ ((fault : SnapshotFault) × (faults.hash ≡ Some fault)) → IsFoundAnswer for_bbolt faults file Active answer → answer.ending ≢ Ok 0
   fails_found why (inr (fault, is, said)) = ends_so said (not_ok faults fault)
-  fails_found (inl (fault, other, is)) (inl (meta, ((slot, chosen), sound, right), said)) =
+  fails_found (inl (fault, other, is)) (inl (meta, findings, ((slot, chosen), sound, right), are, said)) =
       absurd (other (unread file meta sound Active fault (one_active laws file slot meta chosen) ((slot, chosen), sound, right) (refused_active file fault is)))
-  fails_found (inr (fault, wrong)) (inl (meta, under, said)) = ends_so (said ∙ wrong_hash faults fault wrong) (λ same. cc)
+  fails_found (inr (fault, wrong)) (inl (meta, findings, under, are, said)) = ends_so (said ∙ wrong_hash faults fault wrong findings) (λ same. cc)
 
-  fails_lost : (extent : Extent) → RefusesFile file ⊎ ((fault : SnapshotFault) × (faults.hash ≡ Some fault)) → IsLostAnswer extent faults file Active answer → answer.ending ≢ Ok 0
+  fails_lost : (extent : Extent) → RefusesFile file ⊎ ((fault : SnapshotFault) × (faults.hash ≡ Some fault)) → IsLostAnswer extent for_bbolt faults file Active answer → answer.ending ≢ Ok 0
   fails_lost extent why (inl (meta, parts [], pages, is, all, finds, answers)) = fails_found why answers
   fails_lost extent why (inl (meta, parts (loss ∷ losses), pages, is, all, finds, said)) = ends_so said (λ same. cc)
   fails_lost extent why (inl (meta, everything x, pages, is, loses, finds, said)) = ends_so said (λ same. cc)
   fails_lost extent why (inr (inl (fault, none, said))) = ends_so said (λ same. cc)
   fails_lost extent why (inr (inr (may, said))) = ends_so said (λ same. cc)
 
-  fails_after : (extent : Extent) → RefusesFile file ⊎ ((fault : SnapshotFault) × (faults.hash ≡ Some fault)) → IsCheckAnswerAfter extent faults file Active answer → answer.ending ≢ Ok 0
+  fails_after : (extent : Extent) → RefusesFile file ⊎ ((fault : SnapshotFault) × (faults.hash ≡ Some fault)) → IsCheckAnswerAfter extent for_bbolt faults file Active answer → answer.ending ≢ Ok 0
   fails_after First why is = fails_found why is
   fails_after Losses why is = fails_lost Losses why is
   fails_after LostAndFound why is = fails_lost LostAndFound why is
 
-pub fails : Laws → (extent : Extent) (snapshot : Bool) (layout : List ℕ) (listing : List Member) (n : ℕ) (answer : Answer) → IsGoodCopy snapshot layout listing
+pub fails : Laws → (extent : Extent) (snapshot for_bbolt : Bool) (layout : List ℕ) (listing : List Member) (n : ℕ) (answer : Answer) → IsGoodCopy snapshot layout listing
     → n < length (copy_of snapshot layout)
-    → IsCheckAnswer extent snapshot (take n (copy_of snapshot layout)) Active answer → answer.ending ≢ Ok 0
-fails laws extent snapshot layout listing n answer good less (faults, are, is) =
-    fails_after laws faults (take n (copy_of snapshot layout)) answer extent
+    → IsCheckAnswer extent snapshot for_bbolt (take n (copy_of snapshot layout)) Active answer → answer.ending ≢ Ok 0
+fails laws extent snapshot for_bbolt layout listing n answer good less (faults, are, is) =
+    fails_after laws for_bbolt faults (take n (copy_of snapshot layout)) answer extent
     (elim (cases_lt n (length layout)) [ inl early ↦ inl (good.cut_layout n early) | inr late ↦ inr (_, are.hash ∙ good.cut_hash n late less) ]) is

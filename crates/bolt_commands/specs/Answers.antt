@@ -1,9 +1,10 @@
 -- What the program answers to each command, and what its sinks accept: docs/COMMANDS.md, "What a run writes".
-use Rattle.std.specs.Prelude.{◌≡◌, ◌≢◌, ◌<◌, ◌≤◌, ◌-◌, ◌^◌, ◌⊎◌, ℕ, zero, suc, nat_lt, List, [], ◌∷◌, ◌++◌, Bool, true, false, IsTrue, codes, decimal, length, map, take, Option, Some, None, Result, Ok, Err, if◌then◌else◌}
+use Rattle.std.specs.Prelude.{◌≡◌, ◌≢◌, ◌<◌, ◌≤◌, ◌-◌, ◌^◌, ◌⊎◌, ◌&&◌, ℕ, zero, suc, nat_lt, List, [], ◌∷◌, ◌++◌, Bool, true, false, IsTrue, codes, decimal, length, map, take, Option, Some, None, Result, Ok, Err, if◌then◌else◌}
 use Rattle.std.specs.Io.KnownBytes.{Appends, Keeps}
 use Rattle.bolt_bulk.specs.Compacting.{too_many}
 use Rattle.bolt_layout.specs.Copies.{layout_of_listing}
 use Rattle.bolt_check.specs.{AccountFindings.AreAccountFindings, Roles.AreRoles, Sound.HasRightAccounts, Sound.HasSoundTrees, Sound.IsFirstFinding, Sound.IsUsed}
+use Rattle.bolt_check.specs.{BboltFindings.AreBboltFindings, Nodes.node_at}
 use Rattle.bolt_check.specs.declared.fault.CheckFault.{CheckFault}
 use Rattle.bolt_check.specs.declared.fault.CheckFault.TheVariants as check
 use Rattle.bolt_check.specs.{declared.finding.Finding.Finding, declared.role_table.Role.Role}
@@ -108,6 +109,11 @@ found faults findings = record { out = fault_lines faults ++ findings_text (erro
 -- nothing else is wrong
 abbrev pub none_found : FileFaults → Answer
 none_found faults = if is_fine faults then done (codes "OK\n") else found faults []
+
+-- these findings too
+abbrev pub all_found : FileFaults → List Finding → Answer
+all_found faults [] = none_found faults
+all_found faults (x ∷ findings) = found faults (x ∷ findings)
 
 abbrev pub check_refusal : FileFaults → CheckFault → Answer
 check_refusal faults (check.Open fault) = record { out = fault_lines faults; ending = Err (failure.Metas fault) }
@@ -275,9 +281,16 @@ IsReadAnswer file choice IsAccepted answer =
 
 -- ---- `check`
 
-abbrev pub IsFoundAnswer : FileFaults → List ℕ → MetaChoice → Answer → Type 0
-IsFoundAnswer faults file choice answer =
-    ((meta : Meta) × IsReadUnder file choice meta × (answer ≡ none_found faults))
+-- what is found of a sound file: what bbolt fails on, if that is looked for, and otherwise nothing
+abbrev pub AreFoundFor : (for_bbolt : Bool) → List ℕ → Meta → List Finding → Type 0
+AreFoundFor true file meta findings = ∥ AreBboltFindings (node_at file meta) meta.root findings ∥₁
+AreFoundFor false file meta findings = findings ≡ []
+
+-- it is looked for if nothing else is wrong
+abbrev pub IsFoundAnswer : (for_bbolt : Bool) → FileFaults → List ℕ → MetaChoice → Answer → Type 0
+IsFoundAnswer for_bbolt faults file choice answer =
+    ((meta : Meta) × (findings : List Finding) × IsReadUnder file choice meta × AreFoundFor (for_bbolt && is_fine faults) file meta findings
+    × (answer ≡ all_found faults findings))
     ⊎ ((fault : CheckFault) × IsRefusedUnder file choice fault × (answer ≡ check_refusal faults fault))
 
 -- ---- what is recovered of a damaged file
@@ -309,9 +322,9 @@ AreFoundTo extent file meta found = found ≡ []
 -- ---- `check --all` and `check --lost-and-found`
 
 -- if nothing is lost, what `check` writes
-abbrev pub AnswersLost : FileFaults → List ℕ → MetaChoice → LostView → List FoundView → Answer → Type 0
-AnswersLost faults file choice (parts []) found answer = IsFoundAnswer faults file choice answer
-AnswersLost faults file choice lost found answer = answer ≡ lost_and_found faults lost found
+abbrev pub AnswersLost : (for_bbolt : Bool) → FileFaults → List ℕ → MetaChoice → LostView → List FoundView → Answer → Type 0
+AnswersLost for_bbolt faults file choice (parts []) found answer = IsFoundAnswer for_bbolt faults file choice answer
+AnswersLost for_bbolt faults file choice lost found answer = answer ≡ lost_and_found faults lost found
 
 -- memory may run out; where pages are looked for, only of a file that has the meta
 abbrev pub MayRunOut : Extent → List ℕ → MetaChoice → Type 0
@@ -319,10 +332,10 @@ MayRunOut LostAndFound file choice = (meta : Meta) × IsMetaOf file choice meta
 MayRunOut extent file choice = Unit {0}
 
 -- all that is lost and found under the meta that is chosen; or there is none; or memory ran out
-abbrev pub IsLostAnswer : Extent → FileFaults → List ℕ → MetaChoice → Answer → Type 0
-IsLostAnswer extent faults file choice answer =
+abbrev pub IsLostAnswer : Extent → (for_bbolt : Bool) → FileFaults → List ℕ → MetaChoice → Answer → Type 0
+IsLostAnswer extent for_bbolt faults file choice answer =
     ((meta : Meta) × (lost : LostView) × (found : List FoundView) × IsMetaOf file choice meta × IsAllLost file meta lost × AreFoundTo extent file meta found
-    × AnswersLost faults file choice lost found answer)
+    × AnswersLost for_bbolt faults file choice lost found answer)
     ⊎ ((fault : MetaFault) × HasNoMetaOf file choice fault × (answer ≡ check_refusal faults (check.Open fault)))
     ⊎ (MayRunOut extent file choice × (answer ≡ refused failure.Memory))
 
@@ -347,14 +360,14 @@ IsUnjoinedUnder file choice why =
     ⊎ ((fault : MetaFault) × HasNoMetaOf file choice fault × (why ≡ failure.Metas fault))
 
 -- `check` to any extent of a file of which is known what else is wrong with it
-abbrev pub IsCheckAnswerAfter : Extent → FileFaults → List ℕ → MetaChoice → Answer → Type 0
-IsCheckAnswerAfter First faults file choice answer = IsFoundAnswer faults file choice answer
-IsCheckAnswerAfter extent faults file choice answer = IsLostAnswer extent faults file choice answer
+abbrev pub IsCheckAnswerAfter : Extent → (for_bbolt : Bool) → FileFaults → List ℕ → MetaChoice → Answer → Type 0
+IsCheckAnswerAfter First for_bbolt faults file choice answer = IsFoundAnswer for_bbolt faults file choice answer
+IsCheckAnswerAfter extent for_bbolt faults file choice answer = IsLostAnswer extent for_bbolt faults file choice answer
 
 -- the same of any file, and of a snapshot
-abbrev pub IsCheckAnswer : Extent → (snapshot : Bool) → List ℕ → MetaChoice → Answer → Type 0
-IsCheckAnswer extent snapshot file choice answer =
-    (faults : FileFaults) × AreFileFaults extent snapshot file choice faults × IsCheckAnswerAfter extent faults file choice answer
+abbrev pub IsCheckAnswer : Extent → (snapshot for_bbolt : Bool) → List ℕ → MetaChoice → Answer → Type 0
+IsCheckAnswer extent snapshot for_bbolt file choice answer =
+    (faults : FileFaults) × AreFileFaults extent snapshot file choice faults × IsCheckAnswerAfter extent for_bbolt faults file choice answer
 
 -- ---- what `list` and `compact` read of a file, to any extent
 
@@ -625,7 +638,7 @@ module _ {O T : Type 0} (out_taken : O → Option (List ℕ)) (out_failed : O �
   DoesJob file (job.Info j) = Prints (IsInfoAnswer file j.slot j.form)
   DoesJob file (job.Page j) = Prints (IsPageAnswer file j.meta j.id)
   DoesJob file (job.Pages j) = Prints (IsReadAnswer file Active (IsPagesAnswer file j.map))
-  DoesJob file (job.Check j) = Prints (IsCheckAnswer j.extent j.snapshot file j.meta)
+  DoesJob file (job.Check j) = Prints (IsCheckAnswer j.extent j.snapshot j.for_bbolt file j.meta)
   DoesJob file (job.Buckets j) = Prints (IsBucketsPrint j file)
   DoesJob file (job.Stats j) = Prints (IsStatsPrint j file)
   DoesJob file (job.Keys j) = Prints (IsKeysPrint j file)

@@ -1,8 +1,10 @@
 //! The command `check`: the findings, each loss, or also each page that is found.
-ghost use Rattle.std.specs.Prelude.{◌≢◌, map};
+ghost use Rattle.std.specs.Prelude.{◌≢◌, ◌&&◌, IfOk, map};
 ghost use Rattle.std.specs.List.{All};
+ghost use Rattle.bolt_check.specs.CheckedFiles.{bytes_of, meta_of};
 ghost use Rattle.bolt_recover.specs.ShownLosses.{lost_view};
-ghost use Rattle.bolt_commands.specs.Answers.{Does, IsCheckAnswer, check_refusal, found, lost_and_found, none_found};
+ghost use Rattle.bolt_commands.specs.Answers.{AreFoundFor, Does, IsCheckAnswer, all_found, check_refusal, found, lost_and_found};
+ghost use Rattle.bolt_commands.specs.FileFaults.{is_fine};
 ghost use Rattle.bolt_report.specs.FoundLines.{IsFoundLeaf, found_view};
 ghost use Rattle.bolt_commands.specs.Private.{Checks.ChecksTo, Checks.unopened, Printing.PrintsAnswer};
 ghost use Rattle.bolt_check.specs.declared.fault.CheckFault.TheVariants as check;
@@ -10,7 +12,7 @@ ghost use Rattle.bolt_check.specs.declared.fault.CheckFault.TheVariants as check
 use crate::failure::{Failure, Outcome};
 use crate::file_faults::{FileFaults, put_file_faults};
 use crate::opening::Input;
-use bolt_check::{CheckFault, Finding};
+use bolt_check::{CheckFault, Checked, Finding, NoMemory, bbolt_findings};
 use bolt_format::{MetaFault, Sink};
 use bolt_job::{CheckJob, Extent, MetaChoice};
 use bolt_recover::{Found, Lost};
@@ -25,17 +27,20 @@ struct Checking<'f> {
     choice: MetaChoice,
     /// What is wrong with the file apart from its pages, which is written first.
     faults: FileFaults,
+    /// Whether it is also looked for what bbolt fails on when it writes into the file.
+    for_bbolt: bool,
 }
 
 /// Writes `OK` if nothing is wrong with the file. Otherwise it writes what is wrong apart from its
 /// pages, and then the findings, or each loss, or also each page that is found.
 pub(crate) fn print_check<O: Sink>(input: Input<'_>, job: &CheckJob, out: &mut O) -> Outcome
-    ensures { PrintsAnswer O.Sink out.old out.new (IsCheckAnswer job.now.extent job.now.snapshot input.entry.file.now job.now.meta) result }
+    ensures { PrintsAnswer O.Sink out.old out.new (IsCheckAnswer job.now.extent job.now.snapshot job.now.for_bbolt input.entry.file.now job.now.meta) result }
 {
     let checking = Checking {
         input,
         choice: job.meta,
         faults: FileFaults::find(input.file, job),
+        for_bbolt: job.for_bbolt,
     };
     match job.extent {
         Extent::First => print_findings(checking, out),
@@ -43,13 +48,16 @@ pub(crate) fn print_check<O: Sink>(input: Input<'_>, job: &CheckJob, out: &mut O
     }
 }
 
-/// Writes `OK` if the file is sound, and otherwise the first finding of its trees or those of its
-/// accounts.
+/// Writes `OK` if the file is sound and bbolt can write into it, if that is asked; otherwise the
+/// first finding of its trees, those of its accounts, or what bbolt fails on.
 fn print_findings<O: Sink>(checking: Checking<'_>, out: &mut O) -> Outcome
     ensures { ChecksTo O.Sink out.old out.new Extent.First checking.entry result }
 {
     match checking.input.check(checking.choice) {
-        Ok(_) => put_none_found(checking.faults, out),
+        Ok(checked) => {
+            let findings = find_for_bbolt(checked, checking)?;
+            put_all(findings.as_slice(), checking.faults, out)
+        }
         Err(fault) => put_refusal(&fault, checking.faults, out),
     }
 }
@@ -72,12 +80,24 @@ fn print_lost<O: Sink>(checking: Checking<'_>, extent: Extent, out: &mut O) -> O
     put_lost(lost, opened.found(), checking.faults, out)
 }
 
-/// Writes `OK`, or what is wrong with a file whose pages are sound.
-fn put_none_found<O: Sink>(faults: FileFaults, out: &mut O) -> Outcome
-    ensures { Does O.taken O.failed out.old out.new (none_found faults) result }
+/// What bbolt fails on when it writes into a sound file, if that is looked for and nothing else is
+/// wrong.
+fn find_for_bbolt(checked: Checked<'_>, checking: Checking<'_>) -> Result<Vec<Finding>, NoMemory>
+    ensures { IfOk result (λ findings. AreFoundFor (checking.entry.for_bbolt && is_fine checking.entry.faults)
+        (bytes_of checked.entry) (meta_of checked.entry) findings.items) }
 {
-    if faults.hash.is_some() || faults.other.is_some() {
-        return put_findings(&[], faults, out);
+    if checking.for_bbolt && checking.faults.is_fine() {
+        return bbolt_findings(checking.input.alloc, checked);
+    }
+    Ok(Vec::new(checking.input.alloc))
+}
+
+/// Writes `OK`, or what is wrong with a sound file.
+fn put_all<O: Sink>(findings: &[Finding], faults: FileFaults, out: &mut O) -> Outcome
+    ensures { Does O.taken O.failed out.old out.new (all_found faults findings.now) result }
+{
+    if !findings.is_empty() || !faults.is_fine() {
+        return put_findings(findings, faults, out);
     }
     out.put(b"OK\n")?;
     Ok(0)

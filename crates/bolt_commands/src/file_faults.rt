@@ -1,7 +1,7 @@
 //! What is wrong with a file apart from its pages.
 ghost use Rattle.std.specs.Prelude.{◌≡◌, ◌≤◌, IfOk};
 ghost use Rattle.bolt_format.specs.{Endings.ending, Wrote.Wrote};
-ghost use Rattle.bolt_commands.specs.FileFaults.{AreFileFaults, IsMetasFault, IsOtherFault, errors_of, errors_in, fault_lines, hash_lines, no_faults, other_lines};
+ghost use Rattle.bolt_commands.specs.FileFaults.{AreFileFaults, IsMetasFault, IsOtherFault, errors_of, errors_in, fault_lines, hash_lines, is_fine, no_faults, other_lines};
 ghost use Rattle.bolt_commands.specs.SnapshotAnswers.{hash_found};
 
 use bolt_etcd::{SnapshotFault, snapshot_fault, snapshot_fault_text};
@@ -27,6 +27,13 @@ impl FileFaults {
             hash: None,
             other: None,
         }
+    }
+
+    /// Whether nothing is wrong.
+    pub(crate) fn is_fine(self) -> bool
+        ensures { result ≡ is_fine self }
+    {
+        self.hash.is_none() && self.other.is_none()
     }
 
     /// What a check looks at before the pages of the file.

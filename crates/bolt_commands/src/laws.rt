@@ -61,10 +61,10 @@ pub fn whole_copies_are_good()
 pub fn good_copies_pass_the_check()
     ensures whole { (extent : Extent) (snapshot : Bool) (layout : List ℕ) (listing : List Member) (answer : Answer)
         → IsGoodCopy snapshot layout listing
-        → IsCheckAnswer extent snapshot (copy_of snapshot layout) choice.Active answer → (answer ≡ done (codes "OK\n")) ⊎ (answer ≡ refused failure.Memory) }
-    ensures prefixes { (extent : Extent) (snapshot : Bool) (layout : List ℕ) (listing : List Member) (n : ℕ) (answer : Answer)
+        → IsCheckAnswer extent snapshot false (copy_of snapshot layout) choice.Active answer → (answer ≡ done (codes "OK\n")) ⊎ (answer ≡ refused failure.Memory) }
+    ensures prefixes { (extent : Extent) (snapshot for_bbolt : Bool) (layout : List ℕ) (listing : List Member) (n : ℕ) (answer : Answer)
         → IsGoodCopy snapshot layout listing → n < length (copy_of snapshot layout)
-        → IsCheckAnswer extent snapshot (take n (copy_of snapshot layout)) choice.Active answer → answer.ending ≢ Ok 0 }
+        → IsCheckAnswer extent snapshot for_bbolt (take n (copy_of snapshot layout)) choice.Active answer → answer.ending ≢ Ok 0 }
 {
     active_meta_is_one();
     sound_trees_lose_nothing();

@@ -59,7 +59,7 @@ pub data Asked : Type 0 where
   info : Text → Option Slot → FigureForm → Asked
   page : Text → AskedMeta → ℕ → Asked
   pages : Text → (map : Bool) → Asked
-  check : Text → AskedMeta → Extent → (snapshot : Bool) → Asked
+  check : Text → AskedMeta → Extent → (snapshot for_bbolt : Bool) → Asked
   buckets : Text → AskedMeta → Path → Form → (sizes : Bool) → Asked
   keys : Text → AskedMeta → Path → (prefix : Key) → Form → Asked
   get : Text → AskedMeta → Path → Form → (no_newline : Bool) → Asked
@@ -97,7 +97,7 @@ abbrev pub pages_of : PagesJob → Asked
 pages_of j = pages (string_bytes j.file) j.map
 
 abbrev pub check_of : CheckJob → Asked
-check_of j = check (string_bytes j.file) (meta_in j.meta) j.extent j.snapshot
+check_of j = check (string_bytes j.file) (meta_in j.meta) j.extent j.snapshot j.for_bbolt
 
 abbrev pub buckets_of : BucketsJob → Asked
 buckets_of j = buckets (string_bytes j.file) (meta_in j.meta) (path_in j.path.items) j.form j.sizes
@@ -273,7 +273,9 @@ abbrev pub asks_pages : Values → Result Asked Text
 asks_pages values = file_by values >>= λ file. Ok (pages file (is_given (given values (codes "map"))))
 
 abbrev pub asks_check : Values → Result Asked Text
-asks_check values = meta_by values >>= λ meta. file_by values >>= λ file. Ok (check file meta (extent_in (codes "all") values) (is_given (given values (codes "etcd-snapshot"))))
+asks_check values =
+    meta_by values >>= λ meta. file_by values >>= λ file.
+    Ok (check file meta (extent_in (codes "all") values) (is_given (given values (codes "etcd-snapshot"))) (is_given (given values (codes "for-bbolt"))))
 
 abbrev pub asks_buckets : Values → Result Asked Text
 asks_buckets values = asks_at values (λ meta form path. file_by values >>= λ file. Ok (buckets file meta path form (is_given (given values (codes "sizes")))))
@@ -339,7 +341,7 @@ commands =
     command (codes "info") (option (codes "form") ∷ option (codes "meta") ∷ []) asks_info
     ∷ command (codes "page") (needed (operand (codes "ID")) ∷ option (codes "assume-meta") ∷ []) asks_page
     ∷ command (codes "pages") (switch (codes "map") ∷ []) asks_pages
-    ∷ command (codes "check") (switch (codes "all") ∷ switch (codes "lost-and-found") ∷ switch (codes "etcd-snapshot") ∷ metas) asks_check
+    ∷ command (codes "check") (switch (codes "all") ∷ switch (codes "lost-and-found") ∷ switch (codes "for-bbolt") ∷ switch (codes "etcd-snapshot") ∷ metas) asks_check
     ∷ command (codes "buckets") (parts ∷ switch (codes "sizes") ∷ option (codes "form") ∷ option (codes "parts") ∷ metas) asks_buckets
     ∷ command (codes "keys") (needed parts ∷ option (codes "prefix") ∷ option (codes "form") ∷ option (codes "parts") ∷ metas) asks_keys
     ∷ command (codes "get") (needed parts ∷ by_letter 110 (switch (codes "no-newline")) ∷ option (codes "form") ∷ option (codes "parts") ∷ metas) asks_get

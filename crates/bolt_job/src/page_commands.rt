@@ -67,6 +67,14 @@ const CHECK_SNAPSHOT: Argument = Argument {
     required: false,
 };
 
+const CHECK_FOR_BBOLT: Argument = Argument {
+    name: "for-bbolt",
+    flag: Flag::Long,
+    value: None,
+    help: "Also check that bbolt can write into it: no branch of one child, value in the root bucket or key of more than 32768 bytes",
+    required: false,
+};
+
 const MAP: Argument = Argument {
     name: "map",
     flag: Flag::Long,
@@ -173,12 +181,14 @@ pub struct CheckJob {
     pub extent: Extent,
     /// Whether to check first that the file ends with the SHA-256 of what is before it.
     pub snapshot: bool,
+    /// Whether to check, of a sound file, that bbolt can write into it.
+    pub for_bbolt: bool,
 }
 
 pub(crate) static CHECK: Syntax = Syntax {
     name: "check",
     about: "Check whether the file is sound; if it isn't, print what is wrong",
-    arguments: &[FILE, ALL, LOST_AND_FOUND, CHECK_SNAPSHOT, META, ASSUME_META],
+    arguments: &[FILE, ALL, LOST_AND_FOUND, CHECK_FOR_BBOLT, CHECK_SNAPSHOT, META, ASSUME_META],
     note: None,
 };
 
@@ -189,6 +199,7 @@ pub(crate) fn read_check(line: &Line<'_, '_>) -> Result<CheckJob, Refusal>
         meta: line.meta()?,
         extent: line.extent("all"),
         snapshot: line.is_given("etcd-snapshot"),
+        for_bbolt: line.is_given("for-bbolt"),
         file: line.text("FILE")?,
     })
 }

@@ -1,4 +1,6 @@
 mod Prefixes
+mod BboltCopies
+mod BboltWays
 mod BranchPages
 pub mod FileTrees
 mod FullPages
@@ -9,6 +11,8 @@ mod KeyLaws
 mod LaidPages
 mod LeafPages
 mod Parts
+mod PlacedWays
+mod ShortKeys
 mod Showing
 mod SoundCopies
 mod Soundness

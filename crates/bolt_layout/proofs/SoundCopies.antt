@@ -10,7 +10,7 @@ use Rattle.bolt_layout.specs.Copies.{IsSoundCopy}
 abbrev pub TreeLists : Type 0
 TreeLists = (file : List ℕ) (meta : Meta) (bucket : Start) (tree : Tree) → IsTreeOf (IsEntry file meta) bucket tree → Lists (IsEntry file meta) bucket (listing_of tree)
 
-layout_tree : (which : Layout) (page_size : ℕ) (tree : Tree) (sequence : ℕ) → IsPageSize page_size → IsStorable tree → IsSoundLayout which page_size tree sequence
+pub layout_tree : (which : Layout) (page_size : ℕ) (tree : Tree) (sequence : ℕ) → IsPageSize page_size → IsStorable tree → IsSoundLayout which page_size tree sequence
     → IsTreeOf (IsEntry (layout_of which page_size tree sequence) (layout_meta which page_size tree sequence 1)) (Root_page (layout_root which page_size tree)) tree
 unfolding root_of
 layout_tree which page_size tree sequence size storable sound =

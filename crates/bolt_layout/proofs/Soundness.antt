@@ -82,7 +82,7 @@ node_shown : (file : List ℕ) (meta : Meta) (n : ℕ) (view : PageView) → IsS
 unfolding node_at
 node_shown file meta n view shown = ap (λ (o : Option PageView). node_seen o (page_fault file meta n)) shown.shows
 
-nodes_shown : (file : List ℕ) (meta : Meta) (pages : List Placed) → AllByRecursion (λ page. IsShown file meta page.number page.view) pages → AreNodes (node_at file meta) pages
+pub nodes_shown : (file : List ℕ) (meta : Meta) (pages : List Placed) → AllByRecursion (λ page. IsShown file meta page.number page.view) pages → AreNodes (node_at file meta) pages
 nodes_shown file meta [] h = tt
 nodes_shown file meta (page ∷ pages) h = (node_shown file meta page.number page.view h.0, nodes_shown file meta pages h.1)
 
@@ -147,6 +147,8 @@ pub record IsSoundLayout (which : Layout) (page_size : ℕ) (tree : Tree) (seque
   pub trees : HasSoundTrees (layout_of which page_size tree sequence) (layout_meta which page_size tree sequence 1)
   pub accounts : HasRightAccounts (layout_of which page_size tree sequence) (layout_meta which page_size tree sequence 1)
   pub room : layout_mark which page_size tree ≤ limit
+  pub part : IsPart (node_at (layout_of which page_size tree sequence) (layout_meta which page_size tree sequence 1))
+      (reached (node_at (layout_of which page_size tree sequence) (layout_meta which page_size tree sequence 1)) (layout_root which page_size tree)) 3 (layout_mark which page_size tree)
   pub shown : AllByRecursion (λ page. IsShown (layout_of which page_size tree sequence) (layout_meta which page_size tree sequence 1) page.number page.view) (layout_pages which page_size tree)
 
 pub layout_sound : PassingIsSound → (which : Layout) (page_size : ℕ) (tree : Tree) (sequence : ℕ) → IsPageSize page_size → IsLaidOut which page_size tree sequence → IsSoundLayout which page_size tree sequence
@@ -172,5 +174,6 @@ layout_sound law which page_size tree sequence size laid =
       trees = law file meta (part_clean (node_at file meta) root 3 mark part (omega arith));
       accounts = accounts_of file page_size root sequence mark 1 free part;
       room = room;
+      part = part;
       shown = shown;
     }

@@ -1,6 +1,7 @@
 pub mod Copies
 pub mod Cut
 pub mod Divisions
+pub mod ForBbolt
 pub mod Held
 pub mod Items
 pub mod Laid

@@ -7,7 +7,7 @@ use Rattle.bolt_format.specs.declared.meta.MetaFault.{MetaFault}
 use Rattle.bolt_format.specs.declared.meta.MetaFault.TheVariants.{Cut, Magic, Version, Sum, PageSize}
 use Rattle.bolt_check.specs.declared.finding.Finding.{Finding}
 use Rattle.bolt_check.specs.declared.finding.TheConstants.Finding.{TWICE, ORDER, BELOW_PARENT, ABOVE_NEXT, EMPTY_BRANCH, TOO_DEEP, FREED_TWICE, REACHED_FREED}
-use Rattle.bolt_check.specs.declared.finding.TheConstants.Finding.{UNREACHABLE, FREE_RANGE}
+use Rattle.bolt_check.specs.declared.finding.TheConstants.Finding.{UNREACHABLE, FREE_RANGE, ONE_CHILD, ROOT_VALUE, LARGE_KEY}
 use Rattle.bolt_text.specs.Lines.{line}
 
 -- why a file without a valid meta is refused
@@ -55,7 +55,7 @@ page_fault_words code = words_in page_fault_table code
 abbrev pub page_fault_text : PageFault → List ℕ
 page_fault_text fault = line (codes "page " ++ decimal fault.page ++ codes ": " ++ page_fault_words fault.number)
 
--- the findings of the structure, and of the accounts
+-- the findings of the structure, of the accounts, and for bbolt
 abbrev pub finding_table : List FaultWords
 finding_table =
     named TWICE (codes "referenced twice")
@@ -68,6 +68,9 @@ finding_table =
     ∷ named REACHED_FREED (codes "reachable freed")
     ∷ named UNREACHABLE (codes "unreachable unfreed")
     ∷ named FREE_RANGE (codes "free page out of range")
+    ∷ named ONE_CHILD (codes "branch of one child")
+    ∷ named ROOT_VALUE (codes "value in the root bucket")
+    ∷ named LARGE_KEY (codes "key too large for bbolt")
     ∷ page_fault_table
 
 unfoldable pub finding_words : ℕ → List ℕ

@@ -168,6 +168,9 @@ fn finding_words(code: u8) -> &'static [u8]
         Finding::REACHED_FREED => b"reachable freed",
         Finding::UNREACHABLE => b"unreachable unfreed",
         Finding::FREE_RANGE => b"free page out of range",
+        Finding::ONE_CHILD => b"branch of one child",
+        Finding::ROOT_VALUE => b"value in the root bucket",
+        Finding::LARGE_KEY => b"key too large for bbolt",
         _ => page_fault_words(code),
     }
 }

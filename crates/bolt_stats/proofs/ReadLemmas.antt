@@ -17,28 +17,3 @@ branch_kids depth (x ∷ xs) = ap (λ (l : List UnreadPage). unread_page depth x
 pub leaf_kids : (xs : List LeafElement) → kid_pages true (map leaf_entry xs) ≡ flat_map root_page_of xs
 leaf_kids [] = refl
 leaf_kids (x ∷ xs) = ap (λ (l : List ℕ). root_page_of x ++ l) (leaf_kids xs)
-
-module _ (file : List ℕ) (meta : Meta) (n : ℕ) (view : PageView) (at : page_at file meta n ≡ Some view) where
-  no_meta : (k : ℕ) → Enough (node_at file meta) k n → view.kind ≡ kind.Meta → ⊥
-  no_meta k h is = let (node, page) = enough_node (node_at file meta) k n h in let e = sym page ∙ node_is file meta n view kind.Meta at is in cc
-
-  no_freelist : (k : ℕ) → Enough (node_at file meta) k n → view.kind ≡ kind.Freelist → ⊥
-  no_freelist k h is = let (node, page) = enough_node (node_at file meta) k n h in let e = sym page ∙ node_is file meta n view kind.Freelist at is in cc
-
-  -- so it is a branch or a leaf
-  tree_kind_by : (k : ℕ) (l : Kind) → Enough (node_at file meta) k n → view.kind ≡ l → is_tree_kind l ≡ true
-  tree_kind_by k kind.Branch h is = refl
-  tree_kind_by k kind.Leaf h is = refl
-  tree_kind_by k kind.Meta h is = absurd (no_meta k h is)
-  tree_kind_by k kind.Freelist h is = absurd (no_freelist k h is)
-
-  pub is_tree : (k : ℕ) → Enough (node_at file meta) k n → is_tree_kind view.kind ≡ true
-  is_tree k h = tree_kind_by k view.kind h refl
-
--- an opened page that is known to be a branch or a leaf, and what it shows
-pub some_tree : (o : Option TreePage) (k : Kind) → is_tree_kind k ≡ true → IfNone o (is_tree_kind k ≡ false) → IsSome o
-some_tree None k is not = absurd (cc)
-some_tree (Some page) k is not = refl
-
-pub opened_as : (o : Option TreePage) (page branch : TreePage) (view : PageView) → o ≡ Some page → page ≡ branch → IfSome o (λ (p : TreePage). shown_page p ≡ view) → shown_page branch ≡ view
-opened_as o page branch view of is shows = rw (← is) (rw of at shows)

@@ -10,7 +10,7 @@ use Rattle.bolt_commands.specs.declared.file_faults.FileFaults.{FileFaults}
 use Rattle.bolt_job.specs.declared.choices.Extent.{Extent}
 
 abbrev pub ChecksTo : {S : Type 0} (sink : Ghosts S) (old new : S) → Extent → Checking → Ending → Type 0
-ChecksTo sink old new extent c ending = PrintsAnswer sink old new (IsCheckAnswerAfter extent c.faults c.input.file.now c.choice) ending
+ChecksTo sink old new extent c ending = PrintsAnswer sink old new (IsCheckAnswerAfter extent c.for_bbolt c.faults c.input.file.now c.choice) ending
 
 -- why nothing is recovered: if the root page is lost, everything is
 abbrev pub unopened : FileFaults → Failure → Answer

@@ -1,0 +1,10 @@
+use Rattle.std.proofs.Common.{◌∙◌, arith, sym}
+use Rattle.bolt_format.specs.TreePages.{page_keys}
+use Rattle.bolt_check.proofs.{AnyLemmas.any_next, Words.le-ltb}
+use Rattle.bolt_check.specs.BboltFindings.{is_too_large}
+use Rattle.bolt_check.proofs.for_bbolt.has_large_key.Goals as goal
+
+pub loop-i-preserved : goal.loop-i-preserved
+loop-i-preserved c =
+    let short = c.if-key-gt-LONGEST_KEY.false in
+    sym (any_next is_too_large (page_keys c.args.page.now) c.loop-i.i c.key.result.now c.key.ensures (le-ltb _ _ (omega (arith, short)))) ∙ c.loop-i.invariant
