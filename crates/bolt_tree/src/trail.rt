@@ -1,8 +1,9 @@
 //! The open pages of a bucket: moves from entry to entry, and how they go down from page to page.
-ghost use Rattle.std.specs.Prelude.{◌≡◌, ◌∷◌, [], ◌<◌, ◌≤◌, ◌+◌, ◌-◌, ◌*◌, IfSome, IsTrue, MatchOption, Some, drop, false, length, slice_get};
+ghost use Rattle.std.specs.Prelude.{◌≡◌, ◌∷◌, [], ◌<◌, ◌≤◌, ◌+◌, ◌-◌, ◌*◌, MatchOption, Some, drop, false, length, slice_get};
 ghost use Rattle.std.specs.Option.{option_map};
-ghost use Rattle.bolt_format.specs.{ElementPlaces.leaf_view, Elements.BranchElement, Elements.IsBucketValue, TreePages.branches_on};
+ghost use Rattle.bolt_format.specs.{ElementPlaces.leaf_view, Elements.BranchElement, TreePages.branches_on};
 ghost use Rattle.bolt_check.specs.Counts.{counted};
+ghost use Rattle.bolt_tree.specs.Private.BucketValues.{HasBucketValue};
 ghost use Rattle.bolt_tree.specs.{CursorBounds.OpensSeek, CursorBounds.SeeksInBounds, Pagers.pager_opened, Places.least_from};
 ghost use Rattle.bolt_tree.specs.Private.BucketPages.{contents_in, elements_in, pages_in, root_content};
 ghost use Rattle.bolt_tree.specs.Private.Contents.{Of_branch, content_length};
@@ -44,7 +45,7 @@ impl<'a> Trail<'a> {
         ensures moved { IsMoved self.old self.new }
         ensures rest { IsAtRest (trail_frames self.new) }
         ensures found { Finds back result (elements_in (trail_bucket self.old)) (entries_left back self.new) (trail_frames self.new) [] }
-        ensures bucket { IfSome result (λ leaf. IsTrue leaf.is_bucket → IsBucketValue leaf.value.now) }
+        ensures bucket { HasBucketValue result }
         ensures opened { pager_opened self.new.pager
             ≡ counted (pager_opened self.old.pager) (length (pages_in (trail_bucket self.old)) - length (pages_left back self.new)) }
     {
@@ -76,7 +77,7 @@ impl<'a> Trail<'a> {
         ensures found { Finds false result.found (drop (least_from key.now (elements_in (trail_bucket self.old))) (elements_in (trail_bucket self.old)))
             (ahead self.new) (trail_frames self.new) [] }
         ensures number { least_from key.now (elements_in (trail_bucket self.old)) ≤ length (elements_in (trail_bucket self.old)) }
-        ensures bucket { IfSome result.found (λ leaf. IsTrue leaf.is_bucket → IsBucketValue leaf.value.now) }
+        ensures bucket { HasBucketValue result.found }
         ensures opened { OpensSeek (trail_bucket self.old) key.now (pager_opened self.old.pager) (pager_opened self.new.pager) }
         ensures compared { SeeksInBounds (trail_bucket self.old) key.now result.compared }
     {
@@ -91,7 +92,7 @@ impl<'a> Trail<'a> {
         requires stack { HasTrail self.now }
         requires rest { IsAtRest (trail_frames self.now) }
         ensures on { MatchOption result (trail_frames self.now ≡ []) (λ leaf. IsOn (trail_frames self.now) (leaf_view leaf)) }
-        ensures bucket { IfSome result (λ leaf. IsTrue leaf.is_bucket → IsBucketValue leaf.value.now) }
+        ensures bucket { HasBucketValue result }
     {
         let top = self.stack.last()?;
         let TreePage::Leaf(page) = top.page else {
@@ -108,7 +109,7 @@ impl<'a> Trail<'a> {
         ensures moved { IsMoved self.old self.new }
         ensures found { MatchOption result ((here_of (trail_frames self.old) ≡ []) × (trail_frames self.new ≡ trail_frames self.old))
             (λ leaf. (ahead self.old ≡ leaf_view leaf ∷ ahead self.new) × IsOn (trail_frames self.new) (leaf_view leaf) × (pages_ahead self.old ≡ pages_ahead self.new)) }
-        ensures bucket { IfSome result (λ leaf. IsTrue leaf.is_bucket → IsBucketValue leaf.value.now) }
+        ensures bucket { HasBucketValue result }
         ensures opened { pager_opened self.new.pager ≡ pager_opened self.old.pager }
     {
         let last = self.stack.len().checked_sub(1)?;
@@ -150,7 +151,7 @@ impl<'a> Trail<'a> {
         requires { HasTrail self.old }
         ensures moved { IsMoved self.old self.new }
         ensures found { Finds back result (entries_left back self.old) (entries_left back self.new) (trail_frames self.new) [] }
-        ensures bucket { IfSome result (λ leaf. IsTrue leaf.is_bucket → IsBucketValue leaf.value.now) }
+        ensures bucket { HasBucketValue result }
         ensures less { length (pages_left back self.new) ≤ length (pages_left back self.old) }
         ensures opened { pager_opened self.new.pager
             ≡ counted (pager_opened self.old.pager) (length (pages_left back self.old) - length (pages_left back self.new)) }
@@ -232,7 +233,7 @@ impl<'a> Trail<'a> {
         ensures entered { IsEntered (contents_in (trail_bucket self.old)) at_end (opened_content page.entry) i (trail_frames self.old) (trail_frames self.new)
             (option_map leaf_view result) }
         ensures opened { pager_opened self.new.pager ≡ counted (pager_opened self.old.pager) (entered_pages (option_map leaf_view result)) }
-        ensures bucket { IfSome result (λ leaf. IsTrue leaf.is_bucket → IsBucketValue leaf.value.now) }
+        ensures bucket { HasBucketValue result }
     {
         match page {
             TreePage::Leaf(leaf) => {
