@@ -91,10 +91,10 @@ impl<'a> OpenCursors<'a> {
         ensures moves { MovesInnermost (seek_to key.now) self.old self.new result }
         ensures bucket { HasBucketValue result }
     {
-        match &mut self.innermost {
-            Some(cursor) => cursor.seek_element(key),
-            None => unreachable!(),
-        }
+        let Some(cursor) = &mut self.innermost else {
+            return None;
+        };
+        cursor.seek_element(key)
     }
 
     /// Opens a bucket within the innermost one, on its first entry. If it has none, or if memory
@@ -146,10 +146,10 @@ impl<'a> OpenCursors<'a> {
         ensures moves { MovesInnermost next_move self.old self.new result }
         ensures bucket { HasBucketValue result }
     {
-        match &mut self.innermost {
-            Some(cursor) => cursor.next_element(),
-            None => unreachable!(),
-        }
+        let Some(cursor) = &mut self.innermost else {
+            return None;
+        };
+        cursor.next_element()
     }
 
     /// Drops the innermost cursor, and restores the one around it.
@@ -163,7 +163,7 @@ impl<'a> OpenCursors<'a> {
             return;
         };
         let Some(cursor) = &mut self.innermost else {
-            unreachable!();
+            return;
         };
         cursor.resume(outer.at, outer.is_past, &self.positions[outer.begin..]);
         self.positions.truncate(outer.begin);

@@ -35,8 +35,8 @@ pub(crate) struct SeekResult<'a> {
 
 #[tactic(auto, using(crate::proofs::StackLemmas::retaken, crate::proofs::PagerLemmas::counted_zero))]
 impl<'a> Trail<'a> {
-    ghost use Rattle.bolt_tree.specs.Private.Trails.{Finds, Goes, HasBucket, HasTrail, IsMoved, ahead, entries_left, pages_ahead, pages_left, trail_bucket};
-    ghost use Rattle.bolt_tree.specs.Private.Trails.{trail_frames};
+    ghost use Rattle.bolt_tree.specs.Private.Trails.{ComesTo, Enters, Finds, Goes, HasBucket, HasOpened, HasRoom, HasTrail, IsMoved, LeadsTo, TakesHere, ahead, edge_of};
+    ghost use Rattle.bolt_tree.specs.Private.Trails.{entries_left, pages_left, trail_bucket, trail_frames, trail_with};
 
     /// Goes to the first entry or, if `back` is set, to the last one. If there is none, the stack is
     /// empty.
@@ -44,10 +44,9 @@ impl<'a> Trail<'a> {
         requires { HasBucket self.old }
         ensures moved { IsMoved self.old self.new }
         ensures rest { IsAtRest (trail_frames self.new) }
-        ensures found { Finds back result (elements_in (trail_bucket self.old)) (entries_left back self.new) (trail_frames self.new) [] }
+        ensures found { ComesTo back result (elements_in (trail_bucket self.old)) self.new [] }
         ensures bucket { HasBucketValue result }
-        ensures opened { pager_opened self.new.pager
-            ≡ counted (pager_opened self.old.pager) (length (pages_in (trail_bucket self.old)) - length (pages_left back self.new)) }
+        ensures opened { HasOpened (length (pages_in (trail_bucket self.old)) - length (pages_left back self.new)) self.old self.new }
     {
         self.begin(back);
         self.go(back)
@@ -107,8 +106,7 @@ impl<'a> Trail<'a> {
         requires stack { HasTrail self.old }
         requires rest { IsAtRest (trail_frames self.old) }
         ensures moved { IsMoved self.old self.new }
-        ensures found { MatchOption result ((here_of (trail_frames self.old) ≡ []) × (trail_frames self.new ≡ trail_frames self.old))
-            (λ leaf. (ahead self.old ≡ leaf_view leaf ∷ ahead self.new) × IsOn (trail_frames self.new) (leaf_view leaf) × (pages_ahead self.old ≡ pages_ahead self.new)) }
+        ensures found { TakesHere self.old self.new result }
         ensures bucket { HasBucketValue result }
         ensures opened { pager_opened self.new.pager ≡ pager_opened self.old.pager }
     {
@@ -150,11 +148,10 @@ impl<'a> Trail<'a> {
     fn go(&mut self, back: bool) -> Option<Leaf<'a>>
         requires { HasTrail self.old }
         ensures moved { IsMoved self.old self.new }
-        ensures found { Finds back result (entries_left back self.old) (entries_left back self.new) (trail_frames self.new) [] }
+        ensures found { ComesTo back result (entries_left back self.old) self.new [] }
         ensures bucket { HasBucketValue result }
         ensures less { length (pages_left back self.new) ≤ length (pages_left back self.old) }
-        ensures opened { pager_opened self.new.pager
-            ≡ counted (pager_opened self.old.pager) (length (pages_left back self.old) - length (pages_left back self.new)) }
+        ensures opened { HasOpened (length (pages_left back self.old) - length (pages_left back self.new)) self.old self.new }
     {
         while let Some(top) = self.stack.pop() {
             if let Some(i) = top.beside(back) {
@@ -169,9 +166,8 @@ impl<'a> Trail<'a> {
     fn begin(&mut self, at_end: bool)
         requires { HasBucket self.old }
         ensures moved { IsMoved self.old self.new }
-        ensures frames { let root = root_content (trail_bucket self.old) in
-            trail_frames self.new ≡ record { content = root; taken = taken_at at_end root } ∷ [] }
-        ensures opened { pager_opened self.new.pager ≡ counted (pager_opened self.old.pager) 1 }
+        ensures frames { trail_frames self.new ≡ edge_of at_end (root_content (trail_bucket self.old)) ∷ [] }
+        ensures opened { HasOpened 1 self.old self.new }
     {
         let page = self.open_root();
         self.push_at_edge(page, at_end);
@@ -184,7 +180,7 @@ impl<'a> Trail<'a> {
         ensures moved { IsMoved self.old self.new }
         ensures content { opened_content result ≡ root_content (trail_bucket self.old) }
         ensures empty { trail_frames self.new ≡ [] }
-        ensures opened { pager_opened self.new.pager ≡ counted (pager_opened self.old.pager) 1 }
+        ensures opened { HasOpened 1 self.old self.new }
     {
         self.stack.clear();
         match self.at {
@@ -208,7 +204,7 @@ impl<'a> Trail<'a> {
         ensures near { IsNearTop (trail_bucket self.old) key.now (trail_frames self.new) }
         ensures sought { IsSought (elements_in (trail_bucket self.old)) key.now (ahead self.new) }
         ensures compared { result ≤ 16 * length (trail_frames self.new) }
-        ensures opened { pager_opened self.new.pager ≡ counted (pager_opened self.old.pager) (length (trail_frames self.new) - 1) }
+        ensures opened { HasOpened (length (trail_frames self.new) - 1) self.old self.new }
         ensures leaf { IsLeafTop (trail_frames self.new) }
     {
         let mut opened = root;
@@ -227,12 +223,11 @@ impl<'a> Trail<'a> {
     /// which is returned; or it leads from a branch to a page, which is opened and pushed, before
     /// its first element or past its last.
     fn enter(&mut self, page: TreePage<'a>, i: u16, at_end: bool) -> Option<Leaf<'a>>
-        requires stack { HasStack (trail_bucket self.old) (record { content = opened_content page; taken = 0 } ∷ trail_frames self.old) }
+        requires stack { HasRoom (opened_content page) 0 self.old }
         requires below { i < content_length (opened_content page) }
         ensures moved { IsMoved self.old self.new }
-        ensures entered { IsEntered (contents_in (trail_bucket self.old)) at_end (opened_content page.entry) i (trail_frames self.old) (trail_frames self.new)
-            (option_map leaf_view result) }
-        ensures opened { pager_opened self.new.pager ≡ counted (pager_opened self.old.pager) (entered_pages (option_map leaf_view result)) }
+        ensures entered { Enters at_end (opened_content page.entry) i self.old self.new result }
+        ensures opened { HasOpened (entered_pages (option_map leaf_view result)) self.old self.new }
         ensures bucket { HasBucketValue result }
     {
         match page {
@@ -250,14 +245,13 @@ impl<'a> Trail<'a> {
 
     /// Opens the page under element `i` of a branch, and pushes the branch.
     fn go_under(&mut self, page: BranchPage<'a>, i: u16) -> TreePage<'a>
-        requires stack { HasStack (trail_bucket self.old) (record { content = Of_branch (branches_on page); taken = 0 } ∷ trail_frames self.old) }
+        requires stack { HasRoom (Of_branch (branches_on page)) 0 self.old }
         requires below { i < length (branches_on page) }
         ensures moved { IsMoved self.old self.new }
-        ensures frames { trail_frames self.new ≡ record { content = Of_branch (branches_on page.entry); taken = i + 1 } ∷ trail_frames self.old }
-        ensures child { (e : BranchElement) × (slice_get (branches_on page.entry) i ≡ Some e)
-            × (opened_content result ≡ contents_in (trail_bucket self.old) e.child) }
-        ensures stack { HasStack (trail_bucket self.new) (record { content = opened_content result; taken = 0 } ∷ trail_frames self.new) }
-        ensures opened { pager_opened self.new.pager ≡ counted (pager_opened self.old.pager) 1 }
+        ensures frames { trail_frames self.new ≡ trail_with (Of_branch (branches_on page.entry)) (i + 1) self.old }
+        ensures child { LeadsTo self.old (branches_on page.entry) i (opened_content result) }
+        ensures stack { HasRoom (opened_content result) 0 self.new }
+        ensures opened { HasOpened 1 self.old self.new }
     {
         self.push(TreePage::Branch(page), u32::from(i) + 1);
         self.pager.open_tree_page(page.element(i).child)
@@ -266,10 +260,9 @@ impl<'a> Trail<'a> {
     /// Pushes a page onto the stack, before its first element or past its last.
     #[tactic(auto, using(crate::proofs::StackLemmas::retaken, crate::proofs::WayPages::length_keys))]
     fn push_at_edge(&mut self, page: TreePage<'a>, at_end: bool)
-        requires { HasStack (trail_bucket self.old) (record { content = opened_content page; taken = 0 } ∷ trail_frames self.old) }
+        requires { HasRoom (opened_content page) 0 self.old }
         ensures moved { IsMoved self.old self.new }
-        ensures frames { trail_frames self.new
-            ≡ record { content = opened_content page.entry; taken = taken_at at_end (opened_content page.entry) } ∷ trail_frames self.old }
+        ensures frames { trail_frames self.new ≡ edge_of at_end (opened_content page.entry) ∷ trail_frames self.old }
         ensures opened { pager_opened self.new.pager ≡ pager_opened self.old.pager }
     {
         if at_end {
@@ -282,9 +275,9 @@ impl<'a> Trail<'a> {
     /// Pushes a page onto the stack.
     #[tactic(auto, using(crate::proofs::TrailLemmas::stack_room))]
     fn push(&mut self, page: TreePage<'a>, taken: u32)
-        requires { HasStack (trail_bucket self.old) (record { content = opened_content page; taken = taken } ∷ trail_frames self.old) }
+        requires { HasRoom (opened_content page) taken self.old }
         ensures moved { IsMoved self.old self.new }
-        ensures frames { trail_frames self.new ≡ record { content = opened_content page.entry; taken = taken } ∷ trail_frames self.old }
+        ensures frames { trail_frames self.new ≡ trail_with (opened_content page.entry) taken self.old }
         ensures opened { pager_opened self.new.pager ≡ pager_opened self.old.pager }
     {
         self.stack.push(Position { page, taken });
