@@ -1,9 +1,8 @@
 //! The open buckets of a walk, and the path that it has come to. That path alone says what is left
 //! of a listing; the cursors say where to go on.
 ghost use Rattle.std.specs.Option.{IfNone};
-ghost use Rattle.std.specs.Prelude.{◌≡◌, ◌∷◌, [], IfSome, IfOk, MatchOption, OnOk, OnErr};
-ghost use Rattle.bolt_format.specs.ElementPlaces.{leaf_view};
-ghost use Rattle.bolt_tree.specs.{Entries.item_of, Listing.rest_from, RestAfter.rest_after, RestAfter.beyond, FileListings.ForListing, Paths.path_of};
+ghost use Rattle.std.specs.Prelude.{◌≡◌, [], IfSome, IfOk, OnOk, OnErr};
+ghost use Rattle.bolt_tree.specs.{Listing.rest_from, RestAfter.rest_after, RestAfter.beyond, Paths.path_of};
 ghost use Rattle.bolt_tree.specs.Private.OpenCursors.{cursors_of};
 
 use crate::bucket::Bucket;
@@ -43,7 +42,7 @@ pub(crate) struct OpenBuckets<'a> {
 }
 
 impl<'a> OpenBuckets<'a> {
-    ghost use Rattle.bolt_tree.specs.Private.OpenBuckets.{ComesNext, IsAhead, IsAt, IsInPlace, IsLeft, IsNamed, IsPartResult, left_by, open_path};
+    ghost use Rattle.bolt_tree.specs.Private.OpenBuckets.{ComesNext, EntersFirst, IsAhead, IsAt, IsInPlace, IsLeft, IsNamed, IsPartResult, left_by, open_path};
     ghost use Rattle.bolt_tree.specs.Private.OpenBuckets.{reported_path};
 
     /// No open bucket.
@@ -69,9 +68,7 @@ impl<'a> OpenBuckets<'a> {
         ensures on { IfOk result (λ found. IfSome found (IsAt self.new)) }
         ensures none { IfOk result (λ found. IfNone found (open_path self.new ≡ open_path self.old)) }
         ensures same { OnErr result (open_path self.new ≡ open_path self.old) }
-        ensures left { IfOk result (λ found. ForListing self.old.cursors.checked
-            (λ listing. MatchOption found (rest_after (open_path self.old) listing ≡ beyond (open_path self.old) listing)
-            (λ leaf. rest_after (open_path self.old) listing ≡ (open_path self.new, item_of (leaf_view leaf)) ∷ rest_after (open_path self.new) listing))) }
+        ensures left { IfOk result (EntersFirst self.old self.new) }
     {
         self.path.reserve(1)?;
         let Some(leaf) = self.cursors.enter(bucket)? else {

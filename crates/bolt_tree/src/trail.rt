@@ -36,7 +36,7 @@ pub(crate) struct SeekResult<'a> {
 #[tactic(auto, using(crate::proofs::StackLemmas::retaken, crate::proofs::PagerLemmas::counted_zero))]
 impl<'a> Trail<'a> {
     ghost use Rattle.bolt_tree.specs.Private.Trails.{ComesTo, Enters, Finds, Goes, HasBucket, HasOpened, HasRoom, HasTrail, IsMoved, LeadsTo, TakesHere, ahead, edge_of};
-    ghost use Rattle.bolt_tree.specs.Private.Trails.{entries_left, pages_left, trail_bucket, trail_frames, trail_with};
+    ghost use Rattle.bolt_tree.specs.Private.Trails.{entries_from, entries_left, pages_left, trail_bucket, trail_frames, trail_with};
 
     /// Goes to the first entry or, if `back` is set, to the last one. If there is none, the stack is
     /// empty.
@@ -73,8 +73,7 @@ impl<'a> Trail<'a> {
         requires { HasBucket self.old }
         ensures moved { IsMoved self.old self.new }
         ensures rest { IsAtRest (trail_frames self.new) }
-        ensures found { Finds false result.found (drop (least_from key.now (elements_in (trail_bucket self.old))) (elements_in (trail_bucket self.old)))
-            (ahead self.new) (trail_frames self.new) [] }
+        ensures found { ComesTo false result.found (entries_from key.now (elements_in (trail_bucket self.old))) self.new [] }
         ensures number { least_from key.now (elements_in (trail_bucket self.old)) ≤ length (elements_in (trail_bucket self.old)) }
         ensures bucket { HasBucketValue result.found }
         ensures opened { OpensSeek (trail_bucket self.old) key.now (pager_opened self.old.pager) (pager_opened self.new.pager) }

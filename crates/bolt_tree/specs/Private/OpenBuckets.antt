@@ -70,6 +70,12 @@ abbrev pub ComesNext : (left : List Member → List Member) → (old new : OpenB
 ComesNext left old new found = ForListing old.cursors.checked (λ listing. MatchOption found (left listing ≡ [])
     (λ leaf. left listing ≡ (open_path new, item_of (leaf_view leaf)) ∷ rest_after (open_path new) listing))
 
+-- A bucket is entered: its first element comes next; or it has none, and what is left is beyond its path.
+abbrev pub EntersFirst : (old new : OpenBuckets) → Option Leaf → Type 0
+EntersFirst old new found = ForListing old.cursors.checked (λ listing. MatchOption found
+    (rest_after (open_path old) listing ≡ beyond (open_path old) listing)
+    (λ leaf. rest_after (open_path old) listing ≡ (open_path new, item_of (leaf_view leaf)) ∷ rest_after (open_path new) listing))
+
 -- this is left of a listing of the file, if this is done next
 abbrev pub IsLeft : (left : List Member → List Member) → (old new : OpenBuckets) → WalkStep → Type 0
 IsLeft left old new ahead = ForListing old.cursors.checked (λ listing. left_by ahead (open_path new) listing ≡ left listing)

@@ -1,12 +1,12 @@
 -- What a trail shows: its bucket, and its stack with the top first.
-use Rattle.std.specs.Prelude.{◌≡◌, ◌-◌, ℕ, Bool, true, false, List, [], ◌∷◌, ◌++◌, IfSome, IsTrue, MatchOption, Option, Some, length, map, reverse, slice_get}
+use Rattle.std.specs.Prelude.{◌≡◌, ◌-◌, ℕ, Bool, true, false, List, [], ◌∷◌, ◌++◌, IfSome, IsTrue, MatchOption, Option, Some, drop, length, map, reverse, slice_get}
 use Rattle.std.specs.Option.{option_map}
 use Rattle.bolt_format.specs.{ElementPlaces.leaf_view, Elements.BranchElement, Elements.IsBucketValue, Elements.LeafElement, declared.element.Leaf.Leaf}
-use Rattle.bolt_check.specs.Counts.{counted}
+use Rattle.bolt_check.specs.{Counts.counted, Keys.Key}
 use Rattle.bolt_tree.specs.{BucketViews.BucketView, BucketViews.bucket_in, Private.BucketPages.IsSoundBucket, Private.BucketPages.contents_in}
 use Rattle.bolt_tree.specs.{Pagers.pager_checked, Pagers.pager_opened, Private.Entered.IsEntered, Private.Entered.opened_to, Private.Entered.taken_at, Private.Contents.Content, Private.Contents.Contents, Private.ShownPages.opened_content}
 use Rattle.bolt_tree.specs.Private.Stacks.{Frame, HasStack, IsAtRest, IsOn, ahead_of, before_of, here_of, preceding_of, later_of}
-use Rattle.bolt_tree.specs.{Starts.start_at, Private.Tours.TourPage, declared.stack.Position.Position, declared.trail.Trail.Trail}
+use Rattle.bolt_tree.specs.{Places.least_from, Starts.start_at, Private.Tours.TourPage, declared.stack.Position.Position, declared.trail.Trail.Trail}
 
 abbrev pub frame_of : Position → Frame
 frame_of position = record { content = opened_content position.page; taken = position.taken }
@@ -94,6 +94,10 @@ Finds back found before after frames end = MatchOption found ((before ≡ []) ×
 -- a move that comes to where a trail is
 abbrev pub ComesTo : Bool → Option Leaf → (before : List LeafElement) → (new : Trail) → (end : List Frame) → Type 0
 ComesTo back found before new end = Finds back found before (entries_left back new) (trail_frames new) end
+
+-- the entries from a key on
+abbrev pub entries_from : Key → List LeafElement → List LeafElement
+entries_from key entries = drop (least_from key entries) entries
 
 -- a move within a leaf: the next entry is taken, or there is none
 abbrev pub TakesHere : (old new : Trail) → Option Leaf → Type 0
