@@ -33,7 +33,7 @@ pub use Rattle.bolt_tree.specs.Private.CursorViews.{AreOfFile, IsInnermost, Keep
 pub use Rattle.bolt_tree.specs.{Private.Entered.IsEntered, Private.Entered.opened_to, Private.Entered.taken_at, Private.Resting.IsResting, Private.Resting.place_by}
 pub use Rattle.bolt_tree.specs.Private.Resting.{place_on}
 pub use Rattle.bolt_tree.specs.Private.Kept.{AreKept, CursorView, IsKept, kept_view, kept_views}
-pub use Rattle.bolt_tree.specs.Private.OpenBuckets.{AreOpen, IsAhead, IsInPlace, IsInside, IsNamed, is_end, left_by, open_path, reported_path}
+pub use Rattle.bolt_tree.specs.Private.OpenBuckets.{AreOpen, ComesNext, IsAhead, IsInPlace, IsInside, IsNamed, is_end, left_by, open_path, reported_path}
 pub use Rattle.bolt_tree.specs.{Private.OpenCursors.cursors_of, Private.PageKeys.IsPlaceOf, Private.PageKeys.doubled, Private.PageKeys.stands_before}
 pub use Rattle.bolt_tree.specs.Private.Seeks.{AreBelow, IsBetween, IsNearTo, IsNearTop, IsOnWayDown, IsSought, top_address}
 pub use Rattle.bolt_tree.specs.Private.ShownPages.{opened_content}

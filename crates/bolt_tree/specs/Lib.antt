@@ -6,6 +6,7 @@ pub mod Entries
 pub mod EntriesLeft
 pub mod FileListings
 pub mod FileTrees
+pub mod Laws
 pub mod Listing
 pub mod ListingParts
 pub mod Lookups

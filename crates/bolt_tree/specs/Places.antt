@@ -56,6 +56,16 @@ seek_move key [] = nothing_at Fresh
 seek_move key (e ∷ entries) =
     if nat_lt (least_from key (e ∷ entries)) (length (e ∷ entries)) then onto (e ∷ entries) (least_from key (e ∷ entries)) else nothing_at Past
 
+-- moves that come to the same place from each
+abbrev pub to_first : List LeafElement → Place → Move
+to_first entries place = first_move entries
+
+abbrev pub to_last : List LeafElement → Place → Move
+to_last entries place = last_move entries
+
+abbrev pub seek_to : Key → List LeafElement → Place → Move
+seek_to key entries place = seek_move key entries
+
 -- the entry at a place, if there is one
 abbrev pub entry_at : List LeafElement → Place → Option LeafElement
 entry_at entries Fresh = None

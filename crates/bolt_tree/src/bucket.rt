@@ -1,9 +1,10 @@
 //! A bucket of a file, and what is under a key of it (docs/LISTING.md, "A key in a bucket").
-ghost use Rattle.std.specs.Prelude.{◌≡◌, IfSome, IsTrue};
+ghost use Rattle.std.specs.Prelude.{◌≡◌, IfSome};
 ghost use Rattle.std.specs.Option.{option_map};
 ghost use Rattle.std.proofs.Props.{props};
 ghost use Rattle.bolt_format.specs.{ElementPlaces.leaf_view, Elements.IsBucketValue, Elements.head_sequence};
 ghost use Rattle.bolt_check.specs.CheckedFiles.{meta_of};
+ghost use Rattle.bolt_tree.specs.Private.BucketValues.{HasBucketValue};
 ghost use Rattle.bolt_tree.specs.BucketViews.{entries_of};
 ghost use Rattle.bolt_tree.specs.Cursors.{cursor_checked, cursor_compared, cursor_opened, cursor_place, cursor_start};
 ghost use Rattle.bolt_tree.specs.{Entries.Root_page, Entries.start_of, Places.Fresh, Starts.HasStart, Starts.start_at};
@@ -95,7 +96,7 @@ impl<'a> Bucket<'a> {
     /// The element with a key, if there is one. Goes down once, as a cursor's `seek` does.
     fn element(&self, key: &[u8]) -> Option<Leaf<'a>>
         ensures element { IsElementAt (entries_of (bucket_checked self.now)) (bucket_start self.now) key.now (option_map leaf_view result) }
-        ensures bucket { IfSome result (λ leaf. IsTrue leaf.is_bucket → IsBucketValue leaf.value.now) }
+        ensures bucket { HasBucketValue result }
     {
         let mut cursor = self.cursor();
         let leaf = cursor.seek_element(key)?;

@@ -1,11 +1,10 @@
 //! A cursor over the entries of a bucket.
-ghost use Rattle.std.specs.Prelude.{◌≡◌, IsTrue, IfSome};
+ghost use Rattle.std.specs.Prelude.{◌≡◌};
 ghost use Rattle.std.specs.Option.{option_map};
-ghost use Rattle.bolt_format.specs.{ElementPlaces.leaf_view, Elements.IsBucketValue};
-ghost use Rattle.bolt_tree.specs.{BucketViews.entries_of, CursorBounds.OpensByNext, CursorBounds.OpensGap, CursorBounds.OpensSeek, CursorBounds.SeeksInBounds};
-ghost use Rattle.bolt_tree.specs.{Entries.entry_view, Private.Resting.IsResting, Private.Kept.IsKept, Private.Kept.kept_view};
+ghost use Rattle.bolt_format.specs.ElementPlaces.{leaf_view};
+ghost use Rattle.bolt_tree.specs.{Entries.entry_view, Private.BucketValues.HasBucketValue, Private.Resting.IsResting, Private.Kept.IsKept, Private.Kept.kept_view};
 ghost use Rattle.bolt_tree.specs.Pagers.{pager_checked, pager_opened};
-ghost use Rattle.bolt_tree.specs.Places.{Fresh, IsEntryAt, Moves, Past, ShowsMove, first_move, last_move, next_move, prev_move, seek_move};
+ghost use Rattle.bolt_tree.specs.Places.{Fresh, Past, next_move, prev_move, seek_to, to_first, to_last};
 ghost use Rattle.bolt_tree.specs.{ShownEntries.shown_entry, Starts.HasStart, Starts.start_at};
 
 use crate::at::At;
@@ -29,7 +28,8 @@ pub struct Cursor<'a> {
 
 #[tactic(auto, unfolding(crate::specs::Cursors::cursor_checked, crate::specs::Cursors::cursor_compared, crate::specs::Cursors::cursor_opened, crate::specs::Cursors::cursor_place, crate::specs::Cursors::cursor_start), using(crate::proofs::RestingLemmas::fresh_resting, crate::proofs::RestingLemmas::resting_bucket, crate::proofs::RestingLemmas::resting_rest, crate::proofs::RestingLemmas::resting_stack, crate::proofs::KeptLemmas::kept_short, crate::proofs::StackLemmas::sound_bucket))]
 impl<'a> Cursor<'a> {
-    ghost use Rattle.bolt_tree.specs.Cursors.{cursor_bucket, cursor_checked, cursor_compared, cursor_opened, cursor_place, cursor_start};
+    ghost use Rattle.bolt_tree.specs.Cursors.{FirstOpens, IsCurrent, NextOpens, ReturnsElement, ReturnsEntry, SeekCompares, SeekOpens};
+    ghost use Rattle.bolt_tree.specs.Cursors.{cursor_checked, cursor_compared, cursor_opened, cursor_place, cursor_start};
     ghost use Rattle.bolt_tree.specs.Private.CursorViews.{cursor_view};
 
     /// A cursor before the first call, over a bucket of the pager's file. Only its pager opens
@@ -115,8 +115,8 @@ impl<'a> Cursor<'a> {
 
     /// The element of the entry that it is on, or `None` if it is on none.
     pub(crate) fn element(&self) -> Option<Leaf<'a>>
-        ensures entry { IsEntryAt (entries_of (cursor_checked self.now)) (cursor_start self.now) (cursor_place self.now) (option_map leaf_view result) }
-        ensures bucket { IfSome result (λ leaf. IsTrue leaf.is_bucket → IsBucketValue leaf.value.now) }
+        ensures entry { IsCurrent self.now result }
+        ensures bucket { HasBucketValue result }
     {
         self.trail.element()
     }
@@ -125,9 +125,8 @@ impl<'a> Cursor<'a> {
     pub fn first(&mut self) -> Option<Entry<'a>>
         ensures checked { cursor_checked self.new ≡ cursor_checked self.old }
         ensures start { cursor_start self.new ≡ cursor_start self.old }
-        ensures moves { ShowsMove (entries_of (cursor_checked self.old)) (cursor_start self.old) (λ entries place. first_move entries) (cursor_place self.old)
-            (cursor_place self.new) (option_map shown_entry result) }
-        ensures opens { OpensGap (cursor_bucket self.old) 0 (cursor_opened self.old) (cursor_opened self.new) }
+        ensures moves { ReturnsEntry to_first self.old self.new result }
+        ensures opens { FirstOpens self.old self.new }
         ensures none { result ≡ None → cursor_place self.new ≡ Fresh }
         ensures compared { cursor_compared self.new ≡ 0 }
     {
@@ -140,8 +139,7 @@ impl<'a> Cursor<'a> {
     pub fn last(&mut self) -> Option<Entry<'a>>
         ensures checked { cursor_checked self.new ≡ cursor_checked self.old }
         ensures start { cursor_start self.new ≡ cursor_start self.old }
-        ensures moves { ShowsMove (entries_of (cursor_checked self.old)) (cursor_start self.old) (λ entries place. last_move entries) (cursor_place self.old)
-            (cursor_place self.new) (option_map shown_entry result) }
+        ensures moves { ReturnsEntry to_last self.old self.new result }
         ensures none { result ≡ None → cursor_place self.new ≡ Fresh }
         ensures compared { cursor_compared self.new ≡ 0 }
     {
@@ -155,9 +153,8 @@ impl<'a> Cursor<'a> {
     pub fn next(&mut self) -> Option<Entry<'a>>
         ensures checked { cursor_checked self.new ≡ cursor_checked self.old }
         ensures start { cursor_start self.new ≡ cursor_start self.old }
-        ensures moves { ShowsMove (entries_of (cursor_checked self.old)) (cursor_start self.old) next_move (cursor_place self.old) (cursor_place self.new)
-            (option_map shown_entry result) }
-        ensures opens { OpensByNext (cursor_bucket self.old) (cursor_place self.old) (cursor_opened self.old) (cursor_opened self.new) }
+        ensures moves { ReturnsEntry next_move self.old self.new result }
+        ensures opens { NextOpens self.old self.new }
         ensures none { result ≡ None → cursor_place self.new ≡ cursor_place self.old }
         ensures compared { cursor_compared self.new ≡ cursor_compared self.old }
     {
@@ -169,8 +166,7 @@ impl<'a> Cursor<'a> {
     pub fn prev(&mut self) -> Option<Entry<'a>>
         ensures checked { cursor_checked self.new ≡ cursor_checked self.old }
         ensures start { cursor_start self.new ≡ cursor_start self.old }
-        ensures moves { ShowsMove (entries_of (cursor_checked self.old)) (cursor_start self.old) prev_move (cursor_place self.old) (cursor_place self.new)
-            (option_map shown_entry result) }
+        ensures moves { ReturnsEntry prev_move self.old self.new result }
         ensures none { result ≡ None → cursor_place self.new ≡ cursor_place self.old }
         ensures compared { cursor_compared self.new ≡ cursor_compared self.old }
     {
@@ -187,11 +183,10 @@ impl<'a> Cursor<'a> {
     pub fn seek(&mut self, key: &[u8]) -> Option<Entry<'a>>
         ensures checked { cursor_checked self.new ≡ cursor_checked self.old }
         ensures start { cursor_start self.new ≡ cursor_start self.old }
-        ensures moves { ShowsMove (entries_of (cursor_checked self.old)) (cursor_start self.old) (λ entries place. seek_move key.now entries)
-            (cursor_place self.old) (cursor_place self.new) (option_map shown_entry result) }
-        ensures opens { OpensSeek (cursor_bucket self.old) key.now (cursor_opened self.old) (cursor_opened self.new) }
+        ensures moves { ReturnsEntry (seek_to key.now) self.old self.new result }
+        ensures opens { SeekOpens key.now self.old self.new }
         ensures none { result ≡ None → cursor_place self.new ≡ Past }
-        ensures compared { SeeksInBounds (cursor_bucket self.old) key.now (cursor_compared self.new) }
+        ensures compared { SeekCompares key.now self.old self.new }
     {
         entry_of(self.seek_element(key))
     }
@@ -201,12 +196,11 @@ impl<'a> Cursor<'a> {
     pub(crate) fn next_element(&mut self) -> Option<Leaf<'a>>
         ensures checked { cursor_checked self.new ≡ cursor_checked self.old }
         ensures start { cursor_start self.new ≡ cursor_start self.old }
-        ensures moves { Moves (entries_of (cursor_checked self.old)) (cursor_start self.old) next_move (cursor_place self.old) (cursor_place self.new)
-            (option_map leaf_view result) }
-        ensures opens { OpensByNext (cursor_bucket self.old) (cursor_place self.old) (cursor_opened self.old) (cursor_opened self.new) }
+        ensures moves { ReturnsElement next_move self.old self.new result }
+        ensures opens { NextOpens self.old self.new }
         ensures none { result ≡ None → cursor_place self.new ≡ cursor_place self.old }
         ensures compared { cursor_compared self.new ≡ cursor_compared self.old }
-        ensures bucket { IfSome result (λ leaf. IsTrue leaf.is_bucket → IsBucketValue leaf.value.now) }
+        ensures bucket { HasBucketValue result }
     {
         // After a `seek` that returned nothing, this opens nothing: only all its pages could tell that
         // the bucket is empty.
@@ -224,12 +218,11 @@ impl<'a> Cursor<'a> {
     pub(crate) fn seek_element(&mut self, key: &[u8]) -> Option<Leaf<'a>>
         ensures checked { cursor_checked self.new ≡ cursor_checked self.old }
         ensures start { cursor_start self.new ≡ cursor_start self.old }
-        ensures moves { Moves (entries_of (cursor_checked self.old)) (cursor_start self.old) (λ entries place. seek_move key.now entries)
-            (cursor_place self.old) (cursor_place self.new) (option_map leaf_view result) }
-        ensures opens { OpensSeek (cursor_bucket self.old) key.now (cursor_opened self.old) (cursor_opened self.new) }
+        ensures moves { ReturnsElement (seek_to key.now) self.old self.new result }
+        ensures opens { SeekOpens key.now self.old self.new }
         ensures none { result ≡ None → cursor_place self.new ≡ Past }
-        ensures compared { SeeksInBounds (cursor_bucket self.old) key.now (cursor_compared self.new) }
-        ensures bucket { IfSome result (λ leaf. IsTrue leaf.is_bucket → IsBucketValue leaf.value.now) }
+        ensures compared { SeekCompares key.now self.old self.new }
+        ensures bucket { HasBucketValue result }
     {
         let sought = self.trail.seek(key);
         self.compared = sought.compared;
@@ -240,7 +233,7 @@ impl<'a> Cursor<'a> {
 
 /// The entry of an element, if there is one.
 fn entry_of(found: Option<Leaf<'_>>) -> Option<Entry<'_>>
-    requires { IfSome found (λ leaf. IsTrue leaf.is_bucket → IsBucketValue leaf.value.now) }
+    requires { HasBucketValue found }
     ensures entry { option_map shown_entry result ≡ option_map entry_view (option_map leaf_view found.entry) }
     ensures none { result ≡ None → found.entry ≡ None }
 {

@@ -1,14 +1,13 @@
 //! What the definitions of a bucket's entries and of its pages imply.
-ghost use Rattle.std.specs.Prelude.{◌≡◌, ◌≢◌, ◌≤◌, ◌+◌, ℕ, IsTrue, List, Some, slice_get, ◌∷◌, []};
+ghost use Rattle.std.specs.Prelude.{◌≡◌, ◌≢◌, ℕ, List, ◌∷◌, []};
 ghost use Rattle.std.specs.List.{Contains, take_while};
-ghost use Rattle.bolt_format.specs.{Elements.LeafElement, Elements.head_root, Elements.inline_elements, Pages.PageView, Pages.page_at, declared.meta.Meta.Meta};
-ghost use Rattle.bolt_check.specs.{OnWays.IsOnWay, Sound.HasSoundTrees};
-ghost use Rattle.bolt_tree.specs.Entries.{AreEntries, Inline_page, IsEntry, IsStart, Root_page, Start, Item};
-ghost use Rattle.bolt_tree.specs.{Openings.GapsCoverAll, Openings.IsGap, Openings.IsSeekCount, Places.least_from};
-ghost use Rattle.bolt_tree.specs.Listing.{IsListing, Lists, Member, member_cmp, rest_from};
+ghost use Rattle.bolt_format.specs.{Elements.LeafElement, Elements.head_root, Elements.inline_elements, declared.meta.Meta.Meta};
+ghost use Rattle.bolt_check.specs.Sound.{HasSoundTrees};
+ghost use Rattle.bolt_tree.specs.Entries.{AreEntries, Inline_page, IsEntry, IsStart, Item, Root_page, Start};
+ghost use Rattle.bolt_tree.specs.Laws.{ForBucketElements, ForBuckets, ForListings, ForSorted, SeeksAreBounded, SeeksAreCounted};
+ghost use Rattle.bolt_tree.specs.{Listing.IsListing, Listing.Lists, Listing.Member, Listing.member_cmp, Listing.rest_from, Openings.GapsCoverAll};
 ghost use Rattle.bolt_tree.specs.{Tree.IsTreeOf, Tree.Tree, Tree.listing_of, Tree.tree_of, ListingParts.begins_with, ListingParts.part_below, Order.Rises};
 ghost use Rattle.bolt_tree.specs.Paths.{Path};
-ghost use Rattle.bolt_format.specs.declared.header.Kind.TheVariants as kind;
 
 use bolt_check::laws::ways_go_on;
 
@@ -16,12 +15,9 @@ use bolt_check::laws::ways_go_on;
 /// a way leads to begins at its own root page or, if it is inline, in its value.
 pub fn buckets_begin_on_ways()
     ensures root { (file : List ℕ) (meta : Meta) → IsStart file meta (Root_page meta.root) }
-    ensures page { (file : List ℕ) (meta : Meta) (n depth i : ℕ) (view : PageView) (e : LeafElement) → IsOnWay file meta n depth
-        → page_at file meta n ≡ Some view → view.kind ≡ kind.Leaf → slice_get view.leaves i ≡ Some e → IsTrue e.is_bucket → head_root e.value ≢ 0
-        → IsStart file meta (Root_page (head_root e.value)) }
-    ensures inline { (file : List ℕ) (meta : Meta) (n depth i : ℕ) (view : PageView) (e : LeafElement) → IsOnWay file meta n depth
-        → page_at file meta n ≡ Some view → view.kind ≡ kind.Leaf → slice_get view.leaves i ≡ Some e → IsTrue e.is_bucket → head_root e.value ≡ 0
-        → IsStart file meta (Inline_page (inline_elements e.value)) }
+    ensures page { ForBucketElements (λ file meta e. head_root e.value ≢ 0 → IsStart file meta (Root_page (head_root e.value))) }
+    ensures inline { ForBucketElements
+        (λ file meta e. head_root e.value ≡ 0 → IsStart file meta (Inline_page (inline_elements e.value))) }
 {
     ways_go_on();
 }
@@ -29,8 +25,7 @@ pub fn buckets_begin_on_ways()
 /// Each bucket of a sound tree has its entries in order.
 #[tactic(auto, using(crate::proofs::SortedLemmas::entries_exist))]
 pub fn sorted_entries_exist()
-    ensures { (file : List ℕ) (meta : Meta) (start : Start) → HasSoundTrees file meta → IsStart file meta start
-        → (entries : List LeafElement) × AreEntries (IsEntry file meta) start entries }
+    ensures { ForBuckets (λ file meta start. (entries : List LeafElement) × AreEntries (IsEntry file meta) start entries) }
 {}
 
 /// There is at most one list of the entries of a bucket in order.
@@ -42,22 +37,18 @@ pub fn sorted_entries_are_one()
 /// The pages between each entry and the next have a number, and so have those before the first and
 /// after the last. These numbers add up to that of all pages of the bucket.
 pub fn gaps_cover_all()
-    ensures { (file : List ℕ) (meta : Meta) (start : Start) (entries : List LeafElement) → HasSoundTrees file meta → IsStart file meta start
-        → AreEntries (IsEntry file meta) start entries → GapsCoverAll file meta start entries }
+    ensures { ForSorted GapsCoverAll }
 {}
 
 /// There is a number of pages that a seek of a key opens.
 pub fn seeks_are_counted()
-    ensures { (file : List ℕ) (meta : Meta) (start : Start) (entries : List LeafElement) (key : List ℕ) → HasSoundTrees file meta → IsStart file meta start
-        → AreEntries (IsEntry file meta) start entries → (n : ℕ) × IsSeekCount file meta start entries key n }
+    ensures { ForSorted SeeksAreCounted }
 {}
 
 /// A seek opens at most the 64 pages of the longest way down, and the pages between the entry that
 /// it comes to and the preceding one.
 pub fn seeks_are_bounded()
-    ensures { (file : List ℕ) (meta : Meta) (start : Start) (entries : List LeafElement) (key : List ℕ) (n gap : ℕ) → HasSoundTrees file meta
-        → IsStart file meta start → AreEntries (IsEntry file meta) start entries
-        → IsSeekCount file meta start entries key n → IsGap file meta start entries (least_from key entries) gap → n ≤ 64 + gap }
+    ensures { ForSorted SeeksAreBounded }
 {}
 
 /// A file has at most one listing.
@@ -74,8 +65,8 @@ pub fn sound_trees_have_a_listing()
 /// The listing of a file with sound trees is what the tree of its root bucket lists.
 #[tactic(auto, using(crate::proofs::Existing::listing_tree))]
 pub fn listing_is_of_a_tree()
-    ensures { (file : List ℕ) (meta : Meta) (listing : List Member) → HasSoundTrees file meta → IsListing file meta listing
-        → (tree : Tree) × IsTreeOf (IsEntry file meta) (Root_page meta.root) tree × (listing ≡ listing_of tree) }
+    ensures { ForListings (λ file meta listing. (tree : Tree) × IsTreeOf (IsEntry file meta) (Root_page meta.root) tree
+        × (listing ≡ listing_of tree)) }
 {}
 
 /// What a bucket's tree lists is the listing of the bucket.
@@ -93,8 +84,7 @@ pub fn a_tree_is_of_its_listing()
 /// A file's listing is that of the tree that is computed from it.
 #[tactic(auto, using(crate::proofs::Existing::listing_back))]
 pub fn a_listing_is_of_its_tree()
-    ensures { (file : List ℕ) (meta : Meta) (listing : List Member) → HasSoundTrees file meta → IsListing file meta listing
-        → listing_of (tree_of listing) ≡ listing }
+    ensures { ForListings (λ file meta listing. listing_of (tree_of listing) ≡ listing) }
 {}
 
 /// The part below the empty path is the whole listing.

@@ -1,9 +1,8 @@
 //! The open buckets of a walk, and the path that it has come to. That path alone says what is left
 //! of a listing; the cursors say where to go on.
 ghost use Rattle.std.specs.Option.{IfNone};
-ghost use Rattle.std.specs.Prelude.{◌≡◌, ◌∷◌, [], IfSome, IfOk, MatchOption, OnOk, OnErr};
-ghost use Rattle.bolt_format.specs.ElementPlaces.{leaf_view};
-ghost use Rattle.bolt_tree.specs.{Entries.item_of, Listing.rest_from, RestAfter.rest_after, RestAfter.beyond, FileListings.ForListing, Paths.path_of};
+ghost use Rattle.std.specs.Prelude.{◌≡◌, [], IfSome, IfOk, OnOk, OnErr};
+ghost use Rattle.bolt_tree.specs.{Listing.rest_from, RestAfter.rest_after, RestAfter.beyond, Paths.path_of};
 ghost use Rattle.bolt_tree.specs.Private.OpenCursors.{cursors_of};
 
 use crate::bucket::Bucket;
@@ -43,7 +42,8 @@ pub(crate) struct OpenBuckets<'a> {
 }
 
 impl<'a> OpenBuckets<'a> {
-    ghost use Rattle.bolt_tree.specs.Private.OpenBuckets.{IsAhead, IsAt, IsInPlace, IsNamed, IsPartResult, left_by, open_path, reported_path};
+    ghost use Rattle.bolt_tree.specs.Private.OpenBuckets.{ComesNext, EntersFirst, IsAhead, IsAt, IsInPlace, IsLeft, IsNamed, IsPartResult, left_by, open_path};
+    ghost use Rattle.bolt_tree.specs.Private.OpenBuckets.{reported_path};
 
     /// No open bucket.
     pub fn new(alloc: Global, checked: Checked<'a>) -> OpenBuckets<'a>
@@ -68,9 +68,7 @@ impl<'a> OpenBuckets<'a> {
         ensures on { IfOk result (λ found. IfSome found (IsAt self.new)) }
         ensures none { IfOk result (λ found. IfNone found (open_path self.new ≡ open_path self.old)) }
         ensures same { OnErr result (open_path self.new ≡ open_path self.old) }
-        ensures left { IfOk result (λ found. ForListing self.old.cursors.checked
-            (λ listing. MatchOption found (rest_after (open_path self.old) listing ≡ beyond (open_path self.old) listing)
-            (λ leaf. rest_after (open_path self.old) listing ≡ (open_path self.new, item_of (leaf_view leaf)) ∷ rest_after (open_path self.new) listing))) }
+        ensures left { IfOk result (EntersFirst self.old self.new) }
     {
         self.path.reserve(1)?;
         let Some(leaf) = self.cursors.enter(bucket)? else {
@@ -90,10 +88,7 @@ impl<'a> OpenBuckets<'a> {
         ensures on { IfOk result (λ found. IfSome found (IsAt self.new)) }
         ensures ended { IfOk result (λ found. IfNone found (open_path self.new ≡ [])) }
         ensures same { OnErr result (open_path self.new ≡ open_path self.old) }
-        ensures left { IfOk result (λ found. ForListing self.old.cursors.checked
-            (λ listing. MatchOption found (left_by ahead.entry (open_path self.old) listing ≡ [])
-            (λ leaf. left_by ahead.entry (open_path self.old) listing
-            ≡ (open_path self.new, item_of (leaf_view leaf)) ∷ rest_after (open_path self.new) listing))) }
+        ensures left { IfOk result (ComesNext (left_by ahead.entry (open_path self.old)) self.old self.new) }
     {
         let bucket = match ahead {
             WalkStep::Begin => Bucket::root(self.cursors.checked),
@@ -112,7 +107,7 @@ impl<'a> OpenBuckets<'a> {
         requires placed { IsInPlace self.now }
         requires on { IsAt self.now leaf.now }
         ensures ahead { IsAhead self.now result }
-        ensures left { ForListing self.now.cursors.checked (λ listing. left_by result (open_path self.now) listing ≡ rest_after (open_path self.now) listing) }
+        ensures left { IsLeft (rest_after (open_path self.now)) self.now self.now result }
         ensures reported { reported_path result (open_path self.now) ≡ open_path self.now }
     {
         if leaf.is_bucket {
@@ -130,7 +125,7 @@ impl<'a> OpenBuckets<'a> {
         ensures placed { IsInPlace self.new }
         ensures ahead { IsAhead self.new result }
         ensures unreported { reported_path result (open_path self.new) ≡ [] }
-        ensures left { ForListing self.old.cursors.checked (λ listing. left_by result (open_path self.new) listing ≡ beyond (open_path self.old) listing) }
+        ensures left { IsLeft (beyond (open_path self.old)) self.old self.new result }
     {
         match self.climb() {
             Some(leaf) => WalkStep::Give(leaf),
@@ -173,8 +168,7 @@ impl<'a> OpenBuckets<'a> {
         ensures placed { OnOk result (IsInPlace self.new) }
         ensures ahead { IfOk result (IsAhead self.new) }
         ensures unreported { IfOk result (λ ahead. reported_path ahead (open_path self.new) ≡ []) }
-        ensures left { IfOk result (λ ahead. ForListing self.old.cursors.checked
-            (λ listing. left_by ahead (open_path self.new) listing ≡ rest_from (path_of path.now) listing)) }
+        ensures left { IfOk result (IsLeft (rest_from (path_of path.now)) self.old self.new) }
     {
         let mut bucket = Bucket::root(self.cursors.checked);
         for (i, part) in path.iter().enumerate() {
@@ -195,8 +189,7 @@ impl<'a> OpenBuckets<'a> {
         ensures placed { IsInPlace self.new }
         ensures on { IfSome result (IsAt self.new) }
         ensures ended { IfNone result (open_path self.new ≡ []) }
-        ensures left { ForListing self.old.cursors.checked (λ listing. MatchOption result (beyond (open_path self.old) listing ≡ [])
-            (λ leaf. beyond (open_path self.old) listing ≡ (open_path self.new, item_of (leaf_view leaf)) ∷ rest_after (open_path self.new) listing)) }
+        ensures left { ComesNext (beyond (open_path self.old)) self.old self.new result }
     {
         while !self.cursors.is_empty() {
             let found = self.cursors.next_element();

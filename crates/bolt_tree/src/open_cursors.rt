@@ -1,9 +1,10 @@
 //! The cursors of the open buckets of a walk.
-ghost use Rattle.std.specs.Prelude.{◌≡◌, ◌++◌, ◌∷◌, [], List, IfOk, IfSome, IsTrue, OnErr, OnOk};
+ghost use Rattle.std.specs.Prelude.{◌≡◌, ◌++◌, ◌∷◌, [], List, IfOk, IsTrue, OnErr, OnOk};
 ghost use Rattle.std.specs.Option.{option_map};
-ghost use Rattle.bolt_format.specs.{ElementPlaces.leaf_view, Elements.IsBucketValue};
-ghost use Rattle.bolt_tree.specs.{Buckets.bucket_checked, Places.first_move, Places.next_move, Places.seek_move};
-ghost use Rattle.bolt_tree.specs.Private.CursorViews.{AreOfFile, Keeps, MovesLast, Opens, fresh_view};
+ghost use Rattle.bolt_format.specs.ElementPlaces.{leaf_view};
+ghost use Rattle.bolt_tree.specs.Private.BucketValues.{HasBucketValue};
+ghost use Rattle.bolt_tree.specs.{Buckets.bucket_checked, Places.next_move, Places.seek_to, Places.to_first};
+ghost use Rattle.bolt_tree.specs.Private.CursorViews.{AreOfFile, Keeps, fresh_view};
 ghost use Rattle.bolt_tree.specs.Private.Kept.{CursorView};
 
 use crate::at::At;
@@ -35,7 +36,7 @@ pub(crate) struct OpenCursors<'a> {
 }
 
 impl<'a> OpenCursors<'a> {
-    ghost use Rattle.bolt_tree.specs.Private.OpenCursors.{cursors_of};
+    ghost use Rattle.bolt_tree.specs.Private.OpenCursors.{MovesInnermost, OpensWithin, cursors_of};
 
     /// Without a cursor.
     pub fn new(alloc: Global, checked: Checked<'a>) -> OpenCursors<'a>
@@ -87,13 +88,13 @@ impl<'a> OpenCursors<'a> {
     fn seek_element(&mut self, key: &[u8]) -> Option<Leaf<'a>>
         requires { cursors_of self.old ≡ [] → ⊥ }
         ensures checked { self.new.checked ≡ self.old.checked }
-        ensures moves { MovesLast (λ entries place. seek_move key.now entries) (cursors_of self.old) (cursors_of self.new) (option_map leaf_view result) }
-        ensures bucket { IfSome result (λ leaf. IsTrue leaf.is_bucket → IsBucketValue leaf.value.now) }
+        ensures moves { MovesInnermost (seek_to key.now) self.old self.new result }
+        ensures bucket { HasBucketValue result }
     {
-        match &mut self.innermost {
-            Some(cursor) => cursor.seek_element(key),
-            None => unreachable!(),
-        }
+        let Some(cursor) = &mut self.innermost else {
+            return None;
+        };
+        cursor.seek_element(key)
     }
 
     /// Opens a bucket within the innermost one, on its first entry. If it has none, or if memory
@@ -101,9 +102,8 @@ impl<'a> OpenCursors<'a> {
     pub fn enter(&mut self, bucket: Bucket<'a>) -> Result<Option<Leaf<'a>>, NoMemory>
         requires { bucket_checked bucket ≡ self.old.checked }
         ensures checked { self.new.checked ≡ self.old.checked }
-        ensures opens { IfOk result (λ found. Opens bucket.entry (λ entries place. first_move entries) (cursors_of self.old) (cursors_of self.new)
-            (option_map leaf_view found)) }
-        ensures bucket { IfOk result (λ found. IfSome found (λ leaf. IsTrue leaf.is_bucket → IsBucketValue leaf.value.now)) }
+        ensures opens { IfOk result (OpensWithin bucket.entry to_first self.old self.new) }
+        ensures bucket { IfOk result HasBucketValue }
         ensures same { OnErr result (cursors_of self.new ≡ cursors_of self.old) }
     {
         self.open(bucket)?;
@@ -116,9 +116,8 @@ impl<'a> OpenCursors<'a> {
     pub fn seek(&mut self, bucket: Bucket<'a>, key: &[u8]) -> Result<Option<Leaf<'a>>, NoMemory>
         requires { bucket_checked bucket ≡ self.old.checked }
         ensures checked { self.new.checked ≡ self.old.checked }
-        ensures opens { IfOk result (λ found. Opens bucket.entry (λ entries place. seek_move key.now entries) (cursors_of self.old) (cursors_of self.new)
-            (option_map leaf_view found)) }
-        ensures bucket { IfOk result (λ found. IfSome found (λ leaf. IsTrue leaf.is_bucket → IsBucketValue leaf.value.now)) }
+        ensures opens { IfOk result (OpensWithin bucket.entry (seek_to key.now) self.old self.new) }
+        ensures bucket { IfOk result HasBucketValue }
         ensures same { OnErr result (cursors_of self.new ≡ cursors_of self.old) }
     {
         self.open(bucket)?;
@@ -144,13 +143,13 @@ impl<'a> OpenCursors<'a> {
     pub fn next_element(&mut self) -> Option<Leaf<'a>>
         requires { cursors_of self.old ≡ [] → ⊥ }
         ensures checked { self.new.checked ≡ self.old.checked }
-        ensures moves { MovesLast next_move (cursors_of self.old) (cursors_of self.new) (option_map leaf_view result) }
-        ensures bucket { IfSome result (λ leaf. IsTrue leaf.is_bucket → IsBucketValue leaf.value.now) }
+        ensures moves { MovesInnermost next_move self.old self.new result }
+        ensures bucket { HasBucketValue result }
     {
-        match &mut self.innermost {
-            Some(cursor) => cursor.next_element(),
-            None => unreachable!(),
-        }
+        let Some(cursor) = &mut self.innermost else {
+            return None;
+        };
+        cursor.next_element()
     }
 
     /// Drops the innermost cursor, and restores the one around it.
@@ -164,7 +163,7 @@ impl<'a> OpenCursors<'a> {
             return;
         };
         let Some(cursor) = &mut self.innermost else {
-            unreachable!();
+            return;
         };
         cursor.resume(outer.at, outer.is_past, &self.positions[outer.begin..]);
         self.positions.truncate(outer.begin);

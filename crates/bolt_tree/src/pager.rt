@@ -1,7 +1,6 @@
 //! Opens the pages of a file, and counts them.
-ghost use Rattle.std.specs.Prelude.{◌≡◌, ◌<◌, ◌^◌, ℕ, Some};
-ghost use Rattle.bolt_format.specs.{Pages.page_at, Shown.shown};
-ghost use Rattle.bolt_check.specs.{CheckedFiles.bytes_of, CheckedFiles.meta_of, OnWays.IsOnWay};
+ghost use Rattle.std.specs.Prelude.{◌≡◌, ◌<◌, ◌^◌, Some};
+ghost use Rattle.bolt_format.specs.Shown.{shown};
 
 use bolt_check::Checked;
 use bolt_format::{Page, TreePage, known};
@@ -18,8 +17,8 @@ pub struct Pager<'a> {
 #[tactic(auto, unfolding(crate::specs::Pagers::pager_checked, crate::specs::Pagers::pager_opened))]
 impl<'a> Pager<'a> {
     ghost use Rattle.bolt_check.specs.Counts.{counted};
-    ghost use Rattle.bolt_tree.specs.Pagers.{pager_checked, pager_opened};
-    ghost use Rattle.bolt_tree.specs.{Private.Contents.content_at, Private.ShownPages.opened_content};
+    ghost use Rattle.bolt_tree.specs.Pagers.{HasWay, checked_page, pager_checked, pager_opened};
+    ghost use Rattle.bolt_tree.specs.{Private.Contents.checked_content, Private.ShownPages.opened_content};
 
     /// A pager that has opened no page.
     pub fn new(checked: Checked<'a>) -> Pager<'a>
@@ -31,8 +30,8 @@ impl<'a> Pager<'a> {
 
     /// Opens page `id`. A way leads to it.
     pub fn open(&mut self, id: u64) -> Page<'a>
-        requires { ∥ ((depth : ℕ) × IsOnWay (bytes_of (pager_checked self.old)) (meta_of (pager_checked self.old)) id depth) ∥₁ }
-        ensures page { page_at (bytes_of (pager_checked self.old)) (meta_of (pager_checked self.old)) id ≡ Some (shown result) }
+        requires { HasWay (pager_checked self.old) id }
+        ensures page { checked_page (pager_checked self.old) id ≡ Some (shown result) }
         ensures checked { pager_checked self.new ≡ pager_checked self.old }
         ensures opened { pager_opened self.new ≡ counted (pager_opened self.old) 1 }
     {
@@ -43,8 +42,8 @@ impl<'a> Pager<'a> {
     /// Opens page `id` as a page of a tree. A way leads to it.
     #[tactic(auto, using(crate::proofs::WayPages::content_opened, crate::proofs::WayPages::way_kind))]
     pub(crate) fn open_tree_page(&mut self, id: u64) -> TreePage<'a>
-        requires { ∥ ((depth : ℕ) × IsOnWay (bytes_of (pager_checked self.old)) (meta_of (pager_checked self.old)) id depth) ∥₁ }
-        ensures content { opened_content result ≡ content_at (bytes_of (pager_checked self.old)) (meta_of (pager_checked self.old)) id }
+        requires { HasWay (pager_checked self.old) id }
+        ensures content { opened_content result ≡ checked_content (pager_checked self.old) id }
         ensures checked { pager_checked self.new ≡ pager_checked self.old }
         ensures opened { pager_opened self.new ≡ counted (pager_opened self.old) 1 }
     {

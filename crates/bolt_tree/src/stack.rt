@@ -51,8 +51,5 @@ pub(crate) fn set_positions<'a>(stack: &mut Stack<'a>, positions: &[Position<'a>
     ensures { stack.new.items ≡ positions.now }
 {
     stack.clear();
-    match stack.try_extend_from_slice(positions) {
-        Ok(()) => {}
-        Err(_) => unreachable!(),
-    }
+    stack.try_extend_from_slice(positions).unwrap();
 }

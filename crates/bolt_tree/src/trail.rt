@@ -1,8 +1,9 @@
 //! The open pages of a bucket: moves from entry to entry, and how they go down from page to page.
-ghost use Rattle.std.specs.Prelude.{◌≡◌, ◌∷◌, [], ◌<◌, ◌≤◌, ◌+◌, ◌-◌, ◌*◌, IfSome, IsTrue, MatchOption, Some, drop, false, length, slice_get};
+ghost use Rattle.std.specs.Prelude.{◌≡◌, ◌∷◌, [], ◌<◌, ◌≤◌, ◌+◌, ◌-◌, ◌*◌, MatchOption, Some, drop, false, length, slice_get};
 ghost use Rattle.std.specs.Option.{option_map};
-ghost use Rattle.bolt_format.specs.{ElementPlaces.leaf_view, Elements.BranchElement, Elements.IsBucketValue, TreePages.branches_on};
+ghost use Rattle.bolt_format.specs.{ElementPlaces.leaf_view, Elements.BranchElement, TreePages.branches_on};
 ghost use Rattle.bolt_check.specs.Counts.{counted};
+ghost use Rattle.bolt_tree.specs.Private.BucketValues.{HasBucketValue};
 ghost use Rattle.bolt_tree.specs.{CursorBounds.OpensSeek, CursorBounds.SeeksInBounds, Pagers.pager_opened, Places.least_from};
 ghost use Rattle.bolt_tree.specs.Private.BucketPages.{contents_in, elements_in, pages_in, root_content};
 ghost use Rattle.bolt_tree.specs.Private.Contents.{Of_branch, content_length};
@@ -34,8 +35,8 @@ pub(crate) struct SeekResult<'a> {
 
 #[tactic(auto, using(crate::proofs::StackLemmas::retaken, crate::proofs::PagerLemmas::counted_zero))]
 impl<'a> Trail<'a> {
-    ghost use Rattle.bolt_tree.specs.Private.Trails.{Finds, Goes, HasBucket, HasTrail, IsMoved, ahead, entries_left, pages_ahead, pages_left, trail_bucket};
-    ghost use Rattle.bolt_tree.specs.Private.Trails.{trail_frames};
+    ghost use Rattle.bolt_tree.specs.Private.Trails.{ComesTo, Enters, Finds, Goes, HasBucket, HasOpened, HasRoom, HasTrail, IsMoved, LeadsTo, TakesHere, ahead, edge_of};
+    ghost use Rattle.bolt_tree.specs.Private.Trails.{entries_from, entries_left, pages_left, trail_bucket, trail_frames, trail_with};
 
     /// Goes to the first entry or, if `back` is set, to the last one. If there is none, the stack is
     /// empty.
@@ -43,10 +44,9 @@ impl<'a> Trail<'a> {
         requires { HasBucket self.old }
         ensures moved { IsMoved self.old self.new }
         ensures rest { IsAtRest (trail_frames self.new) }
-        ensures found { Finds back result (elements_in (trail_bucket self.old)) (entries_left back self.new) (trail_frames self.new) [] }
-        ensures bucket { IfSome result (λ leaf. IsTrue leaf.is_bucket → IsBucketValue leaf.value.now) }
-        ensures opened { pager_opened self.new.pager
-            ≡ counted (pager_opened self.old.pager) (length (pages_in (trail_bucket self.old)) - length (pages_left back self.new)) }
+        ensures found { ComesTo back result (elements_in (trail_bucket self.old)) self.new [] }
+        ensures bucket { HasBucketValue result }
+        ensures opened { HasOpened (length (pages_in (trail_bucket self.old)) - length (pages_left back self.new)) self.old self.new }
     {
         self.begin(back);
         self.go(back)
@@ -73,10 +73,9 @@ impl<'a> Trail<'a> {
         requires { HasBucket self.old }
         ensures moved { IsMoved self.old self.new }
         ensures rest { IsAtRest (trail_frames self.new) }
-        ensures found { Finds false result.found (drop (least_from key.now (elements_in (trail_bucket self.old))) (elements_in (trail_bucket self.old)))
-            (ahead self.new) (trail_frames self.new) [] }
+        ensures found { ComesTo false result.found (entries_from key.now (elements_in (trail_bucket self.old))) self.new [] }
         ensures number { least_from key.now (elements_in (trail_bucket self.old)) ≤ length (elements_in (trail_bucket self.old)) }
-        ensures bucket { IfSome result.found (λ leaf. IsTrue leaf.is_bucket → IsBucketValue leaf.value.now) }
+        ensures bucket { HasBucketValue result.found }
         ensures opened { OpensSeek (trail_bucket self.old) key.now (pager_opened self.old.pager) (pager_opened self.new.pager) }
         ensures compared { SeeksInBounds (trail_bucket self.old) key.now result.compared }
     {
@@ -91,7 +90,7 @@ impl<'a> Trail<'a> {
         requires stack { HasTrail self.now }
         requires rest { IsAtRest (trail_frames self.now) }
         ensures on { MatchOption result (trail_frames self.now ≡ []) (λ leaf. IsOn (trail_frames self.now) (leaf_view leaf)) }
-        ensures bucket { IfSome result (λ leaf. IsTrue leaf.is_bucket → IsBucketValue leaf.value.now) }
+        ensures bucket { HasBucketValue result }
     {
         let top = self.stack.last()?;
         let TreePage::Leaf(page) = top.page else {
@@ -106,9 +105,8 @@ impl<'a> Trail<'a> {
         requires stack { HasTrail self.old }
         requires rest { IsAtRest (trail_frames self.old) }
         ensures moved { IsMoved self.old self.new }
-        ensures found { MatchOption result ((here_of (trail_frames self.old) ≡ []) × (trail_frames self.new ≡ trail_frames self.old))
-            (λ leaf. (ahead self.old ≡ leaf_view leaf ∷ ahead self.new) × IsOn (trail_frames self.new) (leaf_view leaf) × (pages_ahead self.old ≡ pages_ahead self.new)) }
-        ensures bucket { IfSome result (λ leaf. IsTrue leaf.is_bucket → IsBucketValue leaf.value.now) }
+        ensures found { TakesHere self.old self.new result }
+        ensures bucket { HasBucketValue result }
         ensures opened { pager_opened self.new.pager ≡ pager_opened self.old.pager }
     {
         let last = self.stack.len().checked_sub(1)?;
@@ -149,11 +147,10 @@ impl<'a> Trail<'a> {
     fn go(&mut self, back: bool) -> Option<Leaf<'a>>
         requires { HasTrail self.old }
         ensures moved { IsMoved self.old self.new }
-        ensures found { Finds back result (entries_left back self.old) (entries_left back self.new) (trail_frames self.new) [] }
-        ensures bucket { IfSome result (λ leaf. IsTrue leaf.is_bucket → IsBucketValue leaf.value.now) }
+        ensures found { ComesTo back result (entries_left back self.old) self.new [] }
+        ensures bucket { HasBucketValue result }
         ensures less { length (pages_left back self.new) ≤ length (pages_left back self.old) }
-        ensures opened { pager_opened self.new.pager
-            ≡ counted (pager_opened self.old.pager) (length (pages_left back self.old) - length (pages_left back self.new)) }
+        ensures opened { HasOpened (length (pages_left back self.old) - length (pages_left back self.new)) self.old self.new }
     {
         while let Some(top) = self.stack.pop() {
             if let Some(i) = top.beside(back) {
@@ -168,9 +165,8 @@ impl<'a> Trail<'a> {
     fn begin(&mut self, at_end: bool)
         requires { HasBucket self.old }
         ensures moved { IsMoved self.old self.new }
-        ensures frames { let root = root_content (trail_bucket self.old) in
-            trail_frames self.new ≡ record { content = root; taken = taken_at at_end root } ∷ [] }
-        ensures opened { pager_opened self.new.pager ≡ counted (pager_opened self.old.pager) 1 }
+        ensures frames { trail_frames self.new ≡ edge_of at_end (root_content (trail_bucket self.old)) ∷ [] }
+        ensures opened { HasOpened 1 self.old self.new }
     {
         let page = self.open_root();
         self.push_at_edge(page, at_end);
@@ -183,7 +179,7 @@ impl<'a> Trail<'a> {
         ensures moved { IsMoved self.old self.new }
         ensures content { opened_content result ≡ root_content (trail_bucket self.old) }
         ensures empty { trail_frames self.new ≡ [] }
-        ensures opened { pager_opened self.new.pager ≡ counted (pager_opened self.old.pager) 1 }
+        ensures opened { HasOpened 1 self.old self.new }
     {
         self.stack.clear();
         match self.at {
@@ -207,7 +203,7 @@ impl<'a> Trail<'a> {
         ensures near { IsNearTop (trail_bucket self.old) key.now (trail_frames self.new) }
         ensures sought { IsSought (elements_in (trail_bucket self.old)) key.now (ahead self.new) }
         ensures compared { result ≤ 16 * length (trail_frames self.new) }
-        ensures opened { pager_opened self.new.pager ≡ counted (pager_opened self.old.pager) (length (trail_frames self.new) - 1) }
+        ensures opened { HasOpened (length (trail_frames self.new) - 1) self.old self.new }
         ensures leaf { IsLeafTop (trail_frames self.new) }
     {
         let mut opened = root;
@@ -226,13 +222,12 @@ impl<'a> Trail<'a> {
     /// which is returned; or it leads from a branch to a page, which is opened and pushed, before
     /// its first element or past its last.
     fn enter(&mut self, page: TreePage<'a>, i: u16, at_end: bool) -> Option<Leaf<'a>>
-        requires stack { HasStack (trail_bucket self.old) (record { content = opened_content page; taken = 0 } ∷ trail_frames self.old) }
+        requires stack { HasRoom (opened_content page) 0 self.old }
         requires below { i < content_length (opened_content page) }
         ensures moved { IsMoved self.old self.new }
-        ensures entered { IsEntered (contents_in (trail_bucket self.old)) at_end (opened_content page.entry) i (trail_frames self.old) (trail_frames self.new)
-            (option_map leaf_view result) }
-        ensures opened { pager_opened self.new.pager ≡ counted (pager_opened self.old.pager) (entered_pages (option_map leaf_view result)) }
-        ensures bucket { IfSome result (λ leaf. IsTrue leaf.is_bucket → IsBucketValue leaf.value.now) }
+        ensures entered { Enters at_end (opened_content page.entry) i self.old self.new result }
+        ensures opened { HasOpened (entered_pages (option_map leaf_view result)) self.old self.new }
+        ensures bucket { HasBucketValue result }
     {
         match page {
             TreePage::Leaf(leaf) => {
@@ -249,14 +244,13 @@ impl<'a> Trail<'a> {
 
     /// Opens the page under element `i` of a branch, and pushes the branch.
     fn go_under(&mut self, page: BranchPage<'a>, i: u16) -> TreePage<'a>
-        requires stack { HasStack (trail_bucket self.old) (record { content = Of_branch (branches_on page); taken = 0 } ∷ trail_frames self.old) }
+        requires stack { HasRoom (Of_branch (branches_on page)) 0 self.old }
         requires below { i < length (branches_on page) }
         ensures moved { IsMoved self.old self.new }
-        ensures frames { trail_frames self.new ≡ record { content = Of_branch (branches_on page.entry); taken = i + 1 } ∷ trail_frames self.old }
-        ensures child { (e : BranchElement) × (slice_get (branches_on page.entry) i ≡ Some e)
-            × (opened_content result ≡ contents_in (trail_bucket self.old) e.child) }
-        ensures stack { HasStack (trail_bucket self.new) (record { content = opened_content result; taken = 0 } ∷ trail_frames self.new) }
-        ensures opened { pager_opened self.new.pager ≡ counted (pager_opened self.old.pager) 1 }
+        ensures frames { trail_frames self.new ≡ trail_with (Of_branch (branches_on page.entry)) (i + 1) self.old }
+        ensures child { LeadsTo self.old (branches_on page.entry) i (opened_content result) }
+        ensures stack { HasRoom (opened_content result) 0 self.new }
+        ensures opened { HasOpened 1 self.old self.new }
     {
         self.push(TreePage::Branch(page), u32::from(i) + 1);
         self.pager.open_tree_page(page.element(i).child)
@@ -265,10 +259,9 @@ impl<'a> Trail<'a> {
     /// Pushes a page onto the stack, before its first element or past its last.
     #[tactic(auto, using(crate::proofs::StackLemmas::retaken, crate::proofs::WayPages::length_keys))]
     fn push_at_edge(&mut self, page: TreePage<'a>, at_end: bool)
-        requires { HasStack (trail_bucket self.old) (record { content = opened_content page; taken = 0 } ∷ trail_frames self.old) }
+        requires { HasRoom (opened_content page) 0 self.old }
         ensures moved { IsMoved self.old self.new }
-        ensures frames { trail_frames self.new
-            ≡ record { content = opened_content page.entry; taken = taken_at at_end (opened_content page.entry) } ∷ trail_frames self.old }
+        ensures frames { trail_frames self.new ≡ edge_of at_end (opened_content page.entry) ∷ trail_frames self.old }
         ensures opened { pager_opened self.new.pager ≡ pager_opened self.old.pager }
     {
         if at_end {
@@ -281,9 +274,9 @@ impl<'a> Trail<'a> {
     /// Pushes a page onto the stack.
     #[tactic(auto, using(crate::proofs::TrailLemmas::stack_room))]
     fn push(&mut self, page: TreePage<'a>, taken: u32)
-        requires { HasStack (trail_bucket self.old) (record { content = opened_content page; taken = taken } ∷ trail_frames self.old) }
+        requires { HasRoom (opened_content page) taken self.old }
         ensures moved { IsMoved self.old self.new }
-        ensures frames { trail_frames self.new ≡ record { content = opened_content page.entry; taken = taken } ∷ trail_frames self.old }
+        ensures frames { trail_frames self.new ≡ trail_with (opened_content page.entry) taken self.old }
         ensures opened { pager_opened self.new.pager ≡ pager_opened self.old.pager }
     {
         self.stack.push(Position { page, taken });

@@ -1,7 +1,6 @@
 //! A walk over everything in a file (docs/LISTING.md, "The walk").
-ghost use Rattle.std.specs.Option.{option_map};
 ghost use Rattle.std.specs.Prelude.{◌≡◌, [], IfOk, OnErr};
-ghost use Rattle.bolt_tree.specs.{ShownEntries.item_view, Listing.rest_from, Private.OpenBuckets.IsAhead, Private.OpenBuckets.IsInPlace};
+ghost use Rattle.bolt_tree.specs.{Listing.rest_from, Private.OpenBuckets.IsAhead, Private.OpenBuckets.IsInPlace};
 
 use crate::entry::Item;
 use crate::open_buckets::{OpenBuckets, WalkStep};
@@ -19,7 +18,7 @@ pub struct Walk<'a> {
 
 #[tactic(auto, unfolding(crate::specs::Walks::left_of, crate::specs::Walks::walk_checked, crate::specs::Walks::walk_path))]
 impl<'a> Walk<'a> {
-    ghost use Rattle.bolt_tree.specs.{FileListings.ForListing, Paths.path_of, Walks.GivesNext, Walks.left_of, Walks.walk_checked, Walks.walk_path};
+    ghost use Rattle.bolt_tree.specs.{FileListings.ForListing, Paths.path_of, Walks.GivesItem, Walks.HasSameLeft, Walks.left_of, Walks.walk_checked, Walks.walk_path};
 
     /// A walk that has the whole listing ahead of it. Needs no memory.
     pub fn new(alloc: Global, checked: Checked<'a>) -> Walk<'a>
@@ -59,9 +58,8 @@ impl<'a> Walk<'a> {
     #[inline(always)]
     pub fn next(&mut self) -> Result<Option<Item<'a>>, NoMemory>
         ensures checked { walk_checked self.new ≡ walk_checked self.old }
-        ensures given { IfOk result (λ given. ForListing (walk_checked self.old)
-            (λ listing. GivesNext (left_of self.old listing) (left_of self.new listing) (walk_path self.new) (option_map item_view given))) }
-        ensures same { OnErr result (ForListing (walk_checked self.old) (λ listing. left_of self.new listing ≡ left_of self.old listing)) }
+        ensures given { IfOk result (GivesItem self.old self.new) }
+        ensures same { OnErr result (HasSameLeft self.old self.new) }
         ensures same_path { OnErr result (walk_path self.new ≡ walk_path self.old) }
     {
         match self.buckets.advance(self.ahead)? {

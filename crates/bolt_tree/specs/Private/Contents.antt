@@ -3,7 +3,7 @@ use Rattle.std.specs.Prelude.{ℕ, List, [], length, map, Option, Some, None}
 use Rattle.bolt_format.specs.{Elements.BranchElement, Elements.LeafElement, Pages.PageView, Pages.page_at, declared.header.Kind.Kind}
 use Rattle.bolt_format.specs.declared.header.Kind.TheVariants as kind
 use Rattle.bolt_format.specs.declared.meta.Meta.{Meta}
-use Rattle.bolt_check.specs.Keys.{Key}
+use Rattle.bolt_check.specs.{CheckedFiles.bytes_of, CheckedFiles.meta_of, Keys.Key, declared.checked.Checked.Checked}
 
 -- the elements of a leaf or of a branch
 pub data Content : Type 0 where
@@ -29,6 +29,10 @@ Contents = ℕ → Content
 
 unfoldable pub content_at : List ℕ → Meta → Contents
 content_at file meta number = content_seen (page_at file meta number)
+
+-- of a page of a checked file
+abbrev pub checked_content : Checked → ℕ → Content
+checked_content checked number = content_at (bytes_of checked) (meta_of checked) number
 
 -- how many elements it has, and their keys
 abbrev pub content_length : Content → ℕ

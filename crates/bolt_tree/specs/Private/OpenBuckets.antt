@@ -1,10 +1,10 @@
 -- The open buckets of a walk: docs/LISTING.md, "The walk". A cursor for each, and the keys that the cursors are on: the path of what comes
 -- next, or came last.
-use Rattle.std.specs.Prelude.{◌≡◌, ℕ, Bool, true, false, IsTrue, List, [], ◌∷◌, ◌++◌, Some, slice_get}
+use Rattle.std.specs.Prelude.{◌≡◌, ℕ, Bool, true, false, IsTrue, List, [], ◌∷◌, ◌++◌, MatchOption, Option, Some, slice_get}
 use Rattle.bolt_format.specs.{Elements.IsBucketValue, Elements.LeafElement, ElementPlaces.leaf_view, declared.element.Leaf.Leaf}
 use Rattle.bolt_check.specs.{Keys.Key, declared.checked.Checked.Checked}
 use Rattle.bolt_tree.specs.{Buckets.bucket_checked, Buckets.bucket_start, BucketViews.entries_of, FileListings.ForListing, FileListings.root_start}
-use Rattle.bolt_tree.specs.{Entries.AreEntries, Entries.Start, Entries.start_of, Listing.Member, Listing.rest_from}
+use Rattle.bolt_tree.specs.{Entries.AreEntries, Entries.Start, Entries.item_of, Entries.start_of, Listing.Member, Listing.rest_from}
 use Rattle.bolt_tree.specs.{Paths.HasEntries, Paths.Names, Paths.Path, Paths.path_of, Places.On, RestAfter.rest_after, RestAfter.beyond}
 use Rattle.bolt_tree.specs.{Private.Kept.CursorView, Private.OpenCursors.cursors_of, declared.bucket.Bucket.Bucket, declared.open_buckets.WalkStep.WalkStep}
 use Rattle.bolt_tree.specs.declared.open_buckets.WalkStep.TheVariants.{Begin, Enter, Give, Leave}
@@ -64,6 +64,21 @@ left_by Begin path listing = rest_after path listing
 left_by (Enter value) path listing = rest_after path listing
 left_by (Give leaf) path listing = rest_from path listing
 left_by Leave path listing = beyond path listing
+
+-- Of what was left of a listing, the element that the path leads to is the first, and what comes after the path is left; or nothing was left.
+abbrev pub ComesNext : (left : List Member → List Member) → (old new : OpenBuckets) → Option Leaf → Type 0
+ComesNext left old new found = ForListing old.cursors.checked (λ listing. MatchOption found (left listing ≡ [])
+    (λ leaf. left listing ≡ (open_path new, item_of (leaf_view leaf)) ∷ rest_after (open_path new) listing))
+
+-- A bucket is entered: its first element comes next; or it has none, and what is left is beyond its path.
+abbrev pub EntersFirst : (old new : OpenBuckets) → Option Leaf → Type 0
+EntersFirst old new found = ForListing old.cursors.checked (λ listing. MatchOption found
+    (rest_after (open_path old) listing ≡ beyond (open_path old) listing)
+    (λ leaf. rest_after (open_path old) listing ≡ (open_path new, item_of (leaf_view leaf)) ∷ rest_after (open_path new) listing))
+
+-- this is left of a listing of the file, if this is done next
+abbrev pub IsLeft : (left : List Member → List Member) → (old new : OpenBuckets) → WalkStep → Type 0
+IsLeft left old new ahead = ForListing old.cursors.checked (λ listing. left_by ahead (open_path new) listing ≡ left listing)
 
 -- the path of what was returned last
 abbrev pub reported_path : WalkStep → Path → Path

@@ -1,12 +1,12 @@
 -- What a trail shows: its bucket, and its stack with the top first.
-use Rattle.std.specs.Prelude.{◌≡◌, ◌-◌, Bool, true, false, List, [], ◌∷◌, ◌++◌, IfSome, IsTrue, MatchOption, Option, length, map, reverse}
+use Rattle.std.specs.Prelude.{◌≡◌, ◌-◌, ℕ, Bool, true, false, List, [], ◌∷◌, ◌++◌, IfSome, IsTrue, MatchOption, Option, Some, drop, length, map, reverse, slice_get}
 use Rattle.std.specs.Option.{option_map}
-use Rattle.bolt_format.specs.{ElementPlaces.leaf_view, Elements.IsBucketValue, Elements.LeafElement, declared.element.Leaf.Leaf}
-use Rattle.bolt_check.specs.Counts.{counted}
+use Rattle.bolt_format.specs.{ElementPlaces.leaf_view, Elements.BranchElement, Elements.IsBucketValue, Elements.LeafElement, declared.element.Leaf.Leaf}
+use Rattle.bolt_check.specs.{Counts.counted, Keys.Key}
 use Rattle.bolt_tree.specs.{BucketViews.BucketView, BucketViews.bucket_in, Private.BucketPages.IsSoundBucket, Private.BucketPages.contents_in}
-use Rattle.bolt_tree.specs.{Pagers.pager_checked, Pagers.pager_opened, Private.Entered.opened_to, Private.Contents.Contents, Private.ShownPages.opened_content}
-use Rattle.bolt_tree.specs.Private.Stacks.{Frame, HasStack, IsAtRest, IsOn, ahead_of, before_of, preceding_of, later_of}
-use Rattle.bolt_tree.specs.{Starts.start_at, Private.Tours.TourPage, declared.stack.Position.Position, declared.trail.Trail.Trail}
+use Rattle.bolt_tree.specs.{Pagers.pager_checked, Pagers.pager_opened, Private.Entered.IsEntered, Private.Entered.opened_to, Private.Entered.taken_at, Private.Contents.Content, Private.Contents.Contents, Private.ShownPages.opened_content}
+use Rattle.bolt_tree.specs.Private.Stacks.{Frame, HasStack, IsAtRest, IsOn, ahead_of, before_of, here_of, preceding_of, later_of}
+use Rattle.bolt_tree.specs.{Places.least_from, Starts.start_at, Private.Tours.TourPage, declared.stack.Position.Position, declared.trail.Trail.Trail}
 
 abbrev pub frame_of : Position → Frame
 frame_of position = record { content = opened_content position.page; taken = position.taken }
@@ -32,6 +32,30 @@ pub record IsMoved (old new : Trail) : Type 0 where
   pub file : pager_checked new.pager ≡ pager_checked old.pager
   pub at : new.at ≡ old.at
   pub stack : HasTrail new
+
+-- it has opened so many pages more
+abbrev pub HasOpened : ℕ → (old new : Trail) → Type 0
+HasOpened n old new = pager_opened new.pager ≡ counted (pager_opened old.pager) n
+
+-- its stack with a page on top
+abbrev pub trail_with : Content → ℕ → Trail → List Frame
+trail_with content taken trail = record { content = content; taken = taken } ∷ trail_frames trail
+
+abbrev pub HasRoom : Content → ℕ → Trail → Type 0
+HasRoom content taken trail = HasStack (trail_bucket trail) (trail_with content taken trail)
+
+-- a page before its first element, or past its last
+abbrev pub edge_of : Bool → Content → Frame
+edge_of at_end content = record { content = content; taken = taken_at at_end content }
+
+-- element i of a page is entered
+abbrev pub Enters : Bool → Content → ℕ → (old new : Trail) → Option Leaf → Type 0
+Enters at_end content i old new found =
+    IsEntered (contents_in (trail_bucket old)) at_end content i (trail_frames old) (trail_frames new) (option_map leaf_view found)
+
+-- element i of a branch leads to a page
+abbrev pub LeadsTo : Trail → List BranchElement → ℕ → Content → Type 0
+LeadsTo trail elements i content = (e : BranchElement) × (slice_get elements i ≡ Some e) × (content ≡ contents_in (trail_bucket trail) e.child)
 
 -- what lies in a direction, forward or back: the entries, and the pages
 abbrev pub entries_to : Bool → Contents → List Frame → List LeafElement
@@ -66,6 +90,19 @@ nearer true e entries = entries ++ e ∷ []
 abbrev pub Finds : Bool → Option Leaf → (before after : List LeafElement) (frames end : List Frame) → Type 0
 Finds back found before after frames end = MatchOption found ((before ≡ []) × (frames ≡ end))
     (λ leaf. (before ≡ nearer back (leaf_view leaf) after) × IsOn frames (leaf_view leaf))
+
+-- a move that comes to where a trail is
+abbrev pub ComesTo : Bool → Option Leaf → (before : List LeafElement) → (new : Trail) → (end : List Frame) → Type 0
+ComesTo back found before new end = Finds back found before (entries_left back new) (trail_frames new) end
+
+-- the entries from a key on
+abbrev pub entries_from : Key → List LeafElement → List LeafElement
+entries_from key entries = drop (least_from key entries) entries
+
+-- a move within a leaf: the next entry is taken, or there is none
+abbrev pub TakesHere : (old new : Trail) → Option Leaf → Type 0
+TakesHere old new found = MatchOption found ((here_of (trail_frames old) ≡ []) × (trail_frames new ≡ trail_frames old))
+    (λ leaf. (ahead old ≡ leaf_view leaf ∷ ahead new) × IsOn (trail_frames new) (leaf_view leaf) × (pages_ahead old ≡ pages_ahead new))
 
 -- a move in a direction from where a trail rests to where it rests: without an entry there, it stays
 pub record Goes (back : Bool) (old new : Trail) (gives : Option Leaf) : Type 0 where

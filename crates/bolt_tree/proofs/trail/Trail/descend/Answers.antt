@@ -1,5 +1,5 @@
 use Rattle.std.proofs.Common.{◌≡◌, ◌∷◌, ◌∙◌, ◌-◌, false, suc, length, List, sym, ap, arith, refl, subst}
-use Rattle.bolt_tree.proofs.Words.{BranchElement, BucketView, Frame, HasStack, IsNearTop, IsOnWayDown, IsPlaceOf, IsSought, Key, KeysRise, Of_branch, ahead_of, contents_in, counted, elements_in, branches_on, length-map, opened_content, page_keys, pager_opened, trail_bucket, trail_frames}
+use Rattle.bolt_tree.proofs.Words.{BranchElement, BucketView, Frame, HasStack, IsNearTop, IsOnWayDown, IsPlaceOf, IsSought, Key, KeysRise, Of_branch, ahead_of, contents_in, counted, elements_in, branches_on, length-map, opened_content, pager_opened, trail_bucket, trail_frames}
 use Rattle.bolt_tree.proofs.NearLemmas.{begins, branch_filled, landed, moved_between, moved_way, shows_leaf, stack_rises, way_begins, way_down}
 use Rattle.bolt_tree.proofs.{PagerLemmas.counted_more, PagerLemmas.counted_zero, StackLemmas.popped, StackLemmas.root_stack, StackLemmas.branch_room, SeekLemmas.between_down}
 use Rattle.bolt_tree.proofs.{TrailLemmas.same_bucket, WayPages.keys_opened, WayPages.length_keys}
