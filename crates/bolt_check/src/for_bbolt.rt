@@ -85,13 +85,8 @@ fn read<'a>(
             push_unread(&page, &spot, leads_on_in_root(&page, next.in_root), unread)
         }
         Spot::Bucket(spot) => {
-            let page = TreePage::Leaf(spot.page.page);
-            add_if(
-                has_large_key(&page),
-                Finding::LARGE_KEY,
-                spot.host,
-                findings,
-            )
+            let too_large = has_large_key(&TreePage::Leaf(spot.page.page));
+            add_if(too_large, Finding::LARGE_KEY, spot.host, findings)
         }
     }
 }
