@@ -118,14 +118,6 @@ pub innermost_file : (checked : Checked) (waiting : List WaitingCursor) (positio
 innermost_file checked waiting positions innermost cursor known is =
     ∥∥₁_elim known (hlevel props) (λ k. subst (λ (o : Option Cursor). IsInnermost checked waiting o) is k.1)
 
--- and none waits without an innermost one
-pub none_waits : (checked : Checked) (waiting others : List WaitingCursor) (w : WaitingCursor) (positions : List Position) (innermost : Option Cursor) → ∥ AreOfFile checked waiting positions innermost ∥₁
-    → waiting ≡ others ++ w ∷ [] → innermost ≡ None → ⊥
-none_waits checked waiting others w positions innermost known split is = ∥∥₁_elim known (hlevel props) (λ k.
-    let none : waiting ≡ [] = subst (λ (o : Option Cursor). IsInnermost checked waiting o) is k.1 in
-    let long = length-append others (w ∷ []) in
-    absurd (omega (arith, long, ap (λ (ws : List WaitingCursor). length ws) (sym split ∙ none))))
-
 -- what a cursor shows that goes on by the last of the positions
 pub goes_on_view : (checked file : Checked) (w : WaitingCursor) (positions slice : List Position) (view : CursorView) → file ≡ checked → slice ≡ positions
     → view ≡ kept_view file w.at w.is_past (take (length slice - w.begin) (drop w.begin slice))

@@ -1,10 +1,12 @@
 -- What a trail shows: its bucket, and its stack with the top first.
-use Rattle.std.specs.Prelude.{◌≡◌, ◌-◌, ℕ, Bool, true, false, List, [], ◌∷◌, ◌++◌, IfSome, IsTrue, MatchOption, Option, Some, drop, length, map, reverse, slice_get}
+use Rattle.std.specs.Prelude.{◌≡◌, ◌-◌, ◌∷◌, ◌++◌, [], ℕ, Bool, true, false, IfSome, IsTrue, List, MatchOption, Option, Some}
+use Rattle.std.specs.Prelude.{drop, length, map, reverse, slice_get}
 use Rattle.std.specs.Option.{option_map}
 use Rattle.bolt_format.specs.{ElementPlaces.leaf_view, Elements.BranchElement, Elements.IsBucketValue, Elements.LeafElement, declared.element.Leaf.Leaf}
 use Rattle.bolt_check.specs.{Counts.counted, Keys.Key}
 use Rattle.bolt_tree.specs.{BucketViews.BucketView, BucketViews.bucket_in, Private.BucketPages.IsSoundBucket, Private.BucketPages.contents_in}
-use Rattle.bolt_tree.specs.{Pagers.pager_checked, Pagers.pager_opened, Private.Entered.IsEntered, Private.Entered.opened_to, Private.Entered.taken_at, Private.Contents.Content, Private.Contents.Contents, Private.ShownPages.opened_content}
+use Rattle.bolt_tree.specs.{Pagers.pager_checked, Pagers.pager_opened, Private.ShownPages.opened_content}
+use Rattle.bolt_tree.specs.Private.{Contents.Content, Contents.Contents, Entered.IsEntered, Entered.opened_to, Entered.taken_at}
 use Rattle.bolt_tree.specs.Private.Stacks.{Frame, HasStack, IsAtRest, IsOn, ahead_of, before_of, here_of, preceding_of, later_of}
 use Rattle.bolt_tree.specs.{Places.least_from, Starts.start_at, Private.Tours.TourPage, declared.stack.Position.Position, declared.trail.Trail.Trail}
 
