@@ -1,12 +1,12 @@
 -- Bbolt can write into the balanced layout of a listing with short keys and without a value in the root bucket.
-use Rattle.std.proofs.Common.{◌≡◌, ◌∙◌, ◌<◌, ◌≤◌, ◌^◌, ℕ, List, [], ◌∷◌, ◌++◌, Option, Some, ap, inl, inr, length, refl, subst, sym}
+use Rattle.std.proofs.Common.{◌≡◌, ◌∙◌, ◌<◌, ◌≤◌, ◌^◌, ℕ, List, [], ◌∷◌, ◌++◌, Option, Some, ap, inl, inr, length, subst, sym}
 use Rattle.bolt_layout.proofs.Words.{AllByRecursion, Balanced, BranchElement, Contains, Contains-append_left, Contains-append_right, contains_head, contains_tail, end, IsAsked, layout_mark, layout_meta, layout_of, layout_pages, layout_root, listing_below, Member, Meta, node_at, page_at, PageView, Path, Placed, reached, Tree, tree_of, with_bucket, with_value}
 use Rattle.bolt_layout.proofs.{BboltWays.none_found, PlacedWays.IsPlaced, PlacedWays.placed_way, ShortKeys.HasShortBranches, ShortKeys.IsShort, ShortKeys.layout_short}
 use Rattle.bolt_layout.proofs.Soundness.{IsSoundLayout, PassingIsSound, laid_out, layout_sound, nodes_shown}
 use Rattle.bolt_layout.proofs.{SoundCopies.layout_tree, SpanLemmas.IsShown, TwoChildren.layout_twos}
 use Rattle.bolt_layout.specs.ForBbolt.{HasShortKeys, HoldsBuckets, IsForBbolt}
 use Rattle.bolt_layout.specs.{Copies.IsOfOneTree, Layout.HasTwoIfBranch}
-use Rattle.bolt_check.specs.{BboltFindings.AreBboltFindings, Ways.At_page, Ways.PageSpot, declared.finding.Finding.Finding}
+use Rattle.bolt_check.specs.{BboltFindings.AreBboltFindings, declared.finding.Finding.Finding}
 use Rattle.bolt_format.specs.declared.header.Kind.TheVariants as kind
 use Rattle.bolt_tree.specs.Entries.{Item, Value}
 

@@ -1,20 +1,20 @@
 -- What bbolt fails on isn't found in a file whose tree has short keys and buckets alone in its root bucket, if its branches have two children
 -- and short keys.
-use Rattle.std.proofs.Common.{◌≡◌, ◌∙◌, ◌==◌, ◌&&◌, ◌≤◌, ℕ, suc, Bool, true, false, List, [], ◌∷◌, ◌++◌, Option, Some, None, Ok, Result, ap, cond, flat_map, inl, inr, length, map, not, refl, slice_get, subst, sym, arith}
+use Rattle.std.proofs.Common.{◌≡◌, ◌∙◌, ◌==◌, ◌&&◌, ◌≤◌, ℕ, Bool, true, false, List, [], ◌∷◌, ◌++◌, Option, Some, None, Ok, Result, ap, cond, flat_map, inl, inr, length, map, not, refl, slice_get, subst, sym, arith}
 use Rattle.std.specs.List.{list_any}
 use Rattle.std.specs.Prelude.{is_some}
 use Rattle.std.proofs.lemmas.Option.{none-some, slice_get-map}
-use Rattle.bolt_layout.proofs.Words.{AllByRecursion, At_inline, At_page, BranchElement, cases_Bool, Contains, contains_cases, contains_head, contains_none, contains_tail, end, Entry, follow, follow_none, HasSoundTrees, head_root, Inline_page, inline_elements, IsEntry, IsTreeOf, Key, leaf_entry, LeafElement, length-map, Meta, ne_eqb, Node, node_at, Nodes, page_at, PageSpot, PageView, reached, root_spot, Root_page, Spot, start_of, Tree, with_bucket, with_value}
+use Rattle.bolt_layout.proofs.Words.{AllByRecursion, At_inline, At_page, BranchElement, Contains, contains_cases, contains_head, contains_none, contains_tail, end, Entry, follow, HasSoundTrees, head_root, Inline_page, inline_elements, IsEntry, IsTreeOf, Key, leaf_entry, LeafElement, length-map, Meta, ne_eqb, Node, node_at, Nodes, page_at, PageSpot, PageView, reached, root_spot, Root_page, Spot, Start, start_of, Tree, with_bucket, with_value}
 use Rattle.bolt_layout.proofs.ShortKeys.{IsShort}
 use Rattle.bolt_layout.specs.ForBbolt.{HasShortKeys, HoldsBuckets}
-use Rattle.bolt_check.proofs.TreePages.{IsTreePage, a_branch, a_leaf, branch_node, leaf_node, tree_page}
+use Rattle.bolt_check.proofs.TreePages.{a_branch, a_leaf, branch_node, leaf_node, tree_page}
 use Rattle.bolt_check.specs.BboltFindings.{AreBboltFindings, finding_if, is_in_root, is_too_large, node_findings, seen_findings, spot_findings, way_findings}
 use Rattle.bolt_check.specs.declared.finding.TheConstants.Finding.{LARGE_KEY}
 use Rattle.bolt_check.specs.{Findings.keys_of, Lists.Has, Nodes.branch_entry, Shape.child_at, Shape.child_in, Shape.child_of, Shape.leads, Ways.bucket_spots, Ways.child_spot, Ways.step, Ways.step_entry, Ways.upper_from, declared.finding.Finding.Finding}
-use Rattle.bolt_check.proofs.{WayFacts.leads_follow}
+use Rattle.bolt_check.proofs.{Forest.follow_some, WayFacts.leads_follow}
 use Rattle.bolt_tree.proofs.EntryOrder.{contains_at}
 use Rattle.std.specs.Option.{option_map}
-use Rattle.bolt_tree.specs.{Entries.AreEntries, Entries.ShowsEntry, Tree.Shows}
+use Rattle.bolt_tree.specs.{Entries.AreEntries, Tree.Shows}
 use Rattle.bolt_format.specs.declared.header.Kind.TheVariants as kind
 
 -- ---- lists
@@ -61,6 +61,9 @@ module _ (file : List ℕ) (meta : Meta) where
         | inl is ↦ ap is_too_large (ap (λ (y : LeafElement). y.key) (sym is) ∙ shows.1) ∙ short.0
         | inr later ↦ shows_short after es shows.4 short.2 e later
       ]
+  shows_short end (x ∷ es) shows short e has = absurd shows
+  shows_short (with_value key value after) [] shows short e has = absurd shows
+  shows_short (with_bucket key sequence inside after) [] shows short e has = absurd shows
 
   -- a bucket with this start has a tree with short keys
   abbrev IsShortBucket : Start → Type 0
@@ -80,6 +83,9 @@ module _ (file : List ℕ) (meta : Meta) where
             subst (λ (y : LeafElement). IsShortBucket (start_of y.value)) is (inside, own, are, within, short.1)
         | inr later ↦ shows_inside after es shows.4 short.2 e later bucket
       ]
+  shows_inside end (x ∷ es) shows short e has bucket = absurd shows
+  shows_inside (with_value key value after) [] shows short e has bucket = absurd shows
+  shows_inside (with_bucket key sequence inside after) [] shows short e has bucket = absurd shows
 
   shows_buckets : (tree : Tree) (es : List LeafElement) → Shows Own tree es → HoldsBuckets tree → (e : LeafElement) → Contains es e → e.is_bucket ≡ true
   shows_buckets end [] shows holds e has = absurd (contains_none e has)
@@ -88,6 +94,9 @@ module _ (file : List ℕ) (meta : Meta) where
         | inl is ↦ ap (λ (y : LeafElement). y.is_bucket) (sym is) ∙ shows.0
         | inr later ↦ shows_buckets after es shows.4 holds e later
       ]
+  shows_buckets end (x ∷ es) shows holds e has = absurd shows
+  shows_buckets (with_value key value after) es shows holds e has = absurd holds
+  shows_buckets (with_bucket key sequence inside after) [] shows holds e has = absurd shows
 
   bucket_short : (start : Start) (e : LeafElement) → IsShortBucket start → Own start e → IsShort e.key
   bucket_short start e (tree, es, are, shows, short) is = shows_short tree es shows short e ((are.exact e).1 is)
@@ -159,13 +168,10 @@ module _ (file : List ℕ) (meta : Meta) where
   ways_led : (here : Spot) (way : List ℕ) (t : Spot) → ((v : List ℕ) (p : PageSpot) → follow nodes (Some here) v ≡ Some (At_page p) → (node : Node) × (nodes p.number ≡ Ok node))
       → IsLed here → follow nodes (Some here) way ≡ Some t → IsLed t
   ways_led here [] t good led e = subst IsLed (same_some here t e) led
-  ways_led here (i ∷ way) t good led e = by (step nodes (Some here) i) refl e
-    where
-      by : (o : Option Spot) → step nodes (Some here) i ≡ o → follow nodes o way ≡ Some t → IsLed t
-      by None is e = absurd (none-some t (sym (follow_none nodes way) ∙ e))
-      by (Some next) is e =
-          ways_led next way t (λ v p f. good (i ∷ v) p (ap (λ (o : Option Spot). follow nodes o v) is ∙ f))
-          (step_led here i next (λ p same. good [] p (ap Some same)) led is) e
+  ways_led here (i ∷ way) t good led e =
+      let (next, is) = follow_some nodes (step nodes (Some here) i) way t e in
+      ways_led next way t (λ v p f. good (i ∷ v) p (ap (λ (o : Option Spot). follow nodes o v) is ∙ f))
+      (step_led here i next (λ p same. good [] p (ap Some same)) led is) (ap (λ (o : Option Spot). follow nodes o way) (sym is) ∙ e)
 
 -- ---- nothing is found
 
@@ -181,7 +187,7 @@ module _ (file : List ℕ) (meta : Meta) (trees : HasSoundTrees file meta) (tree
   -- an address of the root bucket leads to the page that it leads to as a way
   same_page : (way : List ℕ) (s : PageSpot) (n : ℕ) → reached (node_at file meta) meta.root way ≡ Some (At_page s) → leads (node_at file meta) (Some meta.root) way ≡ Some n → n ≡ s.number
   same_page way s n e l =
-      let (t, (led, number)) = leads_follow (node_at file meta) (root_spot meta.root) way n l in
+      let (t, led, number) = leads_follow (node_at file meta) (root_spot meta.root) way n l in
       sym number ∙ ap (λ (x : PageSpot). x.number) (page_same t s (sym led ∙ e))
     where
       page_same : (a b : PageSpot) → ◌≡◌ {A = Option Spot} (Some (At_page a)) (Some (At_page b)) → a ≡ b

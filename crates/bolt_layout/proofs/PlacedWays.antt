@@ -1,5 +1,5 @@
 -- Each page that a way leads to in a layout is one of its pages: these stand in a row, and so do the spans of the ways.
-use Rattle.std.proofs.Common.{◌≡◌, ◌∙◌, ℕ, ◌+◌, ◌<◌, ◌≤◌, List, [], ◌∷◌, Option, Some, None, Result, Ok, refl, sym, ap, subst, inl, inr, arith}
+use Rattle.std.proofs.Common.{◌≡◌, ◌∙◌, ◌⊎◌, ℕ, ◌+◌, ◌<◌, ◌≤◌, List, [], ◌∷◌, Option, Some, Result, Ok, sym, ap, subst, inl, inr, arith}
 use Rattle.bolt_layout.proofs.Words.{At_inline, At_page, cases_lt, Node, node_of, Nodes, PageSpot, PageView, Placed, Spot}
 use Rattle.bolt_layout.proofs.{LaidPages.AreNodes, PageRows.IsInARow, Parts.IsFinePage, Parts.IsPart}
 use Rattle.bolt_check.proofs.Judging.{span_spot}
@@ -55,7 +55,7 @@ module _ (nodes : Nodes) (reach : List ℕ → Option Spot) (from to : ℕ) (par
   covered n low high =
       let (way, span) = part.whole n low high in
       let (s, (led, here)) = span_spot nodes (reach way) n span in
-      (way, cover_spot way s n led here)
+      let (t, c) = cover_spot way s n led here in (way, t, c)
 
   below : (way : List ℕ) (t : PageSpot) (n : ℕ) → IsCovering nodes reach way t n → n < to
   below way t n c = (part.inside way n (span_of way t n c)).1

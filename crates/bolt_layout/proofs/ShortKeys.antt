@@ -1,6 +1,6 @@
 -- The keys on the branch pages of a layout are keys of its tree: if these are short, so are they.
-use Rattle.std.proofs.Common.{◌≡◌, ℕ, zero, suc, ◌+◌, Bool, true, false, List, [], ◌∷◌, ◌++◌, flat_map, length, map, refl, sym, subst, if◌then◌else◌, arith}
-use Rattle.bolt_layout.proofs.Words.{AllByRecursion, branch_cut, branch_page_view, BranchElement, bucket_item, cut_of, elements_of, end, inline_value, is_inline, items_of, Laid, Layout, layout_pages, leaf_item, leaf_level, leaf_page_view, LeafElement, next_level, page_over, pages_of, Placed, root_of, root_over, size_of, stored_bucket, top_in, Tree, with_bucket, with_value}
+use Rattle.std.proofs.Common.{◌≡◌, ℕ, zero, suc, ◌+◌, Bool, true, false, List, [], ◌∷◌, flat_map, length, map, refl, sym, subst, if◌then◌else◌, arith}
+use Rattle.bolt_layout.proofs.Words.{AllByRecursion, branch_cut, branch_page_view, BranchElement, bucket_item, cut_of, elements_of, end, inline_value, is_inline, items_of, Laid, Layout, layout_pages, leaf_item, leaf_level, leaf_page_view, LeafElement, next_level, page_over, pages_of, Placed, root_of, root_over, size_of, top_in, Tree, with_bucket, with_value}
 use Rattle.bolt_check.specs.BboltFindings.{is_too_large}
 use Rattle.bolt_layout.proofs.{Cutting.branches_divide, Cutting.cut_divides, ListLemmas.all_append, ListLemmas.all_split}
 use Rattle.bolt_layout.specs.{ForBbolt.HasShortKeys, Laid.first_key, Layout.first_page}
@@ -96,8 +96,7 @@ tree_short which page_size end short = tt
 tree_short which page_size (with_value key value after) short = (flat_short key value false short.0, tree_short which page_size after short.1)
 tree_short which page_size (with_bucket key sequence inside after) short =
     let (own, within, rest) = short in
-    let items = items_of which page_size inside in
-    (
+    let items = items_of which page_size inside in (
       stored_short (is_inline page_size inside items) key (inline_value sequence (elements_of items 0)) sequence (root_over which page_size items) own
           (root_short which page_size items (tree_short which page_size inside within)),
       tree_short which page_size after rest,

@@ -1,5 +1,5 @@
 -- What bbolt can write: docs/LAYOUT.md, "What holds of both layouts". Keys of at most 32,768 bytes, and no value in the root bucket.
-use Rattle.std.specs.Prelude.{◌≡◌, false, List, [], ◌∷◌, Contains}
+use Rattle.std.specs.Prelude.{◌≡◌, ℕ, false, List, [], ◌∷◌, Contains}
 use Rattle.bolt_check.specs.{BboltFindings.is_too_large, Keys.Key}
 use Rattle.bolt_tree.specs.Entries.{Item, Value}
 use Rattle.bolt_tree.specs.{Listing.Member, Paths.Path, Tree.Tree}
