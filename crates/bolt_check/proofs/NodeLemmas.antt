@@ -3,7 +3,7 @@ use Rattle.std.proofs.Common.{◌≡◌, ◌∙◌, ℕ, suc, ◌+◌, ◌≤◌
 use Rattle.std.proofs.lemmas.List.{length-map}
 use Rattle.std.proofs.lemmas.Option.{slice_get_past}
 use Rattle.std.proofs.lemmas.Simd.{map-map}
-use Rattle.bolt_check.proofs.Words.{At_page, branch_entry, BranchElement, Entry, Key, keys_of, Kind, Meta, node_at, node_of, node_seen, page_at, page_fault, PageView, leaf_entry, LeafElement, option_map, PageSpot, shown_node, slice_get-map, step_on, TreePage, upper_from}
+use Rattle.bolt_check.proofs.Words.{At_page, branch_entry, BranchElement, Entry, Key, keys_of, Kind, Meta, node_at, node_of, node_seen, page_at, page_fault, PageView, leaf_entry, LeafElement, PageSpot, shown_node, slice_get-map, step_on, TreePage, upper_from}
 use Rattle.bolt_format.specs.TreePages.{branches_on, is_tree_kind, leaves_on, page_keys, shown_page}
 use Rattle.bolt_format.specs.declared.page_fault.TheConstants.PageFault.{PAGE_KIND}
 use Rattle.bolt_format.specs.declared.header.Kind.TheVariants as kind

@@ -1,7 +1,7 @@
 -- The joined listing is the recovered one with the bucket of what is found put in.
 use Rattle.std.proofs.Common.{◌≡◌, ◌∙◌, ◌⊎◌, inl, inr, ℕ, Bool, true, false, not, List, [], ◌∷◌, ◌++◌, filter, map, refl, sym, ap, subst, ◌≢◌, Option}
 use Rattle.bolt_format.specs.TreePages.{leaves_on}
-use Rattle.bolt_recover.proofs.Words.{append-nil, AreFound, Bucket, cases_Bool, Contains, Contains-append_cases, contains_cases, contains_head, contains_tail, end, Equal, filter-append, filter_all, filter_none, first_cmp, found_tree, Greater, is_eq, is_found_path, is_lt, IsJoined, IsRecovered, joined_listing, key_cmp, key_lt, key_total, LacksBucketKey, LeafElement, leaves_of, Less, less_of, listing_below, listing_of, lost_and_found, Member, member_cmp, member_total, Meta, Ordering, page_at, Path, path_cmp, put_bucket, put_members, Rises, Tree, tree_of, Value, with_bucket, with_value, All, All-head, All-tail, AreJoinable, bucket_members, Found, IsFoundView, Kept, kept_left, left_at, numbers_of, pages_of, recovered_of, shown}
+use Rattle.bolt_recover.proofs.Words.{append-nil, AreFound, Bucket, cases_Bool, Contains, Contains-append_cases, contains_cases, contains_head, contains_tail, end, Equal, filter-append, filter_all, filter_none, first_cmp, found_tree, Greater, is_eq, is_found_path, is_lt, IsJoined, IsRecovered, joined_listing, key_cmp, key_lt, key_total, LacksBucketKey, LeafElement, leaves_of, Less, less_of, listing_below, listing_of, lost_and_found, Member, member_cmp, member_total, Meta, Ordering, page_at, Path, path_cmp, put_bucket, put_members, Rises, Tree, tree_of, Value, with_bucket, with_value, All, All-head, All-tail, AreJoinable, bucket_members, Found, IsFoundView, Kept, kept_left, left_at, numbers_of, pages_of, recovered_of}
 use Rattle.bolt_recover.proofs.{Existing.has_recovered, Existing.one_recovered, Existing.recovers, FoundAll.one_found, FoundExists.has_found}
 use Rattle.bolt_recover.proofs.{CourseTrees.all_tree, TreeOrder.Ordered, TreeOrder.ordered_rises, TreeOrder.rises_both, TreeOrder.under}
 use Rattle.bolt_tree.proofs.ReadBack.{tree_back}

@@ -1,6 +1,6 @@
 -- A joined listing is in the order of paths.
-use Rattle.std.proofs.Common.{◌≡◌, ◌≢◌, ◌∙◌, inl, inr, ℕ, zero, suc, ◌<◌, ◌+◌, ◌*◌, ◌^◌, true, false, List, [], ◌∷◌, Option, Some, None, length, map, refl, sym, ap, subst, arith, slice_get}
-use Rattle.bolt_recover.proofs.Words.{AreFound, contains_from_has, Each, Entry, finding_of, found_tree, FoundBelow, inside_of, IsJoined, IsKeptPage, IsLoneLeaf, IsRecovered, joined_listing, Key, key_lt, key_rise, keys_of, keys_order_fault, KeysRise, leaf_entry, LeafElement, leaves_of, LeavesRoom, lt_of_mul-lt-mul_right, map_has, Member, member_cmp, Meta, Node, node_at, node_finding, node_within, page_at, page_key, Rises, rises_append, rises_map, RisesBy, root_spot, tree_with, Has, At_page, none-some, same_Some}
+use Rattle.std.proofs.Common.{◌≡◌, ◌≢◌, ◌∙◌, inl, inr, ℕ, zero, suc, ◌<◌, ◌+◌, ◌*◌, ◌^◌, true, List, [], ◌∷◌, Some, length, refl, sym, ap, subst, arith, slice_get}
+use Rattle.bolt_recover.proofs.Words.{AreFound, contains_from_has, Each, found_tree, FoundBelow, inside_of, IsJoined, IsKeptPage, IsLoneLeaf, IsRecovered, joined_listing, Key, key_lt, LeafElement, leaves_of, LeavesRoom, lt_of_mul-lt-mul_right, map_has, Member, member_cmp, Meta, node_at, node_within, page_at, page_key, Rises, rises_append, rises_map, RisesBy, root_spot, tree_with, Has, At_page, none-some, same_Some}
 use Rattle.bolt_recover.proofs.{FoundAll.lost_or_none, FoundLemmas.found_here, FoundLemmas.found_leaf, SiteKeys.keyed, SiteSteps.keys_in}
 use Rattle.bolt_recover.proofs.{JoinedLemmas.joined_between, JoinedLemmas.with_elements, PageNames.digits_rise}
 use Rattle.bolt_recover.proofs.TreeOrder.{HasKey, Ordered, elements_ordered, inside_ordered}

@@ -1,6 +1,6 @@
 -- A recovery between its calls: what comes of it in the end is all that comes of its file.
 use Rattle.std.proofs.Common.{◌≡◌, ◌∙◌, ◌≤◌, ◌<◌, ◌^◌, ℕ, true, ◌↔◌, List, [], ◌∷◌, ◌++◌, length, map, take, Option, Some, None, Result, Ok, Err, IfOk, OnErr, refl, sym, ap, subst, arith, append_assoc, Vec, Global}
-use Rattle.bolt_recover.proofs.Words.{Advances, after_event, after_events, all_events, append-nil, AreFirst, AreKeptPages, AreLosses, AreOpen, ArePageWays, claims_file, claims_meta, claims_nodes, claims_visited, TreePage, counted, Ends, Event, Given, GoesOn, is_claimed, IsAllLeft, IsGoodContent, IsGoodPage, IsKeptPage, IsOn, IsPlaced, IsRecovered, loss_view, losses_of, LossView, lost_at, Member, members_left, Meta, node_at, Nodes, OpenPage, Outcome, outcome_of, page_ways, props, reached, StaysOn, steps_left, SurveyedWay, take-append-le, take_all, tally_of, Visited}
+use Rattle.bolt_recover.proofs.Words.{Advances, after_event, after_events, all_events, append-nil, AreFirst, AreKeptPages, AreLosses, AreOpen, ArePageWays, claims_file, claims_meta, claims_nodes, claims_visited, TreePage, counted, Ends, Event, Given, GoesOn, is_claimed, IsAllLeft, IsGoodPage, IsKeptPage, IsOn, IsPlaced, IsRecovered, loss_view, losses_of, LossView, lost_at, Member, members_left, Meta, node_at, Nodes, OpenPage, Outcome, outcome_of, page_ways, props, reached, StaysOn, steps_left, SurveyedWay, take-append-le, take_all, tally_of, Visited}
 use Rattle.bolt_recover.proofs.{Existing.one_recovered, Existing.recovers, CourseSurveys.all_claimed, CourseSurveys.survey_of, CourseSurveys.surveyed, CourseSurveys.tally, SurveyIsOne.same_survey}
 use Rattle.bolt_format.specs.declared.element.Leaf.{Leaf}
 use Rattle.bolt_check.specs.declared.spot.Spot.{Spot}

@@ -1,6 +1,6 @@
 -- There is at most one survey. Where two first differ, the preceding kept ways are the same, and so is what the tests find.
 use Rattle.std.proofs.Common.{◌≡◌, ◌∙◌, ℕ, ◌⊎◌, inl, inr, List, [], ◌∷◌, ◌++◌, map, Option, Some, None, refl, sym, ap, subst}
-use Rattle.bolt_recover.proofs.Words.{Before, before_irreflexive, before_strict, before_total, before_trans, Finding, Gives, Has, Each, IsClaimedIn, IsOpen, IsSurvey, kept, Meta, node_at, Nodes, passes_fewer, passes_silent, Reach, reached, Spot, Surveys, tests_same, SurveyedWay, RisesBy}
+use Rattle.bolt_recover.proofs.Words.{Before, before_irreflexive, before_strict, Finding, Gives, Has, Each, IsClaimedIn, IsOpen, IsSurvey, kept, Meta, node_at, Nodes, passes_fewer, passes_silent, Reach, reached, Spot, Surveys, tests_same, SurveyedWay, RisesBy}
 use Rattle.bolt_check.proofs.Single.{tests_one}
 
 abbrev pub ways : List SurveyedWay → List (List ℕ)

@@ -1,4 +1,4 @@
-use Rattle.std.proofs.Common.{◌≡◌, ◌∙◌, ◌<◌, ℕ, List, ap, arith, length, sym}
+use Rattle.std.proofs.Common.{◌∙◌, ◌<◌, ℕ, List, ap, arith, length, sym}
 use Rattle.std.proofs.lemmas.Option.{same_Some}
 use Rattle.bolt_format.specs.Elements.{LeafElement, leaf_element, leaf_elements}
 use Rattle.bolt_format.specs.TreePages.{leaves_on}
