@@ -188,7 +188,15 @@ pub struct CheckJob {
 pub(crate) static CHECK: Syntax = Syntax {
     name: "check",
     about: "Check whether the file is sound; if it isn't, print what is wrong",
-    arguments: &[FILE, ALL, LOST_AND_FOUND, CHECK_FOR_BBOLT, CHECK_SNAPSHOT, META, ASSUME_META],
+    arguments: &[
+        FILE,
+        ALL,
+        LOST_AND_FOUND,
+        CHECK_FOR_BBOLT,
+        CHECK_SNAPSHOT,
+        META,
+        ASSUME_META,
+    ],
     note: None,
 };
 
