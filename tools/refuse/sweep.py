@@ -26,8 +26,8 @@ PART_OF_LINE = "a part of its line"
 # these words.
 MAY_BEGIN = {
     "list": None,
-    "buckets": ("--sizes", "json"),
-    "keys": ("json",),
+    "buckets": ("--sizes", "json", "--recover"),
+    "keys": ("json", "--recover"),
     "get": ("json",),
     "etcd-revisions": ("json",),
     "etcd-keys": ("json",),
