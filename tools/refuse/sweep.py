@@ -28,7 +28,7 @@ MAY_BEGIN = {
     "list": None,
     "buckets": ("--sizes", "json", "--recover"),
     "keys": ("json", "--recover"),
-    "get": ("json",),
+    "get": ("json", "--recover"),
     "etcd-revisions": ("json",),
     "etcd-keys": ("json",),
     "etcd-get": ("json",),

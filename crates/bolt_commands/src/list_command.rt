@@ -146,10 +146,7 @@ fn put_members_part<'a, M: Members<'a>, O: Sink>(
 }
 
 /// The parts of a path as slices.
-pub(crate) fn slices<'a>(
-    alloc: Global,
-    parts: &'a [Vec<u8>],
-) -> Result<Vec<&'a [u8]>, ReportFault>
+pub(crate) fn slices<'a>(alloc: Global, parts: &'a [Vec<u8>]) -> Result<Vec<&'a [u8]>, ReportFault>
     ensures path { IfOk result (λ path. path_of path.items ≡ path_in parts.now) }
     ensures memory { IfErr result (λ fault. fault ≡ ReportFault.NoMemory) }
 {

@@ -20,8 +20,8 @@ use bolt_check::{Checked, NoMemory, Roles, check_roles};
 use bolt_format::{Meta, MetaFault, Sink, SinkFault, Slot, choose, slot_meta};
 use bolt_job::{BucketsJob, BucketsShown, GetJob, InfoJob, KeysJob, PageJob, PagesJob, StatsJob};
 use bolt_report::{
-    Form, Names, ReportFault, Stats, add, buckets, info, item, keys_with_prefix, page_map, page_text,
-    pages_table, sizes, stats, stats_text, value,
+    Form, Names, ReportFault, Stats, add, buckets, info, item, keys_with_prefix, page_map,
+    page_text, pages_table, sizes, stats, stats_text, value,
 };
 use bolt_tree::Bucket;
 use std::alloc::Global;

@@ -37,8 +37,8 @@ pub(crate) fn print_recovered_names<O: Sink>(
     asked: RecoveredNames<'_>,
     out: &mut O,
 ) -> Outcome
-    ensures { PrintsAnswer O.Sink out.old out.new (IsRecoveredAnswer input.entry.file.now asked.meta
-        (IsNamesAnswer asked.form (is_wanted asked.names) (path_in asked.path.now))) result }
+    ensures { PrintsAnswer O.Sink out.old out.new (IsRecoveredAnswer input.entry.file.now asked.entry.meta
+        (IsNamesAnswer asked.entry.form (is_wanted asked.entry.names) (path_in asked.entry.path.now))) result }
 {
     let mut recovery = input.recover(asked.meta)?;
     let path = slices(input.alloc, asked.path)?;
@@ -82,11 +82,7 @@ fn no_key(losses: &[Loss<'_>]) -> Failure
 }
 
 /// Writes the value at a path, as it is recovered, and a line feed unless none is wanted.
-pub(crate) fn print_recovered_value<O: Sink>(
-    input: Input<'_>,
-    job: &GetJob,
-    out: &mut O,
-) -> Outcome
+pub(crate) fn print_recovered_value<O: Sink>(input: Input<'_>, job: &GetJob, out: &mut O) -> Outcome
     ensures { PrintsAnswer O.Sink out.old out.new (IsRecoveredAnswer input.entry.file.now job.now.meta (IsRecoveredValue job.now)) result }
 {
     let mut recovery = input.recover(job.meta)?;
@@ -138,16 +134,13 @@ fn look_up<'a, M: Members<'a>>(members: &mut M, path: &[&[u8]]) -> Result<AtPath
 fn parents_of<'p, 'a>(path: &'p [&'a [u8]]) -> &'p [&'a [u8]]
     ensures { path_of result.now ≡ parents_of (path_of path.now) }
 {
-    match path.split_last() {
-        Some((_, parents)) => parents,
-        None => path,
-    }
+    &path[..path.len().saturating_sub(1)]
 }
 
 /// The value of a member, if it is one at this path.
 fn value_at<'a>(path: &[&[u8]], item: &Item<'a>, wanted: &[&[u8]]) -> Option<&'a [u8]>
-    ensures some { IfSome result (λ value. (path_of path.now, item_view item.now) ≡ (path_of wanted.now, Value value.now)) }
-    ensures none { IfNone result ((value : List ℕ) → (path_of path.now, item_view item.now) ≡ (path_of wanted.now, Value value) → ⊥) }
+    ensures some { IfSome result (λ value. ◌≡◌ {A = Member} (path_of path.now, item_view item.now) (path_of wanted.now, Value value.now)) }
+    ensures none { IfNone result ((value : List ℕ) → ◌≡◌ {A = Member} (path_of path.now, item_view item.now) (path_of wanted.now, Value value) → ⊥) }
 {
     match item {
         Item::Value(value) if path == wanted => Some(value),

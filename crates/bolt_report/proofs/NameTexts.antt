@@ -1,10 +1,16 @@
 -- The text of the names in a bucket of a listing, member by member.
 -- The members are read once, in order: what lies in the bucket comes after the bucket itself, if that is there.
-use Rattle.std.proofs.Common.{◌≡◌, ◌∙◌, ◌++◌, ◌∷◌, ◌&&◌, ◌||◌, [], Bool, List, None, Option, Some, ap, false, flat_map, refl, true, ℕ}
+use Rattle.std.proofs.Common.{◌≡◌, ◌∙◌, ◌++◌, ◌∷◌, ◌&&◌, ◌||◌, [], Bool, Bor, List, None, Option, Some, ap, arith, false, flat_map, length, refl, sym, true, ℕ}
+use Rattle.std.proofs.lemmas.List.{map-append}
 use Rattle.std.specs.Prelude.{if◌then◌else◌}
-use Rattle.bolt_report.proofs.Words.{begins_with, bytes_eq, Form, is_bucket_at, Key, list_any, Member, member_cmp, Path, pointwise, Rises}
+use Rattle.bolt_report.proofs.Words.{begins_with, bytes_eq, Form, is_bucket_at, Key, list_any, Member, member_cmp, Path, path_of, pointwise, Rises}
 use Rattle.bolt_report.proofs.ListPartTexts.{apart_before, has_next}
+use Rattle.bolt_text.proofs.PartTests.{same_path}
 use Rattle.bolt_report.specs.MemberNames.{Wanted, entry_name, key_in, member_name}
+
+no_items : (path : List (Bor (List ℕ))) → length path ≡ 0 → path_of path ≡ []
+no_items [] none = refl
+no_items (part ∷ path) none = absurd (omega (arith, none))
 
 -- ---- the key of a path in a bucket
 
@@ -29,9 +35,9 @@ none_of_several : (first : Key) (path : Path) (key : Key) → key_in [] (first �
 none_of_several first [] key = refl
 none_of_several first (part ∷ path) key = refl
 
-same_or_none : (b : Bool) → (if b then None {A = Key} else None) ≡ None
-same_or_none true = refl
-same_or_none false = refl
+same_or_none : (b : Bool) (found : Option Key) → found ≡ None → (if b then found else None) ≡ None
+same_or_none true found is = is
+same_or_none false found is = refl
 
 both_or_none : (b all : Bool) (key : Key) (found : Option Key) → found ≡ (if all then Some key else None) → (if b then found else None) ≡ (if b && all then Some key else None)
 both_or_none true all key found is = is
@@ -41,8 +47,20 @@ both_or_none false all key found is = refl
 pub key_last : (bucket parents : Path) (key : Key) → key_in bucket (parents ++ key ∷ []) ≡ (if pointwise bytes_eq bucket parents then Some key else None)
 key_last [] [] key = refl
 key_last [] (first ∷ parents) key = none_of_several first parents key
-key_last (part ∷ bucket) [] key = ap (λ (found : Option Key). if bytes_eq part key then found else None) (none_of_nothing bucket) ∙ same_or_none (bytes_eq part key)
+key_last (part ∷ bucket) [] key = same_or_none (bytes_eq part key) (key_in bucket []) (none_of_nothing bucket)
 key_last (part ∷ bucket) (first ∷ parents) key = both_or_none (bytes_eq part first) (pointwise bytes_eq bucket parents) key _ (key_last bucket parents key)
+
+-- as the code holds them
+module _ (bucket path : List (Bor (List ℕ))) where
+  pub key_split : (parents : List (Bor (List ℕ))) (key : Bor (List ℕ)) → path ≡ parents ++ key ∷ [] → (same : Bool)
+      → same ≡ pointwise (λ (a b : Bor (List ℕ)). bytes_eq a.now b.now) bucket parents → key_in (path_of bucket) (path_of path) ≡ (if same then Some key.now else None)
+  key_split parents key is same test =
+      let whole : path_of path ≡ path_of parents ++ key.now ∷ [] = ap path_of is ∙ map-append (λ (part : Bor (List ℕ)). part.now) parents (key ∷ []) in
+      ap (key_in (path_of bucket)) whole ∙ key_last (path_of bucket) (path_of parents) key.now
+      ∙ ap (λ (b : Bool). if b then Some key.now else None) (same_path bucket parents ∙ sym test)
+
+  pub key_none : length path ≡ 0 → key_in (path_of bucket) (path_of path) ≡ None
+  key_none none = let no_parts : path_of path ≡ [] = no_items path none in ap (key_in (path_of bucket)) no_parts ∙ none_of_nothing (path_of bucket)
 
 -- ---- the text of what is left
 

@@ -46,9 +46,9 @@ pub fn list_members_names<'a, M: Members<'a>, S: Sink>(
     sink: &mut S,
 ) -> Result<bool, ReportFault>
     ensures written { (listing : List Member) → M.lists members.old listing → Rises member_cmp (M.left members.old listing)
-        → Wrote S.Sink sink.old sink.new (names_text form (is_wanted asked.names) (path_of asked.bucket.now) (M.left members.old listing)) (report_ending result) }
+        → Wrote S.Sink sink.old sink.new (names_text form (is_wanted asked.entry.names) (path_of asked.entry.bucket.now) (M.left members.old listing)) (report_ending result) }
     ensures found { IfOk result (λ found. (listing : List Member) → M.lists members.old listing
-        → found ≡ has_bucket (path_of asked.bucket.now) (M.left members.old listing)) }
+        → found ≡ has_bucket (path_of asked.entry.bucket.now) (M.left members.old listing)) }
     ensures end { OnOk result (M.ends_as members.old members.new) }
     ensures fault { IfErr result (λ fault. (fault ≡ ReportFault.Sink) ⊎ (fault ≡ ReportFault.NoMemory)) }
 {
@@ -73,7 +73,7 @@ fn put_name<S: Sink>(
 ) -> Result<(), ReportFault>
     ensures form { items.new.form ≡ items.old.form }
     ensures written { Wrote S.Sink sink.old sink.new
-        (member_name items.old.form (is_wanted asked.names) (path_of asked.bucket.now) (path_of path.now, item_view item.now)) (report_ending result) }
+        (member_name items.old.form (is_wanted asked.entry.names) (path_of asked.entry.bucket.now) (path_of path.now, item_view item.now)) (report_ending result) }
     ensures fault { IfErr result (λ fault. (fault ≡ ReportFault.Sink) ⊎ ((fault ≡ ReportFault.NoMemory) × (items.old.form ≡ Form.Json))) }
 {
     match key_in(path, asked.bucket) {
@@ -84,7 +84,7 @@ fn put_name<S: Sink>(
 
 /// Whether an entry of the bucket is to be named.
 fn is_wanted(key: &[u8], item: &Item<'_>, names: Names<'_>) -> bool
-    ensures { result ≡ is_wanted names key.now (item_view item.now) }
+    ensures { result ≡ is_wanted names.entry key.now (item_view item.now) }
 {
     match names {
         Names::BeginningWith(prefix) => key.starts_with(prefix),

@@ -1,5 +1,5 @@
 -- The bucket comes before all that lies in it, so nothing is missed before it is found.
-use Rattle.std.proofs.Common.{◌≡◌, ◌∙◌, ◌∷◌, ◌||◌, [], Bool, Bor, List, ap, length, refl, sym, ℕ, ◌==◌}
+use Rattle.std.proofs.Common.{◌≡◌, ◌∙◌, ◌∷◌, ◌||◌, [], Bool, Bor, List, ap, length, sym, ℕ, ◌==◌}
 use Rattle.bolt_report.proofs.Words.{Form, front_more, is_bucket_at, item_view, length-map, list_any, Member, path_of, Wrote-none, Wrote-same}
 use Rattle.bolt_report.proofs.ListPartTexts.{has_next, iff_then}
 use Rattle.bolt_report.proofs.NameTexts.{before_names, left_names, with_name}
@@ -25,8 +25,8 @@ members-init g c =
       };
     }
 
-pub members-preserved-then-found : goal.members-preserved-then-found
-members-preserved-then-found g c =
+pub members-preserved-in-Continue-branch-3 : goal.members-preserved-in-Continue-branch-3
+members-preserved-in-Continue-branch-3 g c =
     let bucket = path_of c.args.asked.bucket.now in
     let wanted = is_wanted c.args.asked.names in
     let m : Member = (g.M.Members.last_path c.next.new.self, item_view c.in-Some.item) in
@@ -46,8 +46,8 @@ members-preserved-then-found g c =
           (with_name c.args.form wanted bucket c.members.found now m _ is c.if-found.true);
     }
 
-pub members-preserved-else-found : goal.members-preserved-else-found
-members-preserved-else-found g c =
+pub members-preserved : goal.members-preserved
+members-preserved g c =
     let bucket = path_of c.args.asked.bucket.now in
     let wanted = is_wanted c.args.asked.names in
     let m : Member = (g.M.Members.last_path c.next.new.self, item_view c.in-Some.item) in
