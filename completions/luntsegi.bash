@@ -11,9 +11,9 @@ _luntsegi_options() {
         page) echo "--assume-meta -h --help" ;;
         pages) echo "--map -h --help" ;;
         check) echo "--all --lost-and-found --for-bbolt --etcd-snapshot --meta --assume-meta -h --help" ;;
-        buckets) echo "--sizes --form --parts --meta --assume-meta -h --help" ;;
-        keys) echo "--prefix --form --parts --meta --assume-meta -h --help" ;;
-        get) echo "-n --no-newline --form --parts --meta --assume-meta -h --help" ;;
+        buckets) echo "--sizes --form --parts --recover --meta --assume-meta -h --help" ;;
+        keys) echo "--prefix --form --parts --recover --meta --assume-meta -h --help" ;;
+        get) echo "-n --no-newline --form --parts --recover --meta --assume-meta -h --help" ;;
         stats) echo "--form --parts --meta --assume-meta -h --help" ;;
         list) echo "--from --form --parts --recover --lost-and-found --meta --assume-meta -h --help" ;;
         compact) echo "-o --page-size --for-bbolt --etcd-snapshot --recover --lost-and-found --meta --assume-meta -h --help" ;;

@@ -19,6 +19,8 @@ COMMANDS = [
     "stats FILE",
     "pages FILE",
     "list FILE --recover",
+    "keys FILE a --recover",
+    "get FILE a 00000 --recover",
     "compact FILE --lost-and-found --for-bbolt -o OUT",
 ]
 # The text of a listing has the whole path on each line, so it grows with the square of the depth.

@@ -59,9 +59,9 @@ STORE_FAULT = (
 FAULTS = {
     "page": FINDING,
     "pages": REFUSED,
-    "buckets": REFUSED + rb"|bucket not found",
-    "keys": REFUSED + rb"|bucket not found",
-    "get": REFUSED + rb"|bucket not found|key not found",
+    "buckets": REFUSED + rb"|bucket not found(?:; pages lost: \d+)?",
+    "keys": REFUSED + rb"|bucket not found(?:; pages lost: \d+)?",
+    "get": REFUSED + rb"|(?:bucket|key) not found(?:; pages lost: \d+)?",
     "stats": REFUSED + rb"|bucket not found",
     "etcd-revisions": REFUSED + rb"|bucket not found",
     "etcd-keys": REFUSED + rb"|bucket not found|revision compacted",
@@ -72,6 +72,7 @@ FAULTS = {
 }
 
 OTHERS = rb"error: not revisions: [1-9]\d*\n"
+LOST = rb"error: pages lost: \d+\n"
 
 # What is printed with status 1, on standard output and on standard error.
 FAILED = {
@@ -81,10 +82,11 @@ FAILED = {
     "etcd-keys": (rb"(?s:.*)", OTHERS),
     "etcd-get": (rb"(?s:.*)", OTHERS),
     "check --all": (rb"(?:%b)?(?:%b|%b\d+ errors found\n)|%b\d+ errors found\n" % (OTHER_META, FINDINGS, LOSSES, OTHER_META), b""),
-    "list --recover": (TEXTS["list"] + b"|" + JSON_TEXTS["list"], rb"error: pages lost: \d+\n"),
+    **{f"{command} --recover": (rb"(?s:.*)", LOST) for command in ("buckets", "keys", "get")},
+    "list --recover": (TEXTS["list"] + b"|" + JSON_TEXTS["list"], LOST),
     "compact --recover": (rb"(?:%b\n)?(?:%b)?%b" % (BAD_HASH, LOSSES, TEXTS["compact"]), b""),
     "check --lost-and-found": (rb"(?:%b)?(?:%b|%b%b\d+ errors found\n)|%b\d+ errors found\n" % (OTHER_META, FINDINGS, LOSSES, FOUND, OTHER_META), b""),
-    "list --lost-and-found": (TEXTS["list"], rb"error: pages lost: \d+\n"),
+    "list --lost-and-found": (TEXTS["list"], LOST),
     "compact --lost-and-found": (rb"(?:%b\n)?(?:%b)?%b%b" % (BAD_HASH, LOSSES, FOUND, TEXTS["compact"]), b""),
 }
 

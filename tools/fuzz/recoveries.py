@@ -1,4 +1,4 @@
-"""What holds of `check --all`, `list --recover` and `compact --recover`, under each meta."""
+"""What holds of `check --all` and of the commands with `--recover`, under each meta."""
 
 import os
 import re
@@ -7,6 +7,7 @@ from found import compare_found
 from listings import paths_between
 from options import buckets_of, lines_of_json, part_of
 from program import want
+from recovered_buckets import compare_recovered_buckets
 from results import File, entries_of, info_of, read, rows_of, word_of, words_of
 from snapshots import compare_hash, compare_snapshot
 
@@ -66,7 +67,8 @@ def same(result, other):
 def compare_refused(file, words, fault):
     """Nothing is recovered: the results have this fault, and the copy is empty."""
     copied, copy = recover_copy(file, words)
-    for result in (file.run("list", "--recover", *words), copied):
+    printed = [file.run(*command, "--recover", *words) for command in (["list"], ["buckets"], ["keys", "k"], ["get", "k"])]
+    for result in (*printed, copied):
         want(result.status == 1 and (result.out, result.err) == (b"", fault), *words, "recovers:", result)
     want(read(copy) == b"", "the copy of what is refused isn't empty")
 
@@ -74,7 +76,9 @@ def compare_refused(file, words, fault):
 def compare_whole(file, words):
     """The trees are sound: --recover prints and writes what --meta does."""
     want(file.text("check", "--all", *words) == b"OK\n", "check --all finds something in sound trees")
-    want(same(file.run("list", "--recover", *words), file.run("list", *words)), "list --recover", *words)
+    listed = file.run("list", "--recover", *words)
+    want(same(listed, file.run("list", *words)), "list --recover", *words)
+    compare_recovered_buckets(file, words, listed, entries_of(listed.out))
     for layout in ([], ["--for-bbolt"]):
         copied, copy = recover_copy(file, [*words, *layout])
         plain = file.copy("plain.db")
@@ -157,6 +161,7 @@ def compare_lost(file, words, finding):
     compare_losses(lines, losses, entries)
     compare_rests(file, words, listed, entries)
     compare_recovered_parts(file, words, listed, entries)
+    compare_recovered_buckets(file, words, listed, entries)
     compare_snapshot(file, listed.out, "--recover", *words)
     compare_copies(file, words, lines, listed.out)
 

@@ -126,6 +126,12 @@ def report_less(words, result):
     result.out = b"".join(result.out.splitlines(keepends=True)[1:])
 
 
+@alters("keys", "--recover", status=1)
+def drop_recovered_key(words, result):
+    """recovered buckets: keys --recover drops its last key"""
+    result.out = without_last(result.out)
+
+
 @alters("check", "--etcd-snapshot", status=1)
 def accept_hash(words, result):
     """snapshots: check --etcd-snapshot accepts every hash"""

@@ -26,9 +26,9 @@ PART_OF_LINE = "a part of its line"
 # these words.
 MAY_BEGIN = {
     "list": None,
-    "buckets": ("--sizes", "json"),
-    "keys": ("json",),
-    "get": ("json",),
+    "buckets": ("--sizes", "json", "--recover"),
+    "keys": ("json", "--recover"),
+    "get": ("json", "--recover"),
     "etcd-revisions": ("json",),
     "etcd-keys": ("json",),
     "etcd-get": ("json",),

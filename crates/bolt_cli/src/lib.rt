@@ -7,8 +7,9 @@ mod whole_run;
 
 pub use bolt_commands::{Failure, Status, run};
 pub use bolt_job::{
-    AssumedMeta, BucketsJob, CheckJob, CompactJob, CopyKind, Extent, GetJob, InfoJob, Job, KeysJob,
-    ListJob, LoadJob, MetaChoice, PageJob, PageSize, PagesJob, Refusal, StatsJob, read_words,
+    AssumedMeta, BucketsJob, BucketsShown, CheckJob, CompactJob, CopyKind, Extent, GetJob, InfoJob,
+    Job, KeysJob, ListJob, LoadJob, MetaChoice, PageJob, PageSize, PagesJob, Refusal, StatsJob,
+    read_words,
 };
 pub use outside::{
     CreateFault, EndFault, OpenFault, OutputFault, Outside, ReadFault, Source, Stamp,

@@ -7,14 +7,7 @@ use Rattle.bolt_report.specs.{SizeLines.AreSized, SizeLines.Sized, SizeLines.siz
 use Rattle.bolt_text.specs.{declared.forms.Form.Form}
 use Rattle.bolt_text.specs.declared.fault.ReportFault.TheVariants as report
 use Rattle.bolt_report.proofs.SizesExist.{named_sizes}
-use Rattle.bolt_commands.specs.{Answers.IsBucketsAnswer, declared.failure.Failure.TheVariants.NoBucket}
 use Rattle.bolt_commands.proofs.{AtPaths.at_path, CutTexts.ended_put, CutTexts.text_put, Doing.answer_as, ReadFiles.own_trees, ReadFiles.read_trees}
-
--- the path leads to no bucket, whether names are asked for or sizes
-pub buckets_missing : (file : List ℕ) (path : Path) (form : Form) (sizes : Bool) (meta : Meta) → ((bucket : Start) → LeadsTo file meta path bucket → ⊥)
-    → IsBucketsAnswer file path form sizes meta (refused NoBucket)
-buckets_missing file path form false meta nowhere = inr (nowhere, refl)
-buckets_missing file path form true meta nowhere = inr (nowhere, refl)
 
 module _ {file : List ℕ} {choice : MetaChoice} {path : Path} {bucket : Bucket} (of : IsBucketOf file choice path bucket) where
   abbrev meta : Meta

@@ -12,11 +12,13 @@ pub mod ListAnswers
 pub mod ListedBuckets
 pub mod ListedLoads
 pub mod LoadAnswers
+pub mod LookUps
 pub mod LostAnswers
 pub mod NeededBytes
 pub mod OpenedReads
 pub mod PageAnswers
 pub mod ReadFiles
+pub mod RecoveredAnswers
 pub mod SnapshotCopies
 pub mod SoundReads
 pub mod SoundRecovery

@@ -1,5 +1,5 @@
 -- What the program answers to each command, and what its sinks accept: docs/COMMANDS.md, "What a run writes".
-use Rattle.std.specs.Prelude.{◌≡◌, ◌≢◌, ◌<◌, ◌≤◌, ◌-◌, ◌^◌, ◌⊎◌, ◌&&◌, ℕ, zero, suc, nat_lt, List, [], ◌∷◌, ◌++◌, Bool, true, false, IsTrue, codes, decimal, length, map, take, Option, Some, None, Result, Ok, Err, if◌then◌else◌}
+use Rattle.std.specs.Prelude.{◌≡◌, ◌≢◌, ◌<◌, ◌≤◌, ◌-◌, ◌^◌, ◌⊎◌, ◌&&◌, Contains, ℕ, zero, suc, nat_lt, List, [], ◌∷◌, ◌++◌, Bool, true, false, IsTrue, codes, decimal, length, map, take, Option, Some, None, Result, Ok, Err, if◌then◌else◌}
 use Rattle.std.specs.Io.KnownBytes.{Appends, Keeps}
 use Rattle.bolt_bulk.specs.Compacting.{too_many}
 use Rattle.bolt_layout.specs.Copies.{layout_of_listing}
@@ -20,6 +20,7 @@ use Rattle.bolt_recover.specs.Refusals.{IsUnrecoverable, KeepsRoot}
 use Rattle.bolt_recover.specs.declared.joined.JoinFault.{JoinFault}
 use Rattle.bolt_report.specs.{FaultWords.count_line, FaultWords.findings_text, FoundLines.FoundView, FoundLines.counted_lost_text, FoundLines.lost_text}
 use Rattle.bolt_report.specs.{StatsLines.stats_text, KeyLines.buckets_text, KeyLines.keys_text}
+use Rattle.bolt_report.specs.MemberNames.{Wanted, begins_so, names_bucket, names_text}
 use Rattle.bolt_text.specs.{Forms.value_text, Forms.item_text}
 use Rattle.bolt_stats.specs.{Figures.add_stats}
 use Rattle.bolt_report.specs.{KeyPrefixes.with_prefix, MetaLines.info_text, PageMaps.map_text, PageTables.pages_text}
@@ -38,6 +39,8 @@ use Rattle.bolt_commands.specs.Failures.{IsFailureOf, failure_line, unjoined, un
 use Rattle.bolt_commands.specs.{FileFaults.AreFileFaults, FileFaults.errors_in, FileFaults.fault_lines, FileFaults.hash_lines, FileFaults.is_fine, FileFaults.no_faults, GoodCopies.IsGoodCopy}
 use Rattle.bolt_job.specs.MetaChoices.{HasNoMetaOf, IsMetaOf}
 use Rattle.bolt_commands.specs.SnapshotAnswers.{bad_hash, copy_of}
+use Rattle.bolt_job.specs.declared.choices.BucketsShown.{BucketsShown}
+use Rattle.bolt_job.specs.declared.choices.BucketsShown.TheVariants as shown
 use Rattle.bolt_job.specs.declared.choices.Extent.{Extent}
 use Rattle.bolt_job.specs.declared.choices.Extent.TheVariants.{First, LostAndFound, Losses}
 use Rattle.bolt_commands.specs.declared.failure.Failure.{Failure}
@@ -181,11 +184,6 @@ IsSizesAnswer file path form meta answer =
     ((bucket : Start) × (entries : List LeafElement) × (sized : List Sized) × LeadsTo file meta path bucket × AreEntries (IsEntry file meta) bucket entries
     × AreSized file meta entries sized × IsWholeOrCut (sizes_text form sized) answer)
     ⊎ (((bucket : Start) → LeadsTo file meta path bucket → ⊥) × (answer ≡ refused failure.NoBucket))
-
--- the names of the buckets, or their sizes
-abbrev pub IsBucketsAnswer : List ℕ → Path → Form → (sizes : Bool) → Meta → Answer → Type 0
-IsBucketsAnswer file path form false meta answer = IsEntriesAnswer file path form (buckets_text form) meta answer
-IsBucketsAnswer file path form true meta answer = IsSizesAnswer file path form meta answer
 
 -- a line for each member of a listing at and below the bucket at a path that doesn't come before another path
 abbrev pub part_text : ListForm → (path from : Path) → List Member → List ℕ
@@ -400,6 +398,44 @@ IsListedAnswer extent file choice form path from answer =
     × IsEndedOrCut (part_text form path from listing) (part_ending path listing (lost_ending lost)) answer)
     ⊎ ((why : Failure) × IsUnreadTo extent file choice why × (answer ≡ refused why))
 
+-- ---- `buckets`, `keys` and `get` with `--recover`
+
+-- an answer of what is recovered and of what is lost; or why nothing is recovered
+abbrev pub IsRecoveredAnswer : List ℕ → MetaChoice → (List Member → LostView → Answer → Type 0) → Answer → Type 0
+IsRecoveredAnswer file choice IsWanted answer =
+    ((meta : Meta) × (listing : List Member) × (lost : LostView) × IsReadTo Losses file choice meta listing lost [] × IsWanted listing lost answer)
+    ⊎ ((why : Failure) × IsUnreadTo Losses file choice why × (answer ≡ refused why))
+
+-- why something isn't there: if anything is lost, that may be
+abbrev pub missing : (none : Failure) (maybe_lost : ℕ → Failure) → LostView → Failure
+missing none maybe_lost (everything x) = maybe_lost 1
+missing none maybe_lost (parts []) = none
+missing none maybe_lost (parts (loss ∷ losses)) = maybe_lost (length (loss ∷ losses))
+
+abbrev pub no_bucket : LostView → Failure
+no_bucket lost = missing failure.NoBucket failure.BucketMaybeLost lost
+
+abbrev pub no_key : LostView → Failure
+no_key lost = missing failure.NoKey failure.KeyMaybeLost lost
+
+-- the names that are wanted in a bucket of the listing, and then what is lost; or the bucket isn't there
+abbrev pub names_ending : Path → List Member → LostView → Ending
+names_ending path listing lost = if has_bucket path listing then lost_ending lost else Err (no_bucket lost)
+
+abbrev pub IsNamesAnswer : Form → Wanted → Path → List Member → LostView → Answer → Type 0
+IsNamesAnswer form wanted path listing lost answer = IsEndedOrCut (names_text form wanted path listing) (names_ending path listing lost) answer
+
+-- why a listing has no value at a path
+abbrev pub no_value : Path → List Member → LostView → Failure
+no_value path listing lost = if has_bucket (parents_of path) listing then no_key lost else no_bucket lost
+
+-- the value that the listing has at the path, and then what is lost; or it has none
+abbrev pub IsRecoveredValue : GetJob → List Member → LostView → Answer → Type 0
+IsRecoveredValue job listing lost answer =
+    let path = path_in job.path.items in
+    ((value : List ℕ) × Contains listing (path, Value value) × IsShownAndEnded job.form (value_shown job value) (lost_ending lost) answer)
+    ⊎ (((value : List ℕ) → Contains listing (path, Value value) → ⊥) × (answer ≡ refused (no_value path listing lost)))
+
 -- From its state `old` to `new` standard output accepted the text of the answer without a failure, and the job ends so; or it failed,
 -- accepted a prefix, and the job ends with that.
 abbrev pub Does : {S : Type 0} → (taken : S → Option (List ℕ)) (failed : S → ℕ) (old new : S) → Answer → Ending → Type 0
@@ -451,15 +487,31 @@ copy_report hash lost found source copy =
 
 -- ---- what a command prints for its job
 
+-- the names of the buckets, their sizes, or the names of those that are recovered
+abbrev pub IsBucketsShown : BucketsShown → BucketsJob → List ℕ → Answer → Type 0
+IsBucketsShown shown.Names job file answer = IsReadAnswer file job.meta (IsEntriesAnswer file (path_in job.path.items) job.form (buckets_text job.form)) answer
+IsBucketsShown shown.Sizes job file answer = IsReadAnswer file job.meta (IsSizesAnswer file (path_in job.path.items) job.form) answer
+IsBucketsShown shown.Recovered job file answer = IsRecoveredAnswer file job.meta (IsNamesAnswer job.form names_bucket (path_in job.path.items)) answer
+
 abbrev pub IsBucketsPrint : BucketsJob → List ℕ → Answer → Type 0
-IsBucketsPrint job file answer = IsReadAnswer file job.meta (IsBucketsAnswer file (path_in job.path.items) job.form job.sizes) answer
+IsBucketsPrint job file answer = IsBucketsShown job.shown job file answer
+
+-- the keys, or those that are recovered
+abbrev pub IsKeysShown : (recover : Bool) → KeysJob → List ℕ → Answer → Type 0
+IsKeysShown false job file answer =
+    IsReadAnswer file job.meta (IsEntriesAnswer file (path_in job.path.items) job.form (λ entries. keys_text job.form (with_prefix job.prefix.items entries))) answer
+IsKeysShown true job file answer = IsRecoveredAnswer file job.meta (IsNamesAnswer job.form (begins_so job.prefix.items) (path_in job.path.items)) answer
 
 abbrev pub IsKeysPrint : KeysJob → List ℕ → Answer → Type 0
-IsKeysPrint job file answer =
-    IsReadAnswer file job.meta (IsEntriesAnswer file (path_in job.path.items) job.form (λ entries. keys_text job.form (with_prefix job.prefix.items entries))) answer
+IsKeysPrint job file answer = IsKeysShown job.recover job file answer
+
+-- the value, or that which is recovered
+abbrev pub IsValueShown : (recover : Bool) → GetJob → List ℕ → Answer → Type 0
+IsValueShown false job file answer = IsReadAnswer file job.meta (IsGetAnswer file job) answer
+IsValueShown true job file answer = IsRecoveredAnswer file job.meta (IsRecoveredValue job) answer
 
 abbrev pub IsGetPrint : GetJob → List ℕ → Answer → Type 0
-IsGetPrint job file answer = IsReadAnswer file job.meta (IsGetAnswer file job) answer
+IsGetPrint job file answer = IsValueShown job.recover job file answer
 
 abbrev pub IsStatsPrint : StatsJob → List ℕ → Answer → Type 0
 IsStatsPrint job file answer = IsReadAnswer file job.meta (IsStatsAnswer file (path_in job.path.items) job.form) answer

@@ -14,7 +14,7 @@ use Rattle.bolt_etcd.specs.{SnapshotFaults.snapshot_fault_text}
 use Rattle.bolt_text.specs.declared.fault.ReportFault.{ReportFault}
 use Rattle.bolt_text.specs.declared.fault.ReportFault.TheVariants as report
 use Rattle.bolt_commands.specs.declared.failure.Failure.{Failure}
-use Rattle.bolt_commands.specs.declared.failure.Failure.TheVariants.{Compacted, Exists, File, Hash, Line, Lost, Memory, Metas, NoBucket, NoKey, Others, Page, TooLarge, Write}
+use Rattle.bolt_commands.specs.declared.failure.Failure.TheVariants.{BucketMaybeLost, Compacted, Exists, File, Hash, KeyMaybeLost, Line, Lost, Memory, Metas, NoBucket, NoKey, Others, Page, TooLarge, Write}
 
 abbrev pub failure_text : Failure → List ℕ
 failure_text (Metas fault) = meta_fault_text fault
@@ -22,6 +22,8 @@ failure_text (File finding) = codes "file refused: " ++ finding_text finding
 failure_text (Page fault) = page_fault_text fault
 failure_text NoBucket = codes "bucket not found\n"
 failure_text NoKey = codes "key not found\n"
+failure_text (BucketMaybeLost lost) = codes "bucket not found; pages lost: " ++ (decimal lost ++ codes "\n")
+failure_text (KeyMaybeLost lost) = codes "key not found; pages lost: " ++ (decimal lost ++ codes "\n")
 failure_text Memory = codes "out of memory\n"
 failure_text TooLarge = codes "layout too large\n"
 failure_text Write = codes "write failed\n"

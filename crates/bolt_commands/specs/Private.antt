@@ -5,4 +5,5 @@ pub mod Endings
 pub mod Etcd
 pub mod Opened
 pub mod Printing
+pub mod Recovered
 pub mod Reports

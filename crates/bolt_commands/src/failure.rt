@@ -26,6 +26,10 @@ pub enum Failure {
     NoBucket,
     /// The path that was asked for has no value.
     NoKey,
+    /// The path leads to no bucket that is recovered, and this many pages were lost.
+    BucketMaybeLost(u64),
+    /// No value at the path is recovered, and this many pages were lost.
+    KeyMaybeLost(u64),
     /// Memory ran out.
     Memory,
     /// The copy would have 2^63 bytes or more, or the file has more pages than can be named.
@@ -36,7 +40,7 @@ pub enum Failure {
     Exists,
     /// Standard output or the copy couldn't be written.
     Write,
-    /// What is recovered was listed, and this many pages were lost.
+    /// What is recovered was printed, and this many pages were lost.
     Lost(u64),
     /// The transaction that was asked for was compacted away.
     Compacted,

@@ -30,6 +30,10 @@ fn put_text<E: Sink>(failure: &Failure, err: &mut E) -> Result<(), SinkFault>
         Failure::Page(fault) => page_fault_text(fault, err),
         Failure::NoBucket => put(b"bucket not found\n", err),
         Failure::NoKey => put(b"key not found\n", err),
+        Failure::BucketMaybeLost(lost) => {
+            put_number(b"bucket not found; pages lost: ", *lost, err)
+        }
+        Failure::KeyMaybeLost(lost) => put_number(b"key not found; pages lost: ", *lost, err),
         Failure::Memory => put(b"out of memory\n", err),
         Failure::TooLarge => put(b"layout too large\n", err),
         Failure::Hash(fault) => snapshot_fault_text(*fault, err),

@@ -18,6 +18,7 @@ mod list_command;
 mod opened;
 mod opening;
 mod printing_commands;
+mod recovered_commands;
 
 use crate::check_command::print_check;
 use crate::copy_commands::{write_copy, write_loaded};

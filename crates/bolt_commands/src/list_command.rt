@@ -37,8 +37,8 @@ pub(crate) fn print_list<O: Sink>(input: Input<'_>, job: &ListJob, out: &mut O) 
     }
 }
 
-/// How a job ends that put a part of a listing, if this is lost.
-fn end_listing(lost: Lost<'_>) -> Outcome
+/// How a job ends that put what is wanted of a listing, if this is lost.
+pub(crate) fn end_listing(lost: Lost<'_>) -> Outcome
     ensures { result ≡ lost_ending (lost_view lost.entry) }
 {
     match lost {
@@ -146,7 +146,7 @@ fn put_members_part<'a, M: Members<'a>, O: Sink>(
 }
 
 /// The parts of a path as slices.
-fn slices<'a>(alloc: Global, parts: &'a [Vec<u8>]) -> Result<Vec<&'a [u8]>, ReportFault>
+pub(crate) fn slices<'a>(alloc: Global, parts: &'a [Vec<u8>]) -> Result<Vec<&'a [u8]>, ReportFault>
     ensures path { IfOk result (λ path. path_of path.items ≡ path_in parts.now) }
     ensures memory { IfErr result (λ fault. fault ≡ ReportFault.NoMemory) }
 {

@@ -1,25 +1,27 @@
 //! The commands that print figures, pages and what a bucket holds: `info`, `page`, `pages`, `buckets`,
 //! `keys`, `get` and `stats`.
-ghost use Rattle.std.specs.Prelude.{◌≡◌, ◌⊎◌, IfErr, IfOk, true};
+ghost use Rattle.std.specs.Prelude.{◌≡◌, ◌⊎◌, IfErr, IfOk, false, true};
 ghost use Rattle.bolt_check.specs.{CheckedFiles.bytes_of, CheckedFiles.has_accounts, CheckedFiles.meta_of, RoledFiles.roles_checked, Sound.HasSoundTrees};
 ghost use Rattle.bolt_format.specs.{Endings.ending, Wrote.Wrote};
 ghost use Rattle.bolt_report.specs.{PageTables.ForRoles};
 ghost use Rattle.bolt_text.specs.{ReportEndings.report_ending};
 ghost use Rattle.bolt_tree.specs.{Buckets.bucket_checked, Buckets.bucket_start, Entries.Start, Entries.Value, EntriesLeft.ForEntries};
-ghost use Rattle.bolt_commands.specs.Answers.{HasNoMeta, HasStats, HoldsIn, HoldsNone, IsBucketsPrint, IsGetPrint, IsInfoAnswer};
-ghost use Rattle.bolt_commands.specs.Answers.{IsKeysPrint, IsPageAnswer, IsPagesAnswer, IsReadAnswer, IsShownMeta, IsStatsPrint, IsTotal, LeadsTo, no_stats, pages_shown, value_shown};
+ghost use Rattle.bolt_commands.specs.Answers.{HasNoMeta, HasStats, HoldsIn, HoldsNone, IsBucketsPrint, IsBucketsShown, IsGetPrint, IsInfoAnswer};
+ghost use Rattle.bolt_commands.specs.Answers.{IsKeysPrint, IsKeysShown, IsPageAnswer, IsValueShown, IsPagesAnswer, IsReadAnswer, IsShownMeta, IsStatsPrint, IsTotal, LeadsTo, no_stats, pages_shown, value_shown};
 ghost use Rattle.bolt_commands.specs.Private.Printing.{PrintsAnswer, shown_of};
 ghost use Rattle.bolt_job.specs.{PlainWords.path_in, declared.choices.MetaChoice.TheVariants.Active};
+ghost use Rattle.bolt_job.specs.declared.choices.BucketsShown.TheVariants as shown;
 ghost use Rattle.bolt_commands.specs.declared.failure.Failure.TheVariants.{Memory, NoBucket};
 
 use crate::failure::{Failure, Outcome, ended, written};
 use crate::opening::{Input, open_bucket};
+use crate::recovered_commands::{RecoveredNames, print_recovered_names, print_recovered_value};
 use bolt_check::{Checked, NoMemory, Roles, check_roles};
 use bolt_format::{Meta, MetaFault, Sink, SinkFault, Slot, choose, slot_meta};
-use bolt_job::{BucketsJob, GetJob, InfoJob, KeysJob, PageJob, PagesJob, StatsJob};
+use bolt_job::{BucketsJob, BucketsShown, GetJob, InfoJob, KeysJob, PageJob, PagesJob, StatsJob};
 use bolt_report::{
-    Form, ReportFault, Stats, add, buckets, info, item, keys_with_prefix, page_map, page_text,
-    pages_table, sizes, stats, stats_text, value,
+    Form, Names, ReportFault, Stats, add, buckets, info, item, keys_with_prefix, page_map,
+    page_text, pages_table, sizes, stats, stats_text, value,
 };
 use bolt_tree::Bucket;
 use std::alloc::Global;
@@ -73,17 +75,57 @@ fn put_pages<O: Sink>(roles: &Roles<'_>, map: bool, out: &mut O) -> Result<(), S
 pub(crate) fn print_buckets<O: Sink>(input: Input<'_>, job: &BucketsJob, out: &mut O) -> Outcome
     ensures { PrintsAnswer O.Sink out.old out.new (IsBucketsPrint job.now input.entry.file.now) result }
 {
-    let bucket = input.bucket(job.meta, job.path.as_slice())?;
-    if job.sizes {
-        ended(sizes(input.alloc, &bucket, job.form, out))
-    } else {
-        ended(buckets(input.alloc, &bucket, job.form, out))
+    match job.shown {
+        BucketsShown::Names => put_bucket_names(input, job, out),
+        BucketsShown::Sizes => put_sizes(input, job, out),
+        BucketsShown::Recovered => {
+            let asked = RecoveredNames {
+                meta: job.meta,
+                path: job.path.as_slice(),
+                names: Names::Buckets,
+                form: job.form,
+            };
+            print_recovered_names(input, asked, out)
+        }
     }
+}
+
+/// Writes the names of the buckets in the bucket at a path of a sound file.
+fn put_bucket_names<O: Sink>(input: Input<'_>, job: &BucketsJob, out: &mut O) -> Outcome
+    ensures { PrintsAnswer O.Sink out.old out.new (IsBucketsShown shown.Names job.now input.entry.file.now) result }
+{
+    let bucket = input.bucket(job.meta, job.path.as_slice())?;
+    ended(buckets(input.alloc, &bucket, job.form, out))
+}
+
+/// Writes their sizes and names.
+fn put_sizes<O: Sink>(input: Input<'_>, job: &BucketsJob, out: &mut O) -> Outcome
+    ensures { PrintsAnswer O.Sink out.old out.new (IsBucketsShown shown.Sizes job.now input.entry.file.now) result }
+{
+    let bucket = input.bucket(job.meta, job.path.as_slice())?;
+    ended(sizes(input.alloc, &bucket, job.form, out))
 }
 
 /// Writes the keys of the bucket at a path that begin with a prefix.
 pub(crate) fn print_keys<O: Sink>(input: Input<'_>, job: &KeysJob, out: &mut O) -> Outcome
     ensures { PrintsAnswer O.Sink out.old out.new (IsKeysPrint job.now input.entry.file.now) result }
+{
+    if job.recover {
+        let asked = RecoveredNames {
+            meta: job.meta,
+            path: job.path.as_slice(),
+            names: Names::BeginningWith(job.prefix.as_slice()),
+            form: job.form,
+        };
+        print_recovered_names(input, asked, out)
+    } else {
+        put_keys(input, job, out)
+    }
+}
+
+/// Writes the keys of the bucket at a path of a sound file that begin with a prefix.
+fn put_keys<O: Sink>(input: Input<'_>, job: &KeysJob, out: &mut O) -> Outcome
+    ensures { PrintsAnswer O.Sink out.old out.new (IsKeysShown false job.now input.entry.file.now) result }
 {
     let bucket = input.bucket(job.meta, job.path.as_slice())?;
     let mut cursor = bucket.cursor();
@@ -95,12 +137,23 @@ pub(crate) fn print_keys<O: Sink>(input: Input<'_>, job: &KeysJob, out: &mut O) 
 pub(crate) fn print_value<O: Sink>(input: Input<'_>, job: &GetJob, out: &mut O) -> Outcome
     ensures { PrintsAnswer O.Sink out.old out.new (IsGetPrint job.now input.entry.file.now) result }
 {
+    if job.recover {
+        print_recovered_value(input, job, out)
+    } else {
+        print_sound_value(input, job, out)
+    }
+}
+
+/// Writes the value at a path of a sound file.
+fn print_sound_value<O: Sink>(input: Input<'_>, job: &GetJob, out: &mut O) -> Outcome
+    ensures { PrintsAnswer O.Sink out.old out.new (IsValueShown false job.now input.entry.file.now) result }
+{
     let checked = input.read(job.meta)?;
     let value = find_value(checked, job.path.as_slice())?;
     ended(put_value(input.alloc, value, job, out))
 }
 
-fn put_value<O: Sink>(
+pub(crate) fn put_value<O: Sink>(
     alloc: Global,
     bytes: &[u8],
     job: &GetJob,

@@ -11,6 +11,8 @@ use Rattle.bolt_job.specs.FormWords.{figure_form_by, form_by, list_form_by}
 use Rattle.clap.specs.Words.{Rule, new_rule}
 use Rattle.bolt_job.specs.LineWords.{Text, alone, by_letter, by_name, needed, several, valued}
 use Rattle.bolt_job.specs.PathWords.{◌>>=◌, each_part, hex_path_by, part_of, parts_by, prefix_of}
+use Rattle.bolt_job.specs.declared.choices.BucketsShown.{BucketsShown}
+use Rattle.bolt_job.specs.declared.choices.BucketsShown.TheVariants.{Names, Recovered, Sizes}
 use Rattle.bolt_job.specs.declared.choices.CopyKind.{CopyKind}
 use Rattle.bolt_job.specs.declared.choices.CopyKind.TheVariants as kind
 use Rattle.bolt_job.specs.declared.choices.Extent.{Extent}
@@ -60,9 +62,9 @@ pub data Asked : Type 0 where
   page : Text → AskedMeta → ℕ → Asked
   pages : Text → (map : Bool) → Asked
   check : Text → AskedMeta → Extent → (snapshot for_bbolt : Bool) → Asked
-  buckets : Text → AskedMeta → Path → Form → (sizes : Bool) → Asked
-  keys : Text → AskedMeta → Path → (prefix : Key) → Form → Asked
-  get : Text → AskedMeta → Path → Form → (no_newline : Bool) → Asked
+  buckets : Text → AskedMeta → Path → Form → BucketsShown → Asked
+  keys : Text → AskedMeta → Path → (prefix : Key) → Form → (recover : Bool) → Asked
+  get : Text → AskedMeta → Path → Form → (no_newline recover : Bool) → Asked
   stats : Text → AskedMeta → FigureForm → Path → Asked
   list : Text → AskedMeta → ListForm → (path from : Path) → Extent → Asked
   compact : (file : Text) → AskedMeta → (target : Text) → (page_size : Option ℕ) → CopyKind → Extent → Asked
@@ -100,13 +102,13 @@ abbrev pub check_of : CheckJob → Asked
 check_of j = check (string_bytes j.file) (meta_in j.meta) j.extent j.snapshot j.for_bbolt
 
 abbrev pub buckets_of : BucketsJob → Asked
-buckets_of j = buckets (string_bytes j.file) (meta_in j.meta) (path_in j.path.items) j.form j.sizes
+buckets_of j = buckets (string_bytes j.file) (meta_in j.meta) (path_in j.path.items) j.form j.shown
 
 abbrev pub keys_of : KeysJob → Asked
-keys_of j = keys (string_bytes j.file) (meta_in j.meta) (path_in j.path.items) j.prefix.items j.form
+keys_of j = keys (string_bytes j.file) (meta_in j.meta) (path_in j.path.items) j.prefix.items j.form j.recover
 
 abbrev pub get_of : GetJob → Asked
-get_of j = get (string_bytes j.file) (meta_in j.meta) (path_in j.path.items) j.form j.no_newline
+get_of j = get (string_bytes j.file) (meta_in j.meta) (path_in j.path.items) j.form j.no_newline j.recover
 
 abbrev pub stats_of : StatsJob → Asked
 stats_of j = stats (string_bytes j.file) (meta_in j.meta) j.form (path_in j.path.items)
@@ -258,6 +260,16 @@ prefix_by values = parts_by (given values (codes "parts")) >>= λ how. prefix_of
 abbrev pub name_by : Values → Result Key Text
 name_by values = parts_by (given values (codes "parts")) >>= λ how. text_by (codes "NAME") values >>= λ word. part_of how word
 
+-- what is printed of buckets, by the words of `--sizes` and `--recover`, of which only one may be given
+abbrev pub shown_by : (sizes recover : Option Text) → Result BucketsShown Text
+shown_by None None = Ok Names
+shown_by (Some word) None = Ok Sizes
+shown_by None (Some word) = Ok Recovered
+shown_by (Some word) (Some other) = Err (codes "bad sizes: not with --recover")
+
+abbrev recover_in : Values → Bool
+recover_in values = is_given (given values (codes "recover"))
+
 abbrev asks_at : Values → (AskedMeta → Form → Path → Result Asked Text) → Result Asked Text
 asks_at values wanted = meta_by values >>= λ meta. form_by (given values (codes "form")) >>= λ form. path_by values >>= λ path. wanted meta form path
 
@@ -278,13 +290,15 @@ asks_check values =
     Ok (check file meta (extent_in (codes "all") values) (is_given (given values (codes "etcd-snapshot"))) (is_given (given values (codes "for-bbolt"))))
 
 abbrev pub asks_buckets : Values → Result Asked Text
-asks_buckets values = asks_at values (λ meta form path. file_by values >>= λ file. Ok (buckets file meta path form (is_given (given values (codes "sizes")))))
+asks_buckets values =
+    meta_by values >>= λ meta. form_by (given values (codes "form")) >>= λ form. shown_by (given values (codes "sizes")) (given values (codes "recover")) >>= λ shown.
+    path_by values >>= λ path. file_by values >>= λ file. Ok (buckets file meta path form shown)
 
 abbrev pub asks_keys : Values → Result Asked Text
-asks_keys values = asks_at values (λ meta form path. prefix_by values >>= λ prefix. file_by values >>= λ file. Ok (keys file meta path prefix form))
+asks_keys values = asks_at values (λ meta form path. prefix_by values >>= λ prefix. file_by values >>= λ file. Ok (keys file meta path prefix form (recover_in values)))
 
 abbrev pub asks_get : Values → Result Asked Text
-asks_get values = asks_at values (λ meta form path. file_by values >>= λ file. Ok (get file meta path form (is_given (given values (codes "no-newline")))))
+asks_get values = asks_at values (λ meta form path. file_by values >>= λ file. Ok (get file meta path form (is_given (given values (codes "no-newline"))) (recover_in values)))
 
 abbrev pub asks_stats : Values → Result Asked Text
 asks_stats values =
@@ -342,9 +356,9 @@ commands =
     ∷ command (codes "page") (needed (operand (codes "ID")) ∷ option (codes "assume-meta") ∷ []) asks_page
     ∷ command (codes "pages") (switch (codes "map") ∷ []) asks_pages
     ∷ command (codes "check") (switch (codes "all") ∷ switch (codes "lost-and-found") ∷ switch (codes "for-bbolt") ∷ switch (codes "etcd-snapshot") ∷ metas) asks_check
-    ∷ command (codes "buckets") (parts ∷ switch (codes "sizes") ∷ option (codes "form") ∷ option (codes "parts") ∷ metas) asks_buckets
-    ∷ command (codes "keys") (needed parts ∷ option (codes "prefix") ∷ option (codes "form") ∷ option (codes "parts") ∷ metas) asks_keys
-    ∷ command (codes "get") (needed parts ∷ by_letter 110 (switch (codes "no-newline")) ∷ option (codes "form") ∷ option (codes "parts") ∷ metas) asks_get
+    ∷ command (codes "buckets") (parts ∷ switch (codes "sizes") ∷ option (codes "form") ∷ option (codes "parts") ∷ switch (codes "recover") ∷ metas) asks_buckets
+    ∷ command (codes "keys") (needed parts ∷ option (codes "prefix") ∷ option (codes "form") ∷ option (codes "parts") ∷ switch (codes "recover") ∷ metas) asks_keys
+    ∷ command (codes "get") (needed parts ∷ by_letter 110 (switch (codes "no-newline")) ∷ option (codes "form") ∷ option (codes "parts") ∷ switch (codes "recover") ∷ metas) asks_get
     ∷ command (codes "stats") (parts ∷ option (codes "form") ∷ option (codes "parts") ∷ metas) asks_stats
     ∷ command (codes "list") (parts ∷ option (codes "from") ∷ option (codes "form") ∷ option (codes "parts") ∷ switch (codes "recover") ∷ switch (codes "lost-and-found") ∷ metas) asks_list
     ∷ command (codes "compact") (output ∷ option (codes "page-size") ∷ switch (codes "for-bbolt") ∷ switch (codes "etcd-snapshot") ∷ switch (codes "recover") ∷ switch (codes "lost-and-found") ∷ metas) asks_compact

@@ -4,7 +4,7 @@ ghost use Rattle.bolt_job.specs.CommandLine.{Gives};
 ghost use Rattle.bolt_job.specs.PlainWords.{asks_buckets, asks_get, asks_keys, asks_list, asks_stats, buckets_of, get_of, keys_of, list_of, stats_of};
 ghost use Rattle.bolt_job.specs.Private.CommandLines.{values_of};
 
-use crate::choices::{Extent, MetaChoice};
+use crate::choices::{BucketsShown, Extent, MetaChoice};
 use crate::command_line::{Argument, Flag, Syntax};
 use crate::line::Line;
 use crate::page_commands::{ASSUME_META, FIGURE_FORM, FILE, META};
@@ -114,14 +114,22 @@ pub struct BucketsJob {
     pub meta: MetaChoice,
     pub form: Form,
     pub path: Vec<Vec<u8>>,
-    /// Whether to print the sizes of each with its name.
-    pub sizes: bool,
+    pub shown: BucketsShown,
 }
 
 pub(crate) static BUCKETS: Syntax = Syntax {
     name: "buckets",
     about: "Print the names of the buckets in a bucket",
-    arguments: &[FILE, BUCKET_IN, SIZES, FORM, PARTS, META, ASSUME_META],
+    arguments: &[
+        FILE,
+        BUCKET_IN,
+        SIZES,
+        FORM,
+        PARTS,
+        RECOVER,
+        META,
+        ASSUME_META,
+    ],
     note: None,
 };
 
@@ -131,8 +139,8 @@ pub(crate) fn read_buckets(line: &Line<'_, '_>) -> Result<BucketsJob, Refusal>
     Ok(BucketsJob {
         meta: line.meta()?,
         form: line.form()?,
+        shown: line.buckets_shown()?,
         path: line.path()?,
-        sizes: line.is_given("sizes"),
         file: line.text("FILE")?,
     })
 }
@@ -145,12 +153,23 @@ pub struct KeysJob {
     pub form: Form,
     pub path: Vec<Vec<u8>>,
     pub prefix: Vec<u8>,
+    /// Whether to print what is recovered.
+    pub recover: bool,
 }
 
 pub(crate) static KEYS: Syntax = Syntax {
     name: "keys",
     about: "Print the keys of a bucket, and the names of the buckets in it",
-    arguments: &[FILE, BUCKET_PART, PREFIX, FORM, PARTS, META, ASSUME_META],
+    arguments: &[
+        FILE,
+        BUCKET_PART,
+        PREFIX,
+        FORM,
+        PARTS,
+        RECOVER,
+        META,
+        ASSUME_META,
+    ],
     note: None,
 };
 
@@ -162,6 +181,7 @@ pub(crate) fn read_keys(line: &Line<'_, '_>) -> Result<KeysJob, Refusal>
         form: line.form()?,
         path: line.path()?,
         prefix: line.prefix()?,
+        recover: line.is_given("recover"),
         file: line.text("FILE")?,
     })
 }
@@ -175,12 +195,23 @@ pub struct GetJob {
     pub path: Vec<Vec<u8>>,
     /// Whether to print no line feed after it.
     pub no_newline: bool,
+    /// Whether to print what is recovered.
+    pub recover: bool,
 }
 
 pub(crate) static GET: Syntax = Syntax {
     name: "get",
     about: "Print the value of a key",
-    arguments: &[FILE, KEY_PART, NO_NEWLINE, FORM, PARTS, META, ASSUME_META],
+    arguments: &[
+        FILE,
+        KEY_PART,
+        NO_NEWLINE,
+        FORM,
+        PARTS,
+        RECOVER,
+        META,
+        ASSUME_META,
+    ],
     note: None,
 };
 
@@ -192,6 +223,7 @@ pub(crate) fn read_get(line: &Line<'_, '_>) -> Result<GetJob, Refusal>
         form: line.form()?,
         path: line.path()?,
         no_newline: line.is_given("no-newline"),
+        recover: line.is_given("recover"),
         file: line.text("FILE")?,
     })
 }

@@ -1,4 +1,5 @@
-//! What the words of a command choose: a meta, a page size, a form of the copy, and how far a command goes in a damaged file.
+//! What the words of a command choose: a meta, a page size, a form of the copy, what is printed of buckets, and how far a
+//! command goes in a damaged file.
 ghost use Rattle.std.specs.Prelude.{◌≡◌, IfNone, IfSome, IfErr, IfOk};
 ghost use Rattle.bolt_format.specs.Metas.{IsPageSize};
 
@@ -107,6 +108,17 @@ impl CopyKind {
             CopyKind::Plain | CopyKind::ForBbolt => false,
         }
     }
+}
+
+/// What is printed of the buckets in a bucket.
+#[derive(Clone, Copy)]
+pub enum BucketsShown {
+    /// Their names.
+    Names,
+    /// Their sizes and names.
+    Sizes,
+    /// The names of those that are recovered.
+    Recovered,
 }
 
 /// How far a command goes in a file with damaged trees.

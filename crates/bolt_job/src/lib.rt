@@ -14,7 +14,7 @@ mod words;
 mod writing_commands;
 
 pub use bucket_commands::{BucketsJob, GetJob, KeysJob, ListJob, StatsJob};
-pub use choices::{AssumedMeta, CopyKind, Extent, MetaChoice, PageSize};
+pub use choices::{AssumedMeta, BucketsShown, CopyKind, Extent, MetaChoice, PageSize};
 pub use etcd_commands::{EtcdCheckJob, EtcdGetJob, EtcdKeysJob, EtcdRevisionsJob};
 pub use job::Job;
 pub use page_commands::{CheckJob, InfoJob, PageJob, PagesJob};

@@ -3,10 +3,10 @@ ghost use Rattle.std.specs.Prelude.{◌≡◌, Err, MatchOption, Ok, Some, codes
 ghost use Rattle.bolt_job.specs.CommandLine.{Gives};
 ghost use Rattle.bolt_job.specs.FormWords.{figure_form_by, form_by, list_form_by};
 ghost use Rattle.bolt_job.specs.PathWords.{hex_path_by, parts_by};
-ghost use Rattle.bolt_job.specs.PlainWords.{assumed_of, copy_kind_by, extent_by, first_of, id_by, is_given, load_size_by, meta_by, meta_in, name_by, number_or, page_size_by, page_size_of, path_by, path_in, prefix_by, revision_by, revision_of, sequence_by, size_in, slot_by, slot_of, text_by};
+ghost use Rattle.bolt_job.specs.PlainWords.{assumed_of, copy_kind_by, extent_by, first_of, id_by, is_given, load_size_by, meta_by, meta_in, name_by, number_or, page_size_by, page_size_of, path_by, path_in, prefix_by, revision_by, revision_of, sequence_by, shown_by, size_in, slot_by, slot_of, text_by};
 ghost use Rattle.bolt_job.specs.Private.CommandLines.{IsAssumedBy, values_of};
 
-use crate::choices::{AssumedMeta, CopyKind, Extent, MetaChoice, PageSize};
+use crate::choices::{AssumedMeta, BucketsShown, CopyKind, Extent, MetaChoice, PageSize};
 use crate::path_words::{read_from, read_part, read_path, read_prefix};
 use crate::refusal::Refusal;
 use bolt_format::Slot;
@@ -90,6 +90,18 @@ impl Line<'_, '_> {
         match self.choice("form") {
             Some(word) => form_of(word),
             None => Ok(Form::Printable),
+        }
+    }
+
+    /// What is printed of buckets. Sizes aren't known of what is recovered.
+    pub(crate) fn buckets_shown(&self) -> Result<BucketsShown, Refusal>
+        ensures { Gives (λ shown. shown) (shown_by (first_of (values_of self.now (codes "sizes"))) (first_of (values_of self.now (codes "recover")))) result }
+    {
+        match (self.choice("sizes"), self.choice("recover")) {
+            (None, None) => Ok(BucketsShown::Names),
+            (Some(_), None) => Ok(BucketsShown::Sizes),
+            (None, Some(_)) => Ok(BucketsShown::Recovered),
+            (Some(_), Some(_)) => Err(Refusal::Word("bad sizes: not with --recover")),
         }
     }
 

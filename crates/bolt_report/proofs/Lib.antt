@@ -2,6 +2,7 @@ mod FigureDocuments
 mod FigureTexts
 mod FoundLemmas
 mod ListPartTexts
+mod NameTexts
 mod PageFaults
 mod PageTableLemmas
 mod PrefixLemmas

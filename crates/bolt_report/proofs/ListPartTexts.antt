@@ -39,7 +39,7 @@ module _ (below : Path) where
   at_path m e = (slice_eq-Decides bytes_eq-Decides m.0 below (pointwise bytes_eq m.0 below) refl).0 (and_parts (pointwise bytes_eq m.0 below) (is_bucket m.1) e).0
 
   -- what comes before the bucket doesn't begin with its path
-  apart_before : (path : Path) (ms : List Member) → ((y : Member) → Contains ms y → path_cmp path y.0 ≡ Less) → list_any (is_bucket_at below) ms ≡ true
+  pub apart_before : (path : Path) (ms : List Member) → ((y : Member) → Contains ms y → path_cmp path y.0 ≡ Less) → list_any (is_bucket_at below) ms ≡ true
       → begins_with below path ≡ false
   apart_before path [] less any = cc
   apart_before path (m ∷ ms) less any =

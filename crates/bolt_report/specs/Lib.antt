@@ -5,6 +5,7 @@ pub mod FoundLines
 pub mod KeyLines
 pub mod KeyPrefixes
 pub mod LossLines
+pub mod MemberNames
 pub mod MetaLines
 pub mod PageLines
 pub mod PageMaps

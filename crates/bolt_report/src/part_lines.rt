@@ -123,7 +123,7 @@ fn put_bucket_part<'a, M: Members<'a>, S: Sink>(
 {
     let mut found = below.is_empty();
     'part: while let Some(item) = members.next()? {
-        found |= is_bucket_of(members.path(), &item, below);
+        found |= is_bucket_at(members.path(), &item, below);
         if found && is_wanted(members.path(), below, from) {
             lines.put(members.path(), &item, sink)?;
         }
@@ -147,7 +147,7 @@ fn is_wanted(path: &[&[u8]], below: &[&[u8]], from: &[&[u8]]) -> bool
 
 /// Whether a member is the bucket at a path.
 #[tactic(auto, using(bolt_text::proofs::PartTests::parts))]
-fn is_bucket_of(path: &[&[u8]], item: &Item<'_>, bucket: &[&[u8]]) -> bool
+pub fn is_bucket_at(path: &[&[u8]], item: &Item<'_>, bucket: &[&[u8]]) -> bool
     ensures { result ≡ is_bucket_at (path_of bucket.now) (path_of path.now, item_view item.now) }
 {
     path == bucket && matches!(item, Item::Bucket { .. })

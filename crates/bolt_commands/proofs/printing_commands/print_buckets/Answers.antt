@@ -1,20 +1,11 @@
-use Rattle.std.proofs.Common.{inl, inr}
-use Rattle.bolt_commands.proofs.{Vocabulary.buckets_text, Vocabulary.path_in, Doing.answer_none, EntryAnswers.buckets_missing, EntryAnswers.entries_put, EntryAnswers.sizes_put}
+-- The names or the sizes, as it is asked for.
 use Rattle.bolt_commands.proofs.printing_commands.print_buckets.Goals as goal
 
-pub returns-in_err-bucket : goal.returns-in_err-bucket
-returns-in_err-bucket g c =
-    let job = c.args.job.now in
-    answer_none _ _ (rw c.as_slice.ensures.value at c.in_err-bucket.ensures.refused)
-    (λ meta under nowhere. inl (meta, under, buckets_missing _ (path_in job.path.items) job.form job.sizes meta nowhere)) inr c.from_residual.ensures.1
+pub returns-in-Names : goal.returns-in-Names
+returns-in-Names g c = rw c.in-Names.is c.put_bucket_names.ensures
 
-pub returns-then-job : goal.returns-then-job
-returns-then-job g c =
-    let of = rw c.as_slice.ensures.value at c.in_ok-bucket.ensures.found in
-    rw (c.if-job.true, c.ended.ensures) (sizes_put of c.sizes.result c.args.job.now.form c.sizes.ensures.written c.sizes.ensures.fault)
+pub returns-in-Sizes : goal.returns-in-Sizes
+returns-in-Sizes g c = rw c.in-Sizes.is c.put_sizes.ensures
 
-pub returns-else-job : goal.returns-else-job
-returns-else-job g c =
-    let form = c.args.job.now.form in
-    let of = rw c.as_slice.ensures.value at c.in_ok-bucket.ensures.found in
-    rw (c.if-job.false, c.ended-else-job.ensures) (entries_put of c.buckets.result form (buckets_text form) c.buckets.ensures.written c.buckets.ensures.fault)
+pub returns-in-Recovered : goal.returns-in-Recovered
+returns-in-Recovered g c = rw c.in-Recovered.is (rw c.as_slice.ensures.value at c.print_recovered_names.ensures)

@@ -1,16 +1,8 @@
-use Rattle.std.proofs.Common.{inl, inr, refl}
-use Rattle.bolt_commands.proofs.{Vocabulary.keys_text, Doing.answer_none, EntryAnswers.entries_put}
-use Rattle.bolt_report.specs.KeyPrefixes.{with_prefix}
+-- Those of a sound file, or those that are recovered.
 use Rattle.bolt_commands.proofs.printing_commands.print_keys.Goals as goal
 
-pub returns-in_err-bucket : goal.returns-in_err-bucket
-returns-in_err-bucket g c =
-    answer_none _ _ (rw c.as_slice.ensures.value at c.in_err-bucket.ensures.refused)
-    (λ meta under nowhere. inl (meta, under, inr (nowhere, refl))) inr c.from_residual.ensures.1
+pub returns-then-job : goal.returns-then-job
+returns-then-job g c = rw c.if-job.true (rw (c.as_slice.ensures.value, c.as_slice-then-job.ensures.value) at c.print_recovered_names.ensures)
 
-pub returns : goal.returns
-returns g c =
-    let job = c.args.job.now in
-    let of = rw c.as_slice.ensures.value at c.in_ok-bucket.ensures.found in
-    let written = rw (c.cursor-cursor.ensures.checked, c.cursor-cursor.ensures.start, c.as_slice-prefix.ensures.value) at c.keys_with_prefix.ensures.written in
-    rw c.ended.ensures (entries_put of c.keys_with_prefix.result job.form (λ entries. keys_text job.form (with_prefix job.prefix.items entries)) written c.keys_with_prefix.ensures.fault)
+pub returns-else-job : goal.returns-else-job
+returns-else-job g c = rw c.if-job.false c.put_keys.ensures

@@ -30,8 +30,8 @@ part-preserved-then-is_wanted g c =
     let below = path_of c.args.below.now in
     let from = path_of c.args.from.now in
     let m : Member = (g.M.Members.last_path c.next.new.self, item_view c.in-Some.item) in
-    let now = c.part.found || c.is_bucket_of-found.result in
-    let is : now ≡ (c.part.found || is_bucket_at below m) = ap (λ (b : Bool). c.part.found || b) (rw c.path.ensures at c.is_bucket_of-found.ensures) in
+    let now = c.part.found || c.is_bucket_at-found.result in
+    let is : now ≡ (c.part.found || is_bucket_at below m) = ap (λ (b : Bool). c.part.found || b) (rw c.path.ensures at c.is_bucket_at-found.ensures) in
     let both = sym (rw c.path-then-found.ensures at c.is_wanted.ensures) ∙ c.if-is_wanted.true in
     let first : (listing : List Member) → g.M.Members.lists c.args.members.now listing → g.M.Members.left c.part.members listing ≡ m ∷ g.M.Members.left c.next.new.self listing =
     λ listing lists. (rw c.in-Some.is at c.in_ok-item.ensures.given) listing ((c.part.invariant.same listing).1 lists) in
@@ -51,8 +51,8 @@ pub returns-in_err-put-clause-written : goal.returns-in_err-put-clause-written
 returns-in_err-put-clause-written g c = λ listing lists up.
     let below = path_of c.args.below.now in
     let m : Member = (g.M.Members.last_path c.next.new.self, item_view c.in-Some.item) in
-    let now = c.part.found || c.is_bucket_of-found.result in
-    let is : now ≡ (c.part.found || is_bucket_at below m) = ap (λ (b : Bool). c.part.found || b) (rw c.path.ensures at c.is_bucket_of-found.ensures) in
+    let now = c.part.found || c.is_bucket_at-found.result in
+    let is : now ≡ (c.part.found || is_bucket_at below m) = ap (λ (b : Bool). c.part.found || b) (rw c.path.ensures at c.is_bucket_at-found.ensures) in
     let both = sym (rw c.path-then-found.ensures at c.is_wanted.ensures) ∙ c.if-is_wanted.true in
     let first = (rw c.in-Some.is at c.in_ok-item.ensures.given) listing ((c.part.invariant.same listing).1 lists) in
     front_fault _ _ _ (rw first at (c.part.invariant.put listing lists up))
@@ -64,8 +64,8 @@ part-preserved g c =
     let below = path_of c.args.below.now in
     let from = path_of c.args.from.now in
     let m : Member = (g.M.Members.last_path c.next.new.self, item_view c.in-Some.item) in
-    let now = c.part.found || c.is_bucket_of-found.result in
-    let is : now ≡ (c.part.found || is_bucket_at below m) = ap (λ (b : Bool). c.part.found || b) (rw c.path.ensures at c.is_bucket_of-found.ensures) in
+    let now = c.part.found || c.is_bucket_at-found.result in
+    let is : now ≡ (c.part.found || is_bucket_at below m) = ap (λ (b : Bool). c.part.found || b) (rw c.path.ensures at c.is_bucket_at-found.ensures) in
     let first : (listing : List Member) → g.M.Members.lists c.args.members.now listing → g.M.Members.left c.part.members listing ≡ m ∷ g.M.Members.left c.next.new.self listing =
     λ listing lists. (rw c.in-Some.is at c.in_ok-item.ensures.given) listing ((c.part.invariant.same listing).1 lists) in
     let passed : (ms : List Member) → Rises member_cmp (m ∷ ms) → rest_from from (left_part below c.part.found (m ∷ ms)) ≡ rest_from from (left_part below now ms) =

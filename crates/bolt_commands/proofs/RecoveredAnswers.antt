@@ -1,0 +1,95 @@
+-- What is answered of what is recovered of a bucket or at a path.
+use Rattle.std.proofs.Common.{◌≡◌, ◌⊎◌, ◌∙◌, ℕ, Bool, Err, IfErr, IfOk, List, None, Ok, Option, Result, Some, [], inl, inr, refl, subst, sym, ap, if◌then◌else◌}
+use Rattle.std.specs.{Borrow.Bor, Option.IfNone, Prelude.IfSome}
+use Rattle.bolt_commands.proofs.Vocabulary.{AreLosses, Contains, Ending, Failure, ForLosses, Ghosts, IsErrAnd, IsRecovered, IsRecoveryOf, Json, LossView, LostView, MayFail, Member, MetaChoice, OnOk, Path}
+use Rattle.bolt_commands.proofs.Vocabulary.{PrintsAnswer, ReportFault, Rises, Value, Wrote, end_of, has_bucket, has_losses, has_recovered, lost_ending, member_cmp, parents_of, parts, path_in, recovery_file, recovery_left, recovery_meta, report_ending, reported, value_shown}
+use Rattle.bolt_check.specs.declared.fault.CheckFault.TheVariants as check
+use Rattle.bolt_commands.specs.Answers.{Answer, IsNamesAnswer, IsRecoveredAnswer, IsRecoveredValue, names_ending, no_bucket, no_key, no_value}
+use Rattle.bolt_commands.specs.Private.Recovered.{HoldsNow, bucket_ending, value_or_why}
+use Rattle.bolt_commands.specs.declared.{failure.Failure.TheVariants.Memory, recovered_commands.AtPath.AtPath}
+use Rattle.bolt_commands.proofs.{CutTexts.ended_put, CutTexts.text_put, Doing.answer_as, Doing.answer_nothing, OpenedReads.recovered_read}
+use Rattle.bolt_job.specs.declared.bucket_commands.GetJob.{GetJob}
+use Rattle.bolt_recover.specs.declared.recovery.Recovery.{Recovery}
+use Rattle.bolt_report.specs.MemberNames.{Wanted, names_text}
+use Rattle.bolt_text.specs.declared.forms.Form.{Form}
+use Rattle.bolt_text.specs.declared.fault.ReportFault.TheVariants as report
+
+-- memory may run out of any file before anything is written
+pub recovered_none : {S : Type 0} {sink : Ghosts S} {old : S} (file : List ℕ) (choice : MetaChoice) (IsWanted : List Member → LostView → Answer → Type 0) (result : Ending)
+    → IsErrAnd result (λ said. said ≡ Memory) → PrintsAnswer sink old old (IsRecoveredAnswer file choice IsWanted) result
+recovered_none file choice IsWanted result said = answer_nothing Memory result (inr (Memory, (check.Memory, tt, refl), refl)) said
+
+ended_so : (path : Path) (found : Bool) (listing : List Member) (after losses : List LossView) → found ≡ has_bucket path listing → after ≡ losses
+    → names_ending path listing (parts losses) ≡ bucket_ending found (parts after)
+ended_so path found listing after losses is lost = rw (is, lost) refl
+
+module _ {file : List ℕ} {choice : MetaChoice} (r : Recovery) (of : IsRecoveryOf file choice r) where
+  -- what is wanted of the recovered listing and of all losses
+  pub of_recovery : {S : Type 0} {sink : Ghosts S} {old new : S} (IsWanted : List Member → LostView → Answer → Type 0) (result : Ending)
+      (listing : List Member) → IsRecovered file (recovery_meta r) listing → (losses : List LossView) → AreLosses file (recovery_meta r) losses
+      → PrintsAnswer sink old new (IsWanted listing (parts losses)) result → PrintsAnswer sink old new (IsRecoveredAnswer file choice IsWanted) result
+  of_recovery IsWanted result listing is losses are put =
+      answer_as put (λ answer wanted. inl (recovery_meta r, listing, parts losses, recovered_read r (refl, of) is are, wanted))
+
+  -- ---- the names in a bucket
+
+  -- how the job ends
+  abbrev pub end_of_names : Result Bool ReportFault → List LossView → Ending
+  end_of_names (Ok found) losses = bucket_ending found (parts losses)
+  end_of_names (Err e) losses = Err (reported e)
+
+  abbrev Lists : List Member → Type 0
+  Lists listing = IsRecovered (recovery_file r) (recovery_meta r) listing
+
+  module _ {S : Type 0} {sink : Ghosts S} {old new : S} (form : Form) (wanted : Wanted) (path : Path) where
+    pub names_answered : (put : Result Bool ReportFault) → MayFail put
+        → ((listing : List Member) → Lists listing → Rises member_cmp (recovery_left r listing) → Wrote sink old new (names_text form wanted path (recovery_left r listing)) (report_ending put))
+        → IfOk put (λ found. (listing : List Member) → Lists listing → found ≡ has_bucket path (recovery_left r listing))
+        → (after : List LossView) → OnOk put (ForLosses (recovery_file r) (recovery_meta r) (λ losses. after ≡ losses))
+        → PrintsAnswer sink old new (IsRecoveredAnswer file choice (IsNamesAnswer form wanted path)) (end_of_names put after)
+    names_answered (Ok found) fault puts knows after known =
+        let (own, is) = has_recovered file (recovery_meta r) in
+        let (losses, are) = has_losses file (recovery_meta r) in
+        let here : Lists own = rw of.bytes is in
+        let all = of.all own is in
+        let wrote = rw all at (puts own here (rw all is.rises)) in
+        let has = rw all at (knows own here) in
+        let put = ended_put {A = Bool} (names_text form wanted path own) (names_ending path own (parts losses)) (Ok found) wrote tt in
+        of_recovery (IsNamesAnswer form wanted path) _ own is losses are
+        (subst (λ (e : Ending). PrintsAnswer sink old new (IsNamesAnswer form wanted path own (parts losses)) e) (ended_so path found own after losses has (known losses (rw of.bytes are))) put)
+    names_answered (Err e) fault puts knows after known =
+        let (own, is) = has_recovered file (recovery_meta r) in
+        let (losses, are) = has_losses file (recovery_meta r) in
+        let here : Lists own = rw of.bytes is in
+        let all = of.all own is in
+        let wrote = rw all at (puts own here (rw all is.rises)) in
+        of_recovery (IsNamesAnswer form wanted path) _ own is losses are (ended_put {A = Bool} (names_text form wanted path own) (names_ending path own (parts losses)) (Err e) wrote fault)
+
+-- ---- the value at a path
+
+known_value : (value : Option (Bor (List ℕ))) (has : Bool) (lost : LostView) (P : Bor (List ℕ) → Type 0) (there : Bor (List ℕ)) → IfSome value P
+    → Ok there ≡ value_or_why value has lost → P there
+known_value (Some value) has lost P there some same = let is : there ≡ value = cc in rw is some
+known_value None has lost P there some same = absurd (cc)
+
+known_none : (value : Option (Bor (List ℕ))) (has : Bool) (lost : LostView) (N : Type 0) (why : Failure) → IfNone value N → Err why ≡ value_or_why value has lost
+    → N × (why ≡ (if has then no_key lost else no_bucket lost))
+known_none (Some value) has lost N why none same = absurd (cc)
+known_none None has lost N why none same = (none, cc)
+
+module _ (members : List Member) (path : Path) (at : AtPath) (holds : HoldsNow members path at) (lost : LostView) where
+  pub value_known : (value : Bor (List ℕ)) → Ok value ≡ value_or_why at.value at.has_bucket lost → Contains members (path, Value value.now)
+  value_known value same = known_value at.value at.has_bucket lost (λ (v : Bor (List ℕ)). Contains members (path, Value v.now)) value holds.value same
+
+  pub none_known : (why : Failure) → Err why ≡ value_or_why at.value at.has_bucket lost
+      → ((value : List ℕ) → Contains members (path, Value value) → ⊥) × (why ≡ no_value path members lost)
+  none_known why same =
+      let (none, is) = known_none at.value at.has_bucket lost _ why holds.none same in
+      (none, rw holds.bucket at is)
+
+pub value_put : {S A : Type 0} {sink : Ghosts S} {old new : S} (job : GetJob) (listing : List Member) (lost : LostView) (value : List ℕ)
+    → Contains listing (path_in job.path.items, Value value) → (put : Result A ReportFault) → Wrote sink old new (value_shown job value) (report_ending put)
+    → IfErr put (λ e. (e ≡ report.Sink) ⊎ ((e ≡ report.NoMemory) × (job.form ≡ Json)))
+    → PrintsAnswer sink old new (IsRecoveredValue job listing lost) (end_of put (lost_ending lost))
+value_put job listing lost value holds put wrote fault =
+    answer_as (text_put (job.form ≡ Json) (value_shown job value) (lost_ending lost) put wrote fault) (λ answer shown. inl (value, holds, shown))

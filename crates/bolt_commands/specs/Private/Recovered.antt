@@ -1,0 +1,23 @@
+-- What the functions of `buckets`, `keys` and `get` with `--recover` promise.
+use Rattle.std.specs.Prelude.{◌≡◌, Contains, IfSome, List, ℕ, Bool, Option, Some, None, Result, Ok, Err, if◌then◌else◌}
+use Rattle.std.specs.Borrow.{Bor}
+use Rattle.std.specs.Option.{IfNone}
+use Rattle.bolt_recover.specs.Losses.{LostView}
+use Rattle.bolt_tree.specs.{Entries.Value, Listing.Member, ListingParts.has_bucket, Paths.Path}
+use Rattle.bolt_commands.specs.Answers.{Ending, lost_ending, no_bucket, no_key, parents_of}
+use Rattle.bolt_commands.specs.declared.{failure.Failure.Failure, recovered_commands.AtPath.AtPath}
+
+-- how a job ends that put what is recovered of a bucket, if that was found
+abbrev pub bucket_ending : (found : Bool) → LostView → Ending
+bucket_ending found lost = if found then lost_ending lost else Err (no_bucket lost)
+
+-- what these members hold at a path
+pub record HoldsNow (members : List Member) (path : Path) (at : AtPath) : Type 0 where
+  pub value : IfSome at.value (λ value. Contains members (path, Value value.now))
+  pub none : IfNone at.value ((value : List ℕ) → Contains members (path, Value value) → ⊥)
+  pub bucket : at.has_bucket ≡ has_bucket (parents_of path) members
+
+-- the value, or why there is none
+abbrev pub value_or_why : (value : Option (Bor (List ℕ))) (has_bucket : Bool) → LostView → Result (Bor (List ℕ)) Failure
+value_or_why (Some value) has_bucket lost = Ok value
+value_or_why None has_bucket lost = Err (if has_bucket then no_key lost else no_bucket lost)

@@ -1,0 +1,149 @@
+//! `buckets`, `keys` and `get` with `--recover`: what they print of what is recovered of a damaged file.
+ghost use Rattle.std.specs.Prelude.{◌≡◌, ℕ, IfOk, IfSome, List, OnOk, map};
+ghost use Rattle.std.specs.Option.{IfNone};
+ghost use Rattle.bolt_recover.specs.ShownLosses.{loss_view};
+ghost use Rattle.bolt_recover.specs.Losses.{parts};
+ghost use Rattle.bolt_report.specs.MemberNames.{is_wanted};
+ghost use Rattle.bolt_tree.specs.{Entries.Value, Listing.Member, Paths.path_of, ShownEntries.item_view};
+ghost use Rattle.bolt_job.specs.PlainWords.{path_in};
+ghost use Rattle.bolt_commands.specs.Answers.{IsNamesAnswer, IsRecoveredAnswer, IsRecoveredValue, no_bucket, no_key, parents_of};
+ghost use Rattle.bolt_commands.specs.Private.Printing.{PrintsAnswer};
+ghost use Rattle.bolt_commands.specs.Private.Recovered.{HoldsNow, bucket_ending, value_or_why};
+
+use crate::failure::{Failure, Outcome};
+use crate::list_command::{end_listing, slices};
+use crate::opening::Input;
+use crate::printing_commands::put_value;
+use bolt_check::NoMemory;
+use bolt_format::Sink;
+use bolt_job::{GetJob, MetaChoice};
+use bolt_recover::{Loss, Lost};
+use bolt_report::{Form, Names, NamesIn, is_bucket_at, list_members_names};
+use bolt_tree::{Item, Members};
+
+/// Which names are printed of what is recovered.
+#[derive(Clone, Copy)]
+pub(crate) struct RecoveredNames<'j> {
+    pub meta: MetaChoice,
+    /// The path of the bucket.
+    pub path: &'j [Vec<u8>],
+    pub names: Names<'j>,
+    pub form: Form,
+}
+
+/// Writes names of entries of the bucket at a path, as they are recovered.
+pub(crate) fn print_recovered_names<O: Sink>(
+    input: Input<'_>,
+    asked: RecoveredNames<'_>,
+    out: &mut O,
+) -> Outcome
+    ensures { PrintsAnswer O.Sink out.old out.new (IsRecoveredAnswer input.entry.file.now asked.entry.meta
+        (IsNamesAnswer asked.entry.form (is_wanted asked.entry.names) (path_in asked.entry.path.now))) result }
+{
+    let mut recovery = input.recover(asked.meta)?;
+    let path = slices(input.alloc, asked.path)?;
+    let wanted = NamesIn {
+        bucket: path.as_slice(),
+        names: asked.names,
+    };
+    let found = list_members_names(input.alloc, &mut recovery, wanted, asked.form, out)?;
+    end_names(found, recovery.losses())
+}
+
+/// How a job ends that put what is recovered of a bucket, if it was found.
+fn end_names(found: bool, losses: &[Loss<'_>]) -> Outcome
+    ensures { result ≡ bucket_ending found (parts (map loss_view losses.now)) }
+{
+    if found {
+        end_listing(Lost::Parts(losses))
+    } else {
+        Err(no_bucket(losses))
+    }
+}
+
+/// Why no bucket is recovered at a path.
+fn no_bucket(losses: &[Loss<'_>]) -> Failure
+    ensures { result ≡ no_bucket (parts (map loss_view losses.now)) }
+{
+    match losses {
+        [] => Failure::NoBucket,
+        losses => Failure::BucketMaybeLost(losses.len() as u64),
+    }
+}
+
+/// Why no value is recovered at a path.
+fn no_key(losses: &[Loss<'_>]) -> Failure
+    ensures { result ≡ no_key (parts (map loss_view losses.now)) }
+{
+    match losses {
+        [] => Failure::NoKey,
+        losses => Failure::KeyMaybeLost(losses.len() as u64),
+    }
+}
+
+/// Writes the value at a path, as it is recovered, and a line feed unless none is wanted.
+pub(crate) fn print_recovered_value<O: Sink>(input: Input<'_>, job: &GetJob, out: &mut O) -> Outcome
+    ensures { PrintsAnswer O.Sink out.old out.new (IsRecoveredAnswer input.entry.file.now job.now.meta (IsRecoveredValue job.now)) result }
+{
+    let mut recovery = input.recover(job.meta)?;
+    let path = slices(input.alloc, job.path.as_slice())?;
+    let at = look_up(&mut recovery, path.as_slice())?;
+    let value = at.value_or_why(recovery.losses())?;
+    put_value(input.alloc, value, job, out)?;
+    end_listing(Lost::Parts(recovery.losses()))
+}
+
+/// What members hold at a path.
+#[derive(Clone, Copy)]
+struct AtPath<'a> {
+    /// The value, if there is one.
+    value: Option<&'a [u8]>,
+    /// Whether the bucket is there that it would be in.
+    has_bucket: bool,
+}
+
+impl<'a> AtPath<'a> {
+    /// The value, or why there is none, if this is lost.
+    fn value_or_why(self, losses: &[Loss<'_>]) -> Result<&'a [u8], Failure>
+        ensures { result ≡ value_or_why self.entry.value self.entry.has_bucket (parts (map loss_view losses.now)) }
+    {
+        match self.value {
+            Some(value) => Ok(value),
+            None if self.has_bucket => Err(no_key(losses)),
+            None => Err(no_bucket(losses)),
+        }
+    }
+}
+
+/// What the members that are left hold at a path. All are returned.
+fn look_up<'a, M: Members<'a>>(members: &mut M, path: &[&[u8]]) -> Result<AtPath<'a>, NoMemory>
+    ensures held { IfOk result (λ at. (listing : List Member) → M.lists members.old listing → HoldsNow (M.left members.old listing) (path_of path.now) at) }
+    ensures end { OnOk result (M.ends_as members.old members.new) }
+{
+    let parents = parents_of(path);
+    let mut value = None;
+    let mut has_bucket = parents.is_empty();
+    'members: while let Some(item) = members.next()? {
+        has_bucket |= is_bucket_at(members.path(), &item, parents);
+        value = value_at(members.path(), &item, path).or(value);
+    }
+    Ok(AtPath { value, has_bucket })
+}
+
+/// All parts of a path but the last.
+fn parents_of<'p, 'a>(path: &'p [&'a [u8]]) -> &'p [&'a [u8]]
+    ensures { path_of result.now ≡ parents_of (path_of path.now) }
+{
+    &path[..path.len().saturating_sub(1)]
+}
+
+/// The value of a member, if it is one at this path.
+fn value_at<'a>(path: &[&[u8]], item: &Item<'a>, wanted: &[&[u8]]) -> Option<&'a [u8]>
+    ensures some { IfSome result (λ value. ◌≡◌ {A = Member} (path_of path.now, item_view item.now) (path_of wanted.now, Value value.now)) }
+    ensures none { IfNone result ((value : List ℕ) → ◌≡◌ {A = Member} (path_of path.now, item_view item.now) (path_of wanted.now, Value value) → ⊥) }
+{
+    match item {
+        Item::Value(value) if path == wanted => Some(value),
+        _ => None,
+    }
+}

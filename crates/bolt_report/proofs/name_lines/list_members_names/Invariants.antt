@@ -1,0 +1,24 @@
+use Rattle.std.proofs.Common.{◌≡◌, ◌↔◌, ◌||◌, List}
+use Rattle.bolt_report.proofs.Words.{is_bucket_at, list_any, Member, member_cmp, path_of, Rises, WroteFront}
+use Rattle.bolt_report.proofs.NameTexts.{left_names}
+use Rattle.bolt_report.specs.MemberNames.{is_wanted, names_text}
+use Rattle.bolt_tree.specs.ListingParts.{has_bucket}
+use Rattle.bolt_report.proofs.name_lines.list_members_names.Given as goal
+
+-- of the names in what was left, those in what is left are still to be written; the bucket was there if it was found or is left
+abbrev pub invariant-members : goal.invariant-members
+invariant-members g l = record {
+  form : l.items.form ≡ l.fn.form;
+  same : (listing : List Member) → g.M.Members.lists l.members listing ↔ g.M.Members.lists l.initial.members listing;
+  end : (end : g.row.M.Denot) → g.M.Members.ends_as l.members end → g.M.Members.ends_as l.initial.members end;
+  has : (listing : List Member) → g.M.Members.lists l.initial.members listing
+      → has_bucket (path_of l.asked.bucket.now) (g.M.Members.left l.initial.members listing)
+      ≡ (l.found || list_any (is_bucket_at (path_of l.asked.bucket.now)) (g.M.Members.left l.members listing));
+  rises : (listing : List Member) → g.M.Members.lists l.initial.members listing → Rises member_cmp (g.M.Members.left l.initial.members listing) → Rises member_cmp (g.M.Members.left l.members listing);
+  put : (listing : List Member) → g.M.Members.lists l.initial.members listing → Rises member_cmp (g.M.Members.left l.initial.members listing) → WroteFront g.S.Sink l.initial.sink l.sink
+      (names_text l.fn.form (is_wanted l.asked.names) (path_of l.asked.bucket.now) (g.M.Members.left l.initial.members listing))
+      (left_names l.fn.form (is_wanted l.asked.names) (path_of l.asked.bucket.now) l.found (g.M.Members.left l.members listing));
+}
+
+abbrev pub decreases-members : goal.decreases-members
+decreases-members g l = g.M.Members.work_left l.members
