@@ -83,6 +83,10 @@ class Command:
         words = MAY_BEGIN.get(self.name, ())
         return words is None or any(word in self.words for word in words)
 
+    def reads_on(self):
+        """Whether all that is recovered is read after the text, so that losses are counted."""
+        return self.name in ("buckets", "keys", "get") and "--recover" in self.words
+
     def outcome(self, full, result):
         """How a run with a refusal ended, or nothing if it ended in no documented way."""
         status, out, err, copy = result
@@ -91,8 +95,9 @@ class Command:
         if self.call == "write" and (status, out, copy) == (full[0], full[1], full[3]):
             return PART_OF_LINE if full[2].startswith(err) else None
         may_begin = self.may_begin() if self.call == "memory" else self.call == "write"
-        # If a fault follows the whole text, a call may be refused between the two.
-        is_part = full[1].startswith(out) and (out != full[1] or full[2] != b"")
+        # If a fault follows the whole text, or the program reads on after it, a call may be refused between the two.
+        goes_on = full[2] != b"" or self.reads_on()
+        is_part = full[1].startswith(out) and (out != full[1] or goes_on)
         is_begun = out == b"" or (may_begin and is_part)
         is_taken = copy is None or full[3].startswith(copy)
         return self.lines.get(err) if status == 1 and is_begun and is_taken else None
