@@ -168,13 +168,13 @@ HoldsNone file path meta reason =
     ⊎ ((reason ≡ failure.NoBucket) × ((bucket : Start) → LeadsTo file meta (parents_of path) bucket → ⊥))
 
 -- how a value is printed: with a line feed or without one
-abbrev pub value_shown : GetJob → List ℕ → List ℕ
-value_shown job value = if job.no_newline then item_text job.form value else value_text job.form value
+abbrev pub value_shown : Form → (no_newline : Bool) → List ℕ → List ℕ
+value_shown form no_newline value = if no_newline then item_text form value else value_text form value
 
 -- the value that the path holds; or why it holds none
 abbrev pub IsGetAnswer : List ℕ → GetJob → Meta → Answer → Type 0
 IsGetAnswer file job meta answer =
-    ((value : List ℕ) × HoldsIn file meta (path_in job.path.items) (Value value) × IsShownText job.form (value_shown job value) answer)
+    ((value : List ℕ) × HoldsIn file meta (path_in job.path.items) (Value value) × IsShownText job.form (value_shown job.form job.no_newline value) answer)
     ⊎ ((reason : Failure) × HoldsNone file (path_in job.path.items) meta reason × (answer ≡ refused reason))
 
 -- The sizes of the buckets in the bucket that the path leads to, or memory ran out, and a prefix of the text was written; or the path leads to
@@ -433,7 +433,7 @@ no_value path listing lost = if has_bucket (parents_of path) listing then no_key
 abbrev pub IsRecoveredValue : GetJob → List Member → LostView → Answer → Type 0
 IsRecoveredValue job listing lost answer =
     let path = path_in job.path.items in
-    ((value : List ℕ) × Contains listing (path, Value value) × IsShownAndEnded job.form (value_shown job value) (lost_ending lost) answer)
+    ((value : List ℕ) × Contains listing (path, Value value) × IsShownAndEnded job.form (value_shown job.form job.no_newline value) (lost_ending lost) answer)
     ⊎ (((value : List ℕ) → Contains listing (path, Value value) → ⊥) × (answer ≡ refused (no_value path listing lost)))
 
 -- From its state `old` to `new` standard output accepted the text of the answer without a failure, and the job ends so; or it failed,
@@ -487,31 +487,31 @@ copy_report hash lost found source copy =
 
 -- ---- what a command prints for its job
 
--- the names of the buckets, their sizes, or the names of those that are recovered
-abbrev pub IsBucketsShown : BucketsShown → BucketsJob → List ℕ → Answer → Type 0
-IsBucketsShown shown.Names job file answer = IsReadAnswer file job.meta (IsEntriesAnswer file (path_in job.path.items) job.form (buckets_text job.form)) answer
-IsBucketsShown shown.Sizes job file answer = IsReadAnswer file job.meta (IsSizesAnswer file (path_in job.path.items) job.form) answer
-IsBucketsShown shown.Recovered job file answer = IsRecoveredAnswer file job.meta (IsNamesAnswer job.form names_bucket (path_in job.path.items)) answer
+-- the names of the buckets, their sizes, or the names of those that are recovered, of a file under a meta
+abbrev pub IsBucketsShown : BucketsShown → List ℕ → MetaChoice → BucketsJob → Answer → Type 0
+IsBucketsShown shown.Names file choice job answer = IsReadAnswer file choice (IsEntriesAnswer file (path_in job.path.items) job.form (buckets_text job.form)) answer
+IsBucketsShown shown.Sizes file choice job answer = IsReadAnswer file choice (IsSizesAnswer file (path_in job.path.items) job.form) answer
+IsBucketsShown shown.Recovered file choice job answer = IsRecoveredAnswer file choice (IsNamesAnswer job.form names_bucket (path_in job.path.items)) answer
 
 abbrev pub IsBucketsPrint : BucketsJob → List ℕ → Answer → Type 0
-IsBucketsPrint job file answer = IsBucketsShown job.shown job file answer
+IsBucketsPrint job file answer = IsBucketsShown job.shown file job.meta job answer
 
 -- the keys, or those that are recovered
-abbrev pub IsKeysShown : (recover : Bool) → KeysJob → List ℕ → Answer → Type 0
-IsKeysShown false job file answer =
-    IsReadAnswer file job.meta (IsEntriesAnswer file (path_in job.path.items) job.form (λ entries. keys_text job.form (with_prefix job.prefix.items entries))) answer
-IsKeysShown true job file answer = IsRecoveredAnswer file job.meta (IsNamesAnswer job.form (begins_so job.prefix.items) (path_in job.path.items)) answer
+abbrev pub IsKeysShown : (recover : Bool) → List ℕ → MetaChoice → KeysJob → Answer → Type 0
+IsKeysShown false file choice job answer =
+    IsReadAnswer file choice (IsEntriesAnswer file (path_in job.path.items) job.form (λ entries. keys_text job.form (with_prefix job.prefix.items entries))) answer
+IsKeysShown true file choice job answer = IsRecoveredAnswer file choice (IsNamesAnswer job.form (begins_so job.prefix.items) (path_in job.path.items)) answer
 
 abbrev pub IsKeysPrint : KeysJob → List ℕ → Answer → Type 0
-IsKeysPrint job file answer = IsKeysShown job.recover job file answer
+IsKeysPrint job file answer = IsKeysShown job.recover file job.meta job answer
 
 -- the value, or that which is recovered
-abbrev pub IsValueShown : (recover : Bool) → GetJob → List ℕ → Answer → Type 0
-IsValueShown false job file answer = IsReadAnswer file job.meta (IsGetAnswer file job) answer
-IsValueShown true job file answer = IsRecoveredAnswer file job.meta (IsRecoveredValue job) answer
+abbrev pub IsValueShown : (recover : Bool) → List ℕ → MetaChoice → GetJob → Answer → Type 0
+IsValueShown false file choice job answer = IsReadAnswer file choice (IsGetAnswer file job) answer
+IsValueShown true file choice job answer = IsRecoveredAnswer file choice (IsRecoveredValue job) answer
 
 abbrev pub IsGetPrint : GetJob → List ℕ → Answer → Type 0
-IsGetPrint job file answer = IsValueShown job.recover job file answer
+IsGetPrint job file answer = IsValueShown job.recover file job.meta job answer
 
 abbrev pub IsStatsPrint : StatsJob → List ℕ → Answer → Type 0
 IsStatsPrint job file answer = IsReadAnswer file job.meta (IsStatsAnswer file (path_in job.path.items) job.form) answer
@@ -573,13 +573,10 @@ IsCurrentText job entries answer =
     (current : List RevisionView) × AreCurrent (until (up_to job.at) (revisions entries)) current
     × IsEndedOrCut (revision_lines job.form job.values (named job.prefix.items current)) (entries_ending entries) answer
 
--- a value, if there is one, with a line feed or without one
-abbrev pub held_text : EtcdGetJob → List ℕ → List ℕ
-held_text job value = if job.no_newline then item_text job.form value else value_text job.form value
-
+-- a value, if there is one
 abbrev pub IsValueText : EtcdGetJob → Ending → Option (List ℕ) → Answer → Type 0
 IsValueText job ending None answer = answer ≡ refused failure.NoKey
-IsValueText job ending (Some value) answer = IsShownAndEnded job.form (held_text job value) ending answer
+IsValueText job ending (Some value) answer = IsShownAndEnded job.form (value_shown job.form job.no_newline value) ending answer
 
 -- what a key held at a transaction
 abbrev pub IsHeldText : EtcdGetJob → List LeafElement → Answer → Type 0

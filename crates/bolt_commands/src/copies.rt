@@ -38,7 +38,8 @@ pub(crate) fn copy_members<C: CopySource, T: Sink>(
 ) -> Result<u64, BulkFault>
     requires { IsWhole C.lists C.left source.old }
     ensures copied { (listing : List Member) → C.lists source.old listing
-        → CopiesTo T.Sink target.old target.new (blueprint_layout blueprint.now listing) listing (is_snapshot kind) result }
+        → CopiesTo T.Sink target.old target.new (blueprint_layout blueprint.now listing) listing
+        (is_snapshot kind) result }
     ensures end { OnOk result (C.ends_as source.old source.new) }
 {
     sources_have_good_copies(source, blueprint.sequence);
@@ -55,7 +56,8 @@ fn copy_all<C: CopySource, T: Sink>(
 ) -> Result<u64, BulkFault>
     requires { IsWhole C.lists C.left source.old }
     ensures copied { (listing : List Member) → C.lists source.old listing
-        → EndsCopy T.taken T.failed target.old target.new (blueprint_layout blueprint.now listing) snapshot result }
+        → EndsCopy T.taken T.failed target.old target.new
+        (blueprint_layout blueprint.now listing) snapshot result }
     ensures end { OnOk result (C.ends_as source.old source.new) }
 {
     if !snapshot {
@@ -89,9 +91,11 @@ fn hash_all<'a, K: Origin, T: Sink, C: CopySource>(
     requires start { T.taken target.old ≡ K.start }
     ensures same { result.target.ghost_name ≡ target.entry.ghost_name }
     ensures copied { (listing : List Member) → C.lists source.old listing
-        → Copies T.taken T.failed target.old result.target.now (blueprint_layout blueprint.now listing) result.result }
+        → Copies T.taken T.failed target.old result.target.now
+        (blueprint_layout blueprint.now listing) result.result }
     ensures end { OnOk result.result (C.ends_as source.old source.new) }
-    ensures hashed { T.failed result.target.now ≡ 0 → ∥ HashesSince (T.taken target.old) (T.taken result.target.now) result.hash ∥₁ }
+    ensures hashed { T.failed result.target.now ≡ 0
+        → ∥ HashesSince (T.taken target.old) (T.taken result.target.now) result.hash ∥₁ }
 {
     let mut hashing: Hashing<'a, T, K> = Hashing {
         target,
@@ -114,7 +118,8 @@ fn hash_all<'a, K: Origin, T: Sink, C: CopySource>(
 /// Writes the hash of a layout after it, if the layout is whole. Returns the length of both.
 fn put_hash<T: Sink>(copied: Copied, hash: Sha256, target: &mut T) -> Result<u64, BulkFault>
     ensures whole { OnOk result (IsOk copied) }
-    ensures copied { (begun : T) (layout : List ℕ) → Copies T.taken T.failed begun target.old layout copied
+    ensures copied { (begun : T) (layout : List ℕ)
+        → Copies T.taken T.failed begun target.old layout copied
         → (T.failed target.old ≡ 0 → ∥ HashesSince (T.taken begun) (T.taken target.old) hash ∥₁)
         → EndsCopy T.taken T.failed begun target.new layout true result }
 {

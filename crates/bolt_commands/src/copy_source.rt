@@ -38,7 +38,8 @@ pub(crate) trait CopySource {
     fn copy<S: Sink>(&mut self, alloc: Global, blueprint: &Blueprint, sink: &mut S) -> Copied
         requires { IsWhole lists left self.old }
         ensures copied { (listing : List Member) → lists self.old listing
-            → Copies S.taken S.failed sink.old sink.new (blueprint_layout blueprint.now listing) result }
+            → Copies S.taken S.failed sink.old sink.new
+            (blueprint_layout blueprint.now listing) result }
         ensures end { OnOk result (ends_as self.old self.new) };
 }
 
@@ -94,7 +95,8 @@ impl CopySource for LineMembers<'_> {
 /// value that the body reads: so it reads the sequence, and does nothing else.
 pub(crate) fn sources_have_good_copies<C: CopySource>(_source: &C, sequence: u64)
     requires { IsWhole C.lists C.left _source.now }
-    ensures { (listing : List Member) → C.lists _source.now listing → ∥ HasGoodCopies listing sequence ∥₁ }
+    ensures { (listing : List Member) → C.lists _source.now listing
+        → ∥ HasGoodCopies listing sequence ∥₁ }
 {
     let _ = sequence;
     whole_copies_are_good();

@@ -26,7 +26,8 @@ use std::alloc::Global;
 /// Writes a part of the listing: that of a sound file, of what is recovered of a damaged one, or of that
 /// joined with what is found of it.
 pub(crate) fn print_list<O: Sink>(input: Input<'_>, job: &ListJob, out: &mut O) -> Outcome
-    ensures { PrintsAnswer O.Sink out.old out.new (IsListPrint job.now input.entry.file.now) result }
+    ensures { PrintsAnswer O.Sink out.old out.new
+        (IsListPrint job.now input.entry.file.now) result }
 {
     each_file_has_found_pages();
     let mut opened = input.open(job.meta, job.extent)?;
@@ -105,7 +106,8 @@ fn put_whole_part<O: Sink>(
     job: &ListJob,
     out: &mut O,
 ) -> Result<(), ReportFault>
-    ensures written { ForListing checked.entry (λ listing. Wrote O.Sink out.old out.new (sound_part job.now listing) (report_ending result)) }
+    ensures written { ForListing checked.entry (λ listing.
+        Wrote O.Sink out.old out.new (sound_part job.now listing) (report_ending result)) }
     ensures fault { MayFail result }
 {
     let path = slices(alloc, job.path.as_slice())?;
@@ -127,9 +129,12 @@ fn put_members_part<'a, M: Members<'a>, O: Sink>(
     job: &ListJob,
     out: &mut O,
 ) -> Result<bool, ReportFault>
-    ensures written { (listing : List Member) → M.lists members.old listing → Rises member_cmp (M.left members.old listing)
-        → Wrote O.Sink out.old out.new (job_part job.now (M.left members.old listing)) (report_ending result) }
-    ensures found { IfOk result (λ found. (listing : List Member) → M.lists members.old listing → found ≡ finds job.now (M.left members.old listing)) }
+    ensures written { (listing : List Member) → M.lists members.old listing
+        → Rises member_cmp (M.left members.old listing)
+        → Wrote O.Sink out.old out.new (job_part job.now (M.left members.old listing))
+        (report_ending result) }
+    ensures found { IfOk result (λ found. (listing : List Member) → M.lists members.old listing
+        → found ≡ finds job.now (M.left members.old listing)) }
     ensures end { OnOk result (M.ends_as members.old members.new) }
     ensures fault { MayFail result }
 {

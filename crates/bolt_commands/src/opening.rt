@@ -40,7 +40,8 @@ impl<'f> Input<'f> {
     /// meta, its accounts too.
     pub(crate) fn check(self, choice: MetaChoice) -> Result<Checked<'f>, CheckFault>
         ensures bytes { IfOk result (λ checked. bytes_of checked ≡ self.entry.file.now) }
-        ensures sound { IfOk result (λ checked. IsReadUnder self.entry.file.now choice (meta_of checked)) }
+        ensures sound { IfOk result (λ checked.
+            IsReadUnder self.entry.file.now choice (meta_of checked)) }
         ensures refused { IfErr result (IsRefusedUnder self.entry.file.now choice) }
     {
         if let MetaChoice::Active = choice {
@@ -53,7 +54,8 @@ impl<'f> Input<'f> {
     /// The same, with the failure that is reported if the file is refused.
     pub(crate) fn read(self, choice: MetaChoice) -> Result<Checked<'f>, Failure>
         ensures bytes { IfOk result (λ checked. bytes_of checked ≡ self.entry.file.now) }
-        ensures sound { IfOk result (λ checked. IsReadUnder self.entry.file.now choice (meta_of checked)) }
+        ensures sound { IfOk result (λ checked.
+            IsReadUnder self.entry.file.now choice (meta_of checked)) }
         ensures refused { IfErr result (IsUnread self.entry.file.now choice) }
     {
         let checked = self.check(choice)?;
@@ -77,9 +79,11 @@ impl<'f> Input<'f> {
     /// `Open` if the file has no such meta, and what `Recovery::under` returns.
     pub(crate) fn recover(self, choice: MetaChoice) -> Result<Recovery<'f>, CheckFault>
         ensures file { IfOk result (λ recovery. recovery_file recovery ≡ self.entry.file.now) }
-        ensures meta { IfOk result (λ recovery. IsRecoveredUnder self.entry.file.now choice (recovery_meta recovery)) }
+        ensures meta { IfOk result (λ recovery.
+            IsRecoveredUnder self.entry.file.now choice (recovery_meta recovery)) }
         ensures all { IfOk result (λ recovery.
-            ForRecovered self.entry.file.now (recovery_meta recovery) (λ listing. recovery_left recovery listing ≡ listing)) }
+            ForRecovered self.entry.file.now (recovery_meta recovery) (λ listing.
+            recovery_left recovery listing ≡ listing)) }
         ensures refused { IfErr result (IsUnrecoverableUnder self.entry.file.now choice) }
     {
         let meta = choice.find(self.file)?;
@@ -115,9 +119,12 @@ pub(crate) fn join<'a>(
 /// The bucket at a path, from the root bucket down. The empty path is the root bucket's.
 pub(crate) fn open_bucket<'a>(checked: Checked<'a>, path: &[Vec<u8>]) -> Result<Bucket<'a>, Failure>
     ensures file { IfOk result (λ bucket. bucket_checked bucket ≡ checked.entry) }
-    ensures named { IfOk result (λ bucket. ∥ LeadsTo (bytes_of checked.entry) (meta_of checked.entry) (path_in path.now) (bucket_start bucket) ∥₁) }
+    ensures named { IfOk result (λ bucket.
+        ∥ LeadsTo (bytes_of checked.entry) (meta_of checked.entry) (path_in path.now)
+        (bucket_start bucket) ∥₁) }
     ensures refused { IfErr result (λ failure. (failure ≡ NoBucket)
-        × ((bucket : Start) → LeadsTo (bytes_of checked.entry) (meta_of checked.entry) (path_in path.now) bucket → ⊥)) }
+        × ((bucket : Start) → LeadsTo (bytes_of checked.entry) (meta_of checked.entry)
+        (path_in path.now) bucket → ⊥)) }
 {
     let mut bucket = Bucket::root(checked);
     for part in path {
