@@ -116,9 +116,9 @@ pub fn a_fit_listing_is_of_one_tree()
 
 /// The listing of a file with sound trees is that of one tree, which can be stored.
 pub fn a_files_listing_is_of_one_tree()
-    ensures { (file : List ℕ) (meta : Meta) (listing : List Member) → IsBytes file
+    ensures { (file : List ℕ) (meta : Meta) (all : List Member) → IsBytes file
         → HasSoundTrees file meta
-        → IsListing file meta listing → IsOfOneTree listing }
+        → IsListing file meta all → IsOfOneTree all }
 {
     listing_is_of_a_tree();
     a_fit_listing_is_of_one_tree();
