@@ -1,12 +1,11 @@
 //! The steps of a recovering walk: one loop over the open pages of the current way.
-ghost use Rattle.std.specs.Prelude.{◌≡◌, ◌≤◌, ◌<◌, ◌↔◌, ◌∷◌, ◌++◌, ℕ, [], true, None, IfOk, IfErr, IfSome, IsTrue, OnErr, OnOk, length, map, take, vec_capacity, vec_len};
+ghost use Rattle.std.specs.Prelude.{◌≡◌, ◌≤◌, ◌<◌, ◌↔◌, ◌∷◌, ◌++◌, ℕ, [], true, None, IfOk, IfErr, IfSome, IsTrue, OnErr, OnOk, length, map, vec_capacity, vec_len};
 ghost use Rattle.std.specs.Option.{option_map};
 ghost use Rattle.bolt_check.specs.{Claims.claims_file, Claims.claims_meta, Claims.claims_visited, Claims.is_claimed, Counts.counted, Findings.IsMetaPage};
-ghost use Rattle.bolt_check.specs.ShownSpots.{spot_at};
 ghost use Rattle.bolt_check.specs.declared.spot.Spot.TheVariants as spots;
 ghost use Rattle.bolt_format.specs.Elements.{IsBucketValue};
 ghost use Rattle.bolt_recover.specs.Private.Frames.{Advances, GoesOn, IsAllLeft, IsPlaced, Takes, TakesBucket, loss_ahead, steps_path};
-ghost use Rattle.bolt_recover.specs.{Losses.loss_on, Refusals.IsRefusedRoot, Refusals.KeepsRoot, ShownLosses.loss_view};
+ghost use Rattle.bolt_recover.specs.{Refusals.IsRefusedRoot, Refusals.KeepsRoot, ShownLosses.loss_view};
 
 use crate::content::{KeptPage, OpenPage};
 use crate::losses::Loss;

@@ -40,6 +40,7 @@ abbrev pub known_ids : Option (List ℕ) → List ℕ
 known_ids (Some ids) = ids
 known_ids None = []
 
+-- the same of the ids as the code has them
 abbrev pub read_ids : Option FreeIds → List ℕ
 read_ids ids = known_ids (option_map shown_ids ids)
 
