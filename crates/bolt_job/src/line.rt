@@ -195,8 +195,8 @@ impl Line<'_, '_> {
 
     /// The page size of a copy. Without one it is that of the file.
     pub(crate) fn page_size(&self) -> Result<Option<PageSize>, Refusal>
-        ensures { Gives size_in (page_size_by
-            (first_of (values_of self.now (codes "page-size")))) result }
+        ensures { Gives size_in
+            (page_size_by (first_of (values_of self.now (codes "page-size")))) result }
     {
         let Some(word) = self.choice("page-size") else {
             return Ok(None);
