@@ -1,8 +1,9 @@
 -- A page of the code as a node.
-use Rattle.std.specs.Prelude.{Bool, true, false, List, map}
+use Rattle.std.specs.Prelude.{◌≡◌, ℕ, Bool, true, false, List, map, Err}
 use Rattle.bolt_format.specs.{TreePages.branches_on, TreePages.leaves_on, TreePages.shown_page, declared.tree_page.TreePage.TreePage}
 use Rattle.bolt_format.specs.declared.tree_page.TreePage.TheVariants.{Branch, Leaf}
-use Rattle.bolt_check.specs.{Nodes.Entry, Nodes.Node, Nodes.branch_entry, Nodes.leaf_entry}
+use Rattle.bolt_format.specs.declared.page_fault.PageFault.{PageFault}
+use Rattle.bolt_check.specs.{Nodes.Entry, Nodes.Node, Nodes.Nodes, Nodes.branch_entry, Nodes.leaf_entry}
 
 abbrev pub is_leaf_page : TreePage → Bool
 is_leaf_page (Branch page) = false
@@ -18,3 +19,7 @@ shown_node page = record {
   overflow = (shown_page page).overflow;
   entries = entries_on page;
 }
+
+-- why page n is no node
+abbrev pub IsFaultAt : Nodes → ℕ → PageFault → Type 0
+IsFaultAt nodes n fault = (nodes n ≡ Err fault.number) × (fault.page ≡ n)
