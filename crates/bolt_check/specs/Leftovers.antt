@@ -18,13 +18,14 @@ leftovers_nodes leftovers = node_at (leftovers_file leftovers) (leftovers_meta l
 unfoldable pub leftovers_length : Leftovers → ℕ
 leftovers_length leftovers = length leftovers.table.items
 
--- whether page n is claimed, and whether it is noted as listed
+-- whether page n is claimed
 unfoldable pub is_taken : Leftovers → ℕ → Bool
 is_taken leftovers n = is_used (use_at leftovers.table.items n)
 
 abbrev pub HasTaken : Leftovers → ℕ → Type 0
 HasTaken leftovers n = is_taken leftovers n ≡ true
 
+-- whether it is noted as listed
 unfoldable pub is_listed : Leftovers → ℕ → Bool
 is_listed leftovers n = not (times_of (use_at leftovers.table.items n) == 0)
 

@@ -1,10 +1,9 @@
 //! Does the freelist have exactly the free pages? (docs/SOUND.md, "Accounts").
 ghost use Rattle.std.specs.Prelude.{◌≡◌, ◌≢◌, ◌≤◌, ◌<◌, ◌+◌, ◌∷◌, ℕ, [], IfOk, IfSome, MatchOption, None, OnOk, length};
 ghost use Rattle.bolt_format.specs.{Freelists.freelist_fault_of, declared.meta.TheConstants.NO_FREELIST, ShownIds.shown_ids};
-ghost use Rattle.bolt_check.specs.{AccountFindings.AreAccountFindings, Accounts.HasAccounts, Accounts.times_in};
-ghost use Rattle.bolt_check.specs.Private.Freelists.{AreAllFindings, ClaimsFreelist, ClaimsUses, IsUnlisted};
+ghost use Rattle.bolt_check.specs.{AccountFindings.AreAccountFindings, Accounts.HasAccounts, Accounts.IsLowestShared, Accounts.times_in};
+ghost use Rattle.bolt_check.specs.Private.Freelists.{AreAllFindings, ClaimsFreelist, ClaimsUses, IsUnlisted, KeepsUsed};
 ghost use Rattle.bolt_check.specs.Private.Tables.{HasRoom, IsClaimed, use_at};
-ghost use Rattle.bolt_check.specs.{Accounts.IsLowestShared, Private.Freelists.KeepsUsed};
 
 use crate::finding::Finding;
 use crate::freelist::{Freelist, list_ids};

@@ -2,8 +2,8 @@
 ghost use Rattle.std.specs.Prelude.{◌≡◌, ◌↔◌, ◌<◌, ◌≤◌, ◌^◌, ℕ, IfErr, IfOk, Ok, OnErr, OnOk, Some};
 ghost use Rattle.bolt_format.specs.{Bytes.IsBytes, Pages.page_at, TreePages.shown_page};
 ghost use Rattle.bolt_check.specs.{Counts.counted, Findings.IsMetaPage, Findings.PagePasses, Findings.PageTests, Private.Freelists.IsUnlisted};
-ghost use Rattle.bolt_check.specs.{Private.Tables.HasRoom, ShownNodes.shown_node, ShownSpots.page_spot, TableLengths.table_length, Ways.At_page};
-ghost use Rattle.bolt_check.specs.{Ways.AddsSpan};
+ghost use Rattle.bolt_check.specs.{Private.Tables.HasRoom, ShownNodes.shown_node, ShownSpots.page_spot, TableLengths.table_length};
+ghost use Rattle.bolt_check.specs.Ways.{AddsSpan, At_page};
 
 use crate::fault::NoMemory;
 use crate::finding::Finding;

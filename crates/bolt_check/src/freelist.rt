@@ -1,8 +1,8 @@
 //! What the freelist lists: the table of pages, and the ids after it.
 ghost use Rattle.std.specs.Prelude.{◌≡◌, ◌≢◌, ◌<◌, ◌+◌, ◌++◌, ◌∷◌, ℕ, [], IfOk, OnOk, filter, if◌then◌else◌, length, min, nat_le};
 ghost use Rattle.bolt_format.specs.ShownIds.{shown_ids};
-ghost use Rattle.bolt_check.specs.{Accounts.times_in, Private.Freelists.IsUnlisted, Private.Tables.is_used, Private.Tables.times_of, Private.Tables.use_at};
-ghost use Rattle.bolt_check.specs.{Private.Freelists.KeepsUsed, Private.Freelists.ListsId, Private.Freelists.ListsIds};
+ghost use Rattle.bolt_check.specs.{Accounts.times_in, Private.Tables.is_used, Private.Tables.times_of, Private.Tables.use_at};
+ghost use Rattle.bolt_check.specs.Private.Freelists.{IsUnlisted, KeepsUsed, ListsId, ListsIds};
 
 use crate::table::PageUse;
 use bolt_format::FreeIds;

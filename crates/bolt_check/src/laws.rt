@@ -4,10 +4,9 @@ ghost use Rattle.std.specs.Prelude.{◌≡◌, ◌≢◌, ◌↔◌, ◌<◌, �
 ghost use Rattle.bolt_format.specs.{Elements.BranchElement, Elements.LeafElement, Elements.head_root, Pages.PageView, Pages.page_at};
 ghost use Rattle.bolt_format.specs.declared.header.Kind.TheVariants as kind;
 ghost use Rattle.bolt_format.specs.declared.meta.Meta.{Meta};
-ghost use Rattle.bolt_check.specs.{Nodes.node_at, OnWays.IsOnWay, Roles.AreRoles, Roles.HasRole};
-ghost use Rattle.bolt_check.specs.{Sound.HasRightAccounts, Sound.HasSoundTrees, Sound.IsFirstFinding, Sound.PassesTests, Tours.IsTour};
-ghost use Rattle.bolt_check.specs.{Ways.At_page, Ways.Reach, Ways.reached, Ways.root_spot, declared.finding.Finding.Finding, declared.role_table.Role.Role};
-ghost use Rattle.bolt_check.specs.{OnWays.reach_of, Sound.AreFindingsOfAccounts};
+ghost use Rattle.bolt_check.specs.{Nodes.node_at, OnWays.IsOnWay, OnWays.reach_of, Roles.AreRoles, Roles.HasRole};
+ghost use Rattle.bolt_check.specs.Sound.{AreFindingsOfAccounts, HasRightAccounts, HasSoundTrees, IsFirstFinding, PassesTests};
+ghost use Rattle.bolt_check.specs.{Tours.IsTour, Ways.At_page, Ways.Reach, Ways.reached, Ways.root_spot, declared.finding.Finding.Finding, declared.role_table.Role.Role};
 
 /// No test of the trees fails, exactly if they are sound.
 #[tactic(auto, using(crate::proofs::Lawful::shape_passes, crate::proofs::Shaping::shape_of))]

@@ -4,11 +4,10 @@ ghost use Rattle.std.specs.Prelude.{◌≡◌, ◌↔◌, ◌≤◌, ◌<◌, �
 ghost use Rattle.bolt_format.specs.{Pages.page_at, TreePages.shown_page};
 ghost use Rattle.bolt_format.specs.declared.tree_page.TreePage.TheVariants as page;
 ghost use Rattle.bolt_check.specs.{Claims.claims_file, Claims.claims_meta, Claims.is_claimed, LoneLeaves.IsListedFree, LoneLeaves.IsLoneLeaf};
-ghost use Rattle.bolt_check.specs.{Nodes.Node, Nodes.node_at, Private.LeafTests.IsFilledLeaf, Private.Freelists.IsUnlisted};
+ghost use Rattle.bolt_check.specs.{Nodes.Node, Nodes.node_at, Private.LeafTests.IsFilledLeaf, Private.Freelists.IsUnlisted, Private.Freelists.KeepsUsed};
 ghost use Rattle.bolt_check.specs.Private.Pending.{ClaimsSpan};
 ghost use Rattle.bolt_check.specs.Private.Tables.{HasRoom, IsClaimed, IsUnclaimed, times_of, use_at};
-ghost use Rattle.bolt_check.specs.{ShownNodes.shown_node, Ways.At_page, Ways.root_spot};
-ghost use Rattle.bolt_check.specs.{Private.Freelists.KeepsUsed, Ways.AddsSpan};
+ghost use Rattle.bolt_check.specs.{ShownNodes.shown_node, Ways.AddsSpan, Ways.At_page, Ways.root_spot};
 
 use crate::claims::Claims;
 use crate::freelist::list_ids_within;

@@ -1,13 +1,11 @@
 //! The search of all ways, in order, for the first finding. It isn't recursive: what is nested deep
 //! needs memory for the spots that are pending, but no stack.
 ghost use Rattle.std.specs.Prelude.{◌≡◌, ◌<◌, ◌≤◌, ◌+◌, ◌*◌, ◌++◌, ◌∷◌, [], IfErr, IfOk, OnOk, Ok, length, vec_len};
-ghost use Rattle.bolt_check.specs.{Findings.IsMetaPage, Nodes.node_at};
-ghost use Rattle.bolt_check.specs.{Private.Freelists.IsUnlisted, Private.Pending.kids, Private.Pending.spots_of};
-ghost use Rattle.bolt_check.specs.{ShownSpots.page_spot, Private.SearchFaults.IsSearchFault, ShownNodes.shown_node};
+ghost use Rattle.bolt_check.specs.{Findings.IsMetaPage, Nodes.node_at, OnWays.reach_of, Private.Freelists.IsUnlisted, Sound.PassesTests};
+ghost use Rattle.bolt_check.specs.{Private.Pending.CarriesPending, Private.Pending.kids, Private.Pending.spots_of};
+ghost use Rattle.bolt_check.specs.{Private.RoleTables.ClaimsUsed, Private.RoleTables.NotesUses, Private.SearchFaults.IsPendingFault, Private.SearchFaults.IsSearchFault};
 ghost use Rattle.bolt_check.specs.{Private.Tables.HasRoom, Private.Tables.unclaimed, TableLengths.table_length};
-ghost use Rattle.bolt_check.specs.{Ways.At_page, Ways.root_spot};
-ghost use Rattle.bolt_check.specs.declared.table.PageUse.{PageUse};
-ghost use Rattle.bolt_check.specs.{OnWays.reach_of, Private.Pending.CarriesPending, Private.RoleTables.ClaimsUsed, Private.RoleTables.NotesUses, Private.SearchFaults.IsPendingFault, Sound.PassesTests};
+ghost use Rattle.bolt_check.specs.{ShownNodes.shown_node, ShownSpots.page_spot, Ways.At_page, Ways.root_spot};
 
 use crate::fault::CheckFault;
 use crate::spot::{PageSpot, Spot};

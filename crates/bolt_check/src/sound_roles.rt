@@ -1,9 +1,8 @@
 //! The roles of all pages of a sound file: the search runs again, and now finds nothing.
 ghost use Rattle.std.specs.Prelude.{◌≡◌, IfOk, true};
-ghost use Rattle.bolt_check.specs.{CheckedFiles.has_accounts, Private.Freelists.ClaimsUses, Private.RoleTables.AreUses};
-ghost use Rattle.bolt_check.specs.{Private.Tables.HasRoom};
-ghost use Rattle.bolt_check.specs.{RoledFiles.roles_checked, Sound.IsSound};
-ghost use Rattle.bolt_check.specs.{Private.RoleTables.ClaimsUsed, Private.RoleTables.NotesUses, Private.SearchFaults.is_memory};
+ghost use Rattle.bolt_check.specs.{CheckedFiles.has_accounts, Private.Freelists.ClaimsUses, RoledFiles.roles_checked, Sound.IsSound};
+ghost use Rattle.bolt_check.specs.Private.RoleTables.{AreUses, ClaimsUsed, NotesUses};
+ghost use Rattle.bolt_check.specs.{Private.SearchFaults.is_memory, Private.Tables.HasRoom};
 
 use crate::accounts::claim_freelist;
 use crate::checked::Checked;

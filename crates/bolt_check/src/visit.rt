@@ -1,13 +1,12 @@
 //! The visit of a page: it is opened as a node, which is a branch or a leaf; it is tested; and its
 //! span is claimed.
-ghost use Rattle.std.specs.Prelude.{◌≡◌, ◌==◌, ◌&&◌, not, length, ◌<◌, ◌≤◌, ℕ, IfErr, IfOk, MatchResult, Err, None, Ok, OnErr, OnOk, Some};
+ghost use Rattle.std.specs.Prelude.{◌≡◌, ◌==◌, ◌&&◌, not, length, ◌<◌, ◌≤◌, ℕ, IfErr, IfOk, MatchResult, None, Ok, OnErr, OnOk, Some};
 ghost use Rattle.std.specs.Result.{result_err};
 ghost use Rattle.bolt_format.specs.{Pages.IsInFile, Pages.page_at, TreePages.page_keys, TreePages.shown_page};
 ghost use Rattle.bolt_check.specs.{Findings.PagePasses, Findings.PageTests, Findings.node_finding, Keys.keys_order_fault, Nodes.node_at};
 ghost use Rattle.bolt_check.specs.{Private.Freelists.IsUnlisted, Private.Pending.ClaimsSpan, Private.Uses.use_of};
 ghost use Rattle.bolt_check.specs.Private.Tables.{HasRoom, IsClaimed, IsUnclaimed, unclaimed, use_at};
-ghost use Rattle.bolt_check.specs.{ShownNodes.shown_node, ShownSpots.bound_of, ShownSpots.page_spot, Ways.At_page};
-ghost use Rattle.bolt_check.specs.{ShownNodes.IsFaultAt};
+ghost use Rattle.bolt_check.specs.{ShownNodes.IsFaultAt, ShownNodes.shown_node, ShownSpots.bound_of, ShownSpots.page_spot, Ways.At_page};
 
 use crate::finding::Finding;
 use crate::keys::test_key;

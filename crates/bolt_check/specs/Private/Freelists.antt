@@ -1,5 +1,5 @@
 -- What the table and the ids past it list together, and what is reported of it up to a page.
-use Rattle.std.specs.Prelude.{◌≡◌, ◌≤◌, ◌<◌, ◌==◌, ◌⊎◌, min, ◌&&◌, ℕ, suc, ◌+◌, ◌-◌, max, slice_index, Bool, List, [], ◌∷◌, ◌↔◌, All, AllPairs, Contains, length, nat_lt, if◌then◌else◌}
+use Rattle.std.specs.Prelude.{◌≡◌, ◌≤◌, ◌<◌, ◌==◌, ◌⊎◌, ◌&&◌, ℕ, suc, ◌+◌, ◌-◌, max, min, slice_index, Bool, List, [], ◌∷◌, ◌↔◌, All, AllPairs, Contains, length, nat_lt, if◌then◌else◌}
 use Rattle.std.specs.List.Sorted.{IsNonDecreasing}
 use Rattle.bolt_format.specs.declared.meta.Meta.{Meta}
 use Rattle.bolt_check.specs.{Accounts.IsInFreelist, Accounts.IsInUse, Accounts.times_in, Findings.finding}

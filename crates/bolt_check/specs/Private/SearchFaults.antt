@@ -15,6 +15,7 @@ IsSearchFault nodes reach start (Accounts findings) = ⊥
 abbrev pub IsPendingFault : Nodes → CodeSpot → List CodeSpot → List PageUse → CheckFault → Type 0
 IsPendingFault nodes spot left table fault = IsSearchFault nodes (pending_reach nodes spot left) (IsClaimed table) fault
 
+-- whether memory ran out
 abbrev pub is_memory : CheckFault → Bool
 is_memory Memory = true
 is_memory _ = false
