@@ -17,5 +17,5 @@ abbrev pub checked_nodes : Checked → Nodes
 checked_nodes checked = node_at (bytes_of checked) (meta_of checked)
 
 -- what is said of a file and the meta that it is read under, of a checked file
-abbrev pub in_checked : {A : Type 1} → (List ℕ → Meta → A) → Checked → A
+abbrev pub in_checked {ℓ} : {A : Type ℓ} → (List ℕ → Meta → A) → Checked → A
 in_checked f checked = f (bytes_of checked) (meta_of checked)
