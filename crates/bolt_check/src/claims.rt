@@ -1,8 +1,8 @@
 //! The claimed pages of a file, and the tests of one more page.
-ghost use Rattle.std.specs.Prelude.{◌≡◌, ◌↔◌, ◌<◌, ◌≤◌, ◌^◌, ℕ, IfErr, IfOk, Ok, OnErr, OnOk, Some};
-ghost use Rattle.bolt_format.specs.{Bytes.IsBytes, Pages.page_at, TreePages.shown_page};
+ghost use Rattle.std.specs.Prelude.{◌≡◌, ◌↔◌, ◌<◌, ◌≤◌, ◌^◌, ℕ, IfErr, IfOk, OnErr, OnOk};
+ghost use Rattle.bolt_format.specs.{Bytes.IsBytes};
 ghost use Rattle.bolt_check.specs.{Counts.counted, Findings.IsMetaPage, Findings.PagePasses, Findings.PageTests, Private.Freelists.IsUnlisted};
-ghost use Rattle.bolt_check.specs.{Private.Tables.HasRoom, ShownNodes.shown_node, ShownSpots.page_spot, TableLengths.table_length};
+ghost use Rattle.bolt_check.specs.{Private.Tables.HasRoom, ShownNodes.IsNodeAt, ShownNodes.IsPageAt, ShownSpots.page_spot, TableLengths.table_length};
 ghost use Rattle.bolt_check.specs.Ways.{AddsSpan, At_page};
 
 use crate::fault::NoMemory;
@@ -99,10 +99,9 @@ impl<'a> Claims<'a> {
         ensures left { OnErr result (pages_left self.new ≡ pages_left self.old) }
         ensures passes { OnOk result (PagePasses (claims_nodes self.old)
             (HasClaimed self.old) (page_spot spot.now)) }
-        ensures node { IfOk result (λ node. claims_nodes self.old spot.now.number
-            ≡ Ok (shown_node node)) }
-        ensures page { IfOk result (λ node. page_at (claims_file self.old)
-            (claims_meta self.old) spot.now.number ≡ Some (shown_page node)) }
+        ensures node { IfOk result (IsNodeAt (claims_nodes self.old) spot.now.number) }
+        ensures page { IfOk result (IsPageAt (claims_file self.old) (claims_meta self.old)
+            spot.now.number) }
         ensures claims { OnOk result (AddsSpan (claims_nodes self.old) (At_page (page_spot spot.now))
             (HasClaimed self.old) (HasClaimed self.new)) }
         ensures fewer { OnOk result (pages_left self.new < pages_left self.old) }

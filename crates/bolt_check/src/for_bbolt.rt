@@ -1,12 +1,12 @@
 //! What bbolt fails on when it writes into a file, though the file is sound (docs/SOUND.md, "For
 //! bbolt"). All ways are followed once more, in order. The pages are known to be good, so none is
 //! tested again. What is nested deep needs memory for the spots that are pending, but no stack.
-ghost use Rattle.std.specs.Prelude.{◌≡◌, ◌<◌, ◌≤◌, ◌&&◌, ◌+◌, ◌++◌, ◌∷◌, [], true, IfOk, Ok, OnOk, map, not, vec_len};
+ghost use Rattle.std.specs.Prelude.{◌≡◌, ◌<◌, ◌≤◌, ◌&&◌, ◌+◌, ◌++◌, ◌∷◌, [], true, IfOk, OnOk, map, not, vec_len};
 ghost use Rattle.std.specs.List.{list_any};
 ghost use Rattle.bolt_check.specs.BboltFindings.{AreBboltFindings, finding_if, has_one_child, has_value, is_too_large, node_findings};
 ghost use Rattle.bolt_check.specs.{CheckedFiles.checked_nodes, CheckedFiles.meta_of, Nodes.Entry, Nodes.leaf_entry};
 ghost use Rattle.bolt_format.specs.TreePages.{leaves_on, page_keys};
-ghost use Rattle.bolt_check.specs.{ShownNodes.shown_node, ShownSpots.page_spot, ShownSpots.spot_at};
+ghost use Rattle.bolt_check.specs.{ShownNodes.IsNodeAt, ShownNodes.shown_node, ShownSpots.page_spot, ShownSpots.spot_at};
 ghost use Rattle.bolt_check.specs.Private.Unread.{IsReadable, mark, marked_kids, most_kids, own_findings, unread_at, unread_kids, unread_of};
 ghost use Rattle.bolt_check.specs.{Subtrees.Enough, Ways.At_page, Ways.root_spot};
 
@@ -97,7 +97,7 @@ fn read<'a>(
 /// A page that a way leads to, which is a branch or a leaf.
 fn known_page<'a>(checked: &Checked<'a>, number: u64) -> TreePage<'a>
     requires { ∥ Enough (checked_nodes checked.now) (meta_of checked.now).high_water number ∥₁ }
-    ensures { checked_nodes checked.now number ≡ Ok (shown_node result) }
+    ensures { IsNodeAt (checked_nodes checked.now) number result }
 {
     let page = known(checked.bytes(), &checked.meta(), number);
     page.tree_page().unwrap()

@@ -1,13 +1,12 @@
 //! What is left over of a file once all ways were followed: pages that no kept way takes in.
 ghost use Rattle.std.specs.Option.{IfNone};
-ghost use Rattle.std.specs.Prelude.{◌≡◌, ◌↔◌, ◌≤◌, ◌<◌, ℕ, false, true, IfSome, Ok, Some, length};
-ghost use Rattle.bolt_format.specs.{Pages.page_at, TreePages.shown_page};
+ghost use Rattle.std.specs.Prelude.{◌≡◌, ◌↔◌, ◌≤◌, ◌<◌, ℕ, false, true, IfSome, Ok, length};
 ghost use Rattle.bolt_format.specs.declared.tree_page.TreePage.TheVariants as page;
 ghost use Rattle.bolt_check.specs.{Claims.claims_file, Claims.claims_meta, Claims.is_claimed, LoneLeaves.IsListedFree, LoneLeaves.IsLoneLeaf};
 ghost use Rattle.bolt_check.specs.{Nodes.Node, Nodes.node_at, Private.LeafTests.IsFilledLeaf, Private.Freelists.IsUnlisted, Private.Freelists.KeepsUsed};
 ghost use Rattle.bolt_check.specs.Private.Pending.{ClaimsSpan};
 ghost use Rattle.bolt_check.specs.Private.Tables.{HasRoom, IsClaimed, IsUnclaimed, times_of, use_at};
-ghost use Rattle.bolt_check.specs.{ShownNodes.shown_node, Ways.AddsSpan, Ways.At_page, Ways.root_spot};
+ghost use Rattle.bolt_check.specs.{ShownNodes.IsNodeAt, ShownNodes.IsPageAt, Ways.AddsSpan, Ways.At_page, Ways.root_spot};
 
 use crate::claims::Claims;
 use crate::freelist::list_ids_within;
@@ -63,10 +62,10 @@ impl<'a> Leftovers<'a> {
         ensures file { leftovers_file self.new ≡ leftovers_file self.old }
         ensures meta { leftovers_meta self.new ≡ leftovers_meta self.old }
         ensures length { leftovers_length self.new ≡ leftovers_length self.old }
-        ensures node { IfSome result (λ leaf. leftovers_nodes self.old number
-            ≡ Ok (shown_node (page.Leaf leaf))) }
-        ensures page { IfSome result (λ leaf. page_at (leftovers_file self.old)
-            (leftovers_meta self.old) number ≡ Some (shown_page (page.Leaf leaf))) }
+        ensures node { IfSome result
+            (λ leaf. IsNodeAt (leftovers_nodes self.old) number (page.Leaf leaf)) }
+        ensures page { IfSome result (λ leaf. IsPageAt (leftovers_file self.old)
+            (leftovers_meta self.old) number (page.Leaf leaf)) }
         ensures leaf { IfSome result
             (λ _. IsLoneLeaf (leftovers_nodes self.old) (HasTaken self.old) number) }
         ensures unlisted { IfSome result (λ _. is_listed self.old number ≡ false) }
@@ -105,10 +104,9 @@ fn take_leaf<'a>(
     table: &mut [PageUse],
 ) -> Option<LeafPage<'a>>
     requires { HasRoom file.now meta.now table.old }
-    ensures node { IfSome result (λ leaf. node_at file.now meta.now number
-        ≡ Ok (shown_node (page.Leaf leaf))) }
-    ensures page { IfSome result (λ leaf. page_at file.now meta.now number
-        ≡ Some (shown_page (page.Leaf leaf))) }
+    ensures node { IfSome result
+        (λ leaf. IsNodeAt (node_at file.now meta.now) number (page.Leaf leaf)) }
+    ensures page { IfSome result (λ leaf. IsPageAt file.now meta.now number (page.Leaf leaf)) }
     ensures leaf { IfSome result
         (λ _. IsLoneLeaf (node_at file.now meta.now) (IsClaimed table.old) number) }
     ensures unlisted { IfSome result (λ _. times_of (use_at table.old number) ≡ 0) }
