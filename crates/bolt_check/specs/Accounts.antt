@@ -15,6 +15,10 @@ pub record IsInFreelist (file : List ℕ) (meta : Meta) (n : ℕ) : Type 0 where
 abbrev pub IsInUse : List ℕ → Meta → (ℕ → Type 0) → ℕ → Type 0
 IsInUse file meta used n = used n ⊎ IsInFreelist file meta n
 
+-- n is the lowest page of the freelist's span that is used
+abbrev pub IsLowestShared : List ℕ → Meta → (ℕ → Type 0) → ℕ → Type 0
+IsLowestShared file meta used n = IsInFreelist file meta n × used n × ((k : ℕ) → IsInFreelist file meta k → used k → n ≤ k)
+
 -- page n is free, if these pages are in use
 pub record IsFree (mark : ℕ) (in_use : ℕ → Type 0) (n : ℕ) : Type 0 where
   pub above_metas : 2 ≤ n

@@ -5,10 +5,11 @@ use Rattle.bolt_check.specs.{Findings.finding, Findings.keys_of, Keys.Key, Nodes
 use Rattle.bolt_check.specs.Ways.{At_inline, At_page, Spot, reached}
 use Rattle.bolt_check.specs.{declared.finding.Finding.Finding, declared.finding.TheConstants.Finding.LARGE_KEY}
 use Rattle.bolt_check.specs.declared.finding.TheConstants.Finding.{ONE_CHILD, ROOT_VALUE}
+use Rattle.bolt_check.specs.declared.for_bbolt.TheConstants.{LONGEST_KEY}
 
--- the longest key that bbolt writes has 32,768 bytes
+-- the key is longer than those that bbolt writes
 abbrev pub is_too_large : Key → Bool
-is_too_large key = nat_lt 32768 (length key)
+is_too_large key = nat_lt LONGEST_KEY (length key)
 
 abbrev pub has_one_child : Node → Bool
 has_one_child node = not node.is_leaf && (length node.entries == 1)

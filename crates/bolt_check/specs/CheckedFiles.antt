@@ -1,7 +1,7 @@
 -- What a checked file shows.
 use Rattle.std.specs.Prelude.{ℕ, List, Bool}
 use Rattle.bolt_format.specs.declared.meta.Meta.{Meta}
-use Rattle.bolt_check.specs.declared.checked.Checked.{Checked}
+use Rattle.bolt_check.specs.{Nodes.Nodes, Nodes.node_at, declared.checked.Checked.Checked}
 
 unfoldable pub bytes_of : Checked → List ℕ
 bytes_of checked = checked.bytes.now
@@ -11,3 +11,11 @@ meta_of checked = checked.meta
 
 unfoldable pub has_accounts : Checked → Bool
 has_accounts checked = checked.accounts
+
+-- its pages as nodes
+abbrev pub checked_nodes : Checked → Nodes
+checked_nodes checked = node_at (bytes_of checked) (meta_of checked)
+
+-- what is said of a file and the meta that it is read under, of a checked file
+abbrev pub in_checked {ℓ} : {A : Type ℓ} → (List ℕ → Meta → A) → Checked → A
+in_checked f checked = f (bytes_of checked) (meta_of checked)

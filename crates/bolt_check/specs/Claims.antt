@@ -1,7 +1,7 @@
 -- What the claimed pages show.
-use Rattle.std.specs.Prelude.{ℕ, Bool, List, length}
+use Rattle.std.specs.Prelude.{◌≡◌, ℕ, Bool, true, List, length}
 use Rattle.bolt_format.specs.declared.meta.Meta.{Meta}
-use Rattle.bolt_check.specs.{Private.Tables.is_used, Private.Tables.unclaimed, Private.Tables.use_at, declared.claims.Claims.Claims}
+use Rattle.bolt_check.specs.{Nodes.Nodes, Nodes.node_at, Private.Tables.is_used, Private.Tables.unclaimed, Private.Tables.use_at, declared.claims.Claims.Claims}
 
 -- the file whose pages they are, and the meta that it is read under
 unfoldable pub claims_file : Claims → List ℕ
@@ -10,9 +10,16 @@ claims_file claims = claims.file.now
 unfoldable pub claims_meta : Claims → Meta
 claims_meta claims = claims.meta
 
+-- its pages as nodes
+abbrev pub claims_nodes : Claims → Nodes
+claims_nodes claims = node_at (claims_file claims) (claims_meta claims)
+
 -- whether page n is claimed
 unfoldable pub is_claimed : Claims → ℕ → Bool
 is_claimed claims n = is_used (use_at claims.table.items n)
+
+abbrev pub HasClaimed : Claims → ℕ → Type 0
+HasClaimed claims n = is_claimed claims n ≡ true
 
 -- how many places the table has
 unfoldable pub claims_length : Claims → ℕ

@@ -1,5 +1,5 @@
 -- What the leftovers of a file show.
-use Rattle.std.specs.Prelude.{◌==◌, ℕ, Bool, List, length, not}
+use Rattle.std.specs.Prelude.{◌≡◌, ◌==◌, ℕ, Bool, true, List, length, not}
 use Rattle.bolt_format.specs.declared.meta.Meta.{Meta}
 use Rattle.bolt_check.specs.{Nodes.Nodes, Nodes.node_at, Private.Tables.is_used, Private.Tables.times_of, Private.Tables.use_at}
 use Rattle.bolt_check.specs.declared.leftovers.Leftovers.{Leftovers}
@@ -18,9 +18,16 @@ leftovers_nodes leftovers = node_at (leftovers_file leftovers) (leftovers_meta l
 unfoldable pub leftovers_length : Leftovers → ℕ
 leftovers_length leftovers = length leftovers.table.items
 
--- whether page n is claimed, and whether it is noted as listed
+-- whether page n is claimed
 unfoldable pub is_taken : Leftovers → ℕ → Bool
 is_taken leftovers n = is_used (use_at leftovers.table.items n)
 
+abbrev pub HasTaken : Leftovers → ℕ → Type 0
+HasTaken leftovers n = is_taken leftovers n ≡ true
+
+-- whether it is noted as listed
 unfoldable pub is_listed : Leftovers → ℕ → Bool
 is_listed leftovers n = not (times_of (use_at leftovers.table.items n) == 0)
+
+abbrev pub HasListed : Leftovers → ℕ → Type 0
+HasListed leftovers n = is_listed leftovers n ≡ true

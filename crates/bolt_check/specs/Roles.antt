@@ -1,8 +1,8 @@
 -- What each page below the mark is for: docs/SOUND.md, "Roles".
 use Rattle.std.specs.Prelude.{◌≡◌, ◌<◌, ◌⊎◌, ℕ, Bool, true, false, List, Ok, Some}
 use Rattle.bolt_format.specs.declared.meta.Meta.{Meta}
-use Rattle.bolt_check.specs.{Accounts.IsFree, Accounts.IsInFreelist, Accounts.IsInUse, Nodes.IsInSpan, Nodes.Node, Nodes.Nodes, Nodes.node_at, Sound.IsUsed}
-use Rattle.bolt_check.specs.{Ways.At_page, Ways.PageSpot, Ways.Reach, Ways.reached, declared.role_table.Role.Role}
+use Rattle.bolt_check.specs.{Accounts.IsFree, Accounts.IsInFreelist, Accounts.IsInUse, Nodes.IsInSpan, Nodes.Node, Nodes.Nodes, Nodes.node_at, OnWays.reach_of, Sound.IsUsed}
+use Rattle.bolt_check.specs.{Ways.At_page, Ways.PageSpot, Ways.Reach, declared.role_table.Role.Role}
 use Rattle.bolt_check.specs.declared.role_table.Role.TheVariants as role
 
 -- a way leads to page n, which is a leaf, or a branch
@@ -28,10 +28,10 @@ pub record IsLaterPage (nodes : Nodes) (reach : Reach) (n : ℕ) : Type 0 where
 -- what page n is for
 abbrev pub HasRole : List ℕ → Meta → ℕ → Role → Type 0
 HasRole file meta n role.Meta = n < 2
-HasRole file meta n role.Branch = IsFirstPage (node_at file meta) (reached (node_at file meta) meta.root) false n
-HasRole file meta n role.Leaf = IsFirstPage (node_at file meta) (reached (node_at file meta) meta.root) true n
+HasRole file meta n role.Branch = IsFirstPage (node_at file meta) (reach_of file meta) false n
+HasRole file meta n role.Leaf = IsFirstPage (node_at file meta) (reach_of file meta) true n
 HasRole file meta n role.Freelist = IsInFreelist file meta n × (n ≡ meta.freelist)
-HasRole file meta n role.Inside = IsLaterPage (node_at file meta) (reached (node_at file meta) meta.root) n ⊎ (IsInFreelist file meta n × (meta.freelist < n))
+HasRole file meta n role.Inside = IsLaterPage (node_at file meta) (reach_of file meta) n ⊎ (IsInFreelist file meta n × (meta.freelist < n))
 HasRole file meta n role.Free = IsFree meta.high_water (IsInUse file meta (IsUsed file meta)) n
 
 -- each page below the mark has this role

@@ -1,8 +1,9 @@
 -- A page of the code as a node.
-use Rattle.std.specs.Prelude.{Bool, true, false, List, map}
+use Rattle.std.specs.Prelude.{◌≡◌, ℕ, Bool, true, false, List, map, Some, Ok, Err}
 use Rattle.bolt_format.specs.{TreePages.branches_on, TreePages.leaves_on, TreePages.shown_page, declared.tree_page.TreePage.TreePage}
 use Rattle.bolt_format.specs.declared.tree_page.TreePage.TheVariants.{Branch, Leaf}
-use Rattle.bolt_check.specs.{Nodes.Entry, Nodes.Node, Nodes.branch_entry, Nodes.leaf_entry}
+use Rattle.bolt_format.specs.{Pages.page_at, declared.meta.Meta.Meta, declared.page_fault.PageFault.PageFault}
+use Rattle.bolt_check.specs.{Nodes.Entry, Nodes.Node, Nodes.Nodes, Nodes.branch_entry, Nodes.leaf_entry}
 
 abbrev pub is_leaf_page : TreePage → Bool
 is_leaf_page (Branch page) = false
@@ -18,3 +19,15 @@ shown_node page = record {
   overflow = (shown_page page).overflow;
   entries = entries_on page;
 }
+
+-- this page is node n
+abbrev pub IsNodeAt : Nodes → ℕ → TreePage → Type 0
+IsNodeAt nodes n page = nodes n ≡ Ok (shown_node page)
+
+-- and it is page n of the file
+abbrev pub IsPageAt : List ℕ → Meta → ℕ → TreePage → Type 0
+IsPageAt file meta n page = page_at file meta n ≡ Some (shown_page page)
+
+-- why page n is no node
+abbrev pub IsFaultAt : Nodes → ℕ → PageFault → Type 0
+IsFaultAt nodes n fault = (nodes n ≡ Err fault.number) × (fault.page ≡ n)

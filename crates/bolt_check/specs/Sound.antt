@@ -1,14 +1,14 @@
 -- Sound files, and what is reported of the others: docs/SOUND.md.
 use Rattle.std.specs.Prelude.{◌≢◌, ℕ, List, [], Bool, true, false, IsTrue}
 use Rattle.bolt_format.specs.{Metas.HasNoActive, Metas.HasNoneInSlot, Metas.IsActive, Metas.IsInSlot, declared.meta.Meta.Meta, declared.meta.Slot.Slot}
-use Rattle.bolt_check.specs.{Accounts.HasAccounts, Findings.IsClean, Findings.IsCovered, Findings.IsFirst, Findings.IsMetaPage, Nodes.node_at, Shape.HasShape}
-use Rattle.bolt_check.specs.{AccountFindings.AreAccountFindings, ShownFindings.findings_in, Ways.reached, declared.fault.CheckFault.CheckFault}
+use Rattle.bolt_check.specs.{Accounts.HasAccounts, Findings.IsClean, Findings.IsCovered, Findings.IsFirst, Findings.IsMetaPage, Nodes.node_at, OnWays.reach_of, Shape.HasShape}
+use Rattle.bolt_check.specs.{AccountFindings.AreAccountFindings, ShownFindings.findings_in, declared.fault.CheckFault.CheckFault}
 use Rattle.bolt_check.specs.declared.fault.CheckFault.TheVariants.{Accounts, Memory, Open, Structure}
 use Rattle.bolt_check.specs.declared.finding.Finding.{Finding}
 
 -- page n is a meta page, or in the span of a page that a way leads to
 abbrev pub IsUsed : List ℕ → Meta → ℕ → Type 0
-IsUsed file meta n = IsCovered (node_at file meta) (reached (node_at file meta) meta.root) IsMetaPage n
+IsUsed file meta n = IsCovered (node_at file meta) (reach_of file meta) IsMetaPage n
 
 -- the trees of the file, for this meta, are sound
 abbrev pub HasSoundTrees : List ℕ → Meta → Type 0
@@ -16,15 +16,19 @@ HasSoundTrees file meta = HasShape (node_at file meta) meta.root
 
 -- no test of the trees of the file, for this meta, fails
 abbrev pub PassesTests : List ℕ → Meta → Type 0
-PassesTests file meta = IsClean (node_at file meta) (reached (node_at file meta) meta.root) IsMetaPage
+PassesTests file meta = IsClean (node_at file meta) (reach_of file meta) IsMetaPage
 
 -- the accounts of the file, for this meta, are right
 abbrev pub HasRightAccounts : List ℕ → Meta → Type 0
 HasRightAccounts file meta = HasAccounts file meta (IsUsed file meta)
 
+-- all findings of the accounts
+abbrev pub AreFindingsOfAccounts : List ℕ → Meta → List Finding → Type 0
+AreFindingsOfAccounts file meta findings = AreAccountFindings file meta (IsUsed file meta) findings
+
 -- the first finding of the trees
 abbrev pub IsFirstFinding : List ℕ → Meta → Finding → Type 0
-IsFirstFinding file meta x = IsFirst (node_at file meta) (reached (node_at file meta) meta.root) IsMetaPage x
+IsFirstFinding file meta x = IsFirst (node_at file meta) (reach_of file meta) IsMetaPage x
 
 -- the file is sound for the meta of a slot: its trees are, and its accounts if they were tested too
 pub record IsSound (file : List ℕ) (meta : Meta) (accounts : Bool) : Type 0 where
@@ -45,7 +49,7 @@ IsRefusedFor file meta accounts (Open fault) = ⊥
 IsRefusedFor file meta accounts (Structure x) = IsFirstFinding file meta x
 IsRefusedFor file meta false (Accounts reported) = ⊥
 IsRefusedFor file meta true (Accounts reported) =
-    HasSoundTrees file meta × (HasRightAccounts file meta → ⊥) × AreAccountFindings file meta (IsUsed file meta) (findings_in reported)
+    HasSoundTrees file meta × (HasRightAccounts file meta → ⊥) × AreFindingsOfAccounts file meta (findings_in reported)
     × (findings_in reported ≢ [])
 IsRefusedFor file meta accounts Memory = Unit {0}
 

@@ -1,5 +1,5 @@
 -- Ways from the root page: docs/SOUND.md, "Ways". A way is a list of entry numbers; it leads to a page or an inline bucket.
-use Rattle.std.specs.Prelude.{◌≡◌, ℕ, suc, ◌<◌, ◌⊎◌, ◌==◌, Bool, true, false, List, [], ◌∷◌, Option, Some, None, Result, Ok, Err, if◌then◌else◌, slice_get}
+use Rattle.std.specs.Prelude.{◌≡◌, ℕ, suc, ◌<◌, ◌⊎◌, ◌↔◌, ◌==◌, Bool, true, false, List, [], ◌∷◌, Option, Some, None, Result, Ok, Err, if◌then◌else◌, slice_get}
 use Rattle.bolt_check.specs.{Keys.Key, Nodes.Entry, Nodes.IsInSpan, Nodes.Node, Nodes.Nodes}
 
 -- A page that a way leads to: its number, its depth, and the bounds of its keys. The root page of a bucket has depth 1.
@@ -83,6 +83,10 @@ SpanOf (Ok node) number n = IsInSpan node number n
 abbrev pub SpanAt : Nodes → Spot → ℕ → Type 0
 SpanAt nodes (At_page s) n = SpanOf (nodes s.number) s.number n
 SpanAt nodes (At_inline host keys) n = ⊥
+
+-- exactly the span of this spot is added to the old pages
+abbrev pub AddsSpan : Nodes → Spot → (ℕ → Type 0) → (ℕ → Type 0) → Type 0
+AddsSpan nodes s old new = (n : ℕ) → new n ↔ (old n ⊎ SpanAt nodes s n)
 
 abbrev pub SpanHas : Nodes → Option Spot → ℕ → Type 0
 SpanHas nodes None n = ⊥

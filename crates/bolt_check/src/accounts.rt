@@ -1,9 +1,9 @@
 //! Does the freelist have exactly the free pages? (docs/SOUND.md, "Accounts").
 ghost use Rattle.std.specs.Prelude.{◌≡◌, ◌≢◌, ◌≤◌, ◌<◌, ◌+◌, ◌∷◌, ℕ, [], IfOk, IfSome, MatchOption, None, OnOk, length};
 ghost use Rattle.bolt_format.specs.{Freelists.freelist_fault_of, declared.meta.TheConstants.NO_FREELIST, ShownIds.shown_ids};
-ghost use Rattle.bolt_check.specs.{AccountFindings.AreAccountFindings, Accounts.HasAccounts, Accounts.IsInFreelist, Accounts.times_in};
-ghost use Rattle.bolt_check.specs.Private.Freelists.{AreAllFindings, ClaimsFreelist, ClaimsUses, IsUnlisted};
-ghost use Rattle.bolt_check.specs.Private.Tables.{HasRoom, IsClaimed, is_used, use_at};
+ghost use Rattle.bolt_check.specs.{AccountFindings.AreAccountFindings, Accounts.HasAccounts, Accounts.IsLowestShared, Accounts.times_in};
+ghost use Rattle.bolt_check.specs.Private.Freelists.{AreAllFindings, ClaimsFreelist, ClaimsUses, IsUnlisted, KeepsUsed};
+ghost use Rattle.bolt_check.specs.Private.Tables.{HasRoom, IsClaimed, use_at};
 
 use crate::finding::Finding;
 use crate::freelist::{Freelist, list_ids};
@@ -25,10 +25,14 @@ pub(crate) fn test_accounts(
     requires wide { 2 ≤ length table.old }
     requires below { length table.old ≤ meta.now.high_water }
     requires room { HasRoom file.now meta.now table.old }
-    ensures right { IfOk result (λ reported. reported.items ≡ [] → HasAccounts file.now meta.now (IsClaimed table.old)) }
-    ensures wrong { IfOk result (λ reported. reported.items ≢ [] → HasAccounts file.now meta.now (IsClaimed table.old) → ⊥) }
-    ensures reported { IfOk result (λ reported. reported.items ≢ [] → AreAccountFindings file.now meta.now (IsClaimed table.old) reported.items) }
-    ensures uses { IfOk result (λ reported. reported.items ≡ [] → ClaimsUses file.now meta.now table.old table.new) }
+    ensures right { IfOk result (λ reported. reported.items ≡ []
+        → HasAccounts file.now meta.now (IsClaimed table.old)) }
+    ensures wrong { IfOk result (λ reported. reported.items ≢ []
+        → HasAccounts file.now meta.now (IsClaimed table.old) → ⊥) }
+    ensures reported { IfOk result (λ reported. reported.items ≢ []
+        → AreAccountFindings file.now meta.now (IsClaimed table.old) reported.items) }
+    ensures uses { IfOk result (λ reported. reported.items ≡ []
+        → ClaimsUses file.now meta.now table.old table.new) }
 {
     let ids = match free_ids(file, meta) {
         Ok(Some(ids)) => ids,
@@ -56,9 +60,9 @@ pub(crate) fn claim_freelist(file: &[u8], meta: &Meta, table: &mut [PageUse]) ->
     requires written { meta.now.freelist ≢ NO_FREELIST }
     requires good { freelist_fault_of file.now meta.now ≡ None }
     requires room { HasRoom file.now meta.now table.old }
-    ensures shared { IfSome result (λ n. IsInFreelist file.now meta.now n × IsClaimed table.old n
-        × ((k : ℕ) → IsInFreelist file.now meta.now k → IsClaimed table.old k → n ≤ k)) }
-    ensures claimed { MatchOption result (ClaimsFreelist file.now meta.now table.old table.new) (λ _. Unit {0}) }
+    ensures shared { IfSome result (IsLowestShared file.now meta.now (IsClaimed table.old)) }
+    ensures claimed { MatchOption result (ClaimsFreelist file.now meta.now table.old table.new)
+        (λ _. Unit {0}) }
 {
     let overflow = known(file, meta, meta.freelist).overflow();
     let from = meta.freelist as usize;
@@ -81,9 +85,11 @@ fn test_ids(
     requires metas { (n : ℕ) → n < 2 → IsClaimed table.old n }
     requires wide { 2 ≤ length table.old }
     requires below { length table.old ≤ mark }
-    ensures reported { IfOk result (λ reported. AreAllFindings mark (IsClaimed table.old) (times_in (shown_ids ids.entry)) reported.items) }
-    ensures used { OnOk result ((n : ℕ) → is_used (use_at table.new n) ≡ is_used (use_at table.old n)) }
-    ensures kept { OnOk result ((n : ℕ) → times_in (shown_ids ids.entry) n ≡ 0 → use_at table.new n ≡ use_at table.old n) }
+    ensures reported { IfOk result (λ reported. AreAllFindings mark (IsClaimed table.old)
+        (times_in (shown_ids ids.entry)) reported.items) }
+    ensures used { OnOk result (KeepsUsed table.old table.new) }
+    ensures kept { OnOk result ((n : ℕ) → times_in (shown_ids ids.entry) n ≡ 0
+        → use_at table.new n ≡ use_at table.old n) }
 {
     let mut past = list_ids(alloc, ids, table)?;
     past.sort_unstable();

@@ -1,8 +1,9 @@
 //! The claimed pages of a file, and the tests of one more page.
-ghost use Rattle.std.specs.Prelude.{◌≡◌, ◌↔◌, ◌⊎◌, ◌<◌, ◌≤◌, ◌^◌, ℕ, true, IfErr, IfOk, Ok, OnErr, OnOk, Some};
-ghost use Rattle.bolt_format.specs.{Bytes.IsBytes, Pages.page_at, TreePages.shown_page};
-ghost use Rattle.bolt_check.specs.{Counts.counted, Findings.IsMetaPage, Findings.PagePasses, Findings.PageTests, Nodes.node_at, Private.Freelists.IsUnlisted};
-ghost use Rattle.bolt_check.specs.{Private.Tables.HasRoom, ShownNodes.shown_node, ShownSpots.page_spot, TableLengths.table_length, Ways.At_page, Ways.SpanAt};
+ghost use Rattle.std.specs.Prelude.{◌≡◌, ◌↔◌, ◌<◌, ◌≤◌, ◌^◌, ℕ, IfErr, IfOk, OnErr, OnOk};
+ghost use Rattle.bolt_format.specs.{Bytes.IsBytes};
+ghost use Rattle.bolt_check.specs.{Counts.counted, Findings.IsMetaPage, Findings.PagePasses, Findings.PageTests, Private.Freelists.IsUnlisted};
+ghost use Rattle.bolt_check.specs.{Private.Tables.HasRoom, ShownNodes.IsNodeAt, ShownNodes.IsPageAt, ShownSpots.page_spot, TableLengths.table_length};
+ghost use Rattle.bolt_check.specs.Ways.{AddsSpan, At_page};
 
 use crate::fault::NoMemory;
 use crate::finding::Finding;
@@ -33,7 +34,7 @@ pub struct Claims<'a> {
 
 #[tactic(auto, unfolding(crate::specs::Claims::claims_file, crate::specs::Claims::claims_length, crate::specs::Claims::claims_meta, crate::specs::Claims::claims_visited, crate::specs::Claims::is_claimed, crate::specs::Claims::pages_left))]
 impl<'a> Claims<'a> {
-    ghost use Rattle.bolt_check.specs.Claims.{claims_file, claims_length, claims_meta, claims_visited, is_claimed, pages_left};
+    ghost use Rattle.bolt_check.specs.Claims.{HasClaimed, claims_file, claims_length, claims_meta, claims_nodes, claims_visited, is_claimed, pages_left};
 
     /// A table in which only the meta pages are claimed. No page was visited.
     ///
@@ -44,7 +45,7 @@ impl<'a> Claims<'a> {
         requires { 0 < meta.page_size }
         ensures file { IfOk result (λ claims. claims_file claims ≡ file.now) }
         ensures meta { IfOk result (λ claims. claims_meta claims ≡ meta) }
-        ensures metas { IfOk result (λ claims. (n : ℕ) → (is_claimed claims n ≡ true) ↔ IsMetaPage n) }
+        ensures metas { IfOk result (λ claims. (n : ℕ) → HasClaimed claims n ↔ IsMetaPage n) }
         ensures length { IfOk result (λ claims. claims_length claims ≡ table_length file.now meta) }
         ensures visited { IfOk result (λ claims. claims_visited claims ≡ 0) }
     {
@@ -61,7 +62,7 @@ impl<'a> Claims<'a> {
     pub fn restart(&mut self)
         ensures file { claims_file self.new ≡ claims_file self.old }
         ensures meta { claims_meta self.new ≡ claims_meta self.old }
-        ensures metas { (n : ℕ) → (is_claimed self.new n ≡ true) ↔ IsMetaPage n }
+        ensures metas { (n : ℕ) → HasClaimed self.new n ↔ IsMetaPage n }
         ensures length { claims_length self.new ≡ claims_length self.old }
         ensures visited { claims_visited self.new ≡ claims_visited self.old }
     {
@@ -92,16 +93,17 @@ impl<'a> Claims<'a> {
         ensures meta { claims_meta self.new ≡ claims_meta self.old }
         ensures length { claims_length self.new ≡ claims_length self.old }
         ensures visited { claims_visited self.new ≡ counted (claims_visited self.old) 1 }
-        ensures found { IfErr result (PageTests (node_at (claims_file self.old) (claims_meta self.old))
-            (λ n. is_claimed self.old n ≡ true) (page_spot spot.now)) }
+        ensures found { IfErr result (PageTests (claims_nodes self.old)
+            (HasClaimed self.old) (page_spot spot.now)) }
         ensures same { OnErr result ((n : ℕ) → is_claimed self.new n ≡ is_claimed self.old n) }
         ensures left { OnErr result (pages_left self.new ≡ pages_left self.old) }
-        ensures passes { OnOk result (PagePasses (node_at (claims_file self.old) (claims_meta self.old))
-            (λ n. is_claimed self.old n ≡ true) (page_spot spot.now)) }
-        ensures node { IfOk result (λ node. node_at (claims_file self.old) (claims_meta self.old) spot.now.number ≡ Ok (shown_node node)) }
-        ensures page { IfOk result (λ node. page_at (claims_file self.old) (claims_meta self.old) spot.now.number ≡ Some (shown_page node)) }
-        ensures claims { OnOk result ((n : ℕ) → (is_claimed self.new n ≡ true)
-            ↔ ((is_claimed self.old n ≡ true) ⊎ SpanAt (node_at (claims_file self.old) (claims_meta self.old)) (At_page (page_spot spot.now)) n)) }
+        ensures passes { OnOk result (PagePasses (claims_nodes self.old)
+            (HasClaimed self.old) (page_spot spot.now)) }
+        ensures node { IfOk result (IsNodeAt (claims_nodes self.old) spot.now.number) }
+        ensures page { IfOk result (IsPageAt (claims_file self.old) (claims_meta self.old)
+            spot.now.number) }
+        ensures claims { OnOk result (AddsSpan (claims_nodes self.old) (At_page (page_spot spot.now))
+            (HasClaimed self.old) (HasClaimed self.new)) }
         ensures fewer { OnOk result (pages_left self.new < pages_left self.old) }
         ensures shallow { OnOk result (spot.now.depth ≤ 64) }
     {

@@ -16,7 +16,8 @@ impl Findings {
 
     /// These findings, if there is one.
     pub(crate) fn of(items: Vec<Finding>) -> Option<Findings>
-        ensures { MatchOption result (items.items ≡ []) (λ findings. findings_in findings ≡ items.items) }
+        ensures { MatchOption result (items.items ≡ []) (λ findings. findings_in findings
+            ≡ items.items) }
     {
         if items.is_empty() {
             return None;

@@ -1,13 +1,13 @@
 //! What bbolt fails on when it writes into a file, though the file is sound (docs/SOUND.md, "For
 //! bbolt"). All ways are followed once more, in order. The pages are known to be good, so none is
 //! tested again. What is nested deep needs memory for the spots that are pending, but no stack.
-ghost use Rattle.std.specs.Prelude.{◌≡◌, ◌<◌, ◌≤◌, ◌&&◌, ◌+◌, ◌++◌, ◌∷◌, [], true, IfOk, Ok, OnOk, map, not, vec_len};
+ghost use Rattle.std.specs.Prelude.{◌≡◌, ◌<◌, ◌≤◌, ◌&&◌, ◌+◌, ◌++◌, ◌∷◌, [], true, IfOk, OnOk, map, not, vec_len};
 ghost use Rattle.std.specs.List.{list_any};
 ghost use Rattle.bolt_check.specs.BboltFindings.{AreBboltFindings, finding_if, has_one_child, has_value, is_too_large, node_findings};
-ghost use Rattle.bolt_check.specs.{CheckedFiles.bytes_of, CheckedFiles.meta_of, Nodes.Entry, Nodes.leaf_entry, Nodes.node_at};
+ghost use Rattle.bolt_check.specs.{CheckedFiles.checked_nodes, CheckedFiles.meta_of, Nodes.Entry, Nodes.leaf_entry};
 ghost use Rattle.bolt_format.specs.TreePages.{leaves_on, page_keys};
-ghost use Rattle.bolt_check.specs.{Private.Pending.kids, ShownNodes.shown_node, ShownSpots.page_spot, ShownSpots.spot_at};
-ghost use Rattle.bolt_check.specs.Private.Unread.{IsReadable, mark, most_kids, own_findings, unread_at, unread_kids, unread_of};
+ghost use Rattle.bolt_check.specs.{ShownNodes.IsNodeAt, ShownNodes.shown_node, ShownSpots.page_spot, ShownSpots.spot_at};
+ghost use Rattle.bolt_check.specs.Private.Unread.{IsReadable, mark, marked_kids, most_kids, own_findings, unread_at, unread_kids, unread_of};
 ghost use Rattle.bolt_check.specs.{Subtrees.Enough, Ways.At_page, Ways.root_spot};
 
 use crate::checked::Checked;
@@ -35,7 +35,7 @@ struct UnreadSpot<'a> {
 ///
 /// `NoMemory` if memory runs out for what is found, or for the ways that are still to be followed.
 pub fn bbolt_findings(alloc: Global, checked: Checked<'_>) -> Result<Vec<Finding>, NoMemory>
-    ensures { IfOk result (λ findings. ∥ AreBboltFindings (node_at (bytes_of checked.entry) (meta_of checked.entry))
+    ensures { IfOk result (λ findings. ∥ AreBboltFindings (checked_nodes checked.entry)
         (meta_of checked.entry).root findings.items ∥₁) }
 {
     let mut findings = Vec::new(alloc);
@@ -48,7 +48,8 @@ pub fn bbolt_findings(alloc: Global, checked: Checked<'_>) -> Result<Vec<Finding
 
 /// What is still to be read at the start: the root page of the root bucket alone.
 fn new_unread<'a>(alloc: Global, root: u64) -> Result<Vec<UnreadSpot<'a>>, AllocError>
-    ensures { IfOk result (λ unread. unread_of unread.items ≡ mark true (At_page (root_spot root)) ∷ []) }
+    ensures { IfOk result (λ unread. unread_of unread.items
+        ≡ mark true (At_page (root_spot root)) ∷ []) }
 {
     let mut unread = Vec::new(alloc);
     unread.push(UnreadSpot {
@@ -71,12 +72,14 @@ fn read<'a>(
     unread: &mut Vec<UnreadSpot<'a>>,
     findings: &mut Vec<Finding>,
 ) -> Result<(), AllocError>
-    requires { ∥ IsReadable (node_at (bytes_of checked.now) (meta_of checked.now)) (meta_of checked.now).high_water (spot_at next.spot) ∥₁ }
+    requires { ∥ IsReadable (checked_nodes checked.now) (meta_of checked.now).high_water
+        (spot_at next.spot) ∥₁ }
     ensures found { OnOk result (findings.new.items
-        ≡ findings.old.items ++ own_findings (node_at (bytes_of checked.now) (meta_of checked.now)) (unread_at next.entry)) }
+        ≡ findings.old.items ++ own_findings (checked_nodes checked.now) (unread_at next.entry)) }
     ensures kids { OnOk result (unread_of unread.new.items
-        ≡ unread_kids (node_at (bytes_of checked.now) (meta_of checked.now)) (unread_at next.entry) ++ unread_of unread.old.items) }
-    ensures few { OnOk result (vec_len unread.new ≤ vec_len unread.old + most_kids (spot_at next.entry.spot)) }
+        ≡ unread_kids (checked_nodes checked.now) (unread_at next.entry) ++ unread_of unread.old.items) }
+    ensures few { OnOk result
+        (vec_len unread.new ≤ vec_len unread.old + most_kids (spot_at next.entry.spot)) }
 {
     match next.spot {
         Spot::Page(spot) => {
@@ -93,8 +96,8 @@ fn read<'a>(
 
 /// A page that a way leads to, which is a branch or a leaf.
 fn known_page<'a>(checked: &Checked<'a>, number: u64) -> TreePage<'a>
-    requires { ∥ Enough (node_at (bytes_of checked.now) (meta_of checked.now)) (meta_of checked.now).high_water number ∥₁ }
-    ensures { node_at (bytes_of checked.now) (meta_of checked.now) number ≡ Ok (shown_node result) }
+    requires { ∥ Enough (checked_nodes checked.now) (meta_of checked.now).high_water number ∥₁ }
+    ensures { IsNodeAt (checked_nodes checked.now) number result }
 {
     let page = known(checked.bytes(), &checked.meta(), number);
     page.tree_page().unwrap()
@@ -107,7 +110,8 @@ fn find_at_page(
     in_root: bool,
     findings: &mut Vec<Finding>,
 ) -> Result<(), AllocError>
-    ensures { OnOk result (findings.new.items ≡ findings.old.items ++ node_findings in_root number (shown_node page.now)) }
+    ensures { OnOk result (findings.new.items
+        ≡ findings.old.items ++ node_findings in_root number (shown_node page.now)) }
 {
     add_if(has_one_child(page), Finding::ONE_CHILD, number, findings)?;
     let has_value = has_root_value(page, in_root);
@@ -122,7 +126,8 @@ fn add_if(
     number: u64,
     findings: &mut Vec<Finding>,
 ) -> Result<(), AllocError>
-    ensures { OnOk result (findings.new.items ≡ findings.old.items ++ finding_if is_found code number) }
+    ensures { OnOk result (findings.new.items
+        ≡ findings.old.items ++ finding_if is_found code number) }
 {
     if is_found {
         findings.push(Finding::of_page(code, number))?;
@@ -160,7 +165,8 @@ fn has_value(page: &TreePage<'_>) -> bool
 
 /// Whether an element of a leaf is a value.
 fn some_value(leaf: &LeafPage<'_>) -> bool
-    ensures { result ≡ list_any (λ (e : Entry). not e.is_bucket) (map leaf_entry (leaves_on leaf.now)) }
+    ensures { result
+        ≡ list_any (λ (e : Entry). not e.is_bucket) (map leaf_entry (leaves_on leaf.now)) }
 {
     for element in leaf.elements() {
         if !element.is_bucket {
@@ -203,7 +209,7 @@ fn push_unread<'a>(
 ) -> Result<(), AllocError>
     requires { spot.now.depth ≤ 64 }
     ensures kids { OnOk result (unread_of unread.new.items
-        ≡ map (mark in_root) (kids (shown_node page.now) (page_spot spot.now)) ++ unread_of unread.old.items) }
+        ≡ marked_kids in_root (shown_node page.now) (page_spot spot.now) ++ unread_of unread.old.items) }
     ensures few { OnOk result (vec_len unread.new < vec_len unread.old + 65536) }
 {
     let mut i = page.count();

@@ -1,7 +1,8 @@
 //! What the freelist lists: the table of pages, and the ids after it.
-ghost use Rattle.std.specs.Prelude.{◌≡◌, ◌≢◌, ◌==◌, ◌<◌, ◌+◌, ◌++◌, ◌∷◌, ℕ, [], IfOk, OnOk, filter, if◌then◌else◌, length, min, nat_le};
+ghost use Rattle.std.specs.Prelude.{◌≡◌, ◌≢◌, ◌<◌, ◌+◌, ◌++◌, ◌∷◌, ℕ, [], IfOk, OnOk, filter, if◌then◌else◌, length, min, nat_le};
 ghost use Rattle.bolt_format.specs.ShownIds.{shown_ids};
-ghost use Rattle.bolt_check.specs.{Accounts.times_in, Private.Freelists.IsUnlisted, Private.Tables.is_used, Private.Tables.times_of, Private.Tables.use_at};
+ghost use Rattle.bolt_check.specs.{Accounts.times_in, Private.Tables.is_used, Private.Tables.times_of, Private.Tables.use_at};
+ghost use Rattle.bolt_check.specs.Private.Freelists.{IsUnlisted, KeepsUsed, ListsId, ListsIds};
 
 use crate::table::PageUse;
 use bolt_format::FreeIds;
@@ -33,11 +34,11 @@ fn listed(page_use: PageUse) -> PageUse
 /// Lists one id in the table or, if it is past the table, after the others.
 #[tactic(auto, using(crate::proofs::TableLemmas::used_kept))]
 fn list_id(id: u64, table: &mut [PageUse], past: &mut Vec<u64>) -> Result<(), AllocError>
-    ensures used { OnOk result ((n : ℕ) → is_used (use_at table.new n) ≡ is_used (use_at table.old n)) }
-    ensures times { OnOk result ((n : ℕ) → n < length table.old
-        → times_of (use_at table.new n) ≡ min 2 (times_of (use_at table.old n) + (if id == n then 1 else 0))) }
+    ensures used { OnOk result (KeepsUsed table.old table.new) }
+    ensures times { OnOk result (ListsId id table.old table.new) }
     ensures kept { OnOk result ((n : ℕ) → n ≢ id → use_at table.new n ≡ use_at table.old n) }
-    ensures past { OnOk result (past.new.items ≡ past.old.items ++ (if nat_le (length table.old) id then id ∷ [] else [])) }
+    ensures past { OnOk result (past.new.items
+        ≡ past.old.items ++ (if nat_le (length table.old) id then id ∷ [] else [])) }
 {
     if table.len() as u64 <= id {
         past.push(id)?;
@@ -55,10 +56,12 @@ pub(crate) fn list_ids(
     table: &mut [PageUse],
 ) -> Result<Vec<u64>, AllocError>
     requires { IsUnlisted table.old }
-    ensures used { OnOk result ((n : ℕ) → is_used (use_at table.new n) ≡ is_used (use_at table.old n)) }
-    ensures times { OnOk result ((n : ℕ) → n < length table.old → times_of (use_at table.new n) ≡ min 2 (times_in (shown_ids ids.entry) n)) }
-    ensures kept { OnOk result ((n : ℕ) → times_in (shown_ids ids.entry) n ≡ 0 → use_at table.new n ≡ use_at table.old n) }
-    ensures past { IfOk result (λ past. past.items ≡ filter (λ id. nat_le (length table.old) id) (shown_ids ids.entry)) }
+    ensures used { OnOk result (KeepsUsed table.old table.new) }
+    ensures times { OnOk result (ListsIds (shown_ids ids.entry) table.old table.new) }
+    ensures kept { OnOk result ((n : ℕ) → times_in (shown_ids ids.entry) n ≡ 0
+        → use_at table.new n ≡ use_at table.old n) }
+    ensures past { IfOk result (λ past. past.items
+        ≡ filter (λ id. nat_le (length table.old) id) (shown_ids ids.entry)) }
 {
     let mut past = Vec::new(alloc);
     for i in 0..ids.len() {
@@ -70,8 +73,8 @@ pub(crate) fn list_ids(
 /// Lists one id in the table, if it isn't past it.
 #[tactic(auto, using(crate::proofs::TableLemmas::used_kept))]
 fn list_within(id: u64, table: &mut [PageUse])
-    ensures used { (n : ℕ) → is_used (use_at table.new n) ≡ is_used (use_at table.old n) }
-    ensures times { (n : ℕ) → n < length table.old → times_of (use_at table.new n) ≡ min 2 (times_of (use_at table.old n) + (if id == n then 1 else 0)) }
+    ensures used { KeepsUsed table.old table.new }
+    ensures times { ListsId id table.old table.new }
 {
     if table.len() as u64 <= id {
         return;
@@ -84,8 +87,8 @@ fn list_within(id: u64, table: &mut [PageUse])
 #[tactic(auto, using(crate::proofs::ListedIds::times_more))]
 pub(crate) fn list_ids_within(ids: FreeIds<'_>, table: &mut [PageUse])
     requires { IsUnlisted table.old }
-    ensures used { (n : ℕ) → is_used (use_at table.new n) ≡ is_used (use_at table.old n) }
-    ensures times { (n : ℕ) → n < length table.old → times_of (use_at table.new n) ≡ min 2 (times_in (shown_ids ids.entry) n) }
+    ensures used { KeepsUsed table.old table.new }
+    ensures times { ListsIds (shown_ids ids.entry) table.old table.new }
 {
     for i in 0..ids.len() {
         list_within(ids.get(i), table);

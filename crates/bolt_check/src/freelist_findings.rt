@@ -84,7 +84,8 @@ fn push_entry(
     requires order { from ≤ n }
     requires reported { HasFindingsTo freelist.now from n findings.old.items }
     ensures order { IfOk result (λ next. next ≤ n + 1) }
-    ensures reported { IfOk result (λ next. HasFindingsTo freelist.now next (n + 1) findings.new.items) }
+    ensures reported { IfOk result
+        (λ next. HasFindingsTo freelist.now next (n + 1) findings.new.items) }
 {
     let page_use = freelist.table[n];
     if is_unused(page_use) {
@@ -102,7 +103,8 @@ fn push_table(freelist: &Freelist<'_>, findings: &mut Vec<Finding>) -> Result<u6
     requires settled { IsSettled freelist.now }
     requires none { findings.old.items ≡ [] }
     ensures within { IfOk result (λ from. from ≤ length freelist.now.table.now) }
-    ensures reported { IfOk result (λ from. HasFindingsTo freelist.now from (length freelist.now.table.now) findings.new.items) }
+    ensures reported { IfOk result (λ from. HasFindingsTo freelist.now from
+        (length freelist.now.table.now) findings.new.items) }
 {
     let mut from = 0;
     for n in 0..freelist.table.len() {
@@ -163,9 +165,11 @@ fn push_past(
 ) -> Result<u64, AllocError>
     requires settled { IsSettled freelist.now }
     requires start { start ≤ length freelist.now.table.now }
-    requires reported { HasFindingsTo freelist.now start (length freelist.now.table.now) findings.old.items }
+    requires reported { HasFindingsTo freelist.now start
+        (length freelist.now.table.now) findings.old.items }
     ensures within { IfOk result (λ from. from ≤ freelist.now.mark) }
-    ensures reported { IfOk result (λ from. HasFindingsTo freelist.now from freelist.now.mark findings.new.items) }
+    ensures reported { IfOk result
+        (λ from. HasFindingsTo freelist.now from freelist.now.mark findings.new.items) }
 {
     let mut from = start;
     for i in 0..freelist.past.len() {
@@ -199,8 +203,10 @@ fn push_high_id(
 #[tactic(auto, using(crate::proofs::FreelistSteps::beyond_start))]
 fn push_beyond(freelist: &Freelist<'_>, findings: &mut Vec<Finding>) -> Result<(), AllocError>
     requires settled { IsSettled freelist.now }
-    requires reported { AreFindingsBelow freelist.now.mark (is_in_use freelist.now) (listed_times freelist.now) freelist.now.mark findings.old.items }
-    ensures { OnOk result (AreAllFindings freelist.now.mark (is_in_use freelist.now) (listed_times freelist.now) findings.new.items) }
+    requires reported { AreFindingsBelow freelist.now.mark (is_in_use freelist.now)
+        (listed_times freelist.now) freelist.now.mark findings.old.items }
+    ensures { OnOk result (AreAllFindings freelist.now.mark (is_in_use freelist.now)
+        (listed_times freelist.now) findings.new.items) }
 {
     let mut last = 0;
     for i in 0..freelist.past.len() {
@@ -215,7 +221,8 @@ pub(crate) fn all_findings(
     freelist: &Freelist<'_>,
 ) -> Result<Vec<Finding>, AllocError>
     requires { IsSettled freelist.now }
-    ensures { IfOk result (λ reported. AreAllFindings freelist.now.mark (is_in_use freelist.now) (listed_times freelist.now) reported.items) }
+    ensures { IfOk result (λ reported. AreAllFindings freelist.now.mark (is_in_use freelist.now)
+        (listed_times freelist.now) reported.items) }
 {
     let mut findings = Vec::new(alloc);
     let past_table = push_table(freelist, &mut findings)?;

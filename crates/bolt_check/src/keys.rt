@@ -21,7 +21,8 @@ pub(crate) fn test_key(
     upper: Option<&[u8]>,
     key: &[u8],
 ) -> Result<(), u8>
-    ensures { result_err result ≡ key_order_fault (bound_of before.entry) (bound_of lower.entry) (bound_of upper.entry) key.now }
+    ensures { result_err result ≡ key_order_fault (bound_of before.entry) (bound_of lower.entry)
+        (bound_of upper.entry) key.now }
 {
     if let Some(bound) = before {
         if !is_below(bound, key) {

@@ -4,9 +4,9 @@ ghost use Rattle.std.specs.Prelude.{◌≡◌, ◌≢◌, ◌↔◌, ◌<◌, �
 ghost use Rattle.bolt_format.specs.{Elements.BranchElement, Elements.LeafElement, Elements.head_root, Pages.PageView, Pages.page_at};
 ghost use Rattle.bolt_format.specs.declared.header.Kind.TheVariants as kind;
 ghost use Rattle.bolt_format.specs.declared.meta.Meta.{Meta};
-ghost use Rattle.bolt_check.specs.{AccountFindings.AreAccountFindings, Nodes.node_at, OnWays.IsOnWay, Roles.AreRoles, Roles.HasRole};
-ghost use Rattle.bolt_check.specs.{Sound.HasRightAccounts, Sound.HasSoundTrees, Sound.IsFirstFinding, Sound.IsUsed, Sound.PassesTests, Tours.IsTour};
-ghost use Rattle.bolt_check.specs.{Ways.At_page, Ways.Reach, Ways.reached, Ways.root_spot, declared.finding.Finding.Finding, declared.role_table.Role.Role};
+ghost use Rattle.bolt_check.specs.{Nodes.node_at, OnWays.IsOnWay, OnWays.reach_of, Roles.AreRoles, Roles.HasRole};
+ghost use Rattle.bolt_check.specs.Sound.{AreFindingsOfAccounts, HasRightAccounts, HasSoundTrees, IsFirstFinding, PassesTests};
+ghost use Rattle.bolt_check.specs.{Tours.IsTour, Ways.At_page, Ways.Reach, Ways.reached, Ways.root_spot, declared.finding.Finding.Finding, declared.role_table.Role.Role};
 
 /// No test of the trees fails, exactly if they are sound.
 #[tactic(auto, using(crate::proofs::Lawful::shape_passes, crate::proofs::Shaping::shape_of))]
@@ -17,20 +17,22 @@ pub fn sound_trees_pass_the_tests()
 /// Sound trees have no finding. So if a file has a first finding under a meta, its trees aren't
 /// sound for it.
 pub fn sound_trees_have_no_finding()
-    ensures { (file : List ℕ) (meta : Meta) (x : Finding) → HasSoundTrees file meta → IsFirstFinding file meta x → ⊥ }
+    ensures { (file : List ℕ) (meta : Meta) (x : Finding) → HasSoundTrees file meta
+        → IsFirstFinding file meta x → ⊥ }
 {}
 
 /// There is at most one first finding, so which one is reported doesn't depend on how it is searched
 /// for.
 pub fn first_finding_is_one()
-    ensures { (file : List ℕ) (meta : Meta) (x y : Finding) → IsFirstFinding file meta x → IsFirstFinding file meta y → x ≡ y }
+    ensures { (file : List ℕ) (meta : Meta) (x y : Finding) → IsFirstFinding file meta x
+        → IsFirstFinding file meta y → x ≡ y }
 {}
 
 /// There is one list of findings of the accounts, so what is reported of them, and in which order,
 /// doesn't depend on how it is searched for.
 pub fn account_findings_are_one()
-    ensures { (file : List ℕ) (meta : Meta) (a b : List Finding) → AreAccountFindings file meta (IsUsed file meta) a
-        → AreAccountFindings file meta (IsUsed file meta) b → a ≡ b }
+    ensures { (file : List ℕ) (meta : Meta) (a b : List Finding) → AreFindingsOfAccounts file meta a
+        → AreFindingsOfAccounts file meta b → a ≡ b }
 {}
 
 /// In a sound file a page has at most one role.
@@ -51,7 +53,8 @@ pub fn role_exists()
 /// high-water mark, which it has.
 #[tactic(auto, using(crate::proofs::RoleFacts::some_roles))]
 pub fn roles_exist()
-    ensures { (file : List ℕ) (meta : Meta) → HasSoundTrees file meta → HasRightAccounts file meta → (roles : ℕ → Role) × AreRoles file meta roles }
+    ensures { (file : List ℕ) (meta : Meta) → HasSoundTrees file meta → HasRightAccounts file meta
+        → (roles : ℕ → Role) × AreRoles file meta roles }
 {}
 
 /// Ways exist. One leads to the root page of the root bucket. From a page that a way leads to, one
@@ -70,7 +73,7 @@ pub fn ways_go_on()
 #[tactic(auto, using(crate::proofs::TourSums::bucket_tour))]
 pub fn tour_exists()
     ensures { (file : List ℕ) (meta : Meta) (way : List ℕ) (root : ℕ) → HasSoundTrees file meta
-        → reached (node_at file meta) meta.root way ≡ Some (At_page (root_spot root)) → (tour : _) × IsTour (reached (node_at file meta) root) tour }
+        → reach_of file meta way ≡ Some (At_page (root_spot root)) → (tour : _) × IsTour (reached (node_at file meta) root) tour }
 {}
 
 /// There is at most one tour: it lists exactly the ways that lead somewhere, and these have one

@@ -1,13 +1,12 @@
 //! What is left over of a file once all ways were followed: pages that no kept way takes in.
 ghost use Rattle.std.specs.Option.{IfNone};
-ghost use Rattle.std.specs.Prelude.{◌≡◌, ◌↔◌, ◌⊎◌, ◌≤◌, ◌<◌, ℕ, false, true, IfSome, Ok, Some, length};
-ghost use Rattle.bolt_format.specs.{Pages.page_at, TreePages.shown_page};
+ghost use Rattle.std.specs.Prelude.{◌≡◌, ◌↔◌, ◌≤◌, ◌<◌, ℕ, false, true, IfSome, Ok, length};
 ghost use Rattle.bolt_format.specs.declared.tree_page.TreePage.TheVariants as page;
 ghost use Rattle.bolt_check.specs.{Claims.claims_file, Claims.claims_meta, Claims.is_claimed, LoneLeaves.IsListedFree, LoneLeaves.IsLoneLeaf};
-ghost use Rattle.bolt_check.specs.{Nodes.Node, Nodes.node_at, Private.LeafTests.IsFilledLeaf, Private.Freelists.IsUnlisted};
+ghost use Rattle.bolt_check.specs.{Nodes.Node, Nodes.node_at, Private.LeafTests.IsFilledLeaf, Private.Freelists.IsUnlisted, Private.Freelists.KeepsUsed};
 ghost use Rattle.bolt_check.specs.Private.Pending.{ClaimsSpan};
-ghost use Rattle.bolt_check.specs.Private.Tables.{HasRoom, IsClaimed, IsUnclaimed, is_used, times_of, use_at};
-ghost use Rattle.bolt_check.specs.{ShownNodes.shown_node, Ways.At_page, Ways.SpanAt, Ways.root_spot};
+ghost use Rattle.bolt_check.specs.Private.Tables.{HasRoom, IsClaimed, IsUnclaimed, times_of, use_at};
+ghost use Rattle.bolt_check.specs.{ShownNodes.IsNodeAt, ShownNodes.IsPageAt, Ways.AddsSpan, Ways.At_page, Ways.root_spot};
 
 use crate::claims::Claims;
 use crate::freelist::list_ids_within;
@@ -29,14 +28,14 @@ pub struct Leftovers<'a> {
 
 #[tactic(auto, unfolding(crate::specs::Claims::claims_file, crate::specs::Claims::claims_meta, crate::specs::Claims::is_claimed, crate::specs::Leftovers::leftovers_file, crate::specs::Leftovers::leftovers_length, crate::specs::Leftovers::leftovers_meta, crate::specs::Leftovers::is_listed, crate::specs::Leftovers::is_taken))]
 impl<'a> Leftovers<'a> {
-    ghost use Rattle.bolt_check.specs.Leftovers.{is_listed, is_taken, leftovers_file, leftovers_length, leftovers_meta, leftovers_nodes};
+    ghost use Rattle.bolt_check.specs.Leftovers.{HasListed, HasTaken, is_listed, is_taken, leftovers_file, leftovers_length, leftovers_meta, leftovers_nodes};
 
     /// What was not claimed. Pages that the freelist lists are noted, if one was written and is good.
     pub fn new(claims: Claims<'a>) -> Leftovers<'a>
         ensures file { leftovers_file result ≡ claims_file claims.entry }
         ensures meta { leftovers_meta result ≡ claims_meta claims.entry }
         ensures taken { (n : ℕ) → is_taken result n ≡ is_claimed claims.entry n }
-        ensures listed { (n : ℕ) → n < leftovers_length result → (is_listed result n ≡ true)
+        ensures listed { (n : ℕ) → n < leftovers_length result → HasListed result n
             ↔ IsListedFree (claims_file claims.entry) (claims_meta claims.entry) n }
     {
         let file = claims.file;
@@ -51,7 +50,8 @@ impl<'a> Leftovers<'a> {
     pub fn end(&self) -> u64
         ensures within { result ≤ leftovers_length self.now }
         ensures below { result ≤ (leftovers_meta self.now).high_water }
-        ensures past { (n : ℕ) (node : Node) → result ≤ n → leftovers_nodes self.now n ≡ Ok node → n < (leftovers_meta self.now).high_water → ⊥ }
+        ensures past { (n : ℕ) (node : Node) → result ≤ n → leftovers_nodes self.now n ≡ Ok node
+            → n < (leftovers_meta self.now).high_water → ⊥ }
     {
         (self.table.len() as u64).min(self.meta.high_water)
     }
@@ -62,15 +62,20 @@ impl<'a> Leftovers<'a> {
         ensures file { leftovers_file self.new ≡ leftovers_file self.old }
         ensures meta { leftovers_meta self.new ≡ leftovers_meta self.old }
         ensures length { leftovers_length self.new ≡ leftovers_length self.old }
-        ensures node { IfSome result (λ leaf. leftovers_nodes self.old number ≡ Ok (shown_node (page.Leaf leaf))) }
-        ensures page { IfSome result (λ leaf. page_at (leftovers_file self.old) (leftovers_meta self.old) number ≡ Some (shown_page (page.Leaf leaf))) }
-        ensures leaf { IfSome result (λ _. IsLoneLeaf (leftovers_nodes self.old) (λ n. is_taken self.old n ≡ true) number) }
+        ensures node { IfSome result
+            (λ leaf. IsNodeAt (leftovers_nodes self.old) number (page.Leaf leaf)) }
+        ensures page { IfSome result (λ leaf. IsPageAt (leftovers_file self.old)
+            (leftovers_meta self.old) number (page.Leaf leaf)) }
+        ensures leaf { IfSome result
+            (λ _. IsLoneLeaf (leftovers_nodes self.old) (HasTaken self.old) number) }
         ensures unlisted { IfSome result (λ _. is_listed self.old number ≡ false) }
-        ensures none { IfNone result (IsLoneLeaf (leftovers_nodes self.old) (λ n. is_taken self.old n ≡ true) number → is_listed self.old number ≡ false → ⊥) }
-        ensures taken { IfSome result (λ _. (n : ℕ) → (is_taken self.new n ≡ true)
-            ↔ ((is_taken self.old n ≡ true) ⊎ SpanAt (leftovers_nodes self.old) (At_page (root_spot number)) n)) }
+        ensures none { IfNone result (IsLoneLeaf (leftovers_nodes self.old)
+            (HasTaken self.old) number → is_listed self.old number ≡ false → ⊥) }
+        ensures taken { IfSome result (λ _. AddsSpan (leftovers_nodes self.old) (At_page (root_spot number))
+            (HasTaken self.old) (HasTaken self.new)) }
         ensures same { IfNone result ((n : ℕ) → is_taken self.new n ≡ is_taken self.old n) }
-        ensures noted { (n : ℕ) → is_taken self.new n ≡ false → is_listed self.new n ≡ is_listed self.old n }
+        ensures noted { (n : ℕ) → is_taken self.new n ≡ false
+            → is_listed self.new n ≡ is_listed self.old n }
     {
         take_leaf(self.file, &self.meta, number, &mut self.table)
     }
@@ -79,9 +84,11 @@ impl<'a> Leftovers<'a> {
 /// Lists what the freelist lists, if one was written and is good.
 fn list_free(file: &[u8], meta: &Meta, table: &mut [PageUse])
     requires { IsUnlisted table.old }
-    ensures used { (n : ℕ) → is_used (use_at table.new n) ≡ is_used (use_at table.old n) }
-    ensures none { (n : ℕ) → n < length table.old → 1 ≤ times_of (use_at table.new n) → IsListedFree file.now meta.now n }
-    ensures some { (n : ℕ) → n < length table.old → IsListedFree file.now meta.now n → 1 ≤ times_of (use_at table.new n) }
+    ensures used { KeepsUsed table.old table.new }
+    ensures none { (n : ℕ) → n < length table.old → 1 ≤ times_of (use_at table.new n)
+        → IsListedFree file.now meta.now n }
+    ensures some { (n : ℕ) → n < length table.old → IsListedFree file.now meta.now n
+        → 1 ≤ times_of (use_at table.new n) }
 {
     match free_ids(file, meta) {
         Ok(Some(ids)) => list_ids_within(ids, table),
@@ -97,12 +104,16 @@ fn take_leaf<'a>(
     table: &mut [PageUse],
 ) -> Option<LeafPage<'a>>
     requires { HasRoom file.now meta.now table.old }
-    ensures node { IfSome result (λ leaf. node_at file.now meta.now number ≡ Ok (shown_node (page.Leaf leaf))) }
-    ensures page { IfSome result (λ leaf. page_at file.now meta.now number ≡ Some (shown_page (page.Leaf leaf))) }
-    ensures leaf { IfSome result (λ _. IsLoneLeaf (node_at file.now meta.now) (IsClaimed table.old) number) }
+    ensures node { IfSome result
+        (λ leaf. IsNodeAt (node_at file.now meta.now) number (page.Leaf leaf)) }
+    ensures page { IfSome result (λ leaf. IsPageAt file.now meta.now number (page.Leaf leaf)) }
+    ensures leaf { IfSome result
+        (λ _. IsLoneLeaf (node_at file.now meta.now) (IsClaimed table.old) number) }
     ensures unlisted { IfSome result (λ _. times_of (use_at table.old number) ≡ 0) }
-    ensures none { IfNone result (IsLoneLeaf (node_at file.now meta.now) (IsClaimed table.old) number → times_of (use_at table.old number) ≡ 0 → ⊥) }
-    ensures claims { IfSome result (λ _. ClaimsSpan (node_at file.now meta.now) (At_page (root_spot number)) table.old table.new) }
+    ensures none { IfNone result (IsLoneLeaf (node_at file.now meta.now)
+        (IsClaimed table.old) number → times_of (use_at table.old number) ≡ 0 → ⊥) }
+    ensures claims { IfSome result (λ _. ClaimsSpan (node_at file.now meta.now)
+        (At_page (root_spot number)) table.old table.new) }
     ensures same { IfNone result (table.new ≡ table.old) }
     ensures outside { (n : ℕ) → IsUnclaimed table.new n → use_at table.new n ≡ use_at table.old n }
 {

@@ -1,6 +1,6 @@
 //! Roles: what each page of a file is for, as a table of uses says it.
 ghost use Rattle.std.specs.Prelude.{◌≡◌, ◌<◌};
-ghost use Rattle.bolt_check.specs.{CheckedFiles.bytes_of, CheckedFiles.meta_of, Private.RoleTables.AreUses, Private.RoleTables.role_by, Private.Tables.use_at};
+ghost use Rattle.bolt_check.specs.{CheckedFiles.in_checked, CheckedFiles.meta_of, Private.RoleTables.AreUses, Private.RoleTables.role_by, Private.Tables.use_at};
 ghost use Rattle.bolt_check.specs.Roles.{HasRole};
 
 use crate::checked::Checked;
@@ -30,7 +30,7 @@ impl<'a> Roles<'a> {
     /// The role of the page with this number, which is below the high-water mark. Needs no memory.
     pub fn role(&self, id: u64) -> Role
         requires { id < (meta_of (roles_checked self.now)).high_water }
-        ensures { ∥ HasRole (bytes_of (roles_checked self.now)) (meta_of (roles_checked self.now)) id result ∥₁ }
+        ensures { ∥ in_checked HasRole (roles_checked self.now) id result ∥₁ }
     {
         // The proof needs `mark() < 2^64`, which the prover knows of a call's result but not of a
         // field behind a reference.

@@ -1,12 +1,11 @@
 //! The search of all ways, in order, for the first finding. It isn't recursive: what is nested deep
 //! needs memory for the spots that are pending, but no stack.
-ghost use Rattle.std.specs.Prelude.{◌≡◌, ℕ, ◌<◌, ◌≤◌, ◌+◌, ◌*◌, ◌++◌, ◌∷◌, ◌↔◌, [], IfErr, IfOk, OnOk, Ok, length, vec_len};
-ghost use Rattle.bolt_check.specs.{Findings.IsClean, Findings.IsCovered, Findings.IsMetaPage, Nodes.node_at, Private.Carries.Carries};
-ghost use Rattle.bolt_check.specs.{Private.Freelists.IsUnlisted, Private.Pending.forest, Private.Pending.kids, Private.Pending.spots_of};
-ghost use Rattle.bolt_check.specs.{ShownSpots.page_spot, ShownSpots.spot_at, Private.SearchFaults.IsSearchFault, ShownNodes.shown_node};
-ghost use Rattle.bolt_check.specs.{Private.Tables.HasRoom, Private.Tables.IsClaimed, Private.Tables.unclaimed, TableLengths.table_length};
-ghost use Rattle.bolt_check.specs.{Private.Uses.HasUse, Private.Uses.IsMetaUse, Private.Uses.IsNoted, Ways.At_page, Ways.reached, Ways.root_spot};
-ghost use Rattle.bolt_check.specs.declared.table.PageUse.{PageUse};
+ghost use Rattle.std.specs.Prelude.{◌≡◌, ◌<◌, ◌≤◌, ◌+◌, ◌*◌, ◌++◌, ◌∷◌, [], IfErr, IfOk, OnOk, Ok, length, vec_len};
+ghost use Rattle.bolt_check.specs.{Findings.IsMetaPage, Nodes.node_at, OnWays.reach_of, Private.Freelists.IsUnlisted, Sound.PassesTests};
+ghost use Rattle.bolt_check.specs.{Private.Pending.CarriesPending, Private.Pending.kids, Private.Pending.spots_of};
+ghost use Rattle.bolt_check.specs.{Private.RoleTables.ClaimsUsed, Private.RoleTables.NotesUses, Private.SearchFaults.IsPendingFault, Private.SearchFaults.IsSearchFault};
+ghost use Rattle.bolt_check.specs.{Private.Tables.HasRoom, Private.Tables.unclaimed, TableLengths.table_length};
+ghost use Rattle.bolt_check.specs.{ShownNodes.shown_node, ShownSpots.page_spot, Ways.At_page, Ways.root_spot};
 
 use crate::fault::CheckFault;
 use crate::spot::{PageSpot, Spot};
@@ -23,7 +22,8 @@ fn push_kids<'a>(
     pending: &mut Vec<Spot<'a>>,
 ) -> Result<(), AllocError>
     requires { spot.now.depth ≤ 64 }
-    ensures kids { OnOk result (spots_of pending.new.items ≡ kids (shown_node node.now) (page_spot spot.now) ++ spots_of pending.old.items) }
+    ensures kids { OnOk result (spots_of pending.new.items
+        ≡ kids (shown_node node.now) (page_spot spot.now) ++ spots_of pending.old.items) }
     ensures few { OnOk result (vec_len pending.new < vec_len pending.old + 65536) }
 {
     let mut i = node.count();
@@ -62,12 +62,12 @@ fn step<'a>(
     ensures room { OnOk result (HasRoom file.now meta.now table.new) }
     ensures unlisted { OnOk result (IsUnlisted table.old → IsUnlisted table.new) }
     ensures length { OnOk result (length table.new ≡ length table.old) }
-    ensures less { OnOk result (unclaimed table.new * 65536 + vec_len pending.new ≤ unclaimed table.old * 65536 + vec_len pending.old) }
-    ensures carried { OnOk result (Carries (node_at file.now meta.now)
-        (forest (node_at file.now meta.now) (spot_at spot.entry ∷ spots_of pending.old.items)) (IsClaimed table.old) (IsNoted table.old)
-        (forest (node_at file.now meta.now) (spots_of pending.new.items)) (IsClaimed table.new) (IsNoted table.new)) }
-    ensures reported { IfErr result (IsSearchFault (node_at file.now meta.now)
-        (forest (node_at file.now meta.now) (spot_at spot.entry ∷ spots_of pending.old.items)) (IsClaimed table.old)) }
+    ensures less { OnOk result (unclaimed table.new * 65536 + vec_len pending.new
+        ≤ unclaimed table.old * 65536 + vec_len pending.old) }
+    ensures carried { OnOk result (CarriesPending (node_at file.now meta.now)
+        spot.entry pending.old.items table.old pending.new.items table.new) }
+    ensures reported { IfErr result (IsPendingFault (node_at file.now meta.now)
+        spot.entry pending.old.items table.old) }
 {
     match spot {
         Spot::Page(spot) => {
@@ -86,15 +86,14 @@ fn step<'a>(
 /// pages of all spans are claimed.
 pub(crate) fn search(alloc: Global, file: &[u8], meta: &Meta) -> Result<Vec<PageUse>, CheckFault>
     requires { 0 < meta.now.page_size }
-    ensures clean { OnOk result (IsClean (node_at file.now meta.now) (reached (node_at file.now meta.now) meta.now.root) IsMetaPage) }
-    ensures covered { IfOk result (λ table. (n : ℕ) → IsClaimed table.items n
-        ↔ IsCovered (node_at file.now meta.now) (reached (node_at file.now meta.now) meta.now.root) IsMetaPage n) }
-    ensures uses { IfOk result (λ table. (n : ℕ) (u : PageUse) → IsNoted table.items n u
-        → HasUse (node_at file.now meta.now) (reached (node_at file.now meta.now) meta.now.root) IsMetaUse n u) }
+    ensures clean { OnOk result (PassesTests file.now meta.now) }
+    ensures covered { IfOk result (λ table. ClaimsUsed file.now meta.now table.items) }
+    ensures uses { IfOk result (λ table. NotesUses file.now meta.now table.items) }
     ensures room { IfOk result (λ table. HasRoom file.now meta.now table.items) }
     ensures unlisted { IfOk result (λ table. IsUnlisted table.items) }
     ensures length { IfOk result (λ table. length table.items ≡ table_length file.now meta.now) }
-    ensures first { IfErr result (IsSearchFault (node_at file.now meta.now) (reached (node_at file.now meta.now) meta.now.root) IsMetaPage) }
+    ensures first { IfErr result (IsSearchFault (node_at file.now meta.now)
+        (reach_of file.now meta.now) IsMetaPage) }
 {
     let mut table = new_table(alloc, file, meta)?;
     let mut pending = new_pending(alloc, meta.root)?;

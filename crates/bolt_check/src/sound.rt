@@ -43,7 +43,8 @@ pub fn check<'a>(alloc: Global, file: &'a [u8]) -> Result<Checked<'a>, CheckFaul
 #[tactic(auto, using(crate::proofs::MarkLemmas::table_wide), unfolding(crate::specs::RoledFiles::roles_checked, crate::specs::CheckedFiles::bytes_of, crate::specs::CheckedFiles::has_accounts, crate::specs::CheckedFiles::meta_of))]
 pub fn check_roles<'a>(alloc: Global, file: &'a [u8]) -> Result<Roles<'a>, CheckFault>
     ensures bytes { IfOk result (λ roles. bytes_of (roles_checked roles) ≡ file.now) }
-    ensures meta { IfOk result (λ roles. (slot : _) × IsActive file.now slot (meta_of (roles_checked roles))) }
+    ensures meta { IfOk result (λ roles. (slot : _)
+        × IsActive file.now slot (meta_of (roles_checked roles))) }
     ensures sound { IfOk result (λ roles. IsSound file.now (meta_of (roles_checked roles)) true) }
     ensures accounts { IfOk result (λ roles. has_accounts (roles_checked roles) ≡ true) }
     ensures refused { IfErr result (IsRefused file.now) }

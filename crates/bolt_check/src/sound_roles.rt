@@ -1,8 +1,8 @@
 //! The roles of all pages of a sound file: the search runs again, and now finds nothing.
-ghost use Rattle.std.specs.Prelude.{◌≡◌, ◌↔◌, ℕ, IfOk, true};
-ghost use Rattle.bolt_check.specs.{CheckedFiles.has_accounts, Nodes.node_at, Private.Freelists.ClaimsUses, Private.RoleTables.AreUses};
-ghost use Rattle.bolt_check.specs.{Private.Tables.HasRoom, Private.Tables.IsClaimed, Private.Uses.HasUse, Private.Uses.IsMetaUse, Private.Uses.IsNoted};
-ghost use Rattle.bolt_check.specs.{RoledFiles.roles_checked, Sound.IsSound, Sound.IsUsed, Ways.reached};
+ghost use Rattle.std.specs.Prelude.{◌≡◌, IfOk, true};
+ghost use Rattle.bolt_check.specs.{CheckedFiles.has_accounts, Private.Freelists.ClaimsUses, RoledFiles.roles_checked, Sound.IsSound};
+ghost use Rattle.bolt_check.specs.Private.RoleTables.{AreUses, ClaimsUsed, NotesUses};
+ghost use Rattle.bolt_check.specs.{Private.SearchFaults.is_memory, Private.Tables.HasRoom};
 
 use crate::accounts::claim_freelist;
 use crate::checked::Checked;
@@ -13,20 +13,23 @@ use crate::table::PageUse;
 use bolt_format::{Meta, NO_FREELIST};
 use std::alloc::Global;
 
+/// The fault of a search that finds nothing: memory ran out.
+fn only_memory(_fault: CheckFault) -> NoMemory
+    requires { is_memory _fault ≡ true }
+{
+    NoMemory
+}
+
 /// Searches a file that is known to be sound, so nothing is found.
 fn search_sound(alloc: Global, file: &[u8], meta: &Meta) -> Result<Vec<PageUse>, NoMemory>
     requires { ∥ IsSound file.now meta.now true ∥₁ }
-    ensures claimed { IfOk result (λ table. (n : ℕ) → IsClaimed table.items n ↔ IsUsed file.now meta.now n) }
-    ensures uses { IfOk result (λ table. (n : ℕ) (u : _) → IsNoted table.items n u
-        → HasUse (node_at file.now meta.now) (reached (node_at file.now meta.now) meta.now.root) IsMetaUse n u) }
+    ensures claimed { IfOk result (λ table. ClaimsUsed file.now meta.now table.items) }
+    ensures uses { IfOk result (λ table. NotesUses file.now meta.now table.items) }
     ensures room { IfOk result (λ table. HasRoom file.now meta.now table.items) }
 {
     match search(alloc, file, meta) {
         Ok(table) => Ok(table),
-        Err(CheckFault::Memory) => Err(NoMemory),
-        Err(CheckFault::Structure(_)) => unreachable!(),
-        Err(CheckFault::Open(_)) => unreachable!(),
-        Err(CheckFault::Accounts(_)) => unreachable!(),
+        Err(fault) => Err(only_memory(fault)),
     }
 }
 
@@ -34,17 +37,14 @@ fn search_sound(alloc: Global, file: &[u8], meta: &Meta) -> Result<Vec<PageUse>,
 #[tactic(auto, using(crate::proofs::UsesClaimed::uses_claimed, crate::proofs::UsesClaimed::uses_unwritten))]
 fn claim_written(file: &[u8], meta: &Meta, table: &mut [PageUse])
     requires sound { ∥ IsSound file.now meta.now true ∥₁ }
-    requires claimed { (n : ℕ) → IsClaimed table.old n ↔ IsUsed file.now meta.now n }
+    requires claimed { ClaimsUsed file.now meta.now table.old }
     requires room { HasRoom file.now meta.now table.old }
     ensures { ClaimsUses file.now meta.now table.old table.new }
 {
     if meta.freelist == NO_FREELIST {
         return;
     }
-    match claim_freelist(file, meta, table) {
-        Some(_) => unreachable!(),
-        None => {}
-    }
+    claim_freelist(file, meta, table);
 }
 
 /// The uses of all pages of a file that is known to be sound.

@@ -16,8 +16,10 @@ impl<'a> PageSpot<'a> {
     pub fn step(&self, page: &TreePage<'a>, i: u16) -> Option<Spot<'a>>
         requires below { i < length (page_keys page.now) }
         requires shallow { self.now.depth ≤ 64 }
-        ensures leads { option_map spot_at result ≡ step_on (shown_node page.now) (page_spot self.now) i }
-        ensures inner { IfSome result (λ spot. (e : LeafElement) → slice_get (shown_page page.now).leaves i ≡ Some e → IsInner e.value spot) }
+        ensures leads { option_map spot_at result
+            ≡ step_on (shown_node page.now) (page_spot self.now) i }
+        ensures inner { IfSome result (λ spot. (e : LeafElement) → slice_get
+            (shown_page page.now).leaves i ≡ Some e → IsInner e.value spot) }
     {
         match page {
             TreePage::Branch(branch) => Some(Spot::Page(self.child(branch, i))),
@@ -30,7 +32,8 @@ impl<'a> PageSpot<'a> {
     fn child(&self, branch: &BranchPage<'a>, i: u16) -> PageSpot<'a>
         requires below { i < length (branches_on branch.now) }
         requires shallow { self.now.depth ≤ 64 }
-        ensures { step_on (shown_node (page.Branch branch.now)) (page_spot self.now) i ≡ Some (At_page (page_spot result)) }
+        ensures { step_on (shown_node (page.Branch branch.now)) (page_spot self.now) i
+            ≡ Some (At_page (page_spot result)) }
     {
         let element = branch.element(i);
         PageSpot {
@@ -45,7 +48,8 @@ impl<'a> PageSpot<'a> {
     #[tactic(auto, using(crate::proofs::NodeLemmas::entry_rules))]
     fn upper(&self, branch: &BranchPage<'a>, i: u16) -> Option<&'a [u8]>
         requires { i < length (branches_on branch.now) }
-        ensures { bound_of result ≡ upper_from (slice_get (shown_node (page.Branch branch.now)).entries (suc i)) (bound_of self.now.upper) }
+        ensures { bound_of result ≡ upper_from (slice_get
+            (shown_node (page.Branch branch.now)).entries (suc i)) (bound_of self.now.upper) }
     {
         if branch.count() - i > 1 {
             Some(branch.element(i + 1).key)
@@ -58,7 +62,8 @@ impl<'a> PageSpot<'a> {
     /// 1, and no bounds.
     fn bucket(&self, leaf: Leaf<'a>) -> Option<Spot<'a>>
         requires { IsTrue leaf.is_bucket → IsBucketValue leaf.value.now }
-        ensures leads { option_map spot_at result ≡ bucket_spots self.now.number (leaf_entry (leaf_view leaf.entry)) }
+        ensures leads { option_map spot_at result
+            ≡ bucket_spots self.now.number (leaf_entry (leaf_view leaf.entry)) }
         ensures inner { IfSome result (IsInner leaf.entry.value.now) }
     {
         if !leaf.is_bucket {

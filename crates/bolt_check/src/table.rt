@@ -36,11 +36,13 @@ pub(crate) enum PageUse {
 pub(crate) fn new_table(alloc: Global, file: &[u8], meta: &Meta) -> Result<Vec<PageUse>, AllocError>
     requires { 0 < meta.now.page_size }
     ensures metas { IfOk result (λ table. (n : ℕ) → IsClaimed table.items n ↔ IsMetaPage n) }
-    ensures uses { IfOk result (λ table. (n : ℕ) (u : PageUse) → IsNoted table.items n u → IsMetaUse n u) }
+    ensures uses { IfOk result (λ table. (n : ℕ) (u : PageUse) → IsNoted table.items n u
+        → IsMetaUse n u) }
     ensures room { IfOk result (λ table. HasRoom file.now meta.now table.items) }
     ensures unlisted { IfOk result (λ table. IsUnlisted table.items) }
     ensures length { IfOk result (λ table. length table.items ≡ table_length file.now meta.now) }
-    ensures begin { IfOk result (λ table. (n : ℕ) → n < length table.items → n * meta.now.page_size < length file.now) }
+    ensures begin { IfOk result (λ table. (n : ℕ) → n < length table.items
+        → n * meta.now.page_size < length file.now) }
 {
     let pages = (file.len() / meta.page_size as usize) as u64;
     let mut table = vec![in alloc; PageUse::Unused; pages.min(meta.high_water) as usize]?;
@@ -74,8 +76,10 @@ fn first_use(n: usize) -> PageUse
 pub(crate) fn first_claimed(table: &[PageUse], from: usize, last: usize) -> Option<usize>
     requires order { from ≤ last }
     requires within { last < length table.now }
-    ensures lowest { IfSome result (λ n. (from ≤ n) × (n ≤ last) × IsClaimed table.now n × ((k : ℕ) → from ≤ k → k < n → IsUnclaimed table.now k)) }
-    ensures none { MatchOption result ((k : ℕ) → from ≤ k → k ≤ last → IsUnclaimed table.now k) (λ _. Unit {0}) }
+    ensures lowest { IfSome result (λ n. (from ≤ n) × (n ≤ last) × IsClaimed table.now n
+        × ((k : ℕ) → from ≤ k → k < n → IsUnclaimed table.now k)) }
+    ensures none { MatchOption result ((k : ℕ) → from ≤ k → k ≤ last
+        → IsUnclaimed table.now k) (λ _. Unit {0}) }
 {
     for n in from..last + 1 {
         if is_used(table[n]) {

@@ -1,12 +1,12 @@
 //! The visit of a page: it is opened as a node, which is a branch or a leaf; it is tested; and its
 //! span is claimed.
-ghost use Rattle.std.specs.Prelude.{◌≡◌, ◌==◌, ◌&&◌, not, length, ◌<◌, ◌≤◌, ℕ, IfErr, IfOk, MatchResult, Err, None, Ok, OnErr, OnOk, Some};
+ghost use Rattle.std.specs.Prelude.{◌≡◌, ◌==◌, ◌&&◌, not, length, ◌<◌, ◌≤◌, ℕ, IfErr, IfOk, MatchResult, None, OnErr, OnOk};
 ghost use Rattle.std.specs.Result.{result_err};
-ghost use Rattle.bolt_format.specs.{Pages.IsInFile, Pages.page_at, TreePages.page_keys, TreePages.shown_page};
-ghost use Rattle.bolt_check.specs.{Findings.PagePasses, Findings.PageTests, Findings.keys_of, Findings.node_finding, Keys.keys_order_fault, Nodes.node_at};
+ghost use Rattle.bolt_format.specs.{Pages.IsInFile, TreePages.page_keys, TreePages.shown_page};
+ghost use Rattle.bolt_check.specs.{Findings.PagePasses, Findings.PageTests, Findings.node_finding, Keys.keys_order_fault, Nodes.node_at};
 ghost use Rattle.bolt_check.specs.{Private.Freelists.IsUnlisted, Private.Pending.ClaimsSpan, Private.Uses.use_of};
 ghost use Rattle.bolt_check.specs.Private.Tables.{HasRoom, IsClaimed, IsUnclaimed, unclaimed, use_at};
-ghost use Rattle.bolt_check.specs.{ShownNodes.shown_node, ShownSpots.bound_of, ShownSpots.page_spot, Ways.At_page};
+ghost use Rattle.bolt_check.specs.{ShownNodes.IsFaultAt, ShownNodes.IsNodeAt, ShownNodes.IsPageAt, ShownNodes.shown_node, ShownSpots.bound_of, ShownSpots.page_spot, Ways.At_page};
 
 use crate::finding::Finding;
 use crate::keys::test_key;
@@ -25,13 +25,17 @@ pub(crate) fn visit<'a>(
     table: &mut [PageUse],
 ) -> Result<TreePage<'a>, Finding>
     requires { HasRoom file.now meta.now table.old }
-    ensures found { IfErr result (PageTests (node_at file.now meta.now) (IsClaimed table.old) (page_spot spot.now)) }
+    ensures found { IfErr result
+        (PageTests (node_at file.now meta.now) (IsClaimed table.old) (page_spot spot.now)) }
     ensures same { OnErr result (table.new ≡ table.old) }
-    ensures page { IfOk result (λ node. page_at file.now meta.now spot.now.number ≡ Some (shown_page node)) }
-    ensures node { IfOk result (λ node. node_at file.now meta.now spot.now.number ≡ Ok (shown_node node)) }
-    ensures passes { OnOk result (PagePasses (node_at file.now meta.now) (IsClaimed table.old) (page_spot spot.now)) }
-    ensures claims { OnOk result (ClaimsSpan (node_at file.now meta.now) (At_page (page_spot spot.now)) table.old table.new) }
-    ensures outside { OnOk result ((n : ℕ) → IsUnclaimed table.new n → use_at table.new n ≡ use_at table.old n) }
+    ensures page { IfOk result (IsPageAt file.now meta.now spot.now.number) }
+    ensures node { IfOk result (IsNodeAt (node_at file.now meta.now) spot.now.number) }
+    ensures passes { OnOk result
+        (PagePasses (node_at file.now meta.now) (IsClaimed table.old) (page_spot spot.now)) }
+    ensures claims { OnOk result (ClaimsSpan (node_at file.now meta.now)
+        (At_page (page_spot spot.now)) table.old table.new) }
+    ensures outside { OnOk result ((n : ℕ) → IsUnclaimed table.new n
+        → use_at table.new n ≡ use_at table.old n) }
     ensures fewer { OnOk result (unclaimed table.new < unclaimed table.old) }
     ensures unlisted { OnOk result (IsUnlisted table.old → IsUnlisted table.new) }
     ensures shallow { OnOk result (spot.now.depth ≤ 64) }
@@ -57,9 +61,9 @@ pub(crate) fn visit<'a>(
 /// The page's first fault, or `PAGE_KIND` if it is neither a branch nor a leaf.
 #[tactic(auto, using(crate::proofs::NodeLemmas::node_faulty, crate::proofs::NodeLemmas::node_shown, crate::proofs::NodeLemmas::node_refused))]
 pub(crate) fn open<'a>(file: &'a [u8], meta: &Meta, id: u64) -> Result<TreePage<'a>, PageFault>
-    ensures node { MatchResult result (λ node. node_at file.now meta.now id ≡ Ok (shown_node node))
-        (λ fault. (node_at file.now meta.now id ≡ Err fault.number) × (fault.page ≡ id)) }
-    ensures page { IfOk result (λ node. page_at file.now meta.now id ≡ Some (shown_page node)) }
+    ensures node { MatchResult result (IsNodeAt (node_at file.now meta.now) id)
+        (IsFaultAt (node_at file.now meta.now) id) }
+    ensures page { IfOk result (IsPageAt file.now meta.now id) }
     ensures within { IfOk result (λ node. IsInFile file.now meta.now id (shown_page node)) }
 {
     page(file, meta, id)?.tree_page().ok_or(PageFault {
@@ -82,7 +86,8 @@ fn first_use(node: &TreePage<'_>) -> PageUse
 /// Whether a page is a branch without elements.
 #[tactic(auto, unfolding(crate::specs::ShownNodes::shown_node))]
 fn is_empty_branch(node: &TreePage<'_>) -> bool
-    ensures { result ≡ (not (shown_node node.now).is_leaf && (length (shown_node node.now).entries == 0)) }
+    ensures { result
+        ≡ (not (shown_node node.now).is_leaf && (length (shown_node node.now).entries == 0)) }
 {
     match node {
         TreePage::Branch(branch) => branch.count() == 0,
@@ -107,7 +112,8 @@ fn test_node(node: &TreePage<'_>, spot: &PageSpot<'_>) -> Result<(), Finding>
 /// Tests the keys of a page, one after another, against each other and their bounds.
 #[tactic(auto, using(bolt_format::proofs::ListLemmas::drop_next, std::proofs::lemmas::List::drop_all))]
 fn test_keys(node: &TreePage<'_>, lower: Option<&[u8]>, upper: Option<&[u8]>) -> Result<(), u8>
-    ensures { result_err result ≡ keys_order_fault None (bound_of lower.entry) (bound_of upper.entry) (page_keys node.now) }
+    ensures { result_err result
+        ≡ keys_order_fault None (bound_of lower.entry) (bound_of upper.entry) (page_keys node.now) }
 {
     let mut before: Option<&[u8]> = None;
     for i in 0..node.count() {

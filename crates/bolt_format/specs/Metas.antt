@@ -124,3 +124,11 @@ HasNoActive file fault = HasMetaFault file 0 fault × ((slot : Slot) (meta : Met
 
 abbrev pub HasNoneInSlot : List ℕ → Slot → MetaFault → Type 0
 HasNoneInSlot file slot fault = HasSlotFault file slot fault × ((meta : Meta) → IsInSlot file slot meta → ⊥)
+
+-- no other meta is active
+abbrev pub IsOnlyActive : List ℕ → Slot → Meta → Type 0
+IsOnlyActive file slot meta = (other : Slot) (another : Meta) → IsActive file other another → (other ≡ slot) × (another ≡ meta)
+
+-- what is said of the prefix of a file in which its metas lie, and of the file
+abbrev pub ForMetasPrefix : (List ℕ → List ℕ → Type 0) → Type 0
+ForMetasPrefix P = (file : List ℕ) (end : ℕ) → IsMetasEnd (take 80 file) end → P (take end file) file

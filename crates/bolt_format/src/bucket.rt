@@ -97,7 +97,8 @@ fn test_inline(bytes: &[u8]) -> Result<(), u8>
 /// Tests the header of an inline page and its elements, and returns their number.
 fn test_inline_page(bytes: &[u8]) -> Result<u16, u8>
     ensures fault { result_err result ≡ inline_page_fault bytes.now }
-    ensures count { IfOk result (λ count. (count ≡ count_field bytes.now) × (element_at count ≤ length bytes.now)) }
+    ensures count { IfOk result (λ count. (count ≡ count_field bytes.now)
+        × (element_at count ≤ length bytes.now)) }
 {
     if bytes.len() < HEADER_LEN {
         return Err(PageFault::INLINE_PAGE);

@@ -24,9 +24,11 @@ const LONG_START: usize = 24;
 ///
 /// Those of `free_ids_at` of the freelist's page number.
 pub fn free_ids<'a>(file: &'a [u8], meta: &Meta) -> Result<Option<FreeIds<'a>>, PageFault>
-    ensures ids { IfOk result (λ found. option_map shown_ids found ≡ free_ids_of file.now meta.now) }
+    ensures ids { IfOk result (λ found. option_map shown_ids found
+        ≡ free_ids_of file.now meta.now) }
     ensures good { OnOk result (freelist_fault_of file.now meta.now ≡ None) }
-    ensures fault { IfErr result (λ fault. (freelist_fault_of file.now meta.now ≡ Some fault.number) × (fault.page ≡ meta.now.freelist)) }
+    ensures fault { IfErr result (λ fault. (freelist_fault_of file.now meta.now ≡ Some fault.number)
+        × (fault.page ≡ meta.now.freelist)) }
 {
     if meta.freelist == NO_FREELIST {
         return Ok(None);
@@ -43,7 +45,8 @@ pub fn free_ids<'a>(file: &'a [u8], meta: &Meta) -> Result<Option<FreeIds<'a>>, 
 pub fn free_ids_at<'a>(file: &'a [u8], meta: &Meta, id: u64) -> Result<FreeIds<'a>, PageFault>
     ensures ids { IfOk result (λ ids. shown_ids ids ≡ free_ids_at file.now meta.now id) }
     ensures good { OnOk result (freelist_fault file.now meta.now id ≡ None) }
-    ensures fault { IfErr result (λ fault. (freelist_fault file.now meta.now id ≡ Some fault.number) × (fault.page ≡ id)) }
+    ensures fault { IfErr result (λ fault. (freelist_fault file.now meta.now id ≡ Some fault.number)
+        × (fault.page ≡ id)) }
 {
     ids_of_page(file, meta, id).map_err(|code| PageFault {
         number: code,
@@ -69,7 +72,8 @@ fn ids_of_page<'a>(file: &'a [u8], meta: &Meta, id: u64) -> Result<FreeIds<'a>, 
 #[tactic(auto, unfolding(crate::specs::Freelists::ids_fault, crate::specs::ShownIds::shown_ids))]
 fn ids_in(bytes: &[u8], count: u16) -> Result<FreeIds<'_>, u8>
     ensures fault { result_err result ≡ ids_fault count bytes.now }
-    ensures ids { IfOk result (λ ids. shown_ids ids ≡ ids_from bytes.now (ids_start count) (id_count count bytes.now)) }
+    ensures ids { IfOk result (λ ids. shown_ids ids
+        ≡ ids_from bytes.now (ids_start count) (id_count count bytes.now)) }
 {
     if count != LONG_COUNT {
         return ids_within(bytes, HEADER_LEN, u64::from(count));
@@ -84,7 +88,8 @@ fn ids_in(bytes: &[u8], count: u16) -> Result<FreeIds<'_>, u8>
 #[tactic(auto, unfolding(crate::specs::ShownIds::shown_ids))]
 fn ids_within(bytes: &[u8], start: usize, len: u64) -> Result<FreeIds<'_>, u8>
     requires { start ≤ 24 }
-    ensures fault { result_err result ≡ (if nat_lt (length bytes.now) (start + 8 * len) then Some PageFault.ELEMENT_CUT else None) }
+    ensures fault { result_err result ≡
+        (if nat_lt (length bytes.now) (start + 8 * len) then Some PageFault.ELEMENT_CUT else None) }
     ensures ids { IfOk result (λ ids. shown_ids ids ≡ ids_from bytes.now start len) }
 {
     if start as u128 + 8 * u128::from(len) > bytes.len() as u128 {

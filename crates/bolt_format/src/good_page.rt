@@ -33,8 +33,10 @@ impl<'a> Page<'a> {
     /// The count in its header: the number of elements of a branch or a leaf.
     pub fn count(&self) -> u16
         ensures count { result ≡ (shown self.now).count }
-        ensures branches { (shown self.now).kind ≡ Kind.Branch → length (shown self.now).branches ≡ result }
-        ensures leaves { (shown self.now).kind ≡ Kind.Leaf → length (shown self.now).leaves ≡ result }
+        ensures branches { (shown self.now).kind ≡ Kind.Branch
+            → length (shown self.now).branches ≡ result }
+        ensures leaves { (shown self.now).kind ≡ Kind.Leaf
+            → length (shown self.now).leaves ≡ result }
     {
         self.count
     }

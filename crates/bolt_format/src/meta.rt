@@ -1,6 +1,6 @@
 //! The two meta records of a file, and which of them is active.
 ghost use Rattle.std.specs.Prelude.{◌≡◌, ◌↔◌, IfErr, IfNone, IfOk, IfSome, IsTrue, OnErr};
-ghost use Rattle.bolt_format.specs.Metas.{HasMetaFault, HasSlotFault, IsActive, IsInSlot, IsLoneMeta, IsMeta, IsMetasEnd, IsPageSize};
+ghost use Rattle.bolt_format.specs.Metas.{HasMetaFault, HasSlotFault, IsActive, IsInSlot, IsLoneMeta, IsMeta, IsMetasEnd, IsOnlyActive, IsPageSize};
 
 use crate::bytes::{fnv1a, u32_at, u64_at};
 
@@ -119,7 +119,7 @@ pub fn meta_at(file: &[u8], at: usize) -> Result<Meta, MetaFault>
 /// If neither slot has a valid meta, the fault of byte 0.
 pub fn choose(file: &[u8]) -> Result<(Slot, Meta), MetaFault>
     ensures chosen { IfOk result (λ c. IsActive file.now c.0 c.1) }
-    ensures only { IfOk result (λ c. (slot : _) (meta : _) → IsActive file.now slot meta → (slot ≡ c.0) × (meta ≡ c.1)) }
+    ensures only { IfOk result (λ c. IsOnlyActive file.now c.0 c.1) }
     ensures fault { IfErr result (HasMetaFault file.now 0) }
     ensures none { OnErr result ((slot : _) (meta : _) → IsInSlot file.now slot meta → ⊥) }
 {

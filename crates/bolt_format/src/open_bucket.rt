@@ -1,6 +1,6 @@
 //! Reads the value of a bucket on a page that passed its tests.
 ghost use Rattle.std.specs.Prelude.{◌≡◌};
-ghost use Rattle.bolt_format.specs.{Elements.IsBucketValue, Elements.head_root, Elements.head_sequence, Elements.inline_elements, ShownInline.shown_inline};
+ghost use Rattle.bolt_format.specs.{Elements.IsBucketValue, Elements.head_root, Elements.head_sequence, Elements.inline_elements, ShownInline.shown_inline, TreePages.leaf_overflow};
 
 use crate::bucket::{HEAD_LEN, Head, Inline};
 use crate::bytes::u64_at;
@@ -23,11 +23,12 @@ pub fn head(value: &[u8]) -> Head
 
 /// The page of an inline bucket, from its value. The value is that of a bucket on a good page, and
 /// its root is 0.
-#[tactic(auto, using(crate::proofs::GoodPages::good_inline, crate::proofs::GoodPages::flat_elements))]
+#[tactic(auto, using(crate::proofs::GoodPages::good_inline, crate::proofs::GoodPages::flat_elements), unfolding(crate::specs::TreePages::leaf_overflow))]
 pub fn inline(value: &[u8]) -> Inline<'_>
     requires bucket { IsBucketValue value.now }
     requires inline { head_root value.now ≡ 0 }
-    ensures { shown_inline result ≡ inline_elements value.now }
+    ensures elements { shown_inline result ≡ inline_elements value.now }
+    ensures overflow { leaf_overflow result.page ≡ 0 }
 {
     let bytes = &value[HEAD_LEN..];
     Inline {

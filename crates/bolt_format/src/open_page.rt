@@ -28,7 +28,8 @@ pub(crate) struct Span<'a> {
 pub fn page<'a>(file: &'a [u8], meta: &Meta, id: u64) -> Result<Page<'a>, PageFault>
     ensures good { IfOk result (λ page. page_at file.now meta.now id ≡ Some (shown page)) }
     ensures within { IfOk result (λ page. IsInFile file.now meta.now id (shown page)) }
-    ensures fault { IfErr result (λ fault. (page_fault file.now meta.now id ≡ Some fault.number) × (fault.page ≡ id)) }
+    ensures fault { IfErr result (λ fault. (page_fault file.now meta.now id ≡ Some fault.number)
+        × (fault.page ≡ id)) }
     ensures none { OnErr result (page_at file.now meta.now id ≡ None) }
 {
     test_page(file, meta, id).map_err(|code| PageFault {

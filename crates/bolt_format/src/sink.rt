@@ -31,7 +31,8 @@ pub trait Sink {
 
         // Whatever the result is.
         ensures prefix { AppendsPrefix (taken self.old) (taken self.new) bytes.now }
-        ensures short { OnErr result (bytes.now ≢ [] → AppendsProperPrefix (taken self.old) (taken self.new) bytes.now) }
+        ensures short { OnErr result (bytes.now ≢ []
+            → AppendsProperPrefix (taken self.old) (taken self.new) bytes.now) }
         ensures failure { OnErr result (0 < failed self.new) }
 
         // After a failure.

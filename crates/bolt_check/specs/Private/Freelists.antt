@@ -1,9 +1,9 @@
 -- What the table and the ids past it list together, and what is reported of it up to a page.
-use Rattle.std.specs.Prelude.{◌≡◌, ◌≤◌, ◌<◌, ◌==◌, ◌⊎◌, ◌&&◌, ℕ, suc, ◌+◌, ◌-◌, max, slice_index, Bool, List, [], ◌∷◌, ◌↔◌, All, AllPairs, Contains, length, nat_lt, if◌then◌else◌}
+use Rattle.std.specs.Prelude.{◌≡◌, ◌≤◌, ◌<◌, ◌==◌, ◌⊎◌, ◌&&◌, ℕ, suc, ◌+◌, ◌-◌, max, min, slice_index, Bool, List, [], ◌∷◌, ◌↔◌, All, AllPairs, Contains, length, nat_lt, if◌then◌else◌}
 use Rattle.std.specs.List.Sorted.{IsNonDecreasing}
 use Rattle.bolt_format.specs.declared.meta.Meta.{Meta}
 use Rattle.bolt_check.specs.{Accounts.IsInFreelist, Accounts.IsInUse, Accounts.times_in, Findings.finding}
-use Rattle.bolt_check.specs.{Private.Tables.IsClaimed, Private.Tables.use_at, Private.Tables.times_of, Private.Uses.IsNoted}
+use Rattle.bolt_check.specs.{Private.Tables.IsClaimed, Private.Tables.is_used, Private.Tables.use_at, Private.Tables.times_of, Private.Uses.IsNoted}
 use Rattle.bolt_check.specs.{AccountFindings.IsAccountFinding, AccountFindings.IsBefore, AccountFindings.IsLost, declared.finding.Finding.Finding}
 use Rattle.bolt_check.specs.declared.finding.TheConstants.Finding.{FREED_TWICE, FREE_RANGE, REACHED_FREED, UNREACHABLE}
 use Rattle.bolt_check.specs.{declared.freelist.Freelist.Freelist, declared.table.PageUse.PageUse}
@@ -12,6 +12,18 @@ use Rattle.bolt_check.specs.declared.table.PageUse.TheVariants.{Used, Free, Free
 -- nothing is listed yet
 abbrev pub IsUnlisted : List PageUse → Type 0
 IsUnlisted table = (n : ℕ) → times_of (use_at table n) ≡ 0
+
+-- what is used stays used, and what isn't stays so
+abbrev pub KeepsUsed : List PageUse → List PageUse → Type 0
+KeepsUsed old new = (n : ℕ) → is_used (use_at new n) ≡ is_used (use_at old n)
+
+-- this id is listed once more
+abbrev pub ListsId : ℕ → List PageUse → List PageUse → Type 0
+ListsId id old new = (n : ℕ) → n < length old → times_of (use_at new n) ≡ min 2 (times_of (use_at old n) + (if id == n then 1 else 0))
+
+-- these ids are listed
+abbrev pub ListsIds : List ℕ → List PageUse → List PageUse → Type 0
+ListsIds ids old new = (n : ℕ) → n < length old → times_of (use_at new n) ≡ min 2 (times_in ids n)
 
 -- how often a page is listed: by the table, and past it by the ids
 unfoldable pub listed_times : Freelist → ℕ → ℕ

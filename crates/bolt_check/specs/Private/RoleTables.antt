@@ -1,16 +1,28 @@
 -- The table of pages as a table of roles.
-use Rattle.std.specs.Prelude.{◌≡◌, ◌==◌, ◌⊎◌, ℕ, if◌then◌else◌, List, None, nat_lt}
+use Rattle.std.specs.Prelude.{◌≡◌, ◌==◌, ◌⊎◌, ◌↔◌, ℕ, if◌then◌else◌, List, None, nat_lt}
 use Rattle.bolt_format.specs.{Freelists.freelist_fault_of, declared.meta.Meta.Meta}
-use Rattle.bolt_check.specs.{Accounts.IsInFreelist, Accounts.IsInUse, Nodes.node_at, Private.Tables.IsClaimed}
-use Rattle.bolt_check.specs.{Private.Uses.HasUse, Private.Uses.IsMetaUse, Private.Uses.IsNoted, Sound.IsUsed, Ways.reached, declared.role_table.Role.Role}
+use Rattle.bolt_check.specs.{Accounts.IsInFreelist, Accounts.IsInUse, Nodes.node_at, OnWays.reach_of, Private.Tables.IsClaimed}
+use Rattle.bolt_check.specs.{Private.Uses.HasUse, Private.Uses.IsMetaUse, Private.Uses.IsNoted, Sound.IsUsed, declared.role_table.Role.Role}
 use Rattle.bolt_check.specs.declared.role_table.Role.TheVariants as role
 use Rattle.bolt_check.specs.declared.table.PageUse.{PageUse}
 use Rattle.bolt_check.specs.declared.table.PageUse.TheVariants.{Unused, Branch, Leaf, Used, Free, FreeTwice, UsedFree, UsedFreeTwice}
 
--- the table has what each page is used for
+-- page n is used for this as a meta page, or by a way
+abbrev pub IsUsedFor : List ℕ → Meta → ℕ → PageUse → Type 0
+IsUsedFor file meta n u = HasUse (node_at file meta) (reach_of file meta) IsMetaUse n u
+
+-- the table has no other use of a page
+abbrev pub NotesUses : List ℕ → Meta → List PageUse → Type 0
+NotesUses file meta table = (n : ℕ) (u : PageUse) → IsNoted table n u → IsUsedFor file meta n u
+
+-- exactly the pages that are used are claimed
+abbrev pub ClaimsUsed : List ℕ → Meta → List PageUse → Type 0
+ClaimsUsed file meta table = (n : ℕ) → IsClaimed table n ↔ IsUsed file meta n
+
+-- the table has what each page is used for, the freelist's span too
 pub record AreUses (file : List ℕ) (meta : Meta) (table : List PageUse) : Type 0 where
   pub noted : (n : ℕ) (u : PageUse) → IsNoted table n u
-      → HasUse (node_at file meta) (reached (node_at file meta) meta.root) IsMetaUse n u ⊎ (IsInFreelist file meta n × (u ≡ Used))
+      → IsUsedFor file meta n u ⊎ (IsInFreelist file meta n × (u ≡ Used))
   pub good : freelist_fault_of file meta ≡ None
   pub claimed : (n : ℕ) → IsInUse file meta (IsUsed file meta) n → IsClaimed table n
 

@@ -1,6 +1,7 @@
 -- Why the search stops.
-use Rattle.std.specs.Prelude.{ℕ}
-use Rattle.bolt_check.specs.{Findings.IsFirst, Nodes.Nodes, Ways.Reach, declared.fault.CheckFault.CheckFault}
+use Rattle.std.specs.Prelude.{ℕ, Bool, true, false, List}
+use Rattle.bolt_check.specs.{Findings.IsFirst, Nodes.Nodes, Private.Pending.pending_reach, Private.Tables.IsClaimed, Ways.Reach}
+use Rattle.bolt_check.specs.{declared.fault.CheckFault.CheckFault, declared.spot.Spot.Spot as CodeSpot, declared.table.PageUse.PageUse}
 use Rattle.bolt_check.specs.declared.fault.CheckFault.TheVariants.{Accounts, Memory, Open, Structure}
 
 -- at the first finding, or because memory ran out
@@ -9,3 +10,12 @@ IsSearchFault nodes reach start (Structure x) = IsFirst nodes reach start x
 IsSearchFault nodes reach start Memory = Unit {0}
 IsSearchFault nodes reach start (Open fault) = ⊥
 IsSearchFault nodes reach start (Accounts findings) = ⊥
+
+-- on the ways from this spot and from those that are still pending, if the table has what was claimed before
+abbrev pub IsPendingFault : Nodes → CodeSpot → List CodeSpot → List PageUse → CheckFault → Type 0
+IsPendingFault nodes spot left table fault = IsSearchFault nodes (pending_reach nodes spot left) (IsClaimed table) fault
+
+-- whether memory ran out
+abbrev pub is_memory : CheckFault → Bool
+is_memory Memory = true
+is_memory _ = false

@@ -23,9 +23,13 @@ unread_of unread = map unread_at (reverse unread)
 abbrev pub own_findings : Nodes → Unread → List Finding
 own_findings nodes u = spot_findings nodes u.in_root (Some u.spot)
 
+-- what this page leads to, all with the same mark
+abbrev pub marked_kids : Bool → Node → PageSpot → List Unread
+marked_kids in_root node s = map (mark in_root) (kids node s)
+
 -- what this spot leads to: the children of a branch of the root bucket are in it, and a bucket on a leaf isn't
 abbrev pub node_kids : Bool → PageSpot → Result Node ℕ → List Unread
-node_kids in_root s (Ok node) = map (mark (in_root && not node.is_leaf)) (kids node s)
+node_kids in_root s (Ok node) = marked_kids (in_root && not node.is_leaf) node s
 node_kids in_root s (Err fault) = []
 
 abbrev pub spot_kids : Nodes → Bool → Spot → List Unread

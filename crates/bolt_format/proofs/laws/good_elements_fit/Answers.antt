@@ -5,6 +5,6 @@ pub returns : goal.returns
 returns c = record {
   leaf = entry_fits;
   bucket = bucket_value;
-  bytes = value_bytes;
+  bytes = λ file meta id view e at is has bytes. value_bytes file meta id view e bytes at is has;
   inline = λ value e good root has. (inline_fits value e good root has, flat_inline value e good root has);
 }

@@ -13,6 +13,6 @@ invariant_of-result c =
           (flat_elements value _ c.read.ensures.count c.requires.bucket c.requires.inline);
     }
 
-pub returns : goal.returns
+pub returns-clause-elements : goal.returns-clause-elements
 unfolding leaves_on
-returns c = ap (leaf_elements _) c.read.ensures.count ∙ ap (λ (bytes : List ℕ). leaf_elements bytes (count_field bytes)) (take_rest c.args.value.now 16)
+returns-clause-elements c = ap (leaf_elements _) c.read.ensures.count ∙ ap (λ (bytes : List ℕ). leaf_elements bytes (count_field bytes)) (take_rest c.args.value.now 16)

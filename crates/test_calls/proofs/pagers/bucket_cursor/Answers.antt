@@ -7,7 +7,7 @@ open-root-requires c = rw (c.new-pager.ensures.checked, c.meta.ensures) (∣ (1,
 
 pub new-cursor-requires : goal.new-cursor-requires
 new-cursor-requires c =
-    rw (c.open-root.ensures.checked, c.inline.ensures) (
+    rw (c.open-root.ensures.checked, c.inline.ensures.elements) (
     ∣ c.buckets_begin_on_ways.ensures.inline _ _ _ 1 0 (shown c.open-root.result) (leaf_view c.leaf-bucket.result)
     (rw (c.new-pager.ensures.checked, c.meta.ensures) (c.ways_go_on.ensures.root _ _)) c.open-root.ensures.page (sym c.kind.ensures ∙ c.in-Leaf.is) c.leaf-bucket.ensures.element
     c.if-not-bucket.false (sym c.head-head.ensures.root ∙ c.if-head-eq0.true) ∣₁
