@@ -59,7 +59,7 @@ pub ends_here : (rest keys path : Path) (part key : Key) (listing : List Member)
 ends_here rest keys path part key listing e same at = grind arith
 
 -- A part was searched for in the bucket that these keys name. Its cursor is on this entry, whose key was put after them.
-module _ (checked file : Checked) (cursors after : List CursorView) (keys path : Path) (bucket : Bucket) (part : Key) (e : LeafElement)
+module _ {checked file : Checked} {cursors after : List CursorView} (keys : Path) {path : Path} {bucket : Bucket} (part : Key) {e : LeafElement}
     (placed : ∥ HasEntries (entries_of checked) (root_start checked) × AreOpen checked [] cursors keys ∥₁)
     (named : ∥ (bucket_checked bucket ≡ checked) × Names (entries_of checked) (root_start checked) keys (bucket_start bucket) ∥₁)
     (same : file ≡ checked) (opens : Opens bucket (λ entries place. seek_move part entries) cursors after (Some e)) (at : path ≡ keys ++ e.key ∷ []) where

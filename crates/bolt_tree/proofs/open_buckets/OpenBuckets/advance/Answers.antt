@@ -8,16 +8,16 @@ pub returns-in-Give-clause-left : goal.returns-in-Give-clause-left
 returns-in-Give-clause-left c = λ listing lists.
     let on = rw c.in-Give.is at c.requires.ahead in
     rw c.in-Give.is
-    (itself c.args.self.now.cursors.checked (cursors_of c.args.self.now.cursors) (path_of c.args.self.now.path.items) (leaf_view c.in-Give.leaf) c.requires.placed on.1 listing lists)
+    (itself c.args.self.now.checked (cursors_of c.args.self.now) (path_of c.args.self.now.path.items) (leaf_view c.in-Give.leaf) c.requires.placed on.1 listing lists)
 
 pub of-bucket-requires-clause-begins : goal.of-bucket-requires-clause-begins
 of-bucket-requires-clause-begins c =
     let inside = rw c.in-Enter.is at c.requires.ahead in
-    lies_in c.args.self.now.cursors.checked (path_of c.args.self.now.path.items) (start_of c.in-Enter.value.now) inside.1
+    lies_in c.args.self.now.checked (path_of c.args.self.now.path.items) (start_of c.in-Enter.value.now) inside.1
 
 pub enter-requires-clause-named : goal.enter-requires-clause-named
 enter-requires-clause-named c =
-    let checked = c.args.self.now.cursors.checked in
+    let checked = c.args.self.now.checked in
     let path : Path = open_path c.args.self.now in
     elim c.match-ahead.branch as (λ _. IsNamed c.args.self.now c.match-ahead.bucket) [
       | in-Begin w ↦
@@ -39,6 +39,6 @@ returns-in-None-clause-left c = λ listing lists.
     let same = rw c.in-None.is at c.in_ok-leaf.ensures.none in
     let left : left_by c.args.ahead path listing ≡ beyond (open_path c.enter.new.self) listing =
     inside ∙ entered listing lists ∙ ap (λ (p : Path). beyond p listing) (sym same) in
-    let there = c.climb-in-None.ensures.left listing (listed_in c.enter.new.self.cursors.checked c.args.self.now.cursors.checked listing c.in_ok-leaf.ensures.checked lists) in
+    let there = c.climb-in-None.ensures.left listing (listed_in c.enter.new.self.checked c.args.self.now.checked listing c.in_ok-leaf.ensures.checked lists) in
     subst (λ (xs : List Member). MatchOption c.climb-in-None.result (xs ≡ []) (λ (leaf : Leaf). xs ≡ (open_path c.climb-in-None.new.self, item_of (leaf_view leaf)) ∷ rest_after (open_path c.climb-in-None.new.self) listing))
     (sym left) there

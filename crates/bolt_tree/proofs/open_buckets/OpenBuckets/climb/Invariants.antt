@@ -5,10 +5,10 @@ use Rattle.bolt_tree.proofs.open_buckets.OpenBuckets.climb.Given as goal
 -- what stands beyond the path is what stood beyond it at the beginning
 abbrev pub invariant-loop-self : goal.invariant-loop-self
 invariant-loop-self l = record {
-  checked : l.self.cursors.checked ≡ l.initial.self.cursors.checked;
+  checked : l.self.checked ≡ l.initial.self.checked;
   placed : IsInPlace l.self;
-  left : ForListing l.self.cursors.checked (λ listing. beyond (open_path l.initial.self) listing ≡ beyond (open_path l.self) listing);
+  left : ForListing l.self.checked (λ listing. beyond (open_path l.initial.self) listing ≡ beyond (open_path l.self) listing);
 }
 
 abbrev pub decreases-loop-self : goal.decreases-loop-self
-decreases-loop-self l = length (cursors_of l.self.cursors)
+decreases-loop-self l = length (cursors_of l.self)

@@ -4,6 +4,6 @@ use Rattle.bolt_tree.proofs.open_buckets.OpenBuckets.next_step.Goals as goal
 
 pub returns-in-Some-clause-left : goal.returns-in-Some-clause-left
 returns-in-Some-clause-left c = λ listing lists.
-    let there = listed_in c.climb.new.self.cursors.checked c.args.self.now.cursors.checked listing c.in-Some.ensures.checked lists in
-    itself c.climb.new.self.cursors.checked (cursors_of c.climb.new.self.cursors) (path_of c.climb.new.self.path.items) (leaf_view c.in-Some.leaf) c.in-Some.ensures.placed c.in-Some.ensures.on.1 listing there
+    let there = listed_in c.climb.new.self.checked c.args.self.now.checked listing c.in-Some.ensures.checked lists in
+    itself c.climb.new.self.checked (cursors_of c.climb.new.self) (path_of c.climb.new.self.path.items) (leaf_view c.in-Some.leaf) c.in-Some.ensures.placed c.in-Some.ensures.on.1 listing there
     ∙ sym (c.in-Some.ensures.left listing lists)
