@@ -147,8 +147,10 @@ impl<'a> OpenBuckets<'a> {
         Ok(Some(leaf))
     }
 
-    /// Goes to the next entry that is to be returned. If memory runs out, nothing has changed.
+    /// Goes to the next entry that is to be returned, and closes the buckets that have none. If memory
+    /// runs out, nothing has changed.
     #[inline(always)]
+    #[tactic(auto, using(crate::proofs::KeptLemmas::moved_file))]
     pub fn advance(&mut self, ahead: WalkStep<'a>) -> Result<Option<Leaf<'a>>, NoMemory>
         requires placed { IsInPlace self.old }
         requires ahead { IsAhead self.old ahead }
@@ -159,16 +161,27 @@ impl<'a> OpenBuckets<'a> {
         ensures same { OnErr result (open_path self.new ≡ open_path self.old) }
         ensures left { IfOk result (ComesNext (left_by ahead.entry (open_path self.old)) self.old self.new) }
     {
-        let bucket = match ahead {
-            WalkStep::Begin => Bucket::root(self.checked),
-            WalkStep::Enter(value) => Bucket::of(self.checked, value),
+        let inner = match ahead {
+            WalkStep::Begin => Some(Bucket::root(self.checked)),
+            WalkStep::Enter(value) => Some(Bucket::of(self.checked, value)),
             WalkStep::Give(leaf) => return Ok(Some(leaf)),
-            WalkStep::Leave => return Ok(self.climb()),
+            WalkStep::Leave => None,
         };
-        match self.enter(bucket)? {
-            Some(leaf) => Ok(Some(leaf)),
-            None => Ok(self.climb()),
+        if let Some(bucket) = inner {
+            if let Some(leaf) = self.enter(bucket)? {
+                return Ok(Some(leaf));
+            }
         }
+        while let Some(cursor) = &mut self.innermost {
+            let found = cursor.next_element();
+            self.path.pop();
+            if let Some(leaf) = found {
+                self.path.push_reserved(leaf.key);
+                return Ok(Some(leaf));
+            }
+            self.close();
+        }
+        Ok(None)
     }
 
     /// What is next after the element that the path leads to was returned.
@@ -187,18 +200,17 @@ impl<'a> OpenBuckets<'a> {
     }
 
     /// Goes to the next entry after everything that begins with the path, to return it.
-    #[tactic(auto, using(crate::proofs::Climbing::none_beyond))]
-    fn next_step(&mut self) -> WalkStep<'a>
+    fn next_step(&mut self) -> Result<WalkStep<'a>, NoMemory>
         requires { IsInPlace self.old }
         ensures checked { self.new.checked ≡ self.old.checked }
         ensures placed { IsInPlace self.new }
-        ensures ahead { IsAhead self.new result }
-        ensures unreported { reported_path result (open_path self.new) ≡ [] }
-        ensures left { IsLeft (beyond (open_path self.old)) self.old self.new result }
+        ensures ahead { IfOk result (IsAhead self.new) }
+        ensures unreported { IfOk result (λ ahead. reported_path ahead (open_path self.new) ≡ []) }
+        ensures left { IfOk result (IsLeft (beyond (open_path self.old)) self.old self.new) }
     {
-        match self.climb() {
-            Some(leaf) => WalkStep::Give(leaf),
-            None => WalkStep::Leave,
+        match self.advance(WalkStep::Leave)? {
+            Some(leaf) => Ok(WalkStep::Give(leaf)),
+            None => Ok(WalkStep::Leave),
         }
     }
 
@@ -206,23 +218,23 @@ impl<'a> OpenBuckets<'a> {
     #[tactic(auto, using(crate::proofs::KeptLemmas::moved_file, crate::proofs::OpenSteps::some_open))]
     fn seek_part(
         &mut self,
-        bucket: Bucket<'a>,
+        within: Bucket<'a>,
         part: &[u8],
         is_last: bool,
     ) -> Result<PartResult<'a>, NoMemory>
         requires placed { IsInPlace self.old }
-        requires named { IsNamed self.old bucket }
+        requires named { IsNamed self.old within }
         ensures checked { OnOk result (self.new.checked ≡ self.old.checked) }
         ensures placed { OnOk result (IsInPlace self.new) }
         ensures sought { IfOk result (IsPartResult self.old self.new part.now is_last) }
     {
-        self.open(bucket)?;
+        self.open(within)?;
         let Some(cursor) = &mut self.innermost else {
             return Ok(PartResult::Here(WalkStep::Leave));
         };
         let Some(leaf) = cursor.seek_element(part) else {
             self.close();
-            return Ok(PartResult::Here(self.next_step()));
+            return Ok(PartResult::Here(self.next_step()?));
         };
         self.path.push_reserved(leaf.key);
         if part.cmp(leaf.key).is_lt() || is_last {
@@ -231,7 +243,7 @@ impl<'a> OpenBuckets<'a> {
         if leaf.is_bucket {
             return Ok(PartResult::Inside(Bucket::of(self.checked, leaf.value)));
         }
-        Ok(PartResult::Here(self.next_step()))
+        Ok(PartResult::Here(self.next_step()?))
     }
 
     /// Searches for a path, from the root bucket on.
@@ -252,29 +264,5 @@ impl<'a> OpenBuckets<'a> {
             }
         }
         Ok(WalkStep::Begin)
-    }
-
-    /// Goes to the next entry after everything that begins with the path, and closes the buckets
-    /// that have none.
-    #[inline(always)]
-    #[tactic(auto, using(crate::proofs::KeptLemmas::moved_file))]
-    pub fn climb(&mut self) -> Option<Leaf<'a>>
-        requires { IsInPlace self.old }
-        ensures checked { self.new.checked ≡ self.old.checked }
-        ensures placed { IsInPlace self.new }
-        ensures on { IfSome result (IsAt self.new) }
-        ensures ended { IfNone result (open_path self.new ≡ []) }
-        ensures left { ComesNext (beyond (open_path self.old)) self.old self.new result }
-    {
-        while let Some(cursor) = &mut self.innermost {
-            let found = cursor.next_element();
-            self.path.pop();
-            if let Some(leaf) = found {
-                self.path.push_reserved(leaf.key);
-                return Some(leaf);
-            }
-            self.close();
-        }
-        None
     }
 }

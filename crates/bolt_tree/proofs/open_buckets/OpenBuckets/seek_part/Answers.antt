@@ -10,15 +10,15 @@ pub open-requires : goal.open-requires
 open-requires c = ∥∥₁_elim c.requires.named (hlevel props) (λ n. n.0)
 
 pub returns-in_default-clause-placed : goal.returns-in_default-clause-placed
-returns-in_default-clause-placed c = absurd (some_open c.args.self.now c.open.new.self c.args.bucket c.in_ok-open.ensures.cursors c.in_default.is)
+returns-in_default-clause-placed c = absurd (some_open c.args.self.now c.open.new.self c.args.within c.in_ok-open.ensures.cursors c.in_default.is)
 
 pub returns-in_default-clause-sought : goal.returns-in_default-clause-sought
-returns-in_default-clause-sought c = absurd (some_open c.args.self.now c.open.new.self c.args.bucket c.in_ok-open.ensures.cursors c.in_default.is)
+returns-in_default-clause-sought c = absurd (some_open c.args.self.now c.open.new.self c.args.within c.in_ok-open.ensures.cursors c.in_default.is)
 
 pub next_step-requires : goal.next_step-requires
 next_step-requires c =
     let old = c.args.self.now in
-    let opens = opens c.args.self.now c.open.new.self c.args.bucket c.in-Some.cursor c.seek_element.new.self c.in_ok-open.ensures.cursors c.in-Some.is
+    let opens = opens c.args.self.now c.open.new.self c.args.within c.in-Some.cursor c.seek_element.new.self c.in_ok-open.ensures.cursors c.in-Some.is
     c.in_default-seek_element.ensures.checked c.in_default-seek_element.ensures.start (λ entries place. seek_move c.args.part.now entries) None (cursors_of c.close.new.self)
     c.in_default-seek_element.ensures.moves (c.close.ensures.cursors (waiting_of c.open.new.self) (cursor_view c.seek_element.new.self) refl) in
     placed_in old.checked c.close.new.self.checked (cursors_of old) (cursors_of c.close.new.self) (path_of old.path.items) (path_of c.close.new.self.path.items)
@@ -27,22 +27,22 @@ next_step-requires c =
 pub returns-in_default-seek_element-clause-sought : goal.returns-in_default-seek_element-clause-sought
 returns-in_default-seek_element-clause-sought c =
     let old = c.args.self.now in
-    let fresh = fresh_view c.args.bucket in
-    let opens = opens c.args.self.now c.open.new.self c.args.bucket c.in-Some.cursor c.seek_element.new.self c.in_ok-open.ensures.cursors c.in-Some.is
+    let fresh = fresh_view c.args.within in
+    let opens = opens c.args.self.now c.open.new.self c.args.within c.in-Some.cursor c.seek_element.new.self c.in_ok-open.ensures.cursors c.in-Some.is
     c.in_default-seek_element.ensures.checked c.in_default-seek_element.ensures.start (λ entries place. seek_move c.args.part.now entries) None (cursors_of c.close.new.self)
     c.in_default-seek_element.ensures.moves (c.close.ensures.cursors (waiting_of c.open.new.self) (cursor_view c.seek_element.new.self) refl) in
-    let known = made old.checked (cursors_of old) (path_of old.path.items) c.args.bucket fresh c.requires.placed c.requires.named refl refl in (
-      c.next_step.ensures.ahead,
-      c.next_step.ensures.unreported,
+    let known = made old.checked (cursors_of old) (path_of old.path.items) c.args.within fresh c.requires.placed c.requires.named refl refl in (
+      c.in_ok-next_step.ensures.ahead,
+      c.in_ok-next_step.ensures.unreported,
       λ rest end listing lists.
-          c.next_step.ensures.left listing (listed_in c.close.new.self.checked old.checked listing (c.close.ensures.checked ∙ c.in_ok-open.ensures.checked) lists)
+          c.in_ok-next_step.ensures.left listing (listed_in c.close.new.self.checked old.checked listing (c.close.ensures.checked ∙ c.in_ok-open.ensures.checked) lists)
           ∙ (ap (λ (keys : Path). beyond keys listing) (ap path_of (c.close.ensures.path ∙ c.in_ok-open.ensures.path))
           ∙ from_none old.checked (cursors_of old) (path_of old.path.items) fresh opens.moved c.args.part.now known rest opens.moves listing lists),
     )
 
 pub returns-then-is_lt-clause-placed : goal.returns-then-is_lt-clause-placed
 returns-then-is_lt-clause-placed c =
-    let opens = opens c.args.self.now c.open.new.self c.args.bucket c.in-Some.cursor c.seek_element.new.self c.in_ok-open.ensures.cursors c.in-Some.is
+    let opens = opens c.args.self.now c.open.new.self c.args.within c.in-Some.cursor c.seek_element.new.self c.in_ok-open.ensures.cursors c.in-Some.is
     c.in-Some-seek_element.ensures.checked c.in-Some-seek_element.ensures.start (λ entries place. seek_move c.args.part.now entries) (Some (leaf_view c.in-Some-seek_element.leaf))
     (waiting_of c.open.new.self ++ cursor_view c.seek_element.new.self ∷ []) c.in-Some-seek_element.ensures.moves refl in
     let put = path_put c.args.self.now.path.items c.open.new.self.path.items c.push_reserved.new.self.items c.in-Some-seek_element.leaf.key c.in_ok-open.ensures.path c.push_reserved.ensures.items in
@@ -50,7 +50,7 @@ returns-then-is_lt-clause-placed c =
 
 pub returns-then-is_lt-clause-sought : goal.returns-then-is_lt-clause-sought
 returns-then-is_lt-clause-sought c =
-    let opens = opens c.args.self.now c.open.new.self c.args.bucket c.in-Some.cursor c.seek_element.new.self c.in_ok-open.ensures.cursors c.in-Some.is
+    let opens = opens c.args.self.now c.open.new.self c.args.within c.in-Some.cursor c.seek_element.new.self c.in_ok-open.ensures.cursors c.in-Some.is
     c.in-Some-seek_element.ensures.checked c.in-Some-seek_element.ensures.start (λ entries place. seek_move c.args.part.now entries) (Some (leaf_view c.in-Some-seek_element.leaf))
     (waiting_of c.open.new.self ++ cursor_view c.seek_element.new.self ∷ []) c.in-Some-seek_element.ensures.moves refl in
     let put = path_put c.args.self.now.path.items c.open.new.self.path.items c.push_reserved.new.self.items c.in-Some-seek_element.leaf.key c.in_ok-open.ensures.path c.push_reserved.ensures.items in (
@@ -61,7 +61,7 @@ returns-then-is_lt-clause-sought c =
 
 pub returns-then-leaf-clause-placed : goal.returns-then-leaf-clause-placed
 returns-then-leaf-clause-placed c =
-    let opens = opens c.args.self.now c.open.new.self c.args.bucket c.in-Some.cursor c.seek_element.new.self c.in_ok-open.ensures.cursors c.in-Some.is
+    let opens = opens c.args.self.now c.open.new.self c.args.within c.in-Some.cursor c.seek_element.new.self c.in_ok-open.ensures.cursors c.in-Some.is
     c.in-Some-seek_element.ensures.checked c.in-Some-seek_element.ensures.start (λ entries place. seek_move c.args.part.now entries) (Some (leaf_view c.in-Some-seek_element.leaf))
     (waiting_of c.open.new.self ++ cursor_view c.seek_element.new.self ∷ []) c.in-Some-seek_element.ensures.moves refl in
     let put = path_put c.args.self.now.path.items c.open.new.self.path.items c.push_reserved.new.self.items c.in-Some-seek_element.leaf.key c.in_ok-open.ensures.path c.push_reserved.ensures.items in
@@ -69,7 +69,7 @@ returns-then-leaf-clause-placed c =
 
 pub returns-then-leaf-clause-sought : goal.returns-then-leaf-clause-sought
 returns-then-leaf-clause-sought c =
-    let opens = opens c.args.self.now c.open.new.self c.args.bucket c.in-Some.cursor c.seek_element.new.self c.in_ok-open.ensures.cursors c.in-Some.is
+    let opens = opens c.args.self.now c.open.new.self c.args.within c.in-Some.cursor c.seek_element.new.self c.in_ok-open.ensures.cursors c.in-Some.is
     c.in-Some-seek_element.ensures.checked c.in-Some-seek_element.ensures.start (λ entries place. seek_move c.args.part.now entries) (Some (leaf_view c.in-Some-seek_element.leaf))
     (waiting_of c.open.new.self ++ cursor_view c.seek_element.new.self ∷ []) c.in-Some-seek_element.ensures.moves refl in
     let put = path_put c.args.self.now.path.items c.open.new.self.path.items c.push_reserved.new.self.items c.in-Some-seek_element.leaf.key c.in_ok-open.ensures.path c.push_reserved.ensures.items in
@@ -82,7 +82,7 @@ returns-then-leaf-clause-sought c =
 
 pub of-requires-clause-begins : goal.of-requires-clause-begins
 of-requires-clause-begins c =
-    let opens = opens c.args.self.now c.open.new.self c.args.bucket c.in-Some.cursor c.seek_element.new.self c.in_ok-open.ensures.cursors c.in-Some.is
+    let opens = opens c.args.self.now c.open.new.self c.args.within c.in-Some.cursor c.seek_element.new.self c.in_ok-open.ensures.cursors c.in-Some.is
     c.in-Some-seek_element.ensures.checked c.in-Some-seek_element.ensures.start (λ entries place. seek_move c.args.part.now entries) (Some (leaf_view c.in-Some-seek_element.leaf))
     (waiting_of c.open.new.self ++ cursor_view c.seek_element.new.self ∷ []) c.in-Some-seek_element.ensures.moves refl in
     let put = path_put c.args.self.now.path.items c.open.new.self.path.items c.push_reserved.new.self.items c.in-Some-seek_element.leaf.key c.in_ok-open.ensures.path c.push_reserved.ensures.items in
@@ -90,7 +90,7 @@ of-requires-clause-begins c =
 
 pub next_step-requires-2 : goal.next_step-requires-2
 next_step-requires-2 c =
-    let opens = opens c.args.self.now c.open.new.self c.args.bucket c.in-Some.cursor c.seek_element.new.self c.in_ok-open.ensures.cursors c.in-Some.is
+    let opens = opens c.args.self.now c.open.new.self c.args.within c.in-Some.cursor c.seek_element.new.self c.in_ok-open.ensures.cursors c.in-Some.is
     c.in-Some-seek_element.ensures.checked c.in-Some-seek_element.ensures.start (λ entries place. seek_move c.args.part.now entries) (Some (leaf_view c.in-Some-seek_element.leaf))
     (waiting_of c.open.new.self ++ cursor_view c.seek_element.new.self ∷ []) c.in-Some-seek_element.ensures.moves refl in
     let put = path_put c.args.self.now.path.items c.open.new.self.path.items c.push_reserved.new.self.items c.in-Some-seek_element.leaf.key c.in_ok-open.ensures.path c.push_reserved.ensures.items in
@@ -98,13 +98,13 @@ next_step-requires-2 c =
 
 pub returns-clause-sought : goal.returns-clause-sought
 returns-clause-sought c =
-    let opens = opens c.args.self.now c.open.new.self c.args.bucket c.in-Some.cursor c.seek_element.new.self c.in_ok-open.ensures.cursors c.in-Some.is
+    let opens = opens c.args.self.now c.open.new.self c.args.within c.in-Some.cursor c.seek_element.new.self c.in_ok-open.ensures.cursors c.in-Some.is
     c.in-Some-seek_element.ensures.checked c.in-Some-seek_element.ensures.start (λ entries place. seek_move c.args.part.now entries) (Some (leaf_view c.in-Some-seek_element.leaf))
     (waiting_of c.open.new.self ++ cursor_view c.seek_element.new.self ∷ []) c.in-Some-seek_element.ensures.moves refl in
     let put = path_put c.args.self.now.path.items c.open.new.self.path.items c.push_reserved.new.self.items c.in-Some-seek_element.leaf.key c.in_ok-open.ensures.path c.push_reserved.ensures.items in (
-      c.next_step-2.ensures.ahead,
-      c.next_step-2.ensures.unreported,
+      c.in_ok-next_step-2.ensures.ahead,
+      c.in_ok-next_step-2.ensures.unreported,
       λ rest end listing lists.
-          c.next_step-2.ensures.left listing (listed_in c.open.new.self.checked c.args.self.now.checked listing c.in_ok-open.ensures.checked lists)
+          c.in_ok-next_step-2.ensures.left listing (listed_in c.open.new.self.checked c.args.self.now.checked listing c.in_ok-open.ensures.checked lists)
           ∙ beyond_there (path_of c.args.self.now.path.items) c.args.part.now c.requires.placed c.requires.named c.in_ok-open.ensures.checked opens put (ap is_lt (sym c.cmp.ensures) ∙ (sym c.is_lt.ensures ∙ c.if-is_lt.false)) c.if-leaf.false rest (end ∙ c.if-is_last.false) listing lists,
     )
