@@ -101,11 +101,6 @@ ComesTo back found before new end = Finds back found before (entries_left back n
 abbrev pub entries_from : Key → List LeafElement → List LeafElement
 entries_from key entries = drop (least_from key entries) entries
 
--- a move within a leaf: the next entry is taken, or there is none
-abbrev pub TakesHere : (old new : Trail) → Option Leaf → Type 0
-TakesHere old new found = MatchOption found ((here_of (trail_frames old) ≡ []) × (trail_frames new ≡ trail_frames old))
-    (λ leaf. (ahead old ≡ leaf_view leaf ∷ ahead new) × IsOn (trail_frames new) (leaf_view leaf) × (pages_ahead old ≡ pages_ahead new))
-
 -- a move in a direction from where a trail rests to where it rests: without an entry there, it stays
 pub record Goes (back : Bool) (old new : Trail) (gives : Option Leaf) : Type 0 where
   pub moved : IsMoved old new
