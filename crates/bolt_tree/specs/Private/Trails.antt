@@ -7,7 +7,7 @@ use Rattle.bolt_check.specs.{Counts.counted, Keys.Key}
 use Rattle.bolt_tree.specs.{BucketViews.BucketView, BucketViews.bucket_in, Private.BucketPages.IsSoundBucket, Private.BucketPages.contents_in}
 use Rattle.bolt_tree.specs.{Pagers.pager_checked, Pagers.pager_opened, Private.ShownPages.opened_content}
 use Rattle.bolt_tree.specs.Private.{Contents.Content, Contents.Contents, Entered.IsEntered, Entered.opened_to, Entered.taken_at}
-use Rattle.bolt_tree.specs.Private.Stacks.{Frame, HasStack, IsAtRest, IsOn, ahead_of, before_of, here_of, preceding_of, later_of}
+use Rattle.bolt_tree.specs.Private.Stacks.{Frame, HasStack, IsAtRest, IsOn, ahead_of, before_of, preceding_of, later_of}
 use Rattle.bolt_tree.specs.{Places.least_from, Starts.start_at, Private.Tours.TourPage, declared.stack.Position.Position, declared.trail.Trail.Trail}
 
 abbrev pub frame_of : Position → Frame

@@ -1,7 +1,7 @@
-use Rattle.std.proofs.Common.{arith, ◌+◌, ◌<◌, false, slice_index_or, slice_set, Some, length, take, refl}
-use Rattle.bolt_tree.proofs.Words.{Position, Trail, cursor_checked, cursor_opened, cursor_place, cursor_start, frames_of, leaves_on, pager_opened, refill}
-use Rattle.bolt_tree.proofs.{MoveLemmas.is, MoveLemmas.was, TakingNext.takes, TrailLemmas.filled, TrailLemmas.unfilled}
-use Rattle.bolt_tree.proofs.RestingLemmas.{goes_resting, moves_next, moves_next_first, opens_next, opens_next_first, resting_stack}
+use Rattle.std.proofs.Common.{arith, false}
+use Rattle.bolt_tree.proofs.Words.{cursor_checked, cursor_opened, cursor_place, cursor_start, pager_opened}
+use Rattle.bolt_tree.proofs.{TakingNext.moves_there, TakingNext.opens_there, TakingNext.rests_there, TrailLemmas.filled, TrailLemmas.unfilled}
+use Rattle.bolt_tree.proofs.RestingLemmas.{goes_resting, moves_next, moves_next_first, opens_next, opens_next_first}
 use Rattle.bolt_tree.proofs.cursor.Cursor.next_element.Goals as goal
 
 pub returns-in_default-clause-moves : goal.returns-in_default-clause-moves
@@ -20,57 +20,28 @@ returns-in_default-clause-opens c =
     c.if-self.false c.start.ensures.found c.start.ensures.opened
 
 pub invariant_of-self-then-top-from : goal.invariant_of-self-then-top-from
-invariant_of-self-then-top-from c =
-    let trail = c.args.self.now.trail in
-    let items = trail.stack.items in
-    let top = c.index-deref-last.result in
-    let before = was items c.deref.result.now c.deref_mut.result.now c.len.result c.in-Some.last top c.index-deref_mut-last.result c.index-deref_mut-last-then-top-from.result
-    c.len.ensures.value c.in-Some.ensures.0 c.in-Some.ensures.1 c.index-deref-last.is c.deref.ensures.0 c.deref_mut.ensures.value in
-    let after = is items c.deref.result.now c.deref_mut.result.now c.len.result c.in-Some.last top c.index-deref_mut-last.result c.index-deref_mut-last-then-top-from.result
-    c.len.ensures.value c.in-Some.ensures.0 c.in-Some.ensures.1 c.index-deref-last.is c.deref.ensures.0 c.deref_mut.ensures.value in
-    let less : top.taken < length (leaves_on c.in-Leaf.page) = omega (arith, c.if-top-from.true, c.from.ensures, c.count.ensures) in
-    let some = filled items c.len.result c.len.ensures.value c.in-Some.ensures.0 in
-    let put : Position = record { page = (slice_index_or c.deref_mut.result.now c.in-Some.last c.index-deref_mut-last-then-top-from.result).page; taken = (slice_index_or c.deref_mut.result.now c.in-Some.last c.index-deref_mut-last.result).taken + 1 } in
-    let new : Trail = record { pager = trail.pager; at = trail.at; stack = record { items = refill (length items) items (slice_set c.deref_mut.result.now c.in-Some.last put) } } in
-    let goes = takes trail new refl refl (resting_stack trail c.args.self.now.is_past c.args.self.now.resting) c.in-Leaf.page top (frames_of (take c.in-Some.last items)) c.element-leaf.result
-    before after c.in-Leaf.is less (omega (arith, less, c.count.ensures, c.count.type_inv)) c.element-leaf.ensures.element c.element-leaf.ensures.bucket in
-    record { resting = goes_resting trail new false c.args.self.now.is_past (Some c.element-leaf.result) c.args.self.now.resting some goes }
+invariant_of-self-then-top-from c = record {
+  resting = rests_there c.args.self.now.trail c.args.self.now.is_past c.args.self.now.resting c.deref.result.now c.deref_mut.result.now c.len.result c.in-Some.last c.index-deref-last.result
+      c.index-deref_mut-last.result c.index-deref_mut-last-then-top-from.result c.len.ensures.value c.in-Some.ensures.0 c.in-Some.ensures.1 c.index-deref-last.is c.deref.ensures.0 c.deref_mut.ensures.value
+      c.in-Leaf.page c.in-Leaf.is (omega (arith, c.if-top-from.true, c.from.ensures, c.count.ensures)) (omega (arith, c.if-top-from.true, c.from.ensures, c.count.type_inv))
+      c.element-leaf.result c.element-leaf.ensures.element c.element-leaf.ensures.bucket;
+}
 
 pub returns-then-top-from-clause-moves : goal.returns-then-top-from-clause-moves
 unfolding cursor_checked cursor_place cursor_start
 returns-then-top-from-clause-moves c =
-    let trail = c.args.self.now.trail in
-    let items = trail.stack.items in
-    let top = c.index-deref-last.result in
-    let before = was items c.deref.result.now c.deref_mut.result.now c.len.result c.in-Some.last top c.index-deref_mut-last.result c.index-deref_mut-last-then-top-from.result
-    c.len.ensures.value c.in-Some.ensures.0 c.in-Some.ensures.1 c.index-deref-last.is c.deref.ensures.0 c.deref_mut.ensures.value in
-    let after = is items c.deref.result.now c.deref_mut.result.now c.len.result c.in-Some.last top c.index-deref_mut-last.result c.index-deref_mut-last-then-top-from.result
-    c.len.ensures.value c.in-Some.ensures.0 c.in-Some.ensures.1 c.index-deref-last.is c.deref.ensures.0 c.deref_mut.ensures.value in
-    let less : top.taken < length (leaves_on c.in-Leaf.page) = omega (arith, c.if-top-from.true, c.from.ensures, c.count.ensures) in
-    let some = filled items c.len.result c.len.ensures.value c.in-Some.ensures.0 in
-    let put : Position = record { page = (slice_index_or c.deref_mut.result.now c.in-Some.last c.index-deref_mut-last-then-top-from.result).page; taken = (slice_index_or c.deref_mut.result.now c.in-Some.last c.index-deref_mut-last.result).taken + 1 } in
-    let new : Trail = record { pager = trail.pager; at = trail.at; stack = record { items = refill (length items) items (slice_set c.deref_mut.result.now c.in-Some.last put) } } in
-    let goes = takes trail new refl refl (resting_stack trail c.args.self.now.is_past c.args.self.now.resting) c.in-Leaf.page top (frames_of (take c.in-Some.last items)) c.element-leaf.result
-    before after c.in-Leaf.is less (omega (arith, less, c.count.ensures, c.count.type_inv)) c.element-leaf.ensures.element c.element-leaf.ensures.bucket in
-    moves_next trail new goes.moved c.args.self.now.is_past c.args.self.now.resting (Some c.element-leaf.result) some goes.found
+    moves_there c.args.self.now.trail c.args.self.now.is_past c.args.self.now.resting c.deref.result.now c.deref_mut.result.now c.len.result c.in-Some.last c.index-deref-last.result
+    c.index-deref_mut-last.result c.index-deref_mut-last-then-top-from.result c.len.ensures.value c.in-Some.ensures.0 c.in-Some.ensures.1 c.index-deref-last.is c.deref.ensures.0 c.deref_mut.ensures.value
+    c.in-Leaf.page c.in-Leaf.is (omega (arith, c.if-top-from.true, c.from.ensures, c.count.ensures)) (omega (arith, c.if-top-from.true, c.from.ensures, c.count.type_inv))
+    c.element-leaf.result c.element-leaf.ensures.element c.element-leaf.ensures.bucket
 
 pub returns-then-top-from-clause-opens : goal.returns-then-top-from-clause-opens
 unfolding cursor_checked cursor_opened cursor_place cursor_start
 returns-then-top-from-clause-opens c =
-    let trail = c.args.self.now.trail in
-    let items = trail.stack.items in
-    let top = c.index-deref-last.result in
-    let before = was items c.deref.result.now c.deref_mut.result.now c.len.result c.in-Some.last top c.index-deref_mut-last.result c.index-deref_mut-last-then-top-from.result
-    c.len.ensures.value c.in-Some.ensures.0 c.in-Some.ensures.1 c.index-deref-last.is c.deref.ensures.0 c.deref_mut.ensures.value in
-    let after = is items c.deref.result.now c.deref_mut.result.now c.len.result c.in-Some.last top c.index-deref_mut-last.result c.index-deref_mut-last-then-top-from.result
-    c.len.ensures.value c.in-Some.ensures.0 c.in-Some.ensures.1 c.index-deref-last.is c.deref.ensures.0 c.deref_mut.ensures.value in
-    let less : top.taken < length (leaves_on c.in-Leaf.page) = omega (arith, c.if-top-from.true, c.from.ensures, c.count.ensures) in
-    let some = filled items c.len.result c.len.ensures.value c.in-Some.ensures.0 in
-    let put : Position = record { page = (slice_index_or c.deref_mut.result.now c.in-Some.last c.index-deref_mut-last-then-top-from.result).page; taken = (slice_index_or c.deref_mut.result.now c.in-Some.last c.index-deref_mut-last.result).taken + 1 } in
-    let new : Trail = record { pager = trail.pager; at = trail.at; stack = record { items = refill (length items) items (slice_set c.deref_mut.result.now c.in-Some.last put) } } in
-    let goes = takes trail new refl refl (resting_stack trail c.args.self.now.is_past c.args.self.now.resting) c.in-Leaf.page top (frames_of (take c.in-Some.last items)) c.element-leaf.result
-    before after c.in-Leaf.is less (omega (arith, less, c.count.ensures, c.count.type_inv)) c.element-leaf.ensures.element c.element-leaf.ensures.bucket in
-    opens_next trail new goes.moved c.args.self.now.is_past c.args.self.now.resting (Some c.element-leaf.result) some (pager_opened trail.pager) (pager_opened trail.pager) goes.found goes.opened
+    opens_there c.args.self.now.trail c.args.self.now.is_past c.args.self.now.resting c.deref.result.now c.deref_mut.result.now c.len.result c.in-Some.last c.index-deref-last.result
+    c.index-deref_mut-last.result c.index-deref_mut-last-then-top-from.result c.len.ensures.value c.in-Some.ensures.0 c.in-Some.ensures.1 c.index-deref-last.is c.deref.ensures.0 c.deref_mut.ensures.value
+    c.in-Leaf.page c.in-Leaf.is (omega (arith, c.if-top-from.true, c.from.ensures, c.count.ensures)) (omega (arith, c.if-top-from.true, c.from.ensures, c.count.type_inv))
+    c.element-leaf.result c.element-leaf.ensures.element c.element-leaf.ensures.bucket
 
 pub invariant_of-self-2 : goal.invariant_of-self-2
 invariant_of-self-2 c =
