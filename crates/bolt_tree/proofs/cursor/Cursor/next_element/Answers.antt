@@ -59,8 +59,4 @@ returns-clause-moves c =
 
 pub returns-clause-opens : goal.returns-clause-opens
 unfolding cursor_checked cursor_opened cursor_place cursor_start
-returns-clause-opens c =
-    let cursor = c.args.self.now in
-    opens_next cursor.trail c.go_further.new.self c.go_further.ensures.moved cursor.is_past cursor.resting c.go_further.result
-    (filled cursor.trail.stack.items c.len.result c.len.ensures.value c.in-Some.ensures.0) (pager_opened cursor.trail.pager) (pager_opened c.go_further.new.self.pager)
-    c.go_further.ensures.found c.go_further.ensures.opened
+returns-clause-opens c = grind (arith, opens_next, filled)
