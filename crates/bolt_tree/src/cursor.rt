@@ -218,6 +218,9 @@ impl<'a> Cursor<'a> {
                 self.trail.stack[last].taken += 1;
                 return Some(leaf);
             }
+            if last == 0 {
+                return None;
+            }
         }
         self.trail.go_further(&mut self.saved, false)
     }

@@ -1,6 +1,6 @@
 use Rattle.std.proofs.Common.{arith, false}
 use Rattle.bolt_tree.proofs.Words.{cursor_checked, cursor_opened, cursor_place, cursor_start, pager_opened}
-use Rattle.bolt_tree.proofs.{TakingNext.moves_there, TakingNext.opens_there, TakingNext.rests_there, TrailLemmas.filled, TrailLemmas.unfilled}
+use Rattle.bolt_tree.proofs.{TakingNext.moves_there, TakingNext.opens_none, TakingNext.opens_there, TakingNext.rests_there, TakingNext.stays_there, TrailLemmas.filled, TrailLemmas.unfilled}
 use Rattle.bolt_tree.proofs.RestingLemmas.{goes_resting, moves_next, moves_next_first, opens_next, opens_next_first}
 use Rattle.bolt_tree.proofs.cursor.Cursor.next_element.Goals as goal
 
@@ -21,27 +21,39 @@ returns-in_default-clause-opens c =
 
 pub invariant_of-self-then-top-from : goal.invariant_of-self-then-top-from
 invariant_of-self-then-top-from c = record {
-  resting = rests_there c.args.self.now.trail c.args.self.now.is_past c.args.self.now.resting c.deref.result.now c.deref_mut.result.now c.len.result c.in-Some.last c.index-deref-last.result
-      c.index-deref_mut-last.result c.index-deref_mut-last-then-top-from.result c.len.ensures.value c.in-Some.ensures.0 c.in-Some.ensures.1 c.index-deref-last.is c.deref.ensures.0 c.deref_mut.ensures.value
-      c.in-Leaf.page c.in-Leaf.is (omega (arith, c.if-top-from.true, c.from.ensures, c.count.ensures)) (omega (arith, c.if-top-from.true, c.from.ensures, c.count.type_inv))
-      c.element-leaf.result c.element-leaf.ensures.element c.element-leaf.ensures.bucket;
+  resting = rests_there c.args.self.now.trail c.args.self.now.is_past c.args.self.now.resting c.deref.result.now c.len.result c.in-Some.last c.index-deref-last.result c.len.ensures.value c.in-Some.ensures.0 c.in-Some.ensures.1
+      c.index-deref-last.is c.deref.ensures.0 c.in-Leaf.page c.in-Leaf.is
+      c.deref_mut.result.now c.index-deref_mut-last.result c.index-deref_mut-last-then-top-from.result c.deref_mut.ensures.value (omega (arith, c.if-top-from.true, c.from.ensures, c.count.ensures))
+      (omega (arith, c.if-top-from.true, c.from.ensures, c.count.type_inv)) c.element-leaf.result c.element-leaf.ensures.element c.element-leaf.ensures.bucket;
 }
 
 pub returns-then-top-from-clause-moves : goal.returns-then-top-from-clause-moves
 unfolding cursor_checked cursor_place cursor_start
 returns-then-top-from-clause-moves c =
-    moves_there c.args.self.now.trail c.args.self.now.is_past c.args.self.now.resting c.deref.result.now c.deref_mut.result.now c.len.result c.in-Some.last c.index-deref-last.result
-    c.index-deref_mut-last.result c.index-deref_mut-last-then-top-from.result c.len.ensures.value c.in-Some.ensures.0 c.in-Some.ensures.1 c.index-deref-last.is c.deref.ensures.0 c.deref_mut.ensures.value
-    c.in-Leaf.page c.in-Leaf.is (omega (arith, c.if-top-from.true, c.from.ensures, c.count.ensures)) (omega (arith, c.if-top-from.true, c.from.ensures, c.count.type_inv))
-    c.element-leaf.result c.element-leaf.ensures.element c.element-leaf.ensures.bucket
+    moves_there c.args.self.now.trail c.args.self.now.is_past c.args.self.now.resting c.deref.result.now c.len.result c.in-Some.last c.index-deref-last.result c.len.ensures.value c.in-Some.ensures.0 c.in-Some.ensures.1
+    c.index-deref-last.is c.deref.ensures.0 c.in-Leaf.page c.in-Leaf.is
+    c.deref_mut.result.now c.index-deref_mut-last.result c.index-deref_mut-last-then-top-from.result c.deref_mut.ensures.value (omega (arith, c.if-top-from.true, c.from.ensures, c.count.ensures))
+    (omega (arith, c.if-top-from.true, c.from.ensures, c.count.type_inv)) c.element-leaf.result c.element-leaf.ensures.element c.element-leaf.ensures.bucket
 
 pub returns-then-top-from-clause-opens : goal.returns-then-top-from-clause-opens
 unfolding cursor_checked cursor_opened cursor_place cursor_start
 returns-then-top-from-clause-opens c =
-    opens_there c.args.self.now.trail c.args.self.now.is_past c.args.self.now.resting c.deref.result.now c.deref_mut.result.now c.len.result c.in-Some.last c.index-deref-last.result
-    c.index-deref_mut-last.result c.index-deref_mut-last-then-top-from.result c.len.ensures.value c.in-Some.ensures.0 c.in-Some.ensures.1 c.index-deref-last.is c.deref.ensures.0 c.deref_mut.ensures.value
-    c.in-Leaf.page c.in-Leaf.is (omega (arith, c.if-top-from.true, c.from.ensures, c.count.ensures)) (omega (arith, c.if-top-from.true, c.from.ensures, c.count.type_inv))
-    c.element-leaf.result c.element-leaf.ensures.element c.element-leaf.ensures.bucket
+    opens_there c.args.self.now.trail c.args.self.now.is_past c.args.self.now.resting c.deref.result.now c.len.result c.in-Some.last c.index-deref-last.result c.len.ensures.value c.in-Some.ensures.0 c.in-Some.ensures.1
+    c.index-deref-last.is c.deref.ensures.0 c.in-Leaf.page c.in-Leaf.is
+    c.deref_mut.result.now c.index-deref_mut-last.result c.index-deref_mut-last-then-top-from.result c.deref_mut.ensures.value (omega (arith, c.if-top-from.true, c.from.ensures, c.count.ensures))
+    (omega (arith, c.if-top-from.true, c.from.ensures, c.count.type_inv)) c.element-leaf.result c.element-leaf.ensures.element c.element-leaf.ensures.bucket
+
+pub returns-then-last-eq0-clause-moves : goal.returns-then-last-eq0-clause-moves
+unfolding cursor_checked cursor_place cursor_start
+returns-then-last-eq0-clause-moves c =
+    stays_there c.args.self.now.trail c.args.self.now.is_past c.args.self.now.resting c.deref.result.now c.len.result c.in-Some.last c.index-deref-last.result c.len.ensures.value c.in-Some.ensures.0 c.in-Some.ensures.1
+    c.index-deref-last.is c.deref.ensures.0 c.in-Leaf.page c.in-Leaf.is (omega (arith, c.if-top-from.false, c.from.ensures, c.count.ensures)) c.if-last-eq0.true
+
+pub returns-then-last-eq0-clause-opens : goal.returns-then-last-eq0-clause-opens
+unfolding cursor_checked cursor_opened cursor_place cursor_start
+returns-then-last-eq0-clause-opens c =
+    opens_none c.args.self.now.trail c.args.self.now.is_past c.args.self.now.resting c.deref.result.now c.len.result c.in-Some.last c.index-deref-last.result c.len.ensures.value c.in-Some.ensures.0 c.in-Some.ensures.1
+    c.index-deref-last.is c.deref.ensures.0 c.in-Leaf.page c.in-Leaf.is (omega (arith, c.if-top-from.false, c.from.ensures, c.count.ensures)) c.if-last-eq0.true
 
 pub invariant_of-self-2 : goal.invariant_of-self-2
 invariant_of-self-2 c =
