@@ -1,8 +1,9 @@
 -- One turn of a climb, in what is known of open buckets: only that it is so.
-use Rattle.std.proofs.Common.{◌≡◌, ◌∙◌, ◌+◌, ◌-◌, ℕ, suc, List, [], ◌∷◌, ◌++◌, take, Option, Some, None, MatchOption, refl, sym, ap, subst, arith, Bor}
-use Rattle.bolt_tree.proofs.Words.{AreOpen, Checked, CursorView, HasEntries, LeafElement, Lists, Member, Moves, Names, Path, Start, beyond, entries_of, is_beyond, item_of, next_move, option_to_list, path_of, props, rest_after, root_start, ∥∥₁_elim, ∥∥₁_map}
-use Rattle.bolt_tree.proofs.Filters.{filter_none}
+use Rattle.std.proofs.Common.{◌≡◌, ◌∙◌, ◌+◌, ◌-◌, ℕ, suc, List, [], ◌∷◌, ◌++◌, take, Option, Some, None, MatchOption, refl, sym, ap, subst, arith, vec_len, Bor}
+use Rattle.bolt_tree.proofs.Words.{AreOpen, Checked, Cursor, CursorView, HasEntries, IsInPlace, LeafElement, Lists, Member, Moves, Names, Path, Start, beyond, cursor_view, cursors_of, entries_of, innermost_views, is_beyond, item_of, next_move, open_path, option_to_list, path_of, props, rest_after, root_start, waiting_of, ∥∥₁_elim, ∥∥₁_map}
+use Rattle.bolt_tree.proofs.{Filters.filter_none, KeptLemmas.none_open}
 use Rattle.bolt_tree.proofs.OpenSteps.{Top, path_popped, next_ended, next_entry, next_given, next_open, open_pop}
+use Rattle.bolt_tree.specs.declared.open_buckets.OpenBuckets.{OpenBuckets}
 
 -- the last cursor is looked at by itself, and the last key was taken off
 pub record Popped (checked : Checked) (cursors : List CursorView) (cursor : CursorView) (old new : Path) : Type 0 where
@@ -10,23 +11,26 @@ pub record Popped (checked : Checked) (cursors : List CursorView) (cursor : Curs
   pub top : Top checked [] cursors cursor old
   pub left : new ≡ top.front
 
-module _ (checked : Checked) (before cursors : List CursorView) (cursor : CursorView) (old new : List (Bor (List ℕ))) (taken : Option (Bor (List ℕ))) (n m : ℕ)
-    (buckets : ∥ HasEntries (entries_of checked) (root_start checked) × AreOpen checked [] before (path_of old) ∥₁) (last : before ≡ cursors ++ cursor ∷ [])
-    (items : old ≡ new ++ option_to_list taken) (rest : new ≡ take (n - 1) old) (cases : MatchOption taken ((n ≡ 0) × (m ≡ 0)) (λ _. m + 1 ≡ n)) where
-  more_or_less : (o : Option (Bor (List ℕ))) → MatchOption o ((n ≡ 0) × (m ≡ 0)) (λ _. m + 1 ≡ n) → MatchOption o ((n ≡ 0) × (m ≡ 0)) (λ _. suc m ≡ n)
-  more_or_less o h = grind arith
+module _ (buckets : OpenBuckets) (cursor : Cursor) (is : buckets.innermost ≡ Some cursor) (placed : IsInPlace buckets) (new : List (Bor (List ℕ))) (len : ℕ) (taken : Option (Bor (List ℕ)))
+    (items : buckets.path.items ≡ new ++ option_to_list taken) (rest : new ≡ take (vec_len buckets.path - 1) buckets.path.items)
+    (cases : MatchOption taken ((vec_len buckets.path ≡ 0) × (len ≡ 0)) (λ _. len + 1 ≡ vec_len buckets.path)) where
+  more_or_less : (o : Option (Bor (List ℕ))) (n m : ℕ) → MatchOption o ((n ≡ 0) × (m ≡ 0)) (λ _. m + 1 ≡ n) → MatchOption o ((n ≡ 0) × (m ≡ 0)) (λ _. suc m ≡ n)
+  more_or_less o n m h = grind arith
 
-  of : HasEntries (entries_of checked) (root_start checked) × AreOpen checked [] before (path_of old) → Popped checked cursors cursor (path_of old) (path_of new) × (suc m ≡ n)
+  of : HasEntries (entries_of buckets.checked) (root_start buckets.checked) × AreOpen buckets.checked [] (cursors_of buckets) (open_path buckets)
+      → Popped buckets.checked (waiting_of buckets) (cursor_view cursor) (open_path buckets) (path_of new) × (suc len ≡ vec_len buckets.path)
   of (all, are) =
-      let top = open_pop checked [] cursors cursor (path_of old) (subst (λ (cs : List CursorView). AreOpen checked [] cs (path_of old)) last are) in
-      let both = path_popped old new taken n m top.front top.key top.split items rest (more_or_less taken cases) in
+      let top = open_pop buckets.checked [] (waiting_of buckets) (cursor_view cursor) (open_path buckets)
+      (subst (λ (o : Option Cursor). AreOpen buckets.checked [] (waiting_of buckets ++ innermost_views o) (open_path buckets)) is are) in
+      let both = path_popped buckets.path.items new taken (vec_len buckets.path) len top.front top.key top.split items rest
+      (more_or_less taken (vec_len buckets.path) len cases) in
       (record { all = all; top = top; left = both.0 }, both.1)
 
-  pub popped : ∥ Popped checked cursors cursor (path_of old) (path_of new) ∥₁
-  popped = ∥∥₁_map buckets (λ t. (of t).0)
+  pub popped : ∥ Popped buckets.checked (waiting_of buckets) (cursor_view cursor) (open_path buckets) (path_of new) ∥₁
+  popped = ∥∥₁_map placed (λ t. (of t).0)
 
-  pub popped_len : suc m ≡ n
-  popped_len = ∥∥₁_elim buckets (hlevel props) (λ t. (of t).1)
+  pub popped_len : suc len ≡ vec_len buckets.path
+  popped_len = ∥∥₁_elim placed (hlevel props) (λ t. (of t).1)
 
 module _ (checked : Checked) (cursors : List CursorView) (cursor moved : CursorView) (old new : Path) (known : ∥ Popped checked cursors cursor old new ∥₁) where
   abbrev MovesOn : Option LeafElement → Type 0
@@ -67,9 +71,10 @@ module _ (checked : Checked) (cursors : List CursorView) (cursor moved : CursorV
 long : (checked : Checked) (keys : Path) → AreOpen checked [] [] keys → keys ≡ []
 long checked keys are = grind arith
 
-pub all_closed : (checked : Checked) (cursors : List CursorView) (keys : Path) → ∥ HasEntries (entries_of checked) (root_start checked) × AreOpen checked [] cursors keys ∥₁ → cursors ≡ [] → keys ≡ []
-all_closed checked cursors keys buckets none =
-    ∥∥₁_elim buckets (hlevel props) (λ t. long checked keys (subst (λ (cs : List CursorView). AreOpen checked [] cs keys) none t.1))
+pub all_closed : (buckets : OpenBuckets) → IsInPlace buckets → buckets.innermost ≡ None → open_path buckets ≡ []
+all_closed buckets placed none =
+    ∥∥₁_elim (none_open buckets.checked buckets.waiting.items buckets.positions.items buckets.innermost buckets.kept none) (hlevel props) (λ empty.
+    ∥∥₁_elim placed (hlevel props) (λ t. long buckets.checked (open_path buckets) (subst (λ (cs : List CursorView). AreOpen buckets.checked [] cs (open_path buckets)) empty t.1)))
 
 pub none_beyond : (keys : Path) (listing : List Member) → keys ≡ [] → beyond keys listing ≡ []
 none_beyond keys listing none = ap (λ (p : Path). beyond p listing) none ∙ filter_none (λ m. is_beyond [] m.0) listing (λ m h. refl)

@@ -1,10 +1,11 @@
 -- A part of a path is sought in a bucket, in what is known of open buckets: only that it is so.
-use Rattle.std.proofs.Common.{arith, ◌≡◌, ◌∙◌, ◌⊎◌, IsTrue, Bool, inl, inr, true, false, List, [], ◌∷◌, ◌++◌, Option, Some, None, refl, sym, ap, subst, append_assoc}
-use Rattle.bolt_tree.proofs.Words.{AreOpen, Bucket, Checked, CursorView, Equal, Greater, HasEntries, IsInside, Key, LeafElement, Less, Lists, Member, Names, Opens, Ordering, Path, Start, beyond, bucket_checked, bucket_start, entries_of, fresh_view, is_end, is_lt, key_cmp, least_from, less_of, ordering_reverse, props, rest_from, root_start, seek_move, start_of, ∥∥₁_elim}
-use Rattle.bolt_tree.proofs.CursorMoves.{by_key}
+use Rattle.std.proofs.Common.{arith, ◌≡◌, ◌∙◌, ◌⊎◌, IsTrue, Bool, inl, inr, true, false, List, [], ◌∷◌, ◌++◌, Option, Some, None, refl, sym, ap, subst, append_assoc, Bor, ℕ}
+use Rattle.bolt_tree.proofs.Words.{AreOpen, Bucket, Checked, Cursor, CursorView, Equal, Greater, HasEntries, IsInPlace, IsInside, IsNamed, Key, Leaf, LeafElement, Less, Lists, Member, Moves, Names, Opens, Ordering, Path, Start, ∥∥₁_elim, beyond, cursor_checked, cursor_place, cursor_start, cursor_view, cursors_of, entries_of, fresh_view, is_end, is_lt, key_cmp, leaf_view, least_from, less_of, open_path, ordering_reverse, path_of, props, rest_from, root_start, seek_move, start_of, waiting_of}
+use Rattle.bolt_tree.proofs.{CursorMoves.by_key, OpenSteps.opens, OpenSteps.path_put}
 use Rattle.bolt_tree.proofs.Entering.{Fresh_at, MovesBy, comes_by, leads_by, leads_in, leads_inside, made, opens_by, placed_in}
 use Rattle.bolt_tree.proofs.{EntryOrder.contains_at, EntryOrder.seek_from, PathOrder.key_exact, PathOrder.key_total}
 use Rattle.bolt_tree.proofs.Seeking.{rest_greater, rest_none, rest_past_value}
+use Rattle.bolt_tree.specs.declared.open_buckets.OpenBuckets.{OpenBuckets}
 
 pub neither : (a b : Key) (o : Ordering) → key_cmp a b ≡ o → is_lt (key_cmp a b) ≡ false → is_lt (key_cmp b a) ≡ false → a ≡ b
 neither a b Less e h k = absurd (let f = ap is_lt e in cc)
@@ -58,33 +59,53 @@ module _ (checked : Checked) (cursors : List CursorView) (keys : Path) (fresh mo
 pub ends_here : (rest keys path : Path) (part key : Key) (listing : List Member) → is_end rest ≡ true → part ≡ key → path ≡ keys ++ key ∷ [] → rest_from path listing ≡ rest_from (keys ++ part ∷ rest) listing
 ends_here rest keys path part key listing e same at = grind arith
 
--- A part was searched for in the bucket that these keys name. Its cursor is on this entry, whose key was put after them.
-module _ (checked file : Checked) (cursors after : List CursorView) (keys path : Path) (bucket : Bucket) (part : Key) (e : LeafElement)
-    (placed : ∥ HasEntries (entries_of checked) (root_start checked) × AreOpen checked [] cursors keys ∥₁)
-    (named : ∥ (bucket_checked bucket ≡ checked) × Names (entries_of checked) (root_start checked) keys (bucket_start bucket) ∥₁)
-    (same : file ≡ checked) (opens : Opens bucket (λ entries place. seek_move part entries) cursors after (Some e)) (at : path ≡ keys ++ e.key ∷ []) where
-  known_there : ∥ Fresh_at checked cursors keys (fresh_view bucket) ∥₁
-  known_there = made checked cursors keys bucket (fresh_view bucket) placed named refl refl
+-- A part was searched for in the bucket that the path names. Its cursor is on this entry, whose key was put after the path.
+module _ (old opened : OpenBuckets) (bucket : Bucket) (cursor moved : Cursor) (placed : IsInPlace old) (named : IsNamed old bucket) (same : opened.checked ≡ old.checked)
+    (cursors : cursors_of opened ≡ cursors_of old ++ fresh_view bucket ∷ []) (is : opened.innermost ≡ Some cursor) (file : cursor_checked moved ≡ cursor_checked cursor)
+    (start : cursor_start moved ≡ cursor_start cursor) (part : Key) (leaf : Leaf)
+    (moves : Moves (entries_of (cursor_checked cursor)) (cursor_start cursor) (λ entries place. seek_move part entries) (cursor_place cursor) (cursor_place moved) (Some (leaf_view leaf)))
+    (items : List (Bor (List ℕ))) (kept : opened.path.items ≡ old.path.items) (put : items ≡ opened.path.items ++ leaf.key ∷ []) where
+  abbrev e : LeafElement
+  e = leaf_view leaf
 
-  pub placed_there : ∥ HasEntries (entries_of file) (root_start file) × AreOpen file [] after path ∥₁
-  placed_there = placed_in checked file after after path path same refl refl
-      (opens_by (by_key part) checked cursors keys (fresh_view bucket) opens.moved known_there e after path opens.file opens.start opens.moves opens.is at)
+  abbrev path : Path
+  path = path_of items
 
-  pub leads_there : ∥ ((front : Path) × (outer : Start) × (path ≡ front ++ e.key ∷ []) × Names (entries_of file) (root_start file) front outer × entries_of file outer e) ∥₁
-  leads_there = leads_in checked file path e same (leads_by (by_key part) checked cursors keys (fresh_view bucket) opens.moved known_there e path opens.moves at)
+  pub at : path ≡ open_path old ++ e.key ∷ []
+  at = path_put old.path.items opened.path.items items leaf.key kept put
 
-  pub inside_there : IsTrue e.is_bucket → IsInside file path (start_of e.value)
-  inside_there b = leads_inside file path e leads_there b
+  abbrev fresh : CursorView
+  fresh = fresh_view bucket
+
+  known_there : ∥ Fresh_at old.checked (cursors_of old) (open_path old) fresh ∥₁
+  known_there = made old.checked (cursors_of old) (open_path old) bucket fresh placed named refl refl
+
+  there : Opens bucket (λ entries place. seek_move part entries) (cursors_of old) (waiting_of opened ++ cursor_view moved ∷ []) (Some e)
+  there = opens old opened bucket cursor moved cursors is file start (λ entries place. seek_move part entries) (Some e) (waiting_of opened ++ cursor_view moved ∷ []) moves refl
+
+  pub placed_there : ∥ HasEntries (entries_of opened.checked) (root_start opened.checked) × AreOpen opened.checked [] (waiting_of opened ++ cursor_view moved ∷ []) path ∥₁
+  placed_there =
+      let after : List CursorView = waiting_of opened ++ cursor_view moved ∷ [] in
+      placed_in old.checked opened.checked after after path path same refl refl
+      (opens_by (by_key part) old.checked (cursors_of old) (open_path old) fresh there.moved known_there e after path there.file there.start there.moves there.is at)
+
+  pub leads_there : ∥ ((front : Path) × (outer : Start) × (path ≡ front ++ e.key ∷ []) × Names (entries_of opened.checked) (root_start opened.checked) front outer × entries_of opened.checked outer e) ∥₁
+  leads_there = leads_in old.checked opened.checked path e same (leads_by (by_key part) old.checked (cursors_of old) (open_path old) fresh there.moved known_there e path there.moves at)
+
+  pub inside_there : IsTrue e.is_bucket → IsInside opened.checked path (start_of e.value)
+  inside_there b = leads_inside opened.checked path e leads_there b
 
   pub same_there : is_lt (key_cmp part e.key) ≡ false → part ≡ e.key
-  same_there = from_same checked cursors keys (fresh_view bucket) opens.moved part known_there e opens.moves
+  same_there = from_same old.checked (cursors_of old) (open_path old) fresh there.moved part known_there e there.moves
 
   -- what is left from there on: the key is above the part; or it is the last part; or it is a value, and the path goes on
   pub rest_there : (is_last : Bool) → ((is_lt (key_cmp part e.key) ≡ true) ⊎ ((is_lt (key_cmp part e.key) ≡ false) × (is_last ≡ true))) → (rest : Path) → is_end rest ≡ is_last
-      → (listing : List Member) → Lists (entries_of checked) (root_start checked) listing → rest_from path listing ≡ rest_from (keys ++ part ∷ rest) listing
-  rest_there is_last (inl above) rest end listing lists = from_greater checked cursors keys (fresh_view bucket) opens.moved part known_there e rest path opens.moves above at listing lists
-  rest_there is_last (inr (not_above, last)) rest end listing lists = ends_here rest keys path part e.key listing (end ∙ last) (same_there not_above) at
+      → (listing : List Member) → Lists (entries_of old.checked) (root_start old.checked) listing → rest_from path listing ≡ rest_from (open_path old ++ part ∷ rest) listing
+  rest_there is_last (inl above) rest end listing lists =
+      from_greater old.checked (cursors_of old) (open_path old) fresh there.moved part known_there e rest path there.moves above at listing lists
+  rest_there is_last (inr (not_above, last)) rest end listing lists = ends_here rest (open_path old) path part e.key listing (end ∙ last) (same_there not_above) at
 
   pub beyond_there : is_lt (key_cmp part e.key) ≡ false → e.is_bucket ≡ false → (rest : Path) → is_end rest ≡ false
-      → (listing : List Member) → Lists (entries_of checked) (root_start checked) listing → beyond path listing ≡ rest_from (keys ++ part ∷ rest) listing
-  beyond_there not_above value rest more listing lists = from_value checked cursors keys (fresh_view bucket) opens.moved part known_there e rest path opens.moves (same_there not_above) value more at listing lists
+      → (listing : List Member) → Lists (entries_of old.checked) (root_start old.checked) listing → beyond path listing ≡ rest_from (open_path old ++ part ∷ rest) listing
+  beyond_there not_above value rest more listing lists =
+      from_value old.checked (cursors_of old) (open_path old) fresh there.moved part known_there e rest path there.moves (same_there not_above) value more at listing lists

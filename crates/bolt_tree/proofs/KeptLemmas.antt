@@ -1,9 +1,9 @@
 -- Cursors that wait, and go on.
 use Rattle.std.proofs.lemmas.Grind.{common_steps}
 use Rattle.std.proofs.Common.{◌≡◌, ◌∙◌, ◌≤◌, ◌-◌, ℕ, Bool, List, [], ◌∷◌, ◌++◌, Option, Some, None, drop, take, length, reverse, refl, sym, ap, subst, arith}
-use Rattle.bolt_tree.proofs.Words.{AreKept, AreOfFile, BucketView, Checked, Cursor, CursorView, Frame, HasStack, IsResting, IsInnermost, IsKept, LeafElement, Move, Moves, MovesLast, Place, Position, Trail, bucket_in, cursor_checked, cursor_place, cursor_start, cursor_view, drop-append_seam, entries_of, frames_of, innermost_views, kept_view, kept_views, length-append, length-drop, pager_checked, props, reverse-append, same_from_push, start_at, take-append_seam, take-length, ∥∥₁_elim, ∥∥₁_map}
+use Rattle.bolt_tree.proofs.Words.{AreKept, AreOfFile, BucketView, Checked, Cursor, CursorView, Frame, HasStack, IsResting, IsInnermost, IsKept, Position, Trail, bucket_in, cursor_checked, cursor_place, cursor_start, cursor_view, drop-append_seam, frames_of, innermost_views, kept_view, kept_views, length-append, length-drop, pager_checked, props, reverse-append, same_from_push, start_at, take-append_seam, take-length, ∥∥₁_elim, ∥∥₁_map}
 use Rattle.bolt_tree.proofs.{StackLemmas.stack_short, TrailLemmas.length-frames}
-use Rattle.bolt_tree.specs.{declared.at.At.At, declared.open_cursors.WaitingCursor.WaitingCursor}
+use Rattle.bolt_tree.specs.{declared.at.At.At, declared.open_buckets.WaitingCursor.WaitingCursor}
 
 frames_short : (bucket : BucketView) (frames : List Frame) → HasStack bucket frames → length frames ≤ 64
 frames_short bucket [] stack = omega arith
@@ -92,20 +92,6 @@ module _ (checked : Checked) (waiting : List WaitingCursor) (positions : List Po
 
   pub moved_file : (cursor moved : Cursor) → innermost ≡ Some cursor → cursor_checked moved ≡ cursor_checked cursor → ∥ AreOfFile checked waiting positions (Some moved) ∥₁
   moved_file cursor moved is file = ∥∥₁_map known (λ k. (k.0, file ∙ subst (λ (o : Option Cursor). IsInnermost checked waiting o) is k.1))
-
-  pub moved_last : (cursor moved : Cursor) → innermost ≡ Some cursor → cursor_checked moved ≡ cursor_checked cursor → cursor_start moved ≡ cursor_start cursor
-      → (move : List LeafElement → Place → Move) (answer : Option LeafElement) → Moves (entries_of (cursor_checked cursor)) (cursor_start cursor) move (cursor_place cursor) (cursor_place moved) answer
-      → MovesLast move (kept_views checked (reverse waiting) positions ++ innermost_views innermost) (kept_views checked (reverse waiting) positions ++ innermost_views (Some moved)) answer
-  moved_last cursor moved is file start move answer moves = record {
-    outer = kept_views checked (reverse waiting) positions;
-    cursor = cursor_view cursor;
-    moved = cursor_view moved;
-    was = ap (λ (o : Option Cursor). kept_views checked (reverse waiting) positions ++ innermost_views o) is;
-    is = refl;
-    file = file;
-    start = start;
-    moves = moves;
-  }
 
 -- the first one
 pub first_one : (checked : Checked) (waiting : List WaitingCursor) (positions : List Position) (innermost : Option Cursor) (cursor : Cursor) → ∥ AreOfFile checked waiting positions innermost ∥₁ → innermost ≡ None

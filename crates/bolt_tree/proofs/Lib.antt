@@ -39,6 +39,7 @@ pub mod Single
 pub mod SortedLemmas
 pub mod StackLemmas
 mod Standing
+pub mod TakingNext
 pub mod TourLemmas
 pub mod TrailLemmas
 mod TreeListing

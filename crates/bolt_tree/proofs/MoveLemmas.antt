@@ -1,9 +1,8 @@
 -- Moves from entry to entry. Within a leaf, one element more of the page on top of a stack is taken, in place.
-use Rattle.std.proofs.Common.{rules, ◌≡◌, ℕ, ◌<◌, Bool, true, false, List, [], ◌∷◌, ◌++◌, Some, None, length, ◌∙◌, arith, ◌≤◌, ◌+◌, ◌-◌, suc, take, slice_index_or, slice_set, sym, ap, append-nil, subst}
-use Rattle.std.proofs.lemmas.Grind.{common_steps}
-use Rattle.bolt_tree.proofs.Words.{BucketView, Content, Contents, Frame, HasStack, IsAtRest, IsBeside, IsEntered, IsLast, IsOn, LeafElement, Position, StandsOn, contents_in, drop_all, elements_in, entries_to, frame_of, frames_of, get_or_default, length-set, nearer, opened_content, pages_in, pages_to, refill, later_of, root_content, slice_get_read, take-suc-set, take_all, take_next, taken_at}
+use Rattle.std.proofs.Common.{rules, ◌≡◌, ℕ, Bool, true, false, List, [], ◌∷◌, Some, None, length, arith, ◌+◌, suc, sym, subst}
+use Rattle.bolt_tree.proofs.Words.{BucketView, Content, Contents, Frame, HasStack, IsBeside, IsEntered, IsLast, IsOn, LeafElement, StandsOn, contents_in, elements_in, entries_to, nearer, pages_in, pages_to, root_content, taken_at}
 use Rattle.bolt_tree.proofs.{BackLemmas.back_none, BackLemmas.back_some, BackLemmas.left_out, BackLemmas.root_behind, StackLemmas.root_ahead, StackLemmas.root_right}
-use Rattle.bolt_tree.proofs.TrailLemmas.{entered_length, entered_none, entered_some, exhausted, frames_push}
+use Rattle.bolt_tree.proofs.TrailLemmas.{entered_length, entered_none, entered_some, exhausted}
 
 -- One step of a move in a direction, from a stack with this page on top: an entry is taken, or a page is opened, or the page leaves the stack.
 module _ (bucket : BucketView) (f : Frame) (below : List Frame) where
@@ -43,33 +42,6 @@ at_root back bucket = grind (arith, root_ahead, root_right, root_behind)
 pub at_edge : (back : Bool) (bucket now : BucketView) (frames : List Frame) → now ≡ bucket → frames ≡ record { content = root_content bucket; taken = taken_at back (root_content bucket) } ∷ []
     → (elements_in bucket ≡ entries_to back (contents_in now) frames) × (length (pages_in bucket) ≡ suc (length (pages_to back (contents_in now) frames)))
 at_edge back bucket now frames same at = rw (same, at) (at_root back bucket)
-
-pub alone : (contents : Contents) (frames : List Frame) → IsAtRest frames → length frames < 2 → later_of contents frames ≡ []
-alone contents frames rest few = grind (arith, common_steps)
-
-last_is : (items : List Position) (last : ℕ) (top : Position) → length items ≡ suc last → top ≡ slice_index_or items last top → items ≡ take last items ++ top ∷ []
-last_is items last top long read = sym (take_all (suc last) items (omega (arith, long))) ∙ take_next items last top (slice_get_read items (suc last) last top (sym long) (omega arith) read)
-
-refilled : (items : List Position) (last : ℕ) (put : Position) → length items ≡ suc last → refill (length items) items (slice_set items last put) ≡ take last items ++ put ∷ []
-refilled items last put long = grind (arith, slice_set, length-set, drop_all, append-nil, long, take-suc-set)
-
-module _ (items shared lent : List Position) (n last : ℕ) (top d e : Position) (len : n ≡ length items) (some : 1 ≤ n) (is_last : last ≡ n - 1)
-    (read : top ≡ slice_index_or shared last top) (same : shared ≡ items) (again : lent ≡ items) where
-  long : length items ≡ suc last
-  long = omega (arith, len, some, is_last)
-
-  got : top ≡ slice_index_or items last top
-  got = read ∙ ap (λ (ps : List Position). slice_index_or ps last top) same
-
-  found : (d : Position) → slice_index_or lent last d ≡ top
-  found d = ap (λ (ps : List Position). slice_index_or ps last d) again ∙ (get_or_default items last d top (omega (arith, long)) ∙ sym got)
-
-  pub was : frames_of items ≡ frame_of top ∷ frames_of (take last items)
-  was = ap frames_of (last_is items last top long got) ∙ frames_push (take last items) top
-
-  pub is : frames_of (refill (length items) items (slice_set lent last (record { page = (slice_index_or lent last e).page; taken = (slice_index_or lent last d).taken + 1 })))
-      ≡ record { content = opened_content top.page; taken = top.taken + 1 } ∷ frames_of (take last items)
-  is = grind (arith, common_steps, refill, slice_set, slice_index_or, refilled, long, frames_push)
 
 -- the entry on which a leaf stands then was taken
 pub taken_entry : (contents : Contents) (content : Content) (i : ℕ) (below new : List Frame) (e : LeafElement) → StandsOn content (i + 1) e → new ≡ record { content = content; taken = i + 1 } ∷ below

@@ -1,9 +1,9 @@
 -- How open buckets change: a cursor is removed and added again, or opened after the others and makes its first move.
-use Rattle.std.proofs.Common.{arith, rules, ◌≡◌, ◌∙◌, ◌-◌, ℕ, suc, List, [], ◌∷◌, ◌++◌, take, Option, Some, None, MatchOption, refl, sym, ap, subst, append_assoc, append-nil, Bor, slice_get}
-use Rattle.std.proofs.lemmas.Grind.{common_steps}
-use Rattle.bolt_tree.proofs.Words.{AreEntries, AreOpen, Bucket, Checked, CursorView, Fresh, HasEntries, Keeps, Key, LeafElement, Lists, Member, Move, Moves, MovesLast, Names, Opens, Path, Place, Start, beyond, entries_of, first_move, fresh_view, item_of, next_move, option_to_list, path_of, rest_after, root_start, same_from_push}
-use Rattle.bolt_tree.proofs.{CursorMoves.ComesTo, CursorMoves.comes_next, EntryOrder.contains_at, Giving.give_after_last, Giving.give_next}
-use Rattle.bolt_tree.specs.Private.OpenBuckets.{StandsOn}
+use Rattle.std.proofs.Common.{arith, rules, ◌≡◌, ◌∙◌, ◌-◌, ℕ, suc, List, [], ◌∷◌, ◌++◌, length, take, Option, Some, None, MatchOption, refl, sym, ap, subst, append_assoc, append-nil, Bor, slice_get}
+use Rattle.std.proofs.lemmas.{Grind.common_steps, List.length_push}
+use Rattle.bolt_tree.proofs.Words.{AreEntries, AreOpen, Bucket, Checked, Cursor, CursorView, Fresh, HasEntries, Key, LeafElement, Lists, Member, Move, Moves, Names, Opens, Path, Place, Start, beyond, cursor_checked, cursor_place, cursor_start, cursor_view, cursors_of, entries_of, first_move, fresh_view, innermost_views, item_of, next_move, option_to_list, path_of, rest_after, root_start, same_from_push, waiting_of}
+use Rattle.bolt_tree.proofs.{CursorMoves.ComesTo, CursorMoves.comes_next, EntryOrder.contains_at, Giving.give_after_last, Giving.give_next, KeptLemmas.some_innermost}
+use Rattle.bolt_tree.specs.{Private.OpenBuckets.StandsOn, declared.open_buckets.OpenBuckets.OpenBuckets}
 
 pub path_push : (xs : List (Bor (List ℕ))) (x : Bor (List ℕ)) → path_of (xs ++ x ∷ []) ≡ path_of xs ++ x.now ∷ []
 path_push [] x = refl
@@ -103,22 +103,31 @@ module _ (checked : Checked) (all : HasEntries (entries_of checked) (root_start 
       let (i, old, at, same, short) = goes None moves own.0 own.1 in
       grind (arith, same, give_after_last)
 
-module _ (move : List LeafElement → Place → Move) (before opened moved after : List CursorView) (bucket : Bucket) (answer : Option LeafElement)
-    (moves : MovesLast move opened moved answer) (is : opened ≡ before ++ fresh_view bucket ∷ []) where
-  same : (moves.outer ≡ before) × (moves.cursor ≡ fresh_view bucket)
-  same = same_from_push moves.outer before moves.cursor (fresh_view bucket) (sym moves.was ∙ is)
+-- A bucket is opened, and its cursor makes its first move. If that returns nothing, the bucket is closed again.
+module _ (old opened : OpenBuckets) (bucket : Bucket) (cursor moved : Cursor) (cursors : cursors_of opened ≡ cursors_of old ++ fresh_view bucket ∷ [])
+    (is : opened.innermost ≡ Some cursor) (file : cursor_checked moved ≡ cursor_checked cursor) (start : cursor_start moved ≡ cursor_start cursor) where
+  same : (waiting_of opened ≡ cursors_of old) × (cursor_view cursor ≡ fresh_view bucket)
+  same = same_from_push (waiting_of opened) (cursors_of old) (cursor_view cursor) (fresh_view bucket)
+      (sym (ap (λ (o : Option Cursor). waiting_of opened ++ innermost_views o) is) ∙ cursors)
 
-  left : (o : Option LeafElement) → Keeps o moved after → MatchOption o (after ≡ before) (λ e. after ≡ before ++ moves.moved ∷ [])
-  left o shut = grind (arith, common_steps)
-
-  pub opens : Keeps answer moved after → Opens bucket move before after answer
-  opens keeps = record {
-    moved = moves.moved;
-    file = moves.file ∙ ap (λ (v : CursorView). v.checked) same.1;
-    start = moves.start ∙ ap (λ (v : CursorView). v.start) same.1;
-    moves = subst (λ (v : CursorView). Moves (entries_of v.checked) v.start move v.place moves.moved.place answer) same.1 moves.moves;
-    is = left answer keeps;
+  pub opens : (move : List LeafElement → Place → Move) (answer : Option LeafElement) (after : List CursorView)
+      → Moves (entries_of (cursor_checked cursor)) (cursor_start cursor) move (cursor_place cursor) (cursor_place moved) answer
+      → MatchOption answer (after ≡ waiting_of opened) (λ e. after ≡ waiting_of opened ++ cursor_view moved ∷ []) → Opens bucket move (cursors_of old) after answer
+  opens move answer after moves left = record {
+    moved = cursor_view moved;
+    file = file ∙ ap (λ (v : CursorView). v.checked) same.1;
+    start = start ∙ ap (λ (v : CursorView). v.start) same.1;
+    moves = subst (λ (v : CursorView). Moves (entries_of v.checked) v.start move v.place (cursor_place moved) answer) same.1 moves;
+    is = subst (λ (cs : List CursorView). MatchOption answer (after ≡ cs) (λ e. after ≡ cs ++ cursor_view moved ∷ [])) same.0 left;
   }
+
+not_nil : {A : Type 0} (xs : List A) (x : A) → xs ++ x ∷ [] ≡ [] → ⊥
+not_nil xs x e = let f = ap length e in grind (arith, length_push)
+
+-- it is there
+pub some_open : (old opened : OpenBuckets) (bucket : Bucket) → cursors_of opened ≡ cursors_of old ++ fresh_view bucket ∷ [] → opened.innermost ≡ None → ⊥
+some_open old opened bucket cursors none =
+    some_innermost opened.checked opened.waiting.items opened.positions.items opened.innermost opened.kept (λ empty. not_nil (cursors_of old) (fresh_view bucket) (sym cursors ∙ empty)) none
 
 -- before the first call the next entry is the first one
 next_first : (Entry : Start → LeafElement → Type 0) (bucket : Start) (place : Place) (answer : Option LeafElement) → Moves Entry bucket next_move Fresh place answer

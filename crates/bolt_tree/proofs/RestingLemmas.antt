@@ -5,6 +5,7 @@ use Rattle.bolt_tree.proofs.Words.{BucketView, Content, Contents, EntryView, Fin
 use Rattle.bolt_tree.proofs.OpeningMoves.{first_opens, next_opens}
 use Rattle.bolt_tree.proofs.PlaceMoves.{Comes, first_moves, go_moves, last_moves, seek_moves, stack_bucket, the_entries}
 use Rattle.bolt_tree.proofs.TrailLemmas.{empty_stack, same_bucket}
+use Rattle.bolt_tree.specs.Private.Trails.{Goes}
 
 rest_on_prop : (content : Content) (taken : ℕ) → IsProp (RestsOn content taken)
 rest_on_prop (Of_leaf elements) taken = Prim.hlevel props
@@ -33,6 +34,11 @@ past_empty trail is_past resting past = ∥∥₁_elim resting (Prim.hlevel prop
 pub not_past : (trail : Trail) (is_past : Bool) → ∥ IsResting trail is_past ∥₁ → (trail_frames trail ≡ [] → ⊥) → is_past ≡ false
 not_past trail false resting h = refl
 not_past trail true resting h = absurd (h (∥∥₁_elim resting (Prim.hlevel props) (λ k. k.empty refl)))
+
+-- so it is after a move from where it stood
+pub goes_resting : (old new : Trail) (back is_past : Bool) (found : Option Leaf) → ∥ IsResting old is_past ∥₁ → (trail_frames old ≡ [] → ⊥) → Goes back old new found → ∥ IsResting new is_past ∥₁
+goes_resting old new back is_past found resting some goes =
+    ∣ record { stack = goes.moved.stack; rest = goes.rest; empty = λ past. absurd (some (past_empty old is_past resting past)) } ∣₁
 
 -- what a call returns is shown as the move says
 pub shows_by : (Entry : Start → LeafElement → Type 0) (bucket : Start) (move : List LeafElement → Place → Move) (old new : Place) (answer : Option LeafElement) (shown : Option EntryView)

@@ -25,6 +25,13 @@ no_frames items empty e t = grind (arith, common_steps, nat_tests)
 pub nonempty : (items : List Position) (empty : Bool) → empty ≡ (length items == 0) → empty ≡ false → frames_of items ≡ [] → ⊥
 nonempty items empty e f nil = grind (arith, length-frames, nat_tests)
 
+pub unfilled : (items : List Position) (n : ℕ) → n ≡ length items → (1 ≤ n → ⊥) → frames_of items ≡ []
+unfilled [] n e none = refl
+unfilled (p ∷ items) n e none = absurd (none (omega (arith, e)))
+
+pub filled : (items : List Position) (n : ℕ) → n ≡ length items → 1 ≤ n → frames_of items ≡ [] → ⊥
+filled items n e some nil = let l = length-frames items ∙ sym e in let f = ap length nil in omega (arith, l, f, some)
+
 -- the tour of a page is the page and what lies under it
 tour_top : (contents : Contents) (n h : ℕ) (address : List ℕ) (content : Content) → ((elements : List BranchElement) → content ≡ Of_branch elements → n ≡ suc (62 - h))
     → tour contents n address content ≡ record { address = address; entries = here_under content 0 } ∷ later_under contents h address content 0

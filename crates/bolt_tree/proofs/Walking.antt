@@ -13,12 +13,12 @@ ahead_prop buckets (Give leaf) = hlevel props
 ahead_prop buckets Leave = hlevel props
 
 -- where only the room for more has changed
-pub ahead_in : (old new : OpenBuckets) (ahead : WalkStep) → new.cursors.checked ≡ old.cursors.checked → open_path new ≡ open_path old → IsAhead old ahead → IsAhead new ahead
+pub ahead_in : (old new : OpenBuckets) (ahead : WalkStep) → new.checked ≡ old.checked → open_path new ≡ open_path old → IsAhead old ahead → IsAhead new ahead
 ahead_in old new Begin file same h = same ∙ h
 ahead_in old new (Enter value) file same h = (
   h.0,
   subst (λ (c : Checked). IsInside c (open_path new) (start_of value.now)) (sym file)
-      (subst (λ (ks : Path). IsInside old.cursors.checked ks (start_of value.now)) (sym same) h.1),
+      (subst (λ (ks : Path). IsInside old.checked ks (start_of value.now)) (sym same) h.1),
 )
 ahead_in old new (Give leaf) file same h = (
   h.0,
@@ -28,12 +28,12 @@ ahead_in old new (Give leaf) file same h = (
 ahead_in old new Leave file same h = h
 
 -- a walk begins at the root
-pub begins : (checked : Checked) (buckets : OpenBuckets) → buckets.cursors.checked ≡ checked → cursors_of buckets.cursors ≡ [] → buckets.path.items ≡ []
+pub begins : (checked : Checked) (buckets : OpenBuckets) → buckets.checked ≡ checked → cursors_of buckets ≡ [] → buckets.path.items ≡ []
     → ∥ IsInPlace buckets × IsAhead buckets Begin ∥₁
 begins checked buckets file none at =
     let path : open_path buckets ≡ [] = ap path_of at in
-    let are : AreOpen buckets.cursors.checked [] (cursors_of buckets.cursors) (open_path buckets) =
-    subst (λ (cs : List CursorView). AreOpen buckets.cursors.checked [] cs (open_path buckets)) (sym none) (subst (λ (ks : Path). AreOpen buckets.cursors.checked [] [] ks) (sym path) tt) in
+    let are : AreOpen buckets.checked [] (cursors_of buckets) (open_path buckets) =
+    subst (λ (cs : List CursorView). AreOpen buckets.checked [] cs (open_path buckets)) (sym none) (subst (λ (ks : Path). AreOpen buckets.checked [] [] ks) (sym path) tt) in
     ∥∥₁_map (checked_entries checked) (λ h. (∣ (subst (λ (c : Checked). HasEntries (entries_of c) (root_start c)) (sym file) h, are) ∣₁, path))
 
 pub all_ahead : (checked : Checked) (keys : Path) → keys ≡ [] → (listing : List Member) → Lists (entries_of checked) (root_start checked) listing

@@ -29,12 +29,12 @@ pub use Rattle.bolt_tree.specs.Places.{Fresh, Move, Moves, On, Past, Place, Show
 pub use Rattle.bolt_tree.specs.Places.{prev_move, seek_move}
 pub use Rattle.bolt_tree.specs.Private.BucketPages.{IsSoundBucket, contents_in, elements_in, pages_in, root_content}
 pub use Rattle.bolt_tree.specs.Private.Contents.{Content, Contents, Of_branch, Of_leaf, content_by, content_keys, content_length, content_of, content_seen}
-pub use Rattle.bolt_tree.specs.Private.CursorViews.{AreOfFile, IsInnermost, Keeps, MovesLast, Opens, cursor_view, fresh_view, innermost_views}
+pub use Rattle.bolt_tree.specs.Private.CursorViews.{AreOfFile, IsInnermost, Opens, cursor_view, fresh_view, innermost_views}
 pub use Rattle.bolt_tree.specs.{Private.Entered.IsEntered, Private.Entered.opened_to, Private.Entered.taken_at, Private.Resting.IsResting, Private.Resting.place_by}
 pub use Rattle.bolt_tree.specs.Private.Resting.{place_on}
 pub use Rattle.bolt_tree.specs.Private.Kept.{AreKept, CursorView, IsKept, kept_view, kept_views}
-pub use Rattle.bolt_tree.specs.Private.OpenBuckets.{AreOpen, ComesNext, IsAhead, IsInPlace, IsInside, IsNamed, is_end, left_by, open_path, reported_path}
-pub use Rattle.bolt_tree.specs.{Private.OpenCursors.cursors_of, Private.PageKeys.IsPlaceOf, Private.PageKeys.doubled, Private.PageKeys.stands_before}
+pub use Rattle.bolt_tree.specs.Private.OpenBuckets.{AreOpen, ComesNext, IsAhead, IsInPlace, IsInside, IsNamed, cursors_of, is_end, left_by, open_path, reported_path, waiting_of}
+pub use Rattle.bolt_tree.specs.Private.PageKeys.{IsPlaceOf, doubled, stands_before}
 pub use Rattle.bolt_tree.specs.Private.Seeks.{AreBelow, IsBetween, IsNearTo, IsNearTop, IsOnWayDown, IsSought, top_address}
 pub use Rattle.bolt_tree.specs.Private.ShownPages.{opened_content}
 pub use Rattle.bolt_tree.specs.Private.Stacks.{Frame, HasStack, IsAtRest, IsBeside, IsBranchContent, IsBranchTop, IsGoodContent, IsLast, IsLeafContent}

@@ -7,7 +7,6 @@ pub mod CursorViews
 pub mod Entered
 pub mod Kept
 pub mod OpenBuckets
-pub mod OpenCursors
 pub mod PageKeys
 pub mod Resting
 pub mod Seeks

@@ -8,7 +8,7 @@ use Rattle.bolt_tree.specs.{Private.OpenBuckets.left_by, Private.OpenBuckets.rep
 use Rattle.bolt_check.specs.declared.checked.Checked.{Checked}
 
 unfoldable pub walk_checked : Walk → Checked
-walk_checked walk = walk.buckets.cursors.checked
+walk_checked walk = walk.buckets.checked
 
 -- the part of a listing that the walk has ahead of it
 unfoldable pub left_of : Walk → List Member → List Member

@@ -13,7 +13,7 @@ use crate::entry::Entry;
 use crate::pager::Pager;
 use crate::stack::{Position, Stack, set_positions};
 use crate::trail::Trail;
-use bolt_format::Leaf;
+use bolt_format::{Leaf, TreePage};
 
 /// A cursor over the entries of a bucket, in byte order of their keys. It is before the first call,
 /// on an entry, or past the last one (docs/LISTING.md, "Places"). None of its calls needs memory.
@@ -203,15 +203,26 @@ impl<'a> Cursor<'a> {
         ensures compared { cursor_compared self.new ≡ cursor_compared self.old }
         ensures bucket { HasBucketValue result }
     {
-        // After a `seek` that returned nothing, this opens nothing: only all its pages could tell that
-        // the bucket is empty.
-        if self.is_past {
-            return None;
-        }
-        if self.trail.stack.is_empty() {
+        let Some(last) = self.trail.stack.len().checked_sub(1) else {
+            // After a `seek` that returned nothing, this opens nothing: only all its pages could tell
+            // that the bucket is empty.
+            if self.is_past {
+                return None;
+            }
             return self.trail.start(false);
+        };
+        let top = &self.trail.stack[last];
+        if let TreePage::Leaf(page) = top.page {
+            if top.taken < u32::from(page.count()) {
+                let leaf = page.element(top.taken as u16);
+                self.trail.stack[last].taken += 1;
+                return Some(leaf);
+            }
+            if last == 0 {
+                return None;
+            }
         }
-        self.trail.next(&mut self.saved)
+        self.trail.go_further(&mut self.saved, false)
     }
 
     /// Moves to the first entry whose key isn't below `key`, and returns its element. If there is

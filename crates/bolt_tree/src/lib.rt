@@ -12,7 +12,6 @@ mod key_search;
 pub mod laws;
 mod members;
 mod open_buckets;
-mod open_cursors;
 mod pager;
 mod stack;
 mod trail;

@@ -35,7 +35,7 @@ pub(crate) struct SeekResult<'a> {
 
 #[tactic(auto, using(crate::proofs::StackLemmas::retaken, crate::proofs::PagerLemmas::counted_zero))]
 impl<'a> Trail<'a> {
-    ghost use Rattle.bolt_tree.specs.Private.Trails.{ComesTo, Enters, Finds, Goes, HasBucket, HasOpened, HasRoom, HasTrail, IsMoved, LeadsTo, TakesHere, ahead, edge_of};
+    ghost use Rattle.bolt_tree.specs.Private.Trails.{ComesTo, Enters, Finds, Goes, HasBucket, HasOpened, HasRoom, HasTrail, IsMoved, LeadsTo, ahead, edge_of};
     ghost use Rattle.bolt_tree.specs.Private.Trails.{entries_from, entries_left, pages_left, trail_bucket, trail_frames, trail_with};
 
     /// Goes to the first entry or, if `back` is set, to the last one. If there is none, the stack is
@@ -50,22 +50,6 @@ impl<'a> Trail<'a> {
     {
         self.begin(back);
         self.go(back)
-    }
-
-    /// Moves to the next entry. If there is none, it stays. `saved` is room for a copy of the stack.
-    #[inline(always)]
-    pub fn next(&mut self, saved: &mut Stack<'a>) -> Option<Leaf<'a>>
-        requires stack { HasTrail self.old }
-        requires rest { IsAtRest (trail_frames self.old) }
-        ensures { Goes false self.old self.new result }
-    {
-        if let Some(leaf) = self.next_here() {
-            return Some(leaf);
-        }
-        if self.stack.len() < 2 {
-            return None;
-        }
-        self.go_further(saved, false)
     }
 
     /// Goes to the first entry whose key isn't below `key`. If there is none, the stack is empty.
@@ -97,29 +81,6 @@ impl<'a> Trail<'a> {
             return None;
         };
         Some(page.element((top.taken - 1) as u16))
-    }
-
-    /// Moves to the next entry if it is in the same leaf. Otherwise it stays.
-    #[tactic(auto, using(crate::proofs::MoveLemmas::was, crate::proofs::TrailLemmas::nothing_here))]
-    fn next_here(&mut self) -> Option<Leaf<'a>>
-        requires stack { HasTrail self.old }
-        requires rest { IsAtRest (trail_frames self.old) }
-        ensures moved { IsMoved self.old self.new }
-        ensures found { TakesHere self.old self.new result }
-        ensures bucket { HasBucketValue result }
-        ensures opened { pager_opened self.new.pager ≡ pager_opened self.old.pager }
-    {
-        let last = self.stack.len().checked_sub(1)?;
-        let top = &self.stack[last];
-        let TreePage::Leaf(page) = top.page else {
-            return None;
-        };
-        if top.taken >= u32::from(page.count()) {
-            return None;
-        }
-        let leaf = page.element(top.taken as u16);
-        self.stack[last].taken += 1;
-        Some(leaf)
     }
 
     /// Moves to the next entry or, if `back` is set, to the preceding one, past the end of the leaf

@@ -78,7 +78,7 @@ impl<'a> Walk<'a> {
     pub fn checked(&self) -> Checked<'a>
         ensures { result ≡ walk_checked self.now }
     {
-        self.buckets.cursors.checked
+        self.buckets.checked
     }
 
     /// The path of the last item that was returned, from the root bucket down. It is empty before

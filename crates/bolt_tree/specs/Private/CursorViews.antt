@@ -5,7 +5,7 @@ use Rattle.bolt_check.specs.declared.checked.Checked.{Checked}
 use Rattle.bolt_tree.specs.{BucketViews.entries_of, Buckets.bucket_checked, Buckets.bucket_start}
 use Rattle.bolt_tree.specs.{Cursors.cursor_checked, Cursors.cursor_place, Cursors.cursor_start, Places.Fresh, Places.Move, Places.Moves, Places.Place}
 use Rattle.bolt_tree.specs.{Private.Kept.AreKept, Private.Kept.CursorView, declared.bucket.Bucket.Bucket, declared.cursor.Cursor.Cursor}
-use Rattle.bolt_tree.specs.{declared.open_cursors.WaitingCursor.WaitingCursor, declared.stack.Position.Position}
+use Rattle.bolt_tree.specs.{declared.open_buckets.WaitingCursor.WaitingCursor, declared.stack.Position.Position}
 
 abbrev pub cursor_view : Cursor → CursorView
 cursor_view cursor = record { checked = cursor_checked cursor; start = cursor_start cursor; place = cursor_place cursor }
@@ -22,21 +22,6 @@ innermost_views (Some cursor) = cursor_view cursor ∷ []
 -- all are cursors of this file
 abbrev pub AreOfFile : Checked → List WaitingCursor → List Position → Option Cursor → Type 0
 AreOfFile checked waiting positions innermost = AreKept checked (reverse waiting) positions × IsInnermost checked waiting innermost
-
--- the last cursor moves in this way, and returns this element
-pub record MovesLast (move : List LeafElement → Place → Move) (old new : List CursorView) (answer : Option LeafElement) : Type 0 where
-  pub outer : List CursorView
-  pub cursor : CursorView
-  pub moved : CursorView
-  pub was : old ≡ outer ++ cursor ∷ []
-  pub is : new ≡ outer ++ moved ∷ []
-  pub file : moved.checked ≡ cursor.checked
-  pub start : moved.start ≡ cursor.start
-  pub moves : Moves (entries_of cursor.checked) cursor.start move cursor.place moved.place answer
-
--- The last cursor is dropped if it returned nothing.
-abbrev pub Keeps : Option LeafElement → (old new : List CursorView) → Type 0
-Keeps answer old new = MatchOption answer ((outer : List CursorView) (last : CursorView) → old ≡ outer ++ last ∷ [] → new ≡ outer) (λ e. new ≡ old)
 
 -- a cursor of the bucket before the first call
 abbrev pub fresh_view : Bucket → CursorView

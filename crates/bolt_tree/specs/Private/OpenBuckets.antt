@@ -1,16 +1,24 @@
 -- The open buckets of a walk: docs/LISTING.md, "The walk". A cursor for each, and the keys that the cursors are on: the path of what comes
 -- next, or came last.
-use Rattle.std.specs.Prelude.{◌≡◌, ℕ, Bool, true, false, IsTrue, List, [], ◌∷◌, ◌++◌, MatchOption, Option, Some, slice_get}
+use Rattle.std.specs.Prelude.{◌≡◌, ℕ, Bool, true, false, IsTrue, List, [], ◌∷◌, ◌++◌, MatchOption, Option, Some, reverse, slice_get}
 use Rattle.bolt_format.specs.{Elements.IsBucketValue, Elements.LeafElement, ElementPlaces.leaf_view, declared.element.Leaf.Leaf}
 use Rattle.bolt_check.specs.{Keys.Key, declared.checked.Checked.Checked}
 use Rattle.bolt_tree.specs.{Buckets.bucket_checked, Buckets.bucket_start, BucketViews.entries_of, FileListings.ForListing, FileListings.root_start}
 use Rattle.bolt_tree.specs.{Entries.AreEntries, Entries.Start, Entries.item_of, Entries.start_of, Listing.Member, Listing.rest_from}
 use Rattle.bolt_tree.specs.{Paths.HasEntries, Paths.Names, Paths.Path, Paths.path_of, Places.On, RestAfter.rest_after, RestAfter.beyond}
-use Rattle.bolt_tree.specs.{Private.Kept.CursorView, Private.OpenCursors.cursors_of, declared.bucket.Bucket.Bucket, declared.open_buckets.WalkStep.WalkStep}
+use Rattle.bolt_tree.specs.{Private.CursorViews.innermost_views, Private.Kept.CursorView, Private.Kept.kept_views, declared.bucket.Bucket.Bucket}
+use Rattle.bolt_tree.specs.declared.open_buckets.WalkStep.{WalkStep}
 use Rattle.bolt_tree.specs.declared.open_buckets.WalkStep.TheVariants.{Begin, Enter, Give, Leave}
 use Rattle.bolt_tree.specs.declared.open_buckets.PartResult.{PartResult}
 use Rattle.bolt_tree.specs.declared.open_buckets.PartResult.TheVariants.{Here, Inside}
 use Rattle.bolt_tree.specs.declared.open_buckets.OpenBuckets.{OpenBuckets}
+
+-- the cursors, from the root bucket's on: those that wait, and then the innermost one
+abbrev pub waiting_of : OpenBuckets → List CursorView
+waiting_of buckets = kept_views buckets.checked (reverse buckets.waiting.items) buckets.positions.items
+
+abbrev pub cursors_of : OpenBuckets → List CursorView
+cursors_of buckets = waiting_of buckets ++ innermost_views buckets.innermost
 
 abbrev pub open_path : OpenBuckets → Path
 open_path buckets = path_of buckets.path.items
@@ -30,16 +38,16 @@ AreOpen checked before (cursor ∷ cursors) (key ∷ keys) =
     × AreOpen checked (before ++ key ∷ []) cursors keys
 
 abbrev pub IsInPlace : OpenBuckets → Type 0
-IsInPlace buckets = ∥ HasEntries (entries_of buckets.cursors.checked) (root_start buckets.cursors.checked)
-    × AreOpen buckets.cursors.checked [] (cursors_of buckets.cursors) (open_path buckets) ∥₁
+IsInPlace buckets = ∥ HasEntries (entries_of buckets.checked) (root_start buckets.checked)
+    × AreOpen buckets.checked [] (cursors_of buckets) (open_path buckets) ∥₁
 
 -- the path leads to this element
 abbrev pub IsAt : OpenBuckets → Leaf → Type 0
 IsAt buckets leaf =
     (IsTrue leaf.is_bucket → IsBucketValue leaf.value.now)
     × ∥ ((path : Path) × (bucket : Start) × (open_path buckets ≡ path ++ leaf.key.now ∷ [])
-    × Names (entries_of buckets.cursors.checked) (root_start buckets.cursors.checked) path bucket
-    × entries_of buckets.cursors.checked bucket (leaf_view leaf)) ∥₁
+    × Names (entries_of buckets.checked) (root_start buckets.checked) path bucket
+    × entries_of buckets.checked bucket (leaf_view leaf)) ∥₁
 
 -- the path names the bucket of a file that begins there
 abbrev pub IsInside : Checked → Path → Start → Type 0
@@ -47,13 +55,13 @@ IsInside checked path start = ∥ Names (entries_of checked) (root_start checked
 
 -- the bucket is one of the same file, and the path names it
 abbrev pub IsNamed : OpenBuckets → Bucket → Type 0
-IsNamed buckets bucket = ∥ (bucket_checked bucket ≡ buckets.cursors.checked)
-    × Names (entries_of buckets.cursors.checked) (root_start buckets.cursors.checked) (open_path buckets) (bucket_start bucket) ∥₁
+IsNamed buckets bucket = ∥ (bucket_checked bucket ≡ buckets.checked)
+    × Names (entries_of buckets.checked) (root_start buckets.checked) (open_path buckets) (bucket_start bucket) ∥₁
 
 -- open buckets from which this may be done next
 abbrev pub IsAhead : OpenBuckets → WalkStep → Type 0
 IsAhead buckets Begin = open_path buckets ≡ []
-IsAhead buckets (Enter value) = IsBucketValue value.now × IsInside buckets.cursors.checked (open_path buckets) (start_of value.now)
+IsAhead buckets (Enter value) = IsBucketValue value.now × IsInside buckets.checked (open_path buckets) (start_of value.now)
 IsAhead buckets (Give leaf) = IsAt buckets leaf
 IsAhead buckets Leave = Unit {0}
 
@@ -67,18 +75,18 @@ left_by Leave path listing = beyond path listing
 
 -- Of what was left of a listing, the element that the path leads to is the first, and what comes after the path is left; or nothing was left.
 abbrev pub ComesNext : (left : List Member → List Member) → (old new : OpenBuckets) → Option Leaf → Type 0
-ComesNext left old new found = ForListing old.cursors.checked (λ listing. MatchOption found (left listing ≡ [])
+ComesNext left old new found = ForListing old.checked (λ listing. MatchOption found (left listing ≡ [])
     (λ leaf. left listing ≡ (open_path new, item_of (leaf_view leaf)) ∷ rest_after (open_path new) listing))
 
 -- A bucket is entered: its first element comes next; or it has none, and what is left is beyond its path.
 abbrev pub EntersFirst : (old new : OpenBuckets) → Option Leaf → Type 0
-EntersFirst old new found = ForListing old.cursors.checked (λ listing. MatchOption found
+EntersFirst old new found = ForListing old.checked (λ listing. MatchOption found
     (rest_after (open_path old) listing ≡ beyond (open_path old) listing)
     (λ leaf. rest_after (open_path old) listing ≡ (open_path new, item_of (leaf_view leaf)) ∷ rest_after (open_path new) listing))
 
 -- this is left of a listing of the file, if this is done next
 abbrev pub IsLeft : (left : List Member → List Member) → (old new : OpenBuckets) → WalkStep → Type 0
-IsLeft left old new ahead = ForListing old.cursors.checked (λ listing. left_by ahead (open_path new) listing ≡ left listing)
+IsLeft left old new ahead = ForListing old.checked (λ listing. left_by ahead (open_path new) listing ≡ left listing)
 
 -- the path of what was returned last
 abbrev pub reported_path : WalkStep → Path → Path
@@ -97,4 +105,4 @@ IsPartResult old new part is_last (Inside bucket) = (open_path new ≡ open_path
 IsPartResult old new part is_last (Here ahead) =
     IsAhead new ahead × (reported_path ahead (open_path new) ≡ [])
     × ((rest : Path) → is_end rest ≡ is_last
-    → ForListing old.cursors.checked (λ listing. left_by ahead (open_path new) listing ≡ rest_from (open_path old ++ part ∷ rest) listing))
+    → ForListing old.checked (λ listing. left_by ahead (open_path new) listing ≡ rest_from (open_path old ++ part ∷ rest) listing))

@@ -7,7 +7,7 @@ use Rattle.bolt_check.specs.{Counts.counted, Keys.Key}
 use Rattle.bolt_tree.specs.{BucketViews.BucketView, BucketViews.bucket_in, Private.BucketPages.IsSoundBucket, Private.BucketPages.contents_in}
 use Rattle.bolt_tree.specs.{Pagers.pager_checked, Pagers.pager_opened, Private.ShownPages.opened_content}
 use Rattle.bolt_tree.specs.Private.{Contents.Content, Contents.Contents, Entered.IsEntered, Entered.opened_to, Entered.taken_at}
-use Rattle.bolt_tree.specs.Private.Stacks.{Frame, HasStack, IsAtRest, IsOn, ahead_of, before_of, here_of, preceding_of, later_of}
+use Rattle.bolt_tree.specs.Private.Stacks.{Frame, HasStack, IsAtRest, IsOn, ahead_of, before_of, preceding_of, later_of}
 use Rattle.bolt_tree.specs.{Places.least_from, Starts.start_at, Private.Tours.TourPage, declared.stack.Position.Position, declared.trail.Trail.Trail}
 
 abbrev pub frame_of : Position → Frame
@@ -100,11 +100,6 @@ ComesTo back found before new end = Finds back found before (entries_left back n
 -- the entries from a key on
 abbrev pub entries_from : Key → List LeafElement → List LeafElement
 entries_from key entries = drop (least_from key entries) entries
-
--- a move within a leaf: the next entry is taken, or there is none
-abbrev pub TakesHere : (old new : Trail) → Option Leaf → Type 0
-TakesHere old new found = MatchOption found ((here_of (trail_frames old) ≡ []) × (trail_frames new ≡ trail_frames old))
-    (λ leaf. (ahead old ≡ leaf_view leaf ∷ ahead new) × IsOn (trail_frames new) (leaf_view leaf) × (pages_ahead old ≡ pages_ahead new))
 
 -- a move in a direction from where a trail rests to where it rests: without an entry there, it stays
 pub record Goes (back : Bool) (old new : Trail) (gives : Option Leaf) : Type 0 where

@@ -4,10 +4,10 @@ use Rattle.bolt_tree.proofs.open_buckets.OpenBuckets.after.Goals as goal
 pub returns-then-leaf-clause-ahead : goal.returns-then-leaf-clause-ahead
 returns-then-leaf-clause-ahead c = (
   c.requires.on.0 c.if-leaf.true,
-  leads_inside c.args.self.now.cursors.checked (path_of c.args.self.now.path.items) (leaf_view c.args.leaf.now) c.requires.on.1 c.if-leaf.true,
+  leads_inside c.args.self.now.checked (path_of c.args.self.now.path.items) (leaf_view c.args.leaf.now) c.requires.on.1 c.if-leaf.true,
 )
 
 pub returns-else-leaf-clause-left : goal.returns-else-leaf-clause-left
 returns-else-leaf-clause-left c = λ listing lists.
-    past_value c.args.self.now.cursors.checked (cursors_of c.args.self.now.cursors) (path_of c.args.self.now.path.items) (leaf_view c.args.leaf.now) c.requires.placed c.requires.on.1
+    past_value c.args.self.now.checked (cursors_of c.args.self.now) (path_of c.args.self.now.path.items) (leaf_view c.args.leaf.now) c.requires.placed c.requires.on.1
     c.if-leaf.false listing lists

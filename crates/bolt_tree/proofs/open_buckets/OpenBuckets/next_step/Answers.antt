@@ -1,9 +1,18 @@
 use Rattle.std.proofs.Common.{◌∙◌, sym}
-use Rattle.bolt_tree.proofs.{Words.cursors_of, Words.leaf_view, Words.path_of, Climbing.listed_in, Entering.itself}
+use Rattle.bolt_tree.proofs.{Words.cursors_of, Words.leaf_view, Words.open_path, Words.path_of, Climbing.listed_in, Climbing.none_beyond, Entering.itself}
 use Rattle.bolt_tree.proofs.open_buckets.OpenBuckets.next_step.Goals as goal
 
 pub returns-in-Some-clause-left : goal.returns-in-Some-clause-left
 returns-in-Some-clause-left c = λ listing lists.
-    let there = listed_in c.climb.new.self.cursors.checked c.args.self.now.cursors.checked listing c.in-Some.ensures.checked lists in
-    itself c.climb.new.self.cursors.checked (cursors_of c.climb.new.self.cursors) (path_of c.climb.new.self.path.items) (leaf_view c.in-Some.leaf) c.in-Some.ensures.placed c.in-Some.ensures.on.1 listing there
-    ∙ sym (c.in-Some.ensures.left listing lists)
+    let after = c.advance.new.self in
+    let on = rw c.in-Some.is at c.in_ok-leaf.ensures.on in
+    let came = rw c.in-Some.is at c.in_ok-leaf.ensures.left in
+    itself after.checked (cursors_of after) (path_of after.path.items) (leaf_view c.in-Some.leaf) c.in_ok-leaf.ensures.placed on.1 listing
+    (listed_in after.checked c.args.self.now.checked listing c.in_ok-leaf.ensures.checked lists)
+    ∙ sym (came listing lists)
+
+pub returns-in-None-clause-left : goal.returns-in-None-clause-left
+returns-in-None-clause-left c = λ listing lists.
+    let ended = rw c.in-None.is at c.in_ok-leaf.ensures.ended in
+    let came = rw c.in-None.is at c.in_ok-leaf.ensures.left in
+    none_beyond (open_path c.advance.new.self) listing ended ∙ sym (came listing lists)

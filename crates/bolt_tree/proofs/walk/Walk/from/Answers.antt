@@ -10,4 +10,4 @@ seek-requires-clause-placed c =
 pub returns-clause-rest : goal.returns-clause-rest
 unfolding left_of
 returns-clause-rest c = λ listing lists.
-    c.in_ok-ahead.ensures.left listing (listed_in c.new-buckets.result.cursors.checked c.args.checked listing c.new-buckets.ensures.checked lists)
+    c.in_ok-ahead.ensures.left listing (listed_in c.new-buckets.result.checked c.args.checked listing c.new-buckets.ensures.checked lists)

@@ -23,7 +23,7 @@ unfolding left_of walk_checked walk_path
 returns-in-Some-clause-given c = λ listing lists.
     let came = rw c.in-Some.is at c.in_ok-leaf.ensures.left in
     let first = came listing lists in
-    let then = c.after-self.ensures.left listing (listed_in c.advance.new.self.cursors.checked c.args.self.now.buckets.cursors.checked listing c.in_ok-leaf.ensures.checked lists) in
+    let then = c.after-self.ensures.left listing (listed_in c.advance.new.self.checked c.args.self.now.buckets.checked listing c.in_ok-leaf.ensures.checked lists) in
     first
     ∙ ap (λ (i : Item). (open_path c.advance.new.self, i) ∷ rest_after (open_path c.advance.new.self) listing) (sym c.of.ensures)
     ∙ ap (λ (p : Path). (p, item_view c.of.result) ∷ rest_after (open_path c.advance.new.self) listing) (sym c.after-self.ensures.reported)

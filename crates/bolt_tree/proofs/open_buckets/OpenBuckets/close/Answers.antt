@@ -1,7 +1,7 @@
 use Rattle.std.proofs.Common.{rules, ◌-◌, Some, List, drop, length, take, sym, subst}
 use Rattle.bolt_tree.proofs.Words.{AreOfFile, Checked, IsKept, Position, cursor_checked, cursor_view}
 use Rattle.bolt_tree.proofs.KeptLemmas.{goes_on, goes_on_view, innermost_file, others, views_left}
-use Rattle.bolt_tree.proofs.open_cursors.OpenCursors.pop.Goals as goal
+use Rattle.bolt_tree.proofs.open_buckets.OpenBuckets.close.Goals as goal
 
 pub resume-requires : goal.resume-requires
 resume-requires c =
