@@ -128,6 +128,10 @@ check_refusal faults check.Memory = refused failure.Memory
 abbrev pub LeadsTo : List ℕ → Meta → Path → Start → Type 0
 LeadsTo file meta path bucket = Names (IsEntry file meta) (Root_page meta.root) path bucket
 
+-- a path leads to none
+abbrev pub LeadsNowhere : List ℕ → Meta → Path → Type 0
+LeadsNowhere file meta path = (bucket : Start) → LeadsTo file meta path bucket → ⊥
+
 abbrev pub HoldsIn : List ℕ → Meta → Path → Item → Type 0
 HoldsIn file meta path item = Holds (IsEntry file meta) (Root_page meta.root) path item
 
@@ -159,13 +163,13 @@ IsShownText form text answer = IsShownAndEnded form text (Ok 0) answer
 abbrev pub IsEntriesAnswer : List ℕ → Path → Form → (List LeafElement → List ℕ) → Meta → Answer → Type 0
 IsEntriesAnswer file path form text meta answer =
     ((bucket : Start) × (entries : List LeafElement) × LeadsTo file meta path bucket × AreEntries (IsEntry file meta) bucket entries × IsShownText form (text entries) answer)
-    ⊎ (((bucket : Start) → LeadsTo file meta path bucket → ⊥) × (answer ≡ refused failure.NoBucket))
+    ⊎ (LeadsNowhere file meta path × (answer ≡ refused failure.NoBucket))
 
 -- The path holds no value: all of its parts but the last lead to a bucket, or they lead to none.
 abbrev pub HoldsNone : List ℕ → Path → Meta → Failure → Type 0
 HoldsNone file path meta reason =
     ((reason ≡ failure.NoKey) × ((value : List ℕ) → HoldsIn file meta path (Value value) → ⊥) × ((bucket : Start) × ∥ LeadsTo file meta (parents_of path) bucket ∥₁))
-    ⊎ ((reason ≡ failure.NoBucket) × ((bucket : Start) → LeadsTo file meta (parents_of path) bucket → ⊥))
+    ⊎ ((reason ≡ failure.NoBucket) × LeadsNowhere file meta (parents_of path))
 
 -- how a value is printed: with a line feed or without one
 abbrev pub value_shown : Form → (no_newline : Bool) → List ℕ → List ℕ
@@ -183,7 +187,7 @@ abbrev pub IsSizesAnswer : List ℕ → Path → Form → Meta → Answer → Ty
 IsSizesAnswer file path form meta answer =
     ((bucket : Start) × (entries : List LeafElement) × (sized : List Sized) × LeadsTo file meta path bucket × AreEntries (IsEntry file meta) bucket entries
     × AreSized file meta entries sized × IsWholeOrCut (sizes_text form sized) answer)
-    ⊎ (((bucket : Start) → LeadsTo file meta path bucket → ⊥) × (answer ≡ refused failure.NoBucket))
+    ⊎ (LeadsNowhere file meta path × (answer ≡ refused failure.NoBucket))
 
 -- a line for each member of a listing at and below the bucket at a path that doesn't come before another path
 abbrev pub part_text : ListForm → (path from : Path) → List Member → List ℕ
@@ -242,7 +246,7 @@ HasStats file (part ∷ path) meta stats = (bucket : Start) × ∥ LeadsTo file 
 abbrev pub IsStatsAnswer : List ℕ → Path → FigureForm → Meta → Answer → Type 0
 IsStatsAnswer file path form meta answer =
     ((stats : Stats) × HasStats file path meta stats × (answer ≡ done (stats_text form stats)))
-    ⊎ (((bucket : Start) → LeadsTo file meta path bucket → ⊥) × (answer ≡ refused failure.NoBucket))
+    ⊎ (LeadsNowhere file meta path × (answer ≡ refused failure.NoBucket))
     ⊎ (answer ≡ refused failure.Memory)
 
 -- only the first finding is reported

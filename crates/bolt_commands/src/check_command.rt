@@ -1,7 +1,7 @@
 //! The command `check`: the findings, each loss, or also each page that is found.
 ghost use Rattle.std.specs.Prelude.{◌≢◌, ◌&&◌, IfOk, map};
 ghost use Rattle.std.specs.List.{All};
-ghost use Rattle.bolt_check.specs.CheckedFiles.{bytes_of, meta_of};
+ghost use Rattle.bolt_check.specs.CheckedFiles.{in_checked};
 ghost use Rattle.bolt_recover.specs.ShownLosses.{lost_view};
 ghost use Rattle.bolt_commands.specs.Answers.{AreFoundFor, Does, IsCheckAnswer, all_found, check_refusal, found, lost_and_found};
 ghost use Rattle.bolt_commands.specs.FileFaults.{is_fine};
@@ -85,8 +85,8 @@ fn print_lost<O: Sink>(checking: Checking<'_>, extent: Extent, out: &mut O) -> O
 /// wrong.
 fn find_for_bbolt(checked: Checked<'_>, checking: Checking<'_>) -> Result<Vec<Finding>, NoMemory>
     ensures { IfOk result (λ findings.
-        AreFoundFor (checking.entry.for_bbolt && is_fine checking.entry.faults)
-        (bytes_of checked.entry) (meta_of checked.entry) findings.items) }
+        in_checked (AreFoundFor (checking.entry.for_bbolt && is_fine checking.entry.faults))
+        checked.entry findings.items) }
 {
     if checking.for_bbolt && checking.faults.is_fine() {
         return bbolt_findings(checking.input.alloc, checked);

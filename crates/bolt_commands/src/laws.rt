@@ -8,8 +8,7 @@ ghost use Rattle.bolt_commands.specs.Alike.{BucketsAlike, CopiesAlike, DoesAlike
 ghost use Rattle.bolt_commands.specs.Alike.{OfSoundTrees, UnderSoundTrees};
 ghost use Rattle.bolt_commands.specs.Answers.{Answer, IsListedAnswer, IsReadUnder};
 ghost use Rattle.bolt_commands.specs.{CheckedCopies.FailsCutOff, CheckedCopies.LoadsAs, CheckedCopies.PassesCheck};
-ghost use Rattle.bolt_commands.specs.GoodCopies.{HasGoodCopies, IsGoodCopy};
-ghost use Rattle.bolt_commands.specs.SnapshotAnswers.{copy_of};
+ghost use Rattle.bolt_commands.specs.GoodCopies.{ForGoodCopies, HasGoodCopies};
 ghost use Rattle.bolt_job.specs.{Jobs.needs_metas_alone, declared.job.Job.Job};
 ghost use Rattle.bolt_job.specs.declared.choices.MetaChoice.{MetaChoice};
 ghost use Rattle.bolt_text.specs.declared.forms.ListForm.TheVariants as form;
@@ -57,10 +56,8 @@ pub fn whole_copies_are_good()
 /// Of a good copy `check` prints that it is sound, to any extent, and with `--etcd-snapshot`
 /// if it is a snapshot, unless memory runs out. For a proper prefix of it, the status isn't 0.
 pub fn good_copies_pass_the_check()
-    ensures whole { (snapshot : Bool) (layout : List ℕ) (listing : List Member)
-        → IsGoodCopy snapshot layout listing → PassesCheck snapshot (copy_of snapshot layout) }
-    ensures prefixes { (snapshot : Bool) (layout : List ℕ) (listing : List Member)
-        → IsGoodCopy snapshot layout listing → FailsCutOff snapshot (copy_of snapshot layout) }
+    ensures whole { ForGoodCopies PassesCheck }
+    ensures prefixes { ForGoodCopies FailsCutOff }
 {
     active_meta_is_one();
     sound_trees_lose_nothing();

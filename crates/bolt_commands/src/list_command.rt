@@ -1,9 +1,10 @@
 //! The command `list`.
-ghost use Rattle.std.specs.Prelude.{◌≡◌, IfErr, IfOk, List, OnOk};
+ghost use Rattle.std.specs.Prelude.{◌≡◌, IfErr, IfOk, OnOk};
 ghost use Rattle.bolt_recover.specs.ShownLosses.{lost_view};
 ghost use Rattle.bolt_format.specs.Wrote.{Wrote};
+ghost use Rattle.bolt_report.specs.MembersLeft.{ForLeft, ForRising};
 ghost use Rattle.bolt_text.specs.ReportEndings.{report_ending};
-ghost use Rattle.bolt_tree.specs.{FileListings.ForListing, Listing.Member, Listing.member_cmp, Order.Rises, Paths.path_of};
+ghost use Rattle.bolt_tree.specs.{FileListings.ForListing, Paths.path_of};
 ghost use Rattle.bolt_job.specs.PlainWords.{path_in};
 ghost use Rattle.bolt_commands.specs.Answers.{IsListPrint, lost_ending};
 ghost use Rattle.bolt_commands.specs.Private.{Endings.MayFail, Opened.IsOpened, Opened.IsSearchOf, Printing.PrintsAnswer, Printing.PutsJoined, Printing.PutsListing};
@@ -129,12 +130,10 @@ fn put_members_part<'a, M: Members<'a>, O: Sink>(
     job: &ListJob,
     out: &mut O,
 ) -> Result<bool, ReportFault>
-    ensures written { (listing : List Member) → M.lists members.old listing
-        → Rises member_cmp (M.left members.old listing)
-        → Wrote O.Sink out.old out.new (job_part job.now (M.left members.old listing))
-        (report_ending result) }
-    ensures found { IfOk result (λ found. (listing : List Member) → M.lists members.old listing
-        → found ≡ finds job.now (M.left members.old listing)) }
+    ensures written { ForRising M.lists M.left members.old (λ left.
+        Wrote O.Sink out.old out.new (job_part job.now left) (report_ending result)) }
+    ensures found { IfOk result (λ found.
+        ForLeft M.lists M.left members.old (λ left. found ≡ finds job.now left)) }
     ensures end { OnOk result (M.ends_as members.old members.new) }
     ensures fault { MayFail result }
 {

@@ -1,13 +1,13 @@
 //! The commands that print figures, pages and what a bucket holds: `info`, `page`, `pages`, `buckets`,
 //! `keys`, `get` and `stats`.
 ghost use Rattle.std.specs.Prelude.{◌≡◌, ◌⊎◌, IfErr, IfOk, false, true};
-ghost use Rattle.bolt_check.specs.{CheckedFiles.bytes_of, CheckedFiles.has_accounts, CheckedFiles.meta_of, RoledFiles.roles_checked, Sound.HasSoundTrees};
+ghost use Rattle.bolt_check.specs.{CheckedFiles.bytes_of, CheckedFiles.has_accounts, CheckedFiles.meta_of, RoledFiles.roles_checked, Sound.HasSoundTrees, CheckedFiles.in_checked};
 ghost use Rattle.bolt_format.specs.{Endings.ending, Wrote.Wrote};
 ghost use Rattle.bolt_report.specs.{PageTables.ForRoles};
-ghost use Rattle.bolt_tree.specs.{Buckets.bucket_checked, Buckets.bucket_start, Entries.Start, Entries.Value, EntriesLeft.ForEntries};
+ghost use Rattle.bolt_tree.specs.{Buckets.bucket_checked, Buckets.bucket_start, Entries.Value, EntriesLeft.ForEntries};
 ghost use Rattle.bolt_commands.specs.Answers.{HasNoMeta, HasStats, HoldsIn, HoldsNone, IsBucketsPrint, IsBucketsShown, IsGetPrint, IsInfoAnswer};
-ghost use Rattle.bolt_commands.specs.Answers.{IsKeysPrint, IsKeysShown, IsPageAnswer, IsValueShown, IsPagesAnswer, IsReadAnswer, IsShownMeta, IsStatsPrint, IsTotal, LeadsTo, no_stats, pages_shown};
-ghost use Rattle.bolt_commands.specs.Private.Printing.{PrintsAnswer, shown_of};
+ghost use Rattle.bolt_commands.specs.Answers.{IsKeysPrint, IsKeysShown, IsPageAnswer, IsValueShown, IsPagesAnswer, IsReadAnswer, IsShownMeta, IsStatsPrint, IsTotal, no_stats, pages_shown, LeadsNowhere};
+ghost use Rattle.bolt_commands.specs.Private.Printing.{PrintsAnswer};
 ghost use Rattle.bolt_job.specs.{PlainWords.path_in, declared.choices.MetaChoice.TheVariants.Active};
 ghost use Rattle.bolt_job.specs.declared.choices.BucketsShown.TheVariants as shown;
 ghost use Rattle.bolt_commands.specs.declared.failure.Failure.TheVariants.{Memory, NoBucket};
@@ -67,7 +67,7 @@ pub(crate) fn print_pages<O: Sink>(input: Input<'_>, job: &PagesJob, out: &mut O
 fn put_pages<O: Sink>(roles: &Roles<'_>, map: bool, out: &mut O) -> Result<(), SinkFault>
     requires { has_accounts (roles_checked roles.now) ≡ true }
     ensures { ForRoles (roles_checked roles.now) (λ own.
-        Wrote O.Sink out.old out.new (shown_of (pages_shown map) (roles_checked roles.now) own)
+        Wrote O.Sink out.old out.new (in_checked (pages_shown map) (roles_checked roles.now) own)
         (ending result)) }
 {
     if map {
@@ -200,8 +200,7 @@ fn find_stats(alloc: Global, checked: Checked<'_>, path: &[Vec<u8>]) -> Result<S
     ensures found { IfOk result
         (HasStats (bytes_of checked.entry) (path_in path.now) (meta_of checked.entry)) }
     ensures missing { IfErr result (λ failure. (failure ≡ Memory) ⊎ ((failure ≡ NoBucket)
-        × ((bucket : Start) → LeadsTo (bytes_of checked.entry) (meta_of checked.entry)
-        (path_in path.now) bucket → ⊥))) }
+        × in_checked LeadsNowhere checked.entry (path_in path.now))) }
 {
     if path.is_empty() {
         return Ok(sum_buckets(alloc, &Bucket::root(checked))?);
@@ -214,8 +213,7 @@ fn find_stats(alloc: Global, checked: Checked<'_>, path: &[Vec<u8>]) -> Result<S
 fn sum_buckets(alloc: Global, bucket: &Bucket<'_>) -> Result<Stats, NoMemory>
     ensures { IfOk result (λ total.
         ForEntries (bucket_checked bucket.now) (bucket_start bucket.now) (λ entries.
-        ∥ IsTotal (bytes_of (bucket_checked bucket.now))
-        (meta_of (bucket_checked bucket.now)) entries no_stats total ∥₁)) }
+        ∥ in_checked IsTotal (bucket_checked bucket.now) entries no_stats total ∥₁)) }
 {
     let mut total = Stats::default();
     let mut cursor = bucket.cursor();

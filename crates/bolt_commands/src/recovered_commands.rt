@@ -3,7 +3,7 @@ ghost use Rattle.std.specs.Prelude.{◌≡◌, ℕ, IfOk, IfSome, List, OnOk, ma
 ghost use Rattle.std.specs.Option.{IfNone};
 ghost use Rattle.bolt_recover.specs.ShownLosses.{loss_view};
 ghost use Rattle.bolt_recover.specs.Losses.{parts};
-ghost use Rattle.bolt_report.specs.MemberNames.{is_wanted};
+ghost use Rattle.bolt_report.specs.{MemberNames.is_wanted, MembersLeft.ForLeft};
 ghost use Rattle.bolt_tree.specs.{Entries.Value, Listing.Member, Paths.path_of, ShownEntries.item_view};
 ghost use Rattle.bolt_job.specs.PlainWords.{path_in};
 ghost use Rattle.bolt_commands.specs.Answers.{IsNamesAnswer, IsRecoveredAnswer, IsRecoveredValue, no_bucket, no_key, parents_of};
@@ -121,8 +121,8 @@ impl<'a> AtPath<'a> {
 
 /// What the members that are left hold at a path. All are returned.
 fn look_up<'a, M: Members<'a>>(members: &mut M, path: &[&[u8]]) -> Result<AtPath<'a>, NoMemory>
-    ensures held { IfOk result (λ at. (listing : List Member) → M.lists members.old listing
-        → HoldsNow (M.left members.old listing) (path_of path.now) at) }
+    ensures held { IfOk result (λ at.
+        ForLeft M.lists M.left members.old (λ left. HoldsNow left (path_of path.now) at)) }
     ensures end { OnOk result (M.ends_as members.old members.new) }
 {
     let parents = parents_of(path);
