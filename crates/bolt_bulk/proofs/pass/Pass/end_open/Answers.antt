@@ -1,7 +1,7 @@
 -- The bucket around it takes the item of the one that ends.
 use Rattle.std.specs.Prelude.{⊤}
-use Rattle.std.proofs.Common.{Err, arith, Ok}
-use Rattle.bolt_bulk.proofs.{HeldPasses.waits_less, PassAt.leave_steps, PassAt.steps_none, PassAt.steps_stop, PassReady.last_of, PutsLemmas.writes_on}
+use Rattle.std.proofs.Common.{Err, arith, Ok, rules}
+use Rattle.bolt_bulk.proofs.{HeldPasses.waits_less, PassAt.leave_steps, PassAt.steps_none, PassAt.steps_stop, PassAt.steps_to, PassReady.last_of, PutsLemmas.writes_on}
 use Rattle.bolt_bulk.proofs.pass.Pass.end_open.Goals as goal
 
 pub end_inner-requires : goal.end_inner-requires
@@ -14,13 +14,13 @@ returns-in_err-bucket_ends-clause-steps g c = λ wanted parent parents put is. s
 
 pub returns-in_err-end_inner-clause-steps : goal.returns-in_err-end_inner-clause-steps
 returns-in_err-end_inner-clause-steps g c = λ wanted parent parents put is.
-    steps_stop c.from_residual-in_err-end_inner.ensures.1 (leave_steps wanted c.args.self.now {counted = c.args.self.now} parent c.in-Some.waiting c.args.self.now.bucket c.pop.new.self c.end_inner.new.next 0 c.bucket_ends.new.self (Err _)
-    is c.requires.pending c.in-Some.ensures.items c.in_ok-bucket_ends.ensures.ends (rw c.replace-inner.ensures.value at c.in_err-end_inner.ensures.ends.closes.writes) tt tt)
+    steps_to (search rules) (steps_stop c.from_residual-in_err-end_inner.ensures.1 (leave_steps wanted c.args.self.now {counted = c.args.self.now} parent c.in-Some.waiting c.args.self.now.bucket c.pop.new.self c.end_inner.new.writer.next 0 c.bucket_ends.new.self (Err _)
+    is c.requires.pending c.in-Some.ensures.items c.in_ok-bucket_ends.ensures.ends (rw c.replace-inner.ensures.value at c.in_err-end_inner.ensures.ends.closes.writes) tt tt))
 
 pub returns-clause-steps : goal.returns-clause-steps
 returns-clause-steps g c = λ wanted parent parents put is.
-    leave_steps wanted c.args.self.now parent c.in-Some.waiting c.end_inner.new.self c.pop.new.self c.end_inner.new.next _ c.bucket_ends.new.self (Ok tt)
-    is c.requires.pending c.in-Some.ensures.items c.in_ok-bucket_ends.ensures.ends (writes_on (Ok tt) tt (rw c.replace-inner.ensures.value at c.in_ok-end_inner.ensures.ends.closes.writes)) (rw (c.replace-inner.ensures.value, c.replace-inner.ensures.after) at c.in_ok-end_inner.ensures.ends.runs) c.count.ensures.counts
+    steps_to (search rules) (leave_steps wanted c.args.self.now parent c.in-Some.waiting c.end_inner.new.self c.pop.new.self c.end_inner.new.writer.next _ c.bucket_ends.new.self (Ok tt)
+    is c.requires.pending c.in-Some.ensures.items c.in_ok-bucket_ends.ensures.ends (writes_on (Ok tt) tt (rw c.replace-inner.ensures.value at c.in_ok-end_inner.ensures.ends.closes.writes)) (rw (c.replace-inner.ensures.value, c.replace-inner.ensures.after) at c.in_ok-end_inner.ensures.ends.runs) c.count.ensures.counts)
 
 pub count-requires : goal.count-requires
 count-requires g c =
