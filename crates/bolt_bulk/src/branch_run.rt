@@ -1,8 +1,8 @@
 //! An open run of pages above a bucket's leaves, and the branch page that it becomes.
 ghost use Rattle.std.specs.Prelude.{◌≡◌, ◌+◌, ◌<◌, ◌≤◌, true, false, IfErr, OnOk, length, ◌*◌, map};
-ghost use Rattle.bolt_format.specs.{ElementPlaces.branch_view, Endings.page_ending, Wrote.Wrote};
+ghost use Rattle.bolt_format.specs.{ElementPlaces.branch_view};
 ghost use Rattle.bolt_layout.specs.{Limits.one_less, PageBytes.branch_data, PageBytes.branch_headers};
-ghost use Rattle.bolt_bulk.specs.Private.{ClosesRun, IsPushed, IsSameWriter, IsSizedRun, IsStanding, key_size, length_end, longest_key, no_run, one_closed, run_has_room, run_kept, run_page, run_push, run_stays, run_view, TakesPage, WritesPage};
+ghost use Rattle.bolt_bulk.specs.Private.{ClosesRun, IsPushed, IsSameWriter, IsSizedRun, IsStanding, key_size, length_end, longest_key, no_run, one_closed, run_has_room, run_kept, run_page, run_push, run_stays, run_view, TakesPage, WritesPage, WritesText};
 ghost use Rattle.bolt_bulk.specs.declared.fault.BulkFault.TheVariants as fault;
 
 use crate::fault::BulkFault;
@@ -39,7 +39,8 @@ impl<'a> BranchRun<'a> {
     /// Adds the element of a page.
     pub(crate) fn push_page(&mut self, page: Branch<'a>) -> Result<(), BulkFault>
         requires size { self.old.size + length page.key.now < 9223372036854775808 }
-        ensures run { OnOk result (run_view self.new ≡ run_push (run_view self.old) (branch_view page.entry)) }
+        ensures run { OnOk result (run_view self.new
+            ≡ run_push (run_view self.old) (branch_view page.entry)) }
         ensures fault { IfErr result (λ e. e ≡ fault.Memory) }
     {
         self.elements.push(page)?;
@@ -62,7 +63,8 @@ impl<'a> BranchRun<'a> {
     fn stays(&mut self, page_size: usize, key: &[u8]) -> bool
         requires { self.old.size + length key.now < 9223372036854775808 }
         ensures stays { result ≡ run_stays page_size (run_view self.old) (key_size key.now) }
-        ensures kept { result ≡ true → run_view self.new ≡ run_kept page_size (run_view self.old) (key_size key.now) }
+        ensures kept { result ≡ true → run_view self.new
+            ≡ run_kept page_size (run_view self.old) (key_size key.now) }
         ensures same { result ≡ false → run_view self.new ≡ run_view self.old }
     {
         if self.has_room(page_size, key) {
@@ -88,7 +90,8 @@ impl<'a> BranchRun<'a> {
         requires key { length key.now ≤ longest_key }
         requires closed { length closed.key.now ≤ longest_key }
         ensures same { IsSameWriter writer.old writer.new }
-        ensures takes { TakesPage S.Sink writer.old writer.new key.now (branch_view closed.entry) self.old self.new result }
+        ensures takes { TakesPage S.Sink writer.old writer.new key.now (branch_view closed.entry)
+            self.old self.new result }
         ensures standing { OnOk result (IsStanding (run_view self.new)) }
     {
         self.push_page(closed)?;
@@ -109,7 +112,8 @@ impl<'a> BranchRun<'a> {
         requires standing { IsStanding (run_view self.old) }
         requires closed { length closed.key.now ≤ longest_key }
         ensures same { IsSameWriter writer.old writer.new }
-        ensures closes { ClosesRun S.Sink writer.old writer.new (run_push (run_view self.old) (branch_view closed.entry)) result }
+        ensures closes { ClosesRun S.Sink writer.old writer.new
+            (run_push (run_view self.old) (branch_view closed.entry)) result }
         ensures standing { OnOk result (IsStanding (run_view self.new)) }
     {
         self.push_page(closed)?;
@@ -121,7 +125,8 @@ impl<'a> BranchRun<'a> {
         requires { IsPushed (run_view self.old) }
         ensures same { IsSameWriter writer.old writer.new }
         ensures closes { ClosesRun S.Sink writer.old writer.new (run_view self.old) result }
-        ensures run { OnOk result (run_view self.new ≡ no_run (one_less self.old.allowed) (one_closed self.old.closed)) }
+        ensures run { OnOk result (run_view self.new
+            ≡ no_run (one_less self.old.allowed) (one_closed self.old.closed)) }
     {
         let after = writer.number_after(self.size)?;
         put_branch_page(self, writer)?;
@@ -143,8 +148,10 @@ impl<'a> BranchRun<'a> {
 
 /// Writes the headers of elements. All keys are packed after the last header.
 fn put_headers<S: Sink>(branches: &[Branch<'_>], sink: &mut S) -> Result<(), SinkFault>
-    requires { 16 * length branches.now + length (branch_data (map branch_view branches.now)) < length_end }
-    ensures { Wrote S.Sink sink.old sink.new (branch_headers 0 (map branch_view branches.now)) (page_ending result) }
+    requires { 16 * length branches.now + length (branch_data (map branch_view branches.now))
+        < length_end }
+    ensures { WritesText S.Sink sink.old sink.new (branch_headers 0 (map branch_view branches.now))
+        result }
 {
     let mut headers = Headers::new(branches.len());
     for branch in branches {
@@ -155,7 +162,8 @@ fn put_headers<S: Sink>(branches: &[Branch<'_>], sink: &mut S) -> Result<(), Sin
 
 /// Writes the keys of elements.
 fn put_keys<S: Sink>(branches: &[Branch<'_>], sink: &mut S) -> Result<(), SinkFault>
-    ensures { Wrote S.Sink sink.old sink.new (branch_data (map branch_view branches.now)) (page_ending result) }
+    ensures { WritesText S.Sink sink.old sink.new (branch_data (map branch_view branches.now))
+        result }
 {
     for branch in branches {
         put(branch.key, sink)?;
@@ -173,7 +181,8 @@ fn put_branch_page<S: Sink>(
     requires few { length run.now.elements.items < 65536 }
     ensures same { IsSameWriter writer.old writer.new }
     ensures next { writer.new.next ≡ writer.old.next }
-    ensures page { WritesPage S.Sink writer.old writer.new (run_page writer.old.setup.page_size (run_view run.now) writer.old.next) result }
+    ensures page { WritesPage S.Sink writer.old writer.new
+        (run_page writer.old.setup.page_size (run_view run.now) writer.old.next) result }
 {
     if writer.sink.keeps_nothing() {
         return Ok(());

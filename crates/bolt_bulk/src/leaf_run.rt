@@ -1,8 +1,7 @@
 //! The run of items of a bucket's leaf under way, and the leaf page that it becomes.
 ghost use Rattle.std.specs.Prelude.{◌≡◌, ◌+◌, ◌<◌, ◌≤◌, OnOk, ◌*◌, ◌++◌, length};
-ghost use Rattle.bolt_format.specs.{Wrote.Wrote, Endings.page_ending};
 ghost use Rattle.bolt_layout.specs.{PageBytes.leaf_data, PageBytes.leaf_headers};
-ghost use Rattle.bolt_bulk.specs.Private.{AreHeld, ClosesLeaf, held_views, IsHeld, IsLeafRun, IsSameWriter, leaf_page, leaves_have_room, leaves_of, length_end, no_leaves, stored_value, WritesPage};
+ghost use Rattle.bolt_bulk.specs.Private.{AreHeld, ClosesLeaf, held_views, IsHeld, IsLeafRun, IsSameWriter, leaf_page, leaves_have_room, leaves_of, length_end, no_leaves, stored_value, WritesPage, WritesText};
 
 use crate::fault::BulkFault;
 use crate::held::Held;
@@ -63,8 +62,10 @@ fn put_headers<S: Sink>(
     sink: &mut S,
 ) -> Result<(), SinkFault>
     requires held { AreHeld inlined.now items.now }
-    requires size { 16 * length items.now + length (leaf_data (held_views inlined.now items.now)) < length_end }
-    ensures { Wrote S.Sink sink.old sink.new (leaf_headers 0 (held_views inlined.now items.now)) (page_ending result) }
+    requires size { 16 * length items.now + length (leaf_data (held_views inlined.now items.now))
+        < length_end }
+    ensures { WritesText S.Sink sink.old sink.new
+        (leaf_headers 0 (held_views inlined.now items.now)) result }
 {
     let mut headers = Headers::new(items.len());
     for held in items {
@@ -77,7 +78,8 @@ fn put_headers<S: Sink>(
 /// Writes the key and the value of an item.
 fn put_item<S: Sink>(held: &Held<'_>, inlined: &[Leaf<'_>], sink: &mut S) -> Result<(), SinkFault>
     requires { IsHeld inlined.now held.now }
-    ensures { Wrote S.Sink sink.old sink.new (held.now.key.now ++ stored_value inlined.now held.now.stored) (page_ending result) }
+    ensures { WritesText S.Sink sink.old sink.new
+        (held.now.key.now ++ stored_value inlined.now held.now.stored) result }
 {
     put(held.key, sink)?;
     held.stored.put(inlined, sink)
@@ -90,7 +92,8 @@ fn put_data<S: Sink>(
     sink: &mut S,
 ) -> Result<(), SinkFault>
     requires { AreHeld inlined.now items.now }
-    ensures { Wrote S.Sink sink.old sink.new (leaf_data (held_views inlined.now items.now)) (page_ending result) }
+    ensures { WritesText S.Sink sink.old sink.new (leaf_data (held_views inlined.now items.now))
+        result }
 {
     for held in items {
         put_item(held, inlined, sink)?;
@@ -106,7 +109,8 @@ fn put_leaf_page<S: Sink>(
     requires { IsLeafRun run.now }
     ensures same { IsSameWriter writer.old writer.new }
     ensures next { writer.new.next ≡ writer.old.next }
-    ensures page { WritesPage S.Sink writer.old writer.new (leaf_page writer.old.setup.page_size (leaves_of run.now) writer.old.next) result }
+    ensures page { WritesPage S.Sink writer.old writer.new
+        (leaf_page writer.old.setup.page_size (leaves_of run.now) writer.old.next) result }
 {
     if writer.sink.keeps_nothing() {
         return Ok(());

@@ -1,6 +1,6 @@
 //! The writer of a copy's pages: it writes each page with the next number.
 ghost use Rattle.std.specs.Prelude.{◌≡◌, ◌+◌, ◌-◌, ◌*◌, ◌<◌, ◌≤◌, IfErr, IfOk};
-ghost use Rattle.bolt_format.specs.{Endings.page_ending, Wrote.Wrote, Encoded.header_bytes};
+ghost use Rattle.bolt_format.specs.{Encoded.header_bytes};
 ghost use Rattle.bolt_layout.specs.Levels.{overflow_of};
 ghost use Rattle.bolt_bulk.specs.declared.fault.BulkFault.TheVariants as fault;
 
@@ -19,31 +19,16 @@ pub(crate) struct PageWriter<'w, S> {
     ghost within: { next ≤ setup.highest_mark },
 }
 
-impl<'w, S: Sink> PageWriter<'w, S> {
-    ghost use Rattle.bolt_bulk.specs.Private.{IsSameWriter, length_end};
-
-    /// A writer before the first page of a bucket.
-    pub(crate) fn new(setup: PageSetup, sink: &'w mut S) -> PageWriter<'w, S>
-        requires { 3 ≤ setup.highest_mark }
-        ensures setup { result.setup ≡ setup }
-        ensures next { result.next ≡ 3 }
-        ensures sink { result.sink.ghost_name ≡ sink.entry.ghost_name }
-        ensures now { result.sink.now ≡ sink.old }
-    {
-        PageWriter {
-            setup,
-            next: 3,
-            sink,
-        }
-    }
+impl<S: Sink> PageWriter<'_, S> {
+    ghost use Rattle.bolt_bulk.specs.Private.{IsSameWriter, length_end, next_after, WritesText};
 
     /// The number after the next page, if that has this size. `TooLarge` if it would be above the
     /// highest mark allowed.
     pub(crate) fn number_after(&self, size: usize) -> Result<u64, BulkFault>
         requires { 0 < size }
-        ensures number { IfOk result (λ n. n ≡ self.now.next + (1 + overflow_of self.now.setup.page_size size)) }
+        ensures number { IfOk result (λ n. n ≡ next_after self.now size) }
         ensures within { IfOk result (λ n. n ≤ self.now.setup.highest_mark) }
-        ensures large { IfErr result (λ _. self.now.setup.highest_mark < self.now.next + (1 + overflow_of self.now.setup.page_size size)) }
+        ensures large { IfErr result (λ _. self.now.setup.highest_mark < next_after self.now size) }
         ensures fault { IfErr result (λ e. e ≡ fault.TooLarge) }
     {
         let further = overflow(self.setup.page_size, size) as u64;
@@ -66,8 +51,11 @@ impl<'w, S: Sink> PageWriter<'w, S> {
         requires few { count < 65536 }
         ensures same { IsSameWriter self.old self.new }
         ensures next { self.new.next ≡ self.old.next }
-        ensures header { Wrote S.Sink self.old.sink.now self.new.sink.now (header_bytes self.old.next kind count (overflow_of self.old.setup.page_size size)) (page_ending result) }
-        ensures zeros { IfOk result (λ zeros. zeros ≡ (1 + overflow_of self.old.setup.page_size size) * self.old.setup.page_size - size) }
+        ensures header { WritesText S.Sink self.old.sink.now self.new.sink.now
+            (header_bytes self.old.next kind count (overflow_of self.old.setup.page_size size))
+            result }
+        ensures zeros { IfOk result (λ zeros. zeros
+            ≡ (1 + overflow_of self.old.setup.page_size size) * self.old.setup.page_size - size) }
     {
         let further = overflow(self.setup.page_size, size);
         let header = page_header(self.next, kind, count as u16, further as u32);

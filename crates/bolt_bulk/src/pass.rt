@@ -138,7 +138,8 @@ impl<'a> Pass<'a> {
         requires ready { IsReady self.old }
         requires fit { IsFitMember (path_of path.now, item_view item) }
         ensures on { OnOk result (GoesOn self.old self.new (1 + length path.now)) }
-        ensures steps { TakesMember S.Sink sink.old sink.new self.old self.new (path_of path.now, item_view item.entry) result }
+        ensures steps { TakesMember S.Sink sink.old sink.new self.old self.new
+            (path_of path.now, item_view item.entry) result }
     {
         let Some((key, _)) = path.split_last() else {
             unreachable!()
@@ -179,7 +180,8 @@ impl<'a> Pass<'a> {
         requires key { length key.now ≤ longest_key }
         requires value { IsValueLength (length value.now) }
         ensures on { OnOk result (GoesOn self.old self.new (depth_of self.old)) }
-        ensures steps { TakesValue S.Sink sink.old sink.new self.old self.new key.now value.now result }
+        ensures steps { TakesValue S.Sink sink.old sink.new self.old self.new key.now value.now
+            result }
     {
         let Some(pending) = self.pending else {
             return self.put_value(key, value, sink);
@@ -233,7 +235,8 @@ impl<'a> Pass<'a> {
         requires key { length key.now ≤ longest_key }
         requires value { IsValueLength (length value.now) }
         ensures on { OnOk result (GoesOn self.old self.new (depth_of self.old)) }
-        ensures steps { TakesValue S.Sink sink.old sink.new self.old self.new key.now value.now result }
+        ensures steps { TakesValue S.Sink sink.old sink.new self.old self.new key.now value.now
+            result }
     {
         let mut writer = PageWriter {
             setup: self.setup,
@@ -256,7 +259,8 @@ impl<'a> Pass<'a> {
         requires ready { IsReady self.old }
         requires key { length key.now ≤ longest_key }
         ensures on { OnOk result (GoesOn self.old self.new (depth_of self.old + 1)) }
-        ensures steps { EntersBucket S.Sink sink.old sink.new self.old self.new key.now sequence result }
+        ensures steps { EntersBucket S.Sink sink.old sink.new self.old self.new key.now sequence
+            result }
     {
         self.open_pending(sink)?;
         self.begin(key, sequence);

@@ -1,8 +1,8 @@
 //! The pieces that a page is written in: the headers of its elements, which are gathered and then
 //! written five at a time, and zeros.
 ghost use Rattle.std.specs.Prelude.{replicate, ◌≡◌, ◌+◌, ◌*◌, ◌<◌, ◌≤◌, [], OnOk, length};
-ghost use Rattle.bolt_format.specs.{Endings.page_ending, Wrote.Wrote, Encoded.branch_header, Encoded.leaf_header};
-ghost use Rattle.bolt_bulk.specs.Private.{AddsToBuffer, Buffers, length_end};
+ghost use Rattle.bolt_format.specs.{Encoded.branch_header, Encoded.leaf_header};
+ghost use Rattle.bolt_bulk.specs.Private.{AddsToBuffer, Buffers, length_end, WritesText};
 
 use arrayvec::ArrayVec;
 use bolt_format::{ELEMENT_LEN, Sink, SinkFault, branch_header, leaf_header};
@@ -18,7 +18,7 @@ type Buffer = ArrayVec<u8, BUFFER_LEN>;
 /// Writes bytes in one piece. If there are none, the sink isn't called, so a call that fails leaves
 /// something out.
 pub(crate) fn put<S: Sink>(bytes: &[u8], sink: &mut S) -> Result<(), SinkFault>
-    ensures { Wrote S.Sink sink.old sink.new bytes.now (page_ending result) }
+    ensures { WritesText S.Sink sink.old sink.new bytes.now result }
 {
     if bytes.is_empty() {
         return Ok(());
@@ -28,7 +28,7 @@ pub(crate) fn put<S: Sink>(bytes: &[u8], sink: &mut S) -> Result<(), SinkFault>
 
 /// Writes `count` zeros.
 pub(crate) fn put_zeros<S: Sink>(count: usize, sink: &mut S) -> Result<(), SinkFault>
-    ensures { Wrote S.Sink sink.old sink.new (replicate count 0) (page_ending result) }
+    ensures { WritesText S.Sink sink.old sink.new (replicate count 0) result }
 {
     let mut left = count;
     while left > 0 {
@@ -85,7 +85,8 @@ impl Headers {
     ) -> Result<(), SinkFault>
         requires low { 16 ≤ self.old.pos }
         requires small { self.old.pos + key < length_end }
-        ensures adds { AddsToBuffer S.Sink sink.old sink.new self.old.buffer.items (branch_header self.old.pos key child) self.new.buffer.items result }
+        ensures adds { AddsToBuffer S.Sink sink.old sink.new self.old.buffer.items
+            (branch_header self.old.pos key child) self.new.buffer.items result }
         ensures pos { OnOk result (self.new.pos + 16 ≡ self.old.pos + key) }
     {
         put_full(&mut self.buffer, sink)?;
@@ -106,7 +107,8 @@ impl Headers {
     ) -> Result<(), SinkFault>
         requires low { 16 ≤ self.old.pos }
         requires small { self.old.pos + (key + value) < length_end }
-        ensures adds { AddsToBuffer S.Sink sink.old sink.new self.old.buffer.items (leaf_header is_bucket self.old.pos key value) self.new.buffer.items result }
+        ensures adds { AddsToBuffer S.Sink sink.old sink.new self.old.buffer.items
+            (leaf_header is_bucket self.old.pos key value) self.new.buffer.items result }
         ensures pos { OnOk result (self.new.pos + 16 ≡ self.old.pos + (key + value)) }
     {
         put_full(&mut self.buffer, sink)?;
@@ -118,7 +120,7 @@ impl Headers {
 
     /// Writes the headers that were not yet written.
     pub fn put_rest<S: Sink>(&self, sink: &mut S) -> Result<(), SinkFault>
-        ensures { Wrote S.Sink sink.old sink.new self.now.buffer.items (page_ending result) }
+        ensures { WritesText S.Sink sink.old sink.new self.now.buffer.items result }
     {
         put(self.buffer.as_slice(), sink)
     }

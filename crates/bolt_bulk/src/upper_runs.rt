@@ -44,8 +44,10 @@ impl<'a> UpperRuns<'a> {
         requires key { length key.now ≤ longest_key }
         requires closed { length closed.key.now ≤ longest_key }
         ensures same { IsSameWriter writer.old writer.new }
-        ensures climbs { Climbs S.Sink writer.old writer.new key.now (branch_view closed.entry) self.old self.new result }
-        ensures standing { OnOk result (AllByRecursion IsStanding (runs_above self.new.runs.items)) }
+        ensures climbs { Climbs S.Sink writer.old writer.new key.now (branch_view closed.entry)
+            self.old self.new result }
+        ensures standing { OnOk result (AllByRecursion IsStanding
+            (runs_above self.new.runs.items)) }
     {
         let mut closed = closed;
         for i in 0..self.runs.len() {
@@ -69,7 +71,8 @@ impl<'a> UpperRuns<'a> {
         requires standing { AllByRecursion IsStanding (runs_above self.old.runs.items) }
         requires closed { length closed.key.now ≤ longest_key }
         ensures same { IsSameWriter writer.old writer.new }
-        ensures closes { ClosesAbove S.Sink writer.old writer.new (branch_view closed.entry) (runs_above self.old.runs.items) result }
+        ensures closes { ClosesAbove S.Sink writer.old writer.new (branch_view closed.entry)
+            (runs_above self.old.runs.items) result }
     {
         let mut closed = closed;
         for i in 0..self.runs.len() {

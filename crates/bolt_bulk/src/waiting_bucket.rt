@@ -30,7 +30,8 @@ impl<'a> WaitingBucket<'a> {
         requires open { IsOpenBucket outer }
         requires key { length pending.key.now ≤ longest_key }
         ensures same { IsSameWriter writer.old writer.new }
-        ensures enters { Enters S.Sink writer.old writer.new outer.entry pending.entry around result }
+        ensures enters { Enters S.Sink writer.old writer.new outer.entry pending.entry around
+            result }
         ensures waits { IfOk result (λ waiting. IsWaiting writer.old.setup.page_size waiting) }
     {
         let mut bucket = outer;

@@ -1,10 +1,14 @@
 -- What a call that writes pages leaves on its sink, and when it returns TooLarge.
-use Rattle.std.specs.Prelude.{◌≡◌, ◌<◌, ℕ, List, [], ◌∷◌, IfErr, OnErr, OnOk, Result}
-use Rattle.bolt_format.specs.{Sinks.AppendsProperPrefix, Wrote.Wrote, declared.sink.Sink.Ghosts}
+use Rattle.std.specs.Prelude.{◌≡◌, ◌<◌, ℕ, List, IfErr, OnErr, OnOk, Result}
+use Rattle.bolt_format.specs.{Endings.page_ending, Sinks.AppendsProperPrefix, Wrote.Wrote, declared.sink.Sink.Ghosts}
 use Rattle.bolt_layout.specs.{Laid.Placed, Layout.placed_bytes}
 use Rattle.bolt_bulk.specs.{BulkEndings.bulk_ending, declared.fault.BulkFault.BulkFault}
 use Rattle.bolt_bulk.specs.declared.fault.BulkFault.TheVariants as fault
 use Rattle.bolt_bulk.specs.declared.page_setup.PageSetup.{PageSetup}
+
+-- A piece of a page is written. If the call fails, some of it is left out.
+abbrev pub WritesText : {S A E : Type 0} → Ghosts S → (old new : S) → List ℕ → Result A E → Type 0
+WritesText sink old new text result = Wrote sink old new text (page_ending result)
 
 -- the pages are written, or a prefix of their bytes if the call fails
 abbrev pub Puts : {S A : Type 0} → Ghosts S → (old new : S) → PageSetup → List Placed → Result A BulkFault → Type 0

@@ -1,8 +1,8 @@
 -- What a step of a bucket's open runs does: the pages that it writes, what is open then, and the number of the next page.
-use Rattle.std.specs.Prelude.{◌≡◌, ℕ, ◌+◌, List, [], ◌∷◌, Option, Result, IfOk, OnOk, length, option_map}
+use Rattle.std.specs.Prelude.{◌≡◌, ℕ, List, [], ◌∷◌, Option, Result, IfOk, OnOk, length, option_map}
 use Rattle.bolt_format.specs.{ElementPlaces.branch_view, Elements.BranchElement, Elements.LeafElement}
 use Rattle.bolt_format.specs.{declared.element.Branch.Branch, declared.sink.Sink.Ghosts}
-use Rattle.bolt_layout.specs.{Laid.Placed, Levels.overflow_of}
+use Rattle.bolt_layout.specs.Laid.{Placed}
 use Rattle.bolt_bulk.specs.Private.BranchRuns.{own_element, run_taking, run_view, runs_above, runs_end_next, taking_next, taking_puts, taking_up}
 use Rattle.bolt_bulk.specs.Private.OpenBuckets.{bucket_end_next, bucket_runs, leaf_closed}
 use Rattle.bolt_bulk.specs.Private.{PagesWritten.Closes, PagesWritten.Writes, RowLimits.bucket_limit}
@@ -10,7 +10,7 @@ use Rattle.bolt_bulk.specs.Private.RunViews.{BucketRunsView, LeafRunView, RunVie
 use Rattle.bolt_bulk.specs.Private.RunViews.{runs_next, runs_push, runs_put, runs_room, runs_room_put, runs_root}
 use Rattle.bolt_bulk.specs.Private.TakenItems.{element_size, root_element, root_size, runs_taking}
 use Rattle.bolt_bulk.specs.{declared.branch_run.BranchRun.BranchRun, declared.bucket_runs.BucketRuns.BucketRuns, declared.fault.BulkFault.BulkFault}
-use Rattle.bolt_bulk.specs.declared.page_writer.PageWriter.{PageWriter}
+use Rattle.bolt_bulk.specs.{Private.Writers.next_after, declared.page_writer.PageWriter.PageWriter}
 use Rattle.bolt_bulk.specs.{declared.upper_runs.UpperRuns.UpperRuns, declared.pending_bucket.PendingBucket.PendingBucket}
 use Rattle.bolt_bulk.specs.declared.waiting_bucket.WaitingBucket.{WaitingBucket}
 
@@ -31,12 +31,12 @@ module _ {S : Type 0} (sink : Ghosts S) (old new : PageWriter S) where
 
   -- a run of pages closes, and the element of its page is returned
   pub record ClosesRun (run : RunView) (result : Result Branch BulkFault) : Type 0 where
-    pub closes : ClosesRow (run_page P run old.next ∷ []) (old.next + (1 + overflow_of P run.size)) result
+    pub closes : ClosesRow (run_page P run old.next ∷ []) (next_after old run.size) result
     pub up : IfOk result (λ up. branch_view up ≡ own_element run old.next)
 
   -- and so does the run of items of a leaf
   pub record ClosesLeaf (run : LeafRunView) (result : Result Branch BulkFault) : Type 0 where
-    pub closes : ClosesRow (leaf_page P run old.next ∷ []) (old.next + (1 + overflow_of P run.size)) result
+    pub closes : ClosesRow (leaf_page P run old.next ∷ []) (next_after old run.size) result
     pub up : IfOk result (λ up. branch_view up ≡ leaf_closed run old.next)
 
   -- A run takes the element of a page that has closed. The next page has this first key; if the run has no room for it, the run closes.
