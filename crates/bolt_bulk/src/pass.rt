@@ -141,9 +141,7 @@ impl<'a> Pass<'a> {
         ensures steps { TakesMember S.Sink sink.old sink.new self.old self.new
             (path_of path.now, item_view item.entry) result }
     {
-        let Some((key, _)) = path.split_last() else {
-            unreachable!()
-        };
+        let key = path[path.len() - 1];
         self.leave_to(path.len(), sink)?;
         match item {
             Item::Value(value) => self.take_value(key, value, sink),
