@@ -367,9 +367,8 @@ impl<'a> Pass<'a> {
         ensures steps { LeavesBucket S.Sink sink.old sink.new self.old self.new result }
     {
         self.noted.bucket_ends(&self.bucket.uppers)?;
-        let Some(waiting) = self.waiting.pop() else {
-            unreachable!()
-        };
+        let innermost = self.waiting.len() - 1;
+        let waiting = self.waiting.remove(innermost);
         self.around = waiting.around;
         let mut inner = mem::replace(&mut self.bucket, waiting.bucket);
         let mut writer = PageWriter {
