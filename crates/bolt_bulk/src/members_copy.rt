@@ -59,8 +59,8 @@ fn balanced_limits<'a, M: Members<'a>>(
             Ok(ended.noted)
         }
         Err(BulkFault::TooLarge) => Err(PlanFault::TooLarge),
-        // A sink that keeps nothing doesn't fail.
-        Err(BulkFault::Memory | BulkFault::Sink) => Err(PlanFault::Memory),
+        Err(BulkFault::Memory) => Err(PlanFault::Memory),
+        Err(BulkFault::Sink) => unreachable!(),
     }
 }
 
@@ -105,8 +105,8 @@ fn plan_within<'a, M: Members<'a>>(
             })
         }
         Err(BulkFault::TooLarge) => Err(PlanFault::TooLarge),
-        // A sink that keeps nothing doesn't fail.
-        Err(BulkFault::Memory | BulkFault::Sink) => Err(PlanFault::Memory),
+        Err(BulkFault::Memory) => Err(PlanFault::Memory),
+        Err(BulkFault::Sink) => unreachable!(),
     }
 }
 

@@ -1,9 +1,11 @@
 -- The plain layout is never 28 times larger than the balanced one, so a pass over it that finds no room notes that neither has any.
-use Rattle.std.proofs.Common.{ℕ, refl, ap, subst, arith}
+use Rattle.std.proofs.Common.{◌<◌, ℕ, refl, ap, subst, arith}
+use Rattle.std.proofs.Math.Logic.{∥∥₁_elim}
+use Rattle.std.proofs.Props.{props}
 use Rattle.bolt_tree.specs.Tree.{tree_of}
 use Rattle.bolt_layout.specs.{Layout.layout_mark, declared.Layout.TheVariants.Balanced, declared.Layout.TheVariants.Plain}
 use Rattle.bolt_bulk.specs.Private.{FitLimits, limits_with}
-use Rattle.bolt_bulk.proofs.{FileLayouts.balanced_too_large, Openings.fit_plain}
+use Rattle.bolt_bulk.proofs.{FileLayouts.balanced_too_large, Openings.fit_plain, PutsLemmas.Wrote-failed}
 use Rattle.bolt_bulk.proofs.members_copy.balanced_limits.Goals as goal
 
 pub returns-in-Ok : goal.returns-in-Ok
@@ -27,3 +29,10 @@ returns-in-Err-TooLarge g c = record {
       balanced_too_large c.args.blueprint.now.page_size listing _ c.args.blueprint.now.accepted one (omega arith) (c.a_listing_has_one_layout.ensures.length Balanced listing one);
   again = tt;
 }
+
+pub unreachable-requires : goal.unreachable-requires
+unreachable-requires g c = ∥∥₁_elim c.requires.some (Prim.hlevel props) (λ is.
+    let listing = is.0 in
+    let lists = is.1 in
+    let ends = c.in-Err-Sink.ensures.pages Plain listing lists (fit_plain c.noting_setup_of-setup.result.page_size c.none-none.result (tree_of listing) c.none-none.ensures) in
+    let none : 0 < 0 = Wrote-failed _ ends.puts c.in-Err-Sink.field-0-is in omega arith)
