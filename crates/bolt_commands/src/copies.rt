@@ -36,8 +36,8 @@ pub(crate) fn copy_members<C: CopySource, T: Sink>(
     target: &mut T,
 ) -> Result<u64, BulkFault>
     requires { IsWhole C.lists C.left source.old }
-    ensures copied { ForLayout C.lists source.old blueprint.now (λ listing layout.
-        CopiesTo T.Sink target.old target.new layout listing (is_snapshot kind) result) }
+    ensures copied { ForLayout C.lists source.old blueprint.now (λ all layout.
+        CopiesTo T.Sink target.old target.new layout all (is_snapshot kind) result) }
     ensures end { OnOk result (C.ends_as source.old source.new) }
 {
     sources_have_good_copies(source, blueprint.sequence);

@@ -1,6 +1,6 @@
 //! What the definitions of answers imply.
-ghost use Rattle.std.specs.Prelude.{◌≡◌, ◌<◌, ◌^◌, ℕ, Bool, true, List, [], Ok, take};
-ghost use Rattle.bolt_format.specs.{Metas.IsMetasEnd, declared.meta.Meta.Meta};
+ghost use Rattle.std.specs.Prelude.{◌≡◌, ◌<◌, ◌^◌, ℕ, true, List, [], Ok};
+ghost use Rattle.bolt_format.specs.{Metas.ForMetasPrefix, declared.meta.Meta.Meta};
 ghost use Rattle.bolt_layout.specs.Copies.{IsOfOneTree};
 ghost use Rattle.hex.specs.Hex.{IsBytes};
 ghost use Rattle.bolt_tree.specs.{Listing.IsListing, Listing.Member};
@@ -33,8 +33,8 @@ use bolt_tree::laws::all_is_below_the_root;
 /// A job that needs the metas alone does on the bytes up to their end, which the first 80 tell,
 /// exactly what it does on the whole file.
 pub fn needed_bytes_are_enough<O: Sink, T: Sink>()
-    ensures { (file : List ℕ) (end : ℕ) (job : Job) → needs_metas_alone job ≡ true
-        → IsMetasEnd (take 80 file) end → DoesAlike O.Sink T.Sink job (take end file) file }
+    ensures { ForMetasPrefix (λ prefix file. (job : Job) → needs_metas_alone job ≡ true
+        → DoesAlike O.Sink T.Sink job prefix file) }
 {
     metas_lie_in_a_prefix();
 }

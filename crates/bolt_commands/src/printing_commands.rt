@@ -3,8 +3,8 @@
 ghost use Rattle.std.specs.Prelude.{◌≡◌, ◌⊎◌, IfErr, IfOk, false, true};
 ghost use Rattle.bolt_check.specs.{CheckedFiles.bytes_of, CheckedFiles.has_accounts, CheckedFiles.meta_of, RoledFiles.roles_checked, Sound.HasSoundTrees, CheckedFiles.in_checked};
 ghost use Rattle.bolt_format.specs.{Endings.ending, Wrote.Wrote};
-ghost use Rattle.bolt_report.specs.{PageTables.ForRoles};
-ghost use Rattle.bolt_tree.specs.{Buckets.bucket_checked, Buckets.bucket_start, Entries.Value, EntriesLeft.ForEntries};
+ghost use Rattle.bolt_report.specs.{KeyLines.ForBucket, PageTables.ForRoles};
+ghost use Rattle.bolt_tree.specs.{Buckets.bucket_checked, Entries.Value};
 ghost use Rattle.bolt_commands.specs.Answers.{HasNoMeta, HasStats, HoldsIn, HoldsNone, IsBucketsPrint, IsBucketsShown, IsGetPrint, IsInfoAnswer};
 ghost use Rattle.bolt_commands.specs.Answers.{IsKeysPrint, IsKeysShown, IsPageAnswer, IsValueShown, IsPagesAnswer, IsReadAnswer, IsShownMeta, IsStatsPrint, IsTotal, no_stats, pages_shown, LeadsNowhere};
 ghost use Rattle.bolt_commands.specs.Private.Printing.{PrintsAnswer};
@@ -212,7 +212,7 @@ fn find_stats(alloc: Global, checked: Checked<'_>, path: &[Vec<u8>]) -> Result<S
 /// The figures of the buckets in a bucket, added up.
 fn sum_buckets(alloc: Global, bucket: &Bucket<'_>) -> Result<Stats, NoMemory>
     ensures { IfOk result (λ total.
-        ForEntries (bucket_checked bucket.now) (bucket_start bucket.now) (λ entries.
+        ForBucket bucket.now (λ entries.
         ∥ in_checked IsTotal (bucket_checked bucket.now) entries no_stats total ∥₁)) }
 {
     let mut total = Stats::default();

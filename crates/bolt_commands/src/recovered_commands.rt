@@ -3,12 +3,11 @@ ghost use Rattle.std.specs.Prelude.{◌≡◌, ℕ, IfOk, IfSome, List, OnOk, ma
 ghost use Rattle.std.specs.Option.{IfNone};
 ghost use Rattle.bolt_recover.specs.ShownLosses.{loss_view};
 ghost use Rattle.bolt_recover.specs.Losses.{parts};
-ghost use Rattle.bolt_report.specs.{MemberNames.is_wanted, MembersLeft.ForLeft};
+ghost use Rattle.bolt_report.specs.MembersLeft.{ForLeft};
 ghost use Rattle.bolt_tree.specs.{Entries.Value, Listing.Member, Paths.path_of, ShownEntries.item_view};
-ghost use Rattle.bolt_job.specs.PlainWords.{path_in};
-ghost use Rattle.bolt_commands.specs.Answers.{IsNamesAnswer, IsRecoveredAnswer, IsRecoveredValue, no_bucket, no_key, parents_of};
+ghost use Rattle.bolt_commands.specs.Answers.{IsRecoveredAnswer, IsRecoveredValue, no_bucket, no_key, parents_of};
 ghost use Rattle.bolt_commands.specs.Private.Printing.{PrintsAnswer};
-ghost use Rattle.bolt_commands.specs.Private.Recovered.{HoldsNow, bucket_ending, value_or_why};
+ghost use Rattle.bolt_commands.specs.Private.Recovered.{HoldsNow, IsNamesPrint, bucket_ending, value_or_why};
 
 use crate::failure::{Failure, Outcome};
 use crate::list_command::{end_listing, slices};
@@ -38,9 +37,7 @@ pub(crate) fn print_recovered_names<O: Sink>(
     out: &mut O,
 ) -> Outcome
     ensures { PrintsAnswer O.Sink out.old out.new
-        (IsRecoveredAnswer input.entry.file.now asked.entry.meta
-        (IsNamesAnswer asked.entry.form (is_wanted asked.entry.names)
-        (path_in asked.entry.path.now))) result }
+        (IsNamesPrint asked.entry input.entry.file.now) result }
 {
     let mut recovery = input.recover(asked.meta)?;
     let path = slices(input.alloc, asked.path)?;
