@@ -58,20 +58,19 @@ module _ {S : Type 0} {sink : Ghosts S} {setup : PageSetup} {new : Option ℕ} {
   climb_closes h room one = grind (arith, drop-set-lt, take_more_set, front_more, left_split, append_assoc)
 
   -- a fault
-  pub climb_stops : {A B : Type 0} {later : S} {after last : ℕ} (fault : BulkFault) → Writes {A = A} sink mid later setup (taking_puts setup.page_size key e next run) (taking_next setup.page_size key e next run) after (Err fault)
-      → Writes {A = B} sink old later setup (runs_put setup.page_size key e0 n0 runs0) (runs_next setup.page_size key e0 n0 runs0) last (Err fault)
+  pub climb_stops : {A B : Type 0} {later : S} (fault : BulkFault) → Writes {A = A} sink mid later setup (taking_puts setup.page_size key e next run) (taking_next setup.page_size key e next run) (Err fault)
+      → Writes {A = B} sink old later setup (runs_put setup.page_size key e0 n0 runs0) (runs_next setup.page_size key e0 n0 runs0) (Err fault)
   climb_stops fault one = record {
     pages = front_stop c.front (Wrote-stops _ fault one.pages) (left_split setup.page_size key e next run (drop (i + 1) runs) (drop i runs) at);
-    within = tt;
     large = λ is. let large = one.large is in grind (arith, next_grows);
   }
 
 -- no run is left: a new one takes the element
 pub climb_over : {S : Type 0} {sink : Ghosts S} {setup : PageSetup} {new : Option ℕ} {key : List ℕ} {e0 e : BranchElement} {n0 next i : ℕ} {runs0 : List RunView} {old later : S} (runs : List BranchRun)
-    → Climbing setup new key e0 n0 runs0 sink old later (runs_above runs) i e next → length runs ≤ i → next ≤ setup.highest_mark
-    → Writes {A = ⊤} sink old later setup (runs_put setup.page_size key e0 n0 runs0) (runs_next setup.page_size key e0 n0 runs0) next (Ok tt)
+    → Climbing setup new key e0 n0 runs0 sink old later (runs_above runs) i e next → length runs ≤ i
+    → Writes {A = ⊤} sink old later setup (runs_put setup.page_size key e0 n0 runs0) (runs_next setup.page_size key e0 n0 runs0) (Ok tt)
     × (runs_climb setup.page_size new key e0 n0 runs0 ≡ runs_above runs ++ run_push (no_run new 0) e ∷ []) × (next ≡ runs_next setup.page_size key e0 n0 runs0)
-climb_over {setup = setup} {key = key} {e = e} {next = next} {i = i} runs c h within =
+climb_over {setup = setup} {key = key} {e = e} {next = next} {i = i} runs c h =
     let l = length-map runs run_view in
     grind (arith, drop_all, whole, take_all, front_whole)
 
@@ -144,7 +143,7 @@ module _ {S : Type 0} {sink : Ghosts S} {setup : PageSetup} {e0 : BranchElement}
   close_stops fault one =
       let left = close_left setup.page_size e next run (drop (i + 1) runs) (drop i runs) at in
       record {
-        writes = record { pages = front_stop c.front (Wrote-stops _ fault one.writes.pages) left; within = tt; large = λ is. let large = one.writes.large is in grind (arith, end_grows) };
+        writes = record { pages = front_stop c.front (Wrote-stops _ fault one.writes.pages) left; large = λ is. let large = one.writes.large is in grind (arith, end_grows) };
         short = short_stop _ left c.front one.short;
         marked = tt;
       }

@@ -7,7 +7,7 @@ use Rattle.std.specs.List.{AllByRecursion}
 use Rattle.bolt_format.specs.{ElementPlaces.leaf_view, Elements.LeafElement, declared.element.Leaf.Leaf}
 use Rattle.bolt_tree.specs.Tree.{Tree, end, with_bucket, with_value}
 use Rattle.bolt_layout.specs.{Items.items_of, Items.leaf_item, Items.root_of, Laid.Laid, Laid.Placed, Layout.placed_bytes, PageBytes.inline_value}
-use Rattle.bolt_bulk.specs.Private.{AreOpenRuns, AreWaiting, base_in, bucket_end_next, bucket_limit, bucket_runs, BucketEnds, BucketRunsView, saturated, Counts, end_of, BucketFrame, HasNoted, HasRoot, held_item, held_so_far, IsAt, IsOn, IsPass, IsPending, IsPendingSmall, IsToCome, items_around, items_in, Known, length_frames, length_open, Parent, parent_of, limit_in, limits_by, making_room, Notes, onto, Open, open_in, pushing, root_element, runs_end, runs_end_put, runs_push, runs_room, runs_room_put, pending_element, element_size, TakesItem, Enters, Writes, Steps, taking, value_element, Wanted}
+use Rattle.bolt_bulk.specs.Private.{AreOpenRuns, AreWaiting, base_in, bucket_end_next, bucket_limit, bucket_runs, BucketEnds, BucketRunsView, saturated, Counts, end_of, BucketFrame, HasNoted, HasRoot, held_item, held_so_far, IsAt, IsOn, IsPass, IsPending, IsPendingSmall, IsToCome, items_around, items_in, Known, length_frames, length_open, Parent, parent_of, limit_in, limits_by, making_room, Notes, onto, Open, open_in, pushing, root_element, runs_end, runs_end_put, runs_push, runs_room, runs_room_put, pending_element, element_size, root_size, runs_taking, Writes, Steps, taking, value_element, Wanted}
 use Rattle.bolt_bulk.specs.{BulkEndings.bulk_ending, declared.page_setup.PageSetup.PageSetup, declared.fault.BulkFault.BulkFault}
 use Rattle.bolt_bulk.specs.declared.fault.BulkFault.TheVariants as fault
 use Rattle.bolt_bulk.specs.{declared.bucket_runs.BucketRuns.BucketRuns, declared.pass.Pass.Pass, declared.pending_bucket.PendingBucket.PendingBucket}
@@ -43,6 +43,10 @@ module _ {S : Type 0} {wanted : Wanted} {sink : Ghosts S} {setup : PageSetup} {o
   -- memory ran out after steps that went well
   pub steps_failed : {A B : Type 0} {At : List Placed → Type 0} {x : A} → Steps wanted sink old new setup put At (Ok x) → Steps {A = B} wanted sink old new setup put At (Err fault.Memory)
   steps_failed one = record { more = one.more; puts = Wrote-gave_up one.puts; at = tt; before = one.before; large = λ e. absurd cc }
+
+  -- what the sink has accepted, in other words
+  pub steps_to : {A : Type 0} {mid : S} {At : List Placed → Type 0} {result : Result A BulkFault} → mid ≡ new → Steps wanted sink old mid setup put At result → Steps wanted sink old new setup put At result
+  steps_to {At = At} {result = result} same steps = subst (λ (s : S). Steps wanted sink old s setup put At result) same steps
 
   -- what a step leaves, in other words
   pub steps_map : {A : Type 0} {At Then : List Placed → Type 0} {result : Result A BulkFault} → ((all : List Placed) → At all → Then all) → Steps wanted sink old new setup put At result → Steps wanted sink old new setup put Then result
@@ -117,11 +121,16 @@ module _ (wanted : Wanted) (pass : Pass) where
   runs_now = bucket_runs pass.bucket pass.next
 
   -- ---- the open bucket takes an item with no pages below it
+  abbrev pub TakesAt : {S A : Type 0} → Ghosts S → (old new : S) → LeafElement → BucketRuns → (next : ℕ) → Result A BulkFault → Type 0
+  TakesAt sink old new e bucket next result =
+      Writes sink old new pass.setup (runs_room_put P runs_now e.key (element_size e)) (runs_room P runs_now e.key (element_size e)).next result
+      × OnOk result (bucket_runs bucket next ≡ runs_taking P runs_now e (element_size e))
+
   item_steps : {S A : Type 0} {sink : Ghosts S} {put : List Placed} {within parents : List Parent} {left after : Tree} {old new : S} {counted : Pass} (key value : List ℕ) (flag : Bool) (rest : Tree) (pending : Option PendingBucket) (bucket : BucketRuns)
       (entries : Vec Leaf Global) (next : ℕ) (result : Result A BulkFault) (is : IsAt wanted pass within left put)
       → IsOn wanted.which P wanted.tree is.frames is.state (leaf_item key value flag ∷ items_of wanted.which P rest) runs_now put → IsToCome wanted P (limits_by pass) is.opened rest is.frames
       → IsPending pending entries.items (map parent_of is.frames) rest parents after
-      → TakesItem sink old new pass.setup pass.bucket pass.next (record { key = key; value = value; is_bucket = flag }) bucket next result
+      → TakesAt sink old new (record { key = key; value = value; is_bucket = flag }) bucket next result
       → OnOk result (Counts (record pass { bucket = bucket; pending = pending; entries = entries; next = next }) counted)
       → Steps wanted sink old new pass.setup put (IsAt wanted counted parents after) result
   item_steps {put = put} {counted = counted} key value flag rest pending bucket entries next result is on coming pends takes counts =
@@ -129,14 +138,14 @@ module _ (wanted : Wanted) (pass : Pass) where
       let e : LeafElement = record { key = key; value = value; is_bucket = flag } in
       let row : List Placed = runs_room_put P runs_now key (element_size e) in
       let then = on_takes is.frames is.state key value flag (items_of wanted.which P rest) runs_now put on in
-      steps_on row then takes.writes.pages takes.writes.large (on_ok_both result takes.runs counts (λ same k.
+      steps_on row then takes.0.pages takes.0.large (on_ok_both result takes.1 counts (λ same k.
       at_counted k (subst (λ (r : BucketRunsView). IsOn wanted.which P wanted.tree is.frames (taking P is.state item) (items_of wanted.which P rest) r (put ++ row)) (sym same) then)
       is.waits pends (takes_held P is.frames is.state item pass.most counted.most refl is.held) is.opened_is coming is.noted))
 
   -- a value
   pub value_steps : {S A : Type 0} {sink : Ghosts S} {put : List Placed} {parents : List Parent} {old new : S} {counted : Pass} (key value : List ℕ) (after : Tree) (bucket : BucketRuns) (next : ℕ) (result : Result A BulkFault)
       → IsAt wanted pass parents (with_value key value after) put → pass.pending ≡ None
-      → TakesItem sink old new pass.setup pass.bucket pass.next (value_element key value) bucket next result
+      → TakesAt sink old new (value_element key value) bucket next result
       → OnOk result (Counts (record pass { bucket = bucket; next = next }) counted)
       → Steps wanted sink old new pass.setup put (IsAt wanted counted parents after) result
   value_steps key value after bucket next result is none takes counts =
@@ -146,7 +155,7 @@ module _ (wanted : Wanted) (pass : Pass) where
   -- the end of a bucket that is inline
   pub inline_steps : {S A : Type 0} {sink : Ghosts S} {put : List Placed} {parents : List Parent} {old new : S} {counted : Pass} (parent : Parent) (p : PendingBucket) (bucket : BucketRuns) (entries : Vec Leaf Global) (next : ℕ) (result : Result A BulkFault)
       → IsAt wanted pass (parent ∷ parents) end put → pass.pending ≡ Some p → IsPendingSmall P pass.pending pass.entries.items
-      → TakesItem sink old new pass.setup pass.bucket pass.next (pending_element p pass.entries.items) bucket next result
+      → TakesAt sink old new (pending_element p pass.entries.items) bucket next result
       → OnOk result (Counts (record pass { bucket = bucket; pending = None; entries = entries; next = next }) counted)
       → Steps wanted sink old new pass.setup put (IsAt wanted counted parents parent.after) result
   inline_steps {put = put} {parents = parents} parent p bucket entries next result is some pending takes counts =
@@ -226,34 +235,35 @@ module _ (wanted : Wanted) (pass : Pass) where
       }
 
   -- a fault on the way
-  pub open_stops : {S B C : Type 0} {sink : Ghosts S} {put : List Placed} {parents : List Parent} {left : Tree} {old new : S} {At : List Placed → Type 0} {next : ℕ} {e : BulkFault} {result : Result C BulkFault} (p : PendingBucket) → IsErrAnd result (λ f. f ≡ e)
+  pub open_stops : {S B C : Type 0} {sink : Ghosts S} {put : List Placed} {parents : List Parent} {left : Tree} {old new : S} {At : List Placed → Type 0} {e : BulkFault} {result : Result C BulkFault} (p : PendingBucket) → IsErrAnd result (λ f. f ≡ e)
       → IsAt wanted pass parents left put → pass.pending ≡ Some p → IsPendingSmall P pass.pending pass.entries.items → HasRoot wanted.which P (onto (map leaf_view pass.entries.items) left)
-      → Writes {A = B} sink old new pass.setup (runs_room_put P runs_now p.key.now (32 + length p.key.now)) (room_for p).next next (Err e)
+      → Writes {A = B} sink old new pass.setup (runs_room_put P runs_now p.key.now (32 + length p.key.now)) (room_for p).next (Err e)
       → Steps wanted sink old new pass.setup put At result
   open_stops {put = put} {parents = parents} {left = left} p same is some pending rooted writes =
       steps_stop {A = ⊤} {Mid = λ _. ⊤} same (steps_on (runs_room_put P runs_now p.key.now (32 + length p.key.now)) (has_opened put parents left p is some pending rooted).on writes.pages writes.large tt)
 
   -- all went well
-  pub open_steps : {S : Type 0} {sink : Ghosts S} {put : List Placed} {parents : List Parent} {left : Tree} {old new : S} {counted : Pass} (p : PendingBucket) (bucket : BucketRuns) (w : WaitingBucket) (around : Vec WaitingBucket Global) (entries : Vec Leaf Global) (before next opened held : ℕ)
+  pub open_steps : {S : Type 0} {sink : Ghosts S} {put : List Placed} {parents : List Parent} {left : Tree} {old new : S} {counted : Pass} (p : PendingBucket) (bucket : BucketRuns) (w : WaitingBucket) (around : Vec WaitingBucket Global) (entries : Vec Leaf Global) (next opened held : ℕ)
       → IsAt wanted pass parents left put → pass.pending ≡ Some p → IsPendingSmall P pass.pending pass.entries.items → HasRoot wanted.which P (onto (map leaf_view pass.entries.items) left)
-      → Enters sink old new pass.setup pass.bucket pass.next p before next (Ok w)
+      → Writes {A = ⊤} sink old new pass.setup (runs_room_put P runs_now p.key.now (root_size p.key.now)) (room_for p).next (Ok tt)
+      → bucket_runs w.bucket next ≡ room_for p → w.key.now ≡ p.key.now → w.sequence ≡ p.sequence
       → around.items ≡ pass.waiting.items ++ w ∷ [] → bucket_runs bucket next ≡ opened_runs p next
       → opened ≡ min (pass.opened + 1) 18446744073709551615
       → Counts (record pass { waiting = around; bucket = bucket; pending = None; entries = entries; next = next; opened = opened; around = held }) counted
       → Steps {A = ⊤} wanted sink old new pass.setup put (IsAt wanted counted parents left) (Ok tt)
-  open_steps {put = put} {parents = parents} {left = left} {counted = counted} p bucket w around entries before next opened held is some pending rooted enters items values_are one_more k =
+  open_steps {put = put} {parents = parents} {left = left} {counted = counted} p bucket w around entries next opened held is some pending rooted writes made key_is sequence_is items values_are one_more k =
       let then = has_opened put parents left p is some pending rooted in
       let frame : BucketFrame = frame_of p then.after is.state in
       let frames : List BucketFrame = frame ∷ is.frames in
       let known : Known = known_now is.opened left in
       let values : List (Laid LeafElement) = value_items (map leaf_view pass.entries.items) in
-      let next_is : next ≡ (room_for p).next = ap (λ (r : BucketRunsView). r.next) enters.runs in
-      let at : bucket_runs w.bucket (base_in frames) ≡ room_for p = ap (λ (n : ℕ). bucket_runs w.bucket n) (sym (next_is ∙ then.outer.next_is)) ∙ enters.runs in
+      let next_is : next ≡ (room_for p).next = ap (λ (r : BucketRunsView). r.next) made in
+      let at : bucket_runs w.bucket (base_in frames) ≡ room_for p = ap (λ (n : ℕ). bucket_runs w.bucket n) (sym (next_is ∙ then.outer.next_is)) ∙ made in
       let waits : AreWaiting (reverse around.items) frames = subst (λ (ws : List WaitingBucket). AreWaiting ws frames) (sym (ap reverse items ∙ reverse-append pass.waiting.items (w ∷ [])))
-      (subst (λ (r : BucketRunsView). AreOpenRuns r frame.state (base_in is.frames)) (sym at) then.outer, enters.key, enters.sequence, is.waits) in
+      (subst (λ (r : BucketRunsView). AreOpenRuns r frame.state (base_in is.frames)) (sym at) then.outer, key_is, sequence_is, is.waits) in
       let on = subst (λ (r : BucketRunsView). IsOn wanted.which P wanted.tree frames (open_values known values) (items_of wanted.which P left) r (put ++ runs_room_put P runs_now p.key.now (32 + length p.key.now)))
       (sym (values_are ∙ ap (opened_runs p) next_is)) then.on in
-      steps_on (runs_room_put P runs_now p.key.now (32 + length p.key.now)) then.on enters.writes.pages tt
+      steps_on (runs_room_put P runs_now p.key.now (32 + length p.key.now)) then.on writes.pages tt
       (at_counted k on waits (then.same, refl)
       (enters_held P known frame is.frames is.state p.key.now (32 + length p.key.now) values pass.most counted.most refl (values_held (map leaf_view pass.entries.items)) is.held)
       (let o = is.opened_is in omega arith) then.coming (noted_enters wanted P pass.noted known (open_in is.state is.frames) is.opened_is then.notes is.noted))
@@ -262,7 +272,7 @@ module _ (wanted : Wanted) (pass : Pass) where
   pub leave_steps : {S A : Type 0} {sink : Ghosts S} {put : List Placed} {parents : List Parent} {old new : S} {counted : Pass} (parent : Parent) (w : WaitingBucket) (bucket : BucketRuns) (around : Vec WaitingBucket Global) (next held : ℕ) (noted : NotedLimits) (result : Result A BulkFault)
       → IsAt wanted pass (parent ∷ parents) end put → pass.pending ≡ None → pass.waiting.items ≡ around.items ++ w ∷ []
       → BucketEnds pass.noted noted pass.bucket.uppers
-      → Writes sink old new pass.setup (runs_end_put P runs_now) (bucket_end_next P runs_now) next result
+      → Writes sink old new pass.setup (runs_end_put P runs_now) (bucket_end_next P runs_now) result
       → OnOk result ((before : ℕ) → bucket_runs bucket next ≡ runs_push (bucket_runs w.bucket before) (root_element w.key.now (runs_end P runs_now) w.sequence) (32 + length w.key.now) (bucket_end_next P runs_now))
       → OnOk result (Counts (record pass { waiting = around; bucket = bucket; next = next; around = held; noted = noted }) counted)
       → Steps wanted sink old new pass.setup put (IsAt wanted counted parents parent.after) result

@@ -149,6 +149,10 @@ rest_some : (page_size : ℕ) (pages : List Placed) → 1 ≤ length pages → p
 rest_some page_size [] some = absurd (omega arith)
 rest_some page_size (page ∷ pages) some = pages_some page_size page pages
 
+-- what the sink has accepted, in other words
+pub ends_to : {S : Type 0} {wanted : Wanted} {sink : Ghosts S} {setup : PageSetup} {old mid new : S} {put : List Placed} {result : Result Ended BulkFault} → mid ≡ new → Ends wanted sink old mid setup put result → Ends wanted sink old new setup put result
+ends_to {S} {wanted} {sink} {setup} {old} {put = put} {result = result} same ends = subst (λ (s : S). Ends wanted sink old s setup put result) same ends
+
 module _ {S : Type 0} {wanted : Wanted} {sink : Ghosts S} {setup : PageSetup} {old new : S} {put : List Placed} {At : List Placed → Type 0} {result : Result Ended BulkFault} where
   -- a step failed on the way
   pub ends_early : {A : Type 0} {e : BulkFault} → IsErrAnd result (λ f. f ≡ e) → Steps {A = A} wanted sink old new setup put At (Err e) → Ends wanted sink old new setup put result

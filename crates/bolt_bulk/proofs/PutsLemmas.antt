@@ -62,11 +62,11 @@ short_then {sink} old mid new first second (Err e) a b = AppendsProperPrefix-sec
 
 module _ {S : Type 0} {sink : Ghosts S} {old new : S} {setup : PageSetup} {first : List Placed} (second : List Placed) where
   -- a fault is returned on
-  pub writes_stop : {A B : Type 0} {mark last next later : ℕ} {e : BulkFault} {result : Result B BulkFault} → IsErrAnd result (λ f. f ≡ e) → mark ≤ last → Writes {A = A} sink old new setup first mark next (Err e)
-      → Writes sink old new setup (first ++ second) last later result
+  pub writes_stop : {A B : Type 0} {mark last : ℕ} {e : BulkFault} {result : Result B BulkFault} → IsErrAnd result (λ f. f ≡ e) → mark ≤ last → Writes {A = A} sink old new setup first mark (Err e)
+      → Writes sink old new setup (first ++ second) last result
   writes_stop {result = result} same more one =
       let (_, is, e_is) = err_from_is_err_and result same in
-      rw (is, e_is) (record { pages = rw bytes-append (Wrote-stops _ _ one.pages); within = tt; large = λ e. let l = one.large e in omega arith })
+      rw (is, e_is) (record { pages = rw bytes-append (Wrote-stops _ _ one.pages); large = λ e. let l = one.large e in omega arith })
 
   pub closes_stop : {A B : Type 0} {mark last next later : ℕ} {e : BulkFault} {result : Result B BulkFault} → IsErrAnd result (λ f. f ≡ e) → mark ≤ last → Closes {A = A} sink old new setup first mark next (Err e)
       → Closes sink old new setup (first ++ second) last later result
@@ -86,11 +86,11 @@ pub closes_above : {S A : Type 0} {sink : Ghosts S} {old : S} {setup : PageSetup
     → setup.highest_mark < mark → Closes sink old old setup (page ∷ pages) mark next result
 closes_above {sink} {old} {setup} {page} {pages} {result = result} same large above =
     let (_, is, e_is) = err_from_is_err_and result same in
-    record { writes = rw (is, e_is, large) (record { pages = Wrote-halt old _; within = tt; large = λ e. above }); short = rw is (proper_none (sink.taken old) _ (pages_some setup.page_size page pages)); marked = rw is tt }
+    record { writes = rw (is, e_is, large) (record { pages = Wrote-halt old _; large = λ e. above }); short = rw is (proper_none (sink.taken old) _ (pages_some setup.page_size page pages)); marked = rw is tt }
 
 -- nothing is written after these pages
-pub writes_on : {S A B : Type 0} {sink : Ghosts S} {old new : S} {setup : PageSetup} {row : List Placed} {mark next : ℕ} {x : A} (result : Result B BulkFault) → IfErr result (λ e. e ≡ fault.Memory)
-    → Writes {A = A} sink old new setup row mark next (Ok x) → Writes sink old new setup row mark next result
+pub writes_on : {S A B : Type 0} {sink : Ghosts S} {old new : S} {setup : PageSetup} {row : List Placed} {mark : ℕ} {x : A} (result : Result B BulkFault) → IfErr result (λ e. e ≡ fault.Memory)
+    → Writes {A = A} sink old new setup row mark (Ok x) → Writes sink old new setup row mark result
 writes_on result memory one = grind (arith, common_steps)
 
 pub short_stop : {S : Type 0} {sink : Ghosts S} {old mid new : S} {text piece left : List ℕ} (rest : List ℕ) → left ≡ piece ++ rest

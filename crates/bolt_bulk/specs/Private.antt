@@ -22,6 +22,7 @@ pub mod RunViews
 pub mod Stops
 pub mod TakenItems
 pub mod WaitingBuckets
+pub mod Writers
 pub use BranchRuns.*
 pub use BucketRuns.*
 pub use Coming.*
@@ -45,3 +46,4 @@ pub use RunViews.*
 pub use Stops.*
 pub use TakenItems.*
 pub use WaitingBuckets.*
+pub use Writers.*

@@ -1,13 +1,14 @@
 //! An open run of pages above a bucket's leaves, and the branch page that it becomes.
 ghost use Rattle.std.specs.Prelude.{◌≡◌, ◌+◌, ◌<◌, ◌≤◌, true, false, IfErr, OnOk, length, ◌*◌, map};
-ghost use Rattle.bolt_format.specs.{ElementPlaces.branch_view, Endings.page_ending, Wrote.Wrote};
+ghost use Rattle.bolt_format.specs.{ElementPlaces.branch_view};
 ghost use Rattle.bolt_layout.specs.{Limits.one_less, PageBytes.branch_data, PageBytes.branch_headers};
-ghost use Rattle.bolt_bulk.specs.Private.{ClosesRun, IsPushed, IsSizedRun, IsStanding, key_size, length_end, longest_key, no_run, one_closed, page_text, run_has_room, run_kept, run_page, run_push, run_stays, run_view, TakesPage};
+ghost use Rattle.bolt_bulk.specs.Private.{ClosesRun, IsPushed, IsSameWriter, IsSizedRun, IsStanding, key_size, length_end, longest_key, no_run, one_closed, run_has_room, run_kept, run_page, run_push, run_stays, run_view, TakesPage, WritesPage, WritesText};
 ghost use Rattle.bolt_bulk.specs.declared.fault.BulkFault.TheVariants as fault;
 
 use crate::fault::BulkFault;
-use crate::page_setup::{MAX_ITEMS, PageSetup, number_after};
-use crate::pieces::{Headers, put, put_page_header, put_zeros};
+use crate::page_setup::MAX_ITEMS;
+use crate::page_writer::PageWriter;
+use crate::pieces::{Headers, put, put_zeros};
 use bolt_format::{Branch, ELEMENT_LEN, HEADER_LEN, Kind, Sink, SinkFault};
 use std::alloc::Global;
 
@@ -38,7 +39,8 @@ impl<'a> BranchRun<'a> {
     /// Adds the element of a page.
     pub(crate) fn push_page(&mut self, page: Branch<'a>) -> Result<(), BulkFault>
         requires size { self.old.size + length page.key.now < 9223372036854775808 }
-        ensures run { OnOk result (run_view self.new ≡ run_push (run_view self.old) (branch_view page.entry)) }
+        ensures run { OnOk result (run_view self.new
+            ≡ run_push (run_view self.old) (branch_view page.entry)) }
         ensures fault { IfErr result (λ e. e ≡ fault.Memory) }
     {
         self.elements.push(page)?;
@@ -61,7 +63,8 @@ impl<'a> BranchRun<'a> {
     fn stays(&mut self, page_size: usize, key: &[u8]) -> bool
         requires { self.old.size + length key.now < 9223372036854775808 }
         ensures stays { result ≡ run_stays page_size (run_view self.old) (key_size key.now) }
-        ensures kept { result ≡ true → run_view self.new ≡ run_kept page_size (run_view self.old) (key_size key.now) }
+        ensures kept { result ≡ true → run_view self.new
+            ≡ run_kept page_size (run_view self.old) (key_size key.now) }
         ensures same { result ≡ false → run_view self.new ≡ run_view self.old }
     {
         if self.has_room(page_size, key) {
@@ -79,24 +82,23 @@ impl<'a> BranchRun<'a> {
     /// returned.
     pub(crate) fn take_page<S: Sink>(
         &mut self,
-        setup: &PageSetup,
         key: &[u8],
         closed: Branch<'a>,
-        next: &mut u64,
-        sink: &mut S,
+        writer: &mut PageWriter<'_, S>,
     ) -> Result<Option<Branch<'a>>, BulkFault>
         requires standing { IsStanding (run_view self.old) }
         requires key { length key.now ≤ longest_key }
         requires closed { length closed.key.now ≤ longest_key }
-        requires next { next.old ≤ setup.now.highest_mark }
-        ensures takes { TakesPage S.Sink sink.old sink.new setup.now key.now (branch_view closed.entry) next.old next.new self.old self.new result }
+        ensures same { IsSameWriter writer.old writer.new }
+        ensures takes { TakesPage S.Sink writer.old writer.new key.now (branch_view closed.entry)
+            self.old self.new result }
         ensures standing { OnOk result (IsStanding (run_view self.new)) }
     {
         self.push_page(closed)?;
-        if self.stays(setup.page_size, key) {
+        if self.stays(writer.setup.page_size, key) {
             return Ok(None);
         }
-        let up = self.close(setup, next, sink)?;
+        let up = self.close(writer)?;
         Ok(Some(up))
     }
 
@@ -104,39 +106,33 @@ impl<'a> BranchRun<'a> {
     /// element of that page is returned.
     pub(crate) fn take_last_page<S: Sink>(
         &mut self,
-        setup: &PageSetup,
         closed: Branch<'a>,
-        next: &mut u64,
-        sink: &mut S,
+        writer: &mut PageWriter<'_, S>,
     ) -> Result<Branch<'a>, BulkFault>
         requires standing { IsStanding (run_view self.old) }
         requires closed { length closed.key.now ≤ longest_key }
-        requires next { next.old ≤ setup.now.highest_mark }
-        ensures closes { ClosesRun S.Sink sink.old sink.new setup.now (run_push (run_view self.old) (branch_view closed.entry)) next.old next.new result }
+        ensures same { IsSameWriter writer.old writer.new }
+        ensures closes { ClosesRun S.Sink writer.old writer.new
+            (run_push (run_view self.old) (branch_view closed.entry)) result }
         ensures standing { OnOk result (IsStanding (run_view self.new)) }
     {
         self.push_page(closed)?;
-        self.close(setup, next, sink)
+        self.close(writer)
     }
 
     /// Writes the page over the run, and begins the next run. Returns the page's element.
-    fn close<S: Sink>(
-        &mut self,
-        setup: &PageSetup,
-        next: &mut u64,
-        sink: &mut S,
-    ) -> Result<Branch<'a>, BulkFault>
-        requires pushed { IsPushed (run_view self.old) }
-        requires next { next.old ≤ setup.now.highest_mark }
-        ensures closes { ClosesRun S.Sink sink.old sink.new setup.now (run_view self.old) next.old next.new result }
-        ensures run { OnOk result (run_view self.new ≡ no_run (one_less self.old.allowed) (one_closed self.old.closed)) }
+    fn close<S: Sink>(&mut self, writer: &mut PageWriter<'_, S>) -> Result<Branch<'a>, BulkFault>
+        requires { IsPushed (run_view self.old) }
+        ensures same { IsSameWriter writer.old writer.new }
+        ensures closes { ClosesRun S.Sink writer.old writer.new (run_view self.old) result }
+        ensures run { OnOk result (run_view self.new
+            ≡ no_run (one_less self.old.allowed) (one_closed self.old.closed)) }
     {
-        let number = *next;
-        let after = number_after(setup, self.size, number)?;
-        put_branch_page(self, setup, number, sink)?;
+        let after = writer.number_after(self.size)?;
+        put_branch_page(self, writer)?;
         let up = Branch {
             key: self.elements[0].key,
-            child: number,
+            child: writer.next,
         };
         self.elements.clear();
         self.size = HEADER_LEN;
@@ -145,15 +141,17 @@ impl<'a> BranchRun<'a> {
             None => None,
         };
         self.closed = self.closed.saturating_add(1);
-        *next = after;
+        writer.next = after;
         Ok(up)
     }
 }
 
 /// Writes the headers of elements. All keys are packed after the last header.
 fn put_headers<S: Sink>(branches: &[Branch<'_>], sink: &mut S) -> Result<(), SinkFault>
-    requires { 16 * length branches.now + length (branch_data (map branch_view branches.now)) < length_end }
-    ensures { Wrote S.Sink sink.old sink.new (branch_headers 0 (map branch_view branches.now)) (page_ending result) }
+    requires { 16 * length branches.now + length (branch_data (map branch_view branches.now))
+        < length_end }
+    ensures { WritesText S.Sink sink.old sink.new (branch_headers 0 (map branch_view branches.now))
+        result }
 {
     let mut headers = Headers::new(branches.len());
     for branch in branches {
@@ -164,7 +162,8 @@ fn put_headers<S: Sink>(branches: &[Branch<'_>], sink: &mut S) -> Result<(), Sin
 
 /// Writes the keys of elements.
 fn put_keys<S: Sink>(branches: &[Branch<'_>], sink: &mut S) -> Result<(), SinkFault>
-    ensures { Wrote S.Sink sink.old sink.new (branch_data (map branch_view branches.now)) (page_ending result) }
+    ensures { WritesText S.Sink sink.old sink.new (branch_data (map branch_view branches.now))
+        result }
 {
     for branch in branches {
         put(branch.key, sink)?;
@@ -175,21 +174,22 @@ fn put_keys<S: Sink>(branches: &[Branch<'_>], sink: &mut S) -> Result<(), SinkFa
 /// Writes the branch page over a run.
 fn put_branch_page<S: Sink>(
     run: &BranchRun<'_>,
-    setup: &PageSetup,
-    number: u64,
-    sink: &mut S,
+    writer: &mut PageWriter<'_, S>,
 ) -> Result<(), SinkFault>
     requires sized { IsSizedRun (run_view run.now) }
     requires small { run.now.size < length_end }
     requires few { length run.now.elements.items < 65536 }
-    ensures { Wrote S.Sink sink.old sink.new (page_text setup.now (run_page setup.now.page_size (run_view run.now) number)) (page_ending result) }
+    ensures same { IsSameWriter writer.old writer.new }
+    ensures next { writer.new.next ≡ writer.old.next }
+    ensures page { WritesPage S.Sink writer.old writer.new
+        (run_page writer.old.setup.page_size (run_view run.now) writer.old.next) result }
 {
-    if sink.keeps_nothing() {
+    if writer.sink.keeps_nothing() {
         return Ok(());
     }
     let branches = run.elements.as_slice();
-    let zeros = put_page_header(setup, number, Kind::Branch, branches.len(), run.size, sink)?;
-    put_headers(branches, sink)?;
-    put_keys(branches, sink)?;
-    put_zeros(zeros, sink)
+    let zeros = writer.put_header(Kind::Branch, branches.len(), run.size)?;
+    put_headers(branches, writer.sink)?;
+    put_keys(branches, writer.sink)?;
+    put_zeros(zeros, writer.sink)
 }

@@ -2,14 +2,14 @@
 ghost use Rattle.std.specs.Prelude.{◌≡◌, ◌+◌, ◌<◌, ◌≤◌, true, false, ℕ, IfErr, IfOk, OnOk, length, map, vec_capacity, vec_len};
 ghost use Rattle.std.specs.List.{AllByRecursion};
 ghost use Rattle.bolt_format.specs.{ElementLengths.IsValueLength, ElementPlaces.leaf_view, declared.element.Leaf.Leaf};
-ghost use Rattle.bolt_bulk.specs.Private.{bucket_runs, saturated, ClosesBucket, EndsInner, entries_size, first_run, HasRoomFor, held_view, inline_element, inline_size, inlined_by, IsHeld, IsOpenBucket, items_in, leaves_have_room, leaves_of, length_end, longest_key, MakesRoom, no_leaves, pending_element, Pushes, stored_value, TakesItem, value_element, value_item, values_run};
+ghost use Rattle.bolt_bulk.specs.Private.{bucket_runs, saturated, ClosesBucket, EndsInner, entries_size, first_run, HasRoomFor, held_size, held_view, inline_element, inline_size, inlined_by, IsHeld, IsOpenBucket, IsSameWriter, items_in, leaves_have_room, leaves_of, length_end, longest_key, MakesRoom, no_leaves, pending_element, Pushes, TakesItem, value_element, value_item, values_run};
 ghost use Rattle.bolt_bulk.specs.declared.fault.BulkFault.TheVariants as fault;
 
 use crate::fault::BulkFault;
 use crate::held::{Held, Stored};
 use crate::leaf_run::LeafRun;
 use crate::limits::BucketLimits;
-use crate::page_setup::PageSetup;
+use crate::page_writer::PageWriter;
 use crate::pending_bucket::PendingBucket;
 use crate::upper_runs::UpperRuns;
 use bolt_format::{ELEMENT_LEN, HEAD_LEN, HEADER_LEN, Leaf, Sink};
@@ -45,7 +45,8 @@ impl<'a> BucketRuns<'a> {
     /// A bucket that has no item yet.
     pub(crate) fn new(alloc: Global, limits: BucketLimits<'a>) -> BucketRuns<'a>
         ensures open { IsOpenBucket result }
-        ensures runs { (next : ℕ) → bucket_runs result next ≡ first_run no_leaves limits.entry next }
+        ensures runs { (next : ℕ) → bucket_runs result next
+            ≡ first_run no_leaves limits.entry next }
     {
         BucketRuns {
             leaves: LeafRun {
@@ -68,10 +69,12 @@ impl<'a> BucketRuns<'a> {
         requires size { size ≡ entries_size (map leaf_view entries.now) }
         requires small { size < length_end }
         requires few { length entries.now < 65535 }
-        requires keys { AllByRecursion (λ (entry : Leaf). length entry.key.now ≤ longest_key) entries.now }
+        requires keys { AllByRecursion (λ (entry : Leaf). length entry.key.now ≤ longest_key)
+            entries.now }
         requires values { AllByRecursion (λ (entry : Leaf). entry.is_bucket ≡ false) entries.now }
         ensures open { IfOk result (λ bucket. IsOpenBucket bucket) }
-        ensures runs { IfOk result (λ bucket. (next : ℕ) → bucket_runs bucket next ≡ first_run (values_run entries.now size) limits.entry next) }
+        ensures runs { IfOk result (λ bucket. (next : ℕ) → bucket_runs bucket next
+            ≡ first_run (values_run entries.now size) limits.entry next) }
         ensures fault { IfErr result (λ e. e ≡ fault.Memory) }
     {
         let items = value_items(alloc, entries)?;
@@ -91,25 +94,25 @@ impl<'a> BucketRuns<'a> {
     #[inline(always)]
     pub(crate) fn make_room<S: Sink>(
         &mut self,
-        setup: &PageSetup,
         key: &[u8],
         size: usize,
-        next: &mut u64,
-        sink: &mut S,
+        writer: &mut PageWriter<'_, S>,
     ) -> Result<(), BulkFault>
         requires open { IsOpenBucket self.old }
         requires key { length key.now ≤ longest_key }
         requires size { size < length_end }
-        requires next { next.old ≤ setup.now.highest_mark }
-        ensures makes { MakesRoom S.Sink sink.old sink.new setup.now self.old next.old key.now size self.new next.new result }
+        ensures same { IsSameWriter writer.old writer.new }
+        ensures makes { MakesRoom S.Sink writer.old writer.new self.old key.now size self.new
+            result }
         ensures open { OnOk result (IsOpenBucket self.new) }
-        ensures room { OnOk result (leaves_have_room setup.now.page_size (leaves_of self.new.leaves) size ≡ true) }
+        ensures room { OnOk result (leaves_have_room writer.old.setup.page_size
+            (leaves_of self.new.leaves) size ≡ true) }
     {
-        if self.leaves.has_room(setup.page_size, size) {
+        if self.leaves.has_room(writer.setup.page_size, size) {
             return Ok(());
         }
-        let closed = self.leaves.close(setup, next, sink)?;
-        self.uppers.climb(setup, key, closed, next, sink)
+        let closed = self.leaves.close(writer)?;
+        self.uppers.climb(key, closed, writer)
     }
 
     /// Reserves memory for one more item. The open runs stay the same.
@@ -117,7 +120,8 @@ impl<'a> BucketRuns<'a> {
         requires open { IsOpenBucket self.old }
         ensures runs { (next : ℕ) → bucket_runs self.new next ≡ bucket_runs self.old next }
         ensures open { OnOk result (IsOpenBucket self.new) }
-        ensures memory { OnOk result (vec_len self.new.leaves.items < vec_capacity self.new.leaves.items) }
+        ensures memory { OnOk result (vec_len self.new.leaves.items
+            < vec_capacity self.new.leaves.items) }
         ensures fault { IfErr result (λ e. e ≡ fault.Memory) }
     {
         self.leaves.items.reserve(1)?;
@@ -129,10 +133,11 @@ impl<'a> BucketRuns<'a> {
         requires open { IsOpenBucket self.old }
         requires held { IsHeld self.old.leaves.inlined.items held }
         requires apart { inlined_by held.stored ≡ 0 }
-        requires size { size ≡ 16 + (length held.key.now + length (stored_value self.old.leaves.inlined.items held.stored)) }
+        requires size { size ≡ held_size self.old.leaves.inlined.items held }
         requires room { HasRoomFor self.old.leaves size }
         requires memory { vec_len self.old.leaves.items < vec_capacity self.old.leaves.items }
-        ensures runs { Pushes self.old self.new (held_view self.old.leaves.inlined.items held.entry) size }
+        ensures runs { Pushes self.old self.new (held_view self.old.leaves.inlined.items held.entry)
+            size }
         ensures open { IsOpenBucket self.new }
     {
         self.leaves.items.push_reserved(held);
@@ -144,9 +149,10 @@ impl<'a> BucketRuns<'a> {
         requires open { IsOpenBucket self.old }
         requires held { IsHeld self.old.leaves.inlined.items held }
         requires apart { inlined_by held.stored ≡ 0 }
-        requires size { size ≡ 16 + (length held.key.now + length (stored_value self.old.leaves.inlined.items held.stored)) }
+        requires size { size ≡ held_size self.old.leaves.inlined.items held }
         requires room { HasRoomFor self.old.leaves size }
-        ensures runs { OnOk result (Pushes self.old self.new (held_view self.old.leaves.inlined.items held.entry) size) }
+        ensures runs { OnOk result (Pushes self.old self.new
+            (held_view self.old.leaves.inlined.items held.entry) size) }
         ensures open { OnOk result (IsOpenBucket self.new) }
         ensures fault { IfErr result (λ e. e ≡ fault.Memory) }
     {
@@ -170,7 +176,9 @@ impl<'a> BucketRuns<'a> {
         requires size { size ≡ inline_size (map leaf_view entries.now) }
         requires small { size < length_end }
         requires room { HasRoomFor self.old.leaves (16 + (length key.now + size)) }
-        ensures runs { OnOk result (Pushes self.old self.new (inline_element key.now sequence (map leaf_view entries.now)) (16 + (length key.now + size))) }
+        ensures runs { OnOk result (Pushes self.old self.new
+            (inline_element key.now sequence (map leaf_view entries.now))
+            (16 + (length key.now + size))) }
         ensures open { OnOk result (IsOpenBucket self.new) }
         ensures fault { IfErr result (λ e. e ≡ fault.Memory) }
     {
@@ -191,85 +199,81 @@ impl<'a> BucketRuns<'a> {
     #[inline(always)]
     pub(crate) fn add_value<S: Sink>(
         &mut self,
-        setup: &PageSetup,
         key: &'a [u8],
         value: &'a [u8],
-        next: &mut u64,
-        sink: &mut S,
+        writer: &mut PageWriter<'_, S>,
     ) -> Result<(), BulkFault>
         requires open { IsOpenBucket self.old }
         requires key { length key.now ≤ longest_key }
         requires value { IsValueLength (length value.now) }
-        requires next { next.old ≤ setup.now.highest_mark }
-        ensures takes { TakesItem S.Sink sink.old sink.new setup.now self.old next.old (value_element key.now value.now) self.new next.new result }
+        ensures same { IsSameWriter writer.old writer.new }
+        ensures takes { TakesItem S.Sink writer.old writer.new self.old
+            (value_element key.now value.now) self.new result }
         ensures open { OnOk result (IsOpenBucket self.new) }
     {
         let size = ELEMENT_LEN + (key.len() + value.len());
         let stored = Stored::Value(value);
-        self.make_room(setup, key, size, next, sink)?;
+        self.make_room(key, size, writer)?;
         self.push_item(Held { key, stored }, size)
     }
 
     /// Adds a bucket that is inline, with these entries, after it made room for it.
     pub(crate) fn add_inline<S: Sink>(
         &mut self,
-        setup: &PageSetup,
         pending: PendingBucket<'a>,
         entries: &[Leaf<'a>],
-        next: &mut u64,
-        sink: &mut S,
+        writer: &mut PageWriter<'_, S>,
     ) -> Result<(), BulkFault>
         requires open { IsOpenBucket self.old }
         requires key { length pending.key.now ≤ longest_key }
         requires few { length entries.now < 65535 }
         requires size { pending.size + 16 ≡ inline_size (map leaf_view entries.now) }
         requires small { pending.size < 2147483632 }
-        requires next { next.old ≤ setup.now.highest_mark }
-        ensures takes { TakesItem S.Sink sink.old sink.new setup.now self.old next.old (pending_element pending.entry entries.now) self.new next.new result }
+        ensures same { IsSameWriter writer.old writer.new }
+        ensures takes { TakesItem S.Sink writer.old writer.new self.old
+            (pending_element pending.entry entries.now) self.new result }
         ensures open { OnOk result (IsOpenBucket self.new) }
     {
         let key = pending.key;
         let size = pending.size + HEAD_LEN;
-        self.make_room(setup, key, ELEMENT_LEN + (key.len() + size), next, sink)?;
+        self.make_room(key, ELEMENT_LEN + (key.len() + size), writer)?;
         self.push_inline(key, pending.sequence, entries, size)
     }
 
     /// Closes all runs, up to the root page, and returns the number of that page.
     pub(crate) fn close_runs<S: Sink>(
         &mut self,
-        setup: &PageSetup,
-        next: &mut u64,
-        sink: &mut S,
+        writer: &mut PageWriter<'_, S>,
     ) -> Result<u64, BulkFault>
         requires open { IsOpenBucket self.old }
-        requires next { next.old ≤ setup.now.highest_mark }
-        ensures { ClosesBucket S.Sink sink.old sink.new setup.now self.old next.old next.new result }
+        ensures same { IsSameWriter writer.old writer.new }
+        ensures closes { ClosesBucket S.Sink writer.old writer.new self.old result }
     {
-        let closed = self.leaves.close(setup, next, sink)?;
-        self.uppers.close_all(setup, closed, next, sink)
+        let closed = self.leaves.close(writer)?;
+        self.uppers.close_all(closed, writer)
     }
 
     /// Ends the bucket within, which has this key and sequence, and takes its item, for which there
     /// is room. Memory for the item is reserved first, so any failure leaves some page out.
     pub(crate) fn end_inner<S: Sink>(
         &mut self,
-        setup: &PageSetup,
         key: &'a [u8],
         sequence: u64,
         inner: &mut BucketRuns<'a>,
-        next: &mut u64,
-        sink: &mut S,
+        writer: &mut PageWriter<'_, S>,
     ) -> Result<(), BulkFault>
         requires outer { IsOpenBucket self.old }
         requires inner { IsOpenBucket inner.old }
         requires key { length key.now ≤ longest_key }
-        requires room { leaves_have_room setup.now.page_size (leaves_of self.old.leaves) (32 + length key.now) ≡ true }
-        requires next { next.old ≤ setup.now.highest_mark }
-        ensures ends { EndsInner S.Sink sink.old sink.new setup.now self.old key.now sequence inner.old next.old next.new self.new result }
+        requires room { leaves_have_room writer.old.setup.page_size (leaves_of self.old.leaves)
+            (32 + length key.now) ≡ true }
+        ensures same { IsSameWriter writer.old writer.new }
+        ensures ends { EndsInner S.Sink writer.old writer.new self.old key.now sequence inner.old
+            self.new result }
         ensures open { OnOk result (IsOpenBucket self.new) }
     {
         self.reserve()?;
-        let root = inner.close_runs(setup, next, sink)?;
+        let root = inner.close_runs(writer)?;
         let stored = Stored::Root {
             page: root,
             sequence,

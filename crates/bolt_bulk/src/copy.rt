@@ -31,7 +31,8 @@ pub fn plan_as(
     page_size: u64,
 ) -> Result<Plan, PlanFault>
     requires { IsPageSize page_size }
-    ensures { ForListing checked.entry (λ listing. Plans layout page_size (meta_of checked.entry).root_sequence listing result) }
+    ensures { ForListing checked.entry
+        (λ listing. Plans layout page_size (meta_of checked.entry).root_sequence listing result) }
 {
     let blueprint = blueprint_of(&checked, layout, page_size);
     let mut walk = Walk::new(alloc, checked);
@@ -47,7 +48,8 @@ pub fn plan_as(
 /// Those of `plan_as`.
 pub fn plan(alloc: Global, checked: Checked<'_>, page_size: u64) -> Result<Plan, PlanFault>
     requires { IsPageSize page_size }
-    ensures { ForListing checked.entry (λ listing. Plans Plain page_size (meta_of checked.entry).root_sequence listing result) }
+    ensures { ForListing checked.entry
+        (λ listing. Plans Plain page_size (meta_of checked.entry).root_sequence listing result) }
 {
     plan_as(alloc, checked, Layout::Plain, page_size)
 }

@@ -1,8 +1,8 @@
 //! An item of an open run of a leaf: a key with a value, with an inline bucket, which is packed
 //! anew, or with the root page of a bucket.
 ghost use Rattle.std.specs.Prelude.{◌≡◌, List, length, ◌+◌, ◌*◌, ◌<◌, ◌++◌, map};
-ghost use Rattle.bolt_bulk.specs.Private.{is_stored_bucket, IsStored, stored_value, length_end};
-ghost use Rattle.bolt_format.specs.{Endings.page_ending, Wrote.Wrote, ElementPlaces.leaf_view};
+ghost use Rattle.bolt_bulk.specs.Private.{is_stored_bucket, IsStored, length_end, stored_value, WritesText};
+ghost use Rattle.bolt_format.specs.{ElementPlaces.leaf_view};
 ghost use Rattle.bolt_layout.specs.PageBytes.{inline_value, leaf_data, leaf_headers};
 
 use crate::pieces::{Headers, put};
@@ -38,7 +38,8 @@ pub(crate) struct Held<'a> {
 impl<'a> Stored<'a> {
     /// How many bytes the value has.
     pub(crate) fn len(&self) -> usize
-        ensures { (inlined : List Leaf) → IsStored inlined self.now → result ≡ length (stored_value inlined self.now) }
+        ensures { (inlined : List Leaf) → IsStored inlined self.now → result
+            ≡ length (stored_value inlined self.now) }
     {
         match *self {
             Stored::Value(value) => value.len(),
@@ -60,7 +61,7 @@ impl<'a> Stored<'a> {
     /// Writes the value. The entries of inline buckets are in the list `inlined`.
     pub(crate) fn put<S: Sink>(&self, inlined: &[Leaf<'_>], sink: &mut S) -> Result<(), SinkFault>
         requires { IsStored inlined.now self.now }
-        ensures { Wrote S.Sink sink.old sink.new (stored_value inlined.now self.now) (page_ending result) }
+        ensures { WritesText S.Sink sink.old sink.new (stored_value inlined.now self.now) result }
     {
         match *self {
             Stored::Value(value) => put(value, sink),
@@ -77,8 +78,10 @@ impl<'a> Stored<'a> {
 
 /// Writes the headers of entries. All their data is packed after the last header.
 fn put_headers<S: Sink>(entries: &[Leaf<'_>], sink: &mut S) -> Result<(), SinkFault>
-    requires { 16 * length entries.now + length (leaf_data (map leaf_view entries.now)) < length_end }
-    ensures { Wrote S.Sink sink.old sink.new (leaf_headers 0 (map leaf_view entries.now)) (page_ending result) }
+    requires { 16 * length entries.now + length (leaf_data (map leaf_view entries.now))
+        < length_end }
+    ensures { WritesText S.Sink sink.old sink.new (leaf_headers 0 (map leaf_view entries.now))
+        result }
 {
     let mut headers = Headers::new(entries.len());
     for entry in entries {
@@ -89,7 +92,8 @@ fn put_headers<S: Sink>(entries: &[Leaf<'_>], sink: &mut S) -> Result<(), SinkFa
 
 /// Writes the key and the value of an entry.
 fn put_entry<S: Sink>(entry: &Leaf<'_>, sink: &mut S) -> Result<(), SinkFault>
-    ensures { Wrote S.Sink sink.old sink.new (entry.now.key.now ++ entry.now.value.now) (page_ending result) }
+    ensures { WritesText S.Sink sink.old sink.new (entry.now.key.now ++ entry.now.value.now)
+        result }
 {
     put(entry.key, sink)?;
     put(entry.value, sink)
@@ -97,7 +101,7 @@ fn put_entry<S: Sink>(entry: &Leaf<'_>, sink: &mut S) -> Result<(), SinkFault>
 
 /// Writes the data of entries.
 fn put_data<S: Sink>(entries: &[Leaf<'_>], sink: &mut S) -> Result<(), SinkFault>
-    ensures { Wrote S.Sink sink.old sink.new (leaf_data (map leaf_view entries.now)) (page_ending result) }
+    ensures { WritesText S.Sink sink.old sink.new (leaf_data (map leaf_view entries.now)) result }
 {
     for entry in entries {
         put_entry(entry, sink)?;
@@ -112,8 +116,10 @@ fn put_inline_value<S: Sink>(
     sink: &mut S,
 ) -> Result<(), SinkFault>
     requires count { length entries.now < 65535 }
-    requires size { 16 * length entries.now + length (leaf_data (map leaf_view entries.now)) < length_end }
-    ensures { Wrote S.Sink sink.old sink.new (inline_value sequence (map leaf_view entries.now)) (page_ending result) }
+    requires size { 16 * length entries.now + length (leaf_data (map leaf_view entries.now))
+        < length_end }
+    ensures { WritesText S.Sink sink.old sink.new
+        (inline_value sequence (map leaf_view entries.now)) result }
 {
     put(&bucket_head(0, sequence), sink)?;
     let header = page_header(0, Kind::Leaf, entries.len() as u16, 0);

@@ -30,7 +30,8 @@ pub fn a_walk_is_whole(walk: &Walk<'_>)
 
 /// What is recovered of a damaged file.
 pub fn a_recovery_is_whole(recovery: &Recovery<'_>)
-    requires { ForRecovered (recovery_file recovery.now) (recovery_meta recovery.now) (λ listing. recovery_left recovery.now listing ≡ listing) }
+    requires { ForRecovered (recovery_file recovery.now) (recovery_meta recovery.now)
+        (λ listing. recovery_left recovery.now listing ≡ listing) }
     ensures { IsWholeRecovery recovery.now }
 {
     the_file_of_a_recovery_is_bytes(recovery);
@@ -41,7 +42,8 @@ pub fn a_recovery_is_whole(recovery: &Recovery<'_>)
 
 /// What is recovered of a damaged file, and what is found of it.
 pub fn joined_members_are_whole(joined: &Joined<'_>)
-    requires { ForJoined (joined_file joined.now) (joined_meta joined.now) (λ listing. joined_left joined.now listing ≡ listing) }
+    requires { ForJoined (joined_file joined.now) (joined_meta joined.now)
+        (λ listing. joined_left joined.now listing ≡ listing) }
     ensures { IsWholeJoined joined.now }
 {
     the_file_of_joined_members_is_bytes(joined);
@@ -67,10 +69,13 @@ pub(crate) fn a_listing_has_one_layout(page_size: u64, sequence: u64)
     requires { IsPageSize page_size }
     ensures length { (which : Layout) (listing : List Member) → ∥ IsOfOneTree listing ∥₁
         → length (layout_of_listing which page_size listing sequence) ≡ layout_mark which page_size (tree_of listing) * page_size }
-    ensures accepted { ForFitting page_size sequence (λ which listing. ∥ IsSoundCopy which page_size (tree_of listing) sequence listing ∥₁) }
+    ensures accepted { ForFitting page_size sequence
+        (λ which listing. ∥ IsSoundCopy which page_size (tree_of listing) sequence listing ∥₁) }
     ensures held { ForFitting page_size sequence (λ which listing.
         layout_held which page_size (tree_of listing) ≤ length (layout_of_listing which page_size listing sequence)) }
-    ensures bounded { ForFitting page_size sequence (λ which listing. layout_held which page_size (tree_of listing) ≤ most_held page_size listing) }
+    ensures bounded { ForFitting page_size sequence
+        (λ which listing. layout_held which page_size (tree_of listing)
+        ≤ most_held page_size listing) }
     ensures prefixes { ForFitting page_size sequence (λ which listing.
         ∥ RefusesPrefixes (layout_of_listing which page_size listing sequence) (layout_root which page_size (tree_of listing)) ∥₁) }
 {

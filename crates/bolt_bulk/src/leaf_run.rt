@@ -1,13 +1,13 @@
 //! The run of items of a bucket's leaf under way, and the leaf page that it becomes.
 ghost use Rattle.std.specs.Prelude.{◌≡◌, ◌+◌, ◌<◌, ◌≤◌, OnOk, ◌*◌, ◌++◌, length};
-ghost use Rattle.bolt_format.specs.{Wrote.Wrote, Endings.page_ending};
 ghost use Rattle.bolt_layout.specs.{PageBytes.leaf_data, PageBytes.leaf_headers};
-ghost use Rattle.bolt_bulk.specs.Private.{AreHeld, ClosesLeaf, held_views, IsHeld, IsLeafRun, leaf_page, leaves_have_room, leaves_of, length_end, no_leaves, page_text, stored_value};
+ghost use Rattle.bolt_bulk.specs.Private.{AreHeld, ClosesLeaf, held_views, IsHeld, IsLeafRun, IsSameWriter, leaf_page, leaves_have_room, leaves_of, length_end, no_leaves, stored_value, WritesPage, WritesText};
 
 use crate::fault::BulkFault;
 use crate::held::Held;
-use crate::page_setup::{MAX_ITEMS, PageSetup, number_after};
-use crate::pieces::{Headers, put, put_page_header, put_zeros};
+use crate::page_setup::MAX_ITEMS;
+use crate::page_writer::PageWriter;
+use crate::pieces::{Headers, put, put_zeros};
 use bolt_format::{Branch, HEADER_LEN, Kind, Leaf, Sink, SinkFault};
 
 /// An open run of items, the entries of the inline buckets among them, and the size of the page
@@ -32,28 +32,26 @@ impl<'a> LeafRun<'a> {
     #[inline(never)]
     pub(crate) fn close<S: Sink>(
         &mut self,
-        setup: &PageSetup,
-        next: &mut u64,
-        sink: &mut S,
+        writer: &mut PageWriter<'_, S>,
     ) -> Result<Branch<'a>, BulkFault>
         requires run { IsLeafRun self.old }
-        requires next { next.old ≤ setup.now.highest_mark }
-        ensures closes { ClosesLeaf S.Sink sink.old sink.new setup.now (leaves_of self.old) next.old next.new result }
+        ensures same { IsSameWriter writer.old writer.new }
+        ensures closes { ClosesLeaf S.Sink writer.old writer.new (leaves_of self.old) result }
         ensures leaves { OnOk result (leaves_of self.new ≡ no_leaves) }
         ensures run { OnOk result (IsLeafRun self.new) }
     {
-        let number = *next;
-        let after = number_after(setup, self.size, number)?;
-        put_leaf_page(self, setup, number, sink)?;
+        let after = writer.number_after(self.size)?;
+        put_leaf_page(self, writer)?;
         let key = match self.items.first() {
             Some(held) => held.key,
             None => &[],
         };
+        let child = writer.next;
         self.items.clear();
         self.inlined.clear();
         self.size = HEADER_LEN;
-        *next = after;
-        Ok(Branch { key, child: number })
+        writer.next = after;
+        Ok(Branch { key, child })
     }
 }
 
@@ -64,8 +62,10 @@ fn put_headers<S: Sink>(
     sink: &mut S,
 ) -> Result<(), SinkFault>
     requires held { AreHeld inlined.now items.now }
-    requires size { 16 * length items.now + length (leaf_data (held_views inlined.now items.now)) < length_end }
-    ensures { Wrote S.Sink sink.old sink.new (leaf_headers 0 (held_views inlined.now items.now)) (page_ending result) }
+    requires size { 16 * length items.now + length (leaf_data (held_views inlined.now items.now))
+        < length_end }
+    ensures { WritesText S.Sink sink.old sink.new
+        (leaf_headers 0 (held_views inlined.now items.now)) result }
 {
     let mut headers = Headers::new(items.len());
     for held in items {
@@ -78,7 +78,8 @@ fn put_headers<S: Sink>(
 /// Writes the key and the value of an item.
 fn put_item<S: Sink>(held: &Held<'_>, inlined: &[Leaf<'_>], sink: &mut S) -> Result<(), SinkFault>
     requires { IsHeld inlined.now held.now }
-    ensures { Wrote S.Sink sink.old sink.new (held.now.key.now ++ stored_value inlined.now held.now.stored) (page_ending result) }
+    ensures { WritesText S.Sink sink.old sink.new
+        (held.now.key.now ++ stored_value inlined.now held.now.stored) result }
 {
     put(held.key, sink)?;
     held.stored.put(inlined, sink)
@@ -91,7 +92,8 @@ fn put_data<S: Sink>(
     sink: &mut S,
 ) -> Result<(), SinkFault>
     requires { AreHeld inlined.now items.now }
-    ensures { Wrote S.Sink sink.old sink.new (leaf_data (held_views inlined.now items.now)) (page_ending result) }
+    ensures { WritesText S.Sink sink.old sink.new (leaf_data (held_views inlined.now items.now))
+        result }
 {
     for held in items {
         put_item(held, inlined, sink)?;
@@ -102,20 +104,21 @@ fn put_data<S: Sink>(
 /// Writes the leaf page over a run.
 fn put_leaf_page<S: Sink>(
     run: &LeafRun<'_>,
-    setup: &PageSetup,
-    number: u64,
-    sink: &mut S,
+    writer: &mut PageWriter<'_, S>,
 ) -> Result<(), SinkFault>
     requires { IsLeafRun run.now }
-    ensures { Wrote S.Sink sink.old sink.new (page_text setup.now (leaf_page setup.now.page_size (leaves_of run.now) number)) (page_ending result) }
+    ensures same { IsSameWriter writer.old writer.new }
+    ensures next { writer.new.next ≡ writer.old.next }
+    ensures page { WritesPage S.Sink writer.old writer.new
+        (leaf_page writer.old.setup.page_size (leaves_of run.now) writer.old.next) result }
 {
-    if sink.keeps_nothing() {
+    if writer.sink.keeps_nothing() {
         return Ok(());
     }
     let items = run.items.as_slice();
     let inlined = run.inlined.as_slice();
-    let zeros = put_page_header(setup, number, Kind::Leaf, items.len(), run.size, sink)?;
-    put_headers(items, inlined, sink)?;
-    put_data(items, inlined, sink)?;
-    put_zeros(zeros, sink)
+    let zeros = writer.put_header(Kind::Leaf, items.len(), run.size)?;
+    put_headers(items, inlined, writer.sink)?;
+    put_data(items, inlined, writer.sink)?;
+    put_zeros(zeros, writer.sink)
 }

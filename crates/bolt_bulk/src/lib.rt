@@ -18,6 +18,7 @@ mod limits;
 mod members_copy;
 mod noted_limits;
 mod page_setup;
+mod page_writer;
 mod pass;
 mod pending_bucket;
 mod pieces;

@@ -37,7 +37,8 @@ struct RowLimit {
 /// The limit of a row. `run` is the last open run of the row in the plain layout, and the page under
 /// way joins it. If `lost` is set, this row itself has lost its last item.
 fn row_limit(lost: bool, run: &BranchRun<'_>) -> RowLimit
-    ensures { (rows : List (ℕ × ℕ)) → limits_from_ends lost (run_end run.now ∷ rows) ≡ result.allowed ∷ limits_from_ends result.loses rows }
+    ensures { (rows : List (ℕ × ℕ)) → limits_from_ends lost (run_end run.now ∷ rows)
+        ≡ result.allowed ∷ limits_from_ends result.loses rows }
 {
     let before = run.elements.len();
     let single = if lost { 1 } else { 0 };
@@ -66,7 +67,8 @@ impl Limits {
     /// Limits a row: only `allowed` runs may begin after the first one.
     fn set(&mut self, bucket: u64, level: usize, allowed: u64) -> Result<(), BulkFault>
         ensures row { OnOk result (limit_in self.new bucket level ≡ Some allowed) }
-        ensures others { OnOk result ((b l : ℕ) → IsOtherRow bucket level b l → limit_in self.new b l ≡ limit_in self.old b l) }
+        ensures others { OnOk result ((b l : ℕ) → IsOtherRow bucket level b l
+            → limit_in self.new b l ≡ limit_in self.old b l) }
         ensures fault { IfErr result (λ e. e ≡ fault.Memory) }
     {
         self.rows.insert((bucket, level), allowed)?;
@@ -82,7 +84,8 @@ impl Limits {
         runs: &[BranchRun<'_>],
     ) -> Result<(), BulkFault>
         ensures noted { OnOk result (NotesRows self.old self.new bucket runs.now) }
-        ensures others { OnOk result ((b l : ℕ) → (b ≡ bucket → ⊥) → limit_in self.new b l ≡ limit_in self.old b l) }
+        ensures others { OnOk result ((b l : ℕ) → (b ≡ bucket → ⊥) → limit_in self.new b l
+            ≡ limit_in self.old b l) }
         ensures fault { IfErr result (λ e. e ≡ fault.Memory) }
     {
         let mut lost = false;

@@ -1,9 +1,8 @@
 //! The copy of all members that are given one after another, in a few passes over them.
 ghost use Rattle.std.specs.Prelude.{◌≡◌, ◌≤◌, IfOk, List, OnOk, length, ◌↔◌, None};
-ghost use Rattle.bolt_format.specs.{Endings.page_ending, Wrote.Wrote};
 ghost use Rattle.bolt_tree.specs.Listing.{Member};
-ghost use Rattle.bolt_bulk.specs.{Compacting.CopiesEach, Compacting.Plans, WholeListings.IsAgain, WholeListings.IsWhole};
-ghost use Rattle.bolt_bulk.specs.Private.{FindsLimits, first_pages, FitAll, PutsMembers};
+ghost use Rattle.bolt_bulk.specs.{Compacting.CopiesEach, WholeListings.IsAgain, WholeListings.IsWhole};
+ghost use Rattle.bolt_bulk.specs.Private.{FindsLimits, first_pages, FitAll, PlansEach, PutsMembers, WritesText};
 ghost use Rattle.bolt_layout.specs.{PageBytes.copy_meta, PageBytes.filled, declared.Layout.TheVariants.Balanced};
 
 use crate::blueprint::Blueprint;
@@ -48,7 +47,8 @@ fn balanced_limits<'a, M: Members<'a>>(
     blueprint: &Blueprint,
 ) -> Result<Limits, PlanFault>
     requires { IsWhole M.lists M.left members.old }
-    ensures { FindsLimits M.lists M.left M.ends_as members.old members.new Balanced blueprint.now.page_size blueprint.now.sequence result }
+    ensures { FindsLimits M.lists M.left M.ends_as members.old members.new Balanced
+        blueprint.now.page_size blueprint.now.sequence result }
 {
     a_listing_has_one_layout(blueprint.page_size, blueprint.sequence);
     let none = Limits::none(alloc);
@@ -71,7 +71,8 @@ fn limits_of<'a, M: Members<'a>>(
     blueprint: &Blueprint,
 ) -> Result<Limits, PlanFault>
     requires { IsWhole M.lists M.left members.old }
-    ensures { FindsLimits M.lists M.left M.ends_as members.old members.new blueprint.now.layout blueprint.now.page_size blueprint.now.sequence result }
+    ensures { FindsLimits M.lists M.left M.ends_as members.old members.new blueprint.now.layout
+        blueprint.now.page_size blueprint.now.sequence result }
 {
     match blueprint.layout {
         Layout::Plain => Ok(Limits::none(alloc)),
@@ -87,8 +88,10 @@ fn plan_within<'a, M: Members<'a>>(
     blueprint: &Blueprint,
 ) -> Result<Plan, PlanFault>
     requires whole { IsWhole M.lists M.left members.old }
-    requires fit { FitAll M.lists members.old blueprint.now.layout blueprint.now.page_size limits.now }
-    ensures plans { (listing : List Member) → M.lists members.old listing → Plans blueprint.now.layout blueprint.now.page_size blueprint.now.sequence listing result }
+    requires fit { FitAll M.lists members.old blueprint.now.layout blueprint.now.page_size
+        limits.now }
+    ensures plans { PlansEach (M.lists members.old) blueprint.now.layout blueprint.now.page_size
+        blueprint.now.sequence result }
     ensures again { IfOk result (λ plan. IsAgain M.lists M.left M.ends_as members.old members.new) }
 {
     a_listing_has_one_layout(blueprint.page_size, blueprint.sequence);
@@ -114,7 +117,8 @@ pub(crate) fn plan_members<'a, M: Members<'a>>(
     blueprint: &Blueprint,
 ) -> Result<Plan, PlanFault>
     requires { IsWhole M.lists M.left members.old }
-    ensures { (listing : List Member) → M.lists members.old listing → Plans blueprint.now.layout blueprint.now.page_size blueprint.now.sequence listing result }
+    ensures { PlansEach (M.lists members.old) blueprint.now.layout blueprint.now.page_size
+        blueprint.now.sequence result }
 {
     let limits = limits_of(alloc, members, blueprint)?;
     plan_within(alloc, members, &limits, blueprint)
@@ -134,7 +138,8 @@ pub fn compact_members<'a, M: Members<'a>, S: Sink>(
     sink: &mut S,
 ) -> Result<Done, BulkFault>
     requires { IsWhole M.lists M.left members.old }
-    ensures copies { CopiesEach S.taken S.failed sink.old sink.new (M.lists members.old) blueprint.now.layout blueprint.now.page_size blueprint.now.sequence result }
+    ensures copies { CopiesEach S.taken S.failed sink.old sink.new (M.lists members.old)
+        blueprint.now.layout blueprint.now.page_size blueprint.now.sequence result }
     ensures end { OnOk result (M.ends_as members.old members.new) }
 {
     a_listing_has_one_layout(blueprint.page_size, blueprint.sequence);
@@ -151,7 +156,8 @@ pub fn compact_members<'a, M: Members<'a>, S: Sink>(
 
 /// The meta of a copy with this transaction id.
 fn meta(blueprint: &Blueprint, plan: &Plan, txid: u64) -> Meta
-    ensures { result ≡ copy_meta blueprint.now.page_size plan.now.root blueprint.now.sequence plan.now.high_water txid }
+    ensures { result ≡ copy_meta blueprint.now.page_size plan.now.root blueprint.now.sequence
+        plan.now.high_water txid }
 {
     Meta {
         page_size: blueprint.page_size as u32,
@@ -166,7 +172,7 @@ fn meta(blueprint: &Blueprint, plan: &Plan, txid: u64) -> Meta
 /// Writes bytes, and zeros up to the end of a page.
 fn put_filled<S: Sink>(bytes: &[u8], page_size: usize, sink: &mut S) -> Result<(), SinkFault>
     requires { length bytes.now ≤ page_size }
-    ensures { Wrote S.Sink sink.old sink.new (filled page_size bytes.now) (page_ending result) }
+    ensures { WritesText S.Sink sink.old sink.new (filled page_size bytes.now) result }
 {
     put(bytes, sink)?;
     put_zeros(page_size - bytes.len(), sink)
@@ -178,7 +184,9 @@ fn put_first_pages<S: Sink>(
     plan: &Plan,
     sink: &mut S,
 ) -> Result<(), SinkFault>
-    ensures { Wrote S.Sink sink.old sink.new (first_pages blueprint.now.page_size plan.now.root blueprint.now.sequence plan.now.high_water) (page_ending result) }
+    ensures { WritesText S.Sink sink.old sink.new
+        (first_pages blueprint.now.page_size plan.now.root blueprint.now.sequence
+        plan.now.high_water) result }
 {
     let page_size = blueprint.page_size as usize;
     put_filled(&meta_page(0, &meta(blueprint, plan, 0)), page_size, sink)?;
@@ -198,9 +206,11 @@ fn put_pages<'a, M: Members<'a>, S: Sink>(
 ) -> Result<Ended, BulkFault>
     requires room { 3 ≤ setup.highest_mark }
     requires whole { IsWhole M.lists M.left members.old }
-    ensures pages { PutsMembers S.Sink sink.old sink.new M.lists members.old setup limits.now notes result }
+    ensures pages { PutsMembers S.Sink sink.old sink.new M.lists members.old setup limits.now notes
+        result }
     ensures end { OnOk result (M.ends_as members.old members.new) }
-    ensures listing { (listing : List Member) → M.lists members.new listing ↔ M.lists members.old listing }
+    ensures listing { (listing : List Member)
+        → M.lists members.new listing ↔ M.lists members.old listing }
     ensures same_end { (end : M) → M.ends_as members.new end → M.ends_as members.old end }
 {
     let mut pass = Pass::new(setup, limits, notes);

@@ -1,10 +1,8 @@
 //! What stays the same for all pages of a copy, and the numbers of pages.
-ghost use Rattle.std.specs.Prelude.{◌≡◌, ◌+◌, ◌*◌, ◌/◌, ◌<◌, ◌≤◌, IfErr, IfOk};
+ghost use Rattle.std.specs.Prelude.{◌≡◌, ◌*◌, ◌/◌, ◌<◌, ◌≤◌};
 ghost use Rattle.bolt_format.specs.Metas.{IsPageSize};
 ghost use Rattle.bolt_layout.specs.Levels.{overflow_of};
-ghost use Rattle.bolt_bulk.specs.declared.fault.BulkFault.TheVariants as fault;
 
-use crate::fault::BulkFault;
 use std::alloc::Global;
 
 /// The number of items at which a page is full, whatever its size.
@@ -64,21 +62,4 @@ pub(crate) fn overflow(page_size: usize, size: usize) -> usize
     ensures { result ≡ overflow_of page_size size }
 {
     (size - 1) / page_size
-}
-
-/// The number after a page of this size, which has the number `next`. `TooLarge` if it would be
-/// above the highest mark allowed.
-pub(crate) fn number_after(setup: &PageSetup, size: usize, next: u64) -> Result<u64, BulkFault>
-    requires size { 0 < size }
-    requires next { next ≤ setup.now.highest_mark }
-    ensures number { IfOk result (λ n. n ≡ next + (1 + overflow_of setup.now.page_size size)) }
-    ensures within { IfOk result (λ n. n ≤ setup.now.highest_mark) }
-    ensures large { IfErr result (λ _. setup.now.highest_mark < next + (1 + overflow_of setup.now.page_size size)) }
-    ensures fault { IfErr result (λ e. e ≡ fault.TooLarge) }
-{
-    let further = overflow(setup.page_size, size) as u64;
-    if further >= setup.highest_mark - next {
-        return Err(BulkFault::TooLarge);
-    }
-    Ok(next + (1 + further))
 }

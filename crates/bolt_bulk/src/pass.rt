@@ -26,6 +26,7 @@ use crate::fault::BulkFault;
 use crate::limits::{BucketLimits, Limits};
 use crate::noted_limits::NotedLimits;
 use crate::page_setup::{MAX_ITEMS, PageSetup};
+use crate::page_writer::PageWriter;
 use crate::pending_bucket::PendingBucket;
 use crate::waiting_bucket::WaitingBucket;
 use bolt_format::{ELEMENT_LEN, HEADER_LEN, Leaf, Sink};
@@ -137,11 +138,10 @@ impl<'a> Pass<'a> {
         requires ready { IsReady self.old }
         requires fit { IsFitMember (path_of path.now, item_view item) }
         ensures on { OnOk result (GoesOn self.old self.new (1 + length path.now)) }
-        ensures steps { TakesMember S.Sink sink.old sink.new self.old self.new (path_of path.now, item_view item.entry) result }
+        ensures steps { TakesMember S.Sink sink.old sink.new self.old self.new
+            (path_of path.now, item_view item.entry) result }
     {
-        let Some((key, _)) = path.split_last() else {
-            unreachable!()
-        };
+        let key = path[path.len() - 1];
         self.leave_to(path.len(), sink)?;
         match item {
             Item::Value(value) => self.take_value(key, value, sink),
@@ -178,7 +178,8 @@ impl<'a> Pass<'a> {
         requires key { length key.now ≤ longest_key }
         requires value { IsValueLength (length value.now) }
         ensures on { OnOk result (GoesOn self.old self.new (depth_of self.old)) }
-        ensures steps { TakesValue S.Sink sink.old sink.new self.old self.new key.now value.now result }
+        ensures steps { TakesValue S.Sink sink.old sink.new self.old self.new key.now value.now
+            result }
     {
         let Some(pending) = self.pending else {
             return self.put_value(key, value, sink);
@@ -232,10 +233,16 @@ impl<'a> Pass<'a> {
         requires key { length key.now ≤ longest_key }
         requires value { IsValueLength (length value.now) }
         ensures on { OnOk result (GoesOn self.old self.new (depth_of self.old)) }
-        ensures steps { TakesValue S.Sink sink.old sink.new self.old self.new key.now value.now result }
+        ensures steps { TakesValue S.Sink sink.old sink.new self.old self.new key.now value.now
+            result }
     {
-        self.bucket
-            .add_value(&self.setup, key, value, &mut self.next, sink)?;
+        let mut writer = PageWriter {
+            setup: self.setup,
+            next: self.next,
+            sink,
+        };
+        self.bucket.add_value(key, value, &mut writer)?;
+        self.next = writer.next;
         self.count();
         Ok(())
     }
@@ -250,7 +257,8 @@ impl<'a> Pass<'a> {
         requires ready { IsReady self.old }
         requires key { length key.now ≤ longest_key }
         ensures on { OnOk result (GoesOn self.old self.new (depth_of self.old + 1)) }
-        ensures steps { EntersBucket S.Sink sink.old sink.new self.old self.new key.now sequence result }
+        ensures steps { EntersBucket S.Sink sink.old sink.new self.old self.new key.now sequence
+            result }
     {
         self.open_pending(sink)?;
         self.begin(key, sequence);
@@ -294,14 +302,13 @@ impl<'a> Pass<'a> {
             limits,
         )?;
         let outer = mem::replace(&mut self.bucket, inner);
-        let waiting = WaitingBucket::enter(
-            outer,
-            &self.setup,
-            pending,
-            self.around,
-            &mut self.next,
+        let mut writer = PageWriter {
+            setup: self.setup,
+            next: self.next,
             sink,
-        )?;
+        };
+        let waiting = WaitingBucket::enter(outer, pending, self.around, &mut writer)?;
+        self.next = writer.next;
         let around = self.around.saturating_add(waiting.bucket.held());
         self.waiting.push(waiting)?;
         self.around = around;
@@ -337,13 +344,14 @@ impl<'a> Pass<'a> {
         ensures on { OnOk result (GoesOn self.old self.new (depth_of self.old - 1)) }
         ensures steps { LeavesBucket S.Sink sink.old sink.new self.old self.new result }
     {
-        self.bucket.add_inline(
-            &self.setup,
-            pending,
-            self.entries.as_slice(),
-            &mut self.next,
+        let mut writer = PageWriter {
+            setup: self.setup,
+            next: self.next,
             sink,
-        )?;
+        };
+        self.bucket
+            .add_inline(pending, self.entries.as_slice(), &mut writer)?;
+        self.next = writer.next;
         self.entries.clear();
         self.pending = None;
         self.count();
@@ -359,19 +367,18 @@ impl<'a> Pass<'a> {
         ensures steps { LeavesBucket S.Sink sink.old sink.new self.old self.new result }
     {
         self.noted.bucket_ends(&self.bucket.uppers)?;
-        let Some(waiting) = self.waiting.pop() else {
-            unreachable!()
-        };
+        let innermost = self.waiting.len() - 1;
+        let waiting = self.waiting.remove(innermost);
         self.around = waiting.around;
         let mut inner = mem::replace(&mut self.bucket, waiting.bucket);
-        self.bucket.end_inner(
-            &self.setup,
-            waiting.key,
-            waiting.sequence,
-            &mut inner,
-            &mut self.next,
+        let mut writer = PageWriter {
+            setup: self.setup,
+            next: self.next,
             sink,
-        )?;
+        };
+        self.bucket
+            .end_inner(waiting.key, waiting.sequence, &mut inner, &mut writer)?;
+        self.next = writer.next;
         self.count();
         Ok(())
     }
@@ -383,10 +390,15 @@ impl<'a> Pass<'a> {
     {
         self.leave_to(1, sink)?;
         self.noted.bucket_ends(&self.bucket.uppers)?;
-        let root = self.bucket.close_runs(&self.setup, &mut self.next, sink)?;
+        let mut writer = PageWriter {
+            setup: self.setup,
+            next: self.next,
+            sink,
+        };
+        let root = self.bucket.close_runs(&mut writer)?;
         Ok(Ended {
             root,
-            high_water: self.next,
+            high_water: writer.next,
             held: self.most,
             noted: self.noted.take_limits(self.setup.alloc),
         })

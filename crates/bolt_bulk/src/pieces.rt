@@ -1,13 +1,11 @@
-//! The pieces that a page is written in: its header, the headers of its elements, which are gathered
-//! and then written five at a time, and zeros.
-ghost use Rattle.std.specs.Prelude.{replicate, ◌≡◌, ◌+◌, ◌-◌, ◌*◌, ◌<◌, ◌≤◌, [], IfOk, OnOk, length};
-ghost use Rattle.bolt_format.specs.{Endings.page_ending, Wrote.Wrote, Encoded.branch_header, Encoded.header_bytes, Encoded.leaf_header};
-ghost use Rattle.bolt_layout.specs.Levels.{overflow_of};
-ghost use Rattle.bolt_bulk.specs.Private.{AddsToBuffer, Buffers, length_end};
+//! The pieces that a page is written in: the headers of its elements, which are gathered and then
+//! written five at a time, and zeros.
+ghost use Rattle.std.specs.Prelude.{replicate, ◌≡◌, ◌+◌, ◌*◌, ◌<◌, ◌≤◌, [], OnOk, length};
+ghost use Rattle.bolt_format.specs.{Encoded.branch_header, Encoded.leaf_header};
+ghost use Rattle.bolt_bulk.specs.Private.{AddsToBuffer, Buffers, length_end, WritesText};
 
-use crate::page_setup::{PageSetup, overflow};
 use arrayvec::ArrayVec;
-use bolt_format::{ELEMENT_LEN, Kind, Sink, SinkFault, branch_header, leaf_header, page_header};
+use bolt_format::{ELEMENT_LEN, Sink, SinkFault, branch_header, leaf_header};
 
 /// A block of zeros.
 static ZEROS: [u8; 4096] = [0; 4096];
@@ -20,7 +18,7 @@ type Buffer = ArrayVec<u8, BUFFER_LEN>;
 /// Writes bytes in one piece. If there are none, the sink isn't called, so a call that fails leaves
 /// something out.
 pub(crate) fn put<S: Sink>(bytes: &[u8], sink: &mut S) -> Result<(), SinkFault>
-    ensures { Wrote S.Sink sink.old sink.new bytes.now (page_ending result) }
+    ensures { WritesText S.Sink sink.old sink.new bytes.now result }
 {
     if bytes.is_empty() {
         return Ok(());
@@ -30,7 +28,7 @@ pub(crate) fn put<S: Sink>(bytes: &[u8], sink: &mut S) -> Result<(), SinkFault>
 
 /// Writes `count` zeros.
 pub(crate) fn put_zeros<S: Sink>(count: usize, sink: &mut S) -> Result<(), SinkFault>
-    ensures { Wrote S.Sink sink.old sink.new (replicate count 0) (page_ending result) }
+    ensures { WritesText S.Sink sink.old sink.new (replicate count 0) result }
 {
     let mut left = count;
     while left > 0 {
@@ -39,28 +37,6 @@ pub(crate) fn put_zeros<S: Sink>(count: usize, sink: &mut S) -> Result<(), SinkF
         left -= size;
     }
     Ok(())
-}
-
-/// Writes the header of a page with `count` elements, which take `size` bytes with the header.
-/// Returns how many zeros fill the page after them.
-pub(crate) fn put_page_header<S: Sink>(
-    setup: &PageSetup,
-    number: u64,
-    kind: Kind,
-    count: usize,
-    size: usize,
-    sink: &mut S,
-) -> Result<usize, SinkFault>
-    requires some { 0 < size }
-    requires small { size < length_end }
-    requires few { count < 65536 }
-    ensures header { Wrote S.Sink sink.old sink.new (header_bytes number kind count (overflow_of setup.now.page_size size)) (page_ending result) }
-    ensures zeros { IfOk result (λ zeros. zeros ≡ (1 + overflow_of setup.now.page_size size) * setup.now.page_size - size) }
-{
-    let further = overflow(setup.page_size, size);
-    let header = page_header(number, kind, count as u16, further as u32);
-    put(&header, sink)?;
-    Ok((1 + further) * setup.page_size - size)
 }
 
 /// Makes room in the buffer for one more header. If it has none, it is written and emptied.
@@ -109,7 +85,8 @@ impl Headers {
     ) -> Result<(), SinkFault>
         requires low { 16 ≤ self.old.pos }
         requires small { self.old.pos + key < length_end }
-        ensures adds { AddsToBuffer S.Sink sink.old sink.new self.old.buffer.items (branch_header self.old.pos key child) self.new.buffer.items result }
+        ensures adds { AddsToBuffer S.Sink sink.old sink.new self.old.buffer.items
+            (branch_header self.old.pos key child) self.new.buffer.items result }
         ensures pos { OnOk result (self.new.pos + 16 ≡ self.old.pos + key) }
     {
         put_full(&mut self.buffer, sink)?;
@@ -130,7 +107,8 @@ impl Headers {
     ) -> Result<(), SinkFault>
         requires low { 16 ≤ self.old.pos }
         requires small { self.old.pos + (key + value) < length_end }
-        ensures adds { AddsToBuffer S.Sink sink.old sink.new self.old.buffer.items (leaf_header is_bucket self.old.pos key value) self.new.buffer.items result }
+        ensures adds { AddsToBuffer S.Sink sink.old sink.new self.old.buffer.items
+            (leaf_header is_bucket self.old.pos key value) self.new.buffer.items result }
         ensures pos { OnOk result (self.new.pos + 16 ≡ self.old.pos + (key + value)) }
     {
         put_full(&mut self.buffer, sink)?;
@@ -142,7 +120,7 @@ impl Headers {
 
     /// Writes the headers that were not yet written.
     pub fn put_rest<S: Sink>(&self, sink: &mut S) -> Result<(), SinkFault>
-        ensures { Wrote S.Sink sink.old sink.new self.now.buffer.items (page_ending result) }
+        ensures { WritesText S.Sink sink.old sink.new self.now.buffer.items result }
     {
         put(self.buffer.as_slice(), sink)
     }

@@ -2,12 +2,12 @@
 ghost use Rattle.std.specs.Prelude.{◌≡◌, ◌≤◌, [], OnOk, length};
 ghost use Rattle.std.specs.List.{AllByRecursion};
 ghost use Rattle.bolt_format.specs.ElementPlaces.{branch_view};
-ghost use Rattle.bolt_bulk.specs.Private.{Climbs, ClosesAbove, IsStanding, longest_key, runs_above};
+ghost use Rattle.bolt_bulk.specs.Private.{Climbs, ClosesAbove, IsSameWriter, IsStanding, longest_key, runs_above};
 
 use crate::branch_run::BranchRun;
 use crate::fault::BulkFault;
 use crate::limits::BucketLimits;
-use crate::page_setup::PageSetup;
+use crate::page_writer::PageWriter;
 use bolt_format::{Branch, Sink};
 use std::alloc::Global;
 
@@ -36,27 +36,27 @@ impl<'a> UpperRuns<'a> {
     /// page; and so on. If all runs close, a run of the next level begins above them.
     pub(crate) fn climb<S: Sink>(
         &mut self,
-        setup: &PageSetup,
         key: &[u8],
         closed: Branch<'a>,
-        next: &mut u64,
-        sink: &mut S,
+        writer: &mut PageWriter<'_, S>,
     ) -> Result<(), BulkFault>
         requires standing { AllByRecursion IsStanding (runs_above self.old.runs.items) }
         requires key { length key.now ≤ longest_key }
         requires closed { length closed.key.now ≤ longest_key }
-        requires next { next.old ≤ setup.now.highest_mark }
-        ensures climbs { Climbs S.Sink sink.old sink.new setup.now key.now (branch_view closed.entry) next.old next.new self.old self.new result }
-        ensures standing { OnOk result (AllByRecursion IsStanding (runs_above self.new.runs.items)) }
+        ensures same { IsSameWriter writer.old writer.new }
+        ensures climbs { Climbs S.Sink writer.old writer.new key.now (branch_view closed.entry)
+            self.old self.new result }
+        ensures standing { OnOk result (AllByRecursion IsStanding
+            (runs_above self.new.runs.items)) }
     {
         let mut closed = closed;
         for i in 0..self.runs.len() {
-            match self.runs[i].take_page(setup, key, closed, next, sink)? {
+            match self.runs[i].take_page(key, closed, writer)? {
                 None => return Ok(()),
                 Some(up) => closed = up,
             }
         }
-        let mut run = BranchRun::new(setup.alloc, self.limits.at(self.runs.len()));
+        let mut run = BranchRun::new(writer.setup.alloc, self.limits.at(self.runs.len()));
         run.push_page(closed)?;
         self.runs.push(run)?;
         Ok(())
@@ -65,19 +65,18 @@ impl<'a> UpperRuns<'a> {
     /// Closes each run in turn, up to the root page, and returns the number of that page.
     pub(crate) fn close_all<S: Sink>(
         &mut self,
-        setup: &PageSetup,
         closed: Branch<'a>,
-        next: &mut u64,
-        sink: &mut S,
+        writer: &mut PageWriter<'_, S>,
     ) -> Result<u64, BulkFault>
         requires standing { AllByRecursion IsStanding (runs_above self.old.runs.items) }
         requires closed { length closed.key.now ≤ longest_key }
-        requires next { next.old ≤ setup.now.highest_mark }
-        ensures { ClosesAbove S.Sink sink.old sink.new setup.now (branch_view closed.entry) next.old next.new (runs_above self.old.runs.items) result }
+        ensures same { IsSameWriter writer.old writer.new }
+        ensures closes { ClosesAbove S.Sink writer.old writer.new (branch_view closed.entry)
+            (runs_above self.old.runs.items) result }
     {
         let mut closed = closed;
         for i in 0..self.runs.len() {
-            closed = self.runs[i].take_last_page(setup, closed, next, sink)?;
+            closed = self.runs[i].take_last_page(closed, writer)?;
         }
         Ok(closed.child)
     }

@@ -1,10 +1,10 @@
 //! A bucket that waits while one within it is open.
 ghost use Rattle.std.specs.Prelude.{◌≤◌, IfOk, length};
-ghost use Rattle.bolt_bulk.specs.Private.{Enters, IsOpenBucket, IsWaiting, longest_key};
+ghost use Rattle.bolt_bulk.specs.Private.{Enters, IsOpenBucket, IsSameWriter, IsWaiting, longest_key};
 
 use crate::bucket_runs::{BucketRuns, ROOT_ITEM_LEN};
 use crate::fault::BulkFault;
-use crate::page_setup::PageSetup;
+use crate::page_writer::PageWriter;
 use crate::pending_bucket::PendingBucket;
 use bolt_format::Sink;
 
@@ -23,21 +23,20 @@ impl<'a> WaitingBucket<'a> {
     /// The buckets around the open one hold `around` items.
     pub(crate) fn enter<S: Sink>(
         outer: BucketRuns<'a>,
-        setup: &PageSetup,
         pending: PendingBucket<'a>,
         around: u64,
-        next: &mut u64,
-        sink: &mut S,
+        writer: &mut PageWriter<'_, S>,
     ) -> Result<WaitingBucket<'a>, BulkFault>
         requires open { IsOpenBucket outer }
         requires key { length pending.key.now ≤ longest_key }
-        requires next { next.old ≤ setup.now.highest_mark }
-        ensures enters { Enters S.Sink sink.old sink.new setup.now outer.entry next.old pending.entry around next.new result }
-        ensures waits { IfOk result (λ waiting. IsWaiting setup.now.page_size waiting) }
+        ensures same { IsSameWriter writer.old writer.new }
+        ensures enters { Enters S.Sink writer.old writer.new outer.entry pending.entry around
+            result }
+        ensures waits { IfOk result (λ waiting. IsWaiting writer.old.setup.page_size waiting) }
     {
         let mut bucket = outer;
         let key = pending.key;
-        bucket.make_room(setup, key, ROOT_ITEM_LEN + key.len(), next, sink)?;
+        bucket.make_room(key, ROOT_ITEM_LEN + key.len(), writer)?;
         Ok(WaitingBucket {
             bucket,
             key,

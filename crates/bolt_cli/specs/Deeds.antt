@@ -28,6 +28,10 @@ pub record DoesDeeds {D : Type 0} (Before After : List D → Type 0) (Are : List
   pub added : Adds Before After deeds
   pub are : Are deeds
 
+-- some deeds were added, and with the status after them they are so
+abbrev pub Does : {O D : Type 0} → (done : O → List D → Type 0) → (old new : O) → (code : ℕ) → (List D → ℕ → Type 0) → Type 0
+Does done old new code Are = DoesDeeds (done old) (done new) (λ deeds. Are deeds code)
+
 -- pieces of a text, one after another
 abbrev pub joined : List (List ℕ) → List ℕ
 joined [] = []

@@ -2,7 +2,7 @@
 use Rattle.std.specs.Prelude.{◌≡◌, ◌⊎◌, ℕ, zero, suc, List, [], ◌∷◌, ◌++◌, Bool, true, false, Option, Some, None, Result, Ok, Err, codes, string_bytes, if◌then◌else◌}
 use Rattle.std.specs.Io.KnownBytes.{Appends, IsAtEnd}
 use Rattle.bolt_format.specs.Sinks.{AppendsPrefix}
-use Rattle.bolt_commands.specs.Answers.{DoesJob, Ending}
+use Rattle.bolt_commands.specs.Answers.{DoesJob, Ending, status_of}
 use Rattle.bolt_job.specs.CommandLine.{Asks, IsRefusalOf}
 use Rattle.bolt_cli.specs.Deeds.{Deed, Read, Made, Ended, Opened, Closed, Said}
 use Rattle.bolt_cli.specs.Names.{shown_name}
@@ -44,6 +44,10 @@ IsLineOf failure line = (line ≡ failure_line failure) ⊎ (line ≡ failure_li
 abbrev pub IsBufferedLine : Ending → List ℕ → Type 0
 IsBufferedLine (Ok status) line = line ≡ []
 IsBufferedLine (Err failure) line = IsLineOf failure line
+
+-- this holds of each ending of a job of which this line is buffered, and this is the status
+abbrev pub ForBuffered : (line : List ℕ) → (code : ℕ) → (Ending → Type 0) → Type 0
+ForBuffered line code P = (ending : Ending) → IsBufferedLine ending line → code ≡ status_of ending → P ending
 
 -- the line if OUT isn't on the disk: that of the failure before or, if there was none, of a failed write
 abbrev pub IsUnendedLine : Ending → List ℕ → Type 0
@@ -97,6 +101,10 @@ module _ {T O : Type 0} where
   abbrev pub FailsNaming : List ℕ → List (Deed T O) → ℕ → Type 0
   FailsNaming line deeds code = Fails line deeds code ⊎ Fails (failure_line Memory) deeds code
 
+  -- OUT isn't on the disk after a job that ended so
+  abbrev pub FailsUnended : Ending → List (Deed T O) → ℕ → Type 0
+  FailsUnended ending deeds code = (line : List ℕ) × IsUnendedLine ending line × Fails line deeds code
+
   -- a job that ended so is over: with the line of its failure, if there was one
   abbrev pub IsReported : Ending → List (Deed T O) → ℕ → Type 0
   IsReported (Ok status) [] code = code ≡ status
@@ -135,7 +143,7 @@ module _ {T O : Type 0} (output_taken : O → Option (List ℕ)) (output_failed 
 
   abbrev pub IsEnded : Result (Unit {0}) EndFault → Buffered → Ending → List (Deed T O) → ℕ → Type 0
   IsEnded (Ok done) buffered ending deeds code = PrintsBuffered buffered.failures buffered.text ending deeds code
-  IsEnded (Err fault) buffered ending deeds code = (line : List ℕ) × IsUnendedLine ending line × Fails line deeds code
+  IsEnded (Err fault) buffered ending deeds code = FailsUnended ending deeds code
 
 module _ {T O : Type 0} (target_taken : T → Option (List ℕ)) (target_failed : T → ℕ) (output_taken : O → Option (List ℕ)) (output_failed : O → ℕ) where
   -- the job is done on OUT, while what it prints is buffered, and then OUT is ended

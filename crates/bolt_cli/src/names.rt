@@ -23,7 +23,8 @@ pub(crate) fn shown_name(alloc: Global, name: &str) -> Result<String, AllocError
 }
 
 fn push_escaped(c: char, shown: &mut String) -> Result<(), AllocError>
-    ensures { OnOk result (string_bytes shown.new ≡ string_bytes shown.old ++ flat_map encode_utf8 (escape_default c)) }
+    ensures { OnOk result (string_bytes shown.new ≡ string_bytes shown.old
+        ++ flat_map encode_utf8 (escape_default c)) }
 {
     for escaped in c.escape_default() {
         shown.push(escaped)?;

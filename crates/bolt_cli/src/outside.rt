@@ -26,7 +26,8 @@ pub trait Outside {
 
     /// Makes OUT with these permission bits, unless there is a file of that name.
     fn create(&mut self, name: &str, permissions: u32) -> Result<Self::Target, CreateFault>
-        ensures done { Adds (done self.old) (done self.new) (Made name.now permissions result ∷ []) }
+        ensures done { Adds (done self.old) (done self.new)
+            (Made name.now permissions result ∷ []) }
         ensures empty { IfOk result (λ target. IsAtEnd (Self.Target.taken target)) };
 
     /// Ends OUT. `Ok` means that all that it has accepted is on the disk.
@@ -45,7 +46,8 @@ pub trait Outside {
 
     /// Prints a text to standard error, as far as it can.
     fn say(&mut self, pieces: &[&[u8]])
-        ensures { Adds (done self.old) (done self.new) (Said (joined (map (λ piece. piece.now) pieces.now)) ∷ []) };
+        ensures { Adds (done self.old) (done self.new)
+            (Said (joined (map (λ piece. piece.now) pieces.now)) ∷ []) };
 }
 
 /// FILE as it was read.

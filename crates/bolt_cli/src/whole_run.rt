@@ -1,12 +1,13 @@
 //! A whole run of the program: from its words to its status. And a law: its deeds are in order.
 ghost use Rattle.std.specs.Prelude.{◌≡◌, ◌<◌, ◌++◌, ℕ, List, None, Some, codes, map, string_bytes};
-ghost use Rattle.bolt_commands.specs.{Answers.Ending, Answers.status_of, Failures.failure_line};
-ghost use Rattle.bolt_cli.specs.{Deeds.Deed, Deeds.DoesDeeds, Deeds.joined, Orders.IsInOrder, Orders.Reading};
+ghost use Rattle.bolt_commands.specs.{Answers.Ending, Failures.failure_line};
+ghost use Rattle.bolt_cli.specs.{Deeds.Deed, Deeds.joined, Orders.IsInOrder, Orders.Reading};
 ghost use Rattle.bolt_job.specs.Jobs.{target_name};
 ghost use Rattle.bolt_cli.specs.Names.{shown_name};
-ghost use Rattle.bolt_cli.specs.Runs.{Closes, WritesOut, Fails, FailsNaming, Goes, IsEnded, IsBufferedLine, IsRun, IsUnendedLine, Makes, PrintsText, Reads, Refuses, Shows};
+ghost use Rattle.bolt_cli.specs.Runs.{Closes, WritesOut, Fails, FailsNaming, Goes, IsEnded, IsBufferedLine, IsRun, Makes, PrintsText, Reads, Refuses, Shows, ForBuffered, FailsUnended};
 ghost use Rattle.bolt_cli.specs.Runs.{buffered_of, is_again, unmade_line, unread_line};
 ghost use Rattle.bolt_commands.specs.declared.failure.Failure.TheVariants.{Memory};
+ghost use Rattle.bolt_cli.specs.Deeds.{Does};
 
 use crate::names::shown_name;
 use crate::outside::{CreateFault, EndFault, OutputFault, Outside, ReadFault, Source};
@@ -29,8 +30,9 @@ const UNWRITTEN: &[u8] = b"error: write failed\n";
 /// Reads the words, of which the first is the program's name, does what they ask for, and returns the
 /// status (docs/COMMANDS.md).
 pub fn run_program<O: Outside>(outside: &mut O, alloc: Global, words: Vec<String>) -> u8
-    ensures { let texts = map string_bytes words.items in DoesDeeds (O.done outside.old) (O.done outside.new)
-        (λ deeds. IsRun O.Target.taken O.Target.failed O.Output.taken O.Output.failed texts deeds result) }
+    ensures { Does O.done outside.old outside.new result
+        (IsRun O.Target.taken O.Target.failed O.Output.taken O.Output.failed
+        (map string_bytes words.items)) }
 {
     match read_words(alloc, words) {
         Ok(job) => read_file(outside, alloc, &job, READINGS),
@@ -40,8 +42,8 @@ pub fn run_program<O: Outside>(outside: &mut O, alloc: Global, words: Vec<String
 
 /// Prints why the words are no job, and returns the status.
 pub fn refuse<O: Outside>(outside: &mut O, refusal: &Refusal) -> u8
-    ensures { DoesDeeds (O.done outside.old) (O.done outside.new)
-        (λ deeds. Refuses O.Target.taken O.Target.failed O.Output.taken O.Output.failed refusal.now deeds result) }
+    ensures { Does O.done outside.old outside.new result
+        (Refuses O.Target.taken O.Target.failed O.Output.taken O.Output.failed refusal.now) }
 {
     match refusal {
         Refusal::Memory => fail(outside, &[NO_MEMORY]),
@@ -60,8 +62,8 @@ pub fn refuse<O: Outside>(outside: &mut O, refusal: &Refusal) -> u8
 /// Reads FILE, at most so many times: again if it was changed meanwhile, so that what is judged is one
 /// state of it. Then does the job.
 fn read_file<O: Outside>(outside: &mut O, alloc: Global, job: &Job, left: u32) -> u8
-    ensures { DoesDeeds (O.done outside.old) (O.done outside.new)
-        (λ deeds. Reads O.Target.taken O.Target.failed O.Output.taken O.Output.failed left job.now deeds result) }
+    ensures { Does O.done outside.old outside.new result
+        (Reads O.Target.taken O.Target.failed O.Output.taken O.Output.failed left job.now) }
 {
     if left == 0 {
         return fail(outside, &[b"error: file changed while it was read\n"]);
@@ -80,8 +82,8 @@ fn read_file<O: Outside>(outside: &mut O, alloc: Global, job: &Job, left: u32) -
 }
 
 fn report_unread<O: Outside>(outside: &mut O, alloc: Global, fault: ReadFault, name: &str) -> u8
-    ensures { DoesDeeds (O.done outside.old) (O.done outside.new)
-        (λ deeds. FailsNaming (unread_line name.now fault) deeds result) }
+    ensures { Does O.done outside.old outside.new result
+        (FailsNaming (unread_line name.now fault)) }
 {
     match fault {
         ReadFault::Refused => fail_naming(outside, alloc, b"error: cannot read ", name),
@@ -98,8 +100,9 @@ fn is_again(job: &Job, source: &Source) -> bool
 
 /// Does a job on what was read.
 fn do_job<O: Outside>(outside: &mut O, alloc: Global, job: &Job, source: &Source) -> u8
-    ensures { DoesDeeds (O.done outside.old) (O.done outside.new)
-        (λ deeds. Goes O.Target.taken O.Target.failed O.Output.taken O.Output.failed (target_name job.now) source.now job.now deeds result) }
+    ensures { Does O.done outside.old outside.new result
+        (Goes O.Target.taken O.Target.failed O.Output.taken O.Output.failed
+        (target_name job.now) source.now job.now) }
 {
     match job.target() {
         Some(name) => make(outside, alloc, job, source, name),
@@ -110,8 +113,9 @@ fn do_job<O: Outside>(outside: &mut O, alloc: Global, job: &Job, source: &Source
 /// Makes OUT with the permission bits of FILE, and does the job on it. The bits are set as it is made,
 /// so at no time can anybody open OUT who can't read FILE.
 fn make<O: Outside>(outside: &mut O, alloc: Global, job: &Job, source: &Source, name: &str) -> u8
-    ensures { DoesDeeds (O.done outside.old) (O.done outside.new)
-        (λ deeds. Makes O.Target.taken O.Target.failed O.Output.taken O.Output.failed name.now source.now job.now deeds result) }
+    ensures { Does O.done outside.old outside.new result
+        (Makes O.Target.taken O.Target.failed O.Output.taken O.Output.failed
+        name.now source.now job.now) }
 {
     match outside.create(name, source.permissions) {
         Ok(target) => copy(outside, alloc, job, source.bytes.as_slice(), target),
@@ -120,8 +124,8 @@ fn make<O: Outside>(outside: &mut O, alloc: Global, job: &Job, source: &Source, 
 }
 
 fn report_unmade<O: Outside>(outside: &mut O, alloc: Global, fault: CreateFault, name: &str) -> u8
-    ensures { DoesDeeds (O.done outside.old) (O.done outside.new)
-        (λ deeds. FailsNaming (unmade_line name.now fault) deeds result) }
+    ensures { Does O.done outside.old outside.new result
+        (FailsNaming (unmade_line name.now fault)) }
 {
     match fault {
         CreateFault::Exists => fail(outside, &[b"error: output exists\n"]),
@@ -138,8 +142,9 @@ fn copy<O: Outside>(
     file: &[u8],
     mut target: O::Target,
 ) -> u8
-    ensures { DoesDeeds (O.done outside.old) (O.done outside.new)
-        (λ deeds. WritesOut O.Target.taken O.Target.failed O.Output.taken O.Output.failed target file.now job.now deeds result) }
+    ensures { Does O.done outside.old outside.new result
+        (WritesOut O.Target.taken O.Target.failed O.Output.taken O.Output.failed
+        target file.now job.now) }
 {
     let mut out = MemSink::new(alloc);
     let mut err = MemSink::new(alloc);
@@ -165,8 +170,9 @@ fn print_buffered<O: Outside>(
     line: &[u8],
     code: u8,
 ) -> u8
-    ensures { (ending : Ending) → IsBufferedLine ending line.now → code ≡ status_of ending → DoesDeeds (O.done outside.old) (O.done outside.new)
-        (λ deeds. IsEnded O.Output.taken O.Output.failed ended (buffered_of text.now failures) ending deeds result) }
+    ensures { ForBuffered line.now code (λ ending.
+        Does O.done outside.old outside.new result
+        (IsEnded O.Output.taken O.Output.failed ended (buffered_of text.now failures) ending)) }
 {
     match ended {
         Ok(()) if failures > 0 => fail(outside, &[NO_MEMORY]),
@@ -177,7 +183,8 @@ fn print_buffered<O: Outside>(
 
 /// The line that is buffered, or that of memory, if there was none for it.
 fn line_of(err: &MemSink) -> &[u8]
-    ensures sound { ⟦<MemSink as Sink>⟧.failed err.now ≡ 0 → ⟦<MemSink as Sink>⟧.taken err.now ≡ Some result.now }
+    ensures sound { ⟦<MemSink as Sink>⟧.failed err.now ≡ 0
+        → ⟦<MemSink as Sink>⟧.taken err.now ≡ Some result.now }
     ensures failed { 0 < ⟦<MemSink as Sink>⟧.failed err.now → result.now ≡ failure_line Memory }
 {
     if err.failures() > 0 {
@@ -189,8 +196,8 @@ fn line_of(err: &MemSink) -> &[u8]
 
 /// Reports that OUT isn't on the disk, unless there is a line of a failure before that.
 fn report_unended<O: Outside>(outside: &mut O, line: &[u8]) -> u8
-    ensures { (ending : Ending) → IsBufferedLine ending line.now → DoesDeeds (O.done outside.old) (O.done outside.new)
-        (λ deeds. (said : List ℕ) × IsUnendedLine ending said × Fails said deeds result) }
+    ensures { (ending : Ending) → IsBufferedLine ending line.now
+        → Does O.done outside.old outside.new result (FailsUnended ending) }
 {
     if line.is_empty() {
         fail(outside, &[UNWRITTEN])
@@ -202,8 +209,8 @@ fn report_unended<O: Outside>(outside: &mut O, line: &[u8]) -> u8
 /// Opens standard output, and does a job without an OUT, which is printed as it comes.
 fn show<O: Outside>(outside: &mut O, alloc: Global, job: &Job, file: &[u8]) -> u8
     requires { target_name job.now ≡ None }
-    ensures { DoesDeeds (O.done outside.old) (O.done outside.new)
-        (λ deeds. Shows O.Output.taken O.Output.failed file.now job.now deeds result) }
+    ensures { Does O.done outside.old outside.new result
+        (Shows O.Output.taken O.Output.failed file.now job.now) }
 {
     match outside.open() {
         Ok(mut output) => {
@@ -218,8 +225,9 @@ fn show<O: Outside>(outside: &mut O, alloc: Global, job: &Job, file: &[u8]) -> u
 
 /// Prints a text, and then the line of a failure, if it isn't empty.
 fn print<O: Outside>(outside: &mut O, text: &[u8], line: &[u8], code: u8) -> u8
-    ensures { (ending : Ending) → IsBufferedLine ending line.now → code ≡ status_of ending → DoesDeeds (O.done outside.old) (O.done outside.new)
-        (λ deeds. PrintsText O.Output.taken O.Output.failed text.now ending deeds result) }
+    ensures { ForBuffered line.now code (λ ending.
+        Does O.done outside.old outside.new result
+        (PrintsText O.Output.taken O.Output.failed text.now ending)) }
 {
     match outside.open() {
         Ok(mut output) => {
@@ -233,8 +241,9 @@ fn print<O: Outside>(outside: &mut O, text: &[u8], line: &[u8], code: u8) -> u8
 /// Closes standard output. Then prints the line of a failure, if it isn't empty. If the reader of
 /// standard output has left, nothing is printed: it wanted no more.
 fn close<O: Outside>(outside: &mut O, output: O::Output, line: &[u8], code: u8) -> u8
-    ensures { (ending : Ending) → IsBufferedLine ending line.now → code ≡ status_of ending → DoesDeeds (O.done outside.old) (O.done outside.new)
-        (λ deeds. Closes O.Output.taken O.Output.failed output ending deeds result) }
+    ensures { ForBuffered line.now code (λ ending.
+        Does O.done outside.old outside.new result
+        (Closes O.Output.taken O.Output.failed output ending)) }
 {
     match outside.close(output) {
         Ok(()) if line.is_empty() => code,
@@ -246,8 +255,8 @@ fn close<O: Outside>(outside: &mut O, output: O::Output, line: &[u8], code: u8) 
 
 /// Prints the line of a fault, and returns the status.
 fn fail<O: Outside>(outside: &mut O, pieces: &[&[u8]]) -> u8
-    ensures { DoesDeeds (O.done outside.old) (O.done outside.new)
-        (λ deeds. Fails (joined (map (λ piece. piece.now) pieces.now)) deeds result) }
+    ensures { Does O.done outside.old outside.new result
+        (Fails (joined (map (λ piece. piece.now) pieces.now))) }
 {
     outside.say(pieces);
     FAILED
@@ -255,8 +264,8 @@ fn fail<O: Outside>(outside: &mut O, pieces: &[&[u8]]) -> u8
 
 /// Prints the line of a fault that names a file, and returns the status.
 fn fail_naming<O: Outside>(outside: &mut O, alloc: Global, words: &[u8], name: &str) -> u8
-    ensures { DoesDeeds (O.done outside.old) (O.done outside.new)
-        (λ deeds. FailsNaming (words.now ++ (shown_name name.now ++ codes "\n")) deeds result) }
+    ensures { Does O.done outside.old outside.new result
+        (FailsNaming (words.now ++ (shown_name name.now ++ codes "\n"))) }
 {
     match shown_name(alloc, name) {
         Ok(shown) => fail(outside, &[words, shown.as_bytes(), b"\n"]),
@@ -270,5 +279,6 @@ fn fail_naming<O: Outside>(outside: &mut O, alloc: Global, words: &[u8], name: &
 /// status is 0 only if all went well.
 pub fn runs_are_in_order<O: Outside>()
     ensures { (words : List (List ℕ)) (deeds : List (Deed O.Target O.Output)) (code : ℕ)
-        → IsRun O.Target.taken O.Target.failed O.Output.taken O.Output.failed words deeds code → IsInOrder Reading deeds code }
+        → IsRun O.Target.taken O.Target.failed O.Output.taken O.Output.failed words deeds code
+        → IsInOrder Reading deeds code }
 {}

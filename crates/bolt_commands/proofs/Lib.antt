@@ -4,6 +4,7 @@ pub mod CopyChecks
 pub mod CutTexts
 pub mod Doing
 pub mod EntryAnswers
+pub mod EntryNames
 pub mod EtcdAnswers
 pub mod FoundAnswers
 pub mod GoodCopies
@@ -20,6 +21,7 @@ pub mod PageAnswers
 pub mod ReadFiles
 pub mod RecoveredAnswers
 pub mod SnapshotCopies
+pub mod SoundNames
 pub mod SoundReads
 pub mod SoundRecovery
 pub mod StatsAnswers

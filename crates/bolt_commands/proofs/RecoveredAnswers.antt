@@ -88,8 +88,8 @@ module _ (members : List Member) (path : Path) (at : AtPath) (holds : HoldsNow m
       (none, rw holds.bucket at is)
 
 pub value_put : {S A : Type 0} {sink : Ghosts S} {old new : S} (job : GetJob) (listing : List Member) (lost : LostView) (value : List ℕ)
-    → Contains listing (path_in job.path.items, Value value) → (put : Result A ReportFault) → Wrote sink old new (value_shown job value) (report_ending put)
+    → Contains listing (path_in job.path.items, Value value) → (put : Result A ReportFault) → Wrote sink old new (value_shown job.form job.no_newline value) (report_ending put)
     → IfErr put (λ e. (e ≡ report.Sink) ⊎ ((e ≡ report.NoMemory) × (job.form ≡ Json)))
     → PrintsAnswer sink old new (IsRecoveredValue job listing lost) (end_of put (lost_ending lost))
 value_put job listing lost value holds put wrote fault =
-    answer_as (text_put (job.form ≡ Json) (value_shown job value) (lost_ending lost) put wrote fault) (λ answer shown. inl (value, holds, shown))
+    answer_as (text_put (job.form ≡ Json) (value_shown job.form job.no_newline value) (lost_ending lost) put wrote fault) (λ answer shown. inl (value, holds, shown))

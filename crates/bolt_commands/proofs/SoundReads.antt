@@ -27,7 +27,7 @@ module _ (file : List ℕ) (meta : Meta) (trees : HasSoundTrees file meta) where
   finds_none other x same first = sound_reports_nothing file meta x trees (subst (λ (m : Meta). IsFirstFinding file m x) same first)
 
   -- the choice has a meta
-  has_meta : (choice : MetaChoice) (fault : MetaFault) → IsMetaOf file choice meta → HasNoMetaOf file choice fault → ⊥
+  pub has_meta : (choice : MetaChoice) (fault : MetaFault) → IsMetaOf file choice meta → HasNoMetaOf file choice fault → ⊥
   has_meta Active fault (slot, chosen) (has, none) = none slot meta chosen.valid
   has_meta (InSlot slot) fault lies (has, none) = none meta lies
   has_meta (Assumed assumed) fault same none = none

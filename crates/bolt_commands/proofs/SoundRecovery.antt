@@ -1,8 +1,13 @@
--- With sound trees, `--recover` does what is done without it under the same meta, if the accounts don't count there.
-use Rattle.std.proofs.Common.{◌≡◌, ◌≢◌, ◌↔◌, ℕ, Bool, List, [], Option, ap, inl, inr, subst, sym, ◌∙◌, None}
-use Rattle.bolt_commands.proofs.Vocabulary.{Active, Answer, AreLosses, Assumed, CheckFault, Ending, Extent, Failure, First, FoundView, HasSoundTrees, InSlot, IsActive, IsInSlot, IsListedAnswer, IsListing, IsMetaOf, IsReadTo, IsReadUnder, IsRecovered, IsRefusedUnder, IsUnreadTo, IsUnrecoverableUnder, Layout, ListForm, LossView, Losses, LostView, MakesCopy, Member, Meta, MetaChoice, PageSize, Path, Slot, bad_hash, has_losses, parts}
+-- With sound trees, `--recover` does what is done without it under the same meta, if the accounts don't count there, and `--lost-and-found`
+-- does what `--recover` does.
+use Rattle.std.proofs.Common.{◌≡◌, ◌≢◌, ◌↔◌, ◌*◌, ◌<◌, ◌^◌, ℕ, Bool, List, [], Option, ap, arith, inl, inr, length, refl, rules, subst, sym, ◌∙◌}
+use Rattle.bolt_commands.proofs.Vocabulary.{Active, Answer, AreLosses, Assumed, CheckFault, Ending, Extent, Failure, First, FoundView, HasSoundTrees, InSlot, IsActive, IsFailureOf, IsInSlot, IsListedAnswer, IsListing, IsMetaOf, IsReadTo, IsReadUnder, IsRecovered, IsSalvaged, IsUnreadTo, Layout, ListForm, LossView, Losses, LostView, MakesCopy, Member, Meta, MetaChoice, PageSize, Path, Slot, bad_hash, everything, has_losses, hash_refusal, parts, props, unjoined, ∥∥₁_elim}
 use Rattle.bolt_check.specs.declared.fault.CheckFault.TheVariants as check
-use Rattle.bolt_commands.proofs.{ReadFiles.no_accounts, ReadFiles.read_meta, SoundReads.NamesOne, SoundReads.keeps_root, SoundReads.unread, SoundReads.unrecovered}
+use Rattle.bolt_commands.specs.declared.failure.Failure.TheVariants as failure
+use Rattle.bolt_commands.proofs.{ReadFiles.no_accounts, ReadFiles.read_meta, SoundReads.NamesOne, SoundReads.has_meta, SoundReads.keeps_not_loses, SoundReads.keeps_root, SoundReads.unread, SoundReads.unrecovered}
+use Rattle.bolt_job.specs.declared.choices.Extent.TheVariants.{LostAndFound}
+use Rattle.bolt_recover.specs.{Found.AreFound, JoinRefusals.IsJoinRefusal, Lost.IsAllLost, declared.joined.JoinFault.JoinFault}
+use Rattle.bolt_recover.specs.declared.joined.JoinFault.TheVariants as join
 
 -- what the laws of the crates below say
 pub record Below : Type 0 where
@@ -12,84 +17,161 @@ pub record Below : Type 0 where
   pub listed : (file : List ℕ) (meta : Meta) (listing : List Member) → HasSoundTrees file meta → IsRecovered file meta listing → IsListing file meta listing
   pub recovered : (file : List ℕ) (meta : Meta) (listing : List Member) → HasSoundTrees file meta → IsListing file meta listing → IsRecovered file meta listing
   pub none_lost : (file : List ℕ) (meta : Meta) (losses : List LossView) → HasSoundTrees file meta → AreLosses file meta losses → losses ≡ []
+  pub has_found : (file : List ℕ) (meta : Meta) → (found : List ℕ) × AreFound file meta found
+  pub none_found : (file : List ℕ) (meta : Meta) (found : List ℕ) → AreLosses file meta [] → AreFound file meta found → found ≡ []
 
-names_one : Below → (file : List ℕ) (choice : MetaChoice) (meta : Meta) → IsMetaOf file choice meta → NamesOne file choice meta
+pub names_one : Below → (file : List ℕ) (choice : MetaChoice) (meta : Meta) → IsMetaOf file choice meta → NamesOne file choice meta
 names_one b file Active meta (slot, chosen) other (another, is) = (b.chosen_is_one file slot meta chosen another other is).1
 names_one b file (InSlot slot) meta lies other is = b.slot_is_one file slot other meta is lies
 names_one b file (Assumed assumed) meta same other is = is ∙ sym same
 
--- a fault that any file may be refused for
-memory : (file : List ℕ) (choice : MetaChoice) → IsUnrecoverableUnder file choice check.Memory × IsRefusedUnder file choice check.Memory
-memory file choice = (tt, tt)
+-- ---- two extents, under two choices, to which the same is read
 
-read_under : (file : List ℕ) (meta : Meta) (choice : MetaChoice) → HasSoundTrees file meta → choice ≢ Active → IsMetaOf file choice meta → IsReadUnder file choice meta
-read_under file meta choice trees alone shown = (shown, trees, no_accounts file choice meta alone)
+-- what is read to the first is read to the second
+pub record Reads (file : List ℕ) (meta : Meta) (from to : Extent) (wanted named : MetaChoice) : Type 0 where
+  pub read : (other : Meta) (listing : List Member) (lost : LostView) (found : List FoundView) → IsReadTo from file wanted other listing lost found
+      → (other ≡ meta) × IsReadTo to file named meta listing lost found
+  pub unread : (why : Failure) → IsUnreadTo from file wanted why → IsUnreadTo to file named why
 
-module _ (b : Below) (file : List ℕ) (meta : Meta) (trees : HasSoundTrees file meta) (wanted named : MetaChoice) (shown : IsMetaOf file wanted meta)
-    (shown_named : IsMetaOf file named meta) (alone : named ≢ Active) where
-  under : IsReadUnder file named meta
-  under = read_under file meta named trees alone shown_named
+-- and back
+pub record ReadsAlike (file : List ℕ) (meta : Meta) (from to : Extent) (wanted named : MetaChoice) : Type 0 where
+  pub there : Reads file meta from to wanted named
+  pub back : Reads file meta to from named wanted
 
-  no_losses : AreLosses file meta []
+module _ {file : List ℕ} {meta : Meta} {from to : Extent} {wanted named : MetaChoice} where
+  listed : Reads file meta from to wanted named → (form : ListForm) (path start : Path) (answer : Answer)
+      → IsListedAnswer from file wanted form path start answer → IsListedAnswer to file named form path start answer
+  listed r form path start answer (inl (other, listing, lost, found, read, ended)) = inl (meta, listing, lost, found, (r.read other listing lost found read).1, ended)
+  listed r form path start answer (inr (why, unread, is)) = inr (why, r.unread why unread, is)
+
+  module _ {O T : Type 0} (out_taken : O → Option (List ℕ)) (out_failed : O → ℕ) (target_taken : T → Option (List ℕ)) (target_failed : T → ℕ)
+      (out_old out_new : O) (target_old target_new : T) (size : Option PageSize) (which : Layout) (snapshot : Bool) (ending : Ending) where
+    copied : Reads file meta from to wanted named → hash_refusal from (bad_hash snapshot file) ≡ hash_refusal to (bad_hash snapshot file)
+        → MakesCopy out_taken out_failed out_old out_new target_taken target_failed target_old target_new file wanted size which snapshot from ending
+        → MakesCopy out_taken out_failed out_old out_new target_taken target_failed target_old target_new file named size which snapshot to ending
+    copied r same (inl (other, listing, lost, found, read, writes)) =
+        let (one, there) = r.read other listing lost found read in
+        inl (meta, listing, lost, found, there, rw (same, one) at writes)
+    copied r same (inr (why, unread, none)) = inr (why, r.unread why unread, none)
+
+-- ---- with sound trees
+
+module _ (b : Below) (file : List ℕ) (meta : Meta) (trees : HasSoundTrees file meta) where
+  pub no_losses : AreLosses file meta []
   no_losses = let (losses, are) = has_losses file meta in subst (λ (ls : List LossView). AreLosses file meta ls) (b.none_lost file meta losses trees are) are
+
+  only_memory : (choice : MetaChoice) → IsMetaOf file choice meta → (why : Failure) → IsUnreadTo Losses file choice why → why ≡ failure.Memory
+  only_memory choice shown why (fault, is, of) =
+      let memory = unrecovered file meta trees choice fault (names_one b file choice meta shown) shown is in
+      subst (λ (f : CheckFault). IsFailureOf f why) memory of
 
   -- ---- what is recovered under one choice is read under the other, of which the accounts don't count
 
-  read_there : (other : Meta) (listing : List Member) (lost : LostView) (found : List FoundView) → IsReadTo Losses file wanted other listing lost found
-      → (other ≡ meta) × IsReadTo First file named meta listing lost found
-  read_there other listing lost found ((is, keeps), recovered, (losses, are, told), none) =
-      let same = names_one b file wanted meta shown other is in
-      let lists = b.listed file meta listing trees (subst (λ (m : Meta). IsRecovered file m listing) same recovered) in
-      let empty = b.none_lost file meta losses trees (subst (λ (m : Meta). AreLosses file m losses) same are) in
-      (same, (under, lists, told ∙ ap parts empty, none))
+  module _ (wanted named : MetaChoice) (shown : IsMetaOf file wanted meta) (shown_named : IsMetaOf file named meta) (alone : named ≢ Active) where
+    pub under : IsReadUnder file named meta
+    under = (shown_named, trees, no_accounts file named meta alone)
 
-  read_back : (other : Meta) (listing : List Member) (lost : LostView) (found : List FoundView) → IsReadTo First file named other listing lost found
-      → (other ≡ meta) × IsReadTo Losses file wanted meta listing lost found
-  read_back other listing lost found (read, lists, told, none) =
-      let same = names_one b file named meta shown_named other (read_meta file named other read) in
-      let recovered = b.recovered file meta listing trees (subst (λ (m : Meta). IsListing file m listing) same lists) in
-      (same, ((shown, keeps_root file meta trees), recovered, ([], no_losses, told), none))
+    recovered_there : Reads file meta Losses First wanted named
+    recovered_there = record {
+      read = λ other listing lost found ((is, keeps), recovered, (losses, are, told), none).
+          (let same = names_one b file wanted meta shown other is in
+          let lists = b.listed file meta listing trees (subst (λ (m : Meta). IsRecovered file m listing) same recovered) in
+          let empty = b.none_lost file meta losses trees (subst (λ (m : Meta). AreLosses file m losses) same are) in
+          (same, (under, lists, told ∙ ap parts empty, none)));
+      unread = λ why unread. (check.Memory, tt, only_memory wanted shown why unread);
+    }
 
-  refused : (fault : CheckFault) → IsUnrecoverableUnder file wanted fault → IsRefusedUnder file named fault
-  refused fault is = subst (IsRefusedUnder file named) (sym (unrecovered file meta trees wanted fault (names_one b file wanted meta shown) shown is)) (memory file named).1
+    recovered_back : Reads file meta First Losses named wanted
+    recovered_back = record {
+      read = λ other listing lost found (read, lists, told, none).
+          (let same = names_one b file named meta shown_named other (read_meta file named other read) in
+          let recovered = b.recovered file meta listing trees (subst (λ (m : Meta). IsListing file m listing) same lists) in
+          (same, ((shown, keeps_root file meta trees), recovered, ([], no_losses, told), none)));
+      unread = λ why (fault, is, of).
+          (check.Memory, tt, subst (λ (f : CheckFault). IsFailureOf f why) (unread file meta trees named fault (names_one b file named meta shown_named) under is) of);
+    }
 
-  unrecoverable : (fault : CheckFault) → IsRefusedUnder file named fault → IsUnrecoverableUnder file wanted fault
-  unrecoverable fault is = subst (IsUnrecoverableUnder file wanted) (sym (unread file meta trees named fault (names_one b file named meta shown_named) under is)) (memory file wanted).0
+    pub recovers_alike : ReadsAlike file meta Losses First wanted named
+    recovers_alike = record { there = recovered_there; back = recovered_back }
 
-  unread_there : (why : Failure) → IsUnreadTo Losses file wanted why → IsUnreadTo First file named why
-  unread_there why (fault, is, of) = (fault, refused fault is, of)
+  -- ---- if nothing is lost, nothing is found
 
-  unread_back : (why : Failure) → IsUnreadTo First file named why → IsUnreadTo Losses file wanted why
-  unread_back why (fault, is, of) = (fault, unrecoverable fault is, of)
+  module _ (choice : MetaChoice) (shown : IsMetaOf file choice meta) (few : length file < 10 ^ 16 * meta.page_size) where
+    no_found : AreFound file meta []
+    no_found = let (found, are) = b.has_found file meta in subst (λ (ns : List ℕ). AreFound file meta ns) (b.none_found file meta found no_losses are) are
 
-  module _ (form : ListForm) (path from : Path) (answer : Answer) where
-    listed_there : IsListedAnswer Losses file wanted form path from answer → IsListedAnswer First file named form path from answer
-    listed_there (inl (other, listing, lost, found, read, ended)) = inl (meta, listing, lost, found, (read_there other listing lost found read).1, ended)
-    listed_there (inr (why, unread, is)) = inr (why, unread_there why unread, is)
+    no_loss : (lost : LostView) → IsAllLost file meta lost → lost ≡ parts []
+    no_loss (everything x) loses = absurd (keeps_not_loses file meta trees meta x refl loses)
+    no_loss (parts reported) (keeps, all) = ap parts (all [] no_losses)
 
-    listed_back : IsListedAnswer First file named form path from answer → IsListedAnswer Losses file wanted form path from answer
-    listed_back (inl (other, listing, lost, found, read, ended)) = inl (meta, listing, lost, found, (read_back other listing lost found read).1, ended)
-    listed_back (inr (why, unread, is)) = inr (why, unread_back why unread, is)
+    salvaged : (listing : List Member) (lost : LostView) (found : List FoundView) → IsSalvaged file meta listing lost found → IsReadTo Losses file choice meta listing lost found
+    salvaged listing lost found is =
+        let joins = is.joins in
+        let none = b.none_found file meta joins.found no_losses joins.are_found in
+        let same : listing ≡ joins.recovered = rw none at joins.joined in
+        let (numbers, are, pages) = is.finds in (
+          (shown, keeps_root file meta trees),
+          subst (IsRecovered file meta) (sym same) joins.recovers,
+          ([], no_losses, no_loss lost is.loses),
+          rw (b.none_found file meta numbers no_losses are) at pages,
+        )
 
-    pub lists_the_same : IsListedAnswer Losses file wanted form path from answer ↔ IsListedAnswer First file named form path from answer
-    lists_the_same = (listed_there, listed_back)
+    unsalvaged : (found : List ℕ) (fault : JoinFault) (why : Failure) → AreFound file meta found → IsJoinRefusal file meta found fault → why ≡ unjoined fault
+        → why ≡ failure.Memory
+    unsalvaged found (join.Root x) why are (none, loses) same = absurd (∥∥₁_elim loses (hlevel props) (keeps_not_loses file meta trees meta x refl))
+    unsalvaged found join.Exists why are (some, has) same = absurd (some (b.none_found file meta found no_losses are))
+    unsalvaged found join.TooLarge why are large same = absurd (omega (arith, few, large))
+    unsalvaged found join.Memory why are is same = same
 
-  module _ {O T : Type 0} (out_taken : O → Option (List ℕ)) (out_failed : O → ℕ) (target_taken : T → Option (List ℕ)) (target_failed : T → ℕ)
-      (out_old out_new : O) (target_old target_new : T) (size : Option PageSize) (which : Layout) (snapshot : Bool) (ending : Ending) (right : bad_hash snapshot file ≡ None) where
-    abbrev Copy : (extent : Extent) → MetaChoice → Type 0
-    Copy extent choice = MakesCopy out_taken out_failed out_old out_new target_taken target_failed target_old target_new file choice size which snapshot extent ending
+    found_there : Reads file meta LostAndFound Losses choice choice
+    found_there = record {
+      read = λ other listing lost found (is, all).
+          (let same = names_one b file choice meta shown other is in
+          (same, salvaged listing lost found (subst (λ (m : Meta). IsSalvaged file m listing lost found) same all)));
+      unread = λ why unread. (
+        check.Memory,
+        tt,
+        elim unread [
+          | inl (other, is, (found, fault, are, refusal, same)) ↦
+              let one = names_one b file choice meta shown other is in
+              unsalvaged found fault why (rw one at are) (rw one at refusal) same
+          | inr (fault, none, same) ↦ absurd (has_meta file meta trees choice fault shown none)
+        ],
+      );
+    }
 
-    copied_there : Copy Losses wanted → Copy First named
-    copied_there (inl (other, listing, lost, found, read, writes)) =
-        let (same, there) = read_there other listing lost found read in
-        inl (meta, listing, lost, found, there, rw right (rw (right, same) at writes))
-    copied_there (inr (why, unread, none)) = inr (why, unread_there why unread, none)
+    found_back : Reads file meta Losses LostAndFound choice choice
+    found_back = record {
+      read = λ other listing lost found ((is, keeps), recovered, (losses, are, told), none).
+          (let same = names_one b file choice meta shown other is in
+          let empty : lost ≡ parts [] = told ∙ ap parts (b.none_lost file meta losses trees (subst (λ (m : Meta). AreLosses file m losses) same are)) in
+          let all : IsSalvaged file meta listing (parts []) [] = record {
+            joins = record { recovered = listing; recovers = subst (λ (m : Meta). IsRecovered file m listing) same recovered; found = []; are_found = no_found; joined = refl };
+            loses = (keeps_root file meta trees, λ others are_too. sym (b.none_lost file meta others trees are_too));
+            finds = ([], no_found, refl);
+            apart = λ some. absurd (some refl);
+            some = λ x everything_is. absurd (search (rules, everything_is));
+          } in
+          (same, (shown, rw (empty, none) all)));
+      unread = λ why unread. inl (meta, shown, ([], join.Memory, no_found, tt, only_memory choice shown why unread));
+    }
 
-    copied_back : Copy First named → Copy Losses wanted
-    copied_back (inl (other, listing, lost, found, read, writes)) =
-        let (same, back) = read_back other listing lost found read in
-        inl (meta, listing, lost, found, back, rw right (rw (right, same) at writes))
-    copied_back (inr (why, unread, none)) = inr (why, unread_back why unread, none)
+    pub finds_alike : ReadsAlike file meta LostAndFound Losses choice choice
+    finds_alike = record { there = found_there; back = found_back }
 
-    pub copies_the_same : Copy Losses wanted ↔ Copy First named
-    copies_the_same = (copied_there, copied_back)
+-- ---- `list` and `compact`
+
+pub lists_the_same : {file : List ℕ} {meta : Meta} {from to : Extent} {wanted named : MetaChoice} → ReadsAlike file meta from to wanted named
+    → (form : ListForm) (path start : Path) (answer : Answer) → IsListedAnswer from file wanted form path start answer ↔ IsListedAnswer to file named form path start answer
+lists_the_same r form path start answer = (listed r.there form path start answer, listed r.back form path start answer)
+
+pub copies_the_same : {file : List ℕ} {meta : Meta} {from to : Extent} {wanted named : MetaChoice} → ReadsAlike file meta from to wanted named
+    → {O T : Type 0} (out_taken : O → Option (List ℕ)) (out_failed : O → ℕ) (target_taken : T → Option (List ℕ)) (target_failed : T → ℕ)
+    (out_old out_new : O) (target_old target_new : T) (size : Option PageSize) (which : Layout) (snapshot : Bool) (ending : Ending)
+    → hash_refusal from (bad_hash snapshot file) ≡ hash_refusal to (bad_hash snapshot file)
+    → MakesCopy out_taken out_failed out_old out_new target_taken target_failed target_old target_new file wanted size which snapshot from ending
+    ↔ MakesCopy out_taken out_failed out_old out_new target_taken target_failed target_old target_new file named size which snapshot to ending
+copies_the_same r out_taken out_failed target_taken target_failed out_old out_new target_old target_new size which snapshot ending same = (
+  copied out_taken out_failed target_taken target_failed out_old out_new target_old target_new size which snapshot ending r.there same,
+  copied out_taken out_failed target_taken target_failed out_old out_new target_old target_new size which snapshot ending r.back (sym same),
+)

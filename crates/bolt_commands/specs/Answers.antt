@@ -128,6 +128,10 @@ check_refusal faults check.Memory = refused failure.Memory
 abbrev pub LeadsTo : List ℕ → Meta → Path → Start → Type 0
 LeadsTo file meta path bucket = Names (IsEntry file meta) (Root_page meta.root) path bucket
 
+-- a path leads to none
+abbrev pub LeadsNowhere : List ℕ → Meta → Path → Type 0
+LeadsNowhere file meta path = (bucket : Start) → LeadsTo file meta path bucket → ⊥
+
 abbrev pub HoldsIn : List ℕ → Meta → Path → Item → Type 0
 HoldsIn file meta path item = Holds (IsEntry file meta) (Root_page meta.root) path item
 
@@ -159,22 +163,22 @@ IsShownText form text answer = IsShownAndEnded form text (Ok 0) answer
 abbrev pub IsEntriesAnswer : List ℕ → Path → Form → (List LeafElement → List ℕ) → Meta → Answer → Type 0
 IsEntriesAnswer file path form text meta answer =
     ((bucket : Start) × (entries : List LeafElement) × LeadsTo file meta path bucket × AreEntries (IsEntry file meta) bucket entries × IsShownText form (text entries) answer)
-    ⊎ (((bucket : Start) → LeadsTo file meta path bucket → ⊥) × (answer ≡ refused failure.NoBucket))
+    ⊎ (LeadsNowhere file meta path × (answer ≡ refused failure.NoBucket))
 
 -- The path holds no value: all of its parts but the last lead to a bucket, or they lead to none.
 abbrev pub HoldsNone : List ℕ → Path → Meta → Failure → Type 0
 HoldsNone file path meta reason =
     ((reason ≡ failure.NoKey) × ((value : List ℕ) → HoldsIn file meta path (Value value) → ⊥) × ((bucket : Start) × ∥ LeadsTo file meta (parents_of path) bucket ∥₁))
-    ⊎ ((reason ≡ failure.NoBucket) × ((bucket : Start) → LeadsTo file meta (parents_of path) bucket → ⊥))
+    ⊎ ((reason ≡ failure.NoBucket) × LeadsNowhere file meta (parents_of path))
 
 -- how a value is printed: with a line feed or without one
-abbrev pub value_shown : GetJob → List ℕ → List ℕ
-value_shown job value = if job.no_newline then item_text job.form value else value_text job.form value
+abbrev pub value_shown : Form → (no_newline : Bool) → List ℕ → List ℕ
+value_shown form no_newline value = if no_newline then item_text form value else value_text form value
 
 -- the value that the path holds; or why it holds none
 abbrev pub IsGetAnswer : List ℕ → GetJob → Meta → Answer → Type 0
 IsGetAnswer file job meta answer =
-    ((value : List ℕ) × HoldsIn file meta (path_in job.path.items) (Value value) × IsShownText job.form (value_shown job value) answer)
+    ((value : List ℕ) × HoldsIn file meta (path_in job.path.items) (Value value) × IsShownText job.form (value_shown job.form job.no_newline value) answer)
     ⊎ ((reason : Failure) × HoldsNone file (path_in job.path.items) meta reason × (answer ≡ refused reason))
 
 -- The sizes of the buckets in the bucket that the path leads to, or memory ran out, and a prefix of the text was written; or the path leads to
@@ -183,7 +187,7 @@ abbrev pub IsSizesAnswer : List ℕ → Path → Form → Meta → Answer → Ty
 IsSizesAnswer file path form meta answer =
     ((bucket : Start) × (entries : List LeafElement) × (sized : List Sized) × LeadsTo file meta path bucket × AreEntries (IsEntry file meta) bucket entries
     × AreSized file meta entries sized × IsWholeOrCut (sizes_text form sized) answer)
-    ⊎ (((bucket : Start) → LeadsTo file meta path bucket → ⊥) × (answer ≡ refused failure.NoBucket))
+    ⊎ (LeadsNowhere file meta path × (answer ≡ refused failure.NoBucket))
 
 -- a line for each member of a listing at and below the bucket at a path that doesn't come before another path
 abbrev pub part_text : ListForm → (path from : Path) → List Member → List ℕ
@@ -242,7 +246,7 @@ HasStats file (part ∷ path) meta stats = (bucket : Start) × ∥ LeadsTo file 
 abbrev pub IsStatsAnswer : List ℕ → Path → FigureForm → Meta → Answer → Type 0
 IsStatsAnswer file path form meta answer =
     ((stats : Stats) × HasStats file path meta stats × (answer ≡ done (stats_text form stats)))
-    ⊎ (((bucket : Start) → LeadsTo file meta path bucket → ⊥) × (answer ≡ refused failure.NoBucket))
+    ⊎ (LeadsNowhere file meta path × (answer ≡ refused failure.NoBucket))
     ⊎ (answer ≡ refused failure.Memory)
 
 -- only the first finding is reported
@@ -433,7 +437,7 @@ no_value path listing lost = if has_bucket (parents_of path) listing then no_key
 abbrev pub IsRecoveredValue : GetJob → List Member → LostView → Answer → Type 0
 IsRecoveredValue job listing lost answer =
     let path = path_in job.path.items in
-    ((value : List ℕ) × Contains listing (path, Value value) × IsShownAndEnded job.form (value_shown job value) (lost_ending lost) answer)
+    ((value : List ℕ) × Contains listing (path, Value value) × IsShownAndEnded job.form (value_shown job.form job.no_newline value) (lost_ending lost) answer)
     ⊎ (((value : List ℕ) → Contains listing (path, Value value) → ⊥) × (answer ≡ refused (no_value path listing lost)))
 
 -- From its state `old` to `new` standard output accepted the text of the answer without a failure, and the job ends so; or it failed,
@@ -487,31 +491,31 @@ copy_report hash lost found source copy =
 
 -- ---- what a command prints for its job
 
--- the names of the buckets, their sizes, or the names of those that are recovered
-abbrev pub IsBucketsShown : BucketsShown → BucketsJob → List ℕ → Answer → Type 0
-IsBucketsShown shown.Names job file answer = IsReadAnswer file job.meta (IsEntriesAnswer file (path_in job.path.items) job.form (buckets_text job.form)) answer
-IsBucketsShown shown.Sizes job file answer = IsReadAnswer file job.meta (IsSizesAnswer file (path_in job.path.items) job.form) answer
-IsBucketsShown shown.Recovered job file answer = IsRecoveredAnswer file job.meta (IsNamesAnswer job.form names_bucket (path_in job.path.items)) answer
+-- the names of the buckets, their sizes, or the names of those that are recovered, of a file under a meta
+abbrev pub IsBucketsShown : BucketsShown → List ℕ → MetaChoice → BucketsJob → Answer → Type 0
+IsBucketsShown shown.Names file choice job answer = IsReadAnswer file choice (IsEntriesAnswer file (path_in job.path.items) job.form (buckets_text job.form)) answer
+IsBucketsShown shown.Sizes file choice job answer = IsReadAnswer file choice (IsSizesAnswer file (path_in job.path.items) job.form) answer
+IsBucketsShown shown.Recovered file choice job answer = IsRecoveredAnswer file choice (IsNamesAnswer job.form names_bucket (path_in job.path.items)) answer
 
 abbrev pub IsBucketsPrint : BucketsJob → List ℕ → Answer → Type 0
-IsBucketsPrint job file answer = IsBucketsShown job.shown job file answer
+IsBucketsPrint job file answer = IsBucketsShown job.shown file job.meta job answer
 
 -- the keys, or those that are recovered
-abbrev pub IsKeysShown : (recover : Bool) → KeysJob → List ℕ → Answer → Type 0
-IsKeysShown false job file answer =
-    IsReadAnswer file job.meta (IsEntriesAnswer file (path_in job.path.items) job.form (λ entries. keys_text job.form (with_prefix job.prefix.items entries))) answer
-IsKeysShown true job file answer = IsRecoveredAnswer file job.meta (IsNamesAnswer job.form (begins_so job.prefix.items) (path_in job.path.items)) answer
+abbrev pub IsKeysShown : (recover : Bool) → List ℕ → MetaChoice → KeysJob → Answer → Type 0
+IsKeysShown false file choice job answer =
+    IsReadAnswer file choice (IsEntriesAnswer file (path_in job.path.items) job.form (λ entries. keys_text job.form (with_prefix job.prefix.items entries))) answer
+IsKeysShown true file choice job answer = IsRecoveredAnswer file choice (IsNamesAnswer job.form (begins_so job.prefix.items) (path_in job.path.items)) answer
 
 abbrev pub IsKeysPrint : KeysJob → List ℕ → Answer → Type 0
-IsKeysPrint job file answer = IsKeysShown job.recover job file answer
+IsKeysPrint job file answer = IsKeysShown job.recover file job.meta job answer
 
 -- the value, or that which is recovered
-abbrev pub IsValueShown : (recover : Bool) → GetJob → List ℕ → Answer → Type 0
-IsValueShown false job file answer = IsReadAnswer file job.meta (IsGetAnswer file job) answer
-IsValueShown true job file answer = IsRecoveredAnswer file job.meta (IsRecoveredValue job) answer
+abbrev pub IsValueShown : (recover : Bool) → List ℕ → MetaChoice → GetJob → Answer → Type 0
+IsValueShown false file choice job answer = IsReadAnswer file choice (IsGetAnswer file job) answer
+IsValueShown true file choice job answer = IsRecoveredAnswer file choice (IsRecoveredValue job) answer
 
 abbrev pub IsGetPrint : GetJob → List ℕ → Answer → Type 0
-IsGetPrint job file answer = IsValueShown job.recover job file answer
+IsGetPrint job file answer = IsValueShown job.recover file job.meta job answer
 
 abbrev pub IsStatsPrint : StatsJob → List ℕ → Answer → Type 0
 IsStatsPrint job file answer = IsReadAnswer file job.meta (IsStatsAnswer file (path_in job.path.items) job.form) answer
@@ -573,13 +577,10 @@ IsCurrentText job entries answer =
     (current : List RevisionView) × AreCurrent (until (up_to job.at) (revisions entries)) current
     × IsEndedOrCut (revision_lines job.form job.values (named job.prefix.items current)) (entries_ending entries) answer
 
--- a value, if there is one, with a line feed or without one
-abbrev pub held_text : EtcdGetJob → List ℕ → List ℕ
-held_text job value = if job.no_newline then item_text job.form value else value_text job.form value
-
+-- a value, if there is one
 abbrev pub IsValueText : EtcdGetJob → Ending → Option (List ℕ) → Answer → Type 0
 IsValueText job ending None answer = answer ≡ refused failure.NoKey
-IsValueText job ending (Some value) answer = IsShownAndEnded job.form (held_text job value) ending answer
+IsValueText job ending (Some value) answer = IsShownAndEnded job.form (value_shown job.form job.no_newline value) ending answer
 
 -- what a key held at a transaction
 abbrev pub IsHeldText : EtcdGetJob → List LeafElement → Answer → Type 0

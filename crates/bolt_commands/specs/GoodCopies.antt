@@ -29,6 +29,10 @@ pub record IsGoodCopy (snapshot : Bool) (layout : List ℕ) (listing : List Memb
   -- if its hash is missing or cut short, that is found
   pub cut_hash : (n : ℕ) → length layout ≤ n → n < length (copy_of snapshot layout) → hash_found snapshot (take n (copy_of snapshot layout)) ≡ Some (cut_hash_fault (n - length layout))
 
+-- this holds of each good copy
+abbrev pub ForGoodCopies : (Bool → List ℕ → Type 0) → Type 0
+ForGoodCopies P = (snapshot : Bool) (layout : List ℕ) (listing : List Member) → IsGoodCopy snapshot layout listing → P snapshot (copy_of snapshot layout)
+
 -- each copy of this listing that has fewer than 2^63 bytes is a good one
 abbrev pub HasGoodCopies : List Member → (sequence : ℕ) → Type 0
 HasGoodCopies listing sequence =

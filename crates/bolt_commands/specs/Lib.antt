@@ -1,4 +1,6 @@
+pub mod Alike
 pub mod Answers
+pub mod CheckedCopies
 pub mod CopyEnds
 pub mod CopyLayouts
 pub mod Failures

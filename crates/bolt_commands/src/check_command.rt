@@ -1,7 +1,7 @@
 //! The command `check`: the findings, each loss, or also each page that is found.
 ghost use Rattle.std.specs.Prelude.{◌≢◌, ◌&&◌, IfOk, map};
 ghost use Rattle.std.specs.List.{All};
-ghost use Rattle.bolt_check.specs.CheckedFiles.{bytes_of, meta_of};
+ghost use Rattle.bolt_check.specs.CheckedFiles.{in_checked};
 ghost use Rattle.bolt_recover.specs.ShownLosses.{lost_view};
 ghost use Rattle.bolt_commands.specs.Answers.{AreFoundFor, Does, IsCheckAnswer, all_found, check_refusal, found, lost_and_found};
 ghost use Rattle.bolt_commands.specs.FileFaults.{is_fine};
@@ -34,7 +34,8 @@ struct Checking<'f> {
 /// Writes `OK` if nothing is wrong with the file. Otherwise it writes what is wrong apart from its
 /// pages, and then the findings, or each loss, or also each page that is found.
 pub(crate) fn print_check<O: Sink>(input: Input<'_>, job: &CheckJob, out: &mut O) -> Outcome
-    ensures { PrintsAnswer O.Sink out.old out.new (IsCheckAnswer job.now.extent job.now.snapshot job.now.for_bbolt input.entry.file.now job.now.meta) result }
+    ensures { PrintsAnswer O.Sink out.old out.new
+        (IsCheckAnswer job.now.extent job.now.snapshot job.now.for_bbolt input.entry.file.now job.now.meta) result }
 {
     let checking = Checking {
         input,
@@ -83,8 +84,9 @@ fn print_lost<O: Sink>(checking: Checking<'_>, extent: Extent, out: &mut O) -> O
 /// What bbolt fails on when it writes into a sound file, if that is looked for and nothing else is
 /// wrong.
 fn find_for_bbolt(checked: Checked<'_>, checking: Checking<'_>) -> Result<Vec<Finding>, NoMemory>
-    ensures { IfOk result (λ findings. AreFoundFor (checking.entry.for_bbolt && is_fine checking.entry.faults)
-        (bytes_of checked.entry) (meta_of checked.entry) findings.items) }
+    ensures { IfOk result (λ findings.
+        in_checked (AreFoundFor (checking.entry.for_bbolt && is_fine checking.entry.faults))
+        checked.entry findings.items) }
 {
     if checking.for_bbolt && checking.faults.is_fine() {
         return bbolt_findings(checking.input.alloc, checked);
@@ -128,7 +130,8 @@ pub(crate) fn put_refusal<O: Sink>(fault: &CheckFault, faults: FileFaults, out: 
 
 /// Writes what else is wrong with a file that has no valid meta. The failure says that.
 fn put_unread<O: Sink>(fault: MetaFault, faults: FileFaults, out: &mut O) -> Outcome
-    ensures { Does O.taken O.failed out.old out.new (check_refusal faults (check.Open fault)) result }
+    ensures { Does O.taken O.failed out.old out.new
+        (check_refusal faults (check.Open fault)) result }
 {
     put_file_faults(faults, out)?;
     Err(Failure::Metas(fault))
@@ -151,7 +154,8 @@ fn put_lost<O: Sink>(
     out: &mut O,
 ) -> Outcome
     requires { All IsFoundLeaf found.now }
-    ensures { Does O.taken O.failed out.old out.new (lost_and_found faults (lost_view lost.entry) (map found_view found.now)) result }
+    ensures { Does O.taken O.failed out.old out.new
+        (lost_and_found faults (lost_view lost.entry) (map found_view found.now)) result }
 {
     let earlier = put_file_faults(faults, out)?;
     counted_lost_text(lost, found, earlier, out)?;

@@ -8,9 +8,8 @@ ghost use Rattle.bolt_bulk.specs.{Compacting.Copies, WholeListings.IsWhole};
 ghost use Rattle.bolt_format.specs.{Endings.ending, Wrote.Wrote};
 ghost use Rattle.bolt_recover.specs.ShownLosses.{lost_view};
 ghost use Rattle.bolt_report.specs.FoundLines.{IsFoundLeaf};
-ghost use Rattle.bolt_tree.specs.Listing.{Member};
 ghost use Rattle.bolt_commands.specs.{Answers.Does, Answers.copy_status, Answers.lengths_line, FileFaults.hash_lines};
-ghost use Rattle.bolt_commands.specs.{CopyEnds.EndsCopy, Hashes.HashesSince, Private.Copying.CopiesTo, Private.Copying.blueprint_layout};
+ghost use Rattle.bolt_commands.specs.{CopyEnds.EndsCopy, Hashes.HashesSince, Private.Copying.CopiesTo, Private.Copying.ForLayout};
 ghost use Rattle.bolt_commands.specs.Private.Reports.{report_answer, report_text};
 ghost use Rattle.bolt_job.specs.CopyKinds.{is_snapshot};
 
@@ -37,8 +36,8 @@ pub(crate) fn copy_members<C: CopySource, T: Sink>(
     target: &mut T,
 ) -> Result<u64, BulkFault>
     requires { IsWhole C.lists C.left source.old }
-    ensures copied { (listing : List Member) → C.lists source.old listing
-        → CopiesTo T.Sink target.old target.new (blueprint_layout blueprint.now listing) listing (is_snapshot kind) result }
+    ensures copied { ForLayout C.lists source.old blueprint.now (λ all layout.
+        CopiesTo T.Sink target.old target.new layout all (is_snapshot kind) result) }
     ensures end { OnOk result (C.ends_as source.old source.new) }
 {
     sources_have_good_copies(source, blueprint.sequence);
@@ -54,8 +53,8 @@ fn copy_all<C: CopySource, T: Sink>(
     target: &mut T,
 ) -> Result<u64, BulkFault>
     requires { IsWhole C.lists C.left source.old }
-    ensures copied { (listing : List Member) → C.lists source.old listing
-        → EndsCopy T.taken T.failed target.old target.new (blueprint_layout blueprint.now listing) snapshot result }
+    ensures copied { ForLayout C.lists source.old blueprint.now (λ _ layout.
+        EndsCopy T.taken T.failed target.old target.new layout snapshot result) }
     ensures end { OnOk result (C.ends_as source.old source.new) }
 {
     if !snapshot {
@@ -88,10 +87,11 @@ fn hash_all<'a, K: Origin, T: Sink, C: CopySource>(
     requires name { target.ghost_name ≡ K.name }
     requires start { T.taken target.old ≡ K.start }
     ensures same { result.target.ghost_name ≡ target.entry.ghost_name }
-    ensures copied { (listing : List Member) → C.lists source.old listing
-        → Copies T.taken T.failed target.old result.target.now (blueprint_layout blueprint.now listing) result.result }
+    ensures copied { ForLayout C.lists source.old blueprint.now (λ _ layout.
+        Copies T.taken T.failed target.old result.target.now layout result.result) }
     ensures end { OnOk result.result (C.ends_as source.old source.new) }
-    ensures hashed { T.failed result.target.now ≡ 0 → ∥ HashesSince (T.taken target.old) (T.taken result.target.now) result.hash ∥₁ }
+    ensures hashed { T.failed result.target.now ≡ 0
+        → ∥ HashesSince (T.taken target.old) (T.taken result.target.now) result.hash ∥₁ }
 {
     let mut hashing: Hashing<'a, T, K> = Hashing {
         target,
@@ -114,7 +114,8 @@ fn hash_all<'a, K: Origin, T: Sink, C: CopySource>(
 /// Writes the hash of a layout after it, if the layout is whole. Returns the length of both.
 fn put_hash<T: Sink>(copied: Copied, hash: Sha256, target: &mut T) -> Result<u64, BulkFault>
     ensures whole { OnOk result (IsOk copied) }
-    ensures copied { (begun : T) (layout : List ℕ) → Copies T.taken T.failed begun target.old layout copied
+    ensures copied { (begun : T) (layout : List ℕ)
+        → Copies T.taken T.failed begun target.old layout copied
         → (T.failed target.old ≡ 0 → ∥ HashesSince (T.taken begun) (T.taken target.old) hash ∥₁)
         → EndsCopy T.taken T.failed begun target.new layout true result }
 {

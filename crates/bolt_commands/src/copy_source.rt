@@ -9,7 +9,7 @@ ghost use Rattle.bolt_text.specs.{LineMembers.text_members};
 ghost use Rattle.bolt_recover.specs.{Joined.IsJoined, JoinedMembers.joined_file, JoinedMembers.joined_left, JoinedMembers.joined_meta, Recovered.IsRecovered};
 ghost use Rattle.bolt_recover.specs.Recoveries.{ForLosses, recovery_file, recovery_left, recovery_losses, recovery_meta};
 ghost use Rattle.bolt_tree.specs.{Listing.IsListing, Listing.Member, Walks.left_of, Walks.walk_checked};
-ghost use Rattle.bolt_commands.specs.{Private.Copying.blueprint_layout, GoodCopies.HasGoodCopies};
+ghost use Rattle.bolt_commands.specs.{Private.Copying.ForLayout, GoodCopies.HasGoodCopies};
 
 use crate::laws::whole_copies_are_good;
 use bolt_bulk::{Blueprint, BulkFault, Done, compact_members};
@@ -37,8 +37,8 @@ pub(crate) trait CopySource {
     /// (`bolt_bulk::compact_members`).
     fn copy<S: Sink>(&mut self, alloc: Global, blueprint: &Blueprint, sink: &mut S) -> Copied
         requires { IsWhole lists left self.old }
-        ensures copied { (listing : List Member) → lists self.old listing
-            → Copies S.taken S.failed sink.old sink.new (blueprint_layout blueprint.now listing) result }
+        ensures copied { ForLayout lists self.old blueprint.now (λ _ layout.
+            Copies S.taken S.failed sink.old sink.new layout result) }
         ensures end { OnOk result (ends_as self.old self.new) };
 }
 
@@ -94,7 +94,8 @@ impl CopySource for LineMembers<'_> {
 /// value that the body reads: so it reads the sequence, and does nothing else.
 pub(crate) fn sources_have_good_copies<C: CopySource>(_source: &C, sequence: u64)
     requires { IsWhole C.lists C.left _source.now }
-    ensures { (listing : List Member) → C.lists _source.now listing → ∥ HasGoodCopies listing sequence ∥₁ }
+    ensures { (listing : List Member) → C.lists _source.now listing
+        → ∥ HasGoodCopies listing sequence ∥₁ }
 {
     let _ = sequence;
     whole_copies_are_good();

@@ -1,13 +1,12 @@
 //! The commands that read what etcd keeps in a file: `etcd-revisions`, `etcd-keys`, `etcd-get` and `etcd-check`.
-ghost use Rattle.std.specs.Prelude.{◌≡◌, ◌⊎◌, IfErr, IfOk, OnOk, false, true};
+ghost use Rattle.std.specs.Prelude.{◌≡◌, IfErr, IfOk, OnOk, false, true};
 ghost use Rattle.bolt_etcd.specs.StoreBuckets.{ForStore};
 ghost use Rattle.bolt_format.specs.{Endings.ending, Wrote.Wrote};
 ghost use Rattle.bolt_report.specs.FaultWords.{count_line};
 ghost use Rattle.bolt_etcd.specs.RevisionsLeft.{ForPass, ahead_of, pass_checked, pass_others, pass_start};
 ghost use Rattle.bolt_tree.specs.Buckets.{bucket_checked, bucket_start};
-ghost use Rattle.bolt_text.specs.ReportEndings.{report_ending};
 ghost use Rattle.bolt_etcd.specs.StoreFaults.{store_compacted};
-ghost use Rattle.bolt_commands.specs.Answers.{IsEtcdCheckPrint, IsEtcdGetPrint, IsEtcdKeysPrint, IsEtcdRevisionsPrint, entries_asked, errors_end, errors_status, held_text, is_compacted, others_ending, up_to};
+ghost use Rattle.bolt_commands.specs.Answers.{IsEtcdCheckPrint, IsEtcdGetPrint, IsEtcdKeysPrint, IsEtcdRevisionsPrint, entries_asked, errors_end, errors_status, is_compacted, others_ending, up_to};
 ghost use Rattle.bolt_commands.specs.Private.{Etcd.IsStoreRead, Etcd.IsUnreadStore, Endings.end_of, Etcd.end_of_revisions, Printing.PrintsAnswer};
 ghost use Rattle.bolt_commands.specs.declared.failure.Failure.TheVariants.{Compacted};
 
@@ -15,12 +14,12 @@ use crate::check_command::put_refusal;
 use crate::failure::{Failure, Outcome};
 use crate::file_faults::FileFaults;
 use crate::opening::Input;
+use crate::value_text::put_value;
 use bolt_etcd::{Newest, RevisionWriter, Revisions, put_store_faults, store_compacted};
 use bolt_format::{Sink, SinkFault};
 use bolt_job::{EtcdCheckJob, EtcdGetJob, EtcdKeysJob, EtcdRevisionsJob, MetaChoice};
-use bolt_text::{Form, Piece, ReportFault, item, put, put_pieces, value};
+use bolt_text::{Piece, ReportFault, put, put_pieces};
 use bolt_tree::Bucket;
-use std::alloc::Global;
 
 /// What etcd keeps in a file.
 #[derive(Clone, Copy)]
@@ -37,7 +36,8 @@ pub(crate) fn print_revisions<O: Sink>(
     job: &EtcdRevisionsJob,
     out: &mut O,
 ) -> Outcome
-    ensures { PrintsAnswer O.Sink out.old out.new (IsEtcdRevisionsPrint job.now input.entry.file.now) result }
+    ensures { PrintsAnswer O.Sink out.old out.new
+        (IsEtcdRevisionsPrint job.now input.entry.file.now) result }
 {
     let store = read_store(input, job.meta)?;
     let pass = pass_from(&store.keys, job.from);
@@ -49,7 +49,8 @@ pub(crate) fn print_revisions<O: Sink>(
 fn pass_from<'a>(keys: &Bucket<'a>, from: Option<u64>) -> Revisions<'a>
     ensures checked { pass_checked result ≡ bucket_checked keys.now }
     ensures start { pass_start result ≡ bucket_start keys.now }
-    ensures asked { ForPass result (λ entries. ahead_of result entries ≡ entries_asked from entries) }
+    ensures asked { ForPass result (λ entries.
+        ahead_of result entries ≡ entries_asked from entries) }
     ensures others { pass_others result ≡ 0 }
 {
     match from {
@@ -60,7 +61,8 @@ fn pass_from<'a>(keys: &Bucket<'a>, from: Option<u64>) -> Revisions<'a>
 
 /// Writes the keys that there were at a transaction.
 pub(crate) fn print_current<O: Sink>(input: Input<'_>, job: &EtcdKeysJob, out: &mut O) -> Outcome
-    ensures { PrintsAnswer O.Sink out.old out.new (IsEtcdKeysPrint job.now input.entry.file.now) result }
+    ensures { PrintsAnswer O.Sink out.old out.new
+        (IsEtcdKeysPrint job.now input.entry.file.now) result }
 {
     let store = read_store(input, job.meta)?;
     refuse_compacted(&store.root, job.at)?;
@@ -71,7 +73,8 @@ pub(crate) fn print_current<O: Sink>(input: Input<'_>, job: &EtcdKeysJob, out: &
 
 /// Writes what a key held at a transaction.
 pub(crate) fn print_held<O: Sink>(input: Input<'_>, job: &EtcdGetJob, out: &mut O) -> Outcome
-    ensures { PrintsAnswer O.Sink out.old out.new (IsEtcdGetPrint job.now input.entry.file.now) result }
+    ensures { PrintsAnswer O.Sink out.old out.new
+        (IsEtcdGetPrint job.now input.entry.file.now) result }
 {
     let store = read_store(input, job.meta)?;
     refuse_compacted(&store.root, job.at)?;
@@ -79,7 +82,10 @@ pub(crate) fn print_held<O: Sink>(input: Input<'_>, job: &EtcdGetJob, out: &mut 
     let Some(held) = newest.value() else {
         return Err(Failure::NoKey);
     };
-    end_held(put_held(input.alloc, held, job, out), newest.others)
+    end_held(
+        put_value(input.alloc, held, job.form, job.no_newline, out),
+        newest.others,
+    )
 }
 
 /// Writes `OK`, or what is wrong with a file, or with what etcd keeps in it.
@@ -88,7 +94,8 @@ pub(crate) fn print_store_check<O: Sink>(
     job: &EtcdCheckJob,
     out: &mut O,
 ) -> Outcome
-    ensures { PrintsAnswer O.Sink out.old out.new (IsEtcdCheckPrint job.now input.entry.file.now) result }
+    ensures { PrintsAnswer O.Sink out.old out.new
+        (IsEtcdCheckPrint job.now input.entry.file.now) result }
 {
     let checked = match input.check(job.meta) {
         Ok(checked) => checked,
@@ -113,8 +120,10 @@ fn read_store<'f>(input: Input<'f>, choice: MetaChoice) -> Result<Store<'f>, Fai
 
 /// Refuses a transaction that was compacted away.
 fn refuse_compacted(root: &Bucket<'_>, at: Option<u64>) -> Result<(), Failure>
-    ensures kept { OnOk result (ForStore root.now (λ store. is_compacted at (store_compacted store) ≡ false)) }
-    ensures refused { IfErr result (λ why. (why ≡ Compacted) × ForStore root.now (λ store. is_compacted at (store_compacted store) ≡ true)) }
+    ensures kept { OnOk result
+        (ForStore root.now (λ store. is_compacted at (store_compacted store) ≡ false)) }
+    ensures refused { IfErr result (λ why. (why ≡ Compacted)
+        × ForStore root.now (λ store. is_compacted at (store_compacted store) ≡ true)) }
 {
     match (at, store_compacted(root)) {
         (Some(main), Some(compacted)) if main < compacted => Err(Failure::Compacted),
@@ -127,23 +136,6 @@ fn up_to(at: Option<u64>) -> u64
     ensures { result ≡ up_to at }
 {
     at.unwrap_or(u64::MAX)
-}
-
-/// Writes a value, and a line feed unless none is wanted.
-fn put_held<O: Sink>(
-    alloc: Global,
-    held: &[u8],
-    job: &EtcdGetJob,
-    out: &mut O,
-) -> Result<(), ReportFault>
-    ensures written { Wrote O.Sink out.old out.new (held_text job.now held.now) (report_ending result) }
-    ensures fault { IfErr result (λ fault. (fault ≡ ReportFault.Sink) ⊎ ((fault ≡ ReportFault.NoMemory) × (job.now.form ≡ Form.Json))) }
-{
-    if job.no_newline {
-        item(alloc, held, job.form, out)
-    } else {
-        value(alloc, held, job.form, out)
-    }
 }
 
 /// How a job ends that wrote revisions.

@@ -47,7 +47,8 @@ fn put_text<E: Sink>(failure: &Failure, err: &mut E) -> Result<(), SinkFault>
 }
 
 fn put_file_refused<E: Sink>(finding: &Finding, err: &mut E) -> Result<(), SinkFault>
-    ensures { Wrote E.Sink err.old err.new (codes "file refused: " ++ finding_text finding.now) (ending result) }
+    ensures { Wrote E.Sink err.old err.new (codes "file refused: " ++ finding_text finding.now)
+        (ending result) }
 {
     put(b"file refused: ", err)?;
     finding_text(finding, err)
@@ -55,13 +56,16 @@ fn put_file_refused<E: Sink>(finding: &Finding, err: &mut E) -> Result<(), SinkF
 
 /// Writes a number after a text.
 fn put_number<E: Sink>(text: &[u8], number: u64, err: &mut E) -> Result<(), SinkFault>
-    ensures { Wrote E.Sink err.old err.new (text.now ++ (decimal number ++ codes "\n")) (ending result) }
+    ensures { Wrote E.Sink err.old err.new (text.now ++ (decimal number ++ codes "\n"))
+        (ending result) }
 {
     put_pieces(&[Piece::Field(text, number), Piece::Bytes(b"\n")], err)
 }
 
 fn put_line_fault<E: Sink>(line: u64, fault: LineFault, err: &mut E) -> Result<(), SinkFault>
-    ensures { Wrote E.Sink err.old err.new (codes "line " ++ ((decimal line ++ codes ": ") ++ (line_fault_words fault ++ codes "\n"))) (ending result) }
+    ensures { Wrote E.Sink err.old err.new
+        (codes "line " ++ ((decimal line ++ codes ": ") ++ (line_fault_words fault ++ codes "\n")))
+        (ending result) }
 {
     put_pieces(
         &[

@@ -19,6 +19,7 @@ mod opened;
 mod opening;
 mod printing_commands;
 mod recovered_commands;
+mod value_text;
 
 use crate::check_command::print_check;
 use crate::copy_commands::{write_copy, write_loaded};

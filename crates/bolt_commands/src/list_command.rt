@@ -1,9 +1,10 @@
 //! The command `list`.
-ghost use Rattle.std.specs.Prelude.{◌≡◌, IfErr, IfOk, List, OnOk};
+ghost use Rattle.std.specs.Prelude.{◌≡◌, IfErr, IfOk, OnOk};
 ghost use Rattle.bolt_recover.specs.ShownLosses.{lost_view};
 ghost use Rattle.bolt_format.specs.Wrote.{Wrote};
+ghost use Rattle.bolt_report.specs.MembersLeft.{ForLeft, ForRising};
 ghost use Rattle.bolt_text.specs.ReportEndings.{report_ending};
-ghost use Rattle.bolt_tree.specs.{FileListings.ForListing, Listing.Member, Listing.member_cmp, Order.Rises, Paths.path_of};
+ghost use Rattle.bolt_tree.specs.{FileListings.ForListing, Paths.path_of};
 ghost use Rattle.bolt_job.specs.PlainWords.{path_in};
 ghost use Rattle.bolt_commands.specs.Answers.{IsListPrint, lost_ending};
 ghost use Rattle.bolt_commands.specs.Private.{Endings.MayFail, Opened.IsOpened, Opened.IsSearchOf, Printing.PrintsAnswer, Printing.PutsJoined, Printing.PutsListing};
@@ -26,7 +27,8 @@ use std::alloc::Global;
 /// Writes a part of the listing: that of a sound file, of what is recovered of a damaged one, or of that
 /// joined with what is found of it.
 pub(crate) fn print_list<O: Sink>(input: Input<'_>, job: &ListJob, out: &mut O) -> Outcome
-    ensures { PrintsAnswer O.Sink out.old out.new (IsListPrint job.now input.entry.file.now) result }
+    ensures { PrintsAnswer O.Sink out.old out.new
+        (IsListPrint job.now input.entry.file.now) result }
 {
     each_file_has_found_pages();
     let mut opened = input.open(job.meta, job.extent)?;
@@ -105,7 +107,8 @@ fn put_whole_part<O: Sink>(
     job: &ListJob,
     out: &mut O,
 ) -> Result<(), ReportFault>
-    ensures written { ForListing checked.entry (λ listing. Wrote O.Sink out.old out.new (sound_part job.now listing) (report_ending result)) }
+    ensures written { ForListing checked.entry (λ listing.
+        Wrote O.Sink out.old out.new (sound_part job.now listing) (report_ending result)) }
     ensures fault { MayFail result }
 {
     let path = slices(alloc, job.path.as_slice())?;
@@ -127,9 +130,10 @@ fn put_members_part<'a, M: Members<'a>, O: Sink>(
     job: &ListJob,
     out: &mut O,
 ) -> Result<bool, ReportFault>
-    ensures written { (listing : List Member) → M.lists members.old listing → Rises member_cmp (M.left members.old listing)
-        → Wrote O.Sink out.old out.new (job_part job.now (M.left members.old listing)) (report_ending result) }
-    ensures found { IfOk result (λ found. (listing : List Member) → M.lists members.old listing → found ≡ finds job.now (M.left members.old listing)) }
+    ensures written { ForRising M.lists M.left members.old (λ left.
+        Wrote O.Sink out.old out.new (job_part job.now left) (report_ending result)) }
+    ensures found { IfOk result (λ found.
+        ForLeft M.lists M.left members.old (λ left. found ≡ finds job.now left)) }
     ensures end { OnOk result (M.ends_as members.old members.new) }
     ensures fault { MayFail result }
 {

@@ -68,7 +68,9 @@ impl<'f> Opened<'f> {
 fn walk_to_end(recovery: &mut Recovery<'_>) -> Result<(), NoMemory>
     ensures file { recovery_file recovery.new ≡ recovery_file recovery.old }
     ensures meta { recovery_meta recovery.new ≡ recovery_meta recovery.old }
-    ensures all { OnOk result (ForLosses (recovery_file recovery.old) (recovery_meta recovery.old) (λ losses. recovery_losses recovery.new ≡ losses)) }
+    ensures all { OnOk result
+        (ForLosses (recovery_file recovery.old) (recovery_meta recovery.old) (λ losses.
+        recovery_losses recovery.new ≡ losses)) }
 {
     'members: while recovery.next()?.is_some() {}
     Ok(())

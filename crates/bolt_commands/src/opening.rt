@@ -1,12 +1,12 @@
 //! Opens what a command reads: a file under the meta that is chosen, what is left of a damaged one, what is lost and found of it, or a bucket by its path.
 ghost use Rattle.std.specs.Prelude.{◌≡◌, IfErr, IfOk};
-ghost use Rattle.bolt_check.specs.CheckedFiles.{bytes_of, meta_of};
-ghost use Rattle.bolt_commands.specs.Answers.{IsReadUnder, IsRecoveredUnder, IsRefusedUnder, IsUnjoinedUnder, IsUnrecoverableUnder, LeadsTo};
+ghost use Rattle.bolt_check.specs.CheckedFiles.{bytes_of, meta_of, in_checked};
+ghost use Rattle.bolt_commands.specs.Answers.{IsReadUnder, IsRecoveredUnder, IsRefusedUnder, IsUnjoinedUnder, IsUnrecoverableUnder, LeadsTo, LeadsNowhere};
 ghost use Rattle.bolt_job.specs.PlainWords.{path_in};
 ghost use Rattle.bolt_commands.specs.Private.Opened.{HasNoBucket, IsBucketOf, IsJoinedOf, IsOpened, IsSearchOf, IsUnopened, IsUnread, IsUnsearched};
 ghost use Rattle.bolt_commands.specs.declared.failure.Failure.TheVariants.{NoBucket};
 ghost use Rattle.bolt_recover.specs.{Recovered.ForRecovered, Recoveries.recovery_file, Recoveries.recovery_left, Recoveries.recovery_meta};
-ghost use Rattle.bolt_tree.specs.{Buckets.bucket_checked, Buckets.bucket_start, Entries.Start};
+ghost use Rattle.bolt_tree.specs.{Buckets.bucket_checked, Buckets.bucket_start};
 
 use crate::failure::Failure;
 use crate::opened::Opened;
@@ -40,7 +40,8 @@ impl<'f> Input<'f> {
     /// meta, its accounts too.
     pub(crate) fn check(self, choice: MetaChoice) -> Result<Checked<'f>, CheckFault>
         ensures bytes { IfOk result (λ checked. bytes_of checked ≡ self.entry.file.now) }
-        ensures sound { IfOk result (λ checked. IsReadUnder self.entry.file.now choice (meta_of checked)) }
+        ensures sound { IfOk result (λ checked.
+            IsReadUnder self.entry.file.now choice (meta_of checked)) }
         ensures refused { IfErr result (IsRefusedUnder self.entry.file.now choice) }
     {
         if let MetaChoice::Active = choice {
@@ -53,7 +54,8 @@ impl<'f> Input<'f> {
     /// The same, with the failure that is reported if the file is refused.
     pub(crate) fn read(self, choice: MetaChoice) -> Result<Checked<'f>, Failure>
         ensures bytes { IfOk result (λ checked. bytes_of checked ≡ self.entry.file.now) }
-        ensures sound { IfOk result (λ checked. IsReadUnder self.entry.file.now choice (meta_of checked)) }
+        ensures sound { IfOk result (λ checked.
+            IsReadUnder self.entry.file.now choice (meta_of checked)) }
         ensures refused { IfErr result (IsUnread self.entry.file.now choice) }
     {
         let checked = self.check(choice)?;
@@ -77,9 +79,11 @@ impl<'f> Input<'f> {
     /// `Open` if the file has no such meta, and what `Recovery::under` returns.
     pub(crate) fn recover(self, choice: MetaChoice) -> Result<Recovery<'f>, CheckFault>
         ensures file { IfOk result (λ recovery. recovery_file recovery ≡ self.entry.file.now) }
-        ensures meta { IfOk result (λ recovery. IsRecoveredUnder self.entry.file.now choice (recovery_meta recovery)) }
-        ensures all { IfOk result (λ recovery.
-            ForRecovered self.entry.file.now (recovery_meta recovery) (λ listing. recovery_left recovery listing ≡ listing)) }
+        ensures meta { IfOk result (λ recovery.
+            IsRecoveredUnder self.entry.file.now choice (recovery_meta recovery)) }
+        ensures all { IfOk result (λ r.
+            ForRecovered self.entry.file.now (recovery_meta r) (λ listing.
+            recovery_left r listing ≡ listing)) }
         ensures refused { IfErr result (IsUnrecoverableUnder self.entry.file.now choice) }
     {
         let meta = choice.find(self.file)?;
@@ -115,9 +119,10 @@ pub(crate) fn join<'a>(
 /// The bucket at a path, from the root bucket down. The empty path is the root bucket's.
 pub(crate) fn open_bucket<'a>(checked: Checked<'a>, path: &[Vec<u8>]) -> Result<Bucket<'a>, Failure>
     ensures file { IfOk result (λ bucket. bucket_checked bucket ≡ checked.entry) }
-    ensures named { IfOk result (λ bucket. ∥ LeadsTo (bytes_of checked.entry) (meta_of checked.entry) (path_in path.now) (bucket_start bucket) ∥₁) }
+    ensures named { IfOk result (λ bucket.
+        ∥ in_checked LeadsTo checked.entry (path_in path.now) (bucket_start bucket) ∥₁) }
     ensures refused { IfErr result (λ failure. (failure ≡ NoBucket)
-        × ((bucket : Start) → LeadsTo (bytes_of checked.entry) (meta_of checked.entry) (path_in path.now) bucket → ⊥)) }
+        × in_checked LeadsNowhere checked.entry (path_in path.now)) }
 {
     let mut bucket = Bucket::root(checked);
     for part in path {

@@ -1,14 +1,13 @@
 //! The commands that print figures, pages and what a bucket holds: `info`, `page`, `pages`, `buckets`,
 //! `keys`, `get` and `stats`.
 ghost use Rattle.std.specs.Prelude.{◌≡◌, ◌⊎◌, IfErr, IfOk, false, true};
-ghost use Rattle.bolt_check.specs.{CheckedFiles.bytes_of, CheckedFiles.has_accounts, CheckedFiles.meta_of, RoledFiles.roles_checked, Sound.HasSoundTrees};
+ghost use Rattle.bolt_check.specs.{CheckedFiles.bytes_of, CheckedFiles.has_accounts, CheckedFiles.meta_of, RoledFiles.roles_checked, Sound.HasSoundTrees, CheckedFiles.in_checked};
 ghost use Rattle.bolt_format.specs.{Endings.ending, Wrote.Wrote};
-ghost use Rattle.bolt_report.specs.{PageTables.ForRoles};
-ghost use Rattle.bolt_text.specs.{ReportEndings.report_ending};
-ghost use Rattle.bolt_tree.specs.{Buckets.bucket_checked, Buckets.bucket_start, Entries.Start, Entries.Value, EntriesLeft.ForEntries};
+ghost use Rattle.bolt_report.specs.{KeyLines.ForBucket, PageTables.ForRoles};
+ghost use Rattle.bolt_tree.specs.{Buckets.bucket_checked, Entries.Value};
 ghost use Rattle.bolt_commands.specs.Answers.{HasNoMeta, HasStats, HoldsIn, HoldsNone, IsBucketsPrint, IsBucketsShown, IsGetPrint, IsInfoAnswer};
-ghost use Rattle.bolt_commands.specs.Answers.{IsKeysPrint, IsKeysShown, IsPageAnswer, IsValueShown, IsPagesAnswer, IsReadAnswer, IsShownMeta, IsStatsPrint, IsTotal, LeadsTo, no_stats, pages_shown, value_shown};
-ghost use Rattle.bolt_commands.specs.Private.Printing.{PrintsAnswer, shown_of};
+ghost use Rattle.bolt_commands.specs.Answers.{IsKeysPrint, IsKeysShown, IsPageAnswer, IsValueShown, IsPagesAnswer, IsReadAnswer, IsShownMeta, IsStatsPrint, IsTotal, no_stats, pages_shown, LeadsNowhere};
+ghost use Rattle.bolt_commands.specs.Private.Printing.{PrintsAnswer};
 ghost use Rattle.bolt_job.specs.{PlainWords.path_in, declared.choices.MetaChoice.TheVariants.Active};
 ghost use Rattle.bolt_job.specs.declared.choices.BucketsShown.TheVariants as shown;
 ghost use Rattle.bolt_commands.specs.declared.failure.Failure.TheVariants.{Memory, NoBucket};
@@ -16,19 +15,21 @@ ghost use Rattle.bolt_commands.specs.declared.failure.Failure.TheVariants.{Memor
 use crate::failure::{Failure, Outcome, ended, written};
 use crate::opening::{Input, open_bucket};
 use crate::recovered_commands::{RecoveredNames, print_recovered_names, print_recovered_value};
+use crate::value_text::put_value;
 use bolt_check::{Checked, NoMemory, Roles, check_roles};
 use bolt_format::{Meta, MetaFault, Sink, SinkFault, Slot, choose, slot_meta};
 use bolt_job::{BucketsJob, BucketsShown, GetJob, InfoJob, KeysJob, PageJob, PagesJob, StatsJob};
 use bolt_report::{
-    Form, Names, ReportFault, Stats, add, buckets, info, item, keys_with_prefix, page_map,
-    page_text, pages_table, sizes, stats, stats_text, value,
+    Names, Stats, add, buckets, info, keys_with_prefix, page_map, page_text, pages_table, sizes,
+    stats, stats_text,
 };
 use bolt_tree::Bucket;
 use std::alloc::Global;
 
 /// Writes the figures of the meta in a slot or, without one, of the active meta.
 pub(crate) fn print_info<O: Sink>(input: Input<'_>, job: &InfoJob, out: &mut O) -> Outcome
-    ensures { PrintsAnswer O.Sink out.old out.new (IsInfoAnswer input.entry.file.now job.now.slot job.now.form) result }
+    ensures { PrintsAnswer O.Sink out.old out.new
+        (IsInfoAnswer input.entry.file.now job.now.slot job.now.form) result }
 {
     let (slot, meta) = find_meta(input.file, job.slot)?;
     written(info(slot, &meta, job.form, out))
@@ -46,7 +47,8 @@ fn find_meta(file: &[u8], slot: Option<Slot>) -> Result<(Slot, Meta), MetaFault>
 
 /// Writes the text of a page.
 pub(crate) fn print_page<O: Sink>(input: Input<'_>, job: &PageJob, out: &mut O) -> Outcome
-    ensures { PrintsAnswer O.Sink out.old out.new (IsPageAnswer input.entry.file.now job.now.meta job.now.id) result }
+    ensures { PrintsAnswer O.Sink out.old out.new
+        (IsPageAnswer input.entry.file.now job.now.meta job.now.id) result }
 {
     let meta = job.meta.find(input.file)?;
     ended(page_text(input.file, &meta, job.id, out))
@@ -54,7 +56,9 @@ pub(crate) fn print_page<O: Sink>(input: Input<'_>, job: &PageJob, out: &mut O) 
 
 /// Writes the table of all pages or, if it is asked for, a map of them.
 pub(crate) fn print_pages<O: Sink>(input: Input<'_>, job: &PagesJob, out: &mut O) -> Outcome
-    ensures { PrintsAnswer O.Sink out.old out.new (IsReadAnswer input.entry.file.now Active (IsPagesAnswer input.entry.file.now job.now.map)) result }
+    ensures { PrintsAnswer O.Sink out.old out.new
+        (IsReadAnswer input.entry.file.now Active
+        (IsPagesAnswer input.entry.file.now job.now.map)) result }
 {
     let roles = check_roles(input.alloc, input.file)?;
     written(put_pages(&roles, job.map, out))
@@ -62,7 +66,9 @@ pub(crate) fn print_pages<O: Sink>(input: Input<'_>, job: &PagesJob, out: &mut O
 
 fn put_pages<O: Sink>(roles: &Roles<'_>, map: bool, out: &mut O) -> Result<(), SinkFault>
     requires { has_accounts (roles_checked roles.now) ≡ true }
-    ensures { ForRoles (roles_checked roles.now) (λ own. Wrote O.Sink out.old out.new (shown_of (pages_shown map) (roles_checked roles.now) own) (ending result)) }
+    ensures { ForRoles (roles_checked roles.now) (λ own.
+        Wrote O.Sink out.old out.new (in_checked (pages_shown map) (roles_checked roles.now) own)
+        (ending result)) }
 {
     if map {
         page_map(roles, out)
@@ -73,7 +79,8 @@ fn put_pages<O: Sink>(roles: &Roles<'_>, map: bool, out: &mut O) -> Result<(), S
 
 /// Writes the names of the buckets in the bucket at a path, or also their sizes.
 pub(crate) fn print_buckets<O: Sink>(input: Input<'_>, job: &BucketsJob, out: &mut O) -> Outcome
-    ensures { PrintsAnswer O.Sink out.old out.new (IsBucketsPrint job.now input.entry.file.now) result }
+    ensures { PrintsAnswer O.Sink out.old out.new
+        (IsBucketsPrint job.now input.entry.file.now) result }
 {
     match job.shown {
         BucketsShown::Names => put_bucket_names(input, job, out),
@@ -92,7 +99,8 @@ pub(crate) fn print_buckets<O: Sink>(input: Input<'_>, job: &BucketsJob, out: &m
 
 /// Writes the names of the buckets in the bucket at a path of a sound file.
 fn put_bucket_names<O: Sink>(input: Input<'_>, job: &BucketsJob, out: &mut O) -> Outcome
-    ensures { PrintsAnswer O.Sink out.old out.new (IsBucketsShown shown.Names job.now input.entry.file.now) result }
+    ensures { PrintsAnswer O.Sink out.old out.new
+        (IsBucketsShown shown.Names input.entry.file.now job.now.meta job.now) result }
 {
     let bucket = input.bucket(job.meta, job.path.as_slice())?;
     ended(buckets(input.alloc, &bucket, job.form, out))
@@ -100,7 +108,8 @@ fn put_bucket_names<O: Sink>(input: Input<'_>, job: &BucketsJob, out: &mut O) ->
 
 /// Writes their sizes and names.
 fn put_sizes<O: Sink>(input: Input<'_>, job: &BucketsJob, out: &mut O) -> Outcome
-    ensures { PrintsAnswer O.Sink out.old out.new (IsBucketsShown shown.Sizes job.now input.entry.file.now) result }
+    ensures { PrintsAnswer O.Sink out.old out.new
+        (IsBucketsShown shown.Sizes input.entry.file.now job.now.meta job.now) result }
 {
     let bucket = input.bucket(job.meta, job.path.as_slice())?;
     ended(sizes(input.alloc, &bucket, job.form, out))
@@ -108,7 +117,8 @@ fn put_sizes<O: Sink>(input: Input<'_>, job: &BucketsJob, out: &mut O) -> Outcom
 
 /// Writes the keys of the bucket at a path that begin with a prefix.
 pub(crate) fn print_keys<O: Sink>(input: Input<'_>, job: &KeysJob, out: &mut O) -> Outcome
-    ensures { PrintsAnswer O.Sink out.old out.new (IsKeysPrint job.now input.entry.file.now) result }
+    ensures { PrintsAnswer O.Sink out.old out.new
+        (IsKeysPrint job.now input.entry.file.now) result }
 {
     if job.recover {
         let asked = RecoveredNames {
@@ -125,7 +135,8 @@ pub(crate) fn print_keys<O: Sink>(input: Input<'_>, job: &KeysJob, out: &mut O) 
 
 /// Writes the keys of the bucket at a path of a sound file that begin with a prefix.
 fn put_keys<O: Sink>(input: Input<'_>, job: &KeysJob, out: &mut O) -> Outcome
-    ensures { PrintsAnswer O.Sink out.old out.new (IsKeysShown false job.now input.entry.file.now) result }
+    ensures { PrintsAnswer O.Sink out.old out.new
+        (IsKeysShown false input.entry.file.now job.now.meta job.now) result }
 {
     let bucket = input.bucket(job.meta, job.path.as_slice())?;
     let mut cursor = bucket.cursor();
@@ -146,33 +157,21 @@ pub(crate) fn print_value<O: Sink>(input: Input<'_>, job: &GetJob, out: &mut O) 
 
 /// Writes the value at a path of a sound file.
 fn print_sound_value<O: Sink>(input: Input<'_>, job: &GetJob, out: &mut O) -> Outcome
-    ensures { PrintsAnswer O.Sink out.old out.new (IsValueShown false job.now input.entry.file.now) result }
+    ensures { PrintsAnswer O.Sink out.old out.new
+        (IsValueShown false input.entry.file.now job.now.meta job.now) result }
 {
     let checked = input.read(job.meta)?;
     let value = find_value(checked, job.path.as_slice())?;
-    ended(put_value(input.alloc, value, job, out))
-}
-
-pub(crate) fn put_value<O: Sink>(
-    alloc: Global,
-    bytes: &[u8],
-    job: &GetJob,
-    out: &mut O,
-) -> Result<(), ReportFault>
-    ensures written { Wrote O.Sink out.old out.new (value_shown job.now bytes.now) (report_ending result) }
-    ensures fault { IfErr result (λ fault. (fault ≡ ReportFault.Sink) ⊎ ((fault ≡ ReportFault.NoMemory) × (job.now.form ≡ Form.Json))) }
-{
-    if job.no_newline {
-        item(alloc, bytes, job.form, out)
-    } else {
-        value(alloc, bytes, job.form, out)
-    }
+    ended(put_value(input.alloc, value, job.form, job.no_newline, out))
 }
 
 /// The value at a path. The last part is its key.
 fn find_value<'a>(checked: Checked<'a>, path: &[Vec<u8>]) -> Result<&'a [u8], Failure>
-    ensures holds { IfOk result (λ value. ∥ HoldsIn (bytes_of checked.entry) (meta_of checked.entry) (path_in path.now) (Value value.now) ∥₁) }
-    ensures refused { IfErr result (HoldsNone (bytes_of checked.entry) (path_in path.now) (meta_of checked.entry)) }
+    ensures holds { IfOk result (λ value.
+        ∥ HoldsIn (bytes_of checked.entry) (meta_of checked.entry) (path_in path.now)
+        (Value value.now) ∥₁) }
+    ensures refused { IfErr result
+        (HoldsNone (bytes_of checked.entry) (path_in path.now) (meta_of checked.entry)) }
 {
     let Some((key, parents)) = path.split_last() else {
         return Err(Failure::NoKey);
@@ -187,7 +186,8 @@ fn find_value<'a>(checked: Checked<'a>, path: &[Vec<u8>]) -> Result<&'a [u8], Fa
 /// Writes the figures of the bucket at a path with all in it. At the empty path they are those of
 /// the root's buckets, added up.
 pub(crate) fn print_stats<O: Sink>(input: Input<'_>, job: &StatsJob, out: &mut O) -> Outcome
-    ensures { PrintsAnswer O.Sink out.old out.new (IsStatsPrint job.now input.entry.file.now) result }
+    ensures { PrintsAnswer O.Sink out.old out.new
+        (IsStatsPrint job.now input.entry.file.now) result }
 {
     let checked = input.read(job.meta)?;
     let stats = find_stats(input.alloc, checked, job.path.as_slice())?;
@@ -197,9 +197,10 @@ pub(crate) fn print_stats<O: Sink>(input: Input<'_>, job: &StatsJob, out: &mut O
 /// The figures of the bucket at a path.
 fn find_stats(alloc: Global, checked: Checked<'_>, path: &[Vec<u8>]) -> Result<Stats, Failure>
     requires { HasSoundTrees (bytes_of checked) (meta_of checked) }
-    ensures found { IfOk result (HasStats (bytes_of checked.entry) (path_in path.now) (meta_of checked.entry)) }
+    ensures found { IfOk result
+        (HasStats (bytes_of checked.entry) (path_in path.now) (meta_of checked.entry)) }
     ensures missing { IfErr result (λ failure. (failure ≡ Memory) ⊎ ((failure ≡ NoBucket)
-        × ((bucket : Start) → LeadsTo (bytes_of checked.entry) (meta_of checked.entry) (path_in path.now) bucket → ⊥))) }
+        × in_checked LeadsNowhere checked.entry (path_in path.now))) }
 {
     if path.is_empty() {
         return Ok(sum_buckets(alloc, &Bucket::root(checked))?);
@@ -210,8 +211,9 @@ fn find_stats(alloc: Global, checked: Checked<'_>, path: &[Vec<u8>]) -> Result<S
 
 /// The figures of the buckets in a bucket, added up.
 fn sum_buckets(alloc: Global, bucket: &Bucket<'_>) -> Result<Stats, NoMemory>
-    ensures { IfOk result (λ total. ForEntries (bucket_checked bucket.now) (bucket_start bucket.now) (λ entries.
-        ∥ IsTotal (bytes_of (bucket_checked bucket.now)) (meta_of (bucket_checked bucket.now)) entries no_stats total ∥₁)) }
+    ensures { IfOk result (λ total.
+        ForBucket bucket.now (λ entries.
+        ∥ in_checked IsTotal (bucket_checked bucket.now) entries no_stats total ∥₁)) }
 {
     let mut total = Stats::default();
     let mut cursor = bucket.cursor();

@@ -3,17 +3,16 @@ ghost use Rattle.std.specs.Prelude.{◌≡◌, ℕ, IfOk, IfSome, List, OnOk, ma
 ghost use Rattle.std.specs.Option.{IfNone};
 ghost use Rattle.bolt_recover.specs.ShownLosses.{loss_view};
 ghost use Rattle.bolt_recover.specs.Losses.{parts};
-ghost use Rattle.bolt_report.specs.MemberNames.{is_wanted};
+ghost use Rattle.bolt_report.specs.MembersLeft.{ForLeft};
 ghost use Rattle.bolt_tree.specs.{Entries.Value, Listing.Member, Paths.path_of, ShownEntries.item_view};
-ghost use Rattle.bolt_job.specs.PlainWords.{path_in};
-ghost use Rattle.bolt_commands.specs.Answers.{IsNamesAnswer, IsRecoveredAnswer, IsRecoveredValue, no_bucket, no_key, parents_of};
+ghost use Rattle.bolt_commands.specs.Answers.{IsRecoveredAnswer, IsRecoveredValue, no_bucket, no_key, parents_of};
 ghost use Rattle.bolt_commands.specs.Private.Printing.{PrintsAnswer};
-ghost use Rattle.bolt_commands.specs.Private.Recovered.{HoldsNow, bucket_ending, value_or_why};
+ghost use Rattle.bolt_commands.specs.Private.Recovered.{HoldsNow, IsNamesPrint, bucket_ending, value_or_why};
 
 use crate::failure::{Failure, Outcome};
 use crate::list_command::{end_listing, slices};
 use crate::opening::Input;
-use crate::printing_commands::put_value;
+use crate::value_text::put_value;
 use bolt_check::NoMemory;
 use bolt_format::Sink;
 use bolt_job::{GetJob, MetaChoice};
@@ -37,8 +36,8 @@ pub(crate) fn print_recovered_names<O: Sink>(
     asked: RecoveredNames<'_>,
     out: &mut O,
 ) -> Outcome
-    ensures { PrintsAnswer O.Sink out.old out.new (IsRecoveredAnswer input.entry.file.now asked.entry.meta
-        (IsNamesAnswer asked.entry.form (is_wanted asked.entry.names) (path_in asked.entry.path.now))) result }
+    ensures { PrintsAnswer O.Sink out.old out.new
+        (IsNamesPrint asked.entry input.entry.file.now) result }
 {
     let mut recovery = input.recover(asked.meta)?;
     let path = slices(input.alloc, asked.path)?;
@@ -83,13 +82,14 @@ fn no_key(losses: &[Loss<'_>]) -> Failure
 
 /// Writes the value at a path, as it is recovered, and a line feed unless none is wanted.
 pub(crate) fn print_recovered_value<O: Sink>(input: Input<'_>, job: &GetJob, out: &mut O) -> Outcome
-    ensures { PrintsAnswer O.Sink out.old out.new (IsRecoveredAnswer input.entry.file.now job.now.meta (IsRecoveredValue job.now)) result }
+    ensures { PrintsAnswer O.Sink out.old out.new
+        (IsRecoveredAnswer input.entry.file.now job.now.meta (IsRecoveredValue job.now)) result }
 {
     let mut recovery = input.recover(job.meta)?;
     let path = slices(input.alloc, job.path.as_slice())?;
     let at = look_up(&mut recovery, path.as_slice())?;
     let value = at.value_or_why(recovery.losses())?;
-    put_value(input.alloc, value, job, out)?;
+    put_value(input.alloc, value, job.form, job.no_newline, out)?;
     end_listing(Lost::Parts(recovery.losses()))
 }
 
@@ -105,7 +105,8 @@ struct AtPath<'a> {
 impl<'a> AtPath<'a> {
     /// The value, or why there is none, if this is lost.
     fn value_or_why(self, losses: &[Loss<'_>]) -> Result<&'a [u8], Failure>
-        ensures { result ≡ value_or_why self.entry.value self.entry.has_bucket (parts (map loss_view losses.now)) }
+        ensures { result ≡ value_or_why self.entry.value self.entry.has_bucket
+            (parts (map loss_view losses.now)) }
     {
         match self.value {
             Some(value) => Ok(value),
@@ -117,7 +118,8 @@ impl<'a> AtPath<'a> {
 
 /// What the members that are left hold at a path. All are returned.
 fn look_up<'a, M: Members<'a>>(members: &mut M, path: &[&[u8]]) -> Result<AtPath<'a>, NoMemory>
-    ensures held { IfOk result (λ at. (listing : List Member) → M.lists members.old listing → HoldsNow (M.left members.old listing) (path_of path.now) at) }
+    ensures held { IfOk result (λ at.
+        ForLeft M.lists M.left members.old (λ left. HoldsNow left (path_of path.now) at)) }
     ensures end { OnOk result (M.ends_as members.old members.new) }
 {
     let parents = parents_of(path);
@@ -139,8 +141,12 @@ fn parents_of<'p, 'a>(path: &'p [&'a [u8]]) -> &'p [&'a [u8]]
 
 /// The value of a member, if it is one at this path.
 fn value_at<'a>(path: &[&[u8]], item: &Item<'a>, wanted: &[&[u8]]) -> Option<&'a [u8]>
-    ensures some { IfSome result (λ value. ◌≡◌ {A = Member} (path_of path.now, item_view item.now) (path_of wanted.now, Value value.now)) }
-    ensures none { IfNone result ((value : List ℕ) → ◌≡◌ {A = Member} (path_of path.now, item_view item.now) (path_of wanted.now, Value value) → ⊥) }
+    ensures some { IfSome result (λ value.
+        ◌≡◌ {A = Member} (path_of path.now, item_view item.now)
+        (path_of wanted.now, Value value.now)) }
+    ensures none { IfNone result ((value : List ℕ)
+        → ◌≡◌ {A = Member} (path_of path.now, item_view item.now) (path_of wanted.now, Value value)
+        → ⊥) }
 {
     match item {
         Item::Value(value) if path == wanted => Some(value),

@@ -28,3 +28,7 @@ newest_first_cmp a b = ordering_then (name_cmp a b) (place_cmp b a)
 
 abbrev pub is_there : RevisionView → Bool
 is_there r = not r.key.deleted
+
+-- exactly one list of revisions is so
+abbrev pub IsOne : (List RevisionView → Type 0) → Type 0
+IsOne Is = (rs : List RevisionView) × Is rs × ((other : List RevisionView) → Is other → other ≡ rs)

@@ -1,8 +1,8 @@
 -- What a pass over the revisions of all names has ahead of it.
-use Rattle.std.specs.Prelude.{◌≡◌, ◌||◌, if◌then◌else◌, ℕ, Bool, false, List, [], ◌∷◌, drop, length, map, Option, Some, None}
+use Rattle.std.specs.Prelude.{◌≡◌, ◌||◌, ◌+◌, if◌then◌else◌, ℕ, Bool, false, List, [], ◌∷◌, drop, flat_map, length, map, Option, Some, None}
 use Rattle.std.specs.Option.{option_map}
 use Rattle.bolt_tree.specs.declared.bucket.Bucket.{Bucket}
-use Rattle.bolt_etcd.specs.{NameFaults.NameFaultView, NameFaults.has_lease, NameFaults.name_faults, ShownRevisions.shown_revision, Stores.ForBucket}
+use Rattle.bolt_etcd.specs.{CheckLines.fault_lines, NameFaults.NameFaultView, NameFaults.fault_of, NameFaults.has_lease, NameFaults.name_faults, ShownRevisions.shown_revision, Stores.ForBucket}
 use Rattle.bolt_etcd.specs.declared.{name_faults.NameFault.NameFault, name_faults.NameFaults.NameFaults, revision.Revision.Revision}
 
 abbrev pub shown_fault : NameFault → NameFaultView
@@ -27,6 +27,16 @@ faults_number pass = length (revisions_left pass)
 abbrev pub ForGranted : Option Bucket → ((ℕ → Bool) → Type 0) → Type 0
 ForGranted None P = P (λ lease. false)
 ForGranted (Some leases) P = ForBucket leases (λ entries. P (has_lease entries))
+
+-- it is what is missing of its next revision
+abbrev pub IsNextFault : NameFaults → (ℕ → Bool) → NameFault → Type 0
+IsNextFault pass granted f =
+    shown_fault f ≡ fault_of pass.compacted granted (option_map shown_revision pass.before) (shown_revision f.revision)
+    (map shown_revision (drop (pass.at + 1) pass.revisions.now))
+
+-- this holds of the lines of the faults that it still has to return
+abbrev pub ForFaultLines : NameFaults → (List (List ℕ) → Type 0) → Type 0
+ForFaultLines pass P = ForGranted (faults_leases pass) (λ granted. P (flat_map fault_lines (faults_left pass granted)))
 
 -- the first is returned, and the others are left; or none is left
 abbrev pub GivesFault : (old new : List NameFaultView) → Option NameFault → Type 0

@@ -6,6 +6,8 @@ pub mod EtcdCompactions
 pub mod FaultsLeft
 pub mod FewTransactions
 pub mod Follows
+pub mod ForHistories
+pub mod ForNames
 pub mod HeldNames
 pub mod Histories
 pub mod Marks
@@ -34,4 +36,5 @@ pub mod Taken
 pub mod Told
 pub mod ToldRevisions
 pub mod WholeStores
+pub mod WriterLines
 pub mod Wire

@@ -41,6 +41,10 @@ number_ahead pass = length (ahead_of pass (pass_entries pass))
 abbrev pub ForPass : Revisions → (List LeafElement → Type 0) → Type 0
 ForPass pass P = ForEntries (pass_checked pass) (pass_start pass) P
 
+-- this holds of those of them that it has ahead
+abbrev pub ForAhead : Revisions → (List LeafElement → Type 0) → Type 0
+ForAhead pass P = ForPass pass (λ entries. P (ahead_of pass entries))
+
 -- The first revision of those ahead is returned, or there is none, and nothing is left; and the entries before it are counted.
 abbrev pub GivesFirst : (old new : List LeafElement) → Option RevisionView → Type 0
 GivesFirst old new (Some r) = revisions old ≡ r ∷ revisions new
@@ -48,6 +52,10 @@ GivesFirst old new None = (revisions old ≡ []) × (new ≡ [])
 
 abbrev pub CountsOthers : (old new : List LeafElement) → (before after : ℕ) → Type 0
 CountsOthers old new before after = counted after (length (others new)) ≡ counted before (length (others old))
+
+-- so are those between the two
+abbrev pub CountsPassed : (old new : Revisions) → Type 0
+CountsPassed old new = ForPass old (λ entries. CountsOthers (ahead_of old entries) (ahead_of new entries) (pass_others old) (pass_others new))
 
 -- what is opened for one entry more: what a seek of the key opens, or a step of the cursor
 abbrev pub OpensAt : BucketView → Option Key → Place → (old new : ℕ) → Type 0

@@ -27,10 +27,14 @@ abbrev pub missing_if : Option ℕ → List RevisionView → List Missing
 missing_if None rs = []
 missing_if (Some compacted) rs = missing_numbers compacted rs
 
+-- of the entries of the bucket `key` that aren't revisions
+abbrev pub other_lines : List LeafElement → List (List ℕ)
+other_lines entries = map other_line (others_of entries)
+
 -- of the entries of the bucket `key`, one after another
 abbrev pub entry_lines : Option ℕ → List LeafElement → List (List ℕ)
 entry_lines compacted entries =
-    map other_line (others_of entries) ++ (map misplaced_line (misplaced (revisions entries)) ++ map missing_line (missing_if compacted (revisions entries)))
+    other_lines entries ++ (map misplaced_line (misplaced (revisions entries)) ++ map missing_line (missing_if compacted (revisions entries)))
 
 -- of its revisions, name by name
 abbrev pub name_lines : Option ℕ → (ℕ → Bool) → List RevisionView → List (List ℕ)

@@ -1,5 +1,5 @@
 -- What a bucket has of revisions: those among its entries, in the order of the entries, which is that of their keys.
-use Rattle.std.specs.Prelude.{◌≡◌, List, drop, filter, length, map, not}
+use Rattle.std.specs.Prelude.{◌≡◌, ℕ, List, drop, filter, length, map, not}
 use Rattle.std.specs.List.{filter_map}
 use Rattle.std.specs.Option.{is_some}
 use Rattle.bolt_format.specs.Elements.{LeafElement}
@@ -27,3 +27,11 @@ entries_from key entries = drop (least_from key entries) entries
 -- these are all revisions among a bucket's entries, in their order, and the number of its other entries
 abbrev pub IsFound : List LeafElement → Collected → Type 0
 IsFound entries found = (map shown_revision found.revisions.items ≡ revisions entries) × (found.others ≡ counted 0 (length (others entries)))
+
+-- this holds of a bucket's entries, if those were found in it
+abbrev pub ForFound : Bucket → Collected → (List LeafElement → Type 0) → Type 0
+ForFound bucket found P = ForBucket bucket (λ entries. IsFound entries found → P entries)
+
+-- this holds of a bucket's entries, if so many of them aren't revisions
+abbrev pub ForOthers : Bucket → ℕ → (List LeafElement → Type 0) → Type 0
+ForOthers bucket number P = ForBucket bucket (λ entries. number ≡ counted 0 (length (others entries)) → P entries)

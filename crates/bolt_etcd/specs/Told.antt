@@ -1,5 +1,5 @@
 -- What the missing numbers tell: exactly the transactions that aren't there, of those after a compaction and before the last one.
-use Rattle.std.specs.Prelude.{◌≡◌, ◌<◌, ◌≤◌, ◌⊎◌, ℕ, List, [], ◌∷◌, max}
+use Rattle.std.specs.Prelude.{◌≡◌, ◌≢◌, ◌<◌, ◌≤◌, ◌⊎◌, ℕ, List, [], ◌∷◌, max}
 use Rattle.std.specs.List.{Contains}
 use Rattle.std.specs.declared.cmp.Ordering.{Ordering}
 use Rattle.bolt_etcd.specs.{RevisionKeys.numbers_cmp, Revisions.RevisionView}
@@ -18,10 +18,14 @@ abbrev pub IsTold : ℕ → List Missing → Type 0
 IsTold t [] = ⊥
 IsTold t (m ∷ ms) = Tells t m ⊎ IsTold t ms
 
+-- none of these revisions is of this transaction
+abbrev pub HasNoneOf : ℕ → List RevisionView → Type 0
+HasNoneOf t rs = (r : RevisionView) → Contains rs r → r.key.main ≢ t
+
 -- a transaction is missing: it is after the compaction, a later one is there, and none of its revisions is
 pub record IsMissing (compacted t : ℕ) (rs : List RevisionView) : Type 0 where
   pub after : max compacted 1 < t
   pub later : RevisionView
   pub there : Contains rs later
   pub before : t < later.key.main
-  pub none : (r : RevisionView) → Contains rs r → r.key.main ≡ t → ⊥
+  pub none : HasNoneOf t rs

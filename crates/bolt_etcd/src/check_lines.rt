@@ -54,14 +54,16 @@ fn put_no_record<S: Sink>(key: RevisionKey, sink: &mut S) -> Result<(), SinkFaul
 
 /// Writes the line of a record of another revision.
 pub(crate) fn put_misplaced<S: Sink>(revision: &Revision<'_>, sink: &mut S) -> Result<(), SinkFault>
-    ensures { Wrote S.Sink sink.old sink.new (misplaced_line (shown_revision revision.now)) (ending result) }
+    ensures { Wrote S.Sink sink.old sink.new (misplaced_line (shown_revision revision.now))
+        (ending result) }
 {
     put_record(&revision.decode(), sink)
 }
 
 /// Writes that a record is that of another revision.
 fn put_record<S: Sink>(decoded: &Decoded<'_>, sink: &mut S) -> Result<(), SinkFault>
-    ensures { (place : Key) → Wrote S.Sink sink.old sink.new (misplaced_line (shown_decoded place decoded.now)) (ending result) }
+    ensures { (place : Key) → Wrote S.Sink sink.old sink.new
+        (misplaced_line (shown_decoded place decoded.now)) (ending result) }
 {
     put_pieces(
         &[
@@ -86,7 +88,8 @@ pub(crate) fn put_missing<S: Sink>(missing: Missing, sink: &mut S) -> Result<(),
 
 /// Writes the line of the transactions from `first` to `last`.
 fn put_transactions<S: Sink>(first: u64, last: u64, sink: &mut S) -> Result<(), SinkFault>
-    ensures { Wrote S.Sink sink.old sink.new (missing_line (Missing.Transactions first last)) (ending result) }
+    ensures { Wrote S.Sink sink.old sink.new (missing_line (Missing.Transactions first last))
+        (ending result) }
 {
     if first == last {
         return put_pieces(
@@ -109,7 +112,8 @@ fn put_transactions<S: Sink>(first: u64, last: u64, sink: &mut S) -> Result<(), 
 
 /// Writes the line of the revisions of a transaction from `first` to `last`.
 fn put_revisions<S: Sink>(main: u64, first: u64, last: u64, sink: &mut S) -> Result<(), SinkFault>
-    ensures { Wrote S.Sink sink.old sink.new (missing_line (Missing.Revisions main first last)) (ending result) }
+    ensures { Wrote S.Sink sink.old sink.new (missing_line (Missing.Revisions main first last))
+        (ending result) }
 {
     if first == last {
         return put_pieces(
@@ -135,7 +139,8 @@ fn put_revisions<S: Sink>(main: u64, first: u64, last: u64, sink: &mut S) -> Res
 
 /// Writes a line for each thing that is missing of a revision.
 pub(crate) fn put_name_fault<S: Sink>(fault: &NameFault<'_>, sink: &mut S) -> Result<(), SinkFault>
-    ensures { Wrote S.Sink sink.old sink.new (concat (fault_lines (shown_fault fault.now))) (ending result) }
+    ensures { Wrote S.Sink sink.old sink.new (concat (fault_lines (shown_fault fault.now)))
+        (ending result) }
 {
     let decoded = fault.revision.decode();
     put_one_before(&decoded, fault.one_before, sink)?;
@@ -149,7 +154,9 @@ fn put_one_before<S: Sink>(
     sink: &mut S,
 ) -> Result<(), SinkFault>
     ensures { (place : Key)
-        → Wrote S.Sink sink.old sink.new (if is_missing then one_before_line (shown_decoded place decoded.now) else []) (ending result) }
+        → Wrote S.Sink sink.old sink.new
+        (if is_missing then one_before_line (shown_decoded place decoded.now) else [])
+        (ending result) }
 {
     if !is_missing {
         return Ok(());
@@ -173,7 +180,8 @@ fn put_lease<S: Sink>(
     sink: &mut S,
 ) -> Result<(), SinkFault>
     ensures { (place : Key)
-        → Wrote S.Sink sink.old sink.new (if is_missing then lease_line (shown_decoded place decoded.now) else []) (ending result) }
+        → Wrote S.Sink sink.old sink.new
+        (if is_missing then lease_line (shown_decoded place decoded.now) else []) (ending result) }
 {
     if !is_missing {
         return Ok(());

@@ -1,12 +1,14 @@
 //! What is wrong with a store as texts, one after another.
-ghost use Rattle.std.specs.Prelude.{◌≡◌, IfOk, flat_map, length, map};
+ghost use Rattle.std.specs.Prelude.{◌≡◌, IfOk, length, map};
 ghost use Rattle.std.specs.List.{concat};
 ghost use Rattle.bolt_check.specs.Counts.{counted};
 ghost use Rattle.bolt_format.specs.{Endings.ending, Wrote.Wrote};
-ghost use Rattle.bolt_etcd.specs.{CheckLines.misplaced_line, CheckLines.missing_line, CheckLines.other_line, Misplaced.misplaced, Others.others_of, ShownRevisions.shown_revision};
+ghost use Rattle.bolt_etcd.specs.{CheckLines.misplaced_line, CheckLines.missing_line, Misplaced.misplaced, ShownRevisions.shown_revision};
 ghost use Rattle.bolt_etcd.specs.CheckLines.{fault_lines};
-ghost use Rattle.bolt_etcd.specs.FaultsLeft.{ForGranted, faults_leases, faults_left, shown_fault};
-ghost use Rattle.bolt_etcd.specs.{MissingLeft.missing_left, RevisionsLeft.ForPass, RevisionsLeft.ahead_of};
+ghost use Rattle.bolt_etcd.specs.FaultsLeft.{shown_fault, ForFaultLines};
+ghost use Rattle.bolt_etcd.specs.{MissingLeft.missing_left};
+ghost use Rattle.bolt_etcd.specs.StoreFaults.{other_lines};
+ghost use Rattle.bolt_etcd.specs.RevisionsLeft.{ForAhead};
 
 use crate::check_lines::{put_misplaced, put_missing, put_name_fault, put_other};
 use crate::missing::MissingNumbers;
@@ -18,8 +20,10 @@ use bolt_format::{Sink, SinkFault};
 /// Writes a line for each entry ahead of a pass that isn't a revision, and returns how many these
 /// are. The number saturates at 2^64 - 1.
 pub(crate) fn put_others<S: Sink>(mut pass: Revisions<'_>, sink: &mut S) -> Result<u64, SinkFault>
-    ensures written { ForPass pass.entry (λ entries. Wrote S.Sink sink.old sink.new (concat (map other_line (others_of (ahead_of pass.entry entries)))) (ending result)) }
-    ensures number { IfOk result (λ n. ForPass pass.entry (λ entries. n ≡ counted 0 (length (map other_line (others_of (ahead_of pass.entry entries)))))) }
+    ensures written { ForAhead pass.entry (λ entries.
+        Wrote S.Sink sink.old sink.new (concat (other_lines entries)) (ending result)) }
+    ensures number { IfOk result (λ n.
+        ForAhead pass.entry (λ entries. n ≡ counted 0 (length (other_lines entries)))) }
 {
     let mut number = 0_u64;
     'rest: while let Some(other) = pass.next_other() {
@@ -35,8 +39,12 @@ pub(crate) fn put_all_misplaced<S: Sink>(
     revisions: &[Revision<'_>],
     sink: &mut S,
 ) -> Result<u64, SinkFault>
-    ensures written { Wrote S.Sink sink.old sink.new (concat (map misplaced_line (misplaced (map shown_revision revisions.now)))) (ending result) }
-    ensures number { IfOk result (λ n. n ≡ counted 0 (length (map misplaced_line (misplaced (map shown_revision revisions.now))))) }
+    ensures written { Wrote S.Sink sink.old sink.new
+        (concat (map misplaced_line (misplaced (map shown_revision revisions.now))))
+        (ending result) }
+    ensures number { IfOk result (λ n.
+        n ≡ counted 0
+        (length (map misplaced_line (misplaced (map shown_revision revisions.now))))) }
 {
     let mut number = 0_u64;
     'rest: for revision in revisions {
@@ -54,8 +62,10 @@ pub(crate) fn put_all_missing<S: Sink>(
     mut pass: MissingNumbers<'_>,
     sink: &mut S,
 ) -> Result<u64, SinkFault>
-    ensures written { Wrote S.Sink sink.old sink.new (concat (map missing_line (missing_left pass.entry))) (ending result) }
-    ensures number { IfOk result (λ n. n ≡ counted 0 (length (map missing_line (missing_left pass.entry)))) }
+    ensures written { Wrote S.Sink sink.old sink.new
+        (concat (map missing_line (missing_left pass.entry))) (ending result) }
+    ensures number { IfOk result (λ n.
+        n ≡ counted 0 (length (map missing_line (missing_left pass.entry)))) }
 {
     let mut number = 0_u64;
     'rest: while let Some(missing) = pass.next() {
@@ -71,8 +81,10 @@ pub(crate) fn put_name_faults<S: Sink>(
     mut pass: NameFaults<'_>,
     sink: &mut S,
 ) -> Result<u64, SinkFault>
-    ensures written { ForGranted (faults_leases pass.entry) (λ granted. Wrote S.Sink sink.old sink.new (concat (flat_map fault_lines (faults_left pass.entry granted))) (ending result)) }
-    ensures number { IfOk result (λ n. ForGranted (faults_leases pass.entry) (λ granted. n ≡ counted 0 (length (flat_map fault_lines (faults_left pass.entry granted))))) }
+    ensures written { ForFaultLines pass.entry (λ lines.
+        Wrote S.Sink sink.old sink.new (concat lines) (ending result)) }
+    ensures number { IfOk result (λ n.
+        ForFaultLines pass.entry (λ lines. n ≡ counted 0 (length lines))) }
 {
     let mut number = 0_u64;
     'rest: while let Some(fault) = pass.next() {

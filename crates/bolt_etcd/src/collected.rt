@@ -29,7 +29,8 @@ impl<'a> Collected<'a> {
     pub fn of(alloc: Global, bucket: &Bucket<'a>, up_to: u64) -> Result<Collected<'a>, NoMemory>
         ensures revisions { IfOk result (λ all. ForBucket bucket.now (λ entries.
             map shown_revision all.revisions.items ≡ until up_to (revisions entries))) }
-        ensures others { IfOk result (λ all. ForBucket bucket.now (λ entries. all.others ≡ counted 0 (length (others entries)))) }
+        ensures others { IfOk result (λ all.
+            ForBucket bucket.now (λ entries. all.others ≡ counted 0 (length (others entries)))) }
     {
         let mut collected = Vec::with_capacity(alloc, count(bucket, up_to))?;
         let mut revisions = Revisions::of(bucket);
@@ -46,7 +47,8 @@ impl<'a> Collected<'a> {
 
     /// Sorts the revisions by rising name, and those of one name in the order of their keys.
     pub fn sort_by_name(&mut self)
-        ensures sorted { AreByName (map shown_revision self.old.revisions.items) (map shown_revision self.new.revisions.items) }
+        ensures sorted { AreByName (map shown_revision self.old.revisions.items)
+            (map shown_revision self.new.revisions.items) }
         ensures others { self.new.others ≡ self.old.others }
     {
         self.revisions.sort_unstable_by(compare);
@@ -55,7 +57,8 @@ impl<'a> Collected<'a> {
 
 /// The number of revisions of a bucket of no later transaction than `up_to`.
 fn count(bucket: &Bucket<'_>, up_to: u64) -> usize
-    ensures { ForBucket bucket.now (λ entries. result ≡ counted 0 (length (until up_to (revisions entries)))) }
+    ensures { ForBucket bucket.now (λ entries.
+        result ≡ counted 0 (length (until up_to (revisions entries)))) }
 {
     let mut n = 0_usize;
     let mut revisions = Revisions::of(bucket);

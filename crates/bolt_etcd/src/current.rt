@@ -2,8 +2,9 @@
 ghost use Rattle.std.specs.Prelude.{◌≡◌, IfOk, length, map};
 ghost use Rattle.bolt_check.specs.Counts.{counted};
 ghost use Rattle.bolt_tree.specs.Order.{Rises};
-ghost use Rattle.bolt_etcd.specs.{Current.AreCurrent, Current.newest_first_cmp, Current.place_cmp, Newest.until};
+ghost use Rattle.bolt_etcd.specs.{Current.AreCurrent, Current.newest_first_cmp, Current.place_cmp};
 ghost use Rattle.bolt_etcd.specs.{ShownRevisions.shown_revision, Stores.ForBucket, Stores.others, Stores.revisions};
+ghost use Rattle.bolt_etcd.specs.ForNames.{AreCurrentAt};
 
 use crate::collected::Collected;
 use crate::revision::Revision;
@@ -29,9 +30,11 @@ impl<'a> Current<'a> {
     ///
     /// `NoMemory` if memory runs out for these.
     pub fn find(alloc: Global, bucket: &Bucket<'a>, up_to: u64) -> Result<Current<'a>, NoMemory>
-        ensures keys { IfOk result (λ current. ForBucket bucket.now (λ entries.
-            AreCurrent (until up_to (revisions entries)) (map shown_revision current.revisions.items))) }
-        ensures others { IfOk result (λ current. ForBucket bucket.now (λ entries. current.others ≡ counted 0 (length (others entries)))) }
+        ensures keys { IfOk result (λ current.
+            AreCurrentAt bucket.now up_to (map shown_revision current.revisions.items)) }
+        ensures others { IfOk result (λ current.
+            ForBucket bucket.now (λ entries.
+            current.others ≡ counted 0 (length (others entries)))) }
     {
         let Collected {
             mut revisions,
@@ -44,8 +47,8 @@ impl<'a> Current<'a> {
 
 /// Keeps the newest revision of each name, if it isn't a deletion, by rising name.
 fn keep_newest(revisions: &mut Vec<Revision<'_>>)
-    ensures { Rises place_cmp (map shown_revision revisions.old.items)
-        → AreCurrent (map shown_revision revisions.old.items) (map shown_revision revisions.new.items) }
+    ensures { let found = map shown_revision revisions.old.items in
+        Rises place_cmp found → AreCurrent found (map shown_revision revisions.new.items) }
 {
     revisions.sort_unstable_by(newest_first);
     revisions.dedup_by(|older, newest| older.name() == newest.name());

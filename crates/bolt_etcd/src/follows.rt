@@ -40,7 +40,8 @@ impl<'a> Decoded<'a> {
 
     /// Whether it has the next version of the same key.
     fn is_next_of(&self, before: &Decoded<'_>) -> bool
-        ensures { (place other : Key) → result ≡ is_next_of (shown_decoded other before.now) (shown_decoded place self.now) }
+        ensures { (place other : Key)
+            → result ≡ is_next_of (shown_decoded other before.now) (shown_decoded place self.now) }
     {
         let (content, before) = (&self.content, &before.content);
         content.version > before.version

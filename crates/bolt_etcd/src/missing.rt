@@ -51,7 +51,8 @@ impl<'a> MissingNumbers<'a> {
     /// What is missing of these revisions after a compaction at this transaction. Earlier
     /// transactions aren't looked at.
     pub fn of(revisions: &'a [Revision<'a>], compacted: u64) -> MissingNumbers<'a>
-        ensures { missing_left result ≡ missing_numbers compacted (map shown_revision revisions.now) }
+        ensures { missing_left result
+            ≡ missing_numbers compacted (map shown_revision revisions.now) }
     {
         MissingNumbers {
             revisions,
@@ -92,7 +93,8 @@ impl<'a> MissingNumbers<'a> {
         ensures above { self.new.above ≡ self.old.above }
         ensures revisions { self.new.revisions ≡ self.old.revisions }
         ensures at { self.new.at ≡ self.old.at }
-        ensures missing { option_to_list result ++ option_to_list self.new.pending ≡ missing_before self.old.main self.old.sub key }
+        ensures missing { option_to_list result ++ option_to_list self.new.pending
+            ≡ missing_before self.old.main self.old.sub key }
         ensures none { result ≡ None → self.new.pending ≡ None }
     {
         let (main, sub) = (self.main, self.sub);

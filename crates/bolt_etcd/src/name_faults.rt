@@ -1,7 +1,7 @@
 //! What is missing of the names of a store.
 ghost use Rattle.std.specs.Prelude.{◌≡◌, ◌<◌, ◌+◌, ◌∷◌, ℕ, Bool, IfSome, None, drop, length, map};
 ghost use Rattle.std.specs.Option.{option_map};
-ghost use Rattle.bolt_etcd.specs.{NameFaults.fault_of, NameFaults.is_newest, NameFaults.lacks_lease, NameFaults.lacks_one_before, NameFaults.name_faults, ShownRevisions.shown_revision};
+ghost use Rattle.bolt_etcd.specs.{NameFaults.is_newest, NameFaults.lacks_lease, NameFaults.lacks_one_before, NameFaults.name_faults, ShownRevisions.shown_revision};
 
 use crate::revision::Revision;
 use bolt_tree::Bucket;
@@ -32,7 +32,7 @@ pub struct NameFaults<'a> {
 
 #[tactic(auto, unfolding(crate::specs::FaultsLeft::faults_left, crate::specs::FaultsLeft::faults_leases, crate::specs::FaultsLeft::faults_number))]
 impl<'a> NameFaults<'a> {
-    ghost use Rattle.bolt_etcd.specs.FaultsLeft.{ForGranted, GivesFault, faults_leases, faults_left, faults_number, revisions_left, shown_fault, StepsOver};
+    ghost use Rattle.bolt_etcd.specs.FaultsLeft.{ForGranted, GivesFault, IsNextFault, faults_leases, faults_left, faults_number, revisions_left, StepsOver};
 
     /// Of revisions as `Collected::sort_by_name` sorts them, after a compaction at this transaction, if it is
     /// known. These are the leases that there are; without them there is none.
@@ -42,7 +42,9 @@ impl<'a> NameFaults<'a> {
         leases: Option<Bucket<'a>>,
     ) -> NameFaults<'a>
         ensures leases { faults_leases result ≡ leases.entry }
-        ensures all { (granted : ℕ → Bool) → faults_left result granted ≡ name_faults compacted granted None (map shown_revision revisions.now) }
+        ensures all { (granted : ℕ → Bool)
+            → faults_left result granted
+            ≡ name_faults compacted granted None (map shown_revision revisions.now) }
     {
         NameFaults {
             revisions,
@@ -55,7 +57,8 @@ impl<'a> NameFaults<'a> {
 
     /// Returns the next revision of which something is missing, or `None` if there is none.
     pub fn next(&mut self) -> Option<NameFault<'a>>
-        ensures given { ForGranted (faults_leases self.old) (λ granted. GivesFault (faults_left self.old granted) (faults_left self.new granted) result) }
+        ensures given { ForGranted (faults_leases self.old) (λ granted.
+            GivesFault (faults_left self.old granted) (faults_left self.new granted) result) }
         ensures leases { faults_leases self.new ≡ faults_leases self.old }
         ensures fewer { IfSome result (λ _. faults_number self.new < faults_number self.old) }
     {
@@ -69,7 +72,8 @@ impl<'a> NameFaults<'a> {
 
     /// Goes on to the next revision, and says what is missing of it.
     fn step(&mut self) -> Option<NameFault<'a>>
-        ensures given { ForGranted (faults_leases self.old) (λ granted. StepsOver granted self.old self.new result) }
+        ensures given { ForGranted (faults_leases self.old) (λ granted.
+            StepsOver granted self.old self.new result) }
         ensures leases { faults_leases self.new ≡ faults_leases self.old }
         ensures fewer { IfSome result (λ _. faults_number self.new < faults_number self.old) }
     {
@@ -85,9 +89,10 @@ impl<'a> NameFaults<'a> {
     /// What is missing of the next revision.
     fn fault(&self) -> NameFault<'a>
         requires { self.now.at < length self.now.revisions.now }
-        ensures revision { revisions_left self.now ≡ result.revision ∷ drop (self.now.at + 1) self.now.revisions.now }
-        ensures fault { ForGranted self.now.leases (λ granted. shown_fault result ≡ fault_of self.now.compacted granted (option_map shown_revision self.now.before)
-            (shown_revision result.revision) (map shown_revision (drop (self.now.at + 1) self.now.revisions.now))) }
+        ensures revision { revisions_left self.now
+            ≡ result.revision ∷ drop (self.now.at + 1) self.now.revisions.now }
+        ensures fault { ForGranted self.now.leases (λ granted.
+            IsNextFault self.now granted result) }
     {
         let revision = self.revisions[self.at];
         let later = &self.revisions[self.at + 1..];
@@ -100,7 +105,8 @@ impl<'a> NameFaults<'a> {
 
     /// Whether a revision doesn't follow the one before it of its name.
     fn lacks_one_before(&self, revision: &Revision<'_>) -> bool
-        ensures { result ≡ lacks_one_before self.now.compacted (option_map shown_revision self.now.before) (shown_revision revision.now) }
+        ensures { result ≡ lacks_one_before self.now.compacted
+            (option_map shown_revision self.now.before) (shown_revision revision.now) }
     {
         let Some(compacted) = self.compacted else {
             return false;
@@ -116,7 +122,8 @@ impl<'a> NameFaults<'a> {
 
     /// Whether a revision has a lease that isn't there.
     fn lacks_lease(&self, revision: &Revision<'_>) -> bool
-        ensures { ForGranted self.now.leases (λ granted. result ≡ lacks_lease granted (shown_revision revision.now)) }
+        ensures { ForGranted self.now.leases (λ granted.
+            result ≡ lacks_lease granted (shown_revision revision.now)) }
     {
         let lease = revision.decode().content.lease;
         if lease == 0 {

@@ -25,8 +25,11 @@ impl<'a> Newest<'a> {
     /// `up_to`. Goes over all entries of the bucket once, keeps nothing of the others, and needs no
     /// memory.
     pub fn find(bucket: &Bucket<'a>, name: &[u8], up_to: u64) -> Newest<'a>
-        ensures revision { ForBucket bucket.now (λ entries. option_map shown_revision result.revision ≡ newest name.now (until up_to (revisions entries))) }
-        ensures others { ForBucket bucket.now (λ entries. result.others ≡ counted 0 (length (others entries))) }
+        ensures revision { ForBucket bucket.now (λ entries.
+            option_map shown_revision result.revision
+            ≡ newest name.now (until up_to (revisions entries))) }
+        ensures others { ForBucket bucket.now (λ entries.
+            result.others ≡ counted 0 (length (others entries))) }
     {
         let mut revisions = Revisions::of(bucket);
         let mut revision = None;
@@ -43,7 +46,8 @@ impl<'a> Newest<'a> {
 
     /// The value of the newest revision, or `None` if there is none, or if it is a deletion.
     pub fn value(&self) -> Option<&'a [u8]>
-        ensures { option_map (λ value. value.now) result ≡ value_if (option_map shown_revision self.now.revision) }
+        ensures { option_map (λ value. value.now) result
+            ≡ value_if (option_map shown_revision self.now.revision) }
     {
         let decoded = self.revision.as_ref()?.decode();
         if decoded.key.deleted {

@@ -47,7 +47,9 @@ impl<'a> Revisions<'a> {
         ensures checked { pass_checked self.new ≡ pass_checked self.old }
         ensures start { pass_start self.new ≡ pass_start self.old }
         ensures others { pass_others self.new ≡ pass_others self.old }
-        ensures given { ForPass self.old (λ entries. GivesOther (ahead_of self.old entries) (ahead_of self.new entries) (option_map shown_other result)) }
+        ensures given { ForPass self.old (λ entries.
+            GivesOther (ahead_of self.old entries) (ahead_of self.new entries)
+            (option_map shown_other result)) }
         ensures fewer { IfSome result (λ _. number_ahead self.new < number_ahead self.old) }
     {
         'rest: while let Some(entry) = self.advance() {

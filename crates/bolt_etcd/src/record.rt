@@ -59,7 +59,8 @@ impl<'a> Record<'a> {
     /// The record after one more field, if the field has its wire type.
     #[tactic(auto, unfolding(crate::specs::Records::with))]
     fn with(mut self, field: Field<'a>) -> Option<Record<'a>>
-        ensures { Returns shown_record result (with (shown_record self.entry) (shown_field field.entry)) }
+        ensures { Returns shown_record result
+            (with (shown_record self.entry) (shown_field field.entry)) }
     {
         let value = field.value;
         match field.number {

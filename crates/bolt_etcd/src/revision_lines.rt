@@ -3,7 +3,7 @@ ghost use Rattle.std.specs.Prelude.{◌≡◌, ◌⊎◌, ◌++◌, IfErr};
 ghost use Rattle.bolt_check.specs.Keys.{Key};
 ghost use Rattle.bolt_format.specs.{Endings.ending, Wrote.Wrote};
 ghost use Rattle.bolt_text.specs.{Forms.item_text, ReportEndings.report_ending};
-ghost use Rattle.bolt_etcd.specs.RevisionLines.{columns, head, line_end, members, named_line, revision_line, value_mark, value_part};
+ghost use Rattle.bolt_etcd.specs.RevisionLines.{columns, head, line_end, members, value_mark};
 ghost use Rattle.bolt_etcd.specs.ShownRevisions.{shown_decoded, shown_revision};
 
 use crate::revision::{Decoded, Revision};
@@ -21,6 +21,8 @@ pub struct RevisionWriter {
 
 #[tactic(auto, using(bolt_text::proofs::ReportLemmas::reports))]
 impl RevisionWriter {
+    ghost use Rattle.bolt_etcd.specs.WriterLines.{line_by, named_line_by, value_by};
+
     /// What writes in this form, with values or without.
     pub fn new(alloc: Global, form: Form, values: bool) -> RevisionWriter
         ensures form { result.items.form ≡ form }
@@ -41,8 +43,10 @@ impl RevisionWriter {
     pub fn put<S: Sink>(&mut self, revision: &Revision<'_>, sink: &mut S) -> Result<(), ReportFault>
         ensures form { self.new.items.form ≡ self.old.items.form }
         ensures values { self.new.values ≡ self.old.values }
-        ensures written { Wrote S.Sink sink.old sink.new (revision_line self.old.items.form self.old.values (shown_revision revision.now)) (report_ending result) }
-        ensures fault { IfErr result (λ fault. (fault ≡ ReportFault.Sink) ⊎ ((fault ≡ ReportFault.NoMemory) × (self.old.items.form ≡ Form.Json))) }
+        ensures written { Wrote S.Sink sink.old sink.new
+            (line_by self.old (shown_revision revision.now)) (report_ending result) }
+        ensures fault { IfErr result (λ fault. (fault ≡ ReportFault.Sink)
+            ⊎ ((fault ≡ ReportFault.NoMemory) × (self.old.items.form ≡ Form.Json))) }
     {
         let decoded = revision.decode();
         put_head(self.items.form, &decoded, sink)?;
@@ -61,8 +65,11 @@ impl RevisionWriter {
     ) -> Result<(), ReportFault>
         ensures form { self.new.items.form ≡ self.old.items.form }
         ensures values { self.new.values ≡ self.old.values }
-        ensures written { Wrote S.Sink sink.old sink.new (named_line prefix.now self.old.items.form self.old.values (shown_revision revision.now)) (report_ending result) }
-        ensures fault { IfErr result (λ fault. (fault ≡ ReportFault.Sink) ⊎ ((fault ≡ ReportFault.NoMemory) × (self.old.items.form ≡ Form.Json))) }
+        ensures written { Wrote S.Sink sink.old sink.new
+            (named_line_by self.old prefix.now (shown_revision revision.now))
+            (report_ending result) }
+        ensures fault { IfErr result (λ fault. (fault ≡ ReportFault.Sink)
+            ⊎ ((fault ≡ ReportFault.NoMemory) × (self.old.items.form ≡ Form.Json))) }
     {
         if revision.name().starts_with(prefix) {
             self.put(revision, sink)
@@ -80,8 +87,10 @@ impl RevisionWriter {
         ensures form { self.new.items.form ≡ self.old.items.form }
         ensures values { self.new.values ≡ self.old.values }
         ensures written { (place : Key)
-            → Wrote S.Sink sink.old sink.new (value_part self.old.items.form self.old.values (shown_decoded place revision.now)) (report_ending result) }
-        ensures fault { IfErr result (λ fault. (fault ≡ ReportFault.Sink) ⊎ ((fault ≡ ReportFault.NoMemory) × (self.old.items.form ≡ Form.Json))) }
+            → Wrote S.Sink sink.old sink.new (value_by self.old (shown_decoded place revision.now))
+            (report_ending result) }
+        ensures fault { IfErr result (λ fault. (fault ≡ ReportFault.Sink)
+            ⊎ ((fault ≡ ReportFault.NoMemory) × (self.old.items.form ≡ Form.Json))) }
     {
         if !self.values {
             return Ok(());
@@ -111,7 +120,8 @@ fn line_end(form: Form) -> &'static [u8]
 
 /// Writes the numbers of a revision, as columns or as the beginning of an object.
 fn put_head<S: Sink>(form: Form, revision: &Decoded<'_>, sink: &mut S) -> Result<(), SinkFault>
-    ensures { (place : Key) → Wrote S.Sink sink.old sink.new (head form (shown_decoded place revision.now)) (ending result) }
+    ensures { (place : Key) → Wrote S.Sink sink.old sink.new
+        (head form (shown_decoded place revision.now)) (ending result) }
 {
     if form.is_json() {
         put_members(revision, sink)
@@ -123,7 +133,8 @@ fn put_head<S: Sink>(form: Form, revision: &Decoded<'_>, sink: &mut S) -> Result
 /// Writes the numbers, each followed by a space.
 #[tactic(auto, unfolding(crate::specs::RevisionLines::columns))]
 fn put_columns<S: Sink>(revision: &Decoded<'_>, sink: &mut S) -> Result<(), SinkFault>
-    ensures { (place : Key) → Wrote S.Sink sink.old sink.new (columns (shown_decoded place revision.now)) (ending result) }
+    ensures { (place : Key) → Wrote S.Sink sink.old sink.new
+        (columns (shown_decoded place revision.now)) (ending result) }
 {
     let (key, content) = (revision.key, revision.content);
     put_pieces(
@@ -143,7 +154,8 @@ fn put_columns<S: Sink>(revision: &Decoded<'_>, sink: &mut S) -> Result<(), Sink
 /// Writes the beginning of the object, up to the name.
 #[tactic(auto, unfolding(crate::specs::RevisionLines::members))]
 fn put_members<S: Sink>(revision: &Decoded<'_>, sink: &mut S) -> Result<(), SinkFault>
-    ensures { (place : Key) → Wrote S.Sink sink.old sink.new (members (shown_decoded place revision.now)) (ending result) }
+    ensures { (place : Key) → Wrote S.Sink sink.old sink.new
+        (members (shown_decoded place revision.now)) (ending result) }
 {
     let (key, content) = (revision.key, revision.content);
     put_pieces(

@@ -1,11 +1,12 @@
 //! The texts of the revisions of a bucket.
-ghost use Rattle.std.specs.Prelude.{◌≡◌, ◌⊎◌, IfErr, IfOk, List, length, map};
+ghost use Rattle.std.specs.Prelude.{◌≡◌, ◌⊎◌, IfErr, IfOk, length, map};
 ghost use Rattle.bolt_check.specs.Counts.{counted};
 ghost use Rattle.bolt_format.specs.Wrote.{Wrote};
 ghost use Rattle.bolt_text.specs.ReportEndings.{report_ending};
-ghost use Rattle.bolt_etcd.specs.RevisionLines.{named, revision_lines};
-ghost use Rattle.bolt_etcd.specs.RevisionsLeft.{ForPass, ahead_of, pass_others};
-ghost use Rattle.bolt_etcd.specs.{Current.AreCurrent, Newest.until, Revisions.RevisionView, ShownRevisions.shown_revision, Stores.ForBucket, Stores.others, Stores.revisions};
+ghost use Rattle.bolt_etcd.specs.RevisionLines.{revision_lines};
+ghost use Rattle.bolt_etcd.specs.RevisionsLeft.{pass_others, ForAhead};
+ghost use Rattle.bolt_etcd.specs.{ShownRevisions.shown_revision, Stores.ForBucket, Stores.others, Stores.revisions};
+ghost use Rattle.bolt_etcd.specs.ForNames.{ForCurrent};
 
 use crate::current::Current;
 use crate::revision::Revision;
@@ -17,6 +18,8 @@ use bolt_tree::Bucket;
 use std::alloc::Global;
 
 impl RevisionWriter {
+    ghost use Rattle.bolt_etcd.specs.WriterLines.{lines_by};
+
     /// Writes the lines of the revisions of a pass whose names begin with `prefix`, in their order.
     /// Returns the number of entries that it has passed over since they aren't revisions. Keeps
     /// nothing of a revision.
@@ -33,10 +36,14 @@ impl RevisionWriter {
     ) -> Result<u64, ReportFault>
         ensures form { self.new.items.form ≡ self.old.items.form }
         ensures values { self.new.values ≡ self.old.values }
-        ensures written { ForPass pass.entry (λ entries.
-            Wrote S.Sink sink.old sink.new (revision_lines self.old.items.form self.old.values (named prefix.now (revisions (ahead_of pass.entry entries)))) (report_ending result)) }
-        ensures others { IfOk result (λ n. ForPass pass.entry (λ entries. n ≡ counted (pass_others pass.entry) (length (others (ahead_of pass.entry entries))))) }
-        ensures fault { IfErr result (λ fault. (fault ≡ ReportFault.Sink) ⊎ ((fault ≡ ReportFault.NoMemory) × (self.old.items.form ≡ Form.Json))) }
+        ensures written { ForAhead pass.entry (λ rest.
+            Wrote S.Sink sink.old sink.new (lines_by self.old prefix.now (revisions rest))
+            (report_ending result)) }
+        ensures others { IfOk result (λ n.
+            ForAhead pass.entry (λ rest.
+            n ≡ counted (pass_others pass.entry) (length (others rest)))) }
+        ensures fault { IfErr result (λ fault. (fault ≡ ReportFault.Sink)
+            ⊎ ((fault ≡ ReportFault.NoMemory) × (self.old.items.form ≡ Form.Json))) }
     {
         'rest: while let Some(revision) = pass.next() {
             self.put_named(prefix, &revision, sink)?;
@@ -63,10 +70,13 @@ impl RevisionWriter {
     ) -> Result<u64, ReportFault>
         ensures form { self.new.items.form ≡ self.old.items.form }
         ensures values { self.new.values ≡ self.old.values }
-        ensures written { ForBucket bucket.now (λ entries. (current : List RevisionView) → AreCurrent (until up_to (revisions entries)) current
-            → Wrote S.Sink sink.old sink.new (revision_lines self.old.items.form self.old.values (named prefix.now current)) (report_ending result)) }
-        ensures others { IfOk result (λ n. ForBucket bucket.now (λ entries. n ≡ counted 0 (length (others entries)))) }
-        ensures fault { IfErr result (λ fault. (fault ≡ ReportFault.Sink) ⊎ (fault ≡ ReportFault.NoMemory)) }
+        ensures written { ForCurrent bucket.now up_to (λ held.
+            Wrote S.Sink sink.old sink.new (lines_by self.old prefix.now held)
+            (report_ending result)) }
+        ensures others { IfOk result (λ n.
+            ForBucket bucket.now (λ entries. n ≡ counted 0 (length (others entries)))) }
+        ensures fault { IfErr result (λ fault. (fault ≡ ReportFault.Sink)
+            ⊎ (fault ≡ ReportFault.NoMemory)) }
     {
         let current = Current::find(alloc, bucket, up_to)?;
         self.put_all(&current.revisions, prefix, sink)?;
@@ -84,8 +94,10 @@ impl RevisionWriter {
         ensures form { self.new.items.form ≡ self.old.items.form }
         ensures values { self.new.values ≡ self.old.values }
         ensures written { Wrote S.Sink sink.old sink.new
-            (revision_lines self.old.items.form self.old.values (named prefix.now (map shown_revision revisions.now))) (report_ending result) }
-        ensures fault { IfErr result (λ fault. (fault ≡ ReportFault.Sink) ⊎ ((fault ≡ ReportFault.NoMemory) × (self.old.items.form ≡ Form.Json))) }
+            (lines_by self.old prefix.now (map shown_revision revisions.now))
+            (report_ending result) }
+        ensures fault { IfErr result (λ fault. (fault ≡ ReportFault.Sink)
+            ⊎ ((fault ≡ ReportFault.NoMemory) × (self.old.items.form ≡ Form.Json))) }
     {
         'rest: for revision in revisions {
             self.put_named(prefix, revision, sink)?;

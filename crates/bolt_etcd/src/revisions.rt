@@ -22,7 +22,7 @@ pub struct Revisions<'a> {
 #[tactic(auto, unfolding(crate::specs::RevisionsLeft::OpensOne, crate::specs::RevisionsLeft::ahead_of, crate::specs::RevisionsLeft::pass_checked, crate::specs::RevisionsLeft::pass_opened, crate::specs::RevisionsLeft::pass_others, crate::specs::RevisionsLeft::pass_start))]
 impl<'a> Revisions<'a> {
     ghost use Rattle.bolt_etcd.specs.Passes.{ShowsFirst};
-    ghost use Rattle.bolt_etcd.specs.RevisionsLeft.{CountsOthers, ForPass, GivesFirst, OpensOne, ahead_of, begins_with_other, number_ahead, pass_checked, pass_opened, pass_others, pass_start};
+    ghost use Rattle.bolt_etcd.specs.RevisionsLeft.{CountsPassed, ForPass, GivesFirst, OpensOne, ahead_of, begins_with_other, number_ahead, pass_checked, pass_opened, pass_others, pass_start};
 
     /// All revisions of a bucket.
     pub fn of(bucket: &Bucket<'a>) -> Revisions<'a>
@@ -31,7 +31,8 @@ impl<'a> Revisions<'a> {
         ensures all { ForPass result (λ entries. ahead_of result entries ≡ entries) }
         ensures others { pass_others result ≡ 0 }
         ensures opened { pass_opened result ≡ 0 }
-        ensures opens { (n : ℕ) → OpensOne result n → OpensGap (bucket_in (bucket_checked bucket.now) (bucket_start bucket.now)) 0 0 n }
+        ensures opens { (n : ℕ) → OpensOne result n
+            → OpensGap (bucket_in (bucket_checked bucket.now) (bucket_start bucket.now)) 0 0 n }
     {
         Revisions {
             cursor: bucket.cursor(),
@@ -45,10 +46,13 @@ impl<'a> Revisions<'a> {
     pub fn from(bucket: &Bucket<'a>, main: u64) -> Revisions<'a>
         ensures checked { pass_checked result ≡ bucket_checked bucket.now }
         ensures start { pass_start result ≡ bucket_start bucket.now }
-        ensures rest { ForPass result (λ entries. ahead_of result entries ≡ entries_from (to_be_bytes w64 main) entries) }
+        ensures rest { ForPass result (λ entries.
+            ahead_of result entries ≡ entries_from (to_be_bytes w64 main) entries) }
         ensures others { pass_others result ≡ 0 }
         ensures opened { pass_opened result ≡ 0 }
-        ensures opens { (n : ℕ) → OpensOne result n → OpensSeek (bucket_in (bucket_checked bucket.now) (bucket_start bucket.now)) (to_be_bytes w64 main) 0 n }
+        ensures opens { (n : ℕ) → OpensOne result n
+            → OpensSeek (bucket_in (bucket_checked bucket.now) (bucket_start bucket.now))
+            (to_be_bytes w64 main) 0 n }
     {
         Revisions {
             cursor: bucket.cursor(),
@@ -63,11 +67,14 @@ impl<'a> Revisions<'a> {
     pub fn next(&mut self) -> Option<Revision<'a>>
         ensures checked { pass_checked self.new ≡ pass_checked self.old }
         ensures start { pass_start self.new ≡ pass_start self.old }
-        ensures given { ForPass self.old (λ entries. GivesFirst (ahead_of self.old entries) (ahead_of self.new entries) (option_map shown_revision result)) }
-        ensures counts { ForPass self.old (λ entries.
-            CountsOthers (ahead_of self.old entries) (ahead_of self.new entries) (pass_others self.old) (pass_others self.new)) }
+        ensures given { ForPass self.old (λ entries.
+            GivesFirst (ahead_of self.old entries) (ahead_of self.new entries)
+            (option_map shown_revision result)) }
+        ensures counts { CountsPassed self.old self.new }
         ensures fewer { IfSome result (λ _. number_ahead self.new < number_ahead self.old) }
-        ensures opens { ForPass self.old (λ entries. begins_with_other (ahead_of self.old entries) ≡ false → OpensOne self.old (pass_opened self.new)) }
+        ensures opens { ForPass self.old (λ entries.
+            begins_with_other (ahead_of self.old entries) ≡ false
+            → OpensOne self.old (pass_opened self.new)) }
     {
         'rest: while let Some(entry) = self.advance() {
             if let Some(revision) = Revision::of(&entry) {
@@ -97,7 +104,9 @@ impl<'a> Revisions<'a> {
     pub(crate) fn advance(&mut self) -> Option<Entry<'a>>
         ensures checked { pass_checked self.new ≡ pass_checked self.old }
         ensures start { pass_start self.new ≡ pass_start self.old }
-        ensures first { ForPass self.old (λ entries. ShowsFirst (ahead_of self.old entries) (ahead_of self.new entries) (option_map shown_entry result)) }
+        ensures first { ForPass self.old (λ entries.
+            ShowsFirst (ahead_of self.old entries) (ahead_of self.new entries)
+            (option_map shown_entry result)) }
         ensures others { pass_others self.new ≡ pass_others self.old }
         ensures opens { OpensOne self.old (pass_opened self.new) }
     {

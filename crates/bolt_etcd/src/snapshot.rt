@@ -7,6 +7,7 @@ ghost use Rattle.bolt_format.specs.{Endings.ending, Wrote.Wrote};
 ghost use Rattle.bolt_format.specs.{Metas.HasBothMetas, Metas.IsActive, declared.meta.Meta.Meta, declared.meta.Slot.Slot};
 ghost use Rattle.bolt_etcd.specs.{Marks.HasAllPages, SnapshotFaults.IsSnapshot, SnapshotFaults.cut_hash_fault, SnapshotFaults.hash_fault, SnapshotFaults.snapshot_fault_text, SnapshotFaults.snapshot_of};
 ghost use Rattle.bolt_tree.specs.Listing.{IsListing, Member};
+ghost use Rattle.bolt_etcd.specs.Marks.{ForTrailing};
 
 use bolt_format::{Sink, SinkFault};
 use bolt_text::put;
@@ -74,12 +75,13 @@ fn snapshot_fault_line(fault: SnapshotFault) -> &'static [u8]
 /// one is active, the file stays sound, and it lists the same.
 pub fn trailing_bytes_change_nothing()
     ensures metas { (file more : List ℕ) → HasBothMetas file → HasBothMetas (file ++ more) }
-    ensures chosen { (file more : List ℕ) (slot : Slot) (meta : Meta) (accounts : Bool) → HasAllPages file meta
+    ensures chosen { (file more : List ℕ) (slot : Slot) (meta : Meta) (accounts : Bool)
+        → HasAllPages file meta
         → IsSound file meta accounts → IsActive file slot meta → IsActive (file ++ more) slot meta }
-    ensures sound { (file more : List ℕ) (meta : Meta) (accounts : Bool) → HasAllPages file meta
-        → IsSound file meta accounts → IsSound (file ++ more) meta accounts }
-    ensures listing { (file more : List ℕ) (meta : Meta) (listing : List Member) → HasAllPages file meta
-        → IsListing file meta listing ↔ IsListing (file ++ more) meta listing }
+    ensures sound { ForTrailing (λ file longer meta (accounts : Bool).
+        IsSound file meta accounts → IsSound longer meta accounts) }
+    ensures listing { ForTrailing (λ file longer meta (listing : List Member).
+        IsListing file meta listing ↔ IsListing longer meta listing) }
 {}
 
 /// A file of whole blocks of 512 bytes and its hash are a snapshot. Without the hash, it is missing; if a

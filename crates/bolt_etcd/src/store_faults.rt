@@ -1,14 +1,15 @@
 //! What is wrong with a store, of its root bucket.
-ghost use Rattle.std.specs.Prelude.{◌≡◌, ◌⊎◌, ◌++◌, IfErr, IfOk, List, length, map};
+ghost use Rattle.std.specs.Prelude.{◌≡◌, ◌⊎◌, IfErr, IfOk, length, map, ◌++◌};
 ghost use Rattle.std.specs.List.{concat};
 ghost use Rattle.bolt_check.specs.Counts.{counted};
 ghost use Rattle.bolt_format.specs.{Endings.ending, Wrote.Wrote};
 ghost use Rattle.bolt_text.specs.ReportEndings.{report_ending};
-ghost use Rattle.bolt_tree.specs.Order.{Rises};
-ghost use Rattle.bolt_etcd.specs.{CheckLines.missing_line, CheckLines.other_line, Current.place_cmp, FaultsLeft.ForGranted, NameFaults.AreByName, Others.others_of};
-ghost use Rattle.bolt_etcd.specs.{Revisions.RevisionView, ShownRevisions.shown_revision, Stores.ForBucket, Stores.IsFound, Stores.others};
+ghost use Rattle.bolt_etcd.specs.{CheckLines.missing_line};
+ghost use Rattle.bolt_etcd.specs.{ShownRevisions.shown_revision, Stores.others};
 ghost use Rattle.bolt_etcd.specs.StoreBuckets.{ForStore};
-ghost use Rattle.bolt_etcd.specs.StoreFaults.{bucket_line, bucket_lines, entry_lines, line_without, missing_if, name_lines, store_lines};
+ghost use Rattle.bolt_etcd.specs.StoreFaults.{bucket_line, bucket_lines, entry_lines, line_without, missing_if, store_lines, other_lines};
+ghost use Rattle.bolt_etcd.specs.ForNames.{ForNameLines};
+ghost use Rattle.bolt_etcd.specs.Stores.{ForFound, ForOthers};
 
 use crate::check_texts::{put_all_misplaced, put_all_missing, put_name_faults, put_others};
 use crate::collected::Collected;
@@ -53,9 +54,12 @@ pub fn put_store_faults<S: Sink>(
     root: &Bucket<'_>,
     sink: &mut S,
 ) -> Result<u64, ReportFault>
-    ensures written { ForStore root.now (λ store. Wrote S.Sink sink.old sink.new (concat (store_lines store)) (report_ending result)) }
-    ensures number { IfOk result (λ n. ForStore root.now (λ store. n ≡ counted 0 (length (store_lines store)))) }
-    ensures fault { IfErr result (λ fault. (fault ≡ ReportFault.Sink) ⊎ (fault ≡ ReportFault.NoMemory)) }
+    ensures written { ForStore root.now (λ store.
+        Wrote S.Sink sink.old sink.new (concat (store_lines store)) (report_ending result)) }
+    ensures number { IfOk result (λ n.
+        ForStore root.now (λ store. n ≡ counted 0 (length (store_lines store)))) }
+    ensures fault { IfErr result (λ fault. (fault ≡ ReportFault.Sink)
+        ⊎ (fault ≡ ReportFault.NoMemory)) }
 {
     let of_buckets = put_missing_buckets(root, &BUCKETS, sink)?;
     let Some(keys) = root.bucket(b"key") else {
@@ -79,8 +83,12 @@ fn put_missing_buckets<S: Sink>(
     names: &[&[u8]],
     sink: &mut S,
 ) -> Result<u64, SinkFault>
-    ensures written { ForStore root.now (λ store. Wrote S.Sink sink.old sink.new (concat (bucket_lines store (map (λ name. name.now) names.now))) (ending result)) }
-    ensures number { IfOk result (λ n. ForStore root.now (λ store. n ≡ counted 0 (length (bucket_lines store (map (λ name. name.now) names.now))))) }
+    ensures written { ForStore root.now (λ store.
+        Wrote S.Sink sink.old sink.new
+        (concat (bucket_lines store (map (λ n. n.now) names.now))) (ending result)) }
+    ensures number { IfOk result (λ n.
+        ForStore root.now (λ store.
+        n ≡ counted 0 (length (bucket_lines store (map (λ n. n.now) names.now))))) }
 {
     let mut number = 0_u64;
     'rest: for name in names {
@@ -96,8 +104,11 @@ fn put_missing_bucket<S: Sink>(
     name: &[u8],
     sink: &mut S,
 ) -> Result<u64, SinkFault>
-    ensures written { ForStore root.now (λ store. Wrote S.Sink sink.old sink.new (concat (line_without name.now (store.bucket name.now))) (ending result)) }
-    ensures number { IfOk result (λ n. ForStore root.now (λ store. n ≡ length (line_without name.now (store.bucket name.now)))) }
+    ensures written { ForStore root.now (λ store.
+        Wrote S.Sink sink.old sink.new (concat (line_without name.now (store.bucket name.now)))
+        (ending result)) }
+    ensures number { IfOk result (λ n.
+        ForStore root.now (λ store. n ≡ length (line_without name.now (store.bucket name.now)))) }
 {
     if root.bucket(name).is_some() {
         return Ok(0);
@@ -128,8 +139,11 @@ fn put_entry_faults<S: Sink>(
     compacted: Option<u64>,
     sink: &mut S,
 ) -> Result<u64, SinkFault>
-    ensures written { ForBucket keys.now (λ entries. IsFound entries found.now → Wrote S.Sink sink.old sink.new (concat (entry_lines compacted entries)) (ending result)) }
-    ensures number { IfOk result (λ n. ForBucket keys.now (λ entries. IsFound entries found.now → n ≡ counted 0 (length (entry_lines compacted entries)))) }
+    ensures written { ForFound keys.now found.now (λ entries.
+        Wrote S.Sink sink.old sink.new (concat (entry_lines compacted entries)) (ending result)) }
+    ensures number { IfOk result (λ n.
+        ForFound keys.now found.now (λ entries.
+        n ≡ counted 0 (length (entry_lines compacted entries)))) }
 {
     let others = put_counted_others(keys, found.others, sink)?;
     let misplaced = put_all_misplaced(&found.revisions, sink)?;
@@ -144,10 +158,10 @@ fn put_counted_others<S: Sink>(
     number: u64,
     sink: &mut S,
 ) -> Result<u64, SinkFault>
-    ensures written { ForBucket keys.now (λ entries. number ≡ counted 0 (length (others entries))
-        → Wrote S.Sink sink.old sink.new (concat (map other_line (others_of entries))) (ending result)) }
-    ensures number { IfOk result (λ n. ForBucket keys.now (λ entries. number ≡ counted 0 (length (others entries))
-        → n ≡ counted 0 (length (map other_line (others_of entries))))) }
+    ensures written { ForOthers keys.now number (λ entries.
+        Wrote S.Sink sink.old sink.new (concat (other_lines entries)) (ending result)) }
+    ensures number { IfOk result (λ n.
+        ForOthers keys.now number (λ entries. n ≡ counted 0 (length (other_lines entries)))) }
 {
     match number {
         0 => Ok(0),
@@ -162,8 +176,12 @@ fn put_missing_numbers<S: Sink>(
     compacted: Option<u64>,
     sink: &mut S,
 ) -> Result<u64, SinkFault>
-    ensures written { Wrote S.Sink sink.old sink.new (concat (map missing_line (missing_if compacted (map shown_revision revisions.now)))) (ending result) }
-    ensures number { IfOk result (λ n. n ≡ counted 0 (length (map missing_line (missing_if compacted (map shown_revision revisions.now))))) }
+    ensures written { Wrote S.Sink sink.old sink.new
+        (concat (map missing_line (missing_if compacted (map shown_revision revisions.now))))
+        (ending result) }
+    ensures number { IfOk result (λ n.
+        n ≡ counted 0
+        (length (map missing_line (missing_if compacted (map shown_revision revisions.now))))) }
 {
     match compacted {
         Some(compacted) => put_all_missing(MissingNumbers::of(revisions, compacted), sink),
@@ -179,12 +197,11 @@ fn put_faults_by_name<S: Sink>(
     leases: Option<Bucket<'_>>,
     sink: &mut S,
 ) -> Result<u64, SinkFault>
-    ensures written { Rises place_cmp (map shown_revision found.entry.revisions.items)
-        → ForGranted leases.entry (λ granted. (by_name : List RevisionView) → AreByName (map shown_revision found.entry.revisions.items) by_name
-        → Wrote S.Sink sink.old sink.new (concat (name_lines compacted granted by_name)) (ending result)) }
-    ensures number { IfOk result (λ n. Rises place_cmp (map shown_revision found.entry.revisions.items)
-        → ForGranted leases.entry (λ granted. (by_name : List RevisionView) → AreByName (map shown_revision found.entry.revisions.items) by_name
-        → n ≡ counted 0 (length (name_lines compacted granted by_name)))) }
+    ensures written { ForNameLines found.entry.revisions.items compacted leases.entry (λ lines.
+        Wrote S.Sink sink.old sink.new (concat lines) (ending result)) }
+    ensures number { IfOk result (λ n.
+        ForNameLines found.entry.revisions.items compacted leases.entry (λ lines.
+        n ≡ counted 0 (length lines))) }
 {
     found.sort_by_name();
     put_name_faults(NameFaults::of(&found.revisions, compacted, leases), sink)

@@ -90,7 +90,8 @@ fn bare_command<'a>(alloc: Global, syntax: &'a Syntax) -> Command<'a>
 }
 
 fn command<'a>(alloc: Global, syntax: &'a Syntax) -> Result<Command<'a>, AllocError>
-    ensures { IfOk result (IsCommand (command_with syntax.now.name.now (map argument_rule syntax.now.arguments.now))) }
+    ensures { IfOk result
+        (IsCommand (command_with syntax.now.name.now (map argument_rule syntax.now.arguments.now))) }
 {
     let mut command = bare_command(alloc, syntax);
     for argument in syntax.arguments {
@@ -116,7 +117,8 @@ pub(crate) fn with_commands<'a>(
     syntaxes: &[&'a Syntax],
 ) -> Result<Command<'a>, AllocError>
     requires { IsCommand bare_program program }
-    ensures { IfOk result (IsCommand (program_of (map (λ syntax. line_of syntax.now) syntaxes.now))) }
+    ensures { IfOk result
+        (IsCommand (program_of (map (λ syntax. line_of syntax.now) syntaxes.now))) }
 {
     let mut program = program;
     for syntax in syntaxes {

@@ -63,7 +63,8 @@ impl Line<'_, '_> {
 
     /// The slot of a meta, if one is named.
     pub(crate) fn slot(&self) -> Result<Option<Slot>, Refusal>
-        ensures { Gives (λ slot. slot) (slot_by (first_of (values_of self.now (codes "meta")))) result }
+        ensures { Gives (λ slot. slot)
+            (slot_by (first_of (values_of self.now (codes "meta")))) result }
     {
         match self.choice("meta") {
             Some(word) => Ok(Some(slot_of(word)?)),
@@ -85,7 +86,8 @@ impl Line<'_, '_> {
 
     /// The form of names, keys and values.
     pub(crate) fn form(&self) -> Result<Form, Refusal>
-        ensures { Gives (λ form. form) (form_by (first_of (values_of self.now (codes "form")))) result }
+        ensures { Gives (λ form. form)
+            (form_by (first_of (values_of self.now (codes "form")))) result }
     {
         match self.choice("form") {
             Some(word) => form_of(word),
@@ -95,7 +97,9 @@ impl Line<'_, '_> {
 
     /// What is printed of buckets. Sizes aren't known of what is recovered.
     pub(crate) fn buckets_shown(&self) -> Result<BucketsShown, Refusal>
-        ensures { Gives (λ shown. shown) (shown_by (first_of (values_of self.now (codes "sizes"))) (first_of (values_of self.now (codes "recover")))) result }
+        ensures { Gives (λ shown. shown)
+            (shown_by (first_of (values_of self.now (codes "sizes")))
+            (first_of (values_of self.now (codes "recover")))) result }
     {
         match (self.choice("sizes"), self.choice("recover")) {
             (None, None) => Ok(BucketsShown::Names),
@@ -107,7 +111,8 @@ impl Line<'_, '_> {
 
     /// The form of a listing.
     pub(crate) fn list_form(&self) -> Result<ListForm, Refusal>
-        ensures { Gives (λ form. form) (list_form_by (first_of (values_of self.now (codes "form")))) result }
+        ensures { Gives (λ form. form)
+            (list_form_by (first_of (values_of self.now (codes "form")))) result }
     {
         match self.choice("form") {
             None | Some("hex") => Ok(ListForm::Hex),
@@ -119,7 +124,8 @@ impl Line<'_, '_> {
 
     /// The form of figures.
     pub(crate) fn figure_form(&self) -> Result<FigureForm, Refusal>
-        ensures { Gives (λ form. form) (figure_form_by (first_of (values_of self.now (codes "form")))) result }
+        ensures { Gives (λ form. form)
+            (figure_form_by (first_of (values_of self.now (codes "form")))) result }
     {
         match self.choice("form") {
             None | Some("lines") => Ok(FigureForm::Lines),
@@ -130,7 +136,8 @@ impl Line<'_, '_> {
 
     /// How the parts of a path are written.
     fn parts(&self) -> Result<Parts, Refusal>
-        ensures { Gives (λ parts. parts) (parts_by (first_of (values_of self.now (codes "parts")))) result }
+        ensures { Gives (λ parts. parts)
+            (parts_by (first_of (values_of self.now (codes "parts")))) result }
     {
         match self.choice("parts") {
             None | Some("text") => Ok(Parts::Text),
@@ -169,7 +176,8 @@ impl Line<'_, '_> {
 
     /// A revision of etcd's, by the option of this name if it is given.
     pub(crate) fn revision(&self, id: &str) -> Result<Option<u64>, Refusal>
-        ensures { Gives (λ revision. revision) (revision_by (first_of (values_of self.now id.now))) result }
+        ensures { Gives (λ revision. revision)
+            (revision_by (first_of (values_of self.now id.now))) result }
     {
         match self.choice(id) {
             Some(word) => Ok(Some(revision_of(word)?)),
@@ -179,14 +187,16 @@ impl Line<'_, '_> {
 
     /// The path at which a listing begins.
     pub(crate) fn from(&self) -> Result<Vec<Vec<u8>>, Refusal>
-        ensures { Gives (λ path. path_in path.items) (hex_path_by (first_of (values_of self.now (codes "from")))) result }
+        ensures { Gives (λ path. path_in path.items)
+            (hex_path_by (first_of (values_of self.now (codes "from")))) result }
     {
         read_from(self.alloc, self.choice("from"))
     }
 
     /// The page size of a copy. Without one it is that of the file.
     pub(crate) fn page_size(&self) -> Result<Option<PageSize>, Refusal>
-        ensures { Gives size_in (page_size_by (first_of (values_of self.now (codes "page-size")))) result }
+        ensures { Gives size_in
+            (page_size_by (first_of (values_of self.now (codes "page-size")))) result }
     {
         let Some(word) = self.choice("page-size") else {
             return Ok(None);
@@ -197,7 +207,8 @@ impl Line<'_, '_> {
 
     /// The page size of a database that is made of a listing.
     pub(crate) fn load_size(&self) -> Result<PageSize, Refusal>
-        ensures { Gives (λ size. size.bytes) (load_size_by (first_of (values_of self.now (codes "page-size")))) result }
+        ensures { Gives (λ size. size.bytes)
+            (load_size_by (first_of (values_of self.now (codes "page-size")))) result }
     {
         match self.choice("page-size") {
             Some(word) => read_size(word).ok_or(Refusal::Word(BAD_SIZE)),
@@ -207,7 +218,8 @@ impl Line<'_, '_> {
 
     /// The sequence of the root bucket of such a database.
     pub(crate) fn sequence(&self) -> Result<u64, Refusal>
-        ensures { Gives (λ sequence. sequence) (sequence_by (first_of (values_of self.now (codes "sequence")))) result }
+        ensures { Gives (λ sequence. sequence)
+            (sequence_by (first_of (values_of self.now (codes "sequence")))) result }
     {
         match self.choice("sequence") {
             Some(word) => number_or("bad sequence", word),
@@ -217,7 +229,8 @@ impl Line<'_, '_> {
 
     /// The kind of a copy. A snapshot is for bbolt too.
     pub(crate) fn copy_kind(&self) -> CopyKind
-        ensures { result ≡ copy_kind_by (first_of (values_of self.now (codes "for-bbolt"))) (first_of (values_of self.now (codes "etcd-snapshot"))) }
+        ensures { result ≡ copy_kind_by (first_of (values_of self.now (codes "for-bbolt")))
+            (first_of (values_of self.now (codes "etcd-snapshot"))) }
     {
         match (self.choice("for-bbolt"), self.choice("etcd-snapshot")) {
             (_, Some(_)) => CopyKind::EtcdSnapshot,
@@ -228,7 +241,8 @@ impl Line<'_, '_> {
 
     /// How far a command goes, by the option of this name and `--lost-and-found`, which implies it.
     pub(crate) fn extent(&self, losses: &str) -> Extent
-        ensures { result ≡ extent_by (first_of (values_of self.now losses.now)) (first_of (values_of self.now (codes "lost-and-found"))) }
+        ensures { result ≡ extent_by (first_of (values_of self.now losses.now))
+            (first_of (values_of self.now (codes "lost-and-found"))) }
     {
         match (self.choice(losses), self.choice("lost-and-found")) {
             (_, Some(_)) => Extent::LostAndFound,
@@ -286,7 +300,8 @@ fn find_assumed(word: &str) -> Option<AssumedMeta>
 }
 
 fn read_size(word: &str) -> Option<PageSize>
-    ensures { MatchOption result (page_size_of word.now ≡ Err (codes "bad page size")) (λ size. page_size_of word.now ≡ Ok size.bytes) }
+    ensures { MatchOption result (page_size_of word.now ≡ Err (codes "bad page size")) (λ size.
+        page_size_of word.now ≡ Ok size.bytes) }
 {
     PageSize::new(read_number(word.as_bytes())?)
 }

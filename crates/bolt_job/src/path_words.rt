@@ -16,7 +16,8 @@ pub(crate) fn read_path(
     parts: Parts,
     words: &[&str],
 ) -> Result<Vec<Vec<u8>>, Refusal>
-    ensures { Gives (λ path. path_in path.items) (each_part (part_of parts) (map (λ word. word.now) words.now)) result }
+    ensures { Gives (λ path. path_in path.items)
+        (each_part (part_of parts) (map (λ word. word.now) words.now)) result }
 {
     let mut path = Vec::new(alloc);
     for word in words {
@@ -42,7 +43,8 @@ pub(crate) fn read_prefix(
     parts: Parts,
     word: Option<&str>,
 ) -> Result<Vec<u8>, Refusal>
-    ensures { Gives (λ prefix. prefix.items) (prefix_of parts (option_map (λ text. text.now) word.entry)) result }
+    ensures { Gives (λ prefix. prefix.items)
+        (prefix_of parts (option_map (λ text. text.now) word.entry)) result }
 {
     match word {
         Some(word) => read_part(alloc, parts, word),
@@ -52,7 +54,8 @@ pub(crate) fn read_prefix(
 
 /// The path at which a listing begins, by the value of `--from`.
 pub(crate) fn read_from(alloc: Global, word: Option<&str>) -> Result<Vec<Vec<u8>>, Refusal>
-    ensures { Gives (λ path. path_in path.items) (hex_path_by (option_map (λ text. text.now) word.entry)) result }
+    ensures { Gives (λ path. path_in path.items)
+        (hex_path_by (option_map (λ text. text.now) word.entry)) result }
 {
     match word {
         Some(word) => read_hex_path(alloc, word),
@@ -72,7 +75,8 @@ fn read_hex_path(alloc: Global, word: &str) -> Result<Vec<Vec<u8>>, Refusal>
 }
 
 fn cut_at_slashes(alloc: Global, word: &str) -> Result<Vec<&str>, AllocError>
-    ensures { IfOk result (λ parts. map (λ part. part.now) parts.items ≡ slice_split (λ byte. byte == 47) word.now) }
+    ensures { IfOk result (λ parts.
+        map (λ part. part.now) parts.items ≡ slice_split (λ byte. byte == 47) word.now) }
 {
     word.split('/').collect(alloc)
 }

@@ -20,6 +20,16 @@ pub record IsAsked (page_size : ℕ) (tree : Tree) (sequence : ℕ) : Type 0 whe
   pub storable : IsStorable tree
   pub sequence_fits : sequence < 2 ^ 64
 
+-- This holds of each layout that is asked for and has fewer than 2^63 bytes: of its kind, page size, tree and sequence.
+abbrev pub ForAsked : (Layout → ℕ → Tree → ℕ → Type 0) → Type 0
+ForAsked P = (which : Layout) (page_size : ℕ) (tree : Tree) (sequence : ℕ) → IsAsked page_size tree sequence
+    → length (layout_of which page_size tree sequence) < 2 ^ 63 → P which page_size tree sequence
+
+-- This holds of each layout of a tree that can be stored: of its kind, page size, tree and bytes.
+abbrev pub ForStorable : (Layout → ℕ → Tree → List ℕ → Type 0) → Type 0
+ForStorable P = (which : Layout) (page_size : ℕ) (tree : Tree) (sequence : ℕ) → IsPageSize page_size → IsStorable tree
+    → P which page_size tree (layout_of which page_size tree sequence)
+
 -- A layout that is cut short anywhere is refused: it has no meta, or the first finding is that its root page is cut off.
 pub record RefusesPrefixes (layout : List ℕ) (root : ℕ) : Type 0 where
   pub before_metas : (n : ℕ) → n < length layout → n < 80 → IsRefused (take n layout) (Open Cut)

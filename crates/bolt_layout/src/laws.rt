@@ -6,7 +6,7 @@ ghost use Rattle.bolt_check.specs.{BboltFindings.AreBboltFindings, Nodes.node_at
 ghost use Rattle.bolt_check.specs.declared.finding.Finding.{Finding};
 ghost use Rattle.bolt_tree.specs.{Entries.IsEntry, Entries.Item, Entries.Root_page, Listing.IsListing, Listing.Member, Paths.Holds, Paths.Path};
 ghost use Rattle.bolt_tree.specs.Tree.{IsTreeOf, Tree, listing_of, tree_of};
-ghost use Rattle.bolt_layout.specs.{Copies.IsAsked, Copies.IsOfOneTree, Copies.IsSoundCopy, Copies.RefusesPrefixes, Copies.layout_of_listing, Cut.CutIsOne};
+ghost use Rattle.bolt_layout.specs.{Copies.ForAsked, Copies.ForStorable, Copies.IsAsked, Copies.IsOfOneTree, Copies.IsSoundCopy, Copies.RefusesPrefixes, Copies.layout_of_listing, Cut.CutIsOne};
 ghost use Rattle.bolt_layout.specs.{ForBbolt.IsForBbolt, Held.most_held, Laid.Laid};
 ghost use Rattle.bolt_layout.specs.Layout.{HasTwoIfBranch, layout_held, layout_mark, layout_meta, layout_of, layout_pages, layout_root};
 ghost use Rattle.bolt_layout.specs.{Levels.IsOverflow, Levels.TopIsAbove, Levels.overflow_of, Storable.IsFitListing, Storable.IsFitMember, Storable.IsStorable};
@@ -18,9 +18,8 @@ use bolt_tree::laws::{a_tree_is_of_its_listing, a_tree_lists_its_bucket, listing
 /// The layout of a tree is a sound file, and its listing is that of the tree, if the layout has
 /// fewer than 2^63 bytes.
 pub fn layout_is_sound()
-    ensures { (which : Layout) (page_size : ℕ) (tree : Tree) (sequence : ℕ) → IsAsked page_size tree sequence
-        → length (layout_of which page_size tree sequence) < 2 ^ 63
-        → IsSoundCopy which page_size tree sequence (listing_of tree) }
+    ensures { ForAsked (λ which page_size tree sequence.
+        IsSoundCopy which page_size tree sequence (listing_of tree)) }
 {
     sound_trees_pass_the_tests();
     a_tree_lists_its_bucket();
@@ -28,39 +27,42 @@ pub fn layout_is_sound()
 
 /// The length of a layout is that of its pages.
 pub fn layout_has_length()
-    ensures { (which : Layout) (page_size : ℕ) (tree : Tree) (sequence : ℕ) → IsPageSize page_size → IsStorable tree
-        → length (layout_of which page_size tree sequence) ≡ layout_mark which page_size tree * page_size }
+    ensures { ForStorable (λ which page_size tree file.
+        length file ≡ layout_mark which page_size tree * page_size) }
 {}
 
 /// While the pages of a layout are written, the number of items that are held at one time is at most
 /// four times the page size for each part of the listing's longest path, and as much again, if the
 /// layout has fewer than 2^63 bytes.
 pub fn held_is_bounded()
-    ensures { (which : Layout) (page_size : ℕ) (tree : Tree) (sequence : ℕ) → IsPageSize page_size → IsStorable tree
-        → length (layout_of which page_size tree sequence) < 2 ^ 63
-        → layout_held which page_size tree ≤ most_held page_size (listing_of tree) }
+    ensures { ForStorable (λ which page_size tree file.
+        length file < 2 ^ 63
+        → layout_held which page_size tree ≤ most_held page_size (listing_of tree)) }
 {}
 
 /// At most as many items are held as the layout has bytes.
 pub fn held_is_small()
-    ensures { (which : Layout) (page_size : ℕ) (tree : Tree) (sequence : ℕ) → IsPageSize page_size → IsStorable tree
-        → length (layout_of which page_size tree sequence) < 2 ^ 63
-        → layout_held which page_size tree ≤ length (layout_of which page_size tree sequence) }
+    ensures { ForStorable (λ which page_size tree file.
+        length file < 2 ^ 63 → layout_held which page_size tree ≤ length file) }
 {}
 
 /// No branch page of a balanced layout has fewer than two elements.
 pub fn balanced_branches_have_two()
-    ensures { (page_size : ℕ) (tree : Tree) → AllByRecursion HasTwoIfBranch (layout_pages Balanced page_size tree) }
+    ensures { (page_size : ℕ) (tree : Tree)
+        → AllByRecursion HasTwoIfBranch (layout_pages Balanced page_size tree) }
 {}
 
 /// The balanced layout of a listing has nothing that bbolt fails on, if no value is in the root bucket
 /// and no key has more than 32,768 bytes.
 pub fn balanced_layouts_are_for_bbolt()
-    ensures { (listing : List Member) (page_size sequence : ℕ) → IsOfOneTree listing → IsForBbolt listing
+    ensures { (listing : List Member) (page_size sequence : ℕ) → IsOfOneTree listing
+        → IsForBbolt listing
         → IsAsked page_size (tree_of listing) sequence
         → length (layout_of Balanced page_size (tree_of listing) sequence) < 2 ^ 63
-        → (findings : List Finding) → AreBboltFindings (node_at (layout_of Balanced page_size (tree_of listing) sequence)
-        (layout_meta Balanced page_size (tree_of listing) sequence 1)) (layout_root Balanced page_size (tree_of listing)) findings
+        → (findings : List Finding)
+        → AreBboltFindings (node_at (layout_of Balanced page_size (tree_of listing) sequence)
+        (layout_meta Balanced page_size (tree_of listing) sequence 1))
+        (layout_root Balanced page_size (tree_of listing)) findings
         → findings ≡ [] }
 {
     sound_trees_pass_the_tests();
@@ -68,9 +70,9 @@ pub fn balanced_layouts_are_for_bbolt()
 
 /// A layout that is cut short anywhere is refused.
 pub fn prefixes_are_refused()
-    ensures { (which : Layout) (page_size : ℕ) (tree : Tree) (sequence : ℕ) → IsAsked page_size tree sequence
-        → length (layout_of which page_size tree sequence) < 2 ^ 63
-        → RefusesPrefixes (layout_of which page_size tree sequence) (layout_root which page_size tree) }
+    ensures { ForAsked (λ which page_size tree sequence.
+        RefusesPrefixes (layout_of which page_size tree sequence)
+        (layout_root which page_size tree)) }
 {}
 
 /// There is one cut of each row of items.
@@ -114,8 +116,9 @@ pub fn a_fit_listing_is_of_one_tree()
 
 /// The listing of a file with sound trees is that of one tree, which can be stored.
 pub fn a_files_listing_is_of_one_tree()
-    ensures { (file : List ℕ) (meta : Meta) (listing : List Member) → IsBytes file → HasSoundTrees file meta
-        → IsListing file meta listing → IsOfOneTree listing }
+    ensures { (file : List ℕ) (meta : Meta) (all : List Member) → IsBytes file
+        → HasSoundTrees file meta
+        → IsListing file meta all → IsOfOneTree all }
 {
     listing_is_of_a_tree();
     a_fit_listing_is_of_one_tree();
@@ -124,7 +127,8 @@ pub fn a_files_listing_is_of_one_tree()
 /// The layout of such a listing is a sound file, and has the same listing, if it has fewer than 2^63
 /// bytes.
 pub fn a_copy_lists_the_same()
-    ensures { (which : Layout) (listing : List Member) (page_size : ℕ) (sequence : ℕ) → IsOfOneTree listing
+    ensures { (which : Layout) (listing : List Member) (page_size : ℕ) (sequence : ℕ)
+        → IsOfOneTree listing
         → IsPageSize page_size → sequence < 2 ^ 64
         → length (layout_of_listing which page_size listing sequence) < 2 ^ 63
         → IsSoundCopy which page_size (tree_of listing) sequence listing }

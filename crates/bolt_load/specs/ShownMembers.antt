@@ -1,6 +1,7 @@
 -- What the text of a listing shows, and what its members show: the text, the part of it that is left, and the path of the last member.
-use Rattle.bolt_tree.specs.Paths.{Path, path_of}
-use Rattle.bolt_text.specs.Lines.{Text}
+use Rattle.std.specs.Prelude.{List}
+use Rattle.bolt_tree.specs.{Listing.Member, Paths.Path, Paths.path_of}
+use Rattle.bolt_text.specs.{LineMembers.text_members, Lines.Text}
 use Rattle.bolt_load.specs.{declared.line_members.LineMembers.LineMembers, declared.listing_text.ListingText.ListingText}
 
 unfoldable pub read_text : ListingText → Text
@@ -11,6 +12,10 @@ members_text members = members.text.now
 
 unfoldable pub members_left : LineMembers → Text
 members_left members = members.text_left.now
+
+-- what they tell
+abbrev pub listing_left : LineMembers → List Member
+listing_left members = text_members (members_left members)
 
 unfoldable pub members_path : LineMembers → Path
 members_path members = path_of members.path.items

@@ -52,8 +52,10 @@ fn add_part(word: &[u8], bytes: &mut Vec<u8>) -> Result<bool, NoMemory>
 
 /// Adds the bytes of a path in hexadecimal. Returns whether it is one.
 fn add_path(word: &[u8], bytes: &mut Vec<u8>) -> Result<bool, NoMemory>
-    ensures good { IfOk result (λ good. good ≡ is_some (option_map path_bytes (hex_path_in word.now))) }
-    ensures added { OnOk result (Adds (option_map path_bytes (hex_path_in word.now)) bytes.old.items bytes.new.items) }
+    ensures good { IfOk result (λ good.
+        good ≡ is_some (option_map path_bytes (hex_path_in word.now))) }
+    ensures added { OnOk result
+        (Adds (option_map path_bytes (hex_path_in word.now)) bytes.old.items bytes.new.items) }
 {
     let mut rest = word;
     while let Some((part, after)) = cut_at(b'/', rest) {
@@ -67,8 +69,10 @@ fn add_path(word: &[u8], bytes: &mut Vec<u8>) -> Result<bool, NoMemory>
 
 /// Adds the bytes of a line. Returns whether all of its hexadecimal is.
 fn add_words(words: &LineWords<'_>, bytes: &mut Vec<u8>) -> Result<bool, NoMemory>
-    ensures good { IfOk result (λ good. good ≡ is_some (option_map member_bytes (words_member words.now))) }
-    ensures added { OnOk result (Adds (option_map member_bytes (words_member words.now)) bytes.old.items bytes.new.items) }
+    ensures good { IfOk result (λ good.
+        good ≡ is_some (option_map member_bytes (words_member words.now))) }
+    ensures added { OnOk result
+        (Adds (option_map member_bytes (words_member words.now)) bytes.old.items bytes.new.items) }
 {
     if !add_path(words.path, bytes)? {
         return Ok(false);
@@ -80,7 +84,8 @@ fn add_words(words: &LineWords<'_>, bytes: &mut Vec<u8>) -> Result<bool, NoMemor
 }
 
 fn has_long_key(word: &[u8]) -> bool
-    ensures { (path : Path) → hex_path_in word.now ≡ Some path → result ≡ list_any is_long_key path }
+    ensures { (path : Path) → hex_path_in word.now ≡ Some path
+        → result ≡ list_any is_long_key path }
 {
     let mut rest = word;
     while let Some((part, after)) = cut_at(b'/', rest) {
@@ -93,7 +98,8 @@ fn has_long_key(word: &[u8]) -> bool
 }
 
 fn is_long_item(item: &ItemWord<'_>) -> bool
-    ensures { (told : entries.Item) → word_item item.now ≡ Some told → result ≡ faults.is_long_item told }
+    ensures { (told : entries.Item) → word_item item.now ≡ Some told
+        → result ≡ faults.is_long_item told }
 {
     match item {
         ItemWord::Digits(digits) => digits.len() / 2 > MAX_VALUE_LEN,
@@ -104,7 +110,8 @@ fn is_long_item(item: &ItemWord<'_>) -> bool
 /// Adds the bytes of a line. Returns what is wrong with it, but for its place among the others.
 fn add_line(line: &[u8], bytes: &mut Vec<u8>) -> Result<Option<LineFault>, NoMemory>
     ensures fault { IfOk result (λ fault. fault ≡ shape_fault line.now) }
-    ensures added { OnOk result (Adds (option_map member_bytes (line_member line.now)) bytes.old.items bytes.new.items) }
+    ensures added { OnOk result
+        (Adds (option_map member_bytes (line_member line.now)) bytes.old.items bytes.new.items) }
 {
     let Some(words) = words_of(line) else {
         return Ok(Some(LineFault::NotALine));
@@ -123,10 +130,13 @@ fn add_line(line: &[u8], bytes: &mut Vec<u8>) -> Result<Option<LineFault>, NoMem
 
 /// Decodes the lines of a text up to the first that is wrong in itself.
 pub(crate) fn decode(alloc: Global, text: &[u8]) -> Result<Decoded<'_>, NoMemory>
-    ensures decoded { IfOk result (λ decoded. AreDecoded (lines_of decoded.text.now) decoded.bytes.items) }
-    ensures shaped { IfOk result (λ decoded. All (λ line. shape_fault line ≡ None) (lines_of decoded.text.now)) }
+    ensures decoded { IfOk result (λ decoded.
+        AreDecoded (lines_of decoded.text.now) decoded.bytes.items) }
+    ensures shaped { IfOk result (λ decoded.
+        All (λ line. shape_fault line ≡ None) (lines_of decoded.text.now)) }
     ensures all { IfOk result (λ decoded. IfNone decoded.fault (decoded.text.now ≡ text.now)) }
-    ensures stopped { IfOk result (λ decoded. IfSome decoded.fault (StopsAt text.now decoded.text.now)) }
+    ensures stopped { IfOk result (λ decoded.
+        IfSome decoded.fault (StopsAt text.now decoded.text.now)) }
 {
     let mut bytes = Vec::new(alloc);
     let mut rest = text;

@@ -28,7 +28,7 @@ pub struct LineMembers<'a> {
 
 #[tactic(auto, unfolding(crate::specs::ShownMembers::members_before, crate::specs::ShownMembers::members_left, crate::specs::ShownMembers::members_path, crate::specs::ShownMembers::members_text))]
 impl<'a> LineMembers<'a> {
-    ghost use Rattle.bolt_load.specs.ShownMembers.{members_before, members_left, members_path, members_text};
+    ghost use Rattle.bolt_load.specs.ShownMembers.{listing_left, members_before, members_left, members_path, members_text};
 
     /// The members of these lines, whose bytes these are.
     pub(crate) fn new(alloc: Global, text: &'a [u8], bytes: &'a [u8]) -> LineMembers<'a>
@@ -58,9 +58,13 @@ impl<'a> LineMembers<'a> {
     pub(crate) fn advance(&mut self) -> Result<Option<Item<'a>>, NoMemory>
         ensures text { members_text self.new ≡ members_text self.old }
         ensures given { IfOk result (λ given.
-            GivesNext (text_members (members_left self.old)) (text_members (members_left self.new)) (members_path self.new) (option_map item_view given)) }
-        ensures lines { IfOk result (λ given. GivesLine (members_left self.old) (members_left self.new) (option_map item_view given) (members_path self.new)) }
-        ensures before { IfOk result (λ given. IfSome given (λ _. members_before self.new ≡ members_path self.old)) }
+            GivesNext (listing_left self.old) (listing_left self.new) (members_path self.new)
+            (option_map item_view given)) }
+        ensures lines { IfOk result (λ given.
+            GivesLine (members_left self.old) (members_left self.new) (option_map item_view given)
+            (members_path self.new)) }
+        ensures before { IfOk result (λ given.
+            IfSome given (λ _. members_before self.new ≡ members_path self.old)) }
         ensures same { OnErr result (members_left self.new ≡ members_left self.old) }
         ensures same_path { OnErr result (members_path self.new ≡ members_path self.old) }
     {
@@ -98,7 +102,8 @@ fn push_parts<'a>(
 ) -> Result<&'a [u8], AllocError>
     requires { IsSomeAnd (hex_path_in word.now) (λ told. BeginsWith (path_bytes told) bytes.now) }
     ensures { IfOk result (λ rest. (told : Path) → hex_path_in word.now ≡ Some told
-        → (path_of path.new.items ≡ path_of path.old.items ++ told) × (bytes.now ≡ path_bytes told ++ rest.now)) }
+        → (path_of path.new.items ≡ path_of path.old.items ++ told)
+        × (bytes.now ≡ path_bytes told ++ rest.now)) }
 {
     let mut word_left = word;
     let mut bytes_left = bytes;
@@ -135,11 +140,11 @@ fn item_of<'a>(word: &ItemWord<'_>, bytes: &'a [u8]) -> (Item<'a>, &'a [u8])
 
 #[tactic(auto, unfolding(crate::specs::ShownMembers::members_before, crate::specs::ShownMembers::members_left, crate::specs::ShownMembers::members_path, crate::specs::ShownMembers::members_text))]
 impl<'a> Members<'a> for LineMembers<'a> {
-    ghost use Rattle.bolt_load.specs.ShownMembers.{members_left, members_path, members_text};
+    ghost use Rattle.bolt_load.specs.ShownMembers.{listing_left, members_left, members_path, members_text};
 
     ghost lists = { λ members listing. listing ≡ text_members (members_text members) };
 
-    ghost left = { λ members listing. text_members (members_left members) };
+    ghost left = { λ members listing. listing_left members };
 
     ghost work_left = { λ members. length (members_left members) };
 

@@ -14,6 +14,7 @@ ghost use Rattle.bolt_load.specs.{ByteMembers.AreOfBytes, PlainTexts.plain_text}
 ghost use Rattle.bolt_text.specs.{LineMembers.text_members, Lines.Text, Lines.lines_of};
 ghost use Rattle.bolt_load.specs.{Private.Decoding.AreDecoded, Private.OpenPaths.fault_after, declared.fault.LineFault.LineFault};
 ghost use Rattle.bolt_load.specs.Private.OpenPaths as open_paths;
+ghost use Rattle.bolt_load.specs.ByteMembers.{IfWritable};
 
 use crate::decode::decode;
 use crate::fault::{LineFault, LoadFault};
@@ -143,12 +144,14 @@ pub fn a_text_is_of_one_tree()
 
 /// A text without a fault has none.
 pub fn a_right_text_has_no_fault()
-    ensures { (text : Text) (line : ℕ) (fault : LineFault) → IsListingText text → ¬ IsLoadFault text (Line line fault) }
+    ensures { (text : Text) (line : ℕ) (fault : LineFault) → IsListingText text
+        → ¬ IsLoadFault text (Line line fault) }
 {}
 
 /// A file's listing is of bytes.
 pub fn a_files_listing_is_of_bytes()
-    ensures { (file : List ℕ) (meta : Meta) (listing : List Member) → IsBytes file → IsListing file meta listing → AreOfBytes listing }
+    ensures { (file : List ℕ) (meta : Meta) (listing : List Member) → IsBytes file
+        → IsListing file meta listing → AreOfBytes listing }
 {
     held_members_fit();
 }
@@ -156,16 +159,18 @@ pub fn a_files_listing_is_of_bytes()
 /// The text of a listing that has a member and is of one tree, its members rising and of bytes, has no
 /// fault, and tells that listing. The text of a listing without a member is cut off before line 1.
 pub fn a_listings_text_is_read_back()
-    ensures right { (listing : List Member) → 0 < length listing → IsOfOneTree listing → Rises member_cmp listing → AreOfBytes listing
-        → IsListingText (listing_text listing) }
-    ensures none { (line : ℕ) (fault : LineFault) → IsLoadFault (listing_text []) (Line line fault) → (line ≡ 1) × (fault ≡ CutOff) }
+    ensures right { (listing : List Member) → 0 < length listing
+        → IfWritable listing (IsListingText (listing_text listing)) }
+    ensures none { (line : ℕ) (fault : LineFault) → IsLoadFault (listing_text []) (Line line fault)
+        → (line ≡ 1) × (fault ≡ CutOff) }
     ensures empty { ¬ IsListingText (listing_text []) }
-    ensures listing { (listing : List Member) → IsOfOneTree listing → Rises member_cmp listing → AreOfBytes listing
-        → text_members (listing_text listing) ≡ listing }
+    ensures listing { (listing : List Member)
+        → IfWritable listing (text_members (listing_text listing) ≡ listing) }
 {}
 
 /// A text without a fault is the text of what it tells, but for the case of its letters and leading zeros
 /// of its numbers.
 pub fn a_text_is_that_of_its_listing()
-    ensures { (text : Text) → IsListingText text → plain_text text ≡ listing_text (text_members text) }
+    ensures { (text : Text) → IsListingText text
+        → plain_text text ≡ listing_text (text_members text) }
 {}

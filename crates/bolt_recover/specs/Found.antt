@@ -31,6 +31,14 @@ module _ (file : List ℕ) (meta : Meta) where
     pub none : LosesNothing survey → found ≡ []
     pub some : (way : List ℕ) (x : Finding) → Has survey (lost way x) → FoundBelow (IsKeptPage file meta survey) meta.high_water found
 
+-- page k lies in the span of page n
+abbrev pub Spans : List ℕ → Meta → (n k : ℕ) → Type 0
+Spans file meta n k = SpanAt (node_at file meta) (At_page (root_spot n)) k
+
+-- this holds of each file, each meta, the found pages of that file under it, and each of these
+abbrev pub ForFoundPages : (List ℕ → Meta → List ℕ → ℕ → Type 0) → Type 0
+ForFoundPages P = (file : List ℕ) (meta : Meta) (found : List ℕ) (n : ℕ) → AreFound file meta found → Contains found n → P file meta found n
+
 -- the numbers of found pages of the code
 abbrev pub numbers_of : List Found → List ℕ
 numbers_of found = map (λ (f : Found). f.number) found

@@ -2,7 +2,7 @@
 use Rattle.std.specs.Prelude.{◌≡◌, ◌↔◌, ℕ, ◌⊎◌, Bool, true, List}
 use Rattle.bolt_format.specs.declared.meta.Meta.{Meta}
 use Rattle.bolt_check.specs.{Findings.IsMetaPage, Lists.Has, Nodes.node_at, Ways.SpanHas, Ways.reached}
-use Rattle.bolt_recover.specs.Surveys.{IsSurvey, SurveyedWay, kept}
+use Rattle.bolt_recover.specs.Surveys.{ForSurvey, SurveyedWay, kept}
 
 -- page n is a meta page, or lies in the span of a kept way
 abbrev pub IsKeptPage : List ℕ → Meta → List SurveyedWay → ℕ → Type 0
@@ -10,4 +10,4 @@ IsKeptPage file meta survey n = IsMetaPage n ⊎ ((way : List ℕ) × (Has surve
 
 -- these are the pages that kept ways take in, for the one survey of the file (`laws`)
 abbrev pub AreKeptPages : List ℕ → Meta → (ℕ → Bool) → Type 0
-AreKeptPages file meta claimed = (survey : List SurveyedWay) → IsSurvey file meta survey → (n : ℕ) → (claimed n ≡ true) ↔ IsKeptPage file meta survey n
+AreKeptPages file meta claimed = ForSurvey file meta (λ survey. (n : ℕ) → (claimed n ≡ true) ↔ IsKeptPage file meta survey n)

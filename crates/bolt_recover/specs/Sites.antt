@@ -1,5 +1,5 @@
 -- What a way leads to, with the path of its bucket and the elements there: docs/RECOVERY.md, "Ways".
-use Rattle.std.specs.Prelude.{ℕ, List, [], ◌∷◌, ◌++◌, Option, Some, None, slice_get}
+use Rattle.std.specs.Prelude.{◌≡◌, ℕ, List, [], ◌∷◌, ◌++◌, Option, Some, None, slice_get}
 use Rattle.bolt_format.specs.{Elements.LeafElement, Elements.inline_elements, Pages.PageView, Pages.page_at, declared.meta.Meta.Meta}
 use Rattle.bolt_check.specs.{Nodes.node_at, Ways.At_inline, Ways.At_page, Ways.Spot, Ways.root_spot, Ways.step_from}
 use Rattle.bolt_tree.specs.Paths.{Path}
@@ -42,3 +42,7 @@ root_site file meta = record { spot = At_page (root_spot meta.root); path = []; 
 -- what a way leads to
 abbrev pub site_at : List ℕ → Meta → List ℕ → Option Site
 site_at file meta way = follow_sites file meta (Some (root_site file meta)) way
+
+-- the way leads to a site of which this holds
+abbrev pub AtSite : List ℕ → Meta → List ℕ → (Site → Type 0) → Type 0
+AtSite file meta way P = (site : Site) × (site_at file meta way ≡ Some site) × P site

@@ -42,3 +42,20 @@ IsSurvey file meta survey = Surveys (node_at file meta) (reached (node_at file m
 -- no way of a survey is lost
 abbrev pub LosesNothing : List SurveyedWay → Type 0
 LosesNothing survey = (v : SurveyedWay) → Has survey v → v.found ≡ None
+
+-- no way before this one is lost
+abbrev pub LosesNothingBefore : List ℕ → List SurveyedWay → Type 0
+LosesNothingBefore way survey = (v : SurveyedWay) → Has survey v → Before v.way way → v.found ≡ None
+
+-- this holds of the survey of a file under a meta
+abbrev pub ForSurvey : List ℕ → Meta → (List SurveyedWay → Type 0) → Type 0
+ForSurvey file meta P = (survey : List SurveyedWay) → IsSurvey file meta survey → P survey
+
+-- this holds of each file, each meta and the survey of that file under it
+abbrev pub ForSurveys : (List ℕ → Meta → List SurveyedWay → Type 0) → Type 0
+ForSurveys P = (file : List ℕ) (meta : Meta) → ForSurvey file meta (P file meta)
+
+-- and of each of its lost ways with what is found there
+abbrev pub ForLostWays : (List ℕ → Meta → List SurveyedWay → List ℕ → Finding → Type 0) → Type 0
+ForLostWays P = (file : List ℕ) (meta : Meta) (survey : List SurveyedWay) (way : List ℕ) (x : Finding)
+    → IsSurvey file meta survey → Has survey (lost way x) → P file meta survey way x

@@ -34,12 +34,19 @@ impl<'a> KeptPage<'a> {
     pub fn visit(claims: &mut Claims<'a>, spot: Spot<'a>) -> Result<KeptPage<'a>, Finding>
         ensures file { claims_file claims.new ≡ claims_file claims.old }
         ensures meta { claims_meta claims.new ≡ claims_meta claims.old }
-        ensures visited { claims_visited claims.new ≡ counted (claims_visited claims.old) (page_visit (spot_at spot.entry)) }
-        ensures found { IfErr result (Tests (claims_nodes claims.old) (λ n. is_claimed claims.old n ≡ true) (spot_at spot.entry)) }
+        ensures visited { claims_visited claims.new
+            ≡ counted (claims_visited claims.old) (page_visit (spot_at spot.entry)) }
+        ensures found { IfErr result
+            (Tests (claims_nodes claims.old) (λ n. is_claimed claims.old n ≡ true)
+            (spot_at spot.entry)) }
         ensures same { OnErr result ((n : ℕ) → is_claimed claims.new n ≡ is_claimed claims.old n) }
-        ensures passes { OnOk result (Passes (claims_nodes claims.old) (λ n. is_claimed claims.old n ≡ true) (spot_at spot.entry)) }
-        ensures content { IfOk result (IsContent (claims_file claims.old) (claims_meta claims.old) spot.entry) }
-        ensures claims { OnOk result ((n : ℕ) → is_claimed claims.new n ≡ claims_with claims.old (spot_at spot.entry) n) }
+        ensures passes { OnOk result
+            (Passes (claims_nodes claims.old) (λ n. is_claimed claims.old n ≡ true)
+            (spot_at spot.entry)) }
+        ensures content { IfOk result
+            (IsContent (claims_file claims.old) (claims_meta claims.old) spot.entry) }
+        ensures claims { OnOk result ((n : ℕ)
+            → is_claimed claims.new n ≡ claims_with claims.old (spot_at spot.entry) n) }
     {
         match spot {
             Spot::Page(at) => Ok(KeptPage {
@@ -67,7 +74,8 @@ impl<'a> KeptPage<'a> {
     pub fn leaf(&self, i: u16) -> Option<Leaf<'a>>
         requires { i < content_size self.now }
         ensures element { option_map leaf_view result ≡ slice_get (content_elements self.now) i }
-        ensures bucket { IfSome result (λ leaf. IsTrue leaf.is_bucket → IsBucketValue leaf.value.now) }
+        ensures bucket { IfSome result (λ leaf. IsTrue leaf.is_bucket
+            → IsBucketValue leaf.value.now) }
     {
         match &self.page {
             TreePage::Branch(_) => None,

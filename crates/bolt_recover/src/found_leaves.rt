@@ -15,7 +15,9 @@ pub(crate) fn find_leaves<'a>(
 ) -> Result<Vec<Found<'a>>, NoMemory>
     requires { NotesFree leftovers }
     ensures found { IfOk result (λ found. AreAmong leftovers.entry found.items) }
-    ensures views { IfOk result (λ found. All (IsFoundView (leftovers_file leftovers.entry) (leftovers_meta leftovers.entry)) found.items) }
+    ensures views { IfOk result (λ found.
+        All (IsFoundView (leftovers_file leftovers.entry) (leftovers_meta leftovers.entry))
+        found.items) }
 {
     let mut found = Vec::new(alloc);
     for number in 0..leftovers.end() {

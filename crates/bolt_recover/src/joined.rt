@@ -85,9 +85,12 @@ fn first_stage(found: &[Found<'_>]) -> Stage
 /// The recovered members of a file that was searched, if there is a joined listing.
 fn kept_of<'a>(alloc: Global, both: &LostAndFound<'a>) -> Result<Kept<'a>, JoinFault>
     ensures whole { IfOk result (IsWhole both.now.file.now both.now.meta) }
-    ensures apart { OnOk result (both.now.found.items ≢ [] → ForRecovered both.now.file.now both.now.meta LacksBucketKey) }
-    ensures some { OnOk result ((x : Finding) → all_lost both.now ≡ everything x → both.now.found.items ≢ []) }
-    ensures refused { IfErr result (IsJoinRefusal both.now.file.now both.now.meta (numbers_of both.now.found.items)) }
+    ensures apart { OnOk result (both.now.found.items ≢ []
+        → ForRecovered both.now.file.now both.now.meta LacksBucketKey) }
+    ensures some { OnOk result ((x : Finding) → all_lost both.now ≡ everything x
+        → both.now.found.items ≢ []) }
+    ensures refused { IfErr result
+        (IsJoinRefusal both.now.file.now both.now.meta (numbers_of both.now.found.items)) }
 {
     let some = !both.found.is_empty();
     match &both.trees {
@@ -131,12 +134,17 @@ impl<'a> Joined<'a> {
     pub fn new(alloc: Global, both: &'a LostAndFound<'_>) -> Result<Joined<'a>, JoinFault>
         ensures file { IfOk result (λ joined. joined_file joined ≡ both.now.file.now) }
         ensures meta { IfOk result (λ joined. joined_meta joined ≡ both.now.meta) }
-        ensures all { IfOk result (λ joined. ForJoined both.now.file.now both.now.meta (λ listing. joined_left joined listing ≡ listing)) }
+        ensures all { IfOk result (λ joined.
+            ForJoined both.now.file.now both.now.meta (λ listing.
+            joined_left joined listing ≡ listing)) }
         ensures path { IfOk result (λ joined. joined_path joined ≡ []) }
-        ensures apart { OnOk result (both.now.found.items ≢ [] → ForRecovered both.now.file.now both.now.meta LacksBucketKey) }
-        ensures some { OnOk result ((x : Finding) → all_lost both.now ≡ everything x → both.now.found.items ≢ []) }
+        ensures apart { OnOk result (both.now.found.items ≢ []
+            → ForRecovered both.now.file.now both.now.meta LacksBucketKey) }
+        ensures some { OnOk result ((x : Finding) → all_lost both.now ≡ everything x
+            → both.now.found.items ≢ []) }
         ensures few { OnOk result (length both.now.file.now < 10 ^ 16 * both.now.meta.page_size) }
-        ensures refused { IfErr result (IsJoinRefusal both.now.file.now both.now.meta (numbers_of both.now.found.items)) }
+        ensures refused { IfErr result
+            (IsJoinRefusal both.now.file.now both.now.meta (numbers_of both.now.found.items)) }
     {
         if both.file.len() as u64 / u64::from(both.meta.page_size) >= NAMES {
             return Err(JoinFault::TooLarge);
@@ -157,7 +165,8 @@ impl<'a> Joined<'a> {
         requires stage { self.old.stage ≡ stages.Before }
         ensures reads { HasSameFile self.old.kept self.new.kept }
         ensures given { IfOk result (GivesJoined self.old self.new) }
-        ensures fewer { IfOk result (λ given. IfSome given (λ _. joined_work self.new < joined_work self.old)) }
+        ensures fewer { IfOk result (λ given.
+            IfSome given (λ _. joined_work self.new < joined_work self.old)) }
         ensures ended { IfOk result (λ given. given ≡ None → ⊥) }
         ensures same { OnErr result (LeavesJoined self.old self.new) }
         ensures same_path { OnErr result (joined_path self.new ≡ joined_path self.old) }
@@ -177,7 +186,8 @@ impl<'a> Joined<'a> {
         requires stage { self.old.stage ≡ stages.Inside }
         ensures reads { HasSameFile self.old.kept self.new.kept }
         ensures given { IfOk result (GivesJoined self.old self.new) }
-        ensures fewer { IfOk result (λ given. IfSome given (λ _. joined_work self.new < joined_work self.old)) }
+        ensures fewer { IfOk result (λ given.
+            IfSome given (λ _. joined_work self.new < joined_work self.old)) }
         ensures same { OnErr result (LeavesJoined self.old self.new) }
         ensures same_path { OnErr result (joined_path self.new ≡ joined_path self.old) }
     {

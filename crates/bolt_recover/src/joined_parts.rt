@@ -44,7 +44,8 @@ impl<'a> Kept<'a> {
     pub fn next(&mut self) -> Result<Option<Item<'a>>, NoMemory>
         ensures reads { HasSameFile self.old self.new }
         ensures given { IfOk result (GivesKept self.old self.new) }
-        ensures fewer { IfOk result (λ given. IfSome given (λ _. kept_work self.new < kept_work self.old)) }
+        ensures fewer { IfOk result (λ given.
+            IfSome given (λ _. kept_work self.new < kept_work self.old)) }
         ensures same { OnErr result (kept_left self.new ≡ kept_left self.old) }
         ensures same_path { OnErr result (kept_path self.new ≡ kept_path self.old) }
     {
@@ -70,7 +71,8 @@ impl<'a> Kept<'a> {
     /// Begins again before the first member.
     pub fn restart(&mut self, alloc: Global) -> Result<(), NoMemory>
         ensures reads { HasSameFile self.old self.new }
-        ensures all { OnOk result (kept_left self.new ≡ recovered_of (kept_file self.old) (kept_meta self.old)) }
+        ensures all { OnOk result
+            (kept_left self.new ≡ recovered_of (kept_file self.old) (kept_meta self.old)) }
     {
         match self {
             Kept::Recovery(recovery) => recovery.restart(),
@@ -114,7 +116,9 @@ pub(crate) struct ShortPath<'a> {
 fn inner_of<'a>(leaf: &Leaf<'a>) -> Leaves<'a>
     requires { IsTrue leaf.now.is_bucket → IsBucketValue leaf.now.value.now }
     ensures value { leaf.now.is_bucket ≡ false → leaves_left result ≡ [] }
-    ensures bucket { IsTrue leaf.now.is_bucket → tree_with (λ (inner : LeafElement). end) (leaves_left result) ≡ inside_of (leaf_view leaf.now) }
+    ensures bucket { IsTrue leaf.now.is_bucket
+        → tree_with (λ (inner : LeafElement). end) (leaves_left result)
+        ≡ inside_of (leaf_view leaf.now) }
 {
     if !leaf.is_bucket || !head(leaf.value).is_inline() {
         return Leaves::default();

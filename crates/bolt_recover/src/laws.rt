@@ -1,100 +1,115 @@
 //! What the definitions of recovery imply.
 ghost use Rattle.std.specs.List.{Contains, count_by};
-ghost use Rattle.std.specs.Prelude.{◌≡◌, ◌≢◌, ◌<◌, ◌⊎◌, ◌*◌, ◌^◌, ◌∷◌, ℕ, [], true, List, None, Some, filter, is_some, length, not};
+ghost use Rattle.std.specs.Prelude.{◌≡◌, ◌≢◌, ◌<◌, ◌⊎◌, ◌*◌, ◌^◌, ◌∷◌, ℕ, [], List, None, filter, is_some, length, not};
 ghost use Rattle.bolt_format.specs.{Bytes.IsBytes, declared.meta.Meta.Meta};
 ghost use Rattle.bolt_check.specs.{Lists.Has, LoneLeaves.IsListedFree, LoneLeaves.IsLoneLeaf, Nodes.node_at, Sound.HasSoundTrees, Sound.IsFirstFinding};
-ghost use Rattle.bolt_check.specs.{Ways.At_page, Ways.Before, Ways.SpanAt, Ways.root_spot, declared.finding.Finding.Finding};
+ghost use Rattle.bolt_check.specs.{declared.finding.Finding.Finding};
 ghost use Rattle.bolt_tree.specs.{Entries.Bucket, Listing.IsListing, Listing.Member, Listing.member_cmp, Order.Rises, Tree.Tree, Tree.listing_of};
-ghost use Rattle.bolt_recover.specs.Found.{AreFound, IsFoundPage};
+ghost use Rattle.bolt_recover.specs.Found.{AreFound, IsFoundPage, ForFoundPages, Spans};
 ghost use Rattle.bolt_recover.specs.Joined.{IsFoundMember, IsJoined, LacksBucketKey, LeavesRoom, is_found_path, lost_and_found};
 ghost use Rattle.bolt_recover.specs.{JoinedMembers.ForJoined, JoinedMembers.joined_file, JoinedMembers.joined_meta, KeptPages.IsKeptPage};
-ghost use Rattle.bolt_recover.specs.{Losses.AreLosses, Losses.LossView, Losses.loss_of, Losses.losses_of, PageWays.ArePageWays, Sites.Site, Sites.site_at};
+ghost use Rattle.bolt_recover.specs.{Losses.AreLosses, Losses.LossView, Losses.loss_of, Losses.losses_of, PageWays.ArePageWays};
 ghost use Rattle.bolt_recover.specs.{Recovered.AreInTheirBuckets, Recovered.IsRecovered, Recoveries.recovery_file};
-ghost use Rattle.bolt_recover.specs.Surveys.{IsSurvey, LosesNothing, SurveyedWay, lost};
+ghost use Rattle.bolt_recover.specs.Surveys.{IsSurvey, LosesNothing, SurveyedWay, lost, ForSurveys, ForLostWays, LosesNothingBefore, ForSurvey};
+ghost use Rattle.bolt_recover.specs.Sites.{AtSite};
+ghost use Rattle.bolt_recover.specs.Ones.{AtMostOne};
 
 use crate::joined::Joined;
 use crate::recovery::Recovery;
 
 /// A file has at most one survey.
 pub fn survey_is_one()
-    ensures { (file : List ℕ) (meta : Meta) (a b : List SurveyedWay) → IsSurvey file meta a → IsSurvey file meta b → a ≡ b }
+    ensures { (file : List ℕ) (meta : Meta) → AtMostOne (IsSurvey file meta) }
 {}
 
 /// Each file has a survey.
 #[tactic(auto, using(crate::proofs::Existing::has_survey))]
 pub fn each_file_has_a_survey()
-    ensures { (file : List ℕ) (meta : Meta) → (survey : List SurveyedWay) × IsSurvey file meta survey }
+    ensures { (file : List ℕ) (meta : Meta) → (survey : List SurveyedWay)
+        × IsSurvey file meta survey }
 {}
 
 /// A file has at most one recovered listing.
 pub fn recovered_listing_is_one()
-    ensures { (file : List ℕ) (meta : Meta) (a b : List Member) → IsRecovered file meta a → IsRecovered file meta b → a ≡ b }
+    ensures { (file : List ℕ) (meta : Meta) → AtMostOne (IsRecovered file meta) }
 {}
 
 /// Each file has a recovered listing.
 #[tactic(auto, using(crate::proofs::Existing::has_recovered))]
 pub fn each_file_has_a_recovered_listing()
-    ensures { (file : List ℕ) (meta : Meta) → (listing : List Member) × IsRecovered file meta listing }
+    ensures { (file : List ℕ) (meta : Meta) → (listing : List Member)
+        × IsRecovered file meta listing }
 {}
 
 /// A recovered listing is what a tree of buckets lists.
 pub fn recovered_listing_is_of_a_tree()
-    ensures { (file : List ℕ) (meta : Meta) (listing : List Member) → IsRecovered file meta listing → (tree : Tree) × (listing ≡ listing_of tree) }
+    ensures { (file : List ℕ) (meta : Meta) (listing : List Member) → IsRecovered file meta listing
+        → (tree : Tree) × (listing ≡ listing_of tree) }
 {}
 
 /// Each recovered member is what its path holds: an entry of the bucket that the path names.
 pub fn recovered_members_are_held()
-    ensures { (file : List ℕ) (meta : Meta) (survey : List SurveyedWay) → AreInTheirBuckets file meta survey }
+    ensures { (file : List ℕ) (meta : Meta) (survey : List SurveyedWay)
+        → AreInTheirBuckets file meta survey }
 {}
 
 /// A file has at most one list of losses.
 pub fn losses_are_one()
-    ensures { (file : List ℕ) (meta : Meta) (a b : List LossView) → AreLosses file meta a → AreLosses file meta b → a ≡ b }
+    ensures { (file : List ℕ) (meta : Meta) → AtMostOne (AreLosses file meta) }
 {}
 
 /// Sound trees lose nothing.
 pub fn sound_trees_lose_nothing()
-    ensures { (file : List ℕ) (meta : Meta) (all : List SurveyedWay) (v : SurveyedWay) → HasSoundTrees file meta → IsSurvey file meta all → Has all v → v.found ≡ None }
+    ensures { (file : List ℕ) (meta : Meta) (all : List SurveyedWay) (v : SurveyedWay)
+        → HasSoundTrees file meta → IsSurvey file meta all → Has all v → v.found ≡ None }
 {}
 
 /// The recovered listing of sound trees is their listing.
 pub fn sound_trees_recover_their_listing()
-    ensures { (file : List ℕ) (meta : Meta) (listing : List Member) → HasSoundTrees file meta → IsRecovered file meta listing → IsListing file meta listing }
+    ensures { (file : List ℕ) (meta : Meta) (listing : List Member) → HasSoundTrees file meta
+        → IsRecovered file meta listing → IsListing file meta listing }
 {}
 
 /// The finding at the first lost way is the first finding of the trees.
 pub fn first_loss_is_the_first_finding()
-    ensures { (file : List ℕ) (meta : Meta) (survey : List SurveyedWay) (way : List ℕ) (x : Finding) → IsSurvey file meta survey → Has survey (lost way x)
-        → ((v : SurveyedWay) → Has survey v → Before v.way way → v.found ≡ None) → IsFirstFinding file meta x }
+    ensures { ForLostWays (λ file meta survey way x.
+        LosesNothingBefore way survey → IsFirstFinding file meta x) }
 {}
 
 /// The trees are sound if no way is lost, and so if there is no loss.
 pub fn nothing_lost_means_sound_trees()
-    ensures ways { (file : List ℕ) (meta : Meta) (survey : List SurveyedWay) → IsSurvey file meta survey → LosesNothing survey → HasSoundTrees file meta }
-    ensures losses { (file : List ℕ) (meta : Meta) → AreLosses file meta [] → HasSoundTrees file meta }
+    ensures ways { ForSurveys (λ file meta survey. LosesNothing survey
+        → HasSoundTrees file meta) }
+    ensures losses { (file : List ℕ) (meta : Meta) → AreLosses file meta []
+        → HasSoundTrees file meta }
 {}
 
 /// Each lost way has one loss, that of the site that it leads to. There are as many losses as lost
 /// ways, and each loss is that of a lost way.
 pub fn each_lost_way_has_one_loss()
-    ensures number { (file : List ℕ) (meta : Meta) (survey : List SurveyedWay) → IsSurvey file meta survey
-        → length (losses_of file meta survey) ≡ count_by (λ (v : SurveyedWay). is_some v.found) survey }
-    ensures loss { (file : List ℕ) (meta : Meta) (survey : List SurveyedWay) (way : List ℕ) (x : Finding) → IsSurvey file meta survey → Has survey (lost way x)
-        → (site : Site) × (site_at file meta way ≡ Some site) × Contains (losses_of file meta survey) (loss_of site x) }
-    ensures way { (file : List ℕ) (meta : Meta) (survey : List SurveyedWay) (l : LossView) → IsSurvey file meta survey → Contains (losses_of file meta survey) l
-        → (way : List ℕ) × (x : Finding) × (site : Site) × Has survey (lost way x) × (site_at file meta way ≡ Some site) × (l ≡ loss_of site x) }
+    ensures number { ForSurveys (λ file meta survey.
+        length (losses_of file meta survey)
+        ≡ count_by (λ (v : SurveyedWay). is_some v.found) survey) }
+    ensures loss { ForLostWays (λ file meta survey way x.
+        AtSite file meta way (λ site. Contains (losses_of file meta survey) (loss_of site x))) }
+    ensures way { ForSurveys (λ file meta survey.
+        (l : LossView) → Contains (losses_of file meta survey) l
+        → (way : List ℕ) × (x : Finding)
+        × Has survey (lost way x) × AtSite file meta way (λ site. l ≡ loss_of site x)) }
 {}
 
 /// What is recovered of sound trees is what they list, and there is no loss.
 pub fn sound_trees_recover_what_they_list()
-    ensures listing { (file : List ℕ) (meta : Meta) (all : List Member) → HasSoundTrees file meta → IsListing file meta all → IsRecovered file meta all }
-    ensures losses { (file : List ℕ) (meta : Meta) (losses : List LossView) → HasSoundTrees file meta → AreLosses file meta losses → losses ≡ [] }
+    ensures listing { (file : List ℕ) (meta : Meta) (all : List Member) → HasSoundTrees file meta
+        → IsListing file meta all → IsRecovered file meta all }
+    ensures losses { (file : List ℕ) (meta : Meta) (losses : List LossView)
+        → HasSoundTrees file meta → AreLosses file meta losses → losses ≡ [] }
 {}
 
 /// A file has exactly one number of ways to page numbers.
 pub fn page_ways_are_one()
     ensures some { (file : List ℕ) (meta : Meta) → (n : ℕ) × ArePageWays file meta n }
-    ensures one { (file : List ℕ) (meta : Meta) (a b : ℕ) → ArePageWays file meta a → ArePageWays file meta b → a ≡ b }
+    ensures one { (file : List ℕ) (meta : Meta) → AtMostOne (ArePageWays file meta) }
 {}
 
 /// The file of a recovery is bytes: none is above 255.
@@ -104,7 +119,7 @@ pub fn the_file_of_a_recovery_is_bytes(recovery: &Recovery<'_>)
 
 /// A file has at most one list of found pages.
 pub fn found_pages_are_one()
-    ensures { (file : List ℕ) (meta : Meta) (a b : List ℕ) → AreFound file meta a → AreFound file meta b → a ≡ b }
+    ensures { (file : List ℕ) (meta : Meta) → AtMostOne (AreFound file meta) }
 {}
 
 /// Each file has found pages: one list, which may be empty.
@@ -115,33 +130,34 @@ pub fn each_file_has_found_pages()
 
 /// If nothing is lost, nothing is found.
 pub fn nothing_lost_finds_nothing()
-    ensures { (file : List ℕ) (meta : Meta) (found : List ℕ) → AreLosses file meta [] → AreFound file meta found → found ≡ [] }
+    ensures { (file : List ℕ) (meta : Meta) (found : List ℕ) → AreLosses file meta []
+        → AreFound file meta found → found ≡ [] }
 {}
 
 /// Each found page is an intact leaf below the high-water mark, isn't listed as free, and shares no
 /// page with a kept way or with another found page.
 pub fn found_pages_are_intact()
-    ensures below { (file : List ℕ) (meta : Meta) (found : List ℕ) (n : ℕ) → AreFound file meta found → Contains found n → n < meta.high_water }
-    ensures leaf { (file : List ℕ) (meta : Meta) (found : List ℕ) (survey : List SurveyedWay) (n : ℕ)
-        → AreFound file meta found → IsSurvey file meta survey → Contains found n
-        → IsLoneLeaf (node_at file meta) (IsKeptPage file meta survey) n }
-    ensures unlisted { (file : List ℕ) (meta : Meta) (found : List ℕ) (n : ℕ) → AreFound file meta found → Contains found n → IsListedFree file meta n → ⊥ }
-    ensures apart { (file : List ℕ) (meta : Meta) (found : List ℕ) (n m k : ℕ) → AreFound file meta found → Contains found n → Contains found m
-        → SpanAt (node_at file meta) (At_page (root_spot n)) k → SpanAt (node_at file meta) (At_page (root_spot m)) k → n ≡ m }
+    ensures below { ForFoundPages (λ file meta found n. n < meta.high_water) }
+    ensures leaf { ForFoundPages (λ file meta found n. ForSurvey file meta (λ survey.
+        IsLoneLeaf (node_at file meta) (IsKeptPage file meta survey) n)) }
+    ensures unlisted { ForFoundPages (λ file meta found n. IsListedFree file meta n → ⊥) }
+    ensures apart { ForFoundPages (λ file meta found n. (m k : ℕ) → Contains found m
+        → Spans file meta n k → Spans file meta m k → n ≡ m) }
 {}
 
 /// No intact leaf is left behind: if something is lost, each one that isn't listed as free shares a
 /// page with a kept way or with a found page.
 pub fn no_intact_leaf_is_left_behind()
-    ensures { (file : List ℕ) (meta : Meta) (found : List ℕ) (survey : List SurveyedWay) (way : List ℕ) (x : Finding) (n : ℕ)
-        → AreFound file meta found → IsSurvey file meta survey → Has survey (lost way x)
-        → IsLoneLeaf (node_at file meta) (λ k. ⊥) n → (IsListedFree file meta n → ⊥)
-        → (k : ℕ) × SpanAt (node_at file meta) (At_page (root_spot n)) k × (IsKeptPage file meta survey k ⊎ IsFoundPage file meta found k) }
+    ensures { ForLostWays (λ file meta survey way x. (found : List ℕ) (n : ℕ)
+        → AreFound file meta found → IsLoneLeaf (node_at file meta) (λ k. ⊥) n
+        → (IsListedFree file meta n → ⊥)
+        → (k : ℕ) × Spans file meta n k
+        × (IsKeptPage file meta survey k ⊎ IsFoundPage file meta found k)) }
 {}
 
 /// A file has at most one joined listing.
 pub fn joined_listing_is_one()
-    ensures { (file : List ℕ) (meta : Meta) (a b : List Member) → IsJoined file meta a → IsJoined file meta b → a ≡ b }
+    ensures { (file : List ℕ) (meta : Meta) → AtMostOne (IsJoined file meta) }
 {}
 
 /// Each file has a joined listing.
@@ -152,29 +168,34 @@ pub fn each_file_has_a_joined_listing()
 
 /// A joined listing is what a tree of buckets lists.
 pub fn joined_listing_is_of_a_tree()
-    ensures { (file : List ℕ) (meta : Meta) (listing : List Member) → IsJoined file meta listing → (tree : Tree) × (listing ≡ listing_of tree) }
+    ensures { (file : List ℕ) (meta : Meta) (listing : List Member) → IsJoined file meta listing
+        → (tree : Tree) × (listing ≡ listing_of tree) }
 {}
 
 /// What isn't in the bucket of what is found is exactly the recovered listing, if that has no entry
 /// with the bucket's key itself.
 pub fn joined_listing_keeps_what_is_recovered()
-    ensures { (file : List ℕ) (meta : Meta) (listing recovered : List Member) → IsJoined file meta listing → IsRecovered file meta recovered
-        → ((m : Member) → Contains recovered m → not (is_found_path m.0) ≡ true) → filter (λ (m : Member). not (is_found_path m.0)) listing ≡ recovered }
+    ensures { (file : List ℕ) (meta : Meta) (listing recovered : List Member)
+        → IsJoined file meta listing → IsRecovered file meta recovered
+        → LacksBucketKey recovered
+        → filter (λ (m : Member). not (is_found_path m.0)) listing ≡ recovered }
 {}
 
 /// A joined listing is in the order of paths, if it is that of a file of which no page number has more
 /// than sixteen digits, and there is room for the bucket of what is found.
 pub fn joined_listing_rises()
-    ensures { (file : List ℕ) (meta : Meta) (listing : List Member) → IsJoined file meta listing → length file < 10 ^ 16 * meta.page_size
-        → LeavesRoom file meta → Rises member_cmp listing }
+    ensures { (file : List ℕ) (meta : Meta) → length file < 10 ^ 16 * meta.page_size
+        → LeavesRoom file meta → ForJoined file meta (Rises member_cmp) }
 {}
 
 /// Each member of a joined listing is recovered, or it is the bucket of what is found, or in it: the
 /// bucket of a found page, an element of the page, or one of an inline bucket on the page.
 pub fn joined_members_are_recovered_or_found()
-    ensures { (file : List ℕ) (meta : Meta) (listing recovered : List Member) (found : List ℕ) (m : Member)
+    ensures { (file : List ℕ) (meta : Meta) (listing recovered : List Member)
+        (found : List ℕ) (m : Member)
         → IsJoined file meta listing → IsRecovered file meta recovered → AreFound file meta found
-        → Contains listing m → Contains recovered m ⊎ ((m ≡ (lost_and_found ∷ [], Bucket 0)) ⊎ IsFoundMember file meta found m) }
+        → Contains listing m → Contains recovered m
+        ⊎ ((m ≡ (lost_and_found ∷ [], Bucket 0)) ⊎ IsFoundMember file meta found m) }
 {}
 
 /// The members of a joined listing are in the order of paths.

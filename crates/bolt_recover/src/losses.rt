@@ -24,7 +24,8 @@ pub struct Loss<'a> {
 impl<'a> Loss<'a> {
     /// The loss of what a spot leads to, in the bucket with this path.
     pub fn new(finding: Finding, bucket: Vec<&'a [u8]>, spot: &Spot<'a>) -> Loss<'a>
-        ensures { loss_view result ≡ loss_on (path_of bucket.entry.items) (spot_at spot.now) finding }
+        ensures { loss_view result
+            ≡ loss_on (path_of bucket.entry.items) (spot_at spot.now) finding }
     {
         let (lower, upper) = match spot {
             Spot::Page(page) => (page.lower, page.upper),

@@ -81,7 +81,8 @@ impl<'a> LostAndFound<'a> {
         requires damaged { HasSoundTrees file.now meta → ⊥ }
         ensures file { IfOk result (λ both. both.file.now ≡ file.now) }
         ensures meta { IfOk result (λ both. both.meta ≡ meta) }
-        ensures searched { IfOk result (λ both. IsSearched file.now meta both.trees both.found.items) }
+        ensures searched { IfOk result (λ both.
+            IsSearched file.now meta both.trees both.found.items) }
     {
         match Recovery::under(alloc, file, meta) {
             Ok(recovery) => {

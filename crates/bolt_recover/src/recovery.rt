@@ -50,13 +50,16 @@ impl<'a> Recovery<'a> {
     pub fn new(alloc: Global, file: &'a [u8]) -> Result<Recovery<'a>, CheckFault>
         ensures file { IfOk result (λ recovery. recovery_file recovery ≡ file.now) }
         ensures meta { IfOk result (λ recovery. HasActive file.now (recovery_meta recovery)) }
-        ensures all { IfOk result (λ recovery. ForRecovered file.now (recovery_meta recovery) (λ listing. recovery_left recovery listing ≡ listing)) }
+        ensures all { IfOk result (λ recovery.
+            ForRecovered file.now (recovery_meta recovery) (λ listing.
+            recovery_left recovery listing ≡ listing)) }
         ensures path { IfOk result (λ recovery. recovery_path recovery ≡ []) }
         ensures losses { IfOk result (λ recovery. recovery_losses recovery ≡ []) }
         ensures begun { IfOk result (λ recovery. recovery_begun recovery ≡ 0) }
         ensures visited { IfOk result (λ recovery. recovery_visited recovery ≡ 1) }
         ensures root { IfOk result (λ recovery. KeepsRoot file.now (recovery_meta recovery)) }
-        ensures refused { IfErr result (IsUnrecoverable file.now (HasActive file.now) (HasNoActive file.now)) }
+        ensures refused { IfErr result
+            (IsUnrecoverable file.now (HasActive file.now) (HasNoActive file.now)) }
     {
         let (_, meta) = choose(file)?;
         Recovery::under(alloc, file, meta)
@@ -70,13 +73,16 @@ impl<'a> Recovery<'a> {
     pub fn of_slot(alloc: Global, file: &'a [u8], slot: Slot) -> Result<Recovery<'a>, CheckFault>
         ensures file { IfOk result (λ recovery. recovery_file recovery ≡ file.now) }
         ensures meta { IfOk result (λ recovery. IsInSlot file.now slot (recovery_meta recovery)) }
-        ensures all { IfOk result (λ recovery. ForRecovered file.now (recovery_meta recovery) (λ listing. recovery_left recovery listing ≡ listing)) }
+        ensures all { IfOk result (λ recovery.
+            ForRecovered file.now (recovery_meta recovery) (λ listing.
+            recovery_left recovery listing ≡ listing)) }
         ensures path { IfOk result (λ recovery. recovery_path recovery ≡ []) }
         ensures losses { IfOk result (λ recovery. recovery_losses recovery ≡ []) }
         ensures begun { IfOk result (λ recovery. recovery_begun recovery ≡ 0) }
         ensures visited { IfOk result (λ recovery. recovery_visited recovery ≡ 1) }
         ensures root { IfOk result (λ recovery. KeepsRoot file.now (recovery_meta recovery)) }
-        ensures refused { IfErr result (IsUnrecoverable file.now (IsInSlot file.now slot) (HasNoneInSlot file.now slot)) }
+        ensures refused { IfErr result
+            (IsUnrecoverable file.now (IsInSlot file.now slot) (HasNoneInSlot file.now slot)) }
     {
         let meta = slot_meta(file, slot)?;
         Recovery::under(alloc, file, meta)
@@ -92,7 +98,8 @@ impl<'a> Recovery<'a> {
         requires { 0 < meta.page_size }
         ensures file { IfOk result (λ recovery. recovery_file recovery ≡ file.now) }
         ensures meta { IfOk result (λ recovery. recovery_meta recovery ≡ meta) }
-        ensures all { IfOk result (λ recovery. ForRecovered file.now meta (λ listing. recovery_left recovery listing ≡ listing)) }
+        ensures all { IfOk result (λ recovery.
+            ForRecovered file.now meta (λ listing. recovery_left recovery listing ≡ listing)) }
         ensures path { IfOk result (λ recovery. recovery_path recovery ≡ []) }
         ensures losses { IfOk result (λ recovery. recovery_losses recovery ≡ []) }
         ensures begun { IfOk result (λ recovery. recovery_begun recovery ≡ 0) }
@@ -120,11 +127,14 @@ impl<'a> Recovery<'a> {
     pub fn restart(&mut self) -> Result<(), NoMemory>
         ensures file { recovery_file self.new ≡ recovery_file self.old }
         ensures meta { recovery_meta self.new ≡ recovery_meta self.old }
-        ensures all { OnOk result (ForRecovered (recovery_file self.old) (recovery_meta self.old) (λ listing. recovery_left self.new listing ≡ listing)) }
+        ensures all { OnOk result
+            (ForRecovered (recovery_file self.old) (recovery_meta self.old) (λ listing.
+            recovery_left self.new listing ≡ listing)) }
         ensures path { OnOk result (recovery_path self.new ≡ []) }
         ensures losses { OnOk result (recovery_losses self.new ≡ []) }
         ensures begun { OnOk result (recovery_begun self.new ≡ recovery_visited self.old) }
-        ensures visited { OnOk result (recovery_visited self.new ≡ counted (recovery_visited self.old) 1) }
+        ensures visited { OnOk result
+            (recovery_visited self.new ≡ counted (recovery_visited self.old) 1) }
     {
         let begun = self.steps.claims.visited();
         self.steps.restart()?;
@@ -150,11 +160,14 @@ impl<'a> Recovery<'a> {
         ensures file { recovery_file self.new ≡ recovery_file self.old }
         ensures meta { recovery_meta self.new ≡ recovery_meta self.old }
         ensures given { IfOk result (GivesRecovered self.old self.new) }
-        ensures fewer { IfOk result (λ given. IfSome given (λ _. recovery_work self.new < recovery_work self.old)) }
+        ensures fewer { IfOk result (λ given.
+            IfSome given (λ _. recovery_work self.new < recovery_work self.old)) }
         ensures begun { recovery_begun self.new ≡ recovery_begun self.old }
         ensures visited { IfOk result (λ given. IfNone given (HasVisitedAll self.old self.new)) }
         ensures all { IfOk result (λ given. IfNone given (HasReportedAll self.old self.new)) }
-        ensures kept { IfOk result (λ given. IfNone given (AreKeptPages (recovery_file self.old) (recovery_meta self.old) (recovery_claimed self.new))) }
+        ensures kept { IfOk result (λ given.
+            IfNone given (AreKeptPages (recovery_file self.old) (recovery_meta self.old)
+            (recovery_claimed self.new))) }
         ensures same { OnErr result (LeavesRecovered self.old self.new) }
         ensures same_path { OnErr result (recovery_path self.new ≡ recovery_path self.old) }
     {
@@ -171,10 +184,13 @@ impl<'a> Recovery<'a> {
     ///
     /// `NoMemory` if memory runs out.
     pub(crate) fn found(mut self) -> Result<(Damage<'a>, Vec<Found<'a>>), NoMemory>
-        requires fresh { ForRecovered (recovery_file self) (recovery_meta self) (λ listing. recovery_left self listing ≡ listing) }
+        requires fresh { ForRecovered (recovery_file self) (recovery_meta self) (λ listing.
+            recovery_left self listing ≡ listing) }
         requires root { KeepsRoot (recovery_file self) (recovery_meta self) }
         requires damaged { HasSoundTrees (recovery_file self) (recovery_meta self) → ⊥ }
-        ensures { IfOk result (λ (damage, found). IsSearched (recovery_file self.entry) (recovery_meta self.entry) (Trees.Damaged damage) found.items) }
+        ensures { IfOk result (λ (damage, found).
+            IsSearched (recovery_file self.entry) (recovery_meta self.entry)
+            (Trees.Damaged damage) found.items) }
     {
         let has_bucket_key = self.finish()?;
         let steps = self.steps;
@@ -191,13 +207,18 @@ impl<'a> Recovery<'a> {
     /// Drops what is left, and returns whether the root bucket has an entry with the key of the bucket
     /// of what is found.
     fn finish(&mut self) -> Result<bool, NoMemory>
-        requires { ForRecovered (recovery_file self.old) (recovery_meta self.old) (λ listing. recovery_left self.old listing ≡ listing) }
+        requires { ForRecovered (recovery_file self.old) (recovery_meta self.old) (λ listing.
+            recovery_left self.old listing ≡ listing) }
         ensures file { recovery_file self.new ≡ recovery_file self.old }
         ensures meta { recovery_meta self.new ≡ recovery_meta self.old }
         ensures under { claims_meta self.new.steps.claims ≡ self.old.meta }
-        ensures has { IfOk result (λ has. ForRecovered (recovery_file self.old) (recovery_meta self.old) (λ listing. TellsBucketKey listing has)) }
+        ensures has { IfOk result (λ has.
+            ForRecovered (recovery_file self.old) (recovery_meta self.old) (λ listing.
+            TellsBucketKey listing has)) }
         ensures all { OnOk result (HasReportedAll self.old self.new) }
-        ensures kept { OnOk result (AreKeptPages (recovery_file self.old) (recovery_meta self.old) (recovery_claimed self.new)) }
+        ensures kept { OnOk result
+            (AreKeptPages (recovery_file self.old) (recovery_meta self.old)
+            (recovery_claimed self.new)) }
     {
         let mut has_bucket_key = false;
         while let Some(_) = self.next()? {
@@ -218,7 +239,8 @@ impl<'a> Recovery<'a> {
     /// losses.
     pub fn losses(&self) -> &[Loss<'a>]
         ensures losses { map loss_view result.now ≡ recovery_losses self.now }
-        ensures first { ForLosses (recovery_file self.now) (recovery_meta self.now) (AreFirst (recovery_losses self.now)) }
+        ensures first { ForLosses (recovery_file self.now) (recovery_meta self.now)
+            (AreFirst (recovery_losses self.now)) }
     {
         self.steps.losses.as_slice()
     }

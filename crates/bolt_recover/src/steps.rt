@@ -1,12 +1,11 @@
 //! The steps of a recovering walk: one loop over the open pages of the current way.
-ghost use Rattle.std.specs.Prelude.{◌≡◌, ◌≤◌, ◌<◌, ◌↔◌, ◌∷◌, ◌++◌, ℕ, [], true, None, IfOk, IfErr, IfSome, IsTrue, OnErr, OnOk, length, map, take, vec_capacity, vec_len};
+ghost use Rattle.std.specs.Prelude.{◌≡◌, ◌≤◌, ◌<◌, ◌↔◌, ◌∷◌, ◌++◌, ℕ, [], true, None, IfOk, IfErr, IfSome, IsTrue, OnErr, OnOk, length, map, vec_capacity, vec_len};
 ghost use Rattle.std.specs.Option.{option_map};
 ghost use Rattle.bolt_check.specs.{Claims.claims_file, Claims.claims_meta, Claims.claims_visited, Claims.is_claimed, Counts.counted, Findings.IsMetaPage};
-ghost use Rattle.bolt_check.specs.ShownSpots.{spot_at};
 ghost use Rattle.bolt_check.specs.declared.spot.Spot.TheVariants as spots;
 ghost use Rattle.bolt_format.specs.Elements.{IsBucketValue};
-ghost use Rattle.bolt_recover.specs.Private.Frames.{Advances, GoesOn, IsAllLeft, IsPlaced, Takes, TakesBucket, steps_path};
-ghost use Rattle.bolt_recover.specs.{Losses.loss_on, Refusals.IsRefusedRoot, Refusals.KeepsRoot, ShownLosses.loss_view};
+ghost use Rattle.bolt_recover.specs.Private.Frames.{Advances, GoesOn, IsAllLeft, IsPlaced, Takes, TakesBucket, loss_ahead, steps_path};
+ghost use Rattle.bolt_recover.specs.{Refusals.IsRefusedRoot, Refusals.KeepsRoot, ShownLosses.loss_view};
 
 use crate::content::{KeptPage, OpenPage};
 use crate::losses::Loss;
@@ -26,7 +25,8 @@ pub(crate) struct NextVisit<'a> {
 impl<'a> NextVisit<'a> {
     /// What an element leads to, if anything.
     fn of(spot: Option<Spot<'a>>, path_len: usize) -> Option<NextVisit<'a>>
-        ensures { result ≡ option_map (λ spot. record { spot = spot; path_len = path_len }) spot.entry }
+        ensures { result ≡ option_map (λ spot.
+            record { spot = spot; path_len = path_len }) spot.entry }
     {
         match spot {
             Some(spot) => Some(NextVisit { spot, path_len }),
@@ -63,7 +63,8 @@ pub(crate) struct Steps<'a> {
 
 /// The spot at the root page, to which the empty way leads.
 fn root_of<'a>(meta: &Meta) -> Spot<'a>
-    ensures { result ≡ spots.Page (record { number = meta.now.root; depth = 1; lower = None; upper = None }) }
+    ensures { result ≡ spots.Page
+        (record { number = meta.now.root; depth = 1; lower = None; upper = None }) }
 {
     Spot::Page(PageSpot {
         number: meta.root,
@@ -83,13 +84,18 @@ impl<'a> Steps<'a> {
         requires { (n : ℕ) → (is_claimed claims n ≡ true) ↔ IsMetaPage n }
         ensures file { IfOk result (λ steps. claims_file steps.claims ≡ claims_file claims.entry) }
         ensures meta { IfOk result (λ steps. claims_meta steps.claims ≡ claims_meta claims.entry) }
-        ensures visited { IfOk result (λ steps. claims_visited steps.claims ≡ counted (claims_visited claims.entry) 1) }
+        ensures visited { IfOk result (λ steps.
+            claims_visited steps.claims ≡ counted (claims_visited claims.entry) 1) }
         ensures path { IfOk result (λ steps. steps_path steps ≡ []) }
         ensures placed { IfOk result IsPlaced }
         ensures losses { IfOk result (λ steps. steps.losses.items ≡ []) }
-        ensures root { OnOk result (KeepsRoot (claims_file claims.entry) (claims_meta claims.entry)) }
-        ensures all { IfOk result (IsAllLeft (claims_file claims.entry) (claims_meta claims.entry) (claims_visited claims.entry)) }
-        ensures refused { IfErr result (IsRefusedRoot (claims_file claims.entry) (claims_meta claims.entry)) }
+        ensures root { OnOk result
+            (KeepsRoot (claims_file claims.entry) (claims_meta claims.entry)) }
+        ensures all { IfOk result
+            (IsAllLeft (claims_file claims.entry) (claims_meta claims.entry)
+            (claims_visited claims.entry)) }
+        ensures refused { IfErr result
+            (IsRefusedRoot (claims_file claims.entry) (claims_meta claims.entry)) }
     {
         let root = root_of(&claims.meta());
         let content = KeptPage::visit(&mut claims, root)?;
@@ -121,11 +127,14 @@ impl<'a> Steps<'a> {
         requires { ∥ KeepsRoot (claims_file self.old.claims) (claims_meta self.old.claims) ∥₁ }
         ensures file { claims_file self.new.claims ≡ claims_file self.old.claims }
         ensures meta { claims_meta self.new.claims ≡ claims_meta self.old.claims }
-        ensures visited { OnOk result (claims_visited self.new.claims ≡ counted (claims_visited self.old.claims) 1) }
+        ensures visited { OnOk result
+            (claims_visited self.new.claims ≡ counted (claims_visited self.old.claims) 1) }
         ensures path { OnOk result (steps_path self.new ≡ []) }
         ensures placed { OnOk result (IsPlaced self.new) }
         ensures losses { OnOk result (self.new.losses.items ≡ []) }
-        ensures all { OnOk result (IsAllLeft (claims_file self.old.claims) (claims_meta self.old.claims) (claims_visited self.old.claims) self.new) }
+        ensures all { OnOk result
+            (IsAllLeft (claims_file self.old.claims) (claims_meta self.old.claims)
+            (claims_visited self.old.claims) self.new) }
         ensures rest { OnErr result (self.new ≡ record self.old { «open» = self.new.open }) }
         ensures same { OnErr result (self.new.open.items ≡ self.old.open.items) }
     {
@@ -157,7 +166,7 @@ impl<'a> Steps<'a> {
         requires room { ahead.now.path_len ≤ vec_capacity self.old.loss_path }
         ensures rest { self.new ≡ record self.old { ahead = None; losses = self.new.losses; loss_path = self.new.loss_path } }
         ensures reported { map loss_view self.new.losses.items
-            ≡ map loss_view self.old.losses.items ++ loss_on (take ahead.now.path_len (steps_path self.old)) (spot_at ahead.now.spot) finding ∷ [] }
+            ≡ map loss_view self.old.losses.items ++ loss_ahead self.old ahead.now finding ∷ [] }
     {
         let mut bucket = replace(&mut self.loss_path, Vec::new(self.alloc));
         match bucket.extend_from_slice(&self.path.as_slice()[..ahead.path_len]) {
@@ -235,7 +244,8 @@ impl<'a> Steps<'a> {
     pub fn advance(&mut self) -> Result<Option<Leaf<'a>>, NoMemory>
         requires { IsPlaced self.old }
         ensures given { IfOk result (Advances self.old self.new) }
-        ensures bucket { IfOk result (λ given. IfSome given (λ leaf. IsTrue leaf.is_bucket → IsBucketValue leaf.value.now)) }
+        ensures bucket { IfOk result (λ given.
+            IfSome given (λ leaf. IsTrue leaf.is_bucket → IsBucketValue leaf.value.now)) }
         ensures same { OnErr result (GoesOn self.old self.new) }
     {
         loop {

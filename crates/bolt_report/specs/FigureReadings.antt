@@ -1,10 +1,11 @@
 -- What a reader of figures and of sizes as JSON finds in them: docs/COMMANDS.md, "What is printed".
-use Rattle.std.specs.Prelude.{ℕ, ◌<◌, ◌^◌, List, [], ◌∷◌, Option, Some, None, IfSome, ⊤, codes, option_and_then, option_map}
+use Rattle.std.specs.Prelude.{◌≡◌, ℕ, ◌<◌, ◌^◌, List, [], ◌∷◌, Option, Some, None, IfSome, ⊤, codes, option_and_then, option_map}
 use Rattle.std.specs.Str.Parse.{digits_value}
-use Rattle.json.specs.Json.{Json, Members, member, no_members, null, number}
-use Rattle.bolt_text.specs.JsonReadings.{members_of, named, number_of}
+use Rattle.hex.specs.Hex.{IsBytes}
+use Rattle.json.specs.Json.{Json, Members, document, member, no_members, null, number}
+use Rattle.bolt_text.specs.{Forms.json_text, JsonReadings.members_of, JsonReadings.named, JsonReadings.number_of}
 use Rattle.bolt_stats.specs.declared.figures.Stats.{Stats}
-use Rattle.bolt_report.specs.{FigureForms.Named, SizeLines.bytes_allocated, SizeLines.bytes_used}
+use Rattle.bolt_report.specs.{FigureForms.Named, SizeLines.bytes_allocated, SizeLines.bytes_used, SizeLines.size_json}
 
 -- the number under a name
 abbrev pub figure_in : List ℕ → Members → Option ℕ
@@ -42,3 +43,8 @@ HaveWords (figure ∷ figures) = IfSome figure.1 (λ n. n < 2 ^ 64) × HaveWords
 -- the sizes of a bucket with a name
 abbrev pub named_size : Stats → List ℕ → ℕ × ℕ × ℕ × List ℕ
 named_size stats name = (stats.keys, bytes_used stats, bytes_allocated stats, name)
+
+-- sizes as JSON, with names that are written so, are read back by this
+abbrev pub ReadsSizesBack : (read : Json → Option (List ℕ)) → (write : List ℕ → Json) → Type 0
+ReadsSizesBack read write = (stats : Stats) (name : List ℕ) → stats.keys < 2 ^ 64 → IsBytes name
+    → option_and_then (size_of read) (document (json_text (size_json stats (write name)))) ≡ Some (named_size stats name)

@@ -6,6 +6,7 @@ pub mod KeyLines
 pub mod KeyPrefixes
 pub mod LossLines
 pub mod MemberNames
+pub mod MembersLeft
 pub mod MetaLines
 pub mod PageLines
 pub mod PageMaps

@@ -3,10 +3,10 @@ use Rattle.std.specs.Prelude.{◌==◌, ℕ, Bool, List, [], ◌∷◌, Option, 
 use Rattle.std.specs.List.{starts_with}
 use Rattle.std.specs.Str.{bytes_eq}
 use Rattle.bolt_check.specs.Keys.{Key}
-use Rattle.bolt_report.specs.declared.name_lines.Names.{Names}
+use Rattle.bolt_report.specs.declared.{name_lines.Names.Names, name_lines.NamesIn.NamesIn}
 use Rattle.bolt_report.specs.declared.name_lines.Names.TheVariants.{BeginningWith, Buckets}
 use Rattle.bolt_text.specs.{Forms.value_text, declared.forms.Form.Form}
-use Rattle.bolt_tree.specs.{Entries.Item, Listing.Member, ListingParts.has_bucket, ListingParts.is_bucket, Paths.Path}
+use Rattle.bolt_tree.specs.{Entries.Item, Listing.Member, ListingParts.has_bucket, ListingParts.is_bucket, Paths.Path, Paths.path_of}
 
 -- a path lies in the bucket at another if it has one part more, its key there
 abbrev pub key_in : (bucket path : Path) → Option Key
@@ -39,3 +39,10 @@ member_name form wanted bucket m = entry_name form wanted m.1 (key_in bucket m.0
 -- the lines of those in a bucket of a listing, and nothing if the listing doesn't have it
 abbrev pub names_text : Form → Wanted → (bucket : Path) → List Member → List ℕ
 names_text form wanted bucket listing = if has_bucket bucket listing then flat_map (member_name form wanted bucket) listing else []
+
+-- the same of the entries that are asked for
+abbrev pub asked_name : Form → NamesIn → Member → List ℕ
+asked_name form asked m = member_name form (is_wanted asked.names) (path_of asked.bucket.now) m
+
+abbrev pub asked_names : Form → NamesIn → List Member → List ℕ
+asked_names form asked listing = names_text form (is_wanted asked.names) (path_of asked.bucket.now) listing

@@ -1,8 +1,9 @@
 -- A page as a text: docs/COMMANDS.md, "What is printed".
 use Rattle.std.specs.Prelude.{ℕ, List, [], ◌++◌, codes, decimal, flat_map, length, if◌then◌else◌, Option, Some, None}
+use Rattle.std.specs.Option.{option_map}
 use Rattle.hex.specs.Hex.{encode_lower}
-use Rattle.bolt_format.specs.{Elements.BranchElement, Elements.LeafElement, Elements.head_root, Elements.head_sequence, Pages.PageView}
-use Rattle.bolt_format.specs.declared.header.Kind.{Kind}
+use Rattle.bolt_format.specs.{Elements.BranchElement, Elements.LeafElement, Elements.head_root, Elements.head_sequence, Pages.PageView, ShownIds.shown_ids}
+use Rattle.bolt_format.specs.{declared.header.Kind.Kind, declared.ids.FreeIds.FreeIds}
 use Rattle.bolt_format.specs.declared.header.Kind.TheVariants as kind
 use Rattle.bolt_text.specs.{Lines.figure_line, Lines.line, ListLines.value_end}
 
@@ -38,6 +39,10 @@ id_line id = line (decimal id)
 abbrev pub known_ids : Option (List ℕ) → List ℕ
 known_ids (Some ids) = ids
 known_ids None = []
+
+-- the same of the ids as the code has them
+abbrev pub read_ids : Option FreeIds → List ℕ
+read_ids ids = known_ids (option_map shown_ids ids)
 
 -- The items of a branch or a leaf are its elements, those of a freelist its ids; a meta page has none.
 abbrev pub items_on : Kind → ℕ → List ℕ → ℕ

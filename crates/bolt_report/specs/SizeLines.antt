@@ -4,9 +4,10 @@ use Rattle.std.specs.List.{AllByRecursion}
 use Rattle.json.specs.Json as json
 use Rattle.json.specs.Json.{member, no_members, object}
 use Rattle.bolt_format.specs.{Elements.LeafElement, declared.meta.Meta.Meta}
-use Rattle.bolt_tree.specs.Entries.{start_of}
+use Rattle.bolt_check.specs.CheckedFiles.{bytes_of, meta_of}
+use Rattle.bolt_tree.specs.{Buckets.bucket_checked, Entries.start_of, declared.bucket.Bucket.Bucket}
 use Rattle.bolt_stats.specs.Figures.{saturated}
-use Rattle.bolt_report.specs.FigureForms.{figures_then}
+use Rattle.bolt_report.specs.{FigureForms.figures_then, KeyLines.ForBucket}
 use Rattle.bolt_text.specs.{Forms.is_json, Forms.json_in, Forms.json_text, Forms.value_text, Lines.line}
 use Rattle.bolt_stats.specs.{StatsOf.IsStatsOf, declared.figures.Stats.Stats}
 use Rattle.bolt_text.specs.declared.forms.Form.{Form}
@@ -52,3 +53,7 @@ sizes_text form sized = flat_map (size_line form) sized
 pub record AreSized (file : List ℕ) (meta : Meta) (entries : List LeafElement) (sized : List Sized) : Type 0 where
   pub buckets : map (λ (s : Sized). s.entry) sized ≡ filter (λ (e : LeafElement). e.is_bucket) entries
   pub stats : AllByRecursion (λ (s : Sized). IsStatsOf file meta (start_of s.entry.value) s.stats) sized
+
+-- this holds of the buckets in a bucket with their figures
+abbrev pub ForSized : Bucket → (List Sized → Type 0) → Type 0
+ForSized bucket P = ForBucket bucket (λ entries. (sized : List Sized) → AreSized (bytes_of (bucket_checked bucket)) (meta_of (bucket_checked bucket)) entries sized → P sized)

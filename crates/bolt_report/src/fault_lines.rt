@@ -94,7 +94,8 @@ pub(crate) fn put_sentence<S: Sink>(
     words: &[u8],
     sink: &mut S,
 ) -> Result<(), SinkFault>
-    ensures { Wrote S.Sink sink.old sink.new (finding_sentence finding.now ++ words.now) (ending result) }
+    ensures { Wrote S.Sink sink.old sink.new (finding_sentence finding.now ++ words.now)
+        (ending result) }
 {
     if finding.page == finding.last {
         put_pieces(

@@ -25,8 +25,10 @@ pub fn keys<S: Sink>(
     form: Form,
     sink: &mut S,
 ) -> Result<(), ReportFault>
-    ensures written { ForBucket bucket.now (λ entries. Wrote S.Sink sink.old sink.new (keys_text form entries) (report_ending result)) }
-    ensures fault { IfErr result (λ fault. (fault ≡ ReportFault.Sink) ⊎ ((fault ≡ ReportFault.NoMemory) × (form ≡ Form.Json))) }
+    ensures written { ForBucket bucket.now (λ entries.
+        Wrote S.Sink sink.old sink.new (keys_text form entries) (report_ending result)) }
+    ensures fault { IfErr result (λ fault. (fault ≡ ReportFault.Sink)
+        ⊎ ((fault ≡ ReportFault.NoMemory) × (form ≡ Form.Json))) }
 {
     keys_with_prefix(alloc, &mut bucket.cursor(), &[], form, sink)
 }
@@ -39,8 +41,10 @@ pub fn buckets<S: Sink>(
     form: Form,
     sink: &mut S,
 ) -> Result<(), ReportFault>
-    ensures written { ForBucket bucket.now (λ entries. Wrote S.Sink sink.old sink.new (buckets_text form entries) (report_ending result)) }
-    ensures fault { IfErr result (λ fault. (fault ≡ ReportFault.Sink) ⊎ ((fault ≡ ReportFault.NoMemory) × (form ≡ Form.Json))) }
+    ensures written { ForBucket bucket.now (λ entries.
+        Wrote S.Sink sink.old sink.new (buckets_text form entries) (report_ending result)) }
+    ensures fault { IfErr result (λ fault. (fault ≡ ReportFault.Sink)
+        ⊎ ((fault ≡ ReportFault.NoMemory) × (form ≡ Form.Json))) }
 {
     let mut items = ItemWriter::new(alloc, form);
     let mut cursor = bucket.cursor();
@@ -59,7 +63,8 @@ fn put_bucket<S: Sink>(
     ensures form { items.new.form ≡ items.old.form }
     ensures written { (e : LeafElement) → shown_entry entry.now ≡ entry_view e
         → Wrote S.Sink sink.old sink.new (bucket_name items.old.form e) (report_ending result) }
-    ensures fault { IfErr result (λ fault. (fault ≡ ReportFault.Sink) ⊎ ((fault ≡ ReportFault.NoMemory) × (items.old.form ≡ Form.Json))) }
+    ensures fault { IfErr result (λ fault. (fault ≡ ReportFault.Sink)
+        ⊎ ((fault ≡ ReportFault.NoMemory) × (items.old.form ≡ Form.Json))) }
 {
     match entry.item {
         Item::Value(_) => Ok(()),
@@ -84,12 +89,16 @@ pub fn keys_with_prefix<S: Sink>(
     form: Form,
     sink: &mut S,
 ) -> Result<(), ReportFault>
-    ensures written { ForCursor cursor.old (λ entries.
-        Wrote S.Sink sink.old sink.new (keys_text form (with_prefix prefix.now entries)) (report_ending result)) }
-    ensures opens { OnOk result (OpensPrefix (cursor_bucket cursor.old) prefix.now (cursor_opened cursor.old) (cursor_opened cursor.new)) }
+    ensures written { ForCursor cursor.old (λ all.
+        Wrote S.Sink sink.old sink.new (keys_text form (with_prefix prefix.now all))
+        (report_ending result)) }
+    ensures opens { OnOk result
+        (OpensPrefix (cursor_bucket cursor.old) prefix.now (cursor_opened cursor.old)
+        (cursor_opened cursor.new)) }
     ensures checked { cursor_checked cursor.new ≡ cursor_checked cursor.old }
     ensures start { cursor_start cursor.new ≡ cursor_start cursor.old }
-    ensures fault { IfErr result (λ fault. (fault ≡ ReportFault.Sink) ⊎ ((fault ≡ ReportFault.NoMemory) × (form ≡ Form.Json))) }
+    ensures fault { IfErr result (λ fault. (fault ≡ ReportFault.Sink)
+        ⊎ ((fault ≡ ReportFault.NoMemory) × (form ≡ Form.Json))) }
 {
     let mut items = ItemWriter::new(alloc, form);
     let mut found = cursor.seek(prefix);

@@ -1,30 +1,27 @@
 //! What the definitions of sizes imply, and that figures and sizes as JSON are read back.
-ghost use Rattle.std.specs.Prelude.{◌≡◌, ◌<◌, ◌^◌, ℕ, List, Some, map, option_and_then};
-ghost use Rattle.hex.specs.Hex.{IsBytes};
+ghost use Rattle.std.specs.Prelude.{◌≡◌, ℕ, List, Some, map, option_and_then};
 ghost use Rattle.json.specs.Json.{document};
 ghost use Rattle.bolt_format.specs.{Elements.LeafElement, declared.meta.Meta.Meta};
-ghost use Rattle.bolt_check.specs.Sound.{HasSoundTrees};
 ghost use Rattle.bolt_report.specs.FigureForms.{Named, figures_json, json_name};
 ghost use Rattle.bolt_text.specs.Forms.{digits_json, item_json, json_text};
-ghost use Rattle.bolt_report.specs.FigureReadings.{named_size, HaveWords, figures_of, size_of};
+ghost use Rattle.bolt_report.specs.FigureReadings.{HaveWords, figures_of, ReadsSizesBack};
 ghost use Rattle.bolt_text.specs.JsonReadings.{digits_of, item_of};
-ghost use Rattle.bolt_report.specs.SizeLines.{AreSized, Sized, size_json};
-ghost use Rattle.bolt_stats.specs.declared.figures.Stats.{Stats};
-ghost use Rattle.bolt_tree.specs.Entries.{AreEntries, IsEntry, IsStart, Start};
+ghost use Rattle.bolt_report.specs.SizeLines.{AreSized, Sized};
+ghost use Rattle.bolt_recover.specs.Ones.{AtMostOne};
+ghost use Rattle.bolt_tree.specs.Laws.{ForSorted};
 
 /// The buckets among the entries of a bucket have at most one list of sizes.
 #[tactic(auto, using(crate::proofs::SizesExist::one_sizes))]
 pub fn sizes_are_one()
-    ensures { (file : List ℕ) (meta : Meta) (entries : List LeafElement) (a b : List Sized)
-        → AreSized file meta entries a → AreSized file meta entries b → a ≡ b }
+    ensures { (file : List ℕ) (meta : Meta) (entries : List LeafElement)
+        → AtMostOne (AreSized file meta entries) }
 {}
 
 /// In sound trees the buckets among the entries of a bucket have their sizes.
 #[tactic(auto, using(crate::proofs::SizesExist::some_sizes))]
 pub fn sizes_exist()
-    ensures { (file : List ℕ) (meta : Meta) (start : Start) (entries : List LeafElement)
-        → HasSoundTrees file meta → IsStart file meta start → AreEntries (IsEntry file meta) start entries
-        → (sized : List Sized) × AreSized file meta entries sized }
+    ensures { ForSorted (λ file meta start entries. (sized : List Sized)
+        × AreSized file meta entries sized) }
 {}
 
 /// Figures as JSON without the line feed are a JSON document. A reader that goes over its members
@@ -32,15 +29,14 @@ pub fn sizes_exist()
 #[tactic(auto, using(crate::proofs::FigureDocuments::figures_document))]
 pub fn json_figures_read_back()
     ensures { (figures : List Named) → HaveWords figures
-        → option_and_then figures_of (document (json_text (figures_json figures))) ≡ Some (map (λ figure. (json_name figure.0, figure.1)) figures) }
+        → option_and_then figures_of (document (json_text (figures_json figures)))
+        ≡ Some (map (λ figure. (json_name figure.0, figure.1)) figures) }
 {}
 
 /// The line of a bucket's sizes as JSON is, without its line feed, a JSON document. A reader that
 /// looks up its members by their names finds the number of keys, the bytes used, the bytes allocated,
 /// and the name.
 pub fn json_sizes_read_back()
-    ensures item { (stats : Stats) (name : List ℕ) → stats.keys < 2 ^ 64 → IsBytes name
-        → option_and_then (size_of item_of) (document (json_text (size_json stats (item_json name)))) ≡ Some (named_size stats name) }
-    ensures hex_item { (stats : Stats) (name : List ℕ) → stats.keys < 2 ^ 64 → IsBytes name
-        → option_and_then (size_of digits_of) (document (json_text (size_json stats (digits_json name)))) ≡ Some (named_size stats name) }
+    ensures item { ReadsSizesBack item_of item_json }
+    ensures hex_item { ReadsSizesBack digits_of digits_json }
 {}

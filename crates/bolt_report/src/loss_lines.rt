@@ -1,5 +1,5 @@
 //! The lines of what is lost of a damaged file, and of what is found in it though nothing leads to it.
-ghost use Rattle.std.specs.Prelude.{◌≡◌, ◌++◌, map, ◌≤◌};
+ghost use Rattle.std.specs.Prelude.{◌≡◌, map, ◌≤◌, ◌++◌};
 ghost use Rattle.std.specs.List.{All};
 ghost use Rattle.bolt_format.specs.{Endings.ending, Wrote.Wrote, TreePages.leaves_on};
 ghost use Rattle.bolt_recover.specs.ShownLosses.{loss_view, lost_view};
@@ -35,7 +35,8 @@ fn count_of(lost: Lost<'_>) -> u64
 
 #[tactic(auto, using(bolt_text::proofs::ReportLemmas::elements))]
 fn put_losses<S: Sink>(losses: &[Loss<'_>], sink: &mut S) -> Result<(), SinkFault>
-    ensures { Wrote S.Sink sink.old sink.new (losses_text (map loss_view losses.now)) (ending result) }
+    ensures { Wrote S.Sink sink.old sink.new (losses_text (map loss_view losses.now))
+        (ending result) }
 {
     for loss in losses {
         put_loss(loss, sink)?;
@@ -113,7 +114,8 @@ pub fn lost_text<S: Sink>(
     sink: &mut S,
 ) -> Result<(), SinkFault>
     requires { All IsFoundLeaf found.now }
-    ensures { Wrote S.Sink sink.old sink.new (lost_text (lost_view lost.entry) (map found_view found.now)) (ending result) }
+    ensures { Wrote S.Sink sink.old sink.new
+        (lost_text (lost_view lost.entry) (map found_view found.now)) (ending result) }
 {
     put_lost(lost, sink)?;
     put_all_found(found, sink)
@@ -134,7 +136,9 @@ pub fn counted_lost_text<S: Sink>(
 ) -> Result<(), SinkFault>
     requires few { earlier ≤ 2 }
     requires leaves { All IsFoundLeaf found.now }
-    ensures { Wrote S.Sink sink.old sink.new (counted_lost_text earlier (lost_view lost.entry) (map found_view found.now)) (ending result) }
+    ensures { Wrote S.Sink sink.old sink.new
+        (counted_lost_text earlier (lost_view lost.entry) (map found_view found.now))
+        (ending result) }
 {
     lost_text(lost, found, sink)?;
     put_count(earlier + count_of(lost), sink)
@@ -143,7 +147,8 @@ pub fn counted_lost_text<S: Sink>(
 #[tactic(auto, using(bolt_text::proofs::ReportLemmas::elements))]
 fn put_all_found<S: Sink>(found: &[Found<'_>], sink: &mut S) -> Result<(), SinkFault>
     requires { All IsFoundLeaf found.now }
-    ensures { Wrote S.Sink sink.old sink.new (found_text (map found_view found.now)) (ending result) }
+    ensures { Wrote S.Sink sink.old sink.new (found_text (map found_view found.now))
+        (ending result) }
 {
     for page in found {
         put_found(page, sink)?;

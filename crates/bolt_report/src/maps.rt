@@ -23,7 +23,8 @@ const LINE_PAGES: u64 = 64;
 /// `SinkFault` if the sink failed. It has then accepted a prefix of the text.
 pub fn page_map<S: Sink>(table: &Roles<'_>, sink: &mut S) -> Result<(), SinkFault>
     requires { has_accounts (roles_checked table.now) ≡ true }
-    ensures { ForRoles (roles_checked table.now) (λ roles. Wrote S.Sink sink.old sink.new (map_of (roles_checked table.now) roles) (ending result)) }
+    ensures { ForRoles (roles_checked table.now) (λ roles.
+        Wrote S.Sink sink.old sink.new (map_of (roles_checked table.now) roles) (ending result)) }
 {
     put_lines(table, sink)?;
     put_past(free_past(table), sink)
@@ -32,7 +33,8 @@ pub fn page_map<S: Sink>(table: &Roles<'_>, sink: &mut S) -> Result<(), SinkFaul
 /// Writes the lines of the pages in the file.
 fn put_lines<S: Sink>(table: &Roles<'_>, sink: &mut S) -> Result<(), SinkFault>
     requires { has_accounts (roles_checked table.now) ≡ true }
-    ensures { ForRoles (roles_checked table.now) (λ roles. Wrote S.Sink sink.old sink.new (lines_of (roles_checked table.now) roles) (ending result)) }
+    ensures { ForRoles (roles_checked table.now) (λ roles.
+        Wrote S.Sink sink.old sink.new (lines_of (roles_checked table.now) roles) (ending result)) }
 {
     let end = page_count(&table.checked());
     for line in 0..end.div_ceil(LINE_PAGES) {
@@ -56,7 +58,8 @@ fn put_line<S: Sink>(table: &Roles<'_>, first: u64, end: u64, sink: &mut S) -> R
     requires first { first ≤ end }
     requires end { end ≤ first + LINE_PAGES }
     requires below { end ≤ (meta_of (roles_checked table.now)).high_water }
-    ensures { ForRoles (roles_checked table.now) (λ roles. Wrote S.Sink sink.old sink.new (map_line roles first (end - first)) (ending result)) }
+    ensures { ForRoles (roles_checked table.now) (λ roles.
+        Wrote S.Sink sink.old sink.new (map_line roles first (end - first)) (ending result)) }
 {
     put_pieces(
         &[
@@ -75,7 +78,8 @@ fn page_marks(table: &Roles<'_>, first: u64, end: u64) -> ArrayVec<u8, 64>
     requires first { first ≤ end }
     requires end { end ≤ first + LINE_PAGES }
     requires below { end ≤ (meta_of (roles_checked table.now)).high_water }
-    ensures { ForRoles (roles_checked table.now) (λ roles. result.items ≡ map (λ n. page_mark (roles n)) (range_with_len first (end - first))) }
+    ensures { ForRoles (roles_checked table.now) (λ roles.
+        result.items ≡ map (λ n. page_mark (roles n)) (range_with_len first (end - first))) }
 {
     let mut marks = ArrayVec::new();
     for id in first..end {

@@ -30,7 +30,8 @@ pub fn info<S: Sink>(
 
 #[tactic(auto, unfolding(crate::specs::MetaLines::info_text))]
 fn put_lines<S: Sink>(slot: Slot, meta: &Meta, sink: &mut S) -> Result<(), SinkFault>
-    ensures { Wrote S.Sink sink.old sink.new (info_text FigureForm.Lines slot meta.now) (ending result) }
+    ensures { Wrote S.Sink sink.old sink.new (info_text FigureForm.Lines slot meta.now)
+        (ending result) }
 {
     put_pieces(
         &[
@@ -47,7 +48,8 @@ fn put_lines<S: Sink>(slot: Slot, meta: &Meta, sink: &mut S) -> Result<(), SinkF
 }
 
 fn put_json<S: Sink>(slot: Slot, meta: &Meta, sink: &mut S) -> Result<(), SinkFault>
-    ensures { Wrote S.Sink sink.old sink.new (info_text FigureForm.Json slot meta.now) (ending result) }
+    ensures { Wrote S.Sink sink.old sink.new (info_text FigureForm.Json slot meta.now)
+        (ending result) }
 {
     put_pieces(
         &[

@@ -1,10 +1,11 @@
 //! The keys in a bucket of a listing as a text, member by member.
-ghost use Rattle.std.specs.Prelude.{◌≡◌, ◌⊎◌, IfErr, IfOk, List, OnOk, option_map};
+ghost use Rattle.std.specs.Prelude.{◌≡◌, ◌⊎◌, IfErr, IfOk, OnOk, option_map};
 ghost use Rattle.bolt_format.specs.Wrote.{Wrote};
-ghost use Rattle.bolt_report.specs.MemberNames.{is_wanted, key_in, member_name, names_text};
+ghost use Rattle.bolt_report.specs.MemberNames.{is_wanted, key_in, asked_name, asked_names};
 ghost use Rattle.bolt_text.specs.ReportEndings.{report_ending};
-ghost use Rattle.bolt_tree.specs.{Listing.Member, Listing.member_cmp, ListingParts.has_bucket, Order.Rises};
+ghost use Rattle.bolt_tree.specs.{ListingParts.has_bucket};
 ghost use Rattle.bolt_tree.specs.{Paths.path_of, ShownEntries.item_view};
+ghost use Rattle.bolt_report.specs.MembersLeft.{ForLeft, ForRising};
 
 use crate::part_lines::is_bucket_at;
 use bolt_format::Sink;
@@ -45,12 +46,14 @@ pub fn list_members_names<'a, M: Members<'a>, S: Sink>(
     form: Form,
     sink: &mut S,
 ) -> Result<bool, ReportFault>
-    ensures written { (listing : List Member) → M.lists members.old listing → Rises member_cmp (M.left members.old listing)
-        → Wrote S.Sink sink.old sink.new (names_text form (is_wanted asked.entry.names) (path_of asked.entry.bucket.now) (M.left members.old listing)) (report_ending result) }
-    ensures found { IfOk result (λ found. (listing : List Member) → M.lists members.old listing
-        → found ≡ has_bucket (path_of asked.entry.bucket.now) (M.left members.old listing)) }
+    ensures written { ForRising M.lists M.left members.old (λ left.
+        Wrote S.Sink sink.old sink.new (asked_names form asked.entry left) (report_ending result)) }
+    ensures found { IfOk result (λ found.
+        ForLeft M.lists M.left members.old (λ left.
+        found ≡ has_bucket (path_of asked.entry.bucket.now) left)) }
     ensures end { OnOk result (M.ends_as members.old members.new) }
-    ensures fault { IfErr result (λ fault. (fault ≡ ReportFault.Sink) ⊎ (fault ≡ ReportFault.NoMemory)) }
+    ensures fault { IfErr result (λ fault. (fault ≡ ReportFault.Sink)
+        ⊎ (fault ≡ ReportFault.NoMemory)) }
 {
     let mut items = ItemWriter::new(alloc, form);
     let mut found = asked.bucket.is_empty();
@@ -73,8 +76,10 @@ fn put_name<S: Sink>(
 ) -> Result<(), ReportFault>
     ensures form { items.new.form ≡ items.old.form }
     ensures written { Wrote S.Sink sink.old sink.new
-        (member_name items.old.form (is_wanted asked.entry.names) (path_of asked.entry.bucket.now) (path_of path.now, item_view item.now)) (report_ending result) }
-    ensures fault { IfErr result (λ fault. (fault ≡ ReportFault.Sink) ⊎ ((fault ≡ ReportFault.NoMemory) × (items.old.form ≡ Form.Json))) }
+        (asked_name items.old.form asked.entry (path_of path.now, item_view item.now))
+        (report_ending result) }
+    ensures fault { IfErr result (λ fault. (fault ≡ ReportFault.Sink)
+        ⊎ ((fault ≡ ReportFault.NoMemory) × (items.old.form ≡ Form.Json))) }
 {
     match key_in(path, asked.bucket) {
         Some(key) if is_wanted(key, item, asked.names) => items.put_line(key, sink),

@@ -1,11 +1,10 @@
 //! A page as a text.
 ghost use Rattle.std.specs.Prelude.{◌≡◌, ◌≢◌, ◌↔◌, None, Err, IfOk, Some, ◌++◌, IsTrue, flat_map};
-ghost use Rattle.std.specs.Option.{option_map};
 ghost use Rattle.std.specs.Result.{result_err};
 ghost use Rattle.bolt_format.specs.{Endings.ending, Freelists.free_ids_at, Pages.page_at, Shown.shown, ShownIds.shown_ids, Wrote.Wrote};
 ghost use Rattle.bolt_format.specs.TreePages.{branches_on, leaves_on};
 ghost use Rattle.bolt_format.specs.{ElementPlaces.branch_view, ElementPlaces.leaf_view, Elements.IsBucketValue};
-ghost use Rattle.bolt_report.specs.PageLines.{head_lines, head_of, item_lines, items_on, kind_text, known_ids, page_lines, branch_line, bucket_end, id_line, leaf_line};
+ghost use Rattle.bolt_report.specs.PageLines.{head_lines, head_of, item_lines, items_on, kind_text, page_lines, branch_line, bucket_end, id_line, leaf_line, read_ids};
 ghost use Rattle.bolt_text.specs.ListLines.{value_end};
 ghost use Rattle.bolt_report.specs.PageTexts.{page_text, page_text_fault};
 ghost use Rattle.bolt_text.specs.ReportEndings.{report_ending};
@@ -37,12 +36,15 @@ pub fn page_text<S: Sink>(
     id: u64,
     sink: &mut S,
 ) -> Result<(), ReportFault>
-    ensures written { Wrote S.Sink sink.old sink.new (page_text file.now meta.now id) (report_ending result) }
+    ensures written { Wrote S.Sink sink.old sink.new (page_text file.now meta.now id)
+        (report_ending result) }
     ensures memory { result ≢ Err ReportFault.NoMemory }
 
     // A page is refused before anything is written.
-    ensures page { (fault : PageFault) → (result ≡ Err (ReportFault.Page fault)) ↔ (page_text_fault file.now meta.now id ≡ Some fault) }
-    ensures untouched { (fault : PageFault) → result ≡ Err (ReportFault.Page fault) → sink.new ≡ sink.old }
+    ensures page { (fault : PageFault) → (result ≡ Err (ReportFault.Page fault))
+        ↔ (page_text_fault file.now meta.now id ≡ Some fault) }
+    ensures untouched { (fault : PageFault) → result ≡ Err (ReportFault.Page fault)
+        → sink.new ≡ sink.old }
 {
     let found = find(file, meta, id)?;
     put_page(id, &found.page, found.ids, sink)?;
@@ -54,7 +56,7 @@ pub fn page_text<S: Sink>(
 fn find<'a>(file: &'a [u8], meta: &Meta, id: u64) -> Result<PageWithIds<'a>, PageFault>
     ensures page { IfOk result (λ found. page_at file.now meta.now id ≡ Some (shown found.page)) }
     ensures ids { IfOk result (λ found. (shown found.page).kind ≡ Kind.Freelist
-        → known_ids (option_map shown_ids found.ids) ≡ free_ids_at file.now meta.now id) }
+        → read_ids found.ids ≡ free_ids_at file.now meta.now id) }
     ensures no_ids { IfOk result (λ found. (shown found.page).kind ≡ Kind.Meta → found.ids ≡ None) }
     ensures fault { result_err result ≡ page_text_fault file.now meta.now id }
 {
@@ -78,7 +80,8 @@ fn put_page<S: Sink>(
     sink: &mut S,
 ) -> Result<(), SinkFault>
     requires { (shown page.now).kind ≡ Kind.Meta → ids ≡ None }
-    ensures { Wrote S.Sink sink.old sink.new (page_lines id (shown page.now) (known_ids (option_map shown_ids ids.entry))) (ending result) }
+    ensures { Wrote S.Sink sink.old sink.new (page_lines id (shown page.now) (read_ids ids.entry))
+        (ending result) }
 {
     put_head(id, page, &ids, sink)?;
     put_items(page, ids, sink)
@@ -93,7 +96,8 @@ fn put_head<S: Sink>(
     sink: &mut S,
 ) -> Result<(), SinkFault>
     requires { (shown page.now).kind ≡ Kind.Meta → ids.now ≡ None }
-    ensures { Wrote S.Sink sink.old sink.new (head_of id (shown page.now) (known_ids (option_map shown_ids ids.now))) (ending result) }
+    ensures { Wrote S.Sink sink.old sink.new (head_of id (shown page.now) (read_ids ids.now))
+        (ending result) }
 {
     put_pieces(
         &[
@@ -110,7 +114,7 @@ fn put_head<S: Sink>(
 
 fn item_count(page: &Page<'_>, ids: &Option<FreeIds<'_>>) -> u64
     requires { (shown page.now).kind ≡ Kind.Meta → ids.now ≡ None }
-    ensures { result ≡ items_on (shown page.now).kind (shown page.now).count (known_ids (option_map shown_ids ids.now)) }
+    ensures { result ≡ items_on (shown page.now).kind (shown page.now).count (read_ids ids.now) }
 {
     match (page.tree_page(), ids) {
         (Some(page), _) => u64::from(page.count()),
@@ -136,7 +140,8 @@ fn put_items<S: Sink>(
     sink: &mut S,
 ) -> Result<(), SinkFault>
     requires { (shown page.now).kind ≡ Kind.Meta → ids ≡ None }
-    ensures { Wrote S.Sink sink.old sink.new (item_lines (shown page.now).kind (shown page.now) (known_ids (option_map shown_ids ids.entry))) (ending result) }
+    ensures { Wrote S.Sink sink.old sink.new
+        (item_lines (shown page.now).kind (shown page.now) (read_ids ids.entry)) (ending result) }
 {
     match (page.tree_page(), ids) {
         (Some(TreePage::Branch(page)), _) => put_branches(&page, sink),
@@ -148,7 +153,8 @@ fn put_items<S: Sink>(
 
 /// Writes a line for each element of a branch page.
 fn put_branches<S: Sink>(page: &BranchPage<'_>, sink: &mut S) -> Result<(), SinkFault>
-    ensures { Wrote S.Sink sink.old sink.new (flat_map branch_line (branches_on page.now)) (ending result) }
+    ensures { Wrote S.Sink sink.old sink.new (flat_map branch_line (branches_on page.now))
+        (ending result) }
 {
     for i in 0..page.count() {
         put_branch(&page.element(i), sink)?;
@@ -158,7 +164,8 @@ fn put_branches<S: Sink>(page: &BranchPage<'_>, sink: &mut S) -> Result<(), Sink
 
 /// Writes a line for each element of a leaf page.
 fn put_leaves<S: Sink>(page: &LeafPage<'_>, sink: &mut S) -> Result<(), SinkFault>
-    ensures { Wrote S.Sink sink.old sink.new (flat_map leaf_line (leaves_on page.now)) (ending result) }
+    ensures { Wrote S.Sink sink.old sink.new (flat_map leaf_line (leaves_on page.now))
+        (ending result) }
 {
     for i in 0..page.count() {
         put_leaf(&page.element(i), sink)?;
@@ -168,7 +175,8 @@ fn put_leaves<S: Sink>(page: &LeafPage<'_>, sink: &mut S) -> Result<(), SinkFaul
 
 /// Writes a line for each id of a freelist.
 fn put_ids<S: Sink>(ids: &FreeIds<'_>, sink: &mut S) -> Result<(), SinkFault>
-    ensures { Wrote S.Sink sink.old sink.new (flat_map id_line (shown_ids ids.now)) (ending result) }
+    ensures { Wrote S.Sink sink.old sink.new (flat_map id_line (shown_ids ids.now))
+        (ending result) }
 {
     for i in 0..ids.len() {
         put_id(ids.get(i), sink)?;
@@ -178,7 +186,8 @@ fn put_ids<S: Sink>(ids: &FreeIds<'_>, sink: &mut S) -> Result<(), SinkFault>
 
 #[tactic(auto, unfolding(crate::specs::PageLines::branch_line))]
 fn put_branch<S: Sink>(branch: &Branch<'_>, sink: &mut S) -> Result<(), SinkFault>
-    ensures { Wrote S.Sink sink.old sink.new (branch_line (branch_view branch.now)) (ending result) }
+    ensures { Wrote S.Sink sink.old sink.new (branch_line (branch_view branch.now))
+        (ending result) }
 {
     put_pieces(
         &[
@@ -205,7 +214,8 @@ fn put_leaf<S: Sink>(leaf: &Leaf<'_>, sink: &mut S) -> Result<(), SinkFault>
 #[tactic(auto, unfolding(crate::specs::PageLines::bucket_end))]
 fn put_bucket<S: Sink>(key: &[u8], value: &[u8], sink: &mut S) -> Result<(), SinkFault>
     requires { IsBucketValue value.now }
-    ensures { Wrote S.Sink sink.old sink.new (encode_lower key.now ++ bucket_end value.now) (ending result) }
+    ensures { Wrote S.Sink sink.old sink.new (encode_lower key.now ++ bucket_end value.now)
+        (ending result) }
 {
     let bucket = head(value);
     put_pieces(
@@ -221,7 +231,8 @@ fn put_bucket<S: Sink>(key: &[u8], value: &[u8], sink: &mut S) -> Result<(), Sin
 
 #[tactic(auto, unfolding(bolt_text::specs::ListLines::value_end))]
 fn put_value<'a, S: Sink>(key: &'a [u8], value: &'a [u8], sink: &mut S) -> Result<(), SinkFault>
-    ensures { Wrote S.Sink sink.old sink.new (encode_lower key.now ++ value_end value.now) (ending result) }
+    ensures { Wrote S.Sink sink.old sink.new (encode_lower key.now ++ value_end value.now)
+        (ending result) }
 {
     put_pieces(
         &[

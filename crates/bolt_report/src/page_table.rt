@@ -19,8 +19,10 @@ use std::alloc::Global;
 /// had not failed. The sink has then accepted a prefix of the text. There is no other error.
 pub fn pages<S: Sink>(alloc: Global, checked: Checked<'_>, sink: &mut S) -> Result<(), ReportFault>
     requires { has_accounts checked ≡ true }
-    ensures written { ForRoles checked.entry (λ roles. Wrote S.Sink sink.old sink.new (table_text checked.entry roles) (report_ending result)) }
-    ensures fault { IfErr result (λ fault. (fault ≡ ReportFault.Sink) ⊎ (fault ≡ ReportFault.NoMemory)) }
+    ensures written { ForRoles checked.entry (λ roles.
+        Wrote S.Sink sink.old sink.new (table_text checked.entry roles) (report_ending result)) }
+    ensures fault { IfErr result (λ fault. (fault ≡ ReportFault.Sink)
+        ⊎ (fault ≡ ReportFault.NoMemory)) }
 {
     let table = roles(alloc, checked)?;
     pages_table(&table, sink)?;
@@ -36,7 +38,9 @@ pub fn pages<S: Sink>(alloc: Global, checked: Checked<'_>, sink: &mut S) -> Resu
 /// `SinkFault` if the sink failed. It has then accepted a prefix of the text.
 pub fn pages_table<S: Sink>(table: &Roles<'_>, sink: &mut S) -> Result<(), SinkFault>
     requires { has_accounts (roles_checked table.now) ≡ true }
-    ensures { ForRoles (roles_checked table.now) (λ roles. Wrote S.Sink sink.old sink.new (table_text (roles_checked table.now) roles) (ending result)) }
+    ensures { ForRoles (roles_checked table.now) (λ roles.
+        Wrote S.Sink sink.old sink.new (table_text (roles_checked table.now) roles)
+        (ending result)) }
 {
     put_head(sink)?;
     put_rows(table, sink)?;
@@ -55,7 +59,8 @@ pub(crate) fn pages_begun(checked: &Checked<'_>) -> u64
 /// computed, not counted page by page, since the mark may be any number.
 pub(crate) fn free_past(table: &Roles<'_>) -> u64
     requires { has_accounts (roles_checked table.now) ≡ true }
-    ensures { ForRoles (roles_checked table.now) (λ roles. result ≡ free_past (roles_checked table.now) roles) }
+    ensures { ForRoles (roles_checked table.now) (λ roles.
+        result ≡ free_past (roles_checked table.now) roles) }
 {
     let checked = table.checked();
     checked
@@ -67,7 +72,9 @@ pub(crate) fn free_past(table: &Roles<'_>) -> u64
 /// Writes the rows of the pages in the file.
 fn put_rows<S: Sink>(table: &Roles<'_>, sink: &mut S) -> Result<(), SinkFault>
     requires { has_accounts (roles_checked table.now) ≡ true }
-    ensures { ForRoles (roles_checked table.now) (λ roles. Wrote S.Sink sink.old sink.new (table_rows (roles_checked table.now) roles) (ending result)) }
+    ensures { ForRoles (roles_checked table.now) (λ roles.
+        Wrote S.Sink sink.old sink.new (table_rows (roles_checked table.now) roles)
+        (ending result)) }
 {
     let checked = table.checked();
     let end = pages_begun(&checked).min(checked.meta().high_water);
@@ -85,7 +92,8 @@ fn put_row<S: Sink>(
     sink: &mut S,
 ) -> Result<(), SinkFault>
     requires { ∥ HasRole (bytes_of checked.now) (meta_of checked.now) id role ∥₁ }
-    ensures { Wrote S.Sink sink.old sink.new (page_row (bytes_of checked.now) (meta_of checked.now) id role) (ending result) }
+    ensures { Wrote S.Sink sink.old sink.new
+        (page_row (bytes_of checked.now) (meta_of checked.now) id role) (ending result) }
 {
     match role {
         Role::Meta => put_items_row(id, b"meta", 0, 0, sink),
@@ -114,7 +122,8 @@ fn put_tree_row<S: Sink>(
 /// Writes the row of the freelist's first page.
 fn put_freelist_row<S: Sink>(checked: &Checked<'_>, id: u64, sink: &mut S) -> Result<(), SinkFault>
     requires { ∥ HasRole (bytes_of checked.now) (meta_of checked.now) id Role.Freelist ∥₁ }
-    ensures { Wrote S.Sink sink.old sink.new (page_row (bytes_of checked.now) (meta_of checked.now) id Role.Freelist) (ending result) }
+    ensures { Wrote S.Sink sink.old sink.new
+        (page_row (bytes_of checked.now) (meta_of checked.now) id Role.Freelist) (ending result) }
 {
     let page = known(checked.bytes(), &checked.meta(), id);
     let items = free_count(checked, id);
@@ -151,7 +160,8 @@ fn put_items_row<S: Sink>(
     overflow: u32,
     sink: &mut S,
 ) -> Result<(), SinkFault>
-    ensures { Wrote S.Sink sink.old sink.new (row (decimal id) kind.now (decimal items) (overflow_text overflow)) (ending result) }
+    ensures { Wrote S.Sink sink.old sink.new
+        (row (decimal id) kind.now (decimal items) (overflow_text overflow)) (ending result) }
 {
     put_pieces(
         &[
@@ -180,7 +190,8 @@ fn overflow_column(overflow: u32) -> Piece<'static>
 
 /// Writes the row of a free page.
 fn put_free_row<S: Sink>(id: u64, sink: &mut S) -> Result<(), SinkFault>
-    ensures { Wrote S.Sink sink.old sink.new (row (decimal id) (codes "free") [] []) (ending result) }
+    ensures { Wrote S.Sink sink.old sink.new (row (decimal id) (codes "free") [] [])
+        (ending result) }
 {
     put_pieces(
         &[

@@ -1,13 +1,14 @@
 //! The text of what a file lists: all of it, from a path on, or below one.
-ghost use Rattle.std.specs.Prelude.{◌≡◌, ◌&&◌, ◌⊎◌, IfErr, IfOk, List, OnOk, not};
+ghost use Rattle.std.specs.Prelude.{◌≡◌, ◌&&◌, ◌⊎◌, IfErr, IfOk, OnOk, not};
 ghost use Rattle.std.specs.Ordering.{is_lt};
 ghost use Rattle.bolt_format.specs.Wrote.{Wrote};
-ghost use Rattle.bolt_tree.specs.{FileListings.ForListing, Listing.Member, Listing.member_cmp};
-ghost use Rattle.bolt_tree.specs.{ListingParts.begins_with, ListingParts.has_bucket, ListingParts.is_bucket_at, ListingParts.later_path, Order.Rises};
+ghost use Rattle.bolt_tree.specs.{FileListings.ForListing};
+ghost use Rattle.bolt_tree.specs.{ListingParts.begins_with, ListingParts.has_bucket, ListingParts.is_bucket_at, ListingParts.later_path};
 ghost use Rattle.bolt_tree.specs.{Paths.path_cmp, Paths.path_of, ShownEntries.item_view};
 ghost use Rattle.bolt_report.specs.PartLines.{bucket_lines, lines_below, lines_while_below, rest_text};
 ghost use Rattle.bolt_text.specs.ListForms.{lines_form};
 ghost use Rattle.bolt_text.specs.ReportEndings.{report_ending};
+ghost use Rattle.bolt_report.specs.MembersLeft.{ForLeft, ForRising};
 
 use bolt_check::Checked;
 use bolt_format::Sink;
@@ -28,8 +29,10 @@ pub fn list<S: Sink>(
     from: &[&[u8]],
     sink: &mut S,
 ) -> Result<(), ReportFault>
-    ensures written { ForListing checked.entry (λ listing. Wrote S.Sink sink.old sink.new (rest_text from.now listing) (report_ending result)) }
-    ensures fault { IfErr result (λ fault. (fault ≡ ReportFault.Sink) ⊎ (fault ≡ ReportFault.NoMemory)) }
+    ensures written { ForListing checked.entry (λ listing.
+        Wrote S.Sink sink.old sink.new (rest_text from.now listing) (report_ending result)) }
+    ensures fault { IfErr result (λ fault. (fault ≡ ReportFault.Sink)
+        ⊎ (fault ≡ ReportFault.NoMemory)) }
 {
     list_part(alloc, checked, &[], from, ListForm::Hex, sink)
 }
@@ -53,9 +56,11 @@ pub fn list_part<S: Sink>(
     form: ListForm,
     sink: &mut S,
 ) -> Result<(), ReportFault>
-    ensures written { ForListing checked.entry (λ listing.
-        Wrote S.Sink sink.old sink.new (lines_below form from.now below.now listing) (report_ending result)) }
-    ensures fault { IfErr result (λ fault. (fault ≡ ReportFault.Sink) ⊎ (fault ≡ ReportFault.NoMemory)) }
+    ensures written { ForListing checked.entry (λ all.
+        Wrote S.Sink sink.old sink.new (lines_below form from.now below.now all)
+        (report_ending result)) }
+    ensures fault { IfErr result (λ fault. (fault ≡ ReportFault.Sink)
+        ⊎ (fault ≡ ReportFault.NoMemory)) }
 {
     let mut walk = Walk::from(alloc, checked, later_of(from, below))?;
     put_part(&mut walk, below, &mut MemberLines::new(alloc, form), sink)
@@ -73,12 +78,14 @@ pub fn list_members_part<'a, M: Members<'a>, S: Sink>(
     form: ListForm,
     sink: &mut S,
 ) -> Result<bool, ReportFault>
-    ensures written { (listing : List Member) → M.lists members.old listing → Rises member_cmp (M.left members.old listing)
-        → Wrote S.Sink sink.old sink.new (bucket_lines form from.now below.now (M.left members.old listing)) (report_ending result) }
-    ensures found { IfOk result (λ found. (listing : List Member) → M.lists members.old listing
-        → found ≡ has_bucket (path_of below.now) (M.left members.old listing)) }
+    ensures written { ForRising M.lists M.left members.old (λ left.
+        Wrote S.Sink sink.old sink.new (bucket_lines form from.now below.now left)
+        (report_ending result)) }
+    ensures found { IfOk result (λ found.
+        ForLeft M.lists M.left members.old (λ left. found ≡ has_bucket (path_of below.now) left)) }
     ensures end { OnOk result (M.ends_as members.old members.new) }
-    ensures fault { IfErr result (λ fault. (fault ≡ ReportFault.Sink) ⊎ (fault ≡ ReportFault.NoMemory)) }
+    ensures fault { IfErr result (λ fault. (fault ≡ ReportFault.Sink)
+        ⊎ (fault ≡ ReportFault.NoMemory)) }
 {
     let mut lines = MemberLines::new(alloc, form);
     put_bucket_part(members, below, from, &mut lines, sink)
@@ -92,9 +99,11 @@ fn put_part<'a, M: Members<'a>, S: Sink>(
     lines: &mut MemberLines,
     sink: &mut S,
 ) -> Result<(), ReportFault>
-    ensures written { (listing : List Member) → M.lists members.old listing
-        → Wrote S.Sink sink.old sink.new (lines_while_below (lines_form lines.old) below.now (M.left members.old listing)) (report_ending result) }
-    ensures fault { IfErr result (λ fault. (fault ≡ ReportFault.Sink) ⊎ (fault ≡ ReportFault.NoMemory)) }
+    ensures written { ForLeft M.lists M.left members.old (λ left.
+        Wrote S.Sink sink.old sink.new (lines_while_below (lines_form lines.old) below.now left)
+        (report_ending result)) }
+    ensures fault { IfErr result (λ fault. (fault ≡ ReportFault.Sink)
+        ⊎ (fault ≡ ReportFault.NoMemory)) }
 {
     'part: while let Some(item) = members.next()? {
         if !is_below(members.path(), below) {
@@ -114,12 +123,14 @@ fn put_bucket_part<'a, M: Members<'a>, S: Sink>(
     lines: &mut MemberLines,
     sink: &mut S,
 ) -> Result<bool, ReportFault>
-    ensures written { (listing : List Member) → M.lists members.old listing → Rises member_cmp (M.left members.old listing)
-        → Wrote S.Sink sink.old sink.new (bucket_lines (lines_form lines.old) from.now below.now (M.left members.old listing)) (report_ending result) }
-    ensures found { IfOk result (λ found. (listing : List Member) → M.lists members.old listing
-        → found ≡ has_bucket (path_of below.now) (M.left members.old listing)) }
+    ensures written { ForRising M.lists M.left members.old (λ left.
+        Wrote S.Sink sink.old sink.new (bucket_lines (lines_form lines.old) from.now below.now left)
+        (report_ending result)) }
+    ensures found { IfOk result (λ found.
+        ForLeft M.lists M.left members.old (λ left. found ≡ has_bucket (path_of below.now) left)) }
     ensures end { OnOk result (M.ends_as members.old members.new) }
-    ensures fault { IfErr result (λ fault. (fault ≡ ReportFault.Sink) ⊎ (fault ≡ ReportFault.NoMemory)) }
+    ensures fault { IfErr result (λ fault. (fault ≡ ReportFault.Sink)
+        ⊎ (fault ≡ ReportFault.NoMemory)) }
 {
     let mut found = below.is_empty();
     'part: while let Some(item) = members.next()? {
@@ -140,7 +151,8 @@ fn later_of<'p, 'a>(one: &'p [&'a [u8]], other: &'p [&'a [u8]]) -> &'p [&'a [u8]
 
 /// Whether a path begins with another and doesn't come before a third.
 fn is_wanted(path: &[&[u8]], below: &[&[u8]], from: &[&[u8]]) -> bool
-    ensures { result ≡ (begins_with (path_of below.now) (path_of path.now) && not (is_lt (path_cmp (path_of path.now) (path_of from.now)))) }
+    ensures { result ≡ (begins_with (path_of below.now) (path_of path.now)
+        && not (is_lt (path_cmp (path_of path.now) (path_of from.now)))) }
 {
     is_below(path, below) && !is_before(path, from)
 }

@@ -1,11 +1,9 @@
 //! The sizes of the buckets in a bucket as a text.
-ghost use Rattle.std.specs.Prelude.{◌≡◌, ◌++◌, ◌⊎◌, IfErr, List, true};
+ghost use Rattle.std.specs.Prelude.{◌≡◌, ◌++◌, ◌⊎◌, IfErr, true};
 ghost use Rattle.bolt_format.specs.{Endings.ending, Wrote.Wrote};
-ghost use Rattle.bolt_check.specs.CheckedFiles.{bytes_of, meta_of};
 ghost use Rattle.bolt_stats.specs.StatsOf.{AreStats};
-ghost use Rattle.bolt_tree.specs.{Buckets.bucket_checked, Buckets.bucket_start, EntriesLeft.ForEntries};
 ghost use Rattle.bolt_text.specs.{Forms.value_text, Forms.is_json, Forms.json_in, Forms.json_text, ReportEndings.report_ending};
-ghost use Rattle.bolt_report.specs.SizeLines.{AreSized, Sized, bytes_allocated, bytes_used, size_columns, size_text, sizes_text, size_json, size_members};
+ghost use Rattle.bolt_report.specs.SizeLines.{bytes_allocated, bytes_used, size_columns, size_text, sizes_text, size_json, size_members, ForSized};
 ghost use Rattle.bolt_text.specs.Lines.{line};
 
 use bolt_format::{Sink, SinkFault};
@@ -31,10 +29,10 @@ pub fn sizes<S: Sink>(
     form: Form,
     sink: &mut S,
 ) -> Result<(), ReportFault>
-    ensures written { ForEntries (bucket_checked bucket.now) (bucket_start bucket.now) (λ entries. (sized : List Sized)
-        → AreSized (bytes_of (bucket_checked bucket.now)) (meta_of (bucket_checked bucket.now)) entries sized
-        → Wrote S.Sink sink.old sink.new (sizes_text form sized) (report_ending result)) }
-    ensures fault { IfErr result (λ fault. (fault ≡ ReportFault.Sink) ⊎ (fault ≡ ReportFault.NoMemory)) }
+    ensures written { ForSized bucket.now (λ sized.
+        Wrote S.Sink sink.old sink.new (sizes_text form sized) (report_ending result)) }
+    ensures fault { IfErr result (λ fault. (fault ≡ ReportFault.Sink)
+        ⊎ (fault ≡ ReportFault.NoMemory)) }
 {
     let mut cursor = bucket.cursor();
     let mut items = ItemWriter::new(alloc, form);
@@ -55,8 +53,11 @@ fn put_bucket<S: Sink>(
     sink: &mut S,
 ) -> Result<(), ReportFault>
     ensures form { items.new.form ≡ items.old.form }
-    ensures written { (own : Stats) → AreStats bucket.now own → Wrote S.Sink sink.old sink.new (size_text items.old.form own name.now) (report_ending result) }
-    ensures fault { IfErr result (λ fault. (fault ≡ ReportFault.Sink) ⊎ (fault ≡ ReportFault.NoMemory)) }
+    ensures written { (own : Stats) → AreStats bucket.now own
+        → Wrote S.Sink sink.old sink.new (size_text items.old.form own name.now)
+        (report_ending result) }
+    ensures fault { IfErr result (λ fault. (fault ≡ ReportFault.Sink)
+        ⊎ (fault ≡ ReportFault.NoMemory)) }
 {
     let stats = stats(alloc, bucket)?;
     put_size(&stats, name, items, sink)
@@ -70,8 +71,10 @@ fn put_size<S: Sink>(
     sink: &mut S,
 ) -> Result<(), ReportFault>
     ensures form { items.new.form ≡ items.old.form }
-    ensures written { Wrote S.Sink sink.old sink.new (size_text items.old.form stats.now name.now) (report_ending result) }
-    ensures fault { IfErr result (λ fault. (fault ≡ ReportFault.Sink) ⊎ (fault ≡ ReportFault.NoMemory)) }
+    ensures written { Wrote S.Sink sink.old sink.new (size_text items.old.form stats.now name.now)
+        (report_ending result) }
+    ensures fault { IfErr result (λ fault. (fault ≡ ReportFault.Sink)
+        ⊎ (fault ≡ ReportFault.NoMemory)) }
 {
     if items.form.is_json() {
         put_object(stats, name, items, sink)
@@ -89,8 +92,10 @@ fn put_row<S: Sink>(
     sink: &mut S,
 ) -> Result<(), ReportFault>
     ensures form { items.new.form ≡ items.old.form }
-    ensures written { Wrote S.Sink sink.old sink.new (size_columns stats.now ++ value_text items.old.form name.now) (report_ending result) }
-    ensures fault { IfErr result (λ fault. (fault ≡ ReportFault.Sink) ⊎ (fault ≡ ReportFault.NoMemory)) }
+    ensures written { Wrote S.Sink sink.old sink.new
+        (size_columns stats.now ++ value_text items.old.form name.now) (report_ending result) }
+    ensures fault { IfErr result (λ fault. (fault ≡ ReportFault.Sink)
+        ⊎ (fault ≡ ReportFault.NoMemory)) }
 {
     put_columns(stats, sink)?;
     items.put_line(name, sink)
@@ -142,8 +147,11 @@ fn put_object<S: Sink>(
 ) -> Result<(), ReportFault>
     requires { is_json items.old.form ≡ true }
     ensures form { items.new.form ≡ items.old.form }
-    ensures written { Wrote S.Sink sink.old sink.new (line (json_text (size_json stats.now (json_in items.old.form name.now)))) (report_ending result) }
-    ensures fault { IfErr result (λ fault. (fault ≡ ReportFault.Sink) ⊎ (fault ≡ ReportFault.NoMemory)) }
+    ensures written { Wrote S.Sink sink.old sink.new
+        (line (json_text (size_json stats.now (json_in items.old.form name.now))))
+        (report_ending result) }
+    ensures fault { IfErr result (λ fault. (fault ≡ ReportFault.Sink)
+        ⊎ (fault ≡ ReportFault.NoMemory)) }
 {
     put_members(stats, sink)?;
     items.put(name, sink)?;

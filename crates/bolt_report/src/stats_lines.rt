@@ -22,7 +22,8 @@ pub fn stats_text<S: Sink>(stats: &Stats, form: FigureForm, sink: &mut S) -> Res
 
 #[tactic(auto, unfolding(crate::specs::StatsLines::stats_text))]
 fn put_lines<S: Sink>(stats: &Stats, sink: &mut S) -> Result<(), SinkFault>
-    ensures { Wrote S.Sink sink.old sink.new (stats_text FigureForm.Lines stats.now) (ending result) }
+    ensures { Wrote S.Sink sink.old sink.new (stats_text FigureForm.Lines stats.now)
+        (ending result) }
 {
     put_pieces(
         &[
@@ -45,7 +46,8 @@ fn put_lines<S: Sink>(stats: &Stats, sink: &mut S) -> Result<(), SinkFault>
 }
 
 fn put_json<S: Sink>(stats: &Stats, sink: &mut S) -> Result<(), SinkFault>
-    ensures { Wrote S.Sink sink.old sink.new (stats_text FigureForm.Json stats.now) (ending result) }
+    ensures { Wrote S.Sink sink.old sink.new (stats_text FigureForm.Json stats.now)
+        (ending result) }
 {
     put_pieces(
         &[

@@ -1,5 +1,5 @@
 -- The figures of buckets: docs/COMMANDS.md, "What is printed".
-use Rattle.std.specs.Prelude.{◌==◌, ℕ, ◌+◌, ◌-◌, ◌*◌, ◌^◌, min, max, List, length, sum_by, Option, Some, None, if◌then◌else◌}
+use Rattle.std.specs.Prelude.{◌≡◌, ◌==◌, ℕ, ◌+◌, ◌-◌, ◌*◌, ◌^◌, min, max, List, length, sum_by, Option, Some, None, if◌then◌else◌}
 use Rattle.bolt_format.specs.{Elements.BranchElement, Elements.LeafElement, Elements.head_root, Elements.inline_elements, Pages.PageView}
 use Rattle.bolt_format.specs.declared.header.Kind.{Kind}
 use Rattle.bolt_format.specs.declared.header.Kind.TheVariants as kind
@@ -37,6 +37,10 @@ figure leaf_used stats = stats.leaf_used
 -- a figure above 2^64 - 1 saturates there
 abbrev pub saturated : ℕ → ℕ
 saturated n = min n (2 ^ 64 - 1)
+
+-- each figure of these is that number, or saturates
+abbrev pub HasFigures : Stats → (Figure → ℕ) → Type 0
+HasFigures stats number = (f : Figure) → figure f stats ≡ saturated (number f)
 
 -- sums, but the greater depth
 abbrev pub add_stats : Stats → Stats → Stats

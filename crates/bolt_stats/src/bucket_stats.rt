@@ -5,7 +5,7 @@ ghost use Rattle.std.specs.Prelude.{◌≡◌, ◌<◌, ◌+◌, ◌∷◌, ◌+
 ghost use Rattle.bolt_format.specs.{ElementPlaces.leaf_view, Elements.IsBucketValue, TreePages.branches_on, TreePages.leaves_on};
 ghost use Rattle.bolt_check.specs.{CheckedFiles.bytes_of, CheckedFiles.meta_of, Nodes.Node, Nodes.leaf_entry, Nodes.node_at, Subtrees.Enough, Lists.Has};
 ghost use Rattle.bolt_stats.specs.Deepest.{deepest_in, depth_in, depth_of, greatest, height_of, inline_depth, inner_inline, leaf_depth};
-ghost use Rattle.bolt_stats.specs.Figures.{Figure, bucket_figure, saturated, figure};
+ghost use Rattle.bolt_stats.specs.Figures.{Figure, bucket_figure, saturated, figure, HasFigures};
 ghost use Rattle.bolt_stats.specs.Readings.{AreGood, figure_in, pages_below, inner_pages, inner_roots, one, unread_bucket, unread_page, own_figure, root_page_of, roots_of};
 ghost use Rattle.bolt_stats.specs.{StatsOf.AreStats, declared.bucket_stats.UnreadBucket.UnreadBucket};
 
@@ -62,8 +62,10 @@ struct Read {
 /// The figures of a bucket with this root page.
 fn paged_stats(alloc: Global, checked: &Checked<'_>, root: u64) -> Result<Stats, AllocError>
     requires { ∥ AreGood (bytes_of checked.now) (meta_of checked.now) (root ∷ []) ∥₁ }
-    ensures stats { IfOk result (λ stats. (f : Figure) → figure f stats ≡ saturated (bucket_figure f + figure_in checked.now f (root ∷ []))) }
-    ensures depth { IfOk result (λ stats. stats.depth ≡ saturated (depth_of (bytes_of checked.now) (meta_of checked.now) root)) }
+    ensures stats { IfOk result (λ stats.
+        HasFigures stats (λ f. bucket_figure f + figure_in checked.now f (root ∷ []))) }
+    ensures depth { IfOk result (λ stats.
+        stats.depth ≡ saturated (depth_of (bytes_of checked.now) (meta_of checked.now) root)) }
 {
     let mut total = Stats {
         buckets: 1,
@@ -99,13 +101,20 @@ fn read_bucket(
     requires good { ∥ AreGood (bytes_of checked.now) (meta_of checked.now) (root ∷ []) ∥₁ }
     requires pages { pages.old.items ≡ [] }
     requires roots { roots.old.items ≡ [] }
-    ensures good { OnOk result (∥ AreGood (bytes_of checked.now) (meta_of checked.now) roots.new.items ∥₁) }
+    ensures good { OnOk result
+        (∥ AreGood (bytes_of checked.now) (meta_of checked.now) roots.new.items ∥₁) }
     ensures pages { OnOk result (pages.new.items ≡ []) }
-    ensures fewer { OnOk result (pages_below checked.now roots.new.items < pages_below checked.now (root ∷ [])) }
-    ensures stats { IfOk result (λ read. (f : Figure) → saturated (figure f read.stats + figure_in checked.now f roots.new.items)
+    ensures fewer { OnOk result
+        (pages_below checked.now roots.new.items < pages_below checked.now (root ∷ [])) }
+    ensures stats { IfOk result (λ read. (f : Figure)
+        → saturated (figure f read.stats + figure_in checked.now f roots.new.items)
         ≡ saturated (figure_in checked.now f (root ∷ []))) }
-    ensures height { IfOk result (λ read. saturated read.height ≡ saturated (height_of (bytes_of checked.now) (meta_of checked.now) 1 root)) }
-    ensures deepest { IfOk result (λ read. max read.inline_depth (greatest (depth_in checked.now) roots.new.items) ≡ deepest_in checked.now root) }
+    ensures height { IfOk result (λ read.
+        saturated read.height
+        ≡ saturated (height_of (bytes_of checked.now) (meta_of checked.now) 1 root)) }
+    ensures deepest { IfOk result (λ read.
+        max read.inline_depth (greatest (depth_in checked.now) roots.new.items)
+        ≡ deepest_in checked.now root) }
 {
     let mut whole = Read {
         stats: Stats::default(),
@@ -132,12 +141,18 @@ fn read_page(
     pages: &mut Vec<UnreadPage>,
     roots: &mut Vec<u64>,
 ) -> Result<Read, AllocError>
-    requires { ∥ Enough (node_at (bytes_of checked.now) (meta_of checked.now)) (meta_of checked.now).high_water next.number ∥₁ }
-    ensures stats { IfOk result (λ read. (f : Figure) → figure f read.stats ≡ saturated (own_figure (bytes_of checked.now) (meta_of checked.now) f next.number)) }
-    ensures kids { IfOk result (λ read. ∥ ((node : Node) × (node_at (bytes_of checked.now) (meta_of checked.now) next.number ≡ Ok node)
-        × (pages.new.items ≡ pages.old.items ++ map (unread_page (saturated (next.depth + 1))) (inner_pages node))
+    requires { ∥ Enough (node_at (bytes_of checked.now) (meta_of checked.now))
+        (meta_of checked.now).high_water next.number ∥₁ }
+    ensures stats { IfOk result (λ read.
+        HasFigures read.stats (λ f.
+        own_figure (bytes_of checked.now) (meta_of checked.now) f next.number)) }
+    ensures kids { IfOk result (λ read. ∥ ((node : Node)
+        × (node_at (bytes_of checked.now) (meta_of checked.now) next.number ≡ Ok node)
+        × (pages.new.items
+        ≡ pages.old.items ++ map (unread_page (saturated (next.depth + 1))) (inner_pages node))
         × (roots.new.items ≡ roots.old.items ++ inner_roots node)
-        × (read.height ≡ leaf_depth node.is_leaf next.depth) × (read.inline_depth ≡ inner_inline node)) ∥₁) }
+        × (read.height ≡ leaf_depth node.is_leaf next.depth)
+        × (read.inline_depth ≡ inner_inline node)) ∥₁) }
 {
     let meta = checked.meta();
     let page = known(checked.bytes(), &meta, next.number);
@@ -167,7 +182,8 @@ fn add_children(
     depth: u64,
     pages: &mut Vec<UnreadPage>,
 ) -> Result<(), AllocError>
-    ensures { OnOk result (pages.new.items ≡ pages.old.items ++ map (λ e. unread_page (saturated (depth + 1)) e.child) (branches_on page.now)) }
+    ensures { OnOk result (pages.new.items ≡ pages.old.items
+        ++ map (λ e. unread_page (saturated (depth + 1)) e.child) (branches_on page.now)) }
 {
     for branch in page.elements() {
         pages.push(UnreadPage {
@@ -181,8 +197,10 @@ fn add_children(
 /// Finds the root pages of the buckets on a leaf. Returns the depth of the inline ones: 1, or 0 if
 /// there are none.
 fn find_buckets(page: &LeafPage<'_>, roots: &mut Vec<u64>) -> Result<u64, AllocError>
-    ensures roots { OnOk result (roots.new.items ≡ roots.old.items ++ flat_map root_page_of (leaves_on page.now)) }
-    ensures depth { IfOk result (λ depth. depth ≡ greatest (λ e. inline_depth (leaf_entry e)) (leaves_on page.now)) }
+    ensures roots { OnOk result
+        (roots.new.items ≡ roots.old.items ++ flat_map root_page_of (leaves_on page.now)) }
+    ensures depth { IfOk result (λ depth.
+        depth ≡ greatest (λ e. inline_depth (leaf_entry e)) (leaves_on page.now)) }
 {
     let mut deepest = 0;
     for leaf in page.elements() {
@@ -225,10 +243,14 @@ fn add_buckets(
     buckets: &mut Vec<UnreadBucket>,
 ) -> Result<(), AllocError>
     ensures none { OnOk result (roots.new.items ≡ []) }
-    ensures sums { OnOk result ((w : ℕ → ℕ) → sum_by w (roots_of buckets.new.items) ≡ sum_by w (roots_of buckets.old.items) + sum_by w roots.old.items) }
-    ensures from { OnOk result ((m : ℕ) → Has (roots_of buckets.new.items) m → Has (roots_of buckets.old.items) m ⊎ Has roots.old.items m) }
+    ensures sums { OnOk result ((w : ℕ → ℕ)
+        → sum_by w (roots_of buckets.new.items)
+        ≡ sum_by w (roots_of buckets.old.items) + sum_by w roots.old.items) }
+    ensures from { OnOk result ((m : ℕ) → Has (roots_of buckets.new.items) m
+        → Has (roots_of buckets.old.items) m ⊎ Has roots.old.items m) }
     ensures deepest { OnOk result ((f : UnreadBucket → ℕ) → greatest f buckets.new.items
-        ≡ max (greatest f buckets.old.items) (greatest (λ root. f (unread_bucket above root)) roots.old.items)) }
+        ≡ max (greatest f buckets.old.items)
+        (greatest (λ root. f (unread_bucket above root)) roots.old.items)) }
 {
     'roots: while let Some(root) = roots.pop() {
         buckets.push(UnreadBucket { root, above })?;

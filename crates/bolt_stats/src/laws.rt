@@ -1,19 +1,19 @@
 //! What the definitions of figures imply.
 ghost use Rattle.std.specs.Prelude.{◌≡◌, ℕ, List};
 ghost use Rattle.bolt_format.specs.{declared.meta.Meta.Meta};
-ghost use Rattle.bolt_check.specs.Sound.{HasSoundTrees};
-ghost use Rattle.bolt_tree.specs.Entries.{IsStart, Start};
+ghost use Rattle.bolt_tree.specs.Entries.{Start};
 ghost use Rattle.bolt_stats.specs.{StatsOf.IsStatsOf, declared.figures.Stats.Stats};
+ghost use Rattle.bolt_tree.specs.Laws.{ForBuckets};
 
 /// A bucket has at most one set of figures.
 #[tactic(auto, using(crate::proofs::StatsOnce::one_stats))]
 pub fn stats_are_one()
-    ensures { (file : List ℕ) (meta : Meta) (start : Start) (a b : Stats) → IsStatsOf file meta start a → IsStatsOf file meta start b → a ≡ b }
+    ensures { (file : List ℕ) (meta : Meta) (start : Start) (a b : Stats)
+        → IsStatsOf file meta start a → IsStatsOf file meta start b → a ≡ b }
 {}
 
 /// In sound trees each bucket has figures.
 #[tactic(auto, using(crate::proofs::StatsExist::some_stats))]
 pub fn stats_exist()
-    ensures { (file : List ℕ) (meta : Meta) (start : Start) → HasSoundTrees file meta → IsStart file meta start
-        → (stats : Stats) × IsStatsOf file meta start stats }
+    ensures { ForBuckets (λ file meta start. (stats : Stats) × IsStatsOf file meta start stats) }
 {}

@@ -2,7 +2,7 @@
 ghost use Rattle.std.specs.Prelude.{◌≡◌, ◌+◌, ◌*◌, IsTrue, length, sum_by};
 ghost use Rattle.bolt_format.specs.{Elements.IsBucketValue, ElementPlaces.leaf_view, TreePages.branches_on, TreePages.leaves_on, TreePages.shown_page};
 ghost use Rattle.bolt_format.specs.declared.tree_page.TreePage.TheVariants as tree;
-ghost use Rattle.bolt_stats.specs.Figures.{Figure, used_by_branches, branch_figure, saturated, element_figure, figure, inline_figure, used_by_leaves, leaf_figure};
+ghost use Rattle.bolt_stats.specs.Figures.{used_by_branches, branch_figure, saturated, element_figure, inline_figure, used_by_leaves, leaf_figure, HasFigures};
 
 use crate::figures::{Stats, add};
 use bolt_format::{BranchPage, ELEMENT_LEN, HEADER_LEN, Leaf, LeafPage, head, inline};
@@ -36,7 +36,7 @@ fn leaf_used(page: &LeafPage<'_>) -> u64
 
 /// The figures of an inline bucket.
 pub(crate) fn inline_stats(page: &LeafPage<'_>) -> Stats
-    ensures { (f : Figure) → figure f result ≡ saturated (inline_figure f (leaves_on page.now)) }
+    ensures { HasFigures result (λ f. inline_figure f (leaves_on page.now)) }
 {
     let used = leaf_used(page);
     Stats {
@@ -51,7 +51,7 @@ pub(crate) fn inline_stats(page: &LeafPage<'_>) -> Stats
 /// What a leaf element adds besides its bytes: the figures of its bucket, if it is one.
 fn element_stats(leaf: &Leaf<'_>) -> Stats
     requires { IsTrue leaf.now.is_bucket → IsBucketValue leaf.now.value.now }
-    ensures { (f : Figure) → figure f result ≡ saturated (element_figure f (leaf_view leaf.now)) }
+    ensures { HasFigures result (λ f. element_figure f (leaf_view leaf.now)) }
 {
     if !leaf.is_bucket {
         return Stats::default();
@@ -88,7 +88,8 @@ fn branch_used(page: &BranchPage<'_>) -> u64
 
 /// The figures of a branch.
 pub(crate) fn branch_stats(page: &BranchPage<'_>, page_size: u32) -> Stats
-    ensures { (f : Figure) → figure f result ≡ saturated (branch_figure f page_size (shown_page (tree.Branch page.now))) }
+    ensures { HasFigures result (λ f.
+        branch_figure f page_size (shown_page (tree.Branch page.now))) }
 {
     let used = branch_used(page);
     Stats {
@@ -102,7 +103,7 @@ pub(crate) fn branch_stats(page: &BranchPage<'_>, page_size: u32) -> Stats
 
 /// The figures of a leaf itself.
 fn own_stats(page: &LeafPage<'_>, page_size: u32) -> Stats
-    ensures { (f : Figure) → figure f result ≡ saturated (leaf_figure f page_size (shown_page (tree.Leaf page.now))) }
+    ensures { HasFigures result (λ f. leaf_figure f page_size (shown_page (tree.Leaf page.now))) }
 {
     let used = leaf_used(page);
     Stats {
@@ -118,7 +119,7 @@ fn own_stats(page: &LeafPage<'_>, page_size: u32) -> Stats
 /// What the elements of a leaf add.
 #[tactic(auto, using(crate::proofs::FigureLemmas::sums))]
 fn inner_stats(page: &LeafPage<'_>) -> Stats
-    ensures { (f : Figure) → figure f result ≡ saturated (sum_by (element_figure f) (leaves_on page.now)) }
+    ensures { HasFigures result (λ f. sum_by (element_figure f) (leaves_on page.now)) }
 {
     let mut inner = Stats::default();
     for leaf in page.elements() {
@@ -129,8 +130,9 @@ fn inner_stats(page: &LeafPage<'_>) -> Stats
 
 /// The figures of a leaf with the inline buckets in it.
 pub(crate) fn leaf_stats(page: &LeafPage<'_>, page_size: u32) -> Stats
-    ensures { (f : Figure) → figure f result
-        ≡ saturated (leaf_figure f page_size (shown_page (tree.Leaf page.now)) + sum_by (element_figure f) (leaves_on page.now)) }
+    ensures { HasFigures result (λ f.
+        leaf_figure f page_size (shown_page (tree.Leaf page.now))
+        + sum_by (element_figure f) (leaves_on page.now)) }
 {
     add(own_stats(page, page_size), inner_stats(page))
 }

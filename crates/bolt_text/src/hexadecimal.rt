@@ -88,7 +88,8 @@ pub(crate) fn encode_digits(bytes: &[u8], digits: &mut [u8])
 /// The two digits of a byte, both computed in one number: its halves are the values of the digits, and those above 9
 /// become letters, which come 39 characters after where the digits would go on.
 fn digits_of(byte: u8) -> [u8; 2]
-    ensures { result ≡ slice_index lower_digits (byte / 16) ∷ slice_index lower_digits (byte % 16) ∷ [] }
+    ensures { result
+        ≡ slice_index lower_digits (byte / 16) ∷ slice_index lower_digits (byte % 16) ∷ [] }
 {
     let byte = byte as u16;
     let values = byte / 16 + byte % 16 * 256;
@@ -137,7 +138,8 @@ fn digit_value(digit: u8) -> u8
 /// too, and only the result says that they aren't digits.
 pub fn decode_digits(digits: &[u8], out: &mut [u8]) -> bool
     requires { length digits.now ≡ 2 * length out.old }
-    ensures { MatchResult (decode_sized digits.now (length out.old)) (λ bytes. (result ≡ true) × (out.new ≡ bytes)) (λ _. result ≡ false) }
+    ensures { MatchResult (decode_sized digits.now (length out.old)) (λ bytes. (result ≡ true)
+        × (out.new ≡ bytes)) (λ _. result ≡ false) }
 {
     let mut all = true;
     for i in 0..out.len() {

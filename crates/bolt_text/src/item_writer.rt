@@ -36,8 +36,10 @@ impl ItemWriter {
     /// Writes a key or a value, and a line feed.
     pub fn put_line<S: Sink>(&mut self, bytes: &[u8], sink: &mut S) -> Result<(), ReportFault>
         ensures form { self.new.form ≡ self.old.form }
-        ensures written { Wrote S.Sink sink.old sink.new (value_text self.old.form bytes.now) (report_ending result) }
-        ensures fault { IfErr result (λ fault. (fault ≡ ReportFault.Sink) ⊎ ((fault ≡ ReportFault.NoMemory) × (self.old.form ≡ Form.Json))) }
+        ensures written { Wrote S.Sink sink.old sink.new (value_text self.old.form bytes.now)
+            (report_ending result) }
+        ensures fault { IfErr result (λ fault. (fault ≡ ReportFault.Sink)
+            ⊎ ((fault ≡ ReportFault.NoMemory) × (self.old.form ≡ Form.Json))) }
     {
         self.put(bytes, sink)?;
         put(b"\n", sink)?;
@@ -47,8 +49,10 @@ impl ItemWriter {
     /// Writes a key or a value.
     pub fn put<S: Sink>(&mut self, bytes: &[u8], sink: &mut S) -> Result<(), ReportFault>
         ensures form { self.new.form ≡ self.old.form }
-        ensures written { Wrote S.Sink sink.old sink.new (item_text self.old.form bytes.now) (report_ending result) }
-        ensures fault { IfErr result (λ fault. (fault ≡ ReportFault.Sink) ⊎ ((fault ≡ ReportFault.NoMemory) × (self.old.form ≡ Form.Json))) }
+        ensures written { Wrote S.Sink sink.old sink.new (item_text self.old.form bytes.now)
+            (report_ending result) }
+        ensures fault { IfErr result (λ fault. (fault ≡ ReportFault.Sink)
+            ⊎ ((fault ≡ ReportFault.NoMemory) × (self.old.form ≡ Form.Json))) }
     {
         let written = match self.form {
             Form::Printable => put_or_hex(bytes, can_be_printed(bytes), sink),
@@ -65,7 +69,8 @@ impl ItemWriter {
 
 /// Writes bytes as they are, or in hexadecimal.
 fn put_or_hex<S: Sink>(bytes: &[u8], as_it_is: bool, sink: &mut S) -> Result<(), SinkFault>
-    ensures { Wrote S.Sink sink.old sink.new (if as_it_is then bytes.now else encode_lower bytes.now) (ending result) }
+    ensures { Wrote S.Sink sink.old sink.new
+        (if as_it_is then bytes.now else encode_lower bytes.now) (ending result) }
 {
     if as_it_is {
         put(bytes, sink)
@@ -134,8 +139,10 @@ pub fn value<S: Sink>(
     form: Form,
     sink: &mut S,
 ) -> Result<(), ReportFault>
-    ensures written { Wrote S.Sink sink.old sink.new (value_text form bytes.now) (report_ending result) }
-    ensures fault { IfErr result (λ fault. (fault ≡ ReportFault.Sink) ⊎ ((fault ≡ ReportFault.NoMemory) × (form ≡ Form.Json))) }
+    ensures written { Wrote S.Sink sink.old sink.new (value_text form bytes.now)
+        (report_ending result) }
+    ensures fault { IfErr result (λ fault. (fault ≡ ReportFault.Sink)
+        ⊎ ((fault ≡ ReportFault.NoMemory) × (form ≡ Form.Json))) }
 {
     let mut items = ItemWriter::new(alloc, form);
     items.put_line(bytes, sink)
@@ -148,8 +155,10 @@ pub fn item<S: Sink>(
     form: Form,
     sink: &mut S,
 ) -> Result<(), ReportFault>
-    ensures written { Wrote S.Sink sink.old sink.new (item_text form bytes.now) (report_ending result) }
-    ensures fault { IfErr result (λ fault. (fault ≡ ReportFault.Sink) ⊎ ((fault ≡ ReportFault.NoMemory) × (form ≡ Form.Json))) }
+    ensures written { Wrote S.Sink sink.old sink.new (item_text form bytes.now)
+        (report_ending result) }
+    ensures fault { IfErr result (λ fault. (fault ≡ ReportFault.Sink)
+        ⊎ ((fault ≡ ReportFault.NoMemory) × (form ≡ Form.Json))) }
 {
     let mut items = ItemWriter::new(alloc, form);
     items.put(bytes, sink)

@@ -43,7 +43,8 @@ impl JsonText {
     /// The line of a member of a listing.
     #[tactic(auto, unfolding(crate::specs::JsonLines::json_line))]
     pub(crate) fn line(&mut self, path: &[&[u8]], item: &Item<'_>) -> Result<&[u8], NoMemory>
-        ensures { IfOk result (λ text. text.now ≡ json_line item_json (path_of path.now, item_view item.now)) }
+        ensures { IfOk result (λ text.
+            text.now ≡ json_line item_json (path_of path.now, item_view item.now)) }
     {
         let mut writer = self.writer();
         write_member(&mut writer, path, item, &mut self.digits)?;
@@ -66,7 +67,8 @@ impl JsonText {
 /// Writes a key or a value.
 fn write_item(writer: &mut Writer, bytes: &[u8], digits: &mut Vec<u8>) -> Result<(), AllocError>
     ensures before { writer.new.before ≡ writer.old.before }
-    ensures tokens { OnOk result (writer.new.tokens ≡ writer.old.tokens ++ json_tokens (item_json bytes.now)) }
+    ensures tokens { OnOk result
+        (writer.new.tokens ≡ writer.old.tokens ++ json_tokens (item_json bytes.now)) }
 {
     match str::from_utf8(bytes) {
         Ok(text) => writer.string(text),
@@ -77,7 +79,8 @@ fn write_item(writer: &mut Writer, bytes: &[u8], digits: &mut Vec<u8>) -> Result
 /// Writes an object with the hexadecimal digits of a key or a value.
 fn write_digits(writer: &mut Writer, bytes: &[u8], digits: &mut Vec<u8>) -> Result<(), AllocError>
     ensures before { writer.new.before ≡ writer.old.before }
-    ensures tokens { OnOk result (writer.new.tokens ≡ writer.old.tokens ++ digits_tokens bytes.now) }
+    ensures tokens { OnOk result
+        (writer.new.tokens ≡ writer.old.tokens ++ digits_tokens bytes.now) }
 {
     writer.begin_object()?;
     writer.key("hex")?;
@@ -103,7 +106,9 @@ fn write_member(
     digits: &mut Vec<u8>,
 ) -> Result<(), AllocError>
     ensures before { writer.new.before ≡ writer.old.before }
-    ensures tokens { OnOk result (writer.new.tokens ≡ writer.old.tokens ++ json_tokens (member_json item_json (path_of path.now, item_view item.now))) }
+    ensures tokens { OnOk result
+        (writer.new.tokens ≡ writer.old.tokens
+        ++ json_tokens (member_json item_json (path_of path.now, item_view item.now))) }
 {
     writer.begin_object()?;
     writer.key("path")?;
@@ -114,7 +119,9 @@ fn write_member(
 /// Writes the parts of a path as an array.
 fn write_path(writer: &mut Writer, path: &[&[u8]], digits: &mut Vec<u8>) -> Result<(), AllocError>
     ensures before { writer.new.before ≡ writer.old.before }
-    ensures tokens { OnOk result (writer.new.tokens ≡ writer.old.tokens ++ json_tokens (array (parts_json item_json (path_of path.now)))) }
+    ensures tokens { OnOk result
+        (writer.new.tokens ≡ writer.old.tokens
+        ++ json_tokens (array (parts_json item_json (path_of path.now)))) }
 {
     writer.begin_array()?;
     write_parts(writer, path, digits)?;
@@ -124,7 +131,9 @@ fn write_path(writer: &mut Writer, path: &[&[u8]], digits: &mut Vec<u8>) -> Resu
 /// Writes the parts of a path.
 fn write_parts(writer: &mut Writer, path: &[&[u8]], digits: &mut Vec<u8>) -> Result<(), AllocError>
     ensures before { writer.new.before ≡ writer.old.before }
-    ensures tokens { OnOk result (writer.new.tokens ≡ writer.old.tokens ++ flat_map (λ part. json_tokens (item_json part.now)) path.now) }
+    ensures tokens { OnOk result
+        (writer.new.tokens ≡ writer.old.tokens
+        ++ flat_map (λ part. json_tokens (item_json part.now)) path.now) }
 {
     for part in path {
         write_item(writer, part, digits)?;
@@ -135,7 +144,9 @@ fn write_parts(writer: &mut Writer, path: &[&[u8]], digits: &mut Vec<u8>) -> Res
 /// Writes the value of a member, or the sequence of its bucket, and the end of the object.
 fn write_end(writer: &mut Writer, item: &Item<'_>, digits: &mut Vec<u8>) -> Result<(), AllocError>
     ensures before { writer.new.before ≡ writer.old.before }
-    ensures tokens { OnOk result (writer.new.tokens ≡ writer.old.tokens ++ members_tokens (end_json item_json (item_view item.now))) }
+    ensures tokens { OnOk result
+        (writer.new.tokens ≡ writer.old.tokens
+        ++ members_tokens (end_json item_json (item_view item.now))) }
 {
     match item {
         Item::Value(value) => {

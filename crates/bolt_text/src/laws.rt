@@ -15,23 +15,33 @@ ghost use Rattle.bolt_text.specs.declared.words.Parts.TheVariants as Parts;
 /// bytes are, in either of the forms that are JSON.
 #[tactic(auto, using(crate::proofs::JsonLemmas::read_back))]
 pub fn json_lines_read_back()
-    ensures document { (m : Member) → IsMemberOfBytes m → document (json_text (member_json item_json m)) ≡ Some (member_json item_json m) }
-    ensures member { (m : Member) → IsMemberOfBytes m → option_and_then (member_of item_of) (document (json_text (member_json item_json m))) ≡ Some m }
-    ensures hex_document { (m : Member) → IsMemberOfBytes m → document (json_text (member_json digits_json m)) ≡ Some (member_json digits_json m) }
-    ensures hex_member { (m : Member) → IsMemberOfBytes m → option_and_then (member_of digits_of) (document (json_text (member_json digits_json m))) ≡ Some m }
+    ensures document { (m : Member) → IsMemberOfBytes m
+        → document (json_text (member_json item_json m)) ≡ Some (member_json item_json m) }
+    ensures member { (m : Member) → IsMemberOfBytes m
+        → option_and_then (member_of item_of) (document (json_text (member_json item_json m)))
+        ≡ Some m }
+    ensures hex_document { (m : Member) → IsMemberOfBytes m
+        → document (json_text (member_json digits_json m)) ≡ Some (member_json digits_json m) }
+    ensures hex_member { (m : Member) → IsMemberOfBytes m
+        → option_and_then (member_of digits_of) (document (json_text (member_json digits_json m)))
+        ≡ Some m }
 {}
 
 /// A key or a value as JSON is a JSON document, of which a reader finds its bytes.
 pub fn json_items_read_back()
-    ensures item { (bytes : List ℕ) → IsBytes bytes → option_and_then item_of (document (json_text (item_json bytes))) ≡ Some bytes }
-    ensures hex_item { (bytes : List ℕ) → IsBytes bytes → option_and_then digits_of (document (json_text (digits_json bytes))) ≡ Some bytes }
+    ensures item { (bytes : List ℕ) → IsBytes bytes
+        → option_and_then item_of (document (json_text (item_json bytes))) ≡ Some bytes }
+    ensures hex_item { (bytes : List ℕ) → IsBytes bytes
+        → option_and_then digits_of (document (json_text (digits_json bytes))) ≡ Some bytes }
 {}
 
 /// What `--form mixed` prints of a key or a value is printable ASCII and, as a part under
 /// `--parts mixed`, that key or value.
 pub fn mixed_items_read_back()
-    ensures printable { (bytes : List ℕ) → IsBytes bytes → is_printable (item_text Form.Mixed bytes) ≡ true }
-    ensures same { (bytes : List ℕ) → IsBytes bytes → part_by Parts.Mixed (item_text Form.Mixed bytes) ≡ Some bytes }
+    ensures printable { (bytes : List ℕ) → IsBytes bytes
+        → is_printable (item_text Form.Mixed bytes) ≡ true }
+    ensures same { (bytes : List ℕ) → IsBytes bytes
+        → part_by Parts.Mixed (item_text Form.Mixed bytes) ≡ Some bytes }
 {}
 
 /// The lines of a listing in hexadecimal are its text.

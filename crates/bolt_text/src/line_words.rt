@@ -61,7 +61,8 @@ fn sequence_word(word: &[u8]) -> Option<ItemWord<'_>>
 
 /// The text before the first mark, and that after it.
 pub fn cut_at(mark: u8, text: &[u8]) -> Option<(&[u8], &[u8])>
-    ensures { MatchOption result (IsWithout mark text.now) (λ cut. IsCutAt mark text.now cut.0.now cut.1.now) }
+    ensures { MatchOption result (IsWithout mark text.now) (λ cut.
+        IsCutAt mark text.now cut.0.now cut.1.now) }
 {
     let at = memchr(mark, text)?;
     Some((&text[..at], &text[at + 1..]))

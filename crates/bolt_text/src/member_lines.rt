@@ -55,8 +55,11 @@ impl MemberLines {
         sink: &mut S,
     ) -> Result<(), ReportFault>
         ensures form { lines_form self.new ≡ lines_form self.old }
-        ensures written { Wrote S.Sink sink.old sink.new (list_line (lines_form self.old) (path_of path.now, item_view item.now)) (report_ending result) }
-        ensures fault { IfErr result (λ fault. (fault ≡ ReportFault.Sink) ⊎ ((fault ≡ ReportFault.NoMemory) × (lines_form self.old ≡ ListForm.Json))) }
+        ensures written { Wrote S.Sink sink.old sink.new
+            (list_line (lines_form self.old) (path_of path.now, item_view item.now))
+            (report_ending result) }
+        ensures fault { IfErr result (λ fault. (fault ≡ ReportFault.Sink)
+            ⊎ ((fault ≡ ReportFault.NoMemory) × (lines_form self.old ≡ ListForm.Json))) }
     {
         let written = match &mut self.writer {
             LineWriter::Hex => put_member(path, item, sink),
@@ -74,7 +77,8 @@ fn put_hex_json<'a, S: Sink>(
     item: &Item<'a>,
     sink: &mut S,
 ) -> Result<(), SinkFault>
-    ensures { Wrote S.Sink sink.old sink.new (json_line digits_json (path_of path.now, item_view item.now)) (ending result) }
+    ensures { Wrote S.Sink sink.old sink.new
+        (json_line digits_json (path_of path.now, item_view item.now)) (ending result) }
 {
     let path = Piece::HexPath(path, PathForm::Strings);
     let begin = Piece::Bytes(b"{\"path\":[");
@@ -108,7 +112,8 @@ fn put_member<'a, S: Sink>(
     item: &Item<'a>,
     sink: &mut S,
 ) -> Result<(), SinkFault>
-    ensures { Wrote S.Sink sink.old sink.new (member_line (path_of path.now, item_view item.now)) (ending result) }
+    ensures { Wrote S.Sink sink.old sink.new (member_line (path_of path.now, item_view item.now))
+        (ending result) }
 {
     match item {
         Item::Value(value) => put_pieces(

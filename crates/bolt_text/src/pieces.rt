@@ -72,7 +72,8 @@ fn add_piece<S: Sink>(
     gathered: &mut Gathered,
     sink: &mut S,
 ) -> Result<(), SinkFault>
-    ensures { Gathers S.Sink sink.old sink.new gathered.old.items gathered.new.items (piece_text piece.now) (ending result) }
+    ensures { Gathers S.Sink sink.old sink.new gathered.old.items gathered.new.items
+        (piece_text piece.now) (ending result) }
 {
     match piece {
         Piece::Bytes(bytes) => add_bytes(bytes, gathered, sink),
@@ -89,13 +90,15 @@ fn add_piece<S: Sink>(
 }
 
 fn add_number<S: Sink>(n: u64, gathered: &mut Gathered, sink: &mut S) -> Result<(), SinkFault>
-    ensures { Gathers S.Sink sink.old sink.new gathered.old.items gathered.new.items (decimal n) (ending result) }
+    ensures { Gathers S.Sink sink.old sink.new gathered.old.items gathered.new.items (decimal n)
+        (ending result) }
 {
     add_bytes(Buffer::new().format(n).as_bytes(), gathered, sink)
 }
 
 fn add_hex_number<S: Sink>(n: u64, gathered: &mut Gathered, sink: &mut S) -> Result<(), SinkFault>
-    ensures { Gathers S.Sink sink.old sink.new gathered.old.items gathered.new.items (digits 16 false n) (ending result) }
+    ensures { Gathers S.Sink sink.old sink.new gathered.old.items gathered.new.items
+        (digits 16 false n) (ending result) }
 {
     add_bytes(number_digits(n, &mut [0; NUMBER_LEN]), gathered, sink)
 }
@@ -106,7 +109,8 @@ fn add_field<S: Sink>(
     gathered: &mut Gathered,
     sink: &mut S,
 ) -> Result<(), SinkFault>
-    ensures { Gathers S.Sink sink.old sink.new gathered.old.items gathered.new.items (name.now ++ decimal n) (ending result) }
+    ensures { Gathers S.Sink sink.old sink.new gathered.old.items gathered.new.items
+        (name.now ++ decimal n) (ending result) }
 {
     add_bytes(name, gathered, sink)?;
     add_number(n, gathered, sink)
@@ -118,7 +122,8 @@ fn add_figure<S: Sink>(
     gathered: &mut Gathered,
     sink: &mut S,
 ) -> Result<(), SinkFault>
-    ensures { Gathers S.Sink sink.old sink.new gathered.old.items gathered.new.items (figure_line name.now n) (ending result) }
+    ensures { Gathers S.Sink sink.old sink.new gathered.old.items gathered.new.items
+        (figure_line name.now n) (ending result) }
 {
     add_bytes(name, gathered, sink)?;
     add_bytes(b" ", gathered, sink)?;
@@ -132,7 +137,8 @@ fn add_column<S: Sink>(
     gathered: &mut Gathered,
     sink: &mut S,
 ) -> Result<(), SinkFault>
-    ensures { Gathers S.Sink sink.old sink.new gathered.old.items gathered.new.items (column width text.now) (ending result) }
+    ensures { Gathers S.Sink sink.old sink.new gathered.old.items gathered.new.items
+        (column width text.now) (ending result) }
 {
     add_bytes(text, gathered, sink)?;
     add_spaces(width.saturating_sub(text.len()), gathered, sink)
@@ -144,13 +150,15 @@ fn add_number_column<S: Sink>(
     gathered: &mut Gathered,
     sink: &mut S,
 ) -> Result<(), SinkFault>
-    ensures { Gathers S.Sink sink.old sink.new gathered.old.items gathered.new.items (column width (decimal n)) (ending result) }
+    ensures { Gathers S.Sink sink.old sink.new gathered.old.items gathered.new.items
+        (column width (decimal n)) (ending result) }
 {
     add_column(Buffer::new().format(n).as_bytes(), width, gathered, sink)
 }
 
 fn add_spaces<S: Sink>(count: usize, gathered: &mut Gathered, sink: &mut S) -> Result<(), SinkFault>
-    ensures { Gathers S.Sink sink.old sink.new gathered.old.items gathered.new.items (replicate count 0x20) (ending result) }
+    ensures { Gathers S.Sink sink.old sink.new gathered.old.items gathered.new.items
+        (replicate count 0x20) (ending result) }
 {
     for _i in 0..count {
         add_bytes(b" ", gathered, sink)?;
@@ -164,7 +172,8 @@ fn add_path<S: Sink>(
     gathered: &mut Gathered,
     sink: &mut S,
 ) -> Result<(), SinkFault>
-    ensures { Gathers S.Sink sink.old sink.new gathered.old.items gathered.new.items (path_text form (path_of parts.now)) (ending result) }
+    ensures { Gathers S.Sink sink.old sink.new gathered.old.items gathered.new.items
+        (path_text form (path_of parts.now)) (ending result) }
 {
     let Some((first, rest)) = parts.split_first() else {
         return Ok(());
@@ -180,7 +189,8 @@ fn add_later_parts<S: Sink>(
     gathered: &mut Gathered,
     sink: &mut S,
 ) -> Result<(), SinkFault>
-    ensures { Gathers S.Sink sink.old sink.new gathered.old.items gathered.new.items (later_parts form parts.now) (ending result) }
+    ensures { Gathers S.Sink sink.old sink.new gathered.old.items gathered.new.items
+        (later_parts form parts.now) (ending result) }
 {
     for part in parts {
         add_later_part(part, form, gathered, sink)?;
@@ -194,7 +204,8 @@ fn add_later_part<S: Sink>(
     gathered: &mut Gathered,
     sink: &mut S,
 ) -> Result<(), SinkFault>
-    ensures { Gathers S.Sink sink.old sink.new gathered.old.items gathered.new.items (separator form ∷ part_text form part.now) (ending result) }
+    ensures { Gathers S.Sink sink.old sink.new gathered.old.items gathered.new.items
+        (separator form ∷ part_text form part.now) (ending result) }
 {
     add_bytes(&[separator(form)], gathered, sink)?;
     add_part(part, form, gathered, sink)
@@ -215,7 +226,8 @@ fn add_part<S: Sink>(
     gathered: &mut Gathered,
     sink: &mut S,
 ) -> Result<(), SinkFault>
-    ensures { Gathers S.Sink sink.old sink.new gathered.old.items gathered.new.items (part_text form part.now) (ending result) }
+    ensures { Gathers S.Sink sink.old sink.new gathered.old.items gathered.new.items
+        (part_text form part.now) (ending result) }
 {
     match form {
         PathForm::Slashes => add_hex(part, gathered, sink),
@@ -229,7 +241,8 @@ fn add_hex_string<S: Sink>(
     gathered: &mut Gathered,
     sink: &mut S,
 ) -> Result<(), SinkFault>
-    ensures { Gathers S.Sink sink.old sink.new gathered.old.items gathered.new.items (hex_string bytes.now) (ending result) }
+    ensures { Gathers S.Sink sink.old sink.new gathered.old.items gathered.new.items
+        (hex_string bytes.now) (ending result) }
 {
     add_bytes(b"\"", gathered, sink)?;
     add_hex(bytes, gathered, sink)?;
@@ -238,7 +251,8 @@ fn add_hex_string<S: Sink>(
 
 /// Adds bytes in hexadecimal; long ones are written part by part, and not gathered.
 fn add_hex<S: Sink>(bytes: &[u8], gathered: &mut Gathered, sink: &mut S) -> Result<(), SinkFault>
-    ensures { Gathers S.Sink sink.old sink.new gathered.old.items gathered.new.items (encode_lower bytes.now) (ending result) }
+    ensures { Gathers S.Sink sink.old sink.new gathered.old.items gathered.new.items
+        (encode_lower bytes.now) (ending result) }
 {
     if bytes.len() <= SHORT_LEN {
         let mut digits = [0; 2 * SHORT_LEN];
@@ -252,7 +266,8 @@ fn add_hex<S: Sink>(bytes: &[u8], gathered: &mut Gathered, sink: &mut S) -> Resu
 /// Adds bytes to what is gathered, or writes what is gathered first.
 #[inline(always)]
 fn add_bytes<S: Sink>(bytes: &[u8], gathered: &mut Gathered, sink: &mut S) -> Result<(), SinkFault>
-    ensures { Gathers S.Sink sink.old sink.new gathered.old.items gathered.new.items bytes.now (ending result) }
+    ensures { Gathers S.Sink sink.old sink.new gathered.old.items gathered.new.items bytes.now
+        (ending result) }
 {
     match gathered.try_extend_from_slice(bytes) {
         Ok(()) => Ok(()),
@@ -265,7 +280,8 @@ fn add_after_put<S: Sink>(
     gathered: &mut Gathered,
     sink: &mut S,
 ) -> Result<(), SinkFault>
-    ensures { Gathers S.Sink sink.old sink.new gathered.old.items gathered.new.items bytes.now (ending result) }
+    ensures { Gathers S.Sink sink.old sink.new gathered.old.items gathered.new.items bytes.now
+        (ending result) }
 {
     put_gathered(gathered, sink)?;
     match gathered.try_extend_from_slice(bytes) {

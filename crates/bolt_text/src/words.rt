@@ -37,7 +37,8 @@ impl Parts {
     /// `OutOfMemory` if memory ran out. Any other error says what isn't hexadecimal in the word.
     pub fn read(self, alloc: Global, word: &str) -> Result<Vec<u8>, FromHexError>
         ensures read { IfOk result (λ part. part_by self word.now ≡ Some part.items) }
-        ensures refused { IfErr result (λ fault. (fault ≡ OutOfMemory) ⊎ (part_by self word.now ≡ None)) }
+        ensures refused { IfErr result (λ fault. (fault ≡ OutOfMemory)
+            ⊎ (part_by self word.now ≡ None)) }
     {
         match self {
             Parts::Text => Ok(word.as_bytes().to_vec(alloc)?),

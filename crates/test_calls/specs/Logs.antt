@@ -1,6 +1,6 @@
 -- The deeds that a log in memory holds.
-use Rattle.std.specs.Prelude.{◌≡◌, ◌⊎◌, ℕ, List, [], map, Bool, true, false, Option, Some, None, Ok, Err, IsTrue}
-use Rattle.bolt_cli.specs.Deeds.{Deed}
+use Rattle.std.specs.Prelude.{◌≡◌, ◌⊎◌, ℕ, List, [], ◌∷◌, map, Bool, true, false, Option, Some, None, Ok, Err, IsTrue}
+use Rattle.bolt_cli.specs.Deeds.{Adds, Deed}
 use Rattle.bolt_cli.specs.Deeds as deeds
 use Rattle.bolt_cli.specs.{Sources.is_changed, declared.outside.OutputFault.TheVariants.ReaderLeft, declared.outside.OutputFault.TheVariants.Failed}
 use Rattle.test_calls.specs.declared.log.Kind.{Kind}
@@ -46,3 +46,7 @@ look_at record_ = look_of record_.kind record_.name.items record_.bytes.items re
 -- either the log has lost a deed, or these are all
 abbrev pub Holds : {S : Type 0} → (taken : S → Option (List ℕ)) → Log → List (Deed S S) → Type 0
 Holds taken log all = IsTrue log.has_lost ⊎ (map look_at log.records.items ≡ map (look taken) all)
+
+-- a deed that looks so was added to it, or lost
+abbrev pub Notes : {S : Type 0} → (taken : S → Option (List ℕ)) → (old new : Log) → Look → Type 0
+Notes {S} taken old new seen = (deed : Deed S S) → look taken deed ≡ seen → Adds (Holds taken old) (Holds taken new) (deed ∷ [])

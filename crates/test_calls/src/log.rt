@@ -2,7 +2,7 @@
 ghost use Rattle.std.specs.Prelude.{◌≡◌, List, [], ◌∷◌, ◌++◌, OnOk};
 ghost use Rattle.bolt_cli.specs.Deeds.{Deed, Adds};
 ghost use Rattle.bolt_format.specs.declared.sink.MemSink.{MemSink};
-ghost use Rattle.test_calls.specs.Logs.{Holds, Look, look_of, look};
+ghost use Rattle.test_calls.specs.Logs.{Holds, Look, look_of, look, Notes, look_at};
 
 use bolt_format::{MemSink, Sink};
 use std::alloc::{AllocError, Global};
@@ -57,8 +57,8 @@ impl Log {
 
     /// Adds a deed, which looks like this.
     pub fn note(&mut self, kind: Kind, name: &[u8], bytes: &[u8], permissions: u32)
-        ensures { (deed : Deed MemSink MemSink) → look ⟦<MemSink as Sink>⟧.taken deed ≡ look_of kind name.now bytes.now permissions
-            → Adds (Holds ⟦<MemSink as Sink>⟧.taken self.old) (Holds ⟦<MemSink as Sink>⟧.taken self.new) (deed ∷ []) }
+        ensures { Notes ⟦<MemSink as Sink>⟧.taken self.old self.new
+            (look_of kind name.now bytes.now permissions) }
     {
         if push(
             self.alloc,
@@ -83,8 +83,8 @@ fn push(
     bytes: &[u8],
     permissions: u32,
 ) -> Result<(), AllocError>
-    ensures { OnOk result ((last : Record) × (records.new.items ≡ records.old.items ++ last ∷ [])
-        × (look_of last.kind last.name.items last.bytes.items last.permissions ≡ look_of kind name.now bytes.now permissions)) }
+    ensures { OnOk result ((one : Record) × (records.new.items ≡ records.old.items ++ one ∷ [])
+        × (look_at one ≡ look_of kind name.now bytes.now permissions)) }
 {
     let name = name.to_vec(alloc)?;
     let bytes = bytes.to_vec(alloc)?;

@@ -11,7 +11,10 @@
 //! | `enters PATH KEY ..` | the sequence of the bucket that a cursor is on after a seek of each key |
 //! | `walk PATH` | the line of each member of a walk |
 //! | `depths PATH` | how many items a walk returns, and how many keys its longest path and all paths have |
-//! | `listed PATH`, `keys PATH` | what `list` writes from a path, and `keys` of a bucket |
+//! | `listed PATH`, `listed-json PATH`, `listed-json-hex PATH` | what `list` writes from a path, in each form |
+//! | `part PATH` | what it writes of the part below a path |
+//! | `keys PATH`, `buckets PATH` | the keys of a bucket, and those of its buckets |
+//! | `got PATH KEY` | the value of a key, in JSON |
 //! | `loaded` | the line of each member that the file tells, which is the text of a listing |
 //! | `plan LAYOUT SIZE` | the root page and the high-water mark of a copy |
 //! | `copy LAYOUT SIZE` | the bytes of a copy, those that were accepted, and the items held at one time |

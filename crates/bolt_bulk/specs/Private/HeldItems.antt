@@ -50,6 +50,10 @@ IsHeld inlined held = (length held.key.now ≤ longest_key) × IsStored inlined 
 abbrev pub AreHeld : List Leaf → List Held → Type 0
 AreHeld inlined items = AllByRecursion (IsHeld inlined) items
 
+-- the size of an item on its page
+abbrev pub held_size : List Leaf → Held → ℕ
+held_size inlined held = 16 + (length held.key.now + length (stored_value inlined held.stored))
+
 -- how many entries of inline buckets belong to an item, and to all
 abbrev pub inlined_by : Stored → ℕ
 inlined_by (stored.Value value) = 0

@@ -3,7 +3,7 @@ use Rattle.std.specs.Prelude.{◌≡◌, ◌≤◌, ◌<◌, ℕ, Bool, List, []
 use Rattle.bolt_format.specs.declared.sink.Sink.{Ghosts}
 use Rattle.bolt_tree.specs.{Listing.Member, Tree.tree_of}
 use Rattle.bolt_layout.specs.{Copies.IsOfOneTree, Copies.layout_of_listing, declared.Layout.Layout}
-use Rattle.bolt_bulk.specs.{Compacting.too_many, WholeListings.IsAgain}
+use Rattle.bolt_bulk.specs.{Compacting.Plans, Compacting.too_many, WholeListings.IsAgain, declared.members_copy.Plan.Plan}
 use Rattle.bolt_bulk.specs.Private.{Endings.Ends, Passes.FitLimits, Passes.limits_with}
 use Rattle.bolt_bulk.specs.{declared.fault.BulkFault.BulkFault, declared.limits.Limits.Limits, declared.page_setup.PageSetup.PageSetup}
 use Rattle.bolt_bulk.specs.declared.pass.Ended.{Ended}
@@ -21,6 +21,10 @@ pub record FindsLimits {M : Type 0} (lists : M → List Member → Type 0) (left
   pub large : IfErr result (λ fault. fault ≡ TooLarge → (listing : List Member) → lists old listing
       → too_many ≤ length (layout_of_listing which page_size listing sequence))
   pub again : IfOk result (λ limits. IsAgain lists left ends_as old new)
+
+-- a layout of each tree that is listed is planned
+abbrev pub PlansEach : (List Member → Type 0) → Layout → (page_size sequence : ℕ) → Result Plan PlanFault → Type 0
+PlansEach lists which page_size sequence result = (listing : List Member) → lists listing → Plans which page_size sequence listing result
 
 -- a pass over all members, with limits that are right for them
 abbrev pub PutsMembers : {S M : Type 0} → Ghosts S → (old new : S) → (M → List Member → Type 0) → M → PageSetup → Limits → (notes : Bool)

@@ -1,10 +1,14 @@
 -- What a call that writes pages leaves on its sink, and when it returns TooLarge.
-use Rattle.std.specs.Prelude.{◌≡◌, ◌<◌, ◌≤◌, ℕ, List, [], ◌∷◌, IfErr, OnErr, OnOk, Result}
-use Rattle.bolt_format.specs.{Sinks.AppendsProperPrefix, Wrote.Wrote, declared.sink.Sink.Ghosts}
+use Rattle.std.specs.Prelude.{◌≡◌, ◌<◌, ℕ, List, IfErr, OnErr, OnOk, Result}
+use Rattle.bolt_format.specs.{Endings.page_ending, Sinks.AppendsProperPrefix, Wrote.Wrote, declared.sink.Sink.Ghosts}
 use Rattle.bolt_layout.specs.{Laid.Placed, Layout.placed_bytes}
 use Rattle.bolt_bulk.specs.{BulkEndings.bulk_ending, declared.fault.BulkFault.BulkFault}
 use Rattle.bolt_bulk.specs.declared.fault.BulkFault.TheVariants as fault
 use Rattle.bolt_bulk.specs.declared.page_setup.PageSetup.{PageSetup}
+
+-- A piece of a page is written. If the call fails, some of it is left out.
+abbrev pub WritesText : {S A E : Type 0} → Ghosts S → (old new : S) → List ℕ → Result A E → Type 0
+WritesText sink old new text result = Wrote sink old new text (page_ending result)
 
 -- the pages are written, or a prefix of their bytes if the call fails
 abbrev pub Puts : {S A : Type 0} → Ghosts S → (old new : S) → PageSetup → List Placed → Result A BulkFault → Type 0
@@ -18,19 +22,14 @@ LeavesOut sink old new setup pages result = OnErr result (AppendsProperPrefix (s
 abbrev pub OnlyAbove : {A : Type 0} → PageSetup → (mark : ℕ) → Result A BulkFault → Type 0
 OnlyAbove setup mark result = IfErr result (λ e. e ≡ fault.TooLarge → setup.highest_mark < mark)
 
--- the bytes of one page
-abbrev pub page_text : PageSetup → Placed → List ℕ
-page_text setup page = placed_bytes setup.page_size (page ∷ [])
-
-module _ {S A : Type 0} (sink : Ghosts S) (old new : S) (setup : PageSetup) (row : List Placed) (mark next : ℕ) (result : Result A BulkFault) where
-  -- A call writes pages up to this mark. `next` is the number of the next page then, which is at most the highest mark.
-  pub record Writes : Type 0 where
+module _ {S A : Type 0} (sink : Ghosts S) (old new : S) (setup : PageSetup) (row : List Placed) (mark : ℕ) where
+  -- A call writes pages up to this mark.
+  pub record Writes (result : Result A BulkFault) : Type 0 where
     pub pages : Puts sink old new setup row result
-    pub within : OnOk result (next ≤ setup.highest_mark)
     pub large : OnlyAbove setup mark result
 
-  -- Open runs close, which writes these pages. If the call fails, it leaves some of their bytes out.
-  pub record Closes : Type 0 where
-    pub writes : Writes
+  -- Open runs close, which writes these pages. If the call fails, it leaves some of their bytes out. `next` is the next number then.
+  pub record Closes (next : ℕ) (result : Result A BulkFault) : Type 0 where
+    pub writes : Writes result
     pub short : LeavesOut sink old new setup row result
     pub marked : OnOk result (next ≡ mark)

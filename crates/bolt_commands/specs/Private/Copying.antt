@@ -31,6 +31,10 @@ pub record IsAskedBlueprint (job : CompactJob) (meta : Meta) (blueprint : Bluepr
 abbrev pub blueprint_layout : Blueprint → List Member → List ℕ
 blueprint_layout blueprint listing = layout_of_listing blueprint.layout blueprint.page_size listing blueprint.sequence
 
+-- this holds of the listing of a source and of its layout by this blueprint
+abbrev pub ForLayout : {C : Type 0} → (lists : C → List Member → Type 0) → C → Blueprint → (List Member → List ℕ → Type 0) → Type 0
+ForLayout lists source blueprint P = (listing : List Member) → lists source listing → P listing (blueprint_layout blueprint listing)
+
 -- the target accepted the whole copy of the listing with this layout, and it is good; or it stopped short, and the fault says why
 pub record CopiesTo {T : Type 0} (target : Ghosts T) (old new : T) (layout : List ℕ) (listing : List Member) (snapshot : Bool) (result : Result ℕ BulkFault) : Type 0 where
   pub ends : EndsCopy target.taken target.failed old new layout snapshot result

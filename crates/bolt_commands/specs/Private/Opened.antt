@@ -7,8 +7,8 @@ use Rattle.bolt_recover.specs.{Found.AreFound, Found.numbers_of, Joined.LacksBuc
 use Rattle.bolt_recover.specs.{JoinedMembers.joined_meta, Losses.LostView, Losses.everything, Losses.parts, Lost.IsAllLost, LostAndFound.all_lost, Recovered.ForRecovered}
 use Rattle.bolt_recover.specs.{Recoveries.recovery_file, Recoveries.recovery_left, Recoveries.recovery_losses, Recoveries.recovery_meta, ShownFound.IsFoundView}
 use Rattle.bolt_recover.specs.{declared.found.Found.Found, declared.joined.Joined.Joined, declared.lost_and_found.LostAndFound.LostAndFound, declared.recovery.Recovery.Recovery}
-use Rattle.bolt_tree.specs.{Buckets.bucket_checked, Buckets.bucket_start, Entries.Start, Paths.Path, declared.bucket.Bucket.Bucket}
-use Rattle.bolt_commands.specs.Answers.{IsFileRefusal, IsReadUnder, IsRecoveredUnder, IsRefusedUnder, IsUnreadTo, LeadsTo, refused}
+use Rattle.bolt_tree.specs.{Buckets.bucket_checked, Buckets.bucket_start, Paths.Path, declared.bucket.Bucket.Bucket}
+use Rattle.bolt_commands.specs.Answers.{IsFileRefusal, IsReadUnder, IsRecoveredUnder, IsRefusedUnder, IsUnreadTo, LeadsNowhere, LeadsTo, refused}
 use Rattle.bolt_job.specs.{MetaChoices.HasNoMetaOf, MetaChoices.IsMetaOf, declared.choices.Extent.Extent, declared.choices.MetaChoice.MetaChoice}
 use Rattle.bolt_job.specs.declared.choices.Extent.TheVariants.{First, LostAndFound as Joins, Losses}
 use Rattle.bolt_commands.specs.declared.failure.Failure.{Failure}
@@ -28,7 +28,7 @@ IsUnread file choice why = (fault : CheckFault) × IsRefusedUnder file choice fa
 
 -- the path leads to no bucket, or the file is refused
 pub record HasNoBucket (file : List ℕ) (choice : MetaChoice) (path : Path) (said : Failure) : Type 0 where
-  pub why : ((meta : Meta) × IsReadUnder file choice meta × ((bucket : Start) → LeadsTo file meta path bucket → ⊥) × (said ≡ failure.NoBucket))
+  pub why : ((meta : Meta) × IsReadUnder file choice meta × LeadsNowhere file meta path × (said ≡ failure.NoBucket))
       ⊎ IsUnread file choice said
 
 -- what is lost and found of a file under this choice

@@ -1,6 +1,5 @@
 -- What the functions of a command that prints promise of its job.
 use Rattle.std.specs.Prelude.{◌≡◌, ◌⊎◌, ℕ, List, Bool, IfOk, OnOk, Result, Err, map}
-use Rattle.bolt_check.specs.{CheckedFiles.bytes_of, CheckedFiles.meta_of, declared.checked.Checked.Checked}
 use Rattle.bolt_format.specs.{Wrote.Wrote, declared.meta.Meta.Meta, declared.sink.Sink.Ghosts}
 use Rattle.bolt_recover.specs.{Losses.LostView, LostAndFound.all_lost, declared.lost_and_found.LostAndFound.LostAndFound}
 use Rattle.bolt_report.specs.FoundLines.{FoundView, found_view}
@@ -28,10 +27,6 @@ sound_part job listing = listing_lines job.form (rest_from (path_in job.from.ite
 
 abbrev pub finds : ListJob → List Member → Bool
 finds job listing = has_bucket (path_in job.path.items) listing
-
--- what is shown of a file and its meta, of a checked one
-abbrev pub shown_of : {X : Type 0} → (List ℕ → Meta → X) → Checked → X
-shown_of shown checked = shown (bytes_of checked) (meta_of checked)
 
 -- ---- a part of a listing
 

@@ -4,8 +4,14 @@ use Rattle.std.specs.Borrow.{Bor}
 use Rattle.std.specs.Option.{IfNone}
 use Rattle.bolt_recover.specs.Losses.{LostView}
 use Rattle.bolt_tree.specs.{Entries.Value, Listing.Member, ListingParts.has_bucket, Paths.Path}
-use Rattle.bolt_commands.specs.Answers.{Ending, lost_ending, no_bucket, no_key, parents_of}
-use Rattle.bolt_commands.specs.declared.{failure.Failure.Failure, recovered_commands.AtPath.AtPath}
+use Rattle.bolt_job.specs.PlainWords.{path_in}
+use Rattle.bolt_report.specs.MemberNames.{is_wanted}
+use Rattle.bolt_commands.specs.Answers.{Answer, Ending, IsNamesAnswer, IsRecoveredAnswer, lost_ending, no_bucket, no_key, parents_of}
+use Rattle.bolt_commands.specs.declared.{failure.Failure.Failure, recovered_commands.AtPath.AtPath, recovered_commands.RecoveredNames.RecoveredNames}
+
+-- the names that are asked for of what is recovered
+abbrev pub IsNamesPrint : RecoveredNames → List ℕ → Answer → Type 0
+IsNamesPrint asked file = IsRecoveredAnswer file asked.meta (IsNamesAnswer asked.form (is_wanted asked.names) (path_in asked.path.now))
 
 -- how a job ends that put what is recovered of a bucket, if that was found
 abbrev pub bucket_ending : (found : Bool) → LostView → Ending

@@ -7,10 +7,10 @@ use Rattle.bolt_format.specs.{Pages.page_at, ShownInline.shown_inline, TreePages
 use Rattle.bolt_format.specs.declared.tree_page.TreePage.{TreePage}
 use Rattle.bolt_check.specs.{Claims.claims_file, Claims.claims_meta, Claims.claims_visited, Claims.is_claimed, Nodes.Nodes, Nodes.node_at}
 use Rattle.bolt_check.specs.{ShownNodes.is_leaf_page, ShownNodes.shown_node, ShownSpots.spot_at, Ways.Spot}
-use Rattle.bolt_check.specs.{declared.claims.Claims.Claims, declared.spot.Spot.Spot as CodeSpot}
+use Rattle.bolt_check.specs.{declared.claims.Claims.Claims, declared.finding.Finding.Finding, declared.spot.Spot.Spot as CodeSpot}
 use Rattle.bolt_check.specs.declared.spot.Spot.TheVariants as spots
 use Rattle.bolt_tree.specs.{Entries.item_of, Listing.Member, Paths.Path, Paths.path_of}
-use Rattle.bolt_recover.specs.{Sites.Site, Sites.leaves_of, Sites.step_site}
+use Rattle.bolt_recover.specs.{Losses.LossView, Losses.loss_on, Sites.Site, Sites.leaves_of, Sites.step_site}
 use Rattle.bolt_recover.specs.Private.Courses.{Event, Outcome, Task, To_visit, Way, after_events, all_events, claimed_after, events, further, members_of, outcome_of, tasks_from}
 use Rattle.bolt_recover.specs.{ShownLosses.loss_view, declared.content.KeptPage.KeptPage}
 use Rattle.bolt_recover.specs.declared.content.OpenPage.{OpenPage}
@@ -118,6 +118,10 @@ tasks_left file meta path ahead pages = ahead_tasks file meta path (way_of pages
 -- what is left of steps: tasks, and all that comes of them
 abbrev pub steps_path : Steps → Path
 steps_path steps = path_of steps.path.items
+
+-- the loss of a visit that is ahead
+abbrev pub loss_ahead : Steps → NextVisit → Finding → LossView
+loss_ahead steps ahead finding = loss_on (take ahead.path_len (steps_path steps)) (spot_at ahead.spot) finding
 
 abbrev pub steps_left : Steps → List Event
 steps_left steps =

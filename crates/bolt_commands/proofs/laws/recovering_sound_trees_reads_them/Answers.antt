@@ -1,4 +1,9 @@
-use Rattle.bolt_commands.proofs.SoundRecovery.{Below, copies_the_same, lists_the_same}
+use Rattle.std.proofs.Common.{refl}
+use Rattle.bolt_commands.proofs.EntryNames.{bucket_items}
+use Rattle.bolt_commands.proofs.SoundNames.{gets_the_same, names_the_same}
+use Rattle.bolt_commands.proofs.SoundRecovery.{Below, copies_the_same, finds_alike, lists_the_same, recovers_alike}
+use Rattle.bolt_job.specs.PlainWords.{path_in}
+use Rattle.bolt_report.specs.{KeyPrefixes.begins, MemberNames.begins_so, MemberNames.names_bucket}
 use Rattle.bolt_commands.proofs.laws.recovering_sound_trees_reads_them.Goals as goal
 
 pub returns : goal.returns
@@ -9,7 +14,20 @@ returns g c =
       listed = c.sound_trees_recover_their_listing.ensures;
       recovered = c.sound_trees_recover_what_they_list.ensures.listing;
       none_lost = c.sound_trees_recover_what_they_list.ensures.losses;
+      has_found = c.each_file_has_found_pages.ensures;
+      none_found = c.nothing_lost_finds_nothing.ensures;
     } in record {
-      list = lists_the_same below;
-      compact = λ file meta trees wanted named shown shown_named alone. copies_the_same below file meta trees wanted named shown shown_named alone g.O.Sink.taken g.O.Sink.failed g.T.Sink.taken g.T.Sink.failed;
+      list = λ file meta trees wanted named shown shown_named alone. lists_the_same (recovers_alike below file meta trees wanted named shown shown_named alone);
+      compact = λ file meta trees wanted named shown shown_named alone out_old out_new target_old target_new size layout snapshot ending same.
+          copies_the_same (recovers_alike below file meta trees wanted named shown shown_named alone) g.O.Sink.taken g.O.Sink.failed g.T.Sink.taken g.T.Sink.failed
+          out_old out_new target_old target_new size layout snapshot ending same;
+      keys = λ file meta trees wanted named shown shown_named alone job answer whole.
+          names_the_same below file meta trees wanted named shown shown_named alone answer job.form (begins_so job.prefix.items) (begins job.prefix.items) (λ e. refl) (path_in job.path.items) whole;
+      buckets = λ file meta trees wanted named shown shown_named alone job answer whole.
+          names_the_same below file meta trees wanted named shown shown_named alone answer job.form names_bucket (λ e. e.is_bucket) bucket_items (path_in job.path.items) whole;
+      get = λ file meta trees wanted named shown shown_named alone job answer. gets_the_same below file meta trees wanted named shown shown_named alone answer job;
+      found_list = λ file meta trees choice shown few. lists_the_same (finds_alike below file meta trees choice shown few);
+      found_compact = λ file meta trees choice shown few out_old out_new target_old target_new size layout snapshot ending same.
+          copies_the_same (finds_alike below file meta trees choice shown few) g.O.Sink.taken g.O.Sink.failed g.T.Sink.taken g.T.Sink.failed
+          out_old out_new target_old target_new size layout snapshot ending same;
     }

@@ -16,7 +16,7 @@ pub returns : goal.returns
 returns g c =
     let opened = c.in_ok-checked.ensures in
     let job = c.args.job.now in
-    let shown = value_shown job c.in_ok-value.value.now in
+    let shown = value_shown job.form job.no_newline c.in_ok-value.value.now in
     let trees = own_trees c.args.input.file.now job.meta c.in_ok-checked.checked opened.bytes opened.sound in
     let held = held_at c.in_ok-checked.checked (path_in job.path.items) (Value c.in_ok-value.value.now) trees (rw (sym c.as_slice.ensures.value) c.in_ok-value.ensures.holds) in
     let put = text_put (job.form ≡ Json) shown (Ok 0) c.put_value.result c.put_value.ensures.written c.put_value.ensures.fault in

@@ -6,6 +6,6 @@ pub returns : goal.returns
 returns c = record {
   by_number = λ ts compacted keeps r later left possible is. told_by_number compacted ts keeps possible r left is later;
   by_transaction = λ ts compacted keeps r later left possible is. told_by_transaction compacted ts keeps possible r left is later;
-  by_name = λ ts compacted keeps r next left by_name possible compaction is sorted shown granted.
+  by_name = λ ts compacted keeps possible compaction r next left by_name is sorted shown granted.
       fault_found compacted ts keeps possible compaction r next left is shown granted by_name sorted;
 }

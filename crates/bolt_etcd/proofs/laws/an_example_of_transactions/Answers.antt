@@ -12,4 +12,4 @@ are_possible = record {
 
 pub returns : goal.returns
 unfolding newest spelling
-returns c = record { possible = are_possible; writes = refl; held = (refl, refl, refl); kept_by_old = refl; kept_by_new = refl }
+returns c = record { possible = are_possible; writes = refl; held = refl; kept_by_old = refl; kept_by_new = refl }

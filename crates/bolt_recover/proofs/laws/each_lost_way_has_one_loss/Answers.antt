@@ -10,4 +10,6 @@ returns-clause-loss c = λ file meta survey way x is has.
     (p, at, loss_there file meta survey way x p has at)
 
 pub returns-clause-way : goal.returns-clause-way
-returns-clause-way c = λ file meta survey l is has. way_there file meta survey l has
+returns-clause-way c = λ file meta survey is l has.
+    let (way, x, site, there, at, same) = way_there file meta survey l has in
+    (way, x, there, (site, at, same))

@@ -15,6 +15,6 @@ returns c = λ listing is.
     let file = kept_file joined.kept in
     let meta = kept_meta joined.kept in
     ∥∥₁_elim joined.pages (rises_prop listing) (λ are.
-    c.joined_listing_rises.ensures file meta listing is are.few
+    c.joined_listing_rises.ensures file meta are.few
     (λ recovered found recovers pages some.
-    are.apart (λ none. some (one_found file meta found (numbers_of joined.found.now) pages are.are_found ∙ ap numbers_of none)) recovered recovers))
+    are.apart (λ none. some (one_found file meta found (numbers_of joined.found.now) pages are.are_found ∙ ap numbers_of none)) recovered recovers) listing is)

@@ -5,8 +5,8 @@ use Rattle.bolt_bulk.specs.Private.{IsPushed, run_view, RunView}
 use Rattle.bolt_bulk.proofs.{PutsLemmas.closes_early, RunLemmas.pushed}
 use Rattle.bolt_bulk.proofs.branch_run.BranchRun.take_last_page.Goals as goal
 
-pub close-requires-clause-pushed : goal.close-requires-clause-pushed
-close-requires-clause-pushed g c =
+pub close-requires : goal.close-requires
+close-requires g c =
     subst (λ (r : RunView). IsPushed r) (sym c.in_ok-push_page.ensures.run) (pushed (run_view c.args.self.now) (branch_view c.args.closed) c.requires.standing c.requires.closed)
 
 pub returns-in_err-push_page-clause-closes : goal.returns-in_err-push_page-clause-closes

@@ -12,4 +12,4 @@ pub returns-in_err-put_leaf_page-clause-closes : goal.returns-in_err-put_leaf_pa
 returns-in_err-put_leaf_page-clause-closes g c = grind (arith, err_from_is_err_and)
 
 pub returns-clause-closes : goal.returns-clause-closes
-returns-clause-closes g c = record { closes = record { writes = record { pages = c.in_ok-put_leaf_page.ensures; within = c.in_ok-after.ensures.within; large = tt }; short = tt; marked = c.in_ok-after.ensures.number }; up = grind (arith, common_steps) }
+returns-clause-closes g c = record { closes = record { writes = record { pages = c.in_ok-put_leaf_page.ensures.page; large = tt }; short = tt; marked = c.in_ok-after.ensures.number }; up = grind (arith, common_steps) }

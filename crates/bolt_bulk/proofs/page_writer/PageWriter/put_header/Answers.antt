@@ -1,6 +1,6 @@
 use Rattle.std.proofs.Common.{arith}
 use Rattle.bolt_bulk.proofs.RunLemmas.{run_fits}
-use Rattle.bolt_bulk.proofs.pieces.put_page_header.Goals as goal
+use Rattle.bolt_bulk.proofs.page_writer.PageWriter.put_header.Goals as goal
 
 pub overflow_cast-further : goal.overflow_cast-further
 overflow_cast-further g c = grind (arith, run_fits)

@@ -1,0 +1,58 @@
+-- Commands that do the same: docs/RECOVERY.md, "The recovering walk".
+use Rattle.std.specs.Prelude.{◌≡◌, ◌≢◌, ◌↔◌, ◌*◌, ◌<◌, ◌^◌, ℕ, Bool, true, false, Err, List, Option, length}
+use Rattle.bolt_check.specs.Sound.{HasSoundTrees}
+use Rattle.bolt_format.specs.{declared.meta.Meta.Meta, declared.sink.Sink.Ghosts}
+use Rattle.bolt_layout.specs.declared.Layout.{Layout}
+use Rattle.bolt_text.specs.declared.forms.ListForm.{ListForm}
+use Rattle.bolt_tree.specs.Paths.{Path}
+use Rattle.bolt_commands.specs.Answers.{Answer, DoesJob, Ending, IsBucketsShown, IsKeysShown, IsListedAnswer, IsValueShown, MakesCopy, hash_refusal}
+use Rattle.bolt_commands.specs.{SnapshotAnswers.bad_hash, declared.failure.Failure.TheVariants.Memory}
+use Rattle.bolt_job.specs.MetaChoices.{IsMetaOf}
+use Rattle.bolt_job.specs.declared.bucket_commands.{BucketsJob.BucketsJob, GetJob.GetJob, KeysJob.KeysJob}
+use Rattle.bolt_job.specs.declared.choices.BucketsShown.TheVariants.{Names, Recovered}
+use Rattle.bolt_job.specs.declared.job.Job.{Job}
+use Rattle.bolt_job.specs.{declared.choices.Extent.Extent, declared.choices.MetaChoice.MetaChoice, declared.choices.PageSize.PageSize}
+use Rattle.bolt_job.specs.declared.choices.MetaChoice.TheVariants.{Active}
+
+-- a job does the same on one file as on the other
+abbrev pub DoesAlike : {O T : Type 0} (out : Ghosts O) (target : Ghosts T) → Job → (one other : List ℕ) → Type 0
+DoesAlike {O} {T} out target job one other = (out_old out_new : O) (target_old target_new : T) (ending : Ending)
+    → DoesJob out.taken out.failed out_old out_new target.taken target.failed target_old target_new one job ending
+    ↔ DoesJob out.taken out.failed out_old out_new target.taken target.failed target_old target_new other job ending
+
+-- ---- what is read of a file with sound trees
+
+-- This holds of a file under two choices of the same meta, with sound trees under it. The second choice isn't one under which the accounts count.
+abbrev pub UnderSoundTrees : (List ℕ → (wanted named : MetaChoice) → Type 0) → Type 0
+UnderSoundTrees P = (file : List ℕ) (meta : Meta) → HasSoundTrees file meta → (wanted named : MetaChoice) → IsMetaOf file wanted meta → IsMetaOf file named meta
+    → named ≢ Active → P file wanted named
+
+-- This holds of a file with sound trees under one choice of the meta, if no page number has more than sixteen digits.
+abbrev pub OfSoundTrees : (List ℕ → (wanted named : MetaChoice) → Type 0) → Type 0
+OfSoundTrees P = (file : List ℕ) (meta : Meta) → HasSoundTrees file meta → (choice : MetaChoice) → IsMetaOf file choice meta → length file < 10 ^ 16 * meta.page_size
+    → P file choice choice
+
+-- `list` prints the same to one extent under one choice as to the other under the other
+abbrev pub ListsAlike : (one other : Extent) → List ℕ → (wanted named : MetaChoice) → Type 0
+ListsAlike one other file wanted named = (form : ListForm) (path from : Path) (answer : Answer)
+    → IsListedAnswer one file wanted form path from answer ↔ IsListedAnswer other file named form path from answer
+
+-- and `compact` does the same, if the hash of a file that isn't right is refused to both extents or to none
+abbrev pub CopiesAlike : {O T : Type 0} (out : Ghosts O) (target : Ghosts T) → (one other : Extent) → List ℕ → (wanted named : MetaChoice) → Type 0
+CopiesAlike {O} {T} out target one other file wanted named =
+    (out_old out_new : O) (target_old target_new : T) (size : Option PageSize) (layout : Layout) (snapshot : Bool) (ending : Ending)
+    → hash_refusal one (bad_hash snapshot file) ≡ hash_refusal other (bad_hash snapshot file)
+    → MakesCopy out.taken out.failed out_old out_new target.taken target.failed target_old target_new file wanted size layout snapshot one ending
+    ↔ MakesCopy out.taken out.failed out_old out_new target.taken target.failed target_old target_new file named size layout snapshot other ending
+
+-- `keys`, `buckets` and `get` print with `--recover` what they print without it; of the first two, unless memory runs out
+abbrev pub KeysAlike : List ℕ → (wanted named : MetaChoice) → Type 0
+KeysAlike file wanted named = (job : KeysJob) (answer : Answer) → answer.ending ≢ Err Memory
+    → IsKeysShown true file wanted job answer ↔ IsKeysShown false file named job answer
+
+abbrev pub BucketsAlike : List ℕ → (wanted named : MetaChoice) → Type 0
+BucketsAlike file wanted named = (job : BucketsJob) (answer : Answer) → answer.ending ≢ Err Memory
+    → IsBucketsShown Recovered file wanted job answer ↔ IsBucketsShown Names file named job answer
+
+abbrev pub GetsAlike : List ℕ → (wanted named : MetaChoice) → Type 0
+GetsAlike file wanted named = (job : GetJob) (answer : Answer) → IsValueShown true file wanted job answer ↔ IsValueShown false file named job answer
