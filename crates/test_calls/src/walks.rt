@@ -32,12 +32,12 @@ pub fn put_listing(
     path: &[&[u8]],
     text: &mut Text,
 ) -> Result<(), Fault> {
-    let (form, below, from): (_, &[&[u8]], &[&[u8]]) = match verb {
-        "listed-json" => (ListForm::Json, &[], path),
-        "listed-json-hex" => (ListForm::JsonHex, &[], path),
-        _ => (ListForm::Hex, path, &[]),
-    };
-    Ok(list_part(alloc, checked, below, from, form, &mut text.sink)?)
+    let sink = &mut text.sink;
+    Ok(match verb {
+        "listed-json" => list_part(alloc, checked, &[], path, ListForm::Json, sink)?,
+        "listed-json-hex" => list_part(alloc, checked, &[], path, ListForm::JsonHex, sink)?,
+        _ => list_part(alloc, checked, path, &[], ListForm::Hex, sink)?,
+    })
 }
 
 /// What a walk returns, or how long it and its paths are (`depths`).
