@@ -50,4 +50,12 @@ cat "$sound" >"$folder/pipe" &
 timeout 10 "$program" check "$folder/pipe" >"$folder/out" 2>"$folder/err" || fail "a FIFO: wants OK"
 timeout 10 "$program" check /dev/stdin <"$sound" >"$folder/out" 2>"$folder/err" || fail "/dev/stdin: wants OK"
 cat "$sound" | timeout 10 "$program" check /dev/stdin >"$folder/out" 2>"$folder/err" || fail "a pipe: wants OK"
+
+# `info` reads no more of FILE than its metas need: nothing comes after them, and the FIFO stays open.
+size=$("$program" info "$sound" | sed -n 's/^page size //p')
+mkfifo "$folder/metas"
+(head -c $((size + 80)) "$sound" && exec sleep 20) >"$folder/metas" &
+timeout 10 "$program" info "$folder/metas" >"$folder/out" 2>"$folder/err" || fail "a FIFO with the metas alone: info waits for more"
+kill $!
+"$program" info "$sound" | cmp -s - "$folder/out" || fail "a FIFO with the metas alone: wants the lines of the file"
 echo "changes: all reported"

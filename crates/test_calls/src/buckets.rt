@@ -4,7 +4,7 @@ use crate::cursors;
 use crate::fault::{Fault, require};
 use crate::words::{Text, bytes_of};
 use bolt_check::Checked;
-use bolt_report::{Form, buckets, keys, value};
+use bolt_report::{Form, keys};
 use bolt_tree::{Bucket, Cursor, Walk};
 use std::alloc::{AllocError, Global};
 
@@ -31,26 +31,9 @@ pub fn put_bucket(
         "begins" => cursors::run_prefixes(alloc, bucket, words, text),
         "between" => calls_between(alloc, bucket, words, text),
         "keys" => Ok(keys(alloc, bucket, Form::Bytes, &mut text.sink)?),
-        "buckets" => Ok(buckets(alloc, bucket, Form::Bytes, &mut text.sink)?),
-        "got" => put_value(alloc, bucket, words, text),
         "moves" | "opens" | "compares" => cursors::run_calls(verb, alloc, bucket, words, text),
         _ => Err(Fault::UNREAD),
     }
-}
-
-/// The value of the key that is the one word, in JSON.
-fn put_value(
-    alloc: Global,
-    bucket: &Bucket<'_>,
-    words: &[String],
-    text: &mut Text,
-) -> Result<(), Fault> {
-    let [key] = words else {
-        return Err(Fault::UNREAD);
-    };
-    let key = bytes_of(alloc, key.as_str())?;
-    let held = bucket.get(key.as_slice()).ok_or(Fault::UNREAD)?;
-    Ok(value(alloc, held, Form::Json, &mut text.sink)?)
 }
 
 /// What is under each of the keys: a value, a bucket's sequence, or `-`.

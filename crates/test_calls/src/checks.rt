@@ -60,9 +60,6 @@ fn put_on(
         ("walk" | "again" | "depths" | "listed", _) => {
             walks::put_from(verb, alloc, checked, path, text)
         }
-        ("listed-json" | "listed-json-hex" | "part", _) => {
-            walks::put_listing(verb, alloc, checked, path, text)
-        }
         _ => {
             let bucket = buckets::bucket_at(checked, path)?;
             buckets::put_bucket(verb, alloc, &bucket, words, text)

@@ -11,10 +11,10 @@
 //! | `enters PATH KEY ..` | the sequence of the bucket that a cursor is on after a seek of each key |
 //! | `walk PATH` | the line of each member of a walk |
 //! | `depths PATH` | how many items a walk returns, and how many keys its longest path and all paths have |
-//! | `listed PATH`, `listed-json PATH`, `listed-json-hex PATH` | what `list` writes from a path, in each form |
-//! | `part PATH` | what it writes of the part below a path |
-//! | `keys PATH`, `buckets PATH` | the keys of a bucket, and those of its buckets |
-//! | `got PATH KEY` | the value of a key, in JSON |
+//! | `listed PATH`, `keys PATH` | what `list` writes from a path, and `keys` of a bucket |
+//! | `print keys FORM PATH PREFIX` | the keys of a bucket that begin so, in a form: `printable`, `hex` or `json` |
+//! | `print buckets FORM PATH`, `print value FORM PATH KEY` | the keys of its buckets, and a value |
+//! | `print list FORM PATH`, `print part FORM PATH` | what `list` writes from a path and of the part below it: `hex`, `json` or `json-hex` |
 //! | `loaded` | the line of each member that the file tells, which is the text of a listing |
 //! | `plan LAYOUT SIZE` | the root page and the high-water mark of a copy |
 //! | `copy LAYOUT SIZE` | the bytes of a copy, those that were accepted, and the items held at one time |
@@ -45,6 +45,7 @@ mod fault;
 mod log;
 mod memory;
 mod pagers;
+mod prints;
 mod runs;
 mod sinks;
 mod sweeps;
@@ -52,13 +53,16 @@ mod walks;
 mod words;
 
 use bolt_check::check;
-use bolt_format::Sink;
+use bolt_format::{Sink, WriteSink};
 use fault::Fault;
-use std::io::Write;
+use std::io::{BufWriter, Write};
 use std::process::ExitCode;
 use std::{env, fs, io};
 use sweeps::Sweep;
 use words::{Input, Text};
+
+/// The number of bytes of output that are gathered before they are written, as in the program.
+const GATHERED: usize = 1 << 16;
 
 fn main(rt: HostRuntime) -> ExitCode {
     match print_result(&rt) {
@@ -92,6 +96,7 @@ fn print_call(rt: &HostRuntime, words: &[String]) -> Result<u8, Fault> {
     match verb.as_str() {
         "cuts" => print_sweep(rt, Sweep::Cuts, input),
         "changes" => print_sweep(rt, Sweep::Changes, input),
+        "print" => print_straight(rt, input),
         verb => print_text(rt, verb, input),
     }
 }
@@ -105,6 +110,15 @@ fn print_sweep(rt: &HostRuntime, sweep: Sweep, input: Input<'_>) -> Result<u8, F
         fs::write(rt, "OUT", ran.target.bytes())?;
     }
     Ok(ran.code)
+}
+
+/// Prints as the program does what a call writes, and returns the status.
+fn print_straight(rt: &HostRuntime, input: Input<'_>) -> Result<u8, Fault> {
+    let checked = check(input.alloc, input.file)?;
+    let mut sink = WriteSink::new(BufWriter::with_capacity(rt.alloc(), GATHERED, rt.stdout())?);
+    prints::put_call(checked, input, &mut sink)?;
+    sink.into_inner().flush()?;
+    Ok(0)
 }
 
 /// Prints the text of another verb, and returns the status.

@@ -3,7 +3,7 @@
 use crate::fault::{Fault, require};
 use crate::words::Text;
 use bolt_check::Checked;
-use bolt_report::{ListForm, MemberLines, ReportFault, list, list_members_part, list_part};
+use bolt_report::{ListForm, MemberLines, ReportFault, list, list_members_part};
 use bolt_tree::{Members, NoMemory, Walk};
 use std::alloc::Global;
 
@@ -22,22 +22,6 @@ pub fn put_from(
         "listed" => Ok(list(alloc, checked, path, &mut text.sink)?),
         _ => put_walk(verb, Walk::from(alloc, checked, path)?, text),
     }
-}
-
-/// The listing from a path in one of the other forms, or the part below the path (`part`).
-pub fn put_listing(
-    verb: &str,
-    alloc: Global,
-    checked: Checked<'_>,
-    path: &[&[u8]],
-    text: &mut Text,
-) -> Result<(), Fault> {
-    let (form, below, from): (_, &[&[u8]], &[&[u8]]) = match verb {
-        "listed-json" => (ListForm::Json, &[], path),
-        "listed-json-hex" => (ListForm::JsonHex, &[], path),
-        _ => (ListForm::Hex, path, &[]),
-    };
-    Ok(list_part(alloc, checked, below, from, form, &mut text.sink)?)
 }
 
 /// What a walk returns, or how long it and its paths are (`depths`).
