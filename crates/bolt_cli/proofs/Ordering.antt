@@ -1,89 +1,138 @@
 -- Each run does its deeds in order.
-use Rattle.std.proofs.Common.{◌≡◌, ◌≢◌, inl, inr, arith, ℕ, zero, suc, List, [], ◌∷◌, Bool, true, false, Option, Some, None, Ok, Err}
-use Rattle.bolt_cli.proofs.Vocabulary.{Choose, Closed, Closes, WritesOut, Deed, Ended, Ending, Ends, Fails, FailsNaming, Goes, IsReported, IsRun, Job, Made, Opened, PrintsText}
-use Rattle.bolt_cli.proofs.Vocabulary.{PrintsBuffered, Read, Reads, Refusal, Refuses, Said, Text, is_again, string_bytes, target_name}
-use Rattle.bolt_cli.specs.Orders.{Copied, Copying, Failing, IsInOrder, Printed, Printing, Reading}
+use Rattle.std.proofs.Common.{◌≡◌, ◌≢◌, inl, inr, arith, ℕ, zero, suc, List, [], ◌∷◌, Bool, true, false, Option, Some, None, Ok, Err, refl, rules}
+use Rattle.bolt_cli.proofs.Vocabulary.{Choose, Closed, Closes, Deed, Ended, Ending, Ends, Fails, FailsNaming, Ghosts, Goes, IsReported, Job, Made, Opened, PrintsBuffered, PrintsText, Read, Reads, Refusal, Refuses, Said, Shows, Text, WritesOut, is_again, string_bytes, target_name}
+use Rattle.bolt_cli.specs.Orders.{ForEachRun}
+use Rattle.bolt_cli.proofs.Sentences.{IsOrdered, MakesOfRead}
 use Rattle.bolt_job.specs.declared.refusal.Refusal.TheVariants as refusal
 use Rattle.bolt_cli.specs.{declared.outside.OutputFault.TheVariants.ReaderLeft, declared.outside.OutputFault.TheVariants.Failed, declared.outside.Source.Source}
+
+-- ---- what is left to do
+
+-- a failure is said
+abbrev IsSaid : {T O : Type 0} → List (Deed T O) → ℕ → Type 0
+IsSaid (Said text ∷ []) code = code ≢ 0
+IsSaid deeds code = ⊥
+
+-- this is in order, by itself and once OUT is on the disk
+abbrev Prints : {T O : Type 0} → List (Deed T O) → ℕ → Type 0
+Prints {T} deeds code = (IsOrdered deeds code × MakesOfRead deeds)
+    × ((name : List ℕ) (permissions : ℕ) (target ended : T) (done : Unit {0}) → IsOrdered (Made name permissions (Ok target) ∷ Ended ended (Ok done) ∷ deeds) code)
 
 not_0 : (code : ℕ) → code ≡ 1 → code ≢ 0
 not_0 code is none = omega (arith, is, none)
 
-Fails-ordered : {T O : Type 0} (line : List ℕ) (deeds : List (Deed T O)) (code : ℕ) → Fails line deeds code → IsInOrder Failing deeds code
-Fails-ordered line (Said text ∷ []) code (is, failed) = not_0 code failed
-Fails-ordered line deeds code fails = absurd fails.0
+module _ {T O : Type 0} where
+  Ends-said : (line : List ℕ) (deeds : List (Deed T O)) (code : ℕ) → Ends line deeds → code ≢ 0 → IsSaid deeds code
+  Ends-said line (Said text ∷ []) code is some = some
+  Ends-said line deeds code is some = absurd is
 
-FailsNaming-ordered : {T O : Type 0} (line : List ℕ) (deeds : List (Deed T O)) (code : ℕ) → FailsNaming line deeds code → IsInOrder Failing deeds code
-FailsNaming-ordered line deeds code (inl fails) = Fails-ordered line deeds code fails
-FailsNaming-ordered line deeds code (inr fails) = Fails-ordered _ deeds code fails
+  Fails-said : (line : List ℕ) (deeds : List (Deed T O)) (code : ℕ) → Fails line deeds code → IsSaid deeds code
+  Fails-said line deeds code (is, failed) = Ends-said line deeds code is (not_0 code failed)
 
-IsReported-ordered : {T O : Type 0} (ending : Ending) (deeds : List (Deed T O)) (code : ℕ) → IsReported ending deeds code → IsInOrder Printed deeds code
-IsReported-ordered (Ok status) [] code are = tt
-IsReported-ordered (Err failure) (Said text ∷ []) code are = not_0 code are.1
-IsReported-ordered ending deeds code are = absurd are
+  FailsNaming-said : (line : List ℕ) (deeds : List (Deed T O)) (code : ℕ) → FailsNaming line deeds code → IsSaid deeds code
+  FailsNaming-said line deeds code (inl fails) = Fails-said line deeds code fails
+  FailsNaming-said line deeds code (inr fails) = Fails-said _ deeds code fails
+
+  said : (deeds : List (Deed T O)) (code : ℕ) → IsSaid deeds code → Prints deeds code
+  said (Said text ∷ []) code some = search rules
+  said deeds code is = absurd is
+
+  unopened : (fault : _) (deeds : List (Deed T O)) (code : ℕ) → IsSaid deeds code → Prints (Opened (Err fault) ∷ deeds) code
+  unopened fault (Said text ∷ []) code some = search rules
+  unopened fault deeds code is = absurd is
+
+  unprinted : (before output : O) (deeds : List (Deed T O)) (code : ℕ) → IsSaid deeds code → Prints (Opened (Ok before) ∷ Closed output (Err Failed) ∷ deeds) code
+  unprinted before output (Said text ∷ []) code some = search rules
+  unprinted before output deeds code is = absurd is
+
+  reader_left : (before output : O) (deeds : List (Deed T O)) (code : ℕ) → deeds ≡ [] → code ≢ 0 → Prints (Opened (Ok before) ∷ Closed output (Err ReaderLeft) ∷ deeds) code
+  reader_left before output [] code none some = search rules
+  reader_left before output (deed ∷ deeds) code none some = absurd (cc)
+
+  reported : (before output : O) (done : Unit {0}) (ending : Ending) (deeds : List (Deed T O)) (code : ℕ) → IsReported ending deeds code
+      → Prints (Opened (Ok before) ∷ Closed output (Ok done) ∷ deeds) code
+  reported before output done (Ok status) [] code is = search rules
+  reported before output done (Err failure) (Said text ∷ []) code is = let some = not_0 code is.1 in search rules
+  reported before output done ending deeds code is = absurd is
+
+  unended : (name : List ℕ) (permissions : ℕ) (target ended : T) (fault : _) (deeds : List (Deed T O)) (code : ℕ) → IsSaid deeds code
+      → IsOrdered (Made name permissions (Ok target) ∷ Ended ended (Err fault) ∷ deeds) code
+  unended name permissions target ended fault (Said text ∷ []) code some = search rules
+  unended name permissions target ended fault deeds code is = absurd is
+
+  unmade : (name : List ℕ) (permissions : ℕ) (fault : _) (deeds : List (Deed T O)) (code : ℕ) → IsSaid deeds code → IsOrdered (Made name permissions (Err fault) ∷ deeds) code
+  unmade name permissions fault (Said text ∷ []) code some = search rules
+  unmade name permissions fault deeds code is = absurd is
+
+  unread : (name : List ℕ) (metas_alone : Bool) (fault : _) (deeds : List (Deed T O)) (code : ℕ) → IsSaid deeds code
+      → IsOrdered (Read name metas_alone (Err fault) ∷ deeds) code × MakesOfRead (Read name metas_alone (Err fault) ∷ deeds)
+  unread name metas_alone fault (Said text ∷ []) code some = search rules
+  unread name metas_alone fault deeds code is = absurd is
+
+  read : (name : List ℕ) (metas_alone : Bool) (source : Source) (deeds : List (Deed T O)) (code : ℕ) → IsOrdered deeds code
+      → IsOrdered (Read name metas_alone (Ok source) ∷ deeds) code
+  read name metas_alone source deeds code is = search rules
+
+-- ---- from the last stage of a run to the first
+
+Choose-either : (again : Bool) {A B C : Type 0} → (A → C) → (B → C) → Choose again A B → C
+Choose-either true first second chosen = first chosen
+Choose-either false first second chosen = second chosen
 
 module _ {T O : Type 0} (output_taken : O → Option (List ℕ)) (output_failed : O → ℕ) where
-  Closes-ordered : (after : O) (ending : Ending) (deeds : List (Deed T O)) (code : ℕ) → Closes output_taken output_failed after ending deeds code
-      → IsInOrder Printing deeds code
-  Closes-ordered after ending (Closed output (Ok done) ∷ deeds) code are = IsReported-ordered ending deeds code are.2
-  Closes-ordered after ending (Closed output (Err ReaderLeft) ∷ deeds) code (is, (none, failed)) = (none, not_0 code failed)
-  Closes-ordered after ending (Closed output (Err Failed) ∷ deeds) code are = Fails-ordered _ deeds code are.1
-  Closes-ordered after ending deeds code are = absurd are
+  closes : (before after : O) (ending : Ending) (deeds : List (Deed T O)) (code : ℕ) → Closes output_taken output_failed after ending deeds code → Prints (Opened (Ok before) ∷ deeds) code
+  closes before after ending (Closed output (Ok done) ∷ deeds) code are = reported before output done ending deeds code are.2
+  closes before after ending (Closed output (Err ReaderLeft) ∷ deeds) code (is, (none, failed)) = reader_left before output deeds code none (not_0 code failed)
+  closes before after ending (Closed output (Err Failed) ∷ deeds) code are = unprinted before output deeds code (Fails-said _ deeds code are.1)
+  closes before after ending deeds code are = absurd are
 
-  PrintsText-ordered : (text : List ℕ) (ending : Ending) (deeds : List (Deed T O)) (code : ℕ) → PrintsText output_taken output_failed text ending deeds code
-      → IsInOrder Reading deeds code × IsInOrder Copied deeds code
-  PrintsText-ordered text ending (Opened (Ok before) ∷ deeds) code (empty, after, takes, closes) = let is = Closes-ordered after ending deeds code closes in (is, is)
-  PrintsText-ordered text ending (Opened (Err fault) ∷ deeds) code are = let is = Fails-ordered _ deeds code are in (is, is)
-  PrintsText-ordered text ending deeds code are = absurd are
+  prints : (text : List ℕ) (ending : Ending) (deeds : List (Deed T O)) (code : ℕ) → PrintsText output_taken output_failed text ending deeds code → Prints deeds code
+  prints text ending (Opened (Ok before) ∷ deeds) code (empty, after, takes, is) = closes before after ending deeds code is
+  prints text ending (Opened (Err fault) ∷ deeds) code are = unopened fault deeds code (Fails-said _ deeds code are)
+  prints text ending deeds code are = absurd are
 
-  Buffered-ordered : (failures : ℕ) (text : List ℕ) (ending : Ending) (deeds : List (Deed T O)) (code : ℕ)
-      → PrintsBuffered output_taken output_failed failures text ending deeds code → IsInOrder Copied deeds code
-  Buffered-ordered zero text ending deeds code are = (PrintsText-ordered text ending deeds code are).1
-  Buffered-ordered (suc more) text ending (Said said ∷ []) code (is, failed) = not_0 code failed
-  Buffered-ordered (suc more) text ending deeds code are = absurd are.0
+  shows : (file : List ℕ) (job : Job) (deeds : List (Deed T O)) (code : ℕ) → Shows output_taken output_failed file job deeds code → Prints deeds code
+  shows file job (Opened (Ok before) ∷ deeds) code (empty, after, ending, does, is) = closes before after ending deeds code is
+  shows file job (Opened (Err fault) ∷ deeds) code are = unopened fault deeds code (Fails-said _ deeds code are)
+  shows file job deeds code are = absurd are
+
+  prints_buffered : (failures : ℕ) (text : List ℕ) (ending : Ending) (deeds : List (Deed T O)) (code : ℕ)
+      → PrintsBuffered output_taken output_failed failures text ending deeds code → Prints deeds code
+  prints_buffered zero text ending deeds code are = prints text ending deeds code are
+  prints_buffered (suc more) text ending deeds code are = said deeds code (Fails-said _ deeds code are)
 
 module _ {T O : Type 0} (target_taken : T → Option (List ℕ)) (target_failed : T → ℕ) (output_taken : O → Option (List ℕ)) (output_failed : O → ℕ) where
-  WritesOut-ordered : (before : T) (file : List ℕ) (job : Job) (deeds : List (Deed T O)) (code : ℕ)
-      → WritesOut target_taken target_failed output_taken output_failed before file job deeds code → IsInOrder Copying deeds code
-  WritesOut-ordered before file job (Ended after (Ok done) ∷ deeds) code (buffered, ending, does, ends) =
-      Buffered-ordered output_taken output_failed buffered.failures buffered.text ending deeds code ends
-  WritesOut-ordered before file job (Ended after (Err fault) ∷ deeds) code (buffered, ending, does, (line, is, fails)) = Fails-ordered line deeds code fails
-  WritesOut-ordered before file job deeds code are = absurd are
+  writes : (name : List ℕ) (permissions : ℕ) (target : T) (file : List ℕ) (job : Job) (deeds : List (Deed T O)) (code : ℕ)
+      → WritesOut target_taken target_failed output_taken output_failed target file job deeds code → IsOrdered (Made name permissions (Ok target) ∷ deeds) code
+  writes name permissions target file job (Ended after (Ok done) ∷ deeds) code (buffered, ending, does, are) =
+      (prints_buffered output_taken output_failed buffered.failures buffered.text ending deeds code are).1 name permissions target after done
+  writes name permissions target file job (Ended after (Err fault) ∷ deeds) code (buffered, ending, does, (line, is, fails)) =
+      unended name permissions target after fault deeds code (Fails-said line deeds code fails)
+  writes name permissions target file job deeds code are = absurd are
 
-  Goes-ordered : (target : Option Text) (source : Source) (job : Job) (deeds : List (Deed T O)) (code : ℕ)
-      → Goes target_taken target_failed output_taken output_failed target source job deeds code → IsInOrder Reading deeds code
-  Goes-ordered (Some out) source job (Made name permissions (Ok target) ∷ deeds) code (is, bits, empty, copies) = WritesOut-ordered target source.bytes.items job deeds code copies
-  Goes-ordered (Some out) source job (Made name permissions (Err fault) ∷ deeds) code (is, bits, fails) = FailsNaming-ordered _ deeds code fails
-  Goes-ordered None source job (Opened (Ok before) ∷ deeds) code (empty, after, ending, does, closes) = Closes-ordered output_taken output_failed after ending deeds code closes
-  Goes-ordered None source job (Opened (Err fault) ∷ deeds) code are = Fails-ordered _ deeds code are
-  Goes-ordered target source job deeds code are = absurd are
+  goes : (out : Option Text) (source : Source) (job : Job) (deeds : List (Deed T O)) (code : ℕ)
+      → Goes target_taken target_failed output_taken output_failed out source job deeds code → IsOrdered deeds code
+  goes (Some out) source job (Made name permissions (Ok target) ∷ deeds) code (is, bits, empty, are) = writes name permissions target source.bytes.items job deeds code are
+  goes (Some out) source job (Made name permissions (Err fault) ∷ deeds) code (is, bits, fails) = unmade name permissions fault deeds code (FailsNaming-said _ deeds code fails)
+  goes (Some out) source job deeds code are = absurd are
+  goes None source job deeds code are = (shows output_taken output_failed source.bytes.items job deeds code are).0.0
 
-  Choose-either : (again : Bool) {A B C : Type 0} → (A → C) → (B → C) → Choose again A B → C
-  Choose-either true first second chosen = first chosen
-  Choose-either false first second chosen = second chosen
+  reads : (left : ℕ) (job : Job) (deeds : List (Deed T O)) (code : ℕ)
+      → Reads target_taken target_failed output_taken output_failed left job deeds code → IsOrdered deeds code × MakesOfRead deeds
+  reads zero job deeds code fails = (said deeds code (Fails-said _ deeds code fails)).0
+  reads (suc left) job (Read name metas_alone (Ok source) ∷ deeds) code (is, alone, are) =
+      let later = Choose-either (is_again job source) (λ again. (reads left job deeds code again).0) (goes (target_name job) source job deeds code) are in
+      (read name metas_alone source deeds code later, (refl, tt))
+  reads (suc left) job (Read name metas_alone (Err fault) ∷ deeds) code (is, alone, fails) = unread name metas_alone fault deeds code (FailsNaming-said _ deeds code fails)
+  reads (suc left) job deeds code are = absurd are
 
-  Reads-ordered : (left : ℕ) (job : Job) (deeds : List (Deed T O)) (code : ℕ)
-      → Reads target_taken target_failed output_taken output_failed left job deeds code → IsInOrder Reading deeds code
-  Reads-ordered zero job (Said text ∷ []) code (is, failed) = not_0 code failed
-  Reads-ordered zero job deeds code are = absurd are.0
-  Reads-ordered (suc left) job (Read name metas_alone (Ok source) ∷ deeds) code (is, alone, goes) =
-      Choose-either (is_again job source) (Reads-ordered left job deeds code) (Goes-ordered (target_name job) source job deeds code) goes
-  Reads-ordered (suc left) job (Read name metas_alone (Err fault) ∷ deeds) code (is, alone, fails) = FailsNaming-ordered _ deeds code fails
-  Reads-ordered (suc left) job deeds code are = absurd are
+  refuses : (why : Refusal) (deeds : List (Deed T O)) (code : ℕ) → Refuses target_taken target_failed output_taken output_failed why deeds code → Prints deeds code
+  refuses refusal.Memory deeds code fails = said deeds code (Fails-said _ deeds code fails)
+  refuses (refusal.Help text) deeds code are = prints output_taken output_failed (string_bytes text) (Ok 0) deeds code are
+  refuses (refusal.Version text) deeds code are = prints output_taken output_failed (string_bytes text) (Ok 0) deeds code are
+  refuses (refusal.Usage text) deeds code (is, refused) = said deeds code (Ends-said _ deeds code is (λ none. omega (arith, refused, none)))
+  refuses (refusal.Word why) deeds code (is, refused) = said deeds code (Ends-said _ deeds code is (λ none. omega (arith, refused, none)))
 
-  Ends-ordered : (line : List ℕ) (deeds : List (Deed T O)) (code : ℕ) → Ends line deeds → code ≢ 0 → IsInOrder Reading deeds code
-  Ends-ordered line (Said text ∷ []) code is some = some
-  Ends-ordered line deeds code is some = absurd is
-
-  Refuses-ordered : (why : Refusal) (deeds : List (Deed T O)) (code : ℕ)
-      → Refuses target_taken target_failed output_taken output_failed why deeds code → IsInOrder Reading deeds code
-  Refuses-ordered refusal.Memory deeds code (is, failed) = Ends-ordered _ deeds code is (not_0 code failed)
-  Refuses-ordered (refusal.Help text) deeds code are = (PrintsText-ordered output_taken output_failed (string_bytes text) (Ok 0) deeds code are).0
-  Refuses-ordered (refusal.Version text) deeds code are = (PrintsText-ordered output_taken output_failed (string_bytes text) (Ok 0) deeds code are).0
-  Refuses-ordered (refusal.Usage text) deeds code (is, refused) = Ends-ordered _ deeds code is (λ none. omega (arith, refused, none))
-  Refuses-ordered (refusal.Word why) deeds code (is, refused) = Ends-ordered _ deeds code is (λ none. omega (arith, refused, none))
-
-  pub IsRun-ordered : (words : List Text) (deeds : List (Deed T O)) (code : ℕ)
-      → IsRun target_taken target_failed output_taken output_failed words deeds code → IsInOrder Reading deeds code
-  IsRun-ordered words deeds code (inl (job, asks, reads)) = Reads-ordered 3 job deeds code reads
-  IsRun-ordered words deeds code (inr (why, is, refuses)) = Refuses-ordered why deeds code refuses
+pub run_ordered : {T O : Type 0} (target : Ghosts T) (output : Ghosts O) → ForEachRun target output (λ deeds code. IsOrdered deeds code × MakesOfRead deeds)
+run_ordered target output words deeds code (inl (job, asks, are)) = reads target.taken target.failed output.taken output.failed 3 job deeds code are
+run_ordered target output words deeds code (inr (why, is, are)) = (refuses target.taken target.failed output.taken output.failed why deeds code are).0

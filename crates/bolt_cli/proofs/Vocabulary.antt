@@ -1,6 +1,6 @@
 -- The words that the proofs of this crate cite, passed on from the modules that define them.
 pub use Rattle.bolt_cli.specs.Deeds.{Adds, Closed, Deed, Ended, Made, Opened, Read, Said}
-pub use Rattle.bolt_cli.specs.Runs.{Choose, Closes, WritesOut, Ends, Fails, FailsNaming, Goes, IsBufferedLine, IsReported, IsRun, PrintsText, PrintsBuffered, Reads, Refuses, error_line}
+pub use Rattle.bolt_cli.specs.Runs.{Choose, Closes, WritesOut, Ends, Fails, FailsNaming, Goes, IsBufferedLine, IsReported, IsRun, PrintsText, PrintsBuffered, Reads, Refuses, Shows, error_line}
 pub use Rattle.bolt_cli.specs.Runs.{buffered_failures, buffered_of, buffered_text, is_again}
 pub use Rattle.bolt_commands.specs.Answers.{Answer, CopiesUnless, Does, DoesJob, Ending, MakesCopy, WritesCopy, copy_page_size, copy_report, Reports, done, hash_refusal, lengths_line}
 pub use Rattle.bolt_commands.specs.Answers.{status_of}

@@ -1,43 +1,124 @@
--- The order of the deeds of a run, whatever its words and its job are.
-use Rattle.std.specs.Prelude.{◌≡◌, ◌≢◌, ℕ, List, [], ◌∷◌, Ok, Err}
+-- The order of the deeds of a run, whatever its words and its job are: a definition for each sentence.
+use Rattle.std.specs.Prelude.{◌≡◌, ◌≤◌, ℕ, List, [], ◌∷◌, ◌++◌, Bool, true, false, IsTrue, not, Ok, Err, length}
+use Rattle.std.specs.List.{filter, list_any}
 use Rattle.bolt_cli.specs.Deeds.{Deed, Read, Made, Ended, Opened, Closed, Said}
-use Rattle.bolt_cli.specs.declared.outside.OutputFault.TheVariants.{ReaderLeft, Failed}
+use Rattle.bolt_cli.specs.Runs.{IsRun}
+use Rattle.bolt_cli.specs.declared.outside.OutputFault.TheVariants.{ReaderLeft}
+use Rattle.bolt_format.specs.declared.sink.Sink.{Ghosts}
+use Rattle.bolt_job.specs.LineWords.{Text}
 
--- how far a run is
-pub data Stage : Type 0 where
-  -- FILE may be read, and nothing else has been done
-  Reading : Stage
-  -- there is an OUT that isn't on the disk
-  Copying : Stage
+-- ---- kinds of deeds: what was asked for, and how it went
+
+module _ {T O : Type 0} where
+  abbrev pub is_read : Deed T O → Bool
+  is_read (Read name metas_alone result) = true
+  is_read deed = false
+
+  abbrev pub is_made : Deed T O → Bool
+  is_made (Made name permissions result) = true
+  is_made deed = false
+
+  abbrev pub is_opened : Deed T O → Bool
+  is_opened (Opened result) = true
+  is_opened deed = false
+
+  abbrev pub is_said : Deed T O → Bool
+  is_said (Said text) = true
+  is_said deed = false
+
+  -- FILE was read
+  abbrev pub was_read : Deed T O → Bool
+  was_read (Read name metas_alone (Ok source)) = true
+  was_read deed = false
+
+  -- there is an OUT now
+  abbrev pub was_made : Deed T O → Bool
+  was_made (Made name permissions (Ok target)) = true
+  was_made deed = false
+
   -- OUT is on the disk
-  Copied : Stage
-  -- standard output is open
-  Printing : Stage
-  -- all is printed
-  Printed : Stage
-  -- something failed
-  Failing : Stage
+  abbrev pub was_ended : Deed T O → Bool
+  was_ended (Ended target (Ok done)) = true
+  was_ended deed = false
 
--- From this stage on the run does these deeds. FILE is read before anything else. OUT is made at most once, and standard output is opened
--- at most once, and never while there is an OUT that isn't on the disk. At most one text goes to standard error, and it comes last; there is
--- none if a reader has left. The status is 0 only if all went well.
-abbrev pub IsInOrder : {T O : Type 0} → Stage → List (Deed T O) → ℕ → Type 0
-IsInOrder Reading (Read name metas_alone (Ok source) ∷ deeds) code = IsInOrder Reading deeds code
-IsInOrder Reading (Read name metas_alone (Err fault) ∷ deeds) code = IsInOrder Failing deeds code
-IsInOrder Reading (Made name permissions (Ok target) ∷ deeds) code = IsInOrder Copying deeds code
-IsInOrder Reading (Made name permissions (Err fault) ∷ deeds) code = IsInOrder Failing deeds code
-IsInOrder Reading (Opened (Ok output) ∷ deeds) code = IsInOrder Printing deeds code
-IsInOrder Reading (Opened (Err fault) ∷ deeds) code = IsInOrder Failing deeds code
-IsInOrder Reading (Said text ∷ []) code = code ≢ 0
-IsInOrder Copying (Ended target (Ok done) ∷ deeds) code = IsInOrder Copied deeds code
-IsInOrder Copying (Ended target (Err fault) ∷ deeds) code = IsInOrder Failing deeds code
-IsInOrder Copied (Opened (Ok output) ∷ deeds) code = IsInOrder Printing deeds code
-IsInOrder Copied (Opened (Err fault) ∷ deeds) code = IsInOrder Failing deeds code
-IsInOrder Copied (Said text ∷ []) code = code ≢ 0
-IsInOrder Printing (Closed output (Ok done) ∷ deeds) code = IsInOrder Printed deeds code
-IsInOrder Printing (Closed output (Err ReaderLeft) ∷ deeds) code = (deeds ≡ []) × (code ≢ 0)
-IsInOrder Printing (Closed output (Err Failed) ∷ deeds) code = IsInOrder Failing deeds code
-IsInOrder Printed [] code = Unit {0}
-IsInOrder Printed (Said text ∷ []) code = code ≢ 0
-IsInOrder Failing (Said text ∷ []) code = code ≢ 0
-IsInOrder stage deeds code = ⊥
+  -- the reader of standard output has left
+  abbrev pub has_no_reader : Deed T O → Bool
+  has_no_reader (Closed output (Err ReaderLeft)) = true
+  has_no_reader deed = false
+
+  abbrev pub has_failed : Deed T O → Bool
+  has_failed (Read name metas_alone (Err fault)) = true
+  has_failed (Made name permissions (Err fault)) = true
+  has_failed (Ended target (Err fault)) = true
+  has_failed (Opened (Err fault)) = true
+  has_failed (Closed output (Err fault)) = true
+  has_failed deed = false
+
+-- ---- where deeds of a kind are in a list
+
+module _ {D : Type 0} where
+  abbrev pub HasNone : (is_kind : D → Bool) → List D → Type 0
+  HasNone is_kind deeds = filter is_kind deeds ≡ []
+
+  abbrev pub HasAtMostOne : (is_kind : D → Bool) → List D → Type 0
+  HasAtMostOne is_kind deeds = length (filter is_kind deeds) ≤ 1
+
+  -- after each deed of the kind, those that follow are so
+  abbrev pub AfterEach : (is_kind : D → Bool) → (List D → Type 0) → List D → Type 0
+  AfterEach is_kind Are deeds = (before : List D) (deed : D) (after : List D) → deeds ≡ before ++ deed ∷ after → IsTrue (is_kind deed) → Are after
+
+  -- before each deed of the kind, there is one of the other kind
+  abbrev pub BeforeEach : (is_kind is_other : D → Bool) → List D → Type 0
+  BeforeEach is_kind is_other deeds =
+      (before : List D) (deed : D) (after : List D) → deeds ≡ before ++ deed ∷ after → IsTrue (is_kind deed) → IsTrue (list_any is_other before)
+
+-- ---- the sentences
+
+module _ {T O : Type 0} where
+  -- If FILE is read, it is read before anything else is done, and not again if that failed.
+  abbrev pub ReadsFirst : List (Deed T O) → Type 0
+  ReadsFirst = AfterEach (λ deed. not (was_read deed)) (HasNone is_read)
+
+  -- OUT isn't made before FILE was read.
+  abbrev pub MakesAfterReading : List (Deed T O) → Type 0
+  MakesAfterReading = BeforeEach is_made was_read
+
+  -- OUT is made at most once.
+  abbrev pub MakesOnce : List (Deed T O) → Type 0
+  MakesOnce = HasAtMostOne is_made
+
+  -- Standard output is opened at most once.
+  abbrev pub OpensOnce : List (Deed T O) → Type 0
+  OpensOnce = HasAtMostOne is_opened
+
+  -- If there is an OUT, it is on the disk before standard output is opened.
+  abbrev pub CopiesBeforeOpening : List (Deed T O) → Type 0
+  CopiesBeforeOpening = AfterEach was_made (BeforeEach is_opened was_ended)
+
+  -- At most one text goes to standard error, and it comes last.
+  abbrev pub SaysLast : List (Deed T O) → Type 0
+  SaysLast = AfterEach is_said (λ after. after ≡ [])
+
+  -- After something failed, nothing is done but to say so.
+  abbrev pub StopsAfterFailures : List (Deed T O) → Type 0
+  StopsAfterFailures = AfterEach has_failed (HasNone (λ deed. not (is_said deed)))
+
+  -- After a reader has left, nothing is done or said.
+  abbrev pub StopsWithoutReader : List (Deed T O) → Type 0
+  StopsWithoutReader = AfterEach has_no_reader (λ after. after ≡ [])
+
+  -- The status is 0 only if nothing failed, and nothing was said.
+  abbrev pub SucceedsOnlyWithoutFailures : List (Deed T O) → ℕ → Type 0
+  SucceedsOnlyWithoutFailures deeds code = code ≡ 0 → HasNone has_failed deeds × HasNone is_said deeds
+
+-- ---- of which runs they are said
+
+module _ {T O : Type 0} (target : Ghosts T) (output : Ghosts O) where
+  -- this holds of the deeds of each run and its status
+  abbrev pub ForEachRun : (List (Deed T O) → ℕ → Type 0) → Type 0
+  ForEachRun Holds =
+      (words : List Text) (deeds : List (Deed T O)) (code : ℕ) → IsRun target.taken target.failed output.taken output.failed words deeds code → Holds deeds code
+
+  -- this holds of the deeds of each run
+  abbrev pub ForDeeds : (List (Deed T O) → Type 0) → Type 0
+  ForDeeds Holds = ForEachRun (λ deeds code. Holds deeds)

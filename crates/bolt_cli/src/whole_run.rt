@@ -1,7 +1,8 @@
 //! A whole run of the program: from its words to its status. And a law: its deeds are in order.
 ghost use Rattle.std.specs.Prelude.{◌≡◌, ◌<◌, ◌++◌, ℕ, List, None, Some, codes, map, string_bytes};
 ghost use Rattle.bolt_commands.specs.{Answers.Ending, Failures.failure_line};
-ghost use Rattle.bolt_cli.specs.{Deeds.Deed, Deeds.joined, Orders.IsInOrder, Orders.Reading};
+ghost use Rattle.bolt_cli.specs.{Deeds.Deed, Deeds.joined, Orders.ForDeeds, Orders.ForEachRun};
+ghost use Rattle.bolt_cli.specs.Orders.{CopiesBeforeOpening, MakesAfterReading, MakesOnce, OpensOnce, ReadsFirst, SaysLast, StopsAfterFailures, StopsWithoutReader, SucceedsOnlyWithoutFailures};
 ghost use Rattle.bolt_job.specs.Jobs.{target_name};
 ghost use Rattle.bolt_cli.specs.Names.{shown_name};
 ghost use Rattle.bolt_cli.specs.Runs.{Closes, WritesOut, Fails, FailsNaming, Goes, IsEnded, IsBufferedLine, IsRun, Makes, PrintsText, Reads, Refuses, Shows, ForBuffered, FailsUnended};
@@ -273,12 +274,15 @@ fn fail_naming<O: Outside>(outside: &mut O, alloc: Global, words: &[u8], name: &
     }
 }
 
-/// A run does its deeds in order. FILE is read before anything else. OUT is made at most once, and
-/// standard output is opened at most once, and never while there is an OUT that isn't on the disk. At
-/// most one text goes to standard error, and it comes last; there is none if a reader has left. The
-/// status is 0 only if all went well.
+/// A run does its deeds in order: a clause for each sentence of `specs/Orders`.
 pub fn runs_are_in_order<O: Outside>()
-    ensures { (words : List (List ℕ)) (deeds : List (Deed O.Target O.Output)) (code : ℕ)
-        → IsRun O.Target.taken O.Target.failed O.Output.taken O.Output.failed words deeds code
-        → IsInOrder Reading deeds code }
+    ensures reads_first { ForDeeds O.Target.Sink O.Output.Sink ReadsFirst }
+    ensures makes_after_reading { ForDeeds O.Target.Sink O.Output.Sink MakesAfterReading }
+    ensures makes_once { ForDeeds O.Target.Sink O.Output.Sink MakesOnce }
+    ensures opens_once { ForDeeds O.Target.Sink O.Output.Sink OpensOnce }
+    ensures copies_before_opening { ForDeeds O.Target.Sink O.Output.Sink CopiesBeforeOpening }
+    ensures says_last { ForDeeds O.Target.Sink O.Output.Sink SaysLast }
+    ensures stops_after_failures { ForDeeds O.Target.Sink O.Output.Sink StopsAfterFailures }
+    ensures stops_without_reader { ForDeeds O.Target.Sink O.Output.Sink StopsWithoutReader }
+    ensures succeeds { ForEachRun O.Target.Sink O.Output.Sink SucceedsOnlyWithoutFailures }
 {}

@@ -1,4 +1,4 @@
-use Rattle.std.proofs.Common.{◌≡◌, ◌-◌, ◌∙◌, arith, suc, sym}
+use Rattle.std.proofs.Common.{◌≡◌, ◌-◌, arith, suc, sym}
 use Rattle.bolt_cli.proofs.Telling.{DoesDeeds-after}
 use Rattle.bolt_cli.proofs.whole_run.+read_file.Goals as goal
 

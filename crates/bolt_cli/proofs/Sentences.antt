@@ -1,0 +1,49 @@
+-- The sentences of specs/Orders hold of deeds of which this can be computed.
+use Rattle.std.proofs.Common.{◌≡◌, ℕ, List, [], ◌∷◌, ◌++◌, Bool, true, false, refl, subst, not, ◌||◌}
+use Rattle.bolt_cli.proofs.Vocabulary.{Choose, Deed}
+use Rattle.bolt_cli.specs.Orders.{AfterEach, BeforeEach, HasNone, MakesOnce, OpensOnce, SucceedsOnlyWithoutFailures, has_failed, has_no_reader, is_made, is_opened, is_read, is_said, was_ended, was_made, was_read}
+use Rattle.std.specs.Prelude.{IsTrue}
+use Rattle.std.specs.List.{list_any}
+
+either : (other rest : Bool) {A : Type 0} → Choose other (Unit {0}) A → (A → IsTrue rest) → IsTrue (other || rest)
+either true rest are later = refl
+either false rest are later = later are
+
+module _ {D : Type 0} where
+  abbrev pub After : (is_kind : D → Bool) → (List D → Type 0) → List D → Type 0
+  After is_kind Are [] = Unit {0}
+  After is_kind Are (deed ∷ after) = Choose (is_kind deed) (Are after) (Unit {0}) × After is_kind Are after
+
+  abbrev pub Before : (is_kind is_other : D → Bool) → List D → Type 0
+  Before is_kind is_other [] = Unit {0}
+  Before is_kind is_other (deed ∷ after) = (is_kind deed ≡ false) × Choose (is_other deed) (Unit {0}) (Before is_kind is_other after)
+
+  module _ (is_kind : D → Bool) where
+    after_at : (Are : List D → Type 0) (before : List D) (deed : D) (after : List D) → After is_kind Are (before ++ deed ∷ after) → IsTrue (is_kind deed) → Are after
+    after_at Are [] deed after are kind = rw kind at are.0
+    after_at Are (first ∷ before) deed after are kind = after_at Are before deed after are.1 kind
+
+    pub after_each : (Are : List D → Type 0) (deeds : List D) → After is_kind Are deeds → AfterEach is_kind Are deeds
+    after_each Are deeds are before deed after is kind = after_at Are before deed after (subst (After is_kind Are) is are) kind
+
+    before_at : (is_other : D → Bool) (before : List D) (deed : D) (after : List D) → Before is_kind is_other (before ++ deed ∷ after) → IsTrue (is_kind deed)
+        → IsTrue (list_any is_other before)
+    before_at is_other [] deed after are kind = absurd (let other = are.0 in cc)
+    before_at is_other (first ∷ before) deed after are kind = either (is_other first) _ are.1 (λ later. before_at is_other before deed after later kind)
+
+    pub before_each : (is_other : D → Bool) (deeds : List D) → Before is_kind is_other deeds → BeforeEach is_kind is_other deeds
+    before_each is_other deeds are before deed after is kind = before_at is_other before deed after (subst (Before is_kind is_other) is are) kind
+
+-- all but that FILE was read before OUT is made
+pub record IsOrdered {T O : Type 0} (deeds : List (Deed T O)) (code : ℕ) : Type 0 where
+  pub reads_first : After (λ deed. not (was_read deed)) (HasNone is_read) deeds
+  pub makes_once : MakesOnce deeds
+  pub opens_once : OpensOnce deeds
+  pub copies_before_opening : After was_made (Before is_opened was_ended) deeds
+  pub says_last : After is_said (λ after. after ≡ []) deeds
+  pub stops_after_failures : After has_failed (HasNone (λ deed. not (is_said deed))) deeds
+  pub stops_without_reader : After has_no_reader (λ after. after ≡ []) deeds
+  pub succeeds : SucceedsOnlyWithoutFailures deeds code
+
+abbrev pub MakesOfRead : {T O : Type 0} → List (Deed T O) → Type 0
+MakesOfRead = Before is_made was_read
