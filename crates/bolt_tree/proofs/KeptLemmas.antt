@@ -1,7 +1,7 @@
 -- Cursors that wait, and go on.
 use Rattle.std.proofs.lemmas.Grind.{common_steps}
 use Rattle.std.proofs.Common.{◌≡◌, ◌∙◌, ◌≤◌, ◌-◌, ℕ, Bool, List, [], ◌∷◌, ◌++◌, Option, Some, None, drop, take, length, reverse, refl, sym, ap, subst, arith}
-use Rattle.bolt_tree.proofs.Words.{AreKept, AreOfFile, BucketView, Checked, Cursor, CursorView, Frame, HasStack, IsResting, IsInnermost, IsKept, Position, Trail, bucket_in, cursor_checked, cursor_place, cursor_start, cursor_view, drop-append_seam, frames_of, innermost_views, kept_view, kept_views, length-append, length-drop, pager_checked, props, reverse-append, same_from_push, start_at, take-append_seam, take-length, ∥∥₁_elim, ∥∥₁_map}
+use Rattle.bolt_tree.proofs.Words.{AreKept, AreOfFile, BucketView, Checked, Cursor, CursorView, Frame, HasStack, IsResting, IsInnermost, IsKept, Position, Trail, bucket_in, cursor_checked, cursor_place, cursor_start, cursor_trail, cursor_view, drop-append_seam, frames_of, innermost_views, kept_view, kept_views, length-append, length-drop, pager_checked, props, reverse-append, same_from_push, start_at, take-append_seam, take-length, ∥∥₁_elim, ∥∥₁_map}
 use Rattle.bolt_tree.proofs.{StackLemmas.stack_short, TrailLemmas.length-frames}
 use Rattle.bolt_tree.specs.{declared.at.At.At, declared.open_buckets.WaitingCursor.WaitingCursor}
 
@@ -16,15 +16,15 @@ kept_short checked at is_past positions kept =
     subst (λ (n : ℕ). n ≤ 64) (length-frames positions) (frames_short (bucket_in checked (start_at at)) (frames_of positions) k.stack))
 
 -- a cursor goes on by the positions that were kept
-pub resumed : (trail : Trail) (is_past : Bool) (checked : Checked) (positions : List Position) → pager_checked trail.pager ≡ checked → trail.stack.items ≡ positions
-    → ∥ IsKept checked trail.at is_past positions ∥₁ → ∥ IsResting trail is_past ∥₁
+pub resumed : (trail : Trail) (is_past : Bool) (checked : Checked) (positions : List Position) → pager_checked trail.pages.pager ≡ checked → trail.positions ≡ positions
+    → ∥ IsKept checked trail.pages.at is_past positions ∥₁ → ∥ IsResting trail is_past ∥₁
 resumed trail is_past checked positions file items kept =
     ∥∥₁_map kept (λ k. record { stack = rw (file, items) k.stack; rest = rw items k.rest; empty = rw items k.empty })
 
 -- those of a cursor may be kept
-resting_kept : (trail : Trail) (is_past : Bool) (checked : Checked) → pager_checked trail.pager ≡ checked → IsResting trail is_past → IsKept checked trail.at is_past trail.stack.items
+resting_kept : (trail : Trail) (is_past : Bool) (checked : Checked) → pager_checked trail.pages.pager ≡ checked → IsResting trail is_past → IsKept checked trail.pages.at is_past trail.positions
 resting_kept trail is_past checked file h = record {
-  stack = subst (λ (c : Checked). HasStack (bucket_in c (start_at trail.at)) (frames_of trail.stack.items)) file h.stack;
+  stack = subst (λ (c : Checked). HasStack (bucket_in c (start_at trail.pages.at)) (frames_of trail.positions)) file h.stack;
   rest = h.rest;
   empty = h.empty;
 }
@@ -44,11 +44,11 @@ module _ (checked : Checked) (waiting : List WaitingCursor) (w : WaitingCursor) 
   one_more_view = grind (arith, taken, dropped, reverse-append)
 
 -- a cursor of the file shows what its positions show
-cursor_kept : (checked : Checked) (cursor : Cursor) → cursor_checked cursor ≡ checked → kept_view checked cursor.trail.at cursor.is_past cursor.trail.stack.items ≡ cursor_view cursor
+cursor_kept : (checked : Checked) (cursor : Cursor) → cursor_checked cursor ≡ checked → kept_view checked cursor.pages.at cursor.is_past cursor.stack.items ≡ cursor_view cursor
 unfolding cursor_checked cursor_place cursor_start
-cursor_kept checked cursor file = ap (λ (c : Checked). kept_view c cursor.trail.at cursor.is_past cursor.trail.stack.items) (sym file)
+cursor_kept checked cursor file = ap (λ (c : Checked). kept_view c cursor.pages.at cursor.is_past cursor.stack.items) (sym file)
 
-pub file_of : (checked : Checked) (cursor : Cursor) → cursor_checked cursor ≡ checked → pager_checked cursor.trail.pager ≡ checked
+pub file_of : (checked : Checked) (cursor : Cursor) → cursor_checked cursor ≡ checked → pager_checked cursor.pages.pager ≡ checked
 unfolding cursor_checked
 file_of checked cursor file = file
 
@@ -56,23 +56,23 @@ file_of checked cursor file = file
 module _ (checked : Checked) (waiting : List WaitingCursor) (positions : List Position) (innermost : Option Cursor) (outer cursor : Cursor) (begin : ℕ)
     (known : ∥ AreOfFile checked waiting positions innermost ∥₁) (is : innermost ≡ Some outer) (begins : begin ≡ length positions) (file : cursor_checked cursor ≡ checked) where
   abbrev put : WaitingCursor
-  put = record { at = outer.trail.at; is_past = outer.is_past; begin = begin }
+  put = record { at = outer.pages.at; is_past = outer.is_past; begin = begin }
 
   of_file : AreOfFile checked waiting positions innermost → cursor_checked outer ≡ checked
   of_file k = subst (λ (o : Option Cursor). IsInnermost checked waiting o) is k.1
 
-  pub waits : ∥ AreOfFile checked (waiting ++ put ∷ []) (positions ++ outer.trail.stack.items) (Some cursor) ∥₁
+  pub waits : ∥ AreOfFile checked (waiting ++ put ∷ []) (positions ++ outer.stack.items) (Some cursor) ∥₁
   waits =
       ∥∥₁_elim known (hlevel props) (λ k. ∥∥₁_map outer.resting (λ h. (
-        one_more checked waiting put positions outer.trail.stack.items begins k.0
-            (resting_kept outer.trail outer.is_past checked (file_of checked outer (of_file k)) h),
+        one_more checked waiting put positions outer.stack.items begins k.0
+            (resting_kept (cursor_trail outer) outer.is_past checked (file_of checked outer (of_file k)) h),
         file,
       )))
 
-  pub waits_view : kept_views checked (reverse (waiting ++ put ∷ [])) (positions ++ outer.trail.stack.items) ≡ kept_views checked (reverse waiting) positions ++ innermost_views innermost
+  pub waits_view : kept_views checked (reverse (waiting ++ put ∷ [])) (positions ++ outer.stack.items) ≡ kept_views checked (reverse waiting) positions ++ innermost_views innermost
   waits_view =
       ∥∥₁_elim known (hlevel props) (λ k.
-      one_more_view checked waiting put positions outer.trail.stack.items begins
+      one_more_view checked waiting put positions outer.stack.items begins
       ∙ (ap (λ (v : CursorView). kept_views checked (reverse waiting) positions ++ v ∷ []) (cursor_kept checked outer (of_file k))
       ∙ ap (λ (o : Option Cursor). kept_views checked (reverse waiting) positions ++ innermost_views o) (sym is)))
 

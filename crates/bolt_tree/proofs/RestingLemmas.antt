@@ -5,7 +5,6 @@ use Rattle.bolt_tree.proofs.Words.{BucketView, Content, Contents, EntryView, Fin
 use Rattle.bolt_tree.proofs.OpeningMoves.{first_opens, next_opens}
 use Rattle.bolt_tree.proofs.PlaceMoves.{Comes, first_moves, go_moves, last_moves, seek_moves, stack_bucket, the_entries}
 use Rattle.bolt_tree.proofs.TrailLemmas.{empty_stack, same_bucket}
-use Rattle.bolt_tree.specs.Private.Trails.{Goes}
 
 rest_on_prop : (content : Content) (taken : ℕ) → IsProp (RestsOn content taken)
 rest_on_prop (Of_leaf elements) taken = Prim.hlevel props
@@ -16,13 +15,13 @@ rest_prop [] = Prim.hlevel props
 rest_prop (f ∷ below) = rest_on_prop f.content f.taken
 
 -- before the first call
-pub fresh_resting : (trail : Trail) → HasBucket trail → trail_frames trail ≡ [] → ∥ IsResting trail false ∥₁
+pub fresh_resting : (trail : Trail) → HasBucket trail.pages → trail_frames trail ≡ [] → ∥ IsResting trail false ∥₁
 fresh_resting trail is none = grind (arith, common_steps, empty_stack, is)
 
 pub resting_stack : (trail : Trail) (is_past : Bool) → ∥ IsResting trail is_past ∥₁ → HasTrail trail
 resting_stack trail is_past resting = ∥∥₁_elim resting (Prim.hlevel props) (λ h. h.stack)
 
-pub resting_bucket : (trail : Trail) (is_past : Bool) → ∥ IsResting trail is_past ∥₁ → HasBucket trail
+pub resting_bucket : (trail : Trail) (is_past : Bool) → ∥ IsResting trail is_past ∥₁ → HasBucket trail.pages
 resting_bucket trail is_past resting = stack_bucket (trail_bucket trail) (trail_frames trail) (resting_stack trail is_past resting)
 
 pub resting_rest : (trail : Trail) (is_past : Bool) → ∥ IsResting trail is_past ∥₁ → IsAtRest (trail_frames trail)
@@ -35,10 +34,9 @@ pub not_past : (trail : Trail) (is_past : Bool) → ∥ IsResting trail is_past 
 not_past trail false resting h = refl
 not_past trail true resting h = absurd (h (∥∥₁_elim resting (Prim.hlevel props) (λ k. k.empty refl)))
 
--- so it is after a move from where it stood
-pub goes_resting : (old new : Trail) (back is_past : Bool) (found : Option Leaf) → ∥ IsResting old is_past ∥₁ → (trail_frames old ≡ [] → ⊥) → Goes back old new found → ∥ IsResting new is_past ∥₁
-goes_resting old new back is_past found resting some goes =
-    ∣ record { stack = goes.moved.stack; rest = goes.rest; empty = λ past. absurd (some (past_empty old is_past resting past)) } ∣₁
+-- so it is after a move from an entry
+pub moved_resting : (old new : Trail) (is_past : Bool) → ∥ IsResting old is_past ∥₁ → (trail_frames old ≡ [] → ⊥) → IsMoved old new → IsAtRest (trail_frames new) → ∥ IsResting new is_past ∥₁
+moved_resting old new is_past resting some moved rest = ∣ record { stack = moved.stack; rest = rest; empty = λ past. absurd (some (past_empty old is_past resting past)) } ∣₁
 
 -- what a call returns is shown as the move says
 pub shows_by : (Entry : Start → LeafElement → Type 0) (bucket : Start) (move : List LeafElement → Place → Move) (old new : Place) (answer : Option LeafElement) (shown : Option EntryView)
@@ -60,7 +58,7 @@ module _ (old new : Trail) (moved : IsMoved old new) (is_past : Bool) (resting :
   abbrev MovesTo : (List LeafElement → Place → Move) → Place → Place → Type 0
   MovesTo move from to = Moves (IsEntry (trail_bucket old).file (trail_bucket old).meta) (trail_bucket old).start move from to (option_map leaf_view found)
 
-  is : HasBucket old
+  is : HasBucket old.pages
   is = resting_bucket old is_past resting
 
   there : HasStack (trail_bucket old) (trail_frames new)

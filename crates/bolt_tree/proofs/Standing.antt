@@ -1,6 +1,6 @@
 -- The entry that a trail rests on: an element of the page on top of its stack.
 use Rattle.std.proofs.Common.{rules, ◌≡◌, ◌∙◌, ℕ, suc, ◌-◌, ◌≤◌, Bool, true, false, List, [], ◌∷◌, ◌++◌, Some, None, Option, slice_get, length, take, refl, sym, ap, subst, arith}
-use Rattle.bolt_tree.proofs.Words.{Bucket, BucketView, Checked, Contains, Cursor, Content, Frame, HasStack, HasStart, HasTrail, IsAtRest, IsLeafContent, IsOn, IsResting, Leaf, LeafElement, MatchOption, Place, Position, RestsOn, Trail, content_length, contents_in, cursor_checked, cursor_place, cursor_start, elements_in, entries_of, frame_of, frames_of, leaf_view, none-some, opened_content, option_map, pager_checked, place_by, props, slice_get-get_or, slice_get_within, start_at, start_of, take_all, take_next, trail_bucket, trail_frames, ∥∥₁_elim, ∥∥₁_map}
+use Rattle.bolt_tree.proofs.Words.{Bucket, BucketView, Checked, Contains, Cursor, Content, Frame, HasStack, HasStart, HasTrail, IsAtRest, IsLeafContent, IsOn, IsResting, Leaf, LeafElement, MatchOption, Place, Position, RestsOn, Trail, content_length, contents_in, cursor_checked, cursor_place, cursor_start, cursor_trail, elements_in, entries_of, frame_of, frames_of, leaf_view, none-some, opened_content, option_map, pager_checked, place_by, props, slice_get-get_or, slice_get_within, start_at, start_of, take_all, take_next, trail_bucket, trail_frames, ∥∥₁_elim, ∥∥₁_map}
 use Rattle.bolt_tree.specs.{Lookups.IsBucketOf, Lookups.IsBucketOn, Places.IsEntryAt, Places.entry_at}
 use Rattle.bolt_tree.proofs.{BucketWays.starts_below, EntryOrder.contains_at, PlaceMoves.current, PlaceMoves.the_entries, RestingLemmas.past_empty, RestingLemmas.resting_bucket}
 use Rattle.bolt_tree.proofs.{RestingLemmas.resting_stack, SortedLemmas.sorted, TrailLemmas.frames_push}
@@ -28,10 +28,10 @@ pub record IsRested (content : Content) (taken : ℕ) : Type 0 where
 rested : (content : Content) (taken : ℕ) → RestsOn content taken → taken ≤ 65536 → IsRested content taken
 rested content taken rest fits = grind arith
 
-module _ (trail : Trail) (shared : List Position) (top : Position) (same : shared ≡ trail.stack.items) (read : Some top ≡ slice_get shared (length shared - 1))
+module _ (trail : Trail) (shared : List Position) (top : Position) (same : shared ≡ trail.positions) (read : Some top ≡ slice_get shared (length shared - 1))
     (stack : HasTrail trail) (rest : IsAtRest (trail_frames trail)) where
-  pub topped : trail_frames trail ≡ frame_of top ∷ frames_of (take (length trail.stack.items - 1) trail.stack.items)
-  topped = last_on trail.stack.items top (sym (read ∙ ap (λ (ps : List Position). slice_get ps (length ps - 1)) same))
+  pub topped : trail_frames trail ≡ frame_of top ∷ frames_of (take (length trail.positions - 1) trail.positions)
+  topped = last_on trail.positions top (sym (read ∙ ap (λ (ps : List Position). slice_get ps (length ps - 1)) same))
 
   pub top_rests : IsRested (opened_content top.page) top.taken
   top_rests =
@@ -53,12 +53,12 @@ held_at entries place e at = grind (arith, none-some, contains_at)
 
 module _ (trail : Trail) (is_past : Bool) (resting : ∥ IsResting trail is_past ∥₁) where
   pub entry_on : (found : Option Leaf) → MatchOption found (trail_frames trail ≡ []) (λ leaf. IsOn (trail_frames trail) (leaf_view leaf))
-      → IsEntryAt (entries_of (pager_checked trail.pager)) (start_at trail.at) (place_by is_past (contents_in (trail_bucket trail)) (trail_frames trail)) (option_map leaf_view found)
+      → IsEntryAt (entries_of (pager_checked trail.pages.pager)) (start_at trail.pages.at) (place_by is_past (contents_in (trail_bucket trail)) (trail_frames trail)) (option_map leaf_view found)
   entry_on found on = search (rules, the_entries, resting_bucket, found_at, past_empty, resting_stack)
 
   -- a bucket at its place is one of the tree
-  pub begins_on : (place : Place) (e : LeafElement) → IsEntryAt (entries_of (pager_checked trail.pager)) (start_at trail.at) place (Some e) → e.is_bucket ≡ true
-      → HasStart (pager_checked trail.pager) (start_of e.value)
+  pub begins_on : (place : Place) (e : LeafElement) → IsEntryAt (entries_of (pager_checked trail.pages.pager)) (start_at trail.pages.at) place (Some e) → e.is_bucket ≡ true
+      → HasStart (pager_checked trail.pages.pager) (start_of e.value)
   begins_on place e at bucket =
       let b = trail_bucket trail in
       ∥∥₁_map (resting_bucket trail is_past resting) (λ s.
@@ -77,4 +77,4 @@ module _ (cursor : Cursor) (checked : Checked) (same : cursor_checked cursor ≡
   pub begins_here : (e : LeafElement) → IsHere (cursor_checked cursor) (Some e) → e.is_bucket ≡ true → HasStart checked (start_of e.value)
   unfolding cursor_checked cursor_start
   begins_here e at bucket =
-      subst (λ (file : Checked). HasStart file (start_of e.value)) same (begins_on cursor.trail cursor.is_past cursor.resting (cursor_place cursor) e at bucket)
+      subst (λ (file : Checked). HasStart file (start_of e.value)) same (begins_on (cursor_trail cursor) cursor.is_past cursor.resting (cursor_place cursor) e at bucket)

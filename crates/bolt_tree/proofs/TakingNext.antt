@@ -3,7 +3,7 @@ use Rattle.std.proofs.Common.{◌≡◌, ◌∙◌, ◌+◌, ◌-◌, ◌<◌, �
 use Rattle.std.proofs.lemmas.Grind.{common_steps}
 use Rattle.bolt_tree.proofs.Words.{Frame, HasStack, IsResting, Leaf, Moves, Of_leaf, OpensByNext, Place, Position, StandsOn, Trail, content_length, contents_in, counted, drop_all, entries_of, frame_of, frames_of, get_or_default, leaf_view, leaves_on, length-set, next_move, opened_content, pager_checked, pager_opened, pages_ahead, place_by, refill, slice_get_read, start_at, take-suc-set, take_all, take_next, trail_bucket, trail_frames}
 use Rattle.bolt_tree.proofs.{MoveLemmas.entry_taken, MoveLemmas.page_left, MoveLemmas.taken_entry, PagerLemmas.counted_zero, PlaceMoves.on_rests, StackLemmas.retaken}
-use Rattle.bolt_tree.proofs.{RestingLemmas.goes_resting, RestingLemmas.moves_next, RestingLemmas.opens_next, RestingLemmas.resting_rest, RestingLemmas.resting_stack, TrailLemmas.filled, TrailLemmas.frames_push}
+use Rattle.bolt_tree.proofs.{RestingLemmas.moved_resting, RestingLemmas.moves_next, RestingLemmas.opens_next, RestingLemmas.resting_rest, RestingLemmas.resting_stack, TrailLemmas.filled, TrailLemmas.frames_push}
 use Rattle.bolt_tree.specs.Private.Trails.{Goes}
 use Rattle.bolt_format.specs.Elements.{IsBucketValue}
 use Rattle.bolt_format.specs.declared.tree_page.LeafPage.{LeafPage}
@@ -15,10 +15,10 @@ last_is items last top long read = sym (take_all (suc last) items (omega (arith,
 refilled : (items : List Position) (last : ℕ) (put : Position) → length items ≡ suc last → refill (length items) items (slice_set items last put) ≡ take last items ++ put ∷ []
 refilled items last put long = grind (arith, slice_set, length-set, drop_all, append-nil, long, take-suc-set)
 
-module _ (old : Trail) (is_past : Bool) (resting : ∥ IsResting old is_past ∥₁) (shared : List Position) (n last : ℕ) (top : Position) (len : n ≡ length old.stack.items) (filled_in : 1 ≤ n)
-    (is_last : last ≡ n - 1) (read : top ≡ slice_index_or shared last top) (same : shared ≡ old.stack.items) (page : LeafPage) (shows : top.page ≡ kind.Leaf page) where
+module _ (old : Trail) (is_past : Bool) (resting : ∥ IsResting old is_past ∥₁) (shared : List Position) (n last : ℕ) (top : Position) (len : n ≡ length old.positions) (filled_in : 1 ≤ n)
+    (is_last : last ≡ n - 1) (read : top ≡ slice_index_or shared last top) (same : shared ≡ old.positions) (page : LeafPage) (shows : top.page ≡ kind.Leaf page) where
   abbrev items : List Position
-  items = old.stack.items
+  items = old.positions
 
   abbrev below : List Frame
   below = frames_of (take last items)
@@ -38,13 +38,12 @@ module _ (old : Trail) (is_past : Bool) (resting : ∥ IsResting old is_past ∥
   abbrev here : Place
   here = place_by is_past (contents_in (trail_bucket old)) (trail_frames old)
 
-  module _ (lent : List Position) (d e : Position) (again : lent ≡ old.stack.items) (less : top.taken < length (leaves_on page)) (fits : top.taken + 1 ≤ 65536) (leaf : Leaf)
+  module _ (lent : List Position) (d e : Position) (again : lent ≡ old.positions) (less : top.taken < length (leaves_on page)) (fits : top.taken + 1 ≤ 65536) (leaf : Leaf)
       (shown : slice_get (leaves_on page) top.taken ≡ Some (leaf_view leaf)) (bucket : IsTrue leaf.is_bucket → IsBucketValue leaf.value.now) where
     abbrev new : Trail
     new = record {
-      pager = old.pager;
-      at = old.at;
-      stack = record { items = refill (length items) items (slice_set lent last (record { page = (slice_index_or lent last e).page; taken = (slice_index_or lent last d).taken + 1 })) };
+      pages = old.pages;
+      positions = refill (length items) items (slice_set lent last (record { page = (slice_index_or lent last e).page; taken = (slice_index_or lent last d).taken + 1 }));
     }
 
     found : (d : Position) → slice_index_or lent last d ≡ top
@@ -73,18 +72,18 @@ module _ (old : Trail) (is_past : Bool) (resting : ∥ IsResting old is_past ∥
           rest = on_rests (trail_frames new) (leaf_view leaf) taken.1;
           found = rw was (taken.0, taken.1);
           bucket = bucket;
-          opened = sym (counted_zero old.pager) ∙ ap (counted (pager_opened old.pager)) (sym none);
+          opened = sym (counted_zero old.pages.pager) ∙ ap (counted (pager_opened old.pages.pager)) (sym none);
         }
 
     pub rests_there : ∥ IsResting new is_past ∥₁
-    rests_there = goes_resting old new false is_past (Some leaf) resting (filled items n len filled_in) takes
+    rests_there = moved_resting old new is_past resting (filled items n len filled_in) takes.moved takes.rest
 
-    pub moves_there : Moves (entries_of (pager_checked old.pager)) (start_at old.at) next_move here
+    pub moves_there : Moves (entries_of (pager_checked old.pages.pager)) (start_at old.pages.at) next_move here
         (place_by is_past (contents_in (trail_bucket new)) (trail_frames new)) (Some (leaf_view leaf))
     moves_there = moves_next old new takes.moved is_past resting (Some leaf) (filled items n len filled_in) takes.found
 
-    pub opens_there : OpensByNext (trail_bucket old) here (pager_opened old.pager) (pager_opened old.pager)
-    opens_there = opens_next old new takes.moved is_past resting (Some leaf) (filled items n len filled_in) (pager_opened old.pager) (pager_opened old.pager) takes.found takes.opened
+    pub opens_there : OpensByNext (trail_bucket old) here (pager_opened old.pages.pager) (pager_opened old.pages.pager)
+    opens_there = opens_next old new takes.moved is_past resting (Some leaf) (filled items n len filled_in) (pager_opened old.pages.pager) (pager_opened old.pages.pager) takes.found takes.opened
 
   -- or that leaf is at its end, and is alone on the stack
   module _ (ended : length (leaves_on page) ≤ top.taken) (alone : last ≡ 0) where
@@ -99,11 +98,11 @@ module _ (old : Trail) (is_past : Bool) (resting : ∥ IsResting old is_past ∥
           rest = resting_rest old is_past resting;
           found = (rw frames (sym left.0), refl);
           bucket = tt;
-          opened = sym (counted_zero old.pager) ∙ ap (counted (pager_opened old.pager)) (sym none);
+          opened = sym (counted_zero old.pages.pager) ∙ ap (counted (pager_opened old.pages.pager)) (sym none);
         }
 
-    pub stays_there : Moves (entries_of (pager_checked old.pager)) (start_at old.at) next_move here here None
+    pub stays_there : Moves (entries_of (pager_checked old.pages.pager)) (start_at old.pages.at) next_move here here None
     stays_there = moves_next old old stays.moved is_past resting None (filled items n len filled_in) stays.found
 
-    pub opens_none : OpensByNext (trail_bucket old) here (pager_opened old.pager) (pager_opened old.pager)
-    opens_none = opens_next old old stays.moved is_past resting None (filled items n len filled_in) (pager_opened old.pager) (pager_opened old.pager) stays.found stays.opened
+    pub opens_none : OpensByNext (trail_bucket old) here (pager_opened old.pages.pager) (pager_opened old.pages.pager)
+    opens_none = opens_next old old stays.moved is_past resting None (filled items n len filled_in) (pager_opened old.pages.pager) (pager_opened old.pages.pager) stays.found stays.opened

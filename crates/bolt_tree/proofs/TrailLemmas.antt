@@ -1,8 +1,8 @@
 -- What the moves of a trail do to its stack.
 use Rattle.std.proofs.lemmas.Grind.{common_steps}
 use Rattle.std.proofs.Common.{◌≡◌, ◌==◌, ℕ, suc, ◌+◌, ◌-◌, ◌≤◌, ◌<◌, Bool, true, false, List, [], ◌∷◌, ◌++◌, Some, None, slice_get, length, map, reverse, drop, refl, sym, ap, ◌∙◌, subst, arith, append_assoc, append-nil}
-use Rattle.bolt_tree.proofs.Words.{BranchElement, BucketView, Content, Contents, Frame, HasBucket, HasStack, HasTrail, IsBranchContent, IsBranchTop, IsEntered, IsOn, IsMoved, LeafElement, Of_branch, Of_leaf, Position, RestsOn, Trail, TourPage, TreePage, address_on, ahead_of, content_length, contents_in, drop_all, drop_at, frame_of, frames_of, here_of, here_under, length-map, length-reverse, nat_tests, opened_content, option_to_list, props, reverse-append, later_of, later_under, tour, trail_bucket, trail_frames, under_at, ∥∥₁_elim, ∥∥₁_map}
-use Rattle.bolt_tree.proofs.StackLemmas.{branch_room, stack_short, under_next}
+use Rattle.bolt_tree.proofs.Words.{BranchElement, BucketPages, BucketView, Content, Contents, Frame, HasBucket, HasStack, HasTrail, IsBranchContent, IsBranchTop, IsEntered, IsOn, IsMoved, LeafElement, Of_branch, Of_leaf, Position, RestsOn, Trail, TourPage, TreePage, address_on, ahead_of, content_length, contents_in, drop_all, drop_at, frame_of, frames_of, here_of, here_under, length-map, length-reverse, nat_tests, opened_content, option_to_list, pages_bucket, props, reverse-append, later_of, later_under, tour, taken_at, trail_bucket, trail_frames, trail_on, under_at, ∥∥₁_elim, ∥∥₁_map}
+use Rattle.bolt_tree.proofs.StackLemmas.{branch_room, retaken, stack_short, under_next}
 use Rattle.bolt_format.specs.declared.tree_page.LeafPage.{LeafPage}
 use Rattle.bolt_format.specs.declared.tree_page.TreePage.TheVariants as page
 
@@ -98,28 +98,33 @@ frames_pop old new top e = ap frames_of e ∙ frames_push new top
 pub entered_length : (contents : Contents) (at_end : Bool) (content : Content) (i : ℕ) (below new : List Frame) → IsEntered contents at_end content i below new None → length new ≡ suc (suc (length below))
 entered_length contents at_end content i below new h = grind arith
 
+edge_bound : (at_end : Bool) (content : Content) → taken_at at_end content ≤ suc (content_length content)
+edge_bound false content = omega arith
+edge_bound true content = omega arith
+
+-- how much of the page on top is taken is no matter, so it may be at an edge
+pub edge_room : (at_end : Bool) (bucket : BucketView) (content : Content) (position : Position) (below : List Frame) → HasStack bucket (record { content = content; taken = 0 } ∷ below)
+    → frame_of position ≡ record { content = content; taken = taken_at at_end content } → position.taken ≤ 65536 → HasStack bucket (record { content = content; taken = taken_at at_end content } ∷ below)
+edge_room at_end bucket content position below stack e fits =
+    retaken bucket content 0 (taken_at at_end content) below stack (edge_bound at_end content) (subst (λ (n : ℕ). n ≤ 65536) (ap (λ (f : Frame). f.taken) e) fits)
+
 -- the same stack, as it is shown otherwise
 pub moved_stack : (old now : BucketView) (a d : Content) (under below : List Frame) → now ≡ old → d ≡ a → below ≡ under
     → HasStack old (record { content = a; taken = 0 } ∷ under) → HasStack now (record { content = d; taken = 0 } ∷ below)
 moved_stack old now a d under below e f g stack = subst (λ (k : BucketView). HasStack k (record { content = d; taken = 0 } ∷ below)) (sym e) (rw (f, g) stack)
 
 -- the stack when its top page was taken from it, and when there was none
-pub popped_stack : (trail : Trail) (items : List Position) (top : Position) → trail.stack.items ≡ items ++ option_to_list (Some top) → HasTrail trail
-    → HasStack (trail_bucket trail) (frame_of top ∷ frames_of items)
-popped_stack trail items top e stack = subst (HasStack (trail_bucket trail)) (frames_pop trail.stack.items items top e) stack
+pub popped_stack : (pages : BucketPages) (old items : List Position) (top : Position) → old ≡ items ++ option_to_list (Some top) → HasTrail (trail_on pages old)
+    → HasStack (pages_bucket pages) (frame_of top ∷ frames_of items)
+popped_stack pages old items top e stack = subst (HasStack (pages_bucket pages)) (frames_pop old items top e) stack
 
-pub popped_none : (trail : Trail) (items : List Position) → trail.stack.items ≡ items ++ [] → HasTrail trail → HasStack (trail_bucket trail) (frames_of items)
-popped_none trail items e stack = subst (λ (ps : List Position). HasStack (trail_bucket trail) (frames_of ps)) (e ∙ append-nil items) stack
+pub popped_none : (pages : BucketPages) (old items : List Position) → old ≡ items ++ [] → HasTrail (trail_on pages old) → HasStack (pages_bucket pages) (frames_of items)
+popped_none pages old items e stack = subst (λ (ps : List Position). HasStack (pages_bucket pages) (frames_of ps)) (e ∙ append-nil items) stack
 
 -- an empty stack is one of each bucket
-pub empty_stack : (trail : Trail) → HasBucket trail → trail_frames trail ≡ [] → HasTrail trail
+pub empty_stack : (trail : Trail) → HasBucket trail.pages → trail_frames trail ≡ [] → HasTrail trail
 empty_stack trail is none = subst (HasStack (trail_bucket trail)) (sym none) (∥∥₁_map is (λ s. (s, tt)))
 
 -- a stack that was kept is still one of the bucket
-pub kept_stack : (old new : Trail) (items : List Position) → IsMoved old new → items ≡ old.stack.items → HasTrail old → HasStack (trail_bucket new) (frames_of items)
+pub kept_stack : (old new : Trail) (items : List Position) → IsMoved old new → items ≡ old.positions → HasTrail old → HasStack (trail_bucket new) (frames_of items)
 kept_stack old new items same e stack = rw (same.file, same.at, e) stack
-
--- a page that rests is a leaf
-pub leaf_rests : (opened : TreePage) (taken : ℕ) → RestsOn (opened_content opened) taken → ((leaf : LeafPage) → opened ≡ page.Leaf leaf → ⊥) → ⊥
-leaf_rests (page.Branch branch) taken rest none = rest
-leaf_rests (page.Leaf leaf) taken rest none = none leaf refl

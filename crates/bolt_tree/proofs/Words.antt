@@ -45,12 +45,12 @@ pub use Rattle.bolt_tree.specs.Private.Stacks.{index_of, passed_under, preceding
 pub use Rattle.bolt_tree.specs.Private.Tours.{TourPage, all_under, content_at_start, elements_of, pages_at, tour}
 pub use Rattle.bolt_tree.specs.Private.Trails.{Finds, HasBucket, HasTrail, IsMoved, ahead, entries_left, entries_to, frame_of, frames_of, nearer, pages_left}
 pub use Rattle.bolt_tree.specs.Private.Trails.{pages_ahead, pages_to, preceding}
-pub use Rattle.bolt_tree.specs.Private.Trails.{trail_bucket, trail_frames}
+pub use Rattle.bolt_tree.specs.Private.Trails.{Trail, pages_bucket, trail_bucket, trail_frames, trail_on}
 pub use Rattle.bolt_tree.specs.{RestAfter.beyond, RestAfter.by_first, RestAfter.is_beyond, RestAfter.rest_after, ShownEntries.item_view}
 pub use Rattle.bolt_tree.specs.Starts.{HasStart, start_at}
 pub use Rattle.bolt_tree.specs.Tree.{IsTreeOf, Shows, Tree, end, first_tree, later_trees, listing_below, listing_of, put_first, tree_of, trees_by_depth}
 pub use Rattle.bolt_tree.specs.{Tree.with_bucket, Tree.with_value, Walks.GivesNext, declared.bucket.Bucket.Bucket, declared.cursor.Cursor.Cursor}
-pub use Rattle.bolt_tree.specs.{declared.stack.Position.Position, declared.trail.Trail.Trail}
+pub use Rattle.bolt_tree.specs.{Cursors.cursor_trail, declared.bucket_pages.BucketPages.BucketPages, declared.stack.Position.Position}
 unfoldable pub use Rattle.bolt_tree.specs.Buckets.{bucket_checked, bucket_start}
 unfoldable pub use Rattle.bolt_tree.specs.{Cursors.cursor_checked, Cursors.cursor_opened, Cursors.cursor_place, Cursors.cursor_start, FileTrees.file_tree}
 unfoldable pub use Rattle.bolt_tree.specs.{Pagers.pager_checked, Pagers.pager_opened, Private.Contents.content_at, Private.Stacks.passed_of}

@@ -5,23 +5,27 @@ use Rattle.bolt_format.specs.{ElementPlaces.leaf_view, Elements.LeafElement, dec
 use Rattle.bolt_check.specs.Keys.{Key}
 use Rattle.bolt_check.specs.declared.checked.Checked.{Checked}
 use Rattle.bolt_tree.specs.{BucketViews.BucketView, BucketViews.bucket_in, Private.BucketPages.contents_in, Entries.Start, Private.Resting.place_by}
-use Rattle.bolt_tree.specs.{Pagers.pager_checked, Pagers.pager_opened, Places.Place, Starts.start_at, Private.Trails.trail_bucket, Private.Trails.trail_frames}
+use Rattle.bolt_tree.specs.{Pagers.pager_checked, Pagers.pager_opened, Places.Place, Starts.start_at, Private.Trails.Trail, Private.Trails.frames_of, Private.Trails.pages_bucket, Private.Trails.trail_on}
 use Rattle.bolt_tree.specs.{BucketViews.entries_of, CursorBounds.OpensByNext, CursorBounds.OpensGap, CursorBounds.OpensSeek, CursorBounds.SeeksInBounds}
 use Rattle.bolt_tree.specs.{Places.IsEntryAt, Places.Move, Places.Moves, Places.ShowsMove, ShownEntries.shown_entry, declared.entry.Entry.Entry}
 use Rattle.bolt_tree.specs.declared.cursor.Cursor.{Cursor}
 
+-- its pages and its stack
+abbrev pub cursor_trail : Cursor → Trail
+cursor_trail cursor = trail_on cursor.pages cursor.stack.items
+
 unfoldable pub cursor_checked : Cursor → Checked
-cursor_checked cursor = pager_checked cursor.trail.pager
+cursor_checked cursor = pager_checked cursor.pages.pager
 
 unfoldable pub cursor_start : Cursor → Start
-cursor_start cursor = start_at cursor.trail.at
+cursor_start cursor = start_at cursor.pages.at
 
 -- where it is; its place among the entries is `place_in entries` of that
 unfoldable pub cursor_place : Cursor → Place
-cursor_place cursor = place_by cursor.is_past (contents_in (trail_bucket cursor.trail)) (trail_frames cursor.trail)
+cursor_place cursor = place_by cursor.is_past (contents_in (pages_bucket cursor.pages)) (frames_of cursor.stack.items)
 
 unfoldable pub cursor_opened : Cursor → ℕ
-cursor_opened cursor = pager_opened cursor.trail.pager
+cursor_opened cursor = pager_opened cursor.pages.pager
 
 unfoldable pub cursor_compared : Cursor → ℕ
 cursor_compared cursor = cursor.compared

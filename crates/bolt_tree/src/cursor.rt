@@ -1,36 +1,38 @@
 //! A cursor over the entries of a bucket.
-ghost use Rattle.std.specs.Prelude.{◌≡◌};
+ghost use Rattle.std.specs.Prelude.{◌≡◌, ◌≢◌, []};
 ghost use Rattle.std.specs.Option.{option_map};
 ghost use Rattle.bolt_format.specs.ElementPlaces.{leaf_view};
 ghost use Rattle.bolt_tree.specs.{Entries.entry_view, Private.BucketValues.HasBucketValue};
 ghost use Rattle.bolt_tree.specs.{Private.Kept.IsKept, Private.Kept.kept_view, Private.Resting.IsResting};
 ghost use Rattle.bolt_tree.specs.Pagers.{pager_checked, pager_opened};
 ghost use Rattle.bolt_tree.specs.Places.{Fresh, Past, next_move, prev_move, seek_to, to_first, to_last};
+ghost use Rattle.bolt_tree.specs.{Private.Trails.Goes, Private.Trails.frames_of, Private.Trails.trail_on};
 ghost use Rattle.bolt_tree.specs.{ShownEntries.shown_entry, Starts.HasStart, Starts.start_at};
 
 use crate::at::At;
+use crate::bucket_pages::BucketPages;
 use crate::entry::Entry;
 use crate::pager::Pager;
 use crate::stack::{Position, Stack, set_positions};
-use crate::trail::Trail;
 use bolt_format::{Leaf, TreePage};
 
 /// A cursor over the entries of a bucket, in byte order of their keys. It is before the first call,
 /// on an entry, or past the last one (docs/LISTING.md, "Places"). None of its calls needs memory.
 #[derive(Drop)]
 pub struct Cursor<'a> {
-    trail: Trail<'a>,
+    pages: BucketPages<'a>,
+    stack: Stack<'a>,
     is_past: bool,
     compared: u64,
     /// Room for the positions before a move, which it takes back if there is no entry to move to.
     saved: Stack<'a>,
-    ghost resting: { ∥ IsResting trail is_past ∥₁ },
+    ghost resting: { ∥ IsResting (trail_on pages stack.items) is_past ∥₁ },
 }
 
 #[tactic(auto, unfolding(crate::specs::Cursors::cursor_checked, crate::specs::Cursors::cursor_compared, crate::specs::Cursors::cursor_opened, crate::specs::Cursors::cursor_place, crate::specs::Cursors::cursor_start), using(crate::proofs::RestingLemmas::fresh_resting, crate::proofs::RestingLemmas::resting_bucket, crate::proofs::RestingLemmas::resting_rest, crate::proofs::RestingLemmas::resting_stack, crate::proofs::KeptLemmas::kept_short, crate::proofs::StackLemmas::sound_bucket))]
 impl<'a> Cursor<'a> {
     ghost use Rattle.bolt_tree.specs.Cursors.{FirstOpens, IsCurrent, NextOpens, ReturnsElement, ReturnsEntry, SeekCompares, SeekOpens};
-    ghost use Rattle.bolt_tree.specs.Cursors.{cursor_checked, cursor_compared, cursor_opened, cursor_place, cursor_start};
+    ghost use Rattle.bolt_tree.specs.Cursors.{cursor_checked, cursor_compared, cursor_opened, cursor_place, cursor_start, cursor_trail};
     ghost use Rattle.bolt_tree.specs.Private.CursorViews.{cursor_view};
 
     /// A cursor before the first call, over a bucket of the pager's file. Only its pager opens
@@ -43,13 +45,9 @@ impl<'a> Cursor<'a> {
         ensures opened { cursor_opened result ≡ pager_opened pager.entry }
         ensures compared { cursor_compared result ≡ 0 }
     {
-        let trail = Trail {
-            pager,
-            at,
-            stack: Stack::new(),
-        };
         Cursor {
-            trail,
+            pages: BucketPages { pager, at },
+            stack: Stack::new(),
             is_past: false,
             compared: 0,
             saved: Stack::new(),
@@ -63,8 +61,8 @@ impl<'a> Cursor<'a> {
         ensures start { cursor_start self.new ≡ start_at at.entry }
         ensures place { cursor_place self.new ≡ Fresh }
     {
-        self.trail.at = at;
-        self.trail.stack.clear();
+        self.pages.at = at;
+        self.stack.clear();
         self.is_past = false;
     }
 
@@ -73,16 +71,16 @@ impl<'a> Cursor<'a> {
         requires { ∥ IsKept (cursor_checked self.old) at is_past positions.now ∥₁ }
         ensures { cursor_view self.new ≡ kept_view (cursor_checked self.old) at.entry is_past positions.now }
     {
-        set_positions(&mut self.trail.stack, positions);
-        self.trail.at = at;
+        set_positions(&mut self.stack, positions);
+        self.pages.at = at;
         self.is_past = is_past;
     }
 
     /// Where its bucket's tree begins.
     pub(crate) fn at(&self) -> At<'a>
-        ensures { result ≡ self.now.trail.at }
+        ensures { result ≡ self.now.pages.at }
     {
-        self.trail.at
+        self.pages.at
     }
 
     /// Whether it is past the last entry.
@@ -94,16 +92,16 @@ impl<'a> Cursor<'a> {
 
     /// The pages from the root page to the one that it is on.
     pub(crate) fn positions(&self) -> &[Position<'a>]
-        ensures { result.now ≡ self.now.trail.stack.items }
+        ensures { result.now ≡ self.now.stack.items }
     {
-        self.trail.stack.as_slice()
+        self.stack.as_slice()
     }
 
     /// The number of pages that its pager has opened.
     pub fn opened(&self) -> u64
         ensures { result ≡ cursor_opened self.now }
     {
-        self.trail.pager.opened()
+        self.pages.pager.opened()
     }
 
     /// The number of keys that were compared since the last `first`, `last` or `seek`, that call
@@ -119,7 +117,11 @@ impl<'a> Cursor<'a> {
         ensures entry { IsCurrent self.now result }
         ensures bucket { HasBucketValue result }
     {
-        self.trail.element()
+        let top = self.stack.last()?;
+        let TreePage::Leaf(page) = top.page else {
+            return None;
+        };
+        Some(page.element((top.taken - 1) as u16))
     }
 
     /// Moves to the first entry, and returns it. If there are no entries, returns `None`.
@@ -133,7 +135,7 @@ impl<'a> Cursor<'a> {
     {
         self.compared = 0;
         self.is_past = false;
-        entry_of(self.trail.start(false))
+        entry_of(self.pages.start(&mut self.stack, false))
     }
 
     /// Moves to the last entry, and returns it. If there are no entries, returns `None`.
@@ -146,7 +148,7 @@ impl<'a> Cursor<'a> {
     {
         self.compared = 0;
         self.is_past = false;
-        entry_of(self.trail.start(true))
+        entry_of(self.pages.start(&mut self.stack, true))
     }
 
     /// Moves to the next entry, and returns it. If there is none, it stays where it is, and returns
@@ -171,10 +173,10 @@ impl<'a> Cursor<'a> {
         ensures none { result ≡ None → cursor_place self.new ≡ cursor_place self.old }
         ensures compared { cursor_compared self.new ≡ cursor_compared self.old }
     {
-        if !self.trail.stack.is_empty() {
-            return entry_of(self.trail.go_further(&mut self.saved, true));
+        if !self.stack.is_empty() {
+            return entry_of(self.go_further(true));
         }
-        let leaf = self.trail.start(true)?;
+        let leaf = self.pages.start(&mut self.stack, true)?;
         self.is_past = false;
         Some(Entry::of(&leaf))
     }
@@ -203,26 +205,43 @@ impl<'a> Cursor<'a> {
         ensures compared { cursor_compared self.new ≡ cursor_compared self.old }
         ensures bucket { HasBucketValue result }
     {
-        let Some(last) = self.trail.stack.len().checked_sub(1) else {
+        let Some(last) = self.stack.len().checked_sub(1) else {
             // After a `seek` that returned nothing, this opens nothing: only all its pages could tell
             // that the bucket is empty.
             if self.is_past {
                 return None;
             }
-            return self.trail.start(false);
+            return self.pages.start(&mut self.stack, false);
         };
-        let top = &self.trail.stack[last];
+        let top = &self.stack[last];
         if let TreePage::Leaf(page) = top.page {
             if top.taken < u32::from(page.count()) {
                 let leaf = page.element(top.taken as u16);
-                self.trail.stack[last].taken += 1;
+                self.stack[last].taken += 1;
                 return Some(leaf);
             }
             if last == 0 {
                 return None;
             }
         }
-        self.trail.go_further(&mut self.saved, false)
+        self.go_further(false)
+    }
+
+    /// Moves from an entry to the next one or, if `back` is set, to the preceding one, past the end
+    /// of the leaf too. If there is none, it stays where it is.
+    #[inline(never)]
+    fn go_further(&mut self, back: bool) -> Option<Leaf<'a>>
+        requires { frames_of self.old.stack.items ≢ [] }
+        ensures goes { Goes back (cursor_trail self.old) (cursor_trail self.new) result }
+        ensures past { self.new.is_past ≡ self.old.is_past }
+        ensures compared { self.new.compared ≡ self.old.compared }
+    {
+        set_positions(&mut self.saved, self.stack.as_slice());
+        if let Some(leaf) = self.pages.go(&mut self.stack, back) {
+            return Some(leaf);
+        }
+        set_positions(&mut self.stack, self.saved.as_slice());
+        None
     }
 
     /// Moves to the first entry whose key isn't below `key`, and returns its element. If there is
@@ -236,10 +255,12 @@ impl<'a> Cursor<'a> {
         ensures compared { SeekCompares key.now self.old self.new }
         ensures bucket { HasBucketValue result }
     {
-        let sought = self.trail.seek(key);
-        self.compared = sought.compared;
-        self.is_past = sought.found.is_none();
-        sought.found
+        self.stack.clear();
+        let root = self.pages.open_root();
+        self.compared = self.pages.descend(&mut self.stack, root, key);
+        let found = self.pages.go(&mut self.stack, false);
+        self.is_past = found.is_none();
+        found
     }
 }
 

@@ -6,6 +6,7 @@
 
 mod at;
 mod bucket;
+mod bucket_pages;
 mod cursor;
 mod entry;
 mod key_search;
@@ -14,7 +15,6 @@ mod members;
 mod open_buckets;
 mod pager;
 mod stack;
-mod trail;
 mod walk;
 
 pub use at::At;

@@ -19,7 +19,20 @@ pub(crate) struct Position<'a> {
 
 impl<'a> Position<'a> {
     ghost use Rattle.bolt_tree.specs.{Private.Contents.content_length, Private.ShownPages.opened_content};
-    ghost use Rattle.bolt_tree.specs.{Private.Stacks.IsBeside, Private.Stacks.IsLast, Private.Trails.frame_of};
+    ghost use Rattle.bolt_tree.specs.{Private.Stacks.IsBeside, Private.Stacks.IsLast, Private.Trails.edge_of, Private.Trails.frame_of};
+
+    /// A page before its first element or, if `at_end` is set, past its last.
+    pub fn at_edge(page: TreePage<'a>, at_end: bool) -> Position<'a>
+        ensures frame { frame_of result ≡ edge_of at_end (opened_content page.entry) }
+        ensures fits { result.taken ≤ 65536 }
+    {
+        let taken = if at_end {
+            u32::from(page.count()) + 1
+        } else {
+            0
+        };
+        Position { page, taken }
+    }
 
     /// The next element or, if `back` is set, the preceding one.
     #[tactic(auto, using(crate::proofs::WayPages::length_keys))]

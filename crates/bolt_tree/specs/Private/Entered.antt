@@ -19,11 +19,6 @@ IsEntered contents at_end (Of_branch elements) i below new (Some e) = ⊥
 IsEntered contents at_end (Of_branch elements) i below new None = (d : BranchElement) × (slice_get elements i ≡ Some d)
     × (new ≡ record { content = contents d.child; taken = taken_at at_end (contents d.child) } ∷ record { content = Of_branch elements; taken = i + 1 } ∷ below)
 
--- how many pages it opens
-abbrev pub entered_pages : Option LeafElement → ℕ
-entered_pages None = 1
-entered_pages (Some e) = 0
-
 -- how many pages come later than where a move comes to: none at the end
 abbrev pub opened_to : Option LeafElement → List TourPage → ℕ
 opened_to (Some e) right = length right

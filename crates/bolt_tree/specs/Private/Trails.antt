@@ -1,4 +1,4 @@
--- What a trail shows: its bucket, and its stack with the top first.
+-- What a stack on a bucket's pages shows: the bucket, and the stack with its top first.
 use Rattle.std.specs.Prelude.{◌≡◌, ◌-◌, ◌∷◌, ◌++◌, [], ℕ, Bool, true, false, IfSome, IsTrue, List, MatchOption, Option, Some}
 use Rattle.std.specs.Prelude.{drop, length, map, reverse, slice_get}
 use Rattle.std.specs.Option.{option_map}
@@ -6,9 +6,9 @@ use Rattle.bolt_format.specs.{ElementPlaces.leaf_view, Elements.BranchElement, E
 use Rattle.bolt_check.specs.{Counts.counted, Keys.Key}
 use Rattle.bolt_tree.specs.{BucketViews.BucketView, BucketViews.bucket_in, Private.BucketPages.IsSoundBucket, Private.BucketPages.contents_in}
 use Rattle.bolt_tree.specs.{Pagers.pager_checked, Pagers.pager_opened, Private.ShownPages.opened_content}
-use Rattle.bolt_tree.specs.Private.{Contents.Content, Contents.Contents, Entered.IsEntered, Entered.opened_to, Entered.taken_at}
+use Rattle.bolt_tree.specs.Private.{Contents.Content, Contents.Contents, Entered.opened_to, Entered.taken_at}
 use Rattle.bolt_tree.specs.Private.Stacks.{Frame, HasStack, IsAtRest, IsOn, ahead_of, before_of, preceding_of, later_of}
-use Rattle.bolt_tree.specs.{Places.least_from, Starts.start_at, Private.Tours.TourPage, declared.stack.Position.Position, declared.trail.Trail.Trail}
+use Rattle.bolt_tree.specs.{Places.least_from, Starts.start_at, Private.Tours.TourPage, declared.bucket_pages.BucketPages.BucketPages, declared.pager.Pager.Pager, declared.stack.Position.Position}
 
 abbrev pub frame_of : Position → Frame
 frame_of position = record { content = opened_content position.page; taken = position.taken }
@@ -16,28 +16,39 @@ frame_of position = record { content = opened_content position.page; taken = pos
 abbrev pub frames_of : List Position → List Frame
 frames_of positions = map frame_of (reverse positions)
 
+-- a bucket's pages, and the positions of a stack on them
+pub record Trail : Type 0 where
+  pub pages : BucketPages
+  pub positions : List Position
+
+abbrev pub trail_on : BucketPages → List Position → Trail
+trail_on pages positions = record { pages = pages; positions = positions }
+
+abbrev pub pages_bucket : BucketPages → BucketView
+pages_bucket pages = bucket_in (pager_checked pages.pager) (start_at pages.at)
+
 abbrev pub trail_bucket : Trail → BucketView
-trail_bucket trail = bucket_in (pager_checked trail.pager) (start_at trail.at)
+trail_bucket trail = pages_bucket trail.pages
 
 abbrev pub trail_frames : Trail → List Frame
-trail_frames trail = frames_of trail.stack.items
+trail_frames trail = frames_of trail.positions
 
--- it is over a bucket of a sound tree, and its stack is one of that bucket
-abbrev pub HasBucket : Trail → Type 0
-HasBucket trail = ∥ IsSoundBucket (trail_bucket trail) ∥₁
+-- they are those of a bucket of a sound tree, and the stack is one of that bucket
+abbrev pub HasBucket : BucketPages → Type 0
+HasBucket pages = ∥ IsSoundBucket (pages_bucket pages) ∥₁
 
 abbrev pub HasTrail : Trail → Type 0
 HasTrail trail = HasStack (trail_bucket trail) (trail_frames trail)
 
 -- it has moved: it is over the same bucket of the same file, and its stack is one of that bucket
 pub record IsMoved (old new : Trail) : Type 0 where
-  pub file : pager_checked new.pager ≡ pager_checked old.pager
-  pub at : new.at ≡ old.at
+  pub file : pager_checked new.pages.pager ≡ pager_checked old.pages.pager
+  pub at : new.pages.at ≡ old.pages.at
   pub stack : HasTrail new
 
--- it has opened so many pages more
-abbrev pub HasOpened : ℕ → (old new : Trail) → Type 0
-HasOpened n old new = pager_opened new.pager ≡ counted (pager_opened old.pager) n
+-- a pager has opened so many pages more
+abbrev pub HasOpened : ℕ → (old new : Pager) → Type 0
+HasOpened n old new = pager_opened new ≡ counted (pager_opened old) n
 
 -- its stack with a page on top
 abbrev pub trail_with : Content → ℕ → Trail → List Frame
@@ -50,14 +61,9 @@ HasRoom content taken trail = HasStack (trail_bucket trail) (trail_with content 
 abbrev pub edge_of : Bool → Content → Frame
 edge_of at_end content = record { content = content; taken = taken_at at_end content }
 
--- element i of a page is entered
-abbrev pub Enters : Bool → Content → ℕ → (old new : Trail) → Option Leaf → Type 0
-Enters at_end content i old new found =
-    IsEntered (contents_in (trail_bucket old)) at_end content i (trail_frames old) (trail_frames new) (option_map leaf_view found)
-
 -- element i of a branch leads to a page
-abbrev pub LeadsTo : Trail → List BranchElement → ℕ → Content → Type 0
-LeadsTo trail elements i content = (e : BranchElement) × (slice_get elements i ≡ Some e) × (content ≡ contents_in (trail_bucket trail) e.child)
+abbrev pub LeadsTo : BucketPages → List BranchElement → ℕ → Content → Type 0
+LeadsTo pages elements i content = (e : BranchElement) × (slice_get elements i ≡ Some e) × (content ≡ contents_in (pages_bucket pages) e.child)
 
 -- what lies in a direction, forward or back: the entries, and the pages
 abbrev pub entries_to : Bool → Contents → List Frame → List LeafElement
@@ -107,5 +113,5 @@ pub record Goes (back : Bool) (old new : Trail) (gives : Option Leaf) : Type 0 w
   pub rest : IsAtRest (trail_frames new)
   pub found : Finds back gives (entries_left back old) (entries_left back new) (trail_frames new) (trail_frames old)
   pub bucket : IfSome gives (λ leaf. IsTrue leaf.is_bucket → IsBucketValue leaf.value.now)
-  pub opened : pager_opened new.pager
-      ≡ counted (pager_opened old.pager) (length (pages_left back old) - opened_to (option_map leaf_view gives) (pages_left back new))
+  pub opened : pager_opened new.pages.pager
+      ≡ counted (pager_opened old.pages.pager) (length (pages_left back old) - opened_to (option_map leaf_view gives) (pages_left back new))

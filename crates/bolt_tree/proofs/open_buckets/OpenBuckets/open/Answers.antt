@@ -31,7 +31,7 @@ pub invariant_of-self-2 : goal.invariant_of-self-2
 invariant_of-self-2 c =
     let cursors = c.args.self.now in
     let file = innermost_file cursors.checked cursors.waiting.items cursors.positions.items cursors.innermost c.in-Some.cursor cursors.kept c.in-Some.is in
-    let put = put_last cursors.waiting.items c.reserve-2.new.self.items c.push_reserved.new.self.items c.at.result c.in-Some.cursor.trail.at c.is_past.result c.in-Some.cursor.is_past c.len-begin.result
+    let put = put_last cursors.waiting.items c.reserve-2.new.self.items c.push_reserved.new.self.items c.at.result c.in-Some.cursor.pages.at c.is_past.result c.in-Some.cursor.is_past c.len-begin.result
     c.push_reserved.ensures.items c.reserve-2.ensures.items c.at.ensures c.is_past.ensures in
     let more = c.in_ok-extend_from_slice.ensures.items ∙ ap (λ (ps : List Position). cursors.positions.items ++ ps) c.positions.ensures in
     record {
@@ -44,7 +44,7 @@ pub returns-clause-cursors : goal.returns-clause-cursors
 returns-clause-cursors c =
     let cursors = c.args.self.now in
     let file = innermost_file cursors.checked cursors.waiting.items cursors.positions.items cursors.innermost c.in-Some.cursor cursors.kept c.in-Some.is in
-    let put = put_last cursors.waiting.items c.reserve-2.new.self.items c.push_reserved.new.self.items c.at.result c.in-Some.cursor.trail.at c.is_past.result c.in-Some.cursor.is_past c.len-begin.result
+    let put = put_last cursors.waiting.items c.reserve-2.new.self.items c.push_reserved.new.self.items c.at.result c.in-Some.cursor.pages.at c.is_past.result c.in-Some.cursor.is_past c.len-begin.result
     c.push_reserved.ensures.items c.reserve-2.ensures.items c.at.ensures c.is_past.ensures in
     let more = c.in_ok-extend_from_slice.ensures.items ∙ ap (λ (ps : List Position). cursors.positions.items ++ ps) c.positions.ensures in
     opens_fresh _ _ (cursor_view c.begin.new.self) (fresh_view c.args.bucket)
