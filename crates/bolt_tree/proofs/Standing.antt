@@ -5,12 +5,7 @@ use Rattle.bolt_tree.specs.{Lookups.IsBucketOf, Lookups.IsBucketOn, Places.IsEnt
 use Rattle.bolt_tree.proofs.{BucketWays.starts_below, EntryOrder.contains_at, PlaceMoves.current, PlaceMoves.the_entries, RestingLemmas.past_empty, RestingLemmas.resting_bucket}
 use Rattle.bolt_tree.proofs.{RestingLemmas.resting_stack, SortedLemmas.sorted, TrailLemmas.frames_push}
 
--- without a last position a stack is empty
-pub no_last : (items : List Position) → None ≡ slice_get items (length items - 1) → frames_of items ≡ []
-no_last [] none = refl
-no_last (p ∷ items) none = absurd (none-some _ (none ∙ slice_get-get_or (p ∷ items) (length (p ∷ items) - 1) p (omega arith)))
-
--- and with one, that is its top
+-- the last position of a stack is its top
 last_on : (items : List Position) (top : Position) → slice_get items (length items - 1) ≡ Some top → frames_of items ≡ frame_of top ∷ frames_of (take (length items - 1) items)
 last_on items top at =
     let last = length items - 1 in

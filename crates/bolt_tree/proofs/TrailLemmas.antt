@@ -1,10 +1,8 @@
 -- What the moves of a trail do to its stack.
 use Rattle.std.proofs.lemmas.Grind.{common_steps}
 use Rattle.std.proofs.Common.{◌≡◌, ◌==◌, ℕ, suc, ◌+◌, ◌-◌, ◌≤◌, ◌<◌, Bool, true, false, List, [], ◌∷◌, ◌++◌, Some, None, slice_get, length, map, reverse, drop, refl, sym, ap, ◌∙◌, subst, arith, append_assoc, append-nil}
-use Rattle.bolt_tree.proofs.Words.{BranchElement, BucketPages, BucketView, Content, Contents, Frame, HasBucket, HasStack, HasTrail, IsBranchContent, IsBranchTop, IsEntered, IsOn, IsMoved, LeafElement, Of_branch, Of_leaf, Position, RestsOn, Trail, TourPage, TreePage, address_on, ahead_of, content_length, contents_in, drop_all, drop_at, frame_of, frames_of, here_of, here_under, length-map, length-reverse, nat_tests, opened_content, option_to_list, pages_bucket, props, reverse-append, later_of, later_under, tour, taken_at, trail_bucket, trail_frames, trail_on, under_at, ∥∥₁_elim, ∥∥₁_map}
+use Rattle.bolt_tree.proofs.Words.{BranchElement, BucketPages, BucketView, Content, Contents, Frame, HasBucket, HasStack, HasTrail, IsBranchContent, IsBranchTop, IsEntered, IsOn, IsMoved, LeafElement, Of_branch, Of_leaf, Position, Trail, TourPage, address_on, ahead_of, content_length, contents_in, drop_all, drop_at, frame_of, frames_of, here_of, here_under, length-map, length-reverse, nat_tests, option_to_list, pages_bucket, props, reverse-append, later_of, later_under, tour, taken_at, trail_bucket, trail_frames, trail_on, under_at, ∥∥₁_elim, ∥∥₁_map}
 use Rattle.bolt_tree.proofs.StackLemmas.{branch_room, retaken, stack_short, under_next}
-use Rattle.bolt_format.specs.declared.tree_page.LeafPage.{LeafPage}
-use Rattle.bolt_format.specs.declared.tree_page.TreePage.TheVariants as page
 
 -- one equation moves every fact of a bucket
 pub same_bucket : (old new : Trail) → IsMoved old new → trail_bucket new ≡ trail_bucket old

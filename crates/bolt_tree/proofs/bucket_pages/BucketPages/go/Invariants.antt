@@ -1,5 +1,5 @@
 use Rattle.std.proofs.Common.{◌≡◌, ◌≤◌, ◌-◌, ◌+◌, ◌*◌, length}
-use Rattle.bolt_tree.proofs.Words.{IsMoved, Trail, counted, entries_left, pager_opened, pages_left, trail_on}
+use Rattle.bolt_tree.proofs.Words.{IsMoved, counted, entries_left, pager_opened, pages_left, trail_on}
 use Rattle.bolt_tree.proofs.bucket_pages.BucketPages.go.Given as goal
 
 abbrev pub invariant-loop-top : goal.invariant-loop-top

@@ -1,5 +1,5 @@
-use Rattle.std.proofs.Common.{◌≡◌, ◌∷◌, ◌∙◌, ◌+◌, List, sym, ap, subst, arith, refl}
-use Rattle.bolt_tree.proofs.Words.{BucketView, Frame, HasStack, Of_branch, branch_view, branches_on, contents_in, frames_of, opened_content, pages_bucket}
+use Rattle.std.proofs.Common.{◌≡◌, ◌∷◌, ◌+◌, arith, refl}
+use Rattle.bolt_tree.proofs.Words.{HasStack, Of_branch, branch_view, branches_on, frames_of, opened_content, pages_bucket}
 use Rattle.bolt_tree.proofs.{StackLemmas.child_pushed, StackLemmas.child_way, StackLemmas.retaken, TrailLemmas.frames_pop, TrailLemmas.moved_stack}
 use Rattle.bolt_tree.proofs.bucket_pages.BucketPages.go_under.Goals as goal
 use Rattle.bolt_tree.proofs.bucket_pages.BucketPages.go_under.Goals.{After-open_tree_page}

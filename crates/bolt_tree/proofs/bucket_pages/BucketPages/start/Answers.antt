@@ -1,7 +1,7 @@
-use Rattle.std.proofs.Common.{◌≡◌, ◌∷◌, ◌∙◌, ◌++◌, [], Bool, suc, length, List, ap, refl, arith}
-use Rattle.bolt_tree.proofs.Words.{Content, Frame, Position, elements_in, entries_left, frame_of, frames_of, pages_bucket, pages_in, pages_left, root_content, taken_at, trail_on}
+use Rattle.std.proofs.Common.{◌≡◌, ◌∷◌, ◌++◌, [], Bool, suc, length, List, refl, arith}
+use Rattle.bolt_tree.proofs.Words.{Content, Position, elements_in, entries_left, frame_of, frames_of, pages_bucket, pages_in, pages_left, root_content, taken_at, trail_on}
 use Rattle.bolt_tree.proofs.{MoveLemmas.at_edge, PagerLemmas.counted_more, StackLemmas.root_stack}
-use Rattle.bolt_tree.proofs.TrailLemmas.{edge_room, frames_pop}
+use Rattle.bolt_tree.proofs.TrailLemmas.{edge_room}
 use Rattle.bolt_tree.proofs.bucket_pages.BucketPages.start.Goals as goal
 use Rattle.bolt_tree.proofs.bucket_pages.BucketPages.start.Goals.{After-go}
 

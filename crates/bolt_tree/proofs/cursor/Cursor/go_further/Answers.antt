@@ -1,4 +1,4 @@
-use Rattle.std.proofs.Common.{◌∙◌, ◌≡◌, List, refl}
+use Rattle.std.proofs.Common.{◌∙◌, ◌≡◌}
 use Rattle.bolt_tree.proofs.Words.{IsMoved, cursor_trail, trail_on}
 use Rattle.bolt_tree.proofs.{RestingLemmas.moved_resting, RestingLemmas.resting_rest, RestingLemmas.resting_stack, TrailLemmas.kept_stack}
 use Rattle.bolt_tree.proofs.cursor.Cursor.go_further.Goals as goal

@@ -1,4 +1,4 @@
-use Rattle.std.proofs.Common.{arith, false}
+use Rattle.std.proofs.Common.{arith}
 use Rattle.bolt_tree.proofs.Words.{cursor_checked, cursor_opened, cursor_place, cursor_start, cursor_trail}
 use Rattle.bolt_tree.proofs.{TakingNext.moves_there, TakingNext.opens_none, TakingNext.opens_there, TakingNext.rests_there, TakingNext.stays_there, TrailLemmas.filled, TrailLemmas.unfilled}
 use Rattle.bolt_tree.proofs.RestingLemmas.{moves_next, moves_next_first, opens_next, opens_next_first}
