@@ -13,6 +13,7 @@ pub mod Lists
 pub mod LoneLeaves
 pub mod Nodes
 pub mod OnWays
+pub mod Ones
 pub mod Private
 pub mod RoledFiles
 pub mod Roles

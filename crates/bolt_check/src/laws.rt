@@ -4,7 +4,7 @@ ghost use Rattle.std.specs.Prelude.{◌≡◌, ◌≢◌, ◌↔◌, ◌<◌, �
 ghost use Rattle.bolt_format.specs.{Elements.BranchElement, Elements.LeafElement, Elements.head_root, Pages.PageView, Pages.page_at};
 ghost use Rattle.bolt_format.specs.declared.header.Kind.TheVariants as kind;
 ghost use Rattle.bolt_format.specs.declared.meta.Meta.{Meta};
-ghost use Rattle.bolt_check.specs.{Nodes.node_at, OnWays.IsOnWay, OnWays.reach_of, Roles.AreRoles, Roles.HasRole};
+ghost use Rattle.bolt_check.specs.{Nodes.node_at, Ones.AtMostOne, OnWays.IsOnWay, OnWays.reach_of, Roles.AreRoles, Roles.HasRole};
 ghost use Rattle.bolt_check.specs.Sound.{AreFindingsOfAccounts, HasRightAccounts, HasSoundTrees, IsFirstFinding, PassesTests};
 ghost use Rattle.bolt_check.specs.{Tours.IsTour, Ways.At_page, Ways.Reach, Ways.reached, Ways.root_spot, declared.finding.Finding.Finding, declared.role_table.Role.Role};
 
@@ -24,22 +24,20 @@ pub fn sound_trees_have_no_finding()
 /// There is at most one first finding, so which one is reported doesn't depend on how it is searched
 /// for.
 pub fn first_finding_is_one()
-    ensures { (file : List ℕ) (meta : Meta) (x y : Finding) → IsFirstFinding file meta x
-        → IsFirstFinding file meta y → x ≡ y }
+    ensures { (file : List ℕ) (meta : Meta) → AtMostOne (IsFirstFinding file meta) }
 {}
 
 /// There is one list of findings of the accounts, so what is reported of them, and in which order,
 /// doesn't depend on how it is searched for.
 pub fn account_findings_are_one()
-    ensures { (file : List ℕ) (meta : Meta) (a b : List Finding) → AreFindingsOfAccounts file meta a
-        → AreFindingsOfAccounts file meta b → a ≡ b }
+    ensures { (file : List ℕ) (meta : Meta) → AtMostOne (AreFindingsOfAccounts file meta) }
 {}
 
 /// In a sound file a page has at most one role.
 #[tactic(auto, using(crate::proofs::RoleOnce::role_once))]
 pub fn role_is_one()
-    ensures { (file : List ℕ) (meta : Meta) (n : ℕ) (a b : Role) → HasSoundTrees file meta → HasRightAccounts file meta
-        → HasRole file meta n a → HasRole file meta n b → a ≡ b }
+    ensures { (file : List ℕ) (meta : Meta) (n : ℕ) → HasSoundTrees file meta → HasRightAccounts file meta
+        → AtMostOne (HasRole file meta n) }
 {}
 
 /// In a sound file each page below the high-water mark has a role.
@@ -79,5 +77,5 @@ pub fn tour_exists()
 /// There is at most one tour: it lists exactly the ways that lead somewhere, and these have one
 /// order.
 pub fn tour_is_one()
-    ensures { (reach : Reach) (a b : List (List ℕ)) → IsTour reach a → IsTour reach b → a ≡ b }
+    ensures { (reach : Reach) → AtMostOne (IsTour reach) }
 {}

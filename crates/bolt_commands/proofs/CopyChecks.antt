@@ -7,7 +7,7 @@ use Rattle.bolt_check.specs.declared.fault.CheckFault.TheVariants as check
 use Rattle.bolt_etcd.specs.declared.snapshot.SnapshotFault.{SnapshotFault}
 use Rattle.bolt_etcd.proofs.SnapshotLemmas.{no_fault_iff}
 use Rattle.bolt_check.specs.Lists.{Has}
-use Rattle.bolt_recover.specs.Surveys.{IsSurvey, SurveyedWay}
+use Rattle.bolt_recover.specs.Surveys.{ForSurveys, IsSurvey, LosesNothing, SurveyedWay}
 use Rattle.bolt_job.specs.declared.choices.Extent.TheVariants.{LostAndFound}
 use Rattle.bolt_commands.specs.declared.failure.Failure.TheVariants as failure
 use Rattle.bolt_commands.proofs.ReadFiles.{read_active, refused_active}
@@ -19,7 +19,7 @@ use Rattle.bolt_check.specs.declared.finding.Finding.{Finding}
 pub record Laws : Type 0 where
   pub one : (file : List ℕ) (slot : Slot) (meta : Meta) → IsActive file slot meta → (other : Slot) (another : Meta) → IsActive file other another
       → (other ≡ slot) × (another ≡ meta)
-  pub lose : (file : List ℕ) (meta : Meta) (survey : List SurveyedWay) (v : SurveyedWay) → HasSoundTrees file meta → IsSurvey file meta survey → Has survey v → v.found ≡ None
+  pub lose : ForSurveys (λ file meta survey. HasSoundTrees file meta → LosesNothing survey)
 
 one_active : Laws → (file : List ℕ) (slot : Slot) (meta : Meta) → IsActive file slot meta → NamesOne file Active meta
 one_active laws file slot meta chosen other (another, is) = (laws.one file slot meta chosen another other is).1
@@ -84,7 +84,7 @@ module _ (laws : Laws) (for_bbolt : Bool) (faults : FileFaults) (file : List ℕ
   none_lost : (own : Meta) (losses : List LossView) → IsMetaOf file Active own → AreLosses file own losses → losses ≡ []
   none_lost own losses is (survey, surveys, same) =
       let trees = subst (HasSoundTrees file) (sym (one own is)) sound.trees in
-      same ∙ none_of file own survey (λ v has. laws.lose file own survey v trees surveys has)
+      same ∙ none_of file own survey (laws.lose file own survey surveys trees)
 
   fine_lost : (extent : Extent) → IsLostAnswer extent for_bbolt faults file Active answer → IsFine answer
   fine_lost extent (inl (own, parts reported, pages, is, (keeps, all), finds, answers)) =

@@ -6,7 +6,6 @@ pub mod KeptPages
 pub mod Losses
 pub mod Lost
 pub mod LostAndFound
-pub mod Ones
 pub mod PageKeys
 pub mod PageWays
 pub mod Sites

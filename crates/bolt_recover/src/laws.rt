@@ -1,8 +1,8 @@
 //! What the definitions of recovery imply.
 ghost use Rattle.std.specs.List.{Contains, count_by};
-ghost use Rattle.std.specs.Prelude.{◌≡◌, ◌≢◌, ◌<◌, ◌⊎◌, ◌*◌, ◌^◌, ◌∷◌, ℕ, [], List, None, filter, is_some, length, not};
+ghost use Rattle.std.specs.Prelude.{◌≡◌, ◌≢◌, ◌<◌, ◌⊎◌, ◌*◌, ◌^◌, ◌∷◌, ℕ, [], List, filter, is_some, length, not};
 ghost use Rattle.bolt_format.specs.{Bytes.IsBytes, declared.meta.Meta.Meta};
-ghost use Rattle.bolt_check.specs.{Lists.Has, LoneLeaves.IsListedFree, LoneLeaves.IsLoneLeaf, Nodes.node_at, Sound.HasSoundTrees, Sound.IsFirstFinding};
+ghost use Rattle.bolt_check.specs.{Lists.Has, LoneLeaves.IsListedFree, LoneLeaves.IsLoneLeaf, Nodes.node_at, Ones.AtMostOne, Sound.HasSoundTrees, Sound.IsFirstFinding};
 ghost use Rattle.bolt_check.specs.{declared.finding.Finding.Finding};
 ghost use Rattle.bolt_tree.specs.{Entries.Bucket, Listing.IsListing, Listing.Member, Listing.member_cmp, Order.Rises, Tree.Tree, Tree.listing_of};
 ghost use Rattle.bolt_recover.specs.Found.{AreFound, IsFoundPage, ForFoundPages, Spans};
@@ -12,7 +12,6 @@ ghost use Rattle.bolt_recover.specs.{Losses.AreLosses, Losses.LossView, Losses.l
 ghost use Rattle.bolt_recover.specs.{Recovered.AreInTheirBuckets, Recovered.IsRecovered, Recoveries.recovery_file};
 ghost use Rattle.bolt_recover.specs.Surveys.{IsSurvey, LosesNothing, SurveyedWay, lost, ForSurveys, ForLostWays, LosesNothingBefore, ForSurvey};
 ghost use Rattle.bolt_recover.specs.Sites.{AtSite};
-ghost use Rattle.bolt_recover.specs.Ones.{AtMostOne};
 
 use crate::joined::Joined;
 use crate::recovery::Recovery;
@@ -60,8 +59,7 @@ pub fn losses_are_one()
 
 /// Sound trees lose nothing.
 pub fn sound_trees_lose_nothing()
-    ensures { (file : List ℕ) (meta : Meta) (all : List SurveyedWay) (v : SurveyedWay)
-        → HasSoundTrees file meta → IsSurvey file meta all → Has all v → v.found ≡ None }
+    ensures { ForSurveys (λ file meta survey. HasSoundTrees file meta → LosesNothing survey) }
 {}
 
 /// The recovered listing of sound trees is their listing.

@@ -7,7 +7,7 @@ ghost use Rattle.bolt_text.specs.Forms.{digits_json, item_json, json_text};
 ghost use Rattle.bolt_report.specs.FigureReadings.{HaveWords, figures_of, ReadsSizesBack};
 ghost use Rattle.bolt_text.specs.JsonReadings.{digits_of, item_of};
 ghost use Rattle.bolt_report.specs.SizeLines.{AreSized, Sized};
-ghost use Rattle.bolt_recover.specs.Ones.{AtMostOne};
+ghost use Rattle.bolt_check.specs.Ones.{AtMostOne};
 ghost use Rattle.bolt_tree.specs.Laws.{ForSorted};
 
 /// The buckets among the entries of a bucket have at most one list of sizes.

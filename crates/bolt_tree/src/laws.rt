@@ -2,7 +2,7 @@
 ghost use Rattle.std.specs.Prelude.{◌≡◌, ◌≢◌, ℕ, List, ◌∷◌, []};
 ghost use Rattle.std.specs.List.{Contains, take_while};
 ghost use Rattle.bolt_format.specs.{Elements.LeafElement, Elements.head_root, Elements.inline_elements, declared.meta.Meta.Meta};
-ghost use Rattle.bolt_check.specs.Sound.{HasSoundTrees};
+ghost use Rattle.bolt_check.specs.{Ones.AtMostOne, Sound.HasSoundTrees};
 ghost use Rattle.bolt_tree.specs.Entries.{AreEntries, Inline_page, IsEntry, IsStart, Item, Root_page, Start};
 ghost use Rattle.bolt_tree.specs.Laws.{ForBucketElements, ForBuckets, ForListings, ForSorted, SeeksAreBounded, SeeksAreCounted};
 ghost use Rattle.bolt_tree.specs.{Listing.IsListing, Listing.Lists, Listing.Member, Listing.member_cmp, Listing.rest_from, Openings.GapsCoverAll};
@@ -30,8 +30,7 @@ pub fn sorted_entries_exist()
 
 /// There is at most one list of the entries of a bucket in order.
 pub fn sorted_entries_are_one()
-    ensures { (file : List ℕ) (meta : Meta) (start : Start) (a b : List LeafElement) → AreEntries (IsEntry file meta) start a
-        → AreEntries (IsEntry file meta) start b → a ≡ b }
+    ensures { (file : List ℕ) (meta : Meta) (start : Start) → AtMostOne (AreEntries (IsEntry file meta) start) }
 {}
 
 /// The pages between each entry and the next have a number, and so have those before the first and
@@ -53,7 +52,7 @@ pub fn seeks_are_bounded()
 
 /// A file has at most one listing.
 pub fn listing_is_one()
-    ensures { (file : List ℕ) (meta : Meta) (a b : List Member) → IsListing file meta a → IsListing file meta b → a ≡ b }
+    ensures { (file : List ℕ) (meta : Meta) → AtMostOne (IsListing file meta) }
 {}
 
 /// A file with sound trees has a listing.

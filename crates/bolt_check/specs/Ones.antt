@@ -1,4 +1,4 @@
--- What a file has at most one of.
+-- What there is at most one of.
 use Rattle.std.specs.Prelude.{◌≡◌}
 
 -- two that are so are the same
