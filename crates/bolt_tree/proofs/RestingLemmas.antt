@@ -1,7 +1,7 @@
 -- What a cursor keeps, and its moves by those of its trail.
-use Rattle.std.proofs.Common.{arith, ◌≡◌, ◌∙◌, ℕ, ◌-◌, ◌≤◌, Bool, true, false, List, [], ◌∷◌, Option, None, length, drop, ap, refl, subst}
+use Rattle.std.proofs.Common.{arith, ◌≡◌, ◌∙◌, ℕ, ◌-◌, ◌≤◌, Bool, true, false, List, [], ◌∷◌, Option, None, Some, length, drop, ap, refl, subst}
 use Rattle.std.proofs.lemmas.Grind.{common_steps}
-use Rattle.bolt_tree.proofs.Words.{BucketView, Content, Contents, EntryView, Finds, Frame, HasBucket, HasStack, HasTrail, IsAtRest, IsEntry, IsResting, IsMoved, Key, Leaf, LeafElement, Move, Moves, Of_branch, Of_leaf, OpensByNext, OpensGap, Place, RestsOn, ShowsMove, Start, Trail, ahead, contents_in, counted, elements_in, entry_view, first_move, is_none, last_move, leaf_view, least_from, next_move, opened_to, option_map, pages_in, place_by, place_in, place_on, preceding, prev_move, props, pages_ahead, seek_move, trail_bucket, trail_frames, ∥∥₁_elim}
+use Rattle.bolt_tree.proofs.Words.{BucketView, Content, Contents, EntryView, Finds, Frame, HasBucket, HasStack, HasTrail, IsAtRest, IsEntry, IsResting, IsMoved, Key, Leaf, LeafElement, MatchOption, Move, Moves, Of_branch, Of_leaf, OpensByNext, OpensGap, Place, RestsOn, ShowsMove, Start, Trail, ahead, contents_in, counted, elements_in, entry_view, first_move, is_none, last_move, leaf_view, least_from, next_move, opened_to, option_map, pages_in, place_by, place_in, place_on, preceding, prev_move, props, pages_ahead, seek_move, trail_bucket, trail_frames, ∥∥₁_elim, ∥∥₁_map}
 use Rattle.bolt_tree.proofs.OpeningMoves.{first_opens, next_opens}
 use Rattle.bolt_tree.proofs.PlaceMoves.{Comes, first_moves, go_moves, last_moves, seek_moves, stack_bucket, the_entries}
 use Rattle.bolt_tree.proofs.TrailLemmas.{empty_stack, same_bucket}
@@ -33,6 +33,10 @@ past_empty trail is_past resting past = ∥∥₁_elim resting (Prim.hlevel prop
 pub not_past : (trail : Trail) (is_past : Bool) → ∥ IsResting trail is_past ∥₁ → (trail_frames trail ≡ [] → ⊥) → is_past ≡ false
 not_past trail false resting h = refl
 not_past trail true resting h = absurd (h (∥∥₁_elim resting (Prim.hlevel props) (λ k. k.empty refl)))
+
+-- a cursor that rests may be no more past the last entry
+pub not_past_resting : (trail : Trail) (is_past : Bool) → ∥ IsResting trail is_past ∥₁ → ∥ IsResting trail false ∥₁
+not_past_resting trail is_past resting = ∥∥₁_map resting (λ h. record { stack = h.stack; rest = h.rest; empty = λ e. absurd (let no : false ≡ true = e in cc) })
 
 -- so it is after a move from an entry
 pub moved_resting : (old new : Trail) (is_past : Bool) → ∥ IsResting old is_past ∥₁ → (trail_frames old ≡ [] → ⊥) → IsMoved old new → IsAtRest (trail_frames new) → ∥ IsResting new is_past ∥₁
@@ -123,3 +127,17 @@ module _ (old new : Trail) (moved : IsMoved old new) (is_past : Bool) (resting :
         → after ≡ counted before (length (pages_ahead old) - opened_to (option_map leaf_view found) (pages_ahead new)) → OpensByNext (trail_bucket old) (place_by is_past (contents_in (trail_bucket old)) (trail_frames old)) before after
     opens_next before after h opened = rw (not_past old is_past resting some) (next_opens (trail_bucket old) found (trail_frames old) (trail_frames new) before after is
         (resting_stack old is_past resting) (resting_rest old is_past resting) some there (rw moved.file at h) (rw moved.file at opened))
+
+-- a move to an entry takes a cursor from past the last one, and without an entry it stays there
+abbrev IsPastStill : (was now : Bool) → Option Leaf → Type 0
+IsPastStill was now found = MatchOption found (now ≡ was) (λ leaf. now ≡ false)
+
+pub not_past_still : (was now : Bool) (found : Option Leaf) → IsPastStill was now found → was ≡ false → now ≡ false
+not_past_still was now found still is = grind arith
+
+pub moves_prev_start : (old new : Trail) (moved : IsMoved old new) (is_past now : Bool) (resting : ∥ IsResting old is_past ∥₁) (found : Option Leaf) → trail_frames old ≡ []
+    → Finds true found (elements_in (trail_bucket old)) (preceding new) (trail_frames new) [] → IsPastStill is_past now found
+    → Moves (IsEntry (trail_bucket old).file (trail_bucket old).meta) (trail_bucket old).start prev_move
+    (place_by is_past (contents_in (trail_bucket old)) (trail_frames old)) (place_by now (contents_in (trail_bucket new)) (trail_frames new)) (option_map leaf_view found)
+moves_prev_start old new moved is_past now resting None empty h still = moves_nowhere old new moved is_past resting None _ _ refl h.0
+moves_prev_start old new moved is_past now resting (Some leaf) empty h still = rw still (moves_prev_last old new moved is_past resting (Some leaf) empty h)

@@ -1,6 +1,6 @@
 -- The entry that a trail rests on: an element of the page on top of its stack.
 use Rattle.std.proofs.Common.{rules, ◌≡◌, ◌∙◌, ℕ, suc, ◌-◌, ◌≤◌, Bool, true, false, List, [], ◌∷◌, ◌++◌, Some, None, Option, slice_get, length, take, refl, sym, ap, subst, arith}
-use Rattle.bolt_tree.proofs.Words.{Bucket, BucketView, Checked, Contains, Cursor, Content, Frame, HasStack, HasStart, HasTrail, IsAtRest, IsLeafContent, IsOn, IsResting, Leaf, LeafElement, MatchOption, Place, Position, RestsOn, Trail, content_length, contents_in, cursor_checked, cursor_place, cursor_start, cursor_trail, elements_in, entries_of, frame_of, frames_of, leaf_view, none-some, opened_content, option_map, pager_checked, place_by, props, slice_get-get_or, slice_get_within, start_at, start_of, take_all, take_next, trail_bucket, trail_frames, ∥∥₁_elim, ∥∥₁_map}
+use Rattle.bolt_tree.proofs.Words.{Bucket, BucketView, Checked, Contains, Cursor, Content, Frame, HasStack, HasStart, HasTrail, IsAtRest, IsLeafContent, IsOn, IsResting, Leaf, LeafElement, MatchOption, Place, Position, RestsOn, Trail, content_length, contents_in, cursor_checked, cursor_place, cursor_start, cursor_trail, elements_in, entries_of, frame_of, frames_of, leaf_view, none-some, opened_content, option_map, pager_checked, place_by, props, slice_get_within, start_at, start_of, take_all, take_next, trail_bucket, trail_frames, ∥∥₁_elim, ∥∥₁_map}
 use Rattle.bolt_tree.specs.{Lookups.IsBucketOf, Lookups.IsBucketOn, Places.IsEntryAt, Places.entry_at}
 use Rattle.bolt_tree.proofs.{BucketWays.starts_below, EntryOrder.contains_at, PlaceMoves.current, PlaceMoves.the_entries, RestingLemmas.past_empty, RestingLemmas.resting_bucket}
 use Rattle.bolt_tree.proofs.{RestingLemmas.resting_stack, SortedLemmas.sorted, TrailLemmas.frames_push}

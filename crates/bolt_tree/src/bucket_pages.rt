@@ -43,23 +43,6 @@ impl<'a> BucketPages<'a> {
         }
     }
 
-    /// Goes to the first entry or, if `back` is set, to the last one. If there is none, the stack is
-    /// empty.
-    pub fn start(&mut self, stack: &mut Stack<'a>, back: bool) -> Option<Leaf<'a>>
-        requires { HasBucket self.old }
-        ensures moved { IsMoved (trail_on self.old stack.old.items) (trail_on self.new stack.new.items) }
-        ensures rest { IsAtRest (frames_of stack.new.items) }
-        ensures found { ComesTo back result (elements_in (pages_bucket self.old)) (trail_on self.new stack.new.items) [] }
-        ensures bucket { HasBucketValue result }
-        ensures opened { HasOpened (length (pages_in (pages_bucket self.old)) - length (pages_left back (trail_on self.new stack.new.items)))
-            self.old.pager self.new.pager }
-    {
-        stack.clear();
-        let root = self.open_root();
-        stack.push(Position::at_edge(root, back));
-        self.go(stack, back)
-    }
-
     /// Moves to the next entry or, if `back` is set, to the preceding one. If there is none, the
     /// stack is empty.
     pub fn go(&mut self, stack: &mut Stack<'a>, back: bool) -> Option<Leaf<'a>>

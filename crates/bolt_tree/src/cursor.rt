@@ -1,12 +1,13 @@
 //! A cursor over the entries of a bucket.
-ghost use Rattle.std.specs.Prelude.{◌≡◌, ◌≢◌, []};
+ghost use Rattle.std.specs.Prelude.{◌≡◌, ◌≢◌, ◌-◌, [], MatchOption, false, length};
 ghost use Rattle.std.specs.Option.{option_map};
 ghost use Rattle.bolt_format.specs.ElementPlaces.{leaf_view};
 ghost use Rattle.bolt_tree.specs.{Entries.entry_view, Private.BucketValues.HasBucketValue};
 ghost use Rattle.bolt_tree.specs.{Private.Kept.IsKept, Private.Kept.kept_view, Private.Resting.IsResting};
 ghost use Rattle.bolt_tree.specs.Pagers.{pager_checked, pager_opened};
 ghost use Rattle.bolt_tree.specs.Places.{Fresh, Past, next_move, prev_move, seek_to, to_first, to_last};
-ghost use Rattle.bolt_tree.specs.{Private.Trails.Goes, Private.Trails.frames_of, Private.Trails.trail_on};
+ghost use Rattle.bolt_tree.specs.Private.{BucketPages.elements_in, BucketPages.pages_in};
+ghost use Rattle.bolt_tree.specs.Private.Trails.{ComesTo, Goes, HasOpened, IsMoved, frames_of, pages_bucket, pages_left, trail_on};
 ghost use Rattle.bolt_tree.specs.{ShownEntries.shown_entry, Starts.HasStart, Starts.start_at};
 
 use crate::at::At;
@@ -135,7 +136,7 @@ impl<'a> Cursor<'a> {
     {
         self.compared = 0;
         self.is_past = false;
-        entry_of(self.pages.start(&mut self.stack, false))
+        entry_of(self.start(false))
     }
 
     /// Moves to the last entry, and returns it. If there are no entries, returns `None`.
@@ -148,7 +149,7 @@ impl<'a> Cursor<'a> {
     {
         self.compared = 0;
         self.is_past = false;
-        entry_of(self.pages.start(&mut self.stack, true))
+        entry_of(self.start(true))
     }
 
     /// Moves to the next entry, and returns it. If there is none, it stays where it is, and returns
@@ -173,12 +174,10 @@ impl<'a> Cursor<'a> {
         ensures none { result ≡ None → cursor_place self.new ≡ cursor_place self.old }
         ensures compared { cursor_compared self.new ≡ cursor_compared self.old }
     {
-        if !self.stack.is_empty() {
-            return entry_of(self.go_further(true));
+        if self.stack.is_empty() {
+            return entry_of(self.start(true));
         }
-        let leaf = self.pages.start(&mut self.stack, true)?;
-        self.is_past = false;
-        Some(Entry::of(&leaf))
+        entry_of(self.go_further(true))
     }
 
     /// Moves to the first entry whose key isn't below `key`, and returns it. If there is none,
@@ -211,7 +210,7 @@ impl<'a> Cursor<'a> {
             if self.is_past {
                 return None;
             }
-            return self.pages.start(&mut self.stack, false);
+            return self.start(false);
         };
         let top = &self.stack[last];
         if let TreePage::Leaf(page) = top.page {
@@ -225,6 +224,25 @@ impl<'a> Cursor<'a> {
             }
         }
         self.go_further(false)
+    }
+
+    /// Moves to the first entry or, if `back` is set, to the last one. If there is none, its stack is
+    /// empty, and it is past the last entry if it was.
+    fn start(&mut self, back: bool) -> Option<Leaf<'a>>
+        ensures moved { IsMoved (cursor_trail self.old) (cursor_trail self.new) }
+        ensures found { ComesTo back result (elements_in (pages_bucket self.old.pages)) (cursor_trail self.new) [] }
+        ensures bucket { HasBucketValue result }
+        ensures opened { HasOpened (length (pages_in (pages_bucket self.old.pages)) - length (pages_left back (cursor_trail self.new)))
+            self.old.pages.pager self.new.pages.pager }
+        ensures past { MatchOption result (self.new.is_past ≡ self.old.is_past) (λ leaf. self.new.is_past ≡ false) }
+        ensures compared { self.new.compared ≡ self.old.compared }
+    {
+        self.stack.clear();
+        let root = self.pages.open_root();
+        self.stack.push(Position::at_edge(root, back));
+        let found = self.pages.go(&mut self.stack, back);
+        self.is_past &= found.is_none();
+        found
     }
 
     /// Moves from an entry to the next one or, if `back` is set, to the preceding one, past the end
