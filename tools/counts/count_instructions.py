@@ -27,9 +27,9 @@ LEAVES, KEYS = 100, 150
 BUCKETS, LONG = 4000, 300_000
 # What else two runs may differ by, in hundredths.
 SLACK = 2
-# How much more a command may take than its call, in hundredths; and `check --all`, which also goes from each entry to the
-# next, than `check`.
-MOST_ABOVE_CALL, MOST_ABOVE_CHECK = 15, 60
+# How much more a command may take than its call, in hundredths; and `check --all`, which also looks for the buckets among the
+# entries, than `check`.
+MOST_ABOVE_CALL, MOST_ABOVE_CHECK = 15, 10
 # The words of each command and of its call, which reads the same.
 CALL_OF = {
     "keys FILE a --prefix 0": "print FILE keys printable 61 30",

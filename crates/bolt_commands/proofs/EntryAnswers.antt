@@ -1,13 +1,13 @@
 -- What is answered of the entries of the bucket at a path, or of their sizes.
-use Rattle.std.proofs.Common.{◌⊎◌, ◌≡◌, ℕ, Bool, true, false, IfErr, List, Ok, Result, inl, inr, refl}
+use Rattle.std.proofs.Common.{◌⊎◌, ◌≡◌, ℕ, IfErr, List, Ok, Result, inl, inr, refl}
 use Rattle.bolt_commands.proofs.Vocabulary.{AreEntries, Bucket, ForEntries, Ghosts, IsBucketOf, IsEntriesAnswer, IsEntry, IsReadAnswer, IsSizesAnswer, Json, LeadsTo, LeafElement}
 use Rattle.bolt_commands.proofs.Vocabulary.{Meta, MetaChoice, Path, PrintsAnswer, ReportFault, Start, Wrote, bucket_checked, bucket_start, bytes_of, end_of, meta_of}
-use Rattle.bolt_commands.proofs.Vocabulary.{refused, report_ending}
+use Rattle.bolt_commands.proofs.Vocabulary.{report_ending, ⊤}
 use Rattle.bolt_report.specs.{SizeLines.AreSized, SizeLines.Sized, SizeLines.sizes_text}
-use Rattle.bolt_text.specs.{declared.forms.Form.Form}
+use Rattle.bolt_text.specs.{ReportEndings.HaltsShort, declared.forms.Form.Form}
 use Rattle.bolt_text.specs.declared.fault.ReportFault.TheVariants as report
 use Rattle.bolt_report.proofs.SizesExist.{named_sizes}
-use Rattle.bolt_commands.proofs.{AtPaths.at_path, CutTexts.ended_put, CutTexts.text_put, Doing.answer_as, ReadFiles.own_trees, ReadFiles.read_trees}
+use Rattle.bolt_commands.proofs.{AtPaths.at_path, CutTexts.allowed, CutTexts.short_put, Doing.answer_as, ReadFiles.own_trees, ReadFiles.read_trees}
 
 module _ {file : List ℕ} {choice : MetaChoice} {path : Path} {bucket : Bucket} (of : IsBucketOf file choice path bucket) where
   abbrev meta : Meta
@@ -20,23 +20,33 @@ module _ {file : List ℕ} {choice : MetaChoice} {path : Path} {bucket : Bucket}
       let trees = own_trees file choice (bucket_checked bucket) of.bytes of.under in
       rw of.bytes at (at_path (bucket_checked bucket) path bucket P trees refl (rw of.bytes of.led) all)
 
-  abbrev PutsSizes : {S A : Type 0} (sink : Ghosts S) (old new : S) (put : Result A ReportFault) (form : Form) → List LeafElement → Type 0
-  PutsSizes sink old new put form entries =
-      (sized : List Sized) → AreSized (bytes_of (bucket_checked bucket)) meta entries sized → Wrote sink old new (sizes_text form sized) (report_ending put)
+  -- the text was written, or a part of it
+  record Puts {S A : Type 0} (sink : Ghosts S) (old new : S) (put : Result A ReportFault) (text : List ℕ) : Type 0 where
+    wrote : Wrote sink old new text (report_ending put)
+    halts : HaltsShort sink old new text (report_ending put)
+
+  -- this holds of the text of the sizes of the buckets among entries
+  abbrev OfSizes : Form → (List ℕ → Type 0) → List LeafElement → Type 0
+  OfSizes form P entries = (sized : List Sized) → AreSized (bytes_of (bucket_checked bucket)) meta entries sized → P (sizes_text form sized)
 
   module _ {S A : Type 0} {sink : Ghosts S} {old new : S} (put : Result A ReportFault) (form : Form) where
     pub entries_put : (text : List LeafElement → List ℕ)
         → ForEntries (bucket_checked bucket) (bucket_start bucket) (λ entries. Wrote sink old new (text entries) (report_ending put))
+        → ForEntries (bucket_checked bucket) (bucket_start bucket) (λ entries. HaltsShort sink old new (text entries) (report_ending put))
         → IfErr put (λ e. (e ≡ report.Sink) ⊎ ((e ≡ report.NoMemory) × (form ≡ Json)))
         → PrintsAnswer sink old new (IsReadAnswer file choice (IsEntriesAnswer file path form text)) (end_of put (Ok 0))
-    entries_put text written fault =
-        let (start, entries, names, are, here) = promised (λ entries. Wrote sink old new (text entries) (report_ending put)) written in
-        answer_as (text_put (form ≡ Json) (text entries) (Ok 0) put here fault) (λ answer shown. inl (meta, of.under, inl (start, entries, names, are, shown)))
+    entries_put text written short fault =
+        let (start, entries, names, are, here) = promised (λ entries. Puts sink old new put (text entries)) (λ entries are. record { wrote = written entries are; halts = short entries are }) in
+        answer_as (short_put (form ≡ Json) (text entries) (Ok 0) put here.wrote here.halts fault) (λ answer shown. inl (meta, of.under, inl (start, entries, names, are, shown)))
 
-    pub sizes_put : ForEntries (bucket_checked bucket) (bucket_start bucket) (PutsSizes sink old new put form) → IfErr put (λ e. (e ≡ report.Sink) ⊎ (e ≡ report.NoMemory))
+    pub sizes_put : ForEntries (bucket_checked bucket) (bucket_start bucket) (OfSizes form (λ text. Wrote sink old new text (report_ending put)))
+        → ForEntries (bucket_checked bucket) (bucket_start bucket) (OfSizes form (λ text. HaltsShort sink old new text (report_ending put)))
+        → IfErr put (λ e. (e ≡ report.Sink) ⊎ (e ≡ report.NoMemory))
         → PrintsAnswer sink old new (IsReadAnswer file choice (IsSizesAnswer file path form)) (end_of put (Ok 0))
-    sizes_put written fault =
-        let (start, entries, names, are, here) = promised (PutsSizes sink old new put form) written in
+    sizes_put written short fault =
+        let (start, entries, names, are, here) =
+        promised (OfSizes form (Puts sink old new put)) (λ entries are sized sizes. record { wrote = written entries are sized sizes; halts = short entries are sized sizes }) in
         let (sized, sizes) = named_sizes file meta (read_trees file choice meta of.under) path start entries names are in
-        answer_as (ended_put (sizes_text form sized) (Ok 0) put (here sized (rw of.bytes sizes)) fault)
-        (λ answer whole. inl (meta, of.under, inl (start, entries, sized, names, are, sizes, whole)))
+        let puts = here sized (rw of.bytes sizes) in
+        answer_as (short_put ⊤ (sizes_text form sized) (Ok 0) put puts.wrote puts.halts (allowed put fault))
+        (λ answer is. inl (meta, of.under, inl (start, entries, sized, names, are, sizes, elim is [ inl whole ↦ inl whole | inr (x, begun) ↦ inr begun ])))

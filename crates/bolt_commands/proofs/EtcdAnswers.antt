@@ -1,6 +1,5 @@
 -- What is printed of what etcd keeps.
-use Rattle.std.proofs.Common.{◌≡◌, ◌⊎◌, ◌++◌, ℕ, Bool, true, false, IfErr, IfOk, List, None, Option, Some, Result, Ok, Err, codes, inl, inr, length, refl, subst, sym}
-use Rattle.std.proofs.lemmas.Grind.{common_steps}
+use Rattle.std.proofs.Common.{◌≡◌, ◌⊎◌, ◌++◌, ℕ, true, false, IfErr, IfOk, List, None, Option, Some, Result, Ok, Err, codes, inl, inr, length, refl, subst, sym}
 use Rattle.bolt_check.specs.Counts.{counted}
 use Rattle.bolt_etcd.proofs.{Currents.revisions_rise, Filtered.filter_rises, SortedExists.current_is_one, StoreExists.one_store, StoreLemmas.fits, StoreLemmas.fits_some}
 use Rattle.bolt_etcd.specs.{Current.AreCurrent, Current.place_cmp, Newest.is_until, Newest.until, Revisions.RevisionView, Stores.revisions}
@@ -9,12 +8,12 @@ use Rattle.bolt_format.proofs.WroteLemmas.{Wrote-stop_halted}
 use Rattle.bolt_text.specs.declared.fault.ReportFault.TheVariants as report
 use Rattle.bolt_tree.proofs.BucketWays.{root_starts}
 use Rattle.bolt_tree.specs.BucketViews.{entries_of}
-use Rattle.bolt_commands.specs.Answers.{IsAnswerAt, IsShownAndEnded, IsStoreAnswer, OfKeys, entries_ending, is_compacted, others_ending}
+use Rattle.bolt_commands.specs.Answers.{IsAnswerAt, IsCut, IsStoreAnswer, OfKeys, entries_ending, is_compacted, others_ending}
 use Rattle.bolt_commands.specs.Private.Etcd.{IsStoreRead, IsUnreadStore, end_of_revisions}
 use Rattle.bolt_commands.specs.declared.etcd_commands.Store.{Store}
 use Rattle.bolt_commands.specs.declared.failure.Failure.TheVariants as failure
 use Rattle.bolt_commands.proofs.Vocabulary.{Answer, AreEntries, Checked, Ending, Failure, Ghosts, HasSoundTrees, IsBucketAt, IsEndedOrCut, IsEntry, IsErrAnd, IsReadAnswer, LeafElement, MayFail, Meta, MetaChoice}
-use Rattle.bolt_commands.proofs.Vocabulary.{PrintsAnswer, ReportFault, Root_page, Start, Wrote, Wrote-stop, bucket_checked, bucket_start, bytes_of, end_of, meta_of, refused, report_ending, reported}
+use Rattle.bolt_commands.proofs.Vocabulary.{PrintsAnswer, ReportFault, Root_page, Start, Wrote, Wrote-stop, bucket_checked, bucket_start, end_of, meta_of, refused, report_ending, reported}
 use Rattle.bolt_commands.proofs.{CutTexts.ended_put, CutTexts.text_put, Doing.answer_as, Doing.answer_nothing, ReadFiles.read_trees}
 
 -- ---- the store of a file that is read
@@ -90,8 +89,7 @@ ends_counted (Err fault) n same = refl
 module _ {S : Type 0} {sink : Ghosts S} {old new : S} (text : List ℕ) (entries : List LeafElement) (put : Result ℕ ReportFault) (written : Wrote sink old new text (report_ending put))
     (knows : IfOk put (λ m. m ≡ counted 0 (length (others entries)))) where
   pub counted_put : (X : Type 0) → IfErr put (λ e. (e ≡ report.Sink) ⊎ ((e ≡ report.NoMemory) × X))
-      → PrintsAnswer sink old new (λ answer. (answer ≡ record { out = text; ending = entries_ending entries })
-      ⊎ (X × (front : List ℕ) × (rest : List ℕ) × (text ≡ front ++ rest) × (answer ≡ record { out = front; ending = Err failure.Memory }))) (end_of_revisions put)
+      → PrintsAnswer sink old new (λ answer. (answer ≡ record { out = text; ending = entries_ending entries }) ⊎ (X × IsCut text answer)) (end_of_revisions put)
   counted_put X fault = rw (ends_counted put (counted 0 (length (others entries))) knows) (text_put X text (entries_ending entries) put written fault)
 
   pub counted_ended : MayFail put → PrintsAnswer sink old new (IsEndedOrCut text (entries_ending entries)) (end_of_revisions put)

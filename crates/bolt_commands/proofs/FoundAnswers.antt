@@ -1,5 +1,5 @@
 -- The pages that are found, and the joined listing.
-use Rattle.std.proofs.Common.{◌≡◌, ◌≢◌, ◌∙◌, ℕ, Bool, true, List, [], ◌∷◌, Option, ap, ap₂, map, refl, sym}
+use Rattle.std.proofs.Common.{◌≡◌, ℕ, List, [], ◌∷◌, Option, ap, ap₂, map, refl, sym}
 use Rattle.std.proofs.lemmas.List.Elements.{All-head, All-tail}
 use Rattle.bolt_commands.proofs.Vocabulary.{All, AreFoundPages, Found, FoundView, IsFoundLeaf, IsJoined, IsJoinedOf, IsSalvaged, IsSearchOf, LostAndFound, Member, Meta, MetaChoice}
 use Rattle.bolt_commands.proofs.Vocabulary.{all_lost, found_page, found_view, leaves_of}

@@ -1,13 +1,14 @@
 -- What is answered of what is recovered of a bucket or at a path.
-use Rattle.std.proofs.Common.{◌≡◌, ◌⊎◌, ◌∙◌, ℕ, Bool, Err, IfErr, IfOk, List, None, Ok, Option, Result, Some, [], inl, inr, refl, subst, sym, ap, if◌then◌else◌}
+use Rattle.std.proofs.Common.{◌≡◌, ◌⊎◌, ℕ, Bool, Err, IfErr, IfOk, List, None, Ok, Option, Result, Some, inl, inr, refl, subst, if◌then◌else◌}
 use Rattle.std.specs.{Borrow.Bor, Option.IfNone, Prelude.IfSome}
 use Rattle.bolt_commands.proofs.Vocabulary.{AreLosses, Contains, Ending, Failure, ForLosses, Ghosts, IsErrAnd, IsRecovered, IsRecoveryOf, Json, LossView, LostView, MayFail, Member, MetaChoice, OnOk, Path}
-use Rattle.bolt_commands.proofs.Vocabulary.{PrintsAnswer, ReportFault, Rises, Value, Wrote, end_of, has_bucket, has_losses, has_recovered, lost_ending, member_cmp, parents_of, parts, path_in, recovery_file, recovery_left, recovery_meta, report_ending, reported, value_shown}
+use Rattle.bolt_commands.proofs.Vocabulary.{PrintsAnswer, ReportFault, Rises, Value, Wrote, end_of, has_bucket, has_losses, has_recovered, lost_ending, member_cmp, parts, path_in, recovery_file, recovery_left, recovery_meta, report_ending, reported, value_shown}
 use Rattle.bolt_check.specs.declared.fault.CheckFault.TheVariants as check
 use Rattle.bolt_commands.specs.Answers.{Answer, IsNamesAnswer, IsRecoveredAnswer, IsRecoveredValue, names_ending, no_bucket, no_key, no_value}
 use Rattle.bolt_commands.specs.Private.Recovered.{HoldsNow, bucket_ending, value_or_why}
 use Rattle.bolt_commands.specs.declared.{failure.Failure.TheVariants.Memory, recovered_commands.AtPath.AtPath}
-use Rattle.bolt_commands.proofs.{CutTexts.ended_put, CutTexts.text_put, Doing.answer_as, Doing.answer_nothing, OpenedReads.recovered_read}
+use Rattle.bolt_commands.proofs.{CutTexts.ended_put, CutTexts.short_put, Doing.answer_as, Doing.answer_nothing, OpenedReads.recovered_read}
+use Rattle.bolt_text.specs.ReportEndings.{HaltsShort}
 use Rattle.bolt_job.specs.declared.bucket_commands.GetJob.{GetJob}
 use Rattle.bolt_recover.specs.declared.recovery.Recovery.{Recovery}
 use Rattle.bolt_report.specs.MemberNames.{Wanted, names_text}
@@ -89,7 +90,8 @@ module _ (members : List Member) (path : Path) (at : AtPath) (holds : HoldsNow m
 
 pub value_put : {S A : Type 0} {sink : Ghosts S} {old new : S} (job : GetJob) (listing : List Member) (lost : LostView) (value : List ℕ)
     → Contains listing (path_in job.path.items, Value value) → (put : Result A ReportFault) → Wrote sink old new (value_shown job.form job.no_newline value) (report_ending put)
+    → HaltsShort sink old new (value_shown job.form job.no_newline value) (report_ending put)
     → IfErr put (λ e. (e ≡ report.Sink) ⊎ ((e ≡ report.NoMemory) × (job.form ≡ Json)))
     → PrintsAnswer sink old new (IsRecoveredValue job listing lost) (end_of put (lost_ending lost))
-value_put job listing lost value holds put wrote fault =
-    answer_as (text_put (job.form ≡ Json) (value_shown job.form job.no_newline value) (lost_ending lost) put wrote fault) (λ answer shown. inl (value, holds, shown))
+value_put job listing lost value holds put wrote halts fault =
+    answer_as (short_put (job.form ≡ Json) (value_shown job.form job.no_newline value) (lost_ending lost) put wrote halts fault) (λ answer shown. inl (value, holds, shown))

@@ -39,7 +39,7 @@ module _ (file : List ℕ) (meta : Meta) (trees : HasSoundTrees file meta) (list
     keys_back : IsKeys → IsNames
     keys_back (inl (bucket, entries, leads, are, shown)) =
         rw (names_are_keys form want is_named same file meta trees listing lists path bucket leads entries are, has_named file meta listing lists path bucket leads)
-        (elim shown [ inl ended ↦ inl ended | inr (json, front, rest, split, cut) ↦ inr (front, rest, split, cut) ])
+        (elim shown [ inl ended ↦ inl ended | inr (json, (front, rest, split, short, cut)) ↦ inr (front, rest, split, cut) ])
     keys_back (inr (nowhere, none)) = rw (none_named file meta listing lists path nowhere) (inl none)
 
 -- ---- a value of a listing is what its path holds

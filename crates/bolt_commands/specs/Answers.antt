@@ -139,25 +139,32 @@ HoldsIn file meta path item = Holds (IsEntry file meta) (Root_page meta.root) pa
 abbrev pub parents_of : Path → Path
 parents_of path = take (length path - 1) path
 
--- a prefix of the text, since memory ran out
+-- memory ran out: a prefix of the text, maybe all of it
+abbrev pub IsCut : List ℕ → Answer → Type 0
+IsCut text answer = (front rest : List ℕ) × (text ≡ front ++ rest) × (answer ≡ record { out = front; ending = Err failure.Memory })
+
+-- memory ran out before the last byte of the text: a prefix, and not all of it
 abbrev pub IsCutShort : List ℕ → Answer → Type 0
-IsCutShort text answer = (front rest : List ℕ) × (text ≡ front ++ rest) × (answer ≡ record { out = front; ending = Err failure.Memory })
+IsCutShort text answer = (front rest : List ℕ) × (text ≡ front ++ rest) × (rest ≢ []) × (answer ≡ record { out = front; ending = Err failure.Memory })
 
--- the whole text, and this ending; or a prefix of it, if memory ran out
+-- the whole text, and this ending; or memory ran out on the way, or before it was known that the text is whole
 abbrev pub IsEndedOrCut : List ℕ → Ending → Answer → Type 0
-IsEndedOrCut text ending answer = (answer ≡ record { out = text; ending = ending }) ⊎ IsCutShort text answer
+IsEndedOrCut text ending answer = (answer ≡ record { out = text; ending = ending }) ⊎ IsCut text answer
 
-abbrev pub IsWholeOrCut : List ℕ → Answer → Type 0
-IsWholeOrCut text answer = IsEndedOrCut text (Ok 0) answer
+-- the whole text; or memory ran out on the way
+abbrev pub IsWholeOrShort : List ℕ → Answer → Type 0
+IsWholeOrShort text answer = (answer ≡ done text) ⊎ IsCutShort text answer
 
--- the whole text, and this ending; or a prefix of it, if memory ran out, which JSON alone needs
+-- the whole text, and this ending; or memory ran out on the way, which JSON alone needs
 abbrev pub IsShownAndEnded : Form → List ℕ → Ending → Answer → Type 0
-IsShownAndEnded form text ending answer =
-    (answer ≡ record { out = text; ending = ending })
-    ⊎ ((form ≡ Json) × (front : List ℕ) × (rest : List ℕ) × (text ≡ front ++ rest) × (answer ≡ record { out = front; ending = Err failure.Memory }))
+IsShownAndEnded form text ending answer = (answer ≡ record { out = text; ending = ending }) ⊎ ((form ≡ Json) × IsCutShort text answer)
 
 abbrev pub IsShownText : Form → List ℕ → Answer → Type 0
 IsShownText form text answer = IsShownAndEnded form text (Ok 0) answer
+
+-- the same, but the text may be whole if memory ran out
+abbrev pub IsShownOrCut : Form → List ℕ → Ending → Answer → Type 0
+IsShownOrCut form text ending answer = (answer ≡ record { out = text; ending = ending }) ⊎ ((form ≡ Json) × IsCut text answer)
 
 -- a text of the entries of the bucket that the path leads to; or it leads to none
 abbrev pub IsEntriesAnswer : List ℕ → Path → Form → (List LeafElement → List ℕ) → Meta → Answer → Type 0
@@ -181,12 +188,12 @@ IsGetAnswer file job meta answer =
     ((value : List ℕ) × HoldsIn file meta (path_in job.path.items) (Value value) × IsShownText job.form (value_shown job.form job.no_newline value) answer)
     ⊎ ((reason : Failure) × HoldsNone file (path_in job.path.items) meta reason × (answer ≡ refused reason))
 
--- The sizes of the buckets in the bucket that the path leads to, or memory ran out, and a prefix of the text was written; or the path leads to
--- no bucket.
+-- The sizes of the buckets in the bucket that the path leads to, or memory ran out before the last byte of them was written; or the path
+-- leads to no bucket.
 abbrev pub IsSizesAnswer : List ℕ → Path → Form → Meta → Answer → Type 0
 IsSizesAnswer file path form meta answer =
     ((bucket : Start) × (entries : List LeafElement) × (sized : List Sized) × LeadsTo file meta path bucket × AreEntries (IsEntry file meta) bucket entries
-    × AreSized file meta entries sized × IsWholeOrCut (sizes_text form sized) answer)
+    × AreSized file meta entries sized × IsWholeOrShort (sizes_text form sized) answer)
     ⊎ (LeadsNowhere file meta path × (answer ≡ refused failure.NoBucket))
 
 -- a line for each member of a listing at and below the bucket at a path that doesn't come before another path
@@ -569,7 +576,7 @@ IsAnswerAt at store IsWanted answer = OfKeys (store.bucket (codes "key")) (λ en
 abbrev pub IsRevisionsText : EtcdRevisionsJob → List LeafElement → Answer → Type 0
 IsRevisionsText job entries answer =
     let asked = entries_asked job.from entries in
-    IsShownAndEnded job.form (revision_lines job.form job.values (named job.prefix.items (revisions asked))) (entries_ending asked) answer
+    IsShownOrCut job.form (revision_lines job.form job.values (named job.prefix.items (revisions asked))) (entries_ending asked) answer
 
 -- the lines of the keys that there are at a transaction
 abbrev pub IsCurrentText : EtcdKeysJob → List LeafElement → Answer → Type 0

@@ -1,6 +1,5 @@
 //! What `check`, `list` and `compact` read: a sound file, what is left of a damaged one, or that with what is found of it.
 ghost use Rattle.std.specs.Prelude.{◌≡◌, OnOk};
-ghost use Rattle.bolt_recover.specs.Recoveries.{ForLosses, recovery_file, recovery_losses, recovery_meta};
 ghost use Rattle.bolt_recover.specs.ShownLosses.{lost_view};
 ghost use Rattle.bolt_commands.specs.Private.Opened.{IsLostKnown, opened_found, opened_lost, opened_meta};
 
@@ -31,13 +30,13 @@ impl<'f> Opened<'f> {
         }
     }
 
-    /// Goes over what is left of a damaged file, so that all that is lost of it is known.
+    /// Goes to the end of a damaged file, so that all that is lost of it is known.
     pub(crate) fn find_lost(&mut self) -> Result<(), NoMemory>
         ensures found { opened_found self.new ≡ opened_found self.old }
         ensures lost { OnOk result (IsLostKnown self.old self.new) }
     {
         if let Opened::Recovered(recovery) = self {
-            walk_to_end(recovery)?;
+            recovery.finish()?;
         }
         Ok(())
     }
@@ -62,16 +61,4 @@ impl<'f> Opened<'f> {
             _ => &[],
         }
     }
-}
-
-/// Walks to the end of what is recovered.
-fn walk_to_end(recovery: &mut Recovery<'_>) -> Result<(), NoMemory>
-    ensures file { recovery_file recovery.new ≡ recovery_file recovery.old }
-    ensures meta { recovery_meta recovery.new ≡ recovery_meta recovery.old }
-    ensures all { OnOk result
-        (ForLosses (recovery_file recovery.old) (recovery_meta recovery.old) (λ losses.
-        recovery_losses recovery.new ≡ losses)) }
-{
-    'members: while recovery.next()?.is_some() {}
-    Ok(())
 }

@@ -1,7 +1,7 @@
 //! A value as text.
 ghost use Rattle.std.specs.Prelude.{◌≡◌, ◌⊎◌, IfErr};
 ghost use Rattle.bolt_format.specs.Wrote.{Wrote};
-ghost use Rattle.bolt_text.specs.ReportEndings.{report_ending};
+ghost use Rattle.bolt_text.specs.ReportEndings.{HaltsShort, report_ending};
 ghost use Rattle.bolt_commands.specs.Answers.{value_shown};
 
 use bolt_format::Sink;
@@ -17,6 +17,8 @@ pub(crate) fn put_value<O: Sink>(
     out: &mut O,
 ) -> Result<(), ReportFault>
     ensures written { Wrote O.Sink out.old out.new (value_shown form no_newline bytes.now)
+        (report_ending result) }
+    ensures short { HaltsShort O.Sink out.old out.new (value_shown form no_newline bytes.now)
         (report_ending result) }
     ensures fault { IfErr result (λ fault. (fault ≡ ReportFault.Sink)
         ⊎ ((fault ≡ ReportFault.NoMemory) × (form ≡ Form.Json))) }

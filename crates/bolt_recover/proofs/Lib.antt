@@ -14,6 +14,7 @@ pub mod PageNames
 mod SiteFacts
 mod SiteKeys
 mod SiteSteps
+mod Skipping
 mod Recovering
 pub mod Refused
 mod CourseOrder

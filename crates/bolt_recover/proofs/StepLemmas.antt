@@ -13,7 +13,7 @@ use Rattle.bolt_recover.proofs.SurveyIsOne.{gives_same}
 
 module _ (file : List ℕ) (meta : Meta) where
   -- the innermost page is the last one
-  open_last : (path : Path) (way : Way) (pages : List OpenPage) (page : OpenPage) (rest : List Task)
+  pub open_last : (path : Path) (way : Way) (pages : List OpenPage) (page : OpenPage) (rest : List Task)
       → open_tasks file meta path way (pages ++ page ∷ []) rest ≡ page_tasks file meta path (way ++ way_of pages) page ++ open_tasks file meta path way pages rest
   open_last path way [] page rest = ap (λ (w : Way). page_tasks file meta path w page ++ rest) (sym (append-nil way))
   open_last path way (first ∷ pages) page rest =
@@ -22,7 +22,7 @@ module _ (file : List ℕ) (meta : Meta) where
       open_last path next pages page more
       ∙ ap (λ (w : Way). page_tasks file meta path w page ++ open_tasks file meta path next pages more) (append_assoc way ((first.next - 1) ∷ []) (way_of pages))
 
-  are_open_push : (low : ℕ) (pages : List OpenPage) (page : OpenPage) (high : ℕ)
+  pub are_open_push : (low : ℕ) (pages : List OpenPage) (page : OpenPage) (high : ℕ)
       → AreOpen file meta low pages page.path_len → IsGoodPage file meta page → page.path_len ≤ high → AreOpen file meta low (pages ++ page ∷ []) high
   are_open_push low [] page high are good le = (are, good, le)
   are_open_push low (first ∷ pages) page high are good le = (are.0, are.1, are_open_push first.path_len pages page high are.2 good le)
@@ -170,7 +170,7 @@ module _ (s : Steps) (front : List OpenPage) (top : OpenPage) (has : IsPlaced s)
   pub inner : Innermost file_of meta_of 0 front top (length (steps_path s))
   inner = innermost file_of meta_of 0 front top (length (steps_path s)) (let are = has.pages in rw (is, pages) at are)
 
-  tasks_top : tasks_left file_of meta_of (steps_path s) s.ahead s.open.items ≡ page_tasks file_of meta_of (steps_path s) (way_of front) top ++ open_tasks file_of meta_of (steps_path s) [] front []
+  pub tasks_top : tasks_left file_of meta_of (steps_path s) s.ahead s.open.items ≡ page_tasks file_of meta_of (steps_path s) (way_of front) top ++ open_tasks file_of meta_of (steps_path s) [] front []
   tasks_top = rw (is, pages) (open_last file_of meta_of (steps_path s) [] front top [])
 
   module _ (ahead : Option NextVisit) (stack : Vec OpenPage Global) (path : Vec (Bor (List ℕ)) Global) where

@@ -1,5 +1,5 @@
 -- What a recovery shows: the file that it reads, the part of the recovered listing that is left, and the losses so far.
-use Rattle.std.specs.Prelude.{◌≡◌, ◌≤◌, ℕ, Bool, List, Option, length, map, take}
+use Rattle.std.specs.Prelude.{◌≡◌, ◌≤◌, ℕ, Bool, List, [], ◌++◌, Option, length, map, take}
 use Rattle.std.specs.Option.{option_map}
 use Rattle.bolt_format.specs.declared.meta.Meta.{Meta}
 use Rattle.bolt_check.specs.{Claims.claims_file, Claims.claims_visited, Claims.is_claimed, Counts.counted}
@@ -49,6 +49,18 @@ GivesRecovered old new given =
 -- the same of it is left
 abbrev pub LeavesRecovered : Recovery → Recovery → Type 0
 LeavesRecovered old new = ForRecovered (recovery_file old) (recovery_meta old) (λ listing. recovery_left new listing ≡ recovery_left old listing)
+
+-- nothing of it is left
+abbrev pub LeavesNone : Recovery → Recovery → Type 0
+LeavesNone old new = ForRecovered (recovery_file old) (recovery_meta old) (λ listing. recovery_left new listing ≡ [])
+
+-- the first of these members are dropped, or none
+abbrev pub DropsFirst : List Member → List Member → Type 0
+DropsFirst old new = (dropped : List Member) × (old ≡ dropped ++ new)
+
+-- and the others are left
+abbrev pub LeavesRest : Recovery → Recovery → Type 0
+LeavesRest old new = ForRecovered (recovery_file old) (recovery_meta old) (λ listing. DropsFirst (recovery_left old listing) (recovery_left new listing))
 
 -- each way to a page number was visited once
 abbrev pub HasVisitedAll : Recovery → Recovery → Type 0

@@ -1,10 +1,10 @@
 //! A kept page, and how many of its elements are done.
-ghost use Rattle.std.specs.Prelude.{◌≡◌, ◌<◌, ℕ, true, IfErr, IfOk, IfSome, OnErr, OnOk, IsTrue, slice_get};
+ghost use Rattle.std.specs.Prelude.{◌≡◌, ◌<◌, ◌≤◌, ℕ, true, IfErr, IfOk, IfSome, OnErr, OnOk, IsTrue, slice_get};
 ghost use Rattle.std.specs.Option.{option_map};
 ghost use Rattle.bolt_format.specs.{Elements.IsBucketValue, ElementPlaces.leaf_view};
 ghost use Rattle.bolt_check.specs.{Claims.claims_file, Claims.claims_meta, Claims.claims_visited, Claims.is_claimed, Counts.counted};
 ghost use Rattle.bolt_check.specs.{Findings.Passes, Findings.Tests, ShownSpots.spot_at};
-ghost use Rattle.bolt_recover.specs.Private.Frames.{IsContent, IsShallow, ElementLeads, claims_nodes, claims_with, content_elements, content_size};
+ghost use Rattle.bolt_recover.specs.Private.Frames.{IsContent, IsShallow, IsValueAt, ElementLeads, claims_nodes, claims_with, content_elements, content_size};
 ghost use Rattle.bolt_recover.specs.Private.Courses.{page_visit};
 
 use bolt_check::{Claims, Finding, Spot};
@@ -81,6 +81,26 @@ impl<'a> KeptPage<'a> {
             TreePage::Branch(_) => None,
             TreePage::Leaf(page) => Some(page.element(i)),
         }
+    }
+
+    /// The first element from `i` on that is no value, or the number of elements if there is none.
+    pub fn after_values(&self, i: u16) -> u16
+        requires { i ≤ content_size self.now }
+        ensures from { i ≤ result }
+        ensures within { result ≤ content_size self.now }
+        ensures values { (n : ℕ) → i ≤ n → n < result → IsValueAt (content_elements self.now) n }
+        ensures stops { result < content_size self.now
+            → IsValueAt (content_elements self.now) result → ⊥ }
+    {
+        let TreePage::Leaf(page) = &self.page else {
+            return i;
+        };
+        for n in i..page.count() {
+            if page.element(n).is_bucket {
+                return n;
+            }
+        }
+        page.count()
     }
 
     /// What element `i` leads to, if anything.

@@ -1,6 +1,6 @@
 //! A walk over everything that is kept of a damaged file.
 ghost use Rattle.std.specs.Option.{IfNone};
-ghost use Rattle.std.specs.Prelude.{◌≡◌, ◌<◌, ◌^◌, [], IfErr, IfOk, IfSome, OnErr, OnOk, map};
+ghost use Rattle.std.specs.Prelude.{◌≡◌, ◌<◌, ◌≤◌, ◌^◌, [], IfErr, IfOk, IfSome, OnErr, OnOk, map};
 ghost use Rattle.bolt_check.specs.{Claims.claims_file, Claims.claims_meta, Counts.counted};
 ghost use Rattle.bolt_check.specs.Sound.{HasSoundTrees};
 ghost use Rattle.bolt_format.specs.Metas.{HasActive, HasNoActive, HasNoneInSlot, IsInSlot};
@@ -39,7 +39,7 @@ pub struct Recovery<'a> {
 impl<'a> Recovery<'a> {
     ghost use Rattle.bolt_recover.specs.{Private.Joining.TellsBucketKey, Private.TreesLeft.IsSearched};
     ghost use Rattle.bolt_recover.specs.declared.lost_and_found.Trees.TheVariants as Trees;
-    ghost use Rattle.bolt_recover.specs.Recoveries.{AreFirst, ForLosses, GivesRecovered, HasReportedAll, HasVisitedAll, IsWithinWays, LeavesRecovered, recovery_begun, recovery_claimed, recovery_file, recovery_left, recovery_losses, recovery_meta, recovery_path, recovery_visited, recovery_work};
+    ghost use Rattle.bolt_recover.specs.Recoveries.{AreFirst, ForLosses, GivesRecovered, HasReportedAll, HasVisitedAll, IsWithinWays, LeavesNone, LeavesRecovered, LeavesRest, recovery_begun, recovery_claimed, recovery_file, recovery_left, recovery_losses, recovery_meta, recovery_path, recovery_visited, recovery_work};
 
     /// A walk under the active meta.
     ///
@@ -177,6 +177,44 @@ impl<'a> Recovery<'a> {
         }
     }
 
+    /// Goes to the end without returning what is left, so that all losses are known. It passes over the
+    /// values of a page more quickly than `next`, since they lead nowhere.
+    ///
+    /// # Errors
+    ///
+    /// `NoMemory` if there is no memory for one more open page or one more loss. Then some members, or
+    /// none, are dropped and the others are left. `path` may be that of a dropped one. `finish` and
+    /// `next` may be called again.
+    pub fn finish(&mut self) -> Result<(), NoMemory>
+        ensures file { recovery_file self.new ≡ recovery_file self.old }
+        ensures meta { recovery_meta self.new ≡ recovery_meta self.old }
+        ensures begun { recovery_begun self.new ≡ recovery_begun self.old }
+        ensures none { OnOk result (LeavesNone self.old self.new) }
+        ensures path { OnOk result (recovery_path self.new ≡ []) }
+        ensures visited { OnOk result (HasVisitedAll self.old self.new) }
+        ensures all { OnOk result (HasReportedAll self.old self.new) }
+        ensures kept { OnOk result
+            (AreKeptPages (recovery_file self.old) (recovery_meta self.old)
+            (recovery_claimed self.new)) }
+        ensures dropped { OnErr result (LeavesRest self.old self.new) }
+    {
+        while let Some(_) = self.next()? {
+            self.skip_values();
+        }
+        Ok(())
+    }
+
+    /// Drops the values that come next on a page, if any.
+    fn skip_values(&mut self)
+        ensures file { recovery_file self.new ≡ recovery_file self.old }
+        ensures meta { recovery_meta self.new ≡ recovery_meta self.old }
+        ensures begun { recovery_begun self.new ≡ recovery_begun self.old }
+        ensures dropped { LeavesRest self.old self.new }
+        ensures fewer { recovery_work self.new ≤ recovery_work self.old }
+    {
+        self.steps.skip_values();
+    }
+
     /// Drops what is left, and finds the intact leaves that nothing leads to (docs/RECOVERY.md, "Found
     /// pages"). It needs room for what is found, and no second table.
     ///
@@ -192,7 +230,7 @@ impl<'a> Recovery<'a> {
             IsSearched (recovery_file self.entry) (recovery_meta self.entry)
             (Trees.Damaged damage) found.items) }
     {
-        let has_bucket_key = self.finish()?;
+        let has_bucket_key = self.find_bucket_key()?;
         let steps = self.steps;
         let found = find_leaves(steps.alloc, Leftovers::new(steps.claims))?;
         Ok((
@@ -206,7 +244,7 @@ impl<'a> Recovery<'a> {
 
     /// Drops what is left, and returns whether the root bucket has an entry with the key of the bucket
     /// of what is found.
-    fn finish(&mut self) -> Result<bool, NoMemory>
+    fn find_bucket_key(&mut self) -> Result<bool, NoMemory>
         requires { ForRecovered (recovery_file self.old) (recovery_meta self.old) (λ listing.
             recovery_left self.old listing ≡ listing) }
         ensures file { recovery_file self.new ≡ recovery_file self.old }

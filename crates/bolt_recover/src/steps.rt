@@ -4,7 +4,7 @@ ghost use Rattle.std.specs.Option.{option_map};
 ghost use Rattle.bolt_check.specs.{Claims.claims_file, Claims.claims_meta, Claims.claims_visited, Claims.is_claimed, Counts.counted, Findings.IsMetaPage};
 ghost use Rattle.bolt_check.specs.declared.spot.Spot.TheVariants as spots;
 ghost use Rattle.bolt_format.specs.Elements.{IsBucketValue};
-ghost use Rattle.bolt_recover.specs.Private.Frames.{Advances, GoesOn, IsAllLeft, IsPlaced, Takes, TakesBucket, loss_ahead, steps_path};
+ghost use Rattle.bolt_recover.specs.Private.Frames.{Advances, GoesOn, IsAllLeft, IsPlaced, Skips, Takes, TakesBucket, loss_ahead, steps_path};
 ghost use Rattle.bolt_recover.specs.{Refusals.IsRefusedRoot, Refusals.KeepsRoot, ShownLosses.loss_view};
 
 use crate::content::{KeptPage, OpenPage};
@@ -238,6 +238,22 @@ impl<'a> Steps<'a> {
         self.path.push_reserved(leaf.key);
         self.ahead = NextVisit::of(spot, top.path_len + 1);
         Ok(Taken::Leaf(leaf))
+    }
+
+    /// Skips the values that come next in the innermost open page, if nothing is ahead of them. They
+    /// lead nowhere.
+    pub fn skip_values(&mut self)
+        requires { IsPlaced self.old }
+        ensures { Skips self.old self.new }
+    {
+        if self.ahead.is_some() {
+            return;
+        }
+        let Some(top) = self.open.pop() else {
+            return;
+        };
+        let next = top.content.after_values(top.next);
+        self.open.push_reserved(OpenPage { next, ..top });
     }
 
     /// Goes to the next element that is to be returned.

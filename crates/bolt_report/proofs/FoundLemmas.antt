@@ -1,5 +1,5 @@
 -- The buckets among the first elements of a page.
-use Rattle.std.proofs.Common.{◌≡◌, length, subst, sym, ◌≢◌, ◌∙◌, ◌+◌, ◌<◌, ℕ, Bool, true, false, List, [], ◌∷◌, Some, ap, arith, refl, slice_get, take}
+use Rattle.std.proofs.Common.{◌≡◌, length, ◌≢◌, ◌∙◌, ◌+◌, ◌<◌, ℕ, Bool, true, false, List, [], ◌∷◌, Some, ap, arith, refl, slice_get, take}
 use Rattle.bolt_report.proofs.Words.{bucket_count, LeafElement}
 use Rattle.std.specs.Prelude.{cond}
 use Rattle.std.proofs.lemmas.List.Filters.{length-filter_more}

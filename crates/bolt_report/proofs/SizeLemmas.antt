@@ -1,9 +1,11 @@
 -- The lines of the buckets among entries, entry by entry.
-use Rattle.std.proofs.Common.{◌≡◌, ◌∙◌, ℕ, Bool, true, false, List, [], ◌∷◌, ◌++◌, None, Some, ap, append-nil, cond, filter, map, refl, subst, sym}
+use Rattle.std.proofs.Common.{◌≡◌, ◌∙◌, ℕ, Bool, true, false, List, [], ◌∷◌, ◌++◌, None, Some, ap, append-nil, arith, cond, filter, inl, inr, length, length-append, map, refl, subst, sym}
+use Rattle.std.specs.Prelude.{◌≢◌}
 use Rattle.std.proofs.lemmas.Grind.{flat_map-append}
-use Rattle.bolt_report.proofs.Words.{AllByRecursion, AreSized, bucket_checked, bucket_start, bytes_of, Checked, Form, IsStatsOf, Key, LeafElement, Meta, meta_of, Sized, sizes_text, Start, start_of, Stats}
+use Rattle.bolt_report.proofs.Words.{AllByRecursion, AreSized, bucket_checked, bucket_start, bytes_of, Checked, Form, IsStatsOf, Key, LeafElement, Meta, cases_Bool, json_text, line, size_json, meta_of, Sized, sizes_text, Start, start_of, Stats}
 use Rattle.bolt_tree.specs.{Lookups.IsBucketOf, declared.bucket.Bucket.Bucket}
-use Rattle.bolt_report.specs.SizeLines.{size_line, size_text}
+use Rattle.bolt_report.specs.SizeLines.{size_columns, size_line, size_text}
+use Rattle.bolt_text.specs.Forms.{is_json, item_text, json_in}
 use Rattle.bolt_stats.specs.StatsOf.{AreStats}
 
 abbrev pub buckets_of : List LeafElement → List LeafElement
@@ -83,3 +85,19 @@ no_line file meta form entries (s ∷ sized) none are =
 -- a value has no line
 pub value_line : (file : List ℕ) (meta : Meta) (form : Form) (e : LeafElement) (sized : List Sized) → IsBucketOf (Some e) None → AreSized file meta (e ∷ []) sized → sizes_text form sized ≡ []
 value_line file meta form e sized plain are = no_line file meta form [] sized refl (record { buckets = are.buckets ∙ by_kind e [] false plain; stats = are.stats })
+
+-- ---- each line ends with a line feed
+
+ends : (first text : List ℕ) → first ++ line text ≢ []
+ends first text none =
+    let long = ap length none in
+    let whole = length-append first (line text) in
+    let last = length-append text (10 ∷ []) in
+    absurd (omega (arith, long, whole, last))
+
+pub size_some : (form : Form) (stats : Stats) (name : List ℕ) → size_text form stats name ≢ []
+size_some form stats name =
+    elim (cases_Bool (is_json form)) [
+      | inl json ↦ rw json (ends [] (json_text (size_json stats (json_in form name))))
+      | inr plain ↦ rw plain (ends (size_columns stats) (item_text form name))
+    ]

@@ -4,7 +4,7 @@ ghost use Rattle.bolt_format.specs.{Elements.LeafElement, Wrote.Wrote};
 ghost use Rattle.bolt_tree.specs.{Entries.entry_view, ShownEntries.shown_entry};
 ghost use Rattle.bolt_tree.specs.Cursors.{cursor_bucket, cursor_checked, cursor_opened, cursor_start};
 ghost use Rattle.bolt_report.specs.KeyLines.{ForBucket, ForCursor, bucket_name, buckets_text, keys_text};
-ghost use Rattle.bolt_text.specs.ReportEndings.{report_ending};
+ghost use Rattle.bolt_text.specs.ReportEndings.{HaltsShort, report_ending};
 ghost use Rattle.bolt_report.specs.KeyPrefixes.{OpensPrefix, with_prefix};
 
 use bolt_format::Sink;
@@ -17,8 +17,8 @@ use std::alloc::Global;
 /// # Errors
 ///
 /// `Sink` if the sink failed; `NoMemory` if memory ran out for a text in the form `Json`, and the sink
-/// had not failed. The sink has then accepted a prefix of the text. There is no other error, and no
-/// other form needs memory.
+/// had not failed. The sink has then accepted a prefix of the text, and not the whole if memory ran
+/// out. There is no other error, and no other form needs memory.
 pub fn keys<S: Sink>(
     alloc: Global,
     bucket: &Bucket<'_>,
@@ -27,6 +27,8 @@ pub fn keys<S: Sink>(
 ) -> Result<(), ReportFault>
     ensures written { ForBucket bucket.now (λ entries.
         Wrote S.Sink sink.old sink.new (keys_text form entries) (report_ending result)) }
+    ensures short { ForBucket bucket.now (λ entries.
+        HaltsShort S.Sink sink.old sink.new (keys_text form entries) (report_ending result)) }
     ensures fault { IfErr result (λ fault. (fault ≡ ReportFault.Sink)
         ⊎ ((fault ≡ ReportFault.NoMemory) × (form ≡ Form.Json))) }
 {
@@ -43,6 +45,8 @@ pub fn buckets<S: Sink>(
 ) -> Result<(), ReportFault>
     ensures written { ForBucket bucket.now (λ entries.
         Wrote S.Sink sink.old sink.new (buckets_text form entries) (report_ending result)) }
+    ensures short { ForBucket bucket.now (λ entries.
+        HaltsShort S.Sink sink.old sink.new (buckets_text form entries) (report_ending result)) }
     ensures fault { IfErr result (λ fault. (fault ≡ ReportFault.Sink)
         ⊎ ((fault ≡ ReportFault.NoMemory) × (form ≡ Form.Json))) }
 {
@@ -63,6 +67,9 @@ fn put_bucket<S: Sink>(
     ensures form { items.new.form ≡ items.old.form }
     ensures written { (e : LeafElement) → shown_entry entry.now ≡ entry_view e
         → Wrote S.Sink sink.old sink.new (bucket_name items.old.form e) (report_ending result) }
+    ensures short { (e : LeafElement) → shown_entry entry.now ≡ entry_view e
+        → HaltsShort S.Sink sink.old sink.new (bucket_name items.old.form e)
+        (report_ending result) }
     ensures fault { IfErr result (λ fault. (fault ≡ ReportFault.Sink)
         ⊎ ((fault ≡ ReportFault.NoMemory) × (items.old.form ≡ Form.Json))) }
 {
@@ -80,8 +87,8 @@ fn put_bucket<S: Sink>(
 /// # Errors
 ///
 /// `Sink` if the sink failed; `NoMemory` if memory ran out for a text in the form `Json`, and the sink
-/// had not failed. The sink has then accepted a prefix of the text. There is no other error, and no
-/// other form needs memory.
+/// had not failed. The sink has then accepted a prefix of the text, and not the whole if memory ran
+/// out. There is no other error, and no other form needs memory.
 pub fn keys_with_prefix<S: Sink>(
     alloc: Global,
     cursor: &mut Cursor<'_>,
@@ -91,6 +98,9 @@ pub fn keys_with_prefix<S: Sink>(
 ) -> Result<(), ReportFault>
     ensures written { ForCursor cursor.old (λ all.
         Wrote S.Sink sink.old sink.new (keys_text form (with_prefix prefix.now all))
+        (report_ending result)) }
+    ensures short { ForCursor cursor.old (λ all.
+        HaltsShort S.Sink sink.old sink.new (keys_text form (with_prefix prefix.now all))
         (report_ending result)) }
     ensures opens { OnOk result
         (OpensPrefix (cursor_bucket cursor.old) prefix.now (cursor_opened cursor.old)

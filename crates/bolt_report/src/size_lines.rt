@@ -2,7 +2,7 @@
 ghost use Rattle.std.specs.Prelude.{◌≡◌, ◌++◌, ◌⊎◌, IfErr, true};
 ghost use Rattle.bolt_format.specs.{Endings.ending, Wrote.Wrote};
 ghost use Rattle.bolt_stats.specs.StatsOf.{AreStats};
-ghost use Rattle.bolt_text.specs.{Forms.value_text, Forms.is_json, Forms.json_in, Forms.json_text, ReportEndings.report_ending};
+ghost use Rattle.bolt_text.specs.{Forms.value_text, Forms.is_json, Forms.json_in, Forms.json_text, ReportEndings.HaltsShort, ReportEndings.report_ending};
 ghost use Rattle.bolt_report.specs.SizeLines.{bytes_allocated, bytes_used, size_columns, size_text, sizes_text, size_json, size_members, ForSized};
 ghost use Rattle.bolt_text.specs.Lines.{line};
 
@@ -21,8 +21,8 @@ use std::alloc::Global;
 /// # Errors
 ///
 /// `Sink` if the sink failed; `NoMemory` if memory ran out for the figures of a bucket or for a
-/// name in the form `Json`, and the sink had not failed. The sink has then accepted a prefix of the text. There
-/// is no other error.
+/// name in the form `Json`, and the sink had not failed. The sink has then accepted a prefix of the
+/// text, and not the whole if memory ran out. There is no other error.
 pub fn sizes<S: Sink>(
     alloc: Global,
     bucket: &Bucket<'_>,
@@ -31,6 +31,8 @@ pub fn sizes<S: Sink>(
 ) -> Result<(), ReportFault>
     ensures written { ForSized bucket.now (λ sized.
         Wrote S.Sink sink.old sink.new (sizes_text form sized) (report_ending result)) }
+    ensures short { ForSized bucket.now (λ sized.
+        HaltsShort S.Sink sink.old sink.new (sizes_text form sized) (report_ending result)) }
     ensures fault { IfErr result (λ fault. (fault ≡ ReportFault.Sink)
         ⊎ (fault ≡ ReportFault.NoMemory)) }
 {
@@ -56,6 +58,9 @@ fn put_bucket<S: Sink>(
     ensures written { (own : Stats) → AreStats bucket.now own
         → Wrote S.Sink sink.old sink.new (size_text items.old.form own name.now)
         (report_ending result) }
+    ensures short { (own : Stats) → AreStats bucket.now own
+        → HaltsShort S.Sink sink.old sink.new (size_text items.old.form own name.now)
+        (report_ending result) }
     ensures fault { IfErr result (λ fault. (fault ≡ ReportFault.Sink)
         ⊎ (fault ≡ ReportFault.NoMemory)) }
 {
@@ -73,6 +78,8 @@ fn put_size<S: Sink>(
     ensures form { items.new.form ≡ items.old.form }
     ensures written { Wrote S.Sink sink.old sink.new (size_text items.old.form stats.now name.now)
         (report_ending result) }
+    ensures short { HaltsShort S.Sink sink.old sink.new (size_text items.old.form stats.now name.now)
+        (report_ending result) }
     ensures fault { IfErr result (λ fault. (fault ≡ ReportFault.Sink)
         ⊎ (fault ≡ ReportFault.NoMemory)) }
 {
@@ -84,7 +91,7 @@ fn put_size<S: Sink>(
 }
 
 /// Writes the figures and the name with spaces between them.
-#[tactic(auto, using(bolt_text::proofs::ReportLemmas::reports))]
+#[tactic(auto, using(bolt_text::proofs::ReportLemmas::reports, bolt_text::proofs::ShortTexts::shorts))]
 fn put_row<S: Sink>(
     stats: &Stats,
     name: &[u8],
@@ -93,6 +100,8 @@ fn put_row<S: Sink>(
 ) -> Result<(), ReportFault>
     ensures form { items.new.form ≡ items.old.form }
     ensures written { Wrote S.Sink sink.old sink.new
+        (size_columns stats.now ++ value_text items.old.form name.now) (report_ending result) }
+    ensures short { HaltsShort S.Sink sink.old sink.new
         (size_columns stats.now ++ value_text items.old.form name.now) (report_ending result) }
     ensures fault { IfErr result (λ fault. (fault ≡ ReportFault.Sink)
         ⊎ (fault ≡ ReportFault.NoMemory)) }
@@ -148,6 +157,9 @@ fn put_object<S: Sink>(
     requires { is_json items.old.form ≡ true }
     ensures form { items.new.form ≡ items.old.form }
     ensures written { Wrote S.Sink sink.old sink.new
+        (line (json_text (size_json stats.now (json_in items.old.form name.now))))
+        (report_ending result) }
+    ensures short { HaltsShort S.Sink sink.old sink.new
         (line (json_text (size_json stats.now (json_in items.old.form name.now))))
         (report_ending result) }
     ensures fault { IfErr result (λ fault. (fault ≡ ReportFault.Sink)

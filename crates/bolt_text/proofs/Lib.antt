@@ -9,6 +9,7 @@ pub mod LineLemmas
 mod MixedParts
 pub mod PartTests
 pub mod ReportLemmas
+pub mod ShortTexts
 mod TokenLemmas
 mod Vocabulary
 mod WordLemmas

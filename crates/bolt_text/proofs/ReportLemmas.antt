@@ -8,7 +8,7 @@ use Rattle.bolt_text.specs.ReportEndings.{fault_ending, report_ending}
 use Rattle.bolt_text.specs.declared.fault.ReportFault.TheVariants as fault
 
 -- a fault that was passed on
-ends_by : {A : Type 0} (e : ReportFault) (result : Result A ReportFault) → IsErrAnd result (λ f. f ≡ e) → fault_ending e ≡ report_ending result
+pub ends_by : {A : Type 0} (e : ReportFault) (result : Result A ReportFault) → IsErrAnd result (λ f. f ≡ e) → fault_ending e ≡ report_ending result
 ends_by e (Ok x) is = absurd is
 ends_by e (Err f) is = ap fault_ending (sym is)
 

@@ -3,7 +3,7 @@ ghost use Rattle.std.specs.Prelude.{◌≡◌, ◌⊎◌, IfErr, if◌then◌els
 ghost use Rattle.hex.specs.Hex.{encode_lower};
 ghost use Rattle.bolt_format.specs.{Endings.ending, Wrote.Wrote};
 ghost use Rattle.bolt_text.specs.Forms.{digits_json, is_printable, is_text, item_text, json_text, mixed_text, value_text};
-ghost use Rattle.bolt_text.specs.{Pieces.piece_text, ReportEndings.report_ending};
+ghost use Rattle.bolt_text.specs.{Pieces.piece_text, ReportEndings.HaltsShort, ReportEndings.report_ending};
 
 use crate::fault::ReportFault;
 use crate::forms::Form;
@@ -38,6 +38,8 @@ impl ItemWriter {
         ensures form { self.new.form ≡ self.old.form }
         ensures written { Wrote S.Sink sink.old sink.new (value_text self.old.form bytes.now)
             (report_ending result) }
+        ensures short { HaltsShort S.Sink sink.old sink.new (value_text self.old.form bytes.now)
+            (report_ending result) }
         ensures fault { IfErr result (λ fault. (fault ≡ ReportFault.Sink)
             ⊎ ((fault ≡ ReportFault.NoMemory) × (self.old.form ≡ Form.Json))) }
     {
@@ -50,6 +52,8 @@ impl ItemWriter {
     pub fn put<S: Sink>(&mut self, bytes: &[u8], sink: &mut S) -> Result<(), ReportFault>
         ensures form { self.new.form ≡ self.old.form }
         ensures written { Wrote S.Sink sink.old sink.new (item_text self.old.form bytes.now)
+            (report_ending result) }
+        ensures short { HaltsShort S.Sink sink.old sink.new (item_text self.old.form bytes.now)
             (report_ending result) }
         ensures fault { IfErr result (λ fault. (fault ≡ ReportFault.Sink)
             ⊎ ((fault ≡ ReportFault.NoMemory) × (self.old.form ≡ Form.Json))) }
@@ -131,8 +135,8 @@ fn is_text(bytes: &[u8]) -> bool
 /// # Errors
 ///
 /// `Sink` if the sink failed; `NoMemory` if memory ran out for a text in the form `Json`, and the sink
-/// had not failed. The sink has then accepted a prefix of the text. There is no other error, and no
-/// other form needs memory.
+/// had not failed. The sink has then accepted a prefix of the text, and not the whole if memory ran
+/// out. There is no other error, and no other form needs memory.
 pub fn value<S: Sink>(
     alloc: Global,
     bytes: &[u8],
@@ -140,6 +144,8 @@ pub fn value<S: Sink>(
     sink: &mut S,
 ) -> Result<(), ReportFault>
     ensures written { Wrote S.Sink sink.old sink.new (value_text form bytes.now)
+        (report_ending result) }
+    ensures short { HaltsShort S.Sink sink.old sink.new (value_text form bytes.now)
         (report_ending result) }
     ensures fault { IfErr result (λ fault. (fault ≡ ReportFault.Sink)
         ⊎ ((fault ≡ ReportFault.NoMemory) × (form ≡ Form.Json))) }
@@ -156,6 +162,8 @@ pub fn item<S: Sink>(
     sink: &mut S,
 ) -> Result<(), ReportFault>
     ensures written { Wrote S.Sink sink.old sink.new (item_text form bytes.now)
+        (report_ending result) }
+    ensures short { HaltsShort S.Sink sink.old sink.new (item_text form bytes.now)
         (report_ending result) }
     ensures fault { IfErr result (λ fault. (fault ≡ ReportFault.Sink)
         ⊎ ((fault ≡ ReportFault.NoMemory) × (form ≡ Form.Json))) }

@@ -1,5 +1,5 @@
 -- The open pages of the code as what is still to be done.
-use Rattle.std.specs.Prelude.{◌≡◌, ◌≤◌, ◌<◌, IsTrue, ℕ, ◌+◌, ◌-◌, ◌*◌, Bool, true, List, [], ◌∷◌, ◌++◌, length, map, take, Option, Some, None, Ok, slice_get, sum_by}
+use Rattle.std.specs.Prelude.{◌≡◌, ◌≤◌, ◌<◌, IsTrue, ℕ, ◌+◌, ◌-◌, ◌*◌, Bool, true, false, List, [], ◌∷◌, ◌++◌, length, map, take, Option, Some, None, Ok, slice_get, sum_by}
 use Rattle.std.specs.Option.{option_map}
 use Rattle.bolt_format.specs.{ElementPlaces.leaf_view, Elements.IsBucketValue, Elements.LeafElement}
 use Rattle.bolt_format.specs.declared.element.Leaf as element
@@ -65,6 +65,10 @@ step_path path (Some e) = path ++ e.key ∷ []
 abbrev pub ElementLeads : KeptPage → ℕ → Option CodeSpot → Type 0
 ElementLeads content i to = (file : List ℕ) (meta : Meta) (path : Path) → IsGoodContent file meta content
     → step_site file meta (content_site path content) i ≡ option_map (spot_site file meta (step_path path (slice_get (content_elements content) i))) to
+
+-- element n is a value, which leads nowhere
+abbrev pub IsValueAt : List LeafElement → ℕ → Type 0
+IsValueAt elements n = option_map (λ (e : LeafElement). e.is_bucket) (slice_get elements n) ≡ Some false
 
 -- the pages that are claimed once a spot is kept
 abbrev pub claims_with : Claims → Spot → ℕ → Bool
@@ -171,6 +175,12 @@ pub record GoesOn (old new : Steps) : Type 0 where
 pub record GivesHead (old new : Steps) (e : LeafElement) : Type 0 where
   pub on : StaysOn old new
   pub head : members_left old ≡ (steps_path new, item_of e) ∷ members_left new
+
+-- some members were dropped
+pub record Skips (old new : Steps) : Type 0 where
+  pub on : StaysOn old new
+  pub dropped : List Member
+  pub left : members_left old ≡ dropped ++ members_left new
 
 -- nothing was left
 pub record Ends (old new : Steps) : Type 0 where

@@ -1,4 +1,4 @@
-use Rattle.std.proofs.Common.{codes, refl}
+use Rattle.std.proofs.Common.{refl}
 use Rattle.bolt_etcd.specs.RevisionLines.{named, revision_lines}
 use Rattle.bolt_commands.specs.Answers.{IsAnswerAt, IsCurrentText, up_to}
 use Rattle.bolt_commands.proofs.{Doing.answer_as, Doing.answer_nothing}

@@ -1,8 +1,8 @@
-use Rattle.std.proofs.Common.{◌≡◌, ◌∙◌, Err, Ok, ap, codes, option_map, refl, sym}
+use Rattle.std.proofs.Common.{◌≡◌, ◌∙◌, Err, ap, option_map, refl, sym}
 use Rattle.bolt_etcd.specs.Newest.{value_if}
-use Rattle.bolt_commands.specs.Answers.{IsAnswerAt, IsHeldText, IsValueText, entries_ending, up_to, value_shown}
+use Rattle.bolt_commands.specs.Answers.{IsAnswerAt, IsHeldText, entries_ending, value_shown}
 use Rattle.bolt_commands.specs.declared.failure.Failure.TheVariants.{NoKey}
-use Rattle.bolt_commands.proofs.{CutTexts.text_put, Doing.answer_as, Doing.answer_nothing, Doing.ends_as, Vocabulary.Json}
+use Rattle.bolt_commands.proofs.{CutTexts.short_put, Doing.answer_as, Doing.answer_nothing, Vocabulary.Json}
 use Rattle.bolt_commands.proofs.EtcdAnswers.{answer_at, compacted_answer, here, keys, own, unread_store}
 use Rattle.bolt_commands.proofs.etcd_commands.print_held.Goals as goal
 
@@ -36,5 +36,5 @@ returns g c =
     let kept = c.in_ok-refuse_compacted.ensures.kept (own _ _ s of).0 (here _ _ s of) in
     let found = rw (c.as_slice.ensures.value, c.up_to.ensures) at (c.find-newest.ensures.revision entries are) in
     let some = ap value_if (sym found) ∙ sym c.value.ensures ∙ ap (option_map (λ value. value.now)) c.in-Some.is in
-    let put = text_put (job.form ≡ Json) (value_shown job.form job.no_newline c.in-Some.held.now) (entries_ending entries) c.put_value.result c.put_value.ensures.written c.put_value.ensures.fault in
+    let put = short_put (job.form ≡ Json) (value_shown job.form job.no_newline c.in-Some.held.now) (entries_ending entries) c.put_value.result c.put_value.ensures.written c.put_value.ensures.short c.put_value.ensures.fault in
     rw (c.end_held.ensures, c.find-newest.ensures.others entries are) (answer_at _ _ s of (IsHeldText job) _ job.at kept (answer_as put (λ answer shown. rw some shown)))

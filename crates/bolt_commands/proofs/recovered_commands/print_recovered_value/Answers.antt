@@ -43,7 +43,7 @@ returns-in_err-put_value g c =
     let held = value_known own path c.in_ok-at.at holds (parts losses) _ (rw (c.losses.ensures.losses, known) at c.in_ok-value.ensures) in
     let put = c.in_err-put_value.ensures in
     rw (ends_as _ _ c.from_residual-in_err-put_value.ensures.1)
-    (of_recovery r of (IsRecoveredValue c.args.job.now) _ own is losses are (value_put {A = Bool} c.args.job.now own (parts losses) _ held (Err _) put.written put.fault))
+    (of_recovery r of (IsRecoveredValue c.args.job.now) _ own is losses are (value_put {A = Bool} c.args.job.now own (parts losses) _ held (Err _) put.written put.short put.fault))
 
 pub returns : goal.returns
 returns g c =
@@ -59,4 +59,4 @@ returns g c =
     let held = value_known own path c.in_ok-at.at holds (parts losses) _ (rw (c.losses.ensures.losses, known) at c.in_ok-value.ensures) in
     let put = c.in_ok-put_value.ensures in
     rw (c.end_listing.ensures, c.losses-2.ensures.losses, known)
-    (of_recovery r of (IsRecoveredValue c.args.job.now) _ own is losses are (value_put {A = Bool} c.args.job.now own (parts losses) _ held (Ok true) put.written tt))
+    (of_recovery r of (IsRecoveredValue c.args.job.now) _ own is losses are (value_put {A = Bool} c.args.job.now own (parts losses) _ held (Ok true) put.written put.short tt))

@@ -3,7 +3,7 @@ use Rattle.std.proofs.Common.{◌∙◌, [], Option, None, suc, ap, sym, arith}
 use Rattle.bolt_report.proofs.Words.{cursor_bucket, cursor_opened, cursor_place, EntryView, Form, front_more, front_whole, keys_text, props, shown_entry, value_text, Wrote-none, Wrote-same, ∥∥₁_elim}
 use Rattle.bolt_report.proofs.PrefixLemmas.{from_least}
 use Rattle.bolt_report.proofs.PrefixSteps.{all_opened, cursor_entries, fault_handed_on, fewer_shown, moved, next_first, none_shown, nothing_shown, number_of, other_shown, sought, stage_next, stage_sought}
-use Rattle.bolt_text.proofs.ReportLemmas.{front_fault}
+use Rattle.bolt_text.proofs.{ReportLemmas.front_fault, ShortTexts.short_front, ShortTexts.short_same}
 use Rattle.std.specs.Option.{option_map}
 use Rattle.bolt_tree.specs.declared.entry.Entry.{Entry}
 use Rattle.bolt_report.proofs.key_lines.keys_with_prefix.Goals as goal
@@ -45,6 +45,15 @@ returns-in_err-put_line-clause-written g c = λ entries are.
     let next = next_first _ _ _ _ _ _ n done (shown_entry c.in-Some.entry) stage (sym c.starts_with.ensures.value ∙ c.if-not-starts_with.false) in
     let line = Wrote-same (ap (λ (form : Form). value_text form c.in-Some.entry.key.now) c.rest.invariant.form ∙ ap (λ (w : EntryView). value_text c.args.form w.key) shown) c.in_err-put_line.ensures.written in
     front_fault _ _ _ before line (ap (keys_text c.args.form) next) c.from_residual.ensures.1
+
+pub returns-in_err-put_line-clause-short : goal.returns-in_err-put_line-clause-short
+returns-in_err-put_line-clause-short g c = λ entries are.
+    let (n, done, shows, before) = c.rest.invariant.put entries are in
+    let stage = rw c.in-Some.is at shows in
+    let (e, shown, _, _) = stage.stands in
+    let next = next_first _ _ _ _ _ _ n done (shown_entry c.in-Some.entry) stage (sym c.starts_with.ensures.value ∙ c.if-not-starts_with.false) in
+    let line = short_same (ap (λ (form : Form). value_text form c.in-Some.entry.key.now) c.rest.invariant.form ∙ ap (λ (w : EntryView). value_text c.args.form w.key) shown) c.in_err-put_line.ensures.short in
+    short_front _ _ _ before line (ap (keys_text c.args.form) next) c.from_residual.ensures.1
 
 pub returns-in_err-put_line-clause-fault : goal.returns-in_err-put_line-clause-fault
 returns-in_err-put_line-clause-fault g c = fault_handed_on _ _ _ _ c.rest.invariant.form c.from_residual.ensures.1 c.in_err-put_line.ensures.fault

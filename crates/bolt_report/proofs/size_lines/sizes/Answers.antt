@@ -1,6 +1,6 @@
 use Rattle.std.proofs.Common.{◌∙◌, ap, subst, sym}
 use Rattle.bolt_report.proofs.Words.{AreSized, bucket_checked, bytes_of, entries_left, EntryView, fewer_left, Form, front_more, front_none, front_whole, meta_of, next_shows, next_stands, Place, sizes_text, Wrote-none, Wrote-same}
-use Rattle.bolt_text.proofs.ReportLemmas.{front_fault}
+use Rattle.bolt_text.proofs.{ReportLemmas.front_fault, ShortTexts.short_front, ShortTexts.short_same}
 use Rattle.bolt_report.proofs.SizeLemmas.{bucket_line, cut, cut_text, no_line, value_line}
 use Rattle.bolt_tree.proofs.Leaving.{stands_on}
 use Rattle.bolt_report.proofs.size_lines.sizes.Goals as goal
@@ -64,6 +64,17 @@ returns-in_err-put_bucket-clause-written g c = λ entries are sized stats.
     (ap (λ (v : EntryView). v.key) shown) k.first in
     let one = Wrote-same (text ∙ ap (λ (form : Form). sizes_text form k.own) c.rest.invariant.form) (c.in_err-put_bucket.ensures.written own own_are) in
     front_fault (sizes_text c.args.form k.rest) _ _ before one (cut_text c.args.form left k.own k.rest k.whole) c.from_residual.ensures.1
+
+pub returns-in_err-put_bucket-clause-short : goal.returns-in_err-put_bucket-clause-short
+returns-in_err-put_bucket-clause-short g c = λ entries are sized stats.
+    let (e, shown, first, at) = next_stands _ _ _ _ _ _ _ c.rest.invariant.checked c.rest.invariant.start c.in-Some.ensures.moves entries are in
+    let (left, left_are, before) = c.rest.invariant.put entries are sized stats in
+    let is = stands_on _ _ _ _ _ (c.in-Some.ensures.start ∙ c.rest.invariant.start) c.in-Some-bucket_at.ensures.bucket entries are e at in
+    let k = cut _ _ e _ left (rw first at left_are) in
+    let (own, own_are, text) = bucket_line c.in-Some-bucket_at.inner (bucket_checked c.args.bucket.now) c.rest.items.form c.in-Some.entry.key.now e k.own c.in-Some-bucket_at.ensures.checked is
+    (ap (λ (v : EntryView). v.key) shown) k.first in
+    let one = short_same (text ∙ ap (λ (form : Form). sizes_text form k.own) c.rest.invariant.form) (c.in_err-put_bucket.ensures.short own own_are) in
+    short_front (sizes_text c.args.form k.rest) _ _ before one (cut_text c.args.form left k.own k.rest k.whole) c.from_residual.ensures.1
 
 pub returns-clause-written : goal.returns-clause-written
 returns-clause-written g c = λ entries are sized stats.

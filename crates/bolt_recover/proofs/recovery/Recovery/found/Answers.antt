@@ -7,7 +7,7 @@ use Rattle.bolt_recover.proofs.recovery.Recovery.found.Goals as goal
 pub returns : goal.returns
 unfolding recovery_claimed recovery_file recovery_losses recovery_meta
 returns c =
-    let self = c.finish.new.self in
+    let self = c.find_bucket_key.new.self in
     let rest = c.new.result in
     let finished = c.in_ok-has_bucket_key.ensures in
     let file = recovery_file c.args.self in

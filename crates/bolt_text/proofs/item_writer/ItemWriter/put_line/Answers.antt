@@ -1,7 +1,7 @@
 -- An item, and then a line feed.
 use Rattle.std.proofs.Common.{◌∷◌, []}
 use Rattle.bolt_text.proofs.ReportLemmas.{Wrote-fault, Wrote-passed}
-use Rattle.bolt_text.proofs.Vocabulary.{Wrote-then}
+use Rattle.bolt_text.proofs.{ShortTexts.short_fault, Vocabulary.Wrote-then}
 use Rattle.bolt_text.proofs.item_writer.ItemWriter.put_line.Goals as goal
 
 pub returns-in_err-put-clause-written : goal.returns-in_err-put-clause-written
@@ -12,3 +12,6 @@ returns-in_err-put-2-clause-written g c = Wrote-passed _ (Wrote-then c.in_ok-put
 
 pub returns-clause-written : goal.returns-clause-written
 returns-clause-written g c = Wrote-then c.in_ok-put.ensures.written c.in_ok-put-2.ensures
+
+pub returns-in_err-put-clause-short : goal.returns-in_err-put-clause-short
+returns-in_err-put-clause-short g c = short_fault (10 ∷ []) _ _ c.in_err-put.ensures.short c.from_residual.ensures.1
