@@ -18,6 +18,7 @@ pub mod Leaving
 pub mod Lists
 pub mod Looking
 pub mod Measured
+pub mod MergeLemmas
 pub mod MoveLemmas
 pub mod Named
 pub mod NearLemmas
@@ -30,6 +31,7 @@ pub mod PartLemmas
 pub mod PathEntries
 pub mod PathOrder
 pub mod PlaceMoves
+pub mod PlacedTrees
 pub mod ReadBack
 pub mod RestingLemmas
 pub mod SeekCounts
