@@ -21,7 +21,7 @@ abbrev Fits : Member → Type 0
 Fits m = IsFitMember m.0 m.1
 
 -- a bucket that is made for what is found
-bucket_fits : (front : Path) (key : Key) → IsKeyLength (length key) → Fits (front ++ key ∷ [], Bucket 0)
+pub bucket_fits : (front : Path) (key : Key) → IsKeyLength (length key) → Fits (front ++ key ∷ [], Bucket 0)
 bucket_fits front key fit = (λ own last same. subst (λ (j : Key). IsKeyLength (length j)) (same_from_push front own key last same).1 fit, omega arith)
 
 named_fits : (n : ℕ) → IsKeyLength (length (page_key n))

@@ -12,6 +12,7 @@ pub mod Existing
 pub mod Filters
 pub mod GapLemmas
 mod Giving
+pub mod InBucketLemmas
 pub mod KeptLemmas
 pub mod KeySearchLemmas
 pub mod Leaving
