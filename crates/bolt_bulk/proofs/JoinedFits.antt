@@ -14,14 +14,14 @@ use Rattle.bolt_recover.proofs.{MembersInBuckets.path_holds, MembersInBuckets.sh
 -- Members of a listing that fits are whole, if all are left.
 pub whole_if_fit : {M : Type 0} {lists : M → List Member → Type 0} {left : M → List Member → List Member} {members : M} → (listing : List Member) × lists members listing
     → ((listing : List Member) → lists members listing → left members listing ≡ listing) → ((listing : List Member) → IsFitListing listing → IsOfOneTree listing)
-    → ((listing : List Member) → lists members listing → IsFitListing listing) → IsWhole lists left members
+    → ((listing : List Member) → lists members listing → IsFitListing listing) → IsWhole lists (λ listing. listing) left members
 whole_if_fit some all law fit = record { some = ∣ some ∣₁; all = all; one = λ listing is. ∣ law listing (fit listing is) ∣₁ }
 
 abbrev Fits : Member → Type 0
 Fits m = IsFitMember m.0 m.1
 
 -- a bucket that is made for what is found
-bucket_fits : (front : Path) (key : Key) → IsKeyLength (length key) → Fits (front ++ key ∷ [], Bucket 0)
+pub bucket_fits : (front : Path) (key : Key) → IsKeyLength (length key) → Fits (front ++ key ∷ [], Bucket 0)
 bucket_fits front key fit = (λ own last same. subst (λ (j : Key). IsKeyLength (length j)) (same_from_push front own key last same).1 fit, omega arith)
 
 named_fits : (n : ℕ) → IsKeyLength (length (page_key n))

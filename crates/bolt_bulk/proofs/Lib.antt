@@ -10,7 +10,7 @@ mod HeldPasses
 mod HeldPuts
 mod HeldRuns
 mod HeldSteps
-mod JoinedFits
+pub mod JoinedFits
 mod KeptRuns
 mod LeafPuts
 mod LimitLemmas

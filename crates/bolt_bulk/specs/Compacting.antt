@@ -43,18 +43,18 @@ pub record Copies {S : Type 0} (taken : S → Option (List ℕ)) (failed : S →
 -- What a call promises that copies members in this layout, at this page size and with this sequence of the root bucket: for each listing that
 -- they have. If it returns Ok, the copy is a sound file with the same listing, and `held` is the greatest number of items that are held at one
 -- time while the layout is written, which is bounded. Every proper prefix of a layout with fewer than 2^63 bytes is refused.
-pub record CopiesEach {S : Type 0} (taken : S → Option (List ℕ)) (failed : S → ℕ) (old new : S) (lists : List Member → Type 0)
+pub record CopiesEach {S W : Type 0} (taken : S → Option (List ℕ)) (failed : S → ℕ) (old new : S) (reads : W → Type 0) (listing : W → List Member)
     (which : Layout) (page_size sequence : ℕ) (result : Result Done BulkFault) : Type 0 where
-  pub copied : (listing : List Member) → lists listing → Copies taken failed old new (layout_of_listing which page_size listing sequence) result
-  pub accepted : OnOk result ((listing : List Member) → lists listing → ∥ IsSoundCopy which page_size (tree_of listing) sequence listing ∥₁)
-  pub held : IfOk result (λ done. (listing : List Member) → lists listing → done.held ≡ layout_held which page_size (tree_of listing))
-  pub bounded : IfOk result (λ done. (listing : List Member) → lists listing → done.held ≤ most_held page_size listing)
-  pub prefixes : (listing : List Member) → lists listing → length (layout_of_listing which page_size listing sequence) < too_many
-      → ∥ RefusesPrefixes (layout_of_listing which page_size listing sequence) (layout_root which page_size (tree_of listing)) ∥₁
+  pub copied : (whole : W) → reads whole → Copies taken failed old new (layout_of_listing which page_size (listing whole) sequence) result
+  pub accepted : OnOk result ((whole : W) → reads whole → ∥ IsSoundCopy which page_size (tree_of (listing whole)) sequence (listing whole) ∥₁)
+  pub held : IfOk result (λ done. (whole : W) → reads whole → done.held ≡ layout_held which page_size (tree_of (listing whole)))
+  pub bounded : IfOk result (λ done. (whole : W) → reads whole → done.held ≤ most_held page_size (listing whole))
+  pub prefixes : (whole : W) → reads whole → length (layout_of_listing which page_size (listing whole) sequence) < too_many
+      → ∥ RefusesPrefixes (layout_of_listing which page_size (listing whole) sequence) (layout_root which page_size (tree_of (listing whole))) ∥₁
 
 -- the members of a checked file
 abbrev pub CopiesFile : {S : Type 0} → (taken : S → Option (List ℕ)) → (failed : S → ℕ) → (old new : S) → Checked → Layout → (page_size : ℕ)
     → Result Done BulkFault → Type 0
 CopiesFile taken failed old new checked which page_size result =
-    CopiesEach taken failed old new (λ (listing : List Member). IsListing (bytes_of checked) (meta_of checked) listing)
+    CopiesEach taken failed old new (λ (listing : List Member). IsListing (bytes_of checked) (meta_of checked) listing) (λ listing. listing)
     which page_size (meta_of checked).root_sequence result

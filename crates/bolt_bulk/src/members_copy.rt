@@ -46,8 +46,8 @@ fn balanced_limits<'a, M: Members<'a>>(
     members: &mut M,
     blueprint: &Blueprint,
 ) -> Result<Limits, PlanFault>
-    requires { IsWhole M.lists M.left members.old }
-    ensures { FindsLimits M.lists M.left M.ends_as members.old members.new Balanced
+    requires { IsWhole M.reads M.listing M.left members.old }
+    ensures { FindsLimits M.reads M.listing M.left M.ends_as members.old members.new Balanced
         blueprint.now.page_size blueprint.now.sequence result }
 {
     a_listing_has_one_layout(blueprint.page_size, blueprint.sequence);
@@ -70,8 +70,8 @@ fn limits_of<'a, M: Members<'a>>(
     members: &mut M,
     blueprint: &Blueprint,
 ) -> Result<Limits, PlanFault>
-    requires { IsWhole M.lists M.left members.old }
-    ensures { FindsLimits M.lists M.left M.ends_as members.old members.new blueprint.now.layout
+    requires { IsWhole M.reads M.listing M.left members.old }
+    ensures { FindsLimits M.reads M.listing M.left M.ends_as members.old members.new blueprint.now.layout
         blueprint.now.page_size blueprint.now.sequence result }
 {
     match blueprint.layout {
@@ -87,12 +87,12 @@ fn plan_within<'a, M: Members<'a>>(
     limits: &Limits,
     blueprint: &Blueprint,
 ) -> Result<Plan, PlanFault>
-    requires whole { IsWhole M.lists M.left members.old }
-    requires fit { FitAll M.lists members.old blueprint.now.layout blueprint.now.page_size
+    requires whole { IsWhole M.reads M.listing M.left members.old }
+    requires fit { FitAll M.reads M.listing members.old blueprint.now.layout blueprint.now.page_size
         limits.now }
-    ensures plans { PlansEach (M.lists members.old) blueprint.now.layout blueprint.now.page_size
+    ensures plans { PlansEach (M.reads members.old) M.listing blueprint.now.layout blueprint.now.page_size
         blueprint.now.sequence result }
-    ensures again { IfOk result (λ plan. IsAgain M.lists M.left M.ends_as members.old members.new) }
+    ensures again { IfOk result (λ plan. IsAgain M.reads M.listing M.left M.ends_as members.old members.new) }
 {
     a_listing_has_one_layout(blueprint.page_size, blueprint.sequence);
     let setup = setup_of(alloc, blueprint.page_size);
@@ -116,8 +116,8 @@ pub(crate) fn plan_members<'a, M: Members<'a>>(
     members: &mut M,
     blueprint: &Blueprint,
 ) -> Result<Plan, PlanFault>
-    requires { IsWhole M.lists M.left members.old }
-    ensures { PlansEach (M.lists members.old) blueprint.now.layout blueprint.now.page_size
+    requires { IsWhole M.reads M.listing M.left members.old }
+    ensures { PlansEach (M.reads members.old) M.listing blueprint.now.layout blueprint.now.page_size
         blueprint.now.sequence result }
 {
     let limits = limits_of(alloc, members, blueprint)?;
@@ -137,8 +137,8 @@ pub fn compact_members<'a, M: Members<'a>, S: Sink>(
     blueprint: &Blueprint,
     sink: &mut S,
 ) -> Result<Done, BulkFault>
-    requires { IsWhole M.lists M.left members.old }
-    ensures copies { CopiesEach S.taken S.failed sink.old sink.new (M.lists members.old)
+    requires { IsWhole M.reads M.listing M.left members.old }
+    ensures copies { CopiesEach S.taken S.failed sink.old sink.new (M.reads members.old) M.listing
         blueprint.now.layout blueprint.now.page_size blueprint.now.sequence result }
     ensures end { OnOk result (M.ends_as members.old members.new) }
 {
@@ -205,12 +205,11 @@ fn put_pages<'a, M: Members<'a>, S: Sink>(
     sink: &mut S,
 ) -> Result<Ended, BulkFault>
     requires room { 3 ≤ setup.highest_mark }
-    requires whole { IsWhole M.lists M.left members.old }
-    ensures pages { PutsMembers S.Sink sink.old sink.new M.lists members.old setup limits.now notes
+    requires whole { IsWhole M.reads M.listing M.left members.old }
+    ensures pages { PutsMembers S.Sink sink.old sink.new M.reads M.listing members.old setup limits.now notes
         result }
     ensures end { OnOk result (M.ends_as members.old members.new) }
-    ensures listing { (listing : List Member)
-        → M.lists members.new listing ↔ M.lists members.old listing }
+    ensures reads { (whole : M.Whole) → M.reads members.new whole ↔ M.reads members.old whole }
     ensures same_end { (end : M) → M.ends_as members.new end → M.ends_as members.old end }
 {
     let mut pass = Pass::new(setup, limits, notes);

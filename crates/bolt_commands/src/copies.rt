@@ -35,7 +35,7 @@ pub(crate) fn copy_members<C: CopySource, T: Sink>(
     kind: CopyKind,
     target: &mut T,
 ) -> Result<u64, BulkFault>
-    requires { IsWhole C.lists C.left source.old }
+    requires { IsWhole C.lists (λ listing. listing) C.left source.old }
     ensures copied { ForLayout C.lists source.old blueprint.now (λ all layout.
         CopiesTo T.Sink target.old target.new layout all (is_snapshot kind) result) }
     ensures end { OnOk result (C.ends_as source.old source.new) }
@@ -52,7 +52,7 @@ fn copy_all<C: CopySource, T: Sink>(
     snapshot: bool,
     target: &mut T,
 ) -> Result<u64, BulkFault>
-    requires { IsWhole C.lists C.left source.old }
+    requires { IsWhole C.lists (λ listing. listing) C.left source.old }
     ensures copied { ForLayout C.lists source.old blueprint.now (λ _ layout.
         EndsCopy T.taken T.failed target.old target.new layout snapshot result) }
     ensures end { OnOk result (C.ends_as source.old source.new) }
@@ -83,7 +83,7 @@ fn hash_all<'a, K: Origin, T: Sink, C: CopySource>(
     blueprint: &Blueprint,
     target: &'a mut T,
 ) -> Hashed<'a, T>
-    requires whole { IsWhole C.lists C.left source.old }
+    requires whole { IsWhole C.lists (λ listing. listing) C.left source.old }
     requires name { target.ghost_name ≡ K.name }
     requires start { T.taken target.old ≡ K.start }
     ensures same { result.target.ghost_name ≡ target.entry.ghost_name }

@@ -36,7 +36,7 @@ pub(crate) trait CopySource {
     /// Writes the copy of all members, of which none may have been returned yet
     /// (`bolt_bulk::compact_members`).
     fn copy<S: Sink>(&mut self, alloc: Global, blueprint: &Blueprint, sink: &mut S) -> Copied
-        requires { IsWhole lists left self.old }
+        requires { IsWhole lists (λ listing. listing) left self.old }
         ensures copied { ForLayout lists self.old blueprint.now (λ _ layout.
             Copies S.taken S.failed sink.old sink.new layout result) }
         ensures end { OnOk result (ends_as self.old self.new) };
@@ -93,7 +93,7 @@ impl CopySource for LineMembers<'_> {
 /// The copies of a source are good. The range of a type is known of a
 /// value that the body reads: so it reads the sequence, and does nothing else.
 pub(crate) fn sources_have_good_copies<C: CopySource>(_source: &C, sequence: u64)
-    requires { IsWhole C.lists C.left _source.now }
+    requires { IsWhole C.lists (λ listing. listing) C.left _source.now }
     ensures { (listing : List Member) → C.lists _source.now listing
         → ∥ HasGoodCopies listing sequence ∥₁ }
 {

@@ -130,10 +130,10 @@ fn put_members_part<'a, M: Members<'a>, O: Sink>(
     job: &ListJob,
     out: &mut O,
 ) -> Result<bool, ReportFault>
-    ensures written { ForRising M.lists M.left members.old (λ left.
+    ensures written { ForRising M.reads M.left members.old (λ left.
         Wrote O.Sink out.old out.new (job_part job.now left) (report_ending result)) }
     ensures found { IfOk result (λ found.
-        ForLeft M.lists M.left members.old (λ left. found ≡ finds job.now left)) }
+        ForLeft M.reads M.left members.old (λ left. found ≡ finds job.now left)) }
     ensures end { OnOk result (M.ends_as members.old members.new) }
     ensures fault { MayFail result }
 {

@@ -119,7 +119,7 @@ impl<'a> AtPath<'a> {
 /// What the members that are left hold at a path. All are returned.
 fn look_up<'a, M: Members<'a>>(members: &mut M, path: &[&[u8]]) -> Result<AtPath<'a>, NoMemory>
     ensures held { IfOk result (λ at.
-        ForLeft M.lists M.left members.old (λ left. HoldsNow left (path_of path.now) at)) }
+        ForLeft M.reads M.left members.old (λ left. HoldsNow left (path_of path.now) at)) }
     ensures end { OnOk result (M.ends_as members.old members.new) }
 {
     let parents = parents_of(path);

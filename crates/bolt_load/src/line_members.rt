@@ -1,7 +1,7 @@
 //! The members that the lines of a text tell.
 ghost use Rattle.std.specs.Option.{option_map};
-ghost use Rattle.std.specs.Prelude.{◌≡◌, ◌<◌, ◌++◌, [], IfOk, IfNone, IfSome, IsSomeAnd, OnErr, Some, length};
-ghost use Rattle.bolt_tree.specs.{Paths.Path, Paths.path_of, ShownEntries.item_view, Walks.GivesNext};
+ghost use Rattle.std.specs.Prelude.{◌≡◌, ◌<◌, ◌++◌, [], IfOk, IfNone, IfSome, IsSomeAnd, List, OnErr, Some, length};
+ghost use Rattle.bolt_tree.specs.{Listing.Member, Paths.Path, Paths.path_of, ShownEntries.item_view, Walks.GivesNext};
 ghost use Rattle.bolt_text.specs.{HexPaths.hex_path_in, LineMembers.text_members, Lines.lines_of};
 ghost use Rattle.bolt_load.specs.Private.Decoding.{AreDecoded, BeginsWith, GivesLine, item_bytes, path_bytes};
 ghost use Rattle.bolt_text.specs.LineWords.{word_item};
@@ -142,7 +142,11 @@ fn item_of<'a>(word: &ItemWord<'_>, bytes: &'a [u8]) -> (Item<'a>, &'a [u8])
 impl<'a> Members<'a> for LineMembers<'a> {
     ghost use Rattle.bolt_load.specs.ShownMembers.{listing_left, members_left, members_path, members_text};
 
-    ghost lists = { λ members listing. listing ≡ text_members (members_text members) };
+    ghost Whole = { List Member };
+
+    ghost reads = { λ members listing. listing ≡ text_members (members_text members) };
+
+    ghost listing = { λ listing. listing };
 
     ghost left = { λ members listing. listing_left members };
 

@@ -1,13 +1,17 @@
 -- The joined listing is the recovered one with the bucket of what is found put in.
-use Rattle.std.proofs.Common.{◌≡◌, ◌∙◌, ◌⊎◌, inl, inr, ℕ, Bool, true, false, not, List, [], ◌∷◌, ◌++◌, filter, map, refl, sym, ap, subst, ◌≢◌, Option}
+use Rattle.std.proofs.Common.{◌≡◌, ◌∙◌, ◌⊎◌, inl, inr, ℕ, Bool, true, false, not, List, [], ◌∷◌, ◌++◌, filter, map, refl, sym, ap, subst, ◌≢◌}
 use Rattle.bolt_format.specs.TreePages.{leaves_on}
-use Rattle.bolt_recover.proofs.Words.{append-nil, AreFound, Bucket, cases_Bool, Contains, Contains-append_cases, contains_cases, contains_head, contains_tail, end, Equal, filter-append, filter_all, filter_none, first_cmp, found_tree, Greater, is_eq, is_found_path, is_lt, IsJoined, IsRecovered, joined_listing, key_cmp, key_lt, key_total, LacksBucketKey, LeafElement, leaves_of, Less, less_of, listing_below, listing_of, lost_and_found, Member, member_cmp, member_total, Meta, Ordering, page_at, Path, path_cmp, put_bucket, put_members, Rises, Tree, tree_of, Value, with_bucket, with_value, All, All-head, All-tail, AreJoinable, bucket_members, Found, IsFoundView, Kept, kept_left, left_at, numbers_of, pages_of, recovered_of}
+use Rattle.bolt_recover.proofs.Words.{append-nil, AreFound, Bucket, cases_Bool, Contains, Contains-append_cases, contains_cases, contains_head, contains_tail, end, Equal, filter-append, filter_all, filter_none, first_cmp, found_tree, Greater, is_eq, is_found_path, is_lt, IsJoined, IsRecovered, joined_listing, key_cmp, key_lt, key_total, LacksBucketKey, LeafElement, leaves_of, Less, less_of, listing_below, listing_of, lost_and_found, Member, member_cmp, member_total, Meta, Ordering, page_at, Path, path_cmp, put_bucket, Rises, Tree, tree_of, Value, with_bucket, with_value, All, All-head, All-tail, AreJoinable, Found, found_listing, IsFoundView, numbers_of, pages_of, recovered_of}
 use Rattle.bolt_recover.proofs.{Existing.has_recovered, Existing.one_recovered, Existing.recovers, FoundAll.one_found, FoundExists.has_found}
 use Rattle.bolt_recover.proofs.{CourseTrees.all_tree, TreeOrder.Ordered, TreeOrder.ordered_rises, TreeOrder.rises_both, TreeOrder.under}
-use Rattle.bolt_tree.proofs.ReadBack.{tree_back}
-use Rattle.bolt_recover.specs.{declared.joined_parts.FoundMembers.FoundMembers, declared.joined.Stage.Stage}
-use Rattle.bolt_recover.specs.declared.joined.Stage.TheVariants.{After, Before}
-use Rattle.bolt_tree.specs.declared.entry.Item.{Item as CodeItem}
+use Rattle.bolt_tree.proofs.{PathOrder.flip_less, PathOrder.path_total, ReadBack.tree_back}
+use Rattle.bolt_tree.specs.Merges.{merge, merge_first}
+use Rattle.std.specs.Prelude.{if◌then◌else◌}
+
+-- members, with these put before the first one that doesn't come before the bucket
+abbrev pub put_members : List Member → List Member → List Member
+put_members put [] = put ++ []
+put_members put (m ∷ listing) = if is_lt (first_cmp m.0) then m ∷ put_members put listing else put ++ m ∷ listing
 
 abbrev pub stays : Member → Bool
 stays m = not (is_found_path m.0)
@@ -94,6 +98,29 @@ put_between inside (x ∷ listing) own rise lacks = elim (cases_Bool (is_lt (fir
       elim (contains_cases x b listing has) [ inl same ↦ subst (λ (y : Member). member_cmp a y ≡ Less) same here | inr later ↦ member_total.trans a x b here (rise.0 b later) ]))
 ]
 
+-- the bucket is merged in so, if its key is free
+passed : (x : Member) (rest : List Member → List Member) (put : List Member) → ((m : Member) → Contains put m → is_lt (member_cmp m x) ≡ true) → merge_first x rest put ≡ put ++ x ∷ rest []
+passed x rest [] all = refl
+passed x rest (y ∷ put) all = rw (all y (contains_head y put)) (ap (λ (ms : List Member). y ∷ ms) (passed x rest put (λ m has. all m (contains_tail y m put has))))
+
+merge_none : (xs : List Member) → merge xs [] ≡ xs
+merge_none [] = refl
+merge_none (x ∷ xs) = ap (λ (ms : List Member). x ∷ ms) (merge_none xs)
+
+merged_put : (inside : Tree) (listing : List Member) → LacksBucketKey listing → merge listing (put_of inside) ≡ put_members (put_of inside) listing
+merged_put inside [] lacks = sym (append-nil (put_of inside))
+merged_put inside (x ∷ listing) lacks = elim (cases_Bool (is_lt (first_cmp x.0))) [
+  | inl less ↦
+      let back : path_cmp (lost_and_found ∷ []) x.0 ≡ Greater = flip_less path_total x.0 (lost_and_found ∷ []) (first_before x.0 [] less) in
+      rw (less, back) (ap (λ (ms : List Member). x ∷ ms) (merged_put inside listing (λ m has. lacks m (contains_tail x m listing has))))
+  | inr over ↦
+      rw over (passed x (merge listing) (put_of inside) (λ m has.
+      let (rest, at) = put_path inside m has in
+      let here : member_cmp m x ≡ Less = rw at (first_after x.0 rest over (lacks x (contains_head x listing))) in
+      ap is_lt here)
+      ∙ ap (λ (ms : List Member). put_of inside ++ x ∷ ms) (merge_none listing))
+]
+
 module _ (file : List ℕ) (meta : Meta) where
   abbrev pub with_elements : List ℕ → List (ℕ × List LeafElement)
   with_elements found = map (λ (n : ℕ). (n, leaves_of (page_at file meta n))) found
@@ -153,11 +180,10 @@ module _ (file : List ℕ) (meta : Meta) where
   joined_is found listing are is =
       joined_of listing (recovered_of file meta) (numbers_of found) is (recovers file meta) are.are_found ∙ ap (joined_listing (recovered_of file meta)) (pages_same found are.views)
 
-  -- at the beginning, as the found pages are
-  pub begun_left : (stage : Stage) (kept : Kept) (found : List Found) (bucket : FoundMembers) (next_kept : Option CodeItem) → (found ≡ [] → stage ≡ After) → (found ≢ [] → stage ≡ Before)
-      → AreJoinable file meta found → kept_left kept ≡ recovered_of file meta → (listing : List Member) → IsJoined file meta listing → left_at stage kept found bucket next_kept ≡ listing
-  begun_left stage kept [] bucket next_kept none some are fresh listing is = rw (none refl) (fresh ∙ sym (joined_is [] listing are is))
-  begun_left stage kept (f ∷ found) bucket next_kept none some are fresh listing is =
+  pub merged_joined : (found : List Found) (listing : List Member) → AreJoinable file meta found → IsJoined file meta listing → merge (recovered_of file meta) (found_listing found) ≡ listing
+  merged_joined [] listing are is = merge_none (recovered_of file meta) ∙ sym (joined_is [] listing are is)
+  merged_joined (f ∷ found) listing are is =
       let not_none : (f ∷ found) ≢ [] = λ e. cc in
-      rw (some not_none) (ap (put_members (bucket_members (f ∷ found))) fresh ∙ put_recovered (pages_of (f ∷ found)) (recovered_of file meta) (recovers file meta)
-      ∙ sym (joined_is (f ∷ found) listing are is))
+      merged_put (found_tree (pages_of (f ∷ found))) (recovered_of file meta) (are.apart not_none (recovered_of file meta) (recovers file meta))
+      ∙ put_recovered (pages_of (f ∷ found)) (recovered_of file meta) (recovers file meta)
+      ∙ sym (joined_is (f ∷ found) listing are is)

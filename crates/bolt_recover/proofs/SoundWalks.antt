@@ -1,7 +1,7 @@
 -- The walk over sound trees returns what is recovered of them, and nothing of them is lost.
 use Rattle.std.proofs.Common.{◌≡◌, ◌∙◌, ℕ, List, [], inl, refl, sym, Option, Some, None}
-use Rattle.bolt_recover.proofs.Words.{GivesNext, item_view, option_map, Path, All-nil, AreLosses, At_page, bytes_of, Checked, Found, HasSoundTrees, IsClaimedBefore, IsFoundView, IsMetaPage, IsSearched, KeepsRoot, LossView, Member, Meta, meta_of, node_at, passes_fewer, reached, recovered_of, root_spot, shape_passes, Sound, ∥∥₁_elim, ∥∥₁_map, props}
-use Rattle.bolt_recover.proofs.{FoundAll.are_none, Existing.has_survey, Existing.recovers, LostWays.no_losses, SoundListing.sound_listing}
+use Rattle.bolt_recover.proofs.Words.{GivesNext, item_view, option_map, Path, All-nil, AreLosses, At_page, bytes_of, Checked, Found, HasSoundTrees, IsClaimedBefore, IsFoundView, IsMetaPage, IsRecovered, IsSearched, KeepsRoot, LossView, Member, Meta, meta_of, node_at, passes_fewer, reached, root_spot, shape_passes, Sound, ∥∥₁_elim, ∥∥₁_map, props}
+use Rattle.bolt_recover.proofs.{FoundAll.are_none, Existing.has_survey, LostWays.no_losses, SoundListing.sound_listing}
 use Rattle.bolt_recover.proofs.KeptWays.{none_lost}
 use Rattle.bolt_check.proofs.CheckedLemmas.{checked_trees}
 use Rattle.bolt_tree.specs.{FileListings.ForListing, declared.entry.Item.Item as CodeItem}
@@ -28,11 +28,9 @@ sound_searched file meta checked found same_file same_meta none trees =
       views = rw none (All-nil (IsFoundView file meta));
     }
 
--- what sound trees list is recovered
-pub walked : {P : List Member → Type 0} (checked : Checked) → ((listing : List Member) → IsProp (P listing)) → ForListing checked P → P (recovered_of (bytes_of checked) (meta_of checked))
-walked checked one holds =
-    let listing = recovered_of (bytes_of checked) (meta_of checked) in
-    ∥∥₁_elim (∥∥₁_map (checked_trees checked) (λ trees. sound_listing (bytes_of checked) (meta_of checked) listing trees (recovers (bytes_of checked) (meta_of checked)))) (one listing) (holds listing)
+-- what is recovered of sound trees is what they list
+pub walked : {P : List Member → Type 0} (checked : Checked) (listing : List Member) → IsRecovered (bytes_of checked) (meta_of checked) listing → IsProp (P listing) → ForListing checked P → P listing
+walked checked listing is one holds = ∥∥₁_elim (∥∥₁_map (checked_trees checked) (λ trees. sound_listing (bytes_of checked) (meta_of checked) listing trees is)) one (holds listing)
 
 pub gives_prop : (old new : List Member) (path : Path) (given : Option CodeItem) → IsProp (GivesNext old new path (option_map item_view given))
 gives_prop old new path None = hlevel props

@@ -36,13 +36,13 @@ pub use Rattle.bolt_recover.specs.KeptPages.{AreKeptPages, IsKeptPage}
 pub use Rattle.bolt_recover.specs.Losses.{AreLosses, LossView, everything, loss_at, loss_of, losses_of, lower_of, parts, upper_of}
 pub use Rattle.bolt_recover.specs.{PageKeys.last_digits, PageKeys.page_key, PageWays.ArePageWays, PageWays.is_at_page, PageWays.page_ways}
 pub use Rattle.bolt_recover.specs.Sites.{Site, elements_at, follow_sites, leaves_of, next_site, site_at, site_on, root_site, step_site}
-pub use Rattle.bolt_recover.specs.Private.FoundLeft.{bucket_members, pages_of}
+pub use Rattle.bolt_recover.specs.Private.FoundLeft.{found_listing, pages_of}
 pub use Rattle.bolt_recover.specs.Private.Frames.{Advances, AreOpen, Ends, GivesHead, GoesOn, IsAllLeft, IsContent, IsGoodContent, IsGoodPage, IsOn, IsPlaced}
 pub use Rattle.bolt_recover.specs.Private.Frames.{IsShallow, StaysOn, ahead_path_len, ahead_tasks, claims_nodes, claims_with, content_elements, content_site, content_size}
 pub use Rattle.bolt_recover.specs.Private.Frames.{content_spot, members_left, open_tasks, page_tasks, page_weight, spot_site, step_path, steps_left}
 pub use Rattle.bolt_recover.specs.Private.Frames.{steps_path, steps_weight, tally_of, tasks_left, way_of}
-pub use Rattle.bolt_recover.specs.Private.Joining.{AreJoinable, first_cmp, holds_key, left_at, put_members}
-pub use Rattle.bolt_recover.specs.Private.KeptMembers.{kept_file, kept_left, kept_meta}
+pub use Rattle.bolt_recover.specs.Private.Joining.{AreJoinable, first_cmp, holds_key}
+pub use Rattle.bolt_recover.specs.KeptMembers.{kept_file, kept_left, kept_meta}
 pub use Rattle.bolt_recover.specs.Private.Courses.{Event, Given, Outcome, Task, To_give, To_visit, Visited, Way, after_event, after_events, all_events}
 pub use Rattle.bolt_recover.specs.Private.Courses.{claimed_after, claims_of, entry_count, entry_tasks, further, give_all, gives_at, in_span, lost_at, members_of}
 pub use Rattle.bolt_recover.specs.Private.Courses.{meta_pages, outcome_of, page_visit, root_tasks, run_all, run_on, run_to, site_size, site_tasks, span_of, tasks_after}
@@ -56,10 +56,10 @@ pub use Rattle.bolt_recover.specs.{ShownFound.IsFoundView, ShownLosses.loss_view
 pub use Rattle.bolt_recover.specs.Surveys.{Gives, IsClaimedIn, IsOpen, IsSurvey, LosesNothing, Surveys, SurveyedWay, kept, lost}
 pub use Rattle.bolt_format.specs.declared.tree_page.TreePage.{TreePage}
 pub use Rattle.bolt_recover.specs.{declared.content.KeptPage.KeptPage, declared.content.OpenPage.OpenPage}
-pub use Rattle.bolt_recover.specs.{declared.found.Found.Found, declared.joined_parts.Kept.Kept}
+pub use Rattle.bolt_recover.specs.{declared.found.Found.Found, declared.kept.Kept.Kept}
 pub use Rattle.bolt_recover.specs.declared.lost_and_found.Trees.TheVariants.{Damaged, Rootless, Sound}
 pub use Rattle.bolt_recover.specs.{declared.steps.NextVisit.NextVisit}
-unfoldable pub use Rattle.bolt_recover.specs.JoinedMembers.{joined_file, joined_left, joined_meta}
+unfoldable pub use Rattle.bolt_recover.specs.JoinedMembers.{joined_file, joined_left, joined_meta, joined_path}
 unfoldable pub use Rattle.bolt_recover.specs.LostAndFound.{all_lost}
 unfoldable pub use Rattle.bolt_recover.specs.Recoveries.{recovery_begun, recovery_claimed, recovery_file, recovery_left, recovery_losses, recovery_meta}
 unfoldable pub use Rattle.bolt_recover.specs.Recoveries.{recovery_path, recovery_visited, recovery_work}

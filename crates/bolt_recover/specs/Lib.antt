@@ -2,6 +2,7 @@ pub mod Found
 pub mod Joined
 pub mod JoinRefusals
 pub mod JoinedMembers
+pub mod KeptMembers
 pub mod KeptPages
 pub mod Losses
 pub mod Lost

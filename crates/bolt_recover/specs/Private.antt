@@ -2,8 +2,8 @@
 pub mod FoundLeft
 pub mod Frames
 pub mod Joining
-pub mod KeptMembers
 pub mod LeavesLeft
+pub mod Merging
 pub mod Courses
 pub mod Tests
 pub mod TreesLeft

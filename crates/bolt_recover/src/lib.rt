@@ -7,8 +7,9 @@ mod bucket_key;
 mod content;
 mod found;
 mod found_leaves;
+mod found_members;
 mod joined;
-mod joined_parts;
+mod kept;
 pub mod laws;
 mod losses;
 mod lost_and_found;
@@ -17,6 +18,7 @@ mod steps;
 
 pub use found::Found;
 pub use joined::{JoinFault, Joined};
+pub use kept::{Kept, LostRoot};
 pub use losses::{Loss, Lost};
 pub use lost_and_found::LostAndFound;
 pub use recovery::Recovery;

@@ -1,10 +1,10 @@
 //! A walk over everything that is kept of a damaged file.
 ghost use Rattle.std.specs.Option.{IfNone};
-ghost use Rattle.std.specs.Prelude.{◌≡◌, ◌<◌, ◌≤◌, ◌^◌, [], IfErr, IfOk, IfSome, OnErr, OnOk, map};
+ghost use Rattle.std.specs.Prelude.{◌≡◌, ◌<◌, ◌≤◌, ◌^◌, [], IfErr, IfOk, IfSome, List, OnErr, OnOk, map};
 ghost use Rattle.bolt_check.specs.{Claims.claims_file, Claims.claims_meta, Counts.counted};
 ghost use Rattle.bolt_check.specs.Sound.{HasSoundTrees};
 ghost use Rattle.bolt_format.specs.Metas.{HasActive, HasNoActive, HasNoneInSlot, IsInSlot};
-ghost use Rattle.bolt_tree.specs.Paths.{path_of};
+ghost use Rattle.bolt_tree.specs.{Listing.Member, Paths.path_of};
 ghost use Rattle.bolt_recover.specs.{KeptPages.AreKeptPages, Private.Frames.IsOn, Private.Frames.IsPlaced, Recovered.ForRecovered, Recovered.IsRecovered};
 ghost use Rattle.bolt_recover.specs.Refusals.{IsRefusedRoot, IsUnrecoverable, KeepsRoot};
 ghost use Rattle.bolt_recover.specs.ShownLosses.{loss_view};
@@ -296,7 +296,11 @@ impl<'a> Recovery<'a> {
 impl<'a> Members<'a> for Recovery<'a> {
     ghost use Rattle.bolt_recover.specs.Recoveries.{ForLosses, recovery_file, recovery_left, recovery_losses, recovery_meta, recovery_path, recovery_work};
 
-    ghost lists = { λ recovery listing. IsRecovered (recovery_file recovery) (recovery_meta recovery) listing };
+    ghost Whole = { List Member };
+
+    ghost reads = { λ recovery listing. IsRecovered (recovery_file recovery) (recovery_meta recovery) listing };
+
+    ghost listing = { λ listing. listing };
 
     ghost left = { λ recovery listing. recovery_left recovery listing };
 

@@ -46,10 +46,10 @@ pub fn list_members_names<'a, M: Members<'a>, S: Sink>(
     form: Form,
     sink: &mut S,
 ) -> Result<bool, ReportFault>
-    ensures written { ForRising M.lists M.left members.old (λ left.
+    ensures written { ForRising M.reads M.left members.old (λ left.
         Wrote S.Sink sink.old sink.new (asked_names form asked.entry left) (report_ending result)) }
     ensures found { IfOk result (λ found.
-        ForLeft M.lists M.left members.old (λ left.
+        ForLeft M.reads M.left members.old (λ left.
         found ≡ has_bucket (path_of asked.entry.bucket.now) left)) }
     ensures end { OnOk result (M.ends_as members.old members.new) }
     ensures fault { IfErr result (λ fault. (fault ≡ ReportFault.Sink)

@@ -78,11 +78,11 @@ pub fn list_members_part<'a, M: Members<'a>, S: Sink>(
     form: ListForm,
     sink: &mut S,
 ) -> Result<bool, ReportFault>
-    ensures written { ForRising M.lists M.left members.old (λ left.
+    ensures written { ForRising M.reads M.left members.old (λ left.
         Wrote S.Sink sink.old sink.new (bucket_lines form from.now below.now left)
         (report_ending result)) }
     ensures found { IfOk result (λ found.
-        ForLeft M.lists M.left members.old (λ left. found ≡ has_bucket (path_of below.now) left)) }
+        ForLeft M.reads M.left members.old (λ left. found ≡ has_bucket (path_of below.now) left)) }
     ensures end { OnOk result (M.ends_as members.old members.new) }
     ensures fault { IfErr result (λ fault. (fault ≡ ReportFault.Sink)
         ⊎ (fault ≡ ReportFault.NoMemory)) }
@@ -99,7 +99,7 @@ fn put_part<'a, M: Members<'a>, S: Sink>(
     lines: &mut MemberLines,
     sink: &mut S,
 ) -> Result<(), ReportFault>
-    ensures written { ForLeft M.lists M.left members.old (λ left.
+    ensures written { ForLeft M.reads M.left members.old (λ left.
         Wrote S.Sink sink.old sink.new (lines_while_below (lines_form lines.old) below.now left)
         (report_ending result)) }
     ensures fault { IfErr result (λ fault. (fault ≡ ReportFault.Sink)
@@ -123,11 +123,11 @@ fn put_bucket_part<'a, M: Members<'a>, S: Sink>(
     lines: &mut MemberLines,
     sink: &mut S,
 ) -> Result<bool, ReportFault>
-    ensures written { ForRising M.lists M.left members.old (λ left.
+    ensures written { ForRising M.reads M.left members.old (λ left.
         Wrote S.Sink sink.old sink.new (bucket_lines (lines_form lines.old) from.now below.now left)
         (report_ending result)) }
     ensures found { IfOk result (λ found.
-        ForLeft M.lists M.left members.old (λ left. found ≡ has_bucket (path_of below.now) left)) }
+        ForLeft M.reads M.left members.old (λ left. found ≡ has_bucket (path_of below.now) left)) }
     ensures end { OnOk result (M.ends_as members.old members.new) }
     ensures fault { IfErr result (λ fault. (fault ≡ ReportFault.Sink)
         ⊎ (fault ≡ ReportFault.NoMemory)) }

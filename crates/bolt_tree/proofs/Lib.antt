@@ -12,12 +12,14 @@ pub mod Existing
 pub mod Filters
 pub mod GapLemmas
 mod Giving
+pub mod InBucketLemmas
 pub mod KeptLemmas
 pub mod KeySearchLemmas
 pub mod Leaving
 pub mod Lists
 pub mod Looking
 pub mod Measured
+pub mod MergeLemmas
 pub mod MoveLemmas
 pub mod Named
 pub mod NearLemmas
@@ -30,6 +32,7 @@ pub mod PartLemmas
 pub mod PathEntries
 pub mod PathOrder
 pub mod PlaceMoves
+pub mod PlacedTrees
 pub mod ReadBack
 pub mod RestingLemmas
 pub mod SeekCounts

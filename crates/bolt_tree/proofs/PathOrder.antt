@@ -3,13 +3,18 @@
 use Rattle.std.proofs.Common.{arith, ◌≡◌, ◌∙◌, ◌⊎◌, inl, inr, Bool, true, false, List, [], ◌∷◌, ◌++◌, refl, ap}
 use Rattle.std.proofs.lemmas.Map.Lookups.{exact_bytes}
 use Rattle.bolt_tree.proofs.Words.{Equal, Greater, IsTotalOrder, Key, Less, Ordering, Path, by_first, is_beyond, is_lt, key_cmp, less_of, lists_total, nat_list_cmp_total, ordering_reverse, ordering_then, path_cmp, tied_itself}
-use Rattle.std.specs.Cmp.Lexicographic.{slice_cmp}
+use Rattle.std.specs.{Borrow.Bor, Cmp.Derive.Mapped.lex_map, Cmp.Lexicographic.slice_cmp}
+use Rattle.bolt_tree.specs.Paths.{path_of}
 
 pub key_total : IsTotalOrder key_cmp
 key_total = nat_list_cmp_total
 
 pub path_total : IsTotalOrder path_cmp
 path_total = lists_total nat_list_cmp_total
+
+-- paths that the code holds as slices
+pub slices_cmp : (xs ys : List (Bor Key)) → path_cmp (path_of xs) (path_of ys) ≡ slice_cmp (λ (a b : Bor Key). key_cmp a.now b.now) xs ys
+slices_cmp = lex_map (λ (part : Bor Key). part.now) key_cmp
 
 pub less_lt : (o : Ordering) → is_lt o ≡ true → o ≡ Less
 less_lt o e = less_of o e

@@ -1,3 +1,4 @@
+pub mod Aheads
 pub mod BucketViews
 pub mod Buckets
 pub mod CursorBounds
@@ -7,9 +8,13 @@ pub mod EntriesLeft
 pub mod FileListings
 pub mod FileTrees
 pub mod Laws
+pub mod InBucketMembers
+pub mod InBuckets
 pub mod Listing
 pub mod ListingParts
 pub mod Lookups
+pub mod Merges
+pub mod Merging
 pub mod Openings
 pub mod Order
 pub mod Pagers

@@ -4,14 +4,17 @@
 //! innermost open bucket, and the positions of the cursors of the others.
 #![tactic(auto)]
 
+mod ahead;
 mod at;
 mod bucket;
 mod bucket_pages;
 mod cursor;
 mod entry;
+mod in_bucket;
 mod key_search;
 pub mod laws;
 mod members;
+mod merged;
 mod open_buckets;
 mod pager;
 mod stack;
@@ -22,6 +25,8 @@ pub use bolt_check::NoMemory;
 pub use bucket::Bucket;
 pub use cursor::Cursor;
 pub use entry::{Entry, Item};
+pub use in_bucket::InBucket;
 pub use members::Members;
+pub use merged::Merged;
 pub use pager::Pager;
 pub use walk::Walk;

@@ -14,11 +14,17 @@ use std::alloc::Global;
 /// Returns the members of a listing in the order of their paths, each once. A bucket comes before
 /// everything in it.
 pub trait Members<'a> {
-    /// The listing whose members it returns.
-    ghost lists: { Self → List Member → Type 0 };
+    /// What its listing depends on.
+    ghost Whole: { Type 0 };
+
+    /// Whether it reads this.
+    ghost reads: { Self → Whole → Type 0 };
+
+    /// The listing of what it reads: it returns the members of that.
+    ghost listing: { Whole → List Member };
 
     /// The part of the listing that is left.
-    ghost left: { Self → List Member → List Member };
+    ghost left: { Self → Whole → List Member };
 
     /// A number that falls with each member, so that loops over members end.
     ghost work_left: { Self → ℕ };
@@ -36,13 +42,13 @@ pub trait Members<'a> {
     /// `NoMemory` if memory runs out. Then the same members are left, the path is the same, and
     /// `next` may be called again.
     fn next(&mut self) -> Result<Option<Item<'a>>, NoMemory>
-        ensures listing { (listing : List Member) → lists self.new listing ↔ lists self.old listing }
-        ensures given { IfOk result (λ given. (listing : List Member) → lists self.old listing
-            → GivesNext (left self.old listing) (left self.new listing) (last_path self.new) (option_map item_view given)) }
+        ensures reads { (whole : Whole) → reads self.new whole ↔ reads self.old whole }
+        ensures given { IfOk result (λ given. (whole : Whole) → reads self.old whole
+            → GivesNext (left self.old whole) (left self.new whole) (last_path self.new) (option_map item_view given)) }
         ensures fewer { IfOk result (λ given. IfSome given (λ _. work_left self.new < work_left self.old)) }
         ensures ended { IfOk result (λ given. IfNone given (ends_as self.old self.new)) }
         ensures same_end { (end : Self) → ends_as self.new end → ends_as self.old end }
-        ensures same { OnErr result ((listing : List Member) → lists self.old listing → left self.new listing ≡ left self.old listing) }
+        ensures same { OnErr result ((whole : Whole) → reads self.old whole → left self.new whole ≡ left self.old whole) }
         ensures same_path { OnErr result (last_path self.new ≡ last_path self.old) };
 
     /// The path of the last member that was returned, from the root bucket down. It is empty before
@@ -56,13 +62,17 @@ pub trait Members<'a> {
     ///
     /// `NoMemory` if memory runs out.
     fn restart(&mut self, alloc: Global) -> Result<(), NoMemory>
-        ensures listing { (listing : List Member) → lists self.new listing ↔ lists self.old listing }
-        ensures all { OnOk result ((listing : List Member) → lists self.old listing → left self.new listing ≡ listing) }
+        ensures reads { (whole : Whole) → reads self.new whole ↔ reads self.old whole }
+        ensures all { OnOk result ((whole : Whole) → reads self.old whole → left self.new whole ≡ listing whole) }
         ensures same_end { (end : Self) → ends_as self.new end → ends_as self.old end };
 }
 
 impl<'a> Members<'a> for Walk<'a> {
-    ghost lists = { λ walk listing. IsListing (bytes_of (walk_checked walk)) (meta_of (walk_checked walk)) listing };
+    ghost Whole = { List Member };
+
+    ghost reads = { λ walk listing. IsListing (bytes_of (walk_checked walk)) (meta_of (walk_checked walk)) listing };
+
+    ghost listing = { λ listing. listing };
 
     ghost left = { λ walk listing. left_of walk listing };
 

@@ -10,28 +10,28 @@ use Rattle.bolt_bulk.specs.declared.pass.Ended.{Ended}
 use Rattle.bolt_bulk.specs.{declared.fault.PlanFault.PlanFault, declared.fault.PlanFault.TheVariants.TooLarge}
 
 -- the limits are right for each tree that is listed
-abbrev pub FitAll : {M : Type 0} → (M → List Member → Type 0) → M → Layout → (page_size : ℕ) → Limits → Type 0
-FitAll lists members which page_size limits =
-    (listing : List Member) → lists members listing → FitLimits which (tree_of listing) page_size (limits_with limits)
+abbrev pub FitAll : {M W : Type 0} → (M → W → Type 0) → (W → List Member) → M → Layout → (page_size : ℕ) → Limits → Type 0
+FitAll {M} {W} reads listing members which page_size limits =
+    (whole : W) → reads members whole → FitLimits which (tree_of (listing whole)) page_size (limits_with limits)
 
 -- Such limits are found, and the members begin again. TooLarge is returned only if the layout has 2^63 bytes or more.
-pub record FindsLimits {M : Type 0} (lists : M → List Member → Type 0) (left : M → List Member → List Member) (ends_as : M → M → Type 0) (old new : M)
+pub record FindsLimits {M W : Type 0} (reads : M → W → Type 0) (listing : W → List Member) (left : M → W → List Member) (ends_as : M → M → Type 0) (old new : M)
     (which : Layout) (page_size sequence : ℕ) (result : Result Limits PlanFault) : Type 0 where
-  pub fit : IfOk result (λ limits. FitAll lists old which page_size limits)
-  pub large : IfErr result (λ fault. fault ≡ TooLarge → (listing : List Member) → lists old listing
-      → too_many ≤ length (layout_of_listing which page_size listing sequence))
-  pub again : IfOk result (λ limits. IsAgain lists left ends_as old new)
+  pub fit : IfOk result (λ limits. FitAll reads listing old which page_size limits)
+  pub large : IfErr result (λ fault. fault ≡ TooLarge → (whole : W) → reads old whole
+      → too_many ≤ length (layout_of_listing which page_size (listing whole) sequence))
+  pub again : IfOk result (λ limits. IsAgain reads listing left ends_as old new)
 
 -- a layout of each tree that is listed is planned
-abbrev pub PlansEach : (List Member → Type 0) → Layout → (page_size sequence : ℕ) → Result Plan PlanFault → Type 0
-PlansEach lists which page_size sequence result = (listing : List Member) → lists listing → Plans which page_size sequence listing result
+abbrev pub PlansEach : {W : Type 0} → (W → Type 0) → (W → List Member) → Layout → (page_size sequence : ℕ) → Result Plan PlanFault → Type 0
+PlansEach {W} reads listing which page_size sequence result = (whole : W) → reads whole → Plans which page_size sequence (listing whole) result
 
 -- a pass over all members, with limits that are right for them
-abbrev pub PutsMembers : {S M : Type 0} → Ghosts S → (old new : S) → (M → List Member → Type 0) → M → PageSetup → Limits → (notes : Bool)
+abbrev pub PutsMembers : {S M W : Type 0} → Ghosts S → (old new : S) → (M → W → Type 0) → (W → List Member) → M → PageSetup → Limits → (notes : Bool)
     → Result Ended BulkFault → Type 0
-PutsMembers sink old new lists members setup limits notes result =
-    (which : Layout) (listing : List Member) → lists members listing → FitLimits which (tree_of listing) setup.page_size (limits_with limits)
-    → Ends (record { which = which; tree = tree_of listing; notes = notes }) sink old new setup [] result
+PutsMembers {S} {M} {W} sink old new reads listing members setup limits notes result =
+    (which : Layout) (whole : W) → reads members whole → FitLimits which (tree_of (listing whole)) setup.page_size (limits_with limits)
+    → Ends (record { which = which; tree = tree_of (listing whole); notes = notes }) sink old new setup [] result
 
 -- this holds of each layout of a listing that is of one tree, if it has fewer than 2^63 bytes
 abbrev pub ForFitting : (page_size sequence : ℕ) → (Layout → List Member → Type 0) → Type 0

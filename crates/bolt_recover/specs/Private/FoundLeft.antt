@@ -1,10 +1,12 @@
--- What is left of the bucket of what is found.
-use Rattle.std.specs.Prelude.{◌≡◌, ℕ, List, [], ◌∷◌, ◌++◌, Option, Some, None, drop, map, take}
+-- What is left of the members of what is found.
+use Rattle.std.specs.Prelude.{ℕ, List, [], ◌∷◌, ◌++◌, Option, drop, if◌then◌else◌, length, map, take}
+use Rattle.std.specs.Option.{option_map}
 use Rattle.bolt_check.specs.Keys.{Key}
 use Rattle.bolt_format.specs.{Elements.LeafElement, ElementsLeft.leaves_left, TreePages.leaves_on}
-use Rattle.bolt_tree.specs.{Entries.Bucket, Entries.Item, Listing.Member, Paths.Path, Paths.path_of, Tree.end, Tree.listing_below}
+use Rattle.bolt_tree.specs.{Entries.Bucket, Listing.Member, Paths.Path, Paths.path_of, ShownEntries.item_view, Tree.end, Tree.listing_below, Walks.GivesNext}
+use Rattle.bolt_tree.specs.declared.entry.Item as shown
 use Rattle.bolt_recover.specs.{Joined.found_tree, Joined.inside_of, Joined.lost_and_found, Joined.tree_with}
-use Rattle.bolt_recover.specs.{declared.found.Found.Found, declared.joined_parts.FoundMembers.FoundMembers}
+use Rattle.bolt_recover.specs.{declared.found.Found.Found, declared.found_members.FoundMembers.FoundMembers}
 
 -- found pages of the code with their elements
 abbrev pub pages_of : List Found → List (ℕ × List LeafElement)
@@ -14,9 +16,10 @@ pages_of found = map (λ (f : Found). (f.number, leaves_on f.page)) found
 abbrev pub below_bucket : List Found → List Member
 below_bucket found = listing_below (lost_and_found ∷ []) (found_tree (pages_of found))
 
--- the bucket and all members below it
-abbrev pub bucket_members : List Found → List Member
-bucket_members found = (lost_and_found ∷ [], Bucket 0) ∷ below_bucket found
+-- the bucket and all members below it, if a page is found
+abbrev pub found_listing : List Found → List Member
+found_listing [] = []
+found_listing (page ∷ found) = (lost_and_found ∷ [], Bucket 0) ∷ below_bucket (page ∷ found)
 
 -- the members of these elements of an inline bucket, of these ones of its page, and then of these pages
 abbrev pub members_left : (name key : Key) → (inner elements : List LeafElement) → List Found → List Member
@@ -24,13 +27,24 @@ members_left name key inner elements found =
     listing_below (lost_and_found ∷ name ∷ key ∷ []) (tree_with (λ e. end) inner)
     ++ (listing_below (lost_and_found ∷ name ∷ []) (tree_with inside_of elements) ++ below_bucket found)
 
-abbrev pub bucket_left : FoundMembers → List Member
-bucket_left b = members_left b.name.now b.key.now (leaves_left b.inner) (leaves_left b.elements) (drop b.next b.found.now)
+-- the members that are left
+abbrev pub all_left : FoundMembers → List Member
+all_left m =
+    (if m.has_bucket then (lost_and_found ∷ [], Bucket 0) ∷ [] else [])
+    ++ members_left m.name.now m.key.now (leaves_left m.inner) (leaves_left m.elements) (drop m.next m.found.now)
 
-abbrev pub bucket_path : FoundMembers → Path
-bucket_path b = path_of (take b.path.length b.path.parts)
+-- the same of each listing
+abbrev pub found_left : FoundMembers → List Member → List Member
+found_left m listing = all_left m
 
--- The first member that was left is returned, and the others are left; or none was left, none is, and the path is as it was.
-abbrev pub GivesMember : FoundMembers → FoundMembers → Option Item → Type 0
-GivesMember old new (Some item) = bucket_left old ≡ (bucket_path new, item) ∷ bucket_left new
-GivesMember old new None = (bucket_left old ≡ []) × (bucket_left new ≡ []) × (bucket_path new ≡ bucket_path old)
+-- how many are left
+abbrev pub found_work : FoundMembers → ℕ
+found_work m = length (all_left m)
+
+-- the path of the last member that was returned
+abbrev pub found_path : FoundMembers → Path
+found_path m = path_of (take m.path.length m.path.parts)
+
+-- the first member that was left is returned, and the others are left; or none was left, and none is
+abbrev pub GivesBelow : FoundMembers → FoundMembers → Option shown.Item → Type 0
+GivesBelow old new given = GivesNext (all_left old) (all_left new) (found_path new) (option_map item_view given)

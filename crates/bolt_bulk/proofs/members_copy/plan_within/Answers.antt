@@ -9,9 +9,9 @@ use Rattle.bolt_bulk.proofs.members_copy.plan_within.Goals as goal
 
 pub unreachable-requires : goal.unreachable-requires
 unreachable-requires g c = ∥∥₁_elim c.requires.whole.some (Prim.hlevel props) (λ is.
-    let listing = is.0 in
-    let lists = is.1 in
+    let whole = is.0 in
+    let is = is.1 in
     let which = c.args.blueprint.now.layout in
-    let fit = subst (λ (n : ℕ). FitLimits which (tree_of listing) n (limits_with c.args.limits.now)) (sym c.setup_of-setup.ensures.page_size) (c.requires.fit listing lists) in
-    let ends = c.in-Err-Sink.ensures.pages which listing lists fit in
+    let fit = subst (λ (n : ℕ). FitLimits which (tree_of (g.M.Members.listing whole)) n (limits_with c.args.limits.now)) (sym c.setup_of-setup.ensures.page_size) (c.requires.fit whole is) in
+    let ends = c.in-Err-Sink.ensures.pages which whole is fit in
     let none : 0 < 0 = Wrote-failed _ ends.puts c.in-Err-Sink.field-0-is in omega arith)

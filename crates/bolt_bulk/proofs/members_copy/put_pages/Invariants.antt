@@ -9,14 +9,14 @@ use Rattle.bolt_bulk.proofs.members_copy.put_pages.Given as goal
 -- the members that are left are left to the pass, which has put pages of the layout
 abbrev pub invariant-members : goal.invariant-members
 invariant-members g l = record {
-  same : (listing : List Member) → g.M.Members.lists l.members listing ↔ g.M.Members.lists l.initial.members listing;
+  same : (whole : g.M.Members.Whole) → g.M.Members.reads l.members whole ↔ g.M.Members.reads l.initial.members whole;
   end : (end : g.row.M.Denot) → g.M.Members.ends_as l.members end → g.M.Members.ends_as l.initial.members end;
   setup : l.pass.setup ≡ l.fn.setup;
   ready : IsReady l.pass;
-  fit : (listing : List Member) → g.M.Members.lists l.initial.members listing → ∥ AllByRecursion IsFitMember (g.M.Members.left l.members listing) ∥₁;
-  steps : (which : Layout) (listing : List Member) → g.M.Members.lists l.initial.members listing → FitLimits which (tree_of listing) l.fn.setup.page_size (limits_with l.limits)
-      → Steps {A = ⊤} (record { which = which; tree = tree_of listing; notes = l.notes }) g.S.Sink l.initial.sink l.sink l.fn.setup []
-      (HasLeft (record { which = which; tree = tree_of listing; notes = l.notes }) l.pass (g.M.Members.left l.members listing)) (Ok tt);
+  fit : (whole : g.M.Members.Whole) → g.M.Members.reads l.initial.members whole → ∥ AllByRecursion IsFitMember (g.M.Members.left l.members whole) ∥₁;
+  steps : (which : Layout) (whole : g.M.Members.Whole) → g.M.Members.reads l.initial.members whole → FitLimits which (tree_of (g.M.Members.listing whole)) l.fn.setup.page_size (limits_with l.limits)
+      → Steps {A = ⊤} (record { which = which; tree = tree_of (g.M.Members.listing whole); notes = l.notes }) g.S.Sink l.initial.sink l.sink l.fn.setup []
+      (HasLeft (record { which = which; tree = tree_of (g.M.Members.listing whole); notes = l.notes }) l.pass (g.M.Members.left l.members whole)) (Ok tt);
 }
 
 abbrev pub decreases-members : goal.decreases-members

@@ -1,6 +1,6 @@
 -- The found pages leave room for their names, and the recovered listing for their bucket.
 use Rattle.std.proofs.Common.{◌∙◌, List, [], ◌∷◌, ap}
-use Rattle.bolt_recover.proofs.Words.{joined_file, joined_meta, kept_file, kept_meta, Member, member_cmp, numbers_of, props, Rises, ∥∥₁_elim}
+use Rattle.bolt_recover.proofs.Words.{joined_file, joined_meta, Member, member_cmp, numbers_of, props, Rises, ∥∥₁_elim}
 use Rattle.bolt_recover.proofs.FoundAll.{one_found}
 use Rattle.bolt_recover.proofs.laws.joined_members_rise.Goals as goal
 
@@ -12,8 +12,8 @@ pub returns : goal.returns
 unfolding joined_file joined_meta
 returns c = λ listing is.
     let joined = c.args.joined.now in
-    let file = kept_file joined.kept in
-    let meta = kept_meta joined.kept in
+    let file = joined.file.now in
+    let meta = joined.meta in
     ∥∥₁_elim joined.pages (rises_prop listing) (λ are.
     c.joined_listing_rises.ensures file meta are.few
     (λ recovered found recovers pages some.

@@ -14,13 +14,13 @@ members-init g c =
     let root : (length bucket == 0) ≡ c.is_empty-found.result = ap (λ (n : ℕ). n == 0) (length-map c.args.asked.bucket.now (λ (part : Bor (List ℕ)). part.now)) ∙ sym c.is_empty-found.ensures in
     record {
       form = c.new-items.ensures;
-      same = λ listing. (λ is. is, λ is. is);
+      same = λ whole. (λ is. is, λ is. is);
       end = λ end is. is;
-      has = λ listing is. ap (λ (b : Bool). b || list_any (is_bucket_at bucket) (g.M.Members.left c.args.members.now listing)) root;
-      rises = λ listing is up. up;
-      put = λ listing is up. record {
+      has = λ whole is. ap (λ (b : Bool). b || list_any (is_bucket_at bucket) (g.M.Members.left c.args.members.now whole)) root;
+      rises = λ whole is up. up;
+      put = λ whole is up. record {
         front = [];
-        parts = ap (λ (b : Bool). left_names c.args.form (is_wanted c.args.asked.names) bucket b (g.M.Members.left c.args.members.now listing)) root;
+        parts = ap (λ (b : Bool). left_names c.args.form (is_wanted c.args.asked.names) bucket b (g.M.Members.left c.args.members.now whole)) root;
         wrote = Wrote-none c.args.sink.now;
       };
     }
@@ -32,16 +32,16 @@ members-preserved-in-Continue-branch-3 g c =
     let m : Member = (g.M.Members.last_path c.next.new.self, item_view c.in-Some.item) in
     let now = c.members.found || c.is_bucket_at-found.result in
     let is : now ≡ (c.members.found || is_bucket_at bucket m) = ap (λ (b : Bool). c.members.found || b) (rw c.path.ensures at c.is_bucket_at-found.ensures) in
-    let first : (listing : List Member) → g.M.Members.lists c.args.members.now listing → g.M.Members.left c.members.members listing ≡ m ∷ g.M.Members.left c.next.new.self listing =
-    λ listing lists. (rw c.in-Some.is at c.in_ok-item.ensures.given) listing ((c.members.invariant.same listing).1 lists) in
+    let first : (whole : g.M.Members.Whole) → g.M.Members.reads c.args.members.now whole → g.M.Members.left c.members.members whole ≡ m ∷ g.M.Members.left c.next.new.self whole =
+    λ whole lists. (rw c.in-Some.is at c.in_ok-item.ensures.given) whole ((c.members.invariant.same whole).1 lists) in
     record {
       form = c.put_name.ensures.form ∙ c.members.invariant.form;
-      same = λ listing. iff_then (c.next.ensures.listing listing) (c.members.invariant.same listing);
+      same = λ whole. iff_then (c.next.ensures.reads whole) (c.members.invariant.same whole);
       end = λ end is. c.members.invariant.end end (c.next.ensures.same_end end is);
-      has = λ listing lists. rw (first listing lists) at (c.members.invariant.has listing lists) ∙ has_next bucket c.members.found now m _ is;
-      rises = λ listing lists up. (rw (first listing lists) at (c.members.invariant.rises listing lists up)).1;
-      put = λ listing lists up.
-          front_more (rw (first listing lists) at (c.members.invariant.put listing lists up))
+      has = λ whole lists. rw (first whole lists) at (c.members.invariant.has whole lists) ∙ has_next bucket c.members.found now m _ is;
+      rises = λ whole lists up. (rw (first whole lists) at (c.members.invariant.rises whole lists up)).1;
+      put = λ whole lists up.
+          front_more (rw (first whole lists) at (c.members.invariant.put whole lists up))
           (Wrote-same (ap (λ (f : Form). member_name f wanted bucket m) c.members.invariant.form) (rw c.path-then-found.ensures at c.in_ok-put_name.ensures.written))
           (with_name c.args.form wanted bucket c.members.found now m _ is c.if-found.true);
     }
@@ -53,27 +53,27 @@ members-preserved g c =
     let m : Member = (g.M.Members.last_path c.next.new.self, item_view c.in-Some.item) in
     let now = c.members.found || c.is_bucket_at-found.result in
     let is : now ≡ (c.members.found || is_bucket_at bucket m) = ap (λ (b : Bool). c.members.found || b) (rw c.path.ensures at c.is_bucket_at-found.ensures) in
-    let first : (listing : List Member) → g.M.Members.lists c.args.members.now listing → g.M.Members.left c.members.members listing ≡ m ∷ g.M.Members.left c.next.new.self listing =
-    λ listing lists. (rw c.in-Some.is at c.in_ok-item.ensures.given) listing ((c.members.invariant.same listing).1 lists) in
+    let first : (whole : g.M.Members.Whole) → g.M.Members.reads c.args.members.now whole → g.M.Members.left c.members.members whole ≡ m ∷ g.M.Members.left c.next.new.self whole =
+    λ whole lists. (rw c.in-Some.is at c.in_ok-item.ensures.given) whole ((c.members.invariant.same whole).1 lists) in
     record {
       form = c.members.invariant.form;
-      same = λ listing. iff_then (c.next.ensures.listing listing) (c.members.invariant.same listing);
+      same = λ whole. iff_then (c.next.ensures.reads whole) (c.members.invariant.same whole);
       end = λ end is. c.members.invariant.end end (c.next.ensures.same_end end is);
-      has = λ listing lists. rw (first listing lists) at (c.members.invariant.has listing lists) ∙ has_next bucket c.members.found now m _ is;
-      rises = λ listing lists up. (rw (first listing lists) at (c.members.invariant.rises listing lists up)).1;
-      put = λ listing lists up.
-          let here = rw (first listing lists) at (c.members.invariant.rises listing lists up) in
-          front_same (rw (first listing lists) at (c.members.invariant.put listing lists up)) (before_names c.args.form wanted bucket c.members.found now m _ is c.if-found.false here);
+      has = λ whole lists. rw (first whole lists) at (c.members.invariant.has whole lists) ∙ has_next bucket c.members.found now m _ is;
+      rises = λ whole lists up. (rw (first whole lists) at (c.members.invariant.rises whole lists up)).1;
+      put = λ whole lists up.
+          let here = rw (first whole lists) at (c.members.invariant.rises whole lists up) in
+          front_same (rw (first whole lists) at (c.members.invariant.put whole lists up)) (before_names c.args.form wanted bucket c.members.found now m _ is c.if-found.false here);
     }
 
 pub returns-in_err-put_name-clause-written : goal.returns-in_err-put_name-clause-written
-returns-in_err-put_name-clause-written g c = λ listing lists up.
+returns-in_err-put_name-clause-written g c = λ whole lists up.
     let bucket = path_of c.args.asked.bucket.now in
     let wanted = is_wanted c.args.asked.names in
     let m : Member = (g.M.Members.last_path c.next.new.self, item_view c.in-Some.item) in
     let now = c.members.found || c.is_bucket_at-found.result in
     let is : now ≡ (c.members.found || is_bucket_at bucket m) = ap (λ (b : Bool). c.members.found || b) (rw c.path.ensures at c.is_bucket_at-found.ensures) in
-    let first = (rw c.in-Some.is at c.in_ok-item.ensures.given) listing ((c.members.invariant.same listing).1 lists) in
-    front_fault _ _ _ (rw first at (c.members.invariant.put listing lists up))
+    let first = (rw c.in-Some.is at c.in_ok-item.ensures.given) whole ((c.members.invariant.same whole).1 lists) in
+    front_fault _ _ _ (rw first at (c.members.invariant.put whole lists up))
     (Wrote-same (ap (λ (f : Form). member_name f wanted bucket m) c.members.invariant.form) (rw c.path-then-found.ensures at c.in_err-put_name.ensures.written))
     (with_name c.args.form wanted bucket c.members.found now m _ is c.if-found.true) c.from_residual-in_err-put_name.ensures.1

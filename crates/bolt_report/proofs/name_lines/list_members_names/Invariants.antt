@@ -9,15 +9,15 @@ use Rattle.bolt_report.proofs.name_lines.list_members_names.Given as goal
 abbrev pub invariant-members : goal.invariant-members
 invariant-members g l = record {
   form : l.items.form ≡ l.fn.form;
-  same : (listing : List Member) → g.M.Members.lists l.members listing ↔ g.M.Members.lists l.initial.members listing;
+  same : (whole : g.M.Members.Whole) → g.M.Members.reads l.members whole ↔ g.M.Members.reads l.initial.members whole;
   end : (end : g.row.M.Denot) → g.M.Members.ends_as l.members end → g.M.Members.ends_as l.initial.members end;
-  has : (listing : List Member) → g.M.Members.lists l.initial.members listing
-      → has_bucket (path_of l.asked.bucket.now) (g.M.Members.left l.initial.members listing)
-      ≡ (l.found || list_any (is_bucket_at (path_of l.asked.bucket.now)) (g.M.Members.left l.members listing));
-  rises : (listing : List Member) → g.M.Members.lists l.initial.members listing → Rises member_cmp (g.M.Members.left l.initial.members listing) → Rises member_cmp (g.M.Members.left l.members listing);
-  put : (listing : List Member) → g.M.Members.lists l.initial.members listing → Rises member_cmp (g.M.Members.left l.initial.members listing) → WroteFront g.S.Sink l.initial.sink l.sink
-      (names_text l.fn.form (is_wanted l.asked.names) (path_of l.asked.bucket.now) (g.M.Members.left l.initial.members listing))
-      (left_names l.fn.form (is_wanted l.asked.names) (path_of l.asked.bucket.now) l.found (g.M.Members.left l.members listing));
+  has : (whole : g.M.Members.Whole) → g.M.Members.reads l.initial.members whole
+      → has_bucket (path_of l.asked.bucket.now) (g.M.Members.left l.initial.members whole)
+      ≡ (l.found || list_any (is_bucket_at (path_of l.asked.bucket.now)) (g.M.Members.left l.members whole));
+  rises : (whole : g.M.Members.Whole) → g.M.Members.reads l.initial.members whole → Rises member_cmp (g.M.Members.left l.initial.members whole) → Rises member_cmp (g.M.Members.left l.members whole);
+  put : (whole : g.M.Members.Whole) → g.M.Members.reads l.initial.members whole → Rises member_cmp (g.M.Members.left l.initial.members whole) → WroteFront g.S.Sink l.initial.sink l.sink
+      (names_text l.fn.form (is_wanted l.asked.names) (path_of l.asked.bucket.now) (g.M.Members.left l.initial.members whole))
+      (left_names l.fn.form (is_wanted l.asked.names) (path_of l.asked.bucket.now) l.found (g.M.Members.left l.members whole));
 }
 
 abbrev pub decreases-members : goal.decreases-members

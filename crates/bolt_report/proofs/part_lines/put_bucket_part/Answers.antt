@@ -14,13 +14,13 @@ part-init g c =
     let root : (length below == 0) ≡ c.is_empty-found.result = ap (λ (n : ℕ). n == 0) (length-map c.args.below.now (λ (part : Bor (List ℕ)). part.now)) ∙ sym c.is_empty-found.ensures in
     record {
       form = refl;
-      same = λ listing. (λ is. is, λ is. is);
+      same = λ whole. (λ is. is, λ is. is);
       end = λ end is. is;
-      has = λ listing is. ap (λ (b : Bool). b || list_any (is_bucket_at below) (g.M.Members.left c.args.members.now listing)) root;
-      rises = λ listing is up. up;
-      put = λ listing is up. record {
+      has = λ whole is. ap (λ (b : Bool). b || list_any (is_bucket_at below) (g.M.Members.left c.args.members.now whole)) root;
+      rises = λ whole is up. up;
+      put = λ whole is up. record {
         front = [];
-        parts = ap (λ (b : Bool). listing_lines form (rest_from (path_of c.args.from.now) (left_part below b (g.M.Members.left c.args.members.now listing)))) root;
+        parts = ap (λ (b : Bool). listing_lines form (rest_from (path_of c.args.from.now) (left_part below b (g.M.Members.left c.args.members.now whole)))) root;
         wrote = Wrote-none c.args.sink.now;
       };
     }
@@ -33,29 +33,29 @@ part-preserved-then-is_wanted g c =
     let now = c.part.found || c.is_bucket_at-found.result in
     let is : now ≡ (c.part.found || is_bucket_at below m) = ap (λ (b : Bool). c.part.found || b) (rw c.path.ensures at c.is_bucket_at-found.ensures) in
     let both = sym (rw c.path-then-found.ensures at c.is_wanted.ensures) ∙ c.if-is_wanted.true in
-    let first : (listing : List Member) → g.M.Members.lists c.args.members.now listing → g.M.Members.left c.part.members listing ≡ m ∷ g.M.Members.left c.next.new.self listing =
-    λ listing lists. (rw c.in-Some.is at c.in_ok-item.ensures.given) listing ((c.part.invariant.same listing).1 lists) in
+    let first : (whole : g.M.Members.Whole) → g.M.Members.reads c.args.members.now whole → g.M.Members.left c.part.members whole ≡ m ∷ g.M.Members.left c.next.new.self whole =
+    λ whole lists. (rw c.in-Some.is at c.in_ok-item.ensures.given) whole ((c.part.invariant.same whole).1 lists) in
     record {
       form = c.put.ensures.form ∙ c.part.invariant.form;
-      same = λ listing. iff_then (c.next.ensures.listing listing) (c.part.invariant.same listing);
+      same = λ whole. iff_then (c.next.ensures.reads whole) (c.part.invariant.same whole);
       end = λ end is. c.part.invariant.end end (c.next.ensures.same_end end is);
-      has = λ listing lists. rw (first listing lists) at (c.part.invariant.has listing lists) ∙ has_next below c.part.found now m _ is;
-      rises = λ listing lists up. (rw (first listing lists) at (c.part.invariant.rises listing lists up)).1;
-      put = λ listing lists up.
-          front_more (rw (first listing lists) at (c.part.invariant.put listing lists up))
+      has = λ whole lists. rw (first whole lists) at (c.part.invariant.has whole lists) ∙ has_next below c.part.found now m _ is;
+      rises = λ whole lists up. (rw (first whole lists) at (c.part.invariant.rises whole lists up)).1;
+      put = λ whole lists up.
+          front_more (rw (first whole lists) at (c.part.invariant.put whole lists up))
           (Wrote-same (ap (λ (f : ListForm). list_line f m) c.part.invariant.form) (rw c.path-then-is_wanted.ensures at c.in_ok-put.ensures.written))
           (with_wanted below c.part.found now m _ is from (lines_form c.args.lines.now) c.if-found.true both);
     }
 
 pub returns-in_err-put-clause-written : goal.returns-in_err-put-clause-written
-returns-in_err-put-clause-written g c = λ listing lists up.
+returns-in_err-put-clause-written g c = λ whole lists up.
     let below = path_of c.args.below.now in
     let m : Member = (g.M.Members.last_path c.next.new.self, item_view c.in-Some.item) in
     let now = c.part.found || c.is_bucket_at-found.result in
     let is : now ≡ (c.part.found || is_bucket_at below m) = ap (λ (b : Bool). c.part.found || b) (rw c.path.ensures at c.is_bucket_at-found.ensures) in
     let both = sym (rw c.path-then-found.ensures at c.is_wanted.ensures) ∙ c.if-is_wanted.true in
-    let first = (rw c.in-Some.is at c.in_ok-item.ensures.given) listing ((c.part.invariant.same listing).1 lists) in
-    front_fault _ _ _ (rw first at (c.part.invariant.put listing lists up))
+    let first = (rw c.in-Some.is at c.in_ok-item.ensures.given) whole ((c.part.invariant.same whole).1 lists) in
+    front_fault _ _ _ (rw first at (c.part.invariant.put whole lists up))
     (Wrote-same (ap (λ (f : ListForm). list_line f m) c.part.invariant.form) (rw c.path-then-is_wanted.ensures at c.in_err-put.ensures.written))
     (with_wanted below c.part.found now m _ is (path_of c.args.from.now) (lines_form c.args.lines.now) c.if-found.true both) c.from_residual-in_err-put.ensures.1
 
@@ -66,8 +66,8 @@ part-preserved g c =
     let m : Member = (g.M.Members.last_path c.next.new.self, item_view c.in-Some.item) in
     let now = c.part.found || c.is_bucket_at-found.result in
     let is : now ≡ (c.part.found || is_bucket_at below m) = ap (λ (b : Bool). c.part.found || b) (rw c.path.ensures at c.is_bucket_at-found.ensures) in
-    let first : (listing : List Member) → g.M.Members.lists c.args.members.now listing → g.M.Members.left c.part.members listing ≡ m ∷ g.M.Members.left c.next.new.self listing =
-    λ listing lists. (rw c.in-Some.is at c.in_ok-item.ensures.given) listing ((c.part.invariant.same listing).1 lists) in
+    let first : (whole : g.M.Members.Whole) → g.M.Members.reads c.args.members.now whole → g.M.Members.left c.part.members whole ≡ m ∷ g.M.Members.left c.next.new.self whole =
+    λ whole lists. (rw c.in-Some.is at c.in_ok-item.ensures.given) whole ((c.part.invariant.same whole).1 lists) in
     let passed : (ms : List Member) → Rises member_cmp (m ∷ ms) → rest_from from (left_part below c.part.found (m ∷ ms)) ≡ rest_from from (left_part below now ms) =
     λ ms up. elim c.else-found.branch [
       | else-found-via-then-found+else-is_wanted w ↦
@@ -76,11 +76,11 @@ part-preserved g c =
     ] in
     record {
       form = c.part.invariant.form;
-      same = λ listing. iff_then (c.next.ensures.listing listing) (c.part.invariant.same listing);
+      same = λ whole. iff_then (c.next.ensures.reads whole) (c.part.invariant.same whole);
       end = λ end is. c.part.invariant.end end (c.next.ensures.same_end end is);
-      has = λ listing lists. rw (first listing lists) at (c.part.invariant.has listing lists) ∙ has_next below c.part.found now m _ is;
-      rises = λ listing lists up. (rw (first listing lists) at (c.part.invariant.rises listing lists up)).1;
-      put = λ listing lists up.
-          let here = rw (first listing lists) at (c.part.invariant.rises listing lists up) in
-          front_same (rw (first listing lists) at (c.part.invariant.put listing lists up)) (ap (listing_lines (lines_form c.args.lines.now)) (passed (g.M.Members.left c.next.new.self listing) here));
+      has = λ whole lists. rw (first whole lists) at (c.part.invariant.has whole lists) ∙ has_next below c.part.found now m _ is;
+      rises = λ whole lists up. (rw (first whole lists) at (c.part.invariant.rises whole lists up)).1;
+      put = λ whole lists up.
+          let here = rw (first whole lists) at (c.part.invariant.rises whole lists up) in
+          front_same (rw (first whole lists) at (c.part.invariant.put whole lists up)) (ap (listing_lines (lines_form c.args.lines.now)) (passed (g.M.Members.left c.next.new.self whole) here));
     }

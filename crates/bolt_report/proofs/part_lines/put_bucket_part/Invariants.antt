@@ -9,14 +9,14 @@ use Rattle.bolt_report.proofs.part_lines.put_bucket_part.Given as goal
 abbrev pub invariant-part : goal.invariant-part
 invariant-part g l = record {
   form : lines_form l.lines ≡ lines_form l.initial.lines;
-  same : (listing : List Member) → g.M.Members.lists l.members listing ↔ g.M.Members.lists l.initial.members listing;
+  same : (whole : g.M.Members.Whole) → g.M.Members.reads l.members whole ↔ g.M.Members.reads l.initial.members whole;
   end : (end : g.row.M.Denot) → g.M.Members.ends_as l.members end → g.M.Members.ends_as l.initial.members end;
-  has : (listing : List Member) → g.M.Members.lists l.initial.members listing
-      → has_bucket (path_of l.below) (g.M.Members.left l.initial.members listing) ≡ (l.found || list_any (is_bucket_at (path_of l.below)) (g.M.Members.left l.members listing));
-  rises : (listing : List Member) → g.M.Members.lists l.initial.members listing → Rises member_cmp (g.M.Members.left l.initial.members listing) → Rises member_cmp (g.M.Members.left l.members listing);
-  put : (listing : List Member) → g.M.Members.lists l.initial.members listing → Rises member_cmp (g.M.Members.left l.initial.members listing) → WroteFront g.S.Sink l.initial.sink l.sink
-      (listing_lines (lines_form l.initial.lines) (rest_from (path_of l.from) (bucket_part (path_of l.below) (g.M.Members.left l.initial.members listing))))
-      (listing_lines (lines_form l.initial.lines) (rest_from (path_of l.from) (left_part (path_of l.below) l.found (g.M.Members.left l.members listing))));
+  has : (whole : g.M.Members.Whole) → g.M.Members.reads l.initial.members whole
+      → has_bucket (path_of l.below) (g.M.Members.left l.initial.members whole) ≡ (l.found || list_any (is_bucket_at (path_of l.below)) (g.M.Members.left l.members whole));
+  rises : (whole : g.M.Members.Whole) → g.M.Members.reads l.initial.members whole → Rises member_cmp (g.M.Members.left l.initial.members whole) → Rises member_cmp (g.M.Members.left l.members whole);
+  put : (whole : g.M.Members.Whole) → g.M.Members.reads l.initial.members whole → Rises member_cmp (g.M.Members.left l.initial.members whole) → WroteFront g.S.Sink l.initial.sink l.sink
+      (listing_lines (lines_form l.initial.lines) (rest_from (path_of l.from) (bucket_part (path_of l.below) (g.M.Members.left l.initial.members whole))))
+      (listing_lines (lines_form l.initial.lines) (rest_from (path_of l.from) (left_part (path_of l.below) l.found (g.M.Members.left l.members whole))));
 }
 
 abbrev pub decreases-part : goal.decreases-part

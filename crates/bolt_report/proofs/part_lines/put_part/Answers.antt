@@ -8,8 +8,8 @@ use Rattle.bolt_report.proofs.part_lines.put_part.Goals as goal
 pub part-init : goal.part-init
 part-init g c = record {
   form = refl;
-  same = λ listing. (λ is. is, λ is. is);
-  put = λ listing is. front_none c.args.sink.now _;
+  same = λ whole. (λ is. is, λ is. is);
+  put = λ whole is. front_none c.args.sink.now _;
 }
 
 pub part-preserved : goal.part-preserved
@@ -18,19 +18,19 @@ part-preserved g c =
     let begins = sym (rw c.path.ensures at c.is_below.ensures) ∙ c.if-not-is_below.false in
     record {
       form = c.put.ensures.form ∙ c.part.invariant.form;
-      same = λ listing. iff_then (c.next.ensures.listing listing) (c.part.invariant.same listing);
-      put = λ listing lists.
-          let first = (rw c.in-Some.is at c.in_ok-item.ensures.given) listing ((c.part.invariant.same listing).1 lists) in
-          front_more (c.part.invariant.put listing lists)
+      same = λ whole. iff_then (c.next.ensures.reads whole) (c.part.invariant.same whole);
+      put = λ whole lists.
+          let first = (rw c.in-Some.is at c.in_ok-item.ensures.given) whole ((c.part.invariant.same whole).1 lists) in
+          front_more (c.part.invariant.put whole lists)
           (Wrote-same (ap (λ (f : ListForm). list_line f m) c.part.invariant.form) (rw c.path-in-Some.ensures at c.in_ok-put.ensures.written))
           (front_text (path_of c.args.below.now) (lines_form c.args.lines.now) _ _ m first begins);
     }
 
 pub returns-in_err-put-clause-written : goal.returns-in_err-put-clause-written
-returns-in_err-put-clause-written g c = λ listing lists.
+returns-in_err-put-clause-written g c = λ whole lists.
     let m : Member = (g.M.Members.last_path c.next.new.self, item_view c.in-Some.item) in
     let begins = sym (rw c.path.ensures at c.is_below.ensures) ∙ c.if-not-is_below.false in
-    let first = (rw c.in-Some.is at c.in_ok-item.ensures.given) listing ((c.part.invariant.same listing).1 lists) in
-    front_fault _ _ _ (c.part.invariant.put listing lists)
+    let first = (rw c.in-Some.is at c.in_ok-item.ensures.given) whole ((c.part.invariant.same whole).1 lists) in
+    front_fault _ _ _ (c.part.invariant.put whole lists)
     (Wrote-same (ap (λ (f : ListForm). list_line f m) c.part.invariant.form) (rw c.path-in-Some.ensures at c.in_err-put.ensures.written))
     (front_text (path_of c.args.below.now) (lines_form c.args.lines.now) _ _ m first begins) c.from_residual-in_err-put.ensures.1

@@ -6,10 +6,10 @@ use Rattle.bolt_report.proofs.part_lines.put_part.Given as goal
 abbrev pub invariant-part : goal.invariant-part
 invariant-part g l = record {
   form : lines_form l.lines ≡ lines_form l.initial.lines;
-  same : (listing : List Member) → g.M.Members.lists l.members listing ↔ g.M.Members.lists l.initial.members listing;
-  put : (listing : List Member) → g.M.Members.lists l.initial.members listing → WroteFront g.S.Sink l.initial.sink l.sink
-      (listing_lines (lines_form l.initial.lines) (take_while (λ m. begins_with (path_of l.below) m.0) (g.M.Members.left l.initial.members listing)))
-      (listing_lines (lines_form l.initial.lines) (take_while (λ m. begins_with (path_of l.below) m.0) (g.M.Members.left l.members listing)));
+  same : (whole : g.M.Members.Whole) → g.M.Members.reads l.members whole ↔ g.M.Members.reads l.initial.members whole;
+  put : (whole : g.M.Members.Whole) → g.M.Members.reads l.initial.members whole → WroteFront g.S.Sink l.initial.sink l.sink
+      (listing_lines (lines_form l.initial.lines) (take_while (λ m. begins_with (path_of l.below) m.0) (g.M.Members.left l.initial.members whole)))
+      (listing_lines (lines_form l.initial.lines) (take_while (λ m. begins_with (path_of l.below) m.0) (g.M.Members.left l.members whole)));
 }
 
 abbrev pub decreases-part : goal.decreases-part

@@ -1,27 +1,28 @@
--- What is found is joined to what is kept of the same file, which has few enough pages.
-use Rattle.std.proofs.Common.{◌≡◌, ◌<◌, ◌≤◌, ◌*◌, ◌^◌, ◌/◌, ℕ, length, subst}
-use Rattle.bolt_recover.proofs.Words.{div-lt_iff_lt-mul, joined_left, le-div_iff_mul-le, props, ∥∥₁_elim}
-use Rattle.bolt_recover.proofs.{JoinedLemmas.begun_left, Searched.joinable}
+-- What is found is merged with what is kept of the same file.
+use Rattle.std.proofs.Common.{◌∙◌, ap, ap₂, sym}
+use Rattle.bolt_recover.proofs.{Existing.recovers, JoinedLemmas.merged_joined, Searched.joinable}
+use Rattle.bolt_recover.proofs.Words.{found_listing, joined_left, props, ∥∥₁_elim}
+use Rattle.bolt_tree.specs.Merges.{merge}
 use Rattle.bolt_recover.proofs.joined.Joined.new.Goals as goal
 
-few : (n size divisor : ℕ) → divisor ≡ size → 0 < size → n / divisor < 10 ^ 16 → n < 10 ^ 16 * size
-few n size divisor same some less = (div-lt_iff_lt-mul some).0 (subst (λ (d : ℕ). n / d < 10 ^ 16) same less)
-
-many : (n size divisor : ℕ) → divisor ≡ size → 0 < size → 10 ^ 16 ≤ n / divisor → 10 ^ 16 * size ≤ n
-many n size divisor same some more = (le-div_iff_mul-le some).0 (subst (λ (d : ℕ). 10 ^ 16 ≤ n / d) same more)
+pub invariant_of-result-clause-reads : goal.invariant_of-result-clause-reads
+invariant_of-result-clause-reads c =
+    let both = c.args.both.now in
+    let kept = c.in_ok-kept.ensures in
+    ∣ c.new-2.ensures.reads _ _ (rw (kept.file, kept.meta) (recovers both.file.now both.meta)) (ap found_listing (sym c.new.ensures.found)) ∣₁
 
 pub invariant_of-result-clause-pages : goal.invariant_of-result-clause-pages
 invariant_of-result-clause-pages c =
-    let whole = c.in_ok-kept.ensures.whole in
-    let both = c.args.both.now in
-    let less = few (length both.file.now) both.meta.page_size c.from.result c.from.ensures both.sized c.if-both-from-ge-NAMES.false in
-    rw (whole.reads, whole.under) (joinable both c.as_slice-found.result.now c.as_slice-found.ensures.value less c.in_ok-kept.ensures.apart)
+    let test = c.in_ok-test_join.ensures in
+    joinable c.args.both.now c.as_slice-found.result.now c.as_slice-found.ensures.value test.few test.apart
 
 pub returns-clause-all : goal.returns-clause-all
 unfolding joined_left
 returns-clause-all c = λ listing is.
     let both = c.args.both.now in
-    let less = few (length both.file.now) both.meta.page_size c.from.result c.from.ensures both.sized c.if-both-from-ge-NAMES.false in
-    ∥∥₁_elim (joinable both c.as_slice-found.result.now c.as_slice-found.ensures.value less c.in_ok-kept.ensures.apart) (hlevel props) (λ are.
-    begun_left both.file.now both.meta c.first_stage.result c.in_ok-kept.kept c.as_slice-found.result.now c.new.result _
-    c.first_stage.ensures.none c.first_stage.ensures.some are c.in_ok-kept.ensures.whole.all listing is)
+    let test = c.in_ok-test_join.ensures in
+    let found = c.as_slice-found.result.now in
+    ∥∥₁_elim (joinable both found c.as_slice-found.ensures.value test.few test.apart) (hlevel props) (λ are.
+    c.new-2.ensures.left _ (found_listing found)
+    ∙ ap₂ merge (c.in_ok-kept.ensures.all _ (recovers both.file.now both.meta)) c.new.ensures.all
+    ∙ merged_joined both.file.now both.meta found listing are is)

@@ -1,12 +1,14 @@
 -- Begun again, over the same pages.
-use Rattle.bolt_recover.proofs.Words.{joined_file, joined_left, joined_meta, kept_file, kept_meta, props, ∥∥₁_elim, on_ok_weaker}
-use Rattle.bolt_recover.proofs.JoinedLemmas.{begun_left}
+use Rattle.std.proofs.Common.{◌∙◌}
+use Rattle.bolt_recover.proofs.Words.{joined_file, joined_left, joined_meta, on_ok_weaker, props, ∥∥₁_elim, ∥∥₁_map}
+use Rattle.bolt_recover.proofs.JoinedLemmas.{merged_joined}
 use Rattle.bolt_recover.proofs.joined.JoinedMembers.restart.Goals as goal
+
+pub invariant_of-self-clause-reads : goal.invariant_of-self-clause-reads
+invariant_of-self-clause-reads c = ∥∥₁_map c.args.self.now.reads (λ reads. (c.restart.ensures.reads _).1 reads)
 
 pub returns-clause-all : goal.returns-clause-all
 unfolding joined_file joined_left joined_meta
 returns-clause-all c =
     let self = c.args.self.now in
-    on_ok_weaker c.restart.result (λ all listing is. ∥∥₁_elim self.pages (hlevel props) (λ are.
-    begun_left (kept_file self.kept) (kept_meta self.kept) c.first_stage-self.result c.restart.new.self self.found.now self.bucket self.next_kept
-    c.first_stage-self.ensures.none c.first_stage-self.ensures.some are all listing is)) c.restart.ensures.all
+    on_ok_weaker c.restart.result (λ all listing is. ∥∥₁_elim self.pages (hlevel props) (λ are. ∥∥₁_elim self.reads (hlevel props) (λ reads. all _ reads ∙ merged_joined self.file.now self.meta self.found.now listing are is))) c.restart.ensures.all

@@ -1,10 +1,11 @@
 -- An element shows itself, and then what it holds.
 use Rattle.std.proofs.Common.{◌≡◌, ◌++◌, ◌∷◌, [], List, false, inl, inr, None, Option, Some, ap, append_assoc, refl}
-use Rattle.bolt_recover.proofs.Words.{cases_Bool, end, inside_of, IsTrue, Item, item_of, leaf_view, LeafElement, listing_below, lost_and_found, Member, Path, Tree, tree_with}
-use Rattle.bolt_recover.specs.Private.{FoundLeft.GivesMember}
+use Rattle.bolt_recover.proofs.Words.{cases_Bool, end, inside_of, IsTrue, item_of, leaf_view, LeafElement, listing_below, lost_and_found, Member, Path, Tree, tree_with}
+use Rattle.bolt_recover.specs.Private.{FoundLeft.GivesBelow}
 use Rattle.bolt_format.specs.{ElementsLeft.leaves_left, declared.elements.Leaves.Leaves}
-use Rattle.bolt_recover.specs.declared.joined_parts.FoundMembers.{FoundMembers}
-use Rattle.bolt_recover.proofs.joined_parts.FoundMembers.next.Goals as goal
+use Rattle.bolt_recover.specs.declared.found_members.FoundMembers.{FoundMembers}
+use Rattle.bolt_tree.specs.declared.entry.Item.{Item as CodeItem}
+use Rattle.bolt_recover.proofs.found_members.FoundMembers.next_below.Goals as goal
 
 first_member : (path : Path) (inside : LeafElement → Tree) (e : LeafElement) (elements : List LeafElement) (rest inner : List Member) → (e.is_bucket ≡ false → inner ≡ [])
     → (IsTrue e.is_bucket → inner ≡ listing_below (path ++ e.key ∷ []) (inside e))
@@ -14,25 +15,26 @@ first_member path inside e elements rest inner none some = elim (cases_Bool e.is
   | inr is ↦ rw (none is, is) refl
 ]
 
-next_page : (b new : FoundMembers) (inner elements : Leaves) (given : Option Item) → (leaves_left b.inner ≡ []) × (leaves_left inner ≡ []) → (leaves_left b.elements ≡ []) × (leaves_left elements ≡ [])
-    → GivesMember (record b { inner = inner; elements = elements }) new given → GivesMember b new given
+next_page : (b new : FoundMembers) (inner elements : Leaves) (given : Option CodeItem) → (leaves_left b.inner ≡ []) × (leaves_left inner ≡ []) → (leaves_left b.elements ≡ []) × (leaves_left elements ≡ [])
+    → GivesBelow (record b { inner = inner; elements = elements }) new given → GivesBelow b new given
 next_page b new inner elements None no_inner no_more gives = rw (no_inner.0, no_more.0) (rw (no_inner.1, no_more.1) at gives)
 next_page b new inner elements (Some item) no_inner no_more gives = rw (no_inner.0, no_more.0) (rw (no_inner.1, no_more.1) at gives)
 
-pub returns-in-Some : goal.returns-in-Some
-returns-in-Some c =
+pub returns-in-Some-clause-given : goal.returns-in-Some-clause-given
+returns-in-Some-clause-given c =
     let self = c.args.self.now in
-    rw (c.in-Some.ensures.steps.0, c.lost_and_found.ensures, c.of.ensures)
+    rw (c.requires, c.in-Some.ensures.steps.0, c.lost_and_found.ensures, c.of.ensures)
     (first_member (lost_and_found ∷ self.name.now ∷ self.key.now ∷ []) (λ e. end) (leaf_view c.in-Some.leaf) _ _ [] (λ _. refl) (λ _. refl))
 
-pub returns-in-Some-next : goal.returns-in-Some-next
-returns-in-Some-next c =
+pub returns-in-Some-next-clause-given : goal.returns-in-Some-next-clause-given
+returns-in-Some-next-clause-given c =
     let self = c.args.self.now in
     let leaf = c.in-Some-next.leaf in
     let path : Path = lost_and_found ∷ self.name.now ∷ [] in
-    rw (c.in_default.ensures.steps.0, c.in-Some-next.ensures.steps.0, c.lost_and_found-in-Some-next.ensures, c.of-in-Some-next.ensures)
+    rw (c.requires, c.in_default.ensures.steps.0, c.in-Some-next.ensures.steps.0, c.lost_and_found-in-Some-next.ensures, c.of-in-Some-next.ensures)
     (first_member path inside_of (leaf_view leaf) _ _ (listing_below (path ++ leaf.key.now ∷ []) (tree_with (λ e. end) (leaves_left c.inner_of-self.result)))
     (λ is. rw (c.inner_of-self.ensures.value is) refl) (λ is. ap (listing_below (path ++ leaf.key.now ∷ [])) (c.inner_of-self.ensures.bucket is)))
 
-pub returns : goal.returns
-returns c = next_page c.args.self.now c.next_page.new.self c.next.new.self c.next-2.new.self _ c.in_default.ensures.steps c.in_default-next.ensures.steps c.next_page.ensures
+pub returns-clause-given : goal.returns-clause-given
+returns-clause-given c =
+    next_page c.args.self.now c.next_page.new.self c.next.new.self c.next-2.new.self _ c.in_default.ensures.steps c.in_default-next.ensures.steps c.next_page.ensures.given

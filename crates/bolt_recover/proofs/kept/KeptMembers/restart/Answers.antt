@@ -1,0 +1,17 @@
+-- Nothing is recovered if the root page is lost. What sound trees list is recovered.
+use Rattle.std.proofs.Common.{◌≡◌, sym}
+use Rattle.bolt_recover.proofs.{FoundAll.nothing_recovered, SoundWalks.walked}
+use Rattle.bolt_recover.proofs.Words.{left_of, props, walk_checked, ∥∥₁_elim}
+use Rattle.bolt_recover.proofs.kept.KeptMembers.restart.Goals as goal
+
+pub returns-in-Nothing-clause-all : goal.returns-in-Nothing-clause-all
+returns-in-Nothing-clause-all c = rw c.in-Nothing.is (λ listing is.
+    let root = c.in-Nothing.field-0 in
+    ∥∥₁_elim root.lost (hlevel props) (λ (x, lost). sym (nothing_recovered root.file.now root.meta x lost listing is)))
+
+pub returns-in-Sound-clause-all : goal.returns-in-Sound-clause-all
+returns-in-Sound-clause-all c = rw c.in-Sound.is (λ listing is.
+    walked {P = λ listing. left_of c.new.result listing ≡ listing} (walk_checked c.in-Sound.walk) listing is (hlevel props) (rw c.checked.ensures at c.new.ensures.all))
+
+pub returns-in-Recovery-clause-all : goal.returns-in-Recovery-clause-all
+returns-in-Recovery-clause-all c = rw c.in-Recovery.is c.restart.ensures.all

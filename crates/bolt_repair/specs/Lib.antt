@@ -1,0 +1,2 @@
+pub mod Repaired
+pub mod Repairs

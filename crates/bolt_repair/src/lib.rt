@@ -1,0 +1,5 @@
+//! What goes back into the bucket `key` of a damaged store of etcd, and the listing with it
+//! (docs/RECOVERY.md, "The repaired listing").
+#![tactic(auto)]
+
+pub mod laws;
