@@ -31,6 +31,7 @@ sound_copy passing lists which page_size tree sequence asked short =
       metas = sound.metas;
       chosen = sound.chosen;
       sound = record { slot = One; valid = sound.chosen.valid; trees = sound.trees; right = λ tested. sound.accounts };
+      full = sound.full;
       lists = lists file meta (Root_page (layout_root which page_size tree)) tree (layout_tree which page_size tree sequence asked.size asked.storable sound);
     }
 

@@ -1,10 +1,10 @@
 -- The layout of a tree is a sound file.
-use Rattle.std.proofs.Common.{◌≡◌, ◌∙◌, ℕ, ◌+◌, ◌-◌, ◌*◌, ◌^◌, ◌<◌, ◌≤◌, List, [], ◌∷◌, ◌++◌, length, drop, replicate, Option, refl, sym, ap, inl, inr, arith, append_assoc}
+use Rattle.std.proofs.Common.{◌≡◌, ◌∙◌, ℕ, ◌+◌, ◌-◌, ◌*◌, ◌^◌, ◌<◌, ◌≤◌, List, [], ◌∷◌, ◌++◌, length, drop, replicate, Option, Some, refl, sym, ap, inl, inr, arith, append_assoc}
 use Rattle.bolt_layout.proofs.Words.{AllByRecursion, append-nil, cases_lt, chosen_of, copy_meta, freelist_page, HasSoundTrees, header_bytes, IsActive, IsMeta, IsPageSize, IsStorable, items_of, Layout, layout_mark, layout_meta, layout_of, layout_pages, layout_root, length-append, length-header_bytes, length-meta_bytes, Meta, meta_bytes, meta_page, meta_written, mul-le-mul_left, node_at, node_of, One, page_fault, PageView, part_next, Placed, placed_bytes, reached, root_of, root_over, root_spot, size_bounds, Tree, Zero}
 use Rattle.bolt_layout.proofs.SpanLemmas.{IsEmptyFreelist, IsShown, freelist_shown, length-filled}
 use Rattle.bolt_format.specs.{Metas.HasBothMetas, ReadBack.IsMetaFit}
 use Rattle.bolt_check.specs.{Nodes.node_seen, Sound.HasRightAccounts, Sound.PassesTests}
-use Rattle.bolt_layout.specs.Layout.{file_bytes}
+use Rattle.bolt_layout.specs.{Copies.HasNoFreePage, Layout.file_bytes}
 use Rattle.bolt_format.specs.declared.header.Kind.TheVariants as kind
 use Rattle.bolt_layout.proofs.{Parts.IsPart, Parts.part_clean, PageRows.IsInARow, PageRows.IsPageFit, PageRows.length-placed, PageRows.row_shown}
 use Rattle.bolt_layout.proofs.{LeafPages.IsPage, LaidPages.AreNodes, LaidPages.limit}
@@ -90,6 +90,11 @@ accounts_of : (file : List ℕ) (page_size root sequence mark txid : ℕ) → Is
     → IsPart (node_at file (copy_meta page_size root sequence mark txid)) (reached (node_at file (copy_meta page_size root sequence mark txid)) root) 3 mark → HasRightAccounts file (copy_meta page_size root sequence mark txid)
 accounts_of file page_size root sequence mark txid free part = grind (arith, cases_lt)
 
+-- a page that is free would be listed
+full_of : (file : List ℕ) (page_size root sequence mark txid : ℕ) → IsEmptyFreelist file (copy_meta page_size root sequence mark txid) 2
+    → HasRightAccounts file (copy_meta page_size root sequence mark txid) → HasNoFreePage file (copy_meta page_size root sequence mark txid)
+full_of file page_size root sequence mark txid empty right n free = let listed : 1 ≤ 0 = (right.lists [] (ap Some empty.empty)).listed n free in omega arith
+
 -- what the tests of trees are for
 abbrev pub PassingIsSound : Type 0
 PassingIsSound = (file : List ℕ) (meta : Meta) → PassesTests file meta → HasSoundTrees file meta
@@ -146,6 +151,7 @@ pub record IsSoundLayout (which : Layout) (page_size : ℕ) (tree : Tree) (seque
   pub chosen : IsActive (layout_of which page_size tree sequence) One (layout_meta which page_size tree sequence 1)
   pub trees : HasSoundTrees (layout_of which page_size tree sequence) (layout_meta which page_size tree sequence 1)
   pub accounts : HasRightAccounts (layout_of which page_size tree sequence) (layout_meta which page_size tree sequence 1)
+  pub full : HasNoFreePage (layout_of which page_size tree sequence) (layout_meta which page_size tree sequence 1)
   pub room : layout_mark which page_size tree ≤ limit
   pub part : IsPart (node_at (layout_of which page_size tree sequence) (layout_meta which page_size tree sequence 1))
       (reached (node_at (layout_of which page_size tree sequence) (layout_meta which page_size tree sequence 1)) (layout_root which page_size tree)) 3 (layout_mark which page_size tree)
@@ -168,11 +174,13 @@ layout_sound law which page_size tree sequence size laid =
     let nodes = nodes_shown file meta pages shown in
     let part = laid.page.part (node_at file meta) 3 (root_spot root) refl (omega arith) (omega arith) nodes (let deep = laid.low in omega arith) (within_none items) in
     let free = freelist_shown file meta 2 (placed_bytes page_size pages) stand.free (record { number = omega arith; further = omega arith; below = omega arith; within = omega arith }) (omega arith) in
+    let right = accounts_of file page_size root sequence mark 1 free part in
     record {
       metas = both_metas page_size root sequence mark pages file stand;
       chosen = chosen_of file page_size (copy_meta page_size root sequence mark 0) (copy_meta page_size root sequence mark 1) stand.first stand.second refl (omega arith);
       trees = law file meta (part_clean (node_at file meta) root 3 mark part (omega arith));
-      accounts = accounts_of file page_size root sequence mark 1 free part;
+      accounts = right;
+      full = full_of file page_size root sequence mark 1 free right;
       room = room;
       part = part;
       shown = shown;

@@ -1,17 +1,23 @@
 -- What a layout promises: docs/LAYOUT.md, "What holds of both layouts".
 use Rattle.std.specs.Prelude.{◌≡◌, ◌≤◌, ◌<◌, ◌^◌, ℕ, true, List, length, take}
 use Rattle.bolt_format.specs.{Metas.HasBothMetas, Metas.IsActive, Metas.IsPageSize, declared.page_fault.TheConstants.PageFault.CUT}
-use Rattle.bolt_format.specs.{declared.meta.MetaFault.TheVariants.Cut, declared.meta.Slot.TheVariants.One}
-use Rattle.bolt_check.specs.{Findings.finding, Sound.IsRefused, Sound.IsSound}
+use Rattle.bolt_format.specs.{declared.meta.Meta.Meta, declared.meta.MetaFault.TheVariants.Cut, declared.meta.Slot.TheVariants.One}
+use Rattle.bolt_check.specs.{Accounts.IsFree, Accounts.IsInUse, Findings.finding, Sound.IsRefused, Sound.IsSound, Sound.IsUsed}
 use Rattle.bolt_check.specs.declared.fault.CheckFault.TheVariants.{Open, Structure}
 use Rattle.bolt_tree.specs.{Listing.IsListing, Listing.Member, Tree.Tree, Tree.listing_of, Tree.tree_of}
 use Rattle.bolt_layout.specs.{Layout.layout_meta, Layout.layout_of, Storable.IsStorable, declared.Layout.Layout}
 
--- both metas are valid, and that of slot one is active in the layout, which is sound for it, trees and accounts, and has this listing
+-- no page of the file is free, for this meta
+abbrev pub HasNoFreePage : List ℕ → Meta → Type 0
+HasNoFreePage file meta = (n : ℕ) → IsFree meta.high_water (IsInUse file meta (IsUsed file meta)) n → ⊥
+
+-- Both metas are valid, and that of slot one is active in the layout. For it the layout is sound, trees and accounts, has no free page and
+-- has this listing.
 pub record IsSoundCopy (which : Layout) (page_size : ℕ) (tree : Tree) (sequence : ℕ) (listing : List Member) : Type 0 where
   pub metas : HasBothMetas (layout_of which page_size tree sequence)
   pub chosen : IsActive (layout_of which page_size tree sequence) One (layout_meta which page_size tree sequence 1)
   pub sound : IsSound (layout_of which page_size tree sequence) (layout_meta which page_size tree sequence 1) true
+  pub full : HasNoFreePage (layout_of which page_size tree sequence) (layout_meta which page_size tree sequence 1)
   pub lists : IsListing (layout_of which page_size tree sequence) (layout_meta which page_size tree sequence 1) listing
 
 -- A layout is asked for by an accepted page size, a tree that can be stored and a sequence of 64 bits.
