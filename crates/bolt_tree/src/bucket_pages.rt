@@ -1,8 +1,8 @@
 //! The pages of a bucket, and the moves of a cursor's stack along them.
-ghost use Rattle.std.specs.Prelude.{◌≡◌, ◌∷◌, [], ◌<◌, ◌≤◌, ◌+◌, ◌-◌, ◌*◌, false, length};
+ghost use Rattle.std.specs.Prelude.{◌≡◌, [], ◌<◌, ◌≤◌, ◌+◌, ◌-◌, ◌*◌, false, length};
 ghost use Rattle.bolt_format.specs.{TreePages.branches_on};
 ghost use Rattle.bolt_tree.specs.Private.BucketValues.{HasBucketValue};
-ghost use Rattle.bolt_tree.specs.{Pagers.pager_checked, Private.BucketPages.elements_in, Private.BucketPages.pages_in, Private.BucketPages.root_content};
+ghost use Rattle.bolt_tree.specs.{Pagers.pager_checked, Private.BucketPages.elements_in, Private.BucketPages.root_content};
 ghost use Rattle.bolt_tree.specs.{Private.Contents.Of_branch, Private.Seeks.IsNearTop, Private.Seeks.IsSought, Private.ShownPages.opened_content};
 ghost use Rattle.bolt_tree.specs.{Private.Stacks.IsAtRest, Private.Stacks.IsLeafTop};
 
