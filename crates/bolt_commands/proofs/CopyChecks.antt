@@ -6,8 +6,7 @@ use Rattle.bolt_commands.proofs.Vocabulary.{everything, has_losses, parts}
 use Rattle.bolt_check.specs.declared.fault.CheckFault.TheVariants as check
 use Rattle.bolt_etcd.specs.declared.snapshot.SnapshotFault.{SnapshotFault}
 use Rattle.bolt_etcd.proofs.SnapshotLemmas.{no_fault_iff}
-use Rattle.bolt_check.specs.Lists.{Has}
-use Rattle.bolt_recover.specs.Surveys.{ForSurveys, IsSurvey, LosesNothing, SurveyedWay}
+use Rattle.bolt_recover.specs.Surveys.{ForSurveys, LosesNothing, SurveyedWay}
 use Rattle.bolt_job.specs.declared.choices.Extent.TheVariants.{LostAndFound}
 use Rattle.bolt_commands.specs.declared.failure.Failure.TheVariants as failure
 use Rattle.bolt_commands.proofs.ReadFiles.{read_active, refused_active}
@@ -30,7 +29,7 @@ none_at : (o : Option Site) → loss_at o None ≡ []
 none_at None = refl
 none_at (Some p) = refl
 
-none_of : (file : List ℕ) (meta : Meta) (survey : List SurveyedWay) → ((v : SurveyedWay) → Has survey v → v.found ≡ None) → losses_of file meta survey ≡ []
+none_of : (file : List ℕ) (meta : Meta) (survey : List SurveyedWay) → LosesNothing survey → losses_of file meta survey ≡ []
 none_of file meta [] each = refl
 none_of file meta (v ∷ survey) each = rw (each v (inl refl), none_at (site_at file meta v.way)) (none_of file meta survey (λ w has. each w (inr has)))
 

@@ -1,6 +1,6 @@
 //! What the definitions of recovery imply.
 ghost use Rattle.std.specs.List.{Contains, count_by};
-ghost use Rattle.std.specs.Prelude.{◌≡◌, ◌≢◌, ◌<◌, ◌⊎◌, ◌*◌, ◌^◌, ◌∷◌, ℕ, [], List, filter, is_some, length, not};
+ghost use Rattle.std.specs.Prelude.{◌≡◌, ◌<◌, ◌⊎◌, ◌*◌, ◌^◌, ◌∷◌, ℕ, [], List, filter, is_some, length, not};
 ghost use Rattle.bolt_format.specs.{Bytes.IsBytes, declared.meta.Meta.Meta};
 ghost use Rattle.bolt_check.specs.{Lists.Has, LoneLeaves.IsListedFree, LoneLeaves.IsLoneLeaf, Nodes.node_at, Ones.AtMostOne, Sound.HasSoundTrees, Sound.IsFirstFinding};
 ghost use Rattle.bolt_check.specs.{declared.finding.Finding.Finding};

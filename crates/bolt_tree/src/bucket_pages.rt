@@ -1,8 +1,8 @@
 //! The pages of a bucket, and the moves of a cursor's stack along them.
-ghost use Rattle.std.specs.Prelude.{◌≡◌, ◌∷◌, [], ◌<◌, ◌≤◌, ◌+◌, ◌-◌, ◌*◌, false, length};
+ghost use Rattle.std.specs.Prelude.{◌≡◌, [], ◌<◌, ◌≤◌, ◌+◌, ◌-◌, ◌*◌, false, length};
 ghost use Rattle.bolt_format.specs.{TreePages.branches_on};
 ghost use Rattle.bolt_tree.specs.Private.BucketValues.{HasBucketValue};
-ghost use Rattle.bolt_tree.specs.{Pagers.pager_checked, Private.BucketPages.elements_in, Private.BucketPages.pages_in, Private.BucketPages.root_content};
+ghost use Rattle.bolt_tree.specs.{Pagers.pager_checked, Private.BucketPages.elements_in, Private.BucketPages.root_content};
 ghost use Rattle.bolt_tree.specs.{Private.Contents.Of_branch, Private.Seeks.IsNearTop, Private.Seeks.IsSought, Private.ShownPages.opened_content};
 ghost use Rattle.bolt_tree.specs.{Private.Stacks.IsAtRest, Private.Stacks.IsLeafTop};
 
@@ -22,7 +22,7 @@ pub(crate) struct BucketPages<'a> {
 
 #[tactic(auto, using(crate::proofs::StackLemmas::retaken, crate::proofs::PagerLemmas::counted_zero, crate::proofs::TrailLemmas::stack_room))]
 impl<'a> BucketPages<'a> {
-    ghost use Rattle.bolt_tree.specs.Private.Trails.{ComesTo, HasBucket, HasOpened, HasRoom, HasTrail, IsMoved, LeadsTo, ahead, entries_left, frames_of};
+    ghost use Rattle.bolt_tree.specs.Private.Trails.{ComesTo, HasBucket, HasOpened, HasRoom, HasTrail, IsMoved, LeadsTo, OpensBetween, ahead, entries_left, frames_of};
     ghost use Rattle.bolt_tree.specs.Private.Trails.{pages_bucket, pages_left, trail_on, trail_with};
 
     /// Opens the root page of the bucket, or its inline page.
@@ -52,9 +52,7 @@ impl<'a> BucketPages<'a> {
         ensures found { ComesTo back result (entries_left back (trail_on self.old stack.old.items)) (trail_on self.new stack.new.items) [] }
         ensures bucket { HasBucketValue result }
         ensures less { length (pages_left back (trail_on self.new stack.new.items)) ≤ length (pages_left back (trail_on self.old stack.old.items)) }
-        ensures opened { HasOpened
-            (length (pages_left back (trail_on self.old stack.old.items)) - length (pages_left back (trail_on self.new stack.new.items)))
-            self.old.pager self.new.pager }
+        ensures opened { OpensBetween back (trail_on self.old stack.old.items) (trail_on self.new stack.new.items) }
     {
         while let Some(top) = stack.pop() {
             let Some(i) = top.beside(back) else {

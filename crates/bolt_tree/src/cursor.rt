@@ -1,13 +1,13 @@
 //! A cursor over the entries of a bucket.
-ghost use Rattle.std.specs.Prelude.{◌≡◌, ◌≢◌, ◌-◌, [], MatchOption, false, length};
+ghost use Rattle.std.specs.Prelude.{◌≡◌, ◌≢◌, [], MatchOption, false};
 ghost use Rattle.std.specs.Option.{option_map};
 ghost use Rattle.bolt_format.specs.ElementPlaces.{leaf_view};
 ghost use Rattle.bolt_tree.specs.{Entries.entry_view, Private.BucketValues.HasBucketValue};
 ghost use Rattle.bolt_tree.specs.{Private.Kept.IsKept, Private.Kept.kept_view, Private.Resting.IsResting};
 ghost use Rattle.bolt_tree.specs.Pagers.{pager_checked, pager_opened};
 ghost use Rattle.bolt_tree.specs.Places.{Fresh, Past, next_move, prev_move, seek_to, to_first, to_last};
-ghost use Rattle.bolt_tree.specs.Private.{BucketPages.elements_in, BucketPages.pages_in};
-ghost use Rattle.bolt_tree.specs.Private.Trails.{ComesTo, Goes, HasOpened, IsMoved, frames_of, pages_bucket, pages_left, trail_on};
+ghost use Rattle.bolt_tree.specs.Private.BucketPages.{elements_in};
+ghost use Rattle.bolt_tree.specs.Private.Trails.{ComesTo, Goes, IsMoved, OpensInto, frames_of, pages_bucket, trail_on};
 ghost use Rattle.bolt_tree.specs.{ShownEntries.shown_entry, Starts.HasStart, Starts.start_at};
 
 use crate::at::At;
@@ -232,8 +232,7 @@ impl<'a> Cursor<'a> {
         ensures moved { IsMoved (cursor_trail self.old) (cursor_trail self.new) }
         ensures found { ComesTo back result (elements_in (pages_bucket self.old.pages)) (cursor_trail self.new) [] }
         ensures bucket { HasBucketValue result }
-        ensures opened { HasOpened (length (pages_in (pages_bucket self.old.pages)) - length (pages_left back (cursor_trail self.new)))
-            self.old.pages.pager self.new.pages.pager }
+        ensures opened { OpensInto back (cursor_trail self.old) (cursor_trail self.new) }
         ensures past { MatchOption result (self.new.is_past ≡ self.old.is_past) (λ leaf. self.new.is_past ≡ false) }
         ensures compared { self.new.compared ≡ self.old.compared }
     {

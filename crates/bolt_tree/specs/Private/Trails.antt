@@ -4,7 +4,7 @@ use Rattle.std.specs.Prelude.{drop, length, map, reverse, slice_get}
 use Rattle.std.specs.Option.{option_map}
 use Rattle.bolt_format.specs.{ElementPlaces.leaf_view, Elements.BranchElement, Elements.IsBucketValue, Elements.LeafElement, declared.element.Leaf.Leaf}
 use Rattle.bolt_check.specs.{Counts.counted, Keys.Key}
-use Rattle.bolt_tree.specs.{BucketViews.BucketView, BucketViews.bucket_in, Private.BucketPages.IsSoundBucket, Private.BucketPages.contents_in}
+use Rattle.bolt_tree.specs.{BucketViews.BucketView, BucketViews.bucket_in, Private.BucketPages.IsSoundBucket, Private.BucketPages.contents_in, Private.BucketPages.pages_in}
 use Rattle.bolt_tree.specs.{Pagers.pager_checked, Pagers.pager_opened, Private.ShownPages.opened_content}
 use Rattle.bolt_tree.specs.Private.{Contents.Content, Contents.Contents, Entered.opened_to, Entered.taken_at}
 use Rattle.bolt_tree.specs.Private.Stacks.{Frame, HasStack, IsAtRest, IsOn, ahead_of, before_of, preceding_of, later_of}
@@ -79,6 +79,13 @@ entries_left back trail = entries_to back (contents_in (trail_bucket trail)) (tr
 
 abbrev pub pages_left : Bool → Trail → List TourPage
 pages_left back trail = pages_to back (contents_in (trail_bucket trail)) (trail_frames trail)
+
+-- a move in a direction has opened the pages that lie there no more; the first one goes into the bucket, which then lies there as a whole
+abbrev pub OpensBetween : Bool → (old new : Trail) → Type 0
+OpensBetween back old new = HasOpened (length (pages_left back old) - length (pages_left back new)) old.pages.pager new.pages.pager
+
+abbrev pub OpensInto : Bool → (old new : Trail) → Type 0
+OpensInto back old new = HasOpened (length (pages_in (trail_bucket old)) - length (pages_left back new)) old.pages.pager new.pages.pager
 
 abbrev pub ahead : Trail → List LeafElement
 ahead = entries_left false
