@@ -402,7 +402,7 @@ lost_ending (everything x) = Err (failure.Lost 1)
 lost_ending (parts []) = Ok 0
 lost_ending (parts (loss ∷ losses)) = Err (failure.Lost (length (loss ∷ losses)))
 
--- a part of the listing, and then what is lost; or a prefix of it, if memory ran out; or why it isn't read
+-- a part of the listing, and then what is lost; or memory ran out, which may be after the last line; or why it isn't read
 abbrev pub IsListedAnswer : Extent → List ℕ → MetaChoice → ListForm → (path from : Path) → Answer → Type 0
 IsListedAnswer extent file choice form path from answer =
     ((meta : Meta) × (listing : List Member) × (lost : LostView) × (found : List FoundView) × IsReadTo extent file choice meta listing lost found

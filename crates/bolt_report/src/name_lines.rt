@@ -37,8 +37,8 @@ pub struct NamesIn<'q> {
 /// # Errors
 ///
 /// `Sink` if the sink failed; `NoMemory` if memory ran out for the members or for a text in the form
-/// `Json`, and the sink had not failed. The sink has then accepted a prefix of the text. There is no
-/// other error.
+/// `Json`, and the sink had not failed. The sink has then accepted a prefix of the text: if memory ran
+/// out, maybe all of it, since all members are taken. There is no other error.
 pub fn list_members_names<'a, M: Members<'a>, S: Sink>(
     alloc: Global,
     members: &mut M,

@@ -22,7 +22,8 @@ use std::alloc::Global;
 /// # Errors
 ///
 /// `Sink` if the sink failed; `NoMemory` if memory ran out for the walk, and the sink had not
-/// failed. The sink has then accepted a prefix of the text. There is no other error.
+/// failed. The sink has then accepted a prefix of the text: if memory ran out, maybe all of it, since
+/// the walk goes on after the last line. There is no other error.
 pub fn list<S: Sink>(
     alloc: Global,
     checked: Checked<'_>,
@@ -46,8 +47,8 @@ pub fn list<S: Sink>(
 /// # Errors
 ///
 /// `Sink` if the sink failed; `NoMemory` if memory ran out for the walk or for a line in the form
-/// `Json`, and the sink had not failed. The sink has then accepted a prefix of the text. There is no
-/// other error.
+/// `Json`, and the sink had not failed. The sink has then accepted a prefix of the text: if memory ran
+/// out, maybe all of it, since the walk goes on after the last line. There is no other error.
 pub fn list_part<S: Sink>(
     alloc: Global,
     checked: Checked<'_>,
