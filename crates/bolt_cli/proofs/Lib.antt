@@ -1,5 +1,6 @@
 pub mod BufferedJobs
 pub mod BufferedLines
+pub mod MetasAlone
 pub mod Ordering
 pub mod Sentences
 pub mod Telling

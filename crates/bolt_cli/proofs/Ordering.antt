@@ -1,7 +1,7 @@
 -- Each run does its deeds in order.
 use Rattle.std.proofs.Common.{◌≡◌, ◌≢◌, inl, inr, arith, ℕ, zero, suc, List, [], ◌∷◌, Bool, true, false, Option, Some, None, Ok, Err, refl, rules}
-use Rattle.bolt_cli.proofs.Vocabulary.{Choose, Closed, Closes, Deed, Ended, Ending, Ends, Fails, FailsNaming, Ghosts, Goes, IsReported, Job, Made, Opened, PrintsBuffered, PrintsText, Read, Reads, Refusal, Refuses, Said, Shows, Text, WritesOut, is_again, string_bytes, target_name}
-use Rattle.bolt_cli.specs.Orders.{ForEachRun}
+use Rattle.bolt_cli.proofs.Vocabulary.{Choose, Closed, Closes, Deed, DoesAsked, Dropped, Ended, Ending, Ends, Fails, FailsNaming, Ghosts, Goes, IsReported, Job, Made, Opened, PrintsBuffered, PrintsText, Read, ReadFirst, ReadOn, Reads, ReadsMetas, ReadsRest, Refusal, Refuses, Said, Shows, Text, WritesOut, needs_metas_alone, string_bytes, target_name}
+use Rattle.bolt_cli.specs.{Orders.ForEachRun, Sources.is_changed}
 use Rattle.bolt_cli.proofs.Sentences.{IsOrdered, MakesOfRead}
 use Rattle.bolt_job.specs.declared.refusal.Refusal.TheVariants as refusal
 use Rattle.bolt_cli.specs.{declared.outside.OutputFault.TheVariants.ReaderLeft, declared.outside.OutputFault.TheVariants.Failed, declared.outside.Source.Source}
@@ -49,6 +49,14 @@ module _ {T O : Type 0} where
   reader_left before output [] code none some = search rules
   reader_left before output (deed ∷ deeds) code none some = absurd (cc)
 
+  dropped : (before output : O) (deeds : List (Deed T O)) (code : ℕ) → IsSaid deeds code → Prints (Opened (Ok before) ∷ Dropped output Failed ∷ deeds) code
+  dropped before output (Said text ∷ []) code some = search rules
+  dropped before output deeds code is = absurd is
+
+  dropped_left : (before output : O) (deeds : List (Deed T O)) (code : ℕ) → deeds ≡ [] → code ≢ 0 → Prints (Opened (Ok before) ∷ Dropped output ReaderLeft ∷ deeds) code
+  dropped_left before output [] code none some = search rules
+  dropped_left before output (deed ∷ deeds) code none some = absurd (cc)
+
   reported : (before output : O) (done : Unit {0}) (ending : Ending) (deeds : List (Deed T O)) (code : ℕ) → IsReported ending deeds code
       → Prints (Opened (Ok before) ∷ Closed output (Ok done) ∷ deeds) code
   reported before output done (Ok status) [] code is = search rules
@@ -64,14 +72,29 @@ module _ {T O : Type 0} where
   unmade name permissions fault (Said text ∷ []) code some = search rules
   unmade name permissions fault deeds code is = absurd is
 
-  unread : (name : List ℕ) (metas_alone : Bool) (fault : _) (deeds : List (Deed T O)) (code : ℕ) → IsSaid deeds code
-      → IsOrdered (Read name metas_alone (Err fault) ∷ deeds) code × MakesOfRead (Read name metas_alone (Err fault) ∷ deeds)
-  unread name metas_alone fault (Said text ∷ []) code some = search rules
-  unread name metas_alone fault deeds code is = absurd is
+  unread : (name : List ℕ) (fault : _) (deeds : List (Deed T O)) (code : ℕ) → IsSaid deeds code
+      → IsOrdered (Read name (Err fault) ∷ deeds) code × MakesOfRead (Read name (Err fault) ∷ deeds)
+  unread name fault (Said text ∷ []) code some = search rules
+  unread name fault deeds code is = absurd is
 
-  read : (name : List ℕ) (metas_alone : Bool) (source : Source) (deeds : List (Deed T O)) (code : ℕ) → IsOrdered deeds code
-      → IsOrdered (Read name metas_alone (Ok source) ∷ deeds) code
-  read name metas_alone source deeds code is = search rules
+  unopened_file : (name : List ℕ) (limit : ℕ) (fault : _) (deeds : List (Deed T O)) (code : ℕ) → IsSaid deeds code
+      → IsOrdered (ReadFirst name limit (Err fault) ∷ deeds) code × MakesOfRead (ReadFirst name limit (Err fault) ∷ deeds)
+  unopened_file name limit fault (Said text ∷ []) code some = search rules
+  unopened_file name limit fault deeds code is = absurd is
+
+  unread_rest : (first : List ℕ) (limit : ℕ) (fault : _) (deeds : List (Deed T O)) (code : ℕ) → IsSaid deeds code → IsOrdered (ReadOn first limit (Err fault) ∷ deeds) code
+  unread_rest first limit fault (Said text ∷ []) code some = search rules
+  unread_rest first limit fault deeds code is = absurd is
+
+  read : (name : List ℕ) (source : Source) (deeds : List (Deed T O)) (code : ℕ) → IsOrdered deeds code → IsOrdered (Read name (Ok source) ∷ deeds) code
+  read name source deeds code is = search rules
+
+  read_first : (name : List ℕ) (limit : ℕ) (first : List ℕ) (deeds : List (Deed T O)) (code : ℕ) → IsOrdered deeds code
+      → IsOrdered (ReadFirst name limit (Ok first) ∷ deeds) code
+  read_first name limit first deeds code is = search rules
+
+  read_on : (first : List ℕ) (limit : ℕ) (bytes : List ℕ) (deeds : List (Deed T O)) (code : ℕ) → IsOrdered deeds code → IsOrdered (ReadOn first limit (Ok bytes) ∷ deeds) code
+  read_on first limit bytes deeds code is = search rules
 
 -- ---- from the last stage of a run to the first
 
@@ -82,19 +105,31 @@ Choose-either false first second chosen = second chosen
 module _ {T O : Type 0} (output_taken : O → Option (List ℕ)) (output_failed : O → ℕ) where
   closes : (before after : O) (ending : Ending) (deeds : List (Deed T O)) (code : ℕ) → Closes output_taken output_failed after ending deeds code → Prints (Opened (Ok before) ∷ deeds) code
   closes before after ending (Closed output (Ok done) ∷ deeds) code are = reported before output done ending deeds code are.2
-  closes before after ending (Closed output (Err ReaderLeft) ∷ deeds) code (is, (none, failed)) = reader_left before output deeds code none (not_0 code failed)
-  closes before after ending (Closed output (Err Failed) ∷ deeds) code are = unprinted before output deeds code (Fails-said _ deeds code are.1)
+  closes before after ending (Closed output (Err ReaderLeft) ∷ deeds) code (is, sound, (none, failed)) = reader_left before output deeds code none (not_0 code failed)
+  closes before after ending (Closed output (Err Failed) ∷ deeds) code (is, sound, fails) = unprinted before output deeds code (Fails-said _ deeds code fails)
+  closes before after ending (Dropped output ReaderLeft ∷ deeds) code (is, less, (none, failed)) = dropped_left before output deeds code none (not_0 code failed)
+  closes before after ending (Dropped output Failed ∷ deeds) code (is, less, fails) = dropped before output deeds code (Fails-said _ deeds code fails)
   closes before after ending deeds code are = absurd are
 
   prints : (text : List ℕ) (ending : Ending) (deeds : List (Deed T O)) (code : ℕ) → PrintsText output_taken output_failed text ending deeds code → Prints deeds code
-  prints text ending (Opened (Ok before) ∷ deeds) code (empty, after, takes, is) = closes before after ending deeds code is
+  prints text ending (Opened (Ok before) ∷ deeds) code (fresh, after, takes, is) = closes before after ending deeds code is
   prints text ending (Opened (Err fault) ∷ deeds) code are = unopened fault deeds code (Fails-said _ deeds code are)
   prints text ending deeds code are = absurd are
 
   shows : (file : List ℕ) (job : Job) (deeds : List (Deed T O)) (code : ℕ) → Shows output_taken output_failed file job deeds code → Prints deeds code
-  shows file job (Opened (Ok before) ∷ deeds) code (empty, after, ending, does, is) = closes before after ending deeds code is
+  shows file job (Opened (Ok before) ∷ deeds) code (fresh, after, ending, does, is) = closes before after ending deeds code is
   shows file job (Opened (Err fault) ∷ deeds) code are = unopened fault deeds code (Fails-said _ deeds code are)
   shows file job deeds code are = absurd are
+
+  reads_rest : (job : Job) (first : List ℕ) (deeds : List (Deed T O)) (code : ℕ) → ReadsRest output_taken output_failed job first deeds code → IsOrdered deeds code
+  reads_rest job first (ReadOn begun limit (Ok bytes) ∷ deeds) code (is, end, are) = read_on begun limit bytes deeds code (shows bytes job deeds code are).0.0
+  reads_rest job first (ReadOn begun limit (Err fault) ∷ deeds) code (is, end, fails) = unread_rest begun limit fault deeds code (FailsNaming-said _ deeds code fails)
+  reads_rest job first deeds code are = absurd are
+
+  reads_metas : (job : Job) (deeds : List (Deed T O)) (code : ℕ) → ReadsMetas output_taken output_failed job deeds code → IsOrdered deeds code × MakesOfRead deeds
+  reads_metas job (ReadFirst name limit (Ok first) ∷ deeds) code (is, at_most, are) = (read_first name limit first deeds code (reads_rest job first deeds code are), (refl, tt))
+  reads_metas job (ReadFirst name limit (Err fault) ∷ deeds) code (is, at_most, fails) = unopened_file name limit fault deeds code (FailsNaming-said _ deeds code fails)
+  reads_metas job deeds code are = absurd are
 
   prints_buffered : (failures : ℕ) (text : List ℕ) (ending : Ending) (deeds : List (Deed T O)) (code : ℕ)
       → PrintsBuffered output_taken output_failed failures text ending deeds code → Prints deeds code
@@ -112,7 +147,7 @@ module _ {T O : Type 0} (target_taken : T → Option (List ℕ)) (target_failed 
 
   goes : (out : Option Text) (source : Source) (job : Job) (deeds : List (Deed T O)) (code : ℕ)
       → Goes target_taken target_failed output_taken output_failed out source job deeds code → IsOrdered deeds code
-  goes (Some out) source job (Made name permissions (Ok target) ∷ deeds) code (is, bits, empty, are) = writes name permissions target source.bytes.items job deeds code are
+  goes (Some out) source job (Made name permissions (Ok target) ∷ deeds) code (is, bits, fresh, are) = writes name permissions target source.bytes.items job deeds code are
   goes (Some out) source job (Made name permissions (Err fault) ∷ deeds) code (is, bits, fails) = unmade name permissions fault deeds code (FailsNaming-said _ deeds code fails)
   goes (Some out) source job deeds code are = absurd are
   goes None source job deeds code are = (shows output_taken output_failed source.bytes.items job deeds code are).0.0
@@ -120,11 +155,14 @@ module _ {T O : Type 0} (target_taken : T → Option (List ℕ)) (target_failed 
   reads : (left : ℕ) (job : Job) (deeds : List (Deed T O)) (code : ℕ)
       → Reads target_taken target_failed output_taken output_failed left job deeds code → IsOrdered deeds code × MakesOfRead deeds
   reads zero job deeds code fails = (said deeds code (Fails-said _ deeds code fails)).0
-  reads (suc left) job (Read name metas_alone (Ok source) ∷ deeds) code (is, alone, are) =
-      let later = Choose-either (is_again job source) (λ again. (reads left job deeds code again).0) (goes (target_name job) source job deeds code) are in
-      (read name metas_alone source deeds code later, (refl, tt))
-  reads (suc left) job (Read name metas_alone (Err fault) ∷ deeds) code (is, alone, fails) = unread name metas_alone fault deeds code (FailsNaming-said _ deeds code fails)
+  reads (suc left) job (Read name (Ok source) ∷ deeds) code (is, are) =
+      let later = Choose-either (is_changed source) (λ again. (reads left job deeds code again).0) (goes (target_name job) source job deeds code) are in
+      (read name source deeds code later, (refl, tt))
+  reads (suc left) job (Read name (Err fault) ∷ deeds) code (is, fails) = unread name fault deeds code (FailsNaming-said _ deeds code fails)
   reads (suc left) job deeds code are = absurd are
+
+  does_asked : (job : Job) (deeds : List (Deed T O)) (code : ℕ) → DoesAsked target_taken target_failed output_taken output_failed job deeds code → IsOrdered deeds code × MakesOfRead deeds
+  does_asked job deeds code are = Choose-either (needs_metas_alone job) (reads_metas output_taken output_failed job deeds code) (reads 3 job deeds code) are
 
   refuses : (why : Refusal) (deeds : List (Deed T O)) (code : ℕ) → Refuses target_taken target_failed output_taken output_failed why deeds code → Prints deeds code
   refuses refusal.Memory deeds code fails = said deeds code (Fails-said _ deeds code fails)
@@ -134,5 +172,5 @@ module _ {T O : Type 0} (target_taken : T → Option (List ℕ)) (target_failed 
   refuses (refusal.Word why) deeds code (is, refused) = said deeds code (Ends-said _ deeds code is (λ none. omega (arith, refused, none)))
 
 pub run_ordered : {T O : Type 0} (target : Ghosts T) (output : Ghosts O) → ForEachRun target output (λ deeds code. IsOrdered deeds code × MakesOfRead deeds)
-run_ordered target output words deeds code (inl (job, asks, are)) = reads target.taken target.failed output.taken output.failed 3 job deeds code are
+run_ordered target output words deeds code (inl (job, asks, are)) = does_asked target.taken target.failed output.taken output.failed job deeds code are
 run_ordered target output words deeds code (inr (why, is, are)) = (refuses target.taken target.failed output.taken output.failed why deeds code are).0

@@ -1,7 +1,7 @@
 -- The sentences of specs/Orders hold of deeds of which this can be computed.
-use Rattle.std.proofs.Common.{◌≡◌, ℕ, List, [], ◌∷◌, ◌++◌, Bool, true, false, refl, subst, not, ◌||◌}
+use Rattle.std.proofs.Common.{◌≡◌, ℕ, List, [], ◌∷◌, ◌++◌, Bool, true, false, refl, subst, not, ◌&&◌, ◌||◌}
 use Rattle.bolt_cli.proofs.Vocabulary.{Choose, Deed}
-use Rattle.bolt_cli.specs.Orders.{AfterEach, BeforeEach, HasNone, MakesOnce, OpensOnce, SucceedsOnlyWithoutFailures, has_failed, has_no_reader, is_made, is_opened, is_read, is_said, was_ended, was_made, was_read}
+use Rattle.bolt_cli.specs.Orders.{AfterEach, BeforeEach, HasNone, HasOne, MakesOnce, OpensOnce, SucceedsOnlyWithoutFailures, has_failed, has_no_reader, is_closed, is_ended, is_made, is_opened, is_read, is_said, was_ended, was_made, was_opened, was_read}
 use Rattle.std.specs.Prelude.{IsTrue}
 use Rattle.std.specs.List.{list_any}
 
@@ -38,10 +38,13 @@ module _ {D : Type 0} where
 pub record IsOrdered {T O : Type 0} (deeds : List (Deed T O)) (code : ℕ) : Type 0 where
   pub reads_first : After (λ deed. not (was_read deed)) (HasNone is_read) deeds
   pub makes_once : MakesOnce deeds
+  pub ends_what_is_made : After was_made (HasOne is_ended) deeds
   pub opens_once : OpensOnce deeds
+  pub closes_what_is_opened : After was_opened (HasOne is_closed) deeds
   pub copies_before_opening : After was_made (Before is_opened was_ended) deeds
   pub says_last : After is_said (λ after. after ≡ []) deeds
   pub stops_after_failures : After has_failed (HasNone (λ deed. not (is_said deed))) deeds
+  pub says_failures : After (λ deed. has_failed deed && not (has_no_reader deed)) (HasOne is_said) deeds
   pub stops_without_reader : After has_no_reader (λ after. after ≡ []) deeds
   pub succeeds : SucceedsOnlyWithoutFailures deeds code
 

@@ -1,7 +1,11 @@
 -- One deed after another.
-use Rattle.std.proofs.Common.{List, [], ◌∷◌, ◌++◌, subst, append_assoc}
+use Rattle.std.proofs.Common.{List, [], ◌∷◌, ◌++◌, subst, sym, append_assoc, append-nil}
 use Rattle.bolt_cli.proofs.Vocabulary.{Adds}
 use Rattle.bolt_cli.specs.Deeds.{DoesDeeds}
+
+-- no deed
+pub DoesDeeds-none : {D : Type 0} {Before : List D → Type 0} {Are : List D → Type 0} → Are [] → DoesDeeds Before Before Are
+DoesDeeds-none {D} {Before} are = record { deeds = []; added = λ earlier before. subst Before (sym (append-nil earlier)) before; are = are }
 
 -- one deed alone
 pub DoesDeeds-one : {D : Type 0} {Before After : List D → Type 0} (deed : D) {Are : List D → Type 0}

@@ -1,12 +1,16 @@
 -- What the program does to what lies outside of it: the files and the streams.
-use Rattle.std.specs.Prelude.{ℕ, List, [], ◌∷◌, ◌++◌, Bool, Result}
+use Rattle.std.specs.Prelude.{ℕ, List, [], ◌∷◌, ◌++◌, Result}
 use Rattle.bolt_cli.specs.{declared.outside.Source.Source, declared.outside.ReadFault.ReadFault, declared.outside.CreateFault.CreateFault}
 use Rattle.bolt_cli.specs.{declared.outside.EndFault.EndFault, declared.outside.OpenFault.OpenFault, declared.outside.OutputFault.OutputFault}
 
 -- A deed is what is asked for, and the answer. OUT is a T, and standard output an O, each in its state at that time.
 pub data Deed (T O : Type 0) : Type 0 where
-  -- FILE is read, whole or its metas alone
-  Read : (name : List ℕ) (metas_alone : Bool) → Result Source ReadFault → Deed T O
+  -- the whole of FILE is read
+  Read : (name : List ℕ) → Result Source ReadFault → Deed T O
+  -- at most so many bytes of FILE are read, from its start on
+  ReadFirst : (name : List ℕ) (limit : ℕ) → Result (List ℕ) ReadFault → Deed T O
+  -- at most so many more are read after those; the answer has both
+  ReadOn : (first : List ℕ) (limit : ℕ) → Result (List ℕ) ReadFault → Deed T O
   -- OUT is made with these permission bits, and lent
   Made : (name : List ℕ) (permissions : ℕ) → Result T CreateFault → Deed T O
   -- OUT comes back, and is ended
@@ -15,6 +19,8 @@ pub data Deed (T O : Type 0) : Type 0 where
   Opened : Result O OpenFault → Deed T O
   -- it comes back, and what is gathered is printed
   Closed : O → Result (Unit {0}) OutputFault → Deed T O
+  -- it comes back after a failure, and what is gathered isn't printed
+  Dropped : O → OutputFault → Deed T O
   -- a text goes to standard error
   Said : (text : List ℕ) → Deed T O
 

@@ -1,7 +1,7 @@
 -- The order of the deeds of a run, whatever its words and its job are: a definition for each sentence.
-use Rattle.std.specs.Prelude.{◌≡◌, ◌≤◌, ℕ, List, [], ◌∷◌, ◌++◌, Bool, true, false, IsTrue, not, Ok, Err, length}
+use Rattle.std.specs.Prelude.{◌≡◌, ◌≤◌, ℕ, List, [], ◌∷◌, ◌++◌, Bool, true, false, IsTrue, not, ◌&&◌, Ok, Err, length}
 use Rattle.std.specs.List.{filter, list_any}
-use Rattle.bolt_cli.specs.Deeds.{Deed, Read, Made, Ended, Opened, Closed, Said}
+use Rattle.bolt_cli.specs.Deeds.{Deed, Read, ReadFirst, ReadOn, Made, Ended, Opened, Closed, Dropped, Said}
 use Rattle.bolt_cli.specs.Runs.{IsRun}
 use Rattle.bolt_cli.specs.declared.outside.OutputFault.TheVariants.{ReaderLeft}
 use Rattle.bolt_format.specs.declared.sink.Sink.{Ghosts}
@@ -11,7 +11,9 @@ use Rattle.bolt_job.specs.LineWords.{Text}
 
 module _ {T O : Type 0} where
   abbrev pub is_read : Deed T O → Bool
-  is_read (Read name metas_alone result) = true
+  is_read (Read name result) = true
+  is_read (ReadFirst name limit result) = true
+  is_read (ReadOn first limit result) = true
   is_read deed = false
 
   abbrev pub is_made : Deed T O → Bool
@@ -26,9 +28,20 @@ module _ {T O : Type 0} where
   is_said (Said text) = true
   is_said deed = false
 
+  abbrev pub is_ended : Deed T O → Bool
+  is_ended (Ended target result) = true
+  is_ended deed = false
+
+  abbrev pub is_closed : Deed T O → Bool
+  is_closed (Closed output result) = true
+  is_closed (Dropped output fault) = true
+  is_closed deed = false
+
   -- FILE was read
   abbrev pub was_read : Deed T O → Bool
-  was_read (Read name metas_alone (Ok source)) = true
+  was_read (Read name (Ok source)) = true
+  was_read (ReadFirst name limit (Ok first)) = true
+  was_read (ReadOn first limit (Ok bytes)) = true
   was_read deed = false
 
   -- there is an OUT now
@@ -41,17 +54,26 @@ module _ {T O : Type 0} where
   was_ended (Ended target (Ok done)) = true
   was_ended deed = false
 
+  -- there is a standard output now
+  abbrev pub was_opened : Deed T O → Bool
+  was_opened (Opened (Ok output)) = true
+  was_opened deed = false
+
   -- the reader of standard output has left
   abbrev pub has_no_reader : Deed T O → Bool
   has_no_reader (Closed output (Err ReaderLeft)) = true
+  has_no_reader (Dropped output ReaderLeft) = true
   has_no_reader deed = false
 
   abbrev pub has_failed : Deed T O → Bool
-  has_failed (Read name metas_alone (Err fault)) = true
+  has_failed (Read name (Err fault)) = true
+  has_failed (ReadFirst name limit (Err fault)) = true
+  has_failed (ReadOn first limit (Err fault)) = true
   has_failed (Made name permissions (Err fault)) = true
   has_failed (Ended target (Err fault)) = true
   has_failed (Opened (Err fault)) = true
   has_failed (Closed output (Err fault)) = true
+  has_failed (Dropped output fault) = true
   has_failed deed = false
 
 -- ---- where deeds of a kind are in a list
@@ -62,6 +84,9 @@ module _ {D : Type 0} where
 
   abbrev pub HasAtMostOne : (is_kind : D → Bool) → List D → Type 0
   HasAtMostOne is_kind deeds = length (filter is_kind deeds) ≤ 1
+
+  abbrev pub HasOne : (is_kind : D → Bool) → List D → Type 0
+  HasOne is_kind deeds = length (filter is_kind deeds) ≡ 1
 
   -- after each deed of the kind, those that follow are so
   abbrev pub AfterEach : (is_kind : D → Bool) → (List D → Type 0) → List D → Type 0
@@ -87,9 +112,17 @@ module _ {T O : Type 0} where
   abbrev pub MakesOnce : List (Deed T O) → Type 0
   MakesOnce = HasAtMostOne is_made
 
+  -- An OUT that is made is ended, once.
+  abbrev pub EndsWhatIsMade : List (Deed T O) → Type 0
+  EndsWhatIsMade = AfterEach was_made (HasOne is_ended)
+
   -- Standard output is opened at most once.
   abbrev pub OpensOnce : List (Deed T O) → Type 0
   OpensOnce = HasAtMostOne is_opened
+
+  -- If it is opened, it is closed or dropped, once.
+  abbrev pub ClosesWhatIsOpened : List (Deed T O) → Type 0
+  ClosesWhatIsOpened = AfterEach was_opened (HasOne is_closed)
 
   -- If there is an OUT, it is on the disk before standard output is opened.
   abbrev pub CopiesBeforeOpening : List (Deed T O) → Type 0
@@ -102,6 +135,10 @@ module _ {T O : Type 0} where
   -- After something failed, nothing is done but to say so.
   abbrev pub StopsAfterFailures : List (Deed T O) → Type 0
   StopsAfterFailures = AfterEach has_failed (HasNone (λ deed. not (is_said deed)))
+
+  -- A failure is said, unless it is that the reader has left.
+  abbrev pub SaysFailures : List (Deed T O) → Type 0
+  SaysFailures = AfterEach (λ deed. has_failed deed && not (has_no_reader deed)) (HasOne is_said)
 
   -- After a reader has left, nothing is done or said.
   abbrev pub StopsWithoutReader : List (Deed T O) → Type 0

@@ -1,10 +1,10 @@
 -- Which deeds the program does, in which order, and its status after them: docs/COMMANDS.md, "What a run writes".
-use Rattle.std.specs.Prelude.{◌≡◌, ◌⊎◌, ℕ, zero, suc, List, [], ◌∷◌, ◌++◌, Bool, true, false, Option, Some, None, Result, Ok, Err, codes, string_bytes, if◌then◌else◌}
+use Rattle.std.specs.Prelude.{◌≡◌, ◌<◌, ◌+◌, ◌⊎◌, ℕ, zero, suc, List, [], ◌∷◌, ◌++◌, Bool, true, false, Option, Some, None, Result, Ok, Err, codes, string_bytes}
 use Rattle.std.specs.Io.KnownBytes.{Appends, IsAtEnd}
-use Rattle.bolt_format.specs.Sinks.{AppendsPrefix}
+use Rattle.bolt_format.specs.{Metas.IsMetasEnd, Sinks.AppendsPrefix}
 use Rattle.bolt_commands.specs.Answers.{DoesJob, Ending, status_of}
 use Rattle.bolt_job.specs.CommandLine.{Asks, IsRefusalOf}
-use Rattle.bolt_cli.specs.Deeds.{Deed, Read, Made, Ended, Opened, Closed, Said}
+use Rattle.bolt_cli.specs.Deeds.{Deed, Read, ReadFirst, ReadOn, Made, Ended, Opened, Closed, Dropped, Said}
 use Rattle.bolt_cli.specs.Names.{shown_name}
 use Rattle.bolt_commands.specs.Failures.{failure_line}
 use Rattle.bolt_job.specs.LineWords.{Text}
@@ -68,13 +68,13 @@ buffered_text buffered = Some buffered.text
 abbrev pub buffered_failures : Buffered → ℕ
 buffered_failures buffered = buffered.failures
 
--- FILE is read again if it was changed; its metas are taken as they are
-abbrev pub is_again : Job → Source → Bool
-is_again job source = if needs_metas_alone job then false else is_changed source
-
 abbrev pub Choose : Bool → Type 0 → Type 0 → Type 0
 Choose true A B = A
 Choose false A B = B
+
+-- a sink that took nothing yet, and hasn't failed
+abbrev pub IsFresh : {S : Type 0} → (taken : S → Option (List ℕ)) (failed : S → ℕ) → S → Type 0
+IsFresh taken failed sink = IsAtEnd (taken sink) × (failed sink ≡ 0)
 
 -- ---- the deeds and the status, from the last stage to the first
 
@@ -120,19 +120,20 @@ module _ {T O : Type 0} (output_taken : O → Option (List ℕ)) (output_failed 
   -- standard output comes back in this state
   abbrev pub Closes : O → Ending → List (Deed T O) → ℕ → Type 0
   Closes after ending (Closed output (Ok done) ∷ deeds) code = (output ≡ after) × (output_failed output ≡ 0) × IsReported ending deeds code
-  Closes after ending (Closed output (Err fault) ∷ deeds) code = (output ≡ after) × IsUnprinted fault deeds code
+  Closes after ending (Closed output (Err fault) ∷ deeds) code = (output ≡ after) × (output_failed output ≡ 0) × IsUnprinted fault deeds code
+  Closes after ending (Dropped output fault ∷ deeds) code = (output ≡ after) × (0 < output_failed output) × IsUnprinted fault deeds code
   Closes after ending deeds code = ⊥
 
   -- standard output is opened, takes the text, and is closed
   abbrev pub PrintsText : List ℕ → Ending → List (Deed T O) → ℕ → Type 0
-  PrintsText text ending (Opened (Ok before) ∷ deeds) code = IsAtEnd (output_taken before) × (after : O) × Takes output_taken output_failed text before after × Closes after ending deeds code
+  PrintsText text ending (Opened (Ok before) ∷ deeds) code = IsFresh output_taken output_failed before × (after : O) × Takes output_taken output_failed text before after × Closes after ending deeds code
   PrintsText text ending (Opened (Err fault) ∷ deeds) code = Fails (failure_line Memory) deeds code
   PrintsText text ending deeds code = ⊥
 
   -- standard output is opened, the job is done on it, and it is closed
   abbrev pub Shows : List ℕ → Job → List (Deed T O) → ℕ → Type 0
   Shows file job (Opened (Ok before) ∷ deeds) code =
-      IsAtEnd (output_taken before) × (after : O) × (ending : Ending) × ShowsJob output_taken output_failed before after file job ending × Closes after ending deeds code
+      IsFresh output_taken output_failed before × (after : O) × (ending : Ending) × ShowsJob output_taken output_failed before after file job ending × Closes after ending deeds code
   Shows file job (Opened (Err fault) ∷ deeds) code = Fails (failure_line Memory) deeds code
   Shows file job deeds code = ⊥
 
@@ -145,6 +146,20 @@ module _ {T O : Type 0} (output_taken : O → Option (List ℕ)) (output_failed 
   IsEnded (Ok done) buffered ending deeds code = PrintsBuffered buffered.failures buffered.text ending deeds code
   IsEnded (Err fault) buffered ending deeds code = FailsUnended ending deeds code
 
+  -- of FILE, the bytes that its metas need are read, which its first 80 tell; they are taken as they are, changed or not
+  abbrev pub ReadsRest : Job → List ℕ → List (Deed T O) → ℕ → Type 0
+  ReadsRest job first (ReadOn begun limit (Ok bytes) ∷ deeds) code =
+      (begun ≡ first) × IsMetasEnd first (80 + limit) × Shows bytes job deeds code
+  ReadsRest job first (ReadOn begun limit (Err fault) ∷ deeds) code =
+      (begun ≡ first) × IsMetasEnd first (80 + limit) × FailsNaming (unread_line (file_name job) fault) deeds code
+  ReadsRest job first deeds code = ⊥
+
+  abbrev pub ReadsMetas : Job → List (Deed T O) → ℕ → Type 0
+  ReadsMetas job (ReadFirst name limit (Ok first) ∷ deeds) code = (name ≡ file_name job) × (limit ≡ 80) × ReadsRest job first deeds code
+  ReadsMetas job (ReadFirst name limit (Err fault) ∷ deeds) code =
+      (name ≡ file_name job) × (limit ≡ 80) × FailsNaming (unread_line (file_name job) fault) deeds code
+  ReadsMetas job deeds code = ⊥
+
 module _ {T O : Type 0} (target_taken : T → Option (List ℕ)) (target_failed : T → ℕ) (output_taken : O → Option (List ℕ)) (output_failed : O → ℕ) where
   -- the job is done on OUT, while what it prints is buffered, and then OUT is ended
   abbrev pub WritesOut : T → List ℕ → Job → List (Deed T O) → ℕ → Type 0
@@ -155,7 +170,7 @@ module _ {T O : Type 0} (target_taken : T → Option (List ℕ)) (target_failed 
   -- OUT is made, with FILE's permission bits, and the job is done on it
   abbrev pub Makes : Text → Source → Job → List (Deed T O) → ℕ → Type 0
   Makes out source job (Made name permissions (Ok target) ∷ deeds) code =
-      (name ≡ out) × (permissions ≡ source.permissions) × IsAtEnd (target_taken target) × WritesOut target source.bytes.items job deeds code
+      (name ≡ out) × (permissions ≡ source.permissions) × IsFresh target_taken target_failed target × WritesOut target source.bytes.items job deeds code
   Makes out source job (Made name permissions (Err fault) ∷ deeds) code =
       (name ≡ out) × (permissions ≡ source.permissions) × FailsNaming (unmade_line out fault) deeds code
   Makes out source job deeds code = ⊥
@@ -168,12 +183,14 @@ module _ {T O : Type 0} (target_taken : T → Option (List ℕ)) (target_failed 
   -- FILE is read, at most so many times: again if it was changed meanwhile
   abbrev pub Reads : (left : ℕ) → Job → List (Deed T O) → ℕ → Type 0
   Reads zero job deeds code = Fails (error_line (codes "file changed while it was read")) deeds code
-  Reads (suc left) job (Read name metas_alone (Ok source) ∷ deeds) code =
-      (name ≡ file_name job) × (metas_alone ≡ needs_metas_alone job)
-      × Choose (is_again job source) (Reads left job deeds code) (Goes (target_name job) source job deeds code)
-  Reads (suc left) job (Read name metas_alone (Err fault) ∷ deeds) code =
-      (name ≡ file_name job) × (metas_alone ≡ needs_metas_alone job) × FailsNaming (unread_line (file_name job) fault) deeds code
+  Reads (suc left) job (Read name (Ok source) ∷ deeds) code =
+      (name ≡ file_name job) × Choose (is_changed source) (Reads left job deeds code) (Goes (target_name job) source job deeds code)
+  Reads (suc left) job (Read name (Err fault) ∷ deeds) code = (name ≡ file_name job) × FailsNaming (unread_line (file_name job) fault) deeds code
   Reads (suc left) job deeds code = ⊥
+
+  -- as much of FILE is read as the job needs, and it is done
+  abbrev pub DoesAsked : Job → List (Deed T O) → ℕ → Type 0
+  DoesAsked job deeds code = Choose (needs_metas_alone job) (ReadsMetas output_taken output_failed job deeds code) (Reads 3 job deeds code)
 
   -- words are refused: nothing is read or made
   abbrev pub Refuses : Refusal → List (Deed T O) → ℕ → Type 0
@@ -186,5 +203,5 @@ module _ {T O : Type 0} (target_taken : T → Option (List ℕ)) (target_failed 
   -- the words ask for a job, which is done on FILE, or they are refused
   abbrev pub IsRun : List Text → List (Deed T O) → ℕ → Type 0
   IsRun words deeds code =
-      ((job : Job) × Asks words job × Reads 3 job deeds code)
+      ((job : Job) × Asks words job × DoesAsked job deeds code)
       ⊎ ((refusal : Refusal) × IsRefusalOf words refusal × Refuses refusal deeds code)

@@ -1,15 +1,19 @@
 //! What lies outside of the program: the files and the streams, and what they answer.
-ghost use Rattle.std.specs.Prelude.{◌≡◌, List, [], ◌∷◌, OnOk, IfOk, map};
+ghost use Rattle.std.specs.Prelude.{◌≡◌, List, [], ◌∷◌, IfOk, map};
 ghost use Rattle.std.specs.Io.KnownBytes.{IsAtEnd};
-ghost use Rattle.bolt_cli.specs.Deeds.{Deed, Read, Made, Ended, Opened, Closed, Said, Adds, joined};
+ghost use Rattle.std.specs.Result.{result_map_both};
+ghost use Rattle.bolt_cli.specs.Deeds.{Deed, Read, ReadFirst, ReadOn, Made, Ended, Opened, Closed, Dropped, Said, Adds, joined};
 
 use bolt_format::Sink;
 
 /// The files and the streams. Each method is one deed.
 ///
-/// OUT and standard output are lent by value, and can't be dropped: who has one can only give it back
-/// to the method that ends it.
+/// FILE while it is open, OUT and standard output are lent by value, and can't be dropped: who has one
+/// can only give it back to a method that ends it.
 pub trait Outside {
+    /// FILE while it is open.
+    type File;
+
     /// What a copy is written to.
     type Target: Sink;
 
@@ -19,16 +23,34 @@ pub trait Outside {
     /// Whether these may be the deeds so far, in order.
     ghost done: { Self → List (Deed Self.Target Self.Output) → Type 0 };
 
-    /// Reads FILE from its start: whole, or its first bytes up to the end of its metas, which the
-    /// first 80 tell (`bolt_format::metas_end`).
-    fn read(&mut self, name: &str, metas_alone: bool) -> Result<Source, ReadFault>
-        ensures { Adds (done self.old) (done self.new) (Read name.now metas_alone result ∷ []) };
+    /// Reads the whole of FILE.
+    fn read(&mut self, name: &str) -> Result<Source, ReadFault>
+        ensures { Adds (done self.old) (done self.new) (Read name.now result ∷ []) };
+
+    /// Opens FILE, and reads its first bytes, at most `limit`: fewer only if FILE has no more.
+    fn read_first(&mut self, name: &str, limit: u64) -> Result<(Vec<u8>, Self::File), ReadFault>
+        ensures { Adds (done self.old) (done self.new)
+            (ReadFirst name.now limit
+            (result_map_both (λ opened. opened.0.items) (λ fault. fault) result) ∷ []) };
+
+    /// Reads the bytes of FILE that follow the first ones, at most `limit`: fewer only if FILE has no
+    /// more. Returns them after the first ones, and closes FILE.
+    fn read_on(
+        &mut self,
+        file: Self::File,
+        first: Vec<u8>,
+        limit: u64,
+    ) -> Result<Vec<u8>, ReadFault>
+        ensures { Adds (done self.old) (done self.new)
+            (ReadOn first.items limit
+            (result_map_both (λ bytes. bytes.items) (λ fault. fault) result) ∷ []) };
 
     /// Makes OUT with these permission bits, unless there is a file of that name.
     fn create(&mut self, name: &str, permissions: u32) -> Result<Self::Target, CreateFault>
         ensures done { Adds (done self.old) (done self.new)
             (Made name.now permissions result ∷ []) }
-        ensures empty { IfOk result (λ target. IsAtEnd (Self.Target.taken target)) };
+        ensures empty { IfOk result (λ target. IsAtEnd (Self.Target.taken target)) }
+        ensures sound { IfOk result (λ target. Self.Target.failed target ≡ 0) };
 
     /// Ends OUT. `Ok` means that all that it has accepted is on the disk.
     fn end(&mut self, target: Self::Target) -> Result<(), EndFault>
@@ -37,12 +59,17 @@ pub trait Outside {
     /// Opens standard output. Nothing is printed before.
     fn open(&mut self) -> Result<Self::Output, OpenFault>
         ensures done { Adds (done self.old) (done self.new) (Opened result ∷ []) }
-        ensures empty { IfOk result (λ output. IsAtEnd (Self.Output.taken output)) };
+        ensures empty { IfOk result (λ output. IsAtEnd (Self.Output.taken output)) }
+        ensures sound { IfOk result (λ output. Self.Output.failed output ≡ 0) };
 
-    /// Prints what standard output has gathered. `Ok` means that all that it has accepted is printed.
+    /// Prints what standard output has gathered. `Ok` means that all of it is printed.
     fn close(&mut self, output: Self::Output) -> Result<(), OutputFault>
-        ensures done { Adds (done self.old) (done self.new) (Closed output result ∷ []) }
-        ensures sound { OnOk result (Self.Output.failed output ≡ 0) };
+        ensures { Adds (done self.old) (done self.new) (Closed output result ∷ []) };
+
+    /// Drops standard output after a failure: what it has gathered isn't printed. Returns why it
+    /// failed.
+    fn drop_output(&mut self, output: Self::Output) -> OutputFault
+        ensures { Adds (done self.old) (done self.new) (Dropped output result ∷ []) };
 
     /// Prints a text to standard error, as far as it can.
     fn say(&mut self, pieces: &[&[u8]])
@@ -53,7 +80,7 @@ pub trait Outside {
 /// FILE as it was read.
 #[derive(Drop)]
 pub struct Source {
-    /// The bytes of FILE, or its first ones.
+    /// The bytes of FILE.
     pub bytes: Vec<u8>,
     /// The permission bits of FILE.
     pub permissions: u32,

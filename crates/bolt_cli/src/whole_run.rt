@@ -2,18 +2,18 @@
 ghost use Rattle.std.specs.Prelude.{◌≡◌, ◌<◌, ◌++◌, ℕ, List, None, Some, codes, map, string_bytes};
 ghost use Rattle.bolt_commands.specs.{Answers.Ending, Failures.failure_line};
 ghost use Rattle.bolt_cli.specs.{Deeds.Deed, Deeds.joined, Orders.ForDeeds, Orders.ForEachRun};
-ghost use Rattle.bolt_cli.specs.Orders.{CopiesBeforeOpening, MakesAfterReading, MakesOnce, OpensOnce, ReadsFirst, SaysLast, StopsAfterFailures, StopsWithoutReader, SucceedsOnlyWithoutFailures};
+ghost use Rattle.bolt_cli.specs.Orders.{ClosesWhatIsOpened, CopiesBeforeOpening, EndsWhatIsMade, MakesAfterReading, MakesOnce, OpensOnce, ReadsFirst, SaysFailures, SaysLast, StopsAfterFailures, StopsWithoutReader, SucceedsOnlyWithoutFailures};
 ghost use Rattle.bolt_job.specs.Jobs.{target_name};
 ghost use Rattle.bolt_cli.specs.Names.{shown_name};
-ghost use Rattle.bolt_cli.specs.Runs.{Closes, WritesOut, Fails, FailsNaming, Goes, IsEnded, IsBufferedLine, IsRun, Makes, PrintsText, Reads, Refuses, Shows, ForBuffered, FailsUnended};
-ghost use Rattle.bolt_cli.specs.Runs.{buffered_of, is_again, unmade_line, unread_line};
+ghost use Rattle.bolt_cli.specs.Runs.{Closes, DoesAsked, WritesOut, Fails, FailsNaming, Goes, IsEnded, IsBufferedLine, IsRun, IsUnprinted, Makes, PrintsText, Reads, ReadsMetas, ReadsRest, Refuses, Shows, ForBuffered, FailsUnended};
+ghost use Rattle.bolt_cli.specs.Runs.{buffered_of, unmade_line, unread_line};
 ghost use Rattle.bolt_commands.specs.declared.failure.Failure.TheVariants.{Memory};
 ghost use Rattle.bolt_cli.specs.Deeds.{Does};
 
 use crate::names::shown_name;
 use crate::outside::{CreateFault, EndFault, OutputFault, Outside, ReadFault, Source};
 use bolt_commands::run;
-use bolt_format::{MemSink, Sink};
+use bolt_format::{META_LEN, MemSink, Sink, metas_end};
 use bolt_job::{Job, Refusal, read_words};
 use std::alloc::Global;
 
@@ -36,7 +36,7 @@ pub fn run_program<O: Outside>(outside: &mut O, alloc: Global, words: Vec<String
         (map string_bytes words.items)) }
 {
     match read_words(alloc, words) {
-        Ok(job) => read_file(outside, alloc, &job, READINGS),
+        Ok(job) => do_asked(outside, alloc, &job),
         Err(refusal) => refuse(outside, &refusal),
     }
 }
@@ -60,6 +60,50 @@ pub fn refuse<O: Outside>(outside: &mut O, refusal: &Refusal) -> u8
     }
 }
 
+/// Reads as much of FILE as the job needs, and does it.
+fn do_asked<O: Outside>(outside: &mut O, alloc: Global, job: &Job) -> u8
+    ensures { Does O.done outside.old outside.new result
+        (DoesAsked O.Target.taken O.Target.failed O.Output.taken O.Output.failed job.now) }
+{
+    if job.needs_metas_alone() {
+        read_metas(outside, alloc, job)
+    } else {
+        read_file(outside, alloc, job, READINGS)
+    }
+}
+
+/// Reads the bytes of FILE that its metas need, and does the job on them. Metas have checksums, so
+/// they are taken as they are, also if FILE is changed meanwhile.
+fn read_metas<O: Outside>(outside: &mut O, alloc: Global, job: &Job) -> u8
+    requires { target_name job.now ≡ None }
+    ensures { Does O.done outside.old outside.new result
+        (ReadsMetas O.Output.taken O.Output.failed job.now) }
+{
+    match outside.read_first(job.file(), META_LEN as u64) {
+        Ok((first, file)) => read_rest(outside, alloc, job, file, first),
+        Err(fault) => report_unread(outside, alloc, fault, job.file()),
+    }
+}
+
+/// Reads on to the end of the metas, which the first bytes tell.
+fn read_rest<O: Outside>(
+    outside: &mut O,
+    alloc: Global,
+    job: &Job,
+    file: O::File,
+    first: Vec<u8>,
+) -> u8
+    requires { target_name job.now ≡ None }
+    ensures { Does O.done outside.old outside.new result
+        (ReadsRest O.Output.taken O.Output.failed job.now first.items) }
+{
+    let limit = metas_end(first.as_slice()) - META_LEN as u64;
+    match outside.read_on(file, first, limit) {
+        Ok(bytes) => show(outside, alloc, job, bytes.as_slice()),
+        Err(fault) => report_unread(outside, alloc, fault, job.file()),
+    }
+}
+
 /// Reads FILE, at most so many times: again if it was changed meanwhile, so that what is judged is one
 /// state of it. Then does the job.
 fn read_file<O: Outside>(outside: &mut O, alloc: Global, job: &Job, left: u32) -> u8
@@ -69,9 +113,9 @@ fn read_file<O: Outside>(outside: &mut O, alloc: Global, job: &Job, left: u32) -
     if left == 0 {
         return fail(outside, &[b"error: file changed while it was read\n"]);
     }
-    match outside.read(job.file(), job.needs_metas_alone()) {
+    match outside.read(job.file()) {
         Ok(source) => {
-            if is_again(job, &source) {
+            if source.is_changed() {
                 // So that there are never two readings in memory.
                 drop(source);
                 return read_file(outside, alloc, job, left - 1);
@@ -90,13 +134,6 @@ fn report_unread<O: Outside>(outside: &mut O, alloc: Global, fault: ReadFault, n
         ReadFault::Refused => fail_naming(outside, alloc, b"error: cannot read ", name),
         ReadFault::Memory => fail(outside, &[NO_MEMORY]),
     }
-}
-
-/// Whether FILE is to be read again. Metas have checksums, so they are taken as they are.
-fn is_again(job: &Job, source: &Source) -> bool
-    ensures { result ≡ is_again job.now source.now }
-{
-    !job.needs_metas_alone() && source.is_changed()
 }
 
 /// Does a job on what was read.
@@ -239,18 +276,32 @@ fn print<O: Outside>(outside: &mut O, text: &[u8], line: &[u8], code: u8) -> u8
     }
 }
 
-/// Closes standard output. Then prints the line of a failure, if it isn't empty. If the reader of
-/// standard output has left, nothing is printed: it wanted no more.
+/// Closes standard output, or drops it if it has failed. Then prints the line of a failure, if it isn't
+/// empty.
 fn close<O: Outside>(outside: &mut O, output: O::Output, line: &[u8], code: u8) -> u8
     ensures { ForBuffered line.now code (λ ending.
         Does O.done outside.old outside.new result
         (Closes O.Output.taken O.Output.failed output ending)) }
 {
+    if output.failures() > 0 {
+        let fault = outside.drop_output(output);
+        return report_unprinted(outside, fault);
+    }
     match outside.close(output) {
         Ok(()) if line.is_empty() => code,
         Ok(()) => fail(outside, &[line]),
-        Err(OutputFault::ReaderLeft) => FAILED,
-        Err(OutputFault::Failed) => fail(outside, &[UNWRITTEN]),
+        Err(fault) => report_unprinted(outside, fault),
+    }
+}
+
+/// Reports that not everything was printed, unless the reader of standard output has left: it wanted no
+/// more.
+fn report_unprinted<O: Outside>(outside: &mut O, fault: OutputFault) -> u8
+    ensures { Does O.done outside.old outside.new result (IsUnprinted fault) }
+{
+    match fault {
+        OutputFault::ReaderLeft => FAILED,
+        OutputFault::Failed => fail(outside, &[UNWRITTEN]),
     }
 }
 
@@ -279,10 +330,13 @@ pub fn runs_are_in_order<O: Outside>()
     ensures reads_first { ForDeeds O.Target.Sink O.Output.Sink ReadsFirst }
     ensures makes_after_reading { ForDeeds O.Target.Sink O.Output.Sink MakesAfterReading }
     ensures makes_once { ForDeeds O.Target.Sink O.Output.Sink MakesOnce }
+    ensures ends_what_is_made { ForDeeds O.Target.Sink O.Output.Sink EndsWhatIsMade }
     ensures opens_once { ForDeeds O.Target.Sink O.Output.Sink OpensOnce }
+    ensures closes_what_is_opened { ForDeeds O.Target.Sink O.Output.Sink ClosesWhatIsOpened }
     ensures copies_before_opening { ForDeeds O.Target.Sink O.Output.Sink CopiesBeforeOpening }
     ensures says_last { ForDeeds O.Target.Sink O.Output.Sink SaysLast }
     ensures stops_after_failures { ForDeeds O.Target.Sink O.Output.Sink StopsAfterFailures }
+    ensures says_failures { ForDeeds O.Target.Sink O.Output.Sink SaysFailures }
     ensures stops_without_reader { ForDeeds O.Target.Sink O.Output.Sink StopsWithoutReader }
     ensures succeeds { ForEachRun O.Target.Sink O.Output.Sink SucceedsOnlyWithoutFailures }
 {}

@@ -447,8 +447,8 @@ IsRecoveredValue job listing lost answer =
     ((value : List ℕ) × Contains listing (path, Value value) × IsShownAndEnded job.form (value_shown job.form job.no_newline value) (lost_ending lost) answer)
     ⊎ (((value : List ℕ) → Contains listing (path, Value value) → ⊥) × (answer ≡ refused (no_value path listing lost)))
 
--- From its state `old` to `new` standard output accepted the text of the answer without a failure, and the job ends so; or it failed,
--- accepted a prefix, and the job ends with that.
+-- From its state `old` to `new` standard output accepted the text of the answer without a failure, and the job ends so; or it has failed
+-- by then, accepted a prefix, and the job ends with that.
 abbrev pub Does : {S : Type 0} → (taken : S → Option (List ℕ)) (failed : S → ℕ) (old new : S) → Answer → Ending → Type 0
 Does taken failed old new answer ending =
     (Appends (taken old) (taken new) answer.out × (failed new ≡ failed old) × (ending ≡ answer.ending))
@@ -717,7 +717,7 @@ abbrev pub status_of : Ending → ℕ
 status_of (Ok status) = status
 status_of (Err failure) = 1
 
--- a sink accepted a text without a failure, or it failed and accepted a prefix of it
+-- a sink accepted a text without a failure, or it has failed by then and accepted a prefix of it
 abbrev pub Accepts : {S : Type 0} → (taken : S → Option (List ℕ)) (failed : S → ℕ) (old new : S) → List ℕ → Type 0
 Accepts taken failed old new text =
     (Appends (taken old) (taken new) text × (failed new ≡ failed old))

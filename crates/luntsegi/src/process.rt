@@ -2,7 +2,7 @@
 ghost use Rattle.std.specs.Prelude.{⊤};
 
 use bolt_cli::{CreateFault, EndFault, OpenFault, OutputFault, Outside, ReadFault, Source, Stamp};
-use bolt_format::{META_LEN, Sink, WriteSink, metas_end};
+use bolt_format::WriteSink;
 use std::fs::{File, Metadata, OpenOptions};
 use std::io::{self, BufWriter, Read, Stdout, Write};
 use std::os::unix::fs::{MetadataExt, OpenOptionsExt};
@@ -21,18 +21,14 @@ pub struct Process<'a> {
 }
 
 impl Process<'_> {
-    fn read_source(&self, name: &str, metas_alone: bool) -> io::Result<Source> {
+    fn read_source(&self, name: &str) -> io::Result<Source> {
         let mut file = File::open(self.rt, name)?;
         let before = file.metadata()?;
         let mut bytes = Vec::new(self.rt.alloc());
-        if metas_alone {
-            read_metas(&mut file, &mut bytes)?;
-        } else {
-            if before.is_file() {
-                bytes.reserve_exact(room_for(before.len()))?;
-            }
-            file.read_to_end(&mut bytes)?;
+        if before.is_file() {
+            bytes.reserve_exact(room_for(before.len()))?;
         }
+        file.read_to_end(&mut bytes)?;
         Ok(Source {
             bytes,
             permissions: before.mode() & PERMISSIONS,
@@ -40,6 +36,13 @@ impl Process<'_> {
             before: stamp_of(&before),
             after: stamp_of(&file.metadata()?),
         })
+    }
+
+    fn open_first(&self, name: &str, limit: u64) -> io::Result<(Vec<u8>, File)> {
+        let mut file = File::open(self.rt, name)?;
+        let mut bytes = Vec::new(self.rt.alloc());
+        read_limited(&mut file, &mut bytes, limit)?;
+        Ok((bytes, file))
     }
 }
 
@@ -50,13 +53,17 @@ fn room_for(length: u64) -> usize {
         .saturating_add(1)
 }
 
-/// Reads the first bytes of a file, up to the end of its metas.
-fn read_metas(file: &mut File, bytes: &mut Vec<u8>) -> io::Result<()> {
-    let mut first = file.take(META_LEN as u64);
-    first.read_to_end(bytes)?;
-    first.set_limit(metas_end(bytes.as_slice()).saturating_sub(META_LEN as u64));
-    first.read_to_end(bytes)?;
+/// Reads the bytes that come next, at most `limit`, and appends them.
+fn read_limited(file: &mut File, bytes: &mut Vec<u8>, limit: u64) -> io::Result<()> {
+    file.take(limit).read_to_end(bytes)?;
     Ok(())
+}
+
+fn read_fault(error: &io::Error) -> ReadFault {
+    match error.kind() {
+        io::ErrorKind::OutOfMemory => ReadFault::Memory,
+        _ => ReadFault::Refused,
+    }
 }
 
 fn stamp_of(metadata: &Metadata) -> Stamp {
@@ -72,6 +79,17 @@ fn stamp_of(metadata: &Metadata) -> Stamp {
 pub struct Printer {
     stdout: Stdout,
     reader_left: bool,
+}
+
+impl Printer {
+    /// Why it failed.
+    fn fault(&self) -> OutputFault {
+        if self.reader_left {
+            OutputFault::ReaderLeft
+        } else {
+            OutputFault::Failed
+        }
+    }
 }
 
 impl Write for Printer {
@@ -91,17 +109,32 @@ impl Write for Printer {
 }
 
 impl Outside for Process<'_> {
+    type File = File;
+
     type Target = WriteSink<BufWriter<File>>;
 
     type Output = WriteSink<BufWriter<Printer>>;
 
     ghost done = { λ _ _. ⊤ };
 
-    fn read(&mut self, name: &str, metas_alone: bool) -> Result<Source, ReadFault> {
-        match self.read_source(name, metas_alone) {
-            Ok(source) => Ok(source),
-            Err(error) if error.kind() == io::ErrorKind::OutOfMemory => Err(ReadFault::Memory),
-            Err(_) => Err(ReadFault::Refused),
+    fn read(&mut self, name: &str) -> Result<Source, ReadFault> {
+        self.read_source(name).map_err(|error| read_fault(&error))
+    }
+
+    fn read_first(&mut self, name: &str, limit: u64) -> Result<(Vec<u8>, File), ReadFault> {
+        self.open_first(name, limit)
+            .map_err(|error| read_fault(&error))
+    }
+
+    fn read_on(
+        &mut self,
+        mut file: File,
+        mut first: Vec<u8>,
+        limit: u64,
+    ) -> Result<Vec<u8>, ReadFault> {
+        match read_limited(&mut file, &mut first, limit) {
+            Ok(()) => Ok(first),
+            Err(error) => Err(read_fault(&error)),
         }
     }
 
@@ -151,18 +184,16 @@ impl Outside for Process<'_> {
     }
 
     fn close(&mut self, output: WriteSink<BufWriter<Printer>>) -> Result<(), OutputFault> {
-        let has_failed = output.failures() > 0;
         let mut gathered = output.into_inner();
-        let is_printed = !has_failed && gathered.flush().is_ok();
-        // Dropping it would write what is still gathered.
+        let printed = gathered.flush();
+        // Without this, what could not be written would be tried again.
         let (printer, _unwritten) = gathered.into_parts();
-        if is_printed {
-            Ok(())
-        } else if printer.reader_left {
-            Err(OutputFault::ReaderLeft)
-        } else {
-            Err(OutputFault::Failed)
-        }
+        printed.map_err(|_| printer.fault())
+    }
+
+    fn drop_output(&mut self, output: WriteSink<BufWriter<Printer>>) -> OutputFault {
+        let (printer, _unwritten) = output.into_inner().into_parts();
+        printer.fault()
     }
 
     fn say(&mut self, pieces: &[&[u8]]) {

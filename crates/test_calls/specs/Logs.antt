@@ -21,14 +21,17 @@ abbrev bytes_in : Option (List ℕ) → List ℕ
 bytes_in (Some bytes) = bytes
 bytes_in None = []
 
-abbrev pub read_kind : (metas_alone changes : Bool) → Kind
-read_kind true changes = kind.ReadMetas
-read_kind false true = kind.ReadChanged
-read_kind false false = kind.Read
+abbrev pub read_kind : (changes : Bool) → Kind
+read_kind true = kind.ReadChanged
+read_kind false = kind.Read
 
 abbrev pub look : {S : Type 0} → (taken : S → Option (List ℕ)) → Deed S S → Look
-look taken (deeds.Read name metas_alone (Ok source)) = look_of (read_kind metas_alone (is_changed source)) name source.bytes.items source.permissions
-look taken (deeds.Read name metas_alone (Err fault)) = look_of kind.Unread name [] 0
+look taken (deeds.Read name (Ok source)) = look_of (read_kind (is_changed source)) name source.bytes.items source.permissions
+look taken (deeds.Read name (Err fault)) = look_of kind.Unread name [] 0
+look taken (deeds.ReadFirst name limit (Ok first)) = look_of kind.ReadFirst name first 0
+look taken (deeds.ReadFirst name limit (Err fault)) = look_of kind.Unread name [] 0
+look taken (deeds.ReadOn first limit (Ok bytes)) = look_of kind.ReadOn [] bytes 0
+look taken (deeds.ReadOn first limit (Err fault)) = look_of kind.NotReadOn [] [] 0
 look taken (deeds.Made name permissions (Ok target)) = look_of kind.Made name [] permissions
 look taken (deeds.Made name permissions (Err fault)) = look_of kind.Unmade name [] permissions
 look taken (deeds.Ended target (Ok done)) = look_of kind.Ended [] (bytes_in (taken target)) 0
@@ -38,6 +41,8 @@ look taken (deeds.Opened (Err fault)) = look_of kind.Unopened [] [] 0
 look taken (deeds.Closed output (Ok done)) = look_of kind.Printed [] (bytes_in (taken output)) 0
 look taken (deeds.Closed output (Err ReaderLeft)) = look_of kind.Left [] (bytes_in (taken output)) 0
 look taken (deeds.Closed output (Err Failed)) = look_of kind.Unprinted [] (bytes_in (taken output)) 0
+look taken (deeds.Dropped output ReaderLeft) = look_of kind.Left [] (bytes_in (taken output)) 0
+look taken (deeds.Dropped output Failed) = look_of kind.Unprinted [] (bytes_in (taken output)) 0
 look taken (deeds.Said text) = look_of kind.Said [] text 0
 
 abbrev pub look_at : Record → Look

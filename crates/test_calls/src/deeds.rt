@@ -63,9 +63,11 @@ fn put_deed(record: &Record, text: &mut Text) {
 fn word_of(kind: Kind) -> &'static str {
     match kind {
         Kind::Read => "read",
-        Kind::ReadMetas => "read-metas",
         Kind::ReadChanged => "read-changed",
+        Kind::ReadFirst => "read-first",
+        Kind::ReadOn => "read-on",
         Kind::Unread => "not-read",
+        Kind::NotReadOn => "not-read-on",
         Kind::Made => "made",
         Kind::Unmade => "not-made",
         Kind::Ended => "ended",

@@ -11,10 +11,12 @@ use std::alloc::{AllocError, Global};
 #[derive(Clone, Copy, PartialEq, Eq)]
 pub enum Kind {
     Read,
-    ReadMetas,
     /// FILE was changed while it was read.
     ReadChanged,
+    ReadFirst,
+    ReadOn,
     Unread,
+    NotReadOn,
     Made,
     Unmade,
     Ended,

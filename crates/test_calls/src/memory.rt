@@ -70,20 +70,23 @@ const PERMISSIONS: u32 = 0o640;
 impl Outside for Memory<'_> {
     ghost use Rattle.test_calls.specs.Logs.{Holds};
 
+    /// How many of its bytes were read.
+    type File = usize;
+
     type Target = MemSink;
 
     type Output = MemSink;
 
     ghost done = { λ s. Holds ⟦<MemSink as Sink>⟧.taken s.log };
 
-    fn read(&mut self, name: &str, metas_alone: bool) -> Result<Source, ReadFault> {
+    fn read(&mut self, name: &str) -> Result<Source, ReadFault> {
         let turn = self.next_turn();
         let text = name.as_bytes();
         match self.file.to_vec(self.alloc) {
             Ok(bytes) if turn != Turn::Bad => {
                 let changes = turn == Turn::Other;
-                let kind = read_kind(metas_alone, changes);
-                self.log.note(kind, text, bytes.as_slice(), PERMISSIONS);
+                self.log
+                    .note(read_kind(changes), text, bytes.as_slice(), PERMISSIONS);
                 Ok(source_of(bytes, changes))
             }
             _ => {
@@ -91,6 +94,33 @@ impl Outside for Memory<'_> {
                 Err(ReadFault::Refused)
             }
         }
+    }
+
+    fn read_first(&mut self, name: &str, limit: u64) -> Result<(Vec<u8>, usize), ReadFault> {
+        let turn = self.next_turn();
+        let text = name.as_bytes();
+        let first = first_of(self.file, limit);
+        match first.to_vec(self.alloc) {
+            Ok(bytes) if turn == Turn::Good => {
+                self.log.note(Kind::ReadFirst, text, first, 0);
+                Ok((bytes, first.len()))
+            }
+            _ => {
+                self.log.note(Kind::Unread, text, &[], 0);
+                Err(ReadFault::Refused)
+            }
+        }
+    }
+
+    fn read_on(&mut self, file: usize, first: Vec<u8>, limit: u64) -> Result<Vec<u8>, ReadFault> {
+        let mut bytes = first;
+        let rest = first_of(&self.file[file..], limit);
+        if self.next_turn() == Turn::Good && bytes.extend_from_slice(rest).is_ok() {
+            self.log.note(Kind::ReadOn, &[], bytes.as_slice(), 0);
+            return Ok(bytes);
+        }
+        self.log.note(Kind::NotReadOn, &[], &[], 0);
+        Err(ReadFault::Refused)
     }
 
     fn create(&mut self, name: &str, permissions: u32) -> Result<MemSink, CreateFault> {
@@ -127,7 +157,7 @@ impl Outside for Memory<'_> {
 
     fn close(&mut self, output: MemSink) -> Result<(), OutputFault> {
         match self.next_turn() {
-            Turn::Good if output.failures() == 0 => {
+            Turn::Good => {
                 self.log.note(Kind::Printed, &[], output.bytes(), 0);
                 Ok(())
             }
@@ -138,6 +168,19 @@ impl Outside for Memory<'_> {
             _ => {
                 self.log.note(Kind::Unprinted, &[], output.bytes(), 0);
                 Err(OutputFault::Failed)
+            }
+        }
+    }
+
+    fn drop_output(&mut self, output: MemSink) -> OutputFault {
+        match self.next_turn() {
+            Turn::Other => {
+                self.log.note(Kind::Left, &[], output.bytes(), 0);
+                OutputFault::ReaderLeft
+            }
+            _ => {
+                self.log.note(Kind::Unprinted, &[], output.bytes(), 0);
+                OutputFault::Failed
             }
         }
     }
@@ -160,14 +203,20 @@ fn gather(alloc: Global, pieces: &[&[u8]]) -> Result<Vec<u8>, AllocError>
     Ok(text)
 }
 
-fn read_kind(metas_alone: bool, changes: bool) -> Kind
-    ensures { result ≡ read_kind metas_alone changes }
+fn read_kind(changes: bool) -> Kind
+    ensures { result ≡ read_kind changes }
 {
-    match (metas_alone, changes) {
-        (true, _) => Kind::ReadMetas,
-        (false, true) => Kind::ReadChanged,
-        (false, false) => Kind::Read,
+    if changes {
+        Kind::ReadChanged
+    } else {
+        Kind::Read
     }
+}
+
+/// The first bytes, at most `limit`.
+fn first_of(bytes: &[u8], limit: u64) -> &[u8] {
+    let count = usize::try_from(limit).unwrap_or(usize::MAX);
+    &bytes[..count.min(bytes.len())]
 }
 
 /// A regular file with these bytes, which may change while it is read.

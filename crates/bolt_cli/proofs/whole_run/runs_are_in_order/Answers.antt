@@ -12,6 +12,15 @@ returns-clause-makes_after_reading g c words deeds code is = before_each _ _ dee
 pub returns-clause-makes_once : goal.returns-clause-makes_once
 returns-clause-makes_once g c words deeds code is = (run_ordered g.O.Target.Sink g.O.Output.Sink words deeds code is).0.makes_once
 
+pub returns-clause-ends_what_is_made : goal.returns-clause-ends_what_is_made
+returns-clause-ends_what_is_made g c words deeds code is = after_each _ _ deeds (run_ordered g.O.Target.Sink g.O.Output.Sink words deeds code is).0.ends_what_is_made
+
+pub returns-clause-closes_what_is_opened : goal.returns-clause-closes_what_is_opened
+returns-clause-closes_what_is_opened g c words deeds code is = after_each _ _ deeds (run_ordered g.O.Target.Sink g.O.Output.Sink words deeds code is).0.closes_what_is_opened
+
+pub returns-clause-says_failures : goal.returns-clause-says_failures
+returns-clause-says_failures g c words deeds code is = after_each _ _ deeds (run_ordered g.O.Target.Sink g.O.Output.Sink words deeds code is).0.says_failures
+
 pub returns-clause-opens_once : goal.returns-clause-opens_once
 returns-clause-opens_once g c words deeds code is = (run_ordered g.O.Target.Sink g.O.Output.Sink words deeds code is).0.opens_once
 
