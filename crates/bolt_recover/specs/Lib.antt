@@ -18,3 +18,4 @@ pub mod Refusals
 pub mod ShownFound
 pub mod ShownLosses
 pub mod Surveys
+pub mod TheRecovered

@@ -1,1 +1,2 @@
+pub mod OneRepair
 pub mod RepairedListings
