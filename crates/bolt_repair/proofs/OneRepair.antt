@@ -1,15 +1,15 @@
 -- There is one repaired listing.
-use Rattle.std.proofs.Common.{◌≡◌, ◌∙◌, inl, inr, ℕ, Bool, true, false, List, [], ◌∷◌, refl, subst, sym, ap, ap₂}
+use Rattle.std.proofs.Common.{◌≡◌, ◌∙◌, inl, inr, ℕ, Bool, true, false, List, [], ◌∷◌, refl, subst, sym, ap}
 use Rattle.std.specs.List.{Contains}
 use Rattle.bolt_format.specs.{Elements.LeafElement, declared.meta.Meta.Meta}
 use Rattle.bolt_tree.specs.{Entries.Bucket, Entries.EntryView, Entries.Value, InBuckets.view_cmp, Listing.Member, Listing.member_cmp, Order.Rises, Paths.Path}
-use Rattle.bolt_tree.proofs.{Lists.contains_cases, Lists.contains_none, Lists.irreflexive, Lists.rises_once, PathOrder.key_total, PathOrder.path_total, Single.member_total}
+use Rattle.bolt_tree.proofs.{Lists.contains_cases, Lists.contains_none, Lists.irreflexive, Lists.rises_once, PathOrder.key_total, PathOrder.path_total}
 use Rattle.bolt_tree.specs.{Entries.Item, Paths.path_cmp}
 use Rattle.std.specs.declared.cmp.Ordering.TheVariants.{Less}
 use Rattle.bolt_recover.proofs.Existing.{one_recovered}
 use Rattle.bolt_recover.specs.{Found.AreFound, Ones.AtMostOne, Recovered.IsRecovered}
 use Rattle.bolt_etcd.specs.{Compacted.compacted_by, Revisions.value_of}
-use Rattle.bolt_repair.specs.{Repaired.IsRepair, Repaired.IsRepaired, Repaired.MakesStore, Repaired.elements_on, Repaired.repaired_listing, Repairs.AreBack, Repairs.IsCompactedAt, Repairs.compaction_path, Repairs.store_path}
+use Rattle.bolt_repair.specs.{Repaired.IsRepair, Repaired.IsRepaired, Repaired.MakesStore, Repaired.elements_on, Repaired.repaired_listing, Repairs.AreBack, Repairs.IsCompactedAt, Repairs.compaction_path}
 use Rattle.std.proofs.lemmas.Cmp.{on_total}
 use Rattle.std.specs.Cmp.{IsTotalOrder}
 

@@ -1,16 +1,16 @@
 -- A repaired listing is in the order of paths, is that of one tree, and can be stored.
-use Rattle.std.proofs.Common.{◌≡◌, ◌≢◌, ◌∙◌, inl, inr, ℕ, Bool, true, false, List, [], ◌∷◌, ◌++◌, arith, ap, codes, map, refl, subst, sym}
+use Rattle.std.proofs.Common.{◌≡◌, ◌∙◌, inl, inr, ℕ, Bool, true, false, List, [], ◌∷◌, ◌++◌, arith, ap, codes, map, refl, subst, sym}
 use Rattle.std.specs.List.{Contains}
 use Rattle.std.proofs.lemmas.List.Elements.{Contains-append_cases}
 use Rattle.bolt_format.specs.{Bytes.IsBytes, Elements.LeafElement, declared.meta.Meta.Meta, Pages.page_at}
-use Rattle.bolt_tree.specs.{Entries.Bucket, Entries.EntryView, Entries.Item, Entries.Value, InBuckets.entry_in, InBuckets.members_in, Listing.Member, Listing.member_cmp, Merges.AreApart, Merges.HasBucket, Merges.HavePlaces, Merges.merge, Order.Rises, Paths.Path, Tree.Tree, Tree.listing_of, Tree.tree_of}
+use Rattle.bolt_tree.specs.{Entries.Bucket, Entries.EntryView, Entries.Item, InBuckets.entry_in, InBuckets.members_in, Listing.Member, Listing.member_cmp, Merges.AreApart, Merges.HavePlaces, Merges.merge, Order.Rises, Paths.Path, Tree.Tree, Tree.listing_of, Tree.tree_of}
 use Rattle.bolt_tree.proofs.{InBucketLemmas.entry_of, InBucketLemmas.members_placed, InBucketLemmas.members_rise, InBucketLemmas.tree_placed, Lists.contains_cases, Lists.contains_head, Lists.contains_none, MergeLemmas.merge_bucket, MergeLemmas.merge_members, MergeLemmas.merge_places, MergeLemmas.merge_rises, PathOrder.path_exact, PlacedTrees.placed_tree}
 use Rattle.bolt_layout.specs.Storable.{IsFitListing, IsFitMember}
 use Rattle.bolt_layout.proofs.FileTrees.{good_fits, good_shown}
 use Rattle.bolt_recover.proofs.MembersInBuckets.{shows_entry}
 use Rattle.bolt_recover.specs.Sites.{leaves_of}
 use Rattle.bolt_bulk.proofs.JoinedFits.{bucket_fits, recovered_fits}
-use Rattle.bolt_repair.specs.{Repaired.IsRepair, Repaired.MakesStore, Repaired.elements_on, Repaired.repaired_listing, Repairs.AreBack, Repairs.GoesBack, Repairs.store_path}
+use Rattle.bolt_repair.specs.{Repaired.IsRepair, Repaired.MakesStore, Repaired.elements_on, Repaired.repaired_listing, Repairs.AreBack, Repairs.store_path}
 
 -- ---- the order
 

@@ -7,6 +7,7 @@ ghost use Rattle.bolt_tree.specs.Listing.{Member};
 use crate::repair::Repair;
 use bolt_check::NoMemory;
 use bolt_recover::Kept;
+use bolt_recover::laws::{found_pages_are_one, the_recovered_listing_is_recovered};
 use bolt_tree::{InBucket, Item, Members, Merged};
 use std::alloc::Global;
 
@@ -39,6 +40,8 @@ impl<'a> Repaired<'a> {
             repaired_left repaired listing ≡ listing)) }
         ensures path { IfOk result (λ repaired. repaired_path repaired ≡ []) }
     {
+        found_pages_are_one();
+        the_recovered_listing_is_recovered();
         let kept = Kept::of(alloc, repair.both)?;
         let back = InBucket::new(alloc, &[b"key"], repair.is_made, repair.back.as_slice())?;
         Ok(Repaired {
@@ -77,6 +80,8 @@ impl<'a> Members<'a> for Repaired<'a> {
     }
 
     fn restart(&mut self, alloc: Global) -> Result<(), NoMemory> {
+        found_pages_are_one();
+        the_recovered_listing_is_recovered();
         self.members.restart(alloc)
     }
 }
