@@ -4,7 +4,8 @@ use Rattle.bolt_format.specs.declared.meta.Meta.{Meta}
 use Rattle.bolt_tree.specs.{InBucketMembers.in_bucket_left, InBucketMembers.in_bucket_path, Listing.Member, Merging.merged_left, Merging.merged_path, Merging.merged_work, Paths.Path}
 use Rattle.bolt_tree.specs.declared.in_bucket.InBucket.{InBucket}
 use Rattle.bolt_recover.specs.KeptMembers.{kept_left, kept_path, kept_work}
-use Rattle.bolt_repair.specs.{Merging.both_listings, declared.repair.Repair.Repair, declared.repaired.Repaired.Repaired}
+use Rattle.bolt_bulk.specs.WholeListings.{IsWhole}
+use Rattle.bolt_repair.specs.{Merging.both_listings, Repaired.IsRepaired, declared.repair.Repair.Repair, declared.repaired.Repaired.Repaired}
 
 -- the file that is repaired, and the meta that it is read under
 abbrev pub repair_file : Repair → List ℕ
@@ -31,3 +32,9 @@ repaired_work repaired = merged_work kept_work (λ (it : InBucket). length (in_b
 -- the path of the last member that it returned
 unfoldable pub repaired_path : Repaired → Path
 repaired_path repaired = merged_path kept_path in_bucket_path repaired.members
+
+-- all members of the repaired listing
+abbrev pub IsWholeRepaired : Repaired → Type 0
+IsWholeRepaired repaired =
+    IsWhole (λ (r : Repaired) (listing : List Member). IsRepaired (repaired_file r) (repaired_meta r) listing) (λ listing. listing) (λ (r : Repaired) (listing : List Member). repaired_left r listing)
+    repaired
