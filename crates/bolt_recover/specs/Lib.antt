@@ -17,3 +17,4 @@ pub mod Refusals
 pub mod ShownFound
 pub mod ShownLosses
 pub mod Surveys
+pub mod TheRecovered

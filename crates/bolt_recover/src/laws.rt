@@ -11,7 +11,7 @@ ghost use Rattle.bolt_recover.specs.{JoinedMembers.ForJoined, JoinedMembers.join
 ghost use Rattle.bolt_recover.specs.{Losses.AreLosses, Losses.LossView, Losses.loss_of, Losses.losses_of, PageWays.ArePageWays};
 ghost use Rattle.bolt_recover.specs.{Recovered.AreInTheirBuckets, Recovered.IsRecovered, Recoveries.recovery_file};
 ghost use Rattle.bolt_recover.specs.Surveys.{IsSurvey, LosesNothing, SurveyedWay, lost, ForSurveys, ForLostWays, LosesNothingBefore, ForSurvey};
-ghost use Rattle.bolt_recover.specs.Sites.{AtSite};
+ghost use Rattle.bolt_recover.specs.{Sites.AtSite, TheRecovered.the_recovered};
 
 use crate::joined::Joined;
 use crate::recovery::Recovery;
@@ -38,6 +38,11 @@ pub fn recovered_listing_is_one()
 pub fn each_file_has_a_recovered_listing()
     ensures { (file : List ℕ) (meta : Meta) → (listing : List Member)
         × IsRecovered file meta listing }
+{}
+
+/// The recovered listing of a file can be computed.
+pub fn the_recovered_listing_is_recovered()
+    ensures { (file : List ℕ) (meta : Meta) → IsRecovered file meta (the_recovered file meta) }
 {}
 
 /// A recovered listing is what a tree of buckets lists.

@@ -1,2 +1,4 @@
+pub mod Merging
 pub mod Repaired
+pub mod RepairedMembers
 pub mod Repairs

@@ -17,20 +17,28 @@ MakesStore recovered [] false = Unit {0}
 MakesStore recovered (e ∷ back) true = (item : Item) → Contains recovered (store_path, item) → ⊥
 MakesStore recovered (e ∷ back) false = (sequence : ℕ) × Contains recovered (store_path, Bucket sequence)
 
--- the recovered listing, with what goes back in its bucket
-abbrev pub repaired_listing : List Member → Bool → List EntryView → List Member
-repaired_listing recovered is_made back = merge recovered (members_in is_made store_path back)
-
--- the repaired listing of a file under a meta
-pub record IsRepaired (file : List ℕ) (meta : Meta) (listing : List Member) : Type 0 where
+-- These entries go back into the bucket of a file under a meta, which is made for them, or is there.
+pub record IsRepair (file : List ℕ) (meta : Meta) (back : List EntryView) (is_made : Bool) : Type 0 where
   pub recovered : List Member
   pub recovers : IsRecovered file meta recovered
   pub found : List ℕ
   pub are_found : AreFound file meta found
   pub compacted : ℕ
   pub is_compacted : IsCompactedAt recovered compacted
-  pub back : List EntryView
   pub are_back : AreBack compacted recovered (elements_on file meta found) back
-  pub is_made : Bool
   pub makes : MakesStore recovered back is_made
-  pub repaired : listing ≡ repaired_listing recovered is_made back
+
+-- the recovered listing, with what goes back in its bucket
+abbrev pub repaired_listing : List Member → Bool → List EntryView → List Member
+repaired_listing recovered is_made back = merge recovered (members_in is_made store_path back)
+
+-- the repaired listing of a file under a meta
+pub record IsRepaired (file : List ℕ) (meta : Meta) (listing : List Member) : Type 0 where
+  pub back : List EntryView
+  pub is_made : Bool
+  pub repair : IsRepair file meta back is_made
+  pub repaired : listing ≡ repaired_listing repair.recovered is_made back
+
+-- What is promised of the repaired listing is promised for each; there is at most one (`laws`).
+abbrev pub ForRepaired : List ℕ → Meta → (List Member → Type 0) → Type 0
+ForRepaired file meta P = (listing : List Member) → IsRepaired file meta listing → P listing

@@ -1,9 +1,9 @@
 -- Which revisions go back into the bucket `key`: docs/RECOVERY.md, "The repaired listing". Of a recovered listing, and of the elements of all
 -- found pages.
-use Rattle.std.specs.Prelude.{◌≡◌, ◌≢◌, ◌↔◌, ◌⊎◌, ◌<◌, ◌≤◌, ℕ, false, List, [], ◌∷◌, Contains, Option, Some, None, codes}
+use Rattle.std.specs.Prelude.{◌≡◌, ◌≢◌, ◌↔◌, ◌⊎◌, ◌<◌, ◌≤◌, ℕ, false, List, [], ◌∷◌, Contains, Some, codes}
 use Rattle.std.specs.declared.cmp.Ordering.TheVariants.{Less}
 use Rattle.bolt_format.specs.Elements.{LeafElement}
-use Rattle.bolt_check.specs.Keys.{Key, key_cmp}
+use Rattle.bolt_check.specs.Keys.{key_cmp}
 use Rattle.bolt_tree.specs.{Entries.EntryView, Entries.Item, Entries.Value, Entries.entry_view, InBuckets.entry_in, InBuckets.view_cmp, Listing.Member, Order.Rises, Paths.Path}
 use Rattle.bolt_etcd.specs.{Compacted.compacted_by, Misplaced.is_misplaced, Revisions.RevisionView, Revisions.name_of, Revisions.revision_of}
 

@@ -3,3 +3,8 @@
 #![tactic(auto)]
 
 pub mod laws;
+mod repair;
+mod repaired;
+
+pub use repair::Repair;
+pub use repaired::Repaired;
