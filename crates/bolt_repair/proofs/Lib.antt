@@ -1,3 +1,0 @@
-pub mod Gives
-pub mod OneRepair
-pub mod RepairedListings

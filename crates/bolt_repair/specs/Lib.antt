@@ -1,4 +1,0 @@
-pub mod Merging
-pub mod Repaired
-pub mod RepairedMembers
-pub mod Repairs
