@@ -136,24 +136,24 @@ module _ {T O : Type 0} (output_taken : O → Option (List ℕ)) (output_failed 
   prints_buffered zero text ending deeds code are = prints text ending deeds code are
   prints_buffered (suc more) text ending deeds code are = said deeds code (Fails-said _ deeds code are)
 
-module _ {T O : Type 0} (target_taken : T → Option (List ℕ)) (target_failed : T → ℕ) (output_taken : O → Option (List ℕ)) (output_failed : O → ℕ) where
-  writes : (name : List ℕ) (permissions : ℕ) (target : T) (file : List ℕ) (job : Job) (deeds : List (Deed T O)) (code : ℕ)
-      → WritesOut target_taken target_failed output_taken output_failed target file job deeds code → IsOrdered (Made name permissions (Ok target) ∷ deeds) code
-  writes name permissions target file job (Ended after (Ok done) ∷ deeds) code (buffered, ending, does, are) =
-      (prints_buffered output_taken output_failed buffered.failures buffered.text ending deeds code are).1 name permissions target after done
-  writes name permissions target file job (Ended after (Err fault) ∷ deeds) code (buffered, ending, does, (line, is, fails)) =
-      unended name permissions target after fault deeds code (Fails-said line deeds code fails)
-  writes name permissions target file job deeds code are = absurd are
+module _ {T O : Type 0} (target : Ghosts T) (output : Ghosts O) where
+  writes : (name : List ℕ) (permissions : ℕ) (made : T) (file : List ℕ) (job : Job) (deeds : List (Deed T O)) (code : ℕ)
+      → WritesOut target output made file job deeds code → IsOrdered (Made name permissions (Ok made) ∷ deeds) code
+  writes name permissions made file job (Ended after (Ok done) ∷ deeds) code (buffered, ending, does, are) =
+      (prints_buffered output.taken output.failed buffered.failures buffered.text ending deeds code are).1 name permissions made after done
+  writes name permissions made file job (Ended after (Err fault) ∷ deeds) code (buffered, ending, does, (line, is, fails)) =
+      unended name permissions made after fault deeds code (Fails-said line deeds code fails)
+  writes name permissions made file job deeds code are = absurd are
 
   goes : (out : Option Text) (source : Source) (job : Job) (deeds : List (Deed T O)) (code : ℕ)
-      → Goes target_taken target_failed output_taken output_failed out source job deeds code → IsOrdered deeds code
-  goes (Some out) source job (Made name permissions (Ok target) ∷ deeds) code (is, bits, fresh, are) = writes name permissions target source.bytes.items job deeds code are
+      → Goes target output out source job deeds code → IsOrdered deeds code
+  goes (Some out) source job (Made name permissions (Ok made) ∷ deeds) code (is, bits, fresh, are) = writes name permissions made source.bytes.items job deeds code are
   goes (Some out) source job (Made name permissions (Err fault) ∷ deeds) code (is, bits, fails) = unmade name permissions fault deeds code (FailsNaming-said _ deeds code fails)
   goes (Some out) source job deeds code are = absurd are
-  goes None source job deeds code are = (shows output_taken output_failed source.bytes.items job deeds code are).0.0
+  goes None source job deeds code are = (shows output.taken output.failed source.bytes.items job deeds code are).0.0
 
   reads : (left : ℕ) (job : Job) (deeds : List (Deed T O)) (code : ℕ)
-      → Reads target_taken target_failed output_taken output_failed left job deeds code → IsOrdered deeds code × MakesOfRead deeds
+      → Reads target output left job deeds code → IsOrdered deeds code × MakesOfRead deeds
   reads zero job deeds code fails = (said deeds code (Fails-said _ deeds code fails)).0
   reads (suc left) job (Read name (Ok source) ∷ deeds) code (is, are) =
       let later = Choose-either (is_changed source) (λ again. (reads left job deeds code again).0) (goes (target_name job) source job deeds code) are in
@@ -161,16 +161,16 @@ module _ {T O : Type 0} (target_taken : T → Option (List ℕ)) (target_failed 
   reads (suc left) job (Read name (Err fault) ∷ deeds) code (is, fails) = unread name fault deeds code (FailsNaming-said _ deeds code fails)
   reads (suc left) job deeds code are = absurd are
 
-  does_asked : (job : Job) (deeds : List (Deed T O)) (code : ℕ) → DoesAsked target_taken target_failed output_taken output_failed job deeds code → IsOrdered deeds code × MakesOfRead deeds
-  does_asked job deeds code are = Choose-either (needs_metas_alone job) (reads_metas output_taken output_failed job deeds code) (reads 3 job deeds code) are
+  does_asked : (job : Job) (deeds : List (Deed T O)) (code : ℕ) → DoesAsked target output job deeds code → IsOrdered deeds code × MakesOfRead deeds
+  does_asked job deeds code are = Choose-either (needs_metas_alone job) (reads_metas output.taken output.failed job deeds code) (reads 3 job deeds code) are
 
-  refuses : (why : Refusal) (deeds : List (Deed T O)) (code : ℕ) → Refuses target_taken target_failed output_taken output_failed why deeds code → Prints deeds code
+  refuses : (why : Refusal) (deeds : List (Deed T O)) (code : ℕ) → Refuses target output why deeds code → Prints deeds code
   refuses refusal.Memory deeds code fails = said deeds code (Fails-said _ deeds code fails)
-  refuses (refusal.Help text) deeds code are = prints output_taken output_failed (string_bytes text) (Ok 0) deeds code are
-  refuses (refusal.Version text) deeds code are = prints output_taken output_failed (string_bytes text) (Ok 0) deeds code are
+  refuses (refusal.Help text) deeds code are = prints output.taken output.failed (string_bytes text) (Ok 0) deeds code are
+  refuses (refusal.Version text) deeds code are = prints output.taken output.failed (string_bytes text) (Ok 0) deeds code are
   refuses (refusal.Usage text) deeds code (is, refused) = said deeds code (Ends-said _ deeds code is (λ none. omega (arith, refused, none)))
   refuses (refusal.Word why) deeds code (is, refused) = said deeds code (Ends-said _ deeds code is (λ none. omega (arith, refused, none)))
 
 pub run_ordered : {T O : Type 0} (target : Ghosts T) (output : Ghosts O) → ForEachRun target output (λ deeds code. IsOrdered deeds code × MakesOfRead deeds)
-run_ordered target output words deeds code (inl (job, asks, are)) = does_asked target.taken target.failed output.taken output.failed job deeds code are
-run_ordered target output words deeds code (inr (why, is, are)) = (refuses target.taken target.failed output.taken output.failed why deeds code are).0
+run_ordered target output words deeds code (inl (job, asks, are)) = does_asked target output job deeds code are
+run_ordered target output words deeds code (inr (why, is, are)) = (refuses target output why deeds code are).0

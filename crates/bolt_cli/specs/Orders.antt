@@ -154,7 +154,7 @@ module _ {T O : Type 0} (target : Ghosts T) (output : Ghosts O) where
   -- this holds of the deeds of each run and its status
   abbrev pub ForEachRun : (List (Deed T O) → ℕ → Type 0) → Type 0
   ForEachRun Holds =
-      (words : List Text) (deeds : List (Deed T O)) (code : ℕ) → IsRun target.taken target.failed output.taken output.failed words deeds code → Holds deeds code
+      (words : List Text) (deeds : List (Deed T O)) (code : ℕ) → IsRun target output words deeds code → Holds deeds code
 
   -- this holds of the deeds of each run
   abbrev pub ForDeeds : (List (Deed T O) → Type 0) → Type 0

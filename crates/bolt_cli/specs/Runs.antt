@@ -1,10 +1,10 @@
 -- Which deeds the program does, in which order, and its status after them: docs/COMMANDS.md, "What a run writes".
 use Rattle.std.specs.Prelude.{◌≡◌, ◌<◌, ◌+◌, ◌⊎◌, ℕ, zero, suc, List, [], ◌∷◌, ◌++◌, Bool, true, false, Option, Some, None, Result, Ok, Err, codes, string_bytes}
 use Rattle.std.specs.Io.KnownBytes.{Appends, IsAtEnd}
-use Rattle.bolt_format.specs.{Metas.IsMetasEnd, Sinks.AppendsPrefix}
+use Rattle.bolt_format.specs.{Metas.IsMetasEnd, Sinks.AppendsPrefix, declared.sink.Sink.Ghosts}
 use Rattle.bolt_commands.specs.Answers.{DoesJob, Ending, status_of}
 use Rattle.bolt_job.specs.CommandLine.{Asks, IsRefusalOf}
-use Rattle.bolt_cli.specs.Deeds.{Deed, Read, ReadFirst, ReadOn, Made, Ended, Opened, Closed, Dropped, Said}
+use Rattle.bolt_cli.specs.Deeds.{Deed, Does, Read, ReadFirst, ReadOn, Made, Ended, Opened, Closed, Dropped, Said}
 use Rattle.bolt_cli.specs.Names.{shown_name}
 use Rattle.bolt_commands.specs.Failures.{failure_line}
 use Rattle.bolt_job.specs.LineWords.{Text}
@@ -45,9 +45,10 @@ abbrev pub IsBufferedLine : Ending → List ℕ → Type 0
 IsBufferedLine (Ok status) line = line ≡ []
 IsBufferedLine (Err failure) line = IsLineOf failure line
 
--- this holds of each ending of a job of which this line is buffered, and this is the status
-abbrev pub ForBuffered : (line : List ℕ) → (code : ℕ) → (Ending → Type 0) → Type 0
-ForBuffered line code P = (ending : Ending) → IsBufferedLine ending line → code ≡ status_of ending → P ending
+-- Some deeds were added, and with the status after them they are so, for each ending of a job of which this line is buffered and this is the
+-- status.
+abbrev pub DoesBuffered : {O D : Type 0} → (done : O → List D → Type 0) → (old new : O) → (after : ℕ) → (line : List ℕ) → (code : ℕ) → (Ending → List D → ℕ → Type 0) → Type 0
+DoesBuffered done old new after line code Are = (ending : Ending) → IsBufferedLine ending line → code ≡ status_of ending → Does done old new after (Are ending)
 
 -- the line if OUT isn't on the disk: that of the failure before or, if there was none, of a failed write
 abbrev pub IsUnendedLine : Ending → List ℕ → Type 0
@@ -160,17 +161,17 @@ module _ {T O : Type 0} (output_taken : O → Option (List ℕ)) (output_failed 
       (name ≡ file_name job) × (limit ≡ 80) × FailsNaming (unread_line (file_name job) fault) deeds code
   ReadsMetas job deeds code = ⊥
 
-module _ {T O : Type 0} (target_taken : T → Option (List ℕ)) (target_failed : T → ℕ) (output_taken : O → Option (List ℕ)) (output_failed : O → ℕ) where
+module _ {T O : Type 0} (target : Ghosts T) (output : Ghosts O) where
   -- the job is done on OUT, while what it prints is buffered, and then OUT is ended
   abbrev pub WritesOut : T → List ℕ → Job → List (Deed T O) → ℕ → Type 0
   WritesOut before file job (Ended after result ∷ deeds) code =
-      (buffered : Buffered) × (ending : Ending) × DoesJob buffered_text buffered_failures (buffered_of [] 0) buffered target_taken target_failed before after file job ending × IsEnded output_taken output_failed result buffered ending deeds code
+      (buffered : Buffered) × (ending : Ending) × DoesJob buffered_text buffered_failures (buffered_of [] 0) buffered target.taken target.failed before after file job ending × IsEnded output.taken output.failed result buffered ending deeds code
   WritesOut before file job deeds code = ⊥
 
   -- OUT is made, with FILE's permission bits, and the job is done on it
   abbrev pub Makes : Text → Source → Job → List (Deed T O) → ℕ → Type 0
-  Makes out source job (Made name permissions (Ok target) ∷ deeds) code =
-      (name ≡ out) × (permissions ≡ source.permissions) × IsFresh target_taken target_failed target × WritesOut target source.bytes.items job deeds code
+  Makes out source job (Made name permissions (Ok made) ∷ deeds) code =
+      (name ≡ out) × (permissions ≡ source.permissions) × IsFresh target.taken target.failed made × WritesOut made source.bytes.items job deeds code
   Makes out source job (Made name permissions (Err fault) ∷ deeds) code =
       (name ≡ out) × (permissions ≡ source.permissions) × FailsNaming (unmade_line out fault) deeds code
   Makes out source job deeds code = ⊥
@@ -178,7 +179,7 @@ module _ {T O : Type 0} (target_taken : T → Option (List ℕ)) (target_failed 
   -- the job is done: with an OUT, if it has one
   abbrev pub Goes : Option Text → Source → Job → List (Deed T O) → ℕ → Type 0
   Goes (Some out) source job deeds code = Makes out source job deeds code
-  Goes None source job deeds code = Shows output_taken output_failed source.bytes.items job deeds code
+  Goes None source job deeds code = Shows output.taken output.failed source.bytes.items job deeds code
 
   -- FILE is read, at most so many times: again if it was changed meanwhile
   abbrev pub Reads : (left : ℕ) → Job → List (Deed T O) → ℕ → Type 0
@@ -190,13 +191,13 @@ module _ {T O : Type 0} (target_taken : T → Option (List ℕ)) (target_failed 
 
   -- as much of FILE is read as the job needs, and it is done
   abbrev pub DoesAsked : Job → List (Deed T O) → ℕ → Type 0
-  DoesAsked job deeds code = Choose (needs_metas_alone job) (ReadsMetas output_taken output_failed job deeds code) (Reads 3 job deeds code)
+  DoesAsked job deeds code = Choose (needs_metas_alone job) (ReadsMetas output.taken output.failed job deeds code) (Reads 3 job deeds code)
 
   -- words are refused: nothing is read or made
   abbrev pub Refuses : Refusal → List (Deed T O) → ℕ → Type 0
   Refuses refusal.Memory deeds code = Fails (failure_line Memory) deeds code
-  Refuses (refusal.Help text) deeds code = PrintsText output_taken output_failed (string_bytes text) (Ok 0) deeds code
-  Refuses (refusal.Version text) deeds code = PrintsText output_taken output_failed (string_bytes text) (Ok 0) deeds code
+  Refuses (refusal.Help text) deeds code = PrintsText output.taken output.failed (string_bytes text) (Ok 0) deeds code
+  Refuses (refusal.Version text) deeds code = PrintsText output.taken output.failed (string_bytes text) (Ok 0) deeds code
   Refuses (refusal.Usage text) deeds code = Ends (string_bytes text) deeds × (code ≡ 2)
   Refuses (refusal.Word why) deeds code = Ends (error_line why.now) deeds × (code ≡ 2)
 

@@ -5,7 +5,7 @@ ghost use Rattle.bolt_cli.specs.{Deeds.Deed, Deeds.joined, Orders.ForDeeds, Orde
 ghost use Rattle.bolt_cli.specs.Orders.{ClosesWhatIsOpened, CopiesBeforeOpening, EndsWhatIsMade, MakesAfterReading, MakesOnce, OpensOnce, ReadsFirst, SaysFailures, SaysLast, StopsAfterFailures, StopsWithoutReader, SucceedsOnlyWithoutFailures};
 ghost use Rattle.bolt_job.specs.Jobs.{target_name};
 ghost use Rattle.bolt_cli.specs.Names.{shown_name};
-ghost use Rattle.bolt_cli.specs.Runs.{Closes, DoesAsked, WritesOut, Fails, FailsNaming, Goes, IsEnded, IsBufferedLine, IsRun, IsUnprinted, Makes, PrintsText, Reads, ReadsMetas, ReadsRest, Refuses, Shows, ForBuffered, FailsUnended};
+ghost use Rattle.bolt_cli.specs.Runs.{Closes, DoesAsked, DoesBuffered, WritesOut, Fails, FailsNaming, Goes, IsEnded, IsBufferedLine, IsRun, IsUnprinted, Makes, PrintsText, Reads, ReadsMetas, ReadsRest, Refuses, Shows, FailsUnended};
 ghost use Rattle.bolt_cli.specs.Runs.{buffered_of, unmade_line, unread_line};
 ghost use Rattle.bolt_commands.specs.declared.failure.Failure.TheVariants.{Memory};
 ghost use Rattle.bolt_cli.specs.Deeds.{Does};
@@ -32,7 +32,7 @@ const UNWRITTEN: &[u8] = b"error: write failed\n";
 /// status (docs/COMMANDS.md).
 pub fn run_program<O: Outside>(outside: &mut O, alloc: Global, words: Vec<String>) -> u8
     ensures { Does O.done outside.old outside.new result
-        (IsRun O.Target.taken O.Target.failed O.Output.taken O.Output.failed
+        (IsRun O.Target.Sink O.Output.Sink
         (map string_bytes words.items)) }
 {
     match read_words(alloc, words) {
@@ -44,7 +44,7 @@ pub fn run_program<O: Outside>(outside: &mut O, alloc: Global, words: Vec<String
 /// Prints why the words are no job, and returns the status.
 pub fn refuse<O: Outside>(outside: &mut O, refusal: &Refusal) -> u8
     ensures { Does O.done outside.old outside.new result
-        (Refuses O.Target.taken O.Target.failed O.Output.taken O.Output.failed refusal.now) }
+        (Refuses O.Target.Sink O.Output.Sink refusal.now) }
 {
     match refusal {
         Refusal::Memory => fail(outside, &[NO_MEMORY]),
@@ -63,7 +63,7 @@ pub fn refuse<O: Outside>(outside: &mut O, refusal: &Refusal) -> u8
 /// Reads as much of FILE as the job needs, and does it.
 fn do_asked<O: Outside>(outside: &mut O, alloc: Global, job: &Job) -> u8
     ensures { Does O.done outside.old outside.new result
-        (DoesAsked O.Target.taken O.Target.failed O.Output.taken O.Output.failed job.now) }
+        (DoesAsked O.Target.Sink O.Output.Sink job.now) }
 {
     if job.needs_metas_alone() {
         read_metas(outside, alloc, job)
@@ -108,7 +108,7 @@ fn read_rest<O: Outside>(
 /// state of it. Then does the job.
 fn read_file<O: Outside>(outside: &mut O, alloc: Global, job: &Job, left: u32) -> u8
     ensures { Does O.done outside.old outside.new result
-        (Reads O.Target.taken O.Target.failed O.Output.taken O.Output.failed left job.now) }
+        (Reads O.Target.Sink O.Output.Sink left job.now) }
 {
     if left == 0 {
         return fail(outside, &[b"error: file changed while it was read\n"]);
@@ -139,7 +139,7 @@ fn report_unread<O: Outside>(outside: &mut O, alloc: Global, fault: ReadFault, n
 /// Does a job on what was read.
 fn do_job<O: Outside>(outside: &mut O, alloc: Global, job: &Job, source: &Source) -> u8
     ensures { Does O.done outside.old outside.new result
-        (Goes O.Target.taken O.Target.failed O.Output.taken O.Output.failed
+        (Goes O.Target.Sink O.Output.Sink
         (target_name job.now) source.now job.now) }
 {
     match job.target() {
@@ -152,7 +152,7 @@ fn do_job<O: Outside>(outside: &mut O, alloc: Global, job: &Job, source: &Source
 /// so at no time can anybody open OUT who can't read FILE.
 fn make<O: Outside>(outside: &mut O, alloc: Global, job: &Job, source: &Source, name: &str) -> u8
     ensures { Does O.done outside.old outside.new result
-        (Makes O.Target.taken O.Target.failed O.Output.taken O.Output.failed
+        (Makes O.Target.Sink O.Output.Sink
         name.now source.now job.now) }
 {
     match outside.create(name, source.permissions) {
@@ -181,7 +181,7 @@ fn copy<O: Outside>(
     mut target: O::Target,
 ) -> u8
     ensures { Does O.done outside.old outside.new result
-        (WritesOut O.Target.taken O.Target.failed O.Output.taken O.Output.failed
+        (WritesOut O.Target.Sink O.Output.Sink
         target file.now job.now) }
 {
     let mut out = MemSink::new(alloc);
@@ -208,9 +208,8 @@ fn print_buffered<O: Outside>(
     line: &[u8],
     code: u8,
 ) -> u8
-    ensures { ForBuffered line.now code (λ ending.
-        Does O.done outside.old outside.new result
-        (IsEnded O.Output.taken O.Output.failed ended (buffered_of text.now failures) ending)) }
+    ensures { DoesBuffered O.done outside.old outside.new result line.now code
+        (IsEnded O.Output.taken O.Output.failed ended (buffered_of text.now failures)) }
 {
     match ended {
         Ok(()) if failures > 0 => fail(outside, &[NO_MEMORY]),
@@ -263,9 +262,8 @@ fn show<O: Outside>(outside: &mut O, alloc: Global, job: &Job, file: &[u8]) -> u
 
 /// Prints a text, and then the line of a failure, if it isn't empty.
 fn print<O: Outside>(outside: &mut O, text: &[u8], line: &[u8], code: u8) -> u8
-    ensures { ForBuffered line.now code (λ ending.
-        Does O.done outside.old outside.new result
-        (PrintsText O.Output.taken O.Output.failed text.now ending)) }
+    ensures { DoesBuffered O.done outside.old outside.new result line.now code
+        (PrintsText O.Output.taken O.Output.failed text.now) }
 {
     match outside.open() {
         Ok(mut output) => {
@@ -279,9 +277,8 @@ fn print<O: Outside>(outside: &mut O, text: &[u8], line: &[u8], code: u8) -> u8
 /// Closes standard output, or drops it if it has failed. Then prints the line of a failure, if it isn't
 /// empty.
 fn close<O: Outside>(outside: &mut O, output: O::Output, line: &[u8], code: u8) -> u8
-    ensures { ForBuffered line.now code (λ ending.
-        Does O.done outside.old outside.new result
-        (Closes O.Output.taken O.Output.failed output ending)) }
+    ensures { DoesBuffered O.done outside.old outside.new result line.now code
+        (Closes O.Output.taken O.Output.failed output) }
 {
     if output.failures() > 0 {
         let fault = outside.drop_output(output);

@@ -1,14 +1,14 @@
-use Rattle.std.proofs.Common.{◌≡◌, ◌⊎◌, Global, List, Ok, Option, String, ap, inl, inr, refl, string_bytes, ℕ}
-use Rattle.bolt_cli.proofs.Vocabulary.{Deed, Help, PrintsText, Refusal, Refuses, Version, error_line}
+use Rattle.std.proofs.Common.{◌≡◌, ◌⊎◌, Global, List, Ok, String, ap, inl, inr, refl, string_bytes, ℕ}
+use Rattle.bolt_cli.proofs.Vocabulary.{Deed, Ghosts, Help, PrintsText, Refusal, Refuses, Version, error_line}
 use Rattle.bolt_cli.proofs.Telling.{DoesDeeds-as, DoesDeeds-one}
 use Rattle.bolt_cli.proofs.whole_run.refuse.Goals as goal
 
 -- help and the version are printed
-printed : {T O : Type 0} (target_taken : T → Option (List ℕ)) (target_failed : T → ℕ) (output_taken : O → Option (List ℕ)) (output_failed : O → ℕ)
+printed : {T O : Type 0} (target : Ghosts T) (output : Ghosts O)
     (why : Refusal) (text : String Global) (deeds : List (Deed T O)) (code : ℕ) → (why ≡ Help text) ⊎ (why ≡ Version text)
-    → PrintsText output_taken output_failed (string_bytes text) (Ok 0) deeds code → Refuses target_taken target_failed output_taken output_failed why deeds code
-printed target_taken target_failed output_taken output_failed why text deeds code (inl help) prints = rw help prints
-printed target_taken target_failed output_taken output_failed why text deeds code (inr version) prints = rw version prints
+    → PrintsText output.taken output.failed (string_bytes text) (Ok 0) deeds code → Refuses target output why deeds code
+printed target output why text deeds code (inl help) prints = rw help prints
+printed target output why text deeds code (inr version) prints = rw version prints
 
 pub returns-in-Usage : goal.returns-in-Usage
 returns-in-Usage g c = DoesDeeds-one _ c.say.ensures (rw c.in-Usage.is (c.as_bytes.ensures.value, refl))
@@ -19,4 +19,4 @@ returns-in-Word g c = DoesDeeds-one _ c.say-in-Word.ensures (rw c.in-Word.is (ap
 pub returns-in-Help : goal.returns-in-Help
 returns-in-Help g c =
     DoesDeeds-as (c.print.ensures (Ok 0) refl refl)
-    (λ deeds prints. printed g.O.Target.Sink.taken g.O.Target.Sink.failed g.O.Output.Sink.taken g.O.Output.Sink.failed c.args.refusal.now c.in-Help.text deeds _ c.in-Help.is (rw c.as_bytes-in-Help.ensures.value at prints))
+    (λ deeds prints. printed g.O.Target.Sink g.O.Output.Sink c.args.refusal.now c.in-Help.text deeds _ c.in-Help.is (rw c.as_bytes-in-Help.ensures.value at prints))
