@@ -67,11 +67,11 @@ impl<'a> Memory<'a> {
 
 const PERMISSIONS: u32 = 0o640;
 
-impl Outside for Memory<'_> {
+impl<'a> Outside for Memory<'a> {
     ghost use Rattle.test_calls.specs.Logs.{Holds};
 
-    /// How many of its bytes were read.
-    type File = usize;
+    /// The bytes that weren't read yet.
+    type File = &'a [u8];
 
     type Target = MemSink;
 
@@ -96,14 +96,14 @@ impl Outside for Memory<'_> {
         }
     }
 
-    fn read_first(&mut self, name: &str, limit: u64) -> Result<(Vec<u8>, usize), ReadFault> {
+    fn read_first(&mut self, name: &str, limit: u64) -> Result<(Vec<u8>, &'a [u8]), ReadFault> {
         let turn = self.next_turn();
         let text = name.as_bytes();
-        let first = first_of(self.file, limit);
+        let (first, rest) = split_at_most(self.file, limit);
         match first.to_vec(self.alloc) {
             Ok(bytes) if turn == Turn::Good => {
                 self.log.note(Kind::ReadFirst, text, first, 0);
-                Ok((bytes, first.len()))
+                Ok((bytes, rest))
             }
             _ => {
                 self.log.note(Kind::Unread, text, &[], 0);
@@ -112,10 +112,15 @@ impl Outside for Memory<'_> {
         }
     }
 
-    fn read_on(&mut self, file: usize, first: Vec<u8>, limit: u64) -> Result<Vec<u8>, ReadFault> {
+    fn read_on(
+        &mut self,
+        file: &'a [u8],
+        first: Vec<u8>,
+        limit: u64,
+    ) -> Result<Vec<u8>, ReadFault> {
         let mut bytes = first;
-        let rest = first_of(&self.file[file..], limit);
-        if self.next_turn() == Turn::Good && bytes.extend_from_slice(rest).is_ok() {
+        let (next, _) = split_at_most(file, limit);
+        if self.next_turn() == Turn::Good && bytes.extend_from_slice(next).is_ok() {
             self.log.note(Kind::ReadOn, &[], bytes.as_slice(), 0);
             return Ok(bytes);
         }
@@ -213,10 +218,10 @@ fn read_kind(changes: bool) -> Kind
     }
 }
 
-/// The first bytes, at most `limit`.
-fn first_of(bytes: &[u8], limit: u64) -> &[u8] {
+/// The first bytes, at most `limit`, and the others.
+fn split_at_most(bytes: &[u8], limit: u64) -> (&[u8], &[u8]) {
     let count = usize::try_from(limit).unwrap_or(usize::MAX);
-    &bytes[..count.min(bytes.len())]
+    bytes.split_at(count.min(bytes.len()))
 }
 
 /// A regular file with these bytes, which may change while it is read.
