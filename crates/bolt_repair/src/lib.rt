@@ -2,9 +2,14 @@
 //! (docs/RECOVERY.md, "The repaired listing").
 #![tactic(auto)]
 
+mod candidates;
+mod find;
 pub mod laws;
+mod newest;
 mod repair;
 mod repaired;
+mod survey;
 
+pub use find::RepairFault;
 pub use repair::Repair;
 pub use repaired::Repaired;
