@@ -1,5 +1,5 @@
 -- The copy of a listing, and what is then reported of it.
-use Rattle.std.proofs.Common.{◌≡◌, ◌∙◌, ℕ, List, Bool, None, Some, Result, Ok, Err, inl, inr, length, map, refl, subst}
+use Rattle.std.proofs.Common.{◌≡◌, ◌∙◌, ℕ, List, Bool, Option, None, Some, Result, Ok, Err, inl, inr, length, map, refl, subst}
 use Rattle.bolt_commands.proofs.Vocabulary.{Answer, BulkFault, CopiesTo, Does, Ending, EndsCopy, Failure, Ghosts, Member, WritesCopy, copied, copy_page_size}
 use Rattle.bolt_commands.proofs.Vocabulary.{CompactsTo, CopiesRead, IsOpened, IsReadTo, bad_hash, copy_report, hash_refusal, LostView, OnOk, Opened, found_view, is_snapshot, opened_found, opened_lost, opened_meta}
 use Rattle.bolt_commands.proofs.Vocabulary.{HasGoodCopies, IsAskedBlueprint, Meta, layout_for, layout_of_listing, blueprint_layout, failing, ∥∥₁_map}
@@ -7,7 +7,7 @@ use Rattle.bolt_commands.proofs.{OpenedReads.refused_read}
 use Rattle.bolt_commands.specs.declared.failure.Failure.TheVariants.{Hash}
 use Rattle.bolt_etcd.specs.declared.snapshot.SnapshotFault.{SnapshotFault}
 use Rattle.bolt_bulk.specs.declared.blueprint.Blueprint.{Blueprint}
-use Rattle.bolt_job.specs.declared.writing_commands.CompactJob.{CompactJob}
+use Rattle.bolt_job.specs.declared.{choices.CopyKind.CopyKind, choices.PageSize.PageSize, writing_commands.CompactJob.CompactJob}
 
 -- a copy that is whole is good
 pub copy_good : {T : Type 0} {target : Ghosts T} {old new : T} (listing : List Member) (blueprint : Blueprint) (snapshot : Bool) (result : Result ℕ BulkFault)
@@ -18,14 +18,14 @@ copy_good listing blueprint snapshot (Ok count) ends good =
 copy_good listing blueprint snapshot (Err fault) ends good = record { ends = ends; good = tt }
 
 -- the copy of the blueprint that is asked for
-pub copy_asked : {T : Type 0} {target : Ghosts T} {old new : T} {listing : List Member} {snapshot : Bool} {result : Result ℕ BulkFault} {job : CompactJob} {meta : Meta} {blueprint : Blueprint}
-    → IsAskedBlueprint job meta blueprint → CopiesTo target old new (blueprint_layout blueprint listing) listing snapshot result
-    → CopiesTo target old new (layout_of_listing (layout_for job.kind) (copy_page_size job.page_size meta) listing meta.root_sequence) listing snapshot result
+pub copy_asked : {T : Type 0} {target : Ghosts T} {old new : T} {listing : List Member} {snapshot : Bool} {result : Result ℕ BulkFault} {kind : CopyKind} {size : Option PageSize} {meta : Meta} {blueprint : Blueprint}
+    → IsAskedBlueprint kind size meta blueprint → CopiesTo target old new (blueprint_layout blueprint listing) listing snapshot result
+    → CopiesTo target old new (layout_of_listing (layout_for kind) (copy_page_size size meta) listing meta.root_sequence) listing snapshot result
 copy_asked asked copy = rw (asked.layout, asked.page_size, asked.sequence) at copy
 
 -- of what is read, which if the copy is whole is known with what is lost
 pub copy_read : {T : Type 0} {target : Ghosts T} {old new : T} {job : CompactJob} (file : List ℕ) (before after : Opened) {blueprint : Blueprint} {listing : List Member} (lost : LostView)
-    → IsReadTo job.extent file job.meta (opened_meta before) listing lost (map found_view (opened_found before)) → IsAskedBlueprint job (opened_meta before) blueprint
+    → IsReadTo job.extent file job.meta (opened_meta before) listing lost (map found_view (opened_found before)) → IsAskedBlueprint job.kind job.page_size (opened_meta before) blueprint
     → (made : Result ℕ BulkFault) → CopiesTo target old new (blueprint_layout blueprint listing) listing (is_snapshot job.kind) made → OnOk made (opened_lost after ≡ lost)
     → (result : Result ℕ Failure) → result ≡ failing copied made → CopiesRead target old new job file before after result
 copy_read file before after lost read asked (Ok count) copy known result is = inl (_, _, read, rw is known, (Ok count, copy_asked asked copy, is))

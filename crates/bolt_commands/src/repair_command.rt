@@ -1,4 +1,10 @@
 //! The command `etcd-repair`: a copy in which the revisions that are found are back in their bucket.
+ghost use Rattle.std.specs.Prelude.{◌≡◌};
+ghost use Rattle.bolt_format.specs.{Endings.ending, Wrote.Wrote};
+ghost use Rattle.bolt_layout.specs.declared.Layout.TheVariants.{Balanced};
+ghost use Rattle.bolt_commands.specs.{Answers.counts_line, CopyLayouts.layout_for, Private.Repairing.CopiesRepaired, Private.Repairing.RepairsTo, Private.Repairing.repaired_answer, Private.Repairing.repaired_text};
+ghost use Rattle.bolt_commands.specs.Answers.{Does};
+ghost use Rattle.bolt_job.specs.CopyKinds.{is_snapshot};
 
 use crate::copies::{copy_members, put_lengths, status_of};
 use crate::copy_commands::{bad_hash, blueprint_of};
@@ -23,7 +29,9 @@ pub(crate) fn write_repaired<O: Sink, T: Sink>(
     job: &EtcdRepairJob,
     out: &mut O,
     target: &mut T,
-) -> Outcome {
+) -> Outcome
+    ensures { RepairsTo O.Sink out.old out.new T.Sink target.old target.new job.now input.entry.file.now result }
+{
     let both = input.search(job.meta)?;
     let repair = Repair::find(input.alloc, &both)?;
     let kind = kind_of(job);
@@ -36,12 +44,14 @@ pub(crate) fn write_repaired<O: Sink, T: Sink>(
         left_out: repair.left_out,
         source: input.file.len() as u64,
     };
-    put_report(&report, copy, out)?;
-    Ok(status_of(report.hash, report.lost))
+    end_repair(copy, &report, out)
 }
 
 /// What the copy is for: etcd writes to it, or restores it.
-fn kind_of(job: &EtcdRepairJob) -> CopyKind {
+fn kind_of(job: &EtcdRepairJob) -> CopyKind
+    ensures snapshot { is_snapshot result ≡ job.now.snapshot }
+    ensures layout { layout_for result ≡ Balanced }
+{
     if job.snapshot {
         CopyKind::EtcdSnapshot
     } else {
@@ -56,7 +66,9 @@ fn copy_repaired<T: Sink>(
     blueprint: &Blueprint,
     kind: CopyKind,
     target: &mut T,
-) -> Result<u64, Failure> {
+) -> Result<u64, Failure>
+    ensures { CopiesRepaired T.Sink target.old target.new repair.now blueprint.now (is_snapshot kind) result }
+{
     let mut repaired = Repaired::new(alloc, repair)?;
     repaired_members_are_whole(&repaired);
     let copied = copy_members(alloc, &mut repaired, blueprint, kind, target)?;
@@ -77,8 +89,18 @@ struct RepairReport<'l> {
     source: u64,
 }
 
-/// Writes what is reported, if the copy has this length.
-fn put_report<O: Sink>(report: &RepairReport<'_>, copy: u64, out: &mut O) -> Result<(), SinkFault> {
+/// Ends a repair that made a copy of this length: reports it, and returns the status.
+fn end_repair<O: Sink>(copy: u64, report: &RepairReport<'_>, out: &mut O) -> Outcome
+    ensures { Does O.taken O.failed out.old out.new (repaired_answer report.now copy) result }
+{
+    put_report(report, copy, out)?;
+    Ok(status_of(report.hash, report.lost))
+}
+
+#[tactic(auto, using(bolt_format::proofs::WroteLemmas::wrote))]
+fn put_report<O: Sink>(report: &RepairReport<'_>, copy: u64, out: &mut O) -> Result<(), SinkFault>
+    ensures { Wrote O.Sink out.old out.new (repaired_text report.now copy) (ending result) }
+{
     put_hash_line(report.hash, out)?;
     lost_text(report.lost, &[], out)?;
     put_counts(report.back, report.left_out, out)?;
@@ -86,7 +108,10 @@ fn put_report<O: Sink>(report: &RepairReport<'_>, copy: u64, out: &mut O) -> Res
 }
 
 /// Writes how many revisions are put back, and how many stay out.
-fn put_counts<O: Sink>(back: u64, left_out: u64, out: &mut O) -> Result<(), SinkFault> {
+#[tactic(auto, using(bolt_format::proofs::WroteLemmas::wrote))]
+fn put_counts<O: Sink>(back: u64, left_out: u64, out: &mut O) -> Result<(), SinkFault>
+    ensures { Wrote O.Sink out.old out.new (counts_line back left_out) (ending result) }
+{
     put_pieces(
         &[
             Piece::Number(back),

@@ -1,4 +1,10 @@
 //! The search for what goes back.
+ghost use Rattle.std.specs.Prelude.{◌≡◌, ◌≢◌, [], IfErr, IfOk};
+ghost use Rattle.bolt_check.specs.declared.finding.Finding.{Finding};
+ghost use Rattle.bolt_recover.specs.{LostAndFound.all_lost, Losses.everything};
+ghost use Rattle.bolt_repair.specs.{FullRepairs.IsFullRepair, Merging.repair_back, RepairRefusals.IsRepairRefusal};
+ghost use Rattle.bolt_repair.specs.RepairedMembers.{repair_file, repair_meta};
+
 use crate::candidates::{candidates_of, disputed_keys, has_key};
 use crate::newest::{keep_newest, stays, superseded_keys};
 use crate::repair::Repair;
@@ -33,7 +39,15 @@ impl<'a> Repair<'a> {
     ///
     /// `Root` if the root page is lost and nothing goes back; `NotABucket` if the recovered root bucket
     /// has a value `key`; `Memory` if memory runs out.
-    pub fn find(alloc: Global, both: &'a LostAndFound<'a>) -> Result<Repair<'a>, RepairFault> {
+    pub fn find(alloc: Global, both: &'a LostAndFound<'a>) -> Result<Repair<'a>, RepairFault>
+        ensures file { IfOk result (λ repair. repair_file repair ≡ both.now.file.now) }
+        ensures meta { IfOk result (λ repair. repair_meta repair ≡ both.now.meta) }
+        ensures back { IfOk result (λ repair.
+            ∥ IsFullRepair (repair_file repair) (repair_meta repair) (repair_back repair) repair.is_made repair.left_out ∥₁) }
+        ensures some { IfOk result (λ repair.
+            (x : Finding) → all_lost both.now ≡ everything x → repair_back repair ≢ []) }
+        ensures refused { IfErr result (IsRepairRefusal both.now.file.now both.now.meta) }
+    {
         let mut back = candidates_of(alloc, both.found.as_slice())?;
         let survey = Survey::of(alloc, both, back.as_slice())?;
         if let Some(Item::Value(_)) = survey.store {
