@@ -25,16 +25,16 @@ module _ (file : List ℕ) (choice : MetaChoice) (both : LostAndFound) (repair :
   pub is_repaired : IsRepaired file both.meta the_repaired
   is_repaired = record { back = repair_back repair; is_made = repair.is_made; repair = full.repair; repaired = refl }
 
-  pub is_restored : ((x : Finding) → all_lost both ≡ everything x → repair_back repair ≢ [])
-      → IsRestored file choice both.meta the_repaired (all_lost both) (length (repair_back repair)) repair.left_out
-  is_restored some = record {
+  pub is_restored : ((x : Finding) → all_lost both ≡ everything x → repair_back repair ≢ []) → (back : ℕ) → back ≡ length (repair_back repair)
+      → IsRestored file choice both.meta the_repaired (all_lost both) back repair.left_out
+  is_restored some back counts = record {
     under = searched.under;
     loses = searched.lost;
     entries = repair_back repair;
     is_made = repair.is_made;
     repairs = full;
     lists = refl;
-    counts = refl;
+    counts = counts;
     some = some;
   }
 
