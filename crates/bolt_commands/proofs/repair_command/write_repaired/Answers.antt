@@ -1,5 +1,6 @@
 -- The copy is made and then reported, or it isn't whole, or there is none.
-use Rattle.std.proofs.Common.{◌∙◌, inl, inr, length, refl}
+use Rattle.std.proofs.Common.{◌∙◌, inl, inr, length, refl, sym}
+use Rattle.std.proofs.lemmas.List.{length-map}
 use Rattle.bolt_commands.proofs.{CopyAnswers.listing_done, CopyAnswers.listing_failed, Doing.ends_as, ReadFiles.choice_page_size}
 use Rattle.bolt_commands.proofs.RepairAnswers.{is_repaired, is_restored, listing_asked, the_repaired, unsearched_unrestored}
 use Rattle.bolt_commands.proofs.Vocabulary.{all_lost, bad_hash, ∥∥₁_map}
