@@ -32,10 +32,15 @@ returns-in_err-copy g c =
       | inl copies ↦ inl (∥∥₁_map (rw (found.file ∙ searched.bytes, found.meta) at found.back) (λ full.
           let file = c.args.input.file.now in
           let is = rw (found.file ∙ searched.bytes, found.meta) (is_repaired file c.args.job.now.meta both repair searched full) in
-          let copy = listing_asked _ c.kind_of-kind.ensures.layout c.blueprint_of-blueprint.ensures (copies _ is) in
-          (both.meta, the_repaired file c.args.job.now.meta both repair searched full, all_lost both, length (repair_back repair), repair.left_out,
-          is_restored file c.args.job.now.meta both repair searched full found.some _ refl,
-          rw c.kind_of-kind.ensures.snapshot at (listing_failed g.O.Sink _ (repair_report (bad_hash c.args.job.now.snapshot file) (all_lost both) (length (repair_back repair)) repair.left_out (length file)) _ _ copy ends))))
+          let copy = listing_asked _ c.kind_of-kind.ensures.layout c.blueprint_of-blueprint.ensures (copies _ is) in (
+            both.meta,
+            the_repaired file c.args.job.now.meta both repair searched full,
+            all_lost both,
+            length (repair_back repair),
+            repair.left_out,
+            is_restored file c.args.job.now.meta both repair searched full found.some _ refl,
+            rw c.kind_of-kind.ensures.snapshot at (listing_failed g.O.Sink _ (repair_report (bad_hash c.args.job.now.snapshot file) (all_lost both) (length (repair_back repair)) repair.left_out (length file)) _ _ copy ends),
+          )))
       | inr (same, is) ↦ inr (_, inl (_, Memory, searched.under, tt, refl), (refl, same, ends ∙ is))
     ]
 
@@ -50,9 +55,14 @@ returns g c =
       | inl copies ↦ inl (∥∥₁_map (rw (found.file ∙ searched.bytes, found.meta) at found.back) (λ full.
           let file = c.args.input.file.now in
           let is = rw (found.file ∙ searched.bytes, found.meta) (is_repaired file c.args.job.now.meta both repair searched full) in
-          let copy = rw c.kind_of-kind.ensures.snapshot at (listing_asked _ c.kind_of-kind.ensures.layout c.blueprint_of-blueprint.ensures (copies _ is)) in
-          (both.meta, the_repaired file c.args.job.now.meta both repair searched full, all_lost both, c.len.result, repair.left_out,
-          is_restored file c.args.job.now.meta both repair searched full found.some _ (c.len.ensures ∙ sym (length-map _ _)),
-          listing_done g.O.Sink _ (repair_report (bad_hash c.args.job.now.snapshot file) (all_lost both) c.len.result repair.left_out (length file)) _ _ copy told)))
+          let copy = rw c.kind_of-kind.ensures.snapshot at (listing_asked _ c.kind_of-kind.ensures.layout c.blueprint_of-blueprint.ensures (copies _ is)) in (
+            both.meta,
+            the_repaired file c.args.job.now.meta both repair searched full,
+            all_lost both,
+            c.len.result,
+            repair.left_out,
+            is_restored file c.args.job.now.meta both repair searched full found.some _ (c.len.ensures ∙ sym (length-map _ _)),
+            listing_done g.O.Sink _ (repair_report (bad_hash c.args.job.now.snapshot file) (all_lost both) c.len.result repair.left_out (length file)) _ _ copy told,
+          )))
       | inr (same, is) ↦ absurd (cc)
     ]
