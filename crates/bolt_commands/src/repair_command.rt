@@ -30,7 +30,8 @@ pub(crate) fn write_repaired<O: Sink, T: Sink>(
     out: &mut O,
     target: &mut T,
 ) -> Outcome
-    ensures { RepairsTo O.Sink out.old out.new T.Sink target.old target.new job.now input.entry.file.now result }
+    ensures { RepairsTo O.Sink out.old out.new T.Sink target.old target.new job.now
+        input.entry.file.now result }
 {
     let both = input.search(job.meta)?;
     let repair = Repair::find(input.alloc, &both)?;
@@ -67,7 +68,8 @@ fn copy_repaired<T: Sink>(
     kind: CopyKind,
     target: &mut T,
 ) -> Result<u64, Failure>
-    ensures { CopiesRepaired T.Sink target.old target.new repair.now blueprint.now (is_snapshot kind) result }
+    ensures { CopiesRepaired T.Sink target.old target.new repair.now blueprint.now
+        (is_snapshot kind) result }
 {
     let mut repaired = Repaired::new(alloc, repair)?;
     repaired_members_are_whole(&repaired);

@@ -42,8 +42,8 @@ impl<'a> Repair<'a> {
     pub fn find(alloc: Global, both: &'a LostAndFound<'a>) -> Result<Repair<'a>, RepairFault>
         ensures file { IfOk result (λ repair. repair_file repair ≡ both.now.file.now) }
         ensures meta { IfOk result (λ repair. repair_meta repair ≡ both.now.meta) }
-        ensures back { IfOk result (λ repair.
-            ∥ IsFullRepair (repair_file repair) (repair_meta repair) (repair_back repair) repair.is_made repair.left_out ∥₁) }
+        ensures back { IfOk result (λ repair. ∥ IsFullRepair (repair_file repair)
+            (repair_meta repair) (repair_back repair) repair.is_made repair.left_out ∥₁) }
         ensures some { IfOk result (λ repair.
             (x : Finding) → all_lost both.now ≡ everything x → repair_back repair ≢ []) }
         ensures refused { IfErr result (IsRepairRefusal both.now.file.now both.now.meta) }
