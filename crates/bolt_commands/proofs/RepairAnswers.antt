@@ -1,15 +1,14 @@
 -- The copy of the repaired listing, and what is then reported of it.
-use Rattle.std.proofs.Common.{◌≡◌, ◌≢◌, ℕ, List, [], Bool, Result, Ok, Err, inl, inr, length, refl}
-use Rattle.bolt_commands.proofs.Vocabulary.{CopiesListing, CopiesTo, Failure, Finding, Ghosts, IsAskedBlueprint, IsSearchOf, LostAndFound, Member, Meta, MetaChoice, PageSize}
-use Rattle.bolt_commands.proofs.Vocabulary.{all_lost, blueprint_layout, copied, copy_page_size, everything, failing, layout_for, layout_of_listing, lost_view}
+use Rattle.std.proofs.Common.{◌≡◌, ◌≢◌, ℕ, List, [], Bool, Option, Result, inl, inr, length, refl}
+use Rattle.bolt_commands.proofs.Vocabulary.{CopiesListing, Failure, Finding, Ghosts, IsAskedBlueprint, IsSearchOf, LostAndFound, Member, Meta, MetaChoice, PageSize}
+use Rattle.bolt_commands.proofs.Vocabulary.{all_lost, blueprint_layout, copy_page_size, everything, layout_for, layout_of_listing}
 use Rattle.bolt_commands.proofs.{CopyAnswers.copy_asked}
 use Rattle.bolt_bulk.specs.declared.blueprint.Blueprint.{Blueprint}
 use Rattle.bolt_job.specs.declared.choices.CopyKind.{CopyKind}
 use Rattle.bolt_layout.specs.declared.Layout.TheVariants.{Balanced}
-use Rattle.bolt_repair.specs.{FullRepairs.IsFullRepair, Merging.repair_back, Repaired.IsRepaired, Repaired.repaired_listing, declared.repair.Repair.Repair}
+use Rattle.bolt_repair.specs.{FullRepairs.IsFullRepair, Merging.repair_back, Merging.repair_is_made, Repaired.IsRepaired, Repaired.repaired_listing, declared.repair.Repair.Repair}
 use Rattle.bolt_repair.specs.declared.find.RepairFault.TheVariants.{Memory}
 use Rattle.bolt_commands.specs.{Answers.IsRestored, Answers.IsUnrestored, Private.Opened.IsUnsearched}
-use Rattle.std.specs.Prelude.{Option}
 
 -- a file that isn't searched isn't repaired
 pub unsearched_unrestored : (file : List ℕ) (choice : MetaChoice) (why : Failure) → IsUnsearched file choice why → IsUnrestored file choice why
@@ -17,13 +16,13 @@ unsearched_unrestored file choice why (inl none) = inr none
 unsearched_unrestored file choice why (inr (meta, under, is)) = inl (meta, Memory, under, tt, is)
 
 module _ (file : List ℕ) (choice : MetaChoice) (both : LostAndFound) (repair : Repair) (searched : IsSearchOf file choice both)
-    (full : IsFullRepair file both.meta (repair_back repair) repair.is_made repair.left_out) where
+    (full : IsFullRepair file both.meta (repair_back repair) (repair_is_made repair) repair.left_out) where
   -- the repaired listing
   pub the_repaired : List Member
-  the_repaired = repaired_listing full.repair.recovered repair.is_made (repair_back repair)
+  the_repaired = repaired_listing full.repair.recovered (repair_is_made repair) (repair_back repair)
 
   pub is_repaired : IsRepaired file both.meta the_repaired
-  is_repaired = record { back = repair_back repair; is_made = repair.is_made; repair = full.repair; repaired = refl }
+  is_repaired = record { back = repair_back repair; is_made = repair_is_made repair; repair = full.repair; repaired = refl }
 
   pub is_restored : ((x : Finding) → all_lost both ≡ everything x → repair_back repair ≢ []) → (back : ℕ) → back ≡ length (repair_back repair)
       → IsRestored file choice both.meta the_repaired (all_lost both) back repair.left_out
@@ -31,7 +30,7 @@ module _ (file : List ℕ) (choice : MetaChoice) (both : LostAndFound) (repair :
     under = searched.under;
     loses = searched.lost;
     entries = repair_back repair;
-    is_made = repair.is_made;
+    is_made = repair_is_made repair;
     repairs = full;
     lists = refl;
     counts = counts;

@@ -2,7 +2,7 @@
 ghost use Rattle.std.specs.Prelude.{◌≡◌, ◌≢◌, [], IfErr, IfOk};
 ghost use Rattle.bolt_check.specs.declared.finding.Finding.{Finding};
 ghost use Rattle.bolt_recover.specs.{LostAndFound.all_lost, Losses.everything};
-ghost use Rattle.bolt_repair.specs.{FullRepairs.IsFullRepair, Merging.repair_back, RepairRefusals.IsRepairRefusal};
+ghost use Rattle.bolt_repair.specs.{FullRepairs.IsFullRepair, Merging.repair_back, Merging.repair_is_made, RepairRefusals.IsRepairRefusal};
 ghost use Rattle.bolt_repair.specs.RepairedMembers.{repair_file, repair_meta};
 
 use crate::candidates::{candidates_of, disputed_keys, has_key};
@@ -43,7 +43,7 @@ impl<'a> Repair<'a> {
         ensures file { IfOk result (λ repair. repair_file repair ≡ both.now.file.now) }
         ensures meta { IfOk result (λ repair. repair_meta repair ≡ both.now.meta) }
         ensures back { IfOk result (λ repair. ∥ IsFullRepair (repair_file repair)
-            (repair_meta repair) (repair_back repair) repair.is_made repair.left_out ∥₁) }
+            (repair_meta repair) (repair_back repair) (repair_is_made repair) repair.left_out ∥₁) }
         ensures some { IfOk result (λ repair.
             (x : Finding) → all_lost both.now ≡ everything x → repair_back repair ≢ []) }
         ensures refused { IfErr result (IsRepairRefusal both.now.file.now both.now.meta) }
