@@ -1,6 +1,6 @@
 -- What a job does, whatever its standard output and its target are.
 use Rattle.std.proofs.Common.{◌≡◌, ◌<◌, ◌∙◌, ap, inl, inr, ℕ, List, [], Option, None, Some, Bool, length, refl, subst, sym}
-use Rattle.bolt_cli.proofs.Vocabulary.{Answer, CopiesUnless, Does, DoesJob, Ending, Extent, Ghosts, Job, Layout, MakesCopy, Member, MetaChoice, PageSize, WritesCopy, copy_page_size, copy_report, done, bad_hash, buffered_failures, buffered_of, buffered_text, hash_refusal, layout_of_listing, lengths_line, target_name, text_members}
+use Rattle.bolt_cli.proofs.Vocabulary.{Answer, CopiesUnless, Does, DoesJob, Ending, Extent, Ghosts, Job, Layout, MakesCopy, Member, MetaChoice, PageSize, WritesCopy, copy_page_size, copy_report, done, bad_hash, buffered_failures, buffered_of, buffered_text, hash_refusal, layout_of_listing, lengths_line, repair_report, target_name, text_members, ∥∥₁_map}
 use Rattle.bolt_job.specs.declared.job.Job.TheVariants as job
 
 module _ {O T : Type 0} (out_taken : O → Option (List ℕ)) (out_failed : O → ℕ) (out_old out_new : O)
@@ -11,6 +11,7 @@ module _ {O T : Type 0} (out_taken : O → Option (List ℕ)) (out_failed : O �
       → DoesJob {T = Unit {0}} out_taken out_failed out_old out_new (λ _. None) (λ _. 0) tt tt file j ending
   shown file (job.Compact j) ending none does = absurd (cc)
   shown file (job.Load j) ending none does = absurd (cc)
+  shown file (job.EtcdRepair j) ending none does = absurd (cc)
   shown file j ending none (answer, is, does, same) = (answer, is, does, refl)
 
 -- a job does the same on a sink that is seen as what it holds
@@ -63,5 +64,11 @@ module _ {O T : Type 0} (out : Ghosts O) (target : Ghosts T) (out_old out_new : 
   buffered_job file (job.Load j) ending does = elim does [
     | inl (right, writes) ↦ inl (right, written _ (text_members file) _ (λ copy. done (lengths_line (length file) copy)) ending writes)
     | inr (fault, is, (same, target, ends)) ↦ inr (fault, is, (untouched same, target, ends))
+  ]
+  buffered_job file (job.EtcdRepair j) ending does = elim does [
+    | inl made ↦ inl (∥∥₁_map made (λ m.
+        let (meta, listing, lost, back, left_out, is, writes) = m in
+        (meta, listing, lost, back, left_out, is, written j.snapshot listing _ (repair_report (bad_hash j.snapshot file) lost back left_out (length file)) ending writes)))
+    | inr (why, is, (same, target, ends)) ↦ inr (why, is, (untouched same, target, ends))
   ]
   buffered_job file j ending (answer, is, does, same) = (answer, is, does_buffered answer ending does, same)

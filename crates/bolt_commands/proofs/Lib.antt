@@ -20,6 +20,7 @@ pub mod OpenedReads
 pub mod PageAnswers
 pub mod ReadFiles
 pub mod RecoveredAnswers
+pub mod RepairAnswers
 pub mod SnapshotCopies
 pub mod SoundNames
 pub mod SoundReads

@@ -30,7 +30,7 @@ mod tests;
 mod wire;
 
 pub use crate::collected::Collected;
-pub use crate::compaction::{compacted, store_compacted};
+pub use crate::compaction::{compacted, compacted_by, store_compacted};
 pub use crate::current::Current;
 pub use crate::missing::{Missing, MissingNumbers};
 pub use crate::name_faults::{NameFault, NameFaults};

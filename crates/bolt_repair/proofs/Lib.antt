@@ -1,0 +1,3 @@
+pub mod Gives
+pub mod OneRepair
+pub mod RepairedListings

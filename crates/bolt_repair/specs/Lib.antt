@@ -1,0 +1,6 @@
+pub mod FullRepairs
+pub mod Merging
+pub mod RepairRefusals
+pub mod Repaired
+pub mod RepairedMembers
+pub mod Repairs

@@ -1,0 +1,95 @@
+//! Values on found pages that may go back.
+use bolt_etcd::Revision;
+use bolt_format::Leaves;
+use bolt_recover::Found;
+use bolt_tree::{Entry, Item, NoMemory};
+use std::alloc::{AllocError, Global};
+use std::cmp::Ordering;
+
+/// The values on found pages that are revisions with records of their own transactions, by rising key,
+/// and of one key by rising value, each once. Keeps 40 bytes for each.
+pub(crate) fn candidates_of<'a>(
+    alloc: Global,
+    found: &[Found<'a>],
+) -> Result<Vec<Entry<'a>>, NoMemory> {
+    let mut candidates = Vec::new(alloc);
+    for page in found {
+        add_page(&mut candidates, page.page.elements())?;
+    }
+    candidates.sort_unstable_by(by_key_and_value);
+    candidates.dedup_by(|later, first| is_same(later, first));
+    Ok(candidates)
+}
+
+/// Adds those on one page.
+fn add_page<'a>(
+    candidates: &mut Vec<Entry<'a>>,
+    mut elements: Leaves<'a>,
+) -> Result<(), AllocError> {
+    'elements: while let Some(leaf) = elements.next() {
+        let entry = Entry {
+            key: leaf.key,
+            item: Item::of(&leaf),
+        };
+        if is_candidate(&entry) {
+            candidates.push(entry)?;
+        }
+    }
+    Ok(())
+}
+
+/// Whether it is a revision, and its record that of its own transaction.
+fn is_candidate(entry: &Entry<'_>) -> bool {
+    match Revision::of(entry) {
+        Some(revision) => !revision.is_misplaced(),
+        None => false,
+    }
+}
+
+/// The bytes of a value.
+fn value_of<'a>(entry: &Entry<'a>) -> &'a [u8] {
+    match entry.item {
+        Item::Value(value) => value,
+        Item::Bucket { sequence: _ } => &[],
+    }
+}
+
+fn by_key_and_value(a: &Entry<'_>, b: &Entry<'_>) -> Ordering {
+    a.key.cmp(b.key).then(value_of(a).cmp(value_of(b)))
+}
+
+fn is_same(a: &Entry<'_>, b: &Entry<'_>) -> bool {
+    a.key == b.key && value_of(a) == value_of(b)
+}
+
+/// The keys that two neighbors have, once for each two.
+pub(crate) fn disputed_keys<'a>(
+    alloc: Global,
+    candidates: &[Entry<'a>],
+) -> Result<Vec<&'a [u8]>, NoMemory> {
+    let mut keys = Vec::new(alloc);
+    for i in 1..candidates.len() {
+        if candidates[i - 1].key == candidates[i].key {
+            add_key(&mut keys, candidates[i].key)?;
+        }
+    }
+    Ok(keys)
+}
+
+/// Adds a key.
+pub(crate) fn add_key<'a>(keys: &mut Vec<&'a [u8]>, key: &'a [u8]) -> Result<(), NoMemory> {
+    match keys.push(key) {
+        Ok(()) => Ok(()),
+        Err(_) => Err(NoMemory),
+    }
+}
+
+/// Whether a key is among these, which rise.
+pub(crate) fn has_key(keys: &[&[u8]], key: &[u8]) -> bool {
+    keys.binary_search_by(|other| (*other).cmp(key)).is_ok()
+}
+
+/// Whether an entry with this key is among these, by rising key.
+pub(crate) fn has_entry(entries: &[Entry<'_>], key: &[u8]) -> bool {
+    entries.binary_search_by(|entry| entry.key.cmp(key)).is_ok()
+}
