@@ -1,3 +1,4 @@
+pub mod Candidates
 pub mod Merging
 pub mod Repaired
 pub mod RepairedMembers

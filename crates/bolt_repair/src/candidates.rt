@@ -1,4 +1,9 @@
 //! Values on found pages that may go back.
+ghost use Rattle.std.specs.Prelude.{◌≡◌, ◌++◌, OnOk, map};
+ghost use Rattle.bolt_format.specs.ElementsLeft.{leaves_left};
+ghost use Rattle.bolt_tree.specs.ShownEntries.{shown_entry};
+ghost use Rattle.bolt_repair.specs.Candidates.{candidates_in, is_candidate};
+
 use bolt_etcd::Revision;
 use bolt_format::Leaves;
 use bolt_recover::Found;
@@ -39,7 +44,9 @@ fn add_page<'a>(
 }
 
 /// Whether it is a revision, and its record that of its own transaction.
-fn is_candidate(entry: &Entry<'_>) -> bool {
+fn is_candidate(entry: &Entry<'_>) -> bool
+    ensures { result ≡ is_candidate (shown_entry entry.now) }
+{
     match Revision::of(entry) {
         Some(revision) => !revision.is_misplaced(),
         None => false,
