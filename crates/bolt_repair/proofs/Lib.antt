@@ -1,3 +1,3 @@
-pub mod Gives
 pub mod OneRepair
+pub mod RepairLaws
 pub mod RepairedListings
