@@ -3,3 +3,4 @@ pub mod Merging
 pub mod Repaired
 pub mod RepairedMembers
 pub mod Repairs
+pub mod Surveys
