@@ -1,3 +1,4 @@
+pub mod CandidateLemmas
 pub mod OneRepair
 pub mod RepairLaws
 pub mod RepairedListings
