@@ -1,3 +1,4 @@
-pub mod Gives
+pub mod CandidateLemmas
 pub mod OneRepair
+pub mod RepairLaws
 pub mod RepairedListings

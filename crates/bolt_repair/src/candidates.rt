@@ -1,4 +1,9 @@
 //! Values on found pages that may go back.
+ghost use Rattle.std.specs.Prelude.{◌≡◌, ◌++◌, IfOk, OnOk, map};
+ghost use Rattle.bolt_format.specs.ElementsLeft.{leaves_left};
+ghost use Rattle.bolt_tree.specs.ShownEntries.{shown_entry};
+ghost use Rattle.bolt_repair.specs.Candidates.{candidates_in, elements_of, is_candidate, is_same, value_bytes, whole_cmp};
+
 use bolt_etcd::Revision;
 use bolt_format::Leaves;
 use bolt_recover::Found;
@@ -12,12 +17,21 @@ pub(crate) fn candidates_of<'a>(
     alloc: Global,
     found: &[Found<'a>],
 ) -> Result<Vec<Entry<'a>>, NoMemory> {
-    let mut candidates = Vec::new(alloc);
-    for page in found {
-        add_page(&mut candidates, page.page.elements())?;
-    }
+    let mut candidates = collect(alloc, found)?;
     candidates.sort_unstable_by(by_key_and_value);
     candidates.dedup_by(|later, first| is_same(later, first));
+    Ok(candidates)
+}
+
+/// The candidates on all pages, page by page.
+fn collect<'a>(alloc: Global, found: &[Found<'a>]) -> Result<Vec<Entry<'a>>, NoMemory>
+    ensures { IfOk result (λ all.
+        map shown_entry all.items ≡ candidates_in (elements_of found.now)) }
+{
+    let mut candidates = Vec::new(alloc);
+    'rest: for page in found {
+        add_page(&mut candidates, page.page.elements())?;
+    }
     Ok(candidates)
 }
 
@@ -39,7 +53,9 @@ fn add_page<'a>(
 }
 
 /// Whether it is a revision, and its record that of its own transaction.
-fn is_candidate(entry: &Entry<'_>) -> bool {
+fn is_candidate(entry: &Entry<'_>) -> bool
+    ensures { result ≡ is_candidate (shown_entry entry.now) }
+{
     match Revision::of(entry) {
         Some(revision) => !revision.is_misplaced(),
         None => false,
@@ -47,18 +63,24 @@ fn is_candidate(entry: &Entry<'_>) -> bool {
 }
 
 /// The bytes of a value.
-fn value_of<'a>(entry: &Entry<'a>) -> &'a [u8] {
+fn value_of<'a>(entry: &Entry<'a>) -> &'a [u8]
+    ensures { result.now ≡ value_bytes (shown_entry entry.now) }
+{
     match entry.item {
         Item::Value(value) => value,
         Item::Bucket { sequence: _ } => &[],
     }
 }
 
-fn by_key_and_value(a: &Entry<'_>, b: &Entry<'_>) -> Ordering {
+fn by_key_and_value(a: &Entry<'_>, b: &Entry<'_>) -> Ordering
+    ensures { result ≡ whole_cmp (shown_entry a.now) (shown_entry b.now) }
+{
     a.key.cmp(b.key).then(value_of(a).cmp(value_of(b)))
 }
 
-fn is_same(a: &Entry<'_>, b: &Entry<'_>) -> bool {
+fn is_same(a: &Entry<'_>, b: &Entry<'_>) -> bool
+    ensures { result ≡ is_same (shown_entry a.now) (shown_entry b.now) }
+{
     a.key == b.key && value_of(a) == value_of(b)
 }
 

@@ -1,4 +1,8 @@
 //! What the recovered listing says of a store.
+ghost use Rattle.std.specs.Prelude.{◌≡◌, OnOk};
+ghost use Rattle.bolt_tree.specs.{Paths.path_of, ShownEntries.item_view};
+ghost use Rattle.bolt_repair.specs.Surveys.{noted};
+
 use crate::candidates::{add_key, has_entry};
 use bolt_recover::{Kept, LostAndFound};
 use bolt_tree::{Entry, Item, Members, NoMemory};

@@ -3,7 +3,7 @@ use Rattle.std.proofs.Math.Logic.{∥∥₁_elim, ∥∥₁_map}
 use Rattle.std.proofs.Props.{props}
 use Rattle.std.proofs.lemmas.Result.{IfOk-weaker, on_err_weaker}
 use Rattle.bolt_repair.specs.RepairedMembers.{repaired_left, repaired_path}
-use Rattle.bolt_repair.proofs.Gives.{gives_prop}
+use Rattle.bolt_recover.proofs.SoundWalks.{gives_prop}
 use Rattle.bolt_repair.proofs.repaired.RepairedMembers.next.Goals as goal
 
 pub invariant_of-self : goal.invariant_of-self
