@@ -6,8 +6,8 @@ use Rattle.bolt_commands.proofs.{CopyAnswers.copy_asked}
 use Rattle.bolt_bulk.specs.declared.blueprint.Blueprint.{Blueprint}
 use Rattle.bolt_job.specs.declared.choices.CopyKind.{CopyKind}
 use Rattle.bolt_layout.specs.declared.Layout.TheVariants.{Balanced}
-use Rattle.bolt_repair.specs.{FullRepairs.IsFullRepair, Merging.repair_back, Merging.repair_is_made, Repaired.IsRepaired, Repaired.repaired_listing, declared.repair.Repair.Repair}
-use Rattle.bolt_repair.specs.declared.find.RepairFault.TheVariants.{Memory}
+use Rattle.bolt_etcd.specs.{FullRepairs.IsFullRepair, RepairedMerges.repair_back, RepairedMerges.repair_is_made, Repaired.IsRepaired, Repaired.repaired_listing, declared.repair.Repair.Repair}
+use Rattle.bolt_etcd.specs.declared.repair.RepairFault.TheVariants.{Memory}
 use Rattle.bolt_commands.specs.{Answers.IsRestored, Answers.IsUnrestored, Private.Opened.IsUnsearched}
 
 -- a file that isn't searched isn't repaired

@@ -18,8 +18,8 @@ use Rattle.bolt_recover.specs.{Losses.AreLosses, Losses.LossView, Losses.LostVie
 use Rattle.bolt_recover.specs.Recovered.{ForRecovered, IsRecovered}
 use Rattle.bolt_recover.specs.Refusals.{IsUnrecoverable, KeepsRoot}
 use Rattle.bolt_recover.specs.declared.joined.JoinFault.{JoinFault}
-use Rattle.bolt_repair.specs.{FullRepairs.IsFullRepair, RepairRefusals.IsRepairRefusal, Repaired.repaired_listing}
-use Rattle.bolt_repair.specs.declared.find.RepairFault.{RepairFault}
+use Rattle.bolt_etcd.specs.{FullRepairs.IsFullRepair, RepairRefusals.IsRepairRefusal, Repaired.repaired_listing}
+use Rattle.bolt_etcd.specs.declared.repair.RepairFault.{RepairFault}
 use Rattle.bolt_report.specs.{FaultWords.count_line, FaultWords.findings_text, FoundLines.FoundView, FoundLines.counted_lost_text, FoundLines.lost_text}
 use Rattle.bolt_report.specs.{StatsLines.stats_text, KeyLines.buckets_text, KeyLines.keys_text}
 use Rattle.bolt_report.specs.MemberNames.{Wanted, begins_so, names_bucket, names_text}

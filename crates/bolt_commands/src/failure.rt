@@ -10,7 +10,7 @@ use bolt_etcd::SnapshotFault;
 use bolt_format::{MetaFault, PageFault, SinkFault};
 use bolt_load::{LineFault, LoadFault};
 use bolt_recover::JoinFault;
-use bolt_repair::RepairFault;
+use bolt_etcd::RepairFault;
 use bolt_report::ReportFault;
 use std::alloc::AllocFailed;
 

@@ -3,7 +3,8 @@ ghost use Rattle.std.specs.Prelude.{◌≡◌};
 ghost use Rattle.bolt_format.specs.{Endings.ending, Wrote.Wrote};
 ghost use Rattle.bolt_layout.specs.declared.Layout.TheVariants.{Balanced};
 ghost use Rattle.bolt_commands.specs.{Answers.counts_line, CopyLayouts.layout_for, Private.Repairing.CopiesRepaired, Private.Repairing.RepairsTo, Private.Repairing.repaired_answer, Private.Repairing.repaired_text};
-ghost use Rattle.bolt_commands.specs.Answers.{Does};
+ghost use Rattle.bolt_commands.specs.{Answers.Does, Private.Repairing.IsWholeRepaired};
+ghost use Rattle.bolt_etcd.specs.{Repaired.ForRepaired, RepairedMembers.repaired_file, RepairedMembers.repaired_left, RepairedMembers.repaired_meta};
 ghost use Rattle.bolt_job.specs.CopyKinds.{is_snapshot};
 
 use crate::copies::{copy_members, put_lengths, status_of};
@@ -12,12 +13,12 @@ use crate::failure::{Failure, Outcome};
 use crate::file_faults::put_hash_line;
 use crate::opening::Input;
 use bolt_bulk::Blueprint;
-use bolt_etcd::SnapshotFault;
+use bolt_etcd::laws::a_repaired_listing_is_fit;
+use bolt_etcd::{Repair, Repaired, SnapshotFault};
 use bolt_format::{Sink, SinkFault};
 use bolt_job::{CopyKind, EtcdRepairJob};
+use bolt_layout::laws::a_fit_listing_is_of_one_tree;
 use bolt_recover::Lost;
-use bolt_repair::laws::repaired_members_are_whole;
-use bolt_repair::{Repair, Repaired};
 use bolt_report::lost_text;
 use bolt_text::{Piece, put_pieces};
 use std::alloc::Global;
@@ -75,6 +76,16 @@ fn copy_repaired<T: Sink>(
     repaired_members_are_whole(&repaired);
     let copied = copy_members(alloc, &mut repaired, blueprint, kind, target)?;
     Ok(copied)
+}
+
+/// The members of the repaired listing can be copied.
+fn repaired_members_are_whole(repaired: &Repaired<'_>)
+    requires { ForRepaired (repaired_file repaired.now) (repaired_meta repaired.now)
+        (λ listing. repaired_left repaired.now listing ≡ listing) }
+    ensures { IsWholeRepaired repaired.now }
+{
+    a_repaired_listing_is_fit();
+    a_fit_listing_is_of_one_tree();
 }
 
 /// What is reported of a repair beside the length of the copy.

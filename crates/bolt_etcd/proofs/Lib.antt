@@ -1,4 +1,5 @@
 pub mod ByName
+pub mod CandidateLemmas
 pub mod CompactionsAdded
 pub mod Currents
 pub mod EtcdCompacts
@@ -20,9 +21,12 @@ pub mod MissingExact
 pub mod NameHistories
 pub mod NewestOfNames
 pub mod NothingFound
+pub mod OneRepair
 pub mod OtherCounts
 pub mod OtherSteps
 pub mod Passing
+pub mod RepairLaws
+pub mod RepairedListings
 pub mod RevisionLoops
 pub mod RevisionSteps
 pub mod RevisionTexts

@@ -64,7 +64,7 @@ impl<'a> Revision<'a> {
     }
 
     /// Its key as it is stored. Revisions are ordered by it.
-    pub fn place(&self) -> &'a [u8]
+    pub(crate) fn place(&self) -> &'a [u8]
         ensures { result.now ≡ (shown_revision self.now).place }
     {
         self.key

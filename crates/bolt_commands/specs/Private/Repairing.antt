@@ -1,10 +1,10 @@
 -- What the functions of `etcd-repair` promise.
 use Rattle.std.specs.Prelude.{◌≡◌, ◌⊎◌, ℕ, List, Bool, Result, Err}
-use Rattle.bolt_bulk.specs.declared.blueprint.Blueprint.{Blueprint}
+use Rattle.bolt_bulk.specs.{WholeListings.IsWhole, declared.blueprint.Blueprint.Blueprint}
 use Rattle.bolt_format.specs.declared.sink.Sink.{Ghosts}
 use Rattle.bolt_job.specs.declared.etcd_commands.EtcdRepairJob.{EtcdRepairJob}
 use Rattle.bolt_recover.specs.ShownLosses.{lost_view}
-use Rattle.bolt_repair.specs.{Repaired.IsRepaired, RepairedMembers.repair_file, RepairedMembers.repair_meta, declared.repair.Repair.Repair}
+use Rattle.bolt_etcd.specs.{Repaired.IsRepaired, RepairedMembers.repair_file, RepairedMembers.repair_meta, RepairedMembers.repaired_file, RepairedMembers.repaired_left, RepairedMembers.repaired_meta, declared.repair.Repair.Repair, declared.repaired.Repaired.Repaired}
 use Rattle.bolt_tree.specs.Listing.{Member}
 use Rattle.bolt_commands.specs.Answers.{Answer, Ending, MakesRepair, repair_report}
 use Rattle.bolt_commands.specs.Private.Copying.{CopiesListing, blueprint_layout}
@@ -28,3 +28,9 @@ repaired_answer r copy = repair_report r.hash (lost_view r.lost) r.back r.left_o
 
 abbrev pub repaired_text : RepairReport → (copy : ℕ) → List ℕ
 repaired_text r copy = (repaired_answer r copy).out
+
+-- all members of the repaired listing
+abbrev pub IsWholeRepaired : Repaired → Type 0
+IsWholeRepaired repaired =
+    IsWhole (λ (r : Repaired) (listing : List Member). IsRepaired (repaired_file r) (repaired_meta r) listing) (λ listing. listing) (λ (r : Repaired) (listing : List Member). repaired_left r listing)
+    repaired

@@ -5,8 +5,8 @@ use Rattle.bolt_commands.proofs.{CopyAnswers.listing_done, CopyAnswers.listing_f
 use Rattle.bolt_commands.proofs.RepairAnswers.{is_repaired, is_restored, listing_asked, the_repaired, unsearched_unrestored}
 use Rattle.bolt_commands.proofs.Vocabulary.{all_lost, bad_hash, ∥∥₁_map}
 use Rattle.bolt_commands.specs.Answers.{repair_report}
-use Rattle.bolt_repair.specs.Merging.{repair_back}
-use Rattle.bolt_repair.specs.declared.find.RepairFault.TheVariants.{Memory}
+use Rattle.bolt_etcd.specs.RepairedMerges.{repair_back}
+use Rattle.bolt_etcd.specs.declared.repair.RepairFault.TheVariants.{Memory}
 use Rattle.bolt_commands.proofs.repair_command.write_repaired.Goals as goal
 
 pub returns-in_err-both : goal.returns-in_err-both

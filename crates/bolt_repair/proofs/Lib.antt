@@ -1,4 +1,0 @@
-pub mod CandidateLemmas
-pub mod OneRepair
-pub mod RepairLaws
-pub mod RepairedListings
