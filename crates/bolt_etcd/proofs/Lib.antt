@@ -27,6 +27,7 @@ pub mod OtherSteps
 pub mod Passing
 pub mod RepairLaws
 pub mod RepairedListings
+pub mod RestoredStores
 pub mod RevisionLoops
 pub mod RevisionSteps
 pub mod RevisionTexts
