@@ -6,6 +6,7 @@ pub mod EtcdCompacts
 pub mod FaultsOfNames
 pub mod Fields
 pub mod Filtered
+pub mod FirstOfSame
 pub mod HistoryNumbers
 pub mod HistorySteps
 pub mod HistoryUntil
@@ -16,9 +17,11 @@ pub mod LastOfAll
 pub mod LastOnes
 pub mod Leases
 pub mod ListedTexts
+pub mod Mapped
 pub mod Messages
 pub mod MissingExact
 pub mod NameHistories
+pub mod NewestEntries
 pub mod NewestOfNames
 pub mod NothingFound
 pub mod OneRepair

@@ -1,5 +1,5 @@
 -- Lists that rise.
-use Rattle.std.proofs.Common.{◌≡◌, ◌++◌, inl, inr, List, [], ◌∷◌, subst}
+use Rattle.std.proofs.Common.{◌≡◌, ◌∙◌, ◌++◌, ◌⊎◌, inl, inr, List, [], ◌∷◌, subst, sym}
 use Rattle.std.proofs.lemmas.List.Elements.{Contains-append_cases, Contains-append_left, Contains-append_right}
 use Rattle.std.specs.List.{Contains}
 use Rattle.std.specs.declared.cmp.Ordering.{Ordering}
@@ -15,6 +15,20 @@ rises_as old new (x ∷ xs) same rises = (
   λ y has. same x y (contains_head x xs) (contains_tail x y xs has) (rises.0 y has),
   rises_as old new xs (λ a b has also. same a b (contains_tail x a xs has) (contains_tail x b xs also)) rises.1,
 )
+
+-- of two elements one comes before the other, or they are one
+pub rising_cases : {A : Type 0} (cmp : A → A → Ordering) (xs : List A) (a b : A) → Rises cmp xs → Contains xs a → Contains xs b → (a ≡ b) ⊎ ((cmp a b ≡ Less) ⊎ (cmp b a ≡ Less))
+rising_cases cmp [] a b rises has also = absurd (contains_none a has)
+rising_cases cmp (x ∷ xs) a b rises has also = elim (contains_cases x a xs has) [
+  | inl first ↦ elim (contains_cases x b xs also) [
+    | inl second ↦ inl (sym first ∙ second)
+    | inr more ↦ inr (inl (subst (λ z. cmp z b ≡ Less) first (rises.0 b more)))
+  ]
+  | inr more ↦ elim (contains_cases x b xs also) [
+    | inl second ↦ inr (inr (subst (λ z. cmp z a ≡ Less) second (rises.0 a more)))
+    | inr others ↦ rising_cases cmp xs a b rises.1 more others
+  ]
+]
 
 -- ---- a list without one of its elements
 
