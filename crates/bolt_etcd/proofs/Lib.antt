@@ -17,13 +17,14 @@ pub mod LastOfAll
 pub mod LastOnes
 pub mod Leases
 pub mod ListedTexts
-pub mod Mapped
+pub mod MappedLists
 pub mod Messages
 pub mod MissingExact
 pub mod NameHistories
 pub mod NewestEntries
 pub mod NewestOfNames
 pub mod NothingFound
+pub mod OldOfName
 pub mod OneRepair
 pub mod OtherCounts
 pub mod OtherSteps
@@ -48,3 +49,4 @@ mod TrailingBytes
 mod TrailingMetas
 pub mod Varints
 pub mod WholeNames
+pub mod WholeOrder

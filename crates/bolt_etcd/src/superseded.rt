@@ -131,5 +131,9 @@ fn superseded_by<'a>(
             .then(is_old(entry, compacted).cmp(&true))
     });
     let entry = candidates.get(found.ok()?)?;
-    (entry.key < revision.place()).then_some(entry.key)
+    entry
+        .key
+        .cmp(revision.place())
+        .is_lt()
+        .then_some(entry.key)
 }
