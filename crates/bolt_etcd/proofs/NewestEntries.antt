@@ -16,7 +16,7 @@ use Rattle.bolt_check.specs.Keys.{Key, key_cmp}
 use Rattle.bolt_tree.proofs.PathOrder.{flip_less, key_exact, key_total}
 use Rattle.bolt_tree.specs.{Entries.EntryView, InBuckets.view_cmp, Order.Rises}
 use Rattle.bolt_etcd.specs.Superseded.{AreNewest, HasOneOld, IsNewestOld, entry_name, is_old, is_same_old, newest_cmp, rank_cmp}
-use Rattle.bolt_etcd.proofs.{FirstOfSame.IsFirst, FirstOfSame.dedup_first, FirstOfSame.dedup_rises, Rising.rising_cases, SortedOnce.sorted_from}
+use Rattle.bolt_etcd.proofs.{FirstOfSame.IsFirst, FirstOfSame.dedup_first, FirstOfSame.dedup_rises, Rising.rising_cases, SortedOnce.sorted_in}
 
 then_differs : (a b : Ordering) → is_eq b ≡ false → is_eq (ordering_then a b) ≡ false
 then_differs Less b e = refl
@@ -101,7 +101,7 @@ module _ (compacted : ℕ) where
     apart x y less = then_differs (rank_cmp compacted x y) (key_cmp y.key x.key) (ap is_eq (flip_less key_total x.key y.key less))
 
     sorted_rises : Rises (newest_cmp compacted) sorted
-    sorted_rises = sorted_from newest_total view_cmp apart agreed sorted rises moved up
+    sorted_rises = sorted_in newest_total view_cmp agreed sorted (λ x y has also. apart x y) rises moved up
 
     members : (e : EntryView) → Contains agreed e ↔ Contains sorted e
     members e = (Contains-permutation agreed sorted e moved, Contains-permutation sorted agreed e (IsPermutation-sym agreed sorted moved))

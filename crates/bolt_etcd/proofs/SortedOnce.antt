@@ -44,7 +44,7 @@ module _ {X : Type 0} {R : X → X → Ordering} (total : IsTotalOrder R) where
   dedup_none [] d = refl
   dedup_none (x ∷ xs) d = dedup_from_none x xs d
 
-  rises_from : (xs : List X) → IsStrictlySortedBy R xs → Rises R xs
+  pub rises_from : (xs : List X) → IsStrictlySortedBy R xs → Rises R xs
   unfolding IsStrictlySortedBy
   rises_from [] strict = tt
   rises_from (x ∷ xs) strict = (λ y has. all_at (λ z. R x z ≡ Less) xs y strict.0 has, rises_from xs strict.1)
@@ -54,10 +54,6 @@ module _ {X : Type 0} {R : X → X → Ordering} (total : IsTotalOrder R) where
 
   moved_distinct : (xs ys : List X) → IsPermutation xs ys → IsDistinct (eq_by_cmp R) xs → IsDistinct (eq_by_cmp R) ys
   moved_distinct xs ys moved d = IsDistinct-IsPermutation (eq_by_cmp R) flips xs ys moved d
-
-  -- of a list that rises by an order that tells its elements apart
-  pub sorted_from : (C : X → X → Ordering) → ((x y : X) → C x y ≡ Less → eq_by_cmp R x y ≡ false) → (xs ys : List X) → Rises C xs → IsPermutation xs ys → IsSorted R ys → Rises R ys
-  sorted_from C apart xs ys rises moved up = sorted_rises ys (moved_distinct xs ys moved (differ C apart xs rises)) up
 
   sorted_once : (xs ys zs : List X) → IsDistinct (eq_by_cmp R) xs → IsPermutation xs ys → IsPermutation xs zs → IsSorted R ys → IsSorted R zs → ys ≡ zs
   sorted_once xs ys zs d to_ys to_zs up also =
@@ -85,4 +81,6 @@ current_once rs a b is also =
 
 -- sorted by name, none is there twice
 pub by_name_rises : (rs sorted : List RevisionView) → Rises place_cmp rs → AreByName rs sorted → Rises by_name_cmp sorted
-by_name_rises rs sorted rises is = sorted_from by_name_total place_cmp (λ x y less. then_apart (name_cmp x y) _ less) rs sorted rises is.same is.rises
+by_name_rises rs sorted rises is =
+    sorted_rises by_name_total sorted
+    (moved_distinct by_name_total rs sorted is.same (differ by_name_total place_cmp (λ x y less. then_apart (name_cmp x y) _ less) rs rises)) is.rises

@@ -1,8 +1,17 @@
 -- Which candidates are agreed, as the keys that the recovered bucket has of theirs are known: docs/RECOVERY.md, "The repaired listing".
-use Rattle.std.specs.Prelude.{◌≡◌, ◌↔◌, List}
-use Rattle.std.specs.List.{Contains}
+use Rattle.std.specs.Prelude.{◌≡◌, ◌↔◌, ◌||◌, Bool, false, List, [], ◌∷◌, filter, not}
+use Rattle.std.specs.{List.Contains, Str.bytes_eq}
 use Rattle.bolt_check.specs.Keys.{Key, key_cmp}
 use Rattle.bolt_tree.specs.{Entries.EntryView, InBuckets.view_cmp, Order.Rises}
+
+-- whether a key is among these
+abbrev pub among : List Key → Key → Bool
+among [] key = false
+among (k ∷ keys) key = bytes_eq k key || among keys key
+
+-- entries whose keys aren't among these
+abbrev pub without : List Key → List EntryView → List EntryView
+without keys es = filter (λ e. not (among keys e.key)) es
 
 -- a candidate whose key isn't one of these
 abbrev pub IsUnmet : List EntryView → List Key → EntryView → Type 0
