@@ -1,7 +1,9 @@
+pub mod AgreedEntries
 pub mod ByName
 pub mod CandidateLemmas
 pub mod CompactionsAdded
 pub mod Currents
+pub mod Disputed
 pub mod EtcdCompacts
 pub mod FaultsOfNames
 pub mod Fields
@@ -13,6 +15,7 @@ pub mod HistoryUntil
 pub mod KeptOfNames
 pub mod KeptRevisions
 pub mod KeyNumbers
+pub mod KeySearches
 pub mod Keys
 pub mod LastOfAll
 pub mod LastOnes
@@ -30,6 +33,8 @@ pub mod OneRepair
 pub mod OtherCounts
 pub mod OtherSteps
 pub mod Passing
+pub mod Places
+pub mod PutBackEntries
 pub mod RepairLaws
 pub mod RepairedListings
 pub mod RevisionLoops
@@ -44,6 +49,7 @@ pub mod StatesKept
 pub mod StoreExists
 pub mod StoreLemmas
 pub mod SupersededKeys
+pub mod Surveyed
 pub mod TakenAway
 pub mod TakenNames
 mod TrailingAccounts
@@ -52,3 +58,4 @@ mod TrailingMetas
 pub mod Varints
 pub mod WholeNames
 pub mod WholeOrder
+pub mod WholeRepairs

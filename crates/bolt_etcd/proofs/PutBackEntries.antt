@@ -61,7 +61,7 @@ module _ (compacted : ℕ) (recovered : List Member) (agreed newest : List Entry
   top_of : (e : EntryView) → Goes e → is_old compacted e ≡ true → (other : EntryView) → Contains agreed other → entry_name other ≡ entry_name e → is_old compacted other ≡ true
       → key_cmp e.key other.key ≢ Less
   top_of e (inl new) old other has names also less = cc
-  top_of e (inr n) old other has = n.of_agreed other has
+  top_of e (inr n) old other has names also less = n.of_agreed other has names also less
 
   stay_of : (e : EntryView) → Goes e → stays compacted e ≡ true
   stay_of e (inl new) = or_left (not (is_old compacted e)) (not (is_deletion e)) (ap not new)
