@@ -9,6 +9,7 @@ pub mod FaultsOfNames
 pub mod Fields
 pub mod Filtered
 pub mod FirstOfSame
+pub mod FoundRepairs
 pub mod HistoryNumbers
 pub mod HistorySteps
 pub mod HistoryUntil

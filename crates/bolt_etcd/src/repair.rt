@@ -1,13 +1,15 @@
 //! What goes back into the bucket `key` of a damaged file, and the search for it.
-ghost use Rattle.std.specs.Prelude.{◌≡◌, ◌≢◌, List, [], IfErr, IfOk, OnOk, length, map, not};
+ghost use Rattle.std.specs.Prelude.{◌≡◌, ◌≢◌, List, [], IfErr, IfOk, None, OnOk, Some, length, map, not};
+ghost use Rattle.std.specs.Option.{option_map};
 ghost use Rattle.std.specs.List.Sorted.{IsSorted};
 ghost use Rattle.bolt_check.specs.declared.finding.Finding.{Finding};
 ghost use Rattle.bolt_recover.specs.{LostAndFound.all_lost, Losses.everything};
 ghost use Rattle.bolt_etcd.specs.{FullRepairs.IsFullRepair, Repaired.IsRepair, RepairRefusals.IsRepairRefusal};
 ghost use Rattle.bolt_check.specs.Keys.{Key, key_cmp};
 ghost use Rattle.bolt_recover.specs.Recovered.{ForRecovered};
-ghost use Rattle.bolt_tree.specs.{InBuckets.view_cmp, Order.Rises, ShownEntries.shown_entry};
-ghost use Rattle.bolt_etcd.specs.{Agreed.AreAgreed, Agreed.AreUnmetKeys, Agreed.among, Agreed.without, Candidates.whole_cmp, Superseded.ArePutBack};
+ghost use Rattle.bolt_tree.specs.{InBuckets.view_cmp, Order.Rises, ShownEntries.item_view, ShownEntries.shown_entry};
+ghost use Rattle.bolt_etcd.specs.{Agreed.AreAgreed, Agreed.AreUnmetKeys, Agreed.among, Agreed.without, Candidates.whole_cmp, Repaired.lacks_bucket, Superseded.ArePutBack};
+ghost use Rattle.bolt_etcd.specs.declared.repair.RepairFault.TheVariants as faults;
 
 use crate::candidates::{candidates_of, disputed_keys, has_key};
 use crate::compaction::compacted_by;
@@ -44,6 +46,8 @@ pub enum RepairFault {
 }
 
 impl From<NoMemory> for RepairFault {
+    ghost from_gives = { λ _ fault. fault ≡ faults.Memory };
+
     fn from(_fault: NoMemory) -> Self {
         RepairFault::Memory
     }
@@ -69,9 +73,7 @@ impl<'a> Repair<'a> {
     {
         let mut back = candidates_of(alloc, both.found.as_slice())?;
         let survey = Survey::of(alloc, both, back.as_slice())?;
-        if let Some(Item::Value(_)) = survey.store {
-            return Err(RepairFault::NotABucket);
-        }
+        let is_lacking = lacks_bucket(survey.store)?;
         let keys = keep_agreed(alloc, &mut back, survey.met.as_slice())?;
         keep_what_goes_back(alloc, both, &mut back, compacted_by(survey.compaction))?;
         if let Lost::Everything(finding) = both.lost()
@@ -82,9 +84,23 @@ impl<'a> Repair<'a> {
         Ok(Repair {
             both,
             left_out: (keys - back.len()) as u64,
-            is_made: survey.store.is_none() && !back.is_empty(),
+            is_made: is_lacking && !back.is_empty(),
             back,
         })
+    }
+}
+
+/// Whether nothing is under the bucket's name.
+fn lacks_bucket(under: Option<Item<'_>>) -> Result<bool, RepairFault>
+    ensures lacks { IfOk result (λ lacks.
+        lacks_bucket (option_map item_view under.entry) ≡ Some lacks) }
+    ensures value { IfErr result (λ fault. (fault ≡ faults.NotABucket)
+        × (lacks_bucket (option_map item_view under.entry) ≡ None)) }
+{
+    match under {
+        None => Ok(true),
+        Some(Item::Bucket { .. }) => Ok(false),
+        Some(Item::Value(_)) => Err(RepairFault::NotABucket),
     }
 }
 
