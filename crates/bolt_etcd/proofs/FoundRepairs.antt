@@ -1,16 +1,19 @@
 -- The repair of a file that was searched.
-use Rattle.std.proofs.Common.{◌≡◌, ◌∙◌, ◌+◌, ◌-◌, ◌≤◌, ◌&&◌, ◌++◌, ℕ, Bool, List, [], ◌∷◌, Option, Some, arith, length, map, not, refl, sym, ap, ap₂, subst}
+use Rattle.std.proofs.Common.{◌≡◌, ◌∙◌, ◌+◌, ◌-◌, ◌≤◌, ◌&&◌, ◌==◌, ◌++◌, ℕ, Bool, true, false, List, [], ◌∷◌, Option, Some, arith, length, map, not, refl, sym, ap, ap₂, subst}
 use Rattle.std.proofs.Math.Logic.{∥∥₁_elim, ∥∥₁_map}
 use Rattle.std.proofs.Props.{props}
-use Rattle.std.proofs.lemmas.{List.Elements.All-head, List.Elements.All-tail, List.length-map}
-use Rattle.std.specs.{Borrow.Bor, List.All, Option.option_map}
+use Rattle.std.proofs.lemmas.{Bool.eqb-true, Bool.ne_eqb, List.Elements.All-head, List.Elements.All-tail, List.length-map}
+use Rattle.std.specs.{Borrow.Bor, List.All, List.Sorted.IsSorted, Option.option_map, Ordering.is_lt}
 use Rattle.bolt_format.specs.{Elements.LeafElement, Pages.page_at, TreePages.leaves_on, declared.meta.Meta.Meta}
-use Rattle.bolt_check.specs.Keys.{Key}
-use Rattle.bolt_tree.specs.{Entries.EntryView, Entries.Item, Listing.Member, ShownEntries.item_view, ShownEntries.shown_entry, declared.entry.Entry.Entry}
+use Rattle.bolt_check.specs.{Keys.Key, Keys.key_cmp, declared.finding.Finding.Finding}
+use Rattle.bolt_tree.proofs.PathOrder.{flip_less, key_total}
+use Rattle.bolt_tree.specs.{Entries.EntryView, Entries.Item, Listing.Member, Order.Rises, ShownEntries.item_view, ShownEntries.shown_entry, declared.entry.Entry.Entry}
 use Rattle.bolt_recover.proofs.Existing.{has_recovered}
-use Rattle.bolt_recover.specs.{Found.AreFound, Found.numbers_of, Recovered.ForRecovered, Recovered.IsRecovered, ShownFound.IsFoundView, Sites.leaves_of, declared.found.Found.Found, declared.lost_and_found.LostAndFound.LostAndFound}
+use Rattle.bolt_recover.specs.{Losses.everything, Lost.IsAllLost, LostAndFound.all_lost}
+use Rattle.bolt_recover.specs.{Found.AreFound, Found.numbers_of, Recovered.ForRecovered, Recovered.IsRecovered, Refusals.LosesRoot, ShownFound.IsFoundView, Sites.leaves_of, declared.found.Found.Found, declared.lost_and_found.LostAndFound.LostAndFound}
 use Rattle.bolt_etcd.specs.{Agreed.AreAgreed, Agreed.AreUnmetKeys, Candidates.AreCandidates, Candidates.elements_of, Compacted.compacted_by, FullRepairs.IsFullRepair}
 use Rattle.bolt_etcd.specs.{Repaired.IsRepair, Repaired.MakesStore, Repaired.elements_on, Repaired.lacks_bucket, Superseded.ArePutBack, Surveys.IsSurvey, Surveys.IsSurveyOf, declared.survey.Survey.Survey}
+use Rattle.bolt_etcd.proofs.MappedLists.{Climbs, climbs_sorted}
 use Rattle.bolt_etcd.proofs.WholeRepairs.{are_back, back_fewer, candidate_keys, compacted_at, is_nil, makes, no_value}
 
 -- the elements of the pages of the code are those of the pages with their numbers
@@ -57,6 +60,34 @@ module _ (file : List ℕ) (meta : Meta) (found : List Found) (are_found : AreFo
         }
 
 -- ---- of the code
+
+climb : (keys : List Key) → Rises key_cmp keys → Climbs (λ a b. is_lt (key_cmp a b)) keys
+climb [] rises = tt
+climb (key ∷ keys) rises = (λ other has. ap is_lt (flip_less key_total key other (rises.0 other has)), climb keys rises.1)
+
+pub rises_sorted : (keys : List Key) → Rises key_cmp keys → IsSorted key_cmp keys
+rises_sorted keys rises = climbs_sorted (λ a b. is_lt (key_cmp a b)) keys (climb keys rises)
+
+pub loses_root : (both : LostAndFound) (x : Finding) → all_lost both ≡ everything x → ∥ LosesRoot both.file.now both.meta x ∥₁
+unfolding all_lost
+loses_root both x is = ∥∥₁_map both.searched (λ searched. subst (IsAllLost both.file.now both.meta) is searched.lost)
+
+nil_mapped : (es : List Entry) → (length es == 0) ≡ is_nil (map shown_entry es)
+nil_mapped [] = refl
+nil_mapped (e ∷ es) = ne_eqb (length (e ∷ es)) 0 (λ same. omega (arith, same))
+
+pub none_left : (es : List Entry) (empty : Bool) (len : ℕ) → empty ≡ (len == 0) → len ≡ length es → empty ≡ true → map shown_entry es ≡ []
+none_left [] empty len is long is_true = refl
+none_left (e ∷ es) empty len is long is_true = absurd (let none = eqb-true len 0 (sym is ∙ is_true) in omega (arith, none, long))
+
+-- the bucket is made, or it isn't, since it is there
+module _ (es : List Entry) (made lacks : Bool) where
+  pub made_if : (empty : Bool) (len : ℕ) → made ≡ not empty → empty ≡ (len == 0) → len ≡ length es → lacks ≡ true → made ≡ (lacks && not (is_nil (map shown_entry es)))
+  made_if empty len is so long is_true =
+      is ∙ ap not (so ∙ ap (λ (n : ℕ). n == 0) long ∙ nil_mapped es) ∙ sym (ap (λ (b : Bool). b && not (is_nil (map shown_entry es))) is_true)
+
+  pub not_made : made ≡ lacks → lacks ≡ false → made ≡ (lacks && not (is_nil (map shown_entry es)))
+  not_made is is_false = is ∙ is_false ∙ sym (ap (λ (b : Bool). b && not (is_nil (map shown_entry es))) is_false)
 
 abbrev now : Bor Key → Key
 now key = key.now

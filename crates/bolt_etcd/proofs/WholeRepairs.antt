@@ -56,6 +56,11 @@ abbrev pub is_nil : {A : Type 0} → List A → Bool
 is_nil [] = true
 is_nil (x ∷ xs) = false
 
+pub value_under : (o : Option Item) → lacks_bucket o ≡ None → (value : List ℕ) × (o ≡ Some (Value value))
+value_under None none = cc
+value_under (Some (Bucket sequence)) none = cc
+value_under (Some (Value value)) none = (value, refl)
+
 -- ---- from elements
 
 in_place : (o : Option RevisionView) → is_in_place o ≡ true → (r : RevisionView) × (o ≡ Some r) × (is_misplaced r ≡ false)
@@ -177,14 +182,6 @@ module _ (recovered : List Member) (found : List LeafElement) (all : List EntryV
       by : (o : Option (List ℕ)) → noted ≡ o → IsCompactedAt recovered (compacted_by o)
       by (Some value) is = inl (value, (survey.compaction value).1 is, refl)
       by None is = inr (λ value has. let some = (survey.compaction value).0 has in cc, refl)
-
-  value_under : (o : Option Item) → lacks_bucket o ≡ None → (value : List ℕ) × (o ≡ Some (Value value))
-  value_under None none = cc
-  value_under (Some (Bucket sequence)) none = cc
-  value_under (Some (Value value)) none = (value, refl)
-
-  pub has_value : lacks_bucket under ≡ None → (value : List ℕ) × (under ≡ Some (Value value)) × Contains recovered (store_path, Value value)
-  has_value none = let (value, is) = value_under under none in (value, is, (survey.store (Value value)).1 is)
 
   module _ (lacks : Bool) (is_lacking : lacks_bucket under ≡ Some lacks) where
     pub no_value : (value : List ℕ) → Contains recovered (store_path, Value value) → ⊥

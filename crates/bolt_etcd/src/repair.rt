@@ -1,5 +1,5 @@
 //! What goes back into the bucket `key` of a damaged file, and the search for it.
-ghost use Rattle.std.specs.Prelude.{◌≡◌, ◌≢◌, List, [], IfErr, IfOk, None, OnOk, Some, length, map, not};
+ghost use Rattle.std.specs.Prelude.{◌≡◌, ◌≢◌, List, [], IfErr, IfOk, OnOk, length, map, not};
 ghost use Rattle.std.specs.Option.{option_map};
 ghost use Rattle.std.specs.List.Sorted.{IsSorted};
 ghost use Rattle.bolt_check.specs.declared.finding.Finding.{Finding};
@@ -73,7 +73,9 @@ impl<'a> Repair<'a> {
     {
         let mut back = candidates_of(alloc, both.found.as_slice())?;
         let survey = Survey::of(alloc, both, back.as_slice())?;
-        let is_lacking = lacks_bucket(survey.store)?;
+        let Some(is_lacking) = lacks_bucket(survey.store) else {
+            return Err(RepairFault::NotABucket);
+        };
         let keys = keep_agreed(alloc, &mut back, survey.met.as_slice())?;
         keep_what_goes_back(alloc, both, &mut back, compacted_by(survey.compaction))?;
         if let Lost::Everything(finding) = both.lost()
@@ -90,17 +92,14 @@ impl<'a> Repair<'a> {
     }
 }
 
-/// Whether nothing is under the bucket's name.
-fn lacks_bucket(under: Option<Item<'_>>) -> Result<bool, RepairFault>
-    ensures lacks { IfOk result (λ lacks.
-        lacks_bucket (option_map item_view under.entry) ≡ Some lacks) }
-    ensures value { IfErr result (λ fault. (fault ≡ faults.NotABucket)
-        × (lacks_bucket (option_map item_view under.entry) ≡ None)) }
+/// Whether nothing is under the bucket's name. Returns `None` if a value is.
+fn lacks_bucket(under: Option<Item<'_>>) -> Option<bool>
+    ensures { result ≡ lacks_bucket (option_map item_view under.entry) }
 {
     match under {
-        None => Ok(true),
-        Some(Item::Bucket { .. }) => Ok(false),
-        Some(Item::Value(_)) => Err(RepairFault::NotABucket),
+        None => Some(true),
+        Some(Item::Bucket { .. }) => Some(false),
+        Some(Item::Value(_)) => None,
     }
 }
 
