@@ -2,6 +2,7 @@ pub mod ByName
 pub mod CandidateLemmas
 pub mod CompactionsAdded
 pub mod Currents
+pub mod Disputed
 pub mod EtcdCompacts
 pub mod FaultsOfNames
 pub mod Fields
@@ -11,11 +12,13 @@ pub mod HistorySteps
 pub mod HistoryUntil
 pub mod KeptOfNames
 pub mod KeyNumbers
+pub mod KeySearches
 pub mod Keys
 pub mod LastOfAll
 pub mod LastOnes
 pub mod Leases
 pub mod ListedTexts
+pub mod MappedLists
 pub mod Messages
 pub mod MissingExact
 pub mod NameHistories
@@ -45,3 +48,4 @@ mod TrailingBytes
 mod TrailingMetas
 pub mod Varints
 pub mod WholeNames
+pub mod WholeOrder

@@ -44,7 +44,7 @@ module _ {X : Type 0} {R : X → X → Ordering} (total : IsTotalOrder R) where
   dedup_none [] d = refl
   dedup_none (x ∷ xs) d = dedup_from_none x xs d
 
-  rises_from : (xs : List X) → IsStrictlySortedBy R xs → Rises R xs
+  pub rises_from : (xs : List X) → IsStrictlySortedBy R xs → Rises R xs
   unfolding IsStrictlySortedBy
   rises_from [] strict = tt
   rises_from (x ∷ xs) strict = (λ y has. all_at (λ z. R x z ≡ Less) xs y strict.0 has, rises_from xs strict.1)

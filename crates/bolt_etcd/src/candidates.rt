@@ -1,8 +1,11 @@
 //! Values on found pages that may go back.
-ghost use Rattle.std.specs.Prelude.{◌≡◌, ◌++◌, IfOk, OnOk, map};
+ghost use Rattle.std.specs.Prelude.{◌≡◌, ◌++◌, ◌∷◌, ◌↔◌, [], IfOk, OnOk, map, true};
+ghost use Rattle.std.specs.List.{Contains, Sorted.IsSorted};
 ghost use Rattle.bolt_format.specs.ElementsLeft.{leaves_left};
-ghost use Rattle.bolt_tree.specs.ShownEntries.{shown_entry};
-ghost use Rattle.bolt_etcd.specs.Candidates.{candidates_in, elements_of, is_candidate, is_same, value_bytes, whole_cmp};
+ghost use Rattle.bolt_check.specs.Keys.{key_cmp};
+ghost use Rattle.bolt_tree.specs.{Order.Rises, ShownEntries.shown_entry};
+ghost use Rattle.bolt_etcd.specs.Candidates.{AreCandidates, AreDisputed, HasKey, candidates_in, elements_of};
+ghost use Rattle.bolt_etcd.specs.Candidates.{is_candidate, is_same, value_bytes, whole_cmp};
 
 use crate::revision::Revision;
 use bolt_format::Leaves;
@@ -41,9 +44,12 @@ fn collect<'a>(alloc: Global, found: &[Found<'a>]) -> Result<Vec<Entry<'a>>, NoM
 /// Adds those on one page.
 fn add_page<'a>(
     candidates: &mut Vec<Entry<'a>>,
-    mut elements: Leaves<'a>,
-) -> Result<(), AllocError> {
-    'elements: while let Some(leaf) = elements.next() {
+    elements: Leaves<'a>,
+) -> Result<(), AllocError>
+    ensures { OnOk result (map shown_entry candidates.new.items
+        ≡ map shown_entry candidates.old.items ++ candidates_in (leaves_left elements.entry)) }
+{
+    for leaf in elements {
         let entry = Entry {
             key: leaf.key,
             item: Item::of(&leaf),
@@ -98,7 +104,7 @@ pub(crate) fn disputed_keys<'a>(
 {
     let mut keys = Vec::new(alloc);
     for i in 1..candidates.len() {
-        if candidates[i - 1].key == candidates[i].key {
+        if candidates[i].key == candidates[i - 1].key {
             add_key(&mut keys, candidates[i].key)?;
         }
     }
@@ -106,7 +112,9 @@ pub(crate) fn disputed_keys<'a>(
 }
 
 /// Adds a key.
-pub(crate) fn add_key<'a>(keys: &mut Vec<&'a [u8]>, key: &'a [u8]) -> Result<(), NoMemory> {
+pub(crate) fn add_key<'a>(keys: &mut Vec<&'a [u8]>, key: &'a [u8]) -> Result<(), NoMemory>
+    ensures { OnOk result (keys.new.items ≡ keys.old.items ++ key.entry ∷ []) }
+{
     match keys.push(key) {
         Ok(()) => Ok(()),
         Err(_) => Err(NoMemory),
@@ -122,6 +130,9 @@ pub(crate) fn has_key(keys: &[&[u8]], key: &[u8]) -> bool
 }
 
 /// Whether an entry with this key is among these, by rising key.
-pub(crate) fn has_entry(entries: &[Entry<'_>], key: &[u8]) -> bool {
+pub(crate) fn has_entry(entries: &[Entry<'_>], key: &[u8]) -> bool
+    requires { Rises whole_cmp (map shown_entry entries.now) }
+    ensures { (result ≡ true) ↔ HasKey (map shown_entry entries.now) key.now }
+{
     entries.binary_search_by(|entry| entry.key.cmp(key)).is_ok()
 }
