@@ -1,6 +1,7 @@
 -- Of entries by key and value, the keys that two have or more, and the keys of all.
-use Rattle.std.proofs.Common.{◌≡◌, ◌≢◌, ◌∙◌, ◌<◌, ◌≤◌, ◌+◌, ◌-◌, ◌⊎◌, inl, inr, ℕ, suc, Bool, true, false, List, [], ◌∷◌, ◌++◌, cond, drop, length, map, refl, sym, ap, subst, slice_index_or, arith}
+use Rattle.std.proofs.Common.{◌≡◌, ◌≢◌, ◌∙◌, ◌<◌, ◌≤◌, ◌+◌, ◌-◌, ◌⊎◌, inl, inr, ℕ, suc, Bool, Bor, true, false, List, [], ◌∷◌, ◌++◌, cond, drop, length, map, refl, sym, ap, subst, slice_index_or, arith}
 use Rattle.std.proofs.lemmas.Bool.{cond-false, cond-true}
+use Rattle.std.proofs.lemmas.List.{append-nil, append_assoc, drop_more, get_or-map, length-drop, length-map, map-append}
 use Rattle.std.proofs.lemmas.Cmp.{nat_list_eq_equiv}
 use Rattle.std.proofs.lemmas.List.Kept.{Contains-dedup, Contains-from_dedup, IsStrictlySortedBy-dedup}
 use Rattle.std.proofs.lemmas.Map.Text.{is_eq-slice_cmp}
@@ -13,7 +14,8 @@ use Rattle.std.specs.declared.cmp.Ordering.{Ordering}
 use Rattle.std.specs.declared.cmp.Ordering.TheVariants.{Equal, Greater, Less}
 use Rattle.bolt_check.specs.Keys.{Key, key_cmp}
 use Rattle.bolt_tree.proofs.{Lists.contains_cases, Lists.contains_head, Lists.contains_none, Lists.contains_tail, Lists.irreflexive, PathOrder.key_exact, PathOrder.key_same, PathOrder.key_total}
-use Rattle.bolt_tree.specs.{Entries.EntryView, Order.Rises}
+use Rattle.bolt_tree.specs.{Entries.EntryView, Order.Rises, ShownEntries.shown_entry}
+use Rattle.bolt_tree.specs.declared.entry.Entry.{Entry}
 use Rattle.bolt_etcd.specs.Candidates.{AreDisputed, AreKeys, HasKey, IsDisputed, whole_cmp}
 use Rattle.bolt_etcd.proofs.{MappedLists.Climbs, MappedLists.climbs_sorted, MappedLists.shows_from, MappedLists.shows_has, SortedOnce.rises_from, WholeOrder.whole_total}
 
@@ -184,3 +186,59 @@ are_disputed (e ∷ es) rises = record {
   are_keys = are_keys (e ∷ es) rises;
   number = count_from e es;
 }
+
+-- ---- of the code
+
+repeated_next : (es : List EntryView) (j : ℕ) (d e : EntryView) → j + 1 < length es
+    → repeated (drop j es) ≡ cond (bytes_eq (slice_index_or es (j + 1) d).key (slice_index_or es j e).key) ((slice_index_or es (j + 1) d).key ∷ repeated (drop (j + 1) es)) (repeated (drop (j + 1) es))
+repeated_next es j d e below =
+    let first = drop_more es j e (omega arith) in
+    let second = drop_more es (j + 1) d below in
+    let here = slice_index_or es j e in
+    let next = slice_index_or es (j + 1) d in
+    ap repeated first
+    ∙ ap (repeated_from here) second
+    ∙ ap (λ (keys : List Key). cond (bytes_eq next.key here.key) (next.key ∷ keys) keys) (sym (ap repeated second))
+
+module _ (es : List Entry) where
+  abbrev left_from : ℕ → List Key
+  left_from j = repeated (drop j (map shown_entry es))
+
+  -- those from one entry on, by the next one's key
+  next_left : (i j : ℕ) (x y : Entry) → j + 1 ≡ i → i < length es
+      → left_from j ≡ cond (bytes_eq (slice_index_or es i x).key.now (slice_index_or es j y).key.now) ((slice_index_or es i x).key.now ∷ left_from i) (left_from i)
+  next_left i j x y next below =
+      let long = length-map es shown_entry in
+      let all = map shown_entry es in
+      let step = repeated_next all j (shown_entry x) (shown_entry y) (omega (arith, long)) in
+      let key = ap (λ (v : EntryView). v.key) (get_or-map shown_entry es i x (shown_entry x) below) in
+      let before = ap (λ (v : EntryView). v.key) (get_or-map shown_entry es j y (shown_entry y) (omega arith)) in
+      rw (← key, ← before, ← next) step
+
+  pub repeats : (keys more : List (Bor Key)) (i : ℕ) (x y : Entry) → 1 ≤ i → i < length es → more ≡ keys ++ (slice_index_or es i x).key ∷ []
+      → bytes_eq (slice_index_or es i x).key.now (slice_index_or es (i - 1) y).key.now ≡ true → (all : List Key) → map (λ (key : Bor Key). key.now) keys ++ left_from (i - 1) ≡ all
+      → map (λ (key : Bor Key). key.now) more ++ left_from (i + 1 - 1) ≡ all
+  repeats keys more i x y low below added same all held =
+      let step = next_left i (i - 1) x y (omega arith) below ∙ cond-true _ _ _ same in
+      let back : i + 1 - 1 ≡ i = omega arith in
+      rw (back, added, map-append, append_assoc) (ap (λ (left : List Key). map (λ (key : Bor Key). key.now) keys ++ left) (sym step) ∙ held)
+
+  pub repeats_none : (keys more : List (Bor Key)) (i : ℕ) (x y : Entry) → 1 ≤ i → i < length es → more ≡ keys
+      → bytes_eq (slice_index_or es i x).key.now (slice_index_or es (i - 1) y).key.now ≡ false → (all : List Key) → map (λ (key : Bor Key). key.now) keys ++ left_from (i - 1) ≡ all
+      → map (λ (key : Bor Key). key.now) more ++ left_from (i + 1 - 1) ≡ all
+  repeats_none keys more i x y low below same other all held =
+      let step = next_left i (i - 1) x y (omega arith) below ∙ cond-false _ _ _ other in
+      let back : i + 1 - 1 ≡ i = omega arith in
+      rw (back, same) (ap (λ (left : List Key). map (λ (key : Bor Key). key.now) keys ++ left) (sym step) ∙ held)
+
+  short : (vs : List EntryView) → length vs ≤ 1 → repeated vs ≡ []
+  short [] few = refl
+  short (v ∷ []) few = refl
+  short (v ∷ w ∷ vs) few = absurd (omega arith)
+
+  pub all_repeated : (keys : List (Bor Key)) (i : ℕ) → length es ≤ i → (all : List Key) → map (λ (key : Bor Key). key.now) keys ++ left_from (i - 1) ≡ all
+      → map (λ (key : Bor Key). key.now) keys ≡ all
+  all_repeated keys i past all held =
+      let long = length-map es shown_entry in
+      let none = short (drop (i - 1) (map shown_entry es)) (omega (arith, long, length-drop (i - 1) (map shown_entry es))) in
+      sym (append-nil _) ∙ ap (λ (left : List Key). map (λ (key : Bor Key). key.now) keys ++ left) (sym none) ∙ held

@@ -11,6 +11,7 @@ pub mod HistoryNumbers
 pub mod HistorySteps
 pub mod HistoryUntil
 pub mod KeptOfNames
+pub mod KeptRevisions
 pub mod KeyNumbers
 pub mod KeySearches
 pub mod Keys
@@ -41,6 +42,7 @@ pub mod SortedOnce
 pub mod StatesKept
 pub mod StoreExists
 pub mod StoreLemmas
+pub mod Surveyed
 pub mod TakenAway
 pub mod TakenNames
 mod TrailingAccounts
