@@ -29,6 +29,7 @@ pub mod OneRepair
 pub mod OtherCounts
 pub mod OtherSteps
 pub mod Passing
+pub mod Places
 pub mod RepairLaws
 pub mod RepairedListings
 pub mod RevisionLoops

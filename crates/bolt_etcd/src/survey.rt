@@ -87,17 +87,19 @@ impl<'a> Survey<'a> {
     {
         match place_of(path) {
             Place::Store => self.store = Some(item),
-            Place::InStore(key) if has_entry(candidates, key) => add_key(&mut self.met, key)?,
-            Place::Compaction => self.note_compaction(item),
-            Place::InStore(_) | Place::Other => {}
+            Place::InStore(key) => {
+                if has_entry(candidates, key) {
+                    add_key(&mut self.met, key)?;
+                }
+            }
+            Place::Compaction => {
+                if let Item::Value(value) = item {
+                    self.compaction = Some(value);
+                }
+            }
+            Place::Other => {}
         }
         Ok(())
-    }
-
-    fn note_compaction(&mut self, item: Item<'a>) {
-        if let Item::Value(value) = item {
-            self.compaction = Some(value);
-        }
     }
 }
 
