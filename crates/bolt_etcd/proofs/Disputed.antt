@@ -1,5 +1,5 @@
 -- Of entries by key and value, the keys that two have or more, and the keys of all.
-use Rattle.std.proofs.Common.{◌≡◌, ◌≢◌, ◌∙◌, ◌<◌, ◌≤◌, ◌+◌, ◌-◌, ◌⊎◌, inl, inr, ℕ, suc, Bool, Bor, true, false, List, [], ◌∷◌, ◌++◌, cond, drop, length, map, refl, sym, ap, subst, slice_index_or, arith}
+use Rattle.std.proofs.Common.{◌≡◌, ◌∙◌, ◌<◌, ◌≤◌, ◌+◌, ◌-◌, ◌⊎◌, inl, inr, ℕ, suc, Bool, Bor, true, false, List, [], ◌∷◌, ◌++◌, cond, drop, length, map, refl, sym, ap, subst, slice_index_or, arith}
 use Rattle.std.proofs.lemmas.Bool.{cond-false, cond-true}
 use Rattle.std.proofs.lemmas.List.{append-nil, append_assoc, drop_more, get_or-map, length-drop, length-map, map-append}
 use Rattle.std.proofs.lemmas.Cmp.{nat_list_eq_equiv}
@@ -7,7 +7,6 @@ use Rattle.std.proofs.lemmas.List.Kept.{Contains-dedup, Contains-from_dedup, IsS
 use Rattle.std.proofs.lemmas.Map.Text.{is_eq-slice_cmp}
 use Rattle.std.specs.Cmp.Lexicographic.{same_text}
 use Rattle.std.specs.List.{Contains, dedup, dedup_from}
-use Rattle.std.specs.List.Sorted.{IsSorted, IsSortedBy}
 use Rattle.std.specs.Ordering.{is_eq, is_lt, ordering_reverse, ordering_then}
 use Rattle.std.specs.Str.{bytes_eq}
 use Rattle.std.specs.declared.cmp.Ordering.{Ordering}
@@ -16,7 +15,7 @@ use Rattle.bolt_check.specs.Keys.{Key, key_cmp}
 use Rattle.bolt_tree.proofs.{Lists.contains_cases, Lists.contains_head, Lists.contains_none, Lists.contains_tail, Lists.irreflexive, PathOrder.key_exact, PathOrder.key_same, PathOrder.key_total}
 use Rattle.bolt_tree.specs.{Entries.EntryView, Order.Rises, ShownEntries.shown_entry}
 use Rattle.bolt_tree.specs.declared.entry.Entry.{Entry}
-use Rattle.bolt_etcd.specs.Candidates.{AreDisputed, AreKeys, HasKey, IsDisputed, whole_cmp}
+use Rattle.bolt_etcd.specs.Candidates.{AreDisputed, AreKeys, IsDisputed, whole_cmp}
 use Rattle.bolt_etcd.proofs.{MappedLists.Climbs, MappedLists.climbs_sorted, MappedLists.shows_from, MappedLists.shows_has, SortedOnce.rises_from, WholeOrder.whole_total}
 
 -- ---- by key, entries climb
@@ -101,9 +100,15 @@ one_more a es key (x, y, has, also, is, same, differ) = (x, y, contains_tail a x
 from_repeated : (a : EntryView) (es : List EntryView) (key : Key) → Rises whole_cmp (a ∷ es) → Contains (repeated_from a es) key → IsDisputed (a ∷ es) key
 from_repeated a [] key rises has = absurd (contains_none key has)
 from_repeated a (b ∷ es) key rises has = elim (repeated_cases b es key (bytes_eq b.key a.key) has) [
-  | inl (same, is) ↦
-      (a, b, contains_head a (b ∷ es), contains_tail a b (b ∷ es) (contains_head b es), sym (same_text b.key a.key (sym same)) ∙ is, is,
-      λ e. irreflexive whole_total b (subst (λ (x : EntryView). whole_cmp x b ≡ Less) e (rises.0 b (contains_head b es))))
+  | inl (same, is) ↦ (
+    a,
+    b,
+    contains_head a (b ∷ es),
+    contains_tail a b (b ∷ es) (contains_head b es),
+    sym (same_text b.key a.key (sym same)) ∙ is,
+    is,
+    λ e. irreflexive whole_total b (subst (λ (x : EntryView). whole_cmp x b ≡ Less) e (rises.0 b (contains_head b es))),
+  )
   | inr more ↦ one_more a (b ∷ es) key (from_repeated b es key rises.1 more)
 ]
 

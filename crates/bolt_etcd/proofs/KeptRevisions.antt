@@ -1,9 +1,9 @@
 -- Members as revisions of the bucket `key`.
-use Rattle.std.proofs.Common.{◌≡◌, ◌∙◌, Bool, true, false, List, [], ◌∷◌, ◌++◌, Option, Some, None, codes, cond, refl, sym, ap}
+use Rattle.std.proofs.Common.{◌≡◌, Bool, true, false, [], ◌∷◌, ◌++◌, Some, None, codes, cond, refl, sym, ap}
 use Rattle.std.specs.Cmp.Lexicographic.{same_text}
 use Rattle.std.specs.Str.{bytes_eq}
 use Rattle.bolt_check.specs.Keys.{Key}
-use Rattle.bolt_tree.specs.{Entries.EntryView, Entries.Item, InBuckets.entry_in, Listing.Member, Paths.Path}
+use Rattle.bolt_tree.specs.{Entries.EntryView, Entries.Item, InBuckets.entry_in, Paths.Path}
 use Rattle.bolt_etcd.specs.{Repairs.store_path, Revisions.RevisionView, Revisions.revision_of, Surveys.revision_at}
 
 -- an entry of the bucket is a revision if the entry is

@@ -1,12 +1,11 @@
 -- What a binary search by keys finds.
-use Rattle.std.proofs.Common.{◌≡◌, ◌↔◌, ◌∙◌, ◌<◌, ◌≤◌, ◌⊎◌, inl, inr, ℕ, Bool, true, false, List, [], ◌∷◌, length, map, Result, Ok, Err, refl, sym, ap, slice_index_or, subst, arith}
+use Rattle.std.proofs.Common.{◌≡◌, ◌↔◌, ◌∙◌, ◌<◌, ◌≤◌, ◌⊎◌, inl, inr, ℕ, Bool, true, false, List, [], ◌∷◌, length, map, Result, Ok, Err, sym, ap, slice_index_or, subst, arith}
 use Rattle.std.proofs.lemmas.List.{get_or-map, length-map}
 use Rattle.std.proofs.lemmas.List.Elements.{Contains-from_at}
 use Rattle.std.specs.List.{Contains, HoldsAt}
 use Rattle.std.specs.List.Sorted.{IsBinarySearchResult, IsPartitionPoint, IsSearchInRange, IsSortedBy}
 use Rattle.std.specs.Ordering.{is_lt}
 use Rattle.std.specs.Result.{is_ok}
-use Rattle.std.specs.declared.cmp.Ordering.{Ordering}
 use Rattle.std.specs.declared.cmp.Ordering.TheVariants.{Equal, Greater, Less}
 use Rattle.std.proofs.lemmas.List.Sorted.{searchable_from_sorted}
 use Rattle.bolt_check.specs.Keys.{Key, key_cmp}
@@ -46,8 +45,7 @@ module _ (key : Key) where
   pub found_entry : (xs : List Entry) (r : Result ℕ ℕ) (b : Bool) → IsSortedBy (λ a c. is_lt (key_cmp (shown_entry a).key (shown_entry c).key)) xs → IsSearchInRange r (length xs)
       → IsBinarySearchResult (λ (x : Entry). key_cmp x.key.now key) xs r → b ≡ is_ok r → (b ≡ true) ↔ HasKey (map shown_entry xs) key
   found_entry xs r b up within found is =
-      let (there, has) = found_key (λ (x : Entry). x.key.now) key xs r b up within found is in
-      (
+      let (there, has) = found_key (λ (x : Entry). x.key.now) key xs r b up within found is in (
         λ e. (let (x, inside, same) = shows_from (λ (x : Entry). x.key.now) xs key (there e) in (shown_entry x, shows_has shown_entry xs x inside, same)),
         λ (e, inside, same). (let (x, is_there, shows) = shows_from shown_entry xs e inside in
             has (subst (Contains (map (λ (y : Entry). y.key.now) xs)) (ap (λ (v : EntryView). v.key) shows ∙ same) (shows_has (λ (y : Entry). y.key.now) xs x is_there))),

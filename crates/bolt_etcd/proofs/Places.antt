@@ -1,10 +1,10 @@
 -- Where a path leads, as far as a store is concerned.
-use Rattle.std.proofs.Common.{◌≡◌, ◌∙◌, ◌<◌, ◌≤◌, Bor, true, List, [], ◌∷◌, ◌++◌, length, Option, Some, None, refl, sym, ap, slice_index_or, arith}
+use Rattle.std.proofs.Common.{◌≡◌, ◌∙◌, ◌<◌, ◌≤◌, Bor, true, List, [], ◌∷◌, ◌++◌, length, Option, Some, None, refl, ap, slice_index_or, arith}
 use Rattle.std.specs.Cmp.Lexicographic.{same_text}
 use Rattle.std.specs.Str.{bytes_eq}
 use Rattle.bolt_check.specs.Keys.{Key}
 use Rattle.bolt_tree.specs.{Entries.Item, Paths.Path, Paths.path_of}
-use Rattle.bolt_etcd.specs.{Repairs.compaction_path, Repairs.store_path, Revisions.RevisionView, Surveys.IsAt, Surveys.revision_at}
+use Rattle.bolt_etcd.specs.{Repairs.store_path, Revisions.RevisionView, Surveys.IsAt, Surveys.revision_at}
 use Rattle.bolt_etcd.specs.declared.survey.Place.{Place}
 use Rattle.bolt_etcd.specs.declared.survey.Place.TheVariants.{Compaction, InStore, Other, Store}
 use Rattle.bolt_etcd.proofs.KeptRevisions.{revision_from}

@@ -205,8 +205,7 @@ pub next_member : (listing before left new : List Member) (path given : Path) (i
     → IsAfter before (path, item) × ((before ++ (path, item) ∷ []) ++ new ≡ listing)
 next_member listing before left new path given item rises all first same =
     let next : left ≡ (path, item) ∷ new = first ∙ ap (λ (p : Path). (p, item) ∷ new) (sym same) in
-    let whole : before ++ (path, item) ∷ new ≡ listing = ap (λ (ms : List Member). before ++ ms) (sym next) ∙ all in
-    (
+    let whole : before ++ (path, item) ∷ new ≡ listing = ap (λ (ms : List Member). before ++ ms) (sym next) ∙ all in (
       λ x has. before_it (path, item) member_cmp before new x (subst (Rises member_cmp) (sym whole) rises) has,
       append_assoc before ((path, item) ∷ []) new ∙ whole,
     )

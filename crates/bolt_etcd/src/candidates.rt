@@ -43,10 +43,7 @@ fn collect<'a>(alloc: Global, found: &[Found<'a>]) -> Result<Vec<Entry<'a>>, NoM
 }
 
 /// Adds those on one page.
-fn add_page<'a>(
-    candidates: &mut Vec<Entry<'a>>,
-    elements: Leaves<'a>,
-) -> Result<(), AllocError>
+fn add_page<'a>(candidates: &mut Vec<Entry<'a>>, elements: Leaves<'a>) -> Result<(), AllocError>
     ensures { OnOk result (map shown_entry candidates.new.items
         ≡ map shown_entry candidates.old.items ++ candidates_in (leaves_left elements.entry)) }
 {

@@ -1,5 +1,4 @@
-use Rattle.std.proofs.Common.{Bor, List, ap, arith, map, subst, sym, ◌∙◌, ◌≡◌, ℕ}
-use Rattle.bolt_check.specs.Keys.{Key}
+use Rattle.std.proofs.Common.{ap, map, subst, sym, ◌∙◌}
 use Rattle.bolt_tree.specs.ShownEntries.{shown_entry}
 use Rattle.bolt_etcd.specs.Candidates.{AreDisputed}
 use Rattle.bolt_etcd.proofs.Disputed.{all_repeated, are_disputed, repeats, repeats_none}

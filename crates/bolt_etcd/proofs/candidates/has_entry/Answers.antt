@@ -1,4 +1,4 @@
-use Rattle.std.proofs.Common.{is_lt, rules}
+use Rattle.std.proofs.Common.{rules}
 use Rattle.std.proofs.lemmas.Fn.{always_returns_same}
 use Rattle.bolt_check.specs.Keys.{key_cmp}
 use Rattle.bolt_tree.specs.ShownEntries.{shown_entry}

@@ -1,4 +1,4 @@
-use Rattle.std.proofs.Common.{Bor, List, [], ap, map, sym, ◌∙◌, ◌∷◌, ℕ, refl}
+use Rattle.std.proofs.Common.{Bor, List, [], ap, map, sym, ◌∙◌, ◌∷◌, ℕ}
 use Rattle.std.proofs.lemmas.Bool.{false≢true}
 use Rattle.std.proofs.lemmas.List.{map-append}
 use Rattle.bolt_tree.specs.ShownEntries.{item_view}

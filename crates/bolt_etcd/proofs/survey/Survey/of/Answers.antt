@@ -1,8 +1,5 @@
-use Rattle.std.proofs.Common.{Bor, List, [], ap, map, subst, sym, ◌++◌, ◌∷◌, ◌≡◌, None, ℕ}
-use Rattle.bolt_check.specs.Keys.{Key}
+use Rattle.std.proofs.Common.{Bor, List, [], map, subst, sym, ◌++◌, ◌∷◌, None, ℕ}
 use Rattle.bolt_tree.specs.{Listing.Member, Paths.path_of, ShownEntries.item_view, ShownEntries.shown_entry}
-use Rattle.bolt_format.specs.declared.meta.Meta.{Meta}
-use Rattle.bolt_recover.specs.Recovered.{IsRecovered}
 use Rattle.bolt_etcd.specs.Surveys.{IsSurvey, IsSurveyOf}
 use Rattle.bolt_etcd.proofs.Surveyed.{next_member, no_more, none_surveyed}
 use Rattle.bolt_etcd.proofs.survey.Survey.of.Goals as goal
