@@ -4,6 +4,7 @@ ghost use Rattle.bolt_tree.specs.{Paths.path_of, ShownEntries.item_view};
 ghost use Rattle.bolt_etcd.specs.Surveys.{noted};
 
 use crate::candidates::{add_key, has_entry};
+use crate::revision::Revision;
 use bolt_recover::{Kept, LostAndFound};
 use bolt_tree::{Entry, Item, Members, NoMemory};
 use std::alloc::Global;
