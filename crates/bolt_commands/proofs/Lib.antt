@@ -21,6 +21,7 @@ pub mod PageAnswers
 pub mod ReadFiles
 pub mod RecoveredAnswers
 pub mod RepairAnswers
+pub mod RepairedFits
 pub mod SnapshotCopies
 pub mod SoundNames
 pub mod SoundReads

@@ -13,7 +13,7 @@ use crate::failure::{Failure, Outcome};
 use crate::file_faults::put_hash_line;
 use crate::opening::Input;
 use bolt_bulk::Blueprint;
-use bolt_etcd::laws::a_repaired_listing_is_fit;
+use bolt_etcd::laws::repaired_listing_is_of_a_tree;
 use bolt_etcd::{Repair, Repaired, SnapshotFault};
 use bolt_format::{Sink, SinkFault};
 use bolt_job::{CopyKind, EtcdRepairJob};
@@ -84,7 +84,7 @@ fn repaired_members_are_whole(repaired: &Repaired<'_>)
         (λ listing. repaired_left repaired.now listing ≡ listing) }
     ensures { IsWholeRepaired repaired.now }
 {
-    a_repaired_listing_is_fit();
+    repaired_listing_is_of_a_tree();
     a_fit_listing_is_of_one_tree();
 }
 

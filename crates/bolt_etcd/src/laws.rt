@@ -20,10 +20,9 @@ ghost use Rattle.std.specs.Prelude.{◌⊎◌};
 ghost use Rattle.std.specs.List.{Contains};
 ghost use Rattle.bolt_check.specs.{Ones.AtMostOne, Sound.HasSoundTrees};
 ghost use Rattle.bolt_format.specs.declared.meta.Meta.{Meta};
-ghost use Rattle.bolt_layout.specs.Storable.{IsFitListing};
 ghost use Rattle.bolt_recover.specs.Recovered.{IsRecovered};
-ghost use Rattle.bolt_etcd.specs.{Repaired.IsRepaired, Repairs.GoesBack, Repairs.store_path, Revisions.name_of};
-ghost use Rattle.bolt_tree.specs.{Entries.Bucket, InBuckets.entry_in, Listing.IsListing, Listing.Member};
+ghost use Rattle.bolt_etcd.specs.{Repaired.ForRepaired, Repaired.IsRepaired, Repairs.GoesBack, Repairs.store_path, Revisions.name_of};
+ghost use Rattle.bolt_tree.specs.{Entries.Bucket, InBuckets.entry_in, Listing.IsListing, Listing.Member, Listing.member_cmp, Tree.Tree, Tree.listing_of};
 
 use bolt_recover::laws::{
     found_pages_are_one, recovered_listing_is_of_a_tree, sound_trees_lose_nothing,
@@ -155,11 +154,11 @@ pub fn keys_are_what_names_held()
         → AreCurrent (until at rs) current ↔ AreHeld (state_at at ts) current) }
 {}
 
-/// A repaired listing is what a tree of buckets lists, each member once, in the order of paths, and a
-/// file can hold it.
-pub fn a_repaired_listing_is_fit()
-    ensures { (file : List ℕ) (meta : Meta) (listing : List Member) → IsBytes file
-        → IsRepaired file meta listing → IsFitListing listing }
+/// A repaired listing is what a tree of buckets lists, in the order of paths.
+pub fn repaired_listing_is_of_a_tree()
+    ensures rises { (file : List ℕ) (meta : Meta) → ForRepaired file meta (Rises member_cmp) }
+    ensures tree { (file : List ℕ) (meta : Meta) → ForRepaired file meta (λ listing.
+        (tree : Tree) × (listing ≡ listing_of tree)) }
 {
     recovered_listing_is_of_a_tree();
 }
