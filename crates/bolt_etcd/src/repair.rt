@@ -53,7 +53,7 @@ impl<'a> Repair<'a> {
     ///
     /// `Root` if the root page is lost and nothing goes back; `NotABucket` if the recovered root bucket
     /// has a value `key`; `Memory` if memory runs out.
-    pub fn find(alloc: Global, both: &'a LostAndFound<'a>) -> Result<Repair<'a>, RepairFault>
+    pub fn find(alloc: Global, both: &'a LostAndFound<'_>) -> Result<Repair<'a>, RepairFault>
         ensures file { IfOk result (λ repair. repair_file repair ≡ both.now.file.now) }
         ensures meta { IfOk result (λ repair. repair_meta repair ≡ both.now.meta) }
         ensures back { IfOk result (λ repair. ∥ IsFullRepair (repair_file repair)
