@@ -31,7 +31,7 @@ module _ (file : List ℕ) (choice : MetaChoice) (both : LostAndFound) (repair :
   the_repaired = repaired_listing full.repair.recovered (repair_is_made repair) (repair_back repair)
 
   pub is_repaired : IsRepaired own meta the_repaired
-  is_repaired = record { back = repair_back repair; is_made = repair_is_made repair; repair = full; repaired = refl }
+  is_repaired = record { back = repair_back repair; is_made = repair_is_made repair; repair = full.repair; repaired = refl }
 
   is_restored : IsRestored file choice both.meta the_repaired (all_lost both) back repair.left_out
   is_restored =
@@ -49,31 +49,21 @@ module _ (file : List ℕ) (choice : MetaChoice) (both : LostAndFound) (repair :
       }))
 
   -- its copy is whole and reported, or it isn't whole and nothing is
-  module _ {O T : Type 0} (out : Ghosts O) (out_old : O) {target : Ghosts T} {old new : T} (kind : CopyKind) (size : Option PageSize) (blueprint : Blueprint)
-      (layout : layout_for kind ≡ Balanced) (asked : IsAskedBlueprint kind size both.meta blueprint) (ending : Ending) where
+  module _ {O T : Type 0} (out : Ghosts O) (out_old : O) {target : Ghosts T} {old new : T} (kind : CopyKind) (size : Option PageSize) (snapshot : Bool) (blueprint : Blueprint)
+      (same_kind : is_snapshot kind ≡ snapshot) (layout : layout_for kind ≡ Balanced) (asked : IsAskedBlueprint kind size both.meta blueprint) (ending : Ending) where
+    copy_of_repaired : (result : Result ℕ Failure) → CopiesListing target old new (blueprint_layout blueprint the_repaired) the_repaired (is_snapshot kind) result
+        → CopiesListing target old new (layout_of_listing Balanced (copy_page_size size both.meta) the_repaired both.meta.root_sequence) the_repaired snapshot result
+    copy_of_repaired result copy = listing_asked kind size both.meta blueprint result layout asked (rw same_kind at copy)
+
     pub repair_failed : (why : Failure) → CopiesListing target old new (blueprint_layout blueprint the_repaired) the_repaired (is_snapshot kind) (Err why) → ending ≡ Err why
-        → WritesRestored out.taken out.failed out_old out_old target.taken target.failed old new file choice size (is_snapshot kind) ending
-    repair_failed why copy ends = (
-        both.meta,
-        the_repaired,
-        all_lost both,
-        back,
-        repair.left_out,
-        is_restored,
-        listing_failed out out_old (repair_report (bad_hash (is_snapshot kind) file) (all_lost both) back repair.left_out (length file)) ending why
-        (listing_asked kind size both.meta blueprint (Err why) layout asked copy) ends,
-      )
+        → WritesRestored out.taken out.failed out_old out_old target.taken target.failed old new file choice size snapshot ending
+    repair_failed why copy ends =
+        let report = repair_report (bad_hash snapshot file) (all_lost both) back repair.left_out (length file) in
+        (both.meta, the_repaired, all_lost both, back, repair.left_out, is_restored, listing_failed out out_old report ending why (copy_of_repaired (Err why) copy) ends)
 
     pub repair_done : {out_new : O} (count : ℕ) → CopiesListing target old new (blueprint_layout blueprint the_repaired) the_repaired (is_snapshot kind) (Ok count)
-        → Does out.taken out.failed out_old out_new (repair_report (bad_hash (is_snapshot kind) file) (all_lost both) back repair.left_out (length file) count) ending
-        → WritesRestored out.taken out.failed out_old out_new target.taken target.failed old new file choice size (is_snapshot kind) ending
-    repair_done count copy does = (
-        both.meta,
-        the_repaired,
-        all_lost both,
-        back,
-        repair.left_out,
-        is_restored,
-        listing_done out out_old (repair_report (bad_hash (is_snapshot kind) file) (all_lost both) back repair.left_out (length file)) ending count
-        (listing_asked kind size both.meta blueprint (Ok count) layout asked copy) does,
-      )
+        → Does out.taken out.failed out_old out_new (repair_report (bad_hash snapshot file) (all_lost both) back repair.left_out (length file) count) ending
+        → WritesRestored out.taken out.failed out_old out_new target.taken target.failed old new file choice size snapshot ending
+    repair_done count copy does =
+        let report = repair_report (bad_hash snapshot file) (all_lost both) back repair.left_out (length file) in
+        (both.meta, the_repaired, all_lost both, back, repair.left_out, is_restored, listing_done out out_old report ending count (copy_of_repaired (Ok count) copy) does)

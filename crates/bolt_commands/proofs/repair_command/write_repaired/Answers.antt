@@ -30,8 +30,8 @@ returns-in_err-copy g c =
       | inl copies ↦ inl (∥∥₁_map found.back (λ (full : IsFullRepair (repair_file repair) (repair_meta repair) (repair_back repair) (repair_is_made repair) repair.left_out).
           let from = found.file ∙ searched.bytes in
           let is = is_repaired file choice both repair _ _ searched from found.meta full found.some _ refl in
-          rw c.kind_of-kind.ensures.snapshot at
-          (repair_failed file choice both repair _ _ searched from found.meta full found.some _ refl g.O.Sink _ _ _ _ c.kind_of-kind.ensures.layout c.blueprint_of-blueprint.ensures _ _ (copies _ is) ends)))
+          repair_failed file choice both repair _ _ searched from found.meta full found.some _ refl g.O.Sink _ c.kind_of-kind.result _ _ _ c.kind_of-kind.ensures.snapshot c.kind_of-kind.ensures.layout
+          c.blueprint_of-blueprint.ensures _ _ (copies _ is) ends))
       | inr (same, is) ↦ inr (_, inl (_, Memory, searched.under, tt, refl), (refl, same, ends ∙ is))
     ]
 
@@ -43,13 +43,13 @@ returns g c =
     let found = c.in_ok-repair.ensures in
     let file = c.args.input.file.now in
     let choice = c.args.job.now.meta in
-    let told = rw (c.bad_hash.ensures, c.lost.ensures) at c.end_repair.ensures in
+    let told = rw (c.bad_hash.ensures, c.kind_of-kind.ensures.snapshot, c.lost.ensures) at c.end_repair.ensures in
     elim c.in_ok-copy.ensures [
       | inl copies ↦ inl (∥∥₁_map found.back (λ (full : IsFullRepair (repair_file repair) (repair_meta repair) (repair_back repair) (repair_is_made repair) repair.left_out).
           let from = found.file ∙ searched.bytes in
-          let counts = c.len.ensures ∙ sym (length-map _ _) in
+          let counts = c.len.ensures ∙ repair.back.ok.0 ∙ sym (length-map _ _) in
           let is = is_repaired file choice both repair _ _ searched from found.meta full found.some _ counts in
-          rw c.kind_of-kind.ensures.snapshot at
-          (repair_done file choice both repair _ _ searched from found.meta full found.some _ counts g.O.Sink _ _ _ _ c.kind_of-kind.ensures.layout c.blueprint_of-blueprint.ensures _ _ (copies _ is) told)))
+          repair_done file choice both repair _ _ searched from found.meta full found.some _ counts g.O.Sink _ c.kind_of-kind.result _ _ _ c.kind_of-kind.ensures.snapshot c.kind_of-kind.ensures.layout
+          c.blueprint_of-blueprint.ensures _ _ (copies _ is) told))
       | inr (same, is) ↦ absurd (cc)
     ]
