@@ -1,30 +1,41 @@
+pub mod AgreedEntries
 pub mod ByName
 pub mod CandidateLemmas
 pub mod CompactionsAdded
 pub mod Currents
+pub mod Disputed
 pub mod EtcdCompacts
 pub mod FaultsOfNames
 pub mod Fields
 pub mod Filtered
+pub mod FirstOfSame
+pub mod FoundRepairs
 pub mod HistoryNumbers
 pub mod HistorySteps
 pub mod HistoryUntil
 pub mod KeptOfNames
+pub mod KeptRevisions
 pub mod KeyNumbers
+pub mod KeySearches
 pub mod Keys
 pub mod LastOfAll
 pub mod LastOnes
 pub mod Leases
 pub mod ListedTexts
+pub mod MappedLists
 pub mod Messages
 pub mod MissingExact
 pub mod NameHistories
+pub mod NewestEntries
 pub mod NewestOfNames
 pub mod NothingFound
+pub mod OldOfName
 pub mod OneRepair
 pub mod OtherCounts
 pub mod OtherSteps
 pub mod Passing
+pub mod Places
+pub mod PutBackEntries
 pub mod RepairLaws
 pub mod RepairedListings
 pub mod RevisionLoops
@@ -38,6 +49,8 @@ pub mod SortedOnce
 pub mod StatesKept
 pub mod StoreExists
 pub mod StoreLemmas
+pub mod SupersededKeys
+pub mod Surveyed
 pub mod TakenAway
 pub mod TakenNames
 mod TrailingAccounts
@@ -45,3 +58,5 @@ mod TrailingBytes
 mod TrailingMetas
 pub mod Varints
 pub mod WholeNames
+pub mod WholeOrder
+pub mod WholeRepairs

@@ -1,3 +1,4 @@
+pub mod Agreed
 pub mod Candidates
 pub mod CheckLines
 pub mod Compacted
@@ -39,6 +40,7 @@ pub mod SnapshotFaults
 pub mod StoreBuckets
 pub mod StoreFaults
 pub mod Stores
+pub mod Superseded
 pub mod Surveys
 pub mod Taken
 pub mod Told

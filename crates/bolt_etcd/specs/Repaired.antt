@@ -1,14 +1,20 @@
 -- The repaired listing: docs/RECOVERY.md, "The repaired listing".
-use Rattle.std.specs.Prelude.{◌≡◌, ℕ, Bool, List, [], ◌∷◌, false, true, flat_map}
+use Rattle.std.specs.Prelude.{◌≡◌, ℕ, Bool, List, [], ◌∷◌, None, Option, Some, false, true, flat_map}
 use Rattle.std.specs.List.{Contains}
 use Rattle.bolt_format.specs.{Elements.LeafElement, Pages.page_at, declared.meta.Meta.Meta}
-use Rattle.bolt_tree.specs.{Entries.Bucket, Entries.EntryView, Entries.Item, InBuckets.members_in, Listing.Member, Merges.merge}
+use Rattle.bolt_tree.specs.{Entries.Bucket, Entries.EntryView, Entries.Item, Entries.Value, InBuckets.members_in, Listing.Member, Merges.merge}
 use Rattle.bolt_recover.specs.{Found.AreFound, Recovered.IsRecovered, Sites.leaves_of}
 use Rattle.bolt_etcd.specs.Repairs.{AreBack, IsCompactedAt, store_path}
 
 -- the elements of these pages
 abbrev pub elements_on : List ℕ → Meta → List ℕ → List LeafElement
 elements_on file meta found = flat_map (λ n. leaves_of (page_at file meta n)) found
+
+-- Whether nothing is under the name of the bucket. A value there is no answer.
+abbrev pub lacks_bucket : Option Item → Option Bool
+lacks_bucket None = Some true
+lacks_bucket (Some (Bucket sequence)) = Some false
+lacks_bucket (Some (Value value)) = None
 
 -- Whether the bucket is made: if something goes back, and it isn't there.
 abbrev pub MakesStore : List Member → List EntryView → Bool → Type 0

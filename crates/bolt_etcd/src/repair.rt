@@ -1,10 +1,15 @@
 //! What goes back into the bucket `key` of a damaged file, and the search for it.
-ghost use Rattle.std.specs.Prelude.{◌≡◌, ◌≢◌, [], IfErr, IfOk, map};
+ghost use Rattle.std.specs.Prelude.{◌≡◌, ◌≢◌, List, [], IfErr, IfOk, OnOk, length, map, not};
+ghost use Rattle.std.specs.Option.{option_map};
+ghost use Rattle.std.specs.List.Sorted.{IsSorted};
 ghost use Rattle.bolt_check.specs.declared.finding.Finding.{Finding};
 ghost use Rattle.bolt_recover.specs.{LostAndFound.all_lost, Losses.everything};
 ghost use Rattle.bolt_etcd.specs.{FullRepairs.IsFullRepair, Repaired.IsRepair, RepairRefusals.IsRepairRefusal};
-ghost use Rattle.bolt_etcd.specs.{RepairedMembers.repair_file, RepairedMembers.repair_meta, RepairedMerges.repair_back, RepairedMerges.repair_is_made};
-ghost use Rattle.bolt_tree.specs.ShownEntries.{shown_entry};
+ghost use Rattle.bolt_check.specs.Keys.{Key, key_cmp};
+ghost use Rattle.bolt_recover.specs.Recovered.{ForRecovered};
+ghost use Rattle.bolt_tree.specs.{InBuckets.view_cmp, Order.Rises, ShownEntries.item_view, ShownEntries.shown_entry};
+ghost use Rattle.bolt_etcd.specs.{Agreed.AreAgreed, Agreed.AreUnmetKeys, Agreed.among, Agreed.without, Candidates.whole_cmp, Repaired.lacks_bucket, Superseded.ArePutBack};
+ghost use Rattle.bolt_etcd.specs.declared.repair.RepairFault.TheVariants as faults;
 
 use crate::candidates::{candidates_of, disputed_keys, has_key};
 use crate::compaction::compacted_by;
@@ -41,12 +46,16 @@ pub enum RepairFault {
 }
 
 impl From<NoMemory> for RepairFault {
+    ghost from_gives = { λ _ fault. fault ≡ faults.Memory };
+
     fn from(_fault: NoMemory) -> Self {
         RepairFault::Memory
     }
 }
 
 impl<'a> Repair<'a> {
+    ghost use Rattle.bolt_etcd.specs.{RepairedMembers.repair_file, RepairedMembers.repair_meta, RepairedMerges.repair_back, RepairedMerges.repair_is_made};
+
     /// Finds what goes back. Goes over what is recovered once, and once more if there are candidates.
     ///
     /// # Errors
@@ -64,20 +73,11 @@ impl<'a> Repair<'a> {
     {
         let mut back = candidates_of(alloc, both.found.as_slice())?;
         let survey = Survey::of(alloc, both, back.as_slice())?;
-        if let Some(Item::Value(_)) = survey.store {
+        let Some(is_lacking) = lacks_bucket(survey.store) else {
             return Err(RepairFault::NotABucket);
-        }
-        let compacted = compacted_by(survey.compaction);
-        back.retain(|entry| !has_key(survey.met.as_slice(), entry.key));
-        let disputed = disputed_keys(alloc, back.as_slice())?;
-        let keys = back.len() - disputed.len();
-        back.retain(|entry| !has_key(disputed.as_slice(), entry.key));
-        keep_newest(&mut back, compacted);
-        let superseded = superseded_keys(alloc, both, back.as_slice(), compacted)?;
-        back.retain(|entry| {
-            stays(entry, compacted) && !has_key(superseded.as_slice(), entry.key)
-        });
-        back.sort_unstable_by(|a, b| a.key.cmp(b.key));
+        };
+        let keys = keep_agreed(alloc, &mut back, survey.met.as_slice())?;
+        keep_what_goes_back(alloc, both, &mut back, compacted_by(survey.compaction))?;
         if let Lost::Everything(finding) = both.lost()
             && back.is_empty()
         {
@@ -86,8 +86,80 @@ impl<'a> Repair<'a> {
         Ok(Repair {
             both,
             left_out: (keys - back.len()) as u64,
-            is_made: survey.store.is_none() && !back.is_empty(),
+            is_made: is_lacking && !back.is_empty(),
             back,
         })
     }
+}
+
+/// Whether nothing is under the bucket's name. Returns `None` if a value is.
+fn lacks_bucket(under: Option<Item<'_>>) -> Option<bool>
+    ensures { result ≡ lacks_bucket (option_map item_view under.entry) }
+{
+    match under {
+        None => Some(true),
+        Some(Item::Bucket { .. }) => Some(false),
+        Some(Item::Value(_)) => None,
+    }
+}
+
+/// Keeps the candidates that are agreed: the recovered bucket doesn't have their keys (those are met),
+/// and no other candidate has the key with another value. They stand by rising key. Returns the number
+/// of keys of candidates that aren't met.
+fn keep_agreed(
+    alloc: Global,
+    candidates: &mut Vec<Entry<'_>>,
+    met: &[&[u8]],
+) -> Result<usize, NoMemory>
+    requires rises { Rises whole_cmp (map shown_entry candidates.old.items) }
+    requires sorted { IsSorted key_cmp (map (λ key. key.now) met.now) }
+    ensures agreed { OnOk result (AreAgreed (map shown_entry candidates.old.items)
+        (map (λ key. key.now) met.now) (map shown_entry candidates.new.items)) }
+    ensures keys { IfOk result (λ number. (keys : List Key)
+        × AreUnmetKeys (map shown_entry candidates.old.items) (map (λ key. key.now) met.now) keys
+        × (number ≡ length keys)) }
+{
+    remove_keys(candidates, met);
+    let disputed = disputed_keys(alloc, candidates.as_slice())?;
+    let keys = candidates.len() - disputed.len();
+    remove_keys(candidates, disputed.as_slice());
+    Ok(keys)
+}
+
+/// Keeps of the agreed candidates those that go back: those after the last compaction, and what that
+/// keeps of the others.
+fn keep_what_goes_back<'a>(
+    alloc: Global,
+    both: &LostAndFound<'a>,
+    agreed: &mut Vec<Entry<'a>>,
+    compacted: u64,
+) -> Result<(), NoMemory>
+    requires { Rises view_cmp (map shown_entry agreed.old.items) }
+    ensures { OnOk result (ForRecovered both.now.file.now both.now.meta (λ recovered.
+        ArePutBack compacted recovered (map shown_entry agreed.old.items)
+        (map shown_entry agreed.new.items))) }
+{
+    keep_newest(agreed, compacted);
+    let superseded = superseded_keys(alloc, both, agreed.as_slice(), compacted)?;
+    remove_keys(agreed, superseded.as_slice());
+    agreed.retain(|entry| stays(entry, compacted));
+    agreed.sort_unstable_by(|a, b| a.key.cmp(b.key));
+    Ok(())
+}
+
+/// Removes the entries that have one of these keys, which are sorted.
+fn remove_keys(entries: &mut Vec<Entry<'_>>, keys: &[&[u8]])
+    requires { IsSorted key_cmp (map (λ key. key.now) keys.now) }
+    ensures { map shown_entry entries.new.items
+        ≡ without (map (λ key. key.now) keys.now) (map shown_entry entries.old.items) }
+{
+    entries.retain(|entry| lacks_key(keys, entry.key));
+}
+
+/// Whether a key isn't among these, which are sorted.
+fn lacks_key(keys: &[&[u8]], key: &[u8]) -> bool
+    requires { IsSorted key_cmp (map (λ key. key.now) keys.now) }
+    ensures { result ≡ not (among (map (λ key. key.now) keys.now) key.now) }
+{
+    !has_key(keys, key)
 }
