@@ -1,5 +1,5 @@
 -- Candidates of several pages.
-use Rattle.std.proofs.Common.{◌≡◌, ◌∙◌, ◌+◌, ℕ, List, [], ◌∷◌, ◌++◌, drop, map, filter, ap, sym, append_assoc, refl}
+use Rattle.std.proofs.Common.{◌≡◌, ◌∙◌, List, ◌∷◌, ◌++◌, map, filter, ap, sym, append_assoc}
 use Rattle.std.proofs.lemmas.{List.Elements.filter-append, List.map-append}
 use Rattle.bolt_format.specs.{Elements.LeafElement, TreePages.leaves_on}
 use Rattle.bolt_tree.specs.Entries.{EntryView, entry_view}

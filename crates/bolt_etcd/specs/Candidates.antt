@@ -1,6 +1,6 @@
 -- Which elements of found pages are candidates, as far as the recovered listing isn't looked at.
 use Rattle.std.specs.Prelude.{◌&&◌, ◌+◌, ◌≡◌, ◌≢◌, ◌↔◌, ℕ, Bool, false, length, List, [], filter, flat_map, map, not, Option, Some, None}
-use Rattle.std.specs.List.{Contains, Sorting.IsSorted}
+use Rattle.std.specs.List.{Contains, Sorted.IsSorted}
 use Rattle.std.specs.{Ordering.ordering_then, Str.bytes_eq}
 use Rattle.std.specs.declared.cmp.Ordering.{Ordering}
 use Rattle.bolt_format.specs.{Elements.LeafElement, TreePages.leaves_on}

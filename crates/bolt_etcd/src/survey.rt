@@ -1,7 +1,10 @@
 //! What the recovered listing says of a store.
-ghost use Rattle.std.specs.Prelude.{◌≡◌, OnOk};
-ghost use Rattle.bolt_tree.specs.{Paths.path_of, ShownEntries.item_view};
-ghost use Rattle.bolt_etcd.specs.Surveys.{noted};
+ghost use Rattle.std.specs.Prelude.{◌≡◌, ◌++◌, ◌∷◌, [], IfOk, List, OnOk, map};
+ghost use Rattle.bolt_tree.specs.{Listing.Member, Order.Rises, Paths.path_of};
+ghost use Rattle.bolt_tree.specs.ShownEntries.{item_view, shown_entry};
+ghost use Rattle.bolt_recover.specs.Recovered.{ForRecovered};
+ghost use Rattle.bolt_etcd.specs.{Candidates.whole_cmp, Returns.Returns, ShownRevisions.shown_revision};
+ghost use Rattle.bolt_etcd.specs.Surveys.{IsAt, revision_at};
 
 use crate::candidates::{add_key, has_entry};
 use crate::revision::Revision;
@@ -18,6 +21,19 @@ const META: &[u8] = b"meta";
 /// The key under which it is noted.
 const SCHEDULED: &[u8] = b"scheduledCompactRev";
 
+/// Where a path leads.
+#[derive(Clone, Copy)]
+enum Place<'a> {
+    /// To the bucket `key` itself, or what is there in its place.
+    Store,
+    /// To an entry of the bucket `key`, with this key.
+    InStore(&'a [u8]),
+    /// To what notes the last compaction.
+    Compaction,
+    /// Elsewhere.
+    Other,
+}
+
 /// What the recovered listing says of a store.
 #[derive(Drop)]
 pub(crate) struct Survey<'a> {
@@ -30,6 +46,8 @@ pub(crate) struct Survey<'a> {
 }
 
 impl<'a> Survey<'a> {
+    ghost use Rattle.bolt_etcd.specs.Surveys.{IsAfter, IsSurveyOf};
+
     /// Goes over all that is recovered of a file.
     pub fn of(
         alloc: Global,
@@ -39,8 +57,7 @@ impl<'a> Survey<'a> {
         requires { Rises whole_cmp (map shown_entry candidates.now) }
         ensures { IfOk result (λ survey.
             ForRecovered both.now.file.now both.now.meta (λ recovered.
-            IsSurvey recovered (map shown_entry candidates.now) (option_map item_view survey.store)
-            (option_map (λ value. value.now) survey.compaction) (map (λ key. key.now) survey.met.items))) }
+            IsSurveyOf recovered (map shown_entry candidates.now) survey)) }
     {
         let mut survey = Survey {
             store: None,
@@ -54,42 +71,56 @@ impl<'a> Survey<'a> {
         Ok(survey)
     }
 
-    /// Notes a member.
+    /// Notes a member, which comes after all that are noted.
     fn note(
         &mut self,
         path: &[&'a [u8]],
         item: Item<'a>,
         candidates: &[Entry<'a>],
-    ) -> Result<(), NoMemory> {
-        if path.len() == 1 && path[0] == STORE {
-            self.store = Some(item);
-        }
-        if path.len() != 2 {
-            return Ok(());
-        }
-        if path[0] == STORE && has_entry(candidates, path[1]) {
-            add_key(&mut self.met, path[1])?;
-        }
-        if path[0] == META && path[1] == SCHEDULED {
-            self.note_compaction(item);
+    ) -> Result<(), NoMemory>
+        requires { Rises whole_cmp (map shown_entry candidates.now) }
+        ensures { OnOk result ((before : List Member)
+            → IsAfter before (path_of path.now, item_view item.entry)
+            → IsSurveyOf before (map shown_entry candidates.now) self.old
+            → IsSurveyOf (before ++ (path_of path.now, item_view item.entry) ∷ [])
+            (map shown_entry candidates.now) self.new) }
+    {
+        match place_of(path) {
+            Place::Store => self.store = Some(item),
+            Place::InStore(key) => {
+                if has_entry(candidates, key) {
+                    add_key(&mut self.met, key)?;
+                }
+            }
+            Place::Compaction => {
+                if let Item::Value(value) = item {
+                    self.compaction = Some(value);
+                }
+            }
+            Place::Other => {}
         }
         Ok(())
     }
+}
 
-    fn note_compaction(&mut self, item: Item<'a>) {
-        if let Item::Value(value) = item {
-            self.compaction = Some(value);
-        }
+/// Where a path leads.
+fn place_of<'a>(path: &[&'a [u8]]) -> Place<'a>
+    ensures { IsAt (path_of path.now) result }
+{
+    match path {
+        [bucket] if *bucket == STORE => Place::Store,
+        [bucket, key] if *bucket == STORE => Place::InStore(key),
+        [bucket, key] if *bucket == META && *key == SCHEDULED => Place::Compaction,
+        _ => Place::Other,
     }
 }
 
 /// The revision in the bucket `key` that a member is, if it is one.
-pub(crate) fn revision_at<'a>(
-    path: &[&'a [u8]],
-    item: Item<'a>,
-) -> Option<Revision<'a>> {
-    if path.len() != 2 || path[0] != STORE {
-        return None;
+pub(crate) fn revision_at<'a>(path: &[&'a [u8]], item: Item<'a>) -> Option<Revision<'a>>
+    ensures { Returns shown_revision result (revision_at (path_of path.now) (item_view item.entry)) }
+{
+    match place_of(path) {
+        Place::InStore(key) => Revision::of(&Entry { key, item }),
+        _ => None,
     }
-    Revision::of(&Entry { key: path[1], item })
 }
