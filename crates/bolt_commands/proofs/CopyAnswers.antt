@@ -24,12 +24,12 @@ pub copy_asked : {T : Type 0} {target : Ghosts T} {old new : T} {listing : List 
 copy_asked asked copy = rw (asked.layout, asked.page_size, asked.sequence) at copy
 
 -- of what is read, which if the copy is whole is known with what is lost
-pub copy_read : {T : Type 0} {target : Ghosts T} {old new : T} {job : CompactJob} (file : List ℕ) (before after : Opened) {blueprint : Blueprint} {listing : List Member} (lost : LostView)
+pub copy_read : {T : Type 0} {target : Ghosts T} {old new : T} (job : CompactJob) (file : List ℕ) (before after : Opened) {blueprint : Blueprint} {listing : List Member} (lost : LostView)
     → IsReadTo job.extent file job.meta (opened_meta before) listing lost (map found_view (opened_found before)) → IsAskedBlueprint job.kind job.page_size (opened_meta before) blueprint
     → (made : Result ℕ BulkFault) → CopiesTo target old new (blueprint_layout blueprint listing) listing (is_snapshot job.kind) made → OnOk made (opened_lost after ≡ lost)
     → (result : Result ℕ Failure) → result ≡ failing copied made → CopiesRead target old new job file before after result
-copy_read file before after lost read asked (Ok count) copy known result is = inl (_, _, read, rw is known, (Ok count, copy_asked asked copy, is))
-copy_read file before after lost read asked (Err fault) copy known result is = inl (_, _, read, rw is tt, (Err fault, copy_asked asked copy, is))
+copy_read job file before after lost read asked (Ok count) copy known result is = inl (_, _, read, rw is known, (Ok count, copy_asked asked copy, is))
+copy_read job file before after lost read asked (Err fault) copy known result is = inl (_, _, read, rw is tt, (Err fault, copy_asked asked copy, is))
 
 -- it is whole and reported, or it isn't whole and nothing is
 pub copy_written : {O T : Type 0} (out : Ghosts O) {out_old out_new : O} {target : Ghosts T} {old new : T} {layout : List ℕ} {listing : List Member} {snapshot : Bool} (answer : ℕ → Answer)

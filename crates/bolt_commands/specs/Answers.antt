@@ -704,15 +704,18 @@ module _ {O T : Type 0} (out_taken : O → Option (List ℕ)) (out_failed : O �
       (WritesCopy snapshot listing (layout_of_listing which (copy_page_size size meta) listing meta.root_sequence) (copy_report hash lost found (length file))) ending)
       ⊎ ((why : Failure) × IsUnreadTo extent file choice why × WritesNone why ending)
 
+  -- the copy of the repaired listing, and what is reported of it
+  abbrev pub WritesRestored : List ℕ → MetaChoice → Option PageSize → (snapshot : Bool) → Ending → Type 0
+  WritesRestored file choice size snapshot ending =
+      (meta : Meta) × (listing : List Member) × (lost : LostView) × (back left_out : ℕ) × IsRestored file choice meta listing lost back left_out
+      × WritesCopy snapshot listing (layout_of_listing Balanced (copy_page_size size meta) listing meta.root_sequence) (repair_report (bad_hash snapshot file) lost back left_out (length file)) ending
+
   -- `etcd-repair`: The target accepts the balanced layout of the repaired listing at the copy's page size, and for a snapshot then its hash: a good
   -- copy of that listing. Then it is reported if the file has a hash that isn't right, what is lost, and how many revisions go back. Or there is
   -- no repaired listing, or memory ran out, and neither is touched.
   abbrev pub MakesRepair : List ℕ → MetaChoice → Option PageSize → (snapshot : Bool) → Ending → Type 0
   MakesRepair file choice size snapshot ending =
-      ∥ (meta : Meta) × (listing : List Member) × (lost : LostView) × (back left_out : ℕ) × IsRestored file choice meta listing lost back left_out
-      × WritesCopy snapshot listing (layout_of_listing Balanced (copy_page_size size meta) listing meta.root_sequence)
-      (repair_report (bad_hash snapshot file) lost back left_out (length file)) ending ∥₁
-      ⊎ ((why : Failure) × IsUnrestored file choice why × WritesNone why ending)
+      ∥ WritesRestored file choice size snapshot ending ∥₁ ⊎ ((why : Failure) × IsUnrestored file choice why × WritesNone why ending)
 
   -- `load`: The target accepts the layout that is asked for of the listing that the lines of the file tell, with this root sequence, and for a
   -- snapshot then its hash: a good copy of that listing. Or a line isn't right, or memory ran out, and neither is touched.

@@ -1,11 +1,10 @@
 -- The copy is made and then reported, or it isn't whole, or there is none.
 use Rattle.std.proofs.Common.{◌∙◌, inl, inr, length, refl, sym}
 use Rattle.std.proofs.lemmas.List.{length-map}
-use Rattle.bolt_commands.proofs.{CopyAnswers.listing_done, CopyAnswers.listing_failed, Doing.ends_as, ReadFiles.choice_page_size}
-use Rattle.bolt_commands.proofs.RepairAnswers.{is_repaired, is_restored, listing_asked, the_repaired, unsearched_unrestored}
-use Rattle.bolt_commands.proofs.Vocabulary.{all_lost, bad_hash, ∥∥₁_map}
-use Rattle.bolt_commands.specs.Answers.{repair_report}
-use Rattle.bolt_etcd.specs.RepairedMerges.{repair_back}
+use Rattle.bolt_commands.proofs.{Doing.ends_as, ReadFiles.choice_page_size}
+use Rattle.bolt_commands.proofs.RepairAnswers.{is_repaired, repair_done, repair_failed, unsearched_unrestored}
+use Rattle.bolt_commands.proofs.Vocabulary.{∥∥₁_map}
+use Rattle.bolt_etcd.specs.{FullRepairs.IsFullRepair, RepairedMembers.repair_file, RepairedMembers.repair_meta, RepairedMerges.repair_back, RepairedMerges.repair_is_made}
 use Rattle.bolt_etcd.specs.declared.repair.RepairFault.TheVariants.{Memory}
 use Rattle.bolt_commands.proofs.repair_command.write_repaired.Goals as goal
 
@@ -18,29 +17,21 @@ returns-in_err-repair g c =
     let why = rw searched.bytes at c.in_err-repair.ensures.refused in
     inr (_, inl (_, _, searched.under, why, refl), (refl, refl, ends_as _ _ c.from_residual-in_err-repair.ensures.1))
 
-pub blueprint_of-requires : goal.blueprint_of-requires
-blueprint_of-requires g c = choice_page_size _ _ _ c.in_ok-both.ensures.searched.under
-
 pub returns-in_err-copy : goal.returns-in_err-copy
 returns-in_err-copy g c =
     let both = c.in_ok-both.both in
     let repair = c.in_ok-repair.repair in
     let searched = c.in_ok-both.ensures.searched in
     let found = c.in_ok-repair.ensures in
+    let file = c.args.input.file.now in
+    let choice = c.args.job.now.meta in
     let ends = ends_as _ _ c.from_residual-in_err-copy.ensures.1 in
     elim c.in_err-copy.ensures [
-      | inl copies ↦ inl (∥∥₁_map (rw (found.file ∙ searched.bytes, found.meta) at found.back) (λ full.
-          let file = c.args.input.file.now in
-          let is = rw (found.file ∙ searched.bytes, found.meta) (is_repaired file c.args.job.now.meta both repair searched full) in
-          let copy = listing_asked _ c.kind_of-kind.ensures.layout c.blueprint_of-blueprint.ensures (copies _ is) in (
-            both.meta,
-            the_repaired file c.args.job.now.meta both repair searched full,
-            all_lost both,
-            length (repair_back repair),
-            repair.left_out,
-            is_restored file c.args.job.now.meta both repair searched full found.some _ refl,
-            rw c.kind_of-kind.ensures.snapshot at (listing_failed g.O.Sink _ (repair_report (bad_hash c.args.job.now.snapshot file) (all_lost both) (length (repair_back repair)) repair.left_out (length file)) _ _ copy ends),
-          )))
+      | inl copies ↦ inl (∥∥₁_map found.back (λ (full : IsFullRepair (repair_file repair) (repair_meta repair) (repair_back repair) (repair_is_made repair) repair.left_out).
+          let from = found.file ∙ searched.bytes in
+          let is = is_repaired file choice both repair _ _ searched from found.meta full found.some _ refl in
+          repair_failed file choice both repair _ _ searched from found.meta full found.some _ refl g.O.Sink _ c.kind_of-kind.result _ _ _ c.kind_of-kind.ensures.snapshot c.kind_of-kind.ensures.layout
+          c.blueprint_of-blueprint.ensures _ _ (copies _ is) ends))
       | inr (same, is) ↦ inr (_, inl (_, Memory, searched.under, tt, refl), (refl, same, ends ∙ is))
     ]
 
@@ -50,19 +41,15 @@ returns g c =
     let repair = c.in_ok-repair.repair in
     let searched = c.in_ok-both.ensures.searched in
     let found = c.in_ok-repair.ensures in
+    let file = c.args.input.file.now in
+    let choice = c.args.job.now.meta in
     let told = rw (c.bad_hash.ensures, c.kind_of-kind.ensures.snapshot, c.lost.ensures) at c.end_repair.ensures in
     elim c.in_ok-copy.ensures [
-      | inl copies ↦ inl (∥∥₁_map (rw (found.file ∙ searched.bytes, found.meta) at found.back) (λ full.
-          let file = c.args.input.file.now in
-          let is = rw (found.file ∙ searched.bytes, found.meta) (is_repaired file c.args.job.now.meta both repair searched full) in
-          let copy = rw c.kind_of-kind.ensures.snapshot at (listing_asked _ c.kind_of-kind.ensures.layout c.blueprint_of-blueprint.ensures (copies _ is)) in (
-            both.meta,
-            the_repaired file c.args.job.now.meta both repair searched full,
-            all_lost both,
-            c.len.result,
-            repair.left_out,
-            is_restored file c.args.job.now.meta both repair searched full found.some _ (c.len.ensures ∙ sym (length-map _ _)),
-            listing_done g.O.Sink _ (repair_report (bad_hash c.args.job.now.snapshot file) (all_lost both) c.len.result repair.left_out (length file)) _ _ copy told,
-          )))
+      | inl copies ↦ inl (∥∥₁_map found.back (λ (full : IsFullRepair (repair_file repair) (repair_meta repair) (repair_back repair) (repair_is_made repair) repair.left_out).
+          let from = found.file ∙ searched.bytes in
+          let counts = c.len.ensures ∙ repair.back.ok.0 ∙ sym (length-map _ _) in
+          let is = is_repaired file choice both repair _ _ searched from found.meta full found.some _ counts in
+          repair_done file choice both repair _ _ searched from found.meta full found.some _ counts g.O.Sink _ c.kind_of-kind.result _ _ _ c.kind_of-kind.ensures.snapshot c.kind_of-kind.ensures.layout
+          c.blueprint_of-blueprint.ensures _ _ (copies _ is) told))
       | inr (same, is) ↦ absurd (cc)
     ]
