@@ -75,8 +75,8 @@ abbrev pub RepairsNothing : {O T : Type 0} (out : Ghosts O) (target : Ghosts T) 
 RepairsNothing {O} {T} out target file meta choice =
     (out_old out_new : O) (target_old target_new : T) (size : Option PageSize) (snapshot : Bool) (ending : Ending)
     → MakesRepair out.taken out.failed out_old out_new target.taken target.failed target_old target_new file choice size snapshot ending
-    → ∥ (listing : List Member) × IsListing file meta listing
+    → ∥ ((listing : List Member) × IsListing file meta listing
       × WritesCopy out.taken out.failed out_old out_new target.taken target.failed target_old target_new snapshot listing
-      (layout_of_listing Balanced (copy_page_size size meta) listing meta.root_sequence) (repair_report (bad_hash snapshot file) (parts []) 0 0 (length file)) ending ∥₁
+      (layout_of_listing Balanced (copy_page_size size meta) listing meta.root_sequence) (repair_report (bad_hash snapshot file) (parts []) 0 0 (length file)) ending) ∥₁
     ⊎ ((why : Failure) × IsUnrepairable file meta why
       × WritesNone out.taken out.failed out_old out_new target.taken target.failed target_old target_new why ending)
