@@ -76,7 +76,7 @@ RepairsNothing {O} {T} out target file meta choice =
     (out_old out_new : O) (target_old target_new : T) (size : Option PageSize) (snapshot : Bool) (ending : Ending)
     → MakesRepair out.taken out.failed out_old out_new target.taken target.failed target_old target_new file choice size snapshot ending
     → ∥ ((listing : List Member) × IsListing file meta listing
-      × WritesCopy out.taken out.failed out_old out_new target.taken target.failed target_old target_new snapshot listing
-      (layout_of_listing Balanced (copy_page_size size meta) listing meta.root_sequence) (repair_report (bad_hash snapshot file) (parts []) 0 0 (length file)) ending) ∥₁
+    × WritesCopy out.taken out.failed out_old out_new target.taken target.failed target_old target_new snapshot listing
+    (layout_of_listing Balanced (copy_page_size size meta) listing meta.root_sequence) (repair_report (bad_hash snapshot file) (parts []) 0 0 (length file)) ending) ∥₁
     ⊎ ((why : Failure) × IsUnrepairable file meta why
-      × WritesNone out.taken out.failed out_old out_new target.taken target.failed target_old target_new why ending)
+    × WritesNone out.taken out.failed out_old out_new target.taken target.failed target_old target_new why ending)
