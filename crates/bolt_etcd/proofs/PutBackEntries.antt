@@ -1,7 +1,6 @@
 -- Of the agreed candidates those that go back: the newest of each name that aren't superseded, and those after the compaction.
-use Rattle.std.proofs.Common.{◌≡◌, ◌≢◌, ◌∙◌, ◌↔◌, ◌⊎◌, ◌&&◌, ◌||◌, inl, inr, ℕ, Bool, true, false, List, filter, not, refl, sym, ap, subst}
+use Rattle.std.proofs.Common.{◌≡◌, ◌≢◌, ◌∙◌, ◌⊎◌, inl, inr, ℕ, true, false, List, filter, not, refl, sym, ap, subst}
 use Rattle.std.proofs.lemmas.Bool.{cases_Bool, false_from_ne_true, not-true, or_cases, or_left, or_right}
-use Rattle.std.proofs.lemmas.Cmp.{tied_itself}
 use Rattle.std.proofs.lemmas.List.Sorted.{Contains-permutation, IsPermutation-sym}
 use Rattle.std.specs.List.{Contains}
 use Rattle.std.specs.List.Sorted.{IsPermutation, IsSorted}
@@ -52,11 +51,13 @@ module _ (compacted : ℕ) (recovered : List Member) (agreed newest : List Entry
   left_from : (e : EntryView) → Contains left e → Contains agreed e × Goes e
   left_from e has =
       let (in_rest, stay) = kept_from (stays compacted) (without superseded newest) e has in
-      let (there, free) = (without_has superseded newest e).0 in_rest in
-      (((are.exact e).0 there).0, elim (cases_Bool (is_old compacted e)) [
-        | inl old ↦ inr (old_goes e there stay free old)
-        | inr new ↦ inl new
-      ])
+      let (there, free) = (without_has superseded newest e).0 in_rest in (
+        ((are.exact e).0 there).0,
+        elim (cases_Bool (is_old compacted e)) [
+          | inl old ↦ inr (old_goes e there stay free old)
+          | inr new ↦ inl new
+        ],
+      )
 
   top_of : (e : EntryView) → Goes e → is_old compacted e ≡ true → (other : EntryView) → Contains agreed other → entry_name other ≡ entry_name e → is_old compacted other ≡ true
       → key_cmp e.key other.key ≢ Less

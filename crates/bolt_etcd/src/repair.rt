@@ -56,7 +56,7 @@ impl From<NoMemory> for RepairFault {
 impl<'a> Repair<'a> {
     ghost use Rattle.bolt_etcd.specs.{RepairedMembers.repair_file, RepairedMembers.repair_meta, RepairedMerges.repair_back, RepairedMerges.repair_is_made};
 
-    /// Finds what goes back. Goes over what is recovered once, and once more if there are candidates.
+    /// Finds what goes back. Goes over what is recovered once, and once more if candidates are agreed.
     ///
     /// # Errors
     ///
@@ -139,6 +139,9 @@ fn keep_what_goes_back<'a>(
         ArePutBack compacted recovered (map shown_entry agreed.old.items)
         (map shown_entry agreed.new.items))) }
 {
+    if agreed.is_empty() {
+        return Ok(());
+    }
     keep_newest(agreed, compacted);
     let superseded = superseded_keys(alloc, both, agreed.as_slice(), compacted)?;
     remove_keys(agreed, superseded.as_slice());

@@ -131,9 +131,5 @@ fn superseded_by<'a>(
             .then(is_old(entry, compacted).cmp(&true))
     });
     let entry = candidates.get(found.ok()?)?;
-    entry
-        .key
-        .cmp(revision.place())
-        .is_lt()
-        .then_some(entry.key)
+    entry.key.cmp(revision.place()).is_lt().then_some(entry.key)
 }

@@ -1,15 +1,15 @@
 -- The newest, without those that are superseded and without deletions, by rising key.
-use Rattle.std.proofs.Common.{◌≡◌, ◌∙◌, Bor, List, ap, filter, is_lt, map, rules, subst, sym}
-use Rattle.std.proofs.lemmas.Fn.{always_returns_same, filter_same}
+use Rattle.std.proofs.Common.{◌≡◌, ◌∙◌, Bor, List, ap, filter, is_lt, map, rules, subst}
+use Rattle.std.proofs.lemmas.Fn.{filter_same}
 use Rattle.std.proofs.lemmas.List.MinMax.{ranks_by}
 use Rattle.std.proofs.lemmas.List.Sorted.{IsPermutation-map, answers_always}
 use Rattle.std.specs.List.Sorted.{IsPermutation}
 use Rattle.bolt_check.specs.Keys.{Key}
-use Rattle.bolt_tree.specs.{Entries.EntryView, InBuckets.view_cmp, Order.Rises, ShownEntries.shown_entry}
+use Rattle.bolt_tree.specs.{Entries.EntryView, InBuckets.view_cmp, ShownEntries.shown_entry}
 use Rattle.bolt_tree.specs.declared.entry.Entry.{Entry}
 use Rattle.bolt_recover.proofs.Existing.{recovers}
-use Rattle.bolt_etcd.specs.{Agreed.without, Superseded.AreSuperseded, Superseded.HasOneOld, Superseded.newest_cmp, Superseded.stays}
-use Rattle.bolt_etcd.proofs.{Filtered.filter_mapped, MappedLists.sorted_mapped, NewestEntries.one_old, NewestEntries.view_total, PutBackEntries.are_put_back, PutBackEntries.left}
+use Rattle.bolt_etcd.specs.{Agreed.without, Superseded.AreSuperseded, Superseded.stays}
+use Rattle.bolt_etcd.proofs.{Filtered.filter_mapped, MappedLists.sorted_mapped, NewestEntries.one_old, NewestEntries.view_total, PutBackEntries.are_put_back}
 use Rattle.bolt_etcd.proofs.repair.keep_what_goes_back.Goals as goal
 
 abbrev now : Bor Key → Key
