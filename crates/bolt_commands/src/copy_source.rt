@@ -14,10 +14,10 @@ ghost use Rattle.bolt_commands.specs.{Private.Copying.ForLayout, GoodCopies.HasG
 
 use crate::laws::whole_copies_are_good;
 use bolt_bulk::{Blueprint, BulkFault, Done, compact_members};
+use bolt_etcd::Repaired;
 use bolt_format::Sink;
 use bolt_load::LineMembers;
 use bolt_recover::{Joined, Recovery};
-use bolt_etcd::Repaired;
 use bolt_tree::Walk;
 use std::alloc::Global;
 

@@ -6,11 +6,10 @@ ghost use Rattle.bolt_commands.specs.Private.Endings.{end_of, end_written};
 
 use bolt_bulk::BulkFault;
 use bolt_check::{CheckFault, Finding, NoMemory};
-use bolt_etcd::SnapshotFault;
+use bolt_etcd::{RepairFault, SnapshotFault};
 use bolt_format::{MetaFault, PageFault, SinkFault};
 use bolt_load::{LineFault, LoadFault};
 use bolt_recover::JoinFault;
-use bolt_etcd::RepairFault;
 use bolt_report::ReportFault;
 use std::alloc::AllocFailed;
 

@@ -39,6 +39,7 @@ pub mod Places
 pub mod PutBackEntries
 pub mod RepairLaws
 pub mod RepairedListings
+pub mod RestoredStores
 pub mod RevisionLoops
 pub mod RevisionSteps
 pub mod RevisionTexts

@@ -16,7 +16,7 @@ use Rattle.bolt_etcd.proofs.NewestEntries.{view_total}
 one_back : (compacted : ℕ) (recovered : List Member) (found : List LeafElement) (a b : List EntryView) → AreBack compacted recovered found a → AreBack compacted recovered found b → a ≡ b
 one_back compacted recovered found a b h k = rises_once view_total a b h.rises k.rises (λ e has. (k.exact e).1 ((h.exact e).0 has)) (λ e has. (h.exact e).1 ((k.exact e).0 has))
 
-member_once : (listing : List Member) → Rises member_cmp listing → (path : Path) (a b : Item) → Contains listing (path, a) → Contains listing (path, b) → a ≡ b
+pub member_once : (listing : List Member) → Rises member_cmp listing → (path : Path) (a b : Item) → Contains listing (path, a) → Contains listing (path, b) → a ≡ b
 member_once [] rises path a b h k = absurd (contains_none (path, a) h)
 member_once (m ∷ listing) rises path a b h k = elim (contains_cases m (path, a) listing h) [
   | inl is_a ↦ elim (contains_cases m (path, b) listing k) [
@@ -29,7 +29,7 @@ member_once (m ∷ listing) rises path a b h k = elim (contains_cases m (path, a
   ]
 ]
 
-one_compacted : (recovered : List Member) → Rises member_cmp recovered → (n m : ℕ) → IsCompactedAt recovered n → IsCompactedAt recovered m → n ≡ m
+pub one_compacted : (recovered : List Member) → Rises member_cmp recovered → (n m : ℕ) → IsCompactedAt recovered n → IsCompactedAt recovered m → n ≡ m
 one_compacted recovered rises n m (inl (v, has, is)) (inl (w, had, was)) =
     is ∙ ap (λ (item : Item). compacted_by (value_of item)) (member_once recovered rises compaction_path (Value v) (Value w) has had) ∙ sym was
 one_compacted recovered rises n m (inl (v, has, is)) (inr (none, zero)) = absurd (none v has)
