@@ -26,5 +26,6 @@ pub mod SnapshotCopies
 pub mod SoundNames
 pub mod SoundReads
 pub mod SoundRecovery
+pub mod SoundRepairs
 pub mod StatsAnswers
 pub mod Vocabulary

@@ -1,5 +1,5 @@
 -- Candidates without those that are met or disputed are agreed.
-use Rattle.std.proofs.Common.{◌≡◌, ◌≢◌, ◌∙◌, ◌↔◌, inl, inr, Bool, true, false, ◌||◌, List, [], ◌∷◌, filter, not, refl, sym, ap, subst}
+use Rattle.std.proofs.Common.{◌≡◌, ◌≢◌, ◌∙◌, ◌↔◌, inl, inr, Bool, true, false, List, [], ◌∷◌, not, refl, sym, ap, subst}
 use Rattle.std.proofs.lemmas.Bool.{false_from_ne_true, not-true, or_cases, or_left, or_right}
 use Rattle.std.proofs.lemmas.Slice.Eq.{bytes_eq-Decides}
 use Rattle.std.specs.List.{Contains}
@@ -11,7 +11,7 @@ use Rattle.bolt_check.specs.Keys.{Key, key_cmp}
 use Rattle.bolt_tree.proofs.{Filters.kept, Lists.contains_cases, Lists.contains_head, Lists.contains_none, Lists.contains_tail, Lists.irreflexive, PathOrder.key_exact}
 use Rattle.bolt_tree.specs.{Entries.EntryView, InBuckets.view_cmp, Order.Rises}
 use Rattle.bolt_etcd.specs.Agreed.{AreAgreed, AreUnmetKeys, IsUnmet, among, without}
-use Rattle.bolt_etcd.specs.Candidates.{AreDisputed, AreKeys, value_bytes, whole_cmp}
+use Rattle.bolt_etcd.specs.Candidates.{AreDisputed, value_bytes, whole_cmp}
 use Rattle.bolt_etcd.proofs.{Filtered.filter_rises, Filtered.kept_from, Rising.rises_as, Rising.rising_cases, WholeOrder.whole_total}
 
 -- ---- whether a key is among these, as a test
@@ -91,9 +91,12 @@ module _ (candidates : List EntryView) (met : List Key) (rises : Rises whole_cmp
         λ has.
             let (there, free) = (without_has disputed unmet e).0 has in
             ((unmet_is e).0 there, λ other is same. alone e other there free ((unmet_is other).1 is) same),
-        λ (is, one). (without_has disputed unmet e).1 ((unmet_is e).1 is, λ has.
-            let (a, b, in_a, in_b, at_a, at_b, differ) = (are.exact e.key).0 has in
-            differ (one a ((unmet_is a).0 in_a) at_a ∙ sym (one b ((unmet_is b).0 in_b) at_b))),
+        λ (is, one). (without_has disputed unmet e).1 (
+          (unmet_is e).1 is,
+          λ has.
+              let (a, b, in_a, in_b, at_a, at_b, differ) = (are.exact e.key).0 has in
+              differ (one a ((unmet_is a).0 in_a) at_a ∙ sym (one b ((unmet_is b).0 in_b) at_b)),
+        ),
       );
     }
 

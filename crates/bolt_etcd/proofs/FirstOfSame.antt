@@ -1,5 +1,5 @@
 -- What `dedup` keeps of a list that rises: what isn't the same as one before it.
-use Rattle.std.proofs.Common.{◌≡◌, ◌∙◌, ◌↔◌, inl, inr, Bool, true, false, List, [], ◌∷◌, cond, refl, sym, ap, subst}
+use Rattle.std.proofs.Common.{◌≡◌, ◌↔◌, inl, inr, Bool, true, false, List, [], ◌∷◌, cond, refl, sym, subst}
 use Rattle.std.proofs.lemmas.Bool.{false_from_ne_true}
 use Rattle.std.proofs.lemmas.List.Kept.{Contains-from_dedup}
 use Rattle.std.specs.Cmp.{IsTotalOrder}
@@ -37,30 +37,34 @@ module _ {X : Type 0} {cmp : X → X → Ordering} (total : IsTotalOrder cmp) (s
       → ((k' : X) → Rises cmp (k' ∷ zs) → Contains (dedup_from same k' zs) x → Contains (k' ∷ zs) x × IsFirst (k' ∷ zs) x)
       → Contains (cond b (dedup_from same k zs) (k ∷ dedup_from same z zs)) x → Contains (k ∷ z ∷ zs) x × IsFirst (k ∷ z ∷ zs) x
   from_step k z zs x true test rises later has =
-      let (there, first) = later k (skipped k z zs rises) has in
-      (more k z x zs there, λ y other less. elim (contains_cases k y (z ∷ zs) other) [
-        | inl is ↦ first y (subst (Contains (k ∷ zs)) is (contains_head k zs)) less
-        | inr behind ↦ elim (contains_cases z y zs behind) [
-          | inl is ↦ false_from_ne_true (same x y) (λ alike.
-              let at_z : same x z ≡ true = subst (λ (w : X). same x w ≡ true) (sym is) alike in
-              let before : cmp k x ≡ Less = total.trans k z x (rises.0 z (contains_head z zs)) (subst (λ (w : X). cmp w x ≡ Less) (sym is) less) in
-              let no = first k (contains_head k zs) before in
-              let yes = chains x z k at_z test in
-              cc)
-          | inr others ↦ first y (contains_tail k y zs others) less
-        ]
-      ])
+      let (there, first) = later k (skipped k z zs rises) has in (
+        more k z x zs there,
+        λ y other less. elim (contains_cases k y (z ∷ zs) other) [
+          | inl is ↦ first y (subst (Contains (k ∷ zs)) is (contains_head k zs)) less
+          | inr behind ↦ elim (contains_cases z y zs behind) [
+            | inl is ↦ false_from_ne_true (same x y) (λ alike.
+                let at_z : same x z ≡ true = subst (λ (w : X). same x w ≡ true) (sym is) alike in
+                let before : cmp k x ≡ Less = total.trans k z x (rises.0 z (contains_head z zs)) (subst (λ (w : X). cmp w x ≡ Less) (sym is) less) in
+                let no = first k (contains_head k zs) before in
+                let yes = chains x z k at_z test in
+                cc)
+            | inr others ↦ first y (contains_tail k y zs others) less
+          ]
+        ],
+      )
   from_step k z zs x false test rises later has = elim (contains_cases k x (dedup_from same z zs) has) [
     | inl is ↦ (subst (Contains (k ∷ z ∷ zs)) is (contains_head k (z ∷ zs)), subst (IsFirst (k ∷ z ∷ zs)) is (head_first k (z ∷ zs) rises))
     | inr deep ↦
-        let (there, first) = later z rises.1 deep in
-        (contains_tail k x (z ∷ zs) there, λ y other less. elim (contains_cases k y (z ∷ zs) other) [
-          | inl is ↦ subst (λ (w : X). same x w ≡ false) is (elim (contains_cases z x zs there) [
-            | inl at ↦ subst (λ (w : X). same w k ≡ false) at test
-            | inr behind ↦ false_from_ne_true (same x k) (λ alike. let yes = between k z x (rises.0 z (contains_head z zs)) (rises.1.0 x behind) alike in cc)
-          ])
-          | inr others ↦ first y others less
-        ])
+        let (there, first) = later z rises.1 deep in (
+          contains_tail k x (z ∷ zs) there,
+          λ y other less. elim (contains_cases k y (z ∷ zs) other) [
+            | inl is ↦ subst (λ (w : X). same x w ≡ false) is (elim (contains_cases z x zs there) [
+              | inl at ↦ subst (λ (w : X). same w k ≡ false) at test
+              | inr behind ↦ false_from_ne_true (same x k) (λ alike. let yes = between k z x (rises.0 z (contains_head z zs)) (rises.1.0 x behind) alike in cc)
+            ])
+            | inr others ↦ first y others less
+          ],
+        )
   ]
 
   from : (k : X) (zs : List X) (x : X) → Rises cmp (k ∷ zs) → Contains (dedup_from same k zs) x → Contains (k ∷ zs) x × IsFirst (k ∷ zs) x

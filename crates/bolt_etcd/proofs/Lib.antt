@@ -15,6 +15,7 @@ pub mod HistorySteps
 pub mod HistoryUntil
 pub mod KeptOfNames
 pub mod KeptRevisions
+pub mod KeyBounds
 pub mod KeyNumbers
 pub mod KeySearches
 pub mod Keys
@@ -38,6 +39,7 @@ pub mod Places
 pub mod PutBackEntries
 pub mod RepairLaws
 pub mod RepairedListings
+pub mod RestoredStores
 pub mod RevisionLoops
 pub mod RevisionSteps
 pub mod RevisionTexts

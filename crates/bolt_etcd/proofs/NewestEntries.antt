@@ -1,5 +1,5 @@
 -- Of entries by rising key, those that are left if of the old ones of a name the latest stays.
-use Rattle.std.proofs.Common.{◌≡◌, ◌≢◌, ◌∙◌, ◌↔◌, inl, inr, ℕ, Bool, true, false, ◌&&◌, List, refl, sym, ap, subst}
+use Rattle.std.proofs.Common.{◌≡◌, ◌≢◌, ◌∙◌, ◌↔◌, inl, inr, ℕ, Bool, true, false, List, refl, sym, ap, subst}
 use Rattle.std.proofs.lemmas.Bool.{and_parts, false_from_ne_true}
 use Rattle.std.proofs.lemmas.Cmp.{back_total, nat_list_cmp_total, on_total, then_total, tied_itself}
 use Rattle.std.proofs.lemmas.List.MinMax.{ranks_by}
@@ -110,9 +110,10 @@ module _ (compacted : ℕ) where
     are_newest = subst (AreNewest compacted agreed) (sym left) (record {
       rises = dedup_rises newest_total same_old chains between sorted sorted_rises;
       exact = λ e.
-          let first = dedup_first newest_total same_old chains between sorted e sorted_rises in
-          (λ has. let (there, is) = first.0 has in ((members e).1 there, newest_from agreed sorted members e is),
-          λ (there, is). first.1 ((members e).0 there, newest_to agreed sorted members e is));
+          let first = dedup_first newest_total same_old chains between sorted e sorted_rises in (
+            λ has. let (there, is) = first.0 has in ((members e).1 there, newest_from agreed sorted members e is),
+            λ (there, is). first.1 ((members e).0 there, newest_to agreed sorted members e is),
+          );
     })
 
 -- ---- of a name one old one is left

@@ -55,8 +55,7 @@ pub tree_of_repaired : (file : List ℕ) (meta : Meta) (listing : List Member) (
     → Rises member_cmp listing × ((tree : Tree) × (listing ≡ listing_of tree))
 tree_of_repaired file meta listing is of =
     let repair = is.repair in
-    let rises = repaired_rises repair.recovered (elements_on file meta repair.found) repair.compacted is.back repair.are_back is.is_made repair.makes repair.recovers.rises in
-    (
+    let rises = repaired_rises repair.recovered (elements_on file meta repair.found) repair.compacted is.back repair.are_back is.is_made repair.makes repair.recovers.rises in (
       subst (Rises member_cmp) (sym is.repaired) rises,
       (tree_of (repaired_listing repair.recovered is.is_made is.back), is.repaired ∙ sym (repaired_tree repair.recovered is.back is.is_made repair.makes of rises)),
     )

@@ -1,5 +1,5 @@
 -- The keys of superseded entries, as a loop over what is kept finds them.
-use Rattle.std.proofs.Common.{◌≡◌, ◌∙◌, ◌↔◌, ◌⊎◌, ◌++◌, inl, inr, ℕ, List, [], ◌∷◌, Option, Some, None, ap, subst, sym}
+use Rattle.std.proofs.Common.{◌≡◌, ◌∙◌, ◌↔◌, ◌⊎◌, ◌++◌, inl, inr, ℕ, List, [], ◌∷◌, Some, None, ap, subst, sym}
 use Rattle.std.proofs.lemmas.List.Elements.{Contains-append_cases, Contains-append_left, Contains-append_right}
 use Rattle.std.proofs.lemmas.List.Sorted.{Contains-permutation, IsPermutation-sym}
 use Rattle.std.specs.List.{Contains}
@@ -7,7 +7,7 @@ use Rattle.std.specs.List.Sorted.{IsPermutation, IsSorted}
 use Rattle.bolt_check.specs.Keys.{Key, key_cmp}
 use Rattle.bolt_tree.proofs.Lists.{contains_cases, contains_head, contains_none, contains_tail}
 use Rattle.bolt_tree.specs.{Entries.EntryView, InBuckets.entry_in, Listing.Member}
-use Rattle.bolt_etcd.specs.{Repairs.store_path, Revisions.RevisionView, Revisions.revision_of, Surveys.revision_at}
+use Rattle.bolt_etcd.specs.{Repairs.store_path, Revisions.RevisionView, Surveys.revision_at}
 use Rattle.bolt_etcd.specs.Superseded.{AreSuperseded, IsSuperseded, IsSupersededBy}
 use Rattle.bolt_etcd.proofs.KeptRevisions.{revision_from, revision_to}
 

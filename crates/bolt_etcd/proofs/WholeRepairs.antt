@@ -1,22 +1,19 @@
 -- From what is found and what the recovered listing says of a store: what goes back, and how many keys are left out.
-use Rattle.std.proofs.Common.{◌≡◌, ◌≢◌, ◌∙◌, ◌↔◌, ◌⊎◌, ◌+◌, ◌<◌, ◌≤◌, ◌&&◌, inl, inr, ℕ, Bool, true, false, List, [], ◌∷◌, Option, Some, None, arith, filter, length, map, nat_lt, not, refl, sym, ap, subst}
+use Rattle.std.proofs.Common.{◌≡◌, ◌∙◌, ◌⊎◌, ◌<◌, ◌≤◌, ◌&&◌, inl, inr, ℕ, Bool, true, false, List, [], ◌∷◌, Option, Some, None, arith, length, map, nat_lt, not, refl, sym, ap, subst}
 use Rattle.std.proofs.lemmas.Bool.{cases_Bool, le-ltb, lt-ltb, ltb-false, ltb-true, not-false, not-true}
 use Rattle.std.proofs.lemmas.List.{length-map}
-use Rattle.std.specs.Cmp.{IsTotalOrder}
 use Rattle.std.specs.List.{Contains}
-use Rattle.std.specs.declared.cmp.Ordering.{Ordering}
 use Rattle.std.specs.declared.cmp.Ordering.TheVariants.{Less}
 use Rattle.bolt_format.specs.Elements.{LeafElement}
 use Rattle.bolt_check.specs.Keys.{Key, key_cmp}
-use Rattle.bolt_tree.proofs.{Filters.kept, Lists.contains_cases, Lists.contains_head, Lists.contains_none, Lists.contains_tail, Lists.irreflexive, PathOrder.key_total}
-use Rattle.bolt_tree.specs.{Entries.Bucket, Entries.EntryView, Entries.Item, Entries.Value, Entries.entry_view, InBuckets.entry_in, InBuckets.view_cmp, Listing.Member, Order.Rises}
-use Rattle.bolt_etcd.specs.{Agreed.AreAgreed, Agreed.AreUnmetKeys, Agreed.IsUnmet, Candidates.AreCandidates, Candidates.candidates_in, Candidates.is_candidate, Candidates.is_in_place, Compacted.compacted_by}
-use Rattle.bolt_etcd.specs.{FullRepairs.AreCandidateKeys, FullRepairs.IsLeftOut, Misplaced.is_misplaced, Newest.is_until, Records.record_of, Repaired.MakesStore, Repaired.lacks_bucket}
-use Rattle.bolt_etcd.specs.Repairs.{AreBack, GoesBack, IsAgreed, IsCandidate, IsCompactedAt, IsKept, IsNewestUpTo, compaction_path, store_path}
+use Rattle.bolt_tree.proofs.{Filters.kept, PathOrder.key_total}
+use Rattle.bolt_tree.specs.{Entries.Bucket, Entries.EntryView, Entries.Item, Entries.Value, Entries.entry_view, Listing.Member}
+use Rattle.bolt_etcd.specs.{Agreed.AreAgreed, Agreed.AreUnmetKeys, Agreed.IsUnmet, Candidates.AreCandidates, Candidates.is_candidate, Candidates.is_in_place, Compacted.compacted_by}
+use Rattle.bolt_etcd.specs.{FullRepairs.AreCandidateKeys, Misplaced.is_misplaced, Newest.is_until, Records.record_of, Repaired.MakesStore, Repaired.lacks_bucket}
+use Rattle.bolt_etcd.specs.Repairs.{AreBack, GoesBack, IsAgreed, IsCandidate, IsCompactedAt, IsNewestUpTo, store_path}
 use Rattle.bolt_etcd.specs.{RevisionKeys.revision_key, Revisions.RevisionView, Revisions.name_of, Revisions.revision_in, Revisions.revision_of, Revisions.value_of}
 use Rattle.bolt_etcd.specs.{Superseded.ArePutBack, Superseded.IsNewestOf, Superseded.entry_name, Superseded.is_deletion, Superseded.is_key_deleted, Superseded.is_key_until, Superseded.is_old, Superseded.name_if}
 use Rattle.bolt_etcd.specs.Surveys.{IsSurvey}
-use Rattle.bolt_etcd.specs.declared.revision_key.RevisionKey.{RevisionKey}
 use Rattle.bolt_etcd.proofs.{Currents.bind_some, Currents.place_is, Filtered.kept_from, MappedLists.shows_from, MappedLists.shows_has, Rising.fewer, Rising.rises_mapped}
 use Rattle.std.proofs.lemmas.Option.{same_Some}
 
@@ -69,22 +66,23 @@ in_place (Some r) e = (r, refl, not-true (is_misplaced r) e)
 
 module _ (recovered : List Member) (found : List LeafElement) (all : List EntryView) (met : List Key) (under : Option Item) (noted : Option (List ℕ))
     (are : AreCandidates found all) (survey : IsSurvey recovered all under noted met) where
-
   -- ---- candidates
 
   candidate_from : (e : EntryView) → IsUnmet all met e → (r : RevisionView) × IsCandidate recovered found e r
   candidate_from e (has, unmet) =
       let (there, passes) = kept_from is_candidate (map entry_view found) e ((are.exact e).0 has) in
       let (element, is_found, is) = shows_from entry_view found e there in
-      let (r, read, place) = in_place (revision_of e) passes in
-      (r, record {
-        element = element;
-        is_found = is_found;
-        shows = is;
-        is_revision = read;
-        in_place = place;
-        is_lost = λ item kept. unmet ((survey.met e.key).1 ((e, has, refl), (item, kept)));
-      })
+      let (r, read, place) = in_place (revision_of e) passes in (
+        r,
+        record {
+          element = element;
+          is_found = is_found;
+          shows = is;
+          is_revision = read;
+          in_place = place;
+          is_lost = λ item kept. unmet ((survey.met e.key).1 ((e, has, refl), (item, kept)));
+        },
+      )
 
   candidate_to : (e : EntryView) (r : RevisionView) → IsCandidate recovered found e r → IsUnmet all met e
   candidate_to e r c =
@@ -144,11 +142,14 @@ module _ (recovered : List Member) (found : List LeafElement) (all : List EntryV
       goes_from : (e : EntryView) → Contains agreed e → Goes e → GoesBack compacted recovered found e
       goes_from e has go =
           let (r, is) = agreed_from e has in
-          let read = is.candidate.is_revision in
-          (r, is, elim (cases_Bool (is_old compacted e)) [
-            | inl old ↦ elim go [ inl new ↦ absurd (cc) | inr n ↦ inr (newest_from e r read old n) ]
-            | inr new ↦ inl (after compacted e r read new)
-          ])
+          let read = is.candidate.is_revision in (
+            r,
+            is,
+            elim (cases_Bool (is_old compacted e)) [
+              | inl old ↦ elim go [ inl new ↦ absurd (cc) | inr n ↦ inr (newest_from e r read old n) ]
+              | inr new ↦ inl (after compacted e r read new)
+            ],
+          )
 
       goes_to : (e : EntryView) → GoesBack compacted recovered found e → Contains agreed e × Goes e
       goes_to e (r, is, why) =
@@ -170,8 +171,8 @@ module _ (recovered : List Member) (found : List LeafElement) (all : List EntryV
         back_fewer keys is =
             let long = length-map back (λ (e : EntryView). e.key) in
             let few = fewer key_total keys (map (λ (e : EntryView). e.key) back) (rises_mapped (λ (e : EntryView). e.key) key_cmp back put.rises) is.rises (λ key has.
-                let (e, there, at) = shows_from (λ (e : EntryView). e.key) back key has in
-                (is.exact key).1 (e, ((agree.exact e).0 ((put.exact e).0 there).0).0, at)) in
+            let (e, there, at) = shows_from (λ (e : EntryView). e.key) back key has in
+            (is.exact key).1 (e, ((agree.exact e).0 ((put.exact e).0 there).0).0, at)) in
             omega (arith, long, few)
 
   -- ---- the bucket and the compaction

@@ -1,5 +1,5 @@
 -- Which candidates are agreed, as the keys that the recovered bucket has of theirs are known: docs/RECOVERY.md, "The repaired listing".
-use Rattle.std.specs.Prelude.{◌≡◌, ◌↔◌, ◌||◌, Bool, false, List, [], ◌∷◌, filter, not}
+use Rattle.std.specs.Prelude.{◌≡◌, ◌↔◌, ◌||◌, Bool, false, List, [], ◌∷◌, ℕ, filter, length, not}
 use Rattle.std.specs.{List.Contains, Str.bytes_eq}
 use Rattle.bolt_check.specs.Keys.{Key, key_cmp}
 use Rattle.bolt_tree.specs.{Entries.EntryView, InBuckets.view_cmp, Order.Rises}
@@ -27,3 +27,7 @@ pub record AreAgreed (candidates : List EntryView) (met : List Key) (agreed : Li
 pub record AreUnmetKeys (candidates : List EntryView) (met : List Key) (keys : List Key) : Type 0 where
   pub rises : Rises key_cmp keys
   pub exact : (key : Key) → Contains keys key ↔ ((e : EntryView) × IsUnmet candidates met e × (e.key ≡ key))
+
+-- so many keys have they
+abbrev pub HaveUnmetKeys : List EntryView → List Key → ℕ → Type 0
+HaveUnmetKeys candidates met number = (keys : List Key) × AreUnmetKeys candidates met keys × (number ≡ length keys)

@@ -5,7 +5,9 @@ use Rattle.std.specs.Ordering.{bool_cmp, ordering_then}
 use Rattle.std.specs.Str.{bytes_eq}
 use Rattle.std.specs.declared.cmp.Ordering.{Ordering}
 use Rattle.std.specs.declared.cmp.Ordering.TheVariants.{Less}
+use Rattle.bolt_format.specs.declared.meta.Meta.{Meta}
 use Rattle.bolt_check.specs.Keys.{Key, key_cmp}
+use Rattle.bolt_recover.specs.Recovered.{ForRecovered}
 use Rattle.bolt_tree.specs.{Entries.EntryView, InBuckets.view_cmp, Listing.Member, Order.Rises}
 use Rattle.bolt_etcd.specs.{Newest.is_until, Repairs.IsKept, RevisionKeys.revision_key, Revisions.RevisionView, Revisions.name_of, Revisions.revision_of}
 use Rattle.bolt_etcd.specs.declared.revision_key.RevisionKey.{RevisionKey}
@@ -72,6 +74,10 @@ IsSupersededBy compacted es r key =
     (e : EntryView) × Contains es e × (e.key ≡ key) × (is_old compacted e ≡ true) × (entry_name e ≡ name_of r) × (is_until compacted r ≡ true)
     × (key_cmp e.key r.place ≡ Less)
 
+-- this is the key that it supersedes, if there is one
+abbrev pub Supersedes : ℕ → List EntryView → RevisionView → Option Key → Type 0
+Supersedes compacted es r found = (key : Key) → (found ≡ Some key) ↔ IsSupersededBy compacted es r key
+
 -- a kept one does
 abbrev pub IsSuperseded : ℕ → List EntryView → List Member → Key → Type 0
 IsSuperseded compacted es recovered key = (r : RevisionView) × IsKept recovered r × IsSupersededBy compacted es r key
@@ -91,3 +97,10 @@ pub record IsNewestOf (compacted : ℕ) (recovered : List Member) (agreed : List
 pub record ArePutBack (compacted : ℕ) (recovered : List Member) (agreed back : List EntryView) : Type 0 where
   pub rises : Rises view_cmp back
   pub exact : (e : EntryView) → Contains back e ↔ (Contains agreed e × ((is_old compacted e ≡ false) ⊎ IsNewestOf compacted recovered agreed e))
+
+-- so of the recovered listing of a file under a meta
+abbrev pub AreSupersededIn : List ℕ → Meta → ℕ → List EntryView → List Key → Type 0
+AreSupersededIn file meta compacted es keys = ForRecovered file meta (λ recovered. AreSuperseded compacted recovered es keys)
+
+abbrev pub ArePutBackIn : List ℕ → Meta → ℕ → (agreed back : List EntryView) → Type 0
+ArePutBackIn file meta compacted agreed back = ForRecovered file meta (λ recovered. ArePutBack compacted recovered agreed back)

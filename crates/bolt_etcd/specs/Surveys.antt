@@ -28,6 +28,10 @@ IsSurveyOf members candidates survey =
 abbrev pub IsAfter : List Member → Member → Type 0
 IsAfter before m = (x : Member) → Contains before x → member_cmp x m ≡ Less
 
+-- A survey of the members before this one becomes a survey of this one too.
+abbrev pub Notes : List EntryView → Member → (old new : Survey) → Type 0
+Notes candidates m old new = (before : List Member) → IsAfter before m → IsSurveyOf before candidates old → IsSurveyOf (before ++ m ∷ []) candidates new
+
 -- where a path leads, as far as a store is concerned
 abbrev pub IsAt : Path → Place → Type 0
 IsAt path Store = path ≡ store_path

@@ -21,6 +21,7 @@ ghost use Rattle.std.specs.List.{Contains};
 ghost use Rattle.bolt_check.specs.{Ones.AtMostOne, Sound.HasSoundTrees};
 ghost use Rattle.bolt_format.specs.declared.meta.Meta.{Meta};
 ghost use Rattle.bolt_recover.specs.Recovered.{IsRecovered};
+ghost use Rattle.bolt_etcd.specs.LostRevisions.{LosesRevisions};
 ghost use Rattle.bolt_etcd.specs.{Repaired.ForRepaired, Repaired.IsRepaired, Repairs.GoesBack, Repairs.store_path, Revisions.name_of};
 ghost use Rattle.bolt_tree.specs.{Entries.Bucket, InBuckets.entry_in, Listing.IsListing, Listing.Member, Listing.member_cmp, Tree.Tree, Tree.listing_of};
 
@@ -28,6 +29,7 @@ use bolt_recover::laws::{
     found_pages_are_one, recovered_listing_is_of_a_tree, sound_trees_lose_nothing,
     sound_trees_recover_their_listing,
 };
+use bolt_tree::laws::listing_is_of_a_tree;
 
 /// A message is a field, and then a message, up to its end.
 #[tactic(auto, using(crate::proofs::Messages::first_and_later))]
@@ -198,3 +200,15 @@ pub fn at_most_one_of_a_name_goes_back()
         → (y : GoesBack compacted recovered found b) → name_of x.0 ≡ name_of y.0
         → x.0.key.main ≤ compacted → y.0.key.main ≤ compacted → a ≡ b }
 {}
+
+/// If a compacted store loses revisions alone, and exactly these are found, the repaired listing is the
+/// listing before.
+pub fn a_compacted_store_comes_back()
+    ensures { (file : List ℕ) (meta : Meta) (listing : List Member)
+        → LosesRevisions file meta listing
+        → ForRepaired file meta (λ repaired. repaired ≡ listing) }
+{
+    listing_is_of_a_tree();
+    found_pages_are_one();
+    repaired_listing_is_of_a_tree();
+}

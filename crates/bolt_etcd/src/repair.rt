@@ -1,19 +1,18 @@
 //! What goes back into the bucket `key` of a damaged file, and the search for it.
-ghost use Rattle.std.specs.Prelude.{◌≡◌, ◌≢◌, List, [], IfErr, IfOk, OnOk, length, map, not};
+ghost use Rattle.std.specs.Prelude.{◌≡◌, ◌≢◌, [], IfErr, IfOk, OnOk, map, not};
 ghost use Rattle.std.specs.Option.{option_map};
 ghost use Rattle.std.specs.List.Sorted.{IsSorted};
 ghost use Rattle.bolt_check.specs.declared.finding.Finding.{Finding};
 ghost use Rattle.bolt_recover.specs.{LostAndFound.all_lost, Losses.everything};
 ghost use Rattle.bolt_etcd.specs.{FullRepairs.IsFullRepair, Repaired.IsRepair, RepairRefusals.IsRepairRefusal};
-ghost use Rattle.bolt_check.specs.Keys.{Key, key_cmp};
-ghost use Rattle.bolt_recover.specs.Recovered.{ForRecovered};
+ghost use Rattle.bolt_check.specs.Keys.{key_cmp};
 ghost use Rattle.bolt_tree.specs.{InBuckets.view_cmp, Order.Rises, ShownEntries.item_view, ShownEntries.shown_entry};
-ghost use Rattle.bolt_etcd.specs.{Agreed.AreAgreed, Agreed.AreUnmetKeys, Agreed.among, Agreed.without, Candidates.whole_cmp, Repaired.lacks_bucket, Superseded.ArePutBack};
+ghost use Rattle.bolt_etcd.specs.{Agreed.AreAgreed, Agreed.HaveUnmetKeys, Agreed.among, Agreed.without, Candidates.whole_cmp, Repaired.lacks_bucket, Superseded.ArePutBackIn};
 ghost use Rattle.bolt_etcd.specs.declared.repair.RepairFault.TheVariants as faults;
 
 use crate::candidates::{candidates_of, disputed_keys, has_key};
 use crate::compaction::compacted_by;
-use crate::superseded::{keep_newest, stays, superseded_keys};
+use crate::superseded::{has_old, keep_newest, stays, superseded_keys};
 use crate::survey::Survey;
 use bolt_check::{Finding, NoMemory};
 use bolt_recover::{Lost, LostAndFound};
@@ -56,7 +55,8 @@ impl From<NoMemory> for RepairFault {
 impl<'a> Repair<'a> {
     ghost use Rattle.bolt_etcd.specs.{RepairedMembers.repair_file, RepairedMembers.repair_meta, RepairedMerges.repair_back, RepairedMerges.repair_is_made};
 
-    /// Finds what goes back. Goes over what is recovered once, and once more if there are candidates.
+    /// Finds what goes back. Goes over what is recovered once, and once more if a compaction may have
+    /// removed some of the candidates.
     ///
     /// # Errors
     ///
@@ -103,9 +103,9 @@ fn lacks_bucket(under: Option<Item<'_>>) -> Option<bool>
     }
 }
 
-/// Keeps the candidates that are agreed: the recovered bucket doesn't have their keys (those are met),
-/// and no other candidate has the key with another value. They stand by rising key. Returns the number
-/// of keys of candidates that aren't met.
+/// Keeps the candidates that are agreed: the recovered bucket doesn't have their keys (those that it
+/// has are met), and no other candidate has the key with another value. They stand by rising key.
+/// Returns the number of keys of candidates that aren't met.
 fn keep_agreed(
     alloc: Global,
     candidates: &mut Vec<Entry<'_>>,
@@ -115,9 +115,8 @@ fn keep_agreed(
     requires sorted { IsSorted key_cmp (map (λ key. key.now) met.now) }
     ensures agreed { OnOk result (AreAgreed (map shown_entry candidates.old.items)
         (map (λ key. key.now) met.now) (map shown_entry candidates.new.items)) }
-    ensures keys { IfOk result (λ number. (keys : List Key)
-        × AreUnmetKeys (map shown_entry candidates.old.items) (map (λ key. key.now) met.now) keys
-        × (number ≡ length keys)) }
+    ensures keys { IfOk result (HaveUnmetKeys (map shown_entry candidates.old.items)
+        (map (λ key. key.now) met.now)) }
 {
     remove_keys(candidates, met);
     let disputed = disputed_keys(alloc, candidates.as_slice())?;
@@ -126,8 +125,8 @@ fn keep_agreed(
     Ok(keys)
 }
 
-/// Keeps of the agreed candidates those that go back: those after the last compaction, and what that
-/// keeps of the others.
+/// Keeps of the agreed candidates those that go back: those after the last compaction, and what
+/// that keeps of the others.
 fn keep_what_goes_back<'a>(
     alloc: Global,
     both: &LostAndFound<'a>,
@@ -135,10 +134,12 @@ fn keep_what_goes_back<'a>(
     compacted: u64,
 ) -> Result<(), NoMemory>
     requires { Rises view_cmp (map shown_entry agreed.old.items) }
-    ensures { OnOk result (ForRecovered both.now.file.now both.now.meta (λ recovered.
-        ArePutBack compacted recovered (map shown_entry agreed.old.items)
-        (map shown_entry agreed.new.items))) }
+    ensures { OnOk result (ArePutBackIn both.now.file.now both.now.meta compacted
+        (map shown_entry agreed.old.items) (map shown_entry agreed.new.items)) }
 {
+    if !has_old(agreed.as_slice(), compacted) {
+        return Ok(());
+    }
     keep_newest(agreed, compacted);
     let superseded = superseded_keys(alloc, both, agreed.as_slice(), compacted)?;
     remove_keys(agreed, superseded.as_slice());

@@ -1,11 +1,9 @@
 //! Which revisions a compaction keeps.
-ghost use Rattle.std.specs.Prelude.{◌≡◌, ◌↔◌, ◌&&◌, ◌||◌, List, IfOk, Some, map, not};
-ghost use Rattle.std.specs.Option.{option_map};
-ghost use Rattle.bolt_check.specs.Keys.{Key};
-ghost use Rattle.bolt_recover.specs.Recovered.{ForRecovered};
+ghost use Rattle.std.specs.Prelude.{◌≡◌, IfOk, map};
+ghost use Rattle.std.specs.{List.list_any, Option.option_map};
 ghost use Rattle.bolt_tree.specs.{InBuckets.view_cmp, Order.Rises, ShownEntries.shown_entry};
 ghost use Rattle.bolt_etcd.specs.ShownRevisions.{shown_revision};
-ghost use Rattle.bolt_etcd.specs.Superseded.{AreNewest, AreSuperseded, HasOneOld, IsSupersededBy, entry_name, is_deletion, is_old, is_same_old, newest_cmp, stays};
+ghost use Rattle.bolt_etcd.specs.Superseded.{AreNewest, AreSupersededIn, HasOneOld, Supersedes, entry_name, is_deletion, is_old, is_same_old, newest_cmp, stays};
 
 use crate::candidates::add_key;
 use crate::revision::Revision;
@@ -36,6 +34,13 @@ fn is_old(entry: &Entry<'_>, compacted: u64) -> bool
     }
 }
 
+/// Whether a compaction may have removed any of these.
+pub(crate) fn has_old(entries: &[Entry<'_>], compacted: u64) -> bool
+    ensures { result ≡ list_any (λ e. is_old compacted (shown_entry e)) entries.now }
+{
+    entries.iter().any(|entry| is_old(entry, compacted))
+}
+
 fn is_deletion(entry: &Entry<'_>) -> bool
     ensures { result ≡ is_deletion (shown_entry entry.now) }
 {
@@ -49,14 +54,16 @@ fn is_deletion(entry: &Entry<'_>) -> bool
 fn newest_first(a: &Entry<'_>, b: &Entry<'_>, compacted: u64) -> Ordering
     ensures { result ≡ newest_cmp compacted (shown_entry a.now) (shown_entry b.now) }
 {
-    name_of(a)
-        .cmp(name_of(b))
-        .then(is_old(a, compacted).cmp(&is_old(b, compacted)))
-        .then(b.key.cmp(a.key))
+    match name_of(a).cmp(name_of(b)) {
+        Ordering::Equal => is_old(a, compacted)
+            .cmp(&is_old(b, compacted))
+            .then(b.key.cmp(a.key)),
+        order => order,
+    }
 }
 
-/// Of those up to the last compaction keeps the newest of each name; the later ones stay. They stand by
-/// rising name then; of one name, those after the compaction come first.
+/// Of those up to the last compaction keeps the newest of each name; the later ones stay. They stand
+/// by rising name then; of one name, those after the compaction come first.
 pub(crate) fn keep_newest(candidates: &mut Vec<Entry<'_>>, compacted: u64)
     requires { Rises view_cmp (map shown_entry candidates.old.items) }
     ensures { AreNewest compacted (map shown_entry candidates.old.items)
@@ -90,9 +97,8 @@ pub(crate) fn superseded_keys<'a>(
 ) -> Result<Vec<&'a [u8]>, NoMemory>
     requires rises { Rises (newest_cmp compacted) (map shown_entry candidates.now) }
     requires one { HasOneOld compacted (map shown_entry candidates.now) }
-    ensures { IfOk result (λ keys. ForRecovered both.now.file.now both.now.meta (λ recovered.
-        AreSuperseded compacted recovered (map shown_entry candidates.now)
-        (map (λ key. key.now) keys.items))) }
+    ensures { IfOk result (λ keys. AreSupersededIn both.now.file.now both.now.meta compacted
+        (map shown_entry candidates.now) (map (λ key. key.now) keys.items)) }
 {
     let mut keys = Vec::new(alloc);
     let mut kept = Kept::of(alloc, both)?;
@@ -117,9 +123,8 @@ fn superseded_by<'a>(
 ) -> Option<&'a [u8]>
     requires rises { Rises (newest_cmp compacted) (map shown_entry candidates.now) }
     requires one { HasOneOld compacted (map shown_entry candidates.now) }
-    ensures { (key : Key) → (option_map (λ key. key.now) result ≡ Some key)
-        ↔ IsSupersededBy compacted (map shown_entry candidates.now)
-        (shown_revision revision.now) key }
+    ensures { Supersedes compacted (map shown_entry candidates.now) (shown_revision revision.now)
+        (option_map (λ key. key.now) result) }
 {
     if revision.key().main > compacted {
         return None;
@@ -131,9 +136,5 @@ fn superseded_by<'a>(
             .then(is_old(entry, compacted).cmp(&true))
     });
     let entry = candidates.get(found.ok()?)?;
-    entry
-        .key
-        .cmp(revision.place())
-        .is_lt()
-        .then_some(entry.key)
+    entry.key.cmp(revision.place()).is_lt().then_some(entry.key)
 }

@@ -1,6 +1,6 @@
 //! What the recovered listing says of a store.
-ghost use Rattle.std.specs.Prelude.{◌≡◌, ◌++◌, ◌∷◌, [], IfOk, List, OnOk, map};
-ghost use Rattle.bolt_tree.specs.{Listing.Member, Order.Rises, Paths.path_of};
+ghost use Rattle.std.specs.Prelude.{IfOk, OnOk, map};
+ghost use Rattle.bolt_tree.specs.{Order.Rises, Paths.path_of};
 ghost use Rattle.bolt_tree.specs.ShownEntries.{item_view, shown_entry};
 ghost use Rattle.bolt_recover.specs.Recovered.{ForRecovered};
 ghost use Rattle.bolt_etcd.specs.{Candidates.whole_cmp, Returns.Returns, ShownRevisions.shown_revision};
@@ -46,7 +46,7 @@ pub(crate) struct Survey<'a> {
 }
 
 impl<'a> Survey<'a> {
-    ghost use Rattle.bolt_etcd.specs.Surveys.{IsAfter, IsSurveyOf};
+    ghost use Rattle.bolt_etcd.specs.Surveys.{IsSurveyOf, Notes};
 
     /// Goes over all that is recovered of a file.
     pub fn of(
@@ -79,11 +79,8 @@ impl<'a> Survey<'a> {
         candidates: &[Entry<'a>],
     ) -> Result<(), NoMemory>
         requires { Rises whole_cmp (map shown_entry candidates.now) }
-        ensures { OnOk result ((before : List Member)
-            → IsAfter before (path_of path.now, item_view item.entry)
-            → IsSurveyOf before (map shown_entry candidates.now) self.old
-            → IsSurveyOf (before ++ (path_of path.now, item_view item.entry) ∷ [])
-            (map shown_entry candidates.now) self.new) }
+        ensures { OnOk result (Notes (map shown_entry candidates.now)
+            (path_of path.now, item_view item.entry) self.old self.new) }
     {
         match place_of(path) {
             Place::Store => self.store = Some(item),

@@ -1,10 +1,10 @@
 -- Those that are met go, and then those that are disputed.
-use Rattle.std.proofs.Common.{◌≡◌, ◌∙◌, ◌+◌, ◌-◌, ℕ, Bor, List, ap, arith, length, map, subst, sym}
+use Rattle.std.proofs.Common.{◌≡◌, ◌∙◌, Bor, List, ap, arith, length, map, subst, sym}
 use Rattle.std.proofs.lemmas.List.{length-map}
 use Rattle.bolt_check.specs.Keys.{Key}
 use Rattle.bolt_tree.specs.{Entries.EntryView, Order.Rises, ShownEntries.shown_entry}
 use Rattle.bolt_tree.specs.declared.entry.Entry.{Entry}
-use Rattle.bolt_etcd.specs.{Agreed.AreAgreed, Agreed.AreUnmetKeys, Agreed.without, Candidates.AreDisputed, Candidates.whole_cmp}
+use Rattle.bolt_etcd.specs.{Agreed.AreAgreed, Agreed.without, Candidates.AreDisputed, Candidates.whole_cmp}
 use Rattle.bolt_etcd.proofs.AgreedEntries.{are_agreed, are_unmet_keys, unmet_rises}
 use Rattle.bolt_etcd.proofs.repair.keep_agreed.Goals as goal
 

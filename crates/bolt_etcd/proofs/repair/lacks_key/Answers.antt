@@ -1,4 +1,4 @@
-use Rattle.std.proofs.Common.{◌∙◌, ap, not}
+use Rattle.std.proofs.Common.{ap, not}
 use Rattle.bolt_etcd.proofs.AgreedEntries.{among_is}
 use Rattle.bolt_etcd.proofs.repair.lacks_key.Goals as goal
 

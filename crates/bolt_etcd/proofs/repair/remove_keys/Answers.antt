@@ -1,4 +1,4 @@
-use Rattle.std.proofs.Common.{◌≡◌, ◌∙◌, Bor, ap, map, not, rules}
+use Rattle.std.proofs.Common.{◌∙◌, Bor, ap, map, not, rules}
 use Rattle.std.proofs.lemmas.Fn.{filter_same}
 use Rattle.bolt_check.specs.Keys.{Key}
 use Rattle.bolt_tree.specs.{Entries.EntryView, ShownEntries.shown_entry}

@@ -1,11 +1,9 @@
-use Rattle.std.proofs.Common.{◌≡◌, ◌∙◌, ◌↔◌, ap, rules, sym, Some, Err, Ok, Bor, arith}
+use Rattle.std.proofs.Common.{◌≡◌, ◌∙◌, ap, rules, sym}
 use Rattle.std.proofs.lemmas.Bool.{ltb-true}
 use Rattle.std.proofs.lemmas.Fn.{always_returns_same}
 use Rattle.std.specs.Ordering.{is_lt}
 use Rattle.bolt_check.specs.Keys.{Key, key_cmp}
-use Rattle.bolt_tree.specs.ShownEntries.{shown_entry}
 use Rattle.bolt_etcd.specs.ShownRevisions.{shown_revision}
-use Rattle.bolt_etcd.specs.Superseded.{IsSupersededBy, entry_name, is_old, newest_cmp}
 use Rattle.bolt_etcd.proofs.OldOfName.{absent, beside, found}
 use Rattle.bolt_etcd.proofs.superseded.superseded_by.Goals as goal
 

@@ -1,4 +1,4 @@
-use Rattle.std.proofs.Common.{◌≡◌, Bor, List, map, ℕ}
+use Rattle.std.proofs.Common.{Bor, List, map, ℕ}
 use Rattle.bolt_tree.specs.ShownEntries.{shown_entry}
 use Rattle.bolt_recover.specs.{KeptMembers.kept_file, KeptMembers.kept_left, KeptMembers.kept_meta, KeptMembers.kept_work, Recovered.ForRecovered, Recovered.IsRecovered}
 use Rattle.bolt_etcd.proofs.SupersededKeys.{Found}
