@@ -15,6 +15,7 @@ pub mod HistorySteps
 pub mod HistoryUntil
 pub mod KeptOfNames
 pub mod KeptRevisions
+pub mod KeyBounds
 pub mod KeyNumbers
 pub mod KeySearches
 pub mod Keys

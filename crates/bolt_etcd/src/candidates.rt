@@ -114,7 +114,10 @@ fn value_of<'a>(entry: &Entry<'a>) -> &'a [u8]
 fn by_key_and_value(a: &Entry<'_>, b: &Entry<'_>) -> Ordering
     ensures { result ≡ whole_cmp (shown_entry a.now) (shown_entry b.now) }
 {
-    a.key.cmp(b.key).then(value_of(a).cmp(value_of(b)))
+    match a.key.cmp(b.key) {
+        Ordering::Equal => value_of(a).cmp(value_of(b)),
+        order => order,
+    }
 }
 
 fn is_same(a: &Entry<'_>, b: &Entry<'_>) -> bool
@@ -164,5 +167,17 @@ pub(crate) fn has_entry(entries: &[Entry<'_>], key: &[u8]) -> bool
     requires { Rises whole_cmp (map shown_entry entries.now) }
     ensures { (result ≡ true) ↔ HasKey (map shown_entry entries.now) key.now }
 {
-    entries.binary_search_by(|entry| entry.key.cmp(key)).is_ok()
+    is_within(entries, key) && entries.binary_search_by(|entry| entry.key.cmp(key)).is_ok()
+}
+
+/// Whether a key is no less than that of the first entry and no greater than that of the last. Mostly it
+/// isn't: what is lost lies together.
+fn is_within(entries: &[Entry<'_>], key: &[u8]) -> bool
+    requires { Rises whole_cmp (map shown_entry entries.now) }
+    ensures { HasKey (map shown_entry entries.now) key.now → result ≡ true }
+{
+    match (entries.first(), entries.last()) {
+        (Some(first), Some(last)) => key.cmp(first.key).is_ge() && key.cmp(last.key).is_le(),
+        _ => false,
+    }
 }

@@ -12,7 +12,7 @@ ghost use Rattle.bolt_etcd.specs.declared.repair.RepairFault.TheVariants as faul
 
 use crate::candidates::{candidates_of, disputed_keys, has_key};
 use crate::compaction::compacted_by;
-use crate::superseded::{keep_newest, stays, superseded_keys};
+use crate::superseded::{has_old, keep_newest, stays, superseded_keys};
 use crate::survey::Survey;
 use bolt_check::{Finding, NoMemory};
 use bolt_recover::{Lost, LostAndFound};
@@ -55,8 +55,8 @@ impl From<NoMemory> for RepairFault {
 impl<'a> Repair<'a> {
     ghost use Rattle.bolt_etcd.specs.{RepairedMembers.repair_file, RepairedMembers.repair_meta, RepairedMerges.repair_back, RepairedMerges.repair_is_made};
 
-    /// Finds what goes back. Goes over what is recovered once, and once more if candidates are
-    /// agreed.
+    /// Finds what goes back. Goes over what is recovered once, and once more if a compaction may have
+    /// removed some of the candidates.
     ///
     /// # Errors
     ///
@@ -137,7 +137,7 @@ fn keep_what_goes_back<'a>(
     ensures { OnOk result (ArePutBackIn both.now.file.now both.now.meta compacted
         (map shown_entry agreed.old.items) (map shown_entry agreed.new.items)) }
 {
-    if agreed.is_empty() {
+    if !has_old(agreed.as_slice(), compacted) {
         return Ok(());
     }
     keep_newest(agreed, compacted);

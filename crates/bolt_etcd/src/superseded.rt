@@ -1,6 +1,6 @@
 //! Which revisions a compaction keeps.
 ghost use Rattle.std.specs.Prelude.{◌≡◌, IfOk, map};
-ghost use Rattle.std.specs.Option.{option_map};
+ghost use Rattle.std.specs.{List.list_any, Option.option_map};
 ghost use Rattle.bolt_tree.specs.{InBuckets.view_cmp, Order.Rises, ShownEntries.shown_entry};
 ghost use Rattle.bolt_etcd.specs.ShownRevisions.{shown_revision};
 ghost use Rattle.bolt_etcd.specs.Superseded.{AreNewest, AreSupersededIn, HasOneOld, Supersedes, entry_name, is_deletion, is_old, is_same_old, newest_cmp, stays};
@@ -34,6 +34,13 @@ fn is_old(entry: &Entry<'_>, compacted: u64) -> bool
     }
 }
 
+/// Whether a compaction may have removed any of these.
+pub(crate) fn has_old(entries: &[Entry<'_>], compacted: u64) -> bool
+    ensures { result ≡ list_any (λ e. is_old compacted (shown_entry e)) entries.now }
+{
+    entries.iter().any(|entry| is_old(entry, compacted))
+}
+
 fn is_deletion(entry: &Entry<'_>) -> bool
     ensures { result ≡ is_deletion (shown_entry entry.now) }
 {
@@ -47,10 +54,12 @@ fn is_deletion(entry: &Entry<'_>) -> bool
 fn newest_first(a: &Entry<'_>, b: &Entry<'_>, compacted: u64) -> Ordering
     ensures { result ≡ newest_cmp compacted (shown_entry a.now) (shown_entry b.now) }
 {
-    name_of(a)
-        .cmp(name_of(b))
-        .then(is_old(a, compacted).cmp(&is_old(b, compacted)))
-        .then(b.key.cmp(a.key))
+    match name_of(a).cmp(name_of(b)) {
+        Ordering::Equal => is_old(a, compacted)
+            .cmp(&is_old(b, compacted))
+            .then(b.key.cmp(a.key)),
+        order => order,
+    }
 }
 
 /// Of those up to the last compaction keeps the newest of each name; the later ones stay. They stand

@@ -6,8 +6,8 @@ use Rattle.bolt_tree.specs.declared.entry.Entry.{Entry}
 use Rattle.bolt_etcd.proofs.{Disputed.entries_climb, Disputed.entry_below, KeySearches.found_entry, MappedLists.climbs_sorted, MappedLists.sorted_by_shown}
 use Rattle.bolt_etcd.proofs.candidates.has_entry.Goals as goal
 
-pub returns : goal.returns
-returns c =
+pub returns-then-is_within : goal.returns-then-is_within
+returns-then-is_within c =
     let key = c.args.key.now in
     let es = c.args.entries.now in
     let up = climbs_sorted entry_below (map shown_entry es) (entries_climb (map shown_entry es) c.requires) in
