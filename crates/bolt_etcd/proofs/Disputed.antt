@@ -1,7 +1,7 @@
 -- Of entries by key and value, the keys that two have or more, and the keys of all.
 use Rattle.std.proofs.Common.{◌≡◌, ◌↔◌, ◌∙◌, ◌<◌, ◌≤◌, ◌+◌, ◌-◌, ◌⊎◌, inl, inr, ℕ, suc, Bool, Bor, true, false, List, [], ◌∷◌, ◌++◌, cond, drop, length, map, refl, sym, ap, subst, slice_index_or, arith}
 use Rattle.std.proofs.lemmas.Bool.{cond-false, cond-true}
-use Rattle.std.proofs.lemmas.List.{append-nil, append_assoc, drop_more, get_or-map, length-drop, length-map, map-append}
+use Rattle.std.proofs.lemmas.List.{drop_more, get_or-map, length-drop, length-map, map-append}
 use Rattle.std.proofs.lemmas.Cmp.{nat_list_eq_equiv}
 use Rattle.std.proofs.lemmas.List.Kept.{Contains-dedup, Contains-from_dedup, IsStrictlySortedBy-dedup}
 use Rattle.std.proofs.lemmas.Map.Text.{is_eq-slice_cmp}

@@ -1,5 +1,5 @@
 -- Keys of a list, each added unless it is the last one so far.
-use Rattle.std.proofs.Common.{◌≡◌, ◌∙◌, ◌+◌, ◌-◌, ◌<◌, Bool, Option, Some, true, false, List, [], ◌∷◌, ◌++◌, ap, arith, cond, length, refl, ℕ, zero, suc}
+use Rattle.std.proofs.Common.{◌≡◌, ◌∙◌, ◌-◌, Bool, Option, Some, true, false, List, [], ◌∷◌, ◌++◌, ap, arith, cond, length, refl, ℕ}
 use Rattle.std.proofs.lemmas.List.{append_assoc, length-append}
 use Rattle.std.specs.List.{dedup, dedup_from, slice_get}
 use Rattle.std.specs.Str.{bytes_eq}

@@ -154,7 +154,7 @@ fn ends_with(keys: &[&[u8]], key: &[u8]) -> bool
     }
 }
 
-/// The number of keys of candidates.
+/// The number of different keys of candidates.
 pub(crate) fn count_keys(candidates: &[Entry<'_>]) -> usize
     requires { Rises whole_cmp (map shown_entry candidates.now) }
     ensures { HaveKeys (map shown_entry candidates.now) result }

@@ -105,7 +105,8 @@ fn lacks_bucket(under: Option<Item<'_>>) -> Option<bool>
 
 /// Keeps the candidates that are agreed: the recovered bucket doesn't have their keys (those that it
 /// has are met), and no other candidate has the key with another value. They stand by rising key.
-/// Returns the number of keys of candidates that aren't met.
+/// Returns the number of keys of candidates that aren't met. Takes `met`, so that it is freed before
+/// superseded keys are kept.
 fn keep_agreed(
     alloc: Global,
     candidates: &mut Vec<Entry<'_>>,

@@ -2,7 +2,6 @@
 use Rattle.std.proofs.Common.{◌≡◌, ◌∙◌, Bor, List, ap, map, subst, sym}
 use Rattle.bolt_check.specs.Keys.{Key}
 use Rattle.bolt_tree.specs.{Entries.EntryView, ShownEntries.shown_entry}
-use Rattle.bolt_tree.specs.declared.entry.Entry.{Entry}
 use Rattle.bolt_etcd.specs.{Agreed.AreAgreed, Agreed.without, Candidates.AreDisputed, Candidates.AreKeys}
 use Rattle.bolt_etcd.proofs.{AgreedEntries.are_agreed, AgreedEntries.are_unmet_keys, AgreedEntries.unmet_rises, FoundRepairs.rises_sorted}
 use Rattle.bolt_etcd.proofs.repair.keep_agreed.Goals as goal
