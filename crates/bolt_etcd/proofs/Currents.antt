@@ -42,7 +42,7 @@ pub bind_some : {A B : Type 0} (o : Option A) (f : A → Option B) (y : B) → (
 bind_some None f y e = cc
 bind_some (Some x) f y e = (x, refl, e)
 
-place_is : (v : EntryView) (r : RevisionView) → revision_of v ≡ Some r → r.place ≡ v.key
+pub place_is : (v : EntryView) (r : RevisionView) → revision_of v ≡ Some r → r.place ≡ v.key
 unfolding revision_of
 place_is v r e =
     let (value, _, inner) = bind_some (value_of v.item) (revision_in v.key) r e in

@@ -4,7 +4,7 @@ use Rattle.bolt_format.specs.TreePages.{leaves_on}
 use Rattle.bolt_recover.proofs.Words.{append-nil, AreFound, Bucket, cases_Bool, Contains, Contains-append_cases, contains_cases, contains_head, contains_tail, end, Equal, filter-append, filter_all, filter_none, first_cmp, found_tree, Greater, is_eq, is_found_path, is_lt, IsJoined, IsRecovered, joined_listing, key_cmp, key_lt, key_total, LacksBucketKey, LeafElement, leaves_of, Less, less_of, listing_below, listing_of, lost_and_found, Member, member_cmp, member_total, Meta, Ordering, page_at, Path, path_cmp, put_bucket, Rises, Tree, tree_of, Value, with_bucket, with_value, All, All-head, All-tail, AreJoinable, Found, found_listing, IsFoundView, numbers_of, pages_of, recovered_of}
 use Rattle.bolt_recover.proofs.{Existing.has_recovered, Existing.one_recovered, Existing.recovers, FoundAll.one_found, FoundExists.has_found}
 use Rattle.bolt_recover.proofs.{CourseTrees.all_tree, TreeOrder.Ordered, TreeOrder.ordered_rises, TreeOrder.rises_both, TreeOrder.under}
-use Rattle.bolt_tree.proofs.{PathOrder.flip_less, PathOrder.path_total, ReadBack.tree_back}
+use Rattle.bolt_tree.proofs.{MergeLemmas.merge_none, PathOrder.flip_less, PathOrder.path_total, ReadBack.tree_back}
 use Rattle.bolt_tree.specs.Merges.{merge, merge_first}
 use Rattle.std.specs.Prelude.{if◌then◌else◌}
 
@@ -102,10 +102,6 @@ put_between inside (x ∷ listing) own rise lacks = elim (cases_Bool (is_lt (fir
 passed : (x : Member) (rest : List Member → List Member) (put : List Member) → ((m : Member) → Contains put m → is_lt (member_cmp m x) ≡ true) → merge_first x rest put ≡ put ++ x ∷ rest []
 passed x rest [] all = refl
 passed x rest (y ∷ put) all = rw (all y (contains_head y put)) (ap (λ (ms : List Member). y ∷ ms) (passed x rest put (λ m has. all m (contains_tail y m put has))))
-
-merge_none : (xs : List Member) → merge xs [] ≡ xs
-merge_none [] = refl
-merge_none (x ∷ xs) = ap (λ (ms : List Member). x ∷ ms) (merge_none xs)
 
 merged_put : (inside : Tree) (listing : List Member) → LacksBucketKey listing → merge listing (put_of inside) ≡ put_members (put_of inside) listing
 merged_put inside [] lacks = sym (append-nil (put_of inside))

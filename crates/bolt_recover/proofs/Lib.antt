@@ -22,7 +22,7 @@ mod CourseSurveys
 mod CourseTrees
 mod Searched
 mod SoundListing
-mod SoundWalks
+pub mod SoundWalks
 mod StepLemmas
 mod SurveyIsOne
 mod TaskLists

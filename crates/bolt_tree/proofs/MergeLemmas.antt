@@ -1,5 +1,5 @@
 -- Which members a merge has, their order, and their places.
-use Rattle.std.proofs.Common.{◌≡◌, ◌≢◌, ◌⊎◌, ◌↔◌, inl, inr, Bool, true, false, List, [], ◌∷◌, if◌then◌else◌, refl, subst}
+use Rattle.std.proofs.Common.{◌≡◌, ◌≢◌, ◌⊎◌, ◌↔◌, inl, inr, Bool, true, false, List, [], ◌∷◌, if◌then◌else◌, refl, ap, subst}
 use Rattle.bolt_tree.proofs.Words.{Contains, Equal, Greater, IsBelow, Less, Member, Ordering, Path, Rises, is_lt, less_of, member_cmp, ordering_reverse}
 use Rattle.bolt_tree.proofs.{Lists.contains_cases, Lists.contains_head, Lists.contains_none, Lists.contains_tail, Single.member_total}
 use Rattle.bolt_tree.specs.Merges.{AreApart, HasBucket, HavePlaces, merge}
@@ -27,6 +27,10 @@ module _ (P : List Member → List Member → List Member → Type 0) (none : (y
   merge_holds (x ∷ xs) ys = first_holds x xs (merge_holds xs) ys
 
 -- ---- the members
+
+pub merge_none : (xs : List Member) → merge xs [] ≡ xs
+merge_none [] = refl
+merge_none (x ∷ xs) = ap (λ (ms : List Member). x ∷ ms) (merge_none xs)
 
 here : (x m : Member) (xs : List Member) → x ≡ m → Contains (x ∷ xs) m
 here x m xs same = subst (Contains (x ∷ xs)) same (contains_head x xs)

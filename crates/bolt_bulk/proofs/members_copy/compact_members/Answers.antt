@@ -4,7 +4,7 @@ use Rattle.std.proofs.Common.{Err, List, length, Result, subst, ◌≡◌, ◌*�
 use Rattle.std.proofs.Math.Logic.{∥∥₁_elim}
 use Rattle.std.proofs.Props.{props}
 use Rattle.std.proofs.lemmas.Result.{err_from_is_err_and}
-use Rattle.bolt_tree.specs.{Listing.Member, Tree.tree_of}
+use Rattle.bolt_tree.specs.{Tree.tree_of}
 use Rattle.bolt_layout.specs.{Copies.layout_of_listing, Layout.layout_mark, Layout.layout_pages, Layout.placed_bytes, Laid.Placed}
 use Rattle.bolt_bulk.specs.{Compacting.Copies, Compacting.CopiesEach, declared.members_copy.Done.Done, declared.fault.BulkFault.BulkFault}
 use Rattle.bolt_bulk.proofs.CopyLemmas.{copied, layout_parts, layout_written, stops_first, stops_later, stops_unplanned}

@@ -1,7 +1,7 @@
-use Rattle.std.proofs.Common.{◌≡◌, ◌↔◌, [], List, Ok}
+use Rattle.std.proofs.Common.{◌≡◌, ◌↔◌, [], Ok}
 use Rattle.std.specs.List.{AllByRecursion}
 use Rattle.std.specs.Prelude.{⊤}
-use Rattle.bolt_tree.specs.{Listing.Member, Tree.tree_of}
+use Rattle.bolt_tree.specs.{Tree.tree_of}
 use Rattle.bolt_bulk.specs.Private.{FitLimits, HasLeft, IsFitMember, IsReady, limits_with, Steps}
 use Rattle.bolt_layout.specs.declared.Layout.{Layout}
 use Rattle.bolt_bulk.proofs.members_copy.put_pages.Given as goal

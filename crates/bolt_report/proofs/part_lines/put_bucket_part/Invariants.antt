@@ -1,5 +1,5 @@
-use Rattle.std.proofs.Common.{◌≡◌, ◌↔◌, ◌||◌, List}
-use Rattle.bolt_report.proofs.Words.{is_bucket_at, lines_form, list_any, listing_lines, Member, member_cmp, path_of, rest_from, Rises, WroteFront}
+use Rattle.std.proofs.Common.{◌≡◌, ◌↔◌, ◌||◌}
+use Rattle.bolt_report.proofs.Words.{is_bucket_at, lines_form, list_any, listing_lines, member_cmp, path_of, rest_from, Rises, WroteFront}
 use Rattle.bolt_report.proofs.ListPartTexts.{left_part}
 use Rattle.bolt_tree.specs.ListingParts.{bucket_part, has_bucket}
 use Rattle.bolt_report.proofs.part_lines.put_bucket_part.Given as goal

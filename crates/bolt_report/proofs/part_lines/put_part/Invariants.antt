@@ -1,5 +1,5 @@
-use Rattle.std.proofs.Common.{◌≡◌, ◌↔◌, List}
-use Rattle.bolt_report.proofs.Words.{begins_with, lines_form, listing_lines, Member, path_of, take_while, WroteFront}
+use Rattle.std.proofs.Common.{◌≡◌, ◌↔◌}
+use Rattle.bolt_report.proofs.Words.{begins_with, lines_form, listing_lines, path_of, take_while, WroteFront}
 use Rattle.bolt_report.proofs.part_lines.put_part.Given as goal
 
 -- of the text of the part of what was left, the text of the part of what is left is still to be written
