@@ -2,7 +2,8 @@
 ghost use Rattle.std.specs.Prelude.{◌≡◌, MatchOption, [], option_and_then, option_map};
 ghost use Rattle.bolt_tree.specs.Entries.{Bucket};
 ghost use Rattle.bolt_text.specs.{Cuts.IsCutAt, Cuts.IsFirstLine, Cuts.IsWithout, LineMembers.item_in, LineMembers.line_member};
-ghost use Rattle.bolt_text.specs.{LineWords.word_item, LineWords.words_member, Numbers.number_in};
+ghost use Rattle.bolt_text.specs.LineWords.{last_word, line_words, shown_word, shown_words, word_item, words_member};
+ghost use Rattle.bolt_text.specs.Numbers.{number_in};
 
 use crate::words::read_number;
 use memchr::memchr;
@@ -28,7 +29,8 @@ pub struct LineWords<'a> {
 /// The words of a line, if there are three: a path, and `=` and a value, or `bucket` and a number
 /// (docs/LISTING.md, "A listing as text").
 pub fn words_of(line: &[u8]) -> Option<LineWords<'_>>
-    ensures { line_member line.now ≡ option_and_then words_member result }
+    ensures words { option_map shown_words result ≡ line_words line.now }
+    ensures member { line_member line.now ≡ option_and_then words_member result }
 {
     let (path, rest) = cut_at(b' ', line)?;
     let (mark, word) = cut_at(b' ', rest)?;
@@ -41,7 +43,8 @@ pub fn words_of(line: &[u8]) -> Option<LineWords<'_>>
 
 /// The last word, by the mark before it.
 fn item_word<'a>(mark: &[u8], word: &'a [u8]) -> Option<ItemWord<'a>>
-    ensures { item_in mark.now word.now ≡ option_and_then word_item result }
+    ensures word { option_map shown_word result ≡ last_word mark.now word.now }
+    ensures item { item_in mark.now word.now ≡ option_and_then word_item result }
 {
     if mark == b"=".as_slice() {
         return Some(ItemWord::Digits(word));
@@ -54,7 +57,8 @@ fn item_word<'a>(mark: &[u8], word: &'a [u8]) -> Option<ItemWord<'a>>
 
 /// The sequence of a bucket.
 fn sequence_word(word: &[u8]) -> Option<ItemWord<'_>>
-    ensures { option_map Bucket (number_in word.now) ≡ option_and_then word_item result }
+    ensures word { option_map shown_word result ≡ option_map Bucket (number_in word.now) }
+    ensures item { option_map Bucket (number_in word.now) ≡ option_and_then word_item result }
 {
     Some(ItemWord::Sequence(read_number(word)?))
 }

@@ -13,15 +13,15 @@ unfolding members_left
 returns-in_default-clause-lines c = no_members c.args.self.now.text_left.now c.in_default.ensures
 
 pub unreachable-requires : goal.unreachable-requires
-unreachable-requires c = no_words c.args.self.now.text_left.now c.in-Some.line.now c.in-Some.text_left.now c.args.self.now.bytes_left.now c.in-Some.ensures c.args.self.now.ahead c.in_default-words_of.ensures
+unreachable-requires c = no_words c.args.self.now.text_left.now c.in-Some.line.now c.in-Some.text_left.now c.args.self.now.bytes_left.now c.in-Some.ensures c.args.self.now.ahead c.in_default-words_of.ensures.member
 
 pub push_parts-requires : goal.push_parts-requires
 push_parts-requires c = path_begins c.args.self.now.text_left.now c.in-Some.line.now c.in-Some.text_left.now c.args.self.now.bytes_left.now c.in-Some.ensures c.args.self.now.ahead
-    (hex_path_in c.in-Some-words_of.words.path.now) (word_item c.in-Some-words_of.words.item) c.in-Some-words_of.ensures
+    (hex_path_in c.in-Some-words_of.words.path.now) (word_item c.in-Some-words_of.words.item) c.in-Some-words_of.ensures.member
 
 pub item_of-requires : goal.item_of-requires
 item_of-requires c = item_begins c.args.self.now.text_left.now c.in-Some.line.now c.in-Some.text_left.now c.args.self.now.bytes_left.now c.in-Some.ensures c.args.self.now.ahead
-    (hex_path_in c.in-Some-words_of.words.path.now) (word_item c.in-Some-words_of.words.item) c.in-Some-words_of.ensures
+    (hex_path_in c.in-Some-words_of.words.path.now) (word_item c.in-Some-words_of.words.item) c.in-Some-words_of.ensures.member
     (path_of c.push_parts.new.path.items) c.in_ok-bytes_left.bytes_left.now
     (pushed_onto_none (hex_path_in c.in-Some-words_of.words.path.now) (path_of c.clear-2.new.self.items) (path_of c.push_parts.new.path.items) c.args.self.now.bytes_left.now c.in_ok-bytes_left.bytes_left.now
     (ap path_of c.clear-2.ensures.items) c.in_ok-bytes_left.ensures)
@@ -30,7 +30,7 @@ pub invariant_of-self-2 : goal.invariant_of-self-2
 invariant_of-self-2 c = record {
   whole = c.args.self.now.whole;
   ahead = rest_decoded c.args.self.now.text_left.now c.in-Some.line.now c.in-Some.text_left.now c.args.self.now.bytes_left.now c.in-Some.ensures c.args.self.now.ahead
-      (hex_path_in c.in-Some-words_of.words.path.now) (word_item c.in-Some-words_of.words.item) c.in-Some-words_of.ensures
+      (hex_path_in c.in-Some-words_of.words.path.now) (word_item c.in-Some-words_of.words.item) c.in-Some-words_of.ensures.member
       (path_of c.push_parts.new.path.items) c.in_ok-bytes_left.bytes_left.now
       (pushed_onto_none (hex_path_in c.in-Some-words_of.words.path.now) (path_of c.clear-2.new.self.items) (path_of c.push_parts.new.path.items) c.args.self.now.bytes_left.now c.in_ok-bytes_left.bytes_left.now
       (ap path_of c.clear-2.ensures.items) c.in_ok-bytes_left.ensures)
