@@ -73,7 +73,7 @@ bbolt: $(PROGRAM)
 # Compares the program with an etcd server on the files that etcd writes. SEED=N repeats the writes of another run. It
 # needs Debian's packages etcd-server and etcd-client.
 etcd: $(PROGRAM)
-	python3 -B tools/etcd/try_etcd.py $(PROGRAM) --seed $(SEED) --keys 3000 --seconds 600
+	$(MAKER) tools/etcd/try_etcd.py $(PROGRAM) --seed $(SEED) --keys 3000 --seconds 600
 
 # Tries sparse files of more than 4 GB, if there is memory for them.
 huge: $(PROGRAM)
@@ -105,7 +105,7 @@ test: set-up
 	python3 -B tools/try/gate.py "RT_JOBS=$(JOBS) MIMALLOC_PURGE_DELAY=10000 rt ci" \
 		"make cases examples programs manual failures memory work" \
 		"$(MAKER) tools/fuzz/fuzz.py $(PROGRAM) --seed 1 --files 36" "tools/bbolt/try.sh $(PROGRAM) 3" \
-		"python3 -B tools/etcd/try_etcd.py $(PROGRAM) --seed 1 --keys 300 --seconds 150"
+		"$(MAKER) tools/etcd/try_etcd.py $(PROGRAM) --seed 1 --keys 300 --seconds 150"
 
 # Times the program on large files and, if it can be built, bbolt's library.
 bench: $(PROGRAM) out/measured out/large.db out/wide.db out/long.db out/sparse.db out/very_deep.db out/lost_leaves.db \

@@ -18,6 +18,11 @@ Of each file
 - `etcd-get` prints some values, and finds no deleted key;
 - `etcd-check` finds nothing.
 
+Copies of the second file lose pages of the bucket `key`: its root page, every second branch, some leaves, and their
+second half. A server starts from the copy of each that `etcd-repair --etcd-snapshot` makes, and has more writes and
+another compaction. If all leaves are found, it reports what the first server did. If not, its keys are those of the
+leaves that are left.
+
 The same seed makes the same writes. At a difference both sides are shown, the status is 1, and the files stay in
 out/etcd. The run ends after `--seconds`, and the servers end with it, whatever happens. Without etcd or etcdctl nothing
 is compared.
@@ -32,12 +37,15 @@ import sys
 
 from answers import ask
 from compare import Comparisons, Difference
+from repairs import Repairs
 from server import EtcdFault, Server, restore_snapshot
 from writes import Writer
 
 FOLDER = os.path.join("out", "etcd")
 # At how many revisions the keys of each file are compared.
 REVISIONS_ASKED = 10
+# A server of a repair has this part of the steps of another one.
+REPAIR_STEPS = 10
 
 
 def end_early(number, _):
@@ -91,11 +99,17 @@ def try_copy(writer, comparisons, steps, file, before):
     return last.last
 
 
+def try_repairs(writer, comparisons, steps, file, before):
+    """Compares servers that start from repairs of damaged copies of a file."""
+    Repairs(writer, comparisons, FOLDER, file, before).compare_all(steps // REPAIR_STEPS)
+
+
 def try_all(words):
     """Compares all files. Returns the line that says what was compared."""
     comparisons = Comparisons(words.program, random.Random(words.seed))
     writer = Writer(random.Random(words.seed), words.keys)
     server, last = try_member(writer, comparisons, words.keys)
+    try_repairs(writer, comparisons, words.keys, server.file, last)
     revisions = try_copy(writer, comparisons, words.keys, server.file, last)
     return f"etcd: {server.version}, {revisions} revisions, {comparisons.files} files, {comparisons.count} comparisons"
 

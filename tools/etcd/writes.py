@@ -1,5 +1,7 @@
 """Makes random writes to an etcd server. The same seed makes the same writes."""
 
+from copy import copy
+
 from answers import base64_text, last_revision
 
 # How often each kind of step is drawn, of a hundred.
@@ -54,6 +56,12 @@ class Writer:
         self.frequent_first = draw.sample(self.names, count)
         self.leases = []
         self.granted = set()
+
+    def fork(self):
+        """One that goes on with the same names, and without the leases, for a server that starts from an older state."""
+        forked = copy(self)
+        forked.leases, forked.granted = [], set(self.granted)
+        return forked
 
     def put_all(self, server):
         """Puts every name, in a few transactions to this server."""

@@ -35,3 +35,23 @@ def compare_found(file, words):
     want(pages_in(lines) == named, "check names", named, "and list has", pages_in(lines))
     own = [line for line in lines if not named or not line.startswith(BUCKET)]
     want(own == file.run("list", "--recover", *words).out.splitlines(), "what is recovered isn't listed with what is found")
+
+
+def compare_repaired(file, words):
+    """The copy of the repaired listing is sound and has everything that is recovered. Repairing it again changes nothing, and if nothing is
+    lost, it is the copy for bbolt. Or the file is refused, and the copy is empty."""
+    copy, again = file.copy("repaired.db"), file.copy("repaired_again.db")
+    repaired = file.run("etcd-repair", "-o", copy, *words)
+    if repaired.err:
+        want(read(copy) == b"", "the copy of what is refused isn't empty")
+        return
+    want(file.program.text("check", copy) == b"OK\n", "the repaired copy isn't sound")
+    listed = file.program.text("list", copy).splitlines()
+    lost = [line for line in file.run("list", "--recover", *words).out.splitlines() if line not in set(listed)]
+    want(not lost, "the repaired copy lacks", lost)
+    want(file.program.text("etcd-repair", "-o", again, copy).startswith(b"0 revisions put back, 0 left out\n"), "a repaired copy is repaired")
+    want(read(again) == read(copy), "a repaired copy is changed")
+    if repaired.status == 0:
+        plain = file.copy("for_bbolt.db")
+        file.run("compact", "--recover", "--for-bbolt", "-o", plain, *words)
+        want(read(plain) == read(copy), "of an undamaged file etcd-repair doesn't make the copy for bbolt")

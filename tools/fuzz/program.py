@@ -35,6 +35,7 @@ TEXTS = {
     "list": rb"(?:%b)*" % ENTRY,
     "compact": rb"\d+ -> \d+ bytes\n",
     "load": rb"\d+ -> \d+ bytes\n",
+    "etcd-repair": rb"0 revisions put back, 0 left out\n\d+ -> \d+ bytes\n",
 }
 # And what it prints as JSON.
 JSON_TEXTS = {
@@ -68,6 +69,7 @@ FAULTS = {
     "etcd-get": REFUSED + rb"|bucket not found|revision compacted|key not found",
     "list": REFUSED + rb"|bucket not found|lost\+found exists",
     "compact": REFUSED + rb"|lost\+found exists|" + BAD_HASH,
+    "etcd-repair": REFUSED + rb"|key is not a bucket",
     "load": rb"line \d+: (?:not a line of a listing|path not rising|no bucket above|cut off)",
 }
 
@@ -87,6 +89,7 @@ FAILED = {
     "compact --recover": (rb"(?:%b\n)?(?:%b)?%b" % (BAD_HASH, LOSSES, TEXTS["compact"]), b""),
     "check --lost-and-found": (rb"(?:%b)?(?:%b|%b%b\d+ errors found\n)|%b\d+ errors found\n" % (OTHER_META, FINDINGS, LOSSES, FOUND, OTHER_META), b""),
     "list --lost-and-found": (TEXTS["list"], LOST),
+    "etcd-repair": (rb"(?:%b\n)?(?:%b)?\d+ revisions put back, \d+ left out\n%b" % (BAD_HASH, LOSSES, TEXTS["compact"]), b""),
     "compact --lost-and-found": (rb"(?:%b\n)?(?:%b)?%b%b" % (BAD_HASH, LOSSES, FOUND, TEXTS["compact"]), b""),
 }
 

@@ -3,7 +3,7 @@
 import os
 import re
 
-from found import compare_found
+from found import compare_found, compare_repaired
 from listings import paths_between
 from options import buckets_of, lines_of_json, part_of
 from program import want
@@ -170,6 +170,7 @@ def compare_under(file, words):
     """What is recovered under a meta, compared with what `check` finds under it."""
     compare_hash(file, *words)
     compare_found(file, words)
+    compare_repaired(file, words)
     checked = file.run("check", *words)
     if checked.err:
         want(same(file.run("check", "--all", *words), checked), "check --all", *words)

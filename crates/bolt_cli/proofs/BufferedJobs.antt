@@ -1,7 +1,8 @@
 -- What a job does, whatever its standard output and its target are.
 use Rattle.std.proofs.Common.{◌≡◌, ◌<◌, ◌∙◌, ap, inl, inr, ℕ, List, [], Option, None, Some, Bool, length, refl, subst, sym}
-use Rattle.bolt_cli.proofs.Vocabulary.{Answer, CopiesUnless, Does, DoesJob, Ending, Extent, Ghosts, Job, Layout, MakesCopy, Member, MetaChoice, PageSize, WritesCopy, copy_page_size, copy_report, done, bad_hash, buffered_failures, buffered_of, buffered_text, hash_refusal, layout_of_listing, lengths_line, target_name, text_members}
+use Rattle.bolt_cli.proofs.Vocabulary.{Answer, CopiesUnless, Does, DoesJob, Ending, Extent, Ghosts, Job, Layout, MakesCopy, Member, MetaChoice, PageSize, WritesCopy, WritesRestored, copy_page_size, copy_report, done, bad_hash, buffered_failures, buffered_of, buffered_text, hash_refusal, layout_of_listing, lengths_line, repair_report, target_name, text_members, ∥∥₁_map}
 use Rattle.bolt_job.specs.declared.job.Job.TheVariants as job
+use Rattle.bolt_layout.specs.declared.Layout.TheVariants.{Balanced}
 
 module _ {O T : Type 0} (out_taken : O → Option (List ℕ)) (out_failed : O → ℕ) (out_old out_new : O)
     (target_taken : T → Option (List ℕ)) (target_failed : T → ℕ) (target_old target_new : T) where
@@ -11,6 +12,7 @@ module _ {O T : Type 0} (out_taken : O → Option (List ℕ)) (out_failed : O �
       → DoesJob {T = Unit {0}} out_taken out_failed out_old out_new (λ _. None) (λ _. 0) tt tt file j ending
   shown file (job.Compact j) ending none does = absurd (cc)
   shown file (job.Load j) ending none does = absurd (cc)
+  shown file (job.EtcdRepair j) ending none does = absurd (cc)
   shown file j ending none (answer, is, does, same) = (answer, is, does, refl)
 
 -- a job does the same on a sink that is seen as what it holds
@@ -56,6 +58,13 @@ module _ {O T : Type 0} (out : Ghosts O) (target : Ghosts T) (out_old out_new : 
       inl (meta, listing, lost, found, read, unless snapshot listing layout (copy_report hash lost found (length file)) ending (hash_refusal extent hash) copies)
   copied file choice size which snapshot extent ending (inr (why, unread, (same, untouched_target, is))) = inr (why, unread, (untouched same, untouched_target, is))
 
+  restored : (file : List ℕ) (choice : MetaChoice) (size : Option PageSize) (snapshot : Bool) (ending : Ending)
+      → WritesRestored out.taken out.failed out_old out_new target.taken target.failed target_old target_new file choice size snapshot ending
+      → WritesRestored buffered_text buffered_failures (buffered_of [] 0) (buffered_of text failures) target.taken target.failed target_old target_new file choice size snapshot ending
+  restored file choice size snapshot ending (meta, listing, lost, back, left_out, is, writes) =
+      let layout = layout_of_listing Balanced (copy_page_size size meta) listing meta.root_sequence in
+      (meta, listing, lost, back, left_out, is, written snapshot listing layout (repair_report (bad_hash snapshot file) lost back left_out (length file)) ending writes)
+
   pub buffered_job : (file : List ℕ) (j : Job) (ending : Ending)
       → DoesJob out.taken out.failed out_old out_new target.taken target.failed target_old target_new file j ending
       → DoesJob buffered_text buffered_failures (buffered_of [] 0) (buffered_of text failures) target.taken target.failed target_old target_new file j ending
@@ -63,5 +72,9 @@ module _ {O T : Type 0} (out : Ghosts O) (target : Ghosts T) (out_old out_new : 
   buffered_job file (job.Load j) ending does = elim does [
     | inl (right, writes) ↦ inl (right, written _ (text_members file) _ (λ copy. done (lengths_line (length file) copy)) ending writes)
     | inr (fault, is, (same, target, ends)) ↦ inr (fault, is, (untouched same, target, ends))
+  ]
+  buffered_job file (job.EtcdRepair j) ending does = elim does [
+    | inl made ↦ inl (∥∥₁_map made (restored file j.meta j.page_size j.snapshot ending))
+    | inr (why, is, (same, target, ends)) ↦ inr (why, is, (untouched same, target, ends))
   ]
   buffered_job file j ending (answer, is, does, same) = (answer, is, does_buffered answer ending does, same)

@@ -1,13 +1,13 @@
 -- The copy of a listing, and what is then reported of it.
-use Rattle.std.proofs.Common.{◌≡◌, ◌∙◌, ℕ, List, Bool, None, Some, Result, Ok, Err, inl, inr, length, map, refl, subst}
+use Rattle.std.proofs.Common.{◌≡◌, ◌∙◌, ℕ, List, Bool, Option, None, Some, Result, Ok, Err, inl, inr, length, map, refl, subst}
 use Rattle.bolt_commands.proofs.Vocabulary.{Answer, BulkFault, CopiesTo, Does, Ending, EndsCopy, Failure, Ghosts, Member, WritesCopy, copied, copy_page_size}
-use Rattle.bolt_commands.proofs.Vocabulary.{CompactsTo, CopiesRead, IsOpened, IsReadTo, bad_hash, copy_report, hash_refusal, LostView, OnOk, Opened, found_view, is_snapshot, opened_found, opened_lost, opened_meta}
+use Rattle.bolt_commands.proofs.Vocabulary.{CompactsTo, CopiesListing, CopiesRead, IsOpened, IsReadTo, bad_hash, copy_report, hash_refusal, LostView, OnOk, Opened, found_view, is_snapshot, opened_found, opened_lost, opened_meta}
 use Rattle.bolt_commands.proofs.Vocabulary.{HasGoodCopies, IsAskedBlueprint, Meta, layout_for, layout_of_listing, blueprint_layout, failing, ∥∥₁_map}
 use Rattle.bolt_commands.proofs.{OpenedReads.refused_read}
 use Rattle.bolt_commands.specs.declared.failure.Failure.TheVariants.{Hash}
 use Rattle.bolt_etcd.specs.declared.snapshot.SnapshotFault.{SnapshotFault}
 use Rattle.bolt_bulk.specs.declared.blueprint.Blueprint.{Blueprint}
-use Rattle.bolt_job.specs.declared.writing_commands.CompactJob.{CompactJob}
+use Rattle.bolt_job.specs.declared.{choices.CopyKind.CopyKind, choices.PageSize.PageSize, writing_commands.CompactJob.CompactJob}
 
 -- a copy that is whole is good
 pub copy_good : {T : Type 0} {target : Ghosts T} {old new : T} (listing : List Member) (blueprint : Blueprint) (snapshot : Bool) (result : Result ℕ BulkFault)
@@ -18,18 +18,18 @@ copy_good listing blueprint snapshot (Ok count) ends good =
 copy_good listing blueprint snapshot (Err fault) ends good = record { ends = ends; good = tt }
 
 -- the copy of the blueprint that is asked for
-pub copy_asked : {T : Type 0} {target : Ghosts T} {old new : T} {listing : List Member} {snapshot : Bool} {result : Result ℕ BulkFault} {job : CompactJob} {meta : Meta} {blueprint : Blueprint}
-    → IsAskedBlueprint job meta blueprint → CopiesTo target old new (blueprint_layout blueprint listing) listing snapshot result
-    → CopiesTo target old new (layout_of_listing (layout_for job.kind) (copy_page_size job.page_size meta) listing meta.root_sequence) listing snapshot result
+pub copy_asked : {T : Type 0} {target : Ghosts T} {old new : T} {listing : List Member} {snapshot : Bool} {result : Result ℕ BulkFault} {kind : CopyKind} {size : Option PageSize} {meta : Meta} {blueprint : Blueprint}
+    → IsAskedBlueprint kind size meta blueprint → CopiesTo target old new (blueprint_layout blueprint listing) listing snapshot result
+    → CopiesTo target old new (layout_of_listing (layout_for kind) (copy_page_size size meta) listing meta.root_sequence) listing snapshot result
 copy_asked asked copy = rw (asked.layout, asked.page_size, asked.sequence) at copy
 
 -- of what is read, which if the copy is whole is known with what is lost
-pub copy_read : {T : Type 0} {target : Ghosts T} {old new : T} {job : CompactJob} (file : List ℕ) (before after : Opened) {blueprint : Blueprint} {listing : List Member} (lost : LostView)
-    → IsReadTo job.extent file job.meta (opened_meta before) listing lost (map found_view (opened_found before)) → IsAskedBlueprint job (opened_meta before) blueprint
+pub copy_read : {T : Type 0} {target : Ghosts T} {old new : T} (job : CompactJob) (file : List ℕ) (before after : Opened) {blueprint : Blueprint} {listing : List Member} (lost : LostView)
+    → IsReadTo job.extent file job.meta (opened_meta before) listing lost (map found_view (opened_found before)) → IsAskedBlueprint job.kind job.page_size (opened_meta before) blueprint
     → (made : Result ℕ BulkFault) → CopiesTo target old new (blueprint_layout blueprint listing) listing (is_snapshot job.kind) made → OnOk made (opened_lost after ≡ lost)
     → (result : Result ℕ Failure) → result ≡ failing copied made → CopiesRead target old new job file before after result
-copy_read file before after lost read asked (Ok count) copy known result is = inl (_, _, read, rw is known, (Ok count, copy_asked asked copy, is))
-copy_read file before after lost read asked (Err fault) copy known result is = inl (_, _, read, rw is tt, (Err fault, copy_asked asked copy, is))
+copy_read job file before after lost read asked (Ok count) copy known result is = inl (_, _, read, rw is known, (Ok count, copy_asked asked copy, is))
+copy_read job file before after lost read asked (Err fault) copy known result is = inl (_, _, read, rw is tt, (Err fault, copy_asked asked copy, is))
 
 -- it is whole and reported, or it isn't whole and nothing is
 pub copy_written : {O T : Type 0} (out : Ghosts O) {out_old out_new : O} {target : Ghosts T} {old new : T} {layout : List ℕ} {listing : List Member} {snapshot : Bool} (answer : ℕ → Answer)
@@ -43,6 +43,18 @@ pub copy_stopped : {O T : Type 0} (out : Ghosts O) (out_old : O) {target : Ghost
     (fault : BulkFault) (ending : Ending) → CopiesTo target old new layout listing snapshot (Err fault) → ending ≡ Err (copied fault)
     → WritesCopy out.taken out.failed out_old out_old target.taken target.failed old new snapshot listing layout answer ending
 copy_stopped out out_old answer fault ending copy is = inr (copied fault, copy.ends, refl, is)
+
+-- the copy of a listing, if its length or the failure is known
+module _ {O T : Type 0} (out : Ghosts O) (out_old : O) {target : Ghosts T} {old new : T} {layout : List ℕ} {listing : List Member} {snapshot : Bool} (answer : ℕ → Answer) (ending : Ending) where
+  pub listing_failed : (why : Failure) → CopiesListing target old new layout listing snapshot (Err why) → ending ≡ Err why
+      → WritesCopy out.taken out.failed out_old out_old target.taken target.failed old new snapshot listing layout answer ending
+  listing_failed why (Err fault, copy, same) ends = copy_stopped out out_old answer fault ending copy (ends ∙ same)
+  listing_failed why (Ok count, copy, same) ends = absurd (cc)
+
+  pub listing_done : {out_new : O} (count : ℕ) → CopiesListing target old new layout listing snapshot (Ok count) → Does out.taken out.failed out_old out_new (answer count) ending
+      → WritesCopy out.taken out.failed out_old out_new target.taken target.failed old new snapshot listing layout answer ending
+  listing_done count (Ok made, copy, same) does = let number : count ≡ made = (cc) in copy_written out answer made ending copy (rw number at does)
+  listing_done count (Err fault, copy, same) does = absurd (cc)
 
 -- ---- `compact`
 
@@ -58,8 +70,7 @@ module _ {O T : Type 0} (out : Ghosts O) (out_old : O) {target : Ghosts T} {old 
     (right : hash_refusal job.extent (bad_hash (is_snapshot job.kind) file) ≡ None) (ending : Ending) where
   pub compact_failed : (why : Failure) → CopiesRead target old new job file before after (Err why) → ending ≡ Err why → CompactsTo out out_old out_old target old new job file ending
   compact_failed why read ends = elim read [
-    | inl (listing, lost, is, known, (Err fault, copy, same)) ↦ inl (_, listing, lost, _, is, rw right (copy_stopped out out_old (copy_report (bad_hash (is_snapshot job.kind) file) lost (map found_view (opened_found before)) (length file)) fault ending copy (ends ∙ same)))
-    | inl (listing, lost, is, known, (Ok count, copy, same)) ↦ absurd (cc)
+    | inl (listing, lost, is, known, copy) ↦ inl (_, listing, lost, _, is, rw right (listing_failed out out_old (copy_report (bad_hash (is_snapshot job.kind) file) lost (map found_view (opened_found before)) (length file)) ending why copy ends))
     | inr (reason, unread, untouched, same) ↦ inr (reason, unread, (refl, untouched, ends ∙ same))
   ]
 
@@ -67,10 +78,8 @@ module _ {O T : Type 0} (out : Ghosts O) (out_old : O) {target : Ghosts T} {old 
       → Does out.taken out.failed out_old out_new (copy_report (bad_hash (is_snapshot job.kind) file) (opened_lost after) (map found_view (opened_found before)) (length file) count) ending
       → CompactsTo out out_old out_new target old new job file ending
   compact_done count read does = elim read [
-    | inl (listing, lost, is, known, (Ok made, copy, same)) ↦
+    | inl (listing, lost, is, known, copy) ↦
         let told : opened_lost after ≡ lost = known in
-        let number : count ≡ made = (cc) in
-        inl (_, listing, lost, _, is, rw right (copy_written out (copy_report (bad_hash (is_snapshot job.kind) file) lost (map found_view (opened_found before)) (length file)) made ending copy (rw (told, number) at does)))
-    | inl (listing, lost, is, known, (Err fault, copy, same)) ↦ absurd (cc)
+        inl (_, listing, lost, _, is, rw right (listing_done out out_old (copy_report (bad_hash (is_snapshot job.kind) file) lost (map found_view (opened_found before)) (length file)) ending count copy (rw told at does)))
     | inr (reason, unread, untouched, same) ↦ absurd (cc)
   ]

@@ -20,9 +20,12 @@ pub mod OpenedReads
 pub mod PageAnswers
 pub mod ReadFiles
 pub mod RecoveredAnswers
+pub mod RepairAnswers
+pub mod RepairedFits
 pub mod SnapshotCopies
 pub mod SoundNames
 pub mod SoundReads
 pub mod SoundRecovery
+pub mod SoundRepairs
 pub mod StatsAnswers
 pub mod Vocabulary

@@ -8,6 +8,7 @@ use Rattle.bolt_commands.proofs.{ReadFiles.no_accounts, ReadFiles.read_meta, Sou
 use Rattle.bolt_job.specs.declared.choices.Extent.TheVariants.{LostAndFound}
 use Rattle.bolt_recover.specs.{Found.AreFound, JoinRefusals.IsJoinRefusal, Lost.IsAllLost, declared.joined.JoinFault.JoinFault}
 use Rattle.bolt_recover.specs.declared.joined.JoinFault.TheVariants as join
+use Rattle.bolt_etcd.specs.Repaired.{IsRepaired}
 
 -- what the laws of the crates below say
 pub record Below : Type 0 where
@@ -19,6 +20,8 @@ pub record Below : Type 0 where
   pub none_lost : (file : List ℕ) (meta : Meta) (losses : List LossView) → HasSoundTrees file meta → AreLosses file meta losses → losses ≡ []
   pub has_found : (file : List ℕ) (meta : Meta) → (found : List ℕ) × AreFound file meta found
   pub none_found : (file : List ℕ) (meta : Meta) (found : List ℕ) → AreLosses file meta [] → AreFound file meta found → found ≡ []
+  pub has_listing : (file : List ℕ) (meta : Meta) → HasSoundTrees file meta → (listing : List Member) × IsListing file meta listing
+  pub unrepaired : (file : List ℕ) (meta : Meta) (listing : List Member) → HasSoundTrees file meta → IsRepaired file meta listing → IsListing file meta listing
 
 pub names_one : Below → (file : List ℕ) (choice : MetaChoice) (meta : Meta) → IsMetaOf file choice meta → NamesOne file choice meta
 names_one b file Active meta (slot, chosen) other (another, is) = (b.chosen_is_one file slot meta chosen another other is).1
@@ -60,6 +63,13 @@ module _ (b : Below) (file : List ℕ) (meta : Meta) (trees : HasSoundTrees file
   pub no_losses : AreLosses file meta []
   no_losses = let (losses, are) = has_losses file meta in subst (λ (ls : List LossView). AreLosses file meta ls) (b.none_lost file meta losses trees are) are
 
+  pub no_found : AreFound file meta []
+  no_found = let (found, are) = b.has_found file meta in subst (λ (ns : List ℕ). AreFound file meta ns) (b.none_found file meta found no_losses are) are
+
+  pub no_loss : (lost : LostView) → IsAllLost file meta lost → lost ≡ parts []
+  no_loss (everything x) loses = absurd (keeps_not_loses file meta trees meta x refl loses)
+  no_loss (parts reported) (keeps, all) = ap parts (all [] no_losses)
+
   only_memory : (choice : MetaChoice) → IsMetaOf file choice meta → (why : Failure) → IsUnreadTo Losses file choice why → why ≡ failure.Memory
   only_memory choice shown why (fault, is, of) =
       let memory = unrecovered file meta trees choice fault (names_one b file choice meta shown) shown is in
@@ -97,13 +107,6 @@ module _ (b : Below) (file : List ℕ) (meta : Meta) (trees : HasSoundTrees file
   -- ---- if nothing is lost, nothing is found
 
   module _ (choice : MetaChoice) (shown : IsMetaOf file choice meta) (few : length file < 10 ^ 16 * meta.page_size) where
-    no_found : AreFound file meta []
-    no_found = let (found, are) = b.has_found file meta in subst (λ (ns : List ℕ). AreFound file meta ns) (b.none_found file meta found no_losses are) are
-
-    no_loss : (lost : LostView) → IsAllLost file meta lost → lost ≡ parts []
-    no_loss (everything x) loses = absurd (keeps_not_loses file meta trees meta x refl loses)
-    no_loss (parts reported) (keeps, all) = ap parts (all [] no_losses)
-
     salvaged : (listing : List Member) (lost : LostView) (found : List FoundView) → IsSalvaged file meta listing lost found → IsReadTo Losses file choice meta listing lost found
     salvaged listing lost found is =
         let joins = is.joins in

@@ -1,12 +1,14 @@
 -- Commands that do the same: docs/RECOVERY.md, "The recovering walk".
-use Rattle.std.specs.Prelude.{◌≡◌, ◌≢◌, ◌↔◌, ◌*◌, ◌<◌, ◌^◌, ℕ, Bool, true, false, Err, List, Option, length}
+use Rattle.std.specs.Prelude.{◌≡◌, ◌≢◌, ◌↔◌, ◌⊎◌, ◌*◌, ◌<◌, ◌^◌, ℕ, Bool, true, false, Err, List, [], Option, length}
 use Rattle.bolt_check.specs.Sound.{HasSoundTrees}
 use Rattle.bolt_format.specs.{declared.meta.Meta.Meta, declared.sink.Sink.Ghosts}
-use Rattle.bolt_layout.specs.declared.Layout.{Layout}
+use Rattle.bolt_layout.specs.{Copies.layout_of_listing, declared.Layout.Layout, declared.Layout.TheVariants.Balanced}
+use Rattle.bolt_etcd.specs.Repairs.{store_path}
+use Rattle.bolt_recover.specs.Losses.{parts}
 use Rattle.bolt_text.specs.declared.forms.ListForm.{ListForm}
-use Rattle.bolt_tree.specs.Paths.{Path}
-use Rattle.bolt_commands.specs.Answers.{Answer, DoesJob, Ending, IsBucketsShown, IsKeysShown, IsListedAnswer, IsValueShown, MakesCopy, hash_refusal}
-use Rattle.bolt_commands.specs.{SnapshotAnswers.bad_hash, declared.failure.Failure.TheVariants.Memory}
+use Rattle.bolt_tree.specs.{Entries.Value, Listing.IsListing, Listing.Member, Paths.Path}
+use Rattle.bolt_commands.specs.Answers.{Answer, DoesJob, Ending, HoldsIn, IsBucketsShown, IsKeysShown, IsListedAnswer, IsValueShown, MakesCopy, MakesRepair, WritesCopy, WritesNone, copy_page_size, hash_refusal, repair_report}
+use Rattle.bolt_commands.specs.{SnapshotAnswers.bad_hash, declared.failure.Failure.Failure, declared.failure.Failure.TheVariants.Memory, declared.failure.Failure.TheVariants.NotABucket}
 use Rattle.bolt_job.specs.MetaChoices.{IsMetaOf}
 use Rattle.bolt_job.specs.declared.bucket_commands.{BucketsJob.BucketsJob, GetJob.GetJob, KeysJob.KeysJob}
 use Rattle.bolt_job.specs.declared.choices.BucketsShown.TheVariants.{Names, Recovered}
@@ -26,6 +28,10 @@ DoesAlike {O} {T} out target job one other = (out_old out_new : O) (target_old t
 abbrev pub UnderSoundTrees : (List ℕ → (wanted named : MetaChoice) → Type 0) → Type 0
 UnderSoundTrees P = (file : List ℕ) (meta : Meta) → HasSoundTrees file meta → (wanted named : MetaChoice) → IsMetaOf file wanted meta → IsMetaOf file named meta
     → named ≢ Active → P file wanted named
+
+-- this holds of a file with sound trees under the meta that a choice names
+abbrev pub ForSoundTrees : (List ℕ → Meta → MetaChoice → Type 0) → Type 0
+ForSoundTrees P = (file : List ℕ) (meta : Meta) → HasSoundTrees file meta → (choice : MetaChoice) → IsMetaOf file choice meta → P file meta choice
 
 -- This holds of a file with sound trees under one choice of the meta, if no page number has more than sixteen digits.
 abbrev pub OfSoundTrees : (List ℕ → (wanted named : MetaChoice) → Type 0) → Type 0
@@ -56,3 +62,21 @@ BucketsAlike file wanted named = (job : BucketsJob) (answer : Answer) → answer
 
 abbrev pub GetsAlike : List ℕ → (wanted named : MetaChoice) → Type 0
 GetsAlike file wanted named = (job : GetJob) (answer : Answer) → IsValueShown true file wanted job answer ↔ IsValueShown false file named job answer
+
+-- ---- `etcd-repair`
+
+-- Nothing is written: `key` is a value in the root bucket, or memory ran out.
+abbrev pub IsUnrepairable : List ℕ → Meta → Failure → Type 0
+IsUnrepairable file meta why =
+    ((why ≡ NotABucket) × ((value : List ℕ) × HoldsIn file meta store_path (Value value))) ⊎ (why ≡ Memory)
+
+-- Nothing goes back or stays out: The copy is that of the file's own listing, for bbolt.
+abbrev pub RepairsNothing : {O T : Type 0} (out : Ghosts O) (target : Ghosts T) → List ℕ → Meta → MetaChoice → Type 0
+RepairsNothing {O} {T} out target file meta choice =
+    (out_old out_new : O) (target_old target_new : T) (size : Option PageSize) (snapshot : Bool) (ending : Ending)
+    → MakesRepair out.taken out.failed out_old out_new target.taken target.failed target_old target_new file choice size snapshot ending
+    → ∥ ((listing : List Member) × IsListing file meta listing
+    × WritesCopy out.taken out.failed out_old out_new target.taken target.failed target_old target_new snapshot listing
+    (layout_of_listing Balanced (copy_page_size size meta) listing meta.root_sequence) (repair_report (bad_hash snapshot file) (parts []) 0 0 (length file)) ending) ∥₁
+    ⊎ ((why : Failure) × IsUnrepairable file meta why
+    × WritesNone out.taken out.failed out_old out_new target.taken target.failed target_old target_new why ending)

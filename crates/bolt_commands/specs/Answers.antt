@@ -18,6 +18,8 @@ use Rattle.bolt_recover.specs.{Losses.AreLosses, Losses.LossView, Losses.LostVie
 use Rattle.bolt_recover.specs.Recovered.{ForRecovered, IsRecovered}
 use Rattle.bolt_recover.specs.Refusals.{IsUnrecoverable, KeepsRoot}
 use Rattle.bolt_recover.specs.declared.joined.JoinFault.{JoinFault}
+use Rattle.bolt_etcd.specs.{FullRepairs.IsFullRepair, RepairRefusals.IsRepairRefusal, Repaired.repaired_listing}
+use Rattle.bolt_etcd.specs.declared.repair.RepairFault.{RepairFault}
 use Rattle.bolt_report.specs.{FaultWords.count_line, FaultWords.findings_text, FoundLines.FoundView, FoundLines.counted_lost_text, FoundLines.lost_text}
 use Rattle.bolt_report.specs.{StatsLines.stats_text, KeyLines.buckets_text, KeyLines.keys_text}
 use Rattle.bolt_report.specs.MemberNames.{Wanted, begins_so, names_bucket, names_text}
@@ -30,12 +32,12 @@ use Rattle.bolt_stats.specs.{StatsOf.IsStatsOf}
 use Rattle.bolt_text.specs.{declared.forms.Form.Form, declared.forms.FigureForm.FigureForm}
 use Rattle.bolt_stats.specs.{declared.figures.Stats.Stats}
 use Rattle.bolt_text.specs.{declared.forms.ListForm.ListForm, declared.forms.Form.TheVariants.Json}
-use Rattle.bolt_tree.specs.Entries.{AreEntries, IsEntry, Item, Root_page, Start, Value, start_of}
+use Rattle.bolt_tree.specs.Entries.{AreEntries, EntryView, IsEntry, Item, Root_page, Start, Value, start_of}
 use Rattle.bolt_tree.specs.{Listing.IsListing, Listing.Member, Listing.rest_from, ListingParts.bucket_part, ListingParts.has_bucket}
 use Rattle.bolt_tree.specs.Paths.{Holds, Names, Path}
 use Rattle.bolt_job.specs.CopyKinds.{is_snapshot}
 use Rattle.bolt_commands.specs.CopyLayouts.{layout_for}
-use Rattle.bolt_commands.specs.Failures.{IsFailureOf, failure_line, unjoined, unloaded}
+use Rattle.bolt_commands.specs.Failures.{IsFailureOf, failure_line, unjoined, unloaded, unrepaired}
 use Rattle.bolt_commands.specs.{FileFaults.AreFileFaults, FileFaults.errors_in, FileFaults.fault_lines, FileFaults.hash_lines, FileFaults.is_fine, FileFaults.no_faults, GoodCopies.IsGoodCopy}
 use Rattle.bolt_job.specs.MetaChoices.{HasNoMetaOf, IsMetaOf}
 use Rattle.bolt_commands.specs.SnapshotAnswers.{bad_hash, copy_of}
@@ -60,7 +62,7 @@ use Rattle.bolt_job.specs.declared.job.Job.TheVariants as job
 use Rattle.bolt_job.specs.declared.choices.MetaChoice.{MetaChoice}
 use Rattle.bolt_job.specs.declared.choices.MetaChoice.TheVariants.{Active, Assumed, InSlot}
 use Rattle.bolt_job.specs.{declared.choices.PageSize.PageSize, PlainWords.path_in}
-use Rattle.bolt_layout.specs.declared.Layout.{Layout}
+use Rattle.bolt_layout.specs.{declared.Layout.Layout, declared.Layout.TheVariants.Balanced}
 
 -- How a job ends: with a status, or with a failure that is reported.
 abbrev pub Ending : Type 0
@@ -496,6 +498,34 @@ abbrev pub copy_report : Option SnapshotFault → LostView → List FoundView �
 copy_report hash lost found source copy =
     record { out = hash_lines hash ++ (lost_text lost found ++ lengths_line source copy); ending = Ok (copy_status hash lost) }
 
+-- ---- `etcd-repair`
+
+-- The repaired listing of a file under the meta that is chosen, what is lost of it, how many revisions go back, and how many stay out. If everything is lost, some go back.
+pub record IsRestored (file : List ℕ) (choice : MetaChoice) (meta : Meta) (listing : List Member) (lost : LostView) (back left_out : ℕ) : Type 0 where
+  pub under : IsMetaOf file choice meta
+  pub loses : IsAllLost file meta lost
+  pub entries : List EntryView
+  pub is_made : Bool
+  pub repairs : IsFullRepair file meta entries is_made left_out
+  pub lists : listing ≡ repaired_listing repairs.repair.recovered is_made entries
+  pub counts : back ≡ length entries
+  pub some : (x : Finding) → lost ≡ everything x → entries ≢ []
+
+-- why there is none
+abbrev pub IsUnrestored : List ℕ → MetaChoice → Failure → Type 0
+IsUnrestored file choice why =
+    ((meta : Meta) × (fault : RepairFault) × IsMetaOf file choice meta × IsRepairRefusal file meta fault × (why ≡ unrepaired fault))
+    ⊎ ((fault : MetaFault) × HasNoMetaOf file choice fault × (why ≡ failure.Metas fault))
+
+-- the line with the numbers of revisions that go back, and of those that stay out
+abbrev pub counts_line : (back left_out : ℕ) → List ℕ
+counts_line back left_out = (decimal back ++ codes " revisions put back, ") ++ (decimal left_out ++ codes " left out\n")
+
+-- what is reported of a repair: what is wrong with the hash of its file, each loss, how many revisions go back, and the lengths of the file and of the copy
+abbrev pub repair_report : Option SnapshotFault → LostView → (back left_out source copy : ℕ) → Answer
+repair_report hash lost back left_out source copy =
+    record { out = hash_lines hash ++ (lost_text lost [] ++ (counts_line back left_out ++ lengths_line source copy)); ending = Ok (copy_status hash lost) }
+
 -- ---- what a command prints for its job
 
 -- the names of the buckets, their sizes, or the names of those that are recovered, of a file under a meta
@@ -674,6 +704,19 @@ module _ {O T : Type 0} (out_taken : O → Option (List ℕ)) (out_failed : O �
       (WritesCopy snapshot listing (layout_of_listing which (copy_page_size size meta) listing meta.root_sequence) (copy_report hash lost found (length file))) ending)
       ⊎ ((why : Failure) × IsUnreadTo extent file choice why × WritesNone why ending)
 
+  -- the copy of the repaired listing, and what is reported of it
+  abbrev pub WritesRestored : List ℕ → MetaChoice → Option PageSize → (snapshot : Bool) → Ending → Type 0
+  WritesRestored file choice size snapshot ending =
+      (meta : Meta) × (listing : List Member) × (lost : LostView) × (back left_out : ℕ) × IsRestored file choice meta listing lost back left_out
+      × WritesCopy snapshot listing (layout_of_listing Balanced (copy_page_size size meta) listing meta.root_sequence) (repair_report (bad_hash snapshot file) lost back left_out (length file)) ending
+
+  -- `etcd-repair`: The target accepts the balanced layout of the repaired listing at the copy's page size, and for a snapshot then its hash: a good
+  -- copy of that listing. Then it is reported if the file has a hash that isn't right, what is lost, and how many revisions go back. Or there is
+  -- no repaired listing, or memory ran out, and neither is touched.
+  abbrev pub MakesRepair : List ℕ → MetaChoice → Option PageSize → (snapshot : Bool) → Ending → Type 0
+  MakesRepair file choice size snapshot ending =
+      ∥ WritesRestored file choice size snapshot ending ∥₁ ⊎ ((why : Failure) × IsUnrestored file choice why × WritesNone why ending)
+
   -- `load`: The target accepts the layout that is asked for of the listing that the lines of the file tell, with this root sequence, and for a
   -- snapshot then its hash: a good copy of that listing. Or a line isn't right, or memory ran out, and neither is touched.
   abbrev pub Loads : List ℕ → (page_size sequence : ℕ) → Layout → (snapshot : Bool) → Ending → Type 0
@@ -709,6 +752,7 @@ module _ {O T : Type 0} (out_taken : O → Option (List ℕ)) (out_failed : O �
   DoesJob file (job.EtcdKeys j) = Prints (IsEtcdKeysPrint j file)
   DoesJob file (job.EtcdGet j) = Prints (IsEtcdGetPrint j file)
   DoesJob file (job.EtcdCheck j) = Prints (IsEtcdCheckPrint j file)
+  DoesJob file (job.EtcdRepair j) = MakesRepair file j.meta j.page_size j.snapshot
   DoesJob file (job.Load j) = Loads file j.page_size.bytes j.sequence (layout_for j.kind) (is_snapshot j.kind)
 
 -- ---- the end of a run

@@ -9,12 +9,14 @@ use Rattle.bolt_load.specs.{FaultWords.line_fault_words, declared.fault.LoadFaul
 use Rattle.bolt_load.specs.declared.fault.LoadFault.TheVariants as load
 use Rattle.bolt_recover.specs.declared.joined.JoinFault.{JoinFault}
 use Rattle.bolt_recover.specs.declared.joined.JoinFault.TheVariants as join
+use Rattle.bolt_etcd.specs.declared.repair.RepairFault.{RepairFault}
+use Rattle.bolt_etcd.specs.declared.repair.RepairFault.TheVariants as repair
 use Rattle.bolt_report.specs.{FaultWords.finding_text, FaultWords.meta_fault_text, FaultWords.page_fault_text}
 use Rattle.bolt_etcd.specs.{SnapshotFaults.snapshot_fault_text}
 use Rattle.bolt_text.specs.declared.fault.ReportFault.{ReportFault}
 use Rattle.bolt_text.specs.declared.fault.ReportFault.TheVariants as report
 use Rattle.bolt_commands.specs.declared.failure.Failure.{Failure}
-use Rattle.bolt_commands.specs.declared.failure.Failure.TheVariants.{BucketMaybeLost, Compacted, Exists, File, Hash, KeyMaybeLost, Line, Lost, Memory, Metas, NoBucket, NoKey, Others, Page, TooLarge, Write}
+use Rattle.bolt_commands.specs.declared.failure.Failure.TheVariants.{BucketMaybeLost, Compacted, Exists, File, Hash, KeyMaybeLost, Line, Lost, Memory, Metas, NoBucket, NoKey, NotABucket, Others, Page, TooLarge, Write}
 
 abbrev pub failure_text : Failure → List ℕ
 failure_text (Metas fault) = meta_fault_text fault
@@ -29,6 +31,7 @@ failure_text TooLarge = codes "layout too large\n"
 failure_text Write = codes "write failed\n"
 failure_text (Hash fault) = snapshot_fault_text fault
 failure_text Exists = codes "lost+found exists\n"
+failure_text NotABucket = codes "key is not a bucket\n"
 failure_text (Others count) = codes "not revisions: " ++ (decimal count ++ codes "\n")
 failure_text Compacted = codes "revision compacted\n"
 failure_text (Lost count) = codes "pages lost: " ++ (decimal count ++ codes "\n")
@@ -61,6 +64,12 @@ unjoined (join.Root x) = File x
 unjoined join.Exists = Exists
 unjoined join.TooLarge = TooLarge
 unjoined join.Memory = Memory
+
+-- the failure if there is no repaired listing
+abbrev pub unrepaired : RepairFault → Failure
+unrepaired (repair.Root x) = File x
+unrepaired repair.NotABucket = NotABucket
+unrepaired repair.Memory = Memory
 
 -- the failure of a job whose file is refused; of the findings of the accounts the first is reported
 abbrev pub IsFailureOf : CheckFault → Failure → Type 0

@@ -6,4 +6,5 @@ pub mod Etcd
 pub mod Opened
 pub mod Printing
 pub mod Recovered
+pub mod Repairing
 pub mod Reports

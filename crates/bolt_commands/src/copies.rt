@@ -196,7 +196,7 @@ fn put_report<O: Sink>(report: &CopyReport<'_, '_>, copy: u64, out: &mut O) -> R
 }
 
 /// The status if this is lost.
-fn status_of(hash: Option<SnapshotFault>, lost: Lost<'_>) -> u8
+pub(crate) fn status_of(hash: Option<SnapshotFault>, lost: Lost<'_>) -> u8
     ensures { result ≡ copy_status hash (lost_view lost.entry) }
 {
     match (hash, lost) {
@@ -207,7 +207,7 @@ fn status_of(hash: Option<SnapshotFault>, lost: Lost<'_>) -> u8
 
 /// Writes the lengths of the file and of its copy.
 #[tactic(auto, using(bolt_format::proofs::WroteLemmas::wrote))]
-fn put_lengths<O: Sink>(source: u64, copy: u64, out: &mut O) -> Result<(), SinkFault>
+pub(crate) fn put_lengths<O: Sink>(source: u64, copy: u64, out: &mut O) -> Result<(), SinkFault>
     ensures { Wrote O.Sink out.old out.new (lengths_line source copy) (ending result) }
 {
     put_pieces(

@@ -14,7 +14,7 @@ use bolt_bulk::Blueprint;
 use bolt_bulk::laws::{a_recovery_is_whole, a_walk_is_whole, joined_members_are_whole};
 use bolt_etcd::{SnapshotFault, snapshot_fault};
 use bolt_format::{Meta, Sink};
-use bolt_job::{CompactJob, Extent, LoadJob};
+use bolt_job::{CompactJob, CopyKind, Extent, LoadJob, PageSize};
 use bolt_load::{ListingText, a_text_is_of_one_tree};
 use bolt_recover::laws::{each_file_has_a_joined_listing, each_file_has_found_pages};
 use bolt_recover::{Lost, LostAndFound};
@@ -31,7 +31,7 @@ pub(crate) fn write_copy<O: Sink, T: Sink>(
 {
     each_file_has_found_pages();
     let mut opened = input.open(job.meta, job.extent)?;
-    let hash = bad_hash(job, input.file);
+    let hash = bad_hash(job.kind, input.file);
     if let Some(fault) = hash_refusal(job.extent, hash) {
         return Err(Failure::Hash(fault));
     }
@@ -66,7 +66,7 @@ fn copy_opened<T: Sink>(
     ensures read { CopiesRead T.Sink target.old target.new job.now input.entry.file.now opened.old opened.new result }
     ensures found { opened_found opened.new ≡ opened_found opened.old }
 {
-    let blueprint = blueprint_of(job, &opened.meta());
+    let blueprint = blueprint_of(job.kind, job.page_size, &opened.meta());
     match opened {
         Opened::Sound(checked) => {
             let mut walk = Walk::new(input.alloc, *checked);
@@ -101,17 +101,17 @@ fn copy_joined<T: Sink>(
     Ok(copied)
 }
 
-/// What the copy of a file with this meta looks like.
-fn blueprint_of(job: &CompactJob, meta: &Meta) -> Blueprint
+/// What the copy of a file with this meta looks like, at this page size if one is asked for.
+pub(crate) fn blueprint_of(kind: CopyKind, size: Option<PageSize>, meta: &Meta) -> Blueprint
     requires { IsPageSize meta.now.page_size }
-    ensures { IsAskedBlueprint job.now meta.now result }
+    ensures { IsAskedBlueprint kind size meta.now result }
 {
-    let page_size = match job.page_size {
+    let page_size = match size {
         Some(size) => size.bytes,
         None => u64::from(meta.page_size),
     };
     Blueprint {
-        layout: crate::copy_layout::layout(job.kind),
+        layout: crate::copy_layout::layout(kind),
         page_size,
         sequence: meta.root_sequence,
     }
@@ -119,10 +119,10 @@ fn blueprint_of(job: &CompactJob, meta: &Meta) -> Blueprint
 
 /// What is wrong with the hash that a file has, if a snapshot is to be made of the file. The copy would
 /// have a right hash.
-fn bad_hash(job: &CompactJob, file: &[u8]) -> Option<SnapshotFault>
-    ensures { result ≡ bad_hash (is_snapshot job.now.kind) file.now }
+pub(crate) fn bad_hash(kind: CopyKind, file: &[u8]) -> Option<SnapshotFault>
+    ensures { result ≡ bad_hash (is_snapshot kind) file.now }
 {
-    if !job.kind.is_snapshot() {
+    if !kind.is_snapshot() {
         return None;
     }
     match snapshot_fault(file) {

@@ -1,4 +1,4 @@
-//! What a copy is made of: the members of a file, of what is left of one, or of lines. `Members` has a
+//! What a copy is made of: the members of a file, of what is left of one, of that with what goes back, or of lines. `Members` has a
 //! lifetime, so a function that is generic over them can't be handed which borrow it hashes; this
 //! trait has none. And why such a copy is good.
 ghost use Rattle.std.specs.Prelude.{◌≡◌, List, OnOk};
@@ -8,11 +8,13 @@ ghost use Rattle.bolt_load.specs.{ShownMembers.members_left, ShownMembers.member
 ghost use Rattle.bolt_text.specs.{LineMembers.text_members};
 ghost use Rattle.bolt_recover.specs.{Joined.IsJoined, JoinedMembers.joined_file, JoinedMembers.joined_left, JoinedMembers.joined_meta, Recovered.IsRecovered};
 ghost use Rattle.bolt_recover.specs.Recoveries.{ForLosses, recovery_file, recovery_left, recovery_losses, recovery_meta};
+ghost use Rattle.bolt_etcd.specs.{Repaired.IsRepaired, RepairedMembers.repaired_file, RepairedMembers.repaired_left, RepairedMembers.repaired_meta};
 ghost use Rattle.bolt_tree.specs.{Listing.IsListing, Listing.Member, Walks.left_of, Walks.walk_checked};
 ghost use Rattle.bolt_commands.specs.{Private.Copying.ForLayout, GoodCopies.HasGoodCopies};
 
 use crate::laws::whole_copies_are_good;
 use bolt_bulk::{Blueprint, BulkFault, Done, compact_members};
+use bolt_etcd::Repaired;
 use bolt_format::Sink;
 use bolt_load::LineMembers;
 use bolt_recover::{Joined, Recovery};
@@ -72,6 +74,18 @@ impl CopySource for Joined<'_> {
     ghost left = { λ joined listing. joined_left joined listing };
 
     ghost ends_as = { λ joined end. Unit {0} };
+
+    fn copy<S: Sink>(&mut self, alloc: Global, blueprint: &Blueprint, sink: &mut S) -> Copied {
+        compact_members(alloc, self, blueprint, sink)
+    }
+}
+
+impl CopySource for Repaired<'_> {
+    ghost lists = { λ repaired listing. IsRepaired (repaired_file repaired) (repaired_meta repaired) listing };
+
+    ghost left = { λ repaired listing. repaired_left repaired listing };
+
+    ghost ends_as = { λ repaired end. Unit {0} };
 
     fn copy<S: Sink>(&mut self, alloc: Global, blueprint: &Blueprint, sink: &mut S) -> Copied {
         compact_members(alloc, self, blueprint, sink)

@@ -1,12 +1,12 @@
 //! Why a job isn't done, and how it ends.
 ghost use Rattle.std.specs.Prelude.{◌≡◌, Ok};
-ghost use Rattle.bolt_commands.specs.Failures.{IsFailureOf, copied, reported, unjoined, unloaded};
+ghost use Rattle.bolt_commands.specs.Failures.{IsFailureOf, copied, reported, unjoined, unloaded, unrepaired};
 ghost use Rattle.bolt_commands.specs.declared.failure.Failure.TheVariants as failure;
 ghost use Rattle.bolt_commands.specs.Private.Endings.{end_of, end_written};
 
 use bolt_bulk::BulkFault;
 use bolt_check::{CheckFault, Finding, NoMemory};
-use bolt_etcd::SnapshotFault;
+use bolt_etcd::{RepairFault, SnapshotFault};
 use bolt_format::{MetaFault, PageFault, SinkFault};
 use bolt_load::{LineFault, LoadFault};
 use bolt_recover::JoinFault;
@@ -36,6 +36,9 @@ pub enum Failure {
     TooLarge,
     /// A snapshot was to be made of a file whose own hash is cut off or differs.
     Hash(SnapshotFault),
+    /// The root bucket has a value under the name of the bucket `key`, so what is found of that can't go
+    /// back.
+    NotABucket,
     /// There is an entry `lost+found`, so what is found can't be put there.
     Exists,
     /// Standard output or the copy couldn't be written.
@@ -117,6 +120,18 @@ impl From<JoinFault> for Failure {
             JoinFault::Exists => Failure::Exists,
             JoinFault::TooLarge => Failure::TooLarge,
             JoinFault::Memory => Failure::Memory,
+        }
+    }
+}
+
+impl From<RepairFault> for Failure {
+    ghost from_gives = { λ fault result. result ≡ unrepaired fault };
+
+    fn from(fault: RepairFault) -> Failure {
+        match fault {
+            RepairFault::Root(finding) => Failure::File(finding),
+            RepairFault::NotABucket => Failure::NotABucket,
+            RepairFault::Memory => Failure::Memory,
         }
     }
 }

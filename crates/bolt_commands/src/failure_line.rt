@@ -37,6 +37,7 @@ fn put_text<E: Sink>(failure: &Failure, err: &mut E) -> Result<(), SinkFault>
         Failure::Memory => put(b"out of memory\n", err),
         Failure::TooLarge => put(b"layout too large\n", err),
         Failure::Hash(fault) => snapshot_fault_text(*fault, err),
+        Failure::NotABucket => put(b"key is not a bucket\n", err),
         Failure::Exists => put(b"lost+found exists\n", err),
         Failure::Write => put(b"write failed\n", err),
         Failure::Lost(count) => put_number(b"pages lost: ", *count, err),

@@ -5,7 +5,7 @@ ghost use Rattle.bolt_layout.specs.Copies.{IsOfOneTree};
 ghost use Rattle.hex.specs.Hex.{IsBytes};
 ghost use Rattle.bolt_tree.specs.{Listing.IsListing, Listing.Member};
 ghost use Rattle.bolt_commands.specs.Alike.{BucketsAlike, CopiesAlike, DoesAlike, GetsAlike, KeysAlike, ListsAlike};
-ghost use Rattle.bolt_commands.specs.Alike.{OfSoundTrees, UnderSoundTrees};
+ghost use Rattle.bolt_commands.specs.Alike.{ForSoundTrees, OfSoundTrees, RepairsNothing, UnderSoundTrees};
 ghost use Rattle.bolt_commands.specs.Answers.{Answer, IsListedAnswer, IsReadUnder};
 ghost use Rattle.bolt_commands.specs.{CheckedCopies.FailsCutOff, CheckedCopies.LoadsAs, CheckedCopies.PassesCheck};
 ghost use Rattle.bolt_commands.specs.GoodCopies.{ForGoodCopies, HasGoodCopies};
@@ -14,6 +14,7 @@ ghost use Rattle.bolt_job.specs.declared.choices.MetaChoice.{MetaChoice};
 ghost use Rattle.bolt_text.specs.declared.forms.ListForm.TheVariants as form;
 ghost use Rattle.bolt_job.specs.declared.choices.Extent.TheVariants as extent;
 
+use bolt_etcd::laws::sound_trees_are_not_repaired;
 use bolt_etcd::{hashed_blocks_are_a_snapshot, trailing_bytes_change_nothing};
 use bolt_format::Sink;
 use bolt_format::laws::{active_meta_is_one, metas_lie_in_a_prefix, slot_meta_is_one};
@@ -28,7 +29,7 @@ use bolt_recover::laws::{
     sound_trees_recover_their_listing, sound_trees_recover_what_they_list,
 };
 use bolt_text::laws::hex_lines_are_the_listing_text;
-use bolt_tree::laws::all_is_below_the_root;
+use bolt_tree::laws::{all_is_below_the_root, sound_trees_have_a_listing};
 
 /// A job that needs the metas alone does on the bytes up to their end, which the first 80 tell,
 /// exactly what it does on the whole file.
@@ -84,7 +85,8 @@ pub fn loading_a_listing_copies_it<O: Sink, T: Sink>()
 /// the same meta, chosen so that its accounts don't count: by its slot, or as an assumed one. There are
 /// two exceptions: a snapshot that is to be made of a file with a hash that isn't right, and names of
 /// which memory runs out before all are written. And with `--lost-and-found`, `list` and `compact` do
-/// exactly what they do with `--recover`.
+/// exactly what they do with `--recover`. `etcd-repair` writes what `compact` writes for bbolt, and puts
+/// nothing back.
 pub fn recovering_sound_trees_reads_them<O: Sink, T: Sink>()
     ensures list { UnderSoundTrees (ListsAlike extent.Losses extent.First) }
     ensures compact { UnderSoundTrees (CopiesAlike O.Sink T.Sink extent.Losses extent.First) }
@@ -93,6 +95,7 @@ pub fn recovering_sound_trees_reads_them<O: Sink, T: Sink>()
     ensures get { UnderSoundTrees GetsAlike }
     ensures found_list { OfSoundTrees (ListsAlike extent.LostAndFound extent.Losses) }
     ensures found_compact { OfSoundTrees (CopiesAlike O.Sink T.Sink extent.LostAndFound extent.Losses) }
+    ensures repair { ForSoundTrees (RepairsNothing O.Sink T.Sink) }
 {
     active_meta_is_one();
     slot_meta_is_one();
@@ -100,4 +103,6 @@ pub fn recovering_sound_trees_reads_them<O: Sink, T: Sink>()
     sound_trees_recover_what_they_list();
     each_file_has_found_pages();
     nothing_lost_finds_nothing();
+    sound_trees_have_a_listing();
+    sound_trees_are_not_repaired();
 }

@@ -19,6 +19,7 @@ mod opened;
 mod opening;
 mod printing_commands;
 mod recovered_commands;
+mod repair_command;
 mod value_text;
 
 use crate::check_command::print_check;
@@ -31,6 +32,7 @@ use crate::opening::Input;
 use crate::printing_commands::{
     print_buckets, print_info, print_keys, print_page, print_pages, print_stats, print_value,
 };
+use crate::repair_command::write_repaired;
 use bolt_format::Sink;
 use bolt_job::Job;
 pub use failure::Failure;
@@ -93,5 +95,6 @@ fn do_job<O: Sink, T: Sink>(input: Input<'_>, job: &Job, out: &mut O, target: &m
         Job::EtcdKeys(job) => print_current(input, job, out),
         Job::EtcdGet(job) => print_held(input, job, out),
         Job::EtcdCheck(job) => print_store_check(input, job, out),
+        Job::EtcdRepair(job) => write_repaired(input, job, out, target),
     }
 }

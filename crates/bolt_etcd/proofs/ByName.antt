@@ -1,8 +1,7 @@
 -- All revisions of a bucket, sorted by name and then by their places.
-use Rattle.std.proofs.Common.{◌≡◌, ◌∙◌, ◌<◌, ◌+◌, ◌-◌, ◌^◌, Bool, List, [], ◌∷◌, length, map, not, Some, slice_index_or, ap, subst, arith}
+use Rattle.std.proofs.Common.{◌≡◌, ◌<◌, ◌-◌, ◌^◌, Bool, List, map, not, Some, ap, subst, arith}
 use Rattle.std.proofs.lemmas.Bool.{le-ltb}
 use Rattle.std.proofs.lemmas.Cmp.{nat_list_cmp_total, on_total, then_total}
-use Rattle.std.proofs.lemmas.List.{get_or-map, length-map}
 use Rattle.std.proofs.lemmas.List.MinMax.{ranks_by}
 use Rattle.std.proofs.lemmas.List.Sorted.{IsPermutation-map}
 use Rattle.std.proofs.lemmas.Option.{same_Some}
@@ -15,7 +14,7 @@ use Rattle.bolt_tree.specs.Entries.{EntryView}
 use Rattle.bolt_etcd.specs.{NameFaults.AreByName, NameFaults.by_name_cmp, Newest.is_until, Newest.until, Records.record_of, RevisionKeys.revision_key}
 use Rattle.bolt_etcd.specs.{Revisions.RevisionView, Revisions.name_of, Revisions.revision_in, Revisions.revision_of, Revisions.value_of, ShownRevisions.shown_revision, Stores.revisions}
 use Rattle.bolt_etcd.specs.declared.revision.Revision.{Revision}
-use Rattle.bolt_etcd.proofs.{Currents.bind_some, Currents.from_entry, Keys.read_fits}
+use Rattle.bolt_etcd.proofs.{Currents.bind_some, Currents.from_entry, Keys.read_fits, MappedLists.sorted_mapped}
 
 -- ---- each is of a transaction below 2^63
 
@@ -44,18 +43,9 @@ total = then_total (on_total name_of nat_list_cmp_total) (on_total (λ (r : Revi
 pub code_ranks : IsStrictWeakOrder code_by_name
 code_ranks = ranks_by total shown_revision
 
-sorted_shown : (ys : List Revision) → IsSortedBy code_by_name ys → IsSortedBy (λ a b. is_lt (by_name_cmp a b)) (map shown_revision ys)
-sorted_shown [] up k d low high = absurd (omega arith)
-sorted_shown (y ∷ ys) up k d low high =
-    let long = length-map (y ∷ ys) shown_revision in
-    let lt : k + 1 < length (y ∷ ys) = omega (arith, long) in
-    ap (λ (x : RevisionView). is_lt (by_name_cmp x (slice_index_or (map shown_revision (y ∷ ys)) k d))) (get_or-map shown_revision (y ∷ ys) (k + 1) y d lt)
-    ∙ ap (λ (x : RevisionView). is_lt (by_name_cmp (shown_revision (slice_index_or (y ∷ ys) (k + 1) y)) x)) (get_or-map shown_revision (y ∷ ys) k y d (omega arith))
-    ∙ up k y low lt
-
 pub are_by_name : (rs : List RevisionView) (old sorted : List Revision) → map shown_revision old ≡ rs → IsPermutation old sorted → IsSortedBy code_by_name sorted
     → AreByName rs (map shown_revision sorted)
 are_by_name rs old sorted is moved up = record {
   same = subst (λ (l : List RevisionView). IsPermutation l (map shown_revision sorted)) is (IsPermutation-map shown_revision old sorted moved);
-  rises = sorted_shown sorted up;
+  rises = sorted_mapped shown_revision (λ a b. is_lt (by_name_cmp a b)) sorted up;
 }

@@ -1,11 +1,11 @@
 -- The keys that there are are the newest revisions that aren't deletions.
-use Rattle.std.proofs.Common.{◌≡◌, ◌∙◌, ◌<◌, ◌+◌, ◌++◌, inl, inr, Bool, true, false, List, [], ◌∷◌, cond, filter, length, map, not, Option, Some, None, Result, Ok, Err, refl, slice_index_or, sym, ap, arith, if◌then◌else◌}
+use Rattle.std.proofs.Common.{◌≡◌, ◌∙◌, ◌++◌, inl, inr, Bool, true, false, List, [], ◌∷◌, cond, filter, map, not, Option, Some, None, Result, Ok, Err, refl, sym, ap, if◌then◌else◌}
 use Rattle.std.proofs.lemmas.Bool.{not-true}
-use Rattle.std.proofs.lemmas.List.{append_assoc, get_or-map, length-map, map-append}
+use Rattle.std.proofs.lemmas.List.{append_assoc, map-append}
 use Rattle.std.proofs.lemmas.List.Kept.{IsStrictlySortedBy-filter}
 use Rattle.std.proofs.lemmas.List.Sorted.{IsPermutation-map}
 use Rattle.std.proofs.lemmas.Option.{same_Some}
-use Rattle.std.specs.List.{Contains, cons_option, dedup, dedup_from}
+use Rattle.std.specs.List.{Contains, cons_option, dedup}
 use Rattle.std.specs.List.Sorted.{IsPermutation, IsSortedBy, IsStrictlySortedBy}
 use Rattle.std.specs.Cmp.{IsStrictWeakOrder}
 use Rattle.std.specs.Ordering.{is_lt}
@@ -18,7 +18,7 @@ use Rattle.bolt_tree.specs.{Entries.EntryView, Entries.entry_cmp, Entries.entry_
 use Rattle.bolt_etcd.specs.{Current.AreCurrent, Current.is_there, Current.name_cmp, Current.newest_first_cmp, Current.place_cmp, Newest.newest, Revisions.RevisionView, Revisions.name_of, Revisions.revision_in, Revisions.revision_of, Revisions.value_of}
 use Rattle.bolt_etcd.specs.{RevisionKeys.revision_key, Records.record_of, ShownRevisions.shown_revision, Stores.revisions, Wire.◌>>=◌}
 use Rattle.bolt_etcd.specs.declared.revision.Revision.{Revision}
-use Rattle.bolt_etcd.proofs.Filtered.{kept_from}
+use Rattle.bolt_etcd.proofs.{Filtered.kept_from, MappedLists.dedup_mapped, MappedLists.sorted_mapped}
 use Rattle.bolt_etcd.proofs.NewestOfNames.{all_at, kept_last, last_kept, names_rise, newest_ranks}
 
 -- ---- one more is pushed
@@ -91,29 +91,6 @@ view_same_name a b = bytes_eq (name_of a) (name_of b)
 pub code_ranks : IsStrictWeakOrder code_newest_first
 code_ranks = newest_ranks (λ r. name_of (shown_revision r)) (λ r. (shown_revision r).place)
 
-sorted_shown : (ys : List Revision) → IsSortedBy code_newest_first ys → IsSortedBy (λ a b. is_lt (newest_first_cmp a b)) (map shown_revision ys)
-sorted_shown [] up k d low high = absurd (omega arith)
-sorted_shown (y ∷ ys) up k d low high =
-    let long = length-map (y ∷ ys) shown_revision in
-    let lt : k + 1 < length (y ∷ ys) = omega (arith, long) in
-    ap (λ (x : RevisionView). is_lt (newest_first_cmp x (slice_index_or (map shown_revision (y ∷ ys)) k d))) (get_or-map shown_revision (y ∷ ys) (k + 1) y d lt)
-    ∙ ap (λ (x : RevisionView). is_lt (newest_first_cmp (shown_revision (slice_index_or (y ∷ ys) (k + 1) y)) x)) (get_or-map shown_revision (y ∷ ys) k y d (omega arith))
-    ∙ up k y low lt
-
-dedup_step : (k z : Revision) (zs : List Revision) (b : Bool) → ((k' : Revision) → map shown_revision (dedup_from code_same_name k' zs) ≡ dedup_from view_same_name (shown_revision k') (map shown_revision zs))
-    → map shown_revision (cond b (dedup_from code_same_name k zs) (k ∷ dedup_from code_same_name z zs))
-    ≡ cond b (dedup_from view_same_name (shown_revision k) (map shown_revision zs)) (shown_revision k ∷ dedup_from view_same_name (shown_revision z) (map shown_revision zs))
-dedup_step k z zs true later = later k
-dedup_step k z zs false later = ap (λ l. shown_revision k ∷ l) (later z)
-
-dedup_from_shown : (k : Revision) (zs : List Revision) → map shown_revision (dedup_from code_same_name k zs) ≡ dedup_from view_same_name (shown_revision k) (map shown_revision zs)
-dedup_from_shown k [] = refl
-dedup_from_shown k (z ∷ zs) = dedup_step k z zs (code_same_name z k) (λ k'. dedup_from_shown k' zs)
-
-dedup_shown : (ys : List Revision) → map shown_revision (dedup code_same_name ys) ≡ dedup view_same_name (map shown_revision ys)
-dedup_shown [] = refl
-dedup_shown (y ∷ ys) = dedup_from_shown y ys
-
 abbrev pub code_is_there : Revision → Bool
 code_is_there r = is_there (shown_revision r)
 
@@ -149,10 +126,10 @@ first_are_current rs sorted rises moved up = record {
 module _ (old sorted left new : List Revision) (moved : IsPermutation old sorted) (up : IsSortedBy code_newest_first sorted)
     (once : left ≡ dedup code_same_name sorted) (there : new ≡ filter code_is_there left) (rises : Rises place_cmp (map shown_revision old)) where
   shown : map shown_revision new ≡ filter is_there (dedup view_same_name (map shown_revision sorted))
-  shown = ap (map shown_revision) there ∙ filter_shown left ∙ ap (filter is_there) (ap (map shown_revision) once ∙ dedup_shown sorted)
+  shown = ap (map shown_revision) there ∙ filter_shown left ∙ ap (filter is_there) (ap (map shown_revision) once ∙ dedup_mapped shown_revision view_same_name sorted)
 
   moved_shown : IsPermutation (map shown_revision old) (map shown_revision sorted)
   moved_shown = IsPermutation-map shown_revision old sorted moved
 
   pub are_current : AreCurrent (map shown_revision old) (map shown_revision new)
-  are_current = rw shown (first_are_current (map shown_revision old) (map shown_revision sorted) rises moved_shown (sorted_shown sorted up))
+  are_current = rw shown (first_are_current (map shown_revision old) (map shown_revision sorted) rises moved_shown (sorted_mapped shown_revision (λ a b. is_lt (newest_first_cmp a b)) sorted up))

@@ -1,5 +1,5 @@
 -- What a test keeps of a list.
-use Rattle.std.proofs.Common.{◌≡◌, ◌∙◌, ◌&&◌, Bool, true, false, List, [], ◌∷◌, cond, filter, refl, sym, ap, subst, inl, inr}
+use Rattle.std.proofs.Common.{◌≡◌, ◌∙◌, ◌&&◌, Bool, true, false, List, [], ◌∷◌, cond, filter, map, refl, sym, ap, subst, inl, inr}
 use Rattle.std.proofs.lemmas.Bool.{cond-false, cond-true}
 use Rattle.std.specs.List.{Contains}
 use Rattle.std.specs.declared.cmp.Ordering.{Ordering}
@@ -45,3 +45,13 @@ kept_rises cmp p x xs false rises later = later
 pub filter_rises : {A : Type 0} (cmp : A → A → Ordering) (p : A → Bool) (xs : List A) → Rises cmp xs → Rises cmp (filter p xs)
 filter_rises cmp p [] rises = tt
 filter_rises cmp p (x ∷ xs) rises = kept_rises cmp p x xs (p x) rises (filter_rises cmp p xs rises.1)
+
+-- what is kept by what its elements show
+mapped_step : {A B : Type 0} (f : A → B) (p : B → Bool) (x : A) (xs : List A) (b : Bool) → map f (filter (λ y. p (f y)) xs) ≡ filter p (map f xs)
+    → map f (cond b (x ∷ filter (λ y. p (f y)) xs) (filter (λ y. p (f y)) xs)) ≡ cond b (f x ∷ filter p (map f xs)) (filter p (map f xs))
+mapped_step f p x xs true later = ap (λ ys. f x ∷ ys) later
+mapped_step f p x xs false later = later
+
+pub filter_mapped : {A B : Type 0} (f : A → B) (p : B → Bool) (xs : List A) → map f (filter (λ y. p (f y)) xs) ≡ filter p (map f xs)
+filter_mapped f p [] = refl
+filter_mapped f p (x ∷ xs) = mapped_step f p x xs (p (f x)) (filter_mapped f p xs)

@@ -1,11 +1,13 @@
 -- Lists that rise.
-use Rattle.std.proofs.Common.{◌≡◌, ◌++◌, inl, inr, List, [], ◌∷◌, subst}
+use Rattle.std.proofs.Common.{◌≡◌, ◌∙◌, ◌++◌, ◌⊎◌, inl, inr, List, [], ◌∷◌, ◌≤◌, arith, length, map, subst, sym}
 use Rattle.std.proofs.lemmas.List.Elements.{Contains-append_cases, Contains-append_left, Contains-append_right}
+use Rattle.std.specs.Cmp.{IsTotalOrder}
 use Rattle.std.specs.List.{Contains}
 use Rattle.std.specs.declared.cmp.Ordering.{Ordering}
 use Rattle.std.specs.declared.cmp.Ordering.TheVariants.{Less}
-use Rattle.bolt_tree.proofs.Lists.{contains_cases, contains_head, contains_none, contains_tail}
+use Rattle.bolt_tree.proofs.Lists.{contains_cases, contains_head, contains_none, contains_tail, irreflexive}
 use Rattle.bolt_tree.specs.Order.{Rises}
+use Rattle.bolt_etcd.proofs.MappedLists.{shows_from}
 
 -- by another order, if that has its elements in the same order
 pub rises_as : {A : Type 0} (old new : A → A → Ordering) (xs : List A)
@@ -15,6 +17,47 @@ rises_as old new (x ∷ xs) same rises = (
   λ y has. same x y (contains_head x xs) (contains_tail x y xs has) (rises.0 y has),
   rises_as old new xs (λ a b has also. same a b (contains_tail x a xs has) (contains_tail x b xs also)) rises.1,
 )
+
+-- of two elements one comes before the other, or they are one
+pub rising_cases : {A : Type 0} (cmp : A → A → Ordering) (xs : List A) (a b : A) → Rises cmp xs → Contains xs a → Contains xs b → (a ≡ b) ⊎ ((cmp a b ≡ Less) ⊎ (cmp b a ≡ Less))
+rising_cases cmp [] a b rises has also = absurd (contains_none a has)
+rising_cases cmp (x ∷ xs) a b rises has also = elim (contains_cases x a xs has) [
+  | inl first ↦ elim (contains_cases x b xs also) [
+    | inl second ↦ inl (sym first ∙ second)
+    | inr more ↦ inr (inl (subst (λ z. cmp z b ≡ Less) first (rises.0 b more)))
+  ]
+  | inr more ↦ elim (contains_cases x b xs also) [
+    | inl second ↦ inr (inr (subst (λ z. cmp z a ≡ Less) second (rises.0 a more)))
+    | inr others ↦ rising_cases cmp xs a b rises.1 more others
+  ]
+]
+
+pub rises_mapped : {A B : Type 0} (f : A → B) (cmp : B → B → Ordering) (xs : List A) → Rises (λ a b. cmp (f a) (f b)) xs → Rises cmp (map f xs)
+rises_mapped f cmp [] rises = tt
+rises_mapped f cmp (x ∷ xs) rises = (λ y has. let (a, there, is) = shows_from f xs y has in subst (λ z. cmp (f x) z ≡ Less) is (rises.0 a there), rises_mapped f cmp xs rises.1)
+
+-- if each element of one list is in another, it has no more
+pub fewer : {A : Type 0} {cmp : A → A → Ordering} → IsTotalOrder cmp → (ys xs : List A) → Rises cmp xs → Rises cmp ys → ((x : A) → Contains xs x → Contains ys x) → length xs ≤ length ys
+fewer {cmp = cmp} total [] [] up rises all = omega arith
+fewer {cmp = cmp} total [] (x ∷ xs) up rises all = absurd (contains_none x (all x (contains_head x xs)))
+fewer {cmp = cmp} total (y ∷ ys) [] up rises all = omega arith
+fewer {cmp = cmp} total (y ∷ ys) (x ∷ xs) up rises all = elim (contains_cases y x ys (all x (contains_head x xs))) [
+  | inl same ↦
+      let less = fewer total ys xs up.1 rises.1 (λ z has. elim (contains_cases y z ys (all z (contains_tail x z xs has))) [
+        | inl is ↦ absurd (irreflexive total x (subst (λ w. cmp x w ≡ Less) (sym is ∙ same) (up.0 z has)))
+        | inr later ↦ later
+      ]) in
+      omega (arith, less)
+  | inr later ↦
+      let less = fewer total ys (x ∷ xs) up rises.1 (λ z has. elim (contains_cases y z ys (all z has)) [
+        | inl is ↦ elim (contains_cases x z xs has) [
+          | inl at ↦ subst (Contains ys) at later
+          | inr more ↦ absurd (irreflexive total y (total.trans y x y (rises.0 x later) (up.0 y (subst (Contains xs) (sym is) more))))
+        ]
+        | inr others ↦ others
+      ]) in
+      omega (arith, less)
+]
 
 -- ---- a list without one of its elements
 

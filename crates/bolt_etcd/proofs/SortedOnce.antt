@@ -30,10 +30,16 @@ module _ {X : Type 0} {R : X → X → Ordering} (total : IsTotalOrder R) where
   flips x y = ap is_eq (total.antisymm x y) ∙ reverse_eq (R y x)
 
   -- a list that rises by an order that tells its elements apart has none twice
-  differ : (C : X → X → Ordering) → ((x y : X) → C x y ≡ Less → eq_by_cmp R x y ≡ false) → (xs : List X) → Rises C xs → IsDistinct (eq_by_cmp R) xs
+  differ_in : (C : X → X → Ordering) (xs : List X) → ((x y : X) → Contains xs x → Contains xs y → C x y ≡ Less → eq_by_cmp R x y ≡ false) → Rises C xs → IsDistinct (eq_by_cmp R) xs
   unfolding IsDistinct
-  differ C apart [] rises = tt
-  differ C apart (x ∷ xs) rises = (all_from (λ y. eq_by_cmp R x y ≡ false) xs (λ y has. apart x y (rises.0 y has)), differ C apart xs rises.1)
+  differ_in C [] apart rises = tt
+  differ_in C (x ∷ xs) apart rises = (
+    all_from (λ y. eq_by_cmp R x y ≡ false) xs (λ y has. apart x y (contains_head x xs) (contains_tail x y xs has) (rises.0 y has)),
+    differ_in C xs (λ y z has also. apart y z (contains_tail x y xs has) (contains_tail x z xs also)) rises.1,
+  )
+
+  differ : (C : X → X → Ordering) → ((x y : X) → C x y ≡ Less → eq_by_cmp R x y ≡ false) → (xs : List X) → Rises C xs → IsDistinct (eq_by_cmp R) xs
+  differ C apart xs rises = differ_in C xs (λ x y has also. apart x y) rises
 
   dedup_from_none : (x : X) (xs : List X) → IsDistinct (eq_by_cmp R) (x ∷ xs) → dedup_from (eq_by_cmp R) x xs ≡ x ∷ xs
   unfolding IsDistinct
@@ -44,7 +50,7 @@ module _ {X : Type 0} {R : X → X → Ordering} (total : IsTotalOrder R) where
   dedup_none [] d = refl
   dedup_none (x ∷ xs) d = dedup_from_none x xs d
 
-  rises_from : (xs : List X) → IsStrictlySortedBy R xs → Rises R xs
+  pub rises_from : (xs : List X) → IsStrictlySortedBy R xs → Rises R xs
   unfolding IsStrictlySortedBy
   rises_from [] strict = tt
   rises_from (x ∷ xs) strict = (λ y has. all_at (λ z. R x z ≡ Less) xs y strict.0 has, rises_from xs strict.1)
@@ -54,6 +60,11 @@ module _ {X : Type 0} {R : X → X → Ordering} (total : IsTotalOrder R) where
 
   moved_distinct : (xs ys : List X) → IsPermutation xs ys → IsDistinct (eq_by_cmp R) xs → IsDistinct (eq_by_cmp R) ys
   moved_distinct xs ys moved d = IsDistinct-IsPermutation (eq_by_cmp R) flips xs ys moved d
+
+  -- sorted, such a list rises
+  pub sorted_in : (C : X → X → Ordering) (xs ys : List X) → ((x y : X) → Contains xs x → Contains xs y → C x y ≡ Less → eq_by_cmp R x y ≡ false) → Rises C xs → IsPermutation xs ys
+      → IsSorted R ys → Rises R ys
+  sorted_in C xs ys apart rises moved up = sorted_rises ys (moved_distinct xs ys moved (differ_in C xs apart rises)) up
 
   sorted_once : (xs ys zs : List X) → IsDistinct (eq_by_cmp R) xs → IsPermutation xs ys → IsPermutation xs zs → IsSorted R ys → IsSorted R zs → ys ≡ zs
   sorted_once xs ys zs d to_ys to_zs up also =
@@ -81,6 +92,4 @@ current_once rs a b is also =
 
 -- sorted by name, none is there twice
 pub by_name_rises : (rs sorted : List RevisionView) → Rises place_cmp rs → AreByName rs sorted → Rises by_name_cmp sorted
-by_name_rises rs sorted rises is =
-    sorted_rises by_name_total sorted
-    (moved_distinct by_name_total rs sorted is.same (differ by_name_total place_cmp (λ x y less. then_apart (name_cmp x y) _ less) rs rises)) is.rises
+by_name_rises rs sorted rises is = sorted_in by_name_total place_cmp rs sorted (λ x y has also less. then_apart (name_cmp x y) _ less) rises is.same is.rises

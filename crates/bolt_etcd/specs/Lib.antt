@@ -1,3 +1,5 @@
+pub mod Agreed
+pub mod Candidates
 pub mod CheckLines
 pub mod Compacted
 pub mod Compactions
@@ -8,8 +10,10 @@ pub mod FewTransactions
 pub mod Follows
 pub mod ForHistories
 pub mod ForNames
+pub mod FullRepairs
 pub mod HeldNames
 pub mod Histories
+pub mod LostRevisions
 pub mod Marks
 pub mod Misplaced
 pub mod MissingLeft
@@ -20,6 +24,11 @@ pub mod Others
 pub mod Passes
 pub mod Possible
 pub mod Records
+pub mod RepairRefusals
+pub mod Repaired
+pub mod RepairedMembers
+pub mod RepairedMerges
+pub mod Repairs
 pub mod Returns
 pub mod RevisionKeys
 pub mod RevisionLines
@@ -32,9 +41,11 @@ pub mod SnapshotFaults
 pub mod StoreBuckets
 pub mod StoreFaults
 pub mod Stores
+pub mod Superseded
+pub mod Surveys
 pub mod Taken
 pub mod Told
 pub mod ToldRevisions
 pub mod WholeStores
-pub mod WriterLines
 pub mod Wire
+pub mod WriterLines

@@ -1,5 +1,6 @@
 //! Up to which transaction a store was compacted.
 ghost use Rattle.std.specs.Prelude.{◌≡◌, Some};
+ghost use Rattle.std.specs.Option.{option_map};
 ghost use Rattle.bolt_tree.specs.{BucketViews.entries_of, Buckets.bucket_checked, Buckets.bucket_start};
 ghost use Rattle.bolt_etcd.specs.Compacted.{IsCompacted, compacted_by};
 ghost use Rattle.bolt_etcd.specs.{StoreBuckets.ForStore, StoreFaults.store_compacted};
@@ -15,7 +16,15 @@ const SCHEDULED: &[u8] = b"scheduledCompactRev";
 pub fn compacted(meta: &Bucket<'_>) -> u64
     ensures { IsCompacted (entries_of (bucket_checked meta.now)) (bucket_start meta.now) result }
 {
-    match meta.get(SCHEDULED) {
+    compacted_by(meta.get(SCHEDULED))
+}
+
+/// The number of the transaction up to which a store was compacted, by the value under
+/// `scheduledCompactRev` in its bucket `meta`, if there is one. It is 0 if that doesn't say.
+pub(crate) fn compacted_by(value: Option<&[u8]>) -> u64
+    ensures { result ≡ compacted_by (option_map (λ value. value.now) value.entry) }
+{
+    match value {
         Some(value) => main_in(value),
         None => 0,
     }

@@ -1,8 +1,9 @@
 //! What etcd keeps in a database file: the revisions of its keys, each a record under a revision
-//! key, in a bucket `key`; and the hash that it writes after a snapshot. This crate knows no page. It
-//! reads the entries of buckets.
+//! key, in a bucket `key`; the hash that it writes after a snapshot; and which revisions go back
+//! into a damaged file. It reads the entries of buckets, and those of found pages.
 #![tactic(auto)]
 
+mod candidates;
 mod check_lines;
 mod check_texts;
 mod collected;
@@ -16,6 +17,8 @@ mod name_faults;
 mod newest;
 mod other;
 mod record;
+mod repair;
+mod repaired;
 mod revision;
 mod revision_key;
 mod revision_lines;
@@ -25,6 +28,8 @@ mod snapshot;
 mod store_faults;
 #[cfg(test)]
 mod store_tests;
+mod superseded;
+mod survey;
 #[cfg(test)]
 mod tests;
 mod wire;
@@ -37,6 +42,8 @@ pub use crate::name_faults::{NameFault, NameFaults};
 pub use crate::newest::Newest;
 pub use crate::other::Other;
 pub use crate::record::Record;
+pub use crate::repair::{Repair, RepairFault};
+pub use crate::repaired::Repaired;
 pub use crate::revision::{Decoded, Revision};
 pub use crate::revision_key::RevisionKey;
 pub use crate::revision_lines::RevisionWriter;

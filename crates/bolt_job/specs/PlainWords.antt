@@ -20,7 +20,7 @@ use Rattle.bolt_job.specs.declared.choices.Extent.TheVariants as extent
 use Rattle.bolt_job.specs.declared.choices.MetaChoice.{MetaChoice}
 use Rattle.bolt_job.specs.declared.choices.MetaChoice.TheVariants as choice
 use Rattle.bolt_job.specs.declared.choices.PageSize.{PageSize}
-use Rattle.bolt_job.specs.declared.etcd_commands.{EtcdCheckJob.EtcdCheckJob, EtcdGetJob.EtcdGetJob, EtcdKeysJob.EtcdKeysJob, EtcdRevisionsJob.EtcdRevisionsJob}
+use Rattle.bolt_job.specs.declared.etcd_commands.{EtcdCheckJob.EtcdCheckJob, EtcdGetJob.EtcdGetJob, EtcdKeysJob.EtcdKeysJob, EtcdRepairJob.EtcdRepairJob, EtcdRevisionsJob.EtcdRevisionsJob}
 use Rattle.bolt_job.specs.declared.page_commands.{CheckJob.CheckJob, InfoJob.InfoJob, PageJob.PageJob, PagesJob.PagesJob}
 use Rattle.bolt_job.specs.declared.bucket_commands.{BucketsJob.BucketsJob, GetJob.GetJob, KeysJob.KeysJob, ListJob.ListJob, StatsJob.StatsJob}
 use Rattle.bolt_job.specs.declared.writing_commands.{CompactJob.CompactJob, LoadJob.LoadJob}
@@ -73,6 +73,7 @@ pub data Asked : Type 0 where
   etcd_keys : Text → AskedMeta → (prefix : Key) → (revision : Option ℕ) → Form → (values : Bool) → Asked
   etcd_get : Text → AskedMeta → (name : Key) → (revision : Option ℕ) → Form → (no_newline : Bool) → Asked
   etcd_check : Text → AskedMeta → Asked
+  etcd_repair : (file : Text) → AskedMeta → (target : Text) → (page_size : Option ℕ) → (snapshot : Bool) → Asked
 
 -- the path that the code owns
 abbrev pub path_in : {Z : Type 0} → List (Vec ℕ Z) → Path
@@ -133,6 +134,9 @@ etcd_get_of j = etcd_get (string_bytes j.file) (meta_in j.meta) j.name.items j.a
 
 abbrev pub etcd_check_of : EtcdCheckJob → Asked
 etcd_check_of j = etcd_check (string_bytes j.file) (meta_in j.meta)
+
+abbrev pub etcd_repair_of : EtcdRepairJob → Asked
+etcd_repair_of j = etcd_repair (string_bytes j.file) (meta_in j.meta) (string_bytes j.target) (size_in j.page_size) j.snapshot
 
 -- the words that a line gives by each name
 abbrev pub Values : Type 0
@@ -337,6 +341,11 @@ asks_etcd_get values =
 abbrev pub asks_etcd_check : Values → Result Asked Text
 asks_etcd_check values = meta_by values >>= λ meta. file_by values >>= λ file. Ok (etcd_check file meta)
 
+abbrev pub asks_etcd_repair : Values → Result Asked Text
+asks_etcd_repair values =
+    meta_by values >>= λ meta. page_size_by (given values (codes "page-size")) >>= λ size. text_by (codes "output") values >>= λ target. file_by values >>= λ file.
+    Ok (etcd_repair file meta target size (is_given (given values (codes "etcd-snapshot"))))
+
 -- ---- the commands
 
 -- a command by its name and its arguments, and what the words of its line ask for, or which of them can't be read and why
@@ -367,6 +376,7 @@ commands =
     ∷ command (codes "etcd-keys") (option (codes "at") ∷ option (codes "prefix") ∷ switch (codes "values") ∷ option (codes "parts") ∷ option (codes "form") ∷ metas) asks_etcd_keys
     ∷ command (codes "etcd-get") (needed (operand (codes "NAME")) ∷ option (codes "at") ∷ by_letter 110 (switch (codes "no-newline")) ∷ option (codes "parts") ∷ option (codes "form") ∷ metas) asks_etcd_get
     ∷ command (codes "etcd-check") metas asks_etcd_check
+    ∷ command (codes "etcd-repair") (output ∷ option (codes "page-size") ∷ switch (codes "etcd-snapshot") ∷ metas) asks_etcd_repair
     ∷ []
 
 abbrev pub lines : List (Text × List Rule)

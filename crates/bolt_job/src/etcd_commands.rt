@@ -1,15 +1,16 @@
-//! The commands that read what etcd keeps in its file: which arguments each has and their help, its job, and how that
+//! The commands that read what etcd keeps in its file, and put back what is found of it: which arguments each has and their help, its job, and how that
 //! is read. A job's names are copied last: until then there is nothing to drop if a word can't be read.
 ghost use Rattle.bolt_job.specs.CommandLine.{Gives};
-ghost use Rattle.bolt_job.specs.PlainWords.{asks_etcd_check, asks_etcd_get, asks_etcd_keys, asks_etcd_revisions, etcd_check_of, etcd_get_of, etcd_keys_of, etcd_revisions_of};
+ghost use Rattle.bolt_job.specs.PlainWords.{asks_etcd_check, asks_etcd_get, asks_etcd_keys, asks_etcd_repair, asks_etcd_revisions, etcd_check_of, etcd_get_of, etcd_keys_of, etcd_repair_of, etcd_revisions_of};
 ghost use Rattle.bolt_job.specs.Private.CommandLines.{values_of};
 
 use crate::bucket_commands::{FORM, NO_NEWLINE};
-use crate::choices::MetaChoice;
+use crate::choices::{MetaChoice, PageSize};
 use crate::command_line::{Argument, Flag, Syntax};
 use crate::line::Line;
 use crate::page_commands::{ASSUME_META, FILE, META};
 use crate::refusal::Refusal;
+use crate::writing_commands::{OUTPUT, PAGE_SIZE};
 use bolt_text::Form;
 
 const NAME: Argument = Argument {
@@ -65,6 +66,14 @@ const NAME_PARTS: Argument = Argument {
     flag: Flag::Long,
     value: Some("P"),
     help: "How NAME is written: text, hex or mixed (hex after 0x, otherwise text) [default: text]",
+    required: false,
+};
+
+const REPAIRED_SNAPSHOT: Argument = Argument {
+    name: "etcd-snapshot",
+    flag: Flag::Long,
+    value: None,
+    help: "Write a snapshot that etcd restores: the copy, and then its SHA-256",
     required: false,
 };
 
@@ -214,6 +223,45 @@ pub(crate) fn read_etcd_check(line: &Line<'_, '_>) -> Result<EtcdCheckJob, Refus
 {
     Ok(EtcdCheckJob {
         meta: line.meta()?,
+        file: line.text("FILE")?,
+    })
+}
+
+/// Write a copy to another file, in which revisions that are found are back in their bucket.
+#[derive(Drop)]
+pub struct EtcdRepairJob {
+    pub file: String,
+    pub meta: MetaChoice,
+    /// The name of OUT.
+    pub target: String,
+    /// The page size of the copy. Without one it is that of the file.
+    pub page_size: Option<PageSize>,
+    /// Whether the copy ends with its hash.
+    pub snapshot: bool,
+}
+
+pub(crate) static ETCD_REPAIR: Syntax = Syntax {
+    name: "etcd-repair",
+    about: "Write a copy of a damaged file, with the revisions of etcd's keys that are found put back",
+    arguments: &[
+        FILE,
+        OUTPUT,
+        PAGE_SIZE,
+        REPAIRED_SNAPSHOT,
+        META,
+        ASSUME_META,
+    ],
+    note: None,
+};
+
+pub(crate) fn read_etcd_repair(line: &Line<'_, '_>) -> Result<EtcdRepairJob, Refusal>
+    ensures { Gives etcd_repair_of (asks_etcd_repair (values_of line.now)) result }
+{
+    Ok(EtcdRepairJob {
+        meta: line.meta()?,
+        page_size: line.page_size()?,
+        snapshot: line.is_given("etcd-snapshot"),
+        target: line.text("output")?,
         file: line.text("FILE")?,
     })
 }

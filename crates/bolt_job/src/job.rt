@@ -12,8 +12,9 @@ use crate::bucket_commands::{
 };
 use crate::command_line::Syntax;
 use crate::etcd_commands::{
-    ETCD_CHECK, ETCD_GET, ETCD_KEYS, ETCD_REVISIONS, EtcdCheckJob, EtcdGetJob, EtcdKeysJob,
-    EtcdRevisionsJob, read_etcd_check, read_etcd_get, read_etcd_keys, read_etcd_revisions,
+    ETCD_CHECK, ETCD_GET, ETCD_KEYS, ETCD_REPAIR, ETCD_REVISIONS, EtcdCheckJob, EtcdGetJob,
+    EtcdKeysJob, EtcdRepairJob, EtcdRevisionsJob, read_etcd_check, read_etcd_get, read_etcd_keys,
+    read_etcd_repair, read_etcd_revisions,
 };
 use crate::line::Line;
 use crate::page_commands::{
@@ -41,6 +42,7 @@ pub enum Job {
     EtcdKeys(EtcdKeysJob),
     EtcdGet(EtcdGetJob),
     EtcdCheck(EtcdCheckJob),
+    EtcdRepair(EtcdRepairJob),
 }
 
 impl Job {
@@ -67,6 +69,7 @@ impl Job {
             Job::EtcdKeys(job) => job.file.as_str(),
             Job::EtcdGet(job) => job.file.as_str(),
             Job::EtcdCheck(job) => job.file.as_str(),
+            Job::EtcdRepair(job) => job.file.as_str(),
         }
     }
 
@@ -86,6 +89,7 @@ impl Job {
         match self {
             Job::Compact(job) => Some(job.target.as_str()),
             Job::Load(job) => Some(job.target.as_str()),
+            Job::EtcdRepair(job) => Some(job.target.as_str()),
             _ => None,
         }
     }
@@ -93,7 +97,7 @@ impl Job {
 
 /// The commands, in the order of help. Each is a `static` of its own, since the check of a table takes the
 /// square of its length.
-pub(crate) fn commands<'a>() -> [&'a Syntax; 15]
+pub(crate) fn commands<'a>() -> [&'a Syntax; 16]
     ensures { map (λ syntax. line_of syntax.now) result ≡ lines }
 {
     [
@@ -112,6 +116,7 @@ pub(crate) fn commands<'a>() -> [&'a Syntax; 15]
         &ETCD_KEYS,
         &ETCD_GET,
         &ETCD_CHECK,
+        &ETCD_REPAIR,
     ]
 }
 
@@ -135,6 +140,7 @@ pub(crate) fn read_command(name: &str, line: &Line<'_, '_>) -> Result<Job, Refus
         "etcd-keys" => Ok(Job::EtcdKeys(read_etcd_keys(line)?)),
         "etcd-get" => Ok(Job::EtcdGet(read_etcd_get(line)?)),
         "etcd-check" => Ok(Job::EtcdCheck(read_etcd_check(line)?)),
+        "etcd-repair" => Ok(Job::EtcdRepair(read_etcd_repair(line)?)),
         _ => Err(Refusal::Word("command missing")),
     }
 }

@@ -15,7 +15,7 @@ mod writing_commands;
 
 pub use bucket_commands::{BucketsJob, GetJob, KeysJob, ListJob, StatsJob};
 pub use choices::{AssumedMeta, BucketsShown, CopyKind, Extent, MetaChoice, PageSize};
-pub use etcd_commands::{EtcdCheckJob, EtcdGetJob, EtcdKeysJob, EtcdRevisionsJob};
+pub use etcd_commands::{EtcdCheckJob, EtcdGetJob, EtcdKeysJob, EtcdRepairJob, EtcdRevisionsJob};
 pub use job::Job;
 pub use page_commands::{CheckJob, InfoJob, PageJob, PagesJob};
 pub use refusal::Refusal;

@@ -19,7 +19,7 @@ const LISTING: Argument = Argument {
     required: true,
 };
 
-const OUTPUT: Argument = Argument {
+pub(crate) const OUTPUT: Argument = Argument {
     name: "output",
     flag: Flag::Short('o'),
     value: Some("OUT"),
@@ -27,7 +27,7 @@ const OUTPUT: Argument = Argument {
     required: true,
 };
 
-const PAGE_SIZE: Argument = Argument {
+pub(crate) const PAGE_SIZE: Argument = Argument {
     name: "page-size",
     flag: Flag::Long,
     value: Some("N"),

@@ -1,5 +1,5 @@
 -- What the functions of a command that writes a copy promise of its job.
-use Rattle.std.specs.Prelude.{◌≡◌, ◌⊎◌, ℕ, List, Bool, Result, Err, OnOk, map}
+use Rattle.std.specs.Prelude.{◌≡◌, ◌⊎◌, ℕ, List, Bool, Option, Result, Err, OnOk, map}
 use Rattle.bolt_bulk.specs.{declared.blueprint.Blueprint.Blueprint, declared.fault.BulkFault.BulkFault}
 use Rattle.bolt_format.specs.{declared.meta.Meta.Meta, declared.sink.Sink.Ghosts}
 use Rattle.bolt_layout.specs.Copies.{layout_of_listing}
@@ -10,6 +10,7 @@ use Rattle.bolt_commands.specs.{Answers.Ending, Answers.IsReadTo, Answers.IsSalv
 use Rattle.bolt_commands.specs.{CopyLayouts.layout_for, Failures.copied, GoodCopies.IsGoodCopy, Private.Endings.failing}
 use Rattle.bolt_commands.specs.Private.Opened.{opened_found, opened_lost, opened_meta}
 use Rattle.bolt_commands.specs.declared.{failure.Failure.Failure, opened.Opened.Opened}
+use Rattle.bolt_job.specs.{declared.choices.CopyKind.CopyKind, declared.choices.PageSize.PageSize}
 use Rattle.bolt_job.specs.{CopyKinds.is_snapshot, declared.writing_commands.CompactJob.CompactJob, declared.writing_commands.LoadJob.LoadJob}
 
 module _ {O T : Type 0} (out : Ghosts O) (out_old out_new : O) (target : Ghosts T) (target_old target_new : T) where
@@ -21,10 +22,10 @@ module _ {O T : Type 0} (out : Ghosts O) (out_old out_new : O) (target : Ghosts 
   LoadsJob job file ending =
       Loads out.taken out.failed out_old out_new target.taken target.failed target_old target_new file job.page_size.bytes job.sequence (layout_for job.kind) (is_snapshot job.kind) ending
 
--- the blueprint that is asked for, if the file has this meta
-pub record IsAskedBlueprint (job : CompactJob) (meta : Meta) (blueprint : Blueprint) : Type 0 where
-  pub layout : blueprint.layout ≡ layout_for job.kind
-  pub page_size : blueprint.page_size ≡ copy_page_size job.page_size meta
+-- the blueprint of a copy of this kind and this page size, if one is asked for, and if the file has this meta
+pub record IsAskedBlueprint (kind : CopyKind) (size : Option PageSize) (meta : Meta) (blueprint : Blueprint) : Type 0 where
+  pub layout : blueprint.layout ≡ layout_for kind
+  pub page_size : blueprint.page_size ≡ copy_page_size size meta
   pub sequence : blueprint.sequence ≡ meta.root_sequence
 
 -- the layout of a listing by this blueprint

@@ -1,7 +1,11 @@
-use Rattle.std.proofs.Common.{refl}
+use Rattle.std.proofs.Common.{inl, inr, refl, subst}
+use Rattle.std.proofs.Math.Logic.{∥∥₁_map}
+use Rattle.bolt_format.specs.declared.meta.Meta.{Meta}
 use Rattle.bolt_commands.proofs.EntryNames.{bucket_items}
 use Rattle.bolt_commands.proofs.SoundNames.{gets_the_same, names_the_same}
-use Rattle.bolt_commands.proofs.SoundRecovery.{Below, copies_the_same, finds_alike, lists_the_same, recovers_alike}
+use Rattle.bolt_commands.proofs.SoundRecovery.{Below, copies_the_same, finds_alike, lists_the_same, names_one, recovers_alike}
+use Rattle.bolt_commands.proofs.SoundRepairs.{none_restored, none_unrestored}
+use Rattle.bolt_commands.specs.Answers.{IsRestored}
 use Rattle.bolt_job.specs.PlainWords.{path_in}
 use Rattle.bolt_report.specs.{KeyPrefixes.begins, MemberNames.begins_so, MemberNames.names_bucket}
 use Rattle.bolt_commands.proofs.laws.recovering_sound_trees_reads_them.Goals as goal
@@ -16,6 +20,8 @@ returns g c =
       none_lost = c.sound_trees_recover_what_they_list.ensures.losses;
       has_found = c.each_file_has_found_pages.ensures;
       none_found = c.nothing_lost_finds_nothing.ensures;
+      has_listing = c.sound_trees_have_a_listing.ensures;
+      unrepaired = c.sound_trees_are_not_repaired.ensures;
     } in record {
       list = λ file meta trees wanted named shown shown_named alone. lists_the_same (recovers_alike below file meta trees wanted named shown shown_named alone);
       compact = λ file meta trees wanted named shown shown_named alone out_old out_new target_old target_new size layout snapshot ending same.
@@ -30,4 +36,13 @@ returns g c =
       found_compact = λ file meta trees choice shown few out_old out_new target_old target_new size layout snapshot ending same.
           copies_the_same (finds_alike below file meta trees choice shown few) g.O.Sink.taken g.O.Sink.failed g.T.Sink.taken g.T.Sink.failed
           out_old out_new target_old target_new size layout snapshot ending same;
+      repair = λ file meta trees choice shown out_old out_new target_old target_new size snapshot ending does. elim does [
+        | inl made ↦ inl (∥∥₁_map made (λ m.
+            let (other, listing, lost, back, left_out, is, writes) = m in
+            let one = names_one below file choice meta shown other is.under in
+            let at = subst (λ (m : Meta). IsRestored file choice m listing lost back left_out) one is in
+            let (lists, none, no_back, none_left) = none_restored below file meta trees choice listing lost back left_out at in
+            (listing, lists, rw (one, none, no_back, none_left) at writes)))
+        | inr (why, is, none) ↦ inr (why, none_unrestored below file meta trees choice shown why is, none)
+      ];
     }

@@ -21,8 +21,8 @@ returns-in_err-mark c =
 pub returns-then-is_some : goal.returns-then-is_some
 returns-then-is_some c =
     let (words, member) =
-        more_words c.args.line.now c.in_ok-path.path.now c.in_ok-path.rest.now c.in_ok-path.ensures c.in_ok-mark.mark.now c.in_ok-mark.word.now c.in_ok-mark.ensures
-        c.cut_at-3.result c.cut_at-3.ensures (sym c.is_some.ensures ∙ c.if-is_some.true)
+    more_words c.args.line.now c.in_ok-path.path.now c.in_ok-path.rest.now c.in_ok-path.ensures c.in_ok-mark.mark.now c.in_ok-mark.word.now c.in_ok-mark.ensures
+    c.cut_at-3.result c.cut_at-3.ensures (sym c.is_some.ensures ∙ c.if-is_some.true)
     in record { words = sym words; member = member }
 
 pub returns-in_err-item : goal.returns-in_err-item
@@ -30,12 +30,12 @@ returns-in_err-item c =
     let last = sym c.is_some.ensures ∙ c.if-is_some.false in
     let none = c.from_residual-in_err-item.ensures in
     let shown =
-        words_shown c.args.line.now c.in_ok-path.path.now c.in_ok-path.rest.now c.in_ok-path.ensures c.in_ok-mark.mark.now c.in_ok-mark.word.now c.in_ok-mark.ensures
-        c.cut_at-3.result c.cut_at-3.ensures last
+    words_shown c.args.line.now c.in_ok-path.path.now c.in_ok-path.rest.now c.in_ok-path.ensures c.in_ok-mark.mark.now c.in_ok-mark.word.now c.in_ok-mark.ensures
+    c.cut_at-3.result c.cut_at-3.ensures last
     in
     let member =
-        words_item c.args.line.now c.in_ok-path.path.now c.in_ok-path.rest.now c.in_ok-path.ensures c.in_ok-mark.mark.now c.in_ok-mark.word.now c.in_ok-mark.ensures
-        c.cut_at-3.result c.cut_at-3.ensures _ last c.in_err-item.ensures.item
+    words_item c.args.line.now c.in_ok-path.path.now c.in_ok-path.rest.now c.in_ok-path.ensures c.in_ok-mark.mark.now c.in_ok-mark.word.now c.in_ok-mark.ensures
+    c.cut_at-3.result c.cut_at-3.ensures _ last c.in_err-item.ensures.item
     in record {
       words = ap (option_map shown_words) none ∙ sym (shown ∙ ap (option_map (λ item. (c.in_ok-path.path.now, item))) (sym c.in_err-item.ensures.word));
       member = member ∙ no_item c.in_ok-path.path.now ∙ sym (ap (option_and_then words_member) none);
@@ -45,8 +45,8 @@ pub returns : goal.returns
 returns c =
     let last = sym c.is_some.ensures ∙ c.if-is_some.false in
     let shown =
-        words_shown c.args.line.now c.in_ok-path.path.now c.in_ok-path.rest.now c.in_ok-path.ensures c.in_ok-mark.mark.now c.in_ok-mark.word.now c.in_ok-mark.ensures
-        c.cut_at-3.result c.cut_at-3.ensures last
+    words_shown c.args.line.now c.in_ok-path.path.now c.in_ok-path.rest.now c.in_ok-path.ensures c.in_ok-mark.mark.now c.in_ok-mark.word.now c.in_ok-mark.ensures
+    c.cut_at-3.result c.cut_at-3.ensures last
     in record {
       words = sym (shown ∙ ap (option_map (λ item. (c.in_ok-path.path.now, item))) (sym c.in_ok-item.ensures.word));
       member =

@@ -1,0 +1,69 @@
+-- The copy of the repaired listing, and what is then reported of it.
+use Rattle.std.proofs.Common.{◌≡◌, ◌≢◌, ℕ, List, [], Bool, Option, Result, Err, Ok, inl, inr, length, refl, subst, sym}
+use Rattle.bolt_commands.proofs.Vocabulary.{CopiesListing, Does, Ending, Failure, Finding, Ghosts, IsAskedBlueprint, IsSearchOf, LostAndFound, Member, Meta, MetaChoice, PageSize}
+use Rattle.bolt_commands.proofs.Vocabulary.{all_lost, bad_hash, blueprint_layout, copy_page_size, everything, is_snapshot, layout_for, layout_of_listing}
+use Rattle.bolt_commands.proofs.{CopyAnswers.copy_asked, CopyAnswers.listing_done, CopyAnswers.listing_failed}
+use Rattle.bolt_bulk.specs.declared.blueprint.Blueprint.{Blueprint}
+use Rattle.bolt_job.specs.{MetaChoices.IsMetaOf, declared.choices.CopyKind.CopyKind}
+use Rattle.bolt_layout.specs.declared.Layout.TheVariants.{Balanced}
+use Rattle.bolt_recover.specs.Lost.{IsAllLost}
+use Rattle.bolt_etcd.specs.{FullRepairs.IsFullRepair, RepairedMerges.repair_back, RepairedMerges.repair_is_made, Repaired.IsRepaired, Repaired.repaired_listing, declared.repair.Repair.Repair}
+use Rattle.bolt_etcd.specs.declared.repair.RepairFault.TheVariants.{Memory}
+use Rattle.bolt_commands.specs.{Answers.IsRestored, Answers.IsUnrestored, Answers.WritesRestored, Answers.repair_report, Private.Opened.IsUnsearched}
+
+-- a file that isn't searched isn't repaired
+pub unsearched_unrestored : (file : List ℕ) (choice : MetaChoice) (why : Failure) → IsUnsearched file choice why → IsUnrestored file choice why
+unsearched_unrestored file choice why (inl none) = inr none
+unsearched_unrestored file choice why (inr (meta, under, is)) = inl (meta, Memory, under, tt, is)
+
+-- the copy of the blueprint that is asked for, which is for bbolt
+listing_asked : {T : Type 0} {target : Ghosts T} {old new : T} {listing : List Member} {snapshot : Bool} (kind : CopyKind) (size : Option PageSize) (meta : Meta) (blueprint : Blueprint) (result : Result ℕ Failure)
+    → layout_for kind ≡ Balanced → IsAskedBlueprint kind size meta blueprint → CopiesListing target old new (blueprint_layout blueprint listing) listing snapshot result
+    → CopiesListing target old new (layout_of_listing Balanced (copy_page_size size meta) listing meta.root_sequence) listing snapshot result
+listing_asked kind size meta blueprint result layout asked (made, copy, same) = (made, rw layout at (copy_asked asked copy), same)
+
+-- The repair of a file that was searched. It names the file and its meta in its own way.
+module _ (file : List ℕ) (choice : MetaChoice) (both : LostAndFound) (repair : Repair) (own : List ℕ) (meta : Meta) (searched : IsSearchOf file choice both) (same_file : own ≡ file) (same_meta : meta ≡ both.meta)
+    (full : IsFullRepair own meta (repair_back repair) (repair_is_made repair) repair.left_out)
+    (some : (x : Finding) → all_lost both ≡ everything x → repair_back repair ≢ []) (back : ℕ) (counts : back ≡ length (repair_back repair)) where
+  -- the repaired listing
+  abbrev pub the_repaired : List Member
+  the_repaired = repaired_listing full.repair.recovered (repair_is_made repair) (repair_back repair)
+
+  pub is_repaired : IsRepaired own meta the_repaired
+  is_repaired = record { back = repair_back repair; is_made = repair_is_made repair; repair = full.repair; repaired = refl }
+
+  is_restored : IsRestored file choice both.meta the_repaired (all_lost both) back repair.left_out
+  is_restored =
+      subst (λ (m : Meta). IsRestored file choice m the_repaired (all_lost both) back repair.left_out) same_meta
+      (subst (λ (f : List ℕ). IsRestored f choice meta the_repaired (all_lost both) back repair.left_out) same_file
+      (record {
+        under = subst (λ (f : List ℕ). IsMetaOf f choice meta) (sym same_file) (subst (λ (m : Meta). IsMetaOf file choice m) (sym same_meta) searched.under);
+        loses = subst (λ (f : List ℕ). IsAllLost f meta (all_lost both)) (sym same_file) (subst (λ (m : Meta). IsAllLost file m (all_lost both)) (sym same_meta) searched.lost);
+        entries = repair_back repair;
+        is_made = repair_is_made repair;
+        repairs = full;
+        lists = refl;
+        counts = counts;
+        some = some;
+      }))
+
+  -- its copy is whole and reported, or it isn't whole and nothing is
+  module _ {O T : Type 0} (out : Ghosts O) (out_old : O) {target : Ghosts T} {old new : T} (kind : CopyKind) (size : Option PageSize) (snapshot : Bool) (blueprint : Blueprint)
+      (same_kind : is_snapshot kind ≡ snapshot) (layout : layout_for kind ≡ Balanced) (asked : IsAskedBlueprint kind size both.meta blueprint) (ending : Ending) where
+    copy_of_repaired : (result : Result ℕ Failure) → CopiesListing target old new (blueprint_layout blueprint the_repaired) the_repaired (is_snapshot kind) result
+        → CopiesListing target old new (layout_of_listing Balanced (copy_page_size size both.meta) the_repaired both.meta.root_sequence) the_repaired snapshot result
+    copy_of_repaired result copy = listing_asked kind size both.meta blueprint result layout asked (rw same_kind at copy)
+
+    pub repair_failed : (why : Failure) → CopiesListing target old new (blueprint_layout blueprint the_repaired) the_repaired (is_snapshot kind) (Err why) → ending ≡ Err why
+        → WritesRestored out.taken out.failed out_old out_old target.taken target.failed old new file choice size snapshot ending
+    repair_failed why copy ends =
+        let report = repair_report (bad_hash snapshot file) (all_lost both) back repair.left_out (length file) in
+        (both.meta, the_repaired, all_lost both, back, repair.left_out, is_restored, listing_failed out out_old report ending why (copy_of_repaired (Err why) copy) ends)
+
+    pub repair_done : {out_new : O} (count : ℕ) → CopiesListing target old new (blueprint_layout blueprint the_repaired) the_repaired (is_snapshot kind) (Ok count)
+        → Does out.taken out.failed out_old out_new (repair_report (bad_hash snapshot file) (all_lost both) back repair.left_out (length file) count) ending
+        → WritesRestored out.taken out.failed out_old out_new target.taken target.failed old new file choice size snapshot ending
+    repair_done count copy does =
+        let report = repair_report (bad_hash snapshot file) (all_lost both) back repair.left_out (length file) in
+        (both.meta, the_repaired, all_lost both, back, repair.left_out, is_restored, listing_done out out_old report ending count (copy_of_repaired (Ok count) copy) does)

@@ -1,0 +1,41 @@
+-- The format can hold what a repaired listing has.
+use Rattle.std.proofs.Common.{inl, inr, ℕ, Bool, true, false, List, [], ◌∷◌, arith, codes, map, subst}
+use Rattle.std.specs.List.{Contains}
+use Rattle.std.proofs.lemmas.List.Elements.{Contains-append_cases}
+use Rattle.bolt_format.specs.{Bytes.IsBytes, Elements.LeafElement, declared.meta.Meta.Meta, Pages.page_at}
+use Rattle.bolt_tree.specs.{Entries.Bucket, Entries.EntryView, Entries.Item, InBuckets.entry_in, InBuckets.members_in, Listing.Member, Paths.Path}
+use Rattle.bolt_tree.proofs.{InBucketLemmas.entry_of, Lists.contains_cases, Lists.contains_none, MergeLemmas.merge_members}
+use Rattle.bolt_layout.specs.Storable.{IsFitMember}
+use Rattle.bolt_layout.proofs.FileTrees.{good_fits, good_shown}
+use Rattle.bolt_recover.proofs.MembersInBuckets.{shows_entry}
+use Rattle.bolt_recover.specs.Sites.{leaves_of}
+use Rattle.bolt_bulk.proofs.JoinedFits.{bucket_fits, recovered_fits}
+use Rattle.bolt_etcd.specs.{Repaired.IsRepair, Repaired.elements_on, Repaired.repaired_listing, Repairs.store_path}
+
+abbrev Fits : Member → Type 0
+Fits m = IsFitMember m.0 m.1
+
+element_on : (file : List ℕ) (meta : Meta) (found : List ℕ) (e : LeafElement) → Contains (elements_on file meta found) e → (n : ℕ) × Contains (leaves_of (page_at file meta n)) e
+element_on file meta [] e has = absurd (contains_none e has)
+element_on file meta (n ∷ found) e has = elim (Contains-append_cases (leaves_of (page_at file meta n)) (elements_on file meta found) e has) [ inl here ↦ (n, here) | inr later ↦ element_on file meta found e later ]
+
+module _ (file : List ℕ) (meta : Meta) (back : List EntryView) (is_made : Bool) (is : IsRepair file meta back is_made) where
+  entry_fits : IsBytes file → (e : EntryView) → Contains back e → Fits (entry_in store_path e)
+  entry_fits bytes e has =
+      let (r, agreed, why) = (is.are_back.exact e).0 has in
+      let c = agreed.candidate in
+      let (n, on) = element_on file meta is.found c.element c.is_found in
+      subst (λ (v : EntryView). Fits (entry_in store_path v)) c.shows (good_fits store_path c.element (good_shown file meta bytes n c.element (shows_entry file meta n c.element on)))
+
+  back_fits : IsBytes file → (made : Bool) (m : Member) → Contains (members_in made store_path back) m → Fits m
+  back_fits bytes false m has = let (e, there, same) = entry_of store_path back m has in subst Fits same (entry_fits bytes e there)
+  back_fits bytes true m has = elim (contains_cases (store_path, Bucket 0) m (map (entry_in store_path) back) has) [
+    | inl same ↦ subst Fits same (bucket_fits [] (codes "key") (omega arith, omega arith))
+    | inr later ↦ let (e, there, is_it) = entry_of store_path back m later in subst Fits is_it (entry_fits bytes e there)
+  ]
+
+  pub listing_fits : IsBytes file → (path : Path) (item : Item) → Contains (repaired_listing is.recovered is_made back) (path, item) → IsFitMember path item
+  listing_fits bytes path item has = elim ((merge_members is.recovered (members_in is_made store_path back) (path, item)).0 has) [
+    | inl old ↦ recovered_fits file meta bytes is.recovered is.recovers path item old
+    | inr more ↦ back_fits bytes is_made (path, item) more
+  ]

@@ -1,0 +1,55 @@
+-- With sound trees nothing goes back, and what is copied is their listing.
+use Rattle.std.proofs.Common.{◌≡◌, ◌∙◌, ◌+◌, ℕ, List, [], ◌∷◌, ap, arith, inl, inr, length, refl, subst, sym}
+use Rattle.bolt_commands.proofs.Vocabulary.{Failure, HasSoundTrees, IsListing, IsMetaOf, LostView, Member, Meta, MetaChoice, parts, props, ∥∥₁_elim}
+use Rattle.std.specs.List.{Contains}
+use Rattle.bolt_check.specs.Keys.{Key}
+use Rattle.bolt_format.specs.Elements.{LeafElement}
+use Rattle.bolt_recover.specs.Found.{AreFound}
+use Rattle.bolt_tree.specs.{Entries.EntryView, Entries.Value}
+use Rattle.bolt_tree.proofs.Lists.{contains_head, contains_none}
+use Rattle.bolt_etcd.specs.{FullRepairs.AreCandidateKeys, FullRepairs.IsLeftOut, RepairRefusals.IsRepairRefusal, Repaired.elements_on, Repairs.store_path}
+use Rattle.bolt_etcd.specs.declared.repair.RepairFault.{RepairFault}
+use Rattle.bolt_etcd.specs.declared.repair.RepairFault.TheVariants as repair
+use Rattle.bolt_commands.specs.{Alike.IsUnrepairable, Answers.IsRestored, Answers.IsUnrestored, Failures.unrepaired}
+use Rattle.bolt_commands.specs.declared.failure.Failure.TheVariants as failure
+use Rattle.bolt_commands.proofs.{SoundReads.has_meta, SoundReads.keeps_not_loses, SoundRecovery.Below, SoundRecovery.names_one, SoundRecovery.no_loss, SoundRecovery.no_losses}
+
+-- ---- nothing is a candidate if nothing is found
+
+no_keys : (recovered : List Member) (keys : List Key) → AreCandidateKeys recovered [] keys → keys ≡ []
+no_keys recovered [] are = refl
+no_keys recovered (key ∷ keys) are =
+    let (e, r, candidate, same) = (are.exact key).0 (contains_head key keys) in absurd (contains_none candidate.element candidate.is_found)
+
+none_counted : (recovered : List Member) (found : List LeafElement) (back : List EntryView) (left_out : ℕ) → found ≡ [] → IsLeftOut recovered found back left_out
+    → (length back ≡ 0) × (left_out ≡ 0)
+none_counted recovered found back left_out none (keys, are, number) =
+    let empty = ap (λ (ks : List Key). length ks) (no_keys recovered keys (subst (λ (es : List LeafElement). AreCandidateKeys recovered es keys) none are)) in
+    (omega (arith, number, empty), omega (arith, number, empty))
+
+module _ (b : Below) (file : List ℕ) (meta : Meta) (trees : HasSoundTrees file meta) where
+  none_found : (found : List ℕ) → AreFound file meta found → elements_on file meta found ≡ []
+  none_found found are = ap (elements_on file meta) (b.none_found file meta found (no_losses b file meta trees) are)
+
+  pub none_restored : (choice : MetaChoice) (listing : List Member) (lost : LostView) (back left_out : ℕ) → IsRestored file choice meta listing lost back left_out
+      → IsListing file meta listing × (lost ≡ parts []) × (back ≡ 0) × (left_out ≡ 0)
+  none_restored choice listing lost back left_out is =
+      let repair = is.repairs.repair in
+      let none = none_counted repair.recovered (elements_on file meta repair.found) is.entries left_out (none_found repair.found repair.are_found) is.repairs.left in (
+        b.unrepaired file meta listing trees (record { back = is.entries; is_made = is.is_made; repair = repair; repaired = is.lists }),
+        no_loss b file meta trees lost is.loses,
+        is.counts ∙ none.0,
+        none.1,
+      )
+
+  unrepairable : (fault : RepairFault) (why : Failure) → IsRepairRefusal file meta fault → why ≡ unrepaired fault → IsUnrepairable file meta why
+  unrepairable (repair.Root x) why (loses, none) same = absurd (∥∥₁_elim loses (hlevel props) (keeps_not_loses file meta trees meta x refl))
+  unrepairable repair.NotABucket why (value, has) same =
+      let (listing, lists) = b.has_listing file meta trees in
+      inl (same, (value, (lists.exact store_path (Value value)).0 (has listing (b.recovered file meta listing trees lists))))
+  unrepairable repair.Memory why is same = inr same
+
+  pub none_unrestored : (choice : MetaChoice) → IsMetaOf file choice meta → (why : Failure) → IsUnrestored file choice why → IsUnrepairable file meta why
+  none_unrestored choice shown why (inl (other, fault, is, refusal, same)) =
+      unrepairable fault why (subst (λ (m : Meta). IsRepairRefusal file m fault) (names_one b file choice meta shown other is) refusal) same
+  none_unrestored choice shown why (inr (fault, none, same)) = absurd (has_meta file meta trees choice fault shown none)

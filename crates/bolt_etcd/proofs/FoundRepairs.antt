@@ -1,0 +1,133 @@
+-- The repair of a file that was searched.
+use Rattle.std.proofs.Common.{◌≡◌, ◌∙◌, ◌-◌, ◌≤◌, ◌&&◌, ◌==◌, ◌++◌, ℕ, Bool, true, false, List, [], ◌∷◌, Option, Some, arith, length, map, not, refl, sym, ap, ap₂, subst}
+use Rattle.std.proofs.Math.Logic.{∥∥₁_elim, ∥∥₁_map}
+use Rattle.std.proofs.Props.{props}
+use Rattle.std.proofs.lemmas.{Bool.eqb-true, Bool.ne_eqb, List.Elements.All-head, List.Elements.All-tail, List.length-map}
+use Rattle.std.specs.{Borrow.Bor, List.All, List.Sorted.IsSorted, Option.option_map, Ordering.is_lt}
+use Rattle.bolt_format.specs.{Elements.LeafElement, Pages.page_at, TreePages.leaves_on, declared.meta.Meta.Meta}
+use Rattle.bolt_check.specs.{Keys.Key, Keys.key_cmp, declared.finding.Finding.Finding}
+use Rattle.bolt_tree.proofs.PathOrder.{flip_less, key_total}
+use Rattle.bolt_tree.specs.{Entries.EntryView, Entries.Item, Listing.Member, Order.Rises, ShownEntries.item_view, ShownEntries.shown_entry, declared.entry.Entry.Entry}
+use Rattle.bolt_recover.proofs.Existing.{has_recovered}
+use Rattle.bolt_recover.specs.{Losses.everything, Lost.IsAllLost, LostAndFound.all_lost}
+use Rattle.bolt_recover.specs.{Found.AreFound, Found.numbers_of, Recovered.ForRecovered, Recovered.IsRecovered, Refusals.LosesRoot, ShownFound.IsFoundView, Sites.leaves_of, declared.found.Found.Found, declared.lost_and_found.LostAndFound.LostAndFound}
+use Rattle.bolt_etcd.specs.{Agreed.AreAgreed, Agreed.AreUnmetKeys, Candidates.AreCandidates, Candidates.elements_of, Compacted.compacted_by, FullRepairs.IsFullRepair}
+use Rattle.bolt_etcd.specs.{Repaired.IsRepair, Repaired.MakesStore, Repaired.elements_on, Repaired.lacks_bucket, Superseded.ArePutBack, Surveys.IsSurvey, Surveys.IsSurveyOf, declared.survey.Survey.Survey}
+use Rattle.bolt_etcd.proofs.MappedLists.{Climbs, climbs_sorted}
+use Rattle.bolt_etcd.proofs.WholeRepairs.{are_back, back_fewer, candidate_keys, compacted_at, is_nil, makes, no_value}
+
+-- the elements of the pages of the code are those of the pages with their numbers
+elements_found : (file : List ℕ) (meta : Meta) (found : List Found) → All (IsFoundView file meta) found → elements_on file meta (numbers_of found) ≡ elements_of found
+elements_found file meta [] views = refl
+elements_found file meta (f ∷ found) views =
+    let here : leaves_of (page_at file meta f.number) ≡ leaves_on f.page = ap leaves_of (All-head (IsFoundView file meta) f found views).page in
+    ap₂ (λ (a b : List LeafElement). a ++ b) here (elements_found file meta found (All-tail (IsFoundView file meta) f found views))
+
+module _ (file : List ℕ) (meta : Meta) (found : List Found) (are_found : AreFound file meta (numbers_of found)) (views : All (IsFoundView file meta) found)
+    (all agreed back : List EntryView) (met : List Key) (under : Option Item) (noted : Option (List ℕ)) (candidates : AreCandidates (elements_of found) all) (agree : AreAgreed all met agreed)
+    (recovered : List Member) (recovers : IsRecovered file meta recovered) (survey : IsSurvey recovered all under noted met)
+    (put : ArePutBack (compacted_by noted) recovered agreed back) where
+  abbrev elements : List LeafElement
+  elements = elements_on file meta (numbers_of found)
+
+  on_pages : AreCandidates elements all
+  on_pages = subst (λ (es : List LeafElement). AreCandidates es all) (sym (elements_found file meta found views)) candidates
+
+  pub back_least : (keys : List Key) → AreUnmetKeys all met keys → length back ≤ length keys
+  back_least keys are = back_fewer recovered elements all met under noted on_pages survey agreed agree (compacted_by noted) back put keys are
+
+  module _ (lacks : Bool) (is_lacking : lacks_bucket under ≡ Some lacks) (is_made : Bool) (made : is_made ≡ (lacks && not (is_nil back))) where
+    pub repair : IsRepair file meta back is_made
+    repair = record {
+      recovered = recovered;
+      recovers = recovers;
+      found = numbers_of found;
+      are_found = are_found;
+      compacted = compacted_by noted;
+      is_compacted = compacted_at recovered elements all met under noted on_pages survey;
+      are_back = are_back recovered elements all met under noted on_pages survey agreed agree (compacted_by noted) back put;
+      makes = subst (MakesStore recovered back) (sym made) (makes recovered elements all met under noted on_pages survey lacks is_lacking back);
+    }
+
+    pub full_repair : (keys : List Key) → AreUnmetKeys all met keys → (left_out : ℕ) → left_out ≡ length keys - length back → IsFullRepair file meta back is_made left_out
+    unfolding repair
+    full_repair keys are left_out number =
+        let few = back_least keys are in
+        record {
+          repair = repair;
+          left = (keys, candidate_keys recovered elements all met under noted on_pages survey keys are, omega (arith, few, number));
+          bucket = no_value recovered elements all met under noted on_pages survey lacks is_lacking;
+        }
+
+-- ---- of the code
+
+climb : (keys : List Key) → Rises key_cmp keys → Climbs (λ a b. is_lt (key_cmp a b)) keys
+climb [] rises = tt
+climb (key ∷ keys) rises = (λ other has. ap is_lt (flip_less key_total key other (rises.0 other has)), climb keys rises.1)
+
+pub rises_sorted : (keys : List Key) → Rises key_cmp keys → IsSorted key_cmp keys
+rises_sorted keys rises = climbs_sorted (λ a b. is_lt (key_cmp a b)) keys (climb keys rises)
+
+pub loses_root : (both : LostAndFound) (x : Finding) → all_lost both ≡ everything x → ∥ LosesRoot both.file.now both.meta x ∥₁
+unfolding all_lost
+loses_root both x is = ∥∥₁_map both.searched (λ searched. subst (IsAllLost both.file.now both.meta) is searched.lost)
+
+nil_mapped : (es : List Entry) → (length es == 0) ≡ is_nil (map shown_entry es)
+nil_mapped [] = refl
+nil_mapped (e ∷ es) = ne_eqb (length (e ∷ es)) 0 (λ same. omega (arith, same))
+
+pub none_left : (es : List Entry) (empty : Bool) (len : ℕ) → empty ≡ (len == 0) → len ≡ length es → empty ≡ true → map shown_entry es ≡ []
+none_left [] empty len is long is_true = refl
+none_left (e ∷ es) empty len is long is_true = absurd (let none = eqb-true len 0 (sym is ∙ is_true) in omega (arith, none, long))
+
+-- the bucket is made, or it isn't, since it is there
+module _ (es : List Entry) (made lacks : Bool) where
+  pub made_if : (empty : Bool) (len : ℕ) → made ≡ not empty → empty ≡ (len == 0) → len ≡ length es → lacks ≡ true → made ≡ (lacks && not (is_nil (map shown_entry es)))
+  made_if empty len is so long is_true =
+      is ∙ ap not (so ∙ ap (λ (n : ℕ). n == 0) long ∙ nil_mapped es) ∙ sym (ap (λ (b : Bool). b && not (is_nil (map shown_entry es))) is_true)
+
+  pub not_made : made ≡ lacks → lacks ≡ false → made ≡ (lacks && not (is_nil (map shown_entry es)))
+  not_made is is_false = is ∙ is_false ∙ sym (ap (λ (b : Bool). b && not (is_nil (map shown_entry es))) is_false)
+
+abbrev now : Bor Key → Key
+now key = key.now
+
+module _ (both : LostAndFound) (pages : List Found) (on : pages ≡ both.found.items) (all listed left back : List Entry) (same : listed ≡ all) (survey : Survey) (met : List (Bor Key))
+    (are_met : met ≡ survey.met.items) (compacted : ℕ) (at : compacted ≡ compacted_by (option_map now survey.compaction)) (candidates : AreCandidates (elements_of pages) (map shown_entry all))
+    (surveys : ForRecovered both.file.now both.meta (λ recovered. IsSurveyOf recovered (map shown_entry listed) survey))
+    (agree : AreAgreed (map shown_entry all) (map now met) (map shown_entry left))
+    (put : ForRecovered both.file.now both.meta (λ recovered. ArePutBack compacted recovered (map shown_entry left) (map shown_entry back))) where
+  abbrev recovered : List Member
+  recovered = (has_recovered both.file.now both.meta).0
+
+  is_recovered : IsRecovered both.file.now both.meta recovered
+  is_recovered = (has_recovered both.file.now both.meta).1
+
+  on_all : AreCandidates (elements_of both.found.items) (map shown_entry all)
+  on_all = subst (λ (ps : List Found). AreCandidates (elements_of ps) (map shown_entry all)) on candidates
+
+  surveyed : IsSurvey recovered (map shown_entry all) (option_map item_view survey.store) (option_map now survey.compaction) (map now met)
+  surveyed =
+      let by_all = subst (λ (es : List Entry). IsSurveyOf recovered (map shown_entry es) survey) same (surveys recovered is_recovered) in
+      subst (λ (ks : List (Bor Key)). IsSurvey recovered (map shown_entry all) (option_map item_view survey.store) (option_map now survey.compaction) (map now ks)) (sym are_met) by_all
+
+  put_back : ArePutBack (compacted_by (option_map now survey.compaction)) recovered (map shown_entry left) (map shown_entry back)
+  put_back = subst (λ (n : ℕ). ArePutBack n recovered (map shown_entry left) (map shown_entry back)) at (put recovered is_recovered)
+
+  pub searched_least : (keys : List Key) → AreUnmetKeys (map shown_entry all) (map now met) keys → length back ≤ length keys
+  searched_least keys are = ∥∥₁_elim both.searched (hlevel props) (λ searched.
+      let long = length-map back shown_entry in
+      let few = back_least both.file.now both.meta both.found.items searched.are_found searched.views (map shown_entry all) (map shown_entry left) (map shown_entry back) (map now met) _ _ on_all agree recovered is_recovered surveyed put_back keys are in
+      omega (arith, long, few))
+
+  module _ (lacks : Bool) (is_lacking : lacks_bucket (option_map item_view survey.store) ≡ Some lacks) (is_made : Bool) (made : is_made ≡ (lacks && not (is_nil (map shown_entry back)))) where
+    pub searched_repair : ∥ IsRepair both.file.now both.meta (map shown_entry back) is_made ∥₁
+    searched_repair = ∥∥₁_map both.searched (λ searched.
+        repair both.file.now both.meta both.found.items searched.are_found searched.views (map shown_entry all) (map shown_entry left) (map shown_entry back) (map now met) _ _ on_all agree recovered is_recovered surveyed put_back
+        lacks is_lacking is_made made)
+
+    pub searched_full : (keys : List Key) → AreUnmetKeys (map shown_entry all) (map now met) keys → (left_out : ℕ) → left_out ≡ length keys - length back
+        → ∥ IsFullRepair both.file.now both.meta (map shown_entry back) is_made left_out ∥₁
+    searched_full keys are left_out number = ∥∥₁_map both.searched (λ searched.
+        full_repair both.file.now both.meta both.found.items searched.are_found searched.views (map shown_entry all) (map shown_entry left) (map shown_entry back) (map now met) _ _ on_all agree recovered is_recovered surveyed put_back
+        lacks is_lacking is_made made keys are left_out (let long = length-map back shown_entry in omega (arith, long, number)))

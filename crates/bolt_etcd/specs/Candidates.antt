@@ -1,0 +1,65 @@
+-- Which elements of found pages are candidates, as far as the recovered listing isn't looked at.
+use Rattle.std.specs.Prelude.{◌&&◌, ◌+◌, ◌≡◌, ◌≢◌, ◌↔◌, ℕ, Bool, false, length, List, [], filter, flat_map, map, not, Option, Some, None}
+use Rattle.std.specs.List.{Contains, Sorted.IsSorted}
+use Rattle.std.specs.{Ordering.ordering_then, Str.bytes_eq}
+use Rattle.std.specs.declared.cmp.Ordering.{Ordering}
+use Rattle.bolt_format.specs.{Elements.LeafElement, TreePages.leaves_on}
+use Rattle.bolt_check.specs.Keys.{Key, key_cmp}
+use Rattle.bolt_recover.specs.declared.found.Found.{Found}
+use Rattle.bolt_tree.specs.{Entries.Bucket, Entries.EntryView, Entries.Item, Entries.Value, Entries.entry_view, Order.Rises}
+use Rattle.bolt_etcd.specs.{Misplaced.is_misplaced, Revisions.RevisionView, Revisions.revision_of}
+
+abbrev pub is_in_place : Option RevisionView → Bool
+is_in_place None = false
+is_in_place (Some r) = not (is_misplaced r)
+
+-- a revision with a record of its own transaction
+abbrev pub is_candidate : EntryView → Bool
+is_candidate e = is_in_place (revision_of e)
+
+abbrev pub candidates_in : List LeafElement → List EntryView
+candidates_in elements = filter is_candidate (map entry_view elements)
+
+-- the elements of found pages of the code
+abbrev pub elements_of : List Found → List LeafElement
+elements_of found = flat_map (λ (f : Found). leaves_on f.page) found
+
+abbrev pub bytes_of_item : Item → List ℕ
+bytes_of_item (Value value) = value
+bytes_of_item (Bucket sequence) = []
+
+abbrev pub value_bytes : EntryView → List ℕ
+value_bytes e = bytes_of_item e.item
+
+-- by key, and of one key by value
+abbrev pub whole_cmp : EntryView → EntryView → Ordering
+whole_cmp a b = ordering_then (key_cmp a.key b.key) (key_cmp (value_bytes a) (value_bytes b))
+
+abbrev pub is_same : EntryView → EntryView → Bool
+is_same a b = bytes_eq a.key b.key && bytes_eq (value_bytes a) (value_bytes b)
+
+-- the candidates among these elements, by key and value, each once
+pub record AreCandidates (elements : List LeafElement) (es : List EntryView) : Type 0 where
+  pub rises : Rises whole_cmp es
+  pub exact : (e : EntryView) → Contains es e ↔ Contains (candidates_in elements) e
+
+-- an entry has this key
+abbrev pub HasKey : List EntryView → Key → Type 0
+HasKey es key = (e : EntryView) × Contains es e × (e.key ≡ key)
+
+-- the keys of entries, by rising key
+pub record AreKeys (es : List EntryView) (keys : List Key) : Type 0 where
+  pub rises : Rises key_cmp keys
+  pub exact : (key : Key) → Contains keys key ↔ HasKey es key
+
+-- two different entries have this key
+abbrev pub IsDisputed : List EntryView → Key → Type 0
+IsDisputed es key = (a b : EntryView) × Contains es a × Contains es b × (a.key ≡ key) × (b.key ≡ key) × (a ≢ b)
+
+-- The keys of entries that two have or more. With them there are as many keys as entries.
+pub record AreDisputed (es : List EntryView) (disputed : List Key) : Type 0 where
+  pub sorted : IsSorted key_cmp disputed
+  pub exact : (key : Key) → Contains disputed key ↔ IsDisputed es key
+  pub keys : List Key
+  pub are_keys : AreKeys es keys
+  pub number : length keys + length disputed ≡ length es

@@ -1,0 +1,58 @@
+-- Which revisions go back into the bucket `key`: docs/RECOVERY.md, "The repaired listing". Of a recovered listing, and of the elements of all
+-- found pages.
+use Rattle.std.specs.Prelude.{◌≡◌, ◌≢◌, ◌↔◌, ◌⊎◌, ◌<◌, ◌≤◌, ℕ, false, List, [], ◌∷◌, Contains, Some, codes}
+use Rattle.std.specs.declared.cmp.Ordering.TheVariants.{Less}
+use Rattle.bolt_format.specs.Elements.{LeafElement}
+use Rattle.bolt_check.specs.Keys.{key_cmp}
+use Rattle.bolt_tree.specs.{Entries.EntryView, Entries.Item, Entries.Value, Entries.entry_view, InBuckets.entry_in, InBuckets.view_cmp, Listing.Member, Order.Rises, Paths.Path}
+use Rattle.bolt_etcd.specs.{Compacted.compacted_by, Misplaced.is_misplaced, Revisions.RevisionView, Revisions.name_of, Revisions.revision_of}
+
+-- the bucket of the revisions
+abbrev pub store_path : Path
+store_path = codes "key" ∷ []
+
+-- where the last compaction is noted
+abbrev pub compaction_path : Path
+compaction_path = codes "meta" ∷ codes "scheduledCompactRev" ∷ []
+
+-- The recovered listing says so of the transaction of the last compaction.
+abbrev pub IsCompactedAt : List Member → ℕ → Type 0
+IsCompactedAt recovered n =
+    ((value : List ℕ) × Contains recovered (compaction_path, Value value) × (n ≡ compacted_by (Some value)))
+    ⊎ (((value : List ℕ) → Contains recovered (compaction_path, Value value) → ⊥) × (n ≡ 0))
+
+-- an entry of the recovered bucket, which is this revision
+abbrev pub IsKept : List Member → RevisionView → Type 0
+IsKept recovered r = (e : EntryView) × Contains recovered (entry_in store_path e) × (revision_of e ≡ Some r)
+
+-- An element of a found page whose key the recovered bucket doesn't have, and which is a revision with a record of its own transaction.
+pub record IsCandidate (recovered : List Member) (found : List LeafElement) (e : EntryView) (r : RevisionView) : Type 0 where
+  pub element : LeafElement
+  pub is_found : Contains found element
+  pub shows : entry_view element ≡ e
+  pub is_revision : revision_of e ≡ Some r
+  pub in_place : is_misplaced r ≡ false
+  pub is_lost : (item : Item) → Contains recovered (entry_in store_path (record { key = e.key; item = item })) → ⊥
+
+-- No other one has its key with another value.
+pub record IsAgreed (recovered : List Member) (found : List LeafElement) (e : EntryView) (r : RevisionView) : Type 0 where
+  pub candidate : IsCandidate recovered found e r
+  pub undisputed : (other : EntryView) (is : RevisionView) → IsCandidate recovered found other is → other.key ≡ e.key → other ≡ e
+
+-- It isn't a deletion, and no revision of its name up to this transaction is later, of those that are kept and those that are agreed.
+pub record IsNewestUpTo (compacted : ℕ) (recovered : List Member) (found : List LeafElement) (r : RevisionView) : Type 0 where
+  pub there : r.key.deleted ≡ false
+  pub until : r.key.main ≤ compacted
+  pub kept : (other : RevisionView) → IsKept recovered other → name_of other ≡ name_of r → other.key.main ≤ compacted → key_cmp r.place other.place ≢ Less
+  pub agreed : (e : EntryView) (other : RevisionView) → IsAgreed recovered found e other → name_of other ≡ name_of r → other.key.main ≤ compacted
+      → key_cmp r.place other.place ≢ Less
+
+-- What goes back: it is above the last compaction, or what that keeps of its name.
+abbrev pub GoesBack : ℕ → List Member → List LeafElement → EntryView → Type 0
+GoesBack compacted recovered found e =
+    (r : RevisionView) × IsAgreed recovered found e r × ((compacted < r.key.main) ⊎ IsNewestUpTo compacted recovered found r)
+
+-- exactly what goes back, by rising key
+pub record AreBack (compacted : ℕ) (recovered : List Member) (found : List LeafElement) (back : List EntryView) : Type 0 where
+  pub rises : Rises view_cmp back
+  pub exact : (e : EntryView) → Contains back e ↔ GoesBack compacted recovered found e

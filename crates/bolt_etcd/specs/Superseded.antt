@@ -1,0 +1,106 @@
+-- Which of the agreed candidates a compaction keeps: docs/RECOVERY.md, "The repaired listing".
+use Rattle.std.specs.Prelude.{◌≡◌, ◌≢◌, ◌↔◌, ◌⊎◌, ◌&&◌, ◌||◌, ℕ, Bool, false, true, List, [], Option, Some, None, nat_lt, not}
+use Rattle.std.specs.{List.Contains, List.Sorted.IsSorted}
+use Rattle.std.specs.Ordering.{bool_cmp, ordering_then}
+use Rattle.std.specs.Str.{bytes_eq}
+use Rattle.std.specs.declared.cmp.Ordering.{Ordering}
+use Rattle.std.specs.declared.cmp.Ordering.TheVariants.{Less}
+use Rattle.bolt_format.specs.declared.meta.Meta.{Meta}
+use Rattle.bolt_check.specs.Keys.{Key, key_cmp}
+use Rattle.bolt_recover.specs.Recovered.{ForRecovered}
+use Rattle.bolt_tree.specs.{Entries.EntryView, InBuckets.view_cmp, Listing.Member, Order.Rises}
+use Rattle.bolt_etcd.specs.{Newest.is_until, Repairs.IsKept, RevisionKeys.revision_key, Revisions.RevisionView, Revisions.name_of, Revisions.revision_of}
+use Rattle.bolt_etcd.specs.declared.revision_key.RevisionKey.{RevisionKey}
+
+-- the name of an entry that is a revision
+abbrev pub name_if : Option RevisionView → List ℕ
+name_if None = []
+name_if (Some r) = name_of r
+
+abbrev pub entry_name : EntryView → List ℕ
+entry_name e = name_if (revision_of e)
+
+-- Its key says that a compaction at this transaction may have removed it.
+abbrev pub is_key_until : ℕ → Option RevisionKey → Bool
+is_key_until compacted None = false
+is_key_until compacted (Some key) = not (nat_lt compacted key.main)
+
+abbrev pub is_old : ℕ → EntryView → Bool
+is_old compacted e = is_key_until compacted (revision_key e.key)
+
+-- its key says that it is a deletion
+abbrev pub is_key_deleted : Option RevisionKey → Bool
+is_key_deleted None = false
+is_key_deleted (Some key) = key.deleted
+
+abbrev pub is_deletion : EntryView → Bool
+is_deletion e = is_key_deleted (revision_key e.key)
+
+-- by name, and of one name the old ones last
+abbrev pub rank_cmp : ℕ → EntryView → EntryView → Ordering
+rank_cmp compacted a b = ordering_then (key_cmp (entry_name a) (entry_name b)) (bool_cmp (is_old compacted a) (is_old compacted b))
+
+-- so, and otherwise the later ones first
+abbrev pub newest_cmp : ℕ → EntryView → EntryView → Ordering
+newest_cmp compacted a b = ordering_then (rank_cmp compacted a b) (key_cmp b.key a.key)
+
+-- of two of a name, the newest is old, so the older one goes
+abbrev pub is_same_old : ℕ → EntryView → EntryView → Bool
+is_same_old compacted older newest = is_old compacted newest && bytes_eq (entry_name older) (entry_name newest)
+
+-- it isn't a deletion that a compaction removes
+abbrev pub stays : ℕ → EntryView → Bool
+stays compacted e = not (is_old compacted e) || not (is_deletion e)
+
+-- if it is old, no old one of its name is later
+abbrev pub IsNewestOld : ℕ → List EntryView → EntryView → Type 0
+IsNewestOld compacted es e =
+    is_old compacted e ≡ true → (other : EntryView) → Contains es other → entry_name other ≡ entry_name e → is_old compacted other ≡ true
+    → key_cmp e.key other.key ≢ Less
+
+-- exactly these of the agreed candidates
+pub record AreNewest (compacted : ℕ) (agreed newest : List EntryView) : Type 0 where
+  pub rises : Rises (newest_cmp compacted) newest
+  pub exact : (e : EntryView) → Contains newest e ↔ (Contains agreed e × IsNewestOld compacted agreed e)
+
+-- of a name there is at most one that is old
+abbrev pub HasOneOld : ℕ → List EntryView → Type 0
+HasOneOld compacted es =
+    (a b : EntryView) → Contains es a → Contains es b → is_old compacted a ≡ true → is_old compacted b ≡ true → entry_name a ≡ entry_name b → a ≡ b
+
+-- this revision of its name, of no later transaction, comes after the old one with this key
+abbrev pub IsSupersededBy : ℕ → List EntryView → RevisionView → Key → Type 0
+IsSupersededBy compacted es r key =
+    (e : EntryView) × Contains es e × (e.key ≡ key) × (is_old compacted e ≡ true) × (entry_name e ≡ name_of r) × (is_until compacted r ≡ true)
+    × (key_cmp e.key r.place ≡ Less)
+
+-- this is the key that it supersedes, if there is one
+abbrev pub Supersedes : ℕ → List EntryView → RevisionView → Option Key → Type 0
+Supersedes compacted es r found = (key : Key) → (found ≡ Some key) ↔ IsSupersededBy compacted es r key
+
+-- a kept one does
+abbrev pub IsSuperseded : ℕ → List EntryView → List Member → Key → Type 0
+IsSuperseded compacted es recovered key = (r : RevisionView) × IsKept recovered r × IsSupersededBy compacted es r key
+
+-- exactly the keys of those
+pub record AreSuperseded (compacted : ℕ) (recovered : List Member) (es : List EntryView) (keys : List Key) : Type 0 where
+  pub sorted : IsSorted key_cmp keys
+  pub exact : (key : Key) → Contains keys key ↔ IsSuperseded compacted es recovered key
+
+-- It isn't a deletion, and no revision of its name up to this transaction is later, of those that are kept and those that are agreed.
+pub record IsNewestOf (compacted : ℕ) (recovered : List Member) (agreed : List EntryView) (e : EntryView) : Type 0 where
+  pub there : is_deletion e ≡ false
+  pub of_kept : (r : RevisionView) → IsKept recovered r → name_of r ≡ entry_name e → is_until compacted r ≡ true → key_cmp e.key r.place ≢ Less
+  pub of_agreed : (other : EntryView) → Contains agreed other → entry_name other ≡ entry_name e → is_old compacted other ≡ true → key_cmp e.key other.key ≢ Less
+
+-- Of the agreed candidates these go back, by rising key.
+pub record ArePutBack (compacted : ℕ) (recovered : List Member) (agreed back : List EntryView) : Type 0 where
+  pub rises : Rises view_cmp back
+  pub exact : (e : EntryView) → Contains back e ↔ (Contains agreed e × ((is_old compacted e ≡ false) ⊎ IsNewestOf compacted recovered agreed e))
+
+-- so of the recovered listing of a file under a meta
+abbrev pub AreSupersededIn : List ℕ → Meta → ℕ → List EntryView → List Key → Type 0
+AreSupersededIn file meta compacted es keys = ForRecovered file meta (λ recovered. AreSuperseded compacted recovered es keys)
+
+abbrev pub ArePutBackIn : List ℕ → Meta → ℕ → (agreed back : List EntryView) → Type 0
+ArePutBackIn file meta compacted agreed back = ForRecovered file meta (λ recovered. ArePutBack compacted recovered agreed back)

@@ -1,0 +1,123 @@
+//! What the recovered listing says of a store.
+ghost use Rattle.std.specs.Prelude.{IfOk, OnOk, map};
+ghost use Rattle.bolt_tree.specs.{Order.Rises, Paths.path_of};
+ghost use Rattle.bolt_tree.specs.ShownEntries.{item_view, shown_entry};
+ghost use Rattle.bolt_recover.specs.Recovered.{ForRecovered};
+ghost use Rattle.bolt_etcd.specs.{Candidates.whole_cmp, Returns.Returns, ShownRevisions.shown_revision};
+ghost use Rattle.bolt_etcd.specs.Surveys.{IsAt, revision_at};
+
+use crate::candidates::{add_key, has_entry};
+use crate::revision::Revision;
+use bolt_recover::{Kept, LostAndFound};
+use bolt_tree::{Entry, Item, Members, NoMemory};
+use std::alloc::Global;
+
+/// The bucket of the revisions.
+const STORE: &[u8] = b"key";
+
+/// The bucket in which the last compaction is noted.
+const META: &[u8] = b"meta";
+
+/// The key under which it is noted.
+const SCHEDULED: &[u8] = b"scheduledCompactRev";
+
+/// Where a path leads.
+#[derive(Clone, Copy)]
+enum Place<'a> {
+    /// To the bucket `key` itself, or what is there in its place.
+    Store,
+    /// To an entry of the bucket `key`, with this key.
+    InStore(&'a [u8]),
+    /// To what notes the last compaction.
+    Compaction,
+    /// Elsewhere.
+    Other,
+}
+
+/// What the recovered listing says of a store.
+#[derive(Drop)]
+pub(crate) struct Survey<'a> {
+    /// What is under `key` in the root bucket.
+    pub store: Option<Item<'a>>,
+    /// The value that notes the last compaction.
+    pub compaction: Option<&'a [u8]>,
+    /// The keys in the bucket `key` that candidates have too, by rising key.
+    pub met: Vec<&'a [u8]>,
+}
+
+impl<'a> Survey<'a> {
+    ghost use Rattle.bolt_etcd.specs.Surveys.{IsSurveyOf, Notes};
+
+    /// Goes over all that is recovered of a file.
+    pub fn of(
+        alloc: Global,
+        both: &LostAndFound<'a>,
+        candidates: &[Entry<'a>],
+    ) -> Result<Survey<'a>, NoMemory>
+        requires { Rises whole_cmp (map shown_entry candidates.now) }
+        ensures { IfOk result (λ survey.
+            ForRecovered both.now.file.now both.now.meta (λ recovered.
+            IsSurveyOf recovered (map shown_entry candidates.now) survey)) }
+    {
+        let mut survey = Survey {
+            store: None,
+            compaction: None,
+            met: Vec::new(alloc),
+        };
+        let mut kept = Kept::of(alloc, both)?;
+        'members: while let Some(item) = kept.next()? {
+            survey.note(kept.path(), item, candidates)?;
+        }
+        Ok(survey)
+    }
+
+    /// Notes a member, which comes after all that are noted.
+    fn note(
+        &mut self,
+        path: &[&'a [u8]],
+        item: Item<'a>,
+        candidates: &[Entry<'a>],
+    ) -> Result<(), NoMemory>
+        requires { Rises whole_cmp (map shown_entry candidates.now) }
+        ensures { OnOk result (Notes (map shown_entry candidates.now)
+            (path_of path.now, item_view item.entry) self.old self.new) }
+    {
+        match place_of(path) {
+            Place::Store => self.store = Some(item),
+            Place::InStore(key) => {
+                if has_entry(candidates, key) {
+                    add_key(&mut self.met, key)?;
+                }
+            }
+            Place::Compaction => {
+                if let Item::Value(value) = item {
+                    self.compaction = Some(value);
+                }
+            }
+            Place::Other => {}
+        }
+        Ok(())
+    }
+}
+
+/// Where a path leads.
+fn place_of<'a>(path: &[&'a [u8]]) -> Place<'a>
+    ensures { IsAt (path_of path.now) result }
+{
+    match path {
+        [bucket] if *bucket == STORE => Place::Store,
+        [bucket, key] if *bucket == STORE => Place::InStore(key),
+        [bucket, key] if *bucket == META && *key == SCHEDULED => Place::Compaction,
+        _ => Place::Other,
+    }
+}
+
+/// The revision in the bucket `key` that a member is, if it is one.
+pub(crate) fn revision_at<'a>(path: &[&'a [u8]], item: Item<'a>) -> Option<Revision<'a>>
+    ensures { Returns shown_revision result (revision_at (path_of path.now) (item_view item.entry)) }
+{
+    match place_of(path) {
+        Place::InStore(key) => Revision::of(&Entry { key, item }),
+        _ => None,
+    }
+}
