@@ -4,6 +4,7 @@ pub mod CandidateLemmas
 pub mod CompactionsAdded
 pub mod Currents
 pub mod Disputed
+pub mod EachOnce
 pub mod EtcdCompacts
 pub mod FaultsOfNames
 pub mod Fields

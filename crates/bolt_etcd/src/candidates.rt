@@ -4,8 +4,9 @@ ghost use Rattle.std.specs.List.{Contains, Sorted.IsSorted};
 ghost use Rattle.bolt_format.specs.{ElementPlaces.leaf_view, Elements.IsBucketValue, ElementsLeft.leaves_left};
 ghost use Rattle.bolt_check.specs.{Counts.counted, Keys.key_cmp};
 ghost use Rattle.bolt_tree.specs.{Entries.entry_view, Order.Rises, ShownEntries.shown_entry};
-ghost use Rattle.bolt_etcd.specs.Candidates.{AreCandidates, AreDisputed, HasKey, candidates_in, elements_of};
-ghost use Rattle.bolt_etcd.specs.Candidates.{is_candidate, is_same, value_bytes, whole_cmp};
+ghost use Rattle.bolt_etcd.specs.Candidates.{AreCandidates, AreDisputed, HasKey, HaveKeys, candidates_in};
+ghost use Rattle.bolt_etcd.specs.Candidates.{elements_of, is_candidate, is_last, is_same, value_bytes};
+ghost use Rattle.bolt_etcd.specs.Candidates.{whole_cmp};
 
 use crate::revision::Revision;
 use bolt_format::{Leaf, Leaves};
@@ -126,7 +127,8 @@ fn is_same(a: &Entry<'_>, b: &Entry<'_>) -> bool
     a.key == b.key && value_of(a) == value_of(b)
 }
 
-/// The keys that two neighbors have, once for each two.
+/// The keys that two neighbors have, each once. Needs 8 bytes for each candidate at most: each such
+/// key is that of two or more.
 pub(crate) fn disputed_keys<'a>(
     alloc: Global,
     candidates: &[Entry<'a>],
@@ -135,13 +137,38 @@ pub(crate) fn disputed_keys<'a>(
     ensures { IfOk result (λ disputed.
         AreDisputed (map shown_entry candidates.now) (map (λ key. key.now) disputed.items)) }
 {
-    let mut keys = Vec::new(alloc);
+    let mut keys = Vec::with_capacity(alloc, candidates.len() / 2)?;
     for i in 1..candidates.len() {
-        if candidates[i].key == candidates[i - 1].key {
-            add_key(&mut keys, candidates[i].key)?;
+        let key = candidates[i].key;
+        if key == candidates[i - 1].key && !ends_with(keys.as_slice(), key) {
+            add_key(&mut keys, key)?;
         }
     }
     Ok(keys)
+}
+
+/// Whether a key is the last of these.
+fn ends_with(keys: &[&[u8]], key: &[u8]) -> bool
+    ensures { result ≡ is_last (map (λ key. key.now) keys.now) key.now }
+{
+    match keys.last() {
+        Some(last) => key == *last,
+        None => false,
+    }
+}
+
+/// The number of different keys of candidates.
+pub(crate) fn count_keys(candidates: &[Entry<'_>]) -> usize
+    requires { Rises whole_cmp (map shown_entry candidates.now) }
+    ensures { HaveKeys (map shown_entry candidates.now) result }
+{
+    let mut repeated = 0_usize;
+    for i in 1..candidates.len() {
+        if candidates[i].key == candidates[i - 1].key {
+            repeated += 1;
+        }
+    }
+    candidates.len() - repeated
 }
 
 /// Adds a key.

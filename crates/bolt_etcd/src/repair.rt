@@ -10,7 +10,7 @@ ghost use Rattle.bolt_tree.specs.{InBuckets.view_cmp, Order.Rises, ShownEntries.
 ghost use Rattle.bolt_etcd.specs.{Agreed.AreAgreed, Agreed.HaveUnmetKeys, Agreed.among, Agreed.without, Candidates.whole_cmp, Repaired.lacks_bucket, Superseded.ArePutBackIn};
 ghost use Rattle.bolt_etcd.specs.declared.repair.RepairFault.TheVariants as faults;
 
-use crate::candidates::{candidates_of, disputed_keys, has_key};
+use crate::candidates::{candidates_of, count_keys, disputed_keys, has_key};
 use crate::compaction::compacted_by;
 use crate::superseded::{has_old, keep_newest, stays, superseded_keys};
 use crate::survey::Survey;
@@ -76,7 +76,7 @@ impl<'a> Repair<'a> {
         let Some(is_lacking) = lacks_bucket(survey.store) else {
             return Err(RepairFault::NotABucket);
         };
-        let keys = keep_agreed(alloc, &mut back, survey.met.as_slice())?;
+        let keys = keep_agreed(alloc, &mut back, survey.met)?;
         keep_what_goes_back(alloc, both, &mut back, compacted_by(survey.compaction))?;
         if let Lost::Everything(finding) = both.lost()
             && back.is_empty()
@@ -105,22 +105,23 @@ fn lacks_bucket(under: Option<Item<'_>>) -> Option<bool>
 
 /// Keeps the candidates that are agreed: the recovered bucket doesn't have their keys (those that it
 /// has are met), and no other candidate has the key with another value. They stand by rising key.
-/// Returns the number of keys of candidates that aren't met.
+/// Returns the number of keys of candidates that aren't met. Takes `met`, so that it is freed before
+/// superseded keys are kept.
 fn keep_agreed(
     alloc: Global,
     candidates: &mut Vec<Entry<'_>>,
-    met: &[&[u8]],
+    met: Vec<&[u8]>,
 ) -> Result<usize, NoMemory>
     requires rises { Rises whole_cmp (map shown_entry candidates.old.items) }
-    requires sorted { IsSorted key_cmp (map (λ key. key.now) met.now) }
+    requires sorted { IsSorted key_cmp (map (λ key. key.now) met.items) }
     ensures agreed { OnOk result (AreAgreed (map shown_entry candidates.old.items)
-        (map (λ key. key.now) met.now) (map shown_entry candidates.new.items)) }
+        (map (λ key. key.now) met.entry.items) (map shown_entry candidates.new.items)) }
     ensures keys { IfOk result (HaveUnmetKeys (map shown_entry candidates.old.items)
-        (map (λ key. key.now) met.now)) }
+        (map (λ key. key.now) met.entry.items)) }
 {
-    remove_keys(candidates, met);
+    remove_keys(candidates, met.as_slice());
+    let keys = count_keys(candidates.as_slice());
     let disputed = disputed_keys(alloc, candidates.as_slice())?;
-    let keys = candidates.len() - disputed.len();
     remove_keys(candidates, disputed.as_slice());
     Ok(keys)
 }
