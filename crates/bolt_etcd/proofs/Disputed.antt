@@ -1,5 +1,5 @@
 -- Of entries by key and value, the keys that two have or more, and the keys of all.
-use Rattle.std.proofs.Common.{◌≡◌, ◌∙◌, ◌<◌, ◌≤◌, ◌+◌, ◌-◌, ◌⊎◌, inl, inr, ℕ, suc, Bool, Bor, true, false, List, [], ◌∷◌, ◌++◌, cond, drop, length, map, refl, sym, ap, subst, slice_index_or, arith}
+use Rattle.std.proofs.Common.{◌≡◌, ◌∙◌, ◌<◌, ◌≤◌, ◌+◌, ◌-◌, ◌⊎◌, inl, inr, ℕ, zero, suc, Bool, Bor, true, false, List, [], ◌∷◌, ◌++◌, cond, drop, length, map, refl, sym, ap, subst, slice_index_or, arith}
 use Rattle.std.proofs.lemmas.Bool.{cond-false, cond-true}
 use Rattle.std.proofs.lemmas.List.{append-nil, append_assoc, drop_more, get_or-map, length-drop, length-map, map-append}
 use Rattle.std.proofs.lemmas.Cmp.{nat_list_eq_equiv}
@@ -13,8 +13,9 @@ use Rattle.std.specs.declared.cmp.Ordering.{Ordering}
 use Rattle.std.specs.declared.cmp.Ordering.TheVariants.{Equal, Greater, Less}
 use Rattle.bolt_check.specs.Keys.{Key, key_cmp}
 use Rattle.bolt_tree.proofs.{Lists.contains_cases, Lists.contains_head, Lists.contains_none, Lists.contains_tail, Lists.irreflexive, PathOrder.key_exact, PathOrder.key_same, PathOrder.key_total}
-use Rattle.bolt_tree.specs.{Entries.EntryView, Order.Rises, ShownEntries.shown_entry}
-use Rattle.bolt_tree.specs.declared.entry.Entry.{Entry}
+use Rattle.bolt_tree.specs.{Entries.EntryView, Order.Rises}
+use Rattle.bolt_etcd.specs.ShownRevisions.{entry_of}
+use Rattle.bolt_etcd.specs.declared.revision.Revision.{Revision}
 use Rattle.bolt_etcd.specs.Candidates.{AreDisputed, AreKeys, IsDisputed, whole_cmp}
 use Rattle.bolt_etcd.proofs.{MappedLists.Climbs, MappedLists.climbs_sorted, MappedLists.shows_from, MappedLists.shows_has, SortedOnce.rises_from, WholeOrder.whole_total}
 
@@ -205,30 +206,36 @@ repeated_next es j d e below =
     ∙ ap (repeated_from here) second
     ∙ ap (λ (keys : List Key). cond (bytes_eq next.key here.key) (next.key ∷ keys) keys) (sym (ap repeated second))
 
-module _ (es : List Entry) where
+-- what stands at a place
+pub same_at : {X : Type 0} (xs : List X) (i : ℕ) (x y : X) → i < length xs → x ≡ slice_index_or xs i x → y ≡ slice_index_or xs i y → x ≡ y
+same_at [] i x y below is also = absurd (omega arith)
+same_at (z ∷ xs) zero x y below is also = is ∙ sym also
+same_at (z ∷ xs) (suc i) x y below is also = same_at xs i x y (omega arith) is also
+
+module _ (es : List Revision) where
   abbrev left_from : ℕ → List Key
-  left_from j = repeated (drop j (map shown_entry es))
+  left_from j = repeated (drop j (map entry_of es))
 
   -- those from one entry on, by the next one's key
-  next_left : (i j : ℕ) (x y : Entry) → j + 1 ≡ i → i < length es
+  next_left : (i j : ℕ) (x y : Revision) → j + 1 ≡ i → i < length es
       → left_from j ≡ cond (bytes_eq (slice_index_or es i x).key.now (slice_index_or es j y).key.now) ((slice_index_or es i x).key.now ∷ left_from i) (left_from i)
   next_left i j x y next below =
-      let long = length-map es shown_entry in
-      let all = map shown_entry es in
-      let step = repeated_next all j (shown_entry x) (shown_entry y) (omega (arith, long)) in
-      let key = ap (λ (v : EntryView). v.key) (get_or-map shown_entry es i x (shown_entry x) below) in
-      let before = ap (λ (v : EntryView). v.key) (get_or-map shown_entry es j y (shown_entry y) (omega arith)) in
+      let long = length-map es entry_of in
+      let all = map entry_of es in
+      let step = repeated_next all j (entry_of x) (entry_of y) (omega (arith, long)) in
+      let key = ap (λ (v : EntryView). v.key) (get_or-map entry_of es i x (entry_of x) below) in
+      let before = ap (λ (v : EntryView). v.key) (get_or-map entry_of es j y (entry_of y) (omega arith)) in
       rw (← key, ← before, ← next) step
 
-  pub repeats : (keys more : List (Bor Key)) (i : ℕ) (x y : Entry) → 1 ≤ i → i < length es → more ≡ keys ++ (slice_index_or es i x).key ∷ []
+  pub repeats : (keys more : List (Bor Key)) (key : Bor Key) (i : ℕ) (x y : Revision) → 1 ≤ i → i < length es → more ≡ keys ++ key ∷ [] → key.now ≡ (slice_index_or es i x).key.now
       → bytes_eq (slice_index_or es i x).key.now (slice_index_or es (i - 1) y).key.now ≡ true → (all : List Key) → map (λ (key : Bor Key). key.now) keys ++ left_from (i - 1) ≡ all
       → map (λ (key : Bor Key). key.now) more ++ left_from (i + 1 - 1) ≡ all
-  repeats keys more i x y low below added same all held =
+  repeats keys more key i x y low below added is same all held =
       let step = next_left i (i - 1) x y (omega arith) below ∙ cond-true _ _ _ same in
       let back : i + 1 - 1 ≡ i = omega arith in
-      rw (back, added, map-append, append_assoc) (ap (λ (left : List Key). map (λ (key : Bor Key). key.now) keys ++ left) (sym step) ∙ held)
+      rw (back, added, map-append, append_assoc, is) (ap (λ (left : List Key). map (λ (key : Bor Key). key.now) keys ++ left) (sym step) ∙ held)
 
-  pub repeats_none : (keys more : List (Bor Key)) (i : ℕ) (x y : Entry) → 1 ≤ i → i < length es → more ≡ keys
+  pub repeats_none : (keys more : List (Bor Key)) (i : ℕ) (x y : Revision) → 1 ≤ i → i < length es → more ≡ keys
       → bytes_eq (slice_index_or es i x).key.now (slice_index_or es (i - 1) y).key.now ≡ false → (all : List Key) → map (λ (key : Bor Key). key.now) keys ++ left_from (i - 1) ≡ all
       → map (λ (key : Bor Key). key.now) more ++ left_from (i + 1 - 1) ≡ all
   repeats_none keys more i x y low below same other all held =
@@ -244,6 +251,6 @@ module _ (es : List Entry) where
   pub all_repeated : (keys : List (Bor Key)) (i : ℕ) → length es ≤ i → (all : List Key) → map (λ (key : Bor Key). key.now) keys ++ left_from (i - 1) ≡ all
       → map (λ (key : Bor Key). key.now) keys ≡ all
   all_repeated keys i past all held =
-      let long = length-map es shown_entry in
-      let none = short (drop (i - 1) (map shown_entry es)) (omega (arith, long, length-drop (i - 1) (map shown_entry es))) in
+      let long = length-map es entry_of in
+      let none = short (drop (i - 1) (map entry_of es)) (omega (arith, long, length-drop (i - 1) (map entry_of es))) in
       sym (append-nil _) ∙ ap (λ (left : List Key). map (λ (key : Bor Key). key.now) keys ++ left) (sym none) ∙ held

@@ -10,8 +10,9 @@ use Rattle.std.specs.declared.cmp.Ordering.TheVariants.{Equal, Greater, Less}
 use Rattle.std.proofs.lemmas.List.Sorted.{searchable_from_sorted}
 use Rattle.bolt_check.specs.Keys.{Key, key_cmp}
 use Rattle.bolt_tree.proofs.PathOrder.{key_exact, key_same, key_total}
-use Rattle.bolt_tree.specs.{Entries.EntryView, ShownEntries.shown_entry}
-use Rattle.bolt_tree.specs.declared.entry.Entry.{Entry}
+use Rattle.bolt_tree.specs.{Entries.EntryView}
+use Rattle.bolt_etcd.specs.ShownRevisions.{entry_of}
+use Rattle.bolt_etcd.specs.declared.revision.Revision.{Revision}
 use Rattle.bolt_etcd.specs.Candidates.{HasKey}
 use Rattle.bolt_etcd.proofs.MappedLists.{shows_from, shows_has}
 
@@ -42,11 +43,11 @@ module _ {X : Type 0} (f : X → Key) (key : Key) where
 
 module _ (key : Key) where
   -- of entries
-  pub found_entry : (xs : List Entry) (r : Result ℕ ℕ) (b : Bool) → IsSortedBy (λ a c. is_lt (key_cmp (shown_entry a).key (shown_entry c).key)) xs → IsSearchInRange r (length xs)
-      → IsBinarySearchResult (λ (x : Entry). key_cmp x.key.now key) xs r → b ≡ is_ok r → (b ≡ true) ↔ HasKey (map shown_entry xs) key
+  pub found_entry : (xs : List Revision) (r : Result ℕ ℕ) (b : Bool) → IsSortedBy (λ a c. is_lt (key_cmp (entry_of a).key (entry_of c).key)) xs → IsSearchInRange r (length xs)
+      → IsBinarySearchResult (λ (x : Revision). key_cmp x.key.now key) xs r → b ≡ is_ok r → (b ≡ true) ↔ HasKey (map entry_of xs) key
   found_entry xs r b up within found is =
-      let (there, has) = found_key (λ (x : Entry). x.key.now) key xs r b up within found is in (
-        λ e. (let (x, inside, same) = shows_from (λ (x : Entry). x.key.now) xs key (there e) in (shown_entry x, shows_has shown_entry xs x inside, same)),
-        λ (e, inside, same). (let (x, is_there, shows) = shows_from shown_entry xs e inside in
-            has (subst (Contains (map (λ (y : Entry). y.key.now) xs)) (ap (λ (v : EntryView). v.key) shows ∙ same) (shows_has (λ (y : Entry). y.key.now) xs x is_there))),
+      let (there, has) = found_key (λ (x : Revision). x.key.now) key xs r b up within found is in (
+        λ e. (let (x, inside, same) = shows_from (λ (x : Revision). x.key.now) xs key (there e) in (entry_of x, shows_has entry_of xs x inside, same)),
+        λ (e, inside, same). (let (x, is_there, shows) = shows_from entry_of xs e inside in
+            has (subst (Contains (map (λ (y : Revision). y.key.now) xs)) (ap (λ (v : EntryView). v.key) shows ∙ same) (shows_has (λ (y : Revision). y.key.now) xs x is_there))),
       )

@@ -51,6 +51,7 @@ pub mod SortedOnce
 pub mod StatesKept
 pub mod StoreExists
 pub mod StoreLemmas
+pub mod StoredRevisions
 pub mod SupersededKeys
 pub mod Surveyed
 pub mod TakenAway

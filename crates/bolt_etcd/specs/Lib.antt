@@ -23,6 +23,7 @@ pub mod Newest
 pub mod Others
 pub mod Passes
 pub mod Possible
+pub mod PutBackMembers
 pub mod Records
 pub mod RepairRefusals
 pub mod Repaired

@@ -1,5 +1,6 @@
 -- What is found, looked at beside the recovered listing.
 use Rattle.std.proofs.Common.{◌≡◌, ◌∙◌, ◌-◌, ◌≤◌, ◌&&◌, not, ap, false, subst, sym, vec_len, List, arith, map, length}
+use Rattle.bolt_etcd.specs.ShownRevisions.{entry_of}
 use Rattle.bolt_etcd.proofs.FoundRepairs.{loses_root, made_if, none_left, not_made, rises_sorted, searched_full, searched_least, searched_repair}
 use Rattle.std.proofs.lemmas.Bool.{and_right}
 use Rattle.std.specs.Option.{option_map}
@@ -29,7 +30,7 @@ pub invariant_of-result : goal.invariant_of-result
 invariant_of-result c =
     let back = c.keep_what_goes_back.new.agreed in
     let long : vec_len back ≡ length back.items = omega arith in
-    let made : c.if-is_lacking.result ≡ (c.in-Some.is_lacking && not (is_nil (map shown_entry back.items))) =
+    let made : c.if-is_lacking.result ≡ (c.in-Some.is_lacking && not (is_nil (map entry_of back.items))) =
     elim c.if-is_lacking.branch [
       | then-is_lacking w ↦ made_if back.items c.if-is_lacking.result c.in-Some.is_lacking _ _ w.result-is w.is_empty-then-is_lacking.ensures long w.if-is_lacking.true
       | else-is_lacking w ↦ not_made back.items c.if-is_lacking.result c.in-Some.is_lacking w.result-is w.if-is_lacking.false
@@ -44,7 +45,7 @@ pub returns-2-clause-back : goal.returns-2-clause-back
 returns-2-clause-back c =
     let back = c.keep_what_goes_back.new.agreed in
     let long : vec_len back ≡ length back.items = omega arith in
-    let made : c.if-is_lacking.result ≡ (c.in-Some.is_lacking && not (is_nil (map shown_entry back.items))) =
+    let made : c.if-is_lacking.result ≡ (c.in-Some.is_lacking && not (is_nil (map entry_of back.items))) =
     elim c.if-is_lacking.branch [
       | then-is_lacking w ↦ made_if back.items c.if-is_lacking.result c.in-Some.is_lacking _ _ w.result-is w.is_empty-then-is_lacking.ensures long w.if-is_lacking.true
       | else-is_lacking w ↦ not_made back.items c.if-is_lacking.result c.in-Some.is_lacking w.result-is w.if-is_lacking.false
@@ -59,7 +60,7 @@ returns-clause-refused c =
     let back = c.keep_what_goes_back.new.agreed in
     let long : vec_len back ≡ length back.items = omega arith in
     let none = none_left back.items _ _ c.is_empty.ensures long c.if-is_empty.true in
-    let made : false ≡ (c.in-Some.is_lacking && not (is_nil (map shown_entry back.items))) = sym (and_right c.in-Some.is_lacking _ (ap not (ap is_nil none))) in
+    let made : false ≡ (c.in-Some.is_lacking && not (is_nil (map entry_of back.items))) = sym (and_right c.in-Some.is_lacking _ (ap not (ap is_nil none))) in
     let repair =
     searched_repair c.args.both.now _ c.as_slice.ensures.value _ _ _ _ c.as_slice-2.ensures.value c.in_ok-survey.survey _ c.as_slice-3.ensures.value _ c.compacted_by.ensures c.in_ok-back.ensures
     c.in_ok-survey.ensures c.in_ok-keys.ensures.agreed c.in_ok-keep_what_goes_back.ensures c.in-Some.is_lacking (sym c.lacks_bucket.ensures ∙ c.in-Some.is) false made in (
