@@ -1,5 +1,5 @@
 -- The keys of entries are no less than the first one, and no greater than the last one.
-use Rattle.std.proofs.Common.{◌≡◌, ◌∙◌, ◌-◌, inl, inr, Bool, true, false, List, [], ◌∷◌, get_or, is_ge, is_le, is_lt, length, map, arith, ap, refl, subst, sym}
+use Rattle.std.proofs.Common.{◌≡◌, ◌∙◌, ◌-◌, inl, inr, true, false, List, [], ◌∷◌, get_or, is_ge, is_le, is_lt, length, map, arith, ap, refl, subst, sym}
 use Rattle.std.specs.List.{Contains}
 use Rattle.std.specs.Ordering.{ordering_reverse}
 use Rattle.std.specs.declared.cmp.Ordering.{Ordering}

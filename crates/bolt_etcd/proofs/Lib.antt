@@ -20,6 +20,7 @@ pub mod KeyNumbers
 pub mod KeySearches
 pub mod Keys
 pub mod LastOfAll
+pub mod LaterOnes
 pub mod LastOnes
 pub mod Leases
 pub mod ListedTexts
@@ -31,6 +32,7 @@ pub mod NewestEntries
 pub mod NewestOfNames
 pub mod NothingFound
 pub mod OldOfName
+pub mod OldOnes
 pub mod OneRepair
 pub mod OtherCounts
 pub mod OtherSteps
@@ -47,6 +49,7 @@ pub mod RevisionsExact
 pub mod Rising
 pub mod SnapshotLemmas
 pub mod SortedExists
+pub mod SortedFirst
 pub mod SortedOnce
 pub mod StatesKept
 pub mod StoreExists
@@ -60,6 +63,7 @@ mod TrailingAccounts
 mod TrailingBytes
 mod TrailingMetas
 pub mod Varints
+pub mod WhatGoesBack
 pub mod WholeNames
 pub mod WholeOrder
 pub mod WholeRepairs

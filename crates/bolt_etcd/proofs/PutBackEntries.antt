@@ -1,20 +1,18 @@
 -- Of the agreed candidates those that go back: the newest of each name that aren't superseded, and those after the compaction.
-use Rattle.std.proofs.Common.{◌≡◌, ◌≢◌, ◌∙◌, ◌⊎◌, inl, inr, ℕ, Bool, true, false, List, [], ◌∷◌, filter, map, not, refl, sym, ap, subst}
+use Rattle.std.proofs.Common.{◌≡◌, ◌≢◌, ◌∙◌, ◌⊎◌, inl, inr, ℕ, true, false, List, filter, not, refl, sym, ap, subst}
 use Rattle.std.proofs.lemmas.Bool.{cases_Bool, false_from_ne_true, not-true, or_cases, or_left, or_right}
 use Rattle.std.proofs.lemmas.List.Sorted.{Contains-permutation, IsPermutation-sym}
-use Rattle.std.specs.List.{Contains, list_any}
+use Rattle.std.specs.List.{Contains}
 use Rattle.std.specs.List.Sorted.{IsPermutation, IsSorted}
 use Rattle.std.specs.Ordering.{eq_by_cmp, is_eq}
 use Rattle.std.specs.declared.cmp.Ordering.{Ordering}
 use Rattle.std.specs.declared.cmp.Ordering.TheVariants.{Equal, Greater, Less}
 use Rattle.bolt_check.specs.Keys.{Key, key_cmp}
-use Rattle.bolt_tree.proofs.{Filters.kept, Lists.contains_cases, Lists.contains_none, Lists.irreflexive, PathOrder.key_exact, PathOrder.key_total}
+use Rattle.bolt_tree.proofs.{Filters.kept, Lists.irreflexive, PathOrder.key_exact, PathOrder.key_total}
 use Rattle.bolt_tree.specs.{Entries.EntryView, InBuckets.view_cmp, Listing.Member, Order.Rises}
-use Rattle.bolt_etcd.specs.declared.revision.Revision.{Revision}
-use Rattle.bolt_etcd.specs.ShownRevisions.{entry_of}
 use Rattle.bolt_etcd.specs.Agreed.{among, without}
 use Rattle.bolt_etcd.specs.Superseded.{ArePutBack, AreNewest, AreSuperseded, IsNewestOf, entry_name, is_deletion, is_old, newest_cmp, stays}
-use Rattle.bolt_etcd.proofs.{AgreedEntries.without_has, Filtered.filter_rises, Filtered.kept_from, MappedLists.shows_from, NewestEntries.newest_total, NewestEntries.view_total}
+use Rattle.bolt_etcd.proofs.{AgreedEntries.without_has, Filtered.filter_rises, Filtered.kept_from, NewestEntries.newest_total, NewestEntries.view_total}
 use Rattle.bolt_etcd.proofs.{Rising.rising_cases, SortedOnce.sorted_in}
 
 tied_keys : (o : Ordering) → is_eq o ≡ true → o ≡ Equal
@@ -105,22 +103,6 @@ module _ (compacted : ℕ) (recovered : List Member) (agreed newest : List Entry
     }
 
 -- if none is old, all go back
-old_found : (p : Revision → Bool) (xs : List Revision) (x : Revision) → Contains xs x → p x ≡ true → list_any p xs ≡ true
-old_found p [] x has is_p = absurd (contains_none x has)
-old_found p (y ∷ xs) x has is_p = elim (contains_cases y x xs has) [
-  | inl same ↦ or_left (p y) (list_any p xs) (subst (λ (z : Revision). p z ≡ true) (sym same) is_p)
-  | inr later ↦ or_right (p y) (list_any p xs) (old_found p xs x later is_p)
-]
-
-pub none_old : (compacted : ℕ) (recovered : List Member) (xs : List Revision) → Rises view_cmp (map entry_of xs) → list_any (λ (e : Revision). is_old compacted (entry_of e)) xs ≡ false
-    → ArePutBack compacted recovered (map entry_of xs) (map entry_of xs)
-none_old compacted recovered xs rises none = record {
-  rises = rises;
-  exact = λ e. (
-    λ has.
-        let (x, inside, same) = shows_from entry_of xs e has in
-        let new = false_from_ne_true (is_old compacted (entry_of x)) (λ old. let found = old_found (λ (y : Revision). is_old compacted (entry_of y)) xs x inside old in cc) in
-        (has, inl (subst (λ (v : EntryView). is_old compacted v ≡ false) same new)),
-    λ (has, go). has,
-  );
-}
+pub none_old : (compacted : ℕ) (recovered : List Member) (es : List EntryView) → Rises view_cmp es → ((e : EntryView) → Contains es e → is_old compacted e ≡ false)
+    → ArePutBack compacted recovered es es
+none_old compacted recovered es rises none = record { rises = rises; exact = λ e. (λ has. (has, inl (none e has)), λ (has, goes). has) }

@@ -9,9 +9,9 @@ use Rattle.bolt_tree.specs.{Entries.Bucket, Entries.EntryView, Entries.Item, Ent
 use Rattle.bolt_tree.proofs.{InBucketLemmas.entry_of, InBucketLemmas.tree_placed, Lists.contains_cases, Lists.contains_head, Lists.contains_none, Lists.contains_tail, Lists.irreflexive, Lists.rises_once, MergeLemmas.merge_members, PathOrder.key_total, Single.member_total}
 use Rattle.bolt_recover.proofs.Existing.{one_recovered}
 use Rattle.bolt_recover.specs.Found.{AreFound}
-use Rattle.bolt_etcd.specs.{Compacted.compacted_by, Misplaced.is_misplaced, Revisions.RevisionView, Revisions.name_of, Revisions.revision_of, Revisions.value_of}
-use Rattle.bolt_etcd.specs.LostRevisions.{IsCompactedStore, IsFoundEntry, IsRecoveredOrFound, IsRevisionIn, LosesRevisions}
-use Rattle.bolt_etcd.specs.{Repaired.IsRepaired, Repaired.MakesStore, Repaired.elements_on, Repaired.repaired_listing, Repairs.AreBack, Repairs.GoesBack, Repairs.IsAgreed, Repairs.IsCandidate, Repairs.IsCompactedAt, Repairs.IsKept, Repairs.IsNewestUpTo, Repairs.compaction_path, Repairs.store_path}
+use Rattle.bolt_etcd.specs.{Misplaced.is_misplaced, Revisions.RevisionView, Revisions.revision_of}
+use Rattle.bolt_etcd.specs.LostRevisions.{IsCompactedStore, IsRecoveredOrFound, LosesRevisions}
+use Rattle.bolt_etcd.specs.{Repaired.IsRepaired, Repaired.MakesStore, Repaired.elements_on, Repaired.repaired_listing, Repairs.AreBack, Repairs.GoesBack, Repairs.IsAgreed, Repairs.IsCandidate, Repairs.IsCompactedAt, Repairs.IsNewestUpTo, Repairs.compaction_path, Repairs.store_path}
 use Rattle.bolt_etcd.proofs.OneRepair.{member_once, one_compacted}
 
 -- ---- other paths

@@ -100,7 +100,7 @@ pub longer : (r : Revision) → nat_lt 17 (length r.key.now) ≡ (shown_revision
 longer r = ends (length r.key.now) (shown_revision r).key.deleted (long r)
 
 -- where the transactions differ, they tell
-by_numbers : (a b : Revision) → key_cmp a.key.now b.key.now ≡ numbers_cmp (shown_revision a).key (shown_revision b).key
+pub by_numbers : (a b : Revision) → key_cmp a.key.now b.key.now ≡ numbers_cmp (shown_revision a).key (shown_revision b).key
 by_numbers a b =
     let (is, fits) = is_spelled a in
     let (also, fit) = is_spelled b in

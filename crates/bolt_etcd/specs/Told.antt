@@ -1,5 +1,5 @@
 -- What the missing numbers tell: exactly the transactions that aren't there, of those after a compaction and before the last one.
-use Rattle.std.specs.Prelude.{◌≡◌, ◌≢◌, ◌<◌, ◌≤◌, ◌⊎◌, ℕ, List, [], ◌∷◌, max}
+use Rattle.std.specs.Prelude.{◌≢◌, ◌<◌, ◌≤◌, ◌⊎◌, ℕ, List, [], ◌∷◌, max}
 use Rattle.std.specs.List.{Contains}
 use Rattle.std.specs.declared.cmp.Ordering.{Ordering}
 use Rattle.bolt_etcd.specs.{RevisionKeys.numbers_cmp, Revisions.RevisionView}

@@ -14,7 +14,7 @@ ghost use Rattle.bolt_etcd.specs.declared.repair.RepairFault.TheVariants as faul
 use crate::candidates::{candidates_of, disputed_keys, has_key};
 use crate::compaction::compacted_by;
 use crate::revision::Revision;
-use crate::superseded::{has_old, keep_newest, stays, superseded_keys};
+use crate::superseded::{keep_newest, old_among, sort_by_key, stays, superseded_keys};
 use crate::survey::Survey;
 use bolt_check::{Finding, NoMemory};
 use bolt_recover::{Lost, LostAndFound};
@@ -139,14 +139,18 @@ fn keep_what_goes_back<'a>(
     ensures { OnOk result (ArePutBackIn both.now.file.now both.now.meta compacted
         (map entry_of agreed.old.items) (map entry_of agreed.new.items)) }
 {
-    if !has_old(agreed.as_slice(), compacted) {
+    let old = old_among(agreed.as_slice(), compacted);
+    if old == 0 {
         return Ok(());
     }
-    keep_newest(agreed, compacted);
-    let superseded = superseded_keys(alloc, both, agreed.as_slice(), compacted)?;
+    let later = agreed.len() - old;
+    keep_newest(agreed, old, compacted);
+    let (newest, _) = agreed.as_slice().split_at(agreed.len() - later);
+    let superseded = superseded_keys(alloc, both, newest, compacted)?;
     remove_keys(agreed, superseded.as_slice());
     agreed.retain(|revision| stays(revision, compacted));
-    agreed.sort_unstable_by(|a, b| a.cmp_place(b));
+    let old = agreed.len() - later;
+    sort_by_key(agreed.as_mut_slice(), old);
     Ok(())
 }
 

@@ -1,9 +1,10 @@
 //! Which revisions a compaction keeps.
-ghost use Rattle.std.specs.Prelude.{◌≡◌, IfOk, map};
-ghost use Rattle.std.specs.{List.list_any, Option.option_map};
+ghost use Rattle.std.specs.Prelude.{◌≡◌, ◌≤◌, IfOk, length, map};
+ghost use Rattle.std.specs.Option.{option_map};
 ghost use Rattle.bolt_tree.specs.{InBuckets.view_cmp, Order.Rises};
 ghost use Rattle.bolt_etcd.specs.ShownRevisions.{entry_of, shown_revision};
-ghost use Rattle.bolt_etcd.specs.Superseded.{AreNewest, AreSupersededIn, HasOneOld, Supersedes, entry_name, is_old, is_same_old, newest_cmp, stays};
+ghost use Rattle.bolt_etcd.specs.Superseded.{AreSupersededIn, HasOneOld, IsPartedAt, KeepsNewest, SortsFirst, Supersedes};
+ghost use Rattle.bolt_etcd.specs.Superseded.{entry_name, is_old, is_older_old, is_same_old, newest_cmp, stays};
 
 use crate::candidates::add_key;
 use crate::revision::Revision;
@@ -27,11 +28,12 @@ fn is_old(revision: &Revision<'_>, compacted: u64) -> bool
     revision.main() <= compacted
 }
 
-/// Whether a compaction may have removed any of these.
-pub(crate) fn has_old(revisions: &[Revision<'_>], compacted: u64) -> bool
-    ensures { result ≡ list_any (λ r. is_old compacted (entry_of r)) revisions.now }
+/// The number of those that a compaction may have removed. By rising key they come first.
+pub(crate) fn old_among(revisions: &[Revision<'_>], compacted: u64) -> usize
+    requires { Rises view_cmp (map entry_of revisions.now) }
+    ensures { IsPartedAt compacted (map entry_of revisions.now) result }
 {
-    revisions.iter().any(|revision| is_old(revision, compacted))
+    revisions.partition_point(|revision| is_old(revision, compacted))
 }
 
 /// By name; of one name those after the compaction first, and then the later ones first.
@@ -46,18 +48,46 @@ fn newest_first(a: &Revision<'_>, b: &Revision<'_>, compacted: u64) -> Ordering
     }
 }
 
-/// Of those up to the last compaction keeps the newest of each name; the later ones stay. They stand
-/// by rising name then; of one name, those after the compaction come first.
-pub(crate) fn keep_newest(candidates: &mut Vec<Revision<'_>>, compacted: u64)
-    requires { Rises view_cmp (map entry_of candidates.old.items) }
-    ensures { AreNewest compacted (map entry_of candidates.old.items)
+/// Of the first ones, which are old, keeps the newest of each name. They stand by rising name then.
+/// All others stay as they are.
+pub(crate) fn keep_newest(candidates: &mut Vec<Revision<'_>>, old: usize, compacted: u64)
+    requires rises { Rises view_cmp (map entry_of candidates.old.items) }
+    requires parted { IsPartedAt compacted (map entry_of candidates.old.items) old }
+    ensures { KeepsNewest compacted old (map entry_of candidates.old.items)
         (map entry_of candidates.new.items) }
 {
-    candidates.sort_unstable_by(|a, b| newest_first(a, b, compacted));
-    candidates.dedup_by(|older, newest| is_same_old(older, newest, compacted));
+    sort_by_name(candidates.as_mut_slice(), old, compacted);
+    candidates.dedup_by(|older, newest| is_older_old(older, newest, compacted));
 }
 
-/// Whether the newest one of a name is old, so that this older one is removed.
+/// Sorts the first ones by name.
+fn sort_by_name(revisions: &mut [Revision<'_>], old: usize, compacted: u64)
+    requires { old ≤ length revisions.old }
+    ensures sorts { SortsFirst (newest_cmp compacted) old (map entry_of revisions.old)
+        (map entry_of revisions.new) }
+    ensures number { length revisions.new ≡ length revisions.old }
+{
+    revisions[..old].sort_unstable_by(|a, b| newest_first(a, b, compacted));
+}
+
+/// Sorts the first ones by key.
+pub(crate) fn sort_by_key(revisions: &mut [Revision<'_>], old: usize)
+    requires { old ≤ length revisions.old }
+    ensures sorts { SortsFirst view_cmp old (map entry_of revisions.old)
+        (map entry_of revisions.new) }
+    ensures number { length revisions.new ≡ length revisions.old }
+{
+    revisions[..old].sort_unstable_by(|a, b| a.cmp_place(b));
+}
+
+/// Whether the newest one of a name is old, so that this one, which is older, is removed.
+fn is_older_old(older: &Revision<'_>, newest: &Revision<'_>, compacted: u64) -> bool
+    ensures { result ≡ is_older_old compacted (entry_of older.now) (entry_of newest.now) }
+{
+    is_old(older, compacted) && is_same_old(older, newest, compacted)
+}
+
+/// Whether the newest one of a name is old, and this one has the name.
 fn is_same_old(older: &Revision<'_>, newest: &Revision<'_>, compacted: u64) -> bool
     ensures { result ≡ is_same_old compacted (entry_of older.now) (entry_of newest.now) }
 {

@@ -1,4 +1,4 @@
-use Rattle.std.proofs.Common.{◌∙◌, Bor, List, ap, map, not, ℕ}
+use Rattle.std.proofs.Common.{◌∙◌, Bor, ap, map, not}
 use Rattle.bolt_check.specs.Keys.{Key}
 use Rattle.bolt_etcd.specs.Agreed.{among}
 use Rattle.bolt_etcd.proofs.AgreedEntries.{among_is}

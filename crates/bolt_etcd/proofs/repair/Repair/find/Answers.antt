@@ -8,7 +8,7 @@ use Rattle.bolt_tree.specs.Entries.{EntryView, Value}
 use Rattle.bolt_recover.specs.ShownLosses.{lost_view}
 use Rattle.bolt_etcd.specs.Repaired.{IsRepair}
 use Rattle.bolt_etcd.proofs.WholeRepairs.{is_nil, value_under}
-use Rattle.bolt_tree.specs.ShownEntries.{item_view, shown_entry}
+use Rattle.bolt_tree.specs.ShownEntries.{item_view}
 use Rattle.bolt_recover.proofs.Existing.{has_recovered}
 use Rattle.bolt_etcd.proofs.repair.Repair.find.Goals as goal
 use Rattle.bolt_etcd.proofs.repair.Repair.find.Goals.{else-is_lacking, then-is_lacking}
