@@ -46,7 +46,7 @@ keys_climb (e ∷ es) rises = (
   keys_climb es rises.1,
 )
 
-neither : (o : Ordering) → is_lt o ≡ false → is_lt (ordering_reverse o) ≡ false → o ≡ Equal
+pub neither : (o : Ordering) → is_lt o ≡ false → is_lt (ordering_reverse o) ≡ false → o ≡ Equal
 neither Less e f = cc
 neither Equal e f = refl
 neither Greater e f = cc

@@ -15,9 +15,9 @@ pub mod HistorySteps
 pub mod HistoryUntil
 pub mod KeptOfNames
 pub mod KeptRevisions
-pub mod KeyBounds
 pub mod KeyNumbers
 pub mod KeySearches
+pub mod KeyWalks
 pub mod Keys
 pub mod LastOfAll
 pub mod LaterOnes

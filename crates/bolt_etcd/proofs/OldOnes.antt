@@ -29,7 +29,7 @@ main r = (shown_revision r).key.main
 no_later : (a b : Revision) → view_cmp (entry_of a) (entry_of b) ≡ Less → main a ≤ main b
 no_later a b less = not_above (main a) (main b) _ (sym (by_numbers a b) ∙ less)
 
-has_at : {X : Type 0} (xs : List X) (k : ℕ) (d : X) → k < length xs → Contains xs (slice_index_or xs k d)
+pub has_at : {X : Type 0} (xs : List X) (k : ℕ) (d : X) → k < length xs → Contains xs (slice_index_or xs k d)
 has_at [] k d lt = absurd (omega arith)
 has_at (x ∷ xs) zero d lt = Contains-from_at (x ∷ xs) x (0, omega arith, λ e. refl)
 has_at (x ∷ xs) (suc k) d lt = let (i, below, is) = has_at xs k d (omega arith) in (suc i, omega arith, is)

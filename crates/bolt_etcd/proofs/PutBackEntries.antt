@@ -101,8 +101,3 @@ module _ (compacted : ℕ) (recovered : List Member) (agreed newest : List Entry
         λ (has, go). Contains-permutation left back e moved (left_to e has go),
       );
     }
-
--- if none is old, all go back
-pub none_old : (compacted : ℕ) (recovered : List Member) (es : List EntryView) → Rises view_cmp es → ((e : EntryView) → Contains es e → is_old compacted e ≡ false)
-    → ArePutBack compacted recovered es es
-none_old compacted recovered es rises none = record { rises = rises; exact = λ e. (λ has. (has, inl (none e has)), λ (has, goes). has) }

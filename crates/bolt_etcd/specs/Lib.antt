@@ -13,6 +13,7 @@ pub mod ForNames
 pub mod FullRepairs
 pub mod HeldNames
 pub mod Histories
+pub mod Keyed
 pub mod LostRevisions
 pub mod Marks
 pub mod Misplaced

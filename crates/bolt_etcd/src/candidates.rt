@@ -1,13 +1,13 @@
 //! Values on found pages that may go back.
 ghost use Rattle.std.specs.Prelude.{◌≡◌, ◌++◌, ◌∷◌, ◌↔◌, [], IfOk, IsTrue, OnOk, length, map, true};
-ghost use Rattle.std.specs.Option.{option_map};
+ghost use Rattle.std.specs.{Option.option_map, Ordering.is_lt};
 ghost use Rattle.std.specs.List.{Contains, Sorted.IsSorted};
 ghost use Rattle.bolt_format.specs.{ElementPlaces.leaf_view, Elements.IsBucketValue, ElementsLeft.leaves_left};
 ghost use Rattle.bolt_check.specs.{Counts.counted, Keys.key_cmp};
 ghost use Rattle.bolt_tree.specs.{Entries.entry_view, Order.Rises};
 ghost use Rattle.bolt_etcd.specs.Candidates.{AreCandidates, AreDisputed, HasKey, candidates_in, elements_of};
 ghost use Rattle.bolt_etcd.specs.Candidates.{candidate_at, is_same, under_revision_keys, whole_cmp};
-ghost use Rattle.bolt_etcd.specs.ShownRevisions.{entry_of};
+ghost use Rattle.bolt_etcd.specs.{Keyed.AreBelow, ShownRevisions.entry_of};
 
 use crate::revision::Revision;
 use crate::revision_key::RevisionKey;
@@ -144,26 +144,34 @@ pub(crate) fn has_key(keys: &[&[u8]], key: &[u8]) -> bool
     keys.binary_search_by(|other| (*other).cmp(key)).is_ok()
 }
 
-/// Whether a candidate with this key is among these, by rising key.
-pub(crate) fn has_candidate(candidates: &[Revision<'_>], key: &[u8]) -> bool
+/// Whether a candidate with this key is among these, by rising key. Looks on from the place where the
+/// last key was looked up, so keys that rise are looked up in one walk over the candidates.
+pub(crate) fn has_candidate(candidates: &[Revision<'_>], at: &mut usize, key: &[u8]) -> bool
     requires { Rises whole_cmp (map entry_of candidates.now) }
     ensures { (result ≡ true) ↔ HasKey (map entry_of candidates.now) key.now }
 {
-    is_within(candidates, key)
-        && candidates
-            .binary_search_by(|revision| revision.place().cmp(key))
-            .is_ok()
+    let mut i = start(candidates, *at, key);
+    while i < candidates.len() && is_below(&candidates[i], key) {
+        i += 1;
+    }
+    *at = i;
+    i < candidates.len() && candidates[i].place() == key
 }
 
-/// Whether a key is no less than that of the first candidate and no greater than that of the last. Mostly it
-/// isn't: what is lost lies together.
-fn is_within(candidates: &[Revision<'_>], key: &[u8]) -> bool
+/// A place before which all candidates have lesser keys: this one, if it is one.
+fn start(candidates: &[Revision<'_>], at: usize, key: &[u8]) -> usize
     requires { Rises whole_cmp (map entry_of candidates.now) }
-    ensures { HasKey (map entry_of candidates.now) key.now → result ≡ true }
+    ensures { AreBelow key.now candidates.now result }
 {
-    match (candidates.first(), candidates.last()) {
-        (Some(first), Some(last)) => key.cmp(first.place()).is_ge()
-            && key.cmp(last.place()).is_le(),
-        _ => false,
+    if 0 < at && at <= candidates.len() && is_below(&candidates[at - 1], key) {
+        at
+    } else {
+        0
     }
+}
+
+fn is_below(candidate: &Revision<'_>, key: &[u8]) -> bool
+    ensures { result ≡ is_lt (key_cmp (entry_of candidate.now).key key.now) }
+{
+    candidate.place().cmp(key).is_lt()
 }

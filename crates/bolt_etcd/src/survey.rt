@@ -43,6 +43,8 @@ pub(crate) struct Survey<'a> {
     pub compaction: Option<&'a [u8]>,
     /// The keys in the bucket `key` that candidates have too, by rising key.
     pub met: Vec<&'a [u8]>,
+    /// Where the last key was looked up among the candidates.
+    at: usize,
 }
 
 impl<'a> Survey<'a> {
@@ -63,6 +65,7 @@ impl<'a> Survey<'a> {
             store: None,
             compaction: None,
             met: Vec::new(alloc),
+            at: 0,
         };
         let mut kept = Kept::of(alloc, both)?;
         'members: while let Some(item) = kept.next()? {
@@ -85,7 +88,7 @@ impl<'a> Survey<'a> {
         match place_of(path) {
             Place::Store => self.store = Some(item),
             Place::InStore(key) => {
-                if has_candidate(candidates, key) {
+                if has_candidate(candidates, &mut self.at, key) {
                     add_key(&mut self.met, key)?;
                 }
             }
