@@ -4,8 +4,8 @@
 #     memory.sh PROGRAM CALLS
 #
 # It does so under every command on a file of 60 nested buckets and on real ones; on 20,000 nested buckets under the
-# commands that make few requests (`check` fewer than a hundred: the 200th of the process, which makes more than a
-# hundred before it reads FILE, isn't reached); of the many that a copy of these makes, each 1500th; and under the
+# commands that make few requests (`check` fewer than a hundred: the 300th of the process, which makes about two hundred
+# before it reads FILE, isn't reached); of the many that a copy of these makes, each 1500th; and under the
 # commands that recover a damaged file. Then it refuses each request of a walk, which is called again and goes on, and
 # of calls that need no memory. make has made the files in out.
 set -eux
@@ -29,7 +29,7 @@ with_lines etcd.txt -- sweep 1 examples/etcd.db "etcd-keys --form json --values"
 sweep 1 examples/app.list "load -o OUT" "load -o OUT --for-bbolt" "load -o OUT --etcd-snapshot"
 sweep 1 examples/leaked.db check "list --meta 1" "compact -o OUT --meta 1"
 sweep 1 $deep info check buckets stats
-REFUSED_CALL=memory REFUSED_NUMBER=200 LD_PRELOAD=out/refuse.so "$program" check $deep | grep -qx OK
+REFUSED_CALL=memory REFUSED_NUMBER=300 LD_PRELOAD=out/refuse.so "$program" check $deep | grep -qx OK
 sweep 1500 $deep "compact -o OUT"
 with_lines recoveries.txt -- sweep 1 $damaged "check --all" "check --lost-and-found"
 with_lines recoveries.txt -- sweep 1 $nested "check --all" "check --all --etcd-snapshot" "list b b --recover"
