@@ -11,7 +11,7 @@ use Rattle.bolt_check.specs.Keys.{Key, key_cmp}
 use Rattle.bolt_tree.proofs.{Filters.kept, Lists.contains_cases, Lists.contains_head, Lists.contains_none, Lists.contains_tail, Lists.irreflexive, PathOrder.key_exact}
 use Rattle.bolt_tree.specs.{Entries.EntryView, InBuckets.view_cmp, Order.Rises}
 use Rattle.bolt_etcd.specs.Agreed.{AreAgreed, AreUnmetKeys, IsUnmet, among, without}
-use Rattle.bolt_etcd.specs.Candidates.{AreDisputed, AreKeys, value_bytes, whole_cmp}
+use Rattle.bolt_etcd.specs.Candidates.{AreDisputed, value_bytes, whole_cmp}
 use Rattle.bolt_etcd.proofs.{Filtered.filter_rises, Filtered.kept_from, Rising.rises_as, Rising.rising_cases, WholeOrder.whole_total}
 
 -- ---- whether a key is among these, as a test
@@ -100,11 +100,11 @@ module _ (candidates : List EntryView) (met : List Key) (rises : Rises whole_cmp
       );
     }
 
-  pub are_unmet_keys : (keys : List Key) → AreKeys unmet keys → AreUnmetKeys candidates met keys
-  are_unmet_keys keys are = record {
-    rises = are.rises;
-    exact = λ key. (
-      λ has. let (e, there, at) = (are.exact key).0 has in (e, (unmet_is e).0 there, at),
-      λ (e, is, at). (are.exact key).1 (e, (unmet_is e).1 is, at),
-    );
-  }
+    pub are_unmet_keys : AreUnmetKeys candidates met are.keys
+    are_unmet_keys = record {
+      rises = are.are_keys.rises;
+      exact = λ key. (
+        λ has. let (e, there, at) = (are.are_keys.exact key).0 has in (e, (unmet_is e).0 there, at),
+        λ (e, is, at). (are.are_keys.exact key).1 (e, (unmet_is e).1 is, at),
+      );
+    }

@@ -1,7 +1,7 @@
 -- Of entries by key and value, the keys that two have or more, and the keys of all.
-use Rattle.std.proofs.Common.{◌≡◌, ◌↔◌, ◌∙◌, ◌<◌, ◌≤◌, ◌+◌, ◌-◌, ◌⊎◌, inl, inr, ℕ, suc, Bool, Bor, true, false, List, [], ◌∷◌, ◌++◌, cond, drop, length, map, refl, sym, ap, subst, slice_index_or, arith}
+use Rattle.std.proofs.Common.{◌≡◌, ◌∙◌, ◌<◌, ◌≤◌, ◌+◌, ◌-◌, ◌⊎◌, inl, inr, ℕ, zero, suc, Bool, Bor, true, false, List, [], ◌∷◌, ◌++◌, cond, drop, length, map, refl, sym, ap, subst, slice_index_or, arith}
 use Rattle.std.proofs.lemmas.Bool.{cond-false, cond-true}
-use Rattle.std.proofs.lemmas.List.{drop_more, get_or-map, length-drop, length-map, map-append}
+use Rattle.std.proofs.lemmas.List.{append-nil, append_assoc, drop_more, get_or-map, length-drop, length-map, map-append}
 use Rattle.std.proofs.lemmas.Cmp.{nat_list_eq_equiv}
 use Rattle.std.proofs.lemmas.List.Kept.{Contains-dedup, Contains-from_dedup, IsStrictlySortedBy-dedup}
 use Rattle.std.proofs.lemmas.Map.Text.{is_eq-slice_cmp}
@@ -13,10 +13,11 @@ use Rattle.std.specs.declared.cmp.Ordering.{Ordering}
 use Rattle.std.specs.declared.cmp.Ordering.TheVariants.{Equal, Greater, Less}
 use Rattle.bolt_check.specs.Keys.{Key, key_cmp}
 use Rattle.bolt_tree.proofs.{Lists.contains_cases, Lists.contains_head, Lists.contains_none, Lists.contains_tail, Lists.irreflexive, PathOrder.key_exact, PathOrder.key_same, PathOrder.key_total}
-use Rattle.bolt_tree.specs.{Entries.EntryView, Order.Rises, ShownEntries.shown_entry}
-use Rattle.bolt_tree.specs.declared.entry.Entry.{Entry}
-use Rattle.bolt_etcd.specs.Candidates.{AreDisputed, AreKeys, HaveKeys, IsDisputed, is_last, whole_cmp}
-use Rattle.bolt_etcd.proofs.{EachOnce.each_once, EachOnce.once, MappedLists.Climbs, MappedLists.climbs_sorted, MappedLists.shows_from, MappedLists.shows_has, SortedOnce.rises_from, WholeOrder.whole_total}
+use Rattle.bolt_tree.specs.{Entries.EntryView, Order.Rises}
+use Rattle.bolt_etcd.specs.ShownRevisions.{entry_of}
+use Rattle.bolt_etcd.specs.declared.revision.Revision.{Revision}
+use Rattle.bolt_etcd.specs.Candidates.{AreDisputed, AreKeys, IsDisputed, whole_cmp}
+use Rattle.bolt_etcd.proofs.{MappedLists.Climbs, MappedLists.climbs_sorted, MappedLists.shows_from, MappedLists.shows_has, SortedOnce.rises_from, WholeOrder.whole_total}
 
 -- ---- by key, entries climb
 
@@ -45,7 +46,7 @@ keys_climb (e ∷ es) rises = (
   keys_climb es rises.1,
 )
 
-neither : (o : Ordering) → is_lt o ≡ false → is_lt (ordering_reverse o) ≡ false → o ≡ Equal
+pub neither : (o : Ordering) → is_lt o ≡ false → is_lt (ordering_reverse o) ≡ false → o ≡ Equal
 neither Less e f = cc
 neither Equal e f = refl
 neither Greater e f = cc
@@ -161,45 +162,35 @@ count_from : (a : EntryView) (es : List EntryView) → length (dedup_from bytes_
 count_from a [] = refl
 count_from a (b ∷ es) = count_step a b es (bytes_eq b.key a.key) refl (count_from b es)
 
-few : (es : List EntryView) → length (repeated es) ≤ length es
-few [] = omega arith
-few (e ∷ es) = let all = count_from e es in omega (arith, all)
-
--- ---- each once
-
-once_rises : (keys : List Key) → Climbs key_below keys → Rises key_cmp (dedup bytes_eq keys)
-once_rises keys climb = rises_from key_total _ (IsStrictlySortedBy-dedup key_total (λ a b. sym (is_eq-slice_cmp a b)) keys (climbs_sorted key_below keys climb))
-
-once_has : (keys : List Key) (key : Key) → Contains (dedup bytes_eq keys) key ↔ Contains keys key
-once_has keys key = (Contains-from_dedup bytes_eq keys key, Contains-dedup nat_list_eq_equiv (λ a b same. same_text a b (sym same)) keys key)
+-- ---- together
 
 abbrev keys_in : List EntryView → List Key
 keys_in es = map (λ (e : EntryView). e.key) es
 
 are_keys : (es : List EntryView) → Rises whole_cmp es → AreKeys es (dedup bytes_eq (keys_in es))
 are_keys es rises = record {
-  rises = once_rises (keys_in es) (keys_climb es rises);
+  rises = rises_from key_total _ (IsStrictlySortedBy-dedup key_total (λ a b. sym (is_eq-slice_cmp a b)) (keys_in es) (climbs_sorted key_below _ (keys_climb es rises)));
   exact = λ key. (
-    λ has. shows_from (λ (e : EntryView). e.key) es key ((once_has (keys_in es) key).0 has),
-    λ (e, has, is). (once_has (keys_in es) key).1 (subst (Contains (keys_in es)) is (shows_has (λ (e : EntryView). e.key) es e has)),
+    λ has. shows_from (λ (e : EntryView). e.key) es key (Contains-from_dedup bytes_eq (keys_in es) key has),
+    λ (e, has, is). Contains-dedup nat_list_eq_equiv (λ a b same. same_text a b (sym same)) (keys_in es) key
+        (subst (Contains (keys_in es)) is (shows_has (λ (e : EntryView). e.key) es e has)),
   );
 }
 
-pub have_keys : (es : List EntryView) (number : ℕ) → Rises whole_cmp es → number + length (repeated es) ≡ length es → HaveKeys es number
-have_keys [] number rises all = ([], are_keys [] tt, omega (arith, all))
-have_keys (e ∷ es) number rises all = (dedup bytes_eq (keys_in (e ∷ es)), are_keys (e ∷ es) rises, omega (arith, all, count_from e es))
-
-pub are_disputed : (es : List EntryView) → Rises whole_cmp es → AreDisputed es (dedup bytes_eq (repeated es))
+pub are_disputed : (es : List EntryView) → Rises whole_cmp es → AreDisputed es (repeated es)
 are_disputed [] rises = record {
-  rises = tt;
+  sorted = climbs_sorted key_below [] tt;
   exact = λ key. (λ has. absurd (contains_none key has), λ disputed. absurd (none_of_none key disputed));
+  keys = [];
+  are_keys = are_keys [] tt;
+  number = refl;
 }
 are_disputed (e ∷ es) rises = record {
-  rises = once_rises _ (repeated_climb e es rises);
-  exact = λ key. (
-    λ has. from_repeated e es key rises ((once_has (repeated (e ∷ es)) key).0 has),
-    λ disputed. (once_has (repeated (e ∷ es)) key).1 (to_repeated e es key rises disputed),
-  );
+  sorted = climbs_sorted key_below _ (repeated_climb e es rises);
+  exact = λ key. (from_repeated e es key rises, to_repeated e es key rises);
+  keys = dedup bytes_eq (keys_in (e ∷ es));
+  are_keys = are_keys (e ∷ es) rises;
+  number = count_from e es;
 }
 
 -- ---- of the code
@@ -215,86 +206,51 @@ repeated_next es j d e below =
     ∙ ap (repeated_from here) second
     ∙ ap (λ (keys : List Key). cond (bytes_eq next.key here.key) (next.key ∷ keys) keys) (sym (ap repeated second))
 
-module _ (es : List Entry) where
+-- what stands at a place
+pub same_at : {X : Type 0} (xs : List X) (i : ℕ) (x y : X) → i < length xs → x ≡ slice_index_or xs i x → y ≡ slice_index_or xs i y → x ≡ y
+same_at [] i x y below is also = absurd (omega arith)
+same_at (z ∷ xs) zero x y below is also = is ∙ sym also
+same_at (z ∷ xs) (suc i) x y below is also = same_at xs i x y (omega arith) is also
+
+module _ (es : List Revision) where
   abbrev left_from : ℕ → List Key
-  left_from j = repeated (drop j (map shown_entry es))
+  left_from j = repeated (drop j (map entry_of es))
 
   -- those from one entry on, by the next one's key
-  next_left : (i j : ℕ) (x y : Entry) → j + 1 ≡ i → i < length es
+  next_left : (i j : ℕ) (x y : Revision) → j + 1 ≡ i → i < length es
       → left_from j ≡ cond (bytes_eq (slice_index_or es i x).key.now (slice_index_or es j y).key.now) ((slice_index_or es i x).key.now ∷ left_from i) (left_from i)
   next_left i j x y next below =
-      let long = length-map es shown_entry in
-      let all = map shown_entry es in
-      let step = repeated_next all j (shown_entry x) (shown_entry y) (omega (arith, long)) in
-      let key = ap (λ (v : EntryView). v.key) (get_or-map shown_entry es i x (shown_entry x) below) in
-      let before = ap (λ (v : EntryView). v.key) (get_or-map shown_entry es j y (shown_entry y) (omega arith)) in
+      let long = length-map es entry_of in
+      let all = map entry_of es in
+      let step = repeated_next all j (entry_of x) (entry_of y) (omega (arith, long)) in
+      let key = ap (λ (v : EntryView). v.key) (get_or-map entry_of es i x (entry_of x) below) in
+      let before = ap (λ (v : EntryView). v.key) (get_or-map entry_of es j y (entry_of y) (omega arith)) in
       rw (← key, ← before, ← next) step
 
-  abbrev now : Bor Key → Key
-  now key = key.now
+  pub repeats : (keys more : List (Bor Key)) (key : Bor Key) (i : ℕ) (x y : Revision) → 1 ≤ i → i < length es → more ≡ keys ++ key ∷ [] → key.now ≡ (slice_index_or es i x).key.now
+      → bytes_eq (slice_index_or es i x).key.now (slice_index_or es (i - 1) y).key.now ≡ true → (all : List Key) → map (λ (key : Bor Key). key.now) keys ++ left_from (i - 1) ≡ all
+      → map (λ (key : Bor Key). key.now) more ++ left_from (i + 1 - 1) ≡ all
+  repeats keys more key i x y low below added is same all held =
+      let step = next_left i (i - 1) x y (omega arith) below ∙ cond-true _ _ _ same in
+      let back : i + 1 - 1 ≡ i = omega arith in
+      rw (back, added, map-append, append_assoc, is) (ap (λ (left : List Key). map (λ (key : Bor Key). key.now) keys ++ left) (sym step) ∙ held)
 
-  module _ (keys more : List (Bor Key)) (i : ℕ) (x y : Entry) (low : 1 ≤ i) (below : i < length es) (all : List Key) (held : once (map now keys) (left_from (i - 1)) ≡ all) where
-    abbrev here : Key
-    here = (slice_index_or es i x).key.now
-
-    abbrev before : Key
-    before = (slice_index_or es (i - 1) y).key.now
-
-    step : (c : Bool) → bytes_eq here before ≡ c → left_from (i - 1) ≡ cond c (here ∷ left_from i) (left_from i)
-    step c is = next_left i (i - 1) x y (omega arith) below ∙ ap (λ (b : Bool). cond b (here ∷ left_from i) (left_from i)) is
-
-    repeated_one : bytes_eq here before ≡ true → cond (is_last (map now keys) here) (once (map now keys) (left_from i)) (once (map now keys ++ here ∷ []) (left_from i)) ≡ all
-    repeated_one same = ap (once (map now keys)) (sym (step true same)) ∙ held
-
-    pub repeats : more ≡ keys ++ (slice_index_or es i x).key ∷ [] → bytes_eq here before ≡ true → is_last (map now keys) here ≡ false → once (map now more) (left_from (i + 1 - 1)) ≡ all
-    repeats added same new =
-        let back : i + 1 - 1 ≡ i = omega arith in
-        rw (back, added, map-append) (sym (cond-false _ _ _ new) ∙ repeated_one same)
-
-    pub repeats_again : more ≡ keys → bytes_eq here before ≡ true → is_last (map now keys) here ≡ true → once (map now more) (left_from (i + 1 - 1)) ≡ all
-    repeats_again kept same there =
-        let back : i + 1 - 1 ≡ i = omega arith in
-        rw (back, kept) (sym (cond-true _ _ _ there) ∙ repeated_one same)
-
-    pub repeats_none : more ≡ keys → bytes_eq here before ≡ false → once (map now more) (left_from (i + 1 - 1)) ≡ all
-    repeats_none kept other =
-        let back : i + 1 - 1 ≡ i = omega arith in
-        rw (back, kept) (ap (once (map now keys)) (sym (step false other)) ∙ held)
+  pub repeats_none : (keys more : List (Bor Key)) (i : ℕ) (x y : Revision) → 1 ≤ i → i < length es → more ≡ keys
+      → bytes_eq (slice_index_or es i x).key.now (slice_index_or es (i - 1) y).key.now ≡ false → (all : List Key) → map (λ (key : Bor Key). key.now) keys ++ left_from (i - 1) ≡ all
+      → map (λ (key : Bor Key). key.now) more ++ left_from (i + 1 - 1) ≡ all
+  repeats_none keys more i x y low below same other all held =
+      let step = next_left i (i - 1) x y (omega arith) below ∙ cond-false _ _ _ other in
+      let back : i + 1 - 1 ≡ i = omega arith in
+      rw (back, same) (ap (λ (left : List Key). map (λ (key : Bor Key). key.now) keys ++ left) (sym step) ∙ held)
 
   short : (vs : List EntryView) → length vs ≤ 1 → repeated vs ≡ []
   short [] few = refl
   short (v ∷ []) few = refl
   short (v ∷ w ∷ vs) few = absurd (omega arith)
 
-  none_left : (i : ℕ) → length es ≤ i → left_from (i - 1) ≡ []
-  none_left i past =
-      let long = length-map es shown_entry in
-      short (drop (i - 1) (map shown_entry es)) (omega (arith, long, length-drop (i - 1) (map shown_entry es)))
-
-  pub all_repeated : (keys : List (Bor Key)) (i : ℕ) → length es ≤ i → once (map now keys) (left_from (i - 1)) ≡ once [] (left_from 0) → map now keys ≡ dedup bytes_eq (left_from 0)
-  all_repeated keys i past held = sym (ap (once (map now keys)) (none_left i past)) ∙ held ∙ each_once (left_from 0)
-
-  -- their number
-
-  pub counts : (number i : ℕ) (x y : Entry) (all : ℕ) → 1 ≤ i → i < length es → bytes_eq (slice_index_or es i x).key.now (slice_index_or es (i - 1) y).key.now ≡ true
-      → number + length (left_from (i - 1)) ≡ all → number + 1 + length (left_from (i + 1 - 1)) ≡ all
-  counts number i x y all low below same held =
-      let back : i + 1 - 1 ≡ i = omega arith in
-      let more = ap length (next_left i (i - 1) x y (omega arith) below ∙ cond-true _ _ _ same) in
-      rw back (omega (arith, more, held))
-
-  pub counts_none : (number i : ℕ) (x y : Entry) (all : ℕ) → 1 ≤ i → i < length es → bytes_eq (slice_index_or es i x).key.now (slice_index_or es (i - 1) y).key.now ≡ false
-      → number + length (left_from (i - 1)) ≡ all → number + length (left_from (i + 1 - 1)) ≡ all
-  counts_none number i x y all low below other held =
-      let back : i + 1 - 1 ≡ i = omega arith in
-      let same = ap length (next_left i (i - 1) x y (omega arith) below ∙ cond-false _ _ _ other) in
-      rw back (omega (arith, same, held))
-
-  pub at_most : length (left_from 0) ≤ length es
-  at_most = let long = length-map es shown_entry in omega (arith, long, few (map shown_entry es))
-
-  pub counted_keys : (number i : ℕ) → Rises whole_cmp (map shown_entry es) → length es ≤ i → number + length (left_from (i - 1)) ≡ length (left_from 0) → HaveKeys (map shown_entry es) (length es - number)
-  counted_keys number i rises past held =
-      let long = length-map es shown_entry in
-      let none = ap length (none_left i past) in
-      have_keys (map shown_entry es) (length es - number) rises (omega (arith, long, none, held, at_most))
+  pub all_repeated : (keys : List (Bor Key)) (i : ℕ) → length es ≤ i → (all : List Key) → map (λ (key : Bor Key). key.now) keys ++ left_from (i - 1) ≡ all
+      → map (λ (key : Bor Key). key.now) keys ≡ all
+  all_repeated keys i past all held =
+      let long = length-map es entry_of in
+      let none = short (drop (i - 1) (map entry_of es)) (omega (arith, long, length-drop (i - 1) (map entry_of es))) in
+      sym (append-nil _) ∙ ap (λ (left : List Key). map (λ (key : Bor Key). key.now) keys ++ left) (sym none) ∙ held

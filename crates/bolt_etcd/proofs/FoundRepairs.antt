@@ -7,10 +7,12 @@ use Rattle.std.specs.{Borrow.Bor, List.All, List.Sorted.IsSorted, Option.option_
 use Rattle.bolt_format.specs.{Elements.LeafElement, Pages.page_at, TreePages.leaves_on, declared.meta.Meta.Meta}
 use Rattle.bolt_check.specs.{Keys.Key, Keys.key_cmp, declared.finding.Finding.Finding}
 use Rattle.bolt_tree.proofs.PathOrder.{flip_less, key_total}
-use Rattle.bolt_tree.specs.{Entries.EntryView, Entries.Item, Listing.Member, Order.Rises, ShownEntries.item_view, ShownEntries.shown_entry, declared.entry.Entry.Entry}
+use Rattle.bolt_tree.specs.{Entries.EntryView, Entries.Item, Listing.Member, Order.Rises, ShownEntries.item_view}
 use Rattle.bolt_recover.proofs.Existing.{has_recovered}
 use Rattle.bolt_recover.specs.{Losses.everything, Lost.IsAllLost, LostAndFound.all_lost}
 use Rattle.bolt_recover.specs.{Found.AreFound, Found.numbers_of, Recovered.ForRecovered, Recovered.IsRecovered, Refusals.LosesRoot, ShownFound.IsFoundView, Sites.leaves_of, declared.found.Found.Found, declared.lost_and_found.LostAndFound.LostAndFound}
+use Rattle.bolt_etcd.specs.declared.revision.Revision.{Revision}
+use Rattle.bolt_etcd.specs.ShownRevisions.{entry_of}
 use Rattle.bolt_etcd.specs.{Agreed.AreAgreed, Agreed.AreUnmetKeys, Candidates.AreCandidates, Candidates.elements_of, Compacted.compacted_by, FullRepairs.IsFullRepair}
 use Rattle.bolt_etcd.specs.{Repaired.IsRepair, Repaired.MakesStore, Repaired.elements_on, Repaired.lacks_bucket, Superseded.ArePutBack, Surveys.IsSurvey, Surveys.IsSurveyOf, declared.survey.Survey.Survey}
 use Rattle.bolt_etcd.proofs.MappedLists.{Climbs, climbs_sorted}
@@ -72,60 +74,62 @@ pub loses_root : (both : LostAndFound) (x : Finding) → all_lost both ≡ every
 unfolding all_lost
 loses_root both x is = ∥∥₁_map both.searched (λ searched. subst (IsAllLost both.file.now both.meta) is searched.lost)
 
-nil_mapped : (es : List Entry) → (length es == 0) ≡ is_nil (map shown_entry es)
+nil_mapped : (es : List Revision) → (length es == 0) ≡ is_nil (map entry_of es)
 nil_mapped [] = refl
 nil_mapped (e ∷ es) = ne_eqb (length (e ∷ es)) 0 (λ same. omega (arith, same))
 
-pub none_left : (es : List Entry) (empty : Bool) (len : ℕ) → empty ≡ (len == 0) → len ≡ length es → empty ≡ true → map shown_entry es ≡ []
+pub none_left : (es : List Revision) (empty : Bool) (len : ℕ) → empty ≡ (len == 0) → len ≡ length es → empty ≡ true → map entry_of es ≡ []
 none_left [] empty len is long is_true = refl
 none_left (e ∷ es) empty len is long is_true = absurd (let none = eqb-true len 0 (sym is ∙ is_true) in omega (arith, none, long))
 
 -- the bucket is made, or it isn't, since it is there
-module _ (es : List Entry) (made lacks : Bool) where
-  pub made_if : (empty : Bool) (len : ℕ) → made ≡ not empty → empty ≡ (len == 0) → len ≡ length es → lacks ≡ true → made ≡ (lacks && not (is_nil (map shown_entry es)))
+module _ (es : List Revision) (made lacks : Bool) where
+  pub made_if : (empty : Bool) (len : ℕ) → made ≡ not empty → empty ≡ (len == 0) → len ≡ length es → lacks ≡ true → made ≡ (lacks && not (is_nil (map entry_of es)))
   made_if empty len is so long is_true =
-      is ∙ ap not (so ∙ ap (λ (n : ℕ). n == 0) long ∙ nil_mapped es) ∙ sym (ap (λ (b : Bool). b && not (is_nil (map shown_entry es))) is_true)
+      is ∙ ap not (so ∙ ap (λ (n : ℕ). n == 0) long ∙ nil_mapped es) ∙ sym (ap (λ (b : Bool). b && not (is_nil (map entry_of es))) is_true)
 
-  pub not_made : made ≡ lacks → lacks ≡ false → made ≡ (lacks && not (is_nil (map shown_entry es)))
-  not_made is is_false = is ∙ is_false ∙ sym (ap (λ (b : Bool). b && not (is_nil (map shown_entry es))) is_false)
+  pub not_made : made ≡ lacks → lacks ≡ false → made ≡ (lacks && not (is_nil (map entry_of es)))
+  not_made is is_false = is ∙ is_false ∙ sym (ap (λ (b : Bool). b && not (is_nil (map entry_of es))) is_false)
 
 abbrev now : Bor Key → Key
 now key = key.now
 
-module _ (both : LostAndFound) (pages : List Found) (on : pages ≡ both.found.items) (all listed left back : List Entry) (same : listed ≡ all) (survey : Survey)
-    (compacted : ℕ) (at : compacted ≡ compacted_by (option_map now survey.compaction)) (candidates : AreCandidates (elements_of pages) (map shown_entry all))
-    (surveys : ForRecovered both.file.now both.meta (λ recovered. IsSurveyOf recovered (map shown_entry listed) survey))
-    (agree : AreAgreed (map shown_entry all) (map now survey.met.items) (map shown_entry left))
-    (put : ForRecovered both.file.now both.meta (λ recovered. ArePutBack compacted recovered (map shown_entry left) (map shown_entry back))) where
+module _ (both : LostAndFound) (pages : List Found) (on : pages ≡ both.found.items) (all listed left back : List Revision) (same : listed ≡ all) (survey : Survey) (met : List (Bor Key))
+    (are_met : met ≡ survey.met.items) (compacted : ℕ) (at : compacted ≡ compacted_by (option_map now survey.compaction)) (candidates : AreCandidates (elements_of pages) (map entry_of all))
+    (surveys : ForRecovered both.file.now both.meta (λ recovered. IsSurveyOf recovered (map entry_of listed) survey))
+    (agree : AreAgreed (map entry_of all) (map now met) (map entry_of left))
+    (put : ForRecovered both.file.now both.meta (λ recovered. ArePutBack compacted recovered (map entry_of left) (map entry_of back))) where
   abbrev recovered : List Member
   recovered = (has_recovered both.file.now both.meta).0
 
   is_recovered : IsRecovered both.file.now both.meta recovered
   is_recovered = (has_recovered both.file.now both.meta).1
 
-  on_all : AreCandidates (elements_of both.found.items) (map shown_entry all)
-  on_all = subst (λ (ps : List Found). AreCandidates (elements_of ps) (map shown_entry all)) on candidates
+  on_all : AreCandidates (elements_of both.found.items) (map entry_of all)
+  on_all = subst (λ (ps : List Found). AreCandidates (elements_of ps) (map entry_of all)) on candidates
 
-  surveyed : IsSurvey recovered (map shown_entry all) (option_map item_view survey.store) (option_map now survey.compaction) (map now survey.met.items)
-  surveyed = subst (λ (es : List Entry). IsSurveyOf recovered (map shown_entry es) survey) same (surveys recovered is_recovered)
+  surveyed : IsSurvey recovered (map entry_of all) (option_map item_view survey.store) (option_map now survey.compaction) (map now met)
+  surveyed =
+      let by_all = subst (λ (es : List Revision). IsSurveyOf recovered (map entry_of es) survey) same (surveys recovered is_recovered) in
+      subst (λ (ks : List (Bor Key)). IsSurvey recovered (map entry_of all) (option_map item_view survey.store) (option_map now survey.compaction) (map now ks)) (sym are_met) by_all
 
-  put_back : ArePutBack (compacted_by (option_map now survey.compaction)) recovered (map shown_entry left) (map shown_entry back)
-  put_back = subst (λ (n : ℕ). ArePutBack n recovered (map shown_entry left) (map shown_entry back)) at (put recovered is_recovered)
+  put_back : ArePutBack (compacted_by (option_map now survey.compaction)) recovered (map entry_of left) (map entry_of back)
+  put_back = subst (λ (n : ℕ). ArePutBack n recovered (map entry_of left) (map entry_of back)) at (put recovered is_recovered)
 
-  pub searched_least : (keys : List Key) → AreUnmetKeys (map shown_entry all) (map now survey.met.items) keys → length back ≤ length keys
+  pub searched_least : (keys : List Key) → AreUnmetKeys (map entry_of all) (map now met) keys → length back ≤ length keys
   searched_least keys are = ∥∥₁_elim both.searched (hlevel props) (λ searched.
-      let long = length-map back shown_entry in
-      let few = back_least both.file.now both.meta both.found.items searched.are_found searched.views (map shown_entry all) (map shown_entry left) (map shown_entry back) (map now survey.met.items) _ _ on_all agree recovered is_recovered surveyed put_back keys are in
+      let long = length-map back entry_of in
+      let few = back_least both.file.now both.meta both.found.items searched.are_found searched.views (map entry_of all) (map entry_of left) (map entry_of back) (map now met) _ _ on_all agree recovered is_recovered surveyed put_back keys are in
       omega (arith, long, few))
 
-  module _ (lacks : Bool) (is_lacking : lacks_bucket (option_map item_view survey.store) ≡ Some lacks) (is_made : Bool) (made : is_made ≡ (lacks && not (is_nil (map shown_entry back)))) where
-    pub searched_repair : ∥ IsRepair both.file.now both.meta (map shown_entry back) is_made ∥₁
+  module _ (lacks : Bool) (is_lacking : lacks_bucket (option_map item_view survey.store) ≡ Some lacks) (is_made : Bool) (made : is_made ≡ (lacks && not (is_nil (map entry_of back)))) where
+    pub searched_repair : ∥ IsRepair both.file.now both.meta (map entry_of back) is_made ∥₁
     searched_repair = ∥∥₁_map both.searched (λ searched.
-        repair both.file.now both.meta both.found.items searched.are_found searched.views (map shown_entry all) (map shown_entry left) (map shown_entry back) (map now survey.met.items) _ _ on_all agree recovered is_recovered surveyed put_back
+        repair both.file.now both.meta both.found.items searched.are_found searched.views (map entry_of all) (map entry_of left) (map entry_of back) (map now met) _ _ on_all agree recovered is_recovered surveyed put_back
         lacks is_lacking is_made made)
 
-    pub searched_full : (keys : List Key) → AreUnmetKeys (map shown_entry all) (map now survey.met.items) keys → (left_out : ℕ) → left_out ≡ length keys - length back
-        → ∥ IsFullRepair both.file.now both.meta (map shown_entry back) is_made left_out ∥₁
+    pub searched_full : (keys : List Key) → AreUnmetKeys (map entry_of all) (map now met) keys → (left_out : ℕ) → left_out ≡ length keys - length back
+        → ∥ IsFullRepair both.file.now both.meta (map entry_of back) is_made left_out ∥₁
     searched_full keys are left_out number = ∥∥₁_map both.searched (λ searched.
-        full_repair both.file.now both.meta both.found.items searched.are_found searched.views (map shown_entry all) (map shown_entry left) (map shown_entry back) (map now survey.met.items) _ _ on_all agree recovered is_recovered surveyed put_back
-        lacks is_lacking is_made made keys are left_out (let long = length-map back shown_entry in omega (arith, long, number)))
+        full_repair both.file.now both.meta both.found.items searched.are_found searched.views (map entry_of all) (map entry_of left) (map entry_of back) (map now met) _ _ on_all agree recovered is_recovered surveyed put_back
+        lacks is_lacking is_made made keys are left_out (let long = length-map back entry_of in omega (arith, long, number)))

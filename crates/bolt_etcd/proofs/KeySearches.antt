@@ -1,5 +1,5 @@
 -- What a binary search by keys finds.
-use Rattle.std.proofs.Common.{◌≡◌, ◌↔◌, ◌∙◌, ◌<◌, ◌≤◌, ◌⊎◌, inl, inr, ℕ, Bool, true, false, List, [], ◌∷◌, length, map, Result, Ok, Err, sym, ap, slice_index_or, subst, arith}
+use Rattle.std.proofs.Common.{◌≡◌, ◌↔◌, ◌∙◌, ◌<◌, ◌≤◌, ◌⊎◌, inl, inr, ℕ, Bool, true, false, List, [], ◌∷◌, length, map, Result, Ok, Err, sym, ap, slice_index_or, arith}
 use Rattle.std.proofs.lemmas.List.{get_or-map, length-map}
 use Rattle.std.proofs.lemmas.List.Elements.{Contains-from_at}
 use Rattle.std.specs.List.{Contains, HoldsAt}
@@ -10,10 +10,7 @@ use Rattle.std.specs.declared.cmp.Ordering.TheVariants.{Equal, Greater, Less}
 use Rattle.std.proofs.lemmas.List.Sorted.{searchable_from_sorted}
 use Rattle.bolt_check.specs.Keys.{Key, key_cmp}
 use Rattle.bolt_tree.proofs.PathOrder.{key_exact, key_same, key_total}
-use Rattle.bolt_tree.specs.{Entries.EntryView, ShownEntries.shown_entry}
-use Rattle.bolt_tree.specs.declared.entry.Entry.{Entry}
-use Rattle.bolt_etcd.specs.Candidates.{HasKey}
-use Rattle.bolt_etcd.proofs.MappedLists.{shows_from, shows_has}
+use Rattle.bolt_etcd.proofs.MappedLists.{shows_from}
 
 two_ways : (i k : ℕ) → (k < i) ⊎ (i ≤ k)
 two_ways i k = grind arith
@@ -39,14 +36,3 @@ module _ {X : Type 0} (f : X → Key) (key : Key) where
   found_key xs (Ok i) b up within found is = (λ _. found_here xs i within found, λ _. is)
   found_key xs (Err i) b up within found is =
       (λ e. absurd (let wrong : true ≡ false = sym e ∙ is in cc), λ has. absurd (not_found xs i (found (searchable_from_sorted key_total f xs key up)) has))
-
-module _ (key : Key) where
-  -- of entries
-  pub found_entry : (xs : List Entry) (r : Result ℕ ℕ) (b : Bool) → IsSortedBy (λ a c. is_lt (key_cmp (shown_entry a).key (shown_entry c).key)) xs → IsSearchInRange r (length xs)
-      → IsBinarySearchResult (λ (x : Entry). key_cmp x.key.now key) xs r → b ≡ is_ok r → (b ≡ true) ↔ HasKey (map shown_entry xs) key
-  found_entry xs r b up within found is =
-      let (there, has) = found_key (λ (x : Entry). x.key.now) key xs r b up within found is in (
-        λ e. (let (x, inside, same) = shows_from (λ (x : Entry). x.key.now) xs key (there e) in (shown_entry x, shows_has shown_entry xs x inside, same)),
-        λ (e, inside, same). (let (x, is_there, shows) = shows_from shown_entry xs e inside in
-            has (subst (Contains (map (λ (y : Entry). y.key.now) xs)) (ap (λ (v : EntryView). v.key) shows ∙ same) (shows_has (λ (y : Entry). y.key.now) xs x is_there))),
-      )

@@ -4,7 +4,6 @@ pub mod CandidateLemmas
 pub mod CompactionsAdded
 pub mod Currents
 pub mod Disputed
-pub mod EachOnce
 pub mod EtcdCompacts
 pub mod FaultsOfNames
 pub mod Fields
@@ -16,11 +15,12 @@ pub mod HistorySteps
 pub mod HistoryUntil
 pub mod KeptOfNames
 pub mod KeptRevisions
-pub mod KeyBounds
 pub mod KeyNumbers
 pub mod KeySearches
+pub mod KeyWalks
 pub mod Keys
 pub mod LastOfAll
+pub mod LaterOnes
 pub mod LastOnes
 pub mod Leases
 pub mod ListedTexts
@@ -32,6 +32,7 @@ pub mod NewestEntries
 pub mod NewestOfNames
 pub mod NothingFound
 pub mod OldOfName
+pub mod OldOnes
 pub mod OneRepair
 pub mod OtherCounts
 pub mod OtherSteps
@@ -48,10 +49,12 @@ pub mod RevisionsExact
 pub mod Rising
 pub mod SnapshotLemmas
 pub mod SortedExists
+pub mod SortedFirst
 pub mod SortedOnce
 pub mod StatesKept
 pub mod StoreExists
 pub mod StoreLemmas
+pub mod StoredRevisions
 pub mod SupersededKeys
 pub mod Surveyed
 pub mod TakenAway
@@ -60,6 +63,7 @@ mod TrailingAccounts
 mod TrailingBytes
 mod TrailingMetas
 pub mod Varints
+pub mod WhatGoesBack
 pub mod WholeNames
 pub mod WholeOrder
 pub mod WholeRepairs

@@ -15,8 +15,9 @@ use Rattle.std.specs.declared.cmp.Ordering.{Ordering}
 use Rattle.std.specs.declared.cmp.Ordering.TheVariants.{Equal, Greater, Less}
 use Rattle.bolt_check.specs.Keys.{Key, key_cmp}
 use Rattle.bolt_tree.proofs.PathOrder.{key_exact, key_total}
-use Rattle.bolt_tree.specs.{Entries.EntryView, Order.Rises, ShownEntries.shown_entry}
-use Rattle.bolt_tree.specs.declared.entry.Entry.{Entry}
+use Rattle.bolt_tree.specs.{Entries.EntryView, Order.Rises}
+use Rattle.bolt_etcd.specs.ShownRevisions.{entry_of}
+use Rattle.bolt_etcd.specs.declared.revision.Revision.{Revision}
 use Rattle.bolt_etcd.specs.{Newest.is_until, Revisions.RevisionView, Revisions.name_of}
 use Rattle.bolt_etcd.specs.Superseded.{HasOneOld, IsSupersededBy, entry_name, is_old, newest_cmp, rank_cmp}
 use Rattle.bolt_etcd.proofs.{MappedLists.Climbs, MappedLists.climbs_sorted, MappedLists.sorted_by_shown, NewestEntries.rank_total}
@@ -55,98 +56,103 @@ module _ (compacted : ℕ) where
   climb [] rises = tt
   climb (e ∷ es) rises = (λ y has. first_not (rank_cmp compacted e y) (rank_cmp compacted y e) _ (rises.0 y has) ((rank_total compacted).antisymm y e), climb es rises.1)
 
-  module _ (es : List Entry) (r : RevisionView) where
+  module _ (es : List Revision) (r : RevisionView) where
     -- where an entry stands beside the old one of the name
-    abbrev pub beside : Entry → Ordering
-    beside e = ordering_then (key_cmp (entry_name (shown_entry e)) (name_of r)) (bool_cmp (is_old compacted (shown_entry e)) true)
+    abbrev pub beside : Revision → Ordering
+    beside e = ordering_then (key_cmp (entry_name (entry_of e)) (name_of r)) (bool_cmp (is_old compacted (entry_of e)) true)
 
-    module _ (rises : Rises (newest_cmp compacted) (map shown_entry es)) where
+    module _ (rises : Rises (newest_cmp compacted) (map entry_of es)) where
       searchable : IsNonDecreasingBy (λ e. ordering_index (beside e)) es
       searchable =
-          searchable_from_sorted ranks_total (λ (e : Entry). (entry_name (shown_entry e), is_old compacted (shown_entry e))) es (name_of r, true)
-          (sorted_by_shown shown_entry below es (climbs_sorted below (map shown_entry es) (climb (map shown_entry es) rises)))
+          searchable_from_sorted ranks_total (λ (e : Revision). (entry_name (entry_of e), is_old compacted (entry_of e))) es (name_of r, true)
+          (sorted_by_shown entry_of below es (climbs_sorted below (map entry_of es) (climb (map entry_of es) rises)))
 
       -- an old one of the name stands nowhere else
-      tied : (e : Entry) → is_old compacted (shown_entry e) ≡ true → entry_name (shown_entry e) ≡ name_of r → beside e ≡ Equal
+      tied : (e : Revision) → is_old compacted (entry_of e) ≡ true → entry_name (entry_of e) ≡ name_of r → beside e ≡ Equal
       tied e old named =
-          let names : key_cmp (entry_name (shown_entry e)) (name_of r) ≡ Equal = ap (λ (n : Key). key_cmp n (name_of r)) named ∙ tied_itself key_total (name_of r) in
-          ap (λ (o : Ordering). ordering_then o (bool_cmp (is_old compacted (shown_entry e)) true)) names ∙ ap (λ (b : Bool). bool_cmp b true) old
+          let names : key_cmp (entry_name (entry_of e)) (name_of r) ≡ Equal = ap (λ (n : Key). key_cmp n (name_of r)) named ∙ tied_itself key_total (name_of r) in
+          ap (λ (o : Ordering). ordering_then o (bool_cmp (is_old compacted (entry_of e)) true)) names ∙ ap (λ (b : Bool). bool_cmp b true) old
 
-      no_point : (i : ℕ) → IsPartitionPoint (λ e. beside e ≡ Less) (λ e. beside e ≡ Greater) es i → (k : ℕ) (d : Entry) → k < length es → beside (slice_index_or es k d) ≡ Equal → ⊥
+      no_point : (i : ℕ) → IsPartitionPoint (λ e. beside e ≡ Less) (λ e. beside e ≡ Greater) es i → (k : ℕ) (d : Revision) → k < length es → beside (slice_index_or es k d) ≡ Equal → ⊥
       no_point i point k d lt same = elim (cases_lt k i) [
         | inl before ↦ (let less = point.0 k d (omega arith) before in cc)
         | inr after ↦ (let above = point.1 k d after lt in cc)
       ]
 
       -- an entry that is shown is one of the list
-      at : (e : EntryView) → Contains (map shown_entry es) e → (k : ℕ) × (k < length es) × ((d : Entry) → shown_entry (slice_index_or es k d) ≡ e)
+      at : (e : EntryView) → Contains (map entry_of es) e → (k : ℕ) × (k < length es) × ((d : Revision) → entry_of (slice_index_or es k d) ≡ e)
       at e (k, lt, is) =
-          let long = length-map es shown_entry in
-          (k, omega (arith, long), λ d. sym (get_or-map shown_entry es k d e (omega (arith, long))) ∙ is)
+          let long = length-map es entry_of in
+          (k, omega (arith, long), λ d. sym (get_or-map entry_of es k d e (omega (arith, long))) ∙ is)
 
-      none_old : (i : ℕ) → IsPartitionPoint (λ e. beside e ≡ Less) (λ e. beside e ≡ Greater) es i → (e : EntryView) → Contains (map shown_entry es) e → is_old compacted e ≡ true
+      none_old : (i : ℕ) → IsPartitionPoint (λ e. beside e ≡ Less) (λ e. beside e ≡ Greater) es i → (e : EntryView) → Contains (map entry_of es) e → is_old compacted e ≡ true
           → entry_name e ≡ name_of r → ⊥
       none_old i point e has old named = at_place es i point e has old named
         where
-          first : (xs : List Entry) (k : ℕ) → k < length xs → Entry
+          first : (xs : List Revision) (k : ℕ) → k < length xs → Revision
           first [] k lt = absurd (omega arith)
           first (x ∷ xs) k lt = x
 
-          at_place : (xs : List Entry) (i : ℕ) → IsPartitionPoint (λ e. beside e ≡ Less) (λ e. beside e ≡ Greater) es i → (e : EntryView) → Contains (map shown_entry es) e
+          at_place : (xs : List Revision) (i : ℕ) → IsPartitionPoint (λ e. beside e ≡ Less) (λ e. beside e ≡ Greater) es i → (e : EntryView) → Contains (map entry_of es) e
               → is_old compacted e ≡ true → entry_name e ≡ name_of r → ⊥
           at_place xs i point e has old named =
               let (k, lt, is) = at e has in
               let d = first es k lt in
               no_point i point k d lt (tied (slice_index_or es k d) (ap (is_old compacted) (is d) ∙ old) (ap entry_name (is d) ∙ named))
 
-      pub not_found : (i : ℕ) → IsBinarySearchResult beside es (Err i) → (key : Key) → IsSupersededBy compacted (map shown_entry es) r key → ⊥
+      pub not_found : (i : ℕ) → IsBinarySearchResult beside es (Err i) → (key : Key) → IsSupersededBy compacted (map entry_of es) r key → ⊥
       not_found i searched key (e, has, is, old, named, until, less) = none_old i (searched searchable) e has old named
 
       pub absent : (searched : Result ℕ ℕ) → IsBinarySearchResult beside es searched → result_ok searched ≡ None → (o : Option (Bor Key)) → o ≡ None → (key : Key)
-          → (option_map (λ (k : Bor Key). k.now) o ≡ Some key) ↔ IsSupersededBy compacted (map shown_entry es) r key
+          → (option_map (λ (k : Bor Key). k.now) o ≡ Some key) ↔ IsSupersededBy compacted (map entry_of es) r key
       absent (Ok i) is none o nothing key = absurd (cc)
       absent (Err i) is none o nothing key = (λ some. absurd (let e = ap (option_map (λ (k : Bor Key). k.now)) nothing in cc), λ by. absurd (not_found i is key by))
 
       -- ---- what is found
 
-      module _ (one : HasOneOld compacted (map shown_entry es)) (until : is_until compacted r ≡ true) (i : ℕ) (entry : Entry) (lt : i < length es)
+      module _ (one : HasOneOld compacted (map entry_of es)) (until : is_until compacted r ≡ true) (i : ℕ) (entry : Revision) (lt : i < length es)
           (is : entry ≡ slice_index_or es i entry) (searched : IsBinarySearchResult beside es (Ok i)) where
-        found_has : Contains (map shown_entry es) (shown_entry entry)
+        found_has : Contains (map entry_of es) (entry_of entry)
         found_has =
-            let long = length-map es shown_entry in
-            (i, omega (arith, long), get_or-map shown_entry es i entry (shown_entry entry) lt ∙ ap shown_entry (sym is))
+            let long = length-map es entry_of in
+            (i, omega (arith, long), get_or-map entry_of es i entry (entry_of entry) lt ∙ ap entry_of (sym is))
 
-        found_is : (is_old compacted (shown_entry entry) ≡ true) × (entry_name (shown_entry entry) ≡ name_of r)
+        found_is : (is_old compacted (entry_of entry) ≡ true) × (entry_name (entry_of entry) ≡ name_of r)
         found_is =
-            let (names, old) = both_equal _ _ (subst (λ (x : Entry). beside x ≡ Equal) (sym is) (searched entry)) in
+            let (names, old) = both_equal _ _ (subst (λ (x : Revision). beside x ≡ Equal) (sym is) (searched entry)) in
             (is_true _ old, key_exact _ _ names)
 
-        superseding : (key : Key) → key_cmp entry.key.now r.place ≡ Less → entry.key.now ≡ key → IsSupersededBy compacted (map shown_entry es) r key
-        superseding key less same = (shown_entry entry, found_has, same, found_is.0, found_is.1, until, less)
+        superseding : (key : Key) → key_cmp entry.key.now r.place ≡ Less → entry.key.now ≡ key → IsSupersededBy compacted (map entry_of es) r key
+        superseding key less same = (entry_of entry, found_has, same, found_is.0, found_is.1, until, less)
 
-        same_entry : (key : Key) → IsSupersededBy compacted (map shown_entry es) r key → (key_cmp entry.key.now r.place ≡ Less) × (entry.key.now ≡ key)
+        same_entry : (key : Key) → IsSupersededBy compacted (map entry_of es) r key → (key_cmp entry.key.now r.place ≡ Less) × (entry.key.now ≡ key)
         same_entry key (e, has, at_key, old, named, _, less) =
-            let same = one (shown_entry entry) e found_has has found_is.0 old (found_is.1 ∙ sym named) in
+            let same = one (entry_of entry) e found_has has found_is.0 old (found_is.1 ∙ sym named) in
             (subst (λ (x : EntryView). key_cmp x.key r.place ≡ Less) (sym same) less, ap (λ (x : EntryView). x.key) same ∙ at_key)
 
         by_test : (o : Ordering) (key : Key) → key_cmp entry.key.now r.place ≡ o
-            → (option_map (λ (k : Bor Key). k.now) (then_some (is_lt o) entry.key) ≡ Some key) ↔ IsSupersededBy compacted (map shown_entry es) r key
+            → (option_map (λ (k : Bor Key). k.now) (then_some (is_lt o) entry.key) ≡ Some key) ↔ IsSupersededBy compacted (map entry_of es) r key
         by_test Less key is_less = (λ some. superseding key is_less (let e : entry.key.now ≡ key = cc in e), λ by. ap Some (same_entry key by).1)
         by_test Equal key is_equal = (λ some. absurd (cc), λ by. absurd (let less = (same_entry key by).0 in cc))
         by_test Greater key is_greater = (λ some. absurd (cc), λ by. absurd (let less = (same_entry key by).0 in cc))
 
         found_one : (key : Key) → (option_map (λ (k : Bor Key). k.now) (then_some (is_lt (key_cmp entry.key.now r.place)) entry.key) ≡ Some key)
-            ↔ IsSupersededBy compacted (map shown_entry es) r key
+            ↔ IsSupersededBy compacted (map entry_of es) r key
         found_one key = by_test (key_cmp entry.key.now r.place) key refl
 
       ok_of : (searched : Result ℕ ℕ) (i : ℕ) → result_ok searched ≡ Some i → searched ≡ Ok i
       ok_of (Ok k) i some = let same : k ≡ i = cc in ap Ok same
       ok_of (Err k) i some = cc
 
-      pub found : HasOneOld compacted (map shown_entry es) → r.key.main ≤ compacted → (searched : Result ℕ ℕ) → IsBinarySearchResult beside es searched → (i : ℕ) → result_ok searched ≡ Some i
-          → (entry : Entry) → i < length es → entry ≡ slice_index_or es i entry → (less : Bool) → less ≡ is_lt (key_cmp entry.key.now r.place) → (o : Option (Bor Key)) → o ≡ then_some less entry.key → (key : Key)
-          → (option_map (λ (k : Bor Key). k.now) o ≡ Some key) ↔ IsSupersededBy compacted (map shown_entry es) r key
-      found one until searched by i ok entry lt is less test o gives key =
-          let e : o ≡ then_some (is_lt (key_cmp entry.key.now r.place)) entry.key = gives ∙ ap (λ (b : Bool). then_some b entry.key) test in
-          subst (λ (p : Option (Bor Key)). (option_map (λ (k : Bor Key). k.now) p ≡ Some key) ↔ IsSupersededBy compacted (map shown_entry es) r key) (sym e)
+      mapped : (b : Bool) (k l : Bor Key) → k.now ≡ l.now → option_map (λ (k : Bor Key). k.now) (then_some b k) ≡ option_map (λ (k : Bor Key). k.now) (then_some b l)
+      mapped true k l same = ap Some same
+      mapped false k l same = refl
+
+      pub found : HasOneOld compacted (map entry_of es) → r.key.main ≤ compacted → (searched : Result ℕ ℕ) → IsBinarySearchResult beside es searched → (i : ℕ) → result_ok searched ≡ Some i
+          → (entry : Revision) → i < length es → entry ≡ slice_index_or es i entry → (less : Bool) → less ≡ is_lt (key_cmp entry.key.now r.place) → (k : Bor Key) → k.now ≡ entry.key.now
+          → (o : Option (Bor Key)) → o ≡ then_some less k → (key : Key) → (option_map (λ (k : Bor Key). k.now) o ≡ Some key) ↔ IsSupersededBy compacted (map entry_of es) r key
+      found one until searched by i ok entry lt is less test k same o gives key =
+          let e : option_map (λ (k : Bor Key). k.now) o ≡ option_map (λ (k : Bor Key). k.now) (then_some (is_lt (key_cmp entry.key.now r.place)) entry.key) =
+          ap (option_map (λ (k : Bor Key). k.now)) (gives ∙ ap (λ (b : Bool). then_some b k) test) ∙ mapped _ k entry.key same in
+          subst (λ (p : Option Key). (p ≡ Some key) ↔ IsSupersededBy compacted (map entry_of es) r key) (sym e)
           (found_one one (ap not (le-ltb compacted r.key.main until)) i entry lt is (subst (IsBinarySearchResult beside es) (ok_of searched i ok) by) key)

@@ -1,18 +1,18 @@
 -- Of the agreed candidates those that go back: the newest of each name that aren't superseded, and those after the compaction.
-use Rattle.std.proofs.Common.{◌≡◌, ◌≢◌, ◌∙◌, ◌⊎◌, inl, inr, ℕ, Bool, true, false, List, [], ◌∷◌, filter, map, not, refl, sym, ap, subst}
+use Rattle.std.proofs.Common.{◌≡◌, ◌≢◌, ◌∙◌, ◌⊎◌, inl, inr, ℕ, true, false, List, filter, not, refl, sym, ap, subst}
 use Rattle.std.proofs.lemmas.Bool.{cases_Bool, false_from_ne_true, not-true, or_cases, or_left, or_right}
 use Rattle.std.proofs.lemmas.List.Sorted.{Contains-permutation, IsPermutation-sym}
-use Rattle.std.specs.List.{Contains, list_any}
+use Rattle.std.specs.List.{Contains}
 use Rattle.std.specs.List.Sorted.{IsPermutation, IsSorted}
 use Rattle.std.specs.Ordering.{eq_by_cmp, is_eq}
 use Rattle.std.specs.declared.cmp.Ordering.{Ordering}
 use Rattle.std.specs.declared.cmp.Ordering.TheVariants.{Equal, Greater, Less}
 use Rattle.bolt_check.specs.Keys.{Key, key_cmp}
-use Rattle.bolt_tree.proofs.{Filters.kept, Lists.contains_cases, Lists.contains_none, Lists.irreflexive, PathOrder.key_exact, PathOrder.key_total}
-use Rattle.bolt_tree.specs.{Entries.EntryView, InBuckets.view_cmp, Listing.Member, Order.Rises, ShownEntries.shown_entry, declared.entry.Entry.Entry}
+use Rattle.bolt_tree.proofs.{Filters.kept, Lists.irreflexive, PathOrder.key_exact, PathOrder.key_total}
+use Rattle.bolt_tree.specs.{Entries.EntryView, InBuckets.view_cmp, Listing.Member, Order.Rises}
 use Rattle.bolt_etcd.specs.Agreed.{among, without}
 use Rattle.bolt_etcd.specs.Superseded.{ArePutBack, AreNewest, AreSuperseded, IsNewestOf, entry_name, is_deletion, is_old, newest_cmp, stays}
-use Rattle.bolt_etcd.proofs.{AgreedEntries.without_has, Filtered.filter_rises, Filtered.kept_from, MappedLists.shows_from, NewestEntries.newest_total, NewestEntries.view_total}
+use Rattle.bolt_etcd.proofs.{AgreedEntries.without_has, Filtered.filter_rises, Filtered.kept_from, NewestEntries.newest_total, NewestEntries.view_total}
 use Rattle.bolt_etcd.proofs.{Rising.rising_cases, SortedOnce.sorted_in}
 
 tied_keys : (o : Ordering) → is_eq o ≡ true → o ≡ Equal
@@ -101,24 +101,3 @@ module _ (compacted : ℕ) (recovered : List Member) (agreed newest : List Entry
         λ (has, go). Contains-permutation left back e moved (left_to e has go),
       );
     }
-
--- if none is old, all go back
-old_found : (p : Entry → Bool) (xs : List Entry) (x : Entry) → Contains xs x → p x ≡ true → list_any p xs ≡ true
-old_found p [] x has is_p = absurd (contains_none x has)
-old_found p (y ∷ xs) x has is_p = elim (contains_cases y x xs has) [
-  | inl same ↦ or_left (p y) (list_any p xs) (subst (λ (z : Entry). p z ≡ true) (sym same) is_p)
-  | inr later ↦ or_right (p y) (list_any p xs) (old_found p xs x later is_p)
-]
-
-pub none_old : (compacted : ℕ) (recovered : List Member) (xs : List Entry) → Rises view_cmp (map shown_entry xs) → list_any (λ (e : Entry). is_old compacted (shown_entry e)) xs ≡ false
-    → ArePutBack compacted recovered (map shown_entry xs) (map shown_entry xs)
-none_old compacted recovered xs rises none = record {
-  rises = rises;
-  exact = λ e. (
-    λ has.
-        let (x, inside, same) = shows_from shown_entry xs e has in
-        let new = false_from_ne_true (is_old compacted (shown_entry x)) (λ old. let found = old_found (λ (y : Entry). is_old compacted (shown_entry y)) xs x inside old in cc) in
-        (has, inl (subst (λ (v : EntryView). is_old compacted v ≡ false) same new)),
-    λ (has, go). has,
-  );
-}

@@ -92,3 +92,16 @@ module _ {bytes : List ℕ} {i low : ℕ} where
   too_long rest g le = let none_left : 10 - i ≡ 0 = omega arith in g.same ∙ rw none_left refl
 
 pub ruleset reading = (starts, goes_on, ends, stops, too_long)
+
+-- ---- at once
+
+pub one_byte : (bytes rest : List ℕ) (b n : ℕ) → bytes ≡ b ∷ rest → b < 128 → n ≡ b → varint bytes ≡ Some (n, rest)
+unfolding varint varint_within
+one_byte bytes rest b n front k same = let low : b % 2 ^ 64 ≡ b = omega arith in rw (front, same, lt-ltb b 128 k) (ap (λ (x : ℕ). Some (x, rest)) low)
+
+pub no_byte : (bytes : List ℕ) → length bytes ≡ 0 → varint bytes ≡ None
+unfolding varint varint_within
+no_byte [] none = refl
+no_byte (b ∷ bytes) none = absurd (omega arith)
+
+pub ruleset short = (one_byte, no_byte)

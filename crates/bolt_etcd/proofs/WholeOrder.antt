@@ -15,8 +15,9 @@ use Rattle.std.specs.declared.cmp.Ordering.{Ordering}
 use Rattle.std.specs.declared.cmp.Ordering.TheVariants.{Equal, Greater, Less}
 use Rattle.bolt_format.specs.Elements.{LeafElement}
 use Rattle.bolt_check.specs.Keys.{Key, key_cmp}
-use Rattle.bolt_tree.specs.{Entries.Bucket, Entries.EntryView, Entries.Item, Entries.Value, Entries.entry_view, ShownEntries.shown_entry}
-use Rattle.bolt_tree.specs.declared.entry.Entry.{Entry}
+use Rattle.bolt_tree.specs.{Entries.Bucket, Entries.EntryView, Entries.Item, Entries.Value, Entries.entry_view}
+use Rattle.bolt_etcd.specs.ShownRevisions.{entry_of}
+use Rattle.bolt_etcd.specs.declared.revision.Revision.{Revision}
 use Rattle.bolt_etcd.specs.Candidates.{AreCandidates, bytes_of_item, candidates_in, is_candidate, is_in_place, is_same, value_bytes, whole_cmp}
 use Rattle.bolt_etcd.specs.Revisions.{RevisionView, revision_in, revision_of, value_of}
 use Rattle.bolt_etcd.proofs.{Currents.bind_some, Filtered.kept_from, MappedLists.dedup_mapped, MappedLists.sorted_mapped, SortedOnce.rises_from}
@@ -99,19 +100,19 @@ module _ (elements : List LeafElement) (es : List EntryView) (moved : IsPermutat
 
 -- ---- of the code
 
-abbrev pub code_whole : Entry → Entry → Bool
-code_whole a b = is_lt (whole_cmp (shown_entry a) (shown_entry b))
+abbrev pub code_whole : Revision → Revision → Bool
+code_whole a b = is_lt (whole_cmp (entry_of a) (entry_of b))
 
-abbrev pub code_same : Entry → Entry → Bool
-code_same a b = is_same (shown_entry a) (shown_entry b)
+abbrev pub code_same : Revision → Revision → Bool
+code_same a b = is_same (entry_of a) (entry_of b)
 
 pub code_ranks : IsStrictWeakOrder code_whole
-code_ranks = ranks_by whole_total shown_entry
+code_ranks = ranks_by whole_total entry_of
 
-pub are_candidates : (elements : List LeafElement) (all sorted left : List Entry) → map shown_entry all ≡ candidates_in elements → IsPermutation all sorted → IsSortedBy code_whole sorted
-    → left ≡ dedup code_same sorted → AreCandidates elements (map shown_entry left)
+pub are_candidates : (elements : List LeafElement) (all sorted left : List Revision) → map entry_of all ≡ candidates_in elements → IsPermutation all sorted → IsSortedBy code_whole sorted
+    → left ≡ dedup code_same sorted → AreCandidates elements (map entry_of left)
 are_candidates elements all sorted left are moved up once =
-    let shown = ap (map shown_entry) once ∙ dedup_mapped shown_entry is_same sorted in
-    let moved_shown = subst (λ (es : List EntryView). IsPermutation es (map shown_entry sorted)) are (IsPermutation-map shown_entry all sorted moved) in
+    let shown = ap (map entry_of) once ∙ dedup_mapped entry_of is_same sorted in
+    let moved_shown = subst (λ (es : List EntryView). IsPermutation es (map entry_of sorted)) are (IsPermutation-map entry_of all sorted moved) in
     subst (AreCandidates elements) (sym shown)
-    (merged_are_candidates elements (map shown_entry sorted) moved_shown (sorted_mapped shown_entry (λ a b. is_lt (whole_cmp a b)) sorted up))
+    (merged_are_candidates elements (map entry_of sorted) moved_shown (sorted_mapped entry_of (λ a b. is_lt (whole_cmp a b)) sorted up))

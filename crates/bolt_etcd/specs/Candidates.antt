@@ -1,13 +1,13 @@
 -- Which elements of found pages are candidates, as far as the recovered listing isn't looked at.
-use Rattle.std.specs.Prelude.{◌&&◌, ◌-◌, ◌≡◌, ◌≢◌, ◌↔◌, ℕ, Bool, false, length, List, [], filter, flat_map, map, not, Option, Some, None}
-use Rattle.std.specs.List.{Contains, slice_get}
-use Rattle.std.specs.{Ordering.ordering_then, Str.bytes_eq}
+use Rattle.std.specs.Prelude.{◌&&◌, ◌+◌, ◌≡◌, ◌≢◌, ◌↔◌, ℕ, Bool, false, length, List, [], filter, flat_map, map, not, Option, Some, None, if◌then◌else◌}
+use Rattle.std.specs.List.{Contains, Sorted.IsSorted}
+use Rattle.std.specs.{Option.is_some, Ordering.ordering_then, Str.bytes_eq}
 use Rattle.std.specs.declared.cmp.Ordering.{Ordering}
 use Rattle.bolt_format.specs.{Elements.LeafElement, TreePages.leaves_on}
 use Rattle.bolt_check.specs.Keys.{Key, key_cmp}
 use Rattle.bolt_recover.specs.declared.found.Found.{Found}
 use Rattle.bolt_tree.specs.{Entries.Bucket, Entries.EntryView, Entries.Item, Entries.Value, Entries.entry_view, Order.Rises}
-use Rattle.bolt_etcd.specs.{Misplaced.is_misplaced, Revisions.RevisionView, Revisions.revision_of}
+use Rattle.bolt_etcd.specs.{Misplaced.is_misplaced, RevisionKeys.revision_key, Revisions.RevisionView, Revisions.revision_of}
 
 abbrev pub is_in_place : Option RevisionView → Bool
 is_in_place None = false
@@ -16,6 +16,14 @@ is_in_place (Some r) = not (is_misplaced r)
 -- a revision with a record of its own transaction
 abbrev pub is_candidate : EntryView → Bool
 is_candidate e = is_in_place (revision_of e)
+
+-- the entry, if it is one
+abbrev pub candidate_at : EntryView → Option EntryView
+candidate_at e = if is_candidate e then Some e else None
+
+-- the elements whose keys are revision keys
+abbrev pub under_revision_keys : List LeafElement → List LeafElement
+under_revision_keys elements = filter (λ (element : LeafElement). is_some (revision_key element.key)) elements
 
 abbrev pub candidates_in : List LeafElement → List EntryView
 candidates_in elements = filter is_candidate (map entry_view elements)
@@ -43,14 +51,6 @@ pub record AreCandidates (elements : List LeafElement) (es : List EntryView) : T
   pub rises : Rises whole_cmp es
   pub exact : (e : EntryView) → Contains es e ↔ Contains (candidates_in elements) e
 
-abbrev pub is_key : Option Key → Key → Bool
-is_key None key = false
-is_key (Some k) key = bytes_eq key k
-
--- whether a key is the last of these
-abbrev pub is_last : List Key → Key → Bool
-is_last keys key = is_key (slice_get keys (length keys - 1)) key
-
 -- an entry has this key
 abbrev pub HasKey : List EntryView → Key → Type 0
 HasKey es key = (e : EntryView) × Contains es e × (e.key ≡ key)
@@ -60,15 +60,14 @@ pub record AreKeys (es : List EntryView) (keys : List Key) : Type 0 where
   pub rises : Rises key_cmp keys
   pub exact : (key : Key) → Contains keys key ↔ HasKey es key
 
--- so many keys have entries
-abbrev pub HaveKeys : List EntryView → ℕ → Type 0
-HaveKeys es number = (keys : List Key) × AreKeys es keys × (number ≡ length keys)
-
 -- two different entries have this key
 abbrev pub IsDisputed : List EntryView → Key → Type 0
 IsDisputed es key = (a b : EntryView) × Contains es a × Contains es b × (a.key ≡ key) × (b.key ≡ key) × (a ≢ b)
 
--- the keys of entries that two have or more, by rising key
+-- The keys of entries that two have or more. With them there are as many keys as entries.
 pub record AreDisputed (es : List EntryView) (disputed : List Key) : Type 0 where
-  pub rises : Rises key_cmp disputed
+  pub sorted : IsSorted key_cmp disputed
   pub exact : (key : Key) → Contains disputed key ↔ IsDisputed es key
+  pub keys : List Key
+  pub are_keys : AreKeys es keys
+  pub number : length keys + length disputed ≡ length es

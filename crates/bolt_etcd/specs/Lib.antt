@@ -13,6 +13,7 @@ pub mod ForNames
 pub mod FullRepairs
 pub mod HeldNames
 pub mod Histories
+pub mod Keyed
 pub mod LostRevisions
 pub mod Marks
 pub mod Misplaced
@@ -23,6 +24,7 @@ pub mod Newest
 pub mod Others
 pub mod Passes
 pub mod Possible
+pub mod PutBackMembers
 pub mod Records
 pub mod RepairRefusals
 pub mod Repaired

@@ -1,6 +1,7 @@
 -- What a revision of the code shows, without where its bytes lie in memory.
 use Rattle.std.specs.Prelude.{false, [], Option, Some, None}
 use Rattle.bolt_check.specs.Keys.{Key}
+use Rattle.bolt_tree.specs.{Entries.EntryView, Entries.Value}
 use Rattle.bolt_etcd.specs.{Records.empty, Revisions.RevisionView, Revisions.revision_in, Shown.shown_record}
 use Rattle.bolt_etcd.specs.declared.{revision.Decoded.Decoded, revision.Revision.Revision}
 
@@ -16,3 +17,7 @@ or_nothing None = record { place = []; key = record { main = 0; sub = 0; deleted
 -- the revision that its value is under its key; by its ghost field there always is one
 unfoldable pub shown_revision : Revision → RevisionView
 shown_revision r = or_nothing (revision_in r.key.now r.value.now)
+
+-- the entry that it is
+abbrev pub entry_of : Revision → EntryView
+entry_of r = record { key = r.key.now; item = Value r.value.now }

@@ -1,6 +1,6 @@
 -- Which of the agreed candidates a compaction keeps: docs/RECOVERY.md, "The repaired listing".
-use Rattle.std.specs.Prelude.{◌≡◌, ◌≢◌, ◌↔◌, ◌⊎◌, ◌&&◌, ◌||◌, ℕ, Bool, false, true, List, [], Option, Some, None, nat_lt, not}
-use Rattle.std.specs.{List.Contains, List.Sorted.IsSorted}
+use Rattle.std.specs.Prelude.{◌≡◌, ◌≢◌, ◌↔◌, ◌⊎◌, ◌&&◌, ◌||◌, ◌++◌, ◌≤◌, ℕ, Bool, false, true, List, [], Option, Some, None, drop, length, nat_lt, not, take}
+use Rattle.std.specs.{List.Contains, List.Sorted.IsPermutation, List.Sorted.IsSorted}
 use Rattle.std.specs.Ordering.{bool_cmp, ordering_then}
 use Rattle.std.specs.Str.{bytes_eq}
 use Rattle.std.specs.declared.cmp.Ordering.{Ordering}
@@ -48,6 +48,23 @@ newest_cmp compacted a b = ordering_then (rank_cmp compacted a b) (key_cmp b.key
 abbrev pub is_same_old : ℕ → EntryView → EntryView → Bool
 is_same_old compacted older newest = is_old compacted newest && bytes_eq (entry_name older) (entry_name newest)
 
+-- so, of one that is old too
+abbrev pub is_older_old : ℕ → EntryView → EntryView → Bool
+is_older_old compacted older newest = is_old compacted older && is_same_old compacted older newest
+
+-- the first n are old, and no other one is
+pub record IsPartedAt (compacted : ℕ) (es : List EntryView) (n : ℕ) : Type 0 where
+  pub within : n ≤ length es
+  pub old : (e : EntryView) → Contains (take n es) e → is_old compacted e ≡ true
+  pub new : (e : EntryView) → Contains (drop n es) e → is_old compacted e ≡ false
+
+-- the first n are sorted, and the others stand where they stood
+pub record SortsFirst (cmp : EntryView → EntryView → Ordering) (n : ℕ) (before after : List EntryView) : Type 0 where
+  pub first : List EntryView
+  pub is : after ≡ first ++ drop n before
+  pub same : IsPermutation (take n before) first
+  pub sorted : IsSorted cmp first
+
 -- it isn't a deletion that a compaction removes
 abbrev pub stays : ℕ → EntryView → Bool
 stays compacted e = not (is_old compacted e) || not (is_deletion e)
@@ -67,6 +84,12 @@ pub record AreNewest (compacted : ℕ) (agreed newest : List EntryView) : Type 0
 abbrev pub HasOneOld : ℕ → List EntryView → Type 0
 HasOneOld compacted es =
     (a b : EntryView) → Contains es a → Contains es b → is_old compacted a ≡ true → is_old compacted b ≡ true → entry_name a ≡ entry_name b → a ≡ b
+
+-- of the first n these are left, and all others
+pub record KeepsNewest (compacted n : ℕ) (before after : List EntryView) : Type 0 where
+  pub newest : List EntryView
+  pub is : after ≡ newest ++ drop n before
+  pub are : AreNewest compacted (take n before) newest
 
 -- this revision of its name, of no later transaction, comes after the old one with this key
 abbrev pub IsSupersededBy : ℕ → List EntryView → RevisionView → Key → Type 0

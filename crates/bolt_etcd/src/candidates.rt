@@ -1,14 +1,16 @@
 //! Values on found pages that may go back.
 ghost use Rattle.std.specs.Prelude.{◌≡◌, ◌++◌, ◌∷◌, ◌↔◌, [], IfOk, IsTrue, OnOk, length, map, true};
+ghost use Rattle.std.specs.{Option.option_map, Ordering.is_lt};
 ghost use Rattle.std.specs.List.{Contains, Sorted.IsSorted};
 ghost use Rattle.bolt_format.specs.{ElementPlaces.leaf_view, Elements.IsBucketValue, ElementsLeft.leaves_left};
 ghost use Rattle.bolt_check.specs.{Counts.counted, Keys.key_cmp};
-ghost use Rattle.bolt_tree.specs.{Entries.entry_view, Order.Rises, ShownEntries.shown_entry};
-ghost use Rattle.bolt_etcd.specs.Candidates.{AreCandidates, AreDisputed, HasKey, HaveKeys, candidates_in};
-ghost use Rattle.bolt_etcd.specs.Candidates.{elements_of, is_candidate, is_last, is_same, value_bytes};
-ghost use Rattle.bolt_etcd.specs.Candidates.{whole_cmp};
+ghost use Rattle.bolt_tree.specs.{Entries.entry_view, Order.Rises};
+ghost use Rattle.bolt_etcd.specs.Candidates.{AreCandidates, AreDisputed, HasKey, candidates_in, elements_of};
+ghost use Rattle.bolt_etcd.specs.Candidates.{candidate_at, is_same, under_revision_keys, whole_cmp};
+ghost use Rattle.bolt_etcd.specs.{Keyed.AreBelow, ShownRevisions.entry_of};
 
 use crate::revision::Revision;
+use crate::revision_key::RevisionKey;
 use bolt_format::{Leaf, Leaves};
 use bolt_recover::Found;
 use bolt_tree::{Entry, Item, NoMemory};
@@ -16,14 +18,14 @@ use std::alloc::{AllocError, Global};
 use std::cmp::Ordering;
 
 /// The values on found pages that are revisions with records of their own transactions, by rising key,
-/// and of one key by rising value, each once. Goes over all found elements twice. Needs 40 bytes for
-/// each that is such a revision.
+/// and of one key by rising value, each once. Goes over all found elements twice. Needs 48 bytes for
+/// each under a revision key.
 pub(crate) fn candidates_of<'a>(
     alloc: Global,
     found: &[Found<'a>],
-) -> Result<Vec<Entry<'a>>, NoMemory>
+) -> Result<Vec<Revision<'a>>, NoMemory>
     ensures { IfOk result (λ candidates.
-        AreCandidates (elements_of found.now) (map shown_entry candidates.items)) }
+        AreCandidates (elements_of found.now) (map entry_of candidates.items)) }
 {
     let mut candidates = collect(alloc, found)?;
     candidates.sort_unstable_by(by_key_and_value);
@@ -32,9 +34,9 @@ pub(crate) fn candidates_of<'a>(
 }
 
 /// The candidates on all pages, page by page.
-fn collect<'a>(alloc: Global, found: &[Found<'a>]) -> Result<Vec<Entry<'a>>, NoMemory>
+fn collect<'a>(alloc: Global, found: &[Found<'a>]) -> Result<Vec<Revision<'a>>, NoMemory>
     ensures { IfOk result (λ all.
-        map shown_entry all.items ≡ candidates_in (elements_of found.now)) }
+        map entry_of all.items ≡ candidates_in (elements_of found.now)) }
 {
     let mut candidates = Vec::with_capacity(alloc, count(found))?;
     'rest: for page in found {
@@ -44,22 +46,32 @@ fn collect<'a>(alloc: Global, found: &[Found<'a>]) -> Result<Vec<Entry<'a>>, NoM
 }
 
 /// Adds those on one page.
-fn add_page<'a>(candidates: &mut Vec<Entry<'a>>, elements: Leaves<'a>) -> Result<(), AllocError>
-    ensures { OnOk result (map shown_entry candidates.new.items
-        ≡ map shown_entry candidates.old.items ++ candidates_in (leaves_left elements.entry)) }
+fn add_page<'a>(candidates: &mut Vec<Revision<'a>>, elements: Leaves<'a>) -> Result<(), AllocError>
+    ensures { OnOk result (map entry_of candidates.new.items
+        ≡ map entry_of candidates.old.items ++ candidates_in (leaves_left elements.entry)) }
 {
     for leaf in elements {
-        let entry = entry_of(&leaf);
-        if is_candidate(&entry) {
-            candidates.push(entry)?;
+        if let Some(candidate) = candidate_at(&leaf) {
+            candidates.push(candidate)?;
         }
     }
     Ok(())
 }
 
-/// The number of candidates on all pages.
+/// The element of a leaf page as a candidate, if it is one.
+fn candidate_at<'a>(leaf: &Leaf<'a>) -> Option<Revision<'a>>
+    requires { IsTrue leaf.now.is_bucket → IsBucketValue leaf.now.value.now }
+    ensures { option_map entry_of result ≡ candidate_at (entry_view (leaf_view leaf.now)) }
+{
+    Revision::candidate(&Entry {
+        key: leaf.key,
+        item: Item::of(leaf),
+    })
+}
+
+/// The number of elements on all pages that are under revision keys, as candidates are.
 fn count(found: &[Found<'_>]) -> usize
-    ensures { result ≡ counted 0 (length (candidates_in (elements_of found.now))) }
+    ensures { result ≡ counted 0 (length (under_revision_keys (elements_of found.now))) }
 {
     let mut n = 0_usize;
     'rest: for page in found {
@@ -70,105 +82,48 @@ fn count(found: &[Found<'_>]) -> usize
 
 /// The number of those on one page.
 fn count_on(elements: Leaves<'_>) -> usize
-    ensures { result ≡ counted 0 (length (candidates_in (leaves_left elements.entry))) }
+    ensures { result ≡ counted 0 (length (under_revision_keys (leaves_left elements.entry))) }
 {
     let mut n = 0_usize;
     for leaf in elements {
-        if is_candidate(&entry_of(&leaf)) {
+        if RevisionKey::read(leaf.key).is_some() {
             n = n.saturating_add(1);
         }
     }
     n
 }
 
-/// An element of a leaf page as an entry.
-fn entry_of<'a>(leaf: &Leaf<'a>) -> Entry<'a>
-    requires { IsTrue leaf.now.is_bucket → IsBucketValue leaf.now.value.now }
-    ensures { shown_entry result ≡ entry_view (leaf_view leaf.now) }
+fn by_key_and_value(a: &Revision<'_>, b: &Revision<'_>) -> Ordering
+    ensures { result ≡ whole_cmp (entry_of a.now) (entry_of b.now) }
 {
-    Entry {
-        key: leaf.key,
-        item: Item::of(leaf),
-    }
-}
-
-/// Whether it is a revision, and its record that of its own transaction.
-fn is_candidate(entry: &Entry<'_>) -> bool
-    ensures { result ≡ is_candidate (shown_entry entry.now) }
-{
-    match Revision::of(entry) {
-        Some(revision) => !revision.is_misplaced(),
-        None => false,
-    }
-}
-
-/// The bytes of a value.
-fn value_of<'a>(entry: &Entry<'a>) -> &'a [u8]
-    ensures { result.now ≡ value_bytes (shown_entry entry.now) }
-{
-    match entry.item {
-        Item::Value(value) => value,
-        Item::Bucket { sequence: _ } => &[],
-    }
-}
-
-fn by_key_and_value(a: &Entry<'_>, b: &Entry<'_>) -> Ordering
-    ensures { result ≡ whole_cmp (shown_entry a.now) (shown_entry b.now) }
-{
-    match a.key.cmp(b.key) {
-        Ordering::Equal => value_of(a).cmp(value_of(b)),
+    match a.cmp_place(b) {
+        Ordering::Equal => a.value().cmp(b.value()),
         order => order,
     }
 }
 
-fn is_same(a: &Entry<'_>, b: &Entry<'_>) -> bool
-    ensures { result ≡ is_same (shown_entry a.now) (shown_entry b.now) }
+fn is_same(a: &Revision<'_>, b: &Revision<'_>) -> bool
+    ensures { result ≡ is_same (entry_of a.now) (entry_of b.now) }
 {
-    a.key == b.key && value_of(a) == value_of(b)
+    a.place() == b.place() && a.value() == b.value()
 }
 
-/// The keys that two neighbors have, each once. Needs 8 bytes for each candidate at most: each such
-/// key is that of two or more.
+/// The keys that two neighbors have, once for each two.
 pub(crate) fn disputed_keys<'a>(
     alloc: Global,
-    candidates: &[Entry<'a>],
+    candidates: &[Revision<'a>],
 ) -> Result<Vec<&'a [u8]>, NoMemory>
-    requires { Rises whole_cmp (map shown_entry candidates.now) }
+    requires { Rises whole_cmp (map entry_of candidates.now) }
     ensures { IfOk result (λ disputed.
-        AreDisputed (map shown_entry candidates.now) (map (λ key. key.now) disputed.items)) }
+        AreDisputed (map entry_of candidates.now) (map (λ key. key.now) disputed.items)) }
 {
-    let mut keys = Vec::with_capacity(alloc, candidates.len() / 2)?;
+    let mut keys = Vec::new(alloc);
     for i in 1..candidates.len() {
-        let key = candidates[i].key;
-        if key == candidates[i - 1].key && !ends_with(keys.as_slice(), key) {
-            add_key(&mut keys, key)?;
+        if candidates[i].place() == candidates[i - 1].place() {
+            add_key(&mut keys, candidates[i].place())?;
         }
     }
     Ok(keys)
-}
-
-/// Whether a key is the last of these.
-fn ends_with(keys: &[&[u8]], key: &[u8]) -> bool
-    ensures { result ≡ is_last (map (λ key. key.now) keys.now) key.now }
-{
-    match keys.last() {
-        Some(last) => key == *last,
-        None => false,
-    }
-}
-
-/// The number of different keys of candidates.
-pub(crate) fn count_keys(candidates: &[Entry<'_>]) -> usize
-    requires { Rises whole_cmp (map shown_entry candidates.now) }
-    ensures { HaveKeys (map shown_entry candidates.now) result }
-{
-    let mut repeated = 0_usize;
-    for i in 1..candidates.len() {
-        if candidates[i].key == candidates[i - 1].key {
-            repeated += 1;
-        }
-    }
-    candidates.len() - repeated
 }
 
 /// Adds a key.
@@ -189,22 +144,34 @@ pub(crate) fn has_key(keys: &[&[u8]], key: &[u8]) -> bool
     keys.binary_search_by(|other| (*other).cmp(key)).is_ok()
 }
 
-/// Whether an entry with this key is among these, by rising key.
-pub(crate) fn has_entry(entries: &[Entry<'_>], key: &[u8]) -> bool
-    requires { Rises whole_cmp (map shown_entry entries.now) }
-    ensures { (result ≡ true) ↔ HasKey (map shown_entry entries.now) key.now }
+/// Whether a candidate with this key is among these, by rising key. Looks on from the place where the
+/// last key was looked up, so keys that rise are looked up in one walk over the candidates.
+pub(crate) fn has_candidate(candidates: &[Revision<'_>], at: &mut usize, key: &[u8]) -> bool
+    requires { Rises whole_cmp (map entry_of candidates.now) }
+    ensures { (result ≡ true) ↔ HasKey (map entry_of candidates.now) key.now }
 {
-    is_within(entries, key) && entries.binary_search_by(|entry| entry.key.cmp(key)).is_ok()
+    let mut i = start(candidates, *at, key);
+    while i < candidates.len() && is_below(&candidates[i], key) {
+        i += 1;
+    }
+    *at = i;
+    i < candidates.len() && candidates[i].place() == key
 }
 
-/// Whether a key is no less than that of the first entry and no greater than that of the last. Mostly it
-/// isn't: what is lost lies together.
-fn is_within(entries: &[Entry<'_>], key: &[u8]) -> bool
-    requires { Rises whole_cmp (map shown_entry entries.now) }
-    ensures { HasKey (map shown_entry entries.now) key.now → result ≡ true }
+/// A place before which all candidates have lesser keys: this one, if it is one.
+fn start(candidates: &[Revision<'_>], at: usize, key: &[u8]) -> usize
+    requires { Rises whole_cmp (map entry_of candidates.now) }
+    ensures { AreBelow key.now candidates.now result }
 {
-    match (entries.first(), entries.last()) {
-        (Some(first), Some(last)) => key.cmp(first.key).is_ge() && key.cmp(last.key).is_le(),
-        _ => false,
+    if 0 < at && at <= candidates.len() && is_below(&candidates[at - 1], key) {
+        at
+    } else {
+        0
     }
+}
+
+fn is_below(candidate: &Revision<'_>, key: &[u8]) -> bool
+    ensures { result ≡ is_lt (key_cmp (entry_of candidate.now).key key.now) }
+{
+    candidate.place().cmp(key).is_lt()
 }

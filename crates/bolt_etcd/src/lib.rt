@@ -16,6 +16,7 @@ mod missing;
 mod name_faults;
 mod newest;
 mod other;
+mod put_back;
 mod record;
 mod repair;
 mod repaired;

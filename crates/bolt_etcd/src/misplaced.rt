@@ -1,8 +1,9 @@
 //! Records of other revisions.
 ghost use Rattle.std.specs.Prelude.{◌≡◌};
-ghost use Rattle.bolt_etcd.specs.{Misplaced.is_misplaced, ShownRevisions.shown_revision};
+ghost use Rattle.bolt_check.specs.Keys.{Key};
+ghost use Rattle.bolt_etcd.specs.{Misplaced.is_misplaced, ShownRevisions.shown_decoded, ShownRevisions.shown_revision};
 
-use crate::revision::Revision;
+use crate::revision::{Decoded, Revision};
 
 impl<'a> Revision<'a> {
     /// Whether its record says that another transaction wrote it. A deletion's doesn't say.
@@ -10,7 +11,16 @@ impl<'a> Revision<'a> {
     pub fn is_misplaced(&self) -> bool
         ensures { result ≡ is_misplaced (shown_revision self.now) }
     {
-        let decoded = self.decode();
-        !decoded.key.deleted && decoded.content.modified != decoded.key.main
+        self.decode().is_misplaced()
+    }
+}
+
+impl<'a> Decoded<'a> {
+    /// Whether its record says that another transaction wrote it. A deletion's doesn't say.
+    #[tactic(auto, unfolding(crate::specs::Misplaced::is_misplaced))]
+    pub(crate) fn is_misplaced(&self) -> bool
+        ensures { (place : Key) → result ≡ is_misplaced (shown_decoded place self.now) }
+    {
+        !self.key.deleted && self.content.modified != self.key.main
     }
 }

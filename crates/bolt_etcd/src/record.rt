@@ -40,7 +40,7 @@ impl<'a> Record<'a> {
         let mut rest = bytes;
         while !rest.is_empty() {
             let (field, after) = read_field(rest)?;
-            record = record.with(field)?;
+            record.set(field)?;
             rest = after;
         }
         Some(record)
@@ -56,11 +56,12 @@ impl<'a> Record<'a> {
         self.lease = 0;
     }
 
-    /// The record after one more field, if the field has its wire type.
+    /// Takes one more field in, or returns `None` if the field doesn't have its wire type.
     #[tactic(auto, unfolding(crate::specs::Records::with))]
-    fn with(mut self, field: Field<'a>) -> Option<Record<'a>>
-        ensures { Returns shown_record result
-            (with (shown_record self.entry) (shown_field field.entry)) }
+    #[inline(always)]
+    fn set(&mut self, field: Field<'a>) -> Option<()>
+        ensures { Returns (λ _. shown_record self.new) result
+            (with (shown_record self.old) (shown_field field.entry)) }
     {
         let value = field.value;
         match field.number {
@@ -72,6 +73,6 @@ impl<'a> Record<'a> {
             6 => self.lease = value.number()?,
             _ => {}
         }
-        Some(self)
+        Some(())
     }
 }

@@ -6,17 +6,19 @@ ghost use Rattle.bolt_check.specs.declared.finding.Finding.{Finding};
 ghost use Rattle.bolt_recover.specs.{LostAndFound.all_lost, Losses.everything};
 ghost use Rattle.bolt_etcd.specs.{FullRepairs.IsFullRepair, Repaired.IsRepair, RepairRefusals.IsRepairRefusal};
 ghost use Rattle.bolt_check.specs.Keys.{key_cmp};
-ghost use Rattle.bolt_tree.specs.{InBuckets.view_cmp, Order.Rises, ShownEntries.item_view, ShownEntries.shown_entry};
+ghost use Rattle.bolt_tree.specs.{InBuckets.view_cmp, Order.Rises, ShownEntries.item_view};
+ghost use Rattle.bolt_etcd.specs.ShownRevisions.{entry_of};
 ghost use Rattle.bolt_etcd.specs.{Agreed.AreAgreed, Agreed.HaveUnmetKeys, Agreed.among, Agreed.without, Candidates.whole_cmp, Repaired.lacks_bucket, Superseded.ArePutBackIn};
 ghost use Rattle.bolt_etcd.specs.declared.repair.RepairFault.TheVariants as faults;
 
-use crate::candidates::{candidates_of, count_keys, disputed_keys, has_key};
+use crate::candidates::{candidates_of, disputed_keys, has_key};
 use crate::compaction::compacted_by;
-use crate::superseded::{has_old, keep_newest, stays, superseded_keys};
+use crate::revision::Revision;
+use crate::superseded::{keep_newest, old_among, sort_by_key, stays, superseded_keys};
 use crate::survey::Survey;
 use bolt_check::{Finding, NoMemory};
 use bolt_recover::{Lost, LostAndFound};
-use bolt_tree::{Entry, Item};
+use bolt_tree::Item;
 use std::alloc::Global;
 
 /// What goes back into the bucket `key` of a file that was searched (docs/RECOVERY.md, "The repaired
@@ -25,12 +27,12 @@ use std::alloc::Global;
 pub struct Repair<'a> {
     pub(crate) both: &'a LostAndFound<'a>,
     /// The revisions that go back, by rising key.
-    pub back: Vec<Entry<'a>>,
+    pub back: Vec<Revision<'a>>,
     /// The number of keys of candidates that don't go back.
     pub left_out: u64,
     /// Whether the bucket is made for them.
     pub(crate) is_made: bool,
-    ghost goes_back: { ∥ IsRepair both.now.file.now both.now.meta (map shown_entry back.items) is_made ∥₁ },
+    ghost goes_back: { ∥ IsRepair both.now.file.now both.now.meta (map entry_of back.items) is_made ∥₁ },
 }
 
 /// Why a file isn't repaired.
@@ -76,7 +78,7 @@ impl<'a> Repair<'a> {
         let Some(is_lacking) = lacks_bucket(survey.store) else {
             return Err(RepairFault::NotABucket);
         };
-        let keys = keep_agreed(alloc, &mut back, survey.met)?;
+        let keys = keep_agreed(alloc, &mut back, survey.met.as_slice())?;
         keep_what_goes_back(alloc, both, &mut back, compacted_by(survey.compaction))?;
         if let Lost::Everything(finding) = both.lost()
             && back.is_empty()
@@ -105,23 +107,22 @@ fn lacks_bucket(under: Option<Item<'_>>) -> Option<bool>
 
 /// Keeps the candidates that are agreed: the recovered bucket doesn't have their keys (those that it
 /// has are met), and no other candidate has the key with another value. They stand by rising key.
-/// Returns the number of keys of candidates that aren't met. Takes `met`, so that it is freed before
-/// superseded keys are kept.
+/// Returns the number of keys of candidates that aren't met.
 fn keep_agreed(
     alloc: Global,
-    candidates: &mut Vec<Entry<'_>>,
-    met: Vec<&[u8]>,
+    candidates: &mut Vec<Revision<'_>>,
+    met: &[&[u8]],
 ) -> Result<usize, NoMemory>
-    requires rises { Rises whole_cmp (map shown_entry candidates.old.items) }
-    requires sorted { IsSorted key_cmp (map (λ key. key.now) met.items) }
-    ensures agreed { OnOk result (AreAgreed (map shown_entry candidates.old.items)
-        (map (λ key. key.now) met.entry.items) (map shown_entry candidates.new.items)) }
-    ensures keys { IfOk result (HaveUnmetKeys (map shown_entry candidates.old.items)
-        (map (λ key. key.now) met.entry.items)) }
+    requires rises { Rises whole_cmp (map entry_of candidates.old.items) }
+    requires sorted { IsSorted key_cmp (map (λ key. key.now) met.now) }
+    ensures agreed { OnOk result (AreAgreed (map entry_of candidates.old.items)
+        (map (λ key. key.now) met.now) (map entry_of candidates.new.items)) }
+    ensures keys { IfOk result (HaveUnmetKeys (map entry_of candidates.old.items)
+        (map (λ key. key.now) met.now)) }
 {
-    remove_keys(candidates, met.as_slice());
-    let keys = count_keys(candidates.as_slice());
+    remove_keys(candidates, met);
     let disputed = disputed_keys(alloc, candidates.as_slice())?;
+    let keys = candidates.len() - disputed.len();
     remove_keys(candidates, disputed.as_slice());
     Ok(keys)
 }
@@ -131,37 +132,41 @@ fn keep_agreed(
 fn keep_what_goes_back<'a>(
     alloc: Global,
     both: &LostAndFound<'a>,
-    agreed: &mut Vec<Entry<'a>>,
+    agreed: &mut Vec<Revision<'a>>,
     compacted: u64,
 ) -> Result<(), NoMemory>
-    requires { Rises view_cmp (map shown_entry agreed.old.items) }
+    requires { Rises view_cmp (map entry_of agreed.old.items) }
     ensures { OnOk result (ArePutBackIn both.now.file.now both.now.meta compacted
-        (map shown_entry agreed.old.items) (map shown_entry agreed.new.items)) }
+        (map entry_of agreed.old.items) (map entry_of agreed.new.items)) }
 {
-    if !has_old(agreed.as_slice(), compacted) {
+    let old = old_among(agreed.as_slice(), compacted);
+    if old == 0 {
         return Ok(());
     }
-    keep_newest(agreed, compacted);
-    let superseded = superseded_keys(alloc, both, agreed.as_slice(), compacted)?;
+    let later = agreed.len() - old;
+    keep_newest(agreed, old, compacted);
+    let (newest, _) = agreed.as_slice().split_at(agreed.len() - later);
+    let superseded = superseded_keys(alloc, both, newest, compacted)?;
     remove_keys(agreed, superseded.as_slice());
-    agreed.retain(|entry| stays(entry, compacted));
-    agreed.sort_unstable_by(|a, b| a.key.cmp(b.key));
+    agreed.retain(|revision| stays(revision, compacted));
+    let old = agreed.len() - later;
+    sort_by_key(agreed.as_mut_slice(), old);
     Ok(())
 }
 
-/// Removes the entries that have one of these keys, which are sorted.
-fn remove_keys(entries: &mut Vec<Entry<'_>>, keys: &[&[u8]])
+/// Removes those that have one of these keys, which are sorted.
+fn remove_keys(revisions: &mut Vec<Revision<'_>>, keys: &[&[u8]])
     requires { IsSorted key_cmp (map (λ key. key.now) keys.now) }
-    ensures { map shown_entry entries.new.items
-        ≡ without (map (λ key. key.now) keys.now) (map shown_entry entries.old.items) }
+    ensures { map entry_of revisions.new.items
+        ≡ without (map (λ key. key.now) keys.now) (map entry_of revisions.old.items) }
 {
-    entries.retain(|entry| lacks_key(keys, entry.key));
+    revisions.retain(|revision| lacks_key(keys, revision));
 }
 
-/// Whether a key isn't among these, which are sorted.
-fn lacks_key(keys: &[&[u8]], key: &[u8]) -> bool
+/// Whether its key isn't among these, which are sorted.
+fn lacks_key(keys: &[&[u8]], revision: &Revision<'_>) -> bool
     requires { IsSorted key_cmp (map (λ key. key.now) keys.now) }
-    ensures { result ≡ not (among (map (λ key. key.now) keys.now) key.now) }
+    ensures { result ≡ not (among (map (λ key. key.now) keys.now) (entry_of revision.now).key) }
 {
-    !has_key(keys, key)
+    !has_key(keys, revision.place())
 }

@@ -4,11 +4,12 @@ ghost use Rattle.bolt_format.specs.Bytes.{IsBytes};
 ghost use Rattle.bolt_etcd.specs.{RepairedMerges.ReadsRepaired, Repaired.IsRepaired};
 ghost use Rattle.bolt_tree.specs.Listing.{Member};
 
+use crate::put_back::PutBack;
 use crate::repair::Repair;
 use bolt_check::NoMemory;
 use bolt_recover::Kept;
 use bolt_recover::laws::{found_pages_are_one, the_recovered_listing_is_recovered};
-use bolt_tree::{InBucket, Item, Members, Merged};
+use bolt_tree::{Item, Members, Merged};
 use std::alloc::Global;
 
 /// The members of the repaired listing of a file, in the order of paths (docs/RECOVERY.md, "The
@@ -16,7 +17,7 @@ use std::alloc::Global;
 /// costs constant work, and no memory beyond that of the recovery.
 #[derive(Drop)]
 pub struct Repaired<'a> {
-    members: Merged<'a, Kept<'a>, InBucket<'a>>,
+    members: Merged<'a, Kept<'a>, PutBack<'a>>,
     repair: &'a Repair<'a>,
     ghost reads: { ∥ ReadsRepaired members repair.now ∥₁ },
 }
@@ -43,7 +44,7 @@ impl<'a> Repaired<'a> {
         found_pages_are_one();
         the_recovered_listing_is_recovered();
         let kept = Kept::of(alloc, repair.both)?;
-        let back = InBucket::new(alloc, &[b"key"], repair.is_made, repair.back.as_slice())?;
+        let back = PutBack::new(alloc, &[b"key"], repair.is_made, repair.back.as_slice())?;
         Ok(Repaired {
             members: Merged::new(kept, back),
             repair,

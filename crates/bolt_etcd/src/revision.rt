@@ -2,12 +2,16 @@
 ghost use Rattle.std.specs.Prelude.{◌≡◌, Some, None};
 ghost use Rattle.std.specs.Option.{option_map};
 ghost use Rattle.std.proofs.Props.{props};
+ghost use Rattle.bolt_format.specs.Bytes.{IsBytes};
+ghost use Rattle.bolt_check.specs.Keys.{key_cmp};
 ghost use Rattle.bolt_tree.specs.ShownEntries.{shown_entry};
-ghost use Rattle.bolt_etcd.specs.{Returns.Returns, RevisionKeys.IsSpelled, Revisions.name_of, Revisions.revision_in, Revisions.revision_of, Shown.shown_record};
+ghost use Rattle.bolt_etcd.specs.{Candidates.candidate_at, Candidates.value_bytes, Returns.Returns, RevisionKeys.IsSpelled, Revisions.name_of, Revisions.revision_in, Revisions.revision_of, Shown.shown_record, Superseded.is_deletion};
 
 use crate::record::Record;
-use crate::revision_key::RevisionKey;
+use crate::revision_key::{LEN, RevisionKey};
 use bolt_tree::{Entry, Item};
+use byteorder::{BigEndian, ByteOrder};
+use std::cmp::Ordering;
 
 /// A revision: the key and the value of an entry that is one, and the name of the key that it is a
 /// revision of. It takes 48 bytes. What else it says is decoded again when it is asked for.
@@ -17,6 +21,7 @@ pub struct Revision<'a> {
     value: &'a [u8],
     name: &'a [u8],
     ghost decodes: { option_map name_of (revision_in key.now value.now) ≡ Some name.now },
+    ghost bytes: { IsBytes key.now },
 }
 
 /// What a revision says: its key, and its record.
@@ -30,7 +35,16 @@ pub struct Decoded<'a> {
 
 #[tactic(auto, unfolding(crate::specs::ShownRevisions::shown_revision, crate::specs::Revisions::revision_of))]
 impl<'a> Revision<'a> {
-    ghost use Rattle.bolt_etcd.specs.ShownRevisions.{shown_decoded, shown_revision};
+    ghost use Rattle.bolt_etcd.specs.ShownRevisions.{entry_of, shown_decoded, shown_revision};
+
+    /// The revision that is under a key, with its value and its name.
+    fn new(key: &'a [u8], value: &'a [u8], name: &'a [u8]) -> Revision<'a>
+        requires { option_map name_of (revision_in key.now value.now) ≡ Some name.now }
+        ensures key { result.key.now ≡ key.now }
+        ensures value { result.value.now ≡ value.now }
+    {
+        Revision { key, value, name }
+    }
 
     /// The entry of the bucket `key` as a revision. Returns `None` if it isn't one: if it is a
     /// bucket, or its key isn't a revision key, or its value isn't a record. Needs no memory.
@@ -41,11 +55,22 @@ impl<'a> Revision<'a> {
             return None;
         };
         let decoded = Decoded::of(entry.key, value)?;
-        Some(Revision {
-            key: entry.key,
-            value,
-            name: decoded.content.name,
-        })
+        Some(Revision::new(entry.key, value, decoded.content.name))
+    }
+
+    /// The entry as a candidate: a revision with a record of its own transaction. Returns `None` if
+    /// it isn't one.
+    pub(crate) fn candidate(entry: &Entry<'a>) -> Option<Revision<'a>>
+        ensures { option_map entry_of result ≡ candidate_at (shown_entry entry.now) }
+    {
+        let Item::Value(value) = entry.item else {
+            return None;
+        };
+        let decoded = Decoded::of(entry.key, value)?;
+        if decoded.is_misplaced() {
+            return None;
+        }
+        Some(Revision::new(entry.key, value, decoded.content.name))
     }
 
     /// The name of the key that it is a revision of.
@@ -65,9 +90,51 @@ impl<'a> Revision<'a> {
 
     /// Its key as it is stored. Revisions are ordered by it.
     pub(crate) fn place(&self) -> &'a [u8]
-        ensures { result.now ≡ (shown_revision self.now).place }
+        ensures revision { result.now ≡ (shown_revision self.now).place }
+        ensures entry { result.now ≡ (entry_of self.now).key }
     {
         self.key
+    }
+
+    /// The entry that it is.
+    pub(crate) fn entry(&self) -> Entry<'a>
+        ensures { shown_entry result ≡ entry_of self.now }
+    {
+        Entry {
+            key: self.key,
+            item: Item::Value(self.value),
+        }
+    }
+
+    /// Its value as it is stored.
+    pub(crate) fn value(&self) -> &'a [u8]
+        ensures { result.now ≡ value_bytes (entry_of self.now) }
+    {
+        self.value
+    }
+
+    /// The number of its transaction.
+    pub(crate) fn main(&self) -> u64
+        ensures { result ≡ (shown_revision self.now).key.main }
+    {
+        BigEndian::read_u64(self.key)
+    }
+
+    /// Whether it is a deletion.
+    pub(crate) fn is_deletion(&self) -> bool
+        ensures { result ≡ is_deletion (entry_of self.now) }
+    {
+        self.key.len() > LEN
+    }
+
+    /// Compares two by their keys, of which the transactions mostly tell.
+    pub(crate) fn cmp_place(&self, other: &Revision<'_>) -> Ordering
+        ensures { result ≡ key_cmp (entry_of self.now).key (entry_of other.now).key }
+    {
+        match self.main().cmp(&other.main()) {
+            Ordering::Equal => self.key.cmp(other.key),
+            order => order,
+        }
     }
 
     /// What it says.

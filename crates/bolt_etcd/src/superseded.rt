@@ -1,90 +1,104 @@
 //! Which revisions a compaction keeps.
-ghost use Rattle.std.specs.Prelude.{◌≡◌, IfOk, map};
-ghost use Rattle.std.specs.{List.list_any, Option.option_map};
-ghost use Rattle.bolt_tree.specs.{InBuckets.view_cmp, Order.Rises, ShownEntries.shown_entry};
-ghost use Rattle.bolt_etcd.specs.ShownRevisions.{shown_revision};
-ghost use Rattle.bolt_etcd.specs.Superseded.{AreNewest, AreSupersededIn, HasOneOld, Supersedes, entry_name, is_deletion, is_old, is_same_old, newest_cmp, stays};
+ghost use Rattle.std.specs.Prelude.{◌≡◌, ◌≤◌, IfOk, length, map};
+ghost use Rattle.std.specs.Option.{option_map};
+ghost use Rattle.bolt_tree.specs.{InBuckets.view_cmp, Order.Rises};
+ghost use Rattle.bolt_etcd.specs.ShownRevisions.{entry_of, shown_revision};
+ghost use Rattle.bolt_etcd.specs.Superseded.{AreSupersededIn, HasOneOld, IsPartedAt, KeepsNewest, SortsFirst, Supersedes};
+ghost use Rattle.bolt_etcd.specs.Superseded.{entry_name, is_old, is_older_old, is_same_old, newest_cmp, stays};
 
 use crate::candidates::add_key;
 use crate::revision::Revision;
-use crate::revision_key::RevisionKey;
 use crate::survey::revision_at;
 use bolt_recover::{Kept, LostAndFound};
-use bolt_tree::{Entry, Members, NoMemory};
+use bolt_tree::{Members, NoMemory};
 use std::alloc::Global;
 use std::cmp::Ordering;
 
-/// The name of an entry that is a revision. It is empty of another.
-fn name_of<'a>(entry: &Entry<'a>) -> &'a [u8]
-    ensures { result.now ≡ entry_name (shown_entry entry.now) }
+/// The name of the key that it is a revision of.
+fn name_of<'a>(revision: &Revision<'a>) -> &'a [u8]
+    ensures { result.now ≡ entry_name (entry_of revision.now) }
 {
-    match Revision::of(entry) {
-        Some(revision) => revision.name(),
-        None => &[],
-    }
+    revision.name()
 }
 
-/// Whether a compaction may have removed the revision with this key.
-fn is_old(entry: &Entry<'_>, compacted: u64) -> bool
-    ensures { result ≡ is_old compacted (shown_entry entry.now) }
+/// Whether a compaction may have removed it.
+fn is_old(revision: &Revision<'_>, compacted: u64) -> bool
+    ensures { result ≡ is_old compacted (entry_of revision.now) }
 {
-    match RevisionKey::read(entry.key) {
-        Some(key) => key.main <= compacted,
-        None => false,
-    }
+    revision.main() <= compacted
 }
 
-/// Whether a compaction may have removed any of these.
-pub(crate) fn has_old(entries: &[Entry<'_>], compacted: u64) -> bool
-    ensures { result ≡ list_any (λ e. is_old compacted (shown_entry e)) entries.now }
+/// The number of those that a compaction may have removed. By rising key they come first.
+pub(crate) fn old_among(revisions: &[Revision<'_>], compacted: u64) -> usize
+    requires { Rises view_cmp (map entry_of revisions.now) }
+    ensures { IsPartedAt compacted (map entry_of revisions.now) result }
 {
-    entries.iter().any(|entry| is_old(entry, compacted))
-}
-
-fn is_deletion(entry: &Entry<'_>) -> bool
-    ensures { result ≡ is_deletion (shown_entry entry.now) }
-{
-    match RevisionKey::read(entry.key) {
-        Some(key) => key.deleted,
-        None => false,
-    }
+    revisions.partition_point(|revision| is_old(revision, compacted))
 }
 
 /// By name; of one name those after the compaction first, and then the later ones first.
-fn newest_first(a: &Entry<'_>, b: &Entry<'_>, compacted: u64) -> Ordering
-    ensures { result ≡ newest_cmp compacted (shown_entry a.now) (shown_entry b.now) }
+fn newest_first(a: &Revision<'_>, b: &Revision<'_>, compacted: u64) -> Ordering
+    ensures { result ≡ newest_cmp compacted (entry_of a.now) (entry_of b.now) }
 {
     match name_of(a).cmp(name_of(b)) {
         Ordering::Equal => is_old(a, compacted)
             .cmp(&is_old(b, compacted))
-            .then(b.key.cmp(a.key)),
+            .then(b.cmp_place(a)),
         order => order,
     }
 }
 
-/// Of those up to the last compaction keeps the newest of each name; the later ones stay. They stand
-/// by rising name then; of one name, those after the compaction come first.
-pub(crate) fn keep_newest(candidates: &mut Vec<Entry<'_>>, compacted: u64)
-    requires { Rises view_cmp (map shown_entry candidates.old.items) }
-    ensures { AreNewest compacted (map shown_entry candidates.old.items)
-        (map shown_entry candidates.new.items) }
+/// Of the first ones, which are old, keeps the newest of each name. They stand by rising name then.
+/// All others stay as they are.
+pub(crate) fn keep_newest(candidates: &mut Vec<Revision<'_>>, old: usize, compacted: u64)
+    requires rises { Rises view_cmp (map entry_of candidates.old.items) }
+    requires parted { IsPartedAt compacted (map entry_of candidates.old.items) old }
+    ensures { KeepsNewest compacted old (map entry_of candidates.old.items)
+        (map entry_of candidates.new.items) }
 {
-    candidates.sort_unstable_by(|a, b| newest_first(a, b, compacted));
-    candidates.dedup_by(|older, newest| is_same_old(older, newest, compacted));
+    sort_by_name(candidates.as_mut_slice(), old, compacted);
+    candidates.dedup_by(|older, newest| is_older_old(older, newest, compacted));
 }
 
-/// Whether the newest one of a name is old, so that this older one is removed.
-fn is_same_old(older: &Entry<'_>, newest: &Entry<'_>, compacted: u64) -> bool
-    ensures { result ≡ is_same_old compacted (shown_entry older.now) (shown_entry newest.now) }
+/// Sorts the first ones by name.
+fn sort_by_name(revisions: &mut [Revision<'_>], old: usize, compacted: u64)
+    requires { old ≤ length revisions.old }
+    ensures sorts { SortsFirst (newest_cmp compacted) old (map entry_of revisions.old)
+        (map entry_of revisions.new) }
+    ensures number { length revisions.new ≡ length revisions.old }
+{
+    revisions[..old].sort_unstable_by(|a, b| newest_first(a, b, compacted));
+}
+
+/// Sorts the first ones by key.
+pub(crate) fn sort_by_key(revisions: &mut [Revision<'_>], old: usize)
+    requires { old ≤ length revisions.old }
+    ensures sorts { SortsFirst view_cmp old (map entry_of revisions.old)
+        (map entry_of revisions.new) }
+    ensures number { length revisions.new ≡ length revisions.old }
+{
+    revisions[..old].sort_unstable_by(|a, b| a.cmp_place(b));
+}
+
+/// Whether the newest one of a name is old, so that this one, which is older, is removed.
+fn is_older_old(older: &Revision<'_>, newest: &Revision<'_>, compacted: u64) -> bool
+    ensures { result ≡ is_older_old compacted (entry_of older.now) (entry_of newest.now) }
+{
+    is_old(older, compacted) && is_same_old(older, newest, compacted)
+}
+
+/// Whether the newest one of a name is old, and this one has the name.
+fn is_same_old(older: &Revision<'_>, newest: &Revision<'_>, compacted: u64) -> bool
+    ensures { result ≡ is_same_old compacted (entry_of older.now) (entry_of newest.now) }
 {
     is_old(newest, compacted) && name_of(older) == name_of(newest)
 }
 
 /// Whether it isn't a deletion that a compaction removes.
-pub(crate) fn stays(entry: &Entry<'_>, compacted: u64) -> bool
-    ensures { result ≡ stays compacted (shown_entry entry.now) }
+pub(crate) fn stays(revision: &Revision<'_>, compacted: u64) -> bool
+    ensures { result ≡ stays compacted (entry_of revision.now) }
 {
-    !is_old(entry, compacted) || !is_deletion(entry)
+    !is_old(revision, compacted) || !revision.is_deletion()
 }
 
 /// The keys of candidates that a kept revision of the same name comes after, up to the last
@@ -92,13 +106,13 @@ pub(crate) fn stays(entry: &Entry<'_>, compacted: u64) -> bool
 pub(crate) fn superseded_keys<'a>(
     alloc: Global,
     both: &LostAndFound<'a>,
-    candidates: &[Entry<'a>],
+    candidates: &[Revision<'a>],
     compacted: u64,
 ) -> Result<Vec<&'a [u8]>, NoMemory>
-    requires rises { Rises (newest_cmp compacted) (map shown_entry candidates.now) }
-    requires one { HasOneOld compacted (map shown_entry candidates.now) }
+    requires rises { Rises (newest_cmp compacted) (map entry_of candidates.now) }
+    requires one { HasOneOld compacted (map entry_of candidates.now) }
     ensures { IfOk result (λ keys. AreSupersededIn both.now.file.now both.now.meta compacted
-        (map shown_entry candidates.now) (map (λ key. key.now) keys.items)) }
+        (map entry_of candidates.now) (map (λ key. key.now) keys.items)) }
 {
     let mut keys = Vec::new(alloc);
     let mut kept = Kept::of(alloc, both)?;
@@ -118,23 +132,26 @@ pub(crate) fn superseded_keys<'a>(
 /// than the last compaction.
 fn superseded_by<'a>(
     revision: &Revision<'_>,
-    candidates: &[Entry<'a>],
+    candidates: &[Revision<'a>],
     compacted: u64,
 ) -> Option<&'a [u8]>
-    requires rises { Rises (newest_cmp compacted) (map shown_entry candidates.now) }
-    requires one { HasOneOld compacted (map shown_entry candidates.now) }
-    ensures { Supersedes compacted (map shown_entry candidates.now) (shown_revision revision.now)
+    requires rises { Rises (newest_cmp compacted) (map entry_of candidates.now) }
+    requires one { HasOneOld compacted (map entry_of candidates.now) }
+    ensures { Supersedes compacted (map entry_of candidates.now) (shown_revision revision.now)
         (option_map (λ key. key.now) result) }
 {
-    if revision.key().main > compacted {
+    if revision.main() > compacted {
         return None;
     }
     let name = revision.name();
-    let found = candidates.binary_search_by(|entry| {
-        name_of(entry)
+    let found = candidates.binary_search_by(|candidate| {
+        name_of(candidate)
             .cmp(name)
-            .then(is_old(entry, compacted).cmp(&true))
+            .then(is_old(candidate, compacted).cmp(&true))
     });
-    let entry = candidates.get(found.ok()?)?;
-    entry.key.cmp(revision.place()).is_lt().then_some(entry.key)
+    let candidate = candidates.get(found.ok()?)?;
+    candidate
+        .cmp_place(revision)
+        .is_lt()
+        .then_some(candidate.place())
 }

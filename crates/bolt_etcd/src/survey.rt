@@ -1,12 +1,12 @@
 //! What the recovered listing says of a store.
 ghost use Rattle.std.specs.Prelude.{IfOk, OnOk, map};
 ghost use Rattle.bolt_tree.specs.{Order.Rises, Paths.path_of};
-ghost use Rattle.bolt_tree.specs.ShownEntries.{item_view, shown_entry};
+ghost use Rattle.bolt_tree.specs.ShownEntries.{item_view};
 ghost use Rattle.bolt_recover.specs.Recovered.{ForRecovered};
-ghost use Rattle.bolt_etcd.specs.{Candidates.whole_cmp, Returns.Returns, ShownRevisions.shown_revision};
+ghost use Rattle.bolt_etcd.specs.{Candidates.whole_cmp, Returns.Returns, ShownRevisions.entry_of, ShownRevisions.shown_revision};
 ghost use Rattle.bolt_etcd.specs.Surveys.{IsAt, revision_at};
 
-use crate::candidates::{add_key, has_entry};
+use crate::candidates::{add_key, has_candidate};
 use crate::revision::Revision;
 use bolt_recover::{Kept, LostAndFound};
 use bolt_tree::{Entry, Item, Members, NoMemory};
@@ -43,6 +43,8 @@ pub(crate) struct Survey<'a> {
     pub compaction: Option<&'a [u8]>,
     /// The keys in the bucket `key` that candidates have too, by rising key.
     pub met: Vec<&'a [u8]>,
+    /// Where the last key was looked up among the candidates.
+    at: usize,
 }
 
 impl<'a> Survey<'a> {
@@ -52,17 +54,18 @@ impl<'a> Survey<'a> {
     pub fn of(
         alloc: Global,
         both: &LostAndFound<'a>,
-        candidates: &[Entry<'a>],
+        candidates: &[Revision<'a>],
     ) -> Result<Survey<'a>, NoMemory>
-        requires { Rises whole_cmp (map shown_entry candidates.now) }
+        requires { Rises whole_cmp (map entry_of candidates.now) }
         ensures { IfOk result (λ survey.
             ForRecovered both.now.file.now both.now.meta (λ recovered.
-            IsSurveyOf recovered (map shown_entry candidates.now) survey)) }
+            IsSurveyOf recovered (map entry_of candidates.now) survey)) }
     {
         let mut survey = Survey {
             store: None,
             compaction: None,
             met: Vec::new(alloc),
+            at: 0,
         };
         let mut kept = Kept::of(alloc, both)?;
         'members: while let Some(item) = kept.next()? {
@@ -76,16 +79,16 @@ impl<'a> Survey<'a> {
         &mut self,
         path: &[&'a [u8]],
         item: Item<'a>,
-        candidates: &[Entry<'a>],
+        candidates: &[Revision<'a>],
     ) -> Result<(), NoMemory>
-        requires { Rises whole_cmp (map shown_entry candidates.now) }
-        ensures { OnOk result (Notes (map shown_entry candidates.now)
+        requires { Rises whole_cmp (map entry_of candidates.now) }
+        ensures { OnOk result (Notes (map entry_of candidates.now)
             (path_of path.now, item_view item.entry) self.old self.new) }
     {
         match place_of(path) {
             Place::Store => self.store = Some(item),
             Place::InStore(key) => {
-                if has_entry(candidates, key) {
+                if has_candidate(candidates, &mut self.at, key) {
                     add_key(&mut self.met, key)?;
                 }
             }

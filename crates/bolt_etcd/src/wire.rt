@@ -99,9 +99,23 @@ fn read_bytes(n: u64, bytes: &[u8]) -> Option<(&[u8], &[u8])>
     bytes.split_at_checked(n as usize)
 }
 
-/// Reads a varint. Bits above the 64th are dropped.
-#[tactic(auto, using(crate::proofs::Varints::reading))]
+/// Reads a varint. Bits above the 64th are dropped. Most have one byte.
+#[tactic(auto, using(crate::proofs::Varints::short))]
+#[inline(always)]
 fn read_varint(bytes: &[u8]) -> Option<(u64, &[u8])>
+    ensures read { Returns (before (λ n. n)) result (varint bytes.now) }
+    ensures shorter { IfSome result (λ x. length x.1.now < length bytes.now) }
+{
+    let (byte, rest) = bytes.split_first()?;
+    if *byte < 128 {
+        return Some((u64::from(*byte), rest));
+    }
+    read_bytewise(bytes)
+}
+
+/// Reads a varint of any length.
+#[tactic(auto, using(crate::proofs::Varints::reading))]
+fn read_bytewise(bytes: &[u8]) -> Option<(u64, &[u8])>
     ensures read { Returns (before (λ n. n)) result (varint bytes.now) }
     ensures shorter { IfSome result (λ x. length x.1.now < length bytes.now) }
 {

@@ -8,7 +8,6 @@ pub mod EntriesLeft
 pub mod FileListings
 pub mod FileTrees
 pub mod Laws
-pub mod InBucketMembers
 pub mod InBuckets
 pub mod Listing
 pub mod ListingParts

@@ -1,48 +1,86 @@
--- The newest, without those that are superseded and without deletions, by rising key.
-use Rattle.std.proofs.Common.{◌≡◌, ◌∙◌, Bor, List, ap, false, filter, is_lt, map, rules, subst, sym}
+-- The newest of the old ones, without those that are superseded and without deletions, by rising key; and all later ones.
+use Rattle.std.proofs.Common.{◌≡◌, ◌∙◌, ◌-◌, Bor, List, ap, arith, filter, length, map, rules, subst, sym, vec_len}
 use Rattle.std.proofs.lemmas.Fn.{filter_same}
-use Rattle.std.proofs.lemmas.List.MinMax.{ranks_by}
-use Rattle.std.proofs.lemmas.List.Sorted.{IsPermutation-map, answers_always}
-use Rattle.std.specs.List.{list_any}
-use Rattle.std.specs.List.Sorted.{IsPermutation}
 use Rattle.bolt_check.specs.Keys.{Key}
-use Rattle.bolt_tree.specs.{Entries.EntryView, InBuckets.view_cmp, ShownEntries.shown_entry}
-use Rattle.bolt_tree.specs.declared.entry.Entry.{Entry}
-use Rattle.bolt_recover.proofs.Existing.{recovers}
-use Rattle.bolt_etcd.specs.{Agreed.without, Superseded.AreSuperseded, Superseded.is_old, Superseded.stays}
-use Rattle.bolt_etcd.proofs.{Filtered.filter_mapped, MappedLists.sorted_mapped, NewestEntries.one_old, NewestEntries.view_total, PutBackEntries.are_put_back, PutBackEntries.none_old}
+use Rattle.bolt_tree.specs.{Entries.EntryView, InBuckets.view_cmp, Order.Rises}
+use Rattle.bolt_recover.proofs.Existing.{has_recovered, recovers}
+use Rattle.bolt_etcd.specs.{Agreed.without, ShownRevisions.entry_of, Superseded.ArePutBack, Superseded.AreSuperseded, Superseded.HasOneOld, Superseded.IsPartedAt}
+use Rattle.bolt_etcd.specs.Superseded.{SortsFirst, newest_cmp, stays}
+use Rattle.bolt_etcd.specs.declared.revision.Revision.{Revision}
+use Rattle.bolt_etcd.proofs.{Filtered.filter_mapped, SortedFirst.written, WhatGoesBack.code_back, WhatGoesBack.code_fits, WhatGoesBack.first_of, WhatGoesBack.one}
 use Rattle.bolt_etcd.proofs.repair.keep_what_goes_back.Goals as goal
 
 abbrev now : Bor Key → Key
 now key = key.now
 
 pub superseded_keys-requires-clause-rises : goal.superseded_keys-requires-clause-rises
-superseded_keys-requires-clause-rises c = rw c.as_slice-2.ensures.value c.keep_newest.ensures.rises
+superseded_keys-requires-clause-rises c =
+    let compacted = c.args.compacted in
+    let n = c.old_among-old.result in
+    let agreed = c.args.agreed.now.items in
+    let after = c.keep_newest.new.candidates.items in
+    let parted = subst (λ (rs : List Revision). IsPartedAt compacted (map entry_of rs) c.old_among-old.result) c.as_slice.ensures.value c.old_among-old.ensures in
+    let all : vec_len c.args.agreed.now ≡ length agreed = omega arith in
+    let left : vec_len c.keep_newest.new.candidates ≡ length after = omega arith in
+    let first = first_of compacted n agreed after c.requires parted c.keep_newest.ensures _ _ _ c.split_at.ensures.front c.as_slice-2.ensures.value (let is = c.len.ensures in let also = c.len-2.ensures in omega (arith, all, left, is, also)) in
+    subst (Rises (newest_cmp compacted)) (sym first) c.keep_newest.ensures.are.rises
 
 pub superseded_keys-requires-clause-one : goal.superseded_keys-requires-clause-one
-superseded_keys-requires-clause-one c = rw c.as_slice-2.ensures.value (one_old c.args.compacted (map shown_entry c.args.agreed.now.items) _ c.requires c.keep_newest.ensures)
+superseded_keys-requires-clause-one c =
+    let compacted = c.args.compacted in
+    let n = c.old_among-old.result in
+    let agreed = c.args.agreed.now.items in
+    let after = c.keep_newest.new.candidates.items in
+    let parted = subst (λ (rs : List Revision). IsPartedAt compacted (map entry_of rs) c.old_among-old.result) c.as_slice.ensures.value c.old_among-old.ensures in
+    let all : vec_len c.args.agreed.now ≡ length agreed = omega arith in
+    let left : vec_len c.keep_newest.new.candidates ≡ length after = omega arith in
+    let first = first_of compacted n agreed after c.requires parted c.keep_newest.ensures _ _ _ c.split_at.ensures.front c.as_slice-2.ensures.value (let is = c.len.ensures in let also = c.len-2.ensures in omega (arith, all, left, is, also)) in
+    subst (HasOneOld compacted) (sym first) (one compacted n (map entry_of agreed) (map entry_of after) c.requires parted c.keep_newest.ensures)
 
 pub remove_keys-requires : goal.remove_keys-requires
 remove_keys-requires c = rw c.as_slice-3.ensures.value (c.in_ok-superseded.ensures _ (recovers c.args.both.now.file.now c.args.both.now.meta)).sorted
 
+pub overflow_sub-old : goal.overflow_sub-old
+overflow_sub-old c =
+    let compacted = c.args.compacted in
+    let n = c.old_among-old.result in
+    let agreed = c.args.agreed.now.items in
+    let after = c.keep_newest.new.candidates.items in
+    let parted = subst (λ (rs : List Revision). IsPartedAt compacted (map entry_of rs) c.old_among-old.result) c.as_slice.ensures.value c.old_among-old.ensures in
+    let all : vec_len c.args.agreed.now ≡ length agreed = omega arith in
+    let left : vec_len c.keep_newest.new.candidates ≡ length after = omega arith in
+    let first = first_of compacted n agreed after c.requires parted c.keep_newest.ensures _ _ _ c.split_at.ensures.front c.as_slice-2.ensures.value (let is = c.len.ensures in let also = c.len-2.ensures in omega (arith, all, left, is, also)) in
+    let rest = c.retain.new.self.items in
+    let keys = map now c.in_ok-superseded.superseded.items in
+    let stayed = ap (map entry_of) (filter_same _ (λ (r : Revision). stays compacted (entry_of r)) _ (λ x b f h. search rules) _ _ c.retain.ensures.filtered) ∙ filter_mapped entry_of (stays compacted) _
+    ∙ ap (filter (stays compacted)) (c.remove_keys.ensures ∙ ap (λ (ks : List (Bor Key)). without (map now ks) (map entry_of after)) c.as_slice-3.ensures.value) in
+    let kept : vec_len c.retain.new.self ≡ length rest = omega arith in
+    let (listing, is_listing) = has_recovered c.args.both.now.file.now c.args.both.now.meta in
+    let superseded = subst (λ (es : List EntryView). AreSuperseded compacted listing es keys) first (c.in_ok-superseded.ensures listing is_listing) in
+    let fits = code_fits compacted n agreed after c.requires parted c.keep_newest.ensures listing keys superseded rest stayed in
+    let is = c.len.ensures in
+    let also = c.len-3.ensures in
+    omega (arith, all, kept, is, also, fits)
+
 pub returns : goal.returns
 returns c = λ listing is.
     let compacted = c.args.compacted in
-    let agreed = map shown_entry c.args.agreed.now.items in
-    let newest = map shown_entry c.keep_newest.new.candidates.items in
+    let n = c.old_among-old.result in
+    let agreed = c.args.agreed.now.items in
+    let after = c.keep_newest.new.candidates.items in
+    let parted = subst (λ (rs : List Revision). IsPartedAt compacted (map entry_of rs) c.old_among-old.result) c.as_slice.ensures.value c.old_among-old.ensures in
+    let all : vec_len c.args.agreed.now ≡ length agreed = omega arith in
+    let left : vec_len c.keep_newest.new.candidates ≡ length after = omega arith in
+    let first = first_of compacted n agreed after c.requires parted c.keep_newest.ensures _ _ _ c.split_at.ensures.front c.as_slice-2.ensures.value (let is = c.len.ensures in let also = c.len-2.ensures in omega (arith, all, left, is, also)) in
+    let rest = c.retain.new.self.items in
     let keys = map now c.in_ok-superseded.superseded.items in
-    let superseded = subst (λ (es : List Entry). AreSuperseded compacted listing (map shown_entry es) keys) c.as_slice-2.ensures.value (c.in_ok-superseded.ensures listing is) in
-    let rest : map shown_entry c.remove_keys.new.entries.items ≡ without keys newest = c.remove_keys.ensures ∙ ap (λ (ks : List (Bor Key)). without (map now ks) newest) c.as_slice-3.ensures.value in
-    let kept = ap (map shown_entry) (filter_same _ (λ (e : Entry). stays compacted (shown_entry e)) _ (λ x b f h. search rules) _ _ c.retain.ensures.filtered) in
-    let stayed : map shown_entry c.retain.new.self.items ≡ filter (stays compacted) (without keys newest) = kept ∙ filter_mapped shown_entry (stays compacted) _ ∙ ap (filter (stays compacted)) rest in
-    let moved = IsPermutation-map shown_entry _ _ c.sort_unstable_by.ensures.permutation in
-    are_put_back compacted listing agreed newest keys c.requires c.keep_newest.ensures superseded (map shown_entry c.sort_unstable_by.new.self.items)
-    (subst (λ (es : List EntryView). IsPermutation es (map shown_entry c.sort_unstable_by.new.self.items)) stayed moved)
-    (sorted_mapped shown_entry (λ a b. is_lt (view_cmp a b)) _ (c.sort_unstable_by.ensures.sorted (λ (a b : Entry). is_lt (view_cmp (shown_entry a) (shown_entry b))) (ranks_by view_total shown_entry) (answers_always _ _ _ (λ f a r g h.
-    let e : r ≡ view_cmp (shown_entry a.0.now) (shown_entry a.1.0.now) = search rules in ap is_lt e))))
-
-pub returns-then-not-has_old : goal.returns-then-not-has_old
-returns-then-not-has_old c = λ listing is.
-    let none : list_any (λ (e : Entry). is_old c.args.compacted (shown_entry e)) c.args.agreed.now.items ≡ false =
-    ap (list_any (λ (e : Entry). is_old c.args.compacted (shown_entry e))) (sym c.as_slice.ensures.value) ∙ sym c.has_old.ensures ∙ c.if-not-has_old.true in
-    none_old c.args.compacted listing c.args.agreed.now.items c.requires none
+    let stayed = ap (map entry_of) (filter_same _ (λ (r : Revision). stays compacted (entry_of r)) _ (λ x b f h. search rules) _ _ c.retain.ensures.filtered) ∙ filter_mapped entry_of (stays compacted) _
+    ∙ ap (filter (stays compacted)) (c.remove_keys.ensures ∙ ap (λ (ks : List (Bor Key)). without (map now ks) (map entry_of after)) c.as_slice-3.ensures.value) in
+    let kept : vec_len c.retain.new.self ≡ length rest = omega arith in
+    let superseded = subst (λ (es : List EntryView). AreSuperseded compacted listing es keys) first (c.in_ok-superseded.ensures listing is) in
+    let sorted = c.sort_by_key.new.revisions in
+    let m = c.len-3.result - (c.len.result - n) in
+    let sorts = subst (λ (xs : List Revision). SortsFirst view_cmp m (map entry_of xs) (map entry_of sorted)) c.as_mut_slice.ensures.value c.sort_by_key.ensures.sorts in
+    let long = c.sort_by_key.ensures.number ∙ ap length c.as_mut_slice.ensures.value in
+    subst (λ (xs : List Revision). ArePutBack compacted listing (map entry_of agreed) (map entry_of xs)) (sym (written sorted rest _ long kept))
+    (code_back compacted n agreed after c.requires parted c.keep_newest.ensures listing keys superseded rest stayed m sorted (let at = c.len.ensures in let also = c.len-3.ensures in omega (arith, all, kept, at, also)) sorts)

@@ -1,5 +1,5 @@
 use Rattle.std.proofs.Common.{Bor, List, map, ℕ}
-use Rattle.bolt_tree.specs.ShownEntries.{shown_entry}
+use Rattle.bolt_etcd.specs.ShownRevisions.{entry_of}
 use Rattle.bolt_recover.specs.{KeptMembers.kept_file, KeptMembers.kept_left, KeptMembers.kept_meta, KeptMembers.kept_work, Recovered.ForRecovered, Recovered.IsRecovered}
 use Rattle.bolt_etcd.proofs.SupersededKeys.{Found}
 use Rattle.bolt_etcd.proofs.superseded.superseded_keys.Given as goal
@@ -9,7 +9,7 @@ abbrev pub invariant-members : goal.invariant-members
 invariant-members l = record {
   reads : ForRecovered l.both.file.now l.both.meta (IsRecovered (kept_file l.kept) (kept_meta l.kept));
   found : ForRecovered l.both.file.now l.both.meta (λ recovered.
-      Found l.compacted (map shown_entry l.candidates) recovered (map (λ (key : Bor (List ℕ)). key.now) l.keys.items) (kept_left l.kept recovered));
+      Found l.compacted (map entry_of l.candidates) recovered (map (λ (key : Bor (List ℕ)). key.now) l.keys.items) (kept_left l.kept recovered));
 }
 
 abbrev pub decreases-members : goal.decreases-members

@@ -2,7 +2,9 @@
 use Rattle.std.proofs.Common.{◌∙◌, ap, ap₂, List, map, sym}
 use Rattle.std.proofs.Math.Logic.{∥∥₁_elim}
 use Rattle.std.proofs.Props.{props}
-use Rattle.bolt_tree.specs.{InBuckets.members_in, Merges.merge, ShownEntries.shown_entry, declared.entry.Entry.Entry}
+use Rattle.bolt_tree.specs.{InBuckets.members_in, Merges.merge}
+use Rattle.bolt_etcd.specs.declared.revision.Revision.{Revision}
+use Rattle.bolt_etcd.specs.ShownRevisions.{entry_of}
 use Rattle.bolt_etcd.specs.{RepairedMerges.repair_back, RepairedMembers.repaired_left, Repairs.store_path}
 use Rattle.bolt_etcd.proofs.OneRepair.{merged_repaired}
 use Rattle.bolt_etcd.proofs.repaired.Repaired.new.Goals as goal
@@ -11,7 +13,7 @@ pub invariant_of-result : goal.invariant_of-result
 invariant_of-result c =
     let repair = c.args.repair.now in
     let kept = c.in_ok-kept.ensures in
-    let same = ap (λ (entries : List Entry). members_in repair.is_made store_path (map shown_entry entries)) c.as_slice.ensures.value in
+    let same = ap (λ (entries : List Revision). members_in repair.is_made store_path (map entry_of entries)) c.as_slice.ensures.value in
     record {
       reads = ∣
           c.new-2.ensures.reads _ _ (rw (kept.file, kept.meta) (c.the_recovered_listing_is_recovered.ensures repair.both.now.file.now repair.both.now.meta))
@@ -26,7 +28,7 @@ returns-clause-all c = λ listing is.
     let file = repair.both.now.file.now in
     let meta = repair.both.now.meta in
     let recovered = c.the_recovered_listing_is_recovered.ensures file meta in
-    let same = ap (λ (entries : List Entry). members_in repair.is_made store_path (map shown_entry entries)) c.as_slice.ensures.value in
+    let same = ap (λ (entries : List Revision). members_in repair.is_made store_path (map entry_of entries)) c.as_slice.ensures.value in
     ∥∥₁_elim repair.goes_back (Prim.hlevel props) (λ back.
     c.new-2.ensures.left _ (members_in repair.is_made store_path (repair_back repair))
     ∙ ap₂ merge (c.in_ok-kept.ensures.all _ recovered) (c.in_ok-back.ensures.left ∙ c.in_ok-back.ensures.listing ∙ same)

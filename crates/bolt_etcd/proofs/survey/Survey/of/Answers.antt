@@ -1,5 +1,6 @@
 use Rattle.std.proofs.Common.{Bor, List, [], map, subst, sym, ◌++◌, ◌∷◌, None, ℕ}
-use Rattle.bolt_tree.specs.{Listing.Member, Paths.path_of, ShownEntries.item_view, ShownEntries.shown_entry}
+use Rattle.bolt_tree.specs.{Listing.Member, Paths.path_of, ShownEntries.item_view}
+use Rattle.bolt_etcd.specs.ShownRevisions.{entry_of}
 use Rattle.bolt_etcd.specs.Surveys.{IsSurvey, IsSurveyOf}
 use Rattle.bolt_etcd.proofs.Surveyed.{next_member, no_more, none_surveyed}
 use Rattle.bolt_etcd.proofs.survey.Survey.of.Goals as goal
@@ -7,7 +8,7 @@ use Rattle.bolt_etcd.proofs.survey.Survey.of.Goals as goal
 pub members-init : goal.members-init
 members-init c =
     let now = λ (k : Bor (List ℕ)). k.now in
-    let candidates = map shown_entry c.args.candidates.now in
+    let candidates = map entry_of c.args.candidates.now in
     record {
       reads = λ listing is. rw (c.in_ok-kept.ensures.file, c.in_ok-kept.ensures.meta) is;
       noted = λ listing is. (
@@ -34,4 +35,4 @@ returns c = λ listing is.
     let (before, all, s) = c.members.invariant.noted listing is in
     let given = c.in_ok-item.ensures.given listing (c.members.invariant.reads listing is) in
     let none = rw c.in_default.is at given in
-    subst (λ (ms : List Member). IsSurveyOf ms (map shown_entry c.args.candidates.now) c.members.survey) (no_more listing before _ all none.0) s
+    subst (λ (ms : List Member). IsSurveyOf ms (map entry_of c.args.candidates.now) c.members.survey) (no_more listing before _ all none.0) s

@@ -1,6 +1,7 @@
 use Rattle.std.proofs.Common.{List, map, ◌++◌, ◌≡◌}
-use Rattle.bolt_tree.specs.{Listing.Member, ShownEntries.shown_entry}
+use Rattle.bolt_tree.specs.{Listing.Member}
 use Rattle.bolt_recover.specs.{KeptMembers.kept_file, KeptMembers.kept_left, KeptMembers.kept_meta, KeptMembers.kept_work, Recovered.ForRecovered, Recovered.IsRecovered}
+use Rattle.bolt_etcd.specs.ShownRevisions.{entry_of}
 use Rattle.bolt_etcd.specs.Surveys.{IsSurveyOf}
 use Rattle.bolt_etcd.proofs.survey.Survey.of.Given as goal
 
@@ -9,7 +10,7 @@ abbrev pub invariant-members : goal.invariant-members
 invariant-members l = record {
   reads : ForRecovered l.both.file.now l.both.meta (λ listing. IsRecovered (kept_file l.kept) (kept_meta l.kept) listing);
   noted : ForRecovered l.both.file.now l.both.meta (λ listing.
-      (before : List Member) × (before ++ kept_left l.kept listing ≡ listing) × IsSurveyOf before (map shown_entry l.candidates) l.survey);
+      (before : List Member) × (before ++ kept_left l.kept listing ≡ listing) × IsSurveyOf before (map entry_of l.candidates) l.survey);
 }
 
 abbrev pub decreases-members : goal.decreases-members

@@ -1,24 +1,24 @@
-//! Entries of one bucket as a listing, also of a bucket that is made for them.
+//! What goes back as a listing, also of a bucket that is made for it.
 ghost use Rattle.std.specs.Prelude.{length, List, ◌≡◌, ◌≤◌, ◌+◌, ◌∷◌, [], IfOk, MatchOption, map, take, vec_len};
-ghost use Rattle.bolt_tree.specs.{InBuckets.members_in, Listing.Member, Paths.path_of, ShownEntries.shown_entry};
+ghost use Rattle.bolt_tree.specs.{InBuckets.members_in, Listing.Member, Paths.path_of};
+ghost use Rattle.bolt_etcd.specs.ShownRevisions.{entry_of};
 
-use crate::entry::{Entry, Item};
-use crate::members::Members;
-use bolt_check::NoMemory;
+use crate::revision::Revision;
+use bolt_tree::{Item, Members, NoMemory};
 use std::alloc::{AllocError, Global};
 
-/// The entries of one bucket as members of a listing and, if the bucket is made for them, before them
+/// Revisions as members of a listing in their bucket and, if the bucket is made for them, before them
 /// the bucket itself, with sequence 0. It needs room for one path.
 #[derive(Drop)]
-pub struct InBucket<'a> {
+pub(crate) struct PutBack<'a> {
     is_made: bool,
-    entries: &'a [Entry<'a>],
+    revisions: &'a [Revision<'a>],
     /// Whether the bucket is left.
     has_bucket: bool,
-    /// The entries that are left.
-    rest: &'a [Entry<'a>],
+    /// The revisions that are left.
+    rest: &'a [Revision<'a>],
     depth: usize,
-    /// The path of the bucket, whose length is `depth`, and the key of an entry.
+    /// The path of the bucket, whose length is `depth`, and the key of a revision.
     parts: Vec<&'a [u8]>,
     /// The path of the last member that was returned has so many of them.
     length: usize,
@@ -47,32 +47,32 @@ fn take_first<'a, T: Copy>(items: &mut &'a [T]) -> Option<T>
     Some(*first)
 }
 
-#[tactic(auto, unfolding(crate::specs::InBucketMembers::in_bucket_left, crate::specs::InBucketMembers::in_bucket_listing, crate::specs::InBucketMembers::in_bucket_path))]
-impl<'a> InBucket<'a> {
-    ghost use Rattle.bolt_tree.specs.InBucketMembers.{in_bucket_left, in_bucket_listing, in_bucket_path};
+#[tactic(auto, unfolding(crate::specs::PutBackMembers::put_back_left, crate::specs::PutBackMembers::put_back_listing, crate::specs::PutBackMembers::put_back_path))]
+impl<'a> PutBack<'a> {
+    ghost use Rattle.bolt_etcd.specs.PutBackMembers.{put_back_left, put_back_listing, put_back_path};
 
-    /// All these entries of the bucket at this path, and the bucket itself if `is_made` is set.
+    /// All these revisions in the bucket at this path, and the bucket itself if `is_made` is set.
     ///
     /// # Errors
     ///
     /// `NoMemory` if memory runs out.
-    pub fn new(
+    pub(crate) fn new(
         alloc: Global,
         bucket: &[&'a [u8]],
         is_made: bool,
-        entries: &'a [Entry<'a>],
-    ) -> Result<InBucket<'a>, NoMemory>
-        ensures listing { IfOk result (λ it. in_bucket_listing it
-            ≡ members_in is_made (path_of bucket.now) (map shown_entry entries.now)) }
-        ensures left { IfOk result (λ it. in_bucket_left it ≡ in_bucket_listing it) }
-        ensures path { IfOk result (λ it. in_bucket_path it ≡ []) }
+        revisions: &'a [Revision<'a>],
+    ) -> Result<PutBack<'a>, NoMemory>
+        ensures listing { IfOk result (λ it. put_back_listing it
+            ≡ members_in is_made (path_of bucket.now) (map entry_of revisions.now)) }
+        ensures left { IfOk result (λ it. put_back_left it ≡ put_back_listing it) }
+        ensures path { IfOk result (λ it. put_back_path it ≡ []) }
     {
         let parts = room_for_key(alloc, bucket)?;
-        Ok(InBucket {
+        Ok(PutBack {
             is_made,
-            entries,
+            revisions,
             has_bucket: is_made,
-            rest: entries,
+            rest: revisions,
             depth: bucket.len(),
             parts,
             length: 0,
@@ -80,21 +80,21 @@ impl<'a> InBucket<'a> {
     }
 }
 
-#[tactic(auto, unfolding(crate::specs::InBucketMembers::in_bucket_left, crate::specs::InBucketMembers::in_bucket_listing, crate::specs::InBucketMembers::in_bucket_path))]
-impl<'a> Members<'a> for InBucket<'a> {
-    ghost use Rattle.bolt_tree.specs.InBucketMembers.{in_bucket_left, in_bucket_listing, in_bucket_path};
+#[tactic(auto, unfolding(crate::specs::PutBackMembers::put_back_left, crate::specs::PutBackMembers::put_back_listing, crate::specs::PutBackMembers::put_back_path))]
+impl<'a> Members<'a> for PutBack<'a> {
+    ghost use Rattle.bolt_etcd.specs.PutBackMembers.{put_back_left, put_back_listing, put_back_path};
 
     ghost Whole = { List Member };
 
-    ghost reads = { λ it listing. listing ≡ in_bucket_listing it };
+    ghost reads = { λ it listing. listing ≡ put_back_listing it };
 
     ghost listing = { λ listing. listing };
 
-    ghost left = { λ it listing. in_bucket_left it };
+    ghost left = { λ it listing. put_back_left it };
 
-    ghost work_left = { λ it. length (in_bucket_left it) };
+    ghost work_left = { λ it. length (put_back_left it) };
 
-    ghost last_path = { λ it. in_bucket_path it };
+    ghost last_path = { λ it. put_back_path it };
 
     ghost ends_as = { λ it end. Unit {0} };
 
@@ -104,10 +104,11 @@ impl<'a> Members<'a> for InBucket<'a> {
             self.length = self.depth;
             return Ok(Some(Item::Bucket { sequence: 0 }));
         }
-        let Some(entry) = take_first(&mut self.rest) else {
+        let Some(revision) = take_first(&mut self.rest) else {
             self.length = 0;
             return Ok(None);
         };
+        let entry = revision.entry();
         self.parts[self.depth] = entry.key;
         self.length = self.depth + 1;
         Ok(Some(entry.item))
@@ -119,7 +120,7 @@ impl<'a> Members<'a> for InBucket<'a> {
 
     fn restart(&mut self, _alloc: Global) -> Result<(), NoMemory> {
         self.has_bucket = self.is_made;
-        self.rest = self.entries;
+        self.rest = self.revisions;
         self.length = 0;
         Ok(())
     }

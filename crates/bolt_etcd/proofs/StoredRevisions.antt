@@ -1,0 +1,115 @@
+-- What a revision of the code shows is what its key and its value say.
+use Rattle.std.proofs.Common.{◌≡◌, ◌∙◌, ◌≤◌, ◌+◌, ◌++◌, inl, inr, leb, ℕ, Bool, true, false, List, [], ◌∷◌, length, Option, Some, None, nat_cmp, nat_lt, not, refl, sym, ap, arith, if◌then◌else◌}
+use Rattle.std.proofs.lemmas.Bool.{cases_lt, le-leb, le-ltb, lt-leb, lt-ltb}
+use Rattle.std.proofs.lemmas.List.{length-append}
+use Rattle.std.specs.Option.{option_map}
+use Rattle.std.specs.Ordering.{ordering_then}
+use Rattle.std.specs.declared.cmp.Ordering.{Ordering}
+use Rattle.std.specs.declared.cmp.Ordering.TheVariants.{Equal, Greater, Less}
+use Rattle.byteorder.specs.Endian.{big_bytes, big_number}
+use Rattle.byteorder.specs.Numbers.{big_number-reads_back, length-bytes_high_first}
+use Rattle.bolt_check.specs.Keys.{Key, key_cmp}
+use Rattle.bolt_etcd.specs.RevisionKeys.{IsSpelled, numbers_cmp, revision_key, spelling}
+use Rattle.bolt_etcd.specs.declared.revision_key.RevisionKey.{RevisionKey}
+use Rattle.bolt_etcd.specs.declared.revision.Revision.{Revision}
+use Rattle.bolt_etcd.specs.{Records.record_of, Revisions.RevisionView, Revisions.name_of, Revisions.revision_in, Revisions.revision_of}
+use Rattle.bolt_etcd.specs.ShownRevisions.{entry_of, or_nothing, shown_revision}
+use Rattle.bolt_etcd.specs.Superseded.{entry_name, is_deletion, is_key_deleted, is_key_until, is_old, name_if}
+use Rattle.bolt_etcd.proofs.{Currents.bind_some, KeyNumbers.spellings_cmp, Keys.read_spelled}
+
+some_of : (o : Option RevisionView) (name : List ℕ) → option_map name_of o ≡ Some name → (o ≡ Some (or_nothing o)) × (name_of (or_nothing o) ≡ name)
+some_of None name e = cc
+some_of (Some r) name e = (refl, cc)
+
+shows : (r : Revision) → (revision_in r.key.now r.value.now ≡ Some (shown_revision r)) × (name_of (shown_revision r) ≡ r.name.now)
+unfolding shown_revision
+shows r = some_of (revision_in r.key.now r.value.now) r.name.now r.decodes
+
+pub is_revision : (r : Revision) → revision_of (entry_of r) ≡ Some (shown_revision r)
+unfolding revision_of
+is_revision r = (shows r).0
+
+pub has_name : (r : Revision) → name_of (shown_revision r) ≡ r.name.now
+has_name r = (shows r).1
+
+-- its key says so of it
+record Stored (r : Revision) : Type 0 where
+  pub key : revision_key r.key.now ≡ Some (shown_revision r).key
+  pub place : (shown_revision r).place ≡ r.key.now
+
+stored : (r : Revision) → Stored r
+stored r =
+    let (k, read, later) = bind_some (revision_key r.key.now) _ (shown_revision r) (shows r).0 in
+    let (content, _, made) = bind_some (record_of r.value.now) _ (shown_revision r) later in
+    record { key = cc; place = cc }
+
+pub has_key : (r : Revision) → revision_key r.key.now ≡ Some (shown_revision r).key
+has_key r = (stored r).key
+
+pub has_place : (r : Revision) → (shown_revision r).place ≡ r.key.now
+has_place r = (stored r).place
+
+-- ---- as an entry
+
+pub named : (r : Revision) → entry_name (entry_of r) ≡ name_of (shown_revision r)
+named r = ap name_if (is_revision r)
+
+old : (compacted : ℕ) (r : Revision) → is_old compacted (entry_of r) ≡ not (nat_lt compacted (shown_revision r).key.main)
+old compacted r = ap (is_key_until compacted) (has_key r)
+
+up_to : (a b : ℕ) → leb a b ≡ not (nat_lt b a)
+up_to a b = elim (cases_lt b a) [ inl lt ↦ lt-leb a b lt ∙ sym (ap not (lt-ltb b a lt)) | inr le ↦ le-leb a b le ∙ sym (ap not (le-ltb b a le)) ]
+
+pub by_main_old : (compacted main : ℕ) (r : Revision) → main ≡ (shown_revision r).key.main → leb main compacted ≡ is_old compacted (entry_of r)
+by_main_old compacted main r is = up_to main compacted ∙ ap (λ (n : ℕ). not (nat_lt compacted n)) is ∙ sym (old compacted r)
+
+pub deleted : (r : Revision) → is_deletion (entry_of r) ≡ (shown_revision r).key.deleted
+deleted r = ap is_key_deleted (has_key r)
+
+-- ---- its key is spelled
+
+is_spelled : (r : Revision) → (r.key.now ≡ spelling (shown_revision r).key) × IsSpelled (shown_revision r).key
+is_spelled r = read_spelled r.key.now (shown_revision r).key r.bytes (has_key r)
+
+abbrev end_of : Bool → List ℕ
+end_of deleted = if deleted then 0x74 ∷ [] else []
+
+spelled_main : (k : RevisionKey) → IsSpelled k → big_number 8 (spelling k) ≡ k.main
+unfolding spelling
+spelled_main k (low, high) = big_number-reads_back 8 k.main (0x5F ∷ (big_bytes 8 k.sub ++ end_of k.deleted)) (omega arith)
+
+pub main_of : (r : Revision) → big_number 8 r.key.now ≡ (shown_revision r).key.main
+main_of r = let (is, fits) = is_spelled r in ap (big_number 8) is ∙ spelled_main (shown_revision r).key fits
+
+spelled_length : (k : RevisionKey) → length (spelling k) ≡ 17 + length (end_of k.deleted)
+unfolding spelling
+spelled_length k =
+    omega (arith, length-append (big_bytes 8 k.main) (0x5F ∷ (big_bytes 8 k.sub ++ end_of k.deleted)), length-append (big_bytes 8 k.sub) (end_of k.deleted), length-bytes_high_first 8 k.main, length-bytes_high_first 8 k.sub)
+
+pub long : (r : Revision) → length r.key.now ≡ 17 + length (end_of (shown_revision r).key.deleted)
+long r = ap length (is_spelled r).0 ∙ spelled_length (shown_revision r).key
+
+pub enough : (r : Revision) → 8 ≤ length r.key.now
+enough r = omega (arith, long r)
+
+ends : (n : ℕ) (deleted : Bool) → n ≡ 17 + length (end_of deleted) → nat_lt 17 n ≡ deleted
+ends n true is = lt-ltb 17 n (omega (arith, is))
+ends n false is = le-ltb 17 n (omega (arith, is))
+
+pub longer : (r : Revision) → nat_lt 17 (length r.key.now) ≡ (shown_revision r).key.deleted
+longer r = ends (length r.key.now) (shown_revision r).key.deleted (long r)
+
+-- where the transactions differ, they tell
+pub by_numbers : (a b : Revision) → key_cmp a.key.now b.key.now ≡ numbers_cmp (shown_revision a).key (shown_revision b).key
+by_numbers a b =
+    let (is, fits) = is_spelled a in
+    let (also, fit) = is_spelled b in
+    ap (λ (k : Key). key_cmp k b.key.now) is ∙ ap (key_cmp (spelling (shown_revision a).key)) also ∙ spellings_cmp (shown_revision a).key (shown_revision b).key fits fit
+
+decided : (o p : Ordering) → (o ≡ Equal → ⊥) → ordering_then o p ≡ o
+decided Less p differ = refl
+decided Equal p differ = absurd (differ refl)
+decided Greater p differ = refl
+
+pub by_main : (a b : Revision) (o : Ordering) → o ≡ nat_cmp (shown_revision a).key.main (shown_revision b).key.main → (o ≡ Equal → ⊥) → o ≡ key_cmp a.key.now b.key.now
+by_main a b o is differ = is ∙ sym (by_numbers a b ∙ decided _ _ (λ e. differ (is ∙ e)))
