@@ -94,10 +94,10 @@ module _ (es : List Revision) (made lacks : Bool) where
 abbrev now : Bor Key → Key
 now key = key.now
 
-module _ (both : LostAndFound) (pages : List Found) (on : pages ≡ both.found.items) (all listed left back : List Revision) (same : listed ≡ all) (survey : Survey) (met : List (Bor Key))
-    (are_met : met ≡ survey.met.items) (compacted : ℕ) (at : compacted ≡ compacted_by (option_map now survey.compaction)) (candidates : AreCandidates (elements_of pages) (map entry_of all))
+module _ (both : LostAndFound) (pages : List Found) (on : pages ≡ both.found.items) (all listed left back : List Revision) (same : listed ≡ all) (survey : Survey)
+    (compacted : ℕ) (at : compacted ≡ compacted_by (option_map now survey.compaction)) (candidates : AreCandidates (elements_of pages) (map entry_of all))
     (surveys : ForRecovered both.file.now both.meta (λ recovered. IsSurveyOf recovered (map entry_of listed) survey))
-    (agree : AreAgreed (map entry_of all) (map now met) (map entry_of left))
+    (agree : AreAgreed (map entry_of all) (map now survey.met.items) (map entry_of left))
     (put : ForRecovered both.file.now both.meta (λ recovered. ArePutBack compacted recovered (map entry_of left) (map entry_of back))) where
   abbrev recovered : List Member
   recovered = (has_recovered both.file.now both.meta).0
@@ -108,28 +108,26 @@ module _ (both : LostAndFound) (pages : List Found) (on : pages ≡ both.found.i
   on_all : AreCandidates (elements_of both.found.items) (map entry_of all)
   on_all = subst (λ (ps : List Found). AreCandidates (elements_of ps) (map entry_of all)) on candidates
 
-  surveyed : IsSurvey recovered (map entry_of all) (option_map item_view survey.store) (option_map now survey.compaction) (map now met)
-  surveyed =
-      let by_all = subst (λ (es : List Revision). IsSurveyOf recovered (map entry_of es) survey) same (surveys recovered is_recovered) in
-      subst (λ (ks : List (Bor Key)). IsSurvey recovered (map entry_of all) (option_map item_view survey.store) (option_map now survey.compaction) (map now ks)) (sym are_met) by_all
+  surveyed : IsSurvey recovered (map entry_of all) (option_map item_view survey.store) (option_map now survey.compaction) (map now survey.met.items)
+  surveyed = subst (λ (es : List Revision). IsSurveyOf recovered (map entry_of es) survey) same (surveys recovered is_recovered)
 
   put_back : ArePutBack (compacted_by (option_map now survey.compaction)) recovered (map entry_of left) (map entry_of back)
   put_back = subst (λ (n : ℕ). ArePutBack n recovered (map entry_of left) (map entry_of back)) at (put recovered is_recovered)
 
-  pub searched_least : (keys : List Key) → AreUnmetKeys (map entry_of all) (map now met) keys → length back ≤ length keys
+  pub searched_least : (keys : List Key) → AreUnmetKeys (map entry_of all) (map now survey.met.items) keys → length back ≤ length keys
   searched_least keys are = ∥∥₁_elim both.searched (hlevel props) (λ searched.
       let long = length-map back entry_of in
-      let few = back_least both.file.now both.meta both.found.items searched.are_found searched.views (map entry_of all) (map entry_of left) (map entry_of back) (map now met) _ _ on_all agree recovered is_recovered surveyed put_back keys are in
+      let few = back_least both.file.now both.meta both.found.items searched.are_found searched.views (map entry_of all) (map entry_of left) (map entry_of back) (map now survey.met.items) _ _ on_all agree recovered is_recovered surveyed put_back keys are in
       omega (arith, long, few))
 
   module _ (lacks : Bool) (is_lacking : lacks_bucket (option_map item_view survey.store) ≡ Some lacks) (is_made : Bool) (made : is_made ≡ (lacks && not (is_nil (map entry_of back)))) where
     pub searched_repair : ∥ IsRepair both.file.now both.meta (map entry_of back) is_made ∥₁
     searched_repair = ∥∥₁_map both.searched (λ searched.
-        repair both.file.now both.meta both.found.items searched.are_found searched.views (map entry_of all) (map entry_of left) (map entry_of back) (map now met) _ _ on_all agree recovered is_recovered surveyed put_back
+        repair both.file.now both.meta both.found.items searched.are_found searched.views (map entry_of all) (map entry_of left) (map entry_of back) (map now survey.met.items) _ _ on_all agree recovered is_recovered surveyed put_back
         lacks is_lacking is_made made)
 
-    pub searched_full : (keys : List Key) → AreUnmetKeys (map entry_of all) (map now met) keys → (left_out : ℕ) → left_out ≡ length keys - length back
+    pub searched_full : (keys : List Key) → AreUnmetKeys (map entry_of all) (map now survey.met.items) keys → (left_out : ℕ) → left_out ≡ length keys - length back
         → ∥ IsFullRepair both.file.now both.meta (map entry_of back) is_made left_out ∥₁
     searched_full keys are left_out number = ∥∥₁_map both.searched (λ searched.
-        full_repair both.file.now both.meta both.found.items searched.are_found searched.views (map entry_of all) (map entry_of left) (map entry_of back) (map now met) _ _ on_all agree recovered is_recovered surveyed put_back
+        full_repair both.file.now both.meta both.found.items searched.are_found searched.views (map entry_of all) (map entry_of left) (map entry_of back) (map now survey.met.items) _ _ on_all agree recovered is_recovered surveyed put_back
         lacks is_lacking is_made made keys are left_out (let long = length-map back entry_of in omega (arith, long, number)))

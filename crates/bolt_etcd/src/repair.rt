@@ -78,8 +78,9 @@ impl<'a> Repair<'a> {
         let Some(is_lacking) = lacks_bucket(survey.store) else {
             return Err(RepairFault::NotABucket);
         };
-        let keys = keep_agreed(alloc, &mut back, survey.met.as_slice())?;
-        keep_what_goes_back(alloc, both, &mut back, compacted_by(survey.compaction))?;
+        let compacted = compacted_by(survey.compaction);
+        let keys = keep_agreed(alloc, &mut back, survey.met)?;
+        keep_what_goes_back(alloc, both, &mut back, compacted)?;
         if let Lost::Everything(finding) = both.lost()
             && back.is_empty()
         {
@@ -111,16 +112,17 @@ fn lacks_bucket(under: Option<Item<'_>>) -> Option<bool>
 fn keep_agreed(
     alloc: Global,
     candidates: &mut Vec<Revision<'_>>,
-    met: &[&[u8]],
+    met: Vec<&[u8]>,
 ) -> Result<usize, NoMemory>
     requires rises { Rises whole_cmp (map entry_of candidates.old.items) }
-    requires sorted { IsSorted key_cmp (map (λ key. key.now) met.now) }
+    requires sorted { IsSorted key_cmp (map (λ key. key.now) met.items) }
     ensures agreed { OnOk result (AreAgreed (map entry_of candidates.old.items)
-        (map (λ key. key.now) met.now) (map entry_of candidates.new.items)) }
+        (map (λ key. key.now) met.entry.items) (map entry_of candidates.new.items)) }
     ensures keys { IfOk result (HaveUnmetKeys (map entry_of candidates.old.items)
-        (map (λ key. key.now) met.now)) }
+        (map (λ key. key.now) met.entry.items)) }
 {
-    remove_keys(candidates, met);
+    remove_keys(candidates, met.as_slice());
+    drop(met);
     let disputed = disputed_keys(alloc, candidates.as_slice())?;
     let keys = candidates.len() - disputed.len();
     remove_keys(candidates, disputed.as_slice());
