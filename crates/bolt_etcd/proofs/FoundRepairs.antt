@@ -13,8 +13,8 @@ use Rattle.bolt_recover.specs.{Losses.everything, Lost.IsAllLost, LostAndFound.a
 use Rattle.bolt_recover.specs.{Found.AreFound, Found.numbers_of, Recovered.ForRecovered, Recovered.IsRecovered, Refusals.LosesRoot, ShownFound.IsFoundView, Sites.leaves_of, declared.found.Found.Found, declared.lost_and_found.LostAndFound.LostAndFound}
 use Rattle.bolt_etcd.specs.declared.revision.Revision.{Revision}
 use Rattle.bolt_etcd.specs.ShownRevisions.{entry_of}
-use Rattle.bolt_etcd.specs.{Agreed.AreAgreed, Agreed.AreUnmetKeys, Candidates.AreCandidates, Candidates.elements_of, Compacted.compacted_by, FullRepairs.IsFullRepair}
-use Rattle.bolt_etcd.specs.{Repaired.IsRepair, Repaired.MakesStore, Repaired.elements_on, Repaired.lacks_bucket, Superseded.ArePutBack, Surveys.IsSurvey, Surveys.IsSurveyOf, declared.survey.Survey.Survey}
+use Rattle.bolt_etcd.specs.{Agreed.without, Candidates.AreCandidates, Candidates.elements_of, Compacted.compacted_by, FullRepairs.IsFullRepair}
+use Rattle.bolt_etcd.specs.{Repaired.IsRepair, Repaired.MakesStore, Repaired.elements_on, Repaired.lacks_bucket, Superseded.ArePutBack, Surveys.IsSurvey, Surveys.IsSurveyOf, Undisputed.AreKeys, Undisputed.AreUndisputed, declared.survey.Survey.Survey}
 use Rattle.bolt_etcd.proofs.MappedLists.{Climbs, climbs_sorted}
 use Rattle.bolt_etcd.proofs.WholeRepairs.{are_back, back_fewer, candidate_keys, compacted_at, is_nil, makes, no_value}
 
@@ -26,7 +26,7 @@ elements_found file meta (f ∷ found) views =
     ap₂ (λ (a b : List LeafElement). a ++ b) here (elements_found file meta found (All-tail (IsFoundView file meta) f found views))
 
 module _ (file : List ℕ) (meta : Meta) (found : List Found) (are_found : AreFound file meta (numbers_of found)) (views : All (IsFoundView file meta) found)
-    (all agreed back : List EntryView) (met : List Key) (under : Option Item) (noted : Option (List ℕ)) (candidates : AreCandidates (elements_of found) all) (agree : AreAgreed all met agreed)
+    (all agreed back : List EntryView) (met : List Key) (under : Option Item) (noted : Option (List ℕ)) (candidates : AreCandidates (elements_of found) all) (agree : AreUndisputed (without met all) agreed)
     (recovered : List Member) (recovers : IsRecovered file meta recovered) (survey : IsSurvey recovered all under noted met)
     (put : ArePutBack (compacted_by noted) recovered agreed back) where
   abbrev elements : List LeafElement
@@ -35,7 +35,7 @@ module _ (file : List ℕ) (meta : Meta) (found : List Found) (are_found : AreFo
   on_pages : AreCandidates elements all
   on_pages = subst (λ (es : List LeafElement). AreCandidates es all) (sym (elements_found file meta found views)) candidates
 
-  pub back_least : (keys : List Key) → AreUnmetKeys all met keys → length back ≤ length keys
+  pub back_least : (keys : List Key) → AreKeys (without met all) keys → length back ≤ length keys
   back_least keys are = back_fewer recovered elements all met under noted on_pages survey agreed agree (compacted_by noted) back put keys are
 
   module _ (lacks : Bool) (is_lacking : lacks_bucket under ≡ Some lacks) (is_made : Bool) (made : is_made ≡ (lacks && not (is_nil back))) where
@@ -51,7 +51,7 @@ module _ (file : List ℕ) (meta : Meta) (found : List Found) (are_found : AreFo
       makes = subst (MakesStore recovered back) (sym made) (makes recovered elements all met under noted on_pages survey lacks is_lacking back);
     }
 
-    pub full_repair : (keys : List Key) → AreUnmetKeys all met keys → (left_out : ℕ) → left_out ≡ length keys - length back → IsFullRepair file meta back is_made left_out
+    pub full_repair : (keys : List Key) → AreKeys (without met all) keys → (left_out : ℕ) → left_out ≡ length keys - length back → IsFullRepair file meta back is_made left_out
     unfolding repair
     full_repair keys are left_out number =
         let few = back_least keys are in
@@ -97,7 +97,7 @@ now key = key.now
 module _ (both : LostAndFound) (pages : List Found) (on : pages ≡ both.found.items) (all listed left back : List Revision) (same : listed ≡ all) (survey : Survey)
     (compacted : ℕ) (at : compacted ≡ compacted_by (option_map now survey.compaction)) (candidates : AreCandidates (elements_of pages) (map entry_of all))
     (surveys : ForRecovered both.file.now both.meta (λ recovered. IsSurveyOf recovered (map entry_of listed) survey))
-    (agree : AreAgreed (map entry_of all) (map now survey.met.items) (map entry_of left))
+    (agree : AreUndisputed (without (map now survey.met.items) (map entry_of all)) (map entry_of left))
     (put : ForRecovered both.file.now both.meta (λ recovered. ArePutBack compacted recovered (map entry_of left) (map entry_of back))) where
   abbrev recovered : List Member
   recovered = (has_recovered both.file.now both.meta).0
@@ -114,7 +114,7 @@ module _ (both : LostAndFound) (pages : List Found) (on : pages ≡ both.found.i
   put_back : ArePutBack (compacted_by (option_map now survey.compaction)) recovered (map entry_of left) (map entry_of back)
   put_back = subst (λ (n : ℕ). ArePutBack n recovered (map entry_of left) (map entry_of back)) at (put recovered is_recovered)
 
-  pub searched_least : (keys : List Key) → AreUnmetKeys (map entry_of all) (map now survey.met.items) keys → length back ≤ length keys
+  pub searched_least : (keys : List Key) → AreKeys (without (map now survey.met.items) (map entry_of all)) keys → length back ≤ length keys
   searched_least keys are = ∥∥₁_elim both.searched (hlevel props) (λ searched.
       let long = length-map back entry_of in
       let few = back_least both.file.now both.meta both.found.items searched.are_found searched.views (map entry_of all) (map entry_of left) (map entry_of back) (map now survey.met.items) _ _ on_all agree recovered is_recovered surveyed put_back keys are in
@@ -126,7 +126,7 @@ module _ (both : LostAndFound) (pages : List Found) (on : pages ≡ both.found.i
         repair both.file.now both.meta both.found.items searched.are_found searched.views (map entry_of all) (map entry_of left) (map entry_of back) (map now survey.met.items) _ _ on_all agree recovered is_recovered surveyed put_back
         lacks is_lacking is_made made)
 
-    pub searched_full : (keys : List Key) → AreUnmetKeys (map entry_of all) (map now survey.met.items) keys → (left_out : ℕ) → left_out ≡ length keys - length back
+    pub searched_full : (keys : List Key) → AreKeys (without (map now survey.met.items) (map entry_of all)) keys → (left_out : ℕ) → left_out ≡ length keys - length back
         → ∥ IsFullRepair both.file.now both.meta (map entry_of back) is_made left_out ∥₁
     searched_full keys are left_out number = ∥∥₁_map both.searched (λ searched.
         full_repair both.file.now both.meta both.found.items searched.are_found searched.views (map entry_of all) (map entry_of left) (map entry_of back) (map now survey.met.items) _ _ on_all agree recovered is_recovered surveyed put_back

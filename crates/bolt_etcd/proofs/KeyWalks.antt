@@ -12,7 +12,7 @@ use Rattle.bolt_tree.proofs.{Lists.irreflexive, PathOrder.key_exact, PathOrder.k
 use Rattle.bolt_tree.specs.{Entries.EntryView, Order.Rises}
 use Rattle.bolt_etcd.specs.{Candidates.HasKey, Candidates.whole_cmp, Keyed.AreBelow, ShownRevisions.entry_of}
 use Rattle.bolt_etcd.specs.declared.revision.Revision.{Revision}
-use Rattle.bolt_etcd.proofs.{Disputed.entries_climb, Disputed.entry_below, Disputed.neither, MappedLists.Climbs, MappedLists.shows_from, MappedLists.shows_has, OldOnes.has_at}
+use Rattle.bolt_etcd.proofs.{Alones.entries_climb, Alones.entry_below, Alones.neither, MappedLists.Climbs, MappedLists.shows_from, MappedLists.shows_has, OldOnes.has_at}
 
 less_is : (o : Ordering) → is_lt o ≡ true → o ≡ Less
 less_is Less e = refl

@@ -1,9 +1,9 @@
 pub mod AgreedEntries
+pub mod Alones
 pub mod ByName
 pub mod CandidateLemmas
 pub mod CompactionsAdded
 pub mod Currents
-pub mod Disputed
 pub mod EtcdCompacts
 pub mod FaultsOfNames
 pub mod Fields

@@ -8,13 +8,13 @@ use Rattle.bolt_format.specs.Elements.{LeafElement}
 use Rattle.bolt_check.specs.Keys.{Key, key_cmp}
 use Rattle.bolt_tree.proofs.{Filters.kept, PathOrder.key_total}
 use Rattle.bolt_tree.specs.{Entries.Bucket, Entries.EntryView, Entries.Item, Entries.Value, Entries.entry_view, Listing.Member}
-use Rattle.bolt_etcd.specs.{Agreed.AreAgreed, Agreed.AreUnmetKeys, Agreed.IsUnmet, Candidates.AreCandidates, Candidates.is_candidate, Candidates.is_in_place, Compacted.compacted_by}
+use Rattle.bolt_etcd.specs.{Agreed.without, Candidates.AreCandidates, Candidates.is_candidate, Candidates.is_in_place, Compacted.compacted_by}
 use Rattle.bolt_etcd.specs.{FullRepairs.AreCandidateKeys, Misplaced.is_misplaced, Newest.is_until, Records.record_of, Repaired.MakesStore, Repaired.lacks_bucket}
 use Rattle.bolt_etcd.specs.Repairs.{AreBack, GoesBack, IsAgreed, IsCandidate, IsCompactedAt, IsNewestUpTo, store_path}
 use Rattle.bolt_etcd.specs.{RevisionKeys.revision_key, Revisions.RevisionView, Revisions.name_of, Revisions.revision_in, Revisions.revision_of, Revisions.value_of}
 use Rattle.bolt_etcd.specs.{Superseded.ArePutBack, Superseded.IsNewestOf, Superseded.entry_name, Superseded.is_deletion, Superseded.is_key_deleted, Superseded.is_key_until, Superseded.is_old, Superseded.name_if}
-use Rattle.bolt_etcd.specs.Surveys.{IsSurvey}
-use Rattle.bolt_etcd.proofs.{Currents.bind_some, Currents.place_is, Filtered.kept_from, MappedLists.shows_from, MappedLists.shows_has, Rising.fewer, Rising.rises_mapped}
+use Rattle.bolt_etcd.specs.{Surveys.IsSurvey, Undisputed.AreKeys, Undisputed.AreUndisputed}
+use Rattle.bolt_etcd.proofs.{AgreedEntries.without_has, Currents.bind_some, Currents.place_is, Filtered.kept_from, MappedLists.shows_from, MappedLists.shows_has, Rising.fewer, Rising.rises_mapped}
 use Rattle.std.proofs.lemmas.Option.{same_Some}
 
 -- ---- what an entry says if it is a revision
@@ -68,8 +68,9 @@ module _ (recovered : List Member) (found : List LeafElement) (all : List EntryV
     (are : AreCandidates found all) (survey : IsSurvey recovered all under noted met) where
   -- ---- candidates
 
-  candidate_from : (e : EntryView) → IsUnmet all met e → (r : RevisionView) × IsCandidate recovered found e r
-  candidate_from e (has, unmet) =
+  candidate_from : (e : EntryView) → Contains (without met all) e → (r : RevisionView) × IsCandidate recovered found e r
+  candidate_from e left =
+      let (has, unmet) = (without_has met all e).0 left in
       let (there, passes) = kept_from is_candidate (map entry_view found) e ((are.exact e).0 has) in
       let (element, is_found, is) = shows_from entry_view found e there in
       let (r, read, place) = in_place (revision_of e) passes in (
@@ -84,13 +85,13 @@ module _ (recovered : List Member) (found : List LeafElement) (all : List EntryV
         },
       )
 
-  candidate_to : (e : EntryView) (r : RevisionView) → IsCandidate recovered found e r → IsUnmet all met e
+  candidate_to : (e : EntryView) (r : RevisionView) → IsCandidate recovered found e r → Contains (without met all) e
   candidate_to e r c =
       let there = subst (Contains (map entry_view found)) c.shows (shows_has entry_view found c.element c.is_found) in
       let passes : is_candidate e ≡ true = ap is_in_place c.is_revision ∙ ap not c.in_place in
-      ((are.exact e).1 (kept is_candidate (map entry_view found) e there passes), λ has. let (_, (item, kept_one)) = (survey.met e.key).0 has in c.is_lost item kept_one)
+      (without_has met all e).1 ((are.exact e).1 (kept is_candidate (map entry_view found) e there passes), λ has. let (_, (item, kept_one)) = (survey.met e.key).0 has in c.is_lost item kept_one)
 
-  pub candidate_keys : (keys : List Key) → AreUnmetKeys all met keys → AreCandidateKeys recovered found keys
+  pub candidate_keys : (keys : List Key) → AreKeys (without met all) keys → AreCandidateKeys recovered found keys
   candidate_keys keys is = record {
     rises = is.rises;
     exact = λ key. (
@@ -101,7 +102,7 @@ module _ (recovered : List Member) (found : List LeafElement) (all : List EntryV
 
   -- ---- agreed ones
 
-  module _ (agreed : List EntryView) (agree : AreAgreed all met agreed) where
+  module _ (agreed : List EntryView) (agree : AreUndisputed (without met all) agreed) where
     agreed_from : (e : EntryView) → Contains agreed e → (r : RevisionView) × IsAgreed recovered found e r
     agreed_from e has =
         let (unmet, alone) = (agree.exact e).0 has in
@@ -167,7 +168,7 @@ module _ (recovered : List Member) (found : List LeafElement) (all : List EntryV
         }
 
         -- each that goes back has one of the keys
-        pub back_fewer : (keys : List Key) → AreUnmetKeys all met keys → length back ≤ length keys
+        pub back_fewer : (keys : List Key) → AreKeys (without met all) keys → length back ≤ length keys
         back_fewer keys is =
             let long = length-map back (λ (e : EntryView). e.key) in
             let few = fewer key_total keys (map (λ (e : EntryView). e.key) back) (rises_mapped (λ (e : EntryView). e.key) key_cmp back put.rises) is.rises (λ key has.

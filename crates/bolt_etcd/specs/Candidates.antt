@@ -1,6 +1,6 @@
 -- Which elements of found pages are candidates, as far as the recovered listing isn't looked at.
-use Rattle.std.specs.Prelude.{◌&&◌, ◌+◌, ◌≡◌, ◌≢◌, ◌↔◌, ℕ, Bool, false, length, List, [], filter, flat_map, map, not, Option, Some, None, if◌then◌else◌}
-use Rattle.std.specs.List.{Contains, Sorted.IsSorted}
+use Rattle.std.specs.Prelude.{◌&&◌, ◌≡◌, ◌↔◌, ℕ, Bool, false, List, [], filter, flat_map, map, not, Option, Some, None, if◌then◌else◌}
+use Rattle.std.specs.List.{Contains}
 use Rattle.std.specs.{Option.is_some, Ordering.ordering_then, Str.bytes_eq}
 use Rattle.std.specs.declared.cmp.Ordering.{Ordering}
 use Rattle.bolt_format.specs.{Elements.LeafElement, TreePages.leaves_on}
@@ -54,20 +54,3 @@ pub record AreCandidates (elements : List LeafElement) (es : List EntryView) : T
 -- an entry has this key
 abbrev pub HasKey : List EntryView → Key → Type 0
 HasKey es key = (e : EntryView) × Contains es e × (e.key ≡ key)
-
--- the keys of entries, by rising key
-pub record AreKeys (es : List EntryView) (keys : List Key) : Type 0 where
-  pub rises : Rises key_cmp keys
-  pub exact : (key : Key) → Contains keys key ↔ HasKey es key
-
--- two different entries have this key
-abbrev pub IsDisputed : List EntryView → Key → Type 0
-IsDisputed es key = (a b : EntryView) × Contains es a × Contains es b × (a.key ≡ key) × (b.key ≡ key) × (a ≢ b)
-
--- The keys of entries that two have or more. With them there are as many keys as entries.
-pub record AreDisputed (es : List EntryView) (disputed : List Key) : Type 0 where
-  pub sorted : IsSorted key_cmp disputed
-  pub exact : (key : Key) → Contains disputed key ↔ IsDisputed es key
-  pub keys : List Key
-  pub are_keys : AreKeys es keys
-  pub number : length keys + length disputed ≡ length es

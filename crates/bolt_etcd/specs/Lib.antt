@@ -48,6 +48,7 @@ pub mod Surveys
 pub mod Taken
 pub mod Told
 pub mod ToldRevisions
+pub mod Undisputed
 pub mod WholeStores
 pub mod Wire
 pub mod WriterLines

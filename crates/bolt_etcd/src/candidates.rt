@@ -5,7 +5,7 @@ ghost use Rattle.std.specs.List.{Contains, Sorted.IsSorted};
 ghost use Rattle.bolt_format.specs.{ElementPlaces.leaf_view, Elements.IsBucketValue, ElementsLeft.leaves_left};
 ghost use Rattle.bolt_check.specs.{Counts.counted, Keys.key_cmp};
 ghost use Rattle.bolt_tree.specs.{Entries.entry_view, Order.Rises};
-ghost use Rattle.bolt_etcd.specs.Candidates.{AreCandidates, AreDisputed, HasKey, candidates_in, elements_of};
+ghost use Rattle.bolt_etcd.specs.Candidates.{AreCandidates, HasKey, candidates_in, elements_of};
 ghost use Rattle.bolt_etcd.specs.Candidates.{candidate_at, is_same, under_revision_keys, whole_cmp};
 ghost use Rattle.bolt_etcd.specs.{Keyed.AreBelow, ShownRevisions.entry_of};
 
@@ -106,24 +106,6 @@ fn is_same(a: &Revision<'_>, b: &Revision<'_>) -> bool
     ensures { result ≡ is_same (entry_of a.now) (entry_of b.now) }
 {
     a.place() == b.place() && a.value() == b.value()
-}
-
-/// The keys that two neighbors have, once for each two.
-pub(crate) fn disputed_keys<'a>(
-    alloc: Global,
-    candidates: &[Revision<'a>],
-) -> Result<Vec<&'a [u8]>, NoMemory>
-    requires { Rises whole_cmp (map entry_of candidates.now) }
-    ensures { IfOk result (λ disputed.
-        AreDisputed (map entry_of candidates.now) (map (λ key. key.now) disputed.items)) }
-{
-    let mut keys = Vec::new(alloc);
-    for i in 1..candidates.len() {
-        if candidates[i].place() == candidates[i - 1].place() {
-            add_key(&mut keys, candidates[i].place())?;
-        }
-    }
-    Ok(keys)
 }
 
 /// Adds a key.

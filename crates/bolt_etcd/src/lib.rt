@@ -33,6 +33,7 @@ mod superseded;
 mod survey;
 #[cfg(test)]
 mod tests;
+mod undisputed;
 mod wire;
 
 pub use crate::collected::Collected;

@@ -8,14 +8,15 @@ ghost use Rattle.bolt_etcd.specs.{FullRepairs.IsFullRepair, Repaired.IsRepair, R
 ghost use Rattle.bolt_check.specs.Keys.{key_cmp};
 ghost use Rattle.bolt_tree.specs.{InBuckets.view_cmp, Order.Rises, ShownEntries.item_view};
 ghost use Rattle.bolt_etcd.specs.ShownRevisions.{entry_of};
-ghost use Rattle.bolt_etcd.specs.{Agreed.AreAgreed, Agreed.HaveUnmetKeys, Agreed.among, Agreed.without, Candidates.whole_cmp, Repaired.lacks_bucket, Superseded.ArePutBackIn};
+ghost use Rattle.bolt_etcd.specs.{Agreed.among, Agreed.without, Candidates.whole_cmp, Repaired.lacks_bucket, Superseded.ArePutBackIn, Undisputed.AreUndisputed, Undisputed.HaveKeys};
 ghost use Rattle.bolt_etcd.specs.declared.repair.RepairFault.TheVariants as faults;
 
-use crate::candidates::{candidates_of, disputed_keys, has_key};
+use crate::candidates::{candidates_of, has_key};
 use crate::compaction::compacted_by;
 use crate::revision::Revision;
 use crate::superseded::{keep_newest, old_among, sort_by_key, stays, superseded_keys};
 use crate::survey::Survey;
+use crate::undisputed::keep_undisputed;
 use bolt_check::{Finding, NoMemory};
 use bolt_recover::{Lost, LostAndFound};
 use bolt_tree::Item;
@@ -79,7 +80,7 @@ impl<'a> Repair<'a> {
             return Err(RepairFault::NotABucket);
         };
         let compacted = compacted_by(survey.compaction);
-        let keys = keep_agreed(alloc, &mut back, survey.met)?;
+        let keys = keep_agreed(&mut back, survey.met);
         keep_what_goes_back(alloc, both, &mut back, compacted)?;
         if let Lost::Everything(finding) = both.lost()
             && back.is_empty()
@@ -109,24 +110,16 @@ fn lacks_bucket(under: Option<Item<'_>>) -> Option<bool>
 /// Keeps the candidates that are agreed: the recovered bucket doesn't have their keys (those that it
 /// has are met), and no other candidate has the key with another value. They stand by rising key.
 /// Returns the number of keys of candidates that aren't met.
-fn keep_agreed(
-    alloc: Global,
-    candidates: &mut Vec<Revision<'_>>,
-    met: Vec<&[u8]>,
-) -> Result<usize, NoMemory>
+fn keep_agreed(candidates: &mut Vec<Revision<'_>>, met: Vec<&[u8]>) -> usize
     requires rises { Rises whole_cmp (map entry_of candidates.old.items) }
     requires sorted { IsSorted key_cmp (map (λ key. key.now) met.items) }
-    ensures agreed { OnOk result (AreAgreed (map entry_of candidates.old.items)
-        (map (λ key. key.now) met.entry.items) (map entry_of candidates.new.items)) }
-    ensures keys { IfOk result (HaveUnmetKeys (map entry_of candidates.old.items)
-        (map (λ key. key.now) met.entry.items)) }
+    ensures agreed { AreUndisputed (without (map (λ key. key.now) met.entry.items)
+        (map entry_of candidates.old.items)) (map entry_of candidates.new.items) }
+    ensures keys { HaveKeys (without (map (λ key. key.now) met.entry.items)
+        (map entry_of candidates.old.items)) result }
 {
     remove_keys(candidates, met.as_slice());
-    drop(met);
-    let disputed = disputed_keys(alloc, candidates.as_slice())?;
-    let keys = candidates.len() - disputed.len();
-    remove_keys(candidates, disputed.as_slice());
-    Ok(keys)
+    keep_undisputed(candidates)
 }
 
 /// Keeps of the agreed candidates those that go back: those after the last compaction, and what

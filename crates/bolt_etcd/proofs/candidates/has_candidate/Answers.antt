@@ -3,7 +3,7 @@ use Rattle.std.proofs.lemmas.Bool.{ltb-true}
 use Rattle.std.specs.Str.{bytes_eq}
 use Rattle.bolt_check.specs.Keys.{Key, key_cmp}
 use Rattle.bolt_etcd.specs.declared.revision.Revision.{Revision}
-use Rattle.bolt_etcd.proofs.{Disputed.same_at, KeyWalks.found, KeyWalks.past_all}
+use Rattle.bolt_etcd.proofs.{Alones.same_at, KeyWalks.found, KeyWalks.past_all}
 use Rattle.bolt_etcd.proofs.candidates.has_candidate.Goals as goal
 use Rattle.bolt_etcd.proofs.candidates.has_candidate.Goals.{then-loop-i-test+else-is_below, else-loop-i-test}
 

@@ -15,14 +15,14 @@ use Rattle.bolt_etcd.proofs.repair.Repair.find.Goals.{else-is_lacking, then-is_l
 
 pub overflow_sub-result : goal.overflow_sub-result
 overflow_sub-result c =
-    let (keys, are, number) = c.in_ok-keys.ensures.keys in
+    let (keys, are, number) = c.keep_agreed-keys.ensures.keys in
     let least : length c.keep_what_goes_back.new.agreed.items ≤ length keys =
     searched_least c.args.both.now _ c.as_slice.ensures.value _ _ _ _ c.as_slice-2.ensures.value c.in_ok-survey.survey _ c.compacted_by-compacted.ensures c.in_ok-back.ensures
-    c.in_ok-survey.ensures c.in_ok-keys.ensures.agreed c.in_ok-keep_what_goes_back.ensures keys are in
+    c.in_ok-survey.ensures c.keep_agreed-keys.ensures.agreed c.in_ok-keep_what_goes_back.ensures keys are in
     omega (arith, least, number)
 
-pub keep_agreed-requires-clause-sorted : goal.keep_agreed-requires-clause-sorted
-keep_agreed-requires-clause-sorted c =
+pub keep_agreed-keys-requires-clause-sorted : goal.keep_agreed-keys-requires-clause-sorted
+keep_agreed-keys-requires-clause-sorted c =
     let (listing, is) = has_recovered c.args.both.now.file.now c.args.both.now.meta in
     rises_sorted _ (c.in_ok-survey.ensures listing is).rises
 
@@ -38,7 +38,7 @@ invariant_of-result c =
     record {
       goes_back =
           searched_repair c.args.both.now _ c.as_slice.ensures.value _ _ _ _ c.as_slice-2.ensures.value c.in_ok-survey.survey _ c.compacted_by-compacted.ensures c.in_ok-back.ensures
-          c.in_ok-survey.ensures c.in_ok-keys.ensures.agreed c.in_ok-keep_what_goes_back.ensures c.in-Some.is_lacking (sym c.lacks_bucket.ensures ∙ c.in-Some.is) c.if-is_lacking.result made;
+          c.in_ok-survey.ensures c.keep_agreed-keys.ensures.agreed c.in_ok-keep_what_goes_back.ensures c.in-Some.is_lacking (sym c.lacks_bucket.ensures ∙ c.in-Some.is) c.if-is_lacking.result made;
     }
 
 pub returns-2-clause-back : goal.returns-2-clause-back
@@ -50,10 +50,10 @@ returns-2-clause-back c =
       | then-is_lacking w ↦ made_if back.items c.if-is_lacking.result c.in-Some.is_lacking _ _ w.result-is w.is_empty-then-is_lacking.ensures long w.if-is_lacking.true
       | else-is_lacking w ↦ not_made back.items c.if-is_lacking.result c.in-Some.is_lacking w.result-is w.if-is_lacking.false
     ] in
-    let (keys, are, number) = c.in_ok-keys.ensures.keys in
+    let (keys, are, number) = c.keep_agreed-keys.ensures.keys in
     searched_full c.args.both.now _ c.as_slice.ensures.value _ _ _ _ c.as_slice-2.ensures.value c.in_ok-survey.survey _ c.compacted_by-compacted.ensures c.in_ok-back.ensures
-    c.in_ok-survey.ensures c.in_ok-keys.ensures.agreed c.in_ok-keep_what_goes_back.ensures c.in-Some.is_lacking (sym c.lacks_bucket.ensures ∙ c.in-Some.is) c.if-is_lacking.result made
-    keys are (c.in_ok-keys.keys - c.len.result) (let same = c.len.ensures in omega (arith, number, same, long))
+    c.in_ok-survey.ensures c.keep_agreed-keys.ensures.agreed c.in_ok-keep_what_goes_back.ensures c.in-Some.is_lacking (sym c.lacks_bucket.ensures ∙ c.in-Some.is) c.if-is_lacking.result made
+    keys are (c.keep_agreed-keys.result - c.len.result) (let same = c.len.ensures in omega (arith, number, same, long))
 
 pub returns-clause-refused : goal.returns-clause-refused
 returns-clause-refused c =
@@ -63,7 +63,7 @@ returns-clause-refused c =
     let made : false ≡ (c.in-Some.is_lacking && not (is_nil (map entry_of back.items))) = sym (and_right c.in-Some.is_lacking _ (ap not (ap is_nil none))) in
     let repair =
     searched_repair c.args.both.now _ c.as_slice.ensures.value _ _ _ _ c.as_slice-2.ensures.value c.in_ok-survey.survey _ c.compacted_by-compacted.ensures c.in_ok-back.ensures
-    c.in_ok-survey.ensures c.in_ok-keys.ensures.agreed c.in_ok-keep_what_goes_back.ensures c.in-Some.is_lacking (sym c.lacks_bucket.ensures ∙ c.in-Some.is) false made in (
+    c.in_ok-survey.ensures c.keep_agreed-keys.ensures.agreed c.in_ok-keep_what_goes_back.ensures c.in-Some.is_lacking (sym c.lacks_bucket.ensures ∙ c.in-Some.is) false made in (
       loses_root c.args.both.now c.in-Everything.finding (sym c.lost.ensures ∙ ap lost_view c.in-Everything.is),
       subst (λ (es : List EntryView). ∥ IsRepair c.args.both.now.file.now c.args.both.now.meta es false ∥₁) none repair,
     )
