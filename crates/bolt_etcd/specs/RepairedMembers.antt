@@ -3,7 +3,7 @@ use Rattle.std.specs.Prelude.{ℕ, List, length}
 use Rattle.bolt_format.specs.declared.meta.Meta.{Meta}
 use Rattle.bolt_tree.specs.{Listing.Member, Merging.merged_left, Merging.merged_path, Merging.merged_work, Paths.Path}
 use Rattle.bolt_recover.specs.KeptMembers.{kept_left, kept_path, kept_work}
-use Rattle.bolt_etcd.specs.{PutBackMembers.put_back_left, PutBackMembers.put_back_path, RepairedMerges.both_listings, declared.put_back.PutBack.PutBack, declared.repair.Repair.Repair, declared.repaired.Repaired.Repaired}
+use Rattle.bolt_etcd.specs.{FullRepairs.IsFullRepair, PutBackMembers.put_back_left, PutBackMembers.put_back_path, RepairedMerges.both_listings, RepairedMerges.repair_back, RepairedMerges.repair_is_made, declared.put_back.PutBack.PutBack, declared.repair.Repair.Repair, declared.repaired.Repaired.Repaired}
 
 -- the file that is repaired, and the meta that it is read under
 abbrev pub repair_file : Repair → List ℕ
@@ -11,6 +11,10 @@ repair_file repair = repair.both.now.file.now
 
 abbrev pub repair_meta : Repair → Meta
 repair_meta repair = repair.both.now.meta
+
+-- it is all that goes back, and says how many candidates don't
+abbrev pub IsWhole : Repair → Type 0
+IsWhole repair = ∥ IsFullRepair (repair_file repair) (repair_meta repair) (repair_back repair) (repair_is_made repair) repair.left_out ∥₁
 
 unfoldable pub repaired_file : Repaired → List ℕ
 repaired_file repaired = repair_file repaired.repair.now

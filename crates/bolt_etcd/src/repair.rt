@@ -4,7 +4,7 @@ ghost use Rattle.std.specs.Option.{option_map};
 ghost use Rattle.std.specs.List.Sorted.{IsSorted};
 ghost use Rattle.bolt_check.specs.declared.finding.Finding.{Finding};
 ghost use Rattle.bolt_recover.specs.{LostAndFound.all_lost, Losses.everything};
-ghost use Rattle.bolt_etcd.specs.{FullRepairs.IsFullRepair, Repaired.IsRepair, RepairRefusals.IsRepairRefusal};
+ghost use Rattle.bolt_etcd.specs.{Repaired.IsRepair, RepairRefusals.IsRepairRefusal};
 ghost use Rattle.bolt_check.specs.Keys.{key_cmp};
 ghost use Rattle.bolt_tree.specs.{InBuckets.view_cmp, Order.Rises, ShownEntries.item_view};
 ghost use Rattle.bolt_etcd.specs.ShownRevisions.{entry_of};
@@ -56,7 +56,7 @@ impl From<NoMemory> for RepairFault {
 }
 
 impl<'a> Repair<'a> {
-    ghost use Rattle.bolt_etcd.specs.{RepairedMembers.repair_file, RepairedMembers.repair_meta, RepairedMerges.repair_back, RepairedMerges.repair_is_made};
+    ghost use Rattle.bolt_etcd.specs.{RepairedMembers.IsWhole, RepairedMembers.repair_file, RepairedMembers.repair_meta, RepairedMerges.repair_back};
 
     /// Finds what goes back. Goes over what is recovered once, and once more if a compaction may have
     /// removed some of the candidates.
@@ -68,8 +68,7 @@ impl<'a> Repair<'a> {
     pub fn find(alloc: Global, both: &'a LostAndFound<'_>) -> Result<Repair<'a>, RepairFault>
         ensures file { IfOk result (λ repair. repair_file repair ≡ both.now.file.now) }
         ensures meta { IfOk result (λ repair. repair_meta repair ≡ both.now.meta) }
-        ensures back { IfOk result (λ repair. ∥ IsFullRepair (repair_file repair)
-            (repair_meta repair) (repair_back repair) (repair_is_made repair) repair.left_out ∥₁) }
+        ensures back { IfOk result (λ repair. IsWhole repair) }
         ensures some { IfOk result (λ repair.
             (x : Finding) → all_lost both.now ≡ everything x → repair_back repair ≢ []) }
         ensures refused { IfErr result (IsRepairRefusal both.now.file.now both.now.meta) }
