@@ -1,6 +1,7 @@
 pub mod AgreedEntries
 pub mod ByName
 pub mod CandidateLemmas
+pub mod CompactedFirst
 pub mod CompactionsAdded
 pub mod Currents
 pub mod Disputed
@@ -8,7 +9,6 @@ pub mod EtcdCompacts
 pub mod FaultsOfNames
 pub mod Fields
 pub mod Filtered
-pub mod FirstOfSame
 pub mod FoundRepairs
 pub mod HistoryNumbers
 pub mod HistorySteps
@@ -20,7 +20,6 @@ pub mod KeySearches
 pub mod KeyWalks
 pub mod Keys
 pub mod LastOfAll
-pub mod LaterOnes
 pub mod LastOnes
 pub mod Leases
 pub mod ListedTexts
@@ -28,17 +27,16 @@ pub mod MappedLists
 pub mod Messages
 pub mod MissingExact
 pub mod NameHistories
+pub mod NameSearches
 pub mod NewestEntries
 pub mod NewestOfNames
 pub mod NothingFound
-pub mod OldOfName
 pub mod OldOnes
 pub mod OneRepair
 pub mod OtherCounts
 pub mod OtherSteps
 pub mod Passing
 pub mod Places
-pub mod PutBackEntries
 pub mod RepairLaws
 pub mod RepairedListings
 pub mod RestoredStores

@@ -9,6 +9,7 @@ ghost use Rattle.bolt_check.specs.Keys.{key_cmp};
 ghost use Rattle.bolt_tree.specs.{InBuckets.view_cmp, Order.Rises, ShownEntries.item_view};
 ghost use Rattle.bolt_etcd.specs.ShownRevisions.{entry_of};
 ghost use Rattle.bolt_etcd.specs.{Agreed.AreAgreed, Agreed.HaveUnmetKeys, Agreed.among, Agreed.without, Candidates.whole_cmp, Repaired.lacks_bucket, Superseded.ArePutBackIn};
+ghost use Rattle.bolt_etcd.specs.Superseded.{CompactsFirstIn, IsPartedAt};
 ghost use Rattle.bolt_etcd.specs.declared.repair.RepairFault.TheVariants as faults;
 
 use crate::candidates::{candidates_of, disputed_keys, has_key};
@@ -146,13 +147,33 @@ fn keep_what_goes_back<'a>(
         return Ok(());
     }
     let later = agreed.len() - old;
+    compact_first(alloc, both, agreed, old, compacted)?;
+    let left = agreed.len() - later;
+    sort_by_key(agreed.as_mut_slice(), left);
+    Ok(())
+}
+
+/// Of the first ones, which are old, keeps those that the last compaction keeps: the newest of each
+/// name, if it isn't a deletion and no kept revision comes after it. They stand by rising name then.
+/// All others stay as they are.
+fn compact_first<'a>(
+    alloc: Global,
+    both: &LostAndFound<'a>,
+    agreed: &mut Vec<Revision<'a>>,
+    old: usize,
+    compacted: u64,
+) -> Result<(), NoMemory>
+    requires rises { Rises view_cmp (map entry_of agreed.old.items) }
+    requires parted { IsPartedAt compacted (map entry_of agreed.old.items) old }
+    ensures { OnOk result (CompactsFirstIn both.now.file.now both.now.meta compacted old
+        (map entry_of agreed.old.items) (map entry_of agreed.new.items)) }
+{
+    let later = agreed.len() - old;
     keep_newest(agreed, old, compacted);
     let (newest, _) = agreed.as_slice().split_at(agreed.len() - later);
     let superseded = superseded_keys(alloc, both, newest, compacted)?;
     remove_keys(agreed, superseded.as_slice());
     agreed.retain(|revision| stays(revision, compacted));
-    let old = agreed.len() - later;
-    sort_by_key(agreed.as_mut_slice(), old);
     Ok(())
 }
 
