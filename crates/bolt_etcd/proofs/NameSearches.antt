@@ -19,7 +19,8 @@ use Rattle.bolt_etcd.specs.ShownRevisions.{entry_of}
 use Rattle.bolt_etcd.specs.declared.revision.Revision.{Revision}
 use Rattle.bolt_etcd.specs.{Newest.is_until, Revisions.RevisionView, Revisions.name_of}
 use Rattle.bolt_etcd.specs.Superseded.{IsSupersededBy, entry_name, entry_name_cmp}
-use Rattle.bolt_etcd.proofs.{KeySearches.not_found, MappedLists.shows_from, MappedLists.shows_has, MappedLists.sorted_by_shown, NewestEntries.entry_name_total, Rising.one_of, SortedOnce.rises_sorted}
+use Rattle.bolt_etcd.proofs.MappedLists.{shows_from, shows_has, sorted_by_shown}
+use Rattle.bolt_etcd.proofs.{KeySearches.not_found, NewestEntries.entry_name_total, Rising.one_of, SortedOnce.rises_sorted}
 
 module _ (compacted : ℕ) (es : List Revision) (r : RevisionView) where
   abbrev name : Revision → Key
@@ -36,7 +37,8 @@ module _ (compacted : ℕ) (es : List Revision) (r : RevisionView) where
     none_named : (i : ℕ) → IsBinarySearchResult beside es (Err i) → (key : Key) → IsSupersededBy compacted (map entry_of es) r key → ⊥
     none_named i searched key (e, has, is, named, until, less) =
         let (x, there, shown) = shows_from entry_of es e has in
-        not_found name (name_of r) es i (searched (searchable_from_sorted key_total name es (name_of r) up)) (subst (Contains (map name es)) (ap entry_name shown ∙ named) (shows_has name es x there))
+        let has_name = subst (Contains (map name es)) (ap entry_name shown ∙ named) (shows_has name es x there) in
+        not_found name (name_of r) es i (searched (searchable_from_sorted key_total name es (name_of r) up)) has_name
 
     pub absent : (searched : Result ℕ ℕ) → IsBinarySearchResult beside es searched → result_ok searched ≡ None → (o : Option (Bor Key)) → o ≡ None → (key : Key)
         → (option_map (λ (k : Bor Key). k.now) o ≡ Some key) ↔ IsSupersededBy compacted (map entry_of es) r key

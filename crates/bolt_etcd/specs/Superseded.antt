@@ -104,12 +104,12 @@ pub record IsNewestOf (compacted : ℕ) (recovered : List Member) (agreed : List
   pub of_kept : (r : RevisionView) → IsKept recovered r → name_of r ≡ entry_name e → is_until compacted r ≡ true → key_cmp e.key r.place ≢ Less
   pub of_agreed : (other : EntryView) → Contains agreed other → entry_name other ≡ entry_name e → is_old compacted other ≡ true → key_cmp e.key other.key ≢ Less
 
--- of the first n those are left that are the newest of their names, by rising name; and all others
-pub record CompactsFirst (compacted n : ℕ) (recovered : List Member) (before after : List EntryView) : Type 0 where
-  pub left : List EntryView
-  pub is : after ≡ left ++ drop n before
-  pub rises : Rises entry_name_cmp left
-  pub exact : (e : EntryView) → Contains left e ↔ (Contains (take n before) e × IsNewestOf compacted recovered before e)
+-- of the first n, which are old, m are left: the newest of their names, by rising name; and all others
+pub record CompactsFirst (compacted n m : ℕ) (recovered : List Member) (before after : List EntryView) : Type 0 where
+  pub within : m ≤ length after
+  pub others : drop m after ≡ drop n before
+  pub rises : Rises entry_name_cmp (take m after)
+  pub exact : (e : EntryView) → Contains (take m after) e ↔ (Contains (take n before) e × IsNewestOf compacted recovered before e)
 
 -- Of the agreed candidates these go back, by rising key.
 pub record ArePutBack (compacted : ℕ) (recovered : List Member) (agreed back : List EntryView) : Type 0 where
@@ -120,8 +120,8 @@ pub record ArePutBack (compacted : ℕ) (recovered : List Member) (agreed back :
 abbrev pub AreSupersededIn : List ℕ → Meta → ℕ → List EntryView → List Key → Type 0
 AreSupersededIn file meta compacted es keys = ForRecovered file meta (λ recovered. AreSuperseded compacted recovered es keys)
 
-abbrev pub CompactsFirstIn : List ℕ → Meta → (compacted n : ℕ) → (before after : List EntryView) → Type 0
-CompactsFirstIn file meta compacted n before after = ForRecovered file meta (λ recovered. CompactsFirst compacted n recovered before after)
+abbrev pub CompactsFirstIn : List ℕ → Meta → (compacted n m : ℕ) → (before after : List EntryView) → Type 0
+CompactsFirstIn file meta compacted n m before after = ForRecovered file meta (λ recovered. CompactsFirst compacted n m recovered before after)
 
 abbrev pub ArePutBackIn : List ℕ → Meta → ℕ → (agreed back : List EntryView) → Type 0
 ArePutBackIn file meta compacted agreed back = ForRecovered file meta (λ recovered. ArePutBack compacted recovered agreed back)

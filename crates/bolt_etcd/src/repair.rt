@@ -146,27 +146,25 @@ fn keep_what_goes_back<'a>(
     if old == 0 {
         return Ok(());
     }
-    let later = agreed.len() - old;
-    compact_first(alloc, both, agreed, old, compacted)?;
-    let left = agreed.len() - later;
+    let left = compact_first(alloc, both, agreed, old, compacted)?;
     sort_by_key(agreed.as_mut_slice(), left);
     Ok(())
 }
 
 /// Of the first ones, which are old, keeps those that the last compaction keeps: the newest of each
 /// name, if it isn't a deletion and no kept revision comes after it. They stand by rising name then.
-/// All others stay as they are.
+/// All others stay as they are. Returns the number of those that are left.
 fn compact_first<'a>(
     alloc: Global,
     both: &LostAndFound<'a>,
     agreed: &mut Vec<Revision<'a>>,
     old: usize,
     compacted: u64,
-) -> Result<(), NoMemory>
+) -> Result<usize, NoMemory>
     requires rises { Rises view_cmp (map entry_of agreed.old.items) }
     requires parted { IsPartedAt compacted (map entry_of agreed.old.items) old }
-    ensures { OnOk result (CompactsFirstIn both.now.file.now both.now.meta compacted old
-        (map entry_of agreed.old.items) (map entry_of agreed.new.items)) }
+    ensures { IfOk result (λ left. CompactsFirstIn both.now.file.now both.now.meta compacted old
+        left (map entry_of agreed.old.items) (map entry_of agreed.new.items)) }
 {
     let later = agreed.len() - old;
     keep_newest(agreed, old, compacted);
@@ -174,7 +172,7 @@ fn compact_first<'a>(
     let superseded = superseded_keys(alloc, both, newest, compacted)?;
     remove_keys(agreed, superseded.as_slice());
     agreed.retain(|revision| stays(revision, compacted));
-    Ok(())
+    Ok(agreed.len() - later)
 }
 
 /// Removes those that have one of these keys, which are sorted.
