@@ -9,8 +9,8 @@ ghost use Rattle.bolt_check.specs.Keys.{key_cmp};
 ghost use Rattle.bolt_tree.specs.{InBuckets.view_cmp, Order.Rises, ShownEntries.item_view};
 ghost use Rattle.bolt_etcd.specs.ShownRevisions.{entry_of};
 ghost use Rattle.bolt_etcd.specs.{Agreed.AreAgreed, Agreed.HaveUnmetKeys, Agreed.among, Agreed.without, Candidates.whole_cmp, Repaired.lacks_bucket, Superseded.ArePutBackIn};
-ghost use Rattle.bolt_etcd.specs.Superseded.{CompactsFirstIn, IsPartedAt};
 ghost use Rattle.bolt_etcd.specs.declared.repair.RepairFault.TheVariants as faults;
+ghost use Rattle.bolt_etcd.specs.Superseded.{CompactsFirstIn, IsPartedAt};
 
 use crate::candidates::{candidates_of, disputed_keys, has_key};
 use crate::compaction::compacted_by;
