@@ -1,20 +1,19 @@
 -- All revisions of a bucket, sorted by name and then by their places.
 use Rattle.std.proofs.Common.{◌≡◌, ◌<◌, ◌-◌, ◌^◌, Bool, List, map, not, Some, ap, subst, arith}
 use Rattle.std.proofs.lemmas.Bool.{le-ltb}
-use Rattle.std.proofs.lemmas.Cmp.{nat_list_cmp_total, on_total, then_total}
 use Rattle.std.proofs.lemmas.List.MinMax.{ranks_by}
 use Rattle.std.proofs.lemmas.List.Sorted.{IsPermutation-map}
 use Rattle.std.proofs.lemmas.Option.{same_Some}
-use Rattle.std.specs.Cmp.{IsStrictWeakOrder, IsTotalOrder}
+use Rattle.std.specs.Cmp.{IsStrictWeakOrder}
 use Rattle.std.specs.List.Sorted.{IsPermutation, IsSortedBy}
 use Rattle.std.specs.Ordering.{is_lt}
 use Rattle.bolt_format.specs.Elements.{LeafElement}
 use Rattle.bolt_tree.proofs.Filters.{filter_all}
 use Rattle.bolt_tree.specs.Entries.{EntryView}
 use Rattle.bolt_etcd.specs.{NameFaults.AreByName, NameFaults.by_name_cmp, Newest.is_until, Newest.until, Records.record_of, RevisionKeys.revision_key}
-use Rattle.bolt_etcd.specs.{Revisions.RevisionView, Revisions.name_of, Revisions.revision_in, Revisions.revision_of, Revisions.value_of, ShownRevisions.shown_revision, Stores.revisions}
+use Rattle.bolt_etcd.specs.{Revisions.RevisionView, Revisions.revision_in, Revisions.revision_of, Revisions.value_of, ShownRevisions.shown_revision, Stores.revisions}
 use Rattle.bolt_etcd.specs.declared.revision.Revision.{Revision}
-use Rattle.bolt_etcd.proofs.{Currents.bind_some, Currents.from_entry, Keys.read_fits, MappedLists.sorted_mapped}
+use Rattle.bolt_etcd.proofs.{Currents.bind_some, Currents.from_entry, Keys.read_fits, MappedLists.sorted_mapped, SortedOnce.by_name_total}
 
 -- ---- each is of a transaction below 2^63
 
@@ -37,11 +36,8 @@ until_all es = filter_all (is_until (2 ^ 64 - 1)) (revisions es) (λ r has.
 abbrev pub code_by_name : Revision → Revision → Bool
 code_by_name a b = is_lt (by_name_cmp (shown_revision a) (shown_revision b))
 
-total : IsTotalOrder by_name_cmp
-total = then_total (on_total name_of nat_list_cmp_total) (on_total (λ (r : RevisionView). r.place) nat_list_cmp_total)
-
 pub code_ranks : IsStrictWeakOrder code_by_name
-code_ranks = ranks_by total shown_revision
+code_ranks = ranks_by by_name_total shown_revision
 
 pub are_by_name : (rs : List RevisionView) (old sorted : List Revision) → map shown_revision old ≡ rs → IsPermutation old sorted → IsSortedBy code_by_name sorted
     → AreByName rs (map shown_revision sorted)

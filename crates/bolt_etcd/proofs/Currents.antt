@@ -1,25 +1,26 @@
 -- The keys that there are are the newest revisions that aren't deletions.
-use Rattle.std.proofs.Common.{◌≡◌, ◌∙◌, ◌++◌, inl, inr, Bool, true, false, List, [], ◌∷◌, cond, filter, map, not, Option, Some, None, Result, Ok, Err, refl, sym, ap, if◌then◌else◌}
+use Rattle.std.proofs.Common.{◌≡◌, ◌∙◌, ◌++◌, inl, inr, Bool, false, List, [], ◌∷◌, filter, map, not, Option, Some, None, Result, Ok, Err, refl, sym, ap, if◌then◌else◌}
 use Rattle.std.proofs.lemmas.Bool.{not-true}
+use Rattle.std.proofs.lemmas.Cmp.{nat_list_cmp_total, on_total}
 use Rattle.std.proofs.lemmas.List.{append_assoc, map-append}
 use Rattle.std.proofs.lemmas.List.Kept.{IsStrictlySortedBy-filter}
 use Rattle.std.proofs.lemmas.List.Sorted.{IsPermutation-map}
 use Rattle.std.proofs.lemmas.Option.{same_Some}
 use Rattle.std.specs.List.{Contains, cons_option, dedup}
-use Rattle.std.specs.List.Sorted.{IsPermutation, IsSortedBy, IsStrictlySortedBy}
+use Rattle.std.specs.List.Sorted.{IsPermutation, IsSortedBy}
 use Rattle.std.specs.Cmp.{IsStrictWeakOrder}
 use Rattle.std.specs.Ordering.{is_lt}
 use Rattle.std.specs.Result.{is_err, is_ok}
 use Rattle.std.specs.Str.{bytes_eq}
-use Rattle.std.specs.declared.cmp.Ordering.TheVariants.{Less}
 use Rattle.bolt_format.specs.Elements.{LeafElement}
 use Rattle.bolt_tree.proofs.{Filters.kept, Lists.contains_cases, Lists.contains_head, Lists.contains_none, Lists.contains_tail}
 use Rattle.bolt_tree.specs.{Entries.EntryView, Entries.entry_cmp, Entries.entry_view, Order.Rises}
 use Rattle.bolt_etcd.specs.{Current.AreCurrent, Current.is_there, Current.name_cmp, Current.newest_first_cmp, Current.place_cmp, Newest.newest, Revisions.RevisionView, Revisions.name_of, Revisions.revision_in, Revisions.revision_of, Revisions.value_of}
 use Rattle.bolt_etcd.specs.{RevisionKeys.revision_key, Records.record_of, ShownRevisions.shown_revision, Stores.revisions, Wire.◌>>=◌}
 use Rattle.bolt_etcd.specs.declared.revision.Revision.{Revision}
-use Rattle.bolt_etcd.proofs.{Filtered.kept_from, MappedLists.dedup_mapped, MappedLists.sorted_mapped}
-use Rattle.bolt_etcd.proofs.NewestOfNames.{all_at, kept_last, last_kept, names_rise, newest_ranks}
+use Rattle.bolt_etcd.proofs.{Filtered.filter_mapped, Filtered.kept_from, MappedLists.dedup_mapped, MappedLists.sorted_mapped}
+use Rattle.bolt_etcd.proofs.NewestOfNames.{kept_last, last_kept, names_rise, newest_ranks}
+use Rattle.bolt_etcd.proofs.SortedOnce.{rises_from}
 
 -- ---- one more is pushed
 
@@ -94,26 +95,12 @@ code_ranks = newest_ranks (λ r. name_of (shown_revision r)) (λ r. (shown_revis
 abbrev pub code_is_there : Revision → Bool
 code_is_there r = is_there (shown_revision r)
 
-filter_step : (y : Revision) (ys : List Revision) (b : Bool) → map shown_revision (filter code_is_there ys) ≡ filter is_there (map shown_revision ys)
-    → map shown_revision (cond b (y ∷ filter code_is_there ys) (filter code_is_there ys)) ≡ cond b (shown_revision y ∷ filter is_there (map shown_revision ys)) (filter is_there (map shown_revision ys))
-filter_step y ys true later = ap (λ l. shown_revision y ∷ l) later
-filter_step y ys false later = later
-
-filter_shown : (ys : List Revision) → map shown_revision (filter code_is_there ys) ≡ filter is_there (map shown_revision ys)
-filter_shown [] = refl
-filter_shown (y ∷ ys) = filter_step y ys (code_is_there y) (filter_shown ys)
-
-strict_rises : (rs : List RevisionView) → IsStrictlySortedBy name_cmp rs → Rises name_cmp rs
-unfolding IsStrictlySortedBy
-strict_rises [] strict = tt
-strict_rises (r ∷ rs) strict = (λ s has. all_at (λ w. name_cmp r w ≡ Less) rs s strict.0 has, strict_rises rs strict.1)
-
 -- of revisions sorted by names, the newest first, the first of each name that isn't a deletion
 pub first_are_current : (rs sorted : List RevisionView) → Rises place_cmp rs → IsPermutation rs sorted → IsSortedBy (λ a b. is_lt (newest_first_cmp a b)) sorted
     → AreCurrent rs (filter is_there (dedup view_same_name sorted))
 unfolding newest
 first_are_current rs sorted rises moved up = record {
-  rises = strict_rises _ (IsStrictlySortedBy-filter name_cmp is_there _ (names_rise name_of (λ r. r.place) sorted up));
+  rises = rises_from (on_total name_of nat_list_cmp_total) _ (IsStrictlySortedBy-filter name_cmp is_there _ (names_rise name_of (λ r. r.place) sorted up));
   exact = λ r. (
     λ has.
         let (kept_one, live) = kept_from is_there _ r has in
@@ -126,7 +113,7 @@ first_are_current rs sorted rises moved up = record {
 module _ (old sorted left new : List Revision) (moved : IsPermutation old sorted) (up : IsSortedBy code_newest_first sorted)
     (once : left ≡ dedup code_same_name sorted) (there : new ≡ filter code_is_there left) (rises : Rises place_cmp (map shown_revision old)) where
   shown : map shown_revision new ≡ filter is_there (dedup view_same_name (map shown_revision sorted))
-  shown = ap (map shown_revision) there ∙ filter_shown left ∙ ap (filter is_there) (ap (map shown_revision) once ∙ dedup_mapped shown_revision view_same_name sorted)
+  shown = ap (map shown_revision) there ∙ filter_mapped shown_revision is_there left ∙ ap (filter is_there) (ap (map shown_revision) once ∙ dedup_mapped shown_revision view_same_name sorted)
 
   moved_shown : IsPermutation (map shown_revision old) (map shown_revision sorted)
   moved_shown = IsPermutation-map shown_revision old sorted moved

@@ -22,7 +22,7 @@ module _ {X : Type 0} (f : X → Key) (key : Key) where
       let long = length-map (x ∷ xs) f in
       Contains-from_at (map f (x ∷ xs)) key (i, omega (arith, long), λ d. get_or-map f (x ∷ xs) i x d below ∙ key_exact _ key (holds x))
 
-  not_found : (xs : List X) (i : ℕ) → IsPartitionPoint (λ x. key_cmp (f x) key ≡ Less) (λ x. key_cmp (f x) key ≡ Greater) xs i → Contains (map f xs) key → ⊥
+  pub not_found : (xs : List X) (i : ℕ) → IsPartitionPoint (λ x. key_cmp (f x) key ≡ Less) (λ x. key_cmp (f x) key ≡ Greater) xs i → Contains (map f xs) key → ⊥
   not_found xs i parts has =
       let (x, (k, below, at), is) = shows_from f xs key has in
       let tied : key_cmp (f (slice_index_or xs k x)) key ≡ Equal = ap (λ (y : X). key_cmp (f y) key) at ∙ ap (λ (l : Key). key_cmp l key) is ∙ key_same key in

@@ -51,7 +51,7 @@ module _ {X : Type 0} (name key : X → List ℕ) where
   names_total : IsTotalOrder by_name
   names_total = on_total name nat_list_cmp_total
 
-  newest_total : IsTotalOrder newest_first
+  pub newest_total : IsTotalOrder newest_first
   newest_total = then_total names_total (back_total keys_total)
 
   not_back : (x y : X) → by_key x y ≡ Less → is_lt (by_key y x) ≡ false
@@ -245,7 +245,7 @@ module _ {X : Type 0} (name key : X → List ℕ) where
   is_named x y = same_name y x
 
   module _ (xs ys : List X) (rises : Rises by_key xs) (moved : IsPermutation xs ys) (up : IsSortedBy (λ a b. is_lt (newest_first a b)) ys) where
-    kept_greatest : (x : X) → Contains (dedup same_name ys) x → IsGreatest (is_named x) xs x
+    pub kept_greatest : (x : X) → Contains (dedup same_name ys) x → IsGreatest (is_named x) xs x
     kept_greatest x has = record {
       has = Contains-permutation ys xs x (IsPermutation-sym xs ys moved) (Contains-from_dedup same_name ys x has);
       passes = names_ties x x ∙ ap is_eq (tied_itself names_total x);
@@ -257,11 +257,13 @@ module _ {X : Type 0} (name key : X → List ℕ) where
     pub kept_last : (x : X) → Contains (dedup same_name ys) x → last_or None (filter (is_named x) xs) ≡ Some x
     kept_last x has = last_from (is_named x) xs x rises (kept_greatest x has)
 
-    pub last_kept : (x : X) → last_or None (filter (is_named x) xs) ≡ Some x → Contains (dedup same_name ys) x
-    last_kept x e =
-        let g = last_greatest (is_named x) xs x rises e in
+    pub greatest_kept : (x : X) → IsGreatest (is_named x) xs x → Contains (dedup same_name ys) x
+    greatest_kept x g =
         let (k, w, lt, at, same) = Any-dedup names_equal ys x (Contains-permutation xs ys x moved g.has) in
         let kept : Contains (dedup same_name ys) w = (k, lt, at) in
         let h = kept_greatest w kept in
         let named = same_text (name x) (name w) (sym same) in
         subst (Contains (dedup same_name ys)) (one_of xs w x rises h.has g.has (h.greatest x g.has same) (g.greatest w h.has (subst (λ (n : List ℕ). bytes_eq n (name x) ≡ true) named g.passes))) kept
+
+    pub last_kept : (x : X) → last_or None (filter (is_named x) xs) ≡ Some x → Contains (dedup same_name ys) x
+    last_kept x e = greatest_kept x (last_greatest (is_named x) xs x rises e)

@@ -1,11 +1,12 @@
 -- Revisions of which the first ones are sorted.
-use Rattle.std.proofs.Common.{◌≡◌, ◌∙◌, ◌++◌, ℕ, List, [], ◌∷◌, drop, length, map, take, sym, ap, subst, arith}
-use Rattle.std.proofs.lemmas.List.{append-nil, drop-map, drop_all, map-append, take-map, take_all}
-use Rattle.std.proofs.lemmas.List.Elements.{Contains-append_left}
+use Rattle.std.proofs.Common.{◌≡◌, ◌∙◌, ◌⊎◌, ◌++◌, ℕ, List, drop, length, map, take, sym, ap, subst, arith}
+use Rattle.std.proofs.lemmas.List.{append-nil, drop-map, drop_all, map-append, take-append-drop, take-map, take_all}
+use Rattle.std.proofs.lemmas.List.Elements.{Contains-append_cases, Contains-append_left, Contains-append_right}
 use Rattle.std.proofs.lemmas.List.Sorted.{IsPermutation-map}
+use Rattle.std.specs.List.{Contains}
 use Rattle.std.specs.List.Sorted.{IsPermutation, IsSorted}
 use Rattle.std.specs.declared.cmp.Ordering.{Ordering}
-use Rattle.bolt_tree.specs.{Entries.EntryView, Order.Rises}
+use Rattle.bolt_tree.specs.Entries.{EntryView}
 use Rattle.bolt_etcd.specs.{ShownRevisions.entry_of, Superseded.SortsFirst}
 use Rattle.bolt_etcd.specs.declared.revision.Revision.{Revision}
 
@@ -25,6 +26,14 @@ written xs items n long all =
     let whole = ap (λ (ys : List _). xs ++ ys) none ∙ append-nil xs in
     ap (take n) whole ∙ take_all n xs (omega (arith, long, all))
 
-pub front_rises : {X : Type 0} (cmp : X → X → Ordering) (xs ys : List X) → Rises cmp (xs ++ ys) → Rises cmp xs
-front_rises cmp [] ys rises = tt
-front_rises cmp (x ∷ xs) ys rises = (λ y has. rises.0 y (Contains-append_left xs ys y has), front_rises cmp xs ys rises.1)
+-- ---- an element is one of the first n, or one of the others
+
+module _ {X : Type 0} (n : ℕ) (xs : List X) (x : X) where
+  pub in_parts : Contains xs x → Contains (take n xs) x ⊎ Contains (drop n xs) x
+  in_parts has = Contains-append_cases (take n xs) (drop n xs) x (subst (λ (ys : List X). Contains ys x) (sym (take-append-drop n xs)) has)
+
+  pub in_first : Contains (take n xs) x → Contains xs x
+  in_first has = subst (λ (ys : List X). Contains ys x) (take-append-drop n xs) (Contains-append_left (take n xs) (drop n xs) x has)
+
+  pub in_others : Contains (drop n xs) x → Contains xs x
+  in_others has = subst (λ (ys : List X). Contains ys x) (take-append-drop n xs) (Contains-append_right (take n xs) (drop n xs) x has)

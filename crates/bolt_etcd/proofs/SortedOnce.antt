@@ -8,13 +8,13 @@ use Rattle.std.proofs.lemmas.Map.Keys.{IsDistinct-IsPermutation}
 use Rattle.std.specs.Cmp.{IsTotalOrder}
 use Rattle.std.specs.List.{AllByRecursion, Contains, IsDistinct, dedup, dedup_from}
 use Rattle.std.specs.List.Sorted.{IsPermutation, IsSorted, IsStrictlySortedBy}
-use Rattle.std.specs.Ordering.{eq_by_cmp, is_eq, ordering_reverse, ordering_then}
+use Rattle.std.specs.Ordering.{eq_by_cmp, is_eq, is_lt, ordering_reverse, ordering_then}
 use Rattle.std.specs.declared.cmp.Ordering.{Ordering}
 use Rattle.std.specs.declared.cmp.Ordering.TheVariants.{Equal, Greater, Less}
 use Rattle.bolt_tree.proofs.Lists.{contains_head, contains_tail, rises_once}
 use Rattle.bolt_tree.specs.Order.{Rises}
 use Rattle.bolt_etcd.specs.{Current.AreCurrent, Current.name_cmp, Current.place_cmp, NameFaults.AreByName, NameFaults.by_name_cmp, Revisions.RevisionView, Revisions.name_of}
-use Rattle.bolt_etcd.proofs.NewestOfNames.{all_at}
+use Rattle.bolt_etcd.proofs.{MappedLists.Climbs, MappedLists.climbs_sorted, NewestOfNames.all_at}
 
 all_from : {X : Type 0} (P : X → Type 0) (xs : List X) → ((x : X) → Contains xs x → P x) → AllByRecursion P xs
 all_from P [] each = tt
@@ -54,6 +54,13 @@ module _ {X : Type 0} {R : X → X → Ordering} (total : IsTotalOrder R) where
   unfolding IsStrictlySortedBy
   rises_from [] strict = tt
   rises_from (x ∷ xs) strict = (λ y has. all_at (λ z. R x z ≡ Less) xs y strict.0 has, rises_from xs strict.1)
+
+  climb : (xs : List X) → Rises R xs → Climbs (λ x y. is_lt (R x y)) xs
+  climb [] rises = tt
+  climb (x ∷ xs) rises = (λ y has. ap is_lt (total.antisymm y x ∙ ap ordering_reverse (rises.0 y has)), climb xs rises.1)
+
+  pub rises_sorted : (xs : List X) → Rises R xs → IsSorted R xs
+  rises_sorted xs rises = climbs_sorted (λ x y. is_lt (R x y)) xs (climb xs rises)
 
   sorted_rises : (xs : List X) → IsDistinct (eq_by_cmp R) xs → IsSorted R xs → Rises R xs
   sorted_rises xs d up = rises_from xs (subst (IsStrictlySortedBy R) (dedup_none xs d) (IsStrictlySortedBy-dedup total (λ x y. refl) xs up))

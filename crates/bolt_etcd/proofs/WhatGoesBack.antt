@@ -1,99 +1,72 @@
--- What goes back of the agreed candidates, of which the old ones come first.
-use Rattle.std.proofs.Common.{◌≡◌, ◌∙◌, ◌≤◌, ◌++◌, ◌-◌, ℕ, List, drop, filter, length, map, take, sym, ap, subst, arith}
-use Rattle.std.proofs.lemmas.List.{drop_at, length-append, length-drop, length-map, take-append-drop, take-map, take_at}
-use Rattle.std.specs.List.Sorted.{IsPermutation}
-use Rattle.bolt_check.specs.Keys.{Key}
+-- What goes back of the agreed candidates: the old ones that a compaction keeps, sorted by key, and all later ones.
+use Rattle.std.proofs.Common.{◌≡◌, ◌∙◌, ◌++◌, inl, inr, ℕ, true, false, List, drop, take, refl, sym, ap, subst}
+use Rattle.std.proofs.lemmas.Bool.{false_from_ne_true}
+use Rattle.std.proofs.lemmas.List.{take-append-drop}
+use Rattle.std.proofs.lemmas.List.Elements.{Contains-append_cases, Contains-append_left, Contains-append_right}
+use Rattle.std.proofs.lemmas.List.Sorted.{Contains-permutation, IsPermutation-sym}
+use Rattle.std.specs.List.{Contains}
+use Rattle.std.specs.Ordering.{eq_by_cmp, is_eq}
+use Rattle.std.specs.declared.cmp.Ordering.{Ordering}
+use Rattle.std.specs.declared.cmp.Ordering.TheVariants.{Equal, Greater, Less}
+use Rattle.bolt_check.specs.Keys.{key_cmp}
+use Rattle.bolt_tree.proofs.{Lists.irreflexive, PathOrder.key_exact, PathOrder.key_total}
 use Rattle.bolt_tree.specs.{Entries.EntryView, InBuckets.view_cmp, Listing.Member, Order.Rises}
-use Rattle.bolt_etcd.specs.{Agreed.without, ShownRevisions.entry_of}
-use Rattle.bolt_etcd.specs.declared.revision.Revision.{Revision}
-use Rattle.bolt_etcd.specs.Superseded.{ArePutBack, AreSuperseded, HasOneOld, IsPartedAt, KeepsNewest, SortsFirst, stays}
-use Rattle.bolt_etcd.proofs.{LaterOnes.put_with_later, LaterOnes.rest_left, NewestEntries.one_old, PutBackEntries.are_put_back, SortedFirst.front_rises}
+use Rattle.bolt_etcd.specs.Superseded.{ArePutBack, CompactsFirst, IsPartedAt, SortsFirst, entry_name_cmp}
+use Rattle.bolt_etcd.proofs.{NewestEntries.entry_name_total, NewestEntries.view_total, Rising.both_rise, Rising.first_below, Rising.one_of, Rising.second_rises, SortedOnce.sorted_in}
+use Rattle.bolt_etcd.proofs.SortedFirst.{in_first, in_others, in_parts}
 
-module _ (compacted n : ℕ) (agreed after : List EntryView) (rises : Rises view_cmp agreed) (parted : IsPartedAt compacted agreed n) (kept : KeepsNewest compacted n agreed after) where
+tied : (o : Ordering) → is_eq o ≡ true → o ≡ Equal
+tied Less e = cc
+tied Equal e = refl
+tied Greater e = cc
+
+module _ (compacted n m : ℕ) (recovered : List Member) (agreed after back : List EntryView) (rises : Rises view_cmp agreed) (parted : IsPartedAt compacted agreed n)
+    (kept : CompactsFirst compacted n m recovered agreed after) (sorts : SortsFirst view_cmp m after back) where
+  abbrev left : List EntryView
+  left = take m after
+
   abbrev old : List EntryView
   old = take n agreed
 
   abbrev later : List EntryView
   later = drop n agreed
 
-  both : old ++ later ≡ agreed
-  both = take-append-drop n agreed
+  all_rise : Rises view_cmp (old ++ later)
+  all_rise = subst (Rises view_cmp) (sym (take-append-drop n agreed)) rises
 
-  both_rise : Rises view_cmp (old ++ later)
-  both_rise = subst (Rises view_cmp) (sym both) rises
+  is : sorts.first ++ later ≡ back
+  is = sym (sorts.is ∙ ap (λ (es : List EntryView). sorts.first ++ es) kept.others)
 
-  old_rises : Rises view_cmp old
-  old_rises = front_rises view_cmp old later both_rise
+  in_old : (e : EntryView) → Contains left e → Contains old e
+  in_old e has = ((kept.exact e).0 has).0
 
-  pub one : HasOneOld compacted kept.newest
-  one = one_old compacted old kept.newest old_rises kept.are
+  in_left : (e : EntryView) → Contains sorts.first e → Contains left e
+  in_left e has = Contains-permutation sorts.first left e (IsPermutation-sym left sorts.first sorts.same) has
 
-  front : (m : ℕ) → m ≡ length after - (length agreed - n) → take m after ≡ kept.newest
-  front m is =
-      let all = ap length kept.is ∙ length-append kept.newest later in
-      let long = length-drop n agreed in
-      ap (take m) kept.is ∙ take_at kept.newest later m (omega (arith, is, all, long, parted.within))
+  apart : (x y : EntryView) → Contains left x → Contains left y → entry_name_cmp x y ≡ Less → eq_by_cmp view_cmp x y ≡ false
+  apart x y has also less = false_from_ne_true (eq_by_cmp view_cmp x y) (λ e.
+      let keys = key_exact x.key y.key (tied (key_cmp x.key y.key) e) in
+      let same = one_of key_total (λ (z : EntryView). z.key) agreed x y rises (in_first n agreed x (in_old x has)) (in_first n agreed y (in_old y also)) keys in
+      irreflexive entry_name_total y (subst (λ (z : EntryView). entry_name_cmp z y ≡ Less) same less))
 
-  module _ (recovered : List Member) (keys : List Key) (superseded : AreSuperseded compacted recovered kept.newest keys) (rest : List EntryView)
-      (is : rest ≡ filter (stays compacted) (without keys after)) where
-    abbrev left : List EntryView
-    left = filter (stays compacted) (without keys kept.newest)
+  first_rises : Rises view_cmp sorts.first
+  first_rises = sorted_in view_total entry_name_cmp left sorts.first apart kept.rises sorts.same sorts.sorted
 
-    rest_is : rest ≡ left ++ later
-    rest_is =
-        is ∙ ap (λ (es : List EntryView). filter (stays compacted) (without keys es)) kept.is
-        ∙ rest_left compacted later parted.new recovered old kept.newest keys kept.are superseded parted.old
-
-    later_fits : length agreed - n ≤ length rest
-    later_fits =
-        let all = ap length rest_is ∙ length-append left later in
-        let long = length-drop n agreed in
-        omega (arith, all, long)
-
-    module _ (m : ℕ) (at : m ≡ length rest - (length agreed - n)) (back : List EntryView) (sorts : SortsFirst view_cmp m rest back) where
-      size : length left ≡ m
-      size =
-          let all = ap length rest_is ∙ length-append left later in
-          let long = length-drop n agreed in
-          omega (arith, all, long, at)
-
-      first_left : take m rest ≡ left
-      first_left = ap (take m) rest_is ∙ take_at left later m size
-
-      last_left : drop m rest ≡ later
-      last_left = ap (drop m) rest_is ∙ drop_at left later m size
-
-      goes_back : ArePutBack compacted recovered agreed back
-      goes_back =
-          let moved = subst (λ (es : List EntryView). IsPermutation es sorts.first) first_left sorts.same in
-          let put = are_put_back compacted recovered old kept.newest keys old_rises kept.are superseded sorts.first moved sorts.sorted in
-          let joined = put_with_later compacted later parted.new recovered old sorts.first both_rise parted.old put in
-          let whole : sorts.first ++ later ≡ back = sym (sorts.is ∙ ap (λ (es : List EntryView). sorts.first ++ es) last_left) in
-          subst (λ (es : List EntryView). ArePutBack compacted recovered es back) both (subst (ArePutBack compacted recovered (old ++ later)) whole joined)
-
--- ---- of the code
-
-module _ (compacted n : ℕ) (agreed after : List Revision) (rises : Rises view_cmp (map entry_of agreed)) (parted : IsPartedAt compacted (map entry_of agreed) n)
-    (kept : KeepsNewest compacted n (map entry_of agreed) (map entry_of after)) where
-  pub first_of : (first listed : List Revision) (m : ℕ) → first ≡ take m listed → listed ≡ after → m ≡ length after - (length agreed - n) → map entry_of first ≡ kept.newest
-  first_of first listed m is same at =
-      let shown = length-map agreed entry_of in
-      let also = length-map after entry_of in
-      ap (map entry_of) (is ∙ ap (take m) same) ∙ sym (take-map entry_of m after)
-      ∙ front compacted n (map entry_of agreed) (map entry_of after) rises parted kept m (omega (arith, at, shown, also))
-
-  module _ (recovered : List Member) (keys : List Key) (superseded : AreSuperseded compacted recovered kept.newest keys) (rest : List Revision)
-      (is : map entry_of rest ≡ filter (stays compacted) (without keys (map entry_of after))) where
-    pub code_fits : length agreed - n ≤ length rest
-    code_fits =
-        let shown = length-map agreed entry_of in
-        let also = length-map rest entry_of in
-        let fits = later_fits compacted n (map entry_of agreed) (map entry_of after) rises parted kept recovered keys superseded (map entry_of rest) is in
-        omega (arith, fits, shown, also)
-
-    pub code_back : (m : ℕ) (sorted : List Revision) → m ≡ length rest - (length agreed - n) → SortsFirst view_cmp m (map entry_of rest) (map entry_of sorted)
-        → ArePutBack compacted recovered (map entry_of agreed) (map entry_of sorted)
-    code_back m sorted at sorts =
-        let shown = length-map agreed entry_of in
-        let also = length-map rest entry_of in
-        goes_back compacted n (map entry_of agreed) (map entry_of after) rises parted kept recovered keys superseded (map entry_of rest) is m (omega (arith, at, shown, also)) (map entry_of sorted) sorts
+  pub put_back : ArePutBack compacted recovered agreed back
+  put_back = subst (ArePutBack compacted recovered agreed) is (record {
+    rises = both_rise view_cmp sorts.first later first_rises (second_rises view_cmp old later all_rise)
+        (λ x y has also. first_below view_cmp old later x y all_rise (in_old x (in_left x has)) also);
+    exact = λ e. (
+      λ has. elim (Contains-append_cases sorts.first later e has) [
+        | inl first ↦ (let (there, newest) = (kept.exact e).0 (in_left e first) in (in_first n agreed e there, inr newest))
+        | inr second ↦ (in_others n agreed e second, inl (parted.new e second))
+      ],
+      λ (has, goes). elim (in_parts n agreed e has) [
+        | inl first ↦ Contains-append_left sorts.first later e (elim goes [
+          | inl fresh ↦ absurd (let is_not = parted.old e first in cc)
+          | inr newest ↦ Contains-permutation left sorts.first e sorts.same ((kept.exact e).1 (first, newest))
+        ])
+        | inr second ↦ Contains-append_right sorts.first later e second
+      ],
+    );
+  })

@@ -1,5 +1,6 @@
 -- Candidates by key and value.
-use Rattle.std.proofs.Common.{◌≡◌, ◌∙◌, ◌&&◌, ℕ, Bool, true, false, List, map, Option, Some, None, refl, sym, ap, subst}
+use Rattle.std.proofs.Common.{◌≡◌, ◌∙◌, ◌&&◌, ℕ, Bool, true, List, map, Option, Some, None, refl, sym, ap, subst}
+use Rattle.std.proofs.lemmas.Bool.{and_parts}
 use Rattle.std.proofs.lemmas.Cmp.{and_equiv, nat_list_cmp_total, nat_list_eq_equiv, on_equiv, on_total, then_total}
 use Rattle.std.proofs.lemmas.List.Kept.{Any-dedup, Contains-from_dedup, IsStrictlySortedBy-dedup}
 use Rattle.std.proofs.lemmas.List.MinMax.{ranks_by}
@@ -58,10 +59,6 @@ revision_value e r is = let (value, some, _) = bind_some (value_of e.item) (revi
 pub candidate_value : (e : EntryView) → is_candidate e ≡ true → (value : List ℕ) × (e.item ≡ Value value)
 candidate_value e passes = let (r, is) = in_place_some (revision_of e) passes in revision_value e r is
 
-both_true : (a b : Bool) → a && b ≡ true → (a ≡ true) × (b ≡ true)
-both_true true b e = (refl, e)
-both_true false b e = cc
-
 same_view : (x y : EntryView) → x.key ≡ y.key → x.item ≡ y.item → x ≡ y
 same_view x y key item = ap (λ (k : Key). record x { key = k }) key ∙ ap (λ (i : Item). record y { item = i }) item
 
@@ -74,7 +71,7 @@ same_candidates : (x y : EntryView) → is_candidate x ≡ true → is_candidate
 same_candidates x y first second e =
     let (v, is) = candidate_value x first in
     let (w, also) = candidate_value y second in
-    let (keys, values) = both_true _ _ e in
+    let (keys, values) = and_parts (bytes_eq x.key y.key) (bytes_eq (value_bytes x) (value_bytes y)) e in
     same_values x y v w is also (same_text x.key y.key (sym keys)) (same_text (value_bytes x) (value_bytes y) (sym values))
 
 -- ---- sorted and merged

@@ -1,7 +1,7 @@
 -- Which of the agreed candidates a compaction keeps: docs/RECOVERY.md, "The repaired listing".
 use Rattle.std.specs.Prelude.{◌≡◌, ◌≢◌, ◌↔◌, ◌⊎◌, ◌&&◌, ◌||◌, ◌++◌, ◌≤◌, ℕ, Bool, false, true, List, [], Option, Some, None, drop, length, nat_lt, not, take}
 use Rattle.std.specs.{List.Contains, List.Sorted.IsPermutation, List.Sorted.IsSorted}
-use Rattle.std.specs.Ordering.{bool_cmp, ordering_then}
+use Rattle.std.specs.Ordering.{ordering_then}
 use Rattle.std.specs.Str.{bytes_eq}
 use Rattle.std.specs.declared.cmp.Ordering.{Ordering}
 use Rattle.std.specs.declared.cmp.Ordering.TheVariants.{Less}
@@ -36,21 +36,17 @@ is_key_deleted (Some key) = key.deleted
 abbrev pub is_deletion : EntryView → Bool
 is_deletion e = is_key_deleted (revision_key e.key)
 
--- by name, and of one name the old ones last
-abbrev pub rank_cmp : ℕ → EntryView → EntryView → Ordering
-rank_cmp compacted a b = ordering_then (key_cmp (entry_name a) (entry_name b)) (bool_cmp (is_old compacted a) (is_old compacted b))
+-- by name
+abbrev pub entry_name_cmp : EntryView → EntryView → Ordering
+entry_name_cmp a b = key_cmp (entry_name a) (entry_name b)
 
--- so, and otherwise the later ones first
-abbrev pub newest_cmp : ℕ → EntryView → EntryView → Ordering
-newest_cmp compacted a b = ordering_then (rank_cmp compacted a b) (key_cmp b.key a.key)
+-- by name, and of one name the later ones first
+abbrev pub newest_cmp : EntryView → EntryView → Ordering
+newest_cmp a b = ordering_then (entry_name_cmp a b) (view_cmp b a)
 
--- of two of a name, the newest is old, so the older one goes
-abbrev pub is_same_old : ℕ → EntryView → EntryView → Bool
-is_same_old compacted older newest = is_old compacted newest && bytes_eq (entry_name older) (entry_name newest)
-
--- so, of one that is old too
+-- it is old, and of the same name as the newest one
 abbrev pub is_older_old : ℕ → EntryView → EntryView → Bool
-is_older_old compacted older newest = is_old compacted older && is_same_old compacted older newest
+is_older_old compacted older newest = is_old compacted older && bytes_eq (entry_name older) (entry_name newest)
 
 -- the first n are old, and no other one is
 pub record IsPartedAt (compacted : ℕ) (es : List EntryView) (n : ℕ) : Type 0 where
@@ -69,33 +65,25 @@ pub record SortsFirst (cmp : EntryView → EntryView → Ordering) (n : ℕ) (be
 abbrev pub stays : ℕ → EntryView → Bool
 stays compacted e = not (is_old compacted e) || not (is_deletion e)
 
--- if it is old, no old one of its name is later
-abbrev pub IsNewestOld : ℕ → List EntryView → EntryView → Type 0
-IsNewestOld compacted es e =
-    is_old compacted e ≡ true → (other : EntryView) → Contains es other → entry_name other ≡ entry_name e → is_old compacted other ≡ true
-    → key_cmp e.key other.key ≢ Less
+-- none of its name is later
+abbrev pub IsNewestAmong : List EntryView → EntryView → Type 0
+IsNewestAmong es e = (other : EntryView) → Contains es other → entry_name other ≡ entry_name e → key_cmp e.key other.key ≢ Less
 
--- exactly these of the agreed candidates
-pub record AreNewest (compacted : ℕ) (agreed newest : List EntryView) : Type 0 where
-  pub rises : Rises (newest_cmp compacted) newest
-  pub exact : (e : EntryView) → Contains newest e ↔ (Contains agreed e × IsNewestOld compacted agreed e)
-
--- of a name there is at most one that is old
-abbrev pub HasOneOld : ℕ → List EntryView → Type 0
-HasOneOld compacted es =
-    (a b : EntryView) → Contains es a → Contains es b → is_old compacted a ≡ true → is_old compacted b ≡ true → entry_name a ≡ entry_name b → a ≡ b
+-- exactly these of the old ones, by rising name
+pub record AreNewest (old newest : List EntryView) : Type 0 where
+  pub rises : Rises entry_name_cmp newest
+  pub exact : (e : EntryView) → Contains newest e ↔ (Contains old e × IsNewestAmong old e)
 
 -- of the first n these are left, and all others
-pub record KeepsNewest (compacted n : ℕ) (before after : List EntryView) : Type 0 where
+pub record KeepsNewest (n : ℕ) (before after : List EntryView) : Type 0 where
   pub newest : List EntryView
   pub is : after ≡ newest ++ drop n before
-  pub are : AreNewest compacted (take n before) newest
+  pub are : AreNewest (take n before) newest
 
--- this revision of its name, of no later transaction, comes after the old one with this key
+-- this revision of its name, of no later transaction, comes after the one with this key
 abbrev pub IsSupersededBy : ℕ → List EntryView → RevisionView → Key → Type 0
 IsSupersededBy compacted es r key =
-    (e : EntryView) × Contains es e × (e.key ≡ key) × (is_old compacted e ≡ true) × (entry_name e ≡ name_of r) × (is_until compacted r ≡ true)
-    × (key_cmp e.key r.place ≡ Less)
+    (e : EntryView) × Contains es e × (e.key ≡ key) × (entry_name e ≡ name_of r) × (is_until compacted r ≡ true) × (key_cmp e.key r.place ≡ Less)
 
 -- this is the key that it supersedes, if there is one
 abbrev pub Supersedes : ℕ → List EntryView → RevisionView → Option Key → Type 0
@@ -116,6 +104,13 @@ pub record IsNewestOf (compacted : ℕ) (recovered : List Member) (agreed : List
   pub of_kept : (r : RevisionView) → IsKept recovered r → name_of r ≡ entry_name e → is_until compacted r ≡ true → key_cmp e.key r.place ≢ Less
   pub of_agreed : (other : EntryView) → Contains agreed other → entry_name other ≡ entry_name e → is_old compacted other ≡ true → key_cmp e.key other.key ≢ Less
 
+-- of the first n, which are old, m are left: the newest of their names, by rising name; and all others
+pub record CompactsFirst (compacted n m : ℕ) (recovered : List Member) (before after : List EntryView) : Type 0 where
+  pub within : m ≤ length after
+  pub others : drop m after ≡ drop n before
+  pub rises : Rises entry_name_cmp (take m after)
+  pub exact : (e : EntryView) → Contains (take m after) e ↔ (Contains (take n before) e × IsNewestOf compacted recovered before e)
+
 -- Of the agreed candidates these go back, by rising key.
 pub record ArePutBack (compacted : ℕ) (recovered : List Member) (agreed back : List EntryView) : Type 0 where
   pub rises : Rises view_cmp back
@@ -124,6 +119,9 @@ pub record ArePutBack (compacted : ℕ) (recovered : List Member) (agreed back :
 -- so of the recovered listing of a file under a meta
 abbrev pub AreSupersededIn : List ℕ → Meta → ℕ → List EntryView → List Key → Type 0
 AreSupersededIn file meta compacted es keys = ForRecovered file meta (λ recovered. AreSuperseded compacted recovered es keys)
+
+abbrev pub CompactsFirstIn : List ℕ → Meta → (compacted n m : ℕ) → (before after : List EntryView) → Type 0
+CompactsFirstIn file meta compacted n m before after = ForRecovered file meta (λ recovered. CompactsFirst compacted n m recovered before after)
 
 abbrev pub ArePutBackIn : List ℕ → Meta → ℕ → (agreed back : List EntryView) → Type 0
 ArePutBackIn file meta compacted agreed back = ForRecovered file meta (λ recovered. ArePutBack compacted recovered agreed back)

@@ -10,6 +10,7 @@ ghost use Rattle.bolt_tree.specs.{InBuckets.view_cmp, Order.Rises, ShownEntries.
 ghost use Rattle.bolt_etcd.specs.ShownRevisions.{entry_of};
 ghost use Rattle.bolt_etcd.specs.{Agreed.among, Agreed.without, Candidates.whole_cmp, Repaired.lacks_bucket, Superseded.ArePutBackIn, Undisputed.AreUndisputed, Undisputed.HaveKeys};
 ghost use Rattle.bolt_etcd.specs.declared.repair.RepairFault.TheVariants as faults;
+ghost use Rattle.bolt_etcd.specs.Superseded.{CompactsFirstIn, IsPartedAt};
 
 use crate::candidates::{candidates_of, has_key};
 use crate::compaction::compacted_by;
@@ -137,15 +138,33 @@ fn keep_what_goes_back<'a>(
     if old == 0 {
         return Ok(());
     }
+    let left = compact_first(alloc, both, agreed, old, compacted)?;
+    sort_by_key(agreed.as_mut_slice(), left);
+    Ok(())
+}
+
+/// Of the first ones, which are old, keeps those that the last compaction keeps: the newest of each
+/// name, if it isn't a deletion and no kept revision comes after it. They stand by rising name then.
+/// All others stay as they are. Returns the number of those that are left.
+fn compact_first<'a>(
+    alloc: Global,
+    both: &LostAndFound<'a>,
+    agreed: &mut Vec<Revision<'a>>,
+    old: usize,
+    compacted: u64,
+) -> Result<usize, NoMemory>
+    requires rises { Rises view_cmp (map entry_of agreed.old.items) }
+    requires parted { IsPartedAt compacted (map entry_of agreed.old.items) old }
+    ensures { IfOk result (λ left. CompactsFirstIn both.now.file.now both.now.meta compacted old
+        left (map entry_of agreed.old.items) (map entry_of agreed.new.items)) }
+{
     let later = agreed.len() - old;
     keep_newest(agreed, old, compacted);
     let (newest, _) = agreed.as_slice().split_at(agreed.len() - later);
     let superseded = superseded_keys(alloc, both, newest, compacted)?;
     remove_keys(agreed, superseded.as_slice());
     agreed.retain(|revision| stays(revision, compacted));
-    let old = agreed.len() - later;
-    sort_by_key(agreed.as_mut_slice(), old);
-    Ok(())
+    Ok(agreed.len() - later)
 }
 
 /// Removes those that have one of these keys, which are sorted.

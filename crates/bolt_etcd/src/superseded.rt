@@ -3,8 +3,8 @@ ghost use Rattle.std.specs.Prelude.{◌≡◌, ◌≤◌, IfOk, length, map};
 ghost use Rattle.std.specs.Option.{option_map};
 ghost use Rattle.bolt_tree.specs.{InBuckets.view_cmp, Order.Rises};
 ghost use Rattle.bolt_etcd.specs.ShownRevisions.{entry_of, shown_revision};
-ghost use Rattle.bolt_etcd.specs.Superseded.{AreSupersededIn, HasOneOld, IsPartedAt, KeepsNewest, SortsFirst, Supersedes};
-ghost use Rattle.bolt_etcd.specs.Superseded.{entry_name, is_old, is_older_old, is_same_old, newest_cmp, stays};
+ghost use Rattle.bolt_etcd.specs.Superseded.{AreSupersededIn, IsPartedAt, KeepsNewest, SortsFirst, Supersedes};
+ghost use Rattle.bolt_etcd.specs.Superseded.{entry_name, entry_name_cmp, is_old, is_older_old, newest_cmp, stays};
 
 use crate::candidates::add_key;
 use crate::revision::Revision;
@@ -36,14 +36,12 @@ pub(crate) fn old_among(revisions: &[Revision<'_>], compacted: u64) -> usize
     revisions.partition_point(|revision| is_old(revision, compacted))
 }
 
-/// By name; of one name those after the compaction first, and then the later ones first.
-fn newest_first(a: &Revision<'_>, b: &Revision<'_>, compacted: u64) -> Ordering
-    ensures { result ≡ newest_cmp compacted (entry_of a.now) (entry_of b.now) }
+/// By name; of one name the later ones first.
+fn newest_first(a: &Revision<'_>, b: &Revision<'_>) -> Ordering
+    ensures { result ≡ newest_cmp (entry_of a.now) (entry_of b.now) }
 {
     match name_of(a).cmp(name_of(b)) {
-        Ordering::Equal => is_old(a, compacted)
-            .cmp(&is_old(b, compacted))
-            .then(b.cmp_place(a)),
+        Ordering::Equal => b.cmp_place(a),
         order => order,
     }
 }
@@ -53,21 +51,21 @@ fn newest_first(a: &Revision<'_>, b: &Revision<'_>, compacted: u64) -> Ordering
 pub(crate) fn keep_newest(candidates: &mut Vec<Revision<'_>>, old: usize, compacted: u64)
     requires rises { Rises view_cmp (map entry_of candidates.old.items) }
     requires parted { IsPartedAt compacted (map entry_of candidates.old.items) old }
-    ensures { KeepsNewest compacted old (map entry_of candidates.old.items)
+    ensures { KeepsNewest old (map entry_of candidates.old.items)
         (map entry_of candidates.new.items) }
 {
-    sort_by_name(candidates.as_mut_slice(), old, compacted);
+    sort_by_name(candidates.as_mut_slice(), old);
     candidates.dedup_by(|older, newest| is_older_old(older, newest, compacted));
 }
 
-/// Sorts the first ones by name.
-fn sort_by_name(revisions: &mut [Revision<'_>], old: usize, compacted: u64)
+/// Sorts the first ones by name; of one name the later ones come first.
+fn sort_by_name(revisions: &mut [Revision<'_>], old: usize)
     requires { old ≤ length revisions.old }
-    ensures sorts { SortsFirst (newest_cmp compacted) old (map entry_of revisions.old)
+    ensures sorts { SortsFirst newest_cmp old (map entry_of revisions.old)
         (map entry_of revisions.new) }
     ensures number { length revisions.new ≡ length revisions.old }
 {
-    revisions[..old].sort_unstable_by(|a, b| newest_first(a, b, compacted));
+    revisions[..old].sort_unstable_by(newest_first);
 }
 
 /// Sorts the first ones by key.
@@ -80,18 +78,12 @@ pub(crate) fn sort_by_key(revisions: &mut [Revision<'_>], old: usize)
     revisions[..old].sort_unstable_by(|a, b| a.cmp_place(b));
 }
 
-/// Whether the newest one of a name is old, so that this one, which is older, is removed.
+/// Whether it is old and of the same name as the newest one, which stands before it, so that it is
+/// removed.
 fn is_older_old(older: &Revision<'_>, newest: &Revision<'_>, compacted: u64) -> bool
     ensures { result ≡ is_older_old compacted (entry_of older.now) (entry_of newest.now) }
 {
-    is_old(older, compacted) && is_same_old(older, newest, compacted)
-}
-
-/// Whether the newest one of a name is old, and this one has the name.
-fn is_same_old(older: &Revision<'_>, newest: &Revision<'_>, compacted: u64) -> bool
-    ensures { result ≡ is_same_old compacted (entry_of older.now) (entry_of newest.now) }
-{
-    is_old(newest, compacted) && name_of(older) == name_of(newest)
+    is_old(older, compacted) && name_of(older) == name_of(newest)
 }
 
 /// Whether it isn't a deletion that a compaction removes.
@@ -102,15 +94,14 @@ pub(crate) fn stays(revision: &Revision<'_>, compacted: u64) -> bool
 }
 
 /// The keys of candidates that a kept revision of the same name comes after, up to the last
-/// compaction, by rising key.
+/// compaction, by rising key. The candidates stand by rising name.
 pub(crate) fn superseded_keys<'a>(
     alloc: Global,
     both: &LostAndFound<'a>,
     candidates: &[Revision<'a>],
     compacted: u64,
 ) -> Result<Vec<&'a [u8]>, NoMemory>
-    requires rises { Rises (newest_cmp compacted) (map entry_of candidates.now) }
-    requires one { HasOneOld compacted (map entry_of candidates.now) }
+    requires { Rises entry_name_cmp (map entry_of candidates.now) }
     ensures { IfOk result (λ keys. AreSupersededIn both.now.file.now both.now.meta compacted
         (map entry_of candidates.now) (map (λ key. key.now) keys.items)) }
 {
@@ -128,15 +119,14 @@ pub(crate) fn superseded_keys<'a>(
     Ok(keys)
 }
 
-/// The key of the candidate that a kept revision comes after, if both are of no later transaction
-/// than the last compaction.
+/// The key of the candidate of the same name, if this kept revision comes after it and is of no later
+/// transaction than the last compaction.
 fn superseded_by<'a>(
     revision: &Revision<'_>,
     candidates: &[Revision<'a>],
     compacted: u64,
 ) -> Option<&'a [u8]>
-    requires rises { Rises (newest_cmp compacted) (map entry_of candidates.now) }
-    requires one { HasOneOld compacted (map entry_of candidates.now) }
+    requires { Rises entry_name_cmp (map entry_of candidates.now) }
     ensures { Supersedes compacted (map entry_of candidates.now) (shown_revision revision.now)
         (option_map (λ key. key.now) result) }
 {
@@ -144,11 +134,7 @@ fn superseded_by<'a>(
         return None;
     }
     let name = revision.name();
-    let found = candidates.binary_search_by(|candidate| {
-        name_of(candidate)
-            .cmp(name)
-            .then(is_old(candidate, compacted).cmp(&true))
-    });
+    let found = candidates.binary_search_by(|candidate| name_of(candidate).cmp(name));
     let candidate = candidates.get(found.ok()?)?;
     candidate
         .cmp_place(revision)
