@@ -8,10 +8,10 @@ use Rattle.std.specs.declared.cmp.Ordering.TheVariants.{Less}
 use Rattle.bolt_check.specs.Keys.{Key, key_cmp}
 use Rattle.bolt_tree.proofs.{Filters.filter_all, Filters.kept, PathOrder.key_total}
 use Rattle.bolt_tree.specs.{Entries.EntryView, InBuckets.view_cmp, Listing.Member, Order.Rises}
-use Rattle.bolt_etcd.specs.{Agreed.among, Agreed.without, RevisionKeys.revision_key, ShownRevisions.entry_of}
+use Rattle.bolt_etcd.specs.{Among.among, Among.without, RevisionKeys.revision_key, ShownRevisions.entry_of}
 use Rattle.bolt_etcd.specs.declared.revision.Revision.{Revision}
 use Rattle.bolt_etcd.specs.Superseded.{AreSuperseded, CompactsFirst, IsNewestOf, IsPartedAt, KeepsNewest, entry_name, entry_name_cmp, is_deletion, is_key_until, is_old, stays}
-use Rattle.bolt_etcd.proofs.{AgreedEntries.not_among, AgreedEntries.without_has, Filtered.filter_rises, Filtered.kept_from, Rising.one_of, SortedFirst.in_first, SortedFirst.in_parts}
+use Rattle.bolt_etcd.proofs.{KeysAmong.not_among, KeysAmong.without_has, Filtered.filter_rises, Filtered.kept_from, Rising.one_of, SortedFirst.in_first, SortedFirst.in_parts}
 
 module _ (compacted n : ℕ) (recovered : List Member) (before after : List EntryView) (rises : Rises view_cmp before) (parted : IsPartedAt compacted before n)
     (keeps : KeepsNewest n before after) (superseded : List Key) (keys : AreSuperseded compacted recovered keeps.newest superseded) where

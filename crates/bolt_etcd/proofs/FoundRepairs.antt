@@ -3,19 +3,17 @@ use Rattle.std.proofs.Common.{◌≡◌, ◌∙◌, ◌-◌, ◌≤◌, ◌&&◌
 use Rattle.std.proofs.Math.Logic.{∥∥₁_elim, ∥∥₁_map}
 use Rattle.std.proofs.Props.{props}
 use Rattle.std.proofs.lemmas.{Bool.eqb-true, Bool.ne_eqb, List.Elements.All-head, List.Elements.All-tail, List.length-map}
-use Rattle.std.specs.{Borrow.Bor, List.All, List.Sorted.IsSorted, Option.option_map, Ordering.is_lt}
+use Rattle.std.specs.{Borrow.Bor, List.All, Option.option_map}
 use Rattle.bolt_format.specs.{Elements.LeafElement, Pages.page_at, TreePages.leaves_on, declared.meta.Meta.Meta}
-use Rattle.bolt_check.specs.{Keys.Key, Keys.key_cmp, declared.finding.Finding.Finding}
-use Rattle.bolt_tree.proofs.PathOrder.{flip_less, key_total}
-use Rattle.bolt_tree.specs.{Entries.EntryView, Entries.Item, Listing.Member, Order.Rises, ShownEntries.item_view}
+use Rattle.bolt_check.specs.{Keys.Key, declared.finding.Finding.Finding}
+use Rattle.bolt_tree.specs.{Entries.EntryView, Entries.Item, Listing.Member, ShownEntries.item_view}
 use Rattle.bolt_recover.proofs.Existing.{has_recovered}
 use Rattle.bolt_recover.specs.{Losses.everything, Lost.IsAllLost, LostAndFound.all_lost}
 use Rattle.bolt_recover.specs.{Found.AreFound, Found.numbers_of, Recovered.ForRecovered, Recovered.IsRecovered, Refusals.LosesRoot, ShownFound.IsFoundView, Sites.leaves_of, declared.found.Found.Found, declared.lost_and_found.LostAndFound.LostAndFound}
 use Rattle.bolt_etcd.specs.declared.revision.Revision.{Revision}
 use Rattle.bolt_etcd.specs.ShownRevisions.{entry_of}
-use Rattle.bolt_etcd.specs.{Agreed.without, Candidates.AreCandidates, Candidates.elements_of, Compacted.compacted_by, FullRepairs.IsFullRepair}
+use Rattle.bolt_etcd.specs.{Among.without, Candidates.AreCandidates, Candidates.elements_of, Compacted.compacted_by, FullRepairs.IsFullRepair}
 use Rattle.bolt_etcd.specs.{Repaired.IsRepair, Repaired.MakesStore, Repaired.elements_on, Repaired.lacks_bucket, Superseded.ArePutBack, Surveys.IsSurvey, Surveys.IsSurveyOf, Undisputed.AreKeys, Undisputed.AreUndisputed, declared.survey.Survey.Survey}
-use Rattle.bolt_etcd.proofs.MappedLists.{Climbs, climbs_sorted}
 use Rattle.bolt_etcd.proofs.WholeRepairs.{are_back, back_fewer, candidate_keys, compacted_at, is_nil, makes, no_value}
 
 -- the elements of the pages of the code are those of the pages with their numbers
@@ -62,13 +60,6 @@ module _ (file : List ℕ) (meta : Meta) (found : List Found) (are_found : AreFo
         }
 
 -- ---- of the code
-
-climb : (keys : List Key) → Rises key_cmp keys → Climbs (λ a b. is_lt (key_cmp a b)) keys
-climb [] rises = tt
-climb (key ∷ keys) rises = (λ other has. ap is_lt (flip_less key_total key other (rises.0 other has)), climb keys rises.1)
-
-pub rises_sorted : (keys : List Key) → Rises key_cmp keys → IsSorted key_cmp keys
-rises_sorted keys rises = climbs_sorted (λ a b. is_lt (key_cmp a b)) keys (climb keys rises)
 
 pub loses_root : (both : LostAndFound) (x : Finding) → all_lost both ≡ everything x → ∥ LosesRoot both.file.now both.meta x ∥₁
 unfolding all_lost

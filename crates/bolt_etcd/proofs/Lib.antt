@@ -1,4 +1,3 @@
-pub mod AgreedEntries
 pub mod Alones
 pub mod ByName
 pub mod CandidateLemmas
@@ -19,6 +18,7 @@ pub mod KeyNumbers
 pub mod KeySearches
 pub mod KeyWalks
 pub mod Keys
+pub mod KeysAmong
 pub mod LastOfAll
 pub mod LastOnes
 pub mod Leases

@@ -1,6 +1,6 @@
 -- Candidates by key and value.
-use Rattle.std.proofs.Common.{◌≡◌, ◌∙◌, ◌&&◌, ℕ, Bool, true, List, map, Option, Some, None, refl, sym, ap, subst}
-use Rattle.std.proofs.lemmas.Bool.{and_parts}
+use Rattle.std.proofs.Common.{◌≡◌, ◌∙◌, ◌&&◌, ℕ, Bool, true, List, map, Option, Some, None, false, refl, sym, ap, subst}
+use Rattle.std.proofs.lemmas.Bool.{and_parts, not-true}
 use Rattle.std.proofs.lemmas.Cmp.{and_equiv, nat_list_cmp_total, nat_list_eq_equiv, on_equiv, on_total, then_total}
 use Rattle.std.proofs.lemmas.List.Kept.{Any-dedup, Contains-from_dedup, IsStrictlySortedBy-dedup}
 use Rattle.std.proofs.lemmas.List.MinMax.{ranks_by}
@@ -20,6 +20,7 @@ use Rattle.bolt_tree.specs.{Entries.Bucket, Entries.EntryView, Entries.Item, Ent
 use Rattle.bolt_etcd.specs.ShownRevisions.{entry_of}
 use Rattle.bolt_etcd.specs.declared.revision.Revision.{Revision}
 use Rattle.bolt_etcd.specs.Candidates.{AreCandidates, bytes_of_item, candidates_in, is_candidate, is_in_place, is_same, value_bytes, whole_cmp}
+use Rattle.bolt_etcd.specs.Misplaced.{is_misplaced}
 use Rattle.bolt_etcd.specs.Revisions.{RevisionView, revision_in, revision_of, value_of}
 use Rattle.bolt_etcd.proofs.{Currents.bind_some, Filtered.kept_from, MappedLists.dedup_mapped, MappedLists.sorted_mapped, SortedOnce.rises_from}
 
@@ -44,9 +45,9 @@ same_equal = and_equiv (on_equiv (λ (e : EntryView). e.key) nat_list_eq_equiv) 
 
 -- ---- each candidate is a value, so it is what its key and its bytes say
 
-in_place_some : (o : Option RevisionView) → is_in_place o ≡ true → (r : RevisionView) × (o ≡ Some r)
-in_place_some None e = cc
-in_place_some (Some r) e = (r, refl)
+pub in_place : (o : Option RevisionView) → is_in_place o ≡ true → (r : RevisionView) × (o ≡ Some r) × (is_misplaced r ≡ false)
+in_place None e = cc
+in_place (Some r) e = (r, refl, not-true (is_misplaced r) e)
 
 value_from : (item : Item) (value : List ℕ) → value_of item ≡ Some value → item ≡ Value value
 value_from (Value v) value e = cc
@@ -57,7 +58,7 @@ unfolding revision_of
 revision_value e r is = let (value, some, _) = bind_some (value_of e.item) (revision_in e.key) r is in (value, value_from e.item value some)
 
 pub candidate_value : (e : EntryView) → is_candidate e ≡ true → (value : List ℕ) × (e.item ≡ Value value)
-candidate_value e passes = let (r, is) = in_place_some (revision_of e) passes in revision_value e r is
+candidate_value e passes = let (r, is, _) = in_place (revision_of e) passes in revision_value e r is
 
 same_view : (x y : EntryView) → x.key ≡ y.key → x.item ≡ y.item → x ≡ y
 same_view x y key item = ap (λ (k : Key). record x { key = k }) key ∙ ap (λ (i : Item). record y { item = i }) item

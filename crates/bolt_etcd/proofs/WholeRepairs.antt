@@ -8,13 +8,13 @@ use Rattle.bolt_format.specs.Elements.{LeafElement}
 use Rattle.bolt_check.specs.Keys.{Key, key_cmp}
 use Rattle.bolt_tree.proofs.{Filters.kept, PathOrder.key_total}
 use Rattle.bolt_tree.specs.{Entries.Bucket, Entries.EntryView, Entries.Item, Entries.Value, Entries.entry_view, Listing.Member}
-use Rattle.bolt_etcd.specs.{Agreed.without, Candidates.AreCandidates, Candidates.is_candidate, Candidates.is_in_place, Compacted.compacted_by}
-use Rattle.bolt_etcd.specs.{FullRepairs.AreCandidateKeys, Misplaced.is_misplaced, Newest.is_until, Records.record_of, Repaired.MakesStore, Repaired.lacks_bucket}
+use Rattle.bolt_etcd.specs.{Among.without, Candidates.AreCandidates, Candidates.is_candidate, Candidates.is_in_place, Compacted.compacted_by}
+use Rattle.bolt_etcd.specs.{FullRepairs.AreCandidateKeys, Newest.is_until, Records.record_of, Repaired.MakesStore, Repaired.lacks_bucket}
 use Rattle.bolt_etcd.specs.Repairs.{AreBack, GoesBack, IsAgreed, IsCandidate, IsCompactedAt, IsNewestUpTo, store_path}
 use Rattle.bolt_etcd.specs.{RevisionKeys.revision_key, Revisions.RevisionView, Revisions.name_of, Revisions.revision_in, Revisions.revision_of, Revisions.value_of}
 use Rattle.bolt_etcd.specs.{Superseded.ArePutBack, Superseded.IsNewestOf, Superseded.entry_name, Superseded.is_deletion, Superseded.is_key_deleted, Superseded.is_key_until, Superseded.is_old, Superseded.name_if}
 use Rattle.bolt_etcd.specs.{Surveys.IsSurvey, Undisputed.AreKeys, Undisputed.AreUndisputed}
-use Rattle.bolt_etcd.proofs.{AgreedEntries.without_has, Currents.bind_some, Currents.place_is, Filtered.kept_from, MappedLists.shows_from, MappedLists.shows_has, Rising.fewer, Rising.rises_mapped}
+use Rattle.bolt_etcd.proofs.{Currents.bind_some, Currents.place_is, Filtered.kept_from, KeysAmong.without_has, MappedLists.shows_from, MappedLists.shows_has, Rising.fewer, Rising.rises_mapped, WholeOrder.in_place}
 use Rattle.std.proofs.lemmas.Option.{same_Some}
 
 -- ---- what an entry says if it is a revision
@@ -59,10 +59,6 @@ value_under (Some (Bucket sequence)) none = cc
 value_under (Some (Value value)) none = (value, refl)
 
 -- ---- from elements
-
-in_place : (o : Option RevisionView) → is_in_place o ≡ true → (r : RevisionView) × (o ≡ Some r) × (is_misplaced r ≡ false)
-in_place None e = cc
-in_place (Some r) e = (r, refl, not-true (is_misplaced r) e)
 
 module _ (recovered : List Member) (found : List LeafElement) (all : List EntryView) (met : List Key) (under : Option Item) (noted : Option (List ℕ))
     (are : AreCandidates found all) (survey : IsSurvey recovered all under noted met) where

@@ -1,4 +1,4 @@
-pub mod Agreed
+pub mod Among
 pub mod Candidates
 pub mod CheckLines
 pub mod Compacted

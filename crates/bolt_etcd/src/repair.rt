@@ -8,7 +8,7 @@ ghost use Rattle.bolt_etcd.specs.{Repaired.IsRepair, RepairRefusals.IsRepairRefu
 ghost use Rattle.bolt_check.specs.Keys.{key_cmp};
 ghost use Rattle.bolt_tree.specs.{InBuckets.view_cmp, Order.Rises, ShownEntries.item_view};
 ghost use Rattle.bolt_etcd.specs.ShownRevisions.{entry_of};
-ghost use Rattle.bolt_etcd.specs.{Agreed.among, Agreed.without, Candidates.whole_cmp, Repaired.lacks_bucket, Superseded.ArePutBackIn, Undisputed.AreUndisputed, Undisputed.HaveKeys};
+ghost use Rattle.bolt_etcd.specs.{Among.among, Among.without, Candidates.whole_cmp, Repaired.lacks_bucket, Superseded.ArePutBackIn, Undisputed.AreUndisputed, Undisputed.HaveKeys};
 ghost use Rattle.bolt_etcd.specs.declared.repair.RepairFault.TheVariants as faults;
 ghost use Rattle.bolt_etcd.specs.Superseded.{CompactsFirstIn, IsPartedAt};
 

@@ -6,7 +6,7 @@ use Rattle.bolt_check.specs.Keys.{Key}
 use Rattle.bolt_tree.specs.{Entries.EntryView, Listing.Member, Order.Rises}
 use Rattle.bolt_recover.proofs.Existing.{recovers}
 use Rattle.bolt_recover.specs.Recovered.{IsRecovered}
-use Rattle.bolt_etcd.specs.{Agreed.without, ShownRevisions.entry_of, Superseded.AreSuperseded, Superseded.entry_name_cmp, Superseded.stays}
+use Rattle.bolt_etcd.specs.{Among.without, ShownRevisions.entry_of, Superseded.AreSuperseded, Superseded.entry_name_cmp, Superseded.stays}
 use Rattle.bolt_etcd.specs.declared.revision.Revision.{Revision}
 use Rattle.bolt_etcd.proofs.{CompactedFirst.compacts, CompactedFirst.first_are_newest, CompactedFirst.later_fit, Filtered.filter_mapped}
 use Rattle.bolt_etcd.proofs.repair.compact_first.Goals as goal

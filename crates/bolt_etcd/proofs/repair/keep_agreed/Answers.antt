@@ -2,7 +2,7 @@
 use Rattle.std.proofs.Common.{◌∙◌, Bor, List, ap, map, not, subst, sym}
 use Rattle.bolt_check.specs.Keys.{Key}
 use Rattle.bolt_tree.specs.{Entries.EntryView, Order.Rises}
-use Rattle.bolt_etcd.specs.{Agreed.among, Agreed.without, Candidates.whole_cmp, ShownRevisions.entry_of, Undisputed.AreUndisputed, Undisputed.HaveKeys}
+use Rattle.bolt_etcd.specs.{Among.among, Among.without, Candidates.whole_cmp, ShownRevisions.entry_of, Undisputed.AreUndisputed, Undisputed.HaveKeys}
 use Rattle.bolt_etcd.proofs.Filtered.{filter_rises}
 use Rattle.bolt_etcd.proofs.repair.keep_agreed.Goals as goal
 

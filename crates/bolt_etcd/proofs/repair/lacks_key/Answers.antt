@@ -1,7 +1,7 @@
 use Rattle.std.proofs.Common.{◌∙◌, Bor, ap, map, not}
 use Rattle.bolt_check.specs.Keys.{Key}
-use Rattle.bolt_etcd.specs.Agreed.{among}
-use Rattle.bolt_etcd.proofs.AgreedEntries.{among_is}
+use Rattle.bolt_etcd.specs.Among.{among}
+use Rattle.bolt_etcd.proofs.KeysAmong.{among_is}
 use Rattle.bolt_etcd.proofs.repair.lacks_key.Goals as goal
 
 pub returns : goal.returns

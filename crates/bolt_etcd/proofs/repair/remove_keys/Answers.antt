@@ -4,7 +4,7 @@ use Rattle.bolt_check.specs.Keys.{Key}
 use Rattle.bolt_tree.specs.{Entries.EntryView}
 use Rattle.bolt_etcd.specs.ShownRevisions.{entry_of}
 use Rattle.bolt_etcd.specs.declared.revision.Revision.{Revision}
-use Rattle.bolt_etcd.specs.Agreed.{among}
+use Rattle.bolt_etcd.specs.Among.{among}
 use Rattle.bolt_etcd.proofs.Filtered.{filter_mapped}
 use Rattle.bolt_etcd.proofs.repair.remove_keys.Goals as goal
 

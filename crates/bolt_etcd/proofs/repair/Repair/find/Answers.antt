@@ -1,7 +1,9 @@
 -- What is found, looked at beside the recovered listing.
 use Rattle.std.proofs.Common.{◌≡◌, ◌∙◌, ◌-◌, ◌≤◌, ◌&&◌, not, ap, false, subst, sym, vec_len, List, arith, map, length}
 use Rattle.bolt_etcd.specs.ShownRevisions.{entry_of}
-use Rattle.bolt_etcd.proofs.FoundRepairs.{loses_root, made_if, none_left, not_made, rises_sorted, searched_full, searched_least, searched_repair}
+use Rattle.bolt_tree.proofs.PathOrder.{key_total}
+use Rattle.bolt_etcd.proofs.SortedOnce.{rises_sorted}
+use Rattle.bolt_etcd.proofs.FoundRepairs.{loses_root, made_if, none_left, not_made, searched_full, searched_least, searched_repair}
 use Rattle.std.proofs.lemmas.Bool.{and_right}
 use Rattle.std.specs.Option.{option_map}
 use Rattle.bolt_tree.specs.Entries.{EntryView, Value}
@@ -24,7 +26,7 @@ overflow_sub-result c =
 pub keep_agreed-keys-requires-clause-sorted : goal.keep_agreed-keys-requires-clause-sorted
 keep_agreed-keys-requires-clause-sorted c =
     let (listing, is) = has_recovered c.args.both.now.file.now c.args.both.now.meta in
-    rises_sorted _ (c.in_ok-survey.ensures listing is).rises
+    rises_sorted key_total _ (c.in_ok-survey.ensures listing is).rises
 
 pub invariant_of-result : goal.invariant_of-result
 invariant_of-result c =

@@ -7,7 +7,7 @@ use Rattle.std.specs.Str.{bytes_eq}
 use Rattle.bolt_check.specs.Keys.{Key}
 use Rattle.bolt_tree.proofs.{Filters.kept, Lists.contains_cases, Lists.contains_head, Lists.contains_none, Lists.contains_tail}
 use Rattle.bolt_tree.specs.{Entries.EntryView}
-use Rattle.bolt_etcd.specs.Agreed.{among, without}
+use Rattle.bolt_etcd.specs.Among.{among, without}
 use Rattle.bolt_etcd.proofs.{Filtered.kept_from}
 
 -- ---- whether a key is among these, as a test
