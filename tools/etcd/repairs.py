@@ -82,15 +82,13 @@ class Repairs:
             self.comparisons.compare_keys(server.file, last)
 
     def compare_served(self, damage, server):
-        """If every leaf is found, the server reports what it did before. If not, its keys are those of the leaves that
-        are left; without a freelist, those whose newest revision is there are."""
+        """If every leaf is found, the server reports what it did before. If not, it has the keys whose newest revisions
+        are on the leaves that are left. Of other names it may have revisions of pages that etcd has freed."""
         what = f"etcd reports something else of the repair without {damage.lost}"
         if self.is_found(damage):
             after = ask(server, self.before.compacted, len(self.before.keys_at))
             self.comparisons.compare_answers(what, self.before, after)
             return
-        left, served = self.store.newest(damage.leaves), keys_at(server, 0)
-        if damage.is_cut:
-            left = {name: one for name, one in left.items() if one == self.newest[name]}
-            served = [one for one in served if one.name in left]
+        left = {name: one for name, one in self.store.newest(damage.leaves).items() if one == self.newest[name]}
+        served = [one for one in keys_at(server, 0) if one.name in left]
         self.comparisons.want_same_lists(what, kept(left), served)
