@@ -15,11 +15,12 @@ use Rattle.std.specs.Str.{bytes_eq}
 use Rattle.bolt_format.specs.Elements.{LeafElement}
 use Rattle.bolt_tree.proofs.{Filters.kept, Lists.contains_cases, Lists.contains_head, Lists.contains_none, Lists.contains_tail}
 use Rattle.bolt_tree.specs.{Entries.EntryView, Entries.entry_cmp, Entries.entry_view, Order.Rises}
+use Rattle.bolt_check.specs.Keys.{key_cmp}
 use Rattle.bolt_etcd.specs.{Current.AreCurrent, Current.is_there, Current.name_cmp, Current.newest_first_cmp, Current.place_cmp, Newest.newest, Revisions.RevisionView, Revisions.name_of, Revisions.revision_in, Revisions.revision_of, Revisions.value_of}
 use Rattle.bolt_etcd.specs.{RevisionKeys.revision_key, Records.record_of, ShownRevisions.shown_revision, Stores.revisions, Wire.◌>>=◌}
 use Rattle.bolt_etcd.specs.declared.revision.Revision.{Revision}
 use Rattle.bolt_etcd.proofs.{Filtered.filter_mapped, Filtered.kept_from, MappedLists.dedup_mapped, MappedLists.sorted_mapped}
-use Rattle.bolt_etcd.proofs.NewestOfNames.{kept_last, last_kept, names_rise, newest_ranks}
+use Rattle.bolt_etcd.proofs.NewestOfNames.{kept_last, last_kept, names_rise, newest_ranks, text_ties}
 use Rattle.bolt_etcd.proofs.SortedOnce.{rises_from}
 
 -- ---- one more is pushed
@@ -90,7 +91,7 @@ abbrev pub view_same_name : RevisionView → RevisionView → Bool
 view_same_name a b = bytes_eq (name_of a) (name_of b)
 
 pub code_ranks : IsStrictWeakOrder code_newest_first
-code_ranks = newest_ranks (λ r. name_of (shown_revision r)) (λ r. (shown_revision r).place)
+code_ranks = newest_ranks (λ r. name_of (shown_revision r)) (λ r. (shown_revision r).place) key_cmp nat_list_cmp_total text_ties
 
 abbrev pub code_is_there : Revision → Bool
 code_is_there r = is_there (shown_revision r)
@@ -100,13 +101,13 @@ pub first_are_current : (rs sorted : List RevisionView) → Rises place_cmp rs �
     → AreCurrent rs (filter is_there (dedup view_same_name sorted))
 unfolding newest
 first_are_current rs sorted rises moved up = record {
-  rises = rises_from (on_total name_of nat_list_cmp_total) _ (IsStrictlySortedBy-filter name_cmp is_there _ (names_rise name_of (λ r. r.place) sorted up));
+  rises = rises_from (on_total name_of nat_list_cmp_total) _ (IsStrictlySortedBy-filter name_cmp is_there _ (names_rise name_of (λ r. r.place) key_cmp nat_list_cmp_total text_ties sorted up));
   exact = λ r. (
     λ has.
         let (kept_one, live) = kept_from is_there _ r has in
-        (kept_last name_of (λ r. r.place) _ _ rises moved up r kept_one, not-true r.key.deleted live),
+        (kept_last name_of (λ r. r.place) key_cmp nat_list_cmp_total text_ties _ _ rises moved up r kept_one, not-true r.key.deleted live),
     λ (last, live).
-        kept is_there _ r (last_kept name_of (λ r. r.place) _ _ rises moved up r last) (ap not live),
+        kept is_there _ r (last_kept name_of (λ r. r.place) key_cmp nat_list_cmp_total text_ties _ _ rises moved up r last) (ap not live),
   );
 }
 

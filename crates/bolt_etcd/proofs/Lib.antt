@@ -27,6 +27,7 @@ pub mod MappedLists
 pub mod Messages
 pub mod MissingExact
 pub mod NameHistories
+pub mod NameOrders
 pub mod NameSearches
 pub mod NewestEntries
 pub mod NewestOfNames

@@ -31,16 +31,19 @@ first_less Less b e = e
 first_less Equal b e = refl
 first_less Greater b e = refl
 
-module _ {X : Type 0} (name key : X → List ℕ) where
+pub text_ties : (a b : List ℕ) → bytes_eq a b ≡ is_eq (key_cmp a b)
+text_ties a b = sym (is_eq-slice_cmp a b)
+
+module _ {X : Type 0} (name key : X → List ℕ) (cmp : List ℕ → List ℕ → Ordering) (total : IsTotalOrder cmp) (ties : (a b : List ℕ) → bytes_eq a b ≡ is_eq (cmp a b)) where
   abbrev pub by_key : X → X → Ordering
   by_key a b = key_cmp (key a) (key b)
 
   abbrev pub by_name : X → X → Ordering
-  by_name a b = key_cmp (name a) (name b)
+  by_name a b = cmp (name a) (name b)
 
   -- by names, and of one name the later keys first
   abbrev pub newest_first : X → X → Ordering
-  newest_first a b = ordering_then (key_cmp (name a) (name b)) (key_cmp (key b) (key a))
+  newest_first a b = ordering_then (cmp (name a) (name b)) (key_cmp (key b) (key a))
 
   abbrev pub same_name : X → X → Bool
   same_name a b = bytes_eq (name a) (name b)
@@ -49,7 +52,7 @@ module _ {X : Type 0} (name key : X → List ℕ) where
   keys_total = on_total key nat_list_cmp_total
 
   names_total : IsTotalOrder by_name
-  names_total = on_total name nat_list_cmp_total
+  names_total = on_total name total
 
   pub newest_total : IsTotalOrder newest_first
   newest_total = then_total names_total (back_total keys_total)
@@ -168,7 +171,7 @@ module _ {X : Type 0} (name key : X → List ℕ) where
   unfolding IsStrictlySortedBy
   apart k x xs strict has alike =
       let less = all_at (λ w. by_name k w ≡ Less) xs x strict.0 has in
-      let tied : by_name k x ≡ Equal = ap (λ (n : List ℕ). key_cmp (name k) n) (sym alike) ∙ tied_itself nat_list_cmp_total (name k) in
+      let tied : by_name k x ≡ Equal = ap (λ (n : List ℕ). cmp (name k) n) (sym alike) ∙ tied_itself total (name k) in
       cc
 
   rest : (k : X) (xs : List X) → IsStrictlySortedBy by_name (k ∷ xs) → IsStrictlySortedBy by_name xs
@@ -217,7 +220,7 @@ module _ {X : Type 0} (name key : X → List ℕ) where
       first_step k z zs x (same_name z k) order refl (λ k' o' s' h' y' other' named'. first_of_name k' zs x o' s' h' y' other' named') strict has y other named
 
   names_ties : (x y : X) → same_name x y ≡ eq_by_cmp by_name x y
-  names_ties x y = sym (is_eq-slice_cmp (name x) (name y))
+  names_ties x y = ties (name x) (name y)
 
   names_equal : IsEquivalence same_name
   names_equal = on_equiv name nat_list_eq_equiv
@@ -236,7 +239,7 @@ module _ {X : Type 0} (name key : X → List ℕ) where
   -- of one name, the first by names isn't before the last by keys
   by_keys : (x y : X) → name y ≡ name x → is_lt (newest_first y x) ≡ false → is_lt (by_key x y) ≡ false
   by_keys x y named e =
-      let tied : by_name y x ≡ Equal = ap (λ (n : List ℕ). key_cmp n (name x)) named ∙ tied_itself nat_list_cmp_total (name x) in
+      let tied : by_name y x ≡ Equal = ap (λ (n : List ℕ). cmp n (name x)) named ∙ tied_itself total (name x) in
       rw tied at e
 
   -- ---- both

@@ -7,8 +7,10 @@ use Rattle.std.specs.List.{dedup}
 use Rattle.std.specs.List.Sorted.{IsPermutation, IsSortedBy}
 use Rattle.std.specs.Ordering.{is_lt}
 use Rattle.bolt_tree.specs.Order.{Rises}
+use Rattle.bolt_check.specs.Keys.{key_cmp}
+use Rattle.std.proofs.lemmas.Cmp.{nat_list_cmp_total}
 use Rattle.bolt_etcd.specs.{Current.AreCurrent, Current.is_there, Current.newest_first_cmp, Current.place_cmp, NameFaults.AreByName, NameFaults.by_name_cmp, Revisions.RevisionView, Revisions.name_of}
-use Rattle.bolt_etcd.proofs.{Currents.first_are_current, Currents.view_same_name, NewestOfNames.newest_ranks, SortedOnce.by_name_once, SortedOnce.by_name_total, SortedOnce.current_once}
+use Rattle.bolt_etcd.proofs.{Currents.first_are_current, Currents.view_same_name, NewestOfNames.newest_ranks, NewestOfNames.text_ties, SortedOnce.by_name_once, SortedOnce.by_name_total, SortedOnce.current_once}
 
 module _ {X : Type 0} (lt : X → X → Bool) where
   abbrev insert_in : X → List X → List X
@@ -87,6 +89,6 @@ by_name_is_one rs rises = let (all, are) = by_name_exists rs in (all, are, λ ot
 
 pub current_is_one : (rs : List RevisionView) → Rises place_cmp rs → (current : List RevisionView) × AreCurrent rs current × ((other : List RevisionView) → AreCurrent rs other → other ≡ current)
 current_is_one rs rises =
-    let (sorted, same, up) = sorted_exists (λ (a b : RevisionView). is_lt (newest_first_cmp a b)) (newest_ranks name_of (λ (r : RevisionView). r.place)) rs in
+    let (sorted, same, up) = sorted_exists (λ (a b : RevisionView). is_lt (newest_first_cmp a b)) (newest_ranks name_of (λ (r : RevisionView). r.place) key_cmp nat_list_cmp_total text_ties) rs in
     let are = first_are_current rs sorted rises same up in
     (filter is_there (dedup view_same_name sorted), are, λ other also. current_once rs other _ also are)

@@ -20,6 +20,7 @@ pub mod Misplaced
 pub mod MissingLeft
 pub mod MissingNumbers
 pub mod NameFaults
+pub mod NameOrder
 pub mod Newest
 pub mod Others
 pub mod Passes

@@ -14,6 +14,7 @@ pub mod laws;
 mod misplaced;
 mod missing;
 mod name_faults;
+mod name_order;
 mod newest;
 mod other;
 mod put_back;

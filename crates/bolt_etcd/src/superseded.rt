@@ -7,6 +7,7 @@ ghost use Rattle.bolt_etcd.specs.Superseded.{AreSupersededIn, IsPartedAt, KeepsN
 ghost use Rattle.bolt_etcd.specs.Superseded.{entry_name, entry_name_cmp, is_old, is_older_old, newest_cmp, stays};
 
 use crate::candidates::add_key;
+use crate::name_order::cmp_by_ends;
 use crate::revision::Revision;
 use crate::survey::revision_at;
 use bolt_recover::{Kept, LostAndFound};
@@ -40,7 +41,7 @@ pub(crate) fn old_among(revisions: &[Revision<'_>], compacted: u64) -> usize
 fn newest_first(a: &Revision<'_>, b: &Revision<'_>) -> Ordering
     ensures { result ≡ newest_cmp (entry_of a.now) (entry_of b.now) }
 {
-    match name_of(a).cmp(name_of(b)) {
+    match cmp_by_ends(name_of(a), name_of(b)) {
         Ordering::Equal => b.cmp_place(a),
         order => order,
     }
@@ -134,7 +135,7 @@ fn superseded_by<'a>(
         return None;
     }
     let name = revision.name();
-    let found = candidates.binary_search_by(|candidate| name_of(candidate).cmp(name));
+    let found = candidates.binary_search_by(|candidate| cmp_by_ends(name_of(candidate), name));
     let candidate = candidates.get(found.ok()?)?;
     candidate
         .cmp_place(revision)
