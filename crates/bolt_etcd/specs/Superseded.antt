@@ -37,7 +37,7 @@ is_key_deleted (Some key) = key.deleted
 abbrev pub is_deletion : EntryView → Bool
 is_deletion e = is_key_deleted (revision_key e.key)
 
--- by name, first by its end
+-- by name, and that first by its end
 abbrev pub entry_name_cmp : EntryView → EntryView → Ordering
 entry_name_cmp a b = ends_cmp (entry_name a) (entry_name b)
 
@@ -70,7 +70,7 @@ stays compacted e = not (is_old compacted e) || not (is_deletion e)
 abbrev pub IsNewestAmong : List EntryView → EntryView → Type 0
 IsNewestAmong es e = (other : EntryView) → Contains es other → entry_name other ≡ entry_name e → key_cmp e.key other.key ≢ Less
 
--- exactly these of the old ones, by rising name
+-- exactly these of the old ones, in the order of names
 pub record AreNewest (old newest : List EntryView) : Type 0 where
   pub rises : Rises entry_name_cmp newest
   pub exact : (e : EntryView) → Contains newest e ↔ (Contains old e × IsNewestAmong old e)
@@ -105,7 +105,7 @@ pub record IsNewestOf (compacted : ℕ) (recovered : List Member) (agreed : List
   pub of_kept : (r : RevisionView) → IsKept recovered r → name_of r ≡ entry_name e → is_until compacted r ≡ true → key_cmp e.key r.place ≢ Less
   pub of_agreed : (other : EntryView) → Contains agreed other → entry_name other ≡ entry_name e → is_old compacted other ≡ true → key_cmp e.key other.key ≢ Less
 
--- of the first n, which are old, m are left: the newest of their names, by rising name; and all others
+-- of the first n, which are old, m are left: the newest of their names, in the order of names; and all others
 pub record CompactsFirst (compacted n m : ℕ) (recovered : List Member) (before after : List EntryView) : Type 0 where
   pub within : m ≤ length after
   pub others : drop m after ≡ drop n before

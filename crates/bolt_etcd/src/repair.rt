@@ -144,8 +144,8 @@ fn keep_what_goes_back<'a>(
 }
 
 /// Of the first ones, which are old, keeps those that the last compaction keeps: the newest of each
-/// name, if it isn't a deletion and no kept revision comes after it. They stand by rising name then.
-/// All others stay as they are. Returns the number of those that are left.
+/// name, if it isn't a deletion and no kept revision comes after it. They stand in the order of names
+/// then. All others stay as they are. Returns the number of those that are left.
 fn compact_first<'a>(
     alloc: Global,
     both: &LostAndFound<'a>,

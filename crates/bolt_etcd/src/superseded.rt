@@ -47,8 +47,8 @@ fn newest_first(a: &Revision<'_>, b: &Revision<'_>) -> Ordering
     }
 }
 
-/// Of the first ones, which are old, keeps the newest of each name. They stand by rising name then.
-/// All others stay as they are.
+/// Of the first ones, which are old, keeps the newest of each name. They stand in the order of names
+/// then. All others stay as they are.
 pub(crate) fn keep_newest(candidates: &mut Vec<Revision<'_>>, old: usize, compacted: u64)
     requires rises { Rises view_cmp (map entry_of candidates.old.items) }
     requires parted { IsPartedAt compacted (map entry_of candidates.old.items) old }
@@ -95,7 +95,7 @@ pub(crate) fn stays(revision: &Revision<'_>, compacted: u64) -> bool
 }
 
 /// The keys of candidates that a kept revision of the same name comes after, up to the last
-/// compaction, by rising key. The candidates stand by rising name.
+/// compaction, by rising key. The candidates stand in the order of names.
 pub(crate) fn superseded_keys<'a>(
     alloc: Global,
     both: &LostAndFound<'a>,
