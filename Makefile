@@ -107,9 +107,12 @@ test: set-up
 		"$(MAKER) tools/fuzz/fuzz.py $(PROGRAM) --seed 1 --files 36" "tools/bbolt/try.sh $(PROGRAM) 3" \
 		"$(MAKER) tools/etcd/try_etcd.py $(PROGRAM) --seed 1 --keys 300 --seconds 150"
 
+# Stores of etcd that lost half of their branches, and all.
+LOST_STORES = out/store_half.db out/store_all.db out/short_half.db out/short_all.db
+
 # Times the program on large files and, if it can be built, bbolt's library.
 bench: $(PROGRAM) out/measured out/large.db out/wide.db out/long.db out/sparse.db out/very_deep.db out/lost_leaves.db \
-		out/lost_branch.db out/half_freed.db out/freed.db
+		out/lost_branch.db out/half_freed.db out/freed.db $(LOST_STORES)
 	tools/bench/bench.sh $(PROGRAM)
 
 out/measured: tools/bench/measured.c
@@ -121,18 +124,21 @@ out/refuse.so: tools/refuse/refuse.c
 	$(CC) -O2 -Wall -shared -fPIC -o $@ $<
 
 # Files that a tool makes, each with these words after its name.
-MADE = large wide listed_long long sparse deep nested very_deep half_freed freed
+MADE = large wide listed_long long sparse deep nested very_deep half_freed freed store short
 out/listed_long.db: WORDS = 5000
 out/nested.db: WORDS = 60
 out/very_deep.db: WORDS = 50000 4096
 out/half_freed.db: WORDS = 500000
 out/freed.db: WORDS = 1000000
+out/store.db: WORDS = 600
+out/short.db: WORDS = 60
 out/large.db: tools/bench/make_large.py
 out/wide.db out/listed_long.db: tools/bench/make_wide.py
 out/long.db: tools/bench/make_long.py
 out/sparse.db: tools/bench/make_sparse.py
 out/deep.db out/nested.db out/very_deep.db: tools/bench/make_deep.py
 out/half_freed.db out/freed.db: tools/bench/make_freed.py
+out/store.db out/short.db: tools/bench/make_store.py
 $(MADE:%=out/%.db):
 	mkdir -p $(@D)
 	$(MAKER) $< $@ $(WORDS)
@@ -141,6 +147,15 @@ $(MADE:%=out/%.db):
 out/lost_branch.db: BRANCHES = 1
 out/lost_leaves.db out/lost_branch.db: tools/bench/zero_leaves.py out/large.db
 	$(MAKER) $< out/large.db $@ 1000 $(BRANCHES)
+
+# Their branches; 1000 are more than there are.
+out/store_half.db: BRANCHES = 122
+out/short_half.db: BRANCHES = 22
+out/store_all.db out/short_all.db: BRANCHES = 1000
+out/store_half.db out/store_all.db: out/store.db
+out/short_half.db out/short_all.db: out/short.db
+$(LOST_STORES): tools/bench/zero_leaves.py
+	$(MAKER) $< $(filter %.db,$^) $@ 0 $(BRANCHES)
 
 # A real database in which a page of etcd's keys is overwritten with zeros.
 out/damaged.db: examples/etcd.db

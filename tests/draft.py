@@ -27,6 +27,7 @@ Nothing here decides a layout: pages are placed exactly as the lines say.
 import re
 import struct
 
+import etcd_format as etcd
 import file_format as form
 from words import Unread, bytes_of, halves, numbers_of
 
@@ -43,8 +44,6 @@ FRESH = {
 }
 GREATEST_LENGTH = 2**32 - 1
 REVISION = r"%(\d+)\.(\d+)(t?)"
-# The tags of the fields of a record of etcd, in their order. Their last three bits are 2 if it has bytes.
-TAGS = {"name": 0x0A, "created": 0x10, "modified": 0x18, "version": 0x20, "value": 0x2A, "lease": 0x30}
 
 
 def make(text):
@@ -95,22 +94,7 @@ def stored_bytes(word):
     if revision is None:
         return bytes_of(word)
     main, sub, mark = revision.groups()
-    return struct.pack(">QcQ", int(main), b"_", int(sub)) + mark.encode()
-
-
-def varint(number):
-    """A number as protocol buffers have it: seven bits in a byte, the lowest first."""
-    if number < 128:
-        return bytes([number])
-    return bytes([128 + number % 128]) + varint(number // 128)
-
-
-def field_bytes(tag, word):
-    """A field of a record, unless it is empty or 0."""
-    if tag % 8 == 2:
-        text = bytes_of(word)
-        return bytes([tag]) + varint(len(text)) + text if text else b""
-    return bytes([tag]) + varint(int(word)) if int(word) else b""
+    return etcd.revision_key(int(main), int(sub)) + mark.encode()
 
 
 def record(revision, words):
@@ -120,9 +104,9 @@ def record(revision, words):
     fields = {} if mark else {"created": main, "modified": main, "version": "1"}
     fields |= dict(halves(pair, "=") for pair in pairs)
     fields["name"] = name
-    if not fields.keys() <= TAGS.keys():
+    if not fields.keys() <= etcd.TAGS.keys():
         raise Unread(words)
-    return b"".join(field_bytes(tag, fields[it]) for it, tag in TAGS.items() if it in fields)
+    return etcd.record({it: (bytes_of if etcd.has_bytes(it) else int)(word) for it, word in fields.items()})
 
 
 def with_gaps(words):

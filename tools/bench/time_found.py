@@ -25,7 +25,7 @@ LONG_LIMIT = 2.2
 
 
 def lost_and_found(program, file, status):
-    return Copy(program, file, "found", ["--lost-and-found"], status)
+    return Copy(program, file, "found", ["compact", "--lost-and-found"], status)
 
 
 def compared(copy, beside, limit):
@@ -43,7 +43,7 @@ def has_found(program, path):
 def main():
     program, sound, damaged, half, long = sys.argv[1:]
     pairs = [
-        (Copy(program, file, "recovered", ["--recover"], status), lost_and_found(program, file, status))
+        (Copy(program, file, "recovered", ["compact", "--recover"], status), lost_and_found(program, file, status))
         for file, status in ((sound, 0), (damaged, 1))
     ]
     freed = [lost_and_found(program, file, 1) for file in (half, long)]

@@ -29,7 +29,7 @@ class Copy:
 
     def __init__(self, program, file, name, words, status):
         self.path = f"{file}.{name}"
-        self.words = [program, "compact", *words, "-o", self.path, file]
+        self.words = [program, *words, "-o", self.path, file]
         self.status = status
         self.seconds, self.memory = [], []
 
@@ -54,9 +54,9 @@ def is_sound(program, path):
 
 def main():
     program, sound, damaged, leaves = sys.argv[1:]
-    named = Copy(program, sound, "named", ["--meta", "1"], 0)
-    whole = Copy(program, sound, "recovered", ["--recover", "--meta", "1"], 0)
-    rest = Copy(program, damaged, "recovered", ["--recover", "--meta", "1"], 1)
+    named = Copy(program, sound, "named", ["compact", "--meta", "1"], 0)
+    whole = Copy(program, sound, "recovered", ["compact", "--recover", "--meta", "1"], 0)
+    rest = Copy(program, damaged, "recovered", ["compact", "--recover", "--meta", "1"], 1)
     for _ in range(ROUNDS):
         for copy in (named, whole, rest):
             copy.make()
