@@ -28,9 +28,9 @@ def lost_and_found(program, file, status):
     return Copy(program, file, "found", ["compact", "--lost-and-found"], status)
 
 
-def compared(copy, beside, limit):
-    """Whether a copy takes at most so many times what another takes. Prints both."""
-    seconds, allowed = median(copy.seconds), limit * median(beside.seconds)
+def compared(copy, beside, limit, figure=median):
+    """Whether a copy takes at most so many times what another takes, by this figure of all rounds. Prints both."""
+    seconds, allowed = figure(copy.seconds), limit * figure(beside.seconds)
     print(f"{' '.join(copy.words[1:])}: {seconds:.3f} s of {allowed:.3f}")
     return seconds <= allowed
 

@@ -4,9 +4,9 @@
     time_repairs.py PROGRAM STORE DAMAGED ..
 
 Each DAMAGED is STORE without some branches, so that all that it lost is found. Its repair is timed
-beside `compact --lost-and-found` of the same file, in turn; the figures are medians of five. The status
-is 1 if a repair isn't, byte for byte, the copy of STORE for bbolt, or takes longer than 1.6 times as
-long as what is beside it.
+beside `compact --lost-and-found` of the same file, in turn. The figures are the least of five, since
+some runs take less than 0.1 s, and the disk may add as much. The status is 1 if a repair isn't, byte for
+byte, the copy of STORE for bbolt, or takes longer than 1.6 times as long as what is beside it.
 """
 
 import filecmp
@@ -31,7 +31,7 @@ def main():
     good = True
     for found, repaired in pairs:
         good = filecmp.cmp(whole.path, repaired.path, shallow=False) and good
-        good = compared(repaired, found, LIMIT) and good
+        good = compared(repaired, found, LIMIT, min) and good
         os.remove(found.path)
         os.remove(repaired.path)
     os.remove(whole.path)
