@@ -29,7 +29,7 @@ module _ (compacted n : ℕ) (recovered : List Member) (before after : List Entr
             | inl fresh ↦ (let is = parted.old e old in let is_new = not-true (is_old compacted e) fresh in cc)
             | inr live ↦ not-true (is_deletion e) live
           ];
-          of_kept = λ r is names until less. free ((keys.exact e.key).1 (r, is, (e, there, refl, sym names, until, less)));
+          of_kept = λ r is names until less. free ((keys.exact e.key).1 (r, is, until, (e, there, refl, sym names, less)));
           of_agreed = λ other other_has names is less. elim (in_parts n before other other_has) [
             | inl first ↦ top other first names less
             | inr second ↦ (let fresh = parted.new other second in cc)
@@ -47,14 +47,14 @@ module _ (compacted n : ℕ) (recovered : List Member) (before after : List Entr
 
       free : Contains superseded e.key → ⊥
       free gone =
-          let (r, kept_one, (x, there, same, names, until, less)) = (keys.exact e.key).0 gone in
+          let (r, kept_one, until, (x, there, same, names, less)) = (keys.exact e.key).0 gone in
           let at : x ≡ e = one_of key_total (λ (y : EntryView). y.key) before x e rises (in_first n before x ((keeps.are.exact x).0 there).0) (in_first n before e has) same in
           is.of_kept r kept_one (sym names ∙ ap entry_name at) until (subst (λ (y : EntryView). key_cmp y.key r.place ≡ Less) at less)
 
   -- a later one has the key of no old one
   later_free : (e : EntryView) → Contains (drop n before) e → Contains superseded e.key → ⊥
   later_free e has gone =
-      let (r, kept_one, (x, there, same, names, until, less)) = (keys.exact e.key).0 gone in
+      let (r, kept_one, until, (x, there, same, names, less)) = (keys.exact e.key).0 gone in
       let is = parted.old x ((keeps.are.exact x).0 there).0 in
       let fresh = parted.new e has in
       let alike : is_old compacted x ≡ is_old compacted e = ap (λ (k : Key). is_key_until compacted (revision_key k)) same in

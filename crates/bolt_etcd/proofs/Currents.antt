@@ -52,6 +52,14 @@ place_is v r e =
     let (content, _, made) = bind_some (record_of value) _ r later in
     sym (ap (λ (x : RevisionView). x.place) (same_Some _ r made))
 
+pub key_is : (e : EntryView) (r : RevisionView) → revision_of e ≡ Some r → revision_key e.key ≡ Some r.key
+unfolding revision_of
+key_is e r is =
+    let (value, _, inner) = bind_some (value_of e.item) (revision_in e.key) r is in
+    let (k, read, later) = bind_some (revision_key e.key) _ r inner in
+    let (content, _, made) = bind_some (record_of value) _ r later in
+    read ∙ ap Some (ap (λ (x : RevisionView). x.key) (same_Some _ r made))
+
 from_step : (o : Option RevisionView) (e : LeafElement) (es : List LeafElement) (r : RevisionView) → revision_of (entry_view e) ≡ o
     → (Contains (revisions es) r → (f : LeafElement) × Contains es f × (revision_of (entry_view f) ≡ Some r)) → Contains (cons_option o (revisions es)) r
     → (f : LeafElement) × Contains (e ∷ es) f × (revision_of (entry_view f) ≡ Some r)

@@ -45,6 +45,7 @@ pub mod RevisionLoops
 pub mod RevisionSteps
 pub mod RevisionTexts
 pub mod RevisionsExact
+pub mod RevisionsUntil
 pub mod Rising
 pub mod SnapshotLemmas
 pub mod SortedExists

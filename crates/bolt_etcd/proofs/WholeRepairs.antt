@@ -9,23 +9,14 @@ use Rattle.bolt_check.specs.Keys.{Key, key_cmp}
 use Rattle.bolt_tree.proofs.{Filters.kept, PathOrder.key_total}
 use Rattle.bolt_tree.specs.{Entries.Bucket, Entries.EntryView, Entries.Item, Entries.Value, Entries.entry_view, Listing.Member}
 use Rattle.bolt_etcd.specs.{Among.without, Candidates.AreCandidates, Candidates.is_candidate, Candidates.is_in_place, Compacted.compacted_by}
-use Rattle.bolt_etcd.specs.{FullRepairs.AreCandidateKeys, Newest.is_until, Records.record_of, Repaired.MakesStore, Repaired.lacks_bucket}
+use Rattle.bolt_etcd.specs.{FullRepairs.AreCandidateKeys, Newest.is_until, Repaired.MakesStore, Repaired.lacks_bucket}
 use Rattle.bolt_etcd.specs.Repairs.{AreBack, GoesBack, IsAgreed, IsCandidate, IsCompactedAt, IsNewestUpTo, store_path}
-use Rattle.bolt_etcd.specs.{RevisionKeys.revision_key, Revisions.RevisionView, Revisions.name_of, Revisions.revision_in, Revisions.revision_of, Revisions.value_of}
+use Rattle.bolt_etcd.specs.{Revisions.RevisionView, Revisions.name_of, Revisions.revision_of}
 use Rattle.bolt_etcd.specs.{Superseded.ArePutBack, Superseded.IsNewestOf, Superseded.entry_name, Superseded.is_deletion, Superseded.is_key_deleted, Superseded.is_key_until, Superseded.is_old, Superseded.name_if}
 use Rattle.bolt_etcd.specs.{Surveys.IsSurvey, Undisputed.AreKeys, Undisputed.AreUndisputed}
-use Rattle.bolt_etcd.proofs.{Currents.bind_some, Currents.place_is, Filtered.kept_from, KeysAmong.without_has, MappedLists.shows_from, MappedLists.shows_has, Rising.fewer, Rising.rises_mapped, WholeOrder.in_place}
-use Rattle.std.proofs.lemmas.Option.{same_Some}
+use Rattle.bolt_etcd.proofs.{Currents.key_is, Currents.place_is, Filtered.kept_from, KeysAmong.without_has, MappedLists.shows_from, MappedLists.shows_has, Rising.fewer, Rising.rises_mapped, WholeOrder.in_place}
 
 -- ---- what an entry says if it is a revision
-
-key_is : (e : EntryView) (r : RevisionView) → revision_of e ≡ Some r → revision_key e.key ≡ Some r.key
-unfolding revision_of
-key_is e r is =
-    let (value, _, inner) = bind_some (value_of e.item) (revision_in e.key) r is in
-    let (k, read, later) = bind_some (revision_key e.key) _ r inner in
-    let (content, _, made) = bind_some (record_of value) _ r later in
-    read ∙ ap Some (ap (λ (x : RevisionView). x.key) (same_Some _ r made))
 
 module _ (compacted : ℕ) (e : EntryView) (r : RevisionView) (is : revision_of e ≡ Some r) where
   named : entry_name e ≡ name_of r

@@ -81,18 +81,17 @@ pub record KeepsNewest (n : ℕ) (before after : List EntryView) : Type 0 where
   pub is : after ≡ newest ++ drop n before
   pub are : AreNewest (take n before) newest
 
--- this revision of its name, of no later transaction, comes after the one with this key
-abbrev pub IsSupersededBy : ℕ → List EntryView → RevisionView → Key → Type 0
-IsSupersededBy compacted es r key =
-    (e : EntryView) × Contains es e × (e.key ≡ key) × (entry_name e ≡ name_of r) × (is_until compacted r ≡ true) × (key_cmp e.key r.place ≡ Less)
+-- this revision of its name comes after the one with this key
+abbrev pub IsSupersededBy : List EntryView → RevisionView → Key → Type 0
+IsSupersededBy es r key = (e : EntryView) × Contains es e × (e.key ≡ key) × (entry_name e ≡ name_of r) × (key_cmp e.key r.place ≡ Less)
 
 -- this is the key that it supersedes, if there is one
-abbrev pub Supersedes : ℕ → List EntryView → RevisionView → Option Key → Type 0
-Supersedes compacted es r found = (key : Key) → (found ≡ Some key) ↔ IsSupersededBy compacted es r key
+abbrev pub Supersedes : List EntryView → RevisionView → Option Key → Type 0
+Supersedes es r found = (key : Key) → (found ≡ Some key) ↔ IsSupersededBy es r key
 
--- a kept one does
+-- a kept one of no later transaction does
 abbrev pub IsSuperseded : ℕ → List EntryView → List Member → Key → Type 0
-IsSuperseded compacted es recovered key = (r : RevisionView) × IsKept recovered r × IsSupersededBy compacted es r key
+IsSuperseded compacted es recovered key = (r : RevisionView) × IsKept recovered r × (is_until compacted r ≡ true) × IsSupersededBy es r key
 
 -- exactly the keys of those
 pub record AreSuperseded (compacted : ℕ) (recovered : List Member) (es : List EntryView) (keys : List Key) : Type 0 where

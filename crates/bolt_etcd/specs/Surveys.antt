@@ -4,7 +4,7 @@ use Rattle.std.specs.{Borrow.Bor, List.Contains, Option.option_map, Str.bytes_eq
 use Rattle.std.specs.declared.cmp.Ordering.TheVariants.{Less}
 use Rattle.bolt_check.specs.Keys.{Key, key_cmp}
 use Rattle.bolt_tree.specs.{Entries.EntryView, Entries.Item, Entries.Value, InBuckets.entry_in, Listing.Member, Listing.member_cmp, Order.Rises, Paths.Path, ShownEntries.item_view}
-use Rattle.bolt_etcd.specs.{Candidates.HasKey, Repairs.compaction_path, Repairs.store_path, Revisions.RevisionView, Revisions.revision_of}
+use Rattle.bolt_etcd.specs.{Candidates.HasKey, Newest.is_until, Repairs.compaction_path, Repairs.store_path, Revisions.RevisionView, Revisions.revision_of}
 use Rattle.bolt_etcd.specs.declared.survey.{Place.Place, Place.TheVariants.Compaction, Place.TheVariants.InStore, Place.TheVariants.Other, Place.TheVariants.Store, Survey.Survey}
 
 -- an entry of the recovered bucket has this key
@@ -43,3 +43,12 @@ IsAt path Other = (path ≡ store_path → ⊥) × ((key : Key) → path ≡ sto
 unfoldable pub revision_at : Path → Item → Option RevisionView
 revision_at (bucket ∷ key ∷ []) item = if bytes_eq bucket (codes "key") then revision_of (record { key = key; item = item }) else None
 revision_at path item = None
+
+-- a revision of no later transaction
+abbrev pub if_until : ℕ → Option RevisionView → Option RevisionView
+if_until up_to None = None
+if_until up_to (Some r) = if is_until up_to r then Some r else None
+
+-- the revision that a member is, if it is one of the bucket `key` and of no later transaction
+abbrev pub revision_until : ℕ → Path → Item → Option RevisionView
+revision_until up_to path item = if_until up_to (revision_at path item)

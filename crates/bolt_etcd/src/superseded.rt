@@ -9,7 +9,7 @@ ghost use Rattle.bolt_etcd.specs.Superseded.{entry_name, entry_name_cmp, is_old,
 use crate::candidates::add_key;
 use crate::name_order::cmp_by_ends;
 use crate::revision::Revision;
-use crate::survey::revision_at;
+use crate::survey::revision_until;
 use bolt_recover::{Kept, LostAndFound};
 use bolt_tree::{Members, NoMemory};
 use std::alloc::Global;
@@ -109,10 +109,10 @@ pub(crate) fn superseded_keys<'a>(
     let mut keys = Vec::new(alloc);
     let mut kept = Kept::of(alloc, both)?;
     'members: while let Some(item) = kept.next()? {
-        let Some(revision) = revision_at(kept.path(), item) else {
+        let Some(revision) = revision_until(kept.path(), item, compacted) else {
             continue;
         };
-        if let Some(key) = superseded_by(&revision, candidates, compacted) {
+        if let Some(key) = superseded_by(&revision, candidates) {
             add_key(&mut keys, key)?;
         }
     }
@@ -120,20 +120,12 @@ pub(crate) fn superseded_keys<'a>(
     Ok(keys)
 }
 
-/// The key of the candidate of the same name, if this kept revision comes after it and is of no later
-/// transaction than the last compaction.
-fn superseded_by<'a>(
-    revision: &Revision<'_>,
-    candidates: &[Revision<'a>],
-    compacted: u64,
-) -> Option<&'a [u8]>
+/// The key of the candidate of the same name, if this kept revision comes after it.
+fn superseded_by<'a>(revision: &Revision<'_>, candidates: &[Revision<'a>]) -> Option<&'a [u8]>
     requires { Rises entry_name_cmp (map entry_of candidates.now) }
-    ensures { Supersedes compacted (map entry_of candidates.now) (shown_revision revision.now)
+    ensures { Supersedes (map entry_of candidates.now) (shown_revision revision.now)
         (option_map (λ key. key.now) result) }
 {
-    if revision.main() > compacted {
-        return None;
-    }
     let name = revision.name();
     let found = candidates.binary_search_by(|candidate| cmp_by_ends(name_of(candidate), name));
     let candidate = candidates.get(found.ok()?)?;

@@ -4,10 +4,11 @@ ghost use Rattle.bolt_tree.specs.{Order.Rises, Paths.path_of};
 ghost use Rattle.bolt_tree.specs.ShownEntries.{item_view};
 ghost use Rattle.bolt_recover.specs.Recovered.{ForRecovered};
 ghost use Rattle.bolt_etcd.specs.{Candidates.whole_cmp, Returns.Returns, ShownRevisions.entry_of, ShownRevisions.shown_revision};
-ghost use Rattle.bolt_etcd.specs.Surveys.{IsAt, revision_at};
+ghost use Rattle.bolt_etcd.specs.Surveys.{IsAt, revision_until};
 
 use crate::candidates::{add_key, has_candidate};
 use crate::revision::Revision;
+use crate::revision_key::RevisionKey;
 use bolt_recover::{Kept, LostAndFound};
 use bolt_tree::{Entry, Item, Members, NoMemory};
 use std::alloc::Global;
@@ -115,12 +116,21 @@ fn place_of<'a>(path: &[&'a [u8]]) -> Place<'a>
     }
 }
 
-/// The revision in the bucket `key` that a member is, if it is one.
-pub(crate) fn revision_at<'a>(path: &[&'a [u8]], item: Item<'a>) -> Option<Revision<'a>>
-    ensures { Returns shown_revision result (revision_at (path_of path.now) (item_view item.entry)) }
+/// The revision in the bucket `key` that a member is, if it is one of no later transaction. The
+/// record of a later one isn't decoded.
+pub(crate) fn revision_until<'a>(
+    path: &[&'a [u8]],
+    item: Item<'a>,
+    up_to: u64,
+) -> Option<Revision<'a>>
+    ensures { Returns shown_revision result
+        (revision_until up_to (path_of path.now) (item_view item.entry)) }
 {
-    match place_of(path) {
-        Place::InStore(key) => Revision::of(&Entry { key, item }),
-        _ => None,
+    let Place::InStore(key) = place_of(path) else {
+        return None;
+    };
+    if RevisionKey::read(key)?.main > up_to {
+        return None;
     }
+    Revision::of(&Entry { key, item })
 }

@@ -9,15 +9,15 @@ use Rattle.bolt_etcd.proofs.superseded.superseded_by.Goals as goal
 
 pub returns-in_err-ok : goal.returns-in_err-ok
 returns-in_err-ok c =
-    let searched = c.binary_search_by-found.ensures.position (beside c.args.compacted c.args.candidates.now (shown_revision c.args.revision.now)) (always_returns_same _ _ _ (λ a r f' h. (search rules, search rules))) in
-    absent c.args.compacted c.args.candidates.now (shown_revision c.args.revision.now) c.requires _ searched (sym c.ok.ensures.value ∙ c.in_err-ok.was) c.from_residual.result c.from_residual.ensures
+    let searched = c.binary_search_by-found.ensures.position (beside c.args.candidates.now (shown_revision c.args.revision.now)) (always_returns_same _ _ _ (λ a r f' h. (search rules, search rules))) in
+    absent c.args.candidates.now (shown_revision c.args.revision.now) c.requires _ searched (sym c.ok.ensures.value ∙ c.in_err-ok.was) c.from_residual.result c.from_residual.ensures
 
 pub returns : goal.returns
 returns c =
-    let searched = c.binary_search_by-found.ensures.position (beside c.args.compacted c.args.candidates.now (shown_revision c.args.revision.now)) (always_returns_same _ _ _ (λ a r f' h. (search rules, search rules))) in
+    let searched = c.binary_search_by-found.ensures.position (beside c.args.candidates.now (shown_revision c.args.revision.now)) (always_returns_same _ _ _ (λ a r f' h. (search rules, search rules))) in
     let looked = rw c.in_ok-candidate.was at c.get.ensures.lookup in
     let entry = c.in_ok-candidate.candidate.now in
     let less : c.is_lt.result ≡ is_lt (key_cmp entry.key.now c.args.revision.now.key.now) = c.is_lt.ensures ∙ ap is_lt c.cmp_place.ensures in
-    found c.args.compacted c.args.candidates.now (shown_revision c.args.revision.now) c.requires (rw (← c.main.ensures) c.if-main-compacted.false) _ searched c.in_ok-ok.field-0
+    found c.args.candidates.now (shown_revision c.args.revision.now) c.requires _ searched c.in_ok-ok.field-0
     (sym c.ok.ensures.value ∙ c.in_ok-ok.was) entry (ltb-true _ _ (sym looked.0)) looked.1 c.is_lt.result
     (less ∙ ap (λ (k : Key). is_lt (key_cmp entry.key.now k)) (sym (has_place c.args.revision.now))) c.place.result c.place.ensures.entry c.then_some.result c.then_some.ensures

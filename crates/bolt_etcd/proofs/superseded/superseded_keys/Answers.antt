@@ -12,6 +12,7 @@ use Rattle.bolt_etcd.specs.ShownRevisions.{entry_of}
 use Rattle.bolt_etcd.specs.ShownRevisions.{shown_revision}
 use Rattle.bolt_etcd.proofs.MappedLists.{sorted_mapped}
 use Rattle.bolt_etcd.proofs.SupersededKeys.{Found, all_found, found_none, more, passed, skipped}
+use Rattle.bolt_etcd.proofs.RevisionsUntil.{until_of}
 use Rattle.bolt_etcd.proofs.superseded.superseded_keys.Goals as goal
 
 abbrev now : Bor Key → Key
@@ -27,10 +28,10 @@ members-init c =
           (found_none c.args.compacted (map entry_of c.args.candidates.now) listing (kept_left c.in_ok-kept.kept listing) (kept.all listing is));
     }
 
-pub members-preserved-in_default-revision_at : goal.members-preserved-in_default-revision_at
-members-preserved-in_default-revision_at c =
+pub members-preserved-in_default-revision_until : goal.members-preserved-in_default-revision_until
+members-preserved-in_default-revision_until c =
     let m : Member = (kept_path c.next.new.self, item_view c.in-Some.item) in
-    let none = rw c.in_default-revision_at.is at (rw c.path.ensures at c.revision_at.ensures) in
+    let none = rw c.in_default-revision_until.is at (rw c.path.ensures at c.revision_until.ensures) in
     record {
       reads = λ listing is. (c.next.ensures.reads listing).1 (c.members.invariant.reads listing is);
       found = λ listing is.
@@ -41,7 +42,7 @@ members-preserved-in_default-revision_at c =
 pub members-preserved-in-Continue-branch-4 : goal.members-preserved-in-Continue-branch-4
 members-preserved-in-Continue-branch-4 c =
     let m : Member = (kept_path c.next.new.self, item_view c.in-Some.item) in
-    let some = rw c.in-Some-revision_at.is at (rw c.path.ensures at c.revision_at.ensures) in
+    let (some, until) = until_of c.args.compacted _ _ (rw c.in-Some-revision_until.is at (rw c.path.ensures at c.revision_until.ensures)) in
     let by = rw c.in-Some-superseded_by.is at c.superseded_by.ensures in
     let key = c.in-Some-superseded_by.key in
     record {
@@ -50,19 +51,19 @@ members-preserved-in-Continue-branch-4 c =
           let first = (rw c.in-Some.is at c.in_ok-item.ensures.given) listing (c.members.invariant.reads listing is) in
           subst (λ (keys : List Key). Found c.args.compacted (map entry_of c.args.candidates.now) listing keys (kept_left c.next.new.self listing))
           (sym (ap (map now) c.in_ok-add_key.ensures ∙ map-append now c.members.keys.items (key ∷ [])))
-          (more c.args.compacted (map entry_of c.args.candidates.now) listing _ _ _ m first (c.members.invariant.found listing is) (shown_revision c.in-Some-revision_at.revision) some key.now by);
+          (more c.args.compacted (map entry_of c.args.candidates.now) listing _ _ _ m first (c.members.invariant.found listing is) (shown_revision c.in-Some-revision_until.revision) some until key.now by);
     }
 
 pub members-preserved : goal.members-preserved
 members-preserved c =
     let m : Member = (kept_path c.next.new.self, item_view c.in-Some.item) in
-    let some = rw c.in-Some-revision_at.is at (rw c.path.ensures at c.revision_at.ensures) in
+    let (some, until) = until_of c.args.compacted _ _ (rw c.in-Some-revision_until.is at (rw c.path.ensures at c.revision_until.ensures)) in
     let by = rw c.in_default-superseded_by.is at c.superseded_by.ensures in
     record {
       reads = λ listing is. (c.next.ensures.reads listing).1 (c.members.invariant.reads listing is);
       found = λ listing is.
           let first = (rw c.in-Some.is at c.in_ok-item.ensures.given) listing (c.members.invariant.reads listing is) in
-          passed c.args.compacted (map entry_of c.args.candidates.now) listing _ _ _ m first (c.members.invariant.found listing is) (shown_revision c.in-Some-revision_at.revision) some by;
+          passed c.args.compacted (map entry_of c.args.candidates.now) listing _ _ _ m first (c.members.invariant.found listing is) (shown_revision c.in-Some-revision_until.revision) some until by;
     }
 
 pub returns : goal.returns
