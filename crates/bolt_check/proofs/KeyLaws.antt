@@ -24,11 +24,14 @@ by_no b h = grind arith
 pub lt_not_trans : (a b c : Key) → key_lt a b ≡ true → key_lt c b ≡ false → key_lt a c ≡ true
 lt_not_trans a b c h k = by_no (key_lt a c) (λ f. both_ways (key_lt a b) (order.chain a c b f k) h)
 
+pub lt_not_back : (a b : Key) → key_lt a b ≡ true → key_lt b a ≡ false
+lt_not_back a b h = order.one_way a b h
+
 pub lt_trans : (a b c : Key) → key_lt a b ≡ true → key_lt b c ≡ true → key_lt a c ≡ true
-lt_trans a b c h k = lt_not_trans a b c h (order.one_way b c k)
+lt_trans a b c h k = lt_not_trans a b c h (lt_not_back b c k)
 
 pub lt_strict : (a b : Key) → key_lt a b ≡ true → key_lt b a ≡ true → ⊥
-lt_strict a b h k = both_ways (key_lt b a) (order.one_way a b h) k
+lt_strict a b h k = both_ways (key_lt b a) (lt_not_back a b h) k
 
 pub above_more : (before : Option Key) (a b : Key) → is_above before a ≡ true → key_lt a b ≡ true → is_above before b ≡ true
 above_more before a b e h = grind (arith, lt_trans)

@@ -1,7 +1,7 @@
 -- That the tests of the keys find nothing, in the words of the shape.
-use Rattle.std.proofs.Common.{◌≡◌, ℕ, zero, suc, Bool, true, not, if◌then◌else◌, List, [], ◌∷◌, Option, Some, None, slice_get, refl, arith}
+use Rattle.std.proofs.Common.{◌≡◌, ℕ, zero, suc, Bool, true, false, not, if◌then◌else◌, List, [], ◌∷◌, Option, Some, None, slice_get, refl, arith}
 use Rattle.bolt_check.proofs.Words.{first_of-none, is_above, is_below, is_from, Key, key_lt, keys_order_fault, none-some}
-use Rattle.bolt_check.proofs.KeyLaws.{above_more}
+use Rattle.bolt_check.proofs.KeyLaws.{above_more, from_more, lt_not_back}
 use Rattle.bolt_check.specs.Keys.{KeysRise, key_order_fault}
 use Rattle.bolt_check.specs.declared.finding.TheConstants.Finding.{ORDER, BELOW_PARENT, ABOVE_NEXT}
 
@@ -43,3 +43,23 @@ key_passes before lower upper (p ∷ keys) rise each =
     key_passes (Some p) lower upper keys (λ i j a b lt g h. rise (suc i) (suc j) a b (omega arith) g h)
     (λ j q g. (rise 0 (suc j) p q (omega arith) refl g, (each (suc j) q g).1, (each (suc j) q g).2)) in
     rw (o, r) refl
+
+-- the next key needs no test against the lower bound, if the preceding one passed it
+next_from : (lower upper : Option Key) (p q : Key) (keys : List Key) → is_from lower p ≡ true
+    → (is_from lower q ≡ true → keys_order_fault (Some q) lower upper keys ≡ keys_order_fault (Some q) None upper keys)
+    → (b : Bool) → key_lt p q ≡ b → keys_order_fault (Some p) lower upper (q ∷ keys) ≡ keys_order_fault (Some p) None upper (q ∷ keys)
+next_from lower upper p q keys from rest false falls = rw falls refl
+next_from lower upper p q keys from rest true rises =
+    let above = from_more lower p q from (lt_not_back p q rises) in
+    rw (rises, above, rest above) refl
+
+lower_once : (lower upper : Option Key) (p : Key) (keys : List Key) → is_from lower p ≡ true → keys_order_fault (Some p) lower upper keys ≡ keys_order_fault (Some p) None upper keys
+lower_once lower upper p [] from = refl
+lower_once lower upper p (q ∷ keys) from = next_from lower upper p q keys from (lower_once lower upper q keys) (key_lt p q) refl
+
+-- after a key that passes its tests those after it tell, and they need no lower bound
+pub key_passed : (before lower upper : Option Key) (key : Key) (keys : List Key) → key_order_fault before lower upper key ≡ None
+    → keys_order_fault before lower upper (key ∷ keys) ≡ keys_order_fault (Some key) None upper keys
+key_passed before lower upper key keys passes =
+    let from = (three_none ORDER BELOW_PARENT ABOVE_NEXT (is_above before key) (is_from lower key) (is_below upper key) passes).1 in
+    rw passes (lower_once lower upper key keys from)

@@ -116,10 +116,13 @@ fn test_keys(node: &TreePage<'_>, lower: Option<&[u8]>, upper: Option<&[u8]>) ->
         ≡ keys_order_fault None (bound_of lower.entry) (bound_of upper.entry) (page_keys node.now) }
 {
     let mut before: Option<&[u8]> = None;
+    let mut from = lower;
     for i in 0..node.count() {
         let key = node.key(i);
-        test_key(before, lower, upper, key)?;
+        test_key(before, from, upper, key)?;
         before = Some(key);
+        // The next ones are above this one, so they aren't below the lower bound.
+        from = None;
     }
     Ok(())
 }

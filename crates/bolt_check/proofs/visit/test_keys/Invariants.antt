@@ -7,4 +7,4 @@ use Rattle.bolt_check.proofs.visit.test_keys.Given as goal
 abbrev pub invariant-loop-i : goal.invariant-loop-i
 invariant-loop-i l =
     let keys = page_keys l.node in
-    keys_order_fault (bound_of l.before) (bound_of l.lower) (bound_of l.upper) (drop l.i keys) ≡ keys_order_fault None (bound_of l.lower) (bound_of l.upper) keys
+    keys_order_fault (bound_of l.before) (bound_of l.from) (bound_of l.upper) (drop l.i keys) ≡ keys_order_fault None (bound_of l.lower) (bound_of l.upper) keys
