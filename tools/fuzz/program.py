@@ -48,7 +48,11 @@ LOSSES = rb"(?:%b)+" % LOSS
 FOUND = rb"(?:page \d+: nothing leads to it; found: \d+ entries, \d+ of them buckets, keys from [0-9a-f]+ to [0-9a-f]+\n)*"
 FINDINGS = rb"(?:%b\n)+\d+ errors found\n" % FINDING
 META_FAULT = rb"file too short|invalid database|version mismatch|checksum error|page size refused"
-OTHER_META = rb"meta [01]: (?:%b)\n" % META_FAULT
+META_LINE = rb"meta [01]: (?:%b)" % META_FAULT
+OTHER_META = META_LINE + rb"\n"
+# What the output of a recovery may lack.
+SHORTFALL = rb"(?:pages lost: [1-9]\d*(?:; %b)?|%b)" % (META_LINE, META_LINE)
+MAYBE_LOST = rb"(?:; %b)?" % SHORTFALL
 REFUSED = rb"file refused: " + FINDING
 REVISION = rb"revisions? \d+(?:\.\d+)?"
 STORE_FAULT = (
@@ -60,9 +64,9 @@ STORE_FAULT = (
 FAULTS = {
     "page": FINDING,
     "pages": REFUSED,
-    "buckets": REFUSED + rb"|bucket not found(?:; pages lost: \d+)?",
-    "keys": REFUSED + rb"|bucket not found(?:; pages lost: \d+)?",
-    "get": REFUSED + rb"|(?:bucket|key) not found(?:; pages lost: \d+)?",
+    "buckets": REFUSED + rb"|bucket not found" + MAYBE_LOST,
+    "keys": REFUSED + rb"|bucket not found" + MAYBE_LOST,
+    "get": REFUSED + rb"|(?:bucket|key) not found" + MAYBE_LOST,
     "stats": REFUSED + rb"|bucket not found",
     "etcd-revisions": REFUSED + rb"|bucket not found",
     "etcd-keys": REFUSED + rb"|bucket not found|revision compacted",
@@ -74,7 +78,7 @@ FAULTS = {
 }
 
 OTHERS = rb"error: not revisions: [1-9]\d*\n"
-LOST = rb"error: pages lost: \d+\n"
+LOST = rb"error: %b\n" % SHORTFALL
 
 # What is printed with status 1, on standard output and on standard error.
 FAILED = {
@@ -86,11 +90,11 @@ FAILED = {
     "check --all": (rb"(?:%b)?(?:%b|%b\d+ errors found\n)|%b\d+ errors found\n" % (OTHER_META, FINDINGS, LOSSES, OTHER_META), b""),
     **{f"{command} --recover": (rb"(?s:.*)", LOST) for command in ("buckets", "keys", "get")},
     "list --recover": (TEXTS["list"] + b"|" + JSON_TEXTS["list"], LOST),
-    "compact --recover": (rb"(?:%b\n)?(?:%b)?%b" % (BAD_HASH, LOSSES, TEXTS["compact"]), b""),
+    "compact --recover": (rb"(?:%b\n)?(?:%b)?(?:%b)?%b" % (BAD_HASH, OTHER_META, LOSSES, TEXTS["compact"]), b""),
     "check --lost-and-found": (rb"(?:%b)?(?:%b|%b%b\d+ errors found\n)|%b\d+ errors found\n" % (OTHER_META, FINDINGS, LOSSES, FOUND, OTHER_META), b""),
     "list --lost-and-found": (TEXTS["list"], LOST),
-    "etcd-repair": (rb"(?:%b\n)?(?:%b)?\d+ revisions put back, \d+ left out\n%b" % (BAD_HASH, LOSSES, TEXTS["compact"]), b""),
-    "compact --lost-and-found": (rb"(?:%b\n)?(?:%b)?%b%b" % (BAD_HASH, LOSSES, FOUND, TEXTS["compact"]), b""),
+    "etcd-repair": (rb"(?:%b\n)?(?:%b)?(?:%b)?\d+ revisions put back, \d+ left out\n%b" % (BAD_HASH, OTHER_META, LOSSES, TEXTS["compact"]), b""),
+    "compact --lost-and-found": (rb"(?:%b\n)?(?:%b)?(?:%b)?%b%b" % (BAD_HASH, OTHER_META, LOSSES, FOUND, TEXTS["compact"]), b""),
 }
 
 

@@ -6,7 +6,7 @@ import re
 from found import compare_found, compare_repaired
 from listings import paths_between
 from options import buckets_of, lines_of_json, part_of
-from program import want
+from program import Result, want
 from recovered_buckets import compare_recovered_buckets
 from results import File, entries_of, info_of, read, rows_of, word_of, words_of
 from snapshots import compare_hash, compare_snapshot
@@ -198,14 +198,25 @@ def compare_all(file, slot, checked):
     want((result.status, result.out, result.err) == (1, wanted, b""), "check --all, whose other meta is damaged:", result)
 
 
+def with_older_state(listed, line):
+    """What `list --recover` does without --meta, if the other meta is damaged, as this line says. It is as under the meta
+    that is named, but for what is reported."""
+    if listed.err.startswith(b"error: pages lost: "):
+        return Result(1, listed.out, listed.err[:-1] + b"; " + line)
+    return listed if listed.err else Result(1, listed.out, b"error: " + line)
+
+
 def compare_active(file, slot, checked):
-    """Without --meta the active meta is used."""
+    """Without --meta the active meta is used. It is reported if the other one is damaged."""
     compare_all(file, slot, checked)
-    listed = file.run("list", "--recover")
-    want(same(listed, file.run("list", "--recover", "--meta", slot)), "list --recover:", listed)
+    other = file.run("info", "--meta", 1 - slot)
+    line = b"" if other.is_ok() else b"meta %d: " % (1 - slot) + other.err.removeprefix(b"error: ")
+    listed, under = file.run("list", "--recover"), file.run("list", "--recover", "--meta", slot)
+    want(same(listed, with_older_state(under, line) if line else under), "list --recover:", listed)
     copied, copy = recover_copy(file, [])
-    other, under_slot = recover_copy(file, ["--meta", slot], "other.db")
-    want(same(copied, other) and read(copy) == read(under_slot), "compact --recover:", copied)
+    under, copy_under = recover_copy(file, ["--meta", slot], "other.db")
+    wanted = under if under.err or not line else Result(1, line + under.out, b"")
+    want(same(copied, wanted) and read(copy) == read(copy_under), "compact --recover:", copied)
 
 
 def compare_recovery(file, checked):

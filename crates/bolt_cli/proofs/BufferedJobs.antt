@@ -1,6 +1,6 @@
 -- What a job does, whatever its standard output and its target are.
 use Rattle.std.proofs.Common.{◌≡◌, ◌<◌, ◌∙◌, ap, inl, inr, ℕ, List, [], Option, None, Some, Bool, length, refl, subst, sym}
-use Rattle.bolt_cli.proofs.Vocabulary.{Answer, CopiesUnless, Does, DoesJob, Ending, Extent, Ghosts, Job, Layout, MakesCopy, Member, MetaChoice, PageSize, WritesCopy, WritesRestored, copy_page_size, copy_report, done, bad_hash, buffered_failures, buffered_of, buffered_text, hash_refusal, layout_of_listing, lengths_line, repair_report, target_name, text_members, ∥∥₁_map}
+use Rattle.bolt_cli.proofs.Vocabulary.{Answer, CopiesUnless, Does, DoesJob, Ending, Extent, Ghosts, Job, Layout, MakesCopy, Member, MetaChoice, PageSize, WritesCopy, WritesRestored, copy_page_size, copy_report, done, buffered_failures, buffered_of, buffered_text, hash_refusal, layout_of_listing, lengths_line, repair_report, target_name, text_members, ∥∥₁_map}
 use Rattle.bolt_job.specs.declared.job.Job.TheVariants as job
 use Rattle.bolt_layout.specs.declared.Layout.TheVariants.{Balanced}
 
@@ -52,18 +52,17 @@ module _ {O T : Type 0} (out : Ghosts O) (target : Ghosts T) (out_old out_new : 
   copied : (file : List ℕ) (choice : MetaChoice) (size : Option PageSize) (which : Layout) (snapshot : Bool) (extent : Extent) (ending : Ending)
       → MakesCopy out.taken out.failed out_old out_new target.taken target.failed target_old target_new file choice size which snapshot extent ending
       → MakesCopy buffered_text buffered_failures (buffered_of [] 0) (buffered_of text failures) target.taken target.failed target_old target_new file choice size which snapshot extent ending
-  copied file choice size which snapshot extent ending (inl (meta, listing, lost, found, read, copies)) =
-      let hash = bad_hash snapshot file in
+  copied file choice size which snapshot extent ending (inl (meta, listing, lost, found, read, faults, are, copies)) =
       let layout = layout_of_listing which (copy_page_size size meta) listing meta.root_sequence in
-      inl (meta, listing, lost, found, read, unless snapshot listing layout (copy_report hash lost found (length file)) ending (hash_refusal extent hash) copies)
+      inl (meta, listing, lost, found, read, faults, are, unless snapshot listing layout (copy_report faults lost found (length file)) ending (hash_refusal extent faults.hash) copies)
   copied file choice size which snapshot extent ending (inr (why, unread, (same, untouched_target, is))) = inr (why, unread, (untouched same, untouched_target, is))
 
   restored : (file : List ℕ) (choice : MetaChoice) (size : Option PageSize) (snapshot : Bool) (ending : Ending)
       → WritesRestored out.taken out.failed out_old out_new target.taken target.failed target_old target_new file choice size snapshot ending
       → WritesRestored buffered_text buffered_failures (buffered_of [] 0) (buffered_of text failures) target.taken target.failed target_old target_new file choice size snapshot ending
-  restored file choice size snapshot ending (meta, listing, lost, back, left_out, is, writes) =
+  restored file choice size snapshot ending (meta, listing, lost, back, left_out, is, faults, are, writes) =
       let layout = layout_of_listing Balanced (copy_page_size size meta) listing meta.root_sequence in
-      (meta, listing, lost, back, left_out, is, written snapshot listing layout (repair_report (bad_hash snapshot file) lost back left_out (length file)) ending writes)
+      (meta, listing, lost, back, left_out, is, faults, are, written snapshot listing layout (repair_report faults lost back left_out (length file)) ending writes)
 
   pub buffered_job : (file : List ℕ) (j : Job) (ending : Ending)
       → DoesJob out.taken out.failed out_old out_new target.taken target.failed target_old target_new file j ending

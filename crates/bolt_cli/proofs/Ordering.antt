@@ -168,7 +168,8 @@ module _ {T O : Type 0} (target : Ghosts T) (output : Ghosts O) where
   refuses refusal.Memory deeds code fails = said deeds code (Fails-said _ deeds code fails)
   refuses (refusal.Help text) deeds code are = prints output.taken output.failed (string_bytes text) (Ok 0) deeds code are
   refuses (refusal.Version text) deeds code are = prints output.taken output.failed (string_bytes text) (Ok 0) deeds code are
-  refuses (refusal.Usage text) deeds code (is, refused) = said deeds code (Ends-said _ deeds code is (λ none. omega (arith, refused, none)))
+  refuses (refusal.Usage text) deeds code (inl (is, refused)) = said deeds code (Ends-said _ deeds code is (λ none. omega (arith, refused, none)))
+  refuses (refusal.Usage text) deeds code (inr fails) = said deeds code (Fails-said _ deeds code fails)
   refuses (refusal.Word why) deeds code (is, refused) = said deeds code (Ends-said _ deeds code is (λ none. omega (arith, refused, none)))
 
 pub run_ordered : {T O : Type 0} (target : Ghosts T) (output : Ghosts O) → ForEachRun target output (λ deeds code. IsOrdered deeds code × MakesOfRead deeds)

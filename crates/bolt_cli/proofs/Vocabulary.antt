@@ -4,7 +4,7 @@ pub use Rattle.bolt_cli.specs.Runs.{Choose, Closes, WritesOut, Ends, Fails, Fail
 pub use Rattle.bolt_cli.specs.Runs.{buffered_failures, buffered_of, buffered_text}
 pub use Rattle.bolt_commands.specs.Answers.{Answer, CopiesUnless, Does, DoesJob, Ending, MakesCopy, WritesCopy, WritesRestored, copy_page_size, copy_report, repair_report, Reports, done, hash_refusal, lengths_line}
 pub use Rattle.bolt_commands.specs.Answers.{status_of}
-pub use Rattle.bolt_commands.specs.{Failures.failure_line, SnapshotAnswers.bad_hash}
+pub use Rattle.bolt_commands.specs.Failures.{failure_line}
 pub use Rattle.bolt_format.specs.{Sinks.AppendsPrefix, declared.sink.Sink.Ghosts}
 pub use Rattle.bolt_job.specs.declared.refusal.Refusal.TheVariants.{Help, Version}
 pub use Rattle.bolt_job.specs.{Jobs.needs_metas_alone, Jobs.target_name, LineWords.Text, declared.choices.Extent.Extent, declared.job.Job.Job}

@@ -1,12 +1,20 @@
--- Names of files in the lines of faults: docs/COMMANDS.md, "Faults".
-use Rattle.std.specs.Prelude.{ℕ, List, [], ◌∷◌, flat_map, if◌then◌else◌}
+-- Names of files, as standard error has them: docs/COMMANDS.md, "Faults".
+use Rattle.std.specs.Prelude.{◌==◌, ◌&&◌, ℕ, List, [], ◌∷◌, Bool, false, true, flat_map, not, if◌then◌else◌}
 use Rattle.std.specs.Char.{encode_utf8, is_control}
 use Rattle.std.specs.Char.Escape.{escape_default}
 use Rattle.std.specs.Str.{chars}
 
--- a control character is escaped, and any other is as it is
-abbrev pub shown_char : ℕ → List ℕ
-shown_char c = if is_control c then escape_default c else c ∷ []
+-- A control character is escaped, and any other is as it is. A line feed stays if the text has lines.
+abbrev pub shown_char : (has_lines : Bool) → ℕ → List ℕ
+shown_char has_lines c = if is_control c && not (has_lines && (c == 10)) then escape_default c else c ∷ []
 
+abbrev pub shown_text : (has_lines : Bool) → List ℕ → List ℕ
+shown_text has_lines text = flat_map encode_utf8 (flat_map (shown_char has_lines) (chars text))
+
+-- in the line of a fault
 abbrev pub shown_name : List ℕ → List ℕ
-shown_name name = flat_map encode_utf8 (flat_map shown_char (chars name))
+shown_name name = shown_text false name
+
+-- in a text of several lines
+abbrev pub shown_lines : List ℕ → List ℕ
+shown_lines text = shown_text true text

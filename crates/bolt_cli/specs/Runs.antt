@@ -5,7 +5,7 @@ use Rattle.bolt_format.specs.{Metas.IsMetasEnd, Sinks.AppendsPrefix, declared.si
 use Rattle.bolt_commands.specs.Answers.{DoesJob, Ending, status_of}
 use Rattle.bolt_job.specs.CommandLine.{Asks, IsRefusalOf}
 use Rattle.bolt_cli.specs.Deeds.{Deed, Does, Read, ReadFirst, ReadOn, Made, Ended, Opened, Closed, Dropped, Said}
-use Rattle.bolt_cli.specs.Names.{shown_name}
+use Rattle.bolt_cli.specs.Names.{shown_lines, shown_name}
 use Rattle.bolt_commands.specs.Failures.{failure_line}
 use Rattle.bolt_job.specs.LineWords.{Text}
 use Rattle.bolt_job.specs.{Jobs.needs_metas_alone, Jobs.file_name, Jobs.target_name}
@@ -101,6 +101,10 @@ module _ {T O : Type 0} where
   -- the same with a line that needs memory, or with that of memory, if there was none for the line
   abbrev pub FailsNaming : List ℕ → List (Deed T O) → ℕ → Type 0
   FailsNaming line deeds code = Fails line deeds code ⊎ Fails (failure_line Memory) deeds code
+
+  -- words are no line of a command, as this text says; or there was no memory for the text
+  abbrev pub RefusesUsage : List ℕ → List (Deed T O) → ℕ → Type 0
+  RefusesUsage text deeds code = (Ends (shown_lines text) deeds × (code ≡ 2)) ⊎ Fails (failure_line Memory) deeds code
 
   -- OUT isn't on the disk after a job that ended so
   abbrev pub FailsUnended : Ending → List (Deed T O) → ℕ → Type 0
@@ -198,7 +202,7 @@ module _ {T O : Type 0} (target : Ghosts T) (output : Ghosts O) where
   Refuses refusal.Memory deeds code = Fails (failure_line Memory) deeds code
   Refuses (refusal.Help text) deeds code = PrintsText output.taken output.failed (string_bytes text) (Ok 0) deeds code
   Refuses (refusal.Version text) deeds code = PrintsText output.taken output.failed (string_bytes text) (Ok 0) deeds code
-  Refuses (refusal.Usage text) deeds code = Ends (string_bytes text) deeds × (code ≡ 2)
+  Refuses (refusal.Usage text) deeds code = RefusesUsage (string_bytes text) deeds code
   Refuses (refusal.Word why) deeds code = Ends (error_line why.now) deeds × (code ≡ 2)
 
   -- the words ask for a job, which is done on FILE, or they are refused

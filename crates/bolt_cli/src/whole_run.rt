@@ -5,12 +5,12 @@ ghost use Rattle.bolt_cli.specs.{Deeds.Deed, Deeds.joined, Orders.ForDeeds, Orde
 ghost use Rattle.bolt_cli.specs.Orders.{ClosesWhatIsOpened, CopiesBeforeOpening, EndsWhatIsMade, MakesAfterReading, MakesOnce, OpensOnce, ReadsFirst, SaysFailures, SaysLast, StopsAfterFailures, StopsWithoutReader, SucceedsOnlyWithoutFailures};
 ghost use Rattle.bolt_job.specs.Jobs.{target_name};
 ghost use Rattle.bolt_cli.specs.Names.{shown_name};
-ghost use Rattle.bolt_cli.specs.Runs.{Closes, DoesAsked, DoesBuffered, WritesOut, Fails, FailsNaming, Goes, IsEnded, IsBufferedLine, IsRun, IsUnprinted, Makes, PrintsText, Reads, ReadsMetas, ReadsRest, Refuses, Shows, FailsUnended};
+ghost use Rattle.bolt_cli.specs.Runs.{Closes, DoesAsked, DoesBuffered, WritesOut, Fails, FailsNaming, Goes, IsEnded, IsBufferedLine, IsRun, IsUnprinted, Makes, PrintsText, Reads, ReadsMetas, ReadsRest, Refuses, RefusesUsage, Shows, FailsUnended};
 ghost use Rattle.bolt_cli.specs.Runs.{buffered_of, unmade_line, unread_line};
 ghost use Rattle.bolt_commands.specs.declared.failure.Failure.TheVariants.{Memory};
 ghost use Rattle.bolt_cli.specs.Deeds.{Does};
 
-use crate::names::shown_name;
+use crate::names::{shown_lines, shown_name};
 use crate::outside::{CreateFault, EndFault, OutputFault, Outside, ReadFault, Source};
 use bolt_commands::run;
 use bolt_format::{META_LEN, MemSink, Sink, metas_end};
@@ -37,26 +37,36 @@ pub fn run_program<O: Outside>(outside: &mut O, alloc: Global, words: Vec<String
 {
     match read_words(alloc, words) {
         Ok(job) => do_asked(outside, alloc, &job),
-        Err(refusal) => refuse(outside, &refusal),
+        Err(refusal) => refuse(outside, alloc, &refusal),
     }
 }
 
 /// Prints why the words are no job, and returns the status.
-pub fn refuse<O: Outside>(outside: &mut O, refusal: &Refusal) -> u8
+pub fn refuse<O: Outside>(outside: &mut O, alloc: Global, refusal: &Refusal) -> u8
     ensures { Does O.done outside.old outside.new result
         (Refuses O.Target.Sink O.Output.Sink refusal.now) }
 {
     match refusal {
         Refusal::Memory => fail(outside, &[NO_MEMORY]),
         Refusal::Help(text) | Refusal::Version(text) => print(outside, text.as_bytes(), b"", 0),
-        Refusal::Usage(text) => {
-            outside.say(&[text.as_bytes()]);
-            REFUSED
-        }
+        Refusal::Usage(text) => refuse_usage(outside, alloc, text.as_str()),
         Refusal::Word(text) => {
             outside.say(&[b"error: ", text.as_bytes(), b"\n"]);
             REFUSED
         }
+    }
+}
+
+/// Prints why the words are no line of a command. The text may have words that are names.
+fn refuse_usage<O: Outside>(outside: &mut O, alloc: Global, text: &str) -> u8
+    ensures { Does O.done outside.old outside.new result (RefusesUsage text.now) }
+{
+    match shown_lines(alloc, text) {
+        Ok(shown) => {
+            outside.say(&[shown.as_bytes()]);
+            REFUSED
+        }
+        Err(_) => fail(outside, &[NO_MEMORY]),
     }
 }
 

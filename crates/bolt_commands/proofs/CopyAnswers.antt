@@ -1,7 +1,7 @@
 -- The copy of a listing, and what is then reported of it.
 use Rattle.std.proofs.Common.{◌≡◌, ◌∙◌, ℕ, List, Bool, Option, None, Some, Result, Ok, Err, inl, inr, length, map, refl, subst}
-use Rattle.bolt_commands.proofs.Vocabulary.{Answer, BulkFault, CopiesTo, Does, Ending, EndsCopy, Failure, Ghosts, Member, WritesCopy, copied, copy_page_size}
-use Rattle.bolt_commands.proofs.Vocabulary.{CompactsTo, CopiesListing, CopiesRead, IsOpened, IsReadTo, bad_hash, copy_report, hash_refusal, LostView, OnOk, Opened, found_view, is_snapshot, opened_found, opened_lost, opened_meta}
+use Rattle.bolt_commands.proofs.Vocabulary.{Answer, AreCopyFaults, BulkFault, CopiesTo, Does, Ending, EndsCopy, Failure, FileFaults, Ghosts, Member, WritesCopy, copied, copy_page_size}
+use Rattle.bolt_commands.proofs.Vocabulary.{CompactsTo, CopiesListing, CopiesRead, IsOpened, IsReadTo, copy_report, hash_refusal, LostView, OnOk, Opened, found_view, is_snapshot, opened_found, opened_lost, opened_meta}
 use Rattle.bolt_commands.proofs.Vocabulary.{HasGoodCopies, IsAskedBlueprint, Meta, layout_for, layout_of_listing, blueprint_layout, failing, ∥∥₁_map}
 use Rattle.bolt_commands.proofs.{OpenedReads.refused_read}
 use Rattle.bolt_commands.specs.declared.failure.Failure.TheVariants.{Hash}
@@ -60,26 +60,27 @@ module _ {O T : Type 0} (out : Ghosts O) (out_old : O) {target : Ghosts T} {old 
 
 -- its hash is wrong
 pub compact_refused : {O T : Type 0} (out : Ghosts O) (out_old : O) (target : Ghosts T) (old : T) (job : CompactJob) (file : List ℕ) (o : Opened) → IsOpened job.extent file job.meta o
-    → (fault : SnapshotFault) → hash_refusal job.extent (bad_hash (is_snapshot job.kind) file) ≡ Some fault
+    → (faults : FileFaults) → AreCopyFaults job.extent (is_snapshot job.kind) file job.meta faults → (fault : SnapshotFault) → hash_refusal job.extent faults.hash ≡ Some fault
     → CompactsTo out out_old out_old target old old job file (Err (Hash fault))
-compact_refused out out_old target old job file o to fault is =
+compact_refused out out_old target old job file o to faults are fault is =
     let (meta, listing, lost, found, read) = refused_read job.extent file job.meta o to _ fault is in
-    inl (meta, listing, lost, found, read, rw is (refl, refl, refl))
+    inl (meta, listing, lost, found, read, faults, are, rw is (refl, refl, refl))
 
 module _ {O T : Type 0} (out : Ghosts O) (out_old : O) {target : Ghosts T} {old new : T} (job : CompactJob) (file : List ℕ) (before after : Opened)
-    (right : hash_refusal job.extent (bad_hash (is_snapshot job.kind) file) ≡ None) (ending : Ending) where
+    (faults : FileFaults) (are : AreCopyFaults job.extent (is_snapshot job.kind) file job.meta faults) (right : hash_refusal job.extent faults.hash ≡ None) (ending : Ending) where
   pub compact_failed : (why : Failure) → CopiesRead target old new job file before after (Err why) → ending ≡ Err why → CompactsTo out out_old out_old target old new job file ending
   compact_failed why read ends = elim read [
-    | inl (listing, lost, is, known, copy) ↦ inl (_, listing, lost, _, is, rw right (listing_failed out out_old (copy_report (bad_hash (is_snapshot job.kind) file) lost (map found_view (opened_found before)) (length file)) ending why copy ends))
+    | inl (listing, lost, is, known, copy) ↦
+        inl (_, listing, lost, _, is, faults, are, rw right (listing_failed out out_old (copy_report faults lost (map found_view (opened_found before)) (length file)) ending why copy ends))
     | inr (reason, unread, untouched, same) ↦ inr (reason, unread, (refl, untouched, ends ∙ same))
   ]
 
   pub compact_done : {out_new : O} (count : ℕ) → CopiesRead target old new job file before after (Ok count)
-      → Does out.taken out.failed out_old out_new (copy_report (bad_hash (is_snapshot job.kind) file) (opened_lost after) (map found_view (opened_found before)) (length file) count) ending
+      → Does out.taken out.failed out_old out_new (copy_report faults (opened_lost after) (map found_view (opened_found before)) (length file) count) ending
       → CompactsTo out out_old out_new target old new job file ending
   compact_done count read does = elim read [
     | inl (listing, lost, is, known, copy) ↦
         let told : opened_lost after ≡ lost = known in
-        inl (_, listing, lost, _, is, rw right (listing_done out out_old (copy_report (bad_hash (is_snapshot job.kind) file) lost (map found_view (opened_found before)) (length file)) ending count copy (rw told at does)))
+        inl (_, listing, lost, _, is, faults, are, rw right (listing_done out out_old (copy_report faults lost (map found_view (opened_found before)) (length file)) ending count copy (rw told at does)))
     | inr (reason, unread, untouched, same) ↦ absurd (cc)
   ]

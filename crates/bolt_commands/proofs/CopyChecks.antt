@@ -1,7 +1,7 @@
 -- What `check` answers to a good copy, and to its proper prefixes.
 use Rattle.std.proofs.Common.{◌≡◌, ◌≢◌, ◌∙◌, ◌&&◌, ◌⊎◌, ◌∷◌, ◌<◌, ℕ, List, [], Bool, true, false, IsTrue, Option, None, Some, Ok, ap, codes, inl, inr, length, refl}
 use Rattle.std.proofs.Common.{subst, sym, take}
-use Rattle.bolt_commands.proofs.Vocabulary.{Active, Answer, AnswersLost, AreLosses, CheckFault, Extent, FileFaults, First, HasBothMetas, HasSoundTrees, IsCheckAnswer, IsCheckAnswerAfter, IsActive, IsFoundAnswer, IsGoodCopy, IsLostAnswer, IsMetaOf, IsMetasFault, IsOtherFault, IsSnapshot, IsSound, LossView, Losses, Member, Meta, MetaFault, Site, RefusesFile, Slot, cases_lt, check_refusal, copy_of, done, found, hash_fault, hash_found, loss_at, losses_of, none_found, site_at, refused}
+use Rattle.bolt_commands.proofs.Vocabulary.{Active, Answer, AnswersLost, AreLosses, CheckFault, Extent, FileFaults, First, HasBothMetas, HasSoundTrees, IsCheckAnswer, IsCheckAnswerAfter, IsActive, IsFoundAnswer, IsGoodCopy, IsLostAnswer, IsMetaOf, IsMetasFault, IsSnapshot, IsSound, LossView, Losses, Member, Meta, MetaFault, Site, RefusesFile, Slot, cases_lt, check_refusal, copy_of, done, found, hash_fault, hash_found, loss_at, losses_of, none_found, site_at, refused}
 use Rattle.bolt_commands.proofs.Vocabulary.{everything, has_losses, parts}
 use Rattle.bolt_check.specs.declared.fault.CheckFault.TheVariants as check
 use Rattle.bolt_etcd.specs.declared.snapshot.SnapshotFault.{SnapshotFault}
@@ -9,7 +9,7 @@ use Rattle.bolt_etcd.proofs.SnapshotLemmas.{no_fault_iff}
 use Rattle.bolt_recover.specs.Surveys.{ForSurveys, LosesNothing, SurveyedWay}
 use Rattle.bolt_job.specs.declared.choices.Extent.TheVariants.{LostAndFound}
 use Rattle.bolt_commands.specs.declared.failure.Failure.TheVariants as failure
-use Rattle.bolt_commands.proofs.ReadFiles.{read_active, refused_active}
+use Rattle.bolt_commands.proofs.{OtherMetas.no_other, ReadFiles.read_active, ReadFiles.refused_active}
 use Rattle.bolt_commands.proofs.SoundReads.{NamesOne, keeps_not_loses, unread}
 use Rattle.bolt_commands.specs.{Answers.AreFoundFor, Answers.all_found, FileFaults.is_fine}
 use Rattle.bolt_check.specs.declared.finding.Finding.{Finding}
@@ -41,11 +41,6 @@ no_faults = record { hash = None; other = None }
 no_hash_fault : (snapshot : Bool) (file : List ℕ) → (IsTrue snapshot → IsSnapshot file) → hash_found snapshot file ≡ None
 no_hash_fault false file hash = refl
 no_hash_fault true file hash = (no_fault_iff file (hash_fault file) refl).1 (hash refl)
-
-no_other : (file : List ℕ) → HasBothMetas file → (other : Option (Slot × MetaFault)) → IsOtherFault file other → other ≡ None
-no_other file both None is = refl
-no_other file both (Some (other, fault)) (inl (slot, meta, chosen, (same, has, none))) = let (unused, valid) = both other in absurd (none unused valid)
-no_other file both (Some found) (inr (none, same)) = same
 
 no_other_fault : (extent : Extent) (file : List ℕ) → HasBothMetas file → (other : Option (Slot × MetaFault)) → IsMetasFault extent file Active other → other ≡ None
 no_other_fault First file both other is = is

@@ -17,7 +17,8 @@ pub mod LookUps
 pub mod LostAnswers
 pub mod NeededBytes
 pub mod OpenedReads
-pub mod PageAnswers
+pub mod OtherMetas
+mod PageAnswers
 pub mod ReadFiles
 pub mod RecoveredAnswers
 pub mod RepairAnswers

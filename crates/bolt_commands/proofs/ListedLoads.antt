@@ -65,7 +65,7 @@ module _ (below : Below) where
 
     pub listed_loads : (file : List ℕ) (choice : MetaChoice) (answer : Answer) → IsBytes file → IsListedAnswer First file choice Hex [] [] answer → answer.ending ≡ Ok 0
         → (meta : Meta) × (listing : List Member) × IsReadUnder file choice meta × IsListing file meta listing × Told listing answer.out
-    listed_loads file choice answer bytes (inl (meta, listing, lost, found, (under, lists, none, unfound), ended)) good =
+    listed_loads file choice answer bytes (inl (meta, listing, lost, found, (under, lists, none, unfound), lacking, why, ended)) good =
         let one = below.one_tree file meta listing bytes (read_trees file choice meta under) lists in
         let own = below.of_bytes file meta listing bytes lists in
         let loads = subst (Told listing) (sym (printed listing _ answer ended good)) (told_of listing one lists.rises own) in

@@ -1,8 +1,8 @@
 -- What is answered of what is recovered of a bucket or at a path.
 use Rattle.std.proofs.Common.{◌≡◌, ◌⊎◌, ℕ, Bool, Err, IfErr, IfOk, List, None, Ok, Option, Result, Some, inl, inr, refl, subst, if◌then◌else◌}
 use Rattle.std.specs.{Borrow.Bor, Option.IfNone, Prelude.IfSome}
-use Rattle.bolt_commands.proofs.Vocabulary.{AreLosses, Contains, Ending, Failure, ForLosses, Ghosts, IsErrAnd, IsRecovered, IsRecoveryOf, Json, LossView, LostView, MayFail, Member, MetaChoice, OnOk, Path}
-use Rattle.bolt_commands.proofs.Vocabulary.{PrintsAnswer, ReportFault, Rises, Value, Wrote, end_of, has_bucket, has_losses, has_recovered, lost_ending, member_cmp, parts, path_in, recovery_file, recovery_left, recovery_meta, report_ending, reported, value_shown}
+use Rattle.bolt_commands.proofs.Vocabulary.{AreLosses, Contains, Ending, Failure, ForLosses, Ghosts, IsErrAnd, IsRecovered, IsRecoveryOf, Json, IsMetasFault, LossView, Losses, MayFail, Member, MetaChoice, MetaFault, OnOk, Path, Shortfall, Slot}
+use Rattle.bolt_commands.proofs.Vocabulary.{PrintsAnswer, ReportFault, Rises, Value, Wrote, end_of, has_bucket, has_losses, has_recovered, lost_ending, member_cmp, parts, path_in, recovery_file, recovery_left, recovery_meta, report_ending, reported, shortfall, value_shown}
 use Rattle.bolt_check.specs.declared.fault.CheckFault.TheVariants as check
 use Rattle.bolt_commands.specs.Answers.{Answer, IsNamesAnswer, IsRecoveredAnswer, IsRecoveredValue, names_ending, no_bucket, no_key, no_value}
 use Rattle.bolt_commands.specs.Private.Recovered.{HoldsNow, bucket_ending, value_or_why}
@@ -16,27 +16,27 @@ use Rattle.bolt_text.specs.declared.forms.Form.{Form}
 use Rattle.bolt_text.specs.declared.fault.ReportFault.TheVariants as report
 
 -- memory may run out of any file before anything is written
-pub recovered_none : {S : Type 0} {sink : Ghosts S} {old : S} (file : List ℕ) (choice : MetaChoice) (IsWanted : List Member → LostView → Answer → Type 0) (result : Ending)
+pub recovered_none : {S : Type 0} {sink : Ghosts S} {old : S} (file : List ℕ) (choice : MetaChoice) (IsWanted : List Member → Option Shortfall → Answer → Type 0) (result : Ending)
     → IsErrAnd result (λ said. said ≡ Memory) → PrintsAnswer sink old old (IsRecoveredAnswer file choice IsWanted) result
 recovered_none file choice IsWanted result said = answer_nothing Memory result (inr (Memory, (check.Memory, tt, refl), refl)) said
 
-ended_so : (path : Path) (found : Bool) (listing : List Member) (after losses : List LossView) → found ≡ has_bucket path listing → after ≡ losses
-    → names_ending path listing (parts losses) ≡ bucket_ending found (parts after)
-ended_so path found listing after losses is lost = rw (is, lost) refl
+ended_so : (path : Path) (found : Bool) (listing : List Member) (after losses : List LossView) (other : Option (Slot × MetaFault)) → found ≡ has_bucket path listing → after ≡ losses
+    → names_ending path listing (shortfall (parts losses) other) ≡ bucket_ending found (shortfall (parts after) other)
+ended_so path found listing after losses other is lost = rw (is, lost) refl
 
-module _ {file : List ℕ} {choice : MetaChoice} (r : Recovery) (of : IsRecoveryOf file choice r) where
-  -- what is wanted of the recovered listing and of all losses
-  pub of_recovery : {S : Type 0} {sink : Ghosts S} {old new : S} (IsWanted : List Member → LostView → Answer → Type 0) (result : Ending)
+module _ {file : List ℕ} {choice : MetaChoice} (r : Recovery) (of : IsRecoveryOf file choice r) (other : Option (Slot × MetaFault)) (shown : IsMetasFault Losses file choice other) where
+  -- what is wanted of the recovered listing and of what it lacks
+  pub of_recovery : {S : Type 0} {sink : Ghosts S} {old new : S} (IsWanted : List Member → Option Shortfall → Answer → Type 0) (result : Ending)
       (listing : List Member) → IsRecovered file (recovery_meta r) listing → (losses : List LossView) → AreLosses file (recovery_meta r) losses
-      → PrintsAnswer sink old new (IsWanted listing (parts losses)) result → PrintsAnswer sink old new (IsRecoveredAnswer file choice IsWanted) result
+      → PrintsAnswer sink old new (IsWanted listing (shortfall (parts losses) other)) result → PrintsAnswer sink old new (IsRecoveredAnswer file choice IsWanted) result
   of_recovery IsWanted result listing is losses are put =
-      answer_as put (λ answer wanted. inl (recovery_meta r, listing, parts losses, recovered_read r (refl, of) is are, wanted))
+      answer_as put (λ answer wanted. inl (recovery_meta r, listing, parts losses, recovered_read r (refl, of) is are, shortfall (parts losses) other, (other, shown, refl), wanted))
 
   -- ---- the names in a bucket
 
   -- how the job ends
   abbrev pub end_of_names : Result Bool ReportFault → List LossView → Ending
-  end_of_names (Ok found) losses = bucket_ending found (parts losses)
+  end_of_names (Ok found) losses = bucket_ending found (shortfall (parts losses) other)
   end_of_names (Err e) losses = Err (reported e)
 
   abbrev Lists : List Member → Type 0
@@ -55,30 +55,30 @@ module _ {file : List ℕ} {choice : MetaChoice} (r : Recovery) (of : IsRecovery
         let all = of.all own is in
         let wrote = rw all at (puts own here (rw all is.rises)) in
         let has = rw all at (knows own here) in
-        let put = ended_put {A = Bool} (names_text form wanted path own) (names_ending path own (parts losses)) (Ok found) wrote tt in
+        let put = ended_put {A = Bool} (names_text form wanted path own) (names_ending path own (shortfall (parts losses) other)) (Ok found) wrote tt in
         of_recovery (IsNamesAnswer form wanted path) _ own is losses are
-        (subst (λ (e : Ending). PrintsAnswer sink old new (IsNamesAnswer form wanted path own (parts losses)) e) (ended_so path found own after losses has (known losses (rw of.bytes are))) put)
+        (subst (λ (e : Ending). PrintsAnswer sink old new (IsNamesAnswer form wanted path own (shortfall (parts losses) other)) e) (ended_so path found own after losses other has (known losses (rw of.bytes are))) put)
     names_answered (Err e) fault puts knows after known =
         let (own, is) = has_recovered file (recovery_meta r) in
         let (losses, are) = has_losses file (recovery_meta r) in
         let here : Lists own = rw of.bytes is in
         let all = of.all own is in
         let wrote = rw all at (puts own here (rw all is.rises)) in
-        of_recovery (IsNamesAnswer form wanted path) _ own is losses are (ended_put {A = Bool} (names_text form wanted path own) (names_ending path own (parts losses)) (Err e) wrote fault)
+        of_recovery (IsNamesAnswer form wanted path) _ own is losses are (ended_put {A = Bool} (names_text form wanted path own) (names_ending path own (shortfall (parts losses) other)) (Err e) wrote fault)
 
 -- ---- the value at a path
 
-known_value : (value : Option (Bor (List ℕ))) (has : Bool) (lost : LostView) (P : Bor (List ℕ) → Type 0) (there : Bor (List ℕ)) → IfSome value P
+known_value : (value : Option (Bor (List ℕ))) (has : Bool) (lost : Option Shortfall) (P : Bor (List ℕ) → Type 0) (there : Bor (List ℕ)) → IfSome value P
     → Ok there ≡ value_or_why value has lost → P there
 known_value (Some value) has lost P there some same = let is : there ≡ value = cc in rw is some
 known_value None has lost P there some same = absurd (cc)
 
-known_none : (value : Option (Bor (List ℕ))) (has : Bool) (lost : LostView) (N : Type 0) (why : Failure) → IfNone value N → Err why ≡ value_or_why value has lost
+known_none : (value : Option (Bor (List ℕ))) (has : Bool) (lost : Option Shortfall) (N : Type 0) (why : Failure) → IfNone value N → Err why ≡ value_or_why value has lost
     → N × (why ≡ (if has then no_key lost else no_bucket lost))
 known_none (Some value) has lost N why none same = absurd (cc)
 known_none None has lost N why none same = (none, cc)
 
-module _ (members : List Member) (path : Path) (at : AtPath) (holds : HoldsNow members path at) (lost : LostView) where
+module _ (members : List Member) (path : Path) (at : AtPath) (holds : HoldsNow members path at) (lost : Option Shortfall) where
   pub value_known : (value : Bor (List ℕ)) → Ok value ≡ value_or_why at.value at.has_bucket lost → Contains members (path, Value value.now)
   value_known value same = known_value at.value at.has_bucket lost (λ (v : Bor (List ℕ)). Contains members (path, Value v.now)) value holds.value same
 
@@ -88,7 +88,7 @@ module _ (members : List Member) (path : Path) (at : AtPath) (holds : HoldsNow m
       let (none, is) = known_none at.value at.has_bucket lost _ why holds.none same in
       (none, rw holds.bucket at is)
 
-pub value_put : {S A : Type 0} {sink : Ghosts S} {old new : S} (job : GetJob) (listing : List Member) (lost : LostView) (value : List ℕ)
+pub value_put : {S A : Type 0} {sink : Ghosts S} {old new : S} (job : GetJob) (listing : List Member) (lost : Option Shortfall) (value : List ℕ)
     → Contains listing (path_in job.path.items, Value value) → (put : Result A ReportFault) → Wrote sink old new (value_shown job.form job.no_newline value) (report_ending put)
     → HaltsShort sink old new (value_shown job.form job.no_newline value) (report_ending put)
     → IfErr put (λ e. (e ≡ report.Sink) ⊎ ((e ≡ report.NoMemory) × (job.form ≡ Json)))

@@ -1,10 +1,11 @@
 -- The copy of the repaired listing, and what is then reported of it.
 use Rattle.std.proofs.Common.{◌≡◌, ◌≢◌, ℕ, List, [], Bool, Option, Result, Err, Ok, inl, inr, length, refl, subst, sym}
 use Rattle.bolt_commands.proofs.Vocabulary.{CopiesListing, Does, Ending, Failure, Finding, Ghosts, IsAskedBlueprint, IsSearchOf, LostAndFound, Member, Meta, MetaChoice, PageSize}
-use Rattle.bolt_commands.proofs.Vocabulary.{all_lost, bad_hash, blueprint_layout, copy_page_size, everything, is_snapshot, layout_for, layout_of_listing}
+use Rattle.bolt_commands.proofs.Vocabulary.{AreCopyFaults, FileFaults, all_lost, blueprint_layout, copy_page_size, everything, is_snapshot, layout_for, layout_of_listing}
 use Rattle.bolt_commands.proofs.{CopyAnswers.copy_asked, CopyAnswers.listing_done, CopyAnswers.listing_failed}
 use Rattle.bolt_bulk.specs.declared.blueprint.Blueprint.{Blueprint}
 use Rattle.bolt_job.specs.{MetaChoices.IsMetaOf, declared.choices.CopyKind.CopyKind}
+use Rattle.bolt_job.specs.declared.choices.Extent.TheVariants.{LostAndFound as Joins}
 use Rattle.bolt_layout.specs.declared.Layout.TheVariants.{Balanced}
 use Rattle.bolt_recover.specs.Lost.{IsAllLost}
 use Rattle.bolt_etcd.specs.{FullRepairs.IsFullRepair, RepairedMerges.repair_back, RepairedMerges.repair_is_made, Repaired.IsRepaired, Repaired.repaired_listing, declared.repair.Repair.Repair}
@@ -50,7 +51,8 @@ module _ (file : List ℕ) (choice : MetaChoice) (both : LostAndFound) (repair :
 
   -- its copy is whole and reported, or it isn't whole and nothing is
   module _ {O T : Type 0} (out : Ghosts O) (out_old : O) {target : Ghosts T} {old new : T} (kind : CopyKind) (size : Option PageSize) (snapshot : Bool) (blueprint : Blueprint)
-      (same_kind : is_snapshot kind ≡ snapshot) (layout : layout_for kind ≡ Balanced) (asked : IsAskedBlueprint kind size both.meta blueprint) (ending : Ending) where
+      (same_kind : is_snapshot kind ≡ snapshot) (layout : layout_for kind ≡ Balanced) (asked : IsAskedBlueprint kind size both.meta blueprint)
+      (faults : FileFaults) (are : AreCopyFaults Joins snapshot file choice faults) (ending : Ending) where
     copy_of_repaired : (result : Result ℕ Failure) → CopiesListing target old new (blueprint_layout blueprint the_repaired) the_repaired (is_snapshot kind) result
         → CopiesListing target old new (layout_of_listing Balanced (copy_page_size size both.meta) the_repaired both.meta.root_sequence) the_repaired snapshot result
     copy_of_repaired result copy = listing_asked kind size both.meta blueprint result layout asked (rw same_kind at copy)
@@ -58,12 +60,12 @@ module _ (file : List ℕ) (choice : MetaChoice) (both : LostAndFound) (repair :
     pub repair_failed : (why : Failure) → CopiesListing target old new (blueprint_layout blueprint the_repaired) the_repaired (is_snapshot kind) (Err why) → ending ≡ Err why
         → WritesRestored out.taken out.failed out_old out_old target.taken target.failed old new file choice size snapshot ending
     repair_failed why copy ends =
-        let report = repair_report (bad_hash snapshot file) (all_lost both) back repair.left_out (length file) in
-        (both.meta, the_repaired, all_lost both, back, repair.left_out, is_restored, listing_failed out out_old report ending why (copy_of_repaired (Err why) copy) ends)
+        let report = repair_report faults (all_lost both) back repair.left_out (length file) in
+        (both.meta, the_repaired, all_lost both, back, repair.left_out, is_restored, faults, are, listing_failed out out_old report ending why (copy_of_repaired (Err why) copy) ends)
 
     pub repair_done : {out_new : O} (count : ℕ) → CopiesListing target old new (blueprint_layout blueprint the_repaired) the_repaired (is_snapshot kind) (Ok count)
-        → Does out.taken out.failed out_old out_new (repair_report (bad_hash snapshot file) (all_lost both) back repair.left_out (length file) count) ending
+        → Does out.taken out.failed out_old out_new (repair_report faults (all_lost both) back repair.left_out (length file) count) ending
         → WritesRestored out.taken out.failed out_old out_new target.taken target.failed old new file choice size snapshot ending
     repair_done count copy does =
-        let report = repair_report (bad_hash snapshot file) (all_lost both) back repair.left_out (length file) in
-        (both.meta, the_repaired, all_lost both, back, repair.left_out, is_restored, listing_done out out_old report ending count (copy_of_repaired (Ok count) copy) does)
+        let report = repair_report faults (all_lost both) back repair.left_out (length file) in
+        (both.meta, the_repaired, all_lost both, back, repair.left_out, is_restored, faults, are, listing_done out out_old report ending count (copy_of_repaired (Ok count) copy) does)

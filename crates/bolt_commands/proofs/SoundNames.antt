@@ -1,12 +1,14 @@
 -- With sound trees, `keys`, `buckets` and `get` print with `--recover` what they print without it.
-use Rattle.std.proofs.Common.{◌≡◌, ◌≢◌, ◌∙◌, ◌↔◌, ◌⊎◌, ◌-◌, arith, ℕ, Bool, true, false, List, [], ◌∷◌, Err, ap, filter, inl, inr, length, refl, subst, take}
-use Rattle.bolt_commands.proofs.Vocabulary.{Active, Answer, CheckFault, Contains, Failure, HasSoundTrees, HoldsIn, HoldsNone, Holds, IsEntriesAnswer, IsEntry, IsFailureOf, IsListing, IsMetaOf, IsReadAnswer, Key, LeadsTo, LeafElement, LostView, Member, Meta, MetaChoice, Names, Path, Root_page, Start, Value, has_bucket, has_listing, item_of, keys_text, parents_of, path_in, props, refused, start_of, ∥∥₁_elim}
+use Rattle.std.proofs.Common.{◌≡◌, ◌≢◌, ◌∙◌, ◌↔◌, ◌⊎◌, ◌-◌, arith, ℕ, Bool, true, false, List, [], ◌∷◌, Err, None, Option, ap, filter, inl, inr, length, refl, subst, take}
+use Rattle.bolt_commands.proofs.Vocabulary.{Active, Answer, CheckFault, Contains, Failure, HasSoundTrees, HoldsIn, HoldsNone, Holds, IsEntriesAnswer, IsEntry, IsFailureOf, IsListing, IsMetaOf, IsReadAnswer, Key, LeadsTo, LeafElement, Member, Meta, MetaChoice, Names, Path, Root_page, Shortfall, Start, Value, has_bucket, has_listing, item_of, keys_text, parents_of, path_in, props, refused, start_of, ∥∥₁_elim}
 use Rattle.bolt_commands.specs.Answers.{IsGetAnswer, IsNamesAnswer, IsRecoveredAnswer, IsRecoveredValue, no_value}
 use Rattle.bolt_check.specs.declared.fault.CheckFault.TheVariants as check
 use Rattle.bolt_commands.specs.declared.failure.Failure.TheVariants as failure
 use Rattle.bolt_commands.proofs.{EntryNames.names_are_keys, ListedBuckets.has_named, ListedBuckets.named_has, ListedBuckets.none_named, ReadFiles.read_meta}
 use Rattle.bolt_commands.proofs.{SoundReads.keeps_root, SoundReads.unread, SoundReads.unrecovered}
+use Rattle.bolt_commands.proofs.OtherMetas.{no_hidden, none_hidden}
 use Rattle.bolt_commands.proofs.SoundRecovery.{Below, names_one, no_losses, recovers_alike, under}
+use Rattle.bolt_commands.specs.Alike.{HidesNoState}
 use Rattle.bolt_job.specs.declared.bucket_commands.GetJob.{GetJob}
 use Rattle.bolt_recover.specs.Losses.{parts}
 use Rattle.bolt_report.specs.MemberNames.{Wanted}
@@ -21,7 +23,7 @@ memory_fails fault why same of = subst (λ (f : CheckFault). IsFailureOf f why) 
 module _ (file : List ℕ) (meta : Meta) (trees : HasSoundTrees file meta) (listing : List Member) (lists : IsListing file meta listing) (answer : Answer) where
   module _ (form : Form) (want : Wanted) (is_named : LeafElement → Bool) (same : (e : LeafElement) → want e.key (item_of e) ≡ is_named e) (path : Path) where
     abbrev IsNames : Type 0
-    IsNames = IsNamesAnswer form want path listing (parts []) answer
+    IsNames = IsNamesAnswer form want path listing None answer
 
     abbrev IsKeys : Type 0
     IsKeys = IsEntriesAnswer file path form (λ entries. keys_text form (filter is_named entries)) meta answer
@@ -63,7 +65,7 @@ module _ (file : List ℕ) (meta : Meta) (listing : List Member) (lists : IsList
   IsWhy path reason = HoldsNone file path meta reason
 
   why_there : (path : Path) → ((value : List ℕ) → Contains listing (path, Value value) → ⊥) → (has : Bool) → has_bucket (parents_of path) listing ≡ has
-      → IsWhy path (no_value path listing (parts []))
+      → IsWhy path (no_value path listing None)
   why_there path none true e =
       let (bucket, leads) = named_has file meta listing lists (parents_of path) e in
       rw e (inl (refl, (λ value held. none value ((lists.exact path (Value value)).1 held)), (bucket, ∣ leads ∣₁)))
@@ -74,7 +76,7 @@ module _ (file : List ℕ) (meta : Meta) (listing : List Member) (lists : IsList
   has_led path bucket known = ∥∥₁_elim known (hlevel props) (has_named file meta listing lists path bucket)
 
   why_back : (path : Path) (reason : Failure) → IsWhy path reason
-      → ((value : List ℕ) → Contains listing (path, Value value) → ⊥) × (reason ≡ no_value path listing (parts []))
+      → ((value : List ℕ) → Contains listing (path, Value value) → ⊥) × (reason ≡ no_value path listing None)
   why_back path reason (inl (no_key, none, (bucket, known))) =
       ((λ value has. none value ((lists.exact path (Value value)).0 has)), rw (has_led (parents_of path) bucket known) no_key)
   why_back path reason (inr (no_bucket, nowhere)) = (
@@ -82,13 +84,13 @@ module _ (file : List ℕ) (meta : Meta) (listing : List Member) (lists : IsList
     rw (none_named file meta listing lists (parents_of path) nowhere) no_bucket,
   )
 
-  value_there : (job : GetJob) (answer : Answer) → IsRecoveredValue job listing (parts []) answer → IsGetAnswer file job meta answer
+  value_there : (job : GetJob) (answer : Answer) → IsRecoveredValue job listing None answer → IsGetAnswer file job meta answer
   value_there job answer (inl (value, has, shown)) = inl (value, (lists.exact (path_in job.path.items) (Value value)).0 has, shown)
   value_there job answer (inr (none, is)) =
       let path = path_in job.path.items in
-      inr (no_value path listing (parts []), why_there path none (has_bucket (parents_of path) listing) refl, is)
+      inr (no_value path listing None, why_there path none (has_bucket (parents_of path) listing) refl, is)
 
-  value_back : (job : GetJob) (answer : Answer) → IsGetAnswer file job meta answer → IsRecoveredValue job listing (parts []) answer
+  value_back : (job : GetJob) (answer : Answer) → IsGetAnswer file job meta answer → IsRecoveredValue job listing None answer
   value_back job answer (inl (value, held, shown)) = inl (value, (lists.exact (path_in job.path.items) (Value value)).1 held, shown)
   value_back job answer (inr (reason, why, is)) =
       let (none, same) = why_back (path_in job.path.items) reason why in
@@ -97,18 +99,19 @@ module _ (file : List ℕ) (meta : Meta) (listing : List Member) (lists : IsList
 -- ---- the answers
 
 module _ (b : Below) (file : List ℕ) (meta : Meta) (trees : HasSoundTrees file meta) (wanted named : MetaChoice) (shown : IsMetaOf file wanted meta)
-    (shown_named : IsMetaOf file named meta) (alone : named ≢ Active) (answer : Answer) where
+    (shown_named : IsMetaOf file named meta) (hides : HidesNoState file wanted) (alone : named ≢ Active) (answer : Answer) where
   -- With `--recover` it is an answer of the listing, or memory ran out;
-  recovered_there : (IsWanted : List Member → LostView → Answer → Type 0) → IsRecoveredAnswer file wanted IsWanted answer
-      → ((listing : List Member) × IsListing file meta listing × IsWanted listing (parts []) answer) ⊎ (answer ≡ refused failure.Memory)
-  recovered_there IsWanted (inl (other, listing, lost, read, is)) =
-      let (same, (read_under, lists, none, found)) = (recovers_alike b file meta trees wanted named shown shown_named alone).there.read other listing lost [] read in
-      inl (listing, lists, subst (λ (l : LostView). IsWanted listing l answer) none is)
+  recovered_there : (IsWanted : List Member → Option Shortfall → Answer → Type 0) → IsRecoveredAnswer file wanted IsWanted answer
+      → ((listing : List Member) × IsListing file meta listing × IsWanted listing None answer) ⊎ (answer ≡ refused failure.Memory)
+  recovered_there IsWanted (inl (other, listing, lost, read, lacking, (slot, are, lacks), is)) =
+      let (same, (read_under, lists, none, found)) = (recovers_alike b file meta trees wanted named shown shown_named hides alone).there.read other listing lost [] read in
+      let nothing : lacking ≡ None = lacks ∙ rw (none, none_hidden file wanted hides slot are) refl in
+      inl (listing, lists, subst (λ (l : Option Shortfall). IsWanted listing l answer) nothing is)
   recovered_there IsWanted (inr (why, (fault, refused_for, of), is)) =
       let memory = unrecovered file meta trees wanted fault (names_one b file wanted meta shown) shown refused_for in
       inr (is ∙ ap refused (memory_fails fault why memory of))
 
-  recovered_back : (IsWanted : List Member → LostView → Answer → Type 0) → (listing : List Member) → IsListing file meta listing → IsWanted listing (parts []) answer
+  recovered_back : (IsWanted : List Member → Option Shortfall → Answer → Type 0) → (listing : List Member) → IsListing file meta listing → IsWanted listing None answer
       → IsRecoveredAnswer file wanted IsWanted answer
   recovered_back IsWanted listing lists is =
       inl (
@@ -121,6 +124,8 @@ module _ (b : Below) (file : List ℕ) (meta : Meta) (trees : HasSoundTrees file
           ([], no_losses b file meta trees, refl),
           refl,
         ),
+        None,
+        (None, no_hidden file wanted meta shown hides, refl),
         is,
       )
 
@@ -129,14 +134,14 @@ module _ (b : Below) (file : List ℕ) (meta : Meta) (trees : HasSoundTrees file
   sound_there IsAccepted (inl (other, read, is)) =
       inl (subst (λ (m : Meta). IsAccepted m answer) (names_one b file named meta shown_named other (read_meta file named other read)) is)
   sound_there IsAccepted (inr (fault, refused_for, (why, of, is))) =
-      let memory = unread file meta trees named fault (names_one b file named meta shown_named) (under b file meta trees wanted named shown shown_named alone) refused_for in
+      let memory = unread file meta trees named fault (names_one b file named meta shown_named) (under b file meta trees wanted named shown shown_named hides alone) refused_for in
       inr (is ∙ ap refused (memory_fails fault why memory of))
 
   sound_back : (IsAccepted : Meta → Answer → Type 0) → IsAccepted meta answer ⊎ (answer ≡ refused failure.Memory) → IsReadAnswer file named IsAccepted answer
-  sound_back IsAccepted (inl is) = inl (meta, under b file meta trees wanted named shown shown_named alone, is)
+  sound_back IsAccepted (inl is) = inl (meta, under b file meta trees wanted named shown shown_named hides alone, is)
   sound_back IsAccepted (inr none) = inr (check.Memory, tt, (failure.Memory, refl, none))
 
-  no_memory_there : (IsWanted : List Member → LostView → Answer → Type 0) → answer ≡ refused failure.Memory → IsRecoveredAnswer file wanted IsWanted answer
+  no_memory_there : (IsWanted : List Member → Option Shortfall → Answer → Type 0) → answer ≡ refused failure.Memory → IsRecoveredAnswer file wanted IsWanted answer
   no_memory_there IsWanted none = inr (failure.Memory, (check.Memory, tt, refl), none)
 
   module _ (form : Form) (want : Wanted) (is_named : LeafElement → Bool) (same : (e : LeafElement) → want e.key (item_of e) ≡ is_named e) (path : Path)

@@ -1,9 +1,11 @@
 -- With sound trees, `--recover` does what is done without it under the same meta, if the accounts don't count there, and `--lost-and-found`
 -- does what `--recover` does.
 use Rattle.std.proofs.Common.{◌≡◌, ◌≢◌, ◌↔◌, ◌*◌, ◌<◌, ◌^◌, ℕ, Bool, List, [], Option, ap, arith, inl, inr, length, refl, rules, subst, sym, ◌∙◌}
-use Rattle.bolt_commands.proofs.Vocabulary.{Active, Answer, AreLosses, Assumed, CheckFault, Ending, Extent, Failure, First, FoundView, HasSoundTrees, InSlot, IsActive, IsFailureOf, IsInSlot, IsListedAnswer, IsListing, IsMetaOf, IsReadTo, IsReadUnder, IsRecovered, IsSalvaged, IsUnreadTo, Layout, ListForm, LossView, Losses, LostView, MakesCopy, Member, Meta, MetaChoice, PageSize, Path, Slot, bad_hash, everything, has_losses, hash_refusal, parts, props, unjoined, ∥∥₁_elim}
+use Rattle.bolt_commands.proofs.Vocabulary.{Active, Answer, AreLosses, Assumed, CheckFault, Ending, Extent, Failure, First, FoundView, HasSoundTrees, InSlot, IsActive, IsFailureOf, IsInSlot, IsListedAnswer, IsListing, IsMetaOf, IsMetasFault, IsReadTo, IsReadUnder, IsRecovered, IsSalvaged, IsUnreadTo, Layout, ListForm, LossView, Losses, LostView, MakesCopy, Member, Meta, MetaChoice, MetaFault, PageSize, Path, Slot, bad_hash, everything, has_losses, hash_refusal, parts, props, unjoined, ∥∥₁_elim}
 use Rattle.bolt_check.specs.declared.fault.CheckFault.TheVariants as check
 use Rattle.bolt_commands.specs.declared.failure.Failure.TheVariants as failure
+use Rattle.bolt_commands.proofs.OtherMetas.{found_metas, metas_found, no_hidden, none_hidden}
+use Rattle.bolt_commands.specs.Alike.{HidesNoState}
 use Rattle.bolt_commands.proofs.{ReadFiles.no_accounts, ReadFiles.read_meta, SoundReads.NamesOne, SoundReads.has_meta, SoundReads.keeps_not_loses, SoundReads.keeps_root, SoundReads.unread, SoundReads.unrecovered}
 use Rattle.bolt_job.specs.declared.choices.Extent.TheVariants.{LostAndFound}
 use Rattle.bolt_recover.specs.{Found.AreFound, JoinRefusals.IsJoinRefusal, Lost.IsAllLost, declared.joined.JoinFault.JoinFault}
@@ -35,6 +37,7 @@ pub record Reads (file : List ℕ) (meta : Meta) (from to : Extent) (wanted name
   pub read : (other : Meta) (listing : List Member) (lost : LostView) (found : List FoundView) → IsReadTo from file wanted other listing lost found
       → (other ≡ meta) × IsReadTo to file named meta listing lost found
   pub unread : (why : Failure) → IsUnreadTo from file wanted why → IsUnreadTo to file named why
+  pub metas : (other : Option (Slot × MetaFault)) → IsMetasFault from file wanted other → IsMetasFault to file named other
 
 -- and back
 pub record ReadsAlike (file : List ℕ) (meta : Meta) (from to : Extent) (wanted named : MetaChoice) : Type 0 where
@@ -44,7 +47,8 @@ pub record ReadsAlike (file : List ℕ) (meta : Meta) (from to : Extent) (wanted
 module _ {file : List ℕ} {meta : Meta} {from to : Extent} {wanted named : MetaChoice} where
   listed : Reads file meta from to wanted named → (form : ListForm) (path start : Path) (answer : Answer)
       → IsListedAnswer from file wanted form path start answer → IsListedAnswer to file named form path start answer
-  listed r form path start answer (inl (other, listing, lost, found, read, ended)) = inl (meta, listing, lost, found, (r.read other listing lost found read).1, ended)
+  listed r form path start answer (inl (other, listing, lost, found, read, lacking, (slot, are, is), ended)) =
+      inl (meta, listing, lost, found, (r.read other listing lost found read).1, lacking, (slot, r.metas slot are, is), ended)
   listed r form path start answer (inr (why, unread, is)) = inr (why, r.unread why unread, is)
 
   module _ {O T : Type 0} (out_taken : O → Option (List ℕ)) (out_failed : O → ℕ) (target_taken : T → Option (List ℕ)) (target_failed : T → ℕ)
@@ -52,9 +56,10 @@ module _ {file : List ℕ} {meta : Meta} {from to : Extent} {wanted named : Meta
     copied : Reads file meta from to wanted named → hash_refusal from (bad_hash snapshot file) ≡ hash_refusal to (bad_hash snapshot file)
         → MakesCopy out_taken out_failed out_old out_new target_taken target_failed target_old target_new file wanted size which snapshot from ending
         → MakesCopy out_taken out_failed out_old out_new target_taken target_failed target_old target_new file named size which snapshot to ending
-    copied r same (inl (other, listing, lost, found, read, writes)) =
+    copied r same (inl (other, listing, lost, found, read, faults, are, writes)) =
         let (one, there) = r.read other listing lost found read in
-        inl (meta, listing, lost, found, there, rw (same, one) at writes)
+        let refusal = ap (hash_refusal from) are.hash ∙ same ∙ ap (hash_refusal to) (sym are.hash) in
+        inl (meta, listing, lost, found, there, faults, record { hash = are.hash; metas = r.metas faults.other are.metas }, rw (refusal, one) at writes)
     copied r same (inr (why, unread, none)) = inr (why, r.unread why unread, none)
 
 -- ---- with sound trees
@@ -77,7 +82,7 @@ module _ (b : Below) (file : List ℕ) (meta : Meta) (trees : HasSoundTrees file
 
   -- ---- what is recovered under one choice is read under the other, of which the accounts don't count
 
-  module _ (wanted named : MetaChoice) (shown : IsMetaOf file wanted meta) (shown_named : IsMetaOf file named meta) (alone : named ≢ Active) where
+  module _ (wanted named : MetaChoice) (shown : IsMetaOf file wanted meta) (shown_named : IsMetaOf file named meta) (hides : HidesNoState file wanted) (alone : named ≢ Active) where
     pub under : IsReadUnder file named meta
     under = (shown_named, trees, no_accounts file named meta alone)
 
@@ -89,6 +94,7 @@ module _ (b : Below) (file : List ℕ) (meta : Meta) (trees : HasSoundTrees file
           let empty = b.none_lost file meta losses trees (subst (λ (m : Meta). AreLosses file m losses) same are) in
           (same, (under, lists, told ∙ ap parts empty, none)));
       unread = λ why unread. (check.Memory, tt, only_memory wanted shown why unread);
+      metas = none_hidden file wanted hides;
     }
 
     recovered_back : Reads file meta First Losses named wanted
@@ -99,6 +105,7 @@ module _ (b : Below) (file : List ℕ) (meta : Meta) (trees : HasSoundTrees file
           (same, ((shown, keeps_root file meta trees), recovered, ([], no_losses, told), none)));
       unread = λ why (fault, is, of).
           (check.Memory, tt, subst (λ (f : CheckFault). IsFailureOf f why) (unread file meta trees named fault (names_one b file named meta shown_named) under is) of);
+      metas = λ other none. rw none (no_hidden file wanted meta shown hides);
     }
 
     pub recovers_alike : ReadsAlike file meta Losses First wanted named
@@ -141,6 +148,7 @@ module _ (b : Below) (file : List ℕ) (meta : Meta) (trees : HasSoundTrees file
           | inr (fault, none, same) ↦ absurd (has_meta file meta trees choice fault shown none)
         ],
       );
+      metas = found_metas file choice;
     }
 
     found_back : Reads file meta Losses LostAndFound choice choice
@@ -157,6 +165,7 @@ module _ (b : Below) (file : List ℕ) (meta : Meta) (trees : HasSoundTrees file
           } in
           (same, (shown, rw (empty, none) all)));
       unread = λ why unread. inl (meta, shown, ([], join.Memory, no_found, tt, only_memory choice shown why unread));
+      metas = metas_found file choice;
     }
 
     pub finds_alike : ReadsAlike file meta LostAndFound Losses choice choice

@@ -13,7 +13,8 @@ pub use Rattle.bolt_commands.specs.Answers.{IsTotal, IsUnreadTo, IsUnrecoverable
 pub use Rattle.bolt_commands.specs.Answers.{check_refusal, copy_page_size, copy_report, done, found, found_page, hash_refusal, lost_and_found, lost_ending}
 pub use Rattle.bolt_commands.specs.Answers.{no_stats, none_found, page_answer, parents_of, part_ending, part_text, refused, value_shown}
 pub use Rattle.bolt_commands.specs.Failures.{IsFailureOf, copied, reported, unjoined}
-pub use Rattle.bolt_commands.specs.FileFaults.{IsMetasFault, IsOtherFault, errors_in, other_lines}
+pub use Rattle.bolt_commands.specs.FileFaults.{AreCopyFaults, IsMetasFault, IsOtherFault, errors_in, other_lines}
+pub use Rattle.bolt_commands.specs.{Shortfalls.shortfall, declared.shortfall.Shortfall.Shortfall}
 pub use Rattle.bolt_commands.specs.GoodCopies.{HasGoodCopies, IsGoodCopy, RefusesFile}
 pub use Rattle.bolt_commands.specs.Private.Copying.{CompactsTo, CopiesJoined, CopiesListing, CopiesRead, CopiesTo, IsAskedBlueprint, blueprint_layout, job_layout}
 pub use Rattle.bolt_commands.specs.Private.Endings.{MayFail, end_of, end_written, failing}

@@ -1,18 +1,18 @@
 -- Commands that do the same: docs/RECOVERY.md, "The recovering walk".
 use Rattle.std.specs.Prelude.{◌≡◌, ◌≢◌, ◌↔◌, ◌⊎◌, ◌*◌, ◌<◌, ◌^◌, ℕ, Bool, true, false, Err, List, [], Option, length}
 use Rattle.bolt_check.specs.Sound.{HasSoundTrees}
-use Rattle.bolt_format.specs.{declared.meta.Meta.Meta, declared.sink.Sink.Ghosts}
+use Rattle.bolt_format.specs.{Metas.HasBothMetas, declared.meta.Meta.Meta, declared.sink.Sink.Ghosts}
 use Rattle.bolt_layout.specs.{Copies.layout_of_listing, declared.Layout.Layout, declared.Layout.TheVariants.Balanced}
 use Rattle.bolt_etcd.specs.Repairs.{store_path}
 use Rattle.bolt_recover.specs.Losses.{parts}
 use Rattle.bolt_text.specs.declared.forms.ListForm.{ListForm}
 use Rattle.bolt_tree.specs.{Entries.Value, Listing.IsListing, Listing.Member, Paths.Path}
 use Rattle.bolt_commands.specs.Answers.{Answer, DoesJob, Ending, HoldsIn, IsBucketsShown, IsKeysShown, IsListedAnswer, IsValueShown, MakesCopy, MakesRepair, WritesCopy, WritesNone, copy_page_size, hash_refusal, repair_report}
-use Rattle.bolt_commands.specs.{SnapshotAnswers.bad_hash, declared.failure.Failure.Failure, declared.failure.Failure.TheVariants.Memory, declared.failure.Failure.TheVariants.NotABucket}
+use Rattle.bolt_commands.specs.{FileFaults.AreCopyFaults, SnapshotAnswers.bad_hash, declared.file_faults.FileFaults.FileFaults, declared.failure.Failure.Failure, declared.failure.Failure.TheVariants.Memory, declared.failure.Failure.TheVariants.NotABucket}
 use Rattle.bolt_job.specs.MetaChoices.{IsMetaOf}
 use Rattle.bolt_job.specs.declared.bucket_commands.{BucketsJob.BucketsJob, GetJob.GetJob, KeysJob.KeysJob}
 use Rattle.bolt_job.specs.declared.choices.BucketsShown.TheVariants.{Names, Recovered}
-use Rattle.bolt_job.specs.declared.job.Job.{Job}
+use Rattle.bolt_job.specs.{declared.job.Job.Job, declared.choices.Extent.TheVariants.LostAndFound}
 use Rattle.bolt_job.specs.{declared.choices.Extent.Extent, declared.choices.MetaChoice.MetaChoice, declared.choices.PageSize.PageSize}
 use Rattle.bolt_job.specs.declared.choices.MetaChoice.TheVariants.{Active}
 
@@ -24,10 +24,15 @@ DoesAlike {O} {T} out target job one other = (out_old out_new : O) (target_old t
 
 -- ---- what is read of a file with sound trees
 
--- This holds of a file under two choices of the same meta, with sound trees under it. The second choice isn't one under which the accounts count.
+-- no newer state can be hidden: the meta is named or assumed, or both metas are valid
+abbrev pub HidesNoState : List ℕ → MetaChoice → Type 0
+HidesNoState file choice = (choice ≢ Active) ⊎ HasBothMetas file
+
+-- This holds of a file under two choices of the same meta, with sound trees under it. The first choice hides no newer state. The second isn't one
+-- under which the accounts count.
 abbrev pub UnderSoundTrees : (List ℕ → (wanted named : MetaChoice) → Type 0) → Type 0
 UnderSoundTrees P = (file : List ℕ) (meta : Meta) → HasSoundTrees file meta → (wanted named : MetaChoice) → IsMetaOf file wanted meta → IsMetaOf file named meta
-    → named ≢ Active → P file wanted named
+    → HidesNoState file wanted → named ≢ Active → P file wanted named
 
 -- this holds of a file with sound trees under the meta that a choice names
 abbrev pub ForSoundTrees : (List ℕ → Meta → MetaChoice → Type 0) → Type 0
@@ -75,8 +80,8 @@ abbrev pub RepairsNothing : {O T : Type 0} (out : Ghosts O) (target : Ghosts T) 
 RepairsNothing {O} {T} out target file meta choice =
     (out_old out_new : O) (target_old target_new : T) (size : Option PageSize) (snapshot : Bool) (ending : Ending)
     → MakesRepair out.taken out.failed out_old out_new target.taken target.failed target_old target_new file choice size snapshot ending
-    → ∥ ((listing : List Member) × IsListing file meta listing
+    → ∥ ((listing : List Member) × IsListing file meta listing × (faults : FileFaults) × AreCopyFaults LostAndFound snapshot file choice faults
     × WritesCopy out.taken out.failed out_old out_new target.taken target.failed target_old target_new snapshot listing
-    (layout_of_listing Balanced (copy_page_size size meta) listing meta.root_sequence) (repair_report (bad_hash snapshot file) (parts []) 0 0 (length file)) ending) ∥₁
+    (layout_of_listing Balanced (copy_page_size size meta) listing meta.root_sequence) (repair_report faults (parts []) 0 0 (length file)) ending) ∥₁
     ⊎ ((why : Failure) × IsUnrepairable file meta why
     × WritesNone out.taken out.failed out_old out_new target.taken target.failed target_old target_new why ending)

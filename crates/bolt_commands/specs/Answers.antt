@@ -14,7 +14,7 @@ use Rattle.bolt_format.specs.{declared.meta.MetaFault.MetaFault, declared.meta.S
 use Rattle.bolt_load.specs.{LineFaults.IsListingText, LineFaults.IsLoadFault, declared.fault.LoadFault.LoadFault}
 use Rattle.bolt_text.specs.{LineMembers.text_members}
 use Rattle.bolt_recover.specs.{Found.AreFound, JoinRefusals.IsJoinRefusal, Joined.IsJoined, Joined.LacksBucketKey}
-use Rattle.bolt_recover.specs.{Losses.AreLosses, Losses.LossView, Losses.LostView, Losses.everything, Losses.parts, Lost.IsAllLost, Sites.leaves_of}
+use Rattle.bolt_recover.specs.{Losses.AreLosses, Losses.LossView, Losses.LostView, Losses.everything, Losses.is_nothing, Losses.parts, Lost.IsAllLost, Sites.leaves_of}
 use Rattle.bolt_recover.specs.Recovered.{ForRecovered, IsRecovered}
 use Rattle.bolt_recover.specs.Refusals.{IsUnrecoverable, KeepsRoot}
 use Rattle.bolt_recover.specs.declared.joined.JoinFault.{JoinFault}
@@ -38,9 +38,9 @@ use Rattle.bolt_tree.specs.Paths.{Holds, Names, Path}
 use Rattle.bolt_job.specs.CopyKinds.{is_snapshot}
 use Rattle.bolt_commands.specs.CopyLayouts.{layout_for}
 use Rattle.bolt_commands.specs.Failures.{IsFailureOf, failure_line, unjoined, unloaded, unrepaired}
-use Rattle.bolt_commands.specs.{FileFaults.AreFileFaults, FileFaults.errors_in, FileFaults.fault_lines, FileFaults.hash_lines, FileFaults.is_fine, FileFaults.no_faults, GoodCopies.IsGoodCopy}
+use Rattle.bolt_commands.specs.{FileFaults.AreCopyFaults, FileFaults.AreFileFaults, FileFaults.IsMetasFault, FileFaults.errors_in, FileFaults.fault_lines, FileFaults.is_fine, FileFaults.no_faults, GoodCopies.IsGoodCopy}
 use Rattle.bolt_job.specs.MetaChoices.{HasNoMetaOf, IsMetaOf}
-use Rattle.bolt_commands.specs.SnapshotAnswers.{bad_hash, copy_of}
+use Rattle.bolt_commands.specs.{Shortfalls.shortfall, SnapshotAnswers.copy_of, declared.shortfall.Shortfall.Shortfall}
 use Rattle.bolt_job.specs.declared.choices.BucketsShown.{BucketsShown}
 use Rattle.bolt_job.specs.declared.choices.BucketsShown.TheVariants as shown
 use Rattle.bolt_job.specs.declared.choices.Extent.{Extent}
@@ -398,52 +398,56 @@ IsUnreadTo LostAndFound file choice why = IsUnjoinedUnder file choice why
 
 -- ---- `list`
 
--- if something was lost, the number of losses is reported on standard error
-abbrev pub lost_ending : LostView → Ending
-lost_ending (everything x) = Err (failure.Lost 1)
-lost_ending (parts []) = Ok 0
-lost_ending (parts (loss ∷ losses)) = Err (failure.Lost (length (loss ∷ losses)))
+-- if something is lacking, this is reported on standard error
+abbrev pub lost_ending : Option Shortfall → Ending
+lost_ending None = Ok 0
+lost_ending (Some lost) = Err (failure.Lost lost)
 
--- a part of the listing, and then what is lost; or memory ran out, which may be after the last line; or why it isn't read
+-- what an output to this extent lacks if this is lost: that, and the newest state, if the other meta is refused
+abbrev pub IsLackingTo : Extent → List ℕ → MetaChoice → LostView → Option Shortfall → Type 0
+IsLackingTo extent file choice lost lacking = (other : Option (Slot × MetaFault)) × IsMetasFault extent file choice other × (lacking ≡ shortfall lost other)
+
+-- a part of the listing, and then what is lacking; or memory ran out, which may be after the last line; or why it isn't read
 abbrev pub IsListedAnswer : Extent → List ℕ → MetaChoice → ListForm → (path from : Path) → Answer → Type 0
 IsListedAnswer extent file choice form path from answer =
     ((meta : Meta) × (listing : List Member) × (lost : LostView) × (found : List FoundView) × IsReadTo extent file choice meta listing lost found
-    × IsEndedOrCut (part_text form path from listing) (part_ending path listing (lost_ending lost)) answer)
+    × (lacking : Option Shortfall) × IsLackingTo extent file choice lost lacking
+    × IsEndedOrCut (part_text form path from listing) (part_ending path listing (lost_ending lacking)) answer)
     ⊎ ((why : Failure) × IsUnreadTo extent file choice why × (answer ≡ refused why))
 
 -- ---- `buckets`, `keys` and `get` with `--recover`
 
--- an answer of what is recovered and of what is lost; or why nothing is recovered
-abbrev pub IsRecoveredAnswer : List ℕ → MetaChoice → (List Member → LostView → Answer → Type 0) → Answer → Type 0
+-- an answer of what is recovered and of what is lacking; or why nothing is recovered
+abbrev pub IsRecoveredAnswer : List ℕ → MetaChoice → (List Member → Option Shortfall → Answer → Type 0) → Answer → Type 0
 IsRecoveredAnswer file choice IsWanted answer =
-    ((meta : Meta) × (listing : List Member) × (lost : LostView) × IsReadTo Losses file choice meta listing lost [] × IsWanted listing lost answer)
+    ((meta : Meta) × (listing : List Member) × (lost : LostView) × IsReadTo Losses file choice meta listing lost []
+    × (lacking : Option Shortfall) × IsLackingTo Losses file choice lost lacking × IsWanted listing lacking answer)
     ⊎ ((why : Failure) × IsUnreadTo Losses file choice why × (answer ≡ refused why))
 
--- why something isn't there: if anything is lost, that may be
-abbrev pub missing : (none : Failure) (maybe_lost : ℕ → Failure) → LostView → Failure
-missing none maybe_lost (everything x) = maybe_lost 1
-missing none maybe_lost (parts []) = none
-missing none maybe_lost (parts (loss ∷ losses)) = maybe_lost (length (loss ∷ losses))
+-- why something isn't there: if anything is lacking, that may be
+abbrev pub missing : (none : Failure) (maybe_lost : Shortfall → Failure) → Option Shortfall → Failure
+missing none maybe_lost None = none
+missing none maybe_lost (Some lost) = maybe_lost lost
 
-abbrev pub no_bucket : LostView → Failure
+abbrev pub no_bucket : Option Shortfall → Failure
 no_bucket lost = missing failure.NoBucket failure.BucketMaybeLost lost
 
-abbrev pub no_key : LostView → Failure
+abbrev pub no_key : Option Shortfall → Failure
 no_key lost = missing failure.NoKey failure.KeyMaybeLost lost
 
--- the names that are wanted in a bucket of the listing, and then what is lost; or the bucket isn't there
-abbrev pub names_ending : Path → List Member → LostView → Ending
+-- the names that are wanted in a bucket of the listing, and then what is lacking; or the bucket isn't there
+abbrev pub names_ending : Path → List Member → Option Shortfall → Ending
 names_ending path listing lost = if has_bucket path listing then lost_ending lost else Err (no_bucket lost)
 
-abbrev pub IsNamesAnswer : Form → Wanted → Path → List Member → LostView → Answer → Type 0
+abbrev pub IsNamesAnswer : Form → Wanted → Path → List Member → Option Shortfall → Answer → Type 0
 IsNamesAnswer form wanted path listing lost answer = IsEndedOrCut (names_text form wanted path listing) (names_ending path listing lost) answer
 
 -- why a listing has no value at a path
-abbrev pub no_value : Path → List Member → LostView → Failure
+abbrev pub no_value : Path → List Member → Option Shortfall → Failure
 no_value path listing lost = if has_bucket (parents_of path) listing then no_key lost else no_bucket lost
 
--- the value that the listing has at the path, and then what is lost; or it has none
-abbrev pub IsRecoveredValue : GetJob → List Member → LostView → Answer → Type 0
+-- the value that the listing has at the path, and then what is lacking; or it has none
+abbrev pub IsRecoveredValue : GetJob → List Member → Option Shortfall → Answer → Type 0
 IsRecoveredValue job listing lost answer =
     let path = path_in job.path.items in
     ((value : List ℕ) × Contains listing (path, Value value) × IsShownAndEnded job.form (value_shown job.form job.no_newline value) (lost_ending lost) answer)
@@ -481,22 +485,20 @@ pub record StopsShort {T : Type 0} (taken : T → Option (List ℕ)) (failed : T
   pub why : StopsCopy failed old new layout failure
   pub large : too_many ≤ length layout → Keeps (taken old) (taken new)
 
--- the status of a copy if this is reported beside it, and this is wrong with the hash of its file
-abbrev pub copy_status : Option SnapshotFault → LostView → ℕ
-copy_status (Some fault) lost = 1
-copy_status None (everything x) = 1
-copy_status None (parts []) = 0
-copy_status None (parts (loss ∷ losses)) = 1
+-- the status of a copy: 0 if nothing is lost, and nothing is wrong with the file apart from its pages
+abbrev pub copy_status : FileFaults → LostView → ℕ
+copy_status faults lost = if is_fine faults && is_nothing lost then 0 else 1
 
 -- why a file isn't copied whose hash is wrong; what is left of a damaged one is copied all the same
 abbrev pub hash_refusal : Extent → Option SnapshotFault → Option SnapshotFault
 hash_refusal First hash = hash
 hash_refusal _ hash = None
 
--- what is reported of a copy: what is wrong with the hash of its file, each loss, each found page, and the lengths of the file and of the copy
-abbrev pub copy_report : Option SnapshotFault → LostView → List FoundView → (source copy : ℕ) → Answer
-copy_report hash lost found source copy =
-    record { out = hash_lines hash ++ (lost_text lost found ++ lengths_line source copy); ending = Ok (copy_status hash lost) }
+-- what is reported of a copy: what is wrong with its file apart from the pages, each loss, each found page, and the lengths of the file and of
+-- the copy
+abbrev pub copy_report : FileFaults → LostView → List FoundView → (source copy : ℕ) → Answer
+copy_report faults lost found source copy =
+    record { out = fault_lines faults ++ (lost_text lost found ++ lengths_line source copy); ending = Ok (copy_status faults lost) }
 
 -- ---- `etcd-repair`
 
@@ -521,10 +523,11 @@ IsUnrestored file choice why =
 abbrev pub counts_line : (back left_out : ℕ) → List ℕ
 counts_line back left_out = (decimal back ++ codes " revisions put back, ") ++ (decimal left_out ++ codes " left out\n")
 
--- what is reported of a repair: what is wrong with the hash of its file, each loss, how many revisions go back, and the lengths of the file and of the copy
-abbrev pub repair_report : Option SnapshotFault → LostView → (back left_out source copy : ℕ) → Answer
-repair_report hash lost back left_out source copy =
-    record { out = hash_lines hash ++ (lost_text lost [] ++ (counts_line back left_out ++ lengths_line source copy)); ending = Ok (copy_status hash lost) }
+-- what is reported of a repair: what is wrong with its file apart from the pages, each loss, how many revisions go back, and the lengths of the
+-- file and of the copy
+abbrev pub repair_report : FileFaults → LostView → (back left_out source copy : ℕ) → Answer
+repair_report faults lost back left_out source copy =
+    record { out = fault_lines faults ++ (lost_text lost [] ++ (counts_line back left_out ++ lengths_line source copy)); ending = Ok (copy_status faults lost) }
 
 -- ---- what a command prints for its job
 
@@ -694,25 +697,25 @@ module _ {O T : Type 0} (out_taken : O → Option (List ℕ)) (out_failed : O �
   CopiesUnless None Copies ending = Copies ending
 
   -- `compact` to any extent: The target accepts the layout that is asked for of what is read, at the copy's page size, and for a snapshot then
-  -- its hash: a good copy of that listing. Then it is reported if the file has a hash that isn't right, what is lost and what is found. Or the
-  -- file isn't read, and neither is touched.
+  -- its hash: a good copy of that listing. Then it is reported if the file has a hash that isn't right, if the newest state may be lost, what is
+  -- lost and what is found. Or the file isn't read, and neither is touched.
   abbrev pub MakesCopy : List ℕ → MetaChoice → Option PageSize → Layout → (snapshot : Bool) → Extent → Ending → Type 0
   MakesCopy file choice size which snapshot extent ending =
-      let hash = bad_hash snapshot file in
       ((meta : Meta) × (listing : List Member) × (lost : LostView) × (found : List FoundView) × IsReadTo extent file choice meta listing lost found
-      × CopiesUnless (hash_refusal extent hash)
-      (WritesCopy snapshot listing (layout_of_listing which (copy_page_size size meta) listing meta.root_sequence) (copy_report hash lost found (length file))) ending)
+      × (faults : FileFaults) × AreCopyFaults extent snapshot file choice faults × CopiesUnless (hash_refusal extent faults.hash)
+      (WritesCopy snapshot listing (layout_of_listing which (copy_page_size size meta) listing meta.root_sequence) (copy_report faults lost found (length file))) ending)
       ⊎ ((why : Failure) × IsUnreadTo extent file choice why × WritesNone why ending)
 
   -- the copy of the repaired listing, and what is reported of it
   abbrev pub WritesRestored : List ℕ → MetaChoice → Option PageSize → (snapshot : Bool) → Ending → Type 0
   WritesRestored file choice size snapshot ending =
       (meta : Meta) × (listing : List Member) × (lost : LostView) × (back left_out : ℕ) × IsRestored file choice meta listing lost back left_out
-      × WritesCopy snapshot listing (layout_of_listing Balanced (copy_page_size size meta) listing meta.root_sequence) (repair_report (bad_hash snapshot file) lost back left_out (length file)) ending
+      × (faults : FileFaults) × AreCopyFaults LostAndFound snapshot file choice faults
+      × WritesCopy snapshot listing (layout_of_listing Balanced (copy_page_size size meta) listing meta.root_sequence) (repair_report faults lost back left_out (length file)) ending
 
   -- `etcd-repair`: The target accepts the balanced layout of the repaired listing at the copy's page size, and for a snapshot then its hash: a good
-  -- copy of that listing. Then it is reported if the file has a hash that isn't right, what is lost, and how many revisions go back. Or there is
-  -- no repaired listing, or memory ran out, and neither is touched.
+  -- copy of that listing. Then it is reported if the file has a hash that isn't right, if the newest state may be lost, what is lost, and how many
+  -- revisions go back. Or there is no repaired listing, or memory ran out, and neither is touched.
   abbrev pub MakesRepair : List ℕ → MetaChoice → Option PageSize → (snapshot : Bool) → Ending → Type 0
   MakesRepair file choice size snapshot ending =
       ∥ WritesRestored file choice size snapshot ending ∥₁ ⊎ ((why : Failure) × IsUnrestored file choice why × WritesNone why ending)

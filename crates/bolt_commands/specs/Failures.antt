@@ -15,8 +15,8 @@ use Rattle.bolt_report.specs.{FaultWords.finding_text, FaultWords.meta_fault_tex
 use Rattle.bolt_etcd.specs.{SnapshotFaults.snapshot_fault_text}
 use Rattle.bolt_text.specs.declared.fault.ReportFault.{ReportFault}
 use Rattle.bolt_text.specs.declared.fault.ReportFault.TheVariants as report
-use Rattle.bolt_commands.specs.declared.failure.Failure.{Failure}
-use Rattle.bolt_commands.specs.declared.failure.Failure.TheVariants.{BucketMaybeLost, Compacted, Exists, File, Hash, KeyMaybeLost, Line, Lost, Memory, Metas, NoBucket, NoKey, NotABucket, Others, Page, TooLarge, Write}
+use Rattle.bolt_commands.specs.{Shortfalls.shortfall_text, declared.failure.Failure.Failure}
+use Rattle.bolt_commands.specs.declared.failure.Failure.TheVariants.{BucketMaybeLost, Compacted, Exists, File, Hash, KeyMaybeLost, Line, Lost, Memory, Metas, NoBucket, NoKey, NotABucket, Others, Page, TooLarge, TooManyPages, Write}
 
 abbrev pub failure_text : Failure → List ℕ
 failure_text (Metas fault) = meta_fault_text fault
@@ -24,17 +24,18 @@ failure_text (File finding) = codes "file refused: " ++ finding_text finding
 failure_text (Page fault) = page_fault_text fault
 failure_text NoBucket = codes "bucket not found\n"
 failure_text NoKey = codes "key not found\n"
-failure_text (BucketMaybeLost lost) = codes "bucket not found; pages lost: " ++ (decimal lost ++ codes "\n")
-failure_text (KeyMaybeLost lost) = codes "key not found; pages lost: " ++ (decimal lost ++ codes "\n")
+failure_text (BucketMaybeLost lost) = codes "bucket not found; " ++ shortfall_text lost
+failure_text (KeyMaybeLost lost) = codes "key not found; " ++ shortfall_text lost
 failure_text Memory = codes "out of memory\n"
 failure_text TooLarge = codes "layout too large\n"
+failure_text TooManyPages = codes "too many pages\n"
 failure_text Write = codes "write failed\n"
 failure_text (Hash fault) = snapshot_fault_text fault
 failure_text Exists = codes "lost+found exists\n"
 failure_text NotABucket = codes "key is not a bucket\n"
 failure_text (Others count) = codes "not revisions: " ++ (decimal count ++ codes "\n")
 failure_text Compacted = codes "revision compacted\n"
-failure_text (Lost count) = codes "pages lost: " ++ (decimal count ++ codes "\n")
+failure_text (Lost lost) = shortfall_text lost
 failure_text (Line number fault) = codes "line " ++ ((decimal number ++ codes ": ") ++ (line_fault_words fault ++ codes "\n"))
 
 -- a failure is one line on standard error
@@ -62,7 +63,7 @@ unloaded (load.Line number fault) = Line number fault
 abbrev pub unjoined : JoinFault → Failure
 unjoined (join.Root x) = File x
 unjoined join.Exists = Exists
-unjoined join.TooLarge = TooLarge
+unjoined join.TooLarge = TooManyPages
 unjoined join.Memory = Memory
 
 -- the failure if there is no repaired listing

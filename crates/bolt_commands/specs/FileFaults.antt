@@ -5,7 +5,7 @@ use Rattle.bolt_format.specs.declared.meta.Slot.{Slot}
 use Rattle.bolt_report.specs.{MetaLines.slot_fault_text}
 use Rattle.bolt_etcd.specs.{SnapshotFaults.snapshot_fault_text}
 use Rattle.bolt_etcd.specs.declared.snapshot.SnapshotFault.{SnapshotFault}
-use Rattle.bolt_commands.specs.SnapshotAnswers.{hash_found}
+use Rattle.bolt_commands.specs.SnapshotAnswers.{bad_hash, hash_found}
 use Rattle.bolt_job.specs.declared.choices.Extent.{Extent}
 use Rattle.bolt_job.specs.declared.choices.Extent.TheVariants.{First, LostAndFound, Losses}
 use Rattle.bolt_commands.specs.declared.file_faults.FileFaults.{FileFaults}
@@ -37,6 +37,11 @@ IsMetasFault LostAndFound file (Assumed assumed) other = other ≡ None
 
 pub record AreFileFaults (extent : Extent) (snapshot : Bool) (file : List ℕ) (choice : MetaChoice) (faults : FileFaults) : Type 0 where
   pub hash : faults.hash ≡ hash_found snapshot file
+  pub metas : IsMetasFault extent file choice faults.other
+
+-- of one that is copied: a hash that isn't right is one only if a snapshot is made of the file, and if the file has one
+pub record AreCopyFaults (extent : Extent) (snapshot : Bool) (file : List ℕ) (choice : MetaChoice) (faults : FileFaults) : Type 0 where
+  pub hash : faults.hash ≡ bad_hash snapshot file
   pub metas : IsMetasFault extent file choice faults.other
 
 -- nothing is

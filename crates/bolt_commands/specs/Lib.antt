@@ -8,4 +8,5 @@ pub mod FileFaults
 pub mod GoodCopies
 pub mod Hashes
 pub mod Private
+pub mod Shortfalls
 pub mod SnapshotAnswers

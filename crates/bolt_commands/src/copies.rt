@@ -8,16 +8,16 @@ ghost use Rattle.bolt_bulk.specs.{Compacting.Copies, WholeListings.IsWhole};
 ghost use Rattle.bolt_format.specs.{Endings.ending, Wrote.Wrote};
 ghost use Rattle.bolt_recover.specs.ShownLosses.{lost_view};
 ghost use Rattle.bolt_report.specs.FoundLines.{IsFoundLeaf};
-ghost use Rattle.bolt_commands.specs.{Answers.Does, Answers.copy_status, Answers.lengths_line, FileFaults.hash_lines};
+ghost use Rattle.bolt_commands.specs.{Answers.Does, Answers.copy_status, Answers.lengths_line};
 ghost use Rattle.bolt_commands.specs.{CopyEnds.EndsCopy, Hashes.HashesSince, Private.Copying.CopiesTo, Private.Copying.ForLayout};
 ghost use Rattle.bolt_commands.specs.Private.Reports.{report_answer, report_text};
 ghost use Rattle.bolt_job.specs.CopyKinds.{is_snapshot};
 
 use crate::copy_source::{Copied, CopySource, sources_have_good_copies};
 use crate::failure::Outcome;
-use crate::file_faults::put_hash_line;
+use crate::file_faults::{FileFaults, put_file_faults};
 use bolt_bulk::{Blueprint, BulkFault};
-use bolt_etcd::{HASH_LEN, SnapshotFault};
+use bolt_etcd::HASH_LEN;
 use bolt_format::{Sink, SinkFault};
 use bolt_job::CopyKind;
 use bolt_recover::{Found, Lost};
@@ -168,8 +168,8 @@ impl<'a, T: Sink, K: Origin> Sink for Hashing<'a, T, K> {
 /// What is reported of a copy beside its length.
 #[derive(Clone, Copy)]
 pub(crate) struct CopyReport<'l, 'f> {
-    /// What is wrong with the hash of the file, if a snapshot is made of one.
-    pub hash: Option<SnapshotFault>,
+    /// What is wrong with the file apart from its pages.
+    pub faults: FileFaults,
     pub lost: Lost<'l>,
     pub found: &'f [Found<'f>],
     /// The length of the file.
@@ -182,7 +182,7 @@ pub(crate) fn end_copy<O: Sink>(copy: u64, report: &CopyReport<'_, '_>, out: &mu
     ensures { Does O.taken O.failed out.old out.new (report_answer report.now copy) result }
 {
     put_report(report, copy, out)?;
-    Ok(status_of(report.hash, report.lost))
+    Ok(status_of(report.faults, report.lost))
 }
 
 #[tactic(auto, using(bolt_format::proofs::WroteLemmas::wrote))]
@@ -190,19 +190,16 @@ fn put_report<O: Sink>(report: &CopyReport<'_, '_>, copy: u64, out: &mut O) -> R
     requires { All IsFoundLeaf report.now.found.now }
     ensures { Wrote O.Sink out.old out.new (report_text report.now copy) (ending result) }
 {
-    put_hash_line(report.hash, out)?;
+    put_file_faults(report.faults, out)?;
     lost_text(report.lost, report.found, out)?;
     put_lengths(report.source, copy, out)
 }
 
-/// The status if this is lost.
-pub(crate) fn status_of(hash: Option<SnapshotFault>, lost: Lost<'_>) -> u8
-    ensures { result ≡ copy_status hash (lost_view lost.entry) }
+/// The status of a copy if this is wrong with the file, and this is lost of it.
+pub(crate) fn status_of(faults: FileFaults, lost: Lost<'_>) -> u8
+    ensures { result ≡ copy_status faults (lost_view lost.entry) }
 {
-    match (hash, lost) {
-        (None, Lost::Parts([])) => 0,
-        _ => 1,
-    }
+    u8::from(!(faults.is_fine() && lost.is_nothing()))
 }
 
 /// Writes the lengths of the file and of its copy.

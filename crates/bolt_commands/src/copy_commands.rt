@@ -3,16 +3,16 @@ ghost use Rattle.std.specs.Prelude.{◌≡◌};
 ghost use Rattle.bolt_format.specs.Metas.{IsPageSize};
 ghost use Rattle.bolt_commands.specs.Private.{Copying.CompactsTo, Copying.CopiesJoined, Copying.CopiesRead, Copying.IsAskedBlueprint, Copying.LoadsJob};
 ghost use Rattle.bolt_commands.specs.Private.Opened.{IsOpened, IsSearchOf, opened_found};
-ghost use Rattle.bolt_job.specs.CopyKinds.{is_snapshot};
-ghost use Rattle.bolt_commands.specs.{Answers.hash_refusal, SnapshotAnswers.bad_hash};
+ghost use Rattle.bolt_commands.specs.{Answers.hash_refusal};
 
 use crate::copies::{CopyReport, copy_members, end_copy};
 use crate::failure::{Failure, Outcome};
+use crate::file_faults::FileFaults;
 use crate::opened::Opened;
 use crate::opening::{Input, join};
 use bolt_bulk::Blueprint;
 use bolt_bulk::laws::{a_recovery_is_whole, a_walk_is_whole, joined_members_are_whole};
-use bolt_etcd::{SnapshotFault, snapshot_fault};
+use bolt_etcd::SnapshotFault;
 use bolt_format::{Meta, Sink};
 use bolt_job::{CompactJob, CopyKind, Extent, LoadJob, PageSize};
 use bolt_load::{ListingText, a_text_is_of_one_tree};
@@ -31,13 +31,13 @@ pub(crate) fn write_copy<O: Sink, T: Sink>(
 {
     each_file_has_found_pages();
     let mut opened = input.open(job.meta, job.extent)?;
-    let hash = bad_hash(job.kind, input.file);
-    if let Some(fault) = hash_refusal(job.extent, hash) {
+    let faults = FileFaults::of_copy(input.file, job.kind, job.extent, job.meta);
+    if let Some(fault) = hash_refusal(job.extent, faults.hash) {
         return Err(Failure::Hash(fault));
     }
     let copy = copy_opened(input, job, &mut opened, target)?;
     let report = CopyReport {
-        hash,
+        faults,
         lost: opened.lost(),
         found: opened.found(),
         source: input.file.len() as u64,
@@ -117,20 +117,6 @@ pub(crate) fn blueprint_of(kind: CopyKind, size: Option<PageSize>, meta: &Meta) 
     }
 }
 
-/// What is wrong with the hash that a file has, if a snapshot is to be made of the file. The copy would
-/// have a right hash.
-pub(crate) fn bad_hash(kind: CopyKind, file: &[u8]) -> Option<SnapshotFault>
-    ensures { result ≡ bad_hash (is_snapshot kind) file.now }
-{
-    if !kind.is_snapshot() {
-        return None;
-    }
-    match snapshot_fault(file) {
-        Some(SnapshotFault::HashMissing) => None,
-        fault => fault,
-    }
-}
-
 /// Writes a database of the listing that the lines of a file tell to `target`, and then the lengths
 /// of both to `out`.
 pub(crate) fn write_loaded<O: Sink, T: Sink>(
@@ -152,7 +138,7 @@ pub(crate) fn write_loaded<O: Sink, T: Sink>(
     };
     let copy = copy_members(input.alloc, &mut members, &blueprint, job.kind, target)?;
     let report = CopyReport {
-        hash: None,
+        faults: FileFaults::none(),
         lost: Lost::Parts(&[]),
         found: &[],
         source: input.file.len() as u64,

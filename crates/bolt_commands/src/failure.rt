@@ -4,6 +4,7 @@ ghost use Rattle.bolt_commands.specs.Failures.{IsFailureOf, copied, reported, un
 ghost use Rattle.bolt_commands.specs.declared.failure.Failure.TheVariants as failure;
 ghost use Rattle.bolt_commands.specs.Private.Endings.{end_of, end_written};
 
+use crate::shortfall::Shortfall;
 use bolt_bulk::BulkFault;
 use bolt_check::{CheckFault, Finding, NoMemory};
 use bolt_etcd::{RepairFault, SnapshotFault};
@@ -26,14 +27,16 @@ pub enum Failure {
     NoBucket,
     /// The path that was asked for has no value.
     NoKey,
-    /// The path leads to no bucket that is recovered, and this many pages were lost.
-    BucketMaybeLost(u64),
-    /// No value at the path is recovered, and this many pages were lost.
-    KeyMaybeLost(u64),
+    /// The path leads to no bucket that is recovered, but this may be lacking.
+    BucketMaybeLost(Shortfall),
+    /// No value at the path is recovered, but this may be lacking.
+    KeyMaybeLost(Shortfall),
     /// Memory ran out.
     Memory,
-    /// The copy would have 2^63 bytes or more, or the file has more pages than can be named.
+    /// The copy would have 2^63 bytes or more.
     TooLarge,
+    /// The file has more pages than the names in `lost+found` have digits for.
+    TooManyPages,
     /// A snapshot was to be made of a file whose own hash is cut off or differs.
     Hash(SnapshotFault),
     /// The root bucket has a value under the name of the bucket `key`, so what is found of that can't go
@@ -43,8 +46,8 @@ pub enum Failure {
     Exists,
     /// Standard output or the copy couldn't be written.
     Write,
-    /// What is recovered was printed, and this many pages were lost.
-    Lost(u64),
+    /// What is recovered was printed, and it lacks this, or may lack it.
+    Lost(Shortfall),
     /// The transaction that was asked for was compacted away.
     Compacted,
     /// What etcd keeps was printed, and this many entries of its bucket `key` aren't revisions.
@@ -118,7 +121,7 @@ impl From<JoinFault> for Failure {
         match fault {
             JoinFault::Root(finding) => Failure::File(finding),
             JoinFault::Exists => Failure::Exists,
-            JoinFault::TooLarge => Failure::TooLarge,
+            JoinFault::TooLarge => Failure::TooManyPages,
             JoinFault::Memory => Failure::Memory,
         }
     }

@@ -3,9 +3,10 @@ ghost use Rattle.std.specs.Prelude.{◌++◌, codes, decimal};
 ghost use Rattle.bolt_format.specs.{Endings.ending, Wrote.Wrote};
 ghost use Rattle.bolt_report.specs.FaultWords.{finding_text};
 ghost use Rattle.bolt_load.specs.FaultWords.{line_fault_words};
-ghost use Rattle.bolt_commands.specs.Failures.{failure_line, failure_text};
+ghost use Rattle.bolt_commands.specs.{Failures.failure_line, Failures.failure_text, Shortfalls.shortfall_text};
 
 use crate::failure::Failure;
+use crate::shortfall::{Shortfall, put_shortfall};
 use bolt_check::Finding;
 use bolt_etcd::snapshot_fault_text;
 use bolt_format::{Sink, SinkFault};
@@ -30,17 +31,16 @@ fn put_text<E: Sink>(failure: &Failure, err: &mut E) -> Result<(), SinkFault>
         Failure::Page(fault) => page_fault_text(fault, err),
         Failure::NoBucket => put(b"bucket not found\n", err),
         Failure::NoKey => put(b"key not found\n", err),
-        Failure::BucketMaybeLost(lost) => {
-            put_number(b"bucket not found; pages lost: ", *lost, err)
-        }
-        Failure::KeyMaybeLost(lost) => put_number(b"key not found; pages lost: ", *lost, err),
+        Failure::BucketMaybeLost(lost) => put_missing(b"bucket not found; ", *lost, err),
+        Failure::KeyMaybeLost(lost) => put_missing(b"key not found; ", *lost, err),
         Failure::Memory => put(b"out of memory\n", err),
         Failure::TooLarge => put(b"layout too large\n", err),
+        Failure::TooManyPages => put(b"too many pages\n", err),
         Failure::Hash(fault) => snapshot_fault_text(*fault, err),
         Failure::NotABucket => put(b"key is not a bucket\n", err),
         Failure::Exists => put(b"lost+found exists\n", err),
         Failure::Write => put(b"write failed\n", err),
-        Failure::Lost(count) => put_number(b"pages lost: ", *count, err),
+        Failure::Lost(lost) => put_shortfall(*lost, err),
         Failure::Others(count) => put_number(b"not revisions: ", *count, err),
         Failure::Compacted => put(b"revision compacted\n", err),
         Failure::Line(line, fault) => put_line_fault(*line, *fault, err),
@@ -53,6 +53,14 @@ fn put_file_refused<E: Sink>(finding: &Finding, err: &mut E) -> Result<(), SinkF
 {
     put(b"file refused: ", err)?;
     finding_text(finding, err)
+}
+
+/// Writes what isn't there, and why it may be missing.
+fn put_missing<E: Sink>(words: &[u8], lost: Shortfall, err: &mut E) -> Result<(), SinkFault>
+    ensures { Wrote E.Sink err.old err.new (words.now ++ shortfall_text lost) (ending result) }
+{
+    put(words, err)?;
+    put_shortfall(lost, err)
 }
 
 /// Writes a number after a text.

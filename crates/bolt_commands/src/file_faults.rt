@@ -1,12 +1,13 @@
 //! What is wrong with a file apart from its pages.
 ghost use Rattle.std.specs.Prelude.{◌≡◌, ◌≤◌, IfOk};
 ghost use Rattle.bolt_format.specs.{Endings.ending, Wrote.Wrote};
-ghost use Rattle.bolt_commands.specs.FileFaults.{AreFileFaults, IsMetasFault, IsOtherFault, errors_of, errors_in, fault_lines, hash_lines, is_fine, no_faults, other_lines};
-ghost use Rattle.bolt_commands.specs.SnapshotAnswers.{hash_found};
+ghost use Rattle.bolt_commands.specs.FileFaults.{AreCopyFaults, AreFileFaults, IsMetasFault, IsOtherFault, errors_of, errors_in, fault_lines, hash_lines, is_fine, no_faults, other_lines};
+ghost use Rattle.bolt_commands.specs.SnapshotAnswers.{bad_hash, hash_found};
+ghost use Rattle.bolt_job.specs.CopyKinds.{is_snapshot};
 
 use bolt_etcd::{SnapshotFault, snapshot_fault, snapshot_fault_text};
 use bolt_format::{MetaFault, Sink, SinkFault, Slot, choose, slot_meta};
-use bolt_job::{CheckJob, Extent, MetaChoice};
+use bolt_job::{CheckJob, CopyKind, Extent, MetaChoice};
 use bolt_report::slot_fault_text;
 
 /// What is wrong with a file apart from its pages.
@@ -45,6 +46,35 @@ impl FileFaults {
             other: metas_fault(job.extent, file, job.meta),
         }
     }
+
+    /// What is reported of a file that is copied to this extent.
+    pub(crate) fn of_copy(
+        file: &[u8],
+        kind: CopyKind,
+        extent: Extent,
+        choice: MetaChoice,
+    ) -> FileFaults
+        ensures { AreCopyFaults extent (is_snapshot kind) file.now choice result }
+    {
+        FileFaults {
+            hash: bad_hash(kind, file),
+            other: metas_fault(extent, file, choice),
+        }
+    }
+}
+
+/// What is wrong with the hash that a file has, if a snapshot is to be made of the file. The copy would
+/// have a right hash.
+fn bad_hash(kind: CopyKind, file: &[u8]) -> Option<SnapshotFault>
+    ensures { result ≡ bad_hash (is_snapshot kind) file.now }
+{
+    if !kind.is_snapshot() {
+        return None;
+    }
+    match snapshot_fault(file) {
+        Some(SnapshotFault::HashMissing) => None,
+        fault => fault,
+    }
 }
 
 /// What is wrong with the hash, if the file is to be a snapshot.
@@ -54,8 +84,13 @@ fn hash_found(snapshot: bool, file: &[u8]) -> Option<SnapshotFault>
     if snapshot { snapshot_fault(file) } else { None }
 }
 
-/// Looks at both metas if all of the file is asked for, under its active meta.
-fn metas_fault(extent: Extent, file: &[u8], choice: MetaChoice) -> Option<(Slot, MetaFault)>
+/// Looks at both metas if all of the file is asked for, under its active meta: if the other one is
+/// refused, the newest state may be lost with it.
+pub(crate) fn metas_fault(
+    extent: Extent,
+    file: &[u8],
+    choice: MetaChoice,
+) -> Option<(Slot, MetaFault)>
     ensures { IsMetasFault extent file.now choice result }
 {
     match (extent, choice) {
@@ -93,10 +128,7 @@ pub(crate) fn put_file_faults<O: Sink>(faults: FileFaults, out: &mut O) -> Resul
 }
 
 /// Writes what is wrong with the hash, if anything is.
-pub(crate) fn put_hash_line<O: Sink>(
-    hash: Option<SnapshotFault>,
-    out: &mut O,
-) -> Result<(), SinkFault>
+fn put_hash_line<O: Sink>(hash: Option<SnapshotFault>, out: &mut O) -> Result<(), SinkFault>
     ensures { Wrote O.Sink out.old out.new (hash_lines hash) (ending result) }
 {
     match hash {

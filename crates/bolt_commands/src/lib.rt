@@ -20,6 +20,7 @@ mod opening;
 mod printing_commands;
 mod recovered_commands;
 mod repair_command;
+mod shortfall;
 mod value_text;
 
 use crate::check_command::print_check;
@@ -36,6 +37,7 @@ use crate::repair_command::write_repaired;
 use bolt_format::Sink;
 use bolt_job::Job;
 pub use failure::Failure;
+pub use shortfall::Shortfall;
 use std::alloc::Global;
 
 /// How a run ended.

@@ -1,6 +1,5 @@
 //! The command `list`.
 ghost use Rattle.std.specs.Prelude.{◌≡◌, IfErr, IfOk, OnOk};
-ghost use Rattle.bolt_recover.specs.ShownLosses.{lost_view};
 ghost use Rattle.bolt_format.specs.Wrote.{Wrote};
 ghost use Rattle.bolt_report.specs.MembersLeft.{ForLeft, ForRising};
 ghost use Rattle.bolt_text.specs.ReportEndings.{report_ending};
@@ -11,15 +10,17 @@ ghost use Rattle.bolt_commands.specs.Private.{Endings.MayFail, Opened.IsOpened, 
 ghost use Rattle.bolt_commands.specs.Private.Printing.{PutsPart, finds, job_part, sound_part};
 
 use crate::failure::{Failure, Outcome};
+use crate::file_faults::metas_fault;
 use crate::opened::Opened;
 use crate::opening::{Input, join, open_bucket};
+use crate::shortfall::Shortfall;
 use bolt_check::Checked;
 use bolt_format::Sink;
 use bolt_job::ListJob;
+use bolt_recover::LostAndFound;
 use bolt_recover::laws::{
     each_file_has_a_joined_listing, each_file_has_found_pages, joined_members_rise,
 };
-use bolt_recover::{Lost, LostAndFound};
 use bolt_report::{ReportFault, list_members_part, list_part};
 use bolt_tree::Members;
 use std::alloc::Global;
@@ -32,21 +33,21 @@ pub(crate) fn print_list<O: Sink>(input: Input<'_>, job: &ListJob, out: &mut O) 
 {
     each_file_has_found_pages();
     let mut opened = input.open(job.meta, job.extent)?;
+    let other = metas_fault(job.extent, input.file, job.meta);
     if put_part(input, job, &mut opened, out)? {
-        end_listing(opened.lost())
+        end_listing(Shortfall::find(opened.lost(), other))
     } else {
         Err(Failure::NoBucket)
     }
 }
 
-/// How a job ends that put what is wanted of a listing, if this is lost.
-pub(crate) fn end_listing(lost: Lost<'_>) -> Outcome
-    ensures { result ≡ lost_ending (lost_view lost.entry) }
+/// How a job ends that put what is wanted of a listing, if that lacks this.
+pub(crate) fn end_listing(lost: Option<Shortfall>) -> Outcome
+    ensures { result ≡ lost_ending lost }
 {
     match lost {
-        Lost::Everything(_) => Err(Failure::Lost(1)),
-        Lost::Parts([]) => Ok(0),
-        Lost::Parts(losses) => Err(Failure::Lost(losses.len() as u64)),
+        None => Ok(0),
+        Some(lost) => Err(Failure::Lost(lost)),
     }
 }
 

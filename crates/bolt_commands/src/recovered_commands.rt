@@ -1,8 +1,6 @@
 //! `buckets`, `keys` and `get` with `--recover`: what they print of what is recovered of a damaged file.
-ghost use Rattle.std.specs.Prelude.{◌≡◌, ℕ, IfOk, IfSome, List, OnOk, map};
+ghost use Rattle.std.specs.Prelude.{◌≡◌, ℕ, IfOk, IfSome, List, OnOk};
 ghost use Rattle.std.specs.Option.{IfNone};
-ghost use Rattle.bolt_recover.specs.ShownLosses.{loss_view};
-ghost use Rattle.bolt_recover.specs.Losses.{parts};
 ghost use Rattle.bolt_report.specs.MembersLeft.{ForLeft};
 ghost use Rattle.bolt_tree.specs.{Entries.Value, Listing.Member, Paths.path_of, ShownEntries.item_view};
 ghost use Rattle.bolt_commands.specs.Answers.{IsRecoveredAnswer, IsRecoveredValue, no_bucket, no_key, parents_of};
@@ -10,13 +8,15 @@ ghost use Rattle.bolt_commands.specs.Private.Printing.{PrintsAnswer};
 ghost use Rattle.bolt_commands.specs.Private.Recovered.{HoldsNow, IsNamesPrint, bucket_ending, value_or_why};
 
 use crate::failure::{Failure, Outcome};
+use crate::file_faults::metas_fault;
 use crate::list_command::{end_listing, slices};
 use crate::opening::Input;
+use crate::shortfall::Shortfall;
 use crate::value_text::put_value;
 use bolt_check::NoMemory;
 use bolt_format::Sink;
-use bolt_job::{GetJob, MetaChoice};
-use bolt_recover::{Loss, Lost};
+use bolt_job::{Extent, GetJob, MetaChoice};
+use bolt_recover::Lost;
 use bolt_report::{Form, Names, NamesIn, is_bucket_at, list_members_names};
 use bolt_tree::{Item, Members};
 
@@ -40,43 +40,47 @@ pub(crate) fn print_recovered_names<O: Sink>(
         (IsNamesPrint asked.entry input.entry.file.now) result }
 {
     let mut recovery = input.recover(asked.meta)?;
+    let other = metas_fault(Extent::Losses, input.file, asked.meta);
     let path = slices(input.alloc, asked.path)?;
     let wanted = NamesIn {
         bucket: path.as_slice(),
         names: asked.names,
     };
     let found = list_members_names(input.alloc, &mut recovery, wanted, asked.form, out)?;
-    end_names(found, recovery.losses())
+    end_names(
+        found,
+        Shortfall::find(Lost::Parts(recovery.losses()), other),
+    )
 }
 
 /// How a job ends that put what is recovered of a bucket, if it was found.
-fn end_names(found: bool, losses: &[Loss<'_>]) -> Outcome
-    ensures { result ≡ bucket_ending found (parts (map loss_view losses.now)) }
+fn end_names(found: bool, lost: Option<Shortfall>) -> Outcome
+    ensures { result ≡ bucket_ending found lost }
 {
     if found {
-        end_listing(Lost::Parts(losses))
+        end_listing(lost)
     } else {
-        Err(no_bucket(losses))
+        Err(no_bucket(lost))
     }
 }
 
 /// Why no bucket is recovered at a path.
-fn no_bucket(losses: &[Loss<'_>]) -> Failure
-    ensures { result ≡ no_bucket (parts (map loss_view losses.now)) }
+fn no_bucket(lost: Option<Shortfall>) -> Failure
+    ensures { result ≡ no_bucket lost }
 {
-    match losses {
-        [] => Failure::NoBucket,
-        losses => Failure::BucketMaybeLost(losses.len() as u64),
+    match lost {
+        None => Failure::NoBucket,
+        Some(lost) => Failure::BucketMaybeLost(lost),
     }
 }
 
 /// Why no value is recovered at a path.
-fn no_key(losses: &[Loss<'_>]) -> Failure
-    ensures { result ≡ no_key (parts (map loss_view losses.now)) }
+fn no_key(lost: Option<Shortfall>) -> Failure
+    ensures { result ≡ no_key lost }
 {
-    match losses {
-        [] => Failure::NoKey,
-        losses => Failure::KeyMaybeLost(losses.len() as u64),
+    match lost {
+        None => Failure::NoKey,
+        Some(lost) => Failure::KeyMaybeLost(lost),
     }
 }
 
@@ -86,11 +90,13 @@ pub(crate) fn print_recovered_value<O: Sink>(input: Input<'_>, job: &GetJob, out
         (IsRecoveredAnswer input.entry.file.now job.now.meta (IsRecoveredValue job.now)) result }
 {
     let mut recovery = input.recover(job.meta)?;
+    let other = metas_fault(Extent::Losses, input.file, job.meta);
     let path = slices(input.alloc, job.path.as_slice())?;
     let at = look_up(&mut recovery, path.as_slice())?;
-    let value = at.value_or_why(recovery.losses())?;
+    let lost = Shortfall::find(Lost::Parts(recovery.losses()), other);
+    let value = at.value_or_why(lost)?;
     put_value(input.alloc, value, job.form, job.no_newline, out)?;
-    end_listing(Lost::Parts(recovery.losses()))
+    end_listing(lost)
 }
 
 /// What members hold at a path.
@@ -103,15 +109,14 @@ struct AtPath<'a> {
 }
 
 impl<'a> AtPath<'a> {
-    /// The value, or why there is none, if this is lost.
-    fn value_or_why(self, losses: &[Loss<'_>]) -> Result<&'a [u8], Failure>
-        ensures { result ≡ value_or_why self.entry.value self.entry.has_bucket
-            (parts (map loss_view losses.now)) }
+    /// The value, or why there is none, if this is lacking.
+    fn value_or_why(self, lost: Option<Shortfall>) -> Result<&'a [u8], Failure>
+        ensures { result ≡ value_or_why self.entry.value self.entry.has_bucket lost }
     {
         match self.value {
             Some(value) => Ok(value),
-            None if self.has_bucket => Err(no_key(losses)),
-            None => Err(no_bucket(losses)),
+            None if self.has_bucket => Err(no_key(lost)),
+            None => Err(no_bucket(lost)),
         }
     }
 }

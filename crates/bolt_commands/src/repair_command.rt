@@ -8,15 +8,15 @@ ghost use Rattle.bolt_etcd.specs.{Repaired.ForRepaired, RepairedMembers.repaired
 ghost use Rattle.bolt_job.specs.CopyKinds.{is_snapshot};
 
 use crate::copies::{copy_members, put_lengths, status_of};
-use crate::copy_commands::{bad_hash, blueprint_of};
+use crate::copy_commands::blueprint_of;
 use crate::failure::{Failure, Outcome};
-use crate::file_faults::put_hash_line;
+use crate::file_faults::{FileFaults, put_file_faults};
 use crate::opening::Input;
 use bolt_bulk::Blueprint;
 use bolt_etcd::laws::repaired_listing_is_of_a_tree;
-use bolt_etcd::{Repair, Repaired, SnapshotFault};
+use bolt_etcd::{Repair, Repaired};
 use bolt_format::{Sink, SinkFault};
-use bolt_job::{CopyKind, EtcdRepairJob};
+use bolt_job::{CopyKind, EtcdRepairJob, Extent};
 use bolt_layout::laws::a_fit_listing_is_of_one_tree;
 use bolt_recover::Lost;
 use bolt_report::lost_text;
@@ -37,10 +37,11 @@ pub(crate) fn write_repaired<O: Sink, T: Sink>(
     let both = input.search(job.meta)?;
     let repair = Repair::find(input.alloc, &both)?;
     let kind = kind_of(job);
+    let faults = FileFaults::of_copy(input.file, kind, Extent::LostAndFound, job.meta);
     let blueprint = blueprint_of(kind, job.page_size, &both.meta);
     let copy = copy_repaired(input.alloc, &repair, &blueprint, kind, target)?;
     let report = RepairReport {
-        hash: bad_hash(kind, input.file),
+        faults,
         lost: both.lost(),
         back: repair.back.len() as u64,
         left_out: repair.left_out,
@@ -91,8 +92,8 @@ fn repaired_members_are_whole(repaired: &Repaired<'_>)
 /// What is reported of a repair beside the length of the copy.
 #[derive(Clone, Copy)]
 struct RepairReport<'l> {
-    /// What is wrong with the hash of the file, if a snapshot is made of one.
-    hash: Option<SnapshotFault>,
+    /// What is wrong with the file apart from its pages.
+    faults: FileFaults,
     lost: Lost<'l>,
     /// The number of revisions that are put back.
     back: u64,
@@ -107,14 +108,14 @@ fn end_repair<O: Sink>(copy: u64, report: &RepairReport<'_>, out: &mut O) -> Out
     ensures { Does O.taken O.failed out.old out.new (repaired_answer report.now copy) result }
 {
     put_report(report, copy, out)?;
-    Ok(status_of(report.hash, report.lost))
+    Ok(status_of(report.faults, report.lost))
 }
 
 #[tactic(auto, using(bolt_format::proofs::WroteLemmas::wrote))]
 fn put_report<O: Sink>(report: &RepairReport<'_>, copy: u64, out: &mut O) -> Result<(), SinkFault>
     ensures { Wrote O.Sink out.old out.new (repaired_text report.now copy) (ending result) }
 {
-    put_hash_line(report.hash, out)?;
+    put_file_faults(report.faults, out)?;
     lost_text(report.lost, &[], out)?;
     put_counts(report.back, report.left_out, out)?;
     put_lengths(report.source, copy, out)

@@ -15,7 +15,7 @@ const BUCKET_PART: Argument = Argument {
     name: "PART",
     flag: Flag::Operands,
     value: Some("BUCKET"),
-    help: "The path to the bucket: the names of buckets, from the root bucket down",
+    help: "The path to the bucket: a word for each bucket, from the root bucket down",
     required: true,
 };
 
@@ -23,7 +23,7 @@ const KEY_PART: Argument = Argument {
     name: "PART",
     flag: Flag::Operands,
     value: Some("KEY"),
-    help: "The path to the key: the names of buckets, from the root bucket down, and then the key",
+    help: "The path to the key: a word for each bucket, from the root bucket down, and then the key",
     required: true,
 };
 
@@ -31,7 +31,7 @@ const BUCKET_IN: Argument = Argument {
     name: "PART",
     flag: Flag::Operands,
     value: Some("BUCKET"),
-    help: "The path to a bucket: the names of buckets, from the root bucket down [default: the root bucket]",
+    help: "The path to a bucket: a word for each bucket, from the root bucket down [default: the root bucket]",
     required: false,
 };
 
@@ -79,7 +79,7 @@ const PARTS: Argument = Argument {
     name: "parts",
     flag: Flag::Long,
     value: Some("P"),
-    help: "How the path is written: text, hex or mixed (hex after 0x, otherwise text) [default: text]",
+    help: "How the path is written: text, hex, or mixed (hex after 0x, otherwise text, as --form mixed prints names) [default: text]",
     required: false,
 };
 
@@ -87,7 +87,7 @@ const FROM: Argument = Argument {
     name: "from",
     flag: Flag::Long,
     value: Some("HEXPATH"),
-    help: "The path to begin at: keys in hex, joined by slashes, as list prints them",
+    help: "The path to begin at: names and keys in hex, two digits a byte, joined by slashes, as list prints them",
     required: false,
 };
 

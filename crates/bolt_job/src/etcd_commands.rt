@@ -25,7 +25,7 @@ const FROM_REVISION: Argument = Argument {
     name: "from",
     flag: Flag::Long,
     value: Some("R"),
-    help: "The revision to begin at, in decimal [default: the first]",
+    help: "The revision to begin at, in decimal, below 2^63 [default: the first]",
     required: false,
 };
 
@@ -33,7 +33,7 @@ const AT_REVISION: Argument = Argument {
     name: "at",
     flag: Flag::Long,
     value: Some("R"),
-    help: "Read etcd's keys as they were at revision R, in decimal [default: the last]",
+    help: "Read etcd's keys as they were at revision R, in decimal, below 2^63; after the last one, as they are [default: the last]",
     required: false,
 };
 

@@ -20,7 +20,7 @@ pub use bolt_stats::{Stats, add, stats};
 pub use bolt_text::{FigureForm, Form, ListForm, MemberLines, ReportFault, item, value};
 pub use fault_lines::{finding_text, findings_text, meta_fault_text, page_fault_text};
 pub use key_lines::{buckets, keys, keys_with_prefix};
-pub use loss_lines::{counted_lost_text, lost_text};
+pub use loss_lines::{counted_lost_text, lost_count, lost_text};
 pub use maps::page_map;
 pub use metas::{info, slot_fault_text};
 pub use name_lines::{Names, NamesIn, list_members_names};

@@ -23,8 +23,8 @@ fn put_lost<S: Sink>(lost: Lost<'_>, sink: &mut S) -> Result<(), SinkFault>
     }
 }
 
-/// How many losses there are.
-fn count_of(lost: Lost<'_>) -> u64
+/// How many losses there are: one if everything is lost.
+pub fn lost_count(lost: Lost<'_>) -> u64
     ensures { result ≡ lost_count (lost_view lost.entry) }
 {
     match lost {
@@ -141,7 +141,7 @@ pub fn counted_lost_text<S: Sink>(
         (ending result) }
 {
     lost_text(lost, found, sink)?;
-    put_count(earlier + count_of(lost), sink)
+    put_count(earlier + lost_count(lost), sink)
 }
 
 #[tactic(auto, using(bolt_text::proofs::ReportLemmas::elements))]

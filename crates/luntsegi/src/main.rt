@@ -13,7 +13,7 @@ fn main(rt: HostRuntime) -> ExitCode {
     let mut process = Process { rt: &rt };
     let code = match read_args(&rt) {
         Ok(words) => run_program(&mut process, rt.alloc(), words),
-        Err(refusal) => refuse(&mut process, &refusal),
+        Err(refusal) => refuse(&mut process, rt.alloc(), &refusal),
     };
     ExitCode::from(code)
 }

@@ -2,19 +2,18 @@
 use Rattle.std.specs.Prelude.{◌≡◌, Contains, IfSome, List, ℕ, Bool, Option, Some, None, Result, Ok, Err, if◌then◌else◌}
 use Rattle.std.specs.Borrow.{Bor}
 use Rattle.std.specs.Option.{IfNone}
-use Rattle.bolt_recover.specs.Losses.{LostView}
 use Rattle.bolt_tree.specs.{Entries.Value, Listing.Member, ListingParts.has_bucket, Paths.Path}
 use Rattle.bolt_job.specs.PlainWords.{path_in}
 use Rattle.bolt_report.specs.MemberNames.{is_wanted}
 use Rattle.bolt_commands.specs.Answers.{Answer, Ending, IsNamesAnswer, IsRecoveredAnswer, lost_ending, no_bucket, no_key, parents_of}
-use Rattle.bolt_commands.specs.declared.{failure.Failure.Failure, recovered_commands.AtPath.AtPath, recovered_commands.RecoveredNames.RecoveredNames}
+use Rattle.bolt_commands.specs.declared.{failure.Failure.Failure, recovered_commands.AtPath.AtPath, recovered_commands.RecoveredNames.RecoveredNames, shortfall.Shortfall.Shortfall}
 
 -- the names that are asked for of what is recovered
 abbrev pub IsNamesPrint : RecoveredNames → List ℕ → Answer → Type 0
 IsNamesPrint asked file = IsRecoveredAnswer file asked.meta (IsNamesAnswer asked.form (is_wanted asked.names) (path_in asked.path.now))
 
 -- how a job ends that put what is recovered of a bucket, if that was found
-abbrev pub bucket_ending : (found : Bool) → LostView → Ending
+abbrev pub bucket_ending : (found : Bool) → Option Shortfall → Ending
 bucket_ending found lost = if found then lost_ending lost else Err (no_bucket lost)
 
 -- what these members hold at a path
@@ -24,6 +23,6 @@ pub record HoldsNow (members : List Member) (path : Path) (at : AtPath) : Type 0
   pub bucket : at.has_bucket ≡ has_bucket (parents_of path) members
 
 -- the value, or why there is none
-abbrev pub value_or_why : (value : Option (Bor (List ℕ))) (has_bucket : Bool) → LostView → Result (Bor (List ℕ)) Failure
+abbrev pub value_or_why : (value : Option (Bor (List ℕ))) (has_bucket : Bool) → Option Shortfall → Result (Bor (List ℕ)) Failure
 value_or_why (Some value) has_bucket lost = Ok value
 value_or_why None has_bucket lost = Err (if has_bucket then no_key lost else no_bucket lost)

@@ -24,7 +24,7 @@ CopiesRepaired target old new repair blueprint snapshot result =
 
 -- what is written of a repair, if the copy has this length
 abbrev pub repaired_answer : RepairReport → (copy : ℕ) → Answer
-repaired_answer r copy = repair_report r.hash (lost_view r.lost) r.back r.left_out r.source copy
+repaired_answer r copy = repair_report r.faults (lost_view r.lost) r.back r.left_out r.source copy
 
 abbrev pub repaired_text : RepairReport → (copy : ℕ) → List ℕ
 repaired_text r copy = (repaired_answer r copy).out

@@ -6,7 +6,7 @@ use Rattle.bolt_commands.specs.{Answers.Answer, Answers.copy_report, declared.co
 
 -- what is written of a report, if the copy has this length
 abbrev pub report_answer : CopyReport → (copy : ℕ) → Answer
-report_answer r copy = copy_report r.hash (lost_view r.lost) (map found_view r.found.now) r.source copy
+report_answer r copy = copy_report r.faults (lost_view r.lost) (map found_view r.found.now) r.source copy
 
 abbrev pub report_text : CopyReport → (copy : ℕ) → List ℕ
 report_text r copy = (report_answer r copy).out

@@ -11,7 +11,7 @@ printed target output why text deeds code (inl help) prints = rw help prints
 printed target output why text deeds code (inr version) prints = rw version prints
 
 pub returns-in-Usage : goal.returns-in-Usage
-returns-in-Usage g c = DoesDeeds-one _ c.say.ensures (rw c.in-Usage.is (c.as_bytes.ensures.value, refl))
+returns-in-Usage g c = DoesDeeds-as c.refuse_usage.ensures (λ deeds refuses. rw (c.in-Usage.is, ← c.as_str.ensures.value) refuses)
 
 pub returns-in-Word : goal.returns-in-Word
 returns-in-Word g c = DoesDeeds-one _ c.say-in-Word.ensures (rw c.in-Word.is (ap error_line c.as_bytes-in-Word.ensures.value, refl))

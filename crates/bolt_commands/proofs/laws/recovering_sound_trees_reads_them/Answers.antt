@@ -23,26 +23,26 @@ returns g c =
       has_listing = c.sound_trees_have_a_listing.ensures;
       unrepaired = c.sound_trees_are_not_repaired.ensures;
     } in record {
-      list = λ file meta trees wanted named shown shown_named alone. lists_the_same (recovers_alike below file meta trees wanted named shown shown_named alone);
-      compact = λ file meta trees wanted named shown shown_named alone out_old out_new target_old target_new size layout snapshot ending same.
-          copies_the_same (recovers_alike below file meta trees wanted named shown shown_named alone) g.O.Sink.taken g.O.Sink.failed g.T.Sink.taken g.T.Sink.failed
+      list = λ file meta trees wanted named shown shown_named hides alone. lists_the_same (recovers_alike below file meta trees wanted named shown shown_named hides alone);
+      compact = λ file meta trees wanted named shown shown_named hides alone out_old out_new target_old target_new size layout snapshot ending same.
+          copies_the_same (recovers_alike below file meta trees wanted named shown shown_named hides alone) g.O.Sink.taken g.O.Sink.failed g.T.Sink.taken g.T.Sink.failed
           out_old out_new target_old target_new size layout snapshot ending same;
-      keys = λ file meta trees wanted named shown shown_named alone job answer whole.
-          names_the_same below file meta trees wanted named shown shown_named alone answer job.form (begins_so job.prefix.items) (begins job.prefix.items) (λ e. refl) (path_in job.path.items) whole;
-      buckets = λ file meta trees wanted named shown shown_named alone job answer whole.
-          names_the_same below file meta trees wanted named shown shown_named alone answer job.form names_bucket (λ e. e.is_bucket) bucket_items (path_in job.path.items) whole;
-      get = λ file meta trees wanted named shown shown_named alone job answer. gets_the_same below file meta trees wanted named shown shown_named alone answer job;
+      keys = λ file meta trees wanted named shown shown_named hides alone job answer whole.
+          names_the_same below file meta trees wanted named shown shown_named hides alone answer job.form (begins_so job.prefix.items) (begins job.prefix.items) (λ e. refl) (path_in job.path.items) whole;
+      buckets = λ file meta trees wanted named shown shown_named hides alone job answer whole.
+          names_the_same below file meta trees wanted named shown shown_named hides alone answer job.form names_bucket (λ e. e.is_bucket) bucket_items (path_in job.path.items) whole;
+      get = λ file meta trees wanted named shown shown_named hides alone job answer. gets_the_same below file meta trees wanted named shown shown_named hides alone answer job;
       found_list = λ file meta trees choice shown few. lists_the_same (finds_alike below file meta trees choice shown few);
       found_compact = λ file meta trees choice shown few out_old out_new target_old target_new size layout snapshot ending same.
           copies_the_same (finds_alike below file meta trees choice shown few) g.O.Sink.taken g.O.Sink.failed g.T.Sink.taken g.T.Sink.failed
           out_old out_new target_old target_new size layout snapshot ending same;
       repair = λ file meta trees choice shown out_old out_new target_old target_new size snapshot ending does. elim does [
         | inl made ↦ inl (∥∥₁_map made (λ m.
-            let (other, listing, lost, back, left_out, is, writes) = m in
+            let (other, listing, lost, back, left_out, is, faults, are, writes) = m in
             let one = names_one below file choice meta shown other is.under in
             let at = subst (λ (m : Meta). IsRestored file choice m listing lost back left_out) one is in
             let (lists, none, no_back, none_left) = none_restored below file meta trees choice listing lost back left_out at in
-            (listing, lists, rw (one, none, no_back, none_left) at writes)))
+            (listing, lists, faults, are, rw (one, none, no_back, none_left) at writes)))
         | inr (why, is, none) ↦ inr (why, none_unrestored below file meta trees choice shown why is, none)
       ];
     }

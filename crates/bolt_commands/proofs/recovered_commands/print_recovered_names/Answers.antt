@@ -19,7 +19,7 @@ returns-in_err-found g c =
     let same : path_of c.as_slice.result.now ≡ path_in c.args.asked.path.now = ap path_of c.as_slice.ensures.value ∙ c.in_ok-path.ensures.path in
     let put = c.in_err-found.ensures in
     rw (ends_as _ _ c.from_residual-in_err-found.ensures.1, ← same)
-    (names_answered r of c.args.asked.form (is_wanted c.args.asked.names) _ (Err _) put.fault put.written put.found [] put.end)
+    (names_answered r of _ c.metas_fault-other.ensures c.args.asked.form (is_wanted c.args.asked.names) _ (Err _) put.fault put.written put.found [] put.end)
 
 pub returns : goal.returns
 returns g c =
@@ -28,5 +28,5 @@ returns g c =
     let of : IsRecoveryOf c.args.input.file.now c.args.asked.meta r = record { bytes = opened.file; under = opened.meta; all = opened.all } in
     let same : path_of c.as_slice.result.now ≡ path_in c.args.asked.path.now = ap path_of c.as_slice.ensures.value ∙ c.in_ok-path.ensures.path in
     let put = c.in_ok-found.ensures in
-    rw (c.end_names.ensures, c.losses.ensures.losses, ← same)
-    (names_answered r of c.args.asked.form (is_wanted c.args.asked.names) _ (Ok _) put.fault put.written put.found _ put.end)
+    rw (c.end_names.ensures, c.find.ensures, c.losses.ensures.losses, ← same)
+    (names_answered r of _ c.metas_fault-other.ensures c.args.asked.form (is_wanted c.args.asked.names) _ (Ok _) put.fault put.written put.found _ put.end)

@@ -1,6 +1,6 @@
 -- All members are returned before the value is written.
 use Rattle.std.proofs.Common.{◌≡◌, ◌∙◌, Bool, Err, Ok, ap, inr, refl, true}
-use Rattle.bolt_commands.proofs.Vocabulary.{IsRecoveryOf, has_losses, has_recovered, parts, path_in, path_of, recovery_meta}
+use Rattle.bolt_commands.proofs.Vocabulary.{IsRecoveryOf, has_losses, has_recovered, parts, path_in, path_of, recovery_meta, shortfall}
 use Rattle.bolt_commands.proofs.{Doing.answer_nothing, Doing.answer_refused, Doing.ends_as, RecoveredAnswers.none_known, RecoveredAnswers.of_recovery, RecoveredAnswers.recovered_none, RecoveredAnswers.value_known, RecoveredAnswers.value_put}
 use Rattle.bolt_commands.specs.{Answers.IsRecoveredValue, Answers.no_value, Private.Recovered.HoldsNow}
 use Rattle.bolt_commands.proofs.recovered_commands.print_recovered_value.Goals as goal
@@ -25,9 +25,9 @@ returns-in_err-value g c =
     let same : path_of c.as_slice-2.result.now ≡ path = ap path_of c.as_slice-2.ensures.value ∙ c.in_ok-path.ensures.path ∙ ap path_in c.as_slice.ensures.value in
     let holds : HoldsNow own path c.in_ok-at.at = rw (same, of.all own is) at (c.in_ok-at.ensures.held own (rw of.bytes is)) in
     let known = c.in_ok-at.ensures.end losses (rw of.bytes are) in
-    let (none, why) = none_known own path c.in_ok-at.at holds (parts losses) _ (rw (c.losses.ensures.losses, known) at c.in_err-value.ensures) in
-    of_recovery r of (IsRecoveredValue c.args.job.now) _ own is losses are
-    (answer_nothing (no_value path own (parts losses)) _ (inr (none, refl)) (rw why at c.from_residual-in_err-value.ensures.1))
+    let (none, why) = none_known own path c.in_ok-at.at holds (shortfall (parts losses) c.other) _ (rw (c.find-lost.ensures, c.losses.ensures.losses, known) at c.in_err-value.ensures) in
+    of_recovery r of _ c.metas_fault-other.ensures (IsRecoveredValue c.args.job.now) _ own is losses are
+    (answer_nothing (no_value path own (shortfall (parts losses) c.other)) _ (inr (none, refl)) (rw why at c.from_residual-in_err-value.ensures.1))
 
 pub returns-in_err-put_value : goal.returns-in_err-put_value
 returns-in_err-put_value g c =
@@ -40,10 +40,10 @@ returns-in_err-put_value g c =
     let same : path_of c.as_slice-2.result.now ≡ path = ap path_of c.as_slice-2.ensures.value ∙ c.in_ok-path.ensures.path ∙ ap path_in c.as_slice.ensures.value in
     let holds : HoldsNow own path c.in_ok-at.at = rw (same, of.all own is) at (c.in_ok-at.ensures.held own (rw of.bytes is)) in
     let known = c.in_ok-at.ensures.end losses (rw of.bytes are) in
-    let held = value_known own path c.in_ok-at.at holds (parts losses) _ (rw (c.losses.ensures.losses, known) at c.in_ok-value.ensures) in
+    let held = value_known own path c.in_ok-at.at holds (shortfall (parts losses) c.other) _ (rw (c.find-lost.ensures, c.losses.ensures.losses, known) at c.in_ok-value.ensures) in
     let put = c.in_err-put_value.ensures in
     rw (ends_as _ _ c.from_residual-in_err-put_value.ensures.1)
-    (of_recovery r of (IsRecoveredValue c.args.job.now) _ own is losses are (value_put {A = Bool} c.args.job.now own (parts losses) _ held (Err _) put.written put.short put.fault))
+    (of_recovery r of _ c.metas_fault-other.ensures (IsRecoveredValue c.args.job.now) _ own is losses are (value_put {A = Bool} c.args.job.now own (shortfall (parts losses) c.other) _ held (Err _) put.written put.short put.fault))
 
 pub returns : goal.returns
 returns g c =
@@ -56,7 +56,7 @@ returns g c =
     let same : path_of c.as_slice-2.result.now ≡ path = ap path_of c.as_slice-2.ensures.value ∙ c.in_ok-path.ensures.path ∙ ap path_in c.as_slice.ensures.value in
     let holds : HoldsNow own path c.in_ok-at.at = rw (same, of.all own is) at (c.in_ok-at.ensures.held own (rw of.bytes is)) in
     let known = c.in_ok-at.ensures.end losses (rw of.bytes are) in
-    let held = value_known own path c.in_ok-at.at holds (parts losses) _ (rw (c.losses.ensures.losses, known) at c.in_ok-value.ensures) in
+    let held = value_known own path c.in_ok-at.at holds (shortfall (parts losses) c.other) _ (rw (c.find-lost.ensures, c.losses.ensures.losses, known) at c.in_ok-value.ensures) in
     let put = c.in_ok-put_value.ensures in
-    rw (c.end_listing.ensures, c.losses-2.ensures.losses, known)
-    (of_recovery r of (IsRecoveredValue c.args.job.now) _ own is losses are (value_put {A = Bool} c.args.job.now own (parts losses) _ held (Ok true) put.written put.short tt))
+    rw (c.end_listing.ensures, c.find-lost.ensures, c.losses.ensures.losses, known)
+    (of_recovery r of _ c.metas_fault-other.ensures (IsRecoveredValue c.args.job.now) _ own is losses are (value_put {A = Bool} c.args.job.now own (shortfall (parts losses) c.other) _ held (Ok true) put.written put.short tt))

@@ -1,12 +1,12 @@
 use Rattle.bolt_commands.proofs.Vocabulary.{Wrote-return, Wrote-then}
 use Rattle.bolt_commands.proofs.repair_command.put_report.Goals as goal
 
-pub returns-in_err-put_hash_line : goal.returns-in_err-put_hash_line
-returns-in_err-put_hash_line g c = Wrote-return _ _ c.in_err-put_hash_line.ensures c.from_residual.ensures.0
+pub returns-in_err-put_file_faults : goal.returns-in_err-put_file_faults
+returns-in_err-put_file_faults g c = Wrote-return _ _ c.in_err-put_file_faults.ensures.lines c.from_residual.ensures.0
 
 pub returns-in_err-lost_text : goal.returns-in_err-lost_text
-returns-in_err-lost_text g c = Wrote-then c.in_ok-put_hash_line.ensures (Wrote-return _ _ c.in_err-lost_text.ensures c.from_residual-in_err-lost_text.ensures.0)
+returns-in_err-lost_text g c = Wrote-then c.in_ok-put_file_faults.ensures.lines (Wrote-return _ _ c.in_err-lost_text.ensures c.from_residual-in_err-lost_text.ensures.0)
 
 pub returns-in_err-put_counts : goal.returns-in_err-put_counts
 returns-in_err-put_counts g c =
-    Wrote-then c.in_ok-put_hash_line.ensures (Wrote-then c.in_ok-lost_text.ensures (Wrote-return _ _ c.in_err-put_counts.ensures c.from_residual-in_err-put_counts.ensures.0))
+    Wrote-then c.in_ok-put_file_faults.ensures.lines (Wrote-then c.in_ok-lost_text.ensures (Wrote-return _ _ c.in_err-put_counts.ensures c.from_residual-in_err-put_counts.ensures.0))

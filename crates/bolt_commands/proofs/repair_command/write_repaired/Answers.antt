@@ -26,12 +26,13 @@ returns-in_err-copy g c =
     let file = c.args.input.file.now in
     let choice = c.args.job.now.meta in
     let ends = ends_as _ _ c.from_residual-in_err-copy.ensures.1 in
+    let faults = rw c.kind_of-kind.ensures.snapshot at c.of_copy-faults.ensures in
     elim c.in_err-copy.ensures [
       | inl copies ↦ inl (∥∥₁_map found.back (λ (full : IsFullRepair (repair_file repair) (repair_meta repair) (repair_back repair) (repair_is_made repair) repair.left_out).
           let from = found.file ∙ searched.bytes in
           let is = is_repaired file choice both repair _ _ searched from found.meta full found.some _ refl in
           repair_failed file choice both repair _ _ searched from found.meta full found.some _ refl g.O.Sink _ c.kind_of-kind.result _ _ _ c.kind_of-kind.ensures.snapshot c.kind_of-kind.ensures.layout
-          c.blueprint_of-blueprint.ensures _ _ (copies _ is) ends))
+          c.blueprint_of-blueprint.ensures _ faults _ _ (copies _ is) ends))
       | inr (same, is) ↦ inr (_, inl (_, Memory, searched.under, tt, refl), (refl, same, ends ∙ is))
     ]
 
@@ -43,13 +44,14 @@ returns g c =
     let found = c.in_ok-repair.ensures in
     let file = c.args.input.file.now in
     let choice = c.args.job.now.meta in
-    let told = rw (c.bad_hash.ensures, c.kind_of-kind.ensures.snapshot, c.lost.ensures) at c.end_repair.ensures in
+    let told = rw c.lost.ensures at c.end_repair.ensures in
+    let faults = rw c.kind_of-kind.ensures.snapshot at c.of_copy-faults.ensures in
     elim c.in_ok-copy.ensures [
       | inl copies ↦ inl (∥∥₁_map found.back (λ (full : IsFullRepair (repair_file repair) (repair_meta repair) (repair_back repair) (repair_is_made repair) repair.left_out).
           let from = found.file ∙ searched.bytes in
           let counts = c.len.ensures ∙ repair.back.ok.0 ∙ sym (length-map _ _) in
           let is = is_repaired file choice both repair _ _ searched from found.meta full found.some _ counts in
           repair_done file choice both repair _ _ searched from found.meta full found.some _ counts g.O.Sink _ c.kind_of-kind.result _ _ _ c.kind_of-kind.ensures.snapshot c.kind_of-kind.ensures.layout
-          c.blueprint_of-blueprint.ensures _ _ (copies _ is) told))
+          c.blueprint_of-blueprint.ensures _ faults _ _ (copies _ is) told))
       | inr (same, is) ↦ absurd (cc)
     ]

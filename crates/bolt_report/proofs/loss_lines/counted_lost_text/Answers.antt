@@ -13,4 +13,4 @@ returns-in_err-lost_text g c = Wrote-same (counted c.args.earlier (lost_view c.a
 
 pub returns : goal.returns
 returns g c =
-    Wrote-same (counted c.args.earlier (lost_view c.args.lost) (map found_view c.args.found.now)) (Wrote-then c.in_ok-lost_text.ensures (rw c.count_of.ensures at c.put_count.ensures))
+    Wrote-same (counted c.args.earlier (lost_view c.args.lost) (map found_view c.args.found.now)) (Wrote-then c.in_ok-lost_text.ensures (rw c.lost_count.ensures at c.put_count.ensures))
