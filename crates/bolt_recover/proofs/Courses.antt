@@ -45,8 +45,8 @@ module _ (file : List ℕ) (meta : Meta) where
   course_gives claimed (To_visit way p ∷ first) tasks later only course = absurd (only way p (inl refl))
   course_gives claimed (To_give path e ∷ first) tasks later only course = give (course_gives claimed first tasks later (λ way p h. only way p (inr h)) course)
 
-  inline_gives : (way v : Way) (p t : Site) (host : ℕ) (keys : List Key) → p.spot ≡ At_inline host keys → Among (site_tasks file meta way p) (To_visit v t) → ⊥
-  inline_gives way v p t host keys is h =
+  inline_gives : (way v : Way) (p t : Site) (host : ℕ) (inner : InlinePage) → p.spot ≡ At_inline host inner → Among (site_tasks file meta way p) (To_visit v t) → ⊥
+  inline_gives way v p t host inner is h =
       let (none, i, at) = after_at file meta way p None (To_visit v t) h in
       let f : None ≡ Some t.spot = ap (λ (s : Spot). step_from nodes s i) (sym is) ∙ step_spot file meta p t i at.1 in
       none-some t.spot f
@@ -58,9 +58,9 @@ module _ (file : List ℕ) (meta : Meta) where
         → p.spot ≡ s → Gives nodes (λ n. claimed n ≡ true) s found → Course claimed tasks later
         → Course (claimed_after nodes claimed s found) (tasks_after file meta way p found ++ tasks) (run_on file meta deeper later tasks claimed way p found s)
     course_on left claimed tasks later way p (Some x) s le covers is gives course = subst (λ (f : ℕ → Bool). Course f tasks later) (λ i n. sym (or_none (claimed n)) i) course
-    course_on left claimed tasks later way p None (At_inline host keys) le covers is gives course =
+    course_on left claimed tasks later way p None (At_inline host inner) le covers is gives course =
         subst (λ (f : ℕ → Bool). Course f (site_tasks file meta way p ++ tasks) (give_all (site_tasks file meta way p) later)) (λ i n. sym (or_none (claimed n)) i)
-        (course_gives claimed (site_tasks file meta way p) tasks later (λ v t. inline_gives way v p t host keys is) course)
+        (course_gives claimed (site_tasks file meta way p) tasks later (λ v t. inline_gives way v p t host inner is) course)
     course_on left claimed tasks later way p None (At_page s) le covers is gives course =
         let free = false_from_ne_true (claimed s.number) (gives.free s.number (omega arith, omega arith)) in
         let has = covers s.number (node_below file meta s.number gives.node gives.page) free in

@@ -49,10 +49,10 @@ module _ (nodes : Nodes) (claimed : ℕ → Bool) where
       subst (λ (r : Result Node ℕ). Finds (At_page s) (test_node claimed s r)) (sym page)
       (node_finds s node (first_claimed claimed s.number (suc node.overflow)) (first_is claimed s.number (suc node.overflow)) is page)
 
-  inline_finds : (host : ℕ) (keys : List Key) (o : Option Finding) → inline_finding host keys ≡ o → Finds (At_inline host keys) o
-  inline_finds host keys None is = is
-  inline_finds host keys (Some x) is = is
+  inline_finds : (host : ℕ) (inner : InlinePage) (o : Option Finding) → inline_finding host inner.keys ≡ o → Finds (At_inline host inner) o
+  inline_finds host inner None is = is
+  inline_finds host inner (Some x) is = is
 
   pub test_finds : (s : Spot) → Finds s (test nodes claimed s)
   test_finds (At_page s) = page_finds s (early_finding nodes s) refl
-  test_finds (At_inline host keys) = inline_finds host keys (inline_finding host keys) refl
+  test_finds (At_inline host inner) = inline_finds host inner (inline_finding host inner.keys) refl
