@@ -1,6 +1,6 @@
 -- The course of tasks: they come to one list of events, that of the function.
 use Rattle.std.proofs.Common.{◌≡◌, ◌≢◌, ◌∙◌, inl, inr, ℕ, zero, suc, ◌<◌, ◌≤◌, Bool, true, false, ◌||◌, List, [], ◌∷◌, ◌++◌, length, Option, Some, None, Result, Ok, refl, sym, ap, subst, arith}
-use Rattle.bolt_recover.proofs.Words.{At_inline, At_page, claimed_after, Event, events, false_from_ne_true, false≢true, Finding, Given, give_all, Gives, in_span, Key, LeafElement, Meta, nat_tests, Node, node_at, node_below, Nodes, none-some, or_parts, PageSpot, Path, run_all, run_on, run_to, Site, site_tasks, Spot, step_from, Task, tasks_after, test, To_give, To_visit, Visited, Way, Among}
+use Rattle.bolt_recover.proofs.Words.{InlinePage, At_inline, At_page, claimed_after, Event, events, false_from_ne_true, false≢true, Finding, Given, give_all, Gives, in_span, Key, LeafElement, Meta, nat_tests, Node, node_at, node_below, Nodes, none-some, or_parts, PageSpot, Path, run_all, run_on, run_to, Site, site_tasks, Spot, step_from, Task, tasks_after, test, To_give, To_visit, Visited, Way, Among}
 use Rattle.bolt_recover.proofs.{SiteFacts.step_spot, SurveyIsOne.gives_one, TaskLists.after_at, Tested.test_finds}
 use Rattle.bolt_check.proofs.TourExists.{has_number, numbers, shorter, still, without}
 

@@ -1,6 +1,6 @@
 -- Where an element of an open page leads, as a site.
 use Rattle.std.proofs.Common.{◌≡◌, ◌∙◌, ℕ, ◌<◌, Bool, true, false, List, Option, Some, None, Ok, IfSome, length, slice_get, refl, sym, ap, arith, inl, inr}
-use Rattle.bolt_recover.proofs.Words.{At_inline, content_site, Entry, Key, LeafElement, length-map, Meta, node_at, option_map, page_spot, PageSpot, Path, site_on, shown_node, slice_get_cases, spot_at, spot_site, step_entry, step_on, step_path, step_site, TreePage}
+use Rattle.bolt_recover.proofs.Words.{InlinePage, At_inline, content_site, Entry, Key, LeafElement, length-map, Meta, node_at, option_map, page_spot, PageSpot, Path, site_on, shown_node, slice_get_cases, spot_at, spot_site, step_entry, step_on, step_path, step_site, TreePage}
 use Rattle.bolt_format.specs.TreePages.{leaves_on, page_keys, shown_page}
 use Rattle.bolt_format.specs.declared.tree_page.TreePage.TheVariants.{Branch, Leaf}
 use Rattle.bolt_check.specs.{ShownSpots.IsInner, declared.spot.PageSpot.PageSpot as CodePageSpot, declared.spot.Spot.Spot}

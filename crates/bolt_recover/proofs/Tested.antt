@@ -1,6 +1,6 @@
 -- What the tests of a spot find: the function gives what the definition asks for.
 use Rattle.std.proofs.Common.{◌≡◌, ℕ, zero, suc, ◌+◌, ◌<◌, ◌≤◌, inl, inr, List, Bool, true, false, nat_lt, Option, Some, None, Result, Ok, Err, if◌then◌else◌, refl, sym, ap, subst, arith, ◌∙◌}
-use Rattle.bolt_recover.proofs.Words.{At_inline, At_page, cases_lt, early, early_finding, false≢true, Finding, finding, first_claimed, first_or, Gives, inline_finding, IsInSpan, Key, late, Node, node_finding, Nodes, open_finding, option_map, or_else, PageSpot, Spot, test, test_node, twice}
+use Rattle.bolt_recover.proofs.Words.{InlinePage, At_inline, At_page, cases_lt, early, early_finding, false≢true, Finding, finding, first_claimed, first_or, Gives, inline_finding, IsInSpan, Key, late, Node, node_finding, Nodes, open_finding, option_map, or_else, PageSpot, Spot, test, test_node, twice}
 use Rattle.bolt_check.specs.declared.finding.TheConstants.Finding.{TWICE}
 
 -- the lowest claimed page among some, if there is one
