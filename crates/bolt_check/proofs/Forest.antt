@@ -1,6 +1,6 @@
 -- The spots that are still to be visited, as ways: the first number of a way picks the spot, the rest leads on from it.
 use Rattle.std.proofs.Common.{rules, ◌≡◌, ℕ, zero, suc, ◌<◌, ◌⊎◌, inl, inr, Bool, List, [], ◌∷◌, ◌++◌, Option, Some, None, Ok, slice_get, refl, sym, ap, subst, arith, ◌∙◌}
-use Rattle.bolt_check.proofs.Words.{At_inline, At_page, Before, Entry, Finding, follow, forest, IsClaimedBefore, IsClean, IsCovered, IsFirst, Key, Node, Nodes, PageSpot, places, somes, Spot, step, step_entry, Tests}
+use Rattle.bolt_check.proofs.Words.{InlinePage, At_inline, At_page, Before, Entry, Finding, follow, forest, IsClaimedBefore, IsClean, IsCovered, IsFirst, Key, Node, Nodes, PageSpot, places, somes, Spot, step, step_entry, Tests}
 use Rattle.bolt_check.proofs.{Judging.tests_same, Visiting.Visits}
 
 pub follow_none : (nodes : Nodes) (way : List ℕ) → follow nodes None way ≡ None
@@ -141,9 +141,9 @@ pub page_visits : (nodes : Nodes) (s : PageSpot) (node : Node) (rest : List Spot
 page_visits nodes s node rest e = visits nodes (At_page s) rest (places node.is_leaf s node.entries) (kids_step nodes s node e)
 
 -- an inline bucket's visit
-pub inline_visits : (nodes : Nodes) (host : ℕ) (keys : List Key) (rest : List Spot)
-    → Visits (forest nodes (At_inline host keys ∷ rest)) (forest nodes rest) (Some (At_inline host keys)) (0 ∷ []) (lift [])
-inline_visits nodes host keys rest = visits nodes (At_inline host keys) rest [] (λ j. refl)
+pub inline_visits : (nodes : Nodes) (host : ℕ) (inner : InlinePage) (rest : List Spot)
+    → Visits (forest nodes (At_inline host inner ∷ rest)) (forest nodes rest) (Some (At_inline host inner)) (0 ∷ []) (lift [])
+inline_visits nodes host inner rest = visits nodes (At_inline host inner) rest [] (λ j. refl)
 
 none_before_first : (nodes : Nodes) (spots : List Spot) (v : List ℕ) (t : Spot) → Before v (0 ∷ []) → forest nodes spots v ≡ Some t → ⊥
 none_before_first nodes spots v t h e = grind arith

@@ -12,7 +12,7 @@ page_same nodes a b s x to from (late node e p f c) = late node e p (λ n i m. f
 pub tests_same : (nodes : Nodes) (a b : ℕ → Type 0) (s : Spot) (x : Finding) → ((n : ℕ) → a n → b n) → ((n : ℕ) → b n → a n)
     → Tests nodes a s x → Tests nodes b s x
 tests_same nodes a b (At_page s) x to from h = page_same nodes a b s x to from h
-tests_same nodes a b (At_inline host keys) x to from h = h
+tests_same nodes a b (At_inline host inner) x to from h = h
 
 pub passes_fewer : (nodes : Nodes) (a b : ℕ → Type 0) (s : Spot) → ((n : ℕ) → b n → a n) → Passes nodes a s → Passes nodes b s
 passes_fewer nodes a b s from h = grind arith

@@ -11,7 +11,7 @@ use Rattle.bolt_check.specs.Ways.{reached}
 abbrev pub Bounded : Nodes → Spot → Type 0
 Bounded nodes (At_page s) = (address : List ℕ) (below j : ℕ) (key : Key) (under : Node) → leads nodes (Some s.number) address ≡ Some below → nodes below ≡ Ok under
     → slice_get (keys_of under.entries) j ≡ Some key → (is_from s.lower key ≡ true) × (is_below s.upper key ≡ true)
-Bounded nodes (At_inline host keys) = Unit {0}
+Bounded nodes (At_inline host inner) = Unit {0}
 
 upper_is : (next : Option Entry) (upper : Option Key) (key : Key) → ((n : Entry) → next ≡ Some n → key_lt key n.key ≡ true) → is_below upper key ≡ true → is_below (upper_from next upper) key ≡ true
 upper_is next upper key h e = grind arith
@@ -79,7 +79,7 @@ module _ (nodes : Nodes) (root : ℕ) (shape : HasShape nodes root) where
         free = λ n i. claimed_none way n (rw e (rw page i));
         content = content_none node s (shape.filled way s node e page) keys;
       }
-  passes way (At_inline host keys) e = let k = key_passes None None None keys (shape.rising_inline way host keys e)
+  passes way (At_inline host inner) e = let k = key_passes None None None inner.keys (shape.rising_inline way host inner e)
       (λ j key at. (refl, refl, refl)) in rw k refl
 
 -- where the shape is right, the tests report nothing at any way

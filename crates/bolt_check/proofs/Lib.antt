@@ -7,6 +7,7 @@ pub mod AnyLemmas
 pub mod CheckedLemmas
 pub mod ClaimLemmas
 pub mod CountLemmas
+pub mod FirstLeaves
 pub mod Forest
 pub mod FreelistLemmas
 pub mod FreelistSteps
@@ -15,6 +16,7 @@ pub mod KeyLaws
 pub mod KeyOrder
 pub mod KnownPages
 pub mod Lawful
+pub mod LeafDepths
 pub mod LeafLemmas
 pub mod ListedIds
 pub mod Lists

@@ -28,7 +28,7 @@ module _ (file : List ℕ) (meta : Meta) (table : List PageUse) (are : AreUses f
   by_first n false h = by_branch h
 
   shows_spot : (n : ℕ) (u : PageUse) (way : List ℕ) (t : Spot) → reach way ≡ Some t → UseAt nodes t n u → Shows n u
-  shows_spot n u way (At_inline host keys) e h = absurd h
+  shows_spot n u way (At_inline host inner) e h = absurd h
   shows_spot n u way (At_page s) e (node, page, inl h) =
       subst (Shows n) (sym h.1) (by_first n node.is_leaf (record { way = way; spot = s; node = node; leads = e; number = h.0; page = page; kind = refl }))
   shows_spot n u way (At_page s) e (node, page, inr h) =

@@ -97,7 +97,7 @@ shape_of nodes root clean = record {
     | inr ge ↦ ge
   ];
   rising = λ way s node e h. key_rise None s.lower s.upper (keys_of node.entries) (fine_at nodes root clean way s e node h);
-  rising_inline = λ way host keys e. key_rise None None None keys (finding_none (keys_order_fault None None None keys) host (clean.passes way (At_inline host keys) e));
+  rising_inline = λ way host inner e. key_rise None None None inner.keys (finding_none (keys_order_fault None None None inner.keys) host (clean.passes way (At_inline host inner) e));
   bounded = λ way address s node under i j below key e q h leaf g l u k.
       let t = child_spot s e (upper_from (slice_get node.entries (suc i)) s.upper) in
       let st = step_child nodes s i node e h leaf g in

@@ -1,7 +1,7 @@
 -- A sum over the tour of a bucket, page by page: a page's own, and those of the pages that it leads to.
 use Rattle.std.proofs.lemmas.Grind.{common_steps}
 use Rattle.std.proofs.Common.{◌≡◌, ◌∙◌, ◌==◌, ℕ, zero, suc, ◌+◌, ◌≤◌, inl, inr, Bool, true, false, List, [], ◌∷◌, ◌++◌, Option, Some, None, Result, Ok, cond, length, map, sum_by, refl, sym, ap, subst, arith}
-use Rattle.bolt_check.proofs.Words.{At_inline, At_page, Entry, forest, Has, HasSoundTrees, IsSome, IsTour, Key, Meta, Node, node_at, Nodes, page_at, PageSpot, places, Reach, root_spot, somes, Spot, sum_by-cons}
+use Rattle.bolt_check.proofs.Words.{InlinePage, At_inline, At_page, Entry, forest, Has, HasSoundTrees, IsSome, IsTour, Key, Meta, Node, node_at, Nodes, page_at, PageSpot, places, Reach, root_spot, somes, Spot, sum_by-cons}
 use Rattle.bolt_check.proofs.Forest.{forest_empty, inline_visits, page_visits, root_visits, tail}
 use Rattle.bolt_check.proofs.{Lists.has_left, Lists.has_right, MarkLemmas.node_shown}
 use Rattle.bolt_check.proofs.TourExists.{Fits, bucket_fits, fits_page, fits_visited, numbers, shorter, without}
@@ -12,7 +12,7 @@ use Rattle.bolt_check.specs.{Subtrees.Enough, Subtrees.kid_pages, Subtrees.kids_
 abbrev pub pages_of : List Spot → List ℕ
 pages_of [] = []
 pages_of (At_page s ∷ spots) = s.number ∷ pages_of spots
-pages_of (At_inline host keys ∷ spots) = pages_of spots
+pages_of (At_inline host inner ∷ spots) = pages_of spots
 
 abbrev result_of : Node → Result Node ℕ
 result_of node = Ok node
@@ -20,7 +20,7 @@ result_of node = Ok node
 pub pages_append : (a b : List Spot) → pages_of (a ++ b) ≡ pages_of a ++ pages_of b
 pages_append [] b = refl
 pages_append (At_page s ∷ a) b = ap (λ (l : List ℕ). s.number ∷ l) (pages_append a b)
-pages_append (At_inline host keys ∷ a) b = pages_append a b
+pages_append (At_inline host inner ∷ a) b = pages_append a b
 
 somes_bucket : (bucket small : Bool) (host : ℕ) (e : Entry) (os : List (Option Spot))
     → pages_of (somes (cond bucket (Some (cond small (At_inline host e.inner) (At_page (root_spot e.child)))) None ∷ os)) ≡ cond bucket (cond small [] (e.child ∷ [])) [] ++ pages_of (somes os)
@@ -74,7 +74,7 @@ module _ (nodes : Nodes) where
   abbrev pub spot_weight : (ℕ → ℕ) → Option Spot → ℕ
   spot_weight own None = 0
   spot_weight own (Some (At_page s)) = own s.number
-  spot_weight own (Some (At_inline host keys)) = 0
+  spot_weight own (Some (At_inline host inner)) = 0
 
   sum_map : (f : List ℕ → List ℕ) (g h : List ℕ → ℕ) (ways : Ways) → ((way : List ℕ) → Has ways way → g (f way) ≡ h way) → sum_by g (map f ways) ≡ sum_by h ways
   sum_map f g h [] same = refl
@@ -121,18 +121,18 @@ module _ (nodes : Nodes) where
           (_, tour_step v tour is (At_page s) refl, omega (arith, first, sum, both, others, here, whole)),
         )
 
-    inline_sum : (n : ℕ) (host : ℕ) (keys : List Key) (rest : List Spot) → Summed n rest → Summed n (At_inline host keys ∷ rest)
-    inline_sum n host keys rest (all, (tour, is, sum)) =
-        let v = inline_visits nodes host keys rest in
-        let first = step_sum (At_inline host keys) v tour is in
-        (all, (_, tour_step v tour is (At_inline host keys) refl, omega (arith, first, sum)))
+    inline_sum : (n : ℕ) (host : ℕ) (inner : InlinePage) (rest : List Spot) → Summed n rest → Summed n (At_inline host inner ∷ rest)
+    inline_sum n host inner rest (all, (tour, is, sum)) =
+        let v = inline_visits nodes host inner rest in
+        let first = step_sum (At_inline host inner) v tour is in
+        (all, (_, tour_step v tour is (At_inline host inner) refl, omega (arith, first, sum)))
 
     -- spots that fit, by the pages that are left
     along : (n : ℕ) → ((p : ℕ) → n ≡ suc p → (left : List ℕ) (spots : List Spot) → length left ≤ p → Fits nodes left (forest nodes spots) → Summed p spots)
         → (left : List ℕ) (spots : List Spot) → length left ≤ n → Fits nodes left (forest nodes spots) → Summed n spots
     along n below left [] le fits = grind (arith, forest_empty)
-    along n below left (At_inline host keys ∷ rest) le fits =
-        inline_sum n host keys rest (along n below left rest le (fits_visited nodes fits (inline_visits nodes host keys rest)))
+    along n below left (At_inline host inner ∷ rest) le fits =
+        inline_sum n host inner rest (along n below left rest le (fits_visited nodes fits (inline_visits nodes host inner rest)))
     along zero below left (At_page s ∷ rest) le fits = absurd (omega (arith, shorter s.number left (fits.within (0 ∷ []) s refl), le))
     along (suc p) below left (At_page s ∷ rest) le fits =
         let good = fits.good (0 ∷ []) s refl in

@@ -1,7 +1,7 @@
 -- Pages that ways lead to: each is a leaf or a branch, as bolt_format's page and as the rules' node; what its elements lead to.
 use Rattle.std.proofs.Common.{rules, ◌≡◌, ◌==◌, ℕ, suc, ◌≤◌, List, [], ◌∷◌, ◌++◌, true, false, Option, Some, None, Result, Ok, slice_get, map, refl, sym, ap, ◌∙◌, arith, subst}
 use Rattle.std.proofs.lemmas.Option.{slice_get_cases}
-use Rattle.bolt_check.proofs.Words.{At_inline, At_page, branch_entry, BranchElement, bucket_spot, child_at, child_in, child_spot, Entry, HasSoundTrees, head_root, IsOnWay, keys_of, Kind, leads, leaf_entry, LeafElement, Meta, Node, node_at, node_of, node_seen, Nodes, none-some, option_map, page_at, page_fault, PageSpot, PageView, root_spot, slice_get-map, Spot, step, upper_from}
+use Rattle.bolt_check.proofs.Words.{inline_page, At_inline, At_page, branch_entry, BranchElement, bucket_spot, child_at, child_in, child_spot, Entry, HasSoundTrees, head_root, IsOnWay, keys_of, Kind, leads, leaf_entry, LeafElement, Meta, Node, node_at, node_of, node_seen, Nodes, none-some, option_map, page_at, page_fault, PageSpot, PageView, root_spot, slice_get-map, Spot, step, upper_from}
 use Rattle.bolt_format.specs.Elements.{inline_elements}
 use Rattle.bolt_format.specs.declared.header.Kind.TheVariants as kind
 use Rattle.bolt_check.specs.Ways.{reached}
@@ -97,7 +97,7 @@ module _ (file : List ℕ) (meta : Meta) where
   -- the inline page of a bucket on a leaf
   pub inline_reached : (number depth i : ℕ) (view : PageView) (e : LeafElement) (on : IsOnWay file meta number depth) → node_at file meta number ≡ Ok (leaf_node view)
       → slice_get view.leaves i ≡ Some e → e.is_bucket ≡ true → (head_root e.value == 0) ≡ true
-      → reached (node_at file meta) meta.root (on.way ++ i ∷ []) ≡ Some (At_inline on.spot.number (map (λ (x : LeafElement). x.key) (inline_elements e.value)))
+      → reached (node_at file meta) meta.root (on.way ++ i ∷ []) ≡ Some (At_inline on.spot.number (inline_page e.value))
   inline_reached number depth i view e on node g b inline = after_bucket number depth i view e on node g b ∙ rw inline refl
 
   -- where the first step of an address leads

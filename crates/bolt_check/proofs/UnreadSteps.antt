@@ -1,13 +1,13 @@
 -- Which spots are still to be read: ways lead to each of them, and all pages below them are good, of which fewer are left after each step.
 use Rattle.std.proofs.Common.{◌≡◌, ◌∙◌, ◌&&◌, ℕ, ◌+◌, ◌≤◌, inl, inr, true, List, [], ◌∷◌, ◌++◌, Some, Result, Ok, Err, ap, not, refl, subst, sum_by, arith}
-use Rattle.bolt_check.proofs.Words.{At_inline, At_page, forest, Has, HasSoundTrees, kids, Meta, Node, node_at, Nodes, PageSpot, places, props, root_spot, somes, Spot, sum_by-cons, ∥∥₁_elim}
+use Rattle.bolt_check.proofs.Words.{InlinePage, At_inline, At_page, forest, Has, HasSoundTrees, kids, Meta, Node, node_at, Nodes, PageSpot, places, props, root_spot, somes, Spot, sum_by-cons, ∥∥₁_elim}
 use Rattle.bolt_check.proofs.Pendings.{unread_push}
 use Rattle.bolt_check.proofs.Forest.{inline_visits, lift, page_visits, root_visits, tail}
 use Rattle.bolt_check.proofs.{Lists.has_split}
 use Rattle.bolt_check.proofs.TourSums.{bucket_sum, enough_kids, enough_node, pages_append, pages_of, pages_of_kids, sum_append, weight_kids}
 use Rattle.bolt_check.proofs.UnreadWays.{spots_in, spots_kids}
 use Rattle.bolt_check.specs.{Subtrees.Enough, Subtrees.kid_pages, Subtrees.weight, Ways.reached}
-use Rattle.bolt_check.specs.Private.Unread.{IsReadable, Unread, mark, most_kids, unread_at, unread_kids, unread_of}
+use Rattle.bolt_check.specs.Private.Unread.{IsReadable, Unread, mark, most_kids, page_leaves, unread_at, unread_kids, unread_of}
 use Rattle.bolt_check.specs.declared.for_bbolt.UnreadSpot.{UnreadSpot}
 
 -- each spot is one that a way leads to, and so many steps are enough below each page
@@ -27,7 +27,7 @@ module _ (nodes : Nodes) (root steps : ℕ) where
   pub first_readable : ((way : List ℕ) (s : PageSpot) → reached nodes root way ≡ Some (At_page s) → s.depth ≤ 64) → (spot : Spot) (rest : List Spot)
       → AreReached nodes root steps (spot ∷ rest) → IsReadable nodes steps spot
   first_readable shallow (At_page s) rest r = let (v, led) = r.from (0 ∷ []) (At_page s) refl in (shallow v s led, r.good s.number (inl refl))
-  first_readable shallow (At_inline host keys) rest r = tt
+  first_readable shallow (At_inline host inner) rest r = tt
 
   module _ (s : PageSpot) (node : Node) (page : nodes s.number ≡ Ok node) (rest : List Spot) where
     abbrev kid_spots : List Spot
@@ -57,9 +57,9 @@ module _ (nodes : Nodes) (root steps : ℕ) where
         let whole = sum_by-cons w s.number (pages_of rest) in
         omega (arith, here, both, whole)
 
-  pub inline_reached : (host : ℕ) (keys : List (List ℕ)) (rest : List Spot) → AreReached nodes root steps (At_inline host keys ∷ rest) → AreReached nodes root steps rest
-  inline_reached host keys rest r = record {
-    from = λ way t e. r.from (lift [] way) t ((inline_visits nodes host keys rest).same way t e);
+  pub inline_reached : (host : ℕ) (inner : InlinePage) (rest : List Spot) → AreReached nodes root steps (At_inline host inner ∷ rest) → AreReached nodes root steps rest
+  inline_reached host inner rest r = record {
+    from = λ way t e. r.from (lift [] way) t ((inline_visits nodes host inner rest).same way t e);
     good = r.good;
   }
 
@@ -78,8 +78,8 @@ module _ (nodes : Nodes) (root steps : ℕ) where
       by : (spot : Spot) → u.spot ≡ spot → after ≡ unread_kids nodes u ++ rest → AreReached nodes root steps (spots_in after)
       by (At_page s) is same =
           let (node, page) = enough_node nodes steps s.number ((rw is at r).good s.number (inl refl)) in
-          rw (same, is, page, spots_kids (u.in_root && not node.is_leaf) rest (somes (places node.is_leaf s node.entries))) (page_reached s node page (spots_in rest) (rw is at r))
-      by (At_inline host keys) is same = rw (same, is) (inline_reached host keys (spots_in rest) (rw is at r))
+          rw (same, is, page, spots_kids (u.in_root && not node.is_leaf) (page_leaves nodes u.above s) rest (somes (places node.is_leaf s node.entries))) (page_reached s node page (spots_in rest) (rw is at r))
+      by (At_inline host inner) is same = rw (same, is) (inline_reached host inner (spots_in rest) (rw is at r))
 
   -- less is left
   pub step_left : (u : Unread) (rest after : List Unread) → after ≡ unread_kids nodes u ++ rest → AreReached nodes root steps (spots_in (u ∷ rest))
@@ -91,8 +91,8 @@ module _ (nodes : Nodes) (root steps : ℕ) where
       by (At_page s) is =
           let (node, page) = enough_node nodes steps s.number ((rw is at r).good s.number (inl refl)) in
           let left = page_left s node page (spots_in rest) ((rw is at r).good s.number (inl refl)) in
-          rw (e, is, page, spots_kids (u.in_root && not node.is_leaf) rest (somes (places node.is_leaf s node.entries))) (omega (arith, left))
-      by (At_inline host keys) is = rw (e, is) (omega arith)
+          rw (e, is, page, spots_kids (u.in_root && not node.is_leaf) (page_leaves nodes u.above s) rest (somes (places node.is_leaf s node.entries))) (omega (arith, left))
+      by (At_inline host inner) is = rw (e, is) (omega arith)
 
 -- a good page has a node
 pub node_of_page : (r : Result Node ℕ) → ∥ ((node : Node) × (r ≡ Ok node)) ∥₁ → (node : Node) × (r ≡ Ok node)
@@ -101,7 +101,7 @@ node_of_page (Err fault) good = absurd (∥∥₁_elim good (Prim.hlevel props) 
 
 -- at the start the root page alone is left
 pub first_reached : (file : List ℕ) (meta : Meta) → HasSoundTrees file meta
-    → AreReached (node_at file meta) meta.root meta.high_water (spots_in (mark true (At_page (root_spot meta.root)) ∷ []))
+    → AreReached (node_at file meta) meta.root meta.high_water (spots_in (mark true 0 (At_page (root_spot meta.root)) ∷ []))
 first_reached file meta trees = root_reached (node_at file meta) meta.root meta.high_water (bucket_sum file meta trees [] meta.root refl (λ n. 0)).0
 
 -- the topmost was taken away

@@ -2,7 +2,7 @@
 use Rattle.std.proofs.Common.{◌≡◌, ℕ, ◌-◌, ◌↔◌, inl, List, [], ◌∷◌, ◌++◌, None, Result, Ok, Vec, Global, length, take, drop, ap, arith}
 use Rattle.std.proofs.lemmas.List.{take_at}
 use Rattle.std.specs.Prelude.{IfErr, IsErrAnd}
-use Rattle.bolt_check.proofs.Words.{At_inline, At_page, Carries, Finding, forest, inline_finding, IsClaimed, IsClean, IsCovered, IsFirst, IsMetaPage, IsMetaUse, IsNoted, IsSearchFault, Key, kids, Node, Nodes, PagePasses, PageSpot, PageUse, Reach, root_spot, Spot, spot_at, spots_of}
+use Rattle.bolt_check.proofs.Words.{InlinePage, At_inline, At_page, Carries, Finding, forest, inline_finding, IsClaimed, IsClean, IsCovered, IsFirst, IsMetaPage, IsMetaUse, IsNoted, IsSearchFault, Key, kids, Node, Nodes, PagePasses, PageSpot, PageUse, Reach, root_spot, Spot, spot_at, spots_of}
 use Rattle.bolt_check.proofs.{Forest.clean_end, Forest.covered_end, Forest.inline_visits, Forest.page_visits, Forest.root_visits, Pendings.spots_push}
 use Rattle.bolt_check.proofs.Visiting.{carries}
 use Rattle.bolt_check.specs.{Private.Pending.ClaimsSpan, Ways.reached, declared.fault.CheckFault.CheckFault, declared.spot.Spot.Spot as CodeSpot}
@@ -23,10 +23,10 @@ unfolding kids
 page_carries nodes s node rest after old new page pushed claims passes = rw pushed (carries nodes (page_visits nodes s node rest page) claims passes)
 
 -- an inline bucket's visit
-pub inline_carries : (nodes : Nodes) (host : ℕ) (keys : List Key) (rest : List Spot) (table : List PageUse) → inline_finding host keys ≡ None
-    → Carries nodes (forest nodes (At_inline host keys ∷ rest)) (IsClaimed table) (IsNoted table) (forest nodes rest) (IsClaimed table) (IsNoted table)
-inline_carries nodes host keys rest table =
-    carries nodes (inline_visits nodes host keys rest) (record { split = λ n h. inl h; kept = λ n h. h; span = λ n h. absurd h; uses = λ n u h. inl h })
+pub inline_carries : (nodes : Nodes) (host : ℕ) (inner : InlinePage) (rest : List Spot) (table : List PageUse) → inline_finding host inner.keys ≡ None
+    → Carries nodes (forest nodes (At_inline host inner ∷ rest)) (IsClaimed table) (IsNoted table) (forest nodes rest) (IsClaimed table) (IsNoted table)
+inline_carries nodes host inner rest table =
+    carries nodes (inline_visits nodes host inner rest) (record { split = λ n h. inl h; kept = λ n h. h; span = λ n h. absurd h; uses = λ n u h. inl h })
 
 -- the end: nothing is left
 pub ended : (nodes : Nodes) (items : List CodeSpot) {reach : Reach} {c d : ℕ → Type 0} {a b : ℕ → PageUse → Type 0}

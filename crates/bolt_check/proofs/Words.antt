@@ -4,14 +4,14 @@ pub use Rattle.bolt_check.specs.Accounts.{HasAccounts, IsFree, IsInFreelist, IsI
 pub use Rattle.bolt_check.specs.EntrySpots.{places}
 pub use Rattle.bolt_check.specs.Findings.{IsClaimedBefore, IsClean, IsCovered, IsFirst, IsMetaPage, PagePasses, PageTests, Passes, Tests, early, early_finding, finding, inline_finding, keys_of, late, node_finding}
 pub use Rattle.bolt_check.specs.Keys.{Key, is_above, is_below, is_from, key_lt, keys_order_fault}
-pub use Rattle.bolt_check.specs.{Nodes.Entry, Nodes.Node, Nodes.Nodes, Nodes.branch_entry, Nodes.leaf_entry, Nodes.node_of, Nodes.node_seen, OnWays.IsOnWay}
+pub use Rattle.bolt_check.specs.{Nodes.Entry, Nodes.InlinePage, Nodes.Node, Nodes.Nodes, Nodes.branch_entry, Nodes.inline_page, Nodes.leaf_entry, Nodes.node_of, Nodes.node_seen, OnWays.IsOnWay}
 pub use Rattle.bolt_check.specs.Private.Carries.{Carries}
 pub use Rattle.bolt_check.specs.Private.Freelists.{AreAllFindings, AreFindingsBelow, ClaimsFreelist, ClaimsUses, HasFindingsTo, IsBeyondTo, IsPastTo, IsLostInterval, IsSettled, IsUnlisted, is_in_use, page_findings, interval_findings}
 pub use Rattle.bolt_check.specs.{Private.Pending.forest, Private.Pending.somes, Private.Pending.spots_of, Private.SearchFaults.IsSearchFault}
 pub use Rattle.bolt_check.specs.Private.Tables.{HasRoom, IsClaimed, IsUnclaimed, first_use, is_used, times_of, unclaimed, use_at}
 pub use Rattle.bolt_check.specs.Private.Uses.{HasUse, IsMetaUse, IsNoted, UseAt, UseOf, use_of}
 pub use Rattle.bolt_check.specs.{Roles.HasRole, Roles.IsFirstPage, Shape.HasShape, Shape.child_at, Shape.child_in, Shape.leads}
-pub use Rattle.bolt_check.specs.ShownSpots.{bound_of, inline_keys, page_spot, spot_at}
+pub use Rattle.bolt_check.specs.ShownSpots.{bound_of, inline_keys, page_spot, shown_inner, spot_at}
 pub use Rattle.bolt_check.specs.{Sound.HasRightAccounts, Sound.HasSoundTrees, Sound.IsFirstFinding, Sound.IsSound, Sound.IsUsed, Lists.Has, Tours.IsTour}
 pub use Rattle.bolt_check.specs.Ways.{At_inline, At_page, Before, PageSpot, Reach, SpanAt, SpanHas, SpanOf, Spot, bucket_spot, child_spot, follow, root_spot, step, step_entry, step_on, upper_from}
 pub use Rattle.bolt_check.specs.{declared.checked.Checked.Checked, declared.fault.CheckFault.TheVariants.Structure, declared.finding.Finding.Finding}

@@ -61,11 +61,11 @@ pub record PagePasses (nodes : Nodes) (before : ℕ → Type 0) (s : PageSpot) :
 
 abbrev pub Tests : Nodes → (ℕ → Type 0) → Spot → Finding → Type 0
 Tests nodes before (At_page s) x = PageTests nodes before s x
-Tests nodes before (At_inline host keys) x = inline_finding host keys ≡ Some x
+Tests nodes before (At_inline host inner) x = inline_finding host inner.keys ≡ Some x
 
 abbrev pub Passes : Nodes → (ℕ → Type 0) → Spot → Type 0
 Passes nodes before (At_page s) = PagePasses nodes before s
-Passes nodes before (At_inline host keys) = inline_finding host keys ≡ None
+Passes nodes before (At_inline host inner) = inline_finding host inner.keys ≡ None
 
 -- page n was claimed from the start, or lies in the span of a way before this one
 abbrev pub IsClaimedBefore : Nodes → Reach → (ℕ → Type 0) → List ℕ → ℕ → Type 0

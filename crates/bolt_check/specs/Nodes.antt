@@ -1,31 +1,46 @@
 -- What the rules of soundness see of a page: a branch or a leaf with its entries, or why it is none. docs/SOUND.md, "Structure".
 use Rattle.std.specs.Prelude.{◌≤◌, ℕ, ◌+◌, Bool, true, false, List, [], map, Option, Some, None, Result, Ok, Err}
-use Rattle.bolt_format.specs.Elements.{BranchElement, LeafElement, head_root, inline_elements}
+use Rattle.bolt_format.specs.Elements.{BranchElement, LeafElement, head_root, inline_elements, inline_number}
 use Rattle.bolt_format.specs.{Pages.PageView, Pages.page_at, Pages.page_fault, declared.meta.Meta.Meta, declared.header.Kind.Kind}
 use Rattle.bolt_format.specs.declared.header.Kind.TheVariants as kind
 use Rattle.bolt_format.specs.declared.page_fault.TheConstants.PageFault.{PAGE_KIND}
 
--- An entry leads to a page. If the page is 0 and the entry is a bucket, it leads to an inline bucket with these keys.
+-- The page of an inline bucket: the page number in its header, and its keys.
+pub record InlinePage : Type 0 where
+  pub number : ℕ
+  pub keys : List (List ℕ)
+
+-- An entry leads to a page. If the page is 0 and the entry is a bucket, it leads to an inline bucket with this page.
 pub record Entry : Type 0 where
   pub key : List ℕ
   pub child : ℕ
   pub is_bucket : Bool
-  pub inner : List (List ℕ)
+  pub inner : InlinePage
 
 pub record Node : Type 0 where
   pub is_leaf : Bool
   pub overflow : ℕ
   pub entries : List Entry
 
+abbrev pub no_page : InlinePage
+no_page = record { number = 0; keys = [] }
+
 abbrev pub branch_entry : BranchElement → Entry
-branch_entry e = record { key = e.key; child = e.child; is_bucket = false; inner = [] }
+branch_entry e = record { key = e.key; child = e.child; is_bucket = false; inner = no_page }
+
+-- the page in the value of an inline bucket
+abbrev pub inline_page : List ℕ → InlinePage
+inline_page value = record {
+  number = inline_number value;
+  keys = map (λ (inner : LeafElement). inner.key) (inline_elements value);
+}
 
 abbrev pub leaf_entry : LeafElement → Entry
 leaf_entry e = record {
   key = e.key;
   child = head_root e.value;
   is_bucket = e.is_bucket;
-  inner = map (λ (inner : LeafElement). inner.key) (inline_elements e.value);
+  inner = inline_page e.value;
 }
 
 -- A node by its page's number, or the number of its first fault.

@@ -1,6 +1,6 @@
 -- The structure of a sound file, over all ways and all pairs of ways: docs/SOUND.md, "Structure".
 use Rattle.std.specs.Prelude.{◌≡◌, ◌≢◌, ◌≤◌, ℕ, suc, List, [], ◌∷◌, Bool, true, false, IsTrue, Option, Some, None, Result, Ok, Err, slice_get}
-use Rattle.bolt_check.specs.{Findings.keys_of, Keys.Key, Keys.KeysRise, Keys.key_lt, Nodes.Entry, Nodes.Node, Nodes.Nodes}
+use Rattle.bolt_check.specs.{Findings.keys_of, Keys.Key, Keys.KeysRise, Keys.key_lt, Nodes.Entry, Nodes.InlinePage, Nodes.Node, Nodes.Nodes}
 use Rattle.bolt_check.specs.Ways.{At_inline, At_page, PageSpot, SpanHas, reached}
 
 -- An address is a list of branch steps inside one bucket; this is the page that it leads to.
@@ -33,7 +33,7 @@ pub record HasShape (nodes : Nodes) (root : ℕ) : Type 0 where
   -- the keys of each page rise, those of inline pages too
   pub rising : (way : List ℕ) (s : PageSpot) (node : Node) → reached nodes root way ≡ Some (At_page s) → nodes s.number ≡ Ok node
       → KeysRise (keys_of node.entries)
-  pub rising_inline : (way : List ℕ) (host : ℕ) (keys : List Key) → reached nodes root way ≡ Some (At_inline host keys) → KeysRise keys
+  pub rising_inline : (way : List ℕ) (host : ℕ) (inner : InlinePage) → reached nodes root way ≡ Some (At_inline host inner) → KeysRise inner.keys
   -- every key below an entry of a branch, in the same bucket, is not below its key and is below the next
   pub bounded : (way address : List ℕ) (s : PageSpot) (node under : Node) (i j below : ℕ) (key : Key) (e : Entry)
       → reached nodes root way ≡ Some (At_page s) → nodes s.number ≡ Ok node → node.is_leaf ≡ false → slice_get node.entries i ≡ Some e

@@ -2,7 +2,7 @@
 use Rattle.std.specs.Prelude.{◌≡◌, ℕ, List, map, Option, Some, None}
 use Rattle.std.specs.Borrow.{Bor}
 use Rattle.bolt_format.specs.{ShownInline.shown_inline, Elements.LeafElement, Elements.inline_elements, declared.bucket.Inline.Inline}
-use Rattle.bolt_check.specs.{Keys.Key, Ways.At_inline, Ways.At_page, Ways.PageSpot, Ways.Spot, declared.spot.PageSpot.PageSpot as CodePageSpot}
+use Rattle.bolt_check.specs.{Keys.Key, Nodes.InlinePage, Ways.At_inline, Ways.At_page, Ways.PageSpot, Ways.Spot, declared.spot.PageSpot.PageSpot as CodePageSpot}
 use Rattle.bolt_check.specs.{declared.spot.Spot.Spot as CodeSpot, declared.spot.Spot.TheVariants.Page, declared.spot.Spot.TheVariants.Bucket}
 
 abbrev pub bound_of : Option (Bor (List ℕ)) → Option (List ℕ)
@@ -15,9 +15,12 @@ page_spot spot = record { number = spot.number; depth = spot.depth; lower = boun
 abbrev pub inline_keys : Inline → List Key
 inline_keys page = map (λ (e : LeafElement). e.key) (shown_inline page)
 
+abbrev pub shown_inner : Inline → InlinePage
+shown_inner page = record { number = page.number; keys = inline_keys page }
+
 abbrev pub spot_at : CodeSpot → Spot
 spot_at (Page spot) = At_page (page_spot spot)
-spot_at (Bucket spot) = At_inline spot.host (inline_keys spot.page)
+spot_at (Bucket spot) = At_inline spot.host (shown_inner spot.page)
 
 -- an inline bucket to be visited is the one in this value
 abbrev pub IsInner : List ℕ → CodeSpot → Type 0

@@ -1,6 +1,6 @@
 -- Ways from the root page: docs/SOUND.md, "Ways". A way is a list of entry numbers; it leads to a page or an inline bucket.
 use Rattle.std.specs.Prelude.{◌≡◌, ℕ, suc, ◌<◌, ◌⊎◌, ◌↔◌, ◌==◌, Bool, true, false, List, [], ◌∷◌, Option, Some, None, Result, Ok, Err, if◌then◌else◌, slice_get}
-use Rattle.bolt_check.specs.{Keys.Key, Nodes.Entry, Nodes.IsInSpan, Nodes.Node, Nodes.Nodes}
+use Rattle.bolt_check.specs.{Keys.Key, Nodes.Entry, Nodes.InlinePage, Nodes.IsInSpan, Nodes.Node, Nodes.Nodes}
 
 -- A page that a way leads to: its number, its depth, and the bounds of its keys. The root page of a bucket has depth 1.
 pub record PageSpot : Type 0 where
@@ -9,10 +9,10 @@ pub record PageSpot : Type 0 where
   pub lower : Option Key
   pub upper : Option Key
 
--- what a way leads to: a page, or an inline bucket with its keys and the page that contains it
+-- what a way leads to: a page, or an inline bucket with its page and the number of the page that contains it
 pub data Spot : Type 0 where
   At_page : PageSpot → Spot
-  At_inline : ℕ → List Key → Spot
+  At_inline : ℕ → InlinePage → Spot
 
 -- a bucket's root page has depth 1 and no bounds
 abbrev pub root_spot : ℕ → PageSpot
@@ -51,7 +51,7 @@ step_at (Ok node) s i = step_on node s i
 
 abbrev pub step_from : Nodes → Spot → ℕ → Option Spot
 step_from nodes (At_page s) i = step_at (nodes s.number) s i
-step_from nodes (At_inline host keys) i = None
+step_from nodes (At_inline host inner) i = None
 
 abbrev pub step : Nodes → Option Spot → ℕ → Option Spot
 step nodes None i = None
@@ -82,7 +82,7 @@ SpanOf (Ok node) number n = IsInSpan node number n
 
 abbrev pub SpanAt : Nodes → Spot → ℕ → Type 0
 SpanAt nodes (At_page s) n = SpanOf (nodes s.number) s.number n
-SpanAt nodes (At_inline host keys) n = ⊥
+SpanAt nodes (At_inline host inner) n = ⊥
 
 -- exactly the span of this spot is added to the old pages
 abbrev pub AddsSpan : Nodes → Spot → (ℕ → Type 0) → (ℕ → Type 0) → Type 0

@@ -40,8 +40,14 @@ impl Finding {
     pub const ONE_CHILD: u8 = 37;
     /// A leaf of the root bucket has an element that isn't a bucket.
     pub const ROOT_VALUE: u8 = 38;
-    /// A key is longer than bbolt writes one.
+    /// A value has a longer key than bbolt writes.
     pub const LARGE_KEY: u8 = 39;
+    /// The first key of a page isn't that of its entry in the branch above it.
+    pub const FIRST_KEY: u8 = 40;
+    /// A leaf is at another depth than the first leaf of its bucket.
+    pub const LEAF_DEPTH: u8 = 41;
+    /// An inline page has a page number.
+    pub const INLINE_NUMBER: u8 = 42;
 
     /// A finding of one page.
     pub fn of_page(code: u8, page: u64) -> Finding

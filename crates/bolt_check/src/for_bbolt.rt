@@ -1,24 +1,23 @@
-//! What bbolt fails on when it writes into a file, though the file is sound (docs/SOUND.md, "For
+//! What bbolt fails on when it writes into a file, though its trees are sound (docs/SOUND.md, "For
 //! bbolt"). All ways are followed once more, in order. The pages are known to be good, so none is
 //! tested again. What is nested deep needs memory for the spots that are pending, but no stack.
-ghost use Rattle.std.specs.Prelude.{◌≡◌, ◌<◌, ◌≤◌, ◌&&◌, ◌+◌, ◌++◌, ◌∷◌, [], true, IfOk, OnOk, map, not, vec_len};
-ghost use Rattle.std.specs.List.{list_any};
-ghost use Rattle.bolt_check.specs.BboltFindings.{AreBboltFindings, finding_if, has_one_child, has_value, is_too_large, node_findings};
-ghost use Rattle.bolt_check.specs.{CheckedFiles.checked_nodes, CheckedFiles.meta_of, Nodes.Entry, Nodes.leaf_entry};
-ghost use Rattle.bolt_format.specs.TreePages.{leaves_on, page_keys};
-ghost use Rattle.bolt_check.specs.{ShownNodes.IsNodeAt, ShownNodes.shown_node, ShownSpots.page_spot, ShownSpots.spot_at};
-ghost use Rattle.bolt_check.specs.Private.Unread.{IsReadable, mark, marked_kids, most_kids, own_findings, unread_at, unread_kids, unread_of};
-ghost use Rattle.bolt_check.specs.{Subtrees.Enough, Ways.At_page, Ways.root_spot};
+ghost use Rattle.std.specs.Prelude.{◌≡◌, ◌<◌, ◌≤◌, ◌&&◌, ◌+◌, ◌++◌, ◌∷◌, [], true, IfOk, OnOk, not, vec_len};
+ghost use Rattle.bolt_check.specs.{BboltFindings.AreBboltFindings, CheckedFiles.checked_nodes, CheckedFiles.meta_of, ShownNodes.shown_node};
+ghost use Rattle.bolt_check.specs.{ShownSpots.page_spot, ShownSpots.spot_at};
+ghost use Rattle.bolt_check.specs.Private.Unread.{IsGoodDown, IsReadable, mark, marked_kids, most_kids, own_findings, page_leaves, unread_at, unread_kids, unread_of};
+ghost use Rattle.bolt_check.specs.Ways.{At_page, root_spot};
 
+use crate::bbolt_pages::{find_at_page, find_in_bucket};
 use crate::checked::Checked;
 use crate::fault::NoMemory;
 use crate::finding::Finding;
+use crate::leaf_depth::{first_leaf_depth, known_page};
 use crate::spot::{PageSpot, Spot};
-use bolt_format::{LeafPage, TreePage, known};
+use bolt_format::TreePage;
 use std::alloc::{AllocError, Global};
 
-/// The length of the longest key that bbolt writes.
-const LONGEST_KEY: usize = 32_768;
+/// No leaf of a sound tree is below more branches.
+const MAX_BRANCHES: u8 = 63;
 
 /// A spot that is still to be read.
 #[derive(Clone, Copy)]
@@ -26,10 +25,13 @@ struct UnreadSpot<'a> {
     spot: Spot<'a>,
     /// Whether it is a page of the root bucket.
     in_root: bool,
+    /// The depth of the first leaf of the bucket that the page above it is in. It isn't used for the
+    /// root page of a bucket.
+    leaves_above: u8,
 }
 
-/// What bbolt fails on when it writes into this file, in the order of the ways: branches of one
-/// child, values in the root bucket, and keys that are too large (docs/SOUND.md, "For bbolt").
+/// What bbolt fails on when it writes into the trees of this file, in the order of the ways
+/// (docs/SOUND.md, "For bbolt").
 ///
 /// # Errors
 ///
@@ -49,7 +51,7 @@ pub fn bbolt_findings(alloc: Global, checked: Checked<'_>) -> Result<Vec<Finding
 /// What is still to be read at the start: the root page of the root bucket alone.
 fn new_unread<'a>(alloc: Global, root: u64) -> Result<Vec<UnreadSpot<'a>>, AllocError>
     ensures { IfOk result (λ unread. unread_of unread.items
-        ≡ mark true (At_page (root_spot root)) ∷ []) }
+        ≡ mark true 0 (At_page (root_spot root)) ∷ []) }
 {
     let mut unread = Vec::new(alloc);
     unread.push(UnreadSpot {
@@ -60,6 +62,7 @@ fn new_unread<'a>(alloc: Global, root: u64) -> Result<Vec<UnreadSpot<'a>>, Alloc
             upper: None,
         }),
         in_root: true,
+        leaves_above: 0,
     })?;
     Ok(unread)
 }
@@ -84,108 +87,26 @@ fn read<'a>(
     match next.spot {
         Spot::Page(spot) => {
             let page = known_page(checked, spot.number);
-            find_at_page(&page, spot.number, next.in_root, findings)?;
-            push_unread(&page, &spot, leads_on_in_root(&page, next.in_root), unread)
+            let leaves = page_leaves(checked, &spot, next.leaves_above);
+            find_at_page(&page, &spot, next.in_root, leaves, findings)?;
+            let in_root = leads_on_in_root(&page, next.in_root);
+            push_unread(&page, &spot, in_root, leaves, unread)
         }
-        Spot::Bucket(spot) => {
-            let too_large = has_large_key(&TreePage::Leaf(spot.page.page));
-            add_if(too_large, Finding::LARGE_KEY, spot.host, findings)
-        }
+        Spot::Bucket(spot) => find_in_bucket(&spot, findings),
     }
 }
 
-/// A page that a way leads to, which is a branch or a leaf.
-fn known_page<'a>(checked: &Checked<'a>, number: u64) -> TreePage<'a>
-    requires { ∥ Enough (checked_nodes checked.now) (meta_of checked.now).high_water number ∥₁ }
-    ensures { IsNodeAt (checked_nodes checked.now) number result }
+/// The depth of the first leaf of the bucket that a page is in. It is looked for at the root page of
+/// the bucket, which has depth 1.
+fn page_leaves(checked: &Checked<'_>, spot: &PageSpot<'_>, above: u8) -> u8
+    requires { ∥ IsGoodDown (checked_nodes checked.now) spot.now.number ∥₁ }
+    ensures { result ≡ page_leaves (checked_nodes checked.now) above (page_spot spot.now) }
 {
-    let page = known(checked.bytes(), &checked.meta(), number);
-    page.tree_page().unwrap()
-}
-
-/// Adds what is found at a page by itself.
-fn find_at_page(
-    page: &TreePage<'_>,
-    number: u64,
-    in_root: bool,
-    findings: &mut Vec<Finding>,
-) -> Result<(), AllocError>
-    ensures { OnOk result (findings.new.items
-        ≡ findings.old.items ++ node_findings in_root number (shown_node page.now)) }
-{
-    add_if(has_one_child(page), Finding::ONE_CHILD, number, findings)?;
-    let has_value = has_root_value(page, in_root);
-    add_if(has_value, Finding::ROOT_VALUE, number, findings)?;
-    add_if(has_large_key(page), Finding::LARGE_KEY, number, findings)
-}
-
-/// Adds a finding of a page, if there is one.
-fn add_if(
-    is_found: bool,
-    code: u8,
-    number: u64,
-    findings: &mut Vec<Finding>,
-) -> Result<(), AllocError>
-    ensures { OnOk result (findings.new.items
-        ≡ findings.old.items ++ finding_if is_found code number) }
-{
-    if is_found {
-        findings.push(Finding::of_page(code, number))?;
+    if spot.depth == 1 {
+        first_leaf_depth(checked, spot.number, MAX_BRANCHES)
+    } else {
+        above
     }
-    Ok(())
-}
-
-#[tactic(auto, unfolding(crate::specs::ShownNodes::shown_node))]
-fn has_one_child(page: &TreePage<'_>) -> bool
-    ensures { result ≡ has_one_child (shown_node page.now) }
-{
-    match page {
-        TreePage::Branch(branch) => branch.count() == 1,
-        TreePage::Leaf(_) => false,
-    }
-}
-
-/// Whether a page is a leaf of the root bucket with an element that isn't a bucket.
-fn has_root_value(page: &TreePage<'_>, in_root: bool) -> bool
-    ensures { result ≡ (in_root && has_value (shown_node page.now)) }
-{
-    in_root && has_value(page)
-}
-
-/// Whether a page is a leaf with an element that isn't a bucket.
-#[tactic(auto, unfolding(crate::specs::ShownNodes::shown_node))]
-fn has_value(page: &TreePage<'_>) -> bool
-    ensures { result ≡ has_value (shown_node page.now) }
-{
-    match page {
-        TreePage::Branch(_) => false,
-        TreePage::Leaf(leaf) => some_value(leaf),
-    }
-}
-
-/// Whether an element of a leaf is a value.
-fn some_value(leaf: &LeafPage<'_>) -> bool
-    ensures { result
-        ≡ list_any (λ (e : Entry). not e.is_bucket) (map leaf_entry (leaves_on leaf.now)) }
-{
-    for element in leaf.elements() {
-        if !element.is_bucket {
-            return true;
-        }
-    }
-    false
-}
-
-#[tactic(auto, using(bolt_format::proofs::ListLemmas::drop_next, std::proofs::lemmas::List::drop_all))]
-fn has_large_key(page: &TreePage<'_>) -> bool
-    ensures { result ≡ list_any is_too_large (page_keys page.now) }
-{
-    for i in 0..page.count() {
-        if page.key(i).len() > LONGEST_KEY {
-            return true;
-        }
-    }
-    false
 }
 
 /// Whether what a page leads to is in the root bucket: the children of a branch of it are.
@@ -205,18 +126,24 @@ fn push_unread<'a>(
     page: &TreePage<'a>,
     spot: &PageSpot<'a>,
     in_root: bool,
+    leaves: u8,
     unread: &mut Vec<UnreadSpot<'a>>,
 ) -> Result<(), AllocError>
     requires { spot.now.depth ≤ 64 }
     ensures kids { OnOk result (unread_of unread.new.items
-        ≡ marked_kids in_root (shown_node page.now) (page_spot spot.now) ++ unread_of unread.old.items) }
+        ≡ marked_kids in_root leaves (shown_node page.now) (page_spot spot.now)
+        ++ unread_of unread.old.items) }
     ensures few { OnOk result (vec_len unread.new < vec_len unread.old + 65536) }
 {
     let mut i = page.count();
     while i > 0 {
         i -= 1;
         if let Some(kid) = spot.step(page, i) {
-            unread.push(UnreadSpot { spot: kid, in_root })?;
+            unread.push(UnreadSpot {
+                spot: kid,
+                in_root,
+                leaves_above: leaves,
+            })?;
         }
     }
     Ok(())

@@ -43,7 +43,7 @@ pub(crate) fn test_key(
 }
 
 /// The key of element `i` of an inline bucket.
-fn inline_key<'a>(page: &Inline<'a>, i: u16) -> &'a [u8]
+pub(crate) fn inline_key<'a>(page: &Inline<'a>, i: u16) -> &'a [u8]
     requires { i < length (shown_inline page.now) }
     ensures { slice_get (inline_keys page.now) i ≡ Some result.now }
 {

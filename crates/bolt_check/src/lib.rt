@@ -4,6 +4,8 @@
 
 mod accounts;
 mod assumed;
+mod bbolt_file;
+mod bbolt_pages;
 mod checked;
 mod claims;
 mod fault;
@@ -14,6 +16,7 @@ mod freelist;
 mod freelist_findings;
 mod keys;
 pub mod laws;
+mod leaf_depth;
 mod leftovers;
 mod role_table;
 mod search;
@@ -25,6 +28,7 @@ mod table;
 mod visit;
 
 pub use assumed::assumed_meta;
+pub use bbolt_file::{FileFinding, bbolt_file_findings};
 pub use checked::Checked;
 pub use claims::Claims;
 pub use fault::{CheckFault, NoMemory};

@@ -1,5 +1,5 @@
 -- What `check` answers to a good copy, and to its proper prefixes.
-use Rattle.std.proofs.Common.{◌≡◌, ◌≢◌, ◌∙◌, ◌&&◌, ◌⊎◌, ◌∷◌, ◌<◌, ℕ, List, [], Bool, true, false, IsTrue, Option, None, Some, Ok, ap, codes, inl, inr, length, refl}
+use Rattle.std.proofs.Common.{◌≡◌, ◌≢◌, ◌∙◌, ◌&&◌, ◌⊎◌, ◌∷◌, ◌<◌, ℕ, List, [], Bool, true, false, IsTrue, Option, None, Some, Ok, ap, ap₂, codes, inl, inr, length, refl}
 use Rattle.std.proofs.Common.{subst, sym, take}
 use Rattle.bolt_commands.proofs.Vocabulary.{Active, Answer, AnswersLost, AreLosses, CheckFault, Extent, FileFaults, First, HasBothMetas, HasSoundTrees, IsCheckAnswer, IsCheckAnswerAfter, IsActive, IsFoundAnswer, IsGoodCopy, IsLostAnswer, IsMetaOf, IsMetasFault, IsSnapshot, IsSound, LossView, Losses, Member, Meta, MetaFault, Site, RefusesFile, Slot, cases_lt, check_refusal, copy_of, done, found, hash_fault, hash_found, loss_at, losses_of, none_found, site_at, refused}
 use Rattle.bolt_commands.proofs.Vocabulary.{everything, has_losses, parts}
@@ -12,7 +12,7 @@ use Rattle.bolt_commands.specs.declared.failure.Failure.TheVariants as failure
 use Rattle.bolt_commands.proofs.{OtherMetas.no_other, ReadFiles.read_active, ReadFiles.refused_active}
 use Rattle.bolt_commands.proofs.SoundReads.{NamesOne, keeps_not_loses, unread}
 use Rattle.bolt_commands.specs.{Answers.AreFoundFor, Answers.all_found, FileFaults.is_fine}
-use Rattle.bolt_check.specs.declared.finding.Finding.{Finding}
+use Rattle.bolt_check.specs.{declared.bbolt_file.FileFinding.FileFinding, declared.finding.Finding.Finding}
 
 -- what the laws of the crates below say
 pub record Laws : Type 0 where
@@ -46,13 +46,15 @@ no_other_fault : (extent : Extent) (file : List ℕ) → HasBothMetas file → (
 no_other_fault First file both other is = is
 no_other_fault extent file both other is = no_other file both other is
 
-wrong_hash : (faults : FileFaults) (fault : SnapshotFault) → faults.hash ≡ Some fault → (findings : List Finding) → all_found faults findings ≡ found faults findings
-wrong_hash faults fault is [] = rw is refl
-wrong_hash faults fault is (x ∷ findings) = refl
+wrong_hash : (faults : FileFaults) (fault : SnapshotFault) → faults.hash ≡ Some fault → (of_file : List FileFinding) (on_ways : List Finding) → (all_found faults of_file on_ways).ending ≡ Ok 1
+wrong_hash faults fault is [] [] = rw is refl
+wrong_hash faults fault is [] (x ∷ on_ways) = refl
+wrong_hash faults fault is (x ∷ of_file) on_ways = refl
 
 -- nothing is found if it isn't looked for what bbolt fails on
-pub none_looked_for : (file : List ℕ) (meta : Meta) (findings : List Finding) → AreFoundFor false file meta findings → findings ≡ []
-none_looked_for file meta findings none = none
+pub none_looked_for : (file : List ℕ) (meta : Meta) (of_file : List FileFinding) (on_ways : List Finding) → AreFoundFor false file Active meta of_file on_ways
+    → (of_file ≡ []) × (on_ways ≡ [])
+none_looked_for file meta of_file on_ways none = none
 
 -- ---- a file that `check` accepts, and nothing else is wrong with it
 
@@ -60,19 +62,23 @@ abbrev IsFine : Answer → Type 0
 IsFine answer = (answer ≡ done (codes "OK\n")) ⊎ (answer ≡ refused failure.Memory)
 
 module _ (laws : Laws) (for_bbolt : Bool) (faults : FileFaults) (file : List ℕ) (slot : Slot) (meta : Meta) (answer : Answer) (right : faults ≡ no_faults)
-    (chosen : IsActive file slot meta) (sound : IsSound file meta true) (clean : (findings : List Finding) → AreFoundFor for_bbolt file meta findings → findings ≡ []) where
+    (chosen : IsActive file slot meta) (sound : IsSound file meta true)
+    (clean : (of_file : List FileFinding) (on_ways : List Finding) → AreFoundFor for_bbolt file Active meta of_file on_ways → (of_file ≡ []) × (on_ways ≡ [])) where
   one : NamesOne file Active meta
   one = one_active laws file slot meta chosen
 
-  looked_for : (own : Meta) (findings : List Finding) → IsMetaOf file Active own → AreFoundFor (for_bbolt && is_fine faults) file own findings → findings ≡ []
-  looked_for own findings is are = clean findings (by for_bbolt (rw (right, one own is) at are))
+  looked_for : (own : Meta) (of_file : List FileFinding) (on_ways : List Finding) → IsMetaOf file Active own
+      → AreFoundFor (for_bbolt && is_fine faults) file Active own of_file on_ways → (of_file ≡ []) × (on_ways ≡ [])
+  looked_for own of_file on_ways is are = clean of_file on_ways (by for_bbolt (rw (right, one own is) at are))
     where
-      by : (asked : Bool) → AreFoundFor (asked && true) file meta findings → AreFoundFor asked file meta findings
+      by : (asked : Bool) → AreFoundFor (asked && true) file Active meta of_file on_ways → AreFoundFor asked file Active meta of_file on_ways
       by true found = found
       by false found = found
 
   fine_found : IsFoundAnswer for_bbolt faults file Active answer → IsFine answer
-  fine_found (inl (own, findings, under, are, said)) = inl (said ∙ (ap (all_found faults) (looked_for own findings under.0 are) ∙ ap none_found right))
+  fine_found (inl (own, of_file, on_ways, under, are, said)) =
+      let (whole, ways) = looked_for own of_file on_ways under.0 are in
+      inl (said ∙ (ap₂ (all_found faults) whole ways ∙ ap none_found right))
   fine_found (inr (fault, is, said)) = inr (said ∙ ap (check_refusal faults) (unread file meta sound.trees Active fault one (read_active file slot meta chosen sound) is))
 
   none_lost : (own : Meta) (losses : List LossView) → IsMetaOf file Active own → AreLosses file own losses → losses ≡ []
@@ -94,7 +100,8 @@ module _ (laws : Laws) (for_bbolt : Bool) (faults : FileFaults) (file : List ℕ
   fine LostAndFound is = fine_lost LostAndFound is
 
 pub passes : Laws → (extent : Extent) (snapshot for_bbolt : Bool) (layout : List ℕ) (listing : List Member) (answer : Answer) → IsGoodCopy snapshot layout listing
-    → ((slot : Slot) (meta : Meta) → IsActive (copy_of snapshot layout) slot meta → (findings : List Finding) → AreFoundFor for_bbolt (copy_of snapshot layout) meta findings → findings ≡ [])
+    → ((slot : Slot) (meta : Meta) → IsActive (copy_of snapshot layout) slot meta → (of_file : List FileFinding) (on_ways : List Finding)
+    → AreFoundFor for_bbolt (copy_of snapshot layout) Active meta of_file on_ways → (of_file ≡ []) × (on_ways ≡ []))
     → IsCheckAnswer extent snapshot for_bbolt (copy_of snapshot layout) Active answer → (answer ≡ done (codes "OK\n")) ⊎ (answer ≡ refused failure.Memory)
 passes laws extent snapshot for_bbolt layout listing answer good clean (faults, are, is) =
     let (slot, meta, chosen, sound, lists) = good.accepted in
@@ -116,9 +123,9 @@ ends_so said not same = not (sym (ap (λ (a : Answer). a.ending) said) ∙ same)
 module _ (laws : Laws) (for_bbolt : Bool) (faults : FileFaults) (file : List ℕ) (answer : Answer) where
   fails_found : RefusesFile file ⊎ ((fault : SnapshotFault) × (faults.hash ≡ Some fault)) → IsFoundAnswer for_bbolt faults file Active answer → answer.ending ≢ Ok 0
   fails_found why (inr (fault, is, said)) = ends_so said (not_ok faults fault)
-  fails_found (inl (fault, other, is)) (inl (meta, findings, ((slot, chosen), sound, right), are, said)) =
+  fails_found (inl (fault, other, is)) (inl (meta, of_file, on_ways, ((slot, chosen), sound, right), are, said)) =
       absurd (other (unread file meta sound Active fault (one_active laws file slot meta chosen) ((slot, chosen), sound, right) (refused_active file fault is)))
-  fails_found (inr (fault, wrong)) (inl (meta, findings, under, are, said)) = ends_so (said ∙ wrong_hash faults fault wrong findings) (λ same. cc)
+  fails_found (inr (fault, wrong)) (inl (meta, of_file, on_ways, under, are, said)) = ends_so said (λ same. let ends = wrong_hash faults fault wrong of_file on_ways in cc)
 
   fails_lost : (extent : Extent) → RefusesFile file ⊎ ((fault : SnapshotFault) × (faults.hash ≡ Some fault)) → IsLostAnswer extent for_bbolt faults file Active answer → answer.ending ≢ Ok 0
   fails_lost extent why (inl (meta, parts [], pages, is, all, finds, answers)) = fails_found why answers

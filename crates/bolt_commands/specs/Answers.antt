@@ -4,7 +4,7 @@ use Rattle.std.specs.Io.KnownBytes.{Appends, Keeps}
 use Rattle.bolt_bulk.specs.Compacting.{too_many}
 use Rattle.bolt_layout.specs.Copies.{layout_of_listing}
 use Rattle.bolt_check.specs.{AccountFindings.AreAccountFindings, Roles.AreRoles, Sound.HasRightAccounts, Sound.HasSoundTrees, Sound.IsFirstFinding, Sound.IsUsed}
-use Rattle.bolt_check.specs.{BboltFindings.AreBboltFindings, Nodes.node_at}
+use Rattle.bolt_check.specs.{BboltFileFindings.file_findings, BboltFindings.AreBboltFindings, Nodes.node_at, declared.bbolt_file.FileFinding.FileFinding}
 use Rattle.bolt_check.specs.declared.fault.CheckFault.{CheckFault}
 use Rattle.bolt_check.specs.declared.fault.CheckFault.TheVariants as check
 use Rattle.bolt_check.specs.{declared.finding.Finding.Finding, declared.role_table.Role.Role}
@@ -20,7 +20,7 @@ use Rattle.bolt_recover.specs.Refusals.{IsUnrecoverable, KeepsRoot}
 use Rattle.bolt_recover.specs.declared.joined.JoinFault.{JoinFault}
 use Rattle.bolt_etcd.specs.{FullRepairs.IsFullRepair, RepairRefusals.IsRepairRefusal, Repaired.repaired_listing}
 use Rattle.bolt_etcd.specs.declared.repair.RepairFault.{RepairFault}
-use Rattle.bolt_report.specs.{FaultWords.count_line, FaultWords.findings_text, FoundLines.FoundView, FoundLines.counted_lost_text, FoundLines.lost_text}
+use Rattle.bolt_report.specs.{BboltLines.bbolt_findings_text, FaultWords.count_line, FaultWords.findings_text, FoundLines.FoundView, FoundLines.counted_lost_text, FoundLines.lost_text}
 use Rattle.bolt_report.specs.{StatsLines.stats_text, KeyLines.buckets_text, KeyLines.keys_text}
 use Rattle.bolt_report.specs.MemberNames.{Wanted, begins_so, names_bucket, names_text}
 use Rattle.bolt_text.specs.{Forms.value_text, Forms.item_text}
@@ -115,10 +115,10 @@ found faults findings = record { out = fault_lines faults ++ findings_text (erro
 abbrev pub none_found : FileFaults → Answer
 none_found faults = if is_fine faults then done (codes "OK\n") else found faults []
 
--- these findings too
-abbrev pub all_found : FileFaults → List Finding → Answer
-all_found faults [] = none_found faults
-all_found faults (x ∷ findings) = found faults (x ∷ findings)
+-- or what bbolt fails on
+abbrev pub all_found : FileFaults → List FileFinding → List Finding → Answer
+all_found faults [] [] = none_found faults
+all_found faults of_file on_ways = record { out = bbolt_findings_text of_file on_ways; ending = Ok 1 }
 
 abbrev pub check_refusal : FileFaults → CheckFault → Answer
 check_refusal faults (check.Open fault) = record { out = fault_lines faults; ending = Err (failure.Metas fault) }
@@ -292,16 +292,22 @@ IsReadAnswer file choice IsAccepted answer =
 
 -- ---- `check`
 
--- what is found of a sound file: what bbolt fails on, if that is looked for, and otherwise nothing
-abbrev pub AreFoundFor : (for_bbolt : Bool) → List ℕ → Meta → List Finding → Type 0
-AreFoundFor true file meta findings = ∥ AreBboltFindings (node_at file meta) meta.root findings ∥₁
-AreFoundFor false file meta findings = findings ≡ []
+-- what bbolt fails on in the file as a whole is looked for under its active meta alone
+abbrev pub AreOfFile : MetaChoice → List ℕ → List FileFinding → Type 0
+AreOfFile Active file of_file = (slot : Slot) (meta : Meta) → IsActive file slot meta → of_file ≡ file_findings file slot meta
+AreOfFile (InSlot slot) file of_file = of_file ≡ []
+AreOfFile (Assumed assumed) file of_file = of_file ≡ []
+
+-- what is found of a sound file: what bbolt fails on, in the file as a whole and on its ways, if that is looked for, and otherwise nothing
+abbrev pub AreFoundFor : (for_bbolt : Bool) → List ℕ → MetaChoice → Meta → List FileFinding → List Finding → Type 0
+AreFoundFor true file choice meta of_file on_ways = AreOfFile choice file of_file × ∥ AreBboltFindings (node_at file meta) meta.root on_ways ∥₁
+AreFoundFor false file choice meta of_file on_ways = (of_file ≡ []) × (on_ways ≡ [])
 
 -- it is looked for if nothing else is wrong
 abbrev pub IsFoundAnswer : (for_bbolt : Bool) → FileFaults → List ℕ → MetaChoice → Answer → Type 0
 IsFoundAnswer for_bbolt faults file choice answer =
-    ((meta : Meta) × (findings : List Finding) × IsReadUnder file choice meta × AreFoundFor (for_bbolt && is_fine faults) file meta findings
-    × (answer ≡ all_found faults findings))
+    ((meta : Meta) × (of_file : List FileFinding) × (on_ways : List Finding) × IsReadUnder file choice meta
+    × AreFoundFor (for_bbolt && is_fine faults) file choice meta of_file on_ways × (answer ≡ all_found faults of_file on_ways))
     ⊎ ((fault : CheckFault) × IsRefusedUnder file choice fault × (answer ≡ check_refusal faults fault))
 
 -- ---- what is recovered of a damaged file

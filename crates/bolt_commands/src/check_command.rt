@@ -3,7 +3,7 @@ ghost use Rattle.std.specs.Prelude.{◌≢◌, ◌&&◌, IfOk, map};
 ghost use Rattle.std.specs.List.{All};
 ghost use Rattle.bolt_check.specs.CheckedFiles.{in_checked};
 ghost use Rattle.bolt_recover.specs.ShownLosses.{lost_view};
-ghost use Rattle.bolt_commands.specs.Answers.{AreFoundFor, Does, IsCheckAnswer, all_found, check_refusal, found, lost_and_found};
+ghost use Rattle.bolt_commands.specs.Answers.{AreFoundFor, AreOfFile, Does, IsCheckAnswer, all_found, check_refusal, found, lost_and_found};
 ghost use Rattle.bolt_commands.specs.FileFaults.{is_fine};
 ghost use Rattle.bolt_report.specs.FoundLines.{IsFoundLeaf, found_view};
 ghost use Rattle.bolt_commands.specs.Private.{Checks.ChecksTo, Checks.unopened, Printing.PrintsAnswer};
@@ -12,11 +12,14 @@ ghost use Rattle.bolt_check.specs.declared.fault.CheckFault.TheVariants as check
 use crate::failure::{Failure, Outcome};
 use crate::file_faults::{FileFaults, put_file_faults};
 use crate::opening::Input;
-use bolt_check::{CheckFault, Checked, Finding, NoMemory, bbolt_findings};
+use bolt_check::{
+    CheckFault, Checked, FileFinding, Finding, NoMemory, bbolt_file_findings, bbolt_findings,
+};
 use bolt_format::{MetaFault, Sink};
 use bolt_job::{CheckJob, Extent, MetaChoice};
 use bolt_recover::{Found, Lost};
-use bolt_report::{counted_lost_text, findings_text};
+use bolt_report::{bbolt_findings_text, counted_lost_text, findings_text};
+use std::alloc::Global;
 use std::slice;
 
 /// What is checked.
@@ -29,6 +32,15 @@ struct Checking<'f> {
     faults: FileFaults,
     /// Whether it is also looked for what bbolt fails on when it writes into the file.
     for_bbolt: bool,
+}
+
+/// What bbolt fails on when it writes into a sound file.
+#[derive(Drop)]
+struct ForBbolt {
+    /// In the file as a whole.
+    of_file: Vec<FileFinding>,
+    /// On the ways from its root page.
+    on_ways: Vec<Finding>,
 }
 
 /// Writes `OK` if nothing is wrong with the file. Otherwise it writes what is wrong apart from its
@@ -56,8 +68,8 @@ fn print_findings<O: Sink>(checking: Checking<'_>, out: &mut O) -> Outcome
 {
     match checking.input.check(checking.choice) {
         Ok(checked) => {
-            let findings = find_for_bbolt(checked, checking)?;
-            put_all(findings.as_slice(), checking.faults, out)
+            let found = find_for_bbolt(checked, checking)?;
+            put_all(&found, checking.faults, out)
         }
         Err(fault) => put_refusal(&fault, checking.faults, out),
     }
@@ -83,23 +95,49 @@ fn print_lost<O: Sink>(checking: Checking<'_>, extent: Extent, out: &mut O) -> O
 
 /// What bbolt fails on when it writes into a sound file, if that is looked for and nothing else is
 /// wrong.
-fn find_for_bbolt(checked: Checked<'_>, checking: Checking<'_>) -> Result<Vec<Finding>, NoMemory>
-    ensures { IfOk result (λ findings.
-        in_checked (AreFoundFor (checking.entry.for_bbolt && is_fine checking.entry.faults))
-        checked.entry findings.items) }
+fn find_for_bbolt(checked: Checked<'_>, checking: Checking<'_>) -> Result<ForBbolt, NoMemory>
+    ensures { IfOk result (λ found. in_checked (λ file meta.
+        AreFoundFor (checking.entry.for_bbolt && is_fine checking.entry.faults)
+        file checking.entry.choice meta found.of_file.items found.on_ways.items) checked.entry) }
 {
+    let alloc = checking.input.alloc;
     if checking.for_bbolt && checking.faults.is_fine() {
-        return bbolt_findings(checking.input.alloc, checked);
+        return Ok(ForBbolt {
+            of_file: find_in_file(alloc, checked.bytes(), checking.choice)?,
+            on_ways: bbolt_findings(alloc, checked)?,
+        });
     }
-    Ok(Vec::new(checking.input.alloc))
+    Ok(ForBbolt {
+        of_file: Vec::new(alloc),
+        on_ways: Vec::new(alloc),
+    })
+}
+
+/// What bbolt fails on in the file as a whole, which is looked for under the active meta alone.
+fn find_in_file(
+    alloc: Global,
+    file: &[u8],
+    choice: MetaChoice,
+) -> Result<Vec<FileFinding>, NoMemory>
+    ensures { IfOk result (λ findings. AreOfFile choice file.now findings.items) }
+{
+    match choice {
+        MetaChoice::Active => bbolt_file_findings(alloc, file),
+        _ => Ok(Vec::new(alloc)),
+    }
 }
 
 /// Writes `OK`, or what is wrong with a sound file.
-fn put_all<O: Sink>(findings: &[Finding], faults: FileFaults, out: &mut O) -> Outcome
-    ensures { Does O.taken O.failed out.old out.new (all_found faults findings.now) result }
+fn put_all<O: Sink>(found: &ForBbolt, faults: FileFaults, out: &mut O) -> Outcome
+    ensures { Does O.taken O.failed out.old out.new
+        (all_found faults found.now.of_file.items found.now.on_ways.items) result }
 {
-    if !findings.is_empty() || !faults.is_fine() {
-        return put_findings(findings, faults, out);
+    if !found.of_file.is_empty() || !found.on_ways.is_empty() {
+        bbolt_findings_text(found.of_file.as_slice(), found.on_ways.as_slice(), out)?;
+        return Ok(1);
+    }
+    if !faults.is_fine() {
+        return put_findings(&[], faults, out);
     }
     out.put(b"OK\n")?;
     Ok(0)

@@ -2,7 +2,7 @@
 -- page: to the end of its value): docs/FORMAT.md, "Elements" and "The tests of a page".
 use Rattle.std.specs.Prelude.{◌≡◌, ◌==◌, ℕ, zero, suc, ◌+◌, ◌*◌, Bool, not, ◌||◌, nat_lt, List, map, length, drop, Option, Some, None, if◌then◌else◌, is_some, slice_range}
 use Rattle.std.specs.List.{list_any, range_with_len}
-use Rattle.bolt_format.specs.{Bytes.number_at, Headers.count_field, Headers.flags_field, Headers.flags_of}
+use Rattle.bolt_format.specs.{Bytes.number_at, Headers.count_field, Headers.flags_field, Headers.flags_of, Headers.id_field}
 use Rattle.bolt_format.specs.declared.header.Kind.TheVariants as kind
 use Rattle.bolt_format.specs.declared.page_fault.TheConstants.PageFault.{ELEMENT_CUT, DATA_ORDER, KEY_LENGTH, VALUE_LENGTH, LEAF_FLAGS, BUCKET_SHORT}
 use Rattle.bolt_format.specs.declared.page_fault.TheConstants.PageFault.{INLINE_PAGE, INLINE_NESTED}
@@ -181,3 +181,7 @@ IsBucketValue value = value_fault value ≡ None
 -- the elements of an inline bucket
 abbrev pub inline_elements : List ℕ → List LeafElement
 inline_elements value = leaf_elements (inline_bytes value) (count_field (inline_bytes value))
+
+-- the page number in the header of its page
+unfoldable pub inline_number : List ℕ → ℕ
+inline_number value = id_field (inline_bytes value)

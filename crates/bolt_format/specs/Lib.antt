@@ -1,3 +1,4 @@
+pub mod BboltMetas
 pub mod Bytes
 pub mod ElementLengths
 pub mod ElementPlaces

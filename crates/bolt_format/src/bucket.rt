@@ -35,6 +35,8 @@ impl Head {
 /// The page of an inline bucket, which passed all tests. Its elements are values.
 #[derive(Clone, Copy)]
 pub struct Inline<'a> {
+    /// The page number in its header. bbolt writes 0.
+    pub number: u64,
     /// The page as a leaf.
     pub page: LeafPage<'a>,
     ghost flat: { has_bucket page.bytes.now page.count ≡ false } by { Prim.hlevel props },

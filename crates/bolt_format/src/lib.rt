@@ -3,6 +3,7 @@
 //! shows, not how it is laid out.
 #![tactic(auto)]
 
+mod bbolt_meta;
 mod bucket;
 mod bytes;
 mod content;
@@ -21,6 +22,7 @@ mod page_fault;
 mod sink;
 mod tree_page;
 
+pub use bbolt_meta::{bbolt_page_size, bbolt_slot};
 pub use bucket::{HEAD_LEN, Head, Inline};
 pub use bytes::fnv1a;
 pub use element::{Branch, ELEMENT_LEN, Leaf, MAX_KEY_LEN, MAX_VALUE_LEN};

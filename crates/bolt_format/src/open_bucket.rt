@@ -1,6 +1,6 @@
 //! Reads the value of a bucket on a page that passed its tests.
 ghost use Rattle.std.specs.Prelude.{◌≡◌};
-ghost use Rattle.bolt_format.specs.{Elements.IsBucketValue, Elements.head_root, Elements.head_sequence, Elements.inline_elements, ShownInline.shown_inline, TreePages.leaf_overflow};
+ghost use Rattle.bolt_format.specs.{Elements.IsBucketValue, Elements.head_root, Elements.head_sequence, Elements.inline_elements, Elements.inline_number, ShownInline.shown_inline, TreePages.leaf_overflow};
 
 use crate::bucket::{HEAD_LEN, Head, Inline};
 use crate::bytes::u64_at;
@@ -23,17 +23,20 @@ pub fn head(value: &[u8]) -> Head
 
 /// The page of an inline bucket, from its value. The value is that of a bucket on a good page, and
 /// its root is 0.
-#[tactic(auto, using(crate::proofs::GoodPages::good_inline, crate::proofs::GoodPages::flat_elements), unfolding(crate::specs::TreePages::leaf_overflow))]
+#[tactic(auto, using(crate::proofs::GoodPages::good_inline, crate::proofs::GoodPages::flat_elements), unfolding(crate::specs::TreePages::leaf_overflow, crate::specs::Elements::inline_number))]
 pub fn inline(value: &[u8]) -> Inline<'_>
     requires bucket { IsBucketValue value.now }
     requires inline { head_root value.now ≡ 0 }
     ensures elements { shown_inline result ≡ inline_elements value.now }
+    ensures number { result.number ≡ inline_number value.now }
     ensures overflow { leaf_overflow result.page ≡ 0 }
 {
     let bytes = &value[HEAD_LEN..];
+    let header = Header::read(bytes);
     Inline {
+        number: header.id,
         page: LeafPage {
-            count: Header::read(bytes).count,
+            count: header.count,
             overflow: 0,
             bytes,
         },

@@ -106,7 +106,7 @@ module _ (file : List ℕ) (meta : Meta) where
   -- a page of a bucket with short keys, or an inline bucket with short keys
   abbrev IsLed : Spot → Type 0
   IsLed (At_page s) = (root : ℕ) × (address : List ℕ) × IsShortBucket (Root_page root) × (leads nodes (Some root) address ≡ Some s.number)
-  IsLed (At_inline host keys) = AllByRecursion IsShort keys
+  IsLed (At_inline host inner) = AllByRecursion IsShort inner.keys
 
   leads_on : (here : Option ℕ) (address : List ℕ) (i : ℕ) → leads nodes here (address ++ i ∷ []) ≡ child_at nodes (leads nodes here address) i
   leads_on here [] i = refl
@@ -156,7 +156,7 @@ module _ (file : List ℕ) (meta : Meta) where
       by (Some x) found e = subst IsLed (same_some (At_page (child_spot s x (upper_from next s.upper))) t e) (root, address ++ i ∷ [], bucket, on x found)
 
   step_led : (s : Spot) (i : ℕ) (t : Spot) → ((p : PageSpot) → s ≡ At_page p → (node : Node) × (nodes p.number ≡ Ok node)) → IsLed s → step nodes (Some s) i ≡ Some t → IsLed t
-  step_led (At_inline host keys) i t good led e = absurd (none-some t e)
+  step_led (At_inline host inner) i t good led e = absurd (none-some t e)
   step_led (At_page s) i t good led e =
       let (node, page) = good s refl in
       elim (tree_page file meta s.number node page) [
@@ -224,8 +224,8 @@ module _ (file : List ℕ) (meta : Meta) (trees : HasSoundTrees file meta) (tree
       by false many keys = rw (many, keys) refl
 
   way_none : (way : List ℕ) (t : Spot) → reached (node_at file meta) meta.root way ≡ Some t → way_findings (node_at file meta) meta.root way ≡ []
-  way_none way (At_inline host keys) e =
-      ap (spot_findings (node_at file meta) (is_in_root (node_at file meta) meta.root way)) e ∙ ap (λ (b : Bool). finding_if b LARGE_KEY host) (short_any keys (led_by way (At_inline host keys) e))
+  way_none way (At_inline host inner) e =
+      ap (spot_findings (node_at file meta) (is_in_root (node_at file meta) meta.root way)) e ∙ ap (λ (b : Bool). finding_if b LARGE_KEY host) (short_any keys (led_by way (At_inline host inner) e))
   way_none way (At_page s) e =
       let good = (trees.good way s e).1 in
       ap (spot_findings (node_at file meta) (is_in_root (node_at file meta) meta.root way)) e

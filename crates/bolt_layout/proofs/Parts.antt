@@ -1,6 +1,6 @@
 -- A part of a tree of pages: what is reached passes the tests, and its spans fill a row of page numbers, each once.
 use Rattle.std.proofs.Common.{◌≡◌, ◌∙◌, ℕ, zero, suc, ◌+◌, ◌<◌, ◌≤◌, List, [], ◌∷◌, Option, Some, None, Result, Ok, refl, sym, subst, inl, inr, arith}
-use Rattle.bolt_layout.proofs.Words.{At_inline, At_page, cases_lt, follow, follow_none, inline_finding, Key, Node, node_finding, Nodes, PageSpot, reached, Spot}
+use Rattle.bolt_layout.proofs.Words.{InlinePage, At_inline, At_page, cases_lt, follow, follow_none, inline_finding, Key, Node, node_finding, Nodes, PageSpot, reached, Spot}
 use Rattle.bolt_check.specs.{Nodes.IsInSpan, Ways.Before, Ways.SpanHas, Ways.SpanOf}
 use Rattle.bolt_check.specs.Findings.{IsClaimedBefore, IsClean, IsMetaPage, Passes, early_finding}
 use Rattle.bolt_check.proofs.WayOrder.{before_irreflexive}
@@ -14,7 +14,7 @@ pub record IsFinePage (nodes : Nodes) (s : PageSpot) : Type 0 where
 
 abbrev pub IsFine : Nodes → Spot → Type 0
 IsFine nodes (At_page s) = IsFinePage nodes s
-IsFine nodes (At_inline host keys) = inline_finding host keys ≡ None
+IsFine nodes (At_inline host inner) = inline_finding host inner.keys ≡ None
 
 -- What is reached by ways, each of which leads to a spot or to nothing.
 pub record IsPart (nodes : Nodes) (at : List ℕ → Option Spot) (from to : ℕ) : Type 0 where
@@ -31,17 +31,17 @@ pub none_some : (nodes : Nodes) (way : List ℕ) (t : Spot) → follow nodes Non
 none_some nodes way t h = let e : None ≡ Some t = sym (follow_none nodes way) ∙ h in cc
 
 -- an inline bucket
-inline_nothing : (nodes : Nodes) (host : ℕ) (keys : List Key) (way : List ℕ) (n : ℕ) → SpanHas nodes (follow nodes (Some (At_inline host keys)) way) n → ⊥
-inline_nothing nodes host keys [] n s = s
-inline_nothing nodes host keys (i ∷ way) n s = nothing nodes way n s
+inline_nothing : (nodes : Nodes) (host : ℕ) (inner : InlinePage) (way : List ℕ) (n : ℕ) → SpanHas nodes (follow nodes (Some (At_inline host inner)) way) n → ⊥
+inline_nothing nodes host inner [] n s = s
+inline_nothing nodes host inner (i ∷ way) n s = nothing nodes way n s
 
-inline_passes : (nodes : Nodes) (host : ℕ) (keys : List Key) → inline_finding host keys ≡ None → (way : List ℕ) (t : Spot)
-    → follow nodes (Some (At_inline host keys)) way ≡ Some t → IsFine nodes t
-inline_passes nodes host keys fine [] t e = let same : At_inline host keys ≡ t = cc in subst (IsFine nodes) same fine
-inline_passes nodes host keys fine (i ∷ way) t e = absurd (none_some nodes way t e)
+inline_passes : (nodes : Nodes) (host : ℕ) (inner : InlinePage) → inline_finding host inner.keys ≡ None → (way : List ℕ) (t : Spot)
+    → follow nodes (Some (At_inline host inner)) way ≡ Some t → IsFine nodes t
+inline_passes nodes host inner fine [] t e = let same : At_inline host inner ≡ t = cc in subst (IsFine nodes) same fine
+inline_passes nodes host inner fine (i ∷ way) t e = absurd (none_some nodes way t e)
 
-pub part_inline : (nodes : Nodes) (host from to : ℕ) (keys : List Key) → from ≡ to → inline_finding host keys ≡ None → IsPart nodes (follow nodes (Some (At_inline host keys))) from to
-part_inline nodes host from to keys same fine = grind (arith, inline_passes, inline_nothing)
+pub part_inline : (nodes : Nodes) (host from to : ℕ) (inner : InlinePage) → from ≡ to → inline_finding host inner.keys ≡ None → IsPart nodes (follow nodes (Some (At_inline host inner))) from to
+part_inline nodes host from to inner same fine = grind (arith, inline_passes, inline_nothing)
 
 -- The ways from a row of spots: the number of one, and on from it.
 abbrev pub kids_at : Nodes → List (Option Spot) → List ℕ → Option Spot
@@ -127,7 +127,7 @@ module _ (nodes : Nodes) (s : PageSpot) (os : List (Option Spot)) (from : ℕ) (
 -- A part that begins above the meta pages and is the tree of the root is clean.
 clean_page : (nodes : Nodes) (root from to : ℕ) → IsPart nodes (reached nodes root) from to → 2 ≤ from
     → (way : List ℕ) (t : Spot) → reached nodes root way ≡ Some t → Passes nodes (IsClaimedBefore nodes (reached nodes root) IsMetaPage way) t
-clean_page nodes root from to part above way (At_inline host keys) e = part.passes way (At_inline host keys) e
+clean_page nodes root from to part above way (At_inline host inner) e = part.passes way (At_inline host inner) e
 clean_page nodes root from to part above way (At_page s) e =
     let fine : IsFinePage nodes s = part.passes way (At_page s) e in
     let here : (n : ℕ) → IsInSpan fine.node s.number n → SpanHas nodes (reached nodes root way) n =

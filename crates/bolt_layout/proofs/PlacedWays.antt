@@ -45,7 +45,7 @@ module _ (nodes : Nodes) (reach : List ℕ → Option Spot) (from to : ℕ) (par
 
   -- each page number is covered
   cover_spot : (way : List ℕ) (s : Spot) (n : ℕ) → reach way ≡ Some s → SpanHas nodes (Some s) n → (t : PageSpot) × IsCovering nodes reach way t n
-  cover_spot way (At_inline host keys) n led h = absurd h
+  cover_spot way (At_inline host inner) n led h = absurd h
   cover_spot way (At_page t) n led h =
       let fine : IsFinePage nodes t = part.passes way (At_page t) led in
       let within : SpanOf (Ok fine.node) t.number n = subst (λ (r : Result Node ℕ). SpanOf r t.number n) fine.page h in

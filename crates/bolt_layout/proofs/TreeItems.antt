@@ -47,7 +47,7 @@ unfolding inline_value
 length-inline_value sequence es = grind (arith, length-head_bytes, length-header_bytes, length-leaf_bytes, length-append)
 
 inline_spot : (host : ℕ) (e : LeafElement) (keys : List Key) → e.is_bucket ≡ true → head_root e.value ≡ 0 → map (λ (i : LeafElement). i.key) (inline_elements e.value) ≡ keys
-    → bucket_spots host (leaf_entry e) ≡ Some (At_inline host keys)
+    → bucket_spots host (leaf_entry e) ≡ Some (At_inline host inner)
 inline_spot host e keys bucket root same = let z : (head_root e.value == 0) ≡ true = eq-eqb (head_root e.value) 0 root in rw (bucket, z, same) refl
 
 -- what an inline bucket's value says

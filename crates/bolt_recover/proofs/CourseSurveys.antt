@@ -20,7 +20,7 @@ span_in (Ok node) number n = (λ e. let both = and_parts (nat_le number n) (nat_
 
 pub claims_in : (nodes : Nodes) (s : Spot) (n : ℕ) → (claims_of nodes s n ≡ true) ↔ SpanAt nodes s n
 claims_in nodes (At_page s) n = span_in (nodes s.number) s.number n
-claims_in nodes (At_inline host keys) n = (λ e. absurd (false≢true e), λ h. absurd h)
+claims_in nodes (At_inline host inner) n = (λ e. absurd (false≢true e), λ h. absurd h)
 
 -- either of two facts that are told
 pub either_or : (a b : Bool) (A B C : Type 0) → (a ≡ true) ↔ A → (b ≡ true) ↔ B → (A → C) → (B → C) → (C → A ⊎ B) → ((a || b) ≡ true) ↔ C
@@ -53,7 +53,7 @@ module _ (file : List ℕ) (meta : Meta) where
 
   page_first : (o : Option Spot) (s : Spot) → o ≡ Some s → page_visit s ≡ cond (is_at_page o) 1 0
   page_first o (At_page s) e = rw e refl
-  page_first o (At_inline host keys) e = rw e refl
+  page_first o (At_inline host inner) e = rw e refl
 
   -- what comes of events is what the survey of their visits says
   pub record Tallied (o : Outcome) (events : List Event) : Type 0 where

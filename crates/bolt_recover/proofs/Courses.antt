@@ -1,6 +1,6 @@
 -- The course of tasks: they come to one list of events, that of the function.
 use Rattle.std.proofs.Common.{◌≡◌, ◌≢◌, ◌∙◌, inl, inr, ℕ, zero, suc, ◌<◌, ◌≤◌, Bool, true, false, ◌||◌, List, [], ◌∷◌, ◌++◌, length, Option, Some, None, Result, Ok, refl, sym, ap, subst, arith}
-use Rattle.bolt_recover.proofs.Words.{At_inline, At_page, claimed_after, Event, events, false_from_ne_true, false≢true, Finding, Given, give_all, Gives, in_span, Key, LeafElement, Meta, nat_tests, Node, node_at, node_below, Nodes, none-some, or_parts, PageSpot, Path, run_all, run_on, run_to, Site, site_tasks, Spot, step_from, Task, tasks_after, test, To_give, To_visit, Visited, Way, Among}
+use Rattle.bolt_recover.proofs.Words.{InlinePage, At_inline, At_page, claimed_after, Event, events, false_from_ne_true, false≢true, Finding, Given, give_all, Gives, in_span, Key, LeafElement, Meta, nat_tests, Node, node_at, node_below, Nodes, none-some, or_parts, PageSpot, Path, run_all, run_on, run_to, Site, site_tasks, Spot, step_from, Task, tasks_after, test, To_give, To_visit, Visited, Way, Among}
 use Rattle.bolt_recover.proofs.{SiteFacts.step_spot, SurveyIsOne.gives_one, TaskLists.after_at, Tested.test_finds}
 use Rattle.bolt_check.proofs.TourExists.{has_number, numbers, shorter, still, without}
 
@@ -45,8 +45,8 @@ module _ (file : List ℕ) (meta : Meta) where
   course_gives claimed (To_visit way p ∷ first) tasks later only course = absurd (only way p (inl refl))
   course_gives claimed (To_give path e ∷ first) tasks later only course = give (course_gives claimed first tasks later (λ way p h. only way p (inr h)) course)
 
-  inline_gives : (way v : Way) (p t : Site) (host : ℕ) (keys : List Key) → p.spot ≡ At_inline host keys → Among (site_tasks file meta way p) (To_visit v t) → ⊥
-  inline_gives way v p t host keys is h =
+  inline_gives : (way v : Way) (p t : Site) (host : ℕ) (inner : InlinePage) → p.spot ≡ At_inline host inner → Among (site_tasks file meta way p) (To_visit v t) → ⊥
+  inline_gives way v p t host inner is h =
       let (none, i, at) = after_at file meta way p None (To_visit v t) h in
       let f : None ≡ Some t.spot = ap (λ (s : Spot). step_from nodes s i) (sym is) ∙ step_spot file meta p t i at.1 in
       none-some t.spot f
@@ -58,9 +58,9 @@ module _ (file : List ℕ) (meta : Meta) where
         → p.spot ≡ s → Gives nodes (λ n. claimed n ≡ true) s found → Course claimed tasks later
         → Course (claimed_after nodes claimed s found) (tasks_after file meta way p found ++ tasks) (run_on file meta deeper later tasks claimed way p found s)
     course_on left claimed tasks later way p (Some x) s le covers is gives course = subst (λ (f : ℕ → Bool). Course f tasks later) (λ i n. sym (or_none (claimed n)) i) course
-    course_on left claimed tasks later way p None (At_inline host keys) le covers is gives course =
+    course_on left claimed tasks later way p None (At_inline host inner) le covers is gives course =
         subst (λ (f : ℕ → Bool). Course f (site_tasks file meta way p ++ tasks) (give_all (site_tasks file meta way p) later)) (λ i n. sym (or_none (claimed n)) i)
-        (course_gives claimed (site_tasks file meta way p) tasks later (λ v t. inline_gives way v p t host keys is) course)
+        (course_gives claimed (site_tasks file meta way p) tasks later (λ v t. inline_gives way v p t host inner is) course)
     course_on left claimed tasks later way p None (At_page s) le covers is gives course =
         let free = false_from_ne_true (claimed s.number) (gives.free s.number (omega arith, omega arith)) in
         let has = covers s.number (node_below file meta s.number gives.node gives.page) free in

@@ -31,15 +31,15 @@ module _ (file : List ℕ) (meta : Meta) where
   -- the spot and the elements lie in the bucket that begins so
   abbrev OfStart : Start → Spot → List LeafElement → Type 0
   OfStart (Root_page r) (At_page s) elements = (address : List ℕ) × (leads nodes (Some r) address ≡ Some s.number)
-  OfStart (Root_page r) (At_inline host keys) elements = ⊥
+  OfStart (Root_page r) (At_inline host inner) elements = ⊥
   OfStart (Inline_page own) (At_page s) elements = ⊥
-  OfStart (Inline_page own) (At_inline host keys) elements = own ≡ elements
+  OfStart (Inline_page own) (At_inline host inner) elements = own ≡ elements
 
   entry_at : (from : Start) (spot : Spot) (elements : List LeafElement) (e : LeafElement) → OfStart from spot elements → IsTidyAt file meta elements spot → Contains elements e → IsEntry file meta from e
   entry_at (Root_page r) (At_page s) elements e (address, lead) tidy has = (address, s.number, lead, shows_entry file meta s.number e (subst (λ (xs : List LeafElement). Contains xs e) tidy has))
-  entry_at (Root_page r) (At_inline host keys) elements e of tidy has = absurd of
+  entry_at (Root_page r) (At_inline host inner) elements e of tidy has = absurd of
   entry_at (Inline_page own) (At_page s) elements e of tidy has = absurd of
-  entry_at (Inline_page own) (At_inline host keys) elements e of tidy has = subst (λ (xs : List LeafElement). Contains xs e) (sym of) has
+  entry_at (Inline_page own) (At_inline host inner) elements e of tidy has = subst (λ (xs : List LeafElement). Contains xs e) (sym of) has
 
   -- a site lies in the bucket that its path names
   abbrev IsNamed : Site → Type 0

@@ -56,7 +56,7 @@ size_enough file meta before (At_page s) elements tidy passes =
     let few = page_leaves file meta s.number passes.node passes.page in
     let size = ap entry_count passes.page in
     omega (arith, long, few, size)
-size_enough file meta before (At_inline host keys) elements tidy passes = omega arith
+size_enough file meta before (At_inline host inner) elements tidy passes = omega arith
 
 -- an entry that leads somewhere is there
 entry_within : (is_leaf : Bool) (s : PageSpot) (entries : List Entry) (i : ℕ) (o next : Option Entry) (t : Spot) → slice_get entries i ≡ o → step_entry is_leaf s o next ≡ Some t → i < length entries
@@ -69,7 +69,7 @@ step_within (Ok node) s i t e = entry_within node.is_leaf s node.entries i (slic
 
 pub leads_within : (nodes : Nodes) (s : Spot) (elements : List LeafElement) (i : ℕ) (t : Spot) → step_from nodes s i ≡ Some t → i < site_size nodes s elements
 leads_within nodes (At_page s) elements i t e = step_within (nodes s.number) s i t e
-leads_within nodes (At_inline host keys) elements i t e = absurd (cc)
+leads_within nodes (At_inline host inner) elements i t e = absurd (cc)
 
 -- a step to a site is a step of its spot
 pub step_spot : (file : List ℕ) (meta : Meta) (p t : Site) (i : ℕ) → step_site file meta p i ≡ Some t → step_from (node_at file meta) p.spot i ≡ Some t.spot

@@ -63,7 +63,8 @@ own_key file meta p s node i e (inr branch) at = absurd (none-some e (ap (λ (xs
 
 keyed_at : (file : List ℕ) (meta : Meta) (before : ℕ → Type 0) (spot : Spot) (path : Path) (elements : List LeafElement) → IsTidyAt file meta elements spot → Passes (node_at file meta) before spot
     → (keys : List Key) × Keyed file meta (record { spot = spot; path = path; elements = elements }) keys
-keyed_at file meta before (At_inline host keys) path elements tidy passes =
+keyed_at file meta before (At_inline host inner) path elements tidy passes =
+    let keys = inner.keys in
     let none = finding_none (keys_order_fault None None None keys) host passes in (
       keys,
       record {

@@ -9,7 +9,7 @@ keys_in elements = map (λ (e : LeafElement). e.key) elements
 -- the elements at a site are those that its spot speaks of
 abbrev pub IsTidyAt : List ℕ → Meta → List LeafElement → Spot → Type 0
 IsTidyAt file meta elements (At_page s) = elements ≡ leaves_of (page_at file meta s.number)
-IsTidyAt file meta elements (At_inline host keys) = keys ≡ keys_in elements
+IsTidyAt file meta elements (At_inline host inner) = inner.keys ≡ keys_in elements
 
 abbrev pub IsTidy : List ℕ → Meta → Site → Type 0
 IsTidy file meta p = IsTidyAt file meta p.elements p.spot
@@ -116,7 +116,7 @@ module _ (file : List ℕ) (meta : Meta) where
     pub form : IsLeafPage p s node ⊎ IsBranchPage p s node
 
   by_spot : (p t : Site) (i : ℕ) (spot : Spot) → IsTidy file meta p → p.spot ≡ spot → step_site file meta p i ≡ Some t → LeadsFrom p
-  by_spot p t i (At_inline host keys) tidy at is =
+  by_spot p t i (At_inline host inner) tidy at is =
       absurd (no_spot p.path (slice_get p.elements i) t (ap (λ (z : Spot). site_on file meta p.path (slice_get p.elements i) (step_from (node_at file meta) z i)) (sym at) ∙ is))
   by_spot p t i (At_page s) tidy at is = by (node_at file meta s.number) refl
     where

@@ -19,7 +19,7 @@ module _ (file : List ℕ) (meta : Meta) where
 
   abbrev IsOnPage : Spot → Type 0
   IsOnPage (At_page s) = Unit {0}
-  IsOnPage (At_inline host keys) = ⊥
+  IsOnPage (At_inline host inner) = ⊥
 
   record IsThere (path : Path) (e : LeafElement) : Type 0 where
     way : List ℕ
@@ -102,7 +102,7 @@ module _ (file : List ℕ) (meta : Meta) where
 
   bucket_step : (p : Site) (spot : Spot) (i : ℕ) (e : LeafElement) → IsTidy file meta p → p.spot ≡ spot → slice_get p.elements i ≡ Some e → e.is_bucket ≡ true → IsOnPage spot
       → (t : Site) × (step_site file meta p i ≡ Some t) × AtStart (start_of e.value) t × (t.path ≡ p.path ++ e.key ∷ [])
-  bucket_step p (At_inline host keys) i e tidy at get bucket on = absurd on
+  bucket_step p (At_inline host inner) i e tidy at get bucket on = absurd on
   bucket_step p (At_page s) i e tidy at get bucket on =
       let has : Contains (leaves_of (page_at file meta s.number)) e = subst (λ (xs : List LeafElement). Contains xs e) (subst (IsTidyAt file meta p.elements) at tidy) (contains_at p.elements i e get) in
       let shows = shows_entry file meta s.number e has in

@@ -1,6 +1,6 @@
 -- What the tests of a spot find: the function gives what the definition asks for.
 use Rattle.std.proofs.Common.{◌≡◌, ℕ, zero, suc, ◌+◌, ◌<◌, ◌≤◌, inl, inr, List, Bool, true, false, nat_lt, Option, Some, None, Result, Ok, Err, if◌then◌else◌, refl, sym, ap, subst, arith, ◌∙◌}
-use Rattle.bolt_recover.proofs.Words.{At_inline, At_page, cases_lt, early, early_finding, false≢true, Finding, finding, first_claimed, first_or, Gives, inline_finding, IsInSpan, Key, late, Node, node_finding, Nodes, open_finding, option_map, or_else, PageSpot, Spot, test, test_node, twice}
+use Rattle.bolt_recover.proofs.Words.{InlinePage, At_inline, At_page, cases_lt, early, early_finding, false≢true, Finding, finding, first_claimed, first_or, Gives, inline_finding, IsInSpan, Key, late, Node, node_finding, Nodes, open_finding, option_map, or_else, PageSpot, Spot, test, test_node, twice}
 use Rattle.bolt_check.specs.declared.finding.TheConstants.Finding.{TWICE}
 
 -- the lowest claimed page among some, if there is one
@@ -49,10 +49,10 @@ module _ (nodes : Nodes) (claimed : ℕ → Bool) where
       subst (λ (r : Result Node ℕ). Finds (At_page s) (test_node claimed s r)) (sym page)
       (node_finds s node (first_claimed claimed s.number (suc node.overflow)) (first_is claimed s.number (suc node.overflow)) is page)
 
-  inline_finds : (host : ℕ) (keys : List Key) (o : Option Finding) → inline_finding host keys ≡ o → Finds (At_inline host keys) o
-  inline_finds host keys None is = is
-  inline_finds host keys (Some x) is = is
+  inline_finds : (host : ℕ) (inner : InlinePage) (o : Option Finding) → inline_finding host inner.keys ≡ o → Finds (At_inline host inner) o
+  inline_finds host inner None is = is
+  inline_finds host inner (Some x) is = is
 
   pub test_finds : (s : Spot) → Finds s (test nodes claimed s)
   test_finds (At_page s) = page_finds s (early_finding nodes s) refl
-  test_finds (At_inline host keys) = inline_finds host keys (inline_finding host keys) refl
+  test_finds (At_inline host inner) = inline_finds host inner (inline_finding host inner.keys) refl

@@ -16,7 +16,7 @@ pub use Rattle.bolt_check.specs.Findings.{keys_of, late, node_finding, open_find
 pub use Rattle.bolt_check.specs.Keys.{Key, KeysRise, is_below, is_from, key_cmp, key_lt, keys_order_fault}
 pub use Rattle.bolt_check.specs.Lists.{Has}
 pub use Rattle.bolt_check.specs.LoneLeaves.{IsListedFree, IsLoneLeaf}
-pub use Rattle.bolt_check.specs.Nodes.{Entry, IsInSpan, Node, Nodes, leaf_entry, node_seen}
+pub use Rattle.bolt_check.specs.Nodes.{Entry, InlinePage, IsInSpan, Node, Nodes, leaf_entry, node_seen}
 pub use Rattle.bolt_check.specs.{Shape.child_at, Shape.child_in, Shape.child_of, Shape.leads, ShownSpots.page_spot, ShownSpots.spot_at}
 pub use Rattle.bolt_check.specs.Sound.{HasSoundTrees}
 pub use Rattle.bolt_check.specs.Ways.{At_inline, At_page, Before, PageSpot, Reach, SpanAt, SpanHas, SpanOf, Spot, bucket_spot, bucket_spots, child_spot, follow}

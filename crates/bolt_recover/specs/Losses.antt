@@ -14,11 +14,11 @@ pub record LossView : Type 0 where
 
 abbrev pub lower_of : Spot → Option Key
 lower_of (At_page s) = s.lower
-lower_of (At_inline host keys) = None
+lower_of (At_inline host inner) = None
 
 abbrev pub upper_of : Spot → Option Key
 upper_of (At_page s) = s.upper
-upper_of (At_inline host keys) = None
+upper_of (At_inline host inner) = None
 
 abbrev pub loss_on : Path → Spot → Finding → LossView
 loss_on path s x = record { finding = x; bucket = path; lower = lower_of s; upper = upper_of s }

@@ -8,7 +8,7 @@ use Rattle.bolt_recover.specs.Surveys.{IsSurvey, SurveyedWay}
 abbrev pub is_at_page : Option Spot → Bool
 is_at_page None = false
 is_at_page (Some (At_page s)) = true
-is_at_page (Some (At_inline host keys)) = false
+is_at_page (Some (At_inline host inner)) = false
 
 -- how many ways of a survey lead to page numbers
 abbrev pub page_ways : Reach → List SurveyedWay → ℕ

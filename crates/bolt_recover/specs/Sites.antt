@@ -17,7 +17,7 @@ leaves_of (Some view) = view.leaves
 -- the elements at a spot; an inline page has its own in a bucket's value
 abbrev pub elements_at : List ℕ → Meta → Spot → List ℕ → List LeafElement
 elements_at file meta (At_page s) value = leaves_of (page_at file meta s.number)
-elements_at file meta (At_inline host keys) value = inline_elements value
+elements_at file meta (At_inline host inner) value = inline_elements value
 
 -- an element of a leaf leads into the bucket that it is, and one of a branch stays in the bucket
 abbrev pub site_on : List ℕ → Meta → Path → Option LeafElement → Option Spot → Option Site

@@ -14,6 +14,7 @@ unfoldable pub use Rattle.bolt_format.specs.Shown.{shown}
 pub use Rattle.bolt_format.specs.ShownIds.{shown_ids}
 pub use Rattle.bolt_format.specs.declared.meta.Meta.{Meta}
 pub use Rattle.bolt_recover.specs.ShownLosses.{loss_view}
+pub use Rattle.bolt_report.specs.BboltLines.{file_finding_text}
 pub use Rattle.bolt_report.specs.FaultWords.{finding_text}
 pub use Rattle.bolt_report.specs.FoundLines.{bucket_count, found_view}
 unfoldable pub use Rattle.bolt_report.specs.FoundLines.{found_line}

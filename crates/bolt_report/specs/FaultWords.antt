@@ -7,7 +7,7 @@ use Rattle.bolt_format.specs.declared.meta.MetaFault.{MetaFault}
 use Rattle.bolt_format.specs.declared.meta.MetaFault.TheVariants.{Cut, Magic, Version, Sum, PageSize}
 use Rattle.bolt_check.specs.declared.finding.Finding.{Finding}
 use Rattle.bolt_check.specs.declared.finding.TheConstants.Finding.{TWICE, ORDER, BELOW_PARENT, ABOVE_NEXT, EMPTY_BRANCH, TOO_DEEP, FREED_TWICE, REACHED_FREED}
-use Rattle.bolt_check.specs.declared.finding.TheConstants.Finding.{UNREACHABLE, FREE_RANGE, ONE_CHILD, ROOT_VALUE, LARGE_KEY}
+use Rattle.bolt_check.specs.declared.finding.TheConstants.Finding.{UNREACHABLE, FREE_RANGE, ONE_CHILD, ROOT_VALUE, LARGE_KEY, FIRST_KEY, LEAF_DEPTH, INLINE_NUMBER}
 use Rattle.bolt_text.specs.Lines.{line}
 
 -- why a file without a valid meta is refused
@@ -71,6 +71,9 @@ finding_table =
     ∷ named ONE_CHILD (codes "branch of one child")
     ∷ named ROOT_VALUE (codes "value in the root bucket")
     ∷ named LARGE_KEY (codes "key too large for bbolt")
+    ∷ named FIRST_KEY (codes "first key isn't its branch key")
+    ∷ named LEAF_DEPTH (codes "leaf at another depth")
+    ∷ named INLINE_NUMBER (codes "inline page with a number")
     ∷ page_fault_table
 
 unfoldable pub finding_words : ℕ → List ℕ
@@ -80,8 +83,11 @@ finding_words code = words_in finding_table code
 unfoldable pub pages_words : ℕ → ℕ → List ℕ
 pages_words page last = if page == last then codes "page " ++ decimal page else codes "pages " ++ decimal page ++ codes " to " ++ decimal last
 
+abbrev pub pages_sentence : (page last : ℕ) → List ℕ → List ℕ
+pages_sentence page last said = pages_words page last ++ codes ": " ++ said
+
 abbrev pub finding_sentence : Finding → List ℕ
-finding_sentence finding = pages_words finding.page finding.last ++ codes ": " ++ finding_words finding.number
+finding_sentence finding = pages_sentence finding.page finding.last (finding_words finding.number)
 
 abbrev pub finding_text : Finding → List ℕ
 finding_text finding = line (finding_sentence finding)

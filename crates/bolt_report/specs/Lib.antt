@@ -1,3 +1,4 @@
+pub mod BboltLines
 pub mod FaultWords
 pub mod FigureForms
 pub mod FigureReadings

@@ -1,7 +1,7 @@
 //! The lines of faults and findings.
 ghost use Rattle.std.specs.Prelude.{◌≡◌, ◌≤◌, ◌++◌, flat_map};
 ghost use Rattle.bolt_format.specs.{Endings.ending, Wrote.Wrote};
-ghost use Rattle.bolt_report.specs.FaultWords.{count_line, finding_sentence, finding_text, finding_words, findings_text, meta_fault_text, page_fault_text, page_fault_words};
+ghost use Rattle.bolt_report.specs.FaultWords.{count_line, finding_sentence, finding_text, finding_words, findings_text, meta_fault_text, page_fault_text, page_fault_words, pages_sentence};
 
 use bolt_check::Finding;
 use bolt_format::{MetaFault, PageFault, Sink, SinkFault};
@@ -67,7 +67,7 @@ pub fn findings_text<S: Sink>(
 }
 
 #[tactic(auto, using(bolt_text::proofs::ReportLemmas::elements))]
-fn put_findings<S: Sink>(findings: &[Finding], sink: &mut S) -> Result<(), SinkFault>
+pub(crate) fn put_findings<S: Sink>(findings: &[Finding], sink: &mut S) -> Result<(), SinkFault>
     ensures { Wrote S.Sink sink.old sink.new (flat_map finding_text findings.now) (ending result) }
 {
     for finding in findings {
@@ -86,9 +86,7 @@ pub(crate) fn put_count<S: Sink>(count: u64, sink: &mut S) -> Result<(), SinkFau
     )
 }
 
-/// Writes the line of a finding up to its end, and then these words. A finding is of a page or of a
-/// several in a row.
-#[tactic(auto, unfolding(crate::specs::FaultWords::pages_words))]
+/// Writes the line of a finding up to its end, and then these words.
 pub(crate) fn put_sentence<S: Sink>(
     finding: &Finding,
     words: &[u8],
@@ -97,12 +95,28 @@ pub(crate) fn put_sentence<S: Sink>(
     ensures { Wrote S.Sink sink.old sink.new (finding_sentence finding.now ++ words.now)
         (ending result) }
 {
-    if finding.page == finding.last {
+    let (page, last) = (finding.page, finding.last);
+    put_of_pages(page, last, finding_words(finding.number), words, sink)
+}
+
+/// Writes what is said of a page, or of several in a row, and then these words.
+#[tactic(auto, unfolding(crate::specs::FaultWords::pages_words))]
+pub(crate) fn put_of_pages<'a, S: Sink>(
+    page: u64,
+    last: u64,
+    said: &'a [u8],
+    words: &'a [u8],
+    sink: &mut S,
+) -> Result<(), SinkFault>
+    ensures { Wrote S.Sink sink.old sink.new (pages_sentence page last said.now ++ words.now)
+        (ending result) }
+{
+    if page == last {
         put_pieces(
             &[
-                Piece::Field(b"page ", finding.page),
+                Piece::Field(b"page ", page),
                 Piece::Bytes(b": "),
-                Piece::Bytes(finding_words(finding.number)),
+                Piece::Bytes(said),
                 Piece::Bytes(words),
             ],
             sink,
@@ -110,10 +124,10 @@ pub(crate) fn put_sentence<S: Sink>(
     } else {
         put_pieces(
             &[
-                Piece::Field(b"pages ", finding.page),
-                Piece::Field(b" to ", finding.last),
+                Piece::Field(b"pages ", page),
+                Piece::Field(b" to ", last),
                 Piece::Bytes(b": "),
-                Piece::Bytes(finding_words(finding.number)),
+                Piece::Bytes(said),
                 Piece::Bytes(words),
             ],
             sink,
@@ -172,6 +186,9 @@ fn finding_words(code: u8) -> &'static [u8]
         Finding::ONE_CHILD => b"branch of one child",
         Finding::ROOT_VALUE => b"value in the root bucket",
         Finding::LARGE_KEY => b"key too large for bbolt",
+        Finding::FIRST_KEY => b"first key isn't its branch key",
+        Finding::LEAF_DEPTH => b"leaf at another depth",
+        Finding::INLINE_NUMBER => b"inline page with a number",
         _ => page_fault_words(code),
     }
 }

@@ -3,6 +3,7 @@
 //! `bolt_stats` that a caller needs are passed on.
 #![tactic(auto)]
 
+mod bbolt_lines;
 mod fault_lines;
 mod key_lines;
 pub mod laws;
@@ -16,6 +17,7 @@ mod part_lines;
 mod size_lines;
 mod stats_lines;
 
+pub use bbolt_lines::bbolt_findings_text;
 pub use bolt_stats::{Stats, add, stats};
 pub use bolt_text::{FigureForm, Form, ListForm, MemberLines, ReportFault, item, value};
 pub use fault_lines::{finding_text, findings_text, meta_fault_text, page_fault_text};

@@ -85,7 +85,7 @@ pub fn slot_fault_text<S: Sink>(slot: Slot, fault: MetaFault, sink: &mut S) -> R
     )
 }
 
-fn slot_number(slot: Slot) -> u64
+pub(crate) fn slot_number(slot: Slot) -> u64
     ensures { result ≡ slot_number slot }
 {
     match slot {

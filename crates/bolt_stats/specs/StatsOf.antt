@@ -12,7 +12,7 @@ use Rattle.bolt_stats.specs.declared.figures.Stats.{Stats}
 abbrev pub spot_figure : List ℕ → Meta → Figure → Option Spot → ℕ
 spot_figure file meta f None = 0
 spot_figure file meta f (Some (At_page s)) = page_figure f meta.page_size (page_at file meta s.number)
-spot_figure file meta f (Some (At_inline host keys)) = 0
+spot_figure file meta f (Some (At_inline host inner)) = 0
 
 -- of all these ways
 abbrev pub tour_figure : List ℕ → Meta → Figure → Reach → List (List ℕ) → ℕ

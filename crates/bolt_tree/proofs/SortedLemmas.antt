@@ -1,6 +1,6 @@
 -- The entries of a bucket in order are the elements along its tour, and there is one such list.
-use Rattle.std.proofs.Common.{rules, ◌≡◌, ℕ, List, [], ◌∷◌, Some, slice_get, map, refl, sym, ap, ◌∙◌, subst, arith, inl, inr, eq-eqb, eqb}
-use Rattle.bolt_tree.proofs.Words.{AreEntries, Contains, HasSoundTrees, Inline_page, IsEntry, IsHome, IsStart, KeysRise, LeafElement, Meta, Root_page, Start, TourPage, content_at, elements_of, entry_cmp, head_root, inline_reached, leads, less_of, lt_strict, node_at, node_is, option_map, pages_at, slice_get-map}
+use Rattle.std.proofs.Common.{rules, ◌≡◌, ℕ, List, [], ◌∷◌, ◌++◌, Some, slice_get, map, refl, sym, ap, ◌∙◌, subst, arith, inl, inr, eq-eqb, eqb}
+use Rattle.bolt_tree.proofs.Words.{AreEntries, Contains, HasSoundTrees, Inline_page, IsEntry, IsHome, IsStart, KeysRise, LeafElement, Meta, Root_page, Start, TourPage, content_at, elements_of, entry_cmp, head_root, inline_elements, inline_page, inline_reached, leads, less_of, lt_strict, node_at, node_is, option_map, pages_at, slice_get-map}
 use Rattle.bolt_format.specs.declared.header.Kind.TheVariants as kind
 use Rattle.bolt_tree.specs.Order as order
 use Rattle.bolt_check.proofs.Lists.{Has, RisesBy, contains_from_has, flat_has, has_at, has_flat, has_from_contains, one_list, rises_flat, rises_from_gets, rises_weaker}
@@ -35,7 +35,8 @@ module _ (file : List ℕ) (meta : Meta) (trees : HasSoundTrees file meta) where
       let i = has_at view.leaves e (has_from_contains view.leaves e has) in
       let inline = none_inside file meta e.value elements (eqb (head_root e.value) 0) refl start in
       let led = inline_reached file meta n depth i.0 view e on (node_is file meta n view kind.Leaf at leaf) i.1 bucket (eq-eqb (head_root e.value) 0 inline.0) in
-      grind arith
+      let rises : KeysRise (map (λ (x : LeafElement). x.key) (inline_elements e.value)) = trees.rising_inline (on.way ++ i.0 ∷ []) on.spot.number (inline_page e.value) led in
+      subst (λ (es : List LeafElement). KeysRise (map (λ (x : LeafElement). x.key) es)) inline.1 rises
 
   inline_rises : (elements : List LeafElement) → IsStart file meta (Inline_page elements) → RisesBy IsBelowElement elements
   inline_rises elements is =

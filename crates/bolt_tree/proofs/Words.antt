@@ -5,7 +5,7 @@ pub use Rattle.bolt_check.proofs.TreePages.{branch_entry_at, branch_key, branch_
 pub use Rattle.bolt_check.proofs.TreePages.{on_address, on_child, shallow, spot_node}
 pub use Rattle.bolt_check.proofs.WayFacts.{follow_append, leads_follow, leaf_node, one_way}
 pub use Rattle.bolt_check.specs.{CheckedFiles.bytes_of, CheckedFiles.meta_of, Counts.counted, Keys.Key, Keys.KeysRise, Keys.key_cmp, Keys.key_lt}
-pub use Rattle.bolt_check.specs.{Nodes.Entry, Nodes.Node, Nodes.Nodes, Nodes.branch_entry, Nodes.leaf_entry, Nodes.node_at, OnWays.IsOnWay, Shape.leads}
+pub use Rattle.bolt_check.specs.{Nodes.Entry, Nodes.Node, Nodes.Nodes, Nodes.branch_entry, Nodes.inline_page, Nodes.leaf_entry, Nodes.node_at, OnWays.IsOnWay, Shape.leads}
 pub use Rattle.bolt_check.specs.Sound.{HasSoundTrees}
 pub use Rattle.bolt_check.specs.Ways.{At_page, Before, PageSpot, Spot, bucket_spots, follow, reached, root_spot, step_at, step_entry}
 pub use Rattle.bolt_check.specs.declared.checked.Checked.{Checked}

@@ -16,7 +16,7 @@ IsUseIn node number n page_use = ((n ≡ number) × (page_use ≡ use_of node.is
 -- what page n is used for by this spot
 abbrev pub UseAt : Nodes → Spot → ℕ → PageUse → Type 0
 UseAt nodes (At_page s) n page_use = (node : Node) × (nodes s.number ≡ Ok node) × IsUseIn node s.number n page_use
-UseAt nodes (At_inline host keys) n page_use = ⊥
+UseAt nodes (At_inline host inner) n page_use = ⊥
 
 abbrev pub UseOf : Nodes → Option Spot → ℕ → PageUse → Type 0
 UseOf nodes None n page_use = ⊥

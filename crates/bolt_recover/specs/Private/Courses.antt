@@ -29,7 +29,7 @@ entry_count (Err fault) = 0
 
 abbrev pub site_size : Nodes → Spot → List LeafElement → ℕ
 site_size nodes (At_page s) elements = entry_count (nodes s.number)
-site_size nodes (At_inline host keys) elements = length elements
+site_size nodes (At_inline host inner) elements = length elements
 
 -- the pages that are claimed once this spot is
 abbrev pub in_span : Result Node ℕ → ℕ → ℕ → Bool
@@ -38,7 +38,7 @@ in_span (Err fault) number n = false
 
 abbrev pub claims_of : Nodes → Spot → ℕ → Bool
 claims_of nodes (At_page s) n = in_span (nodes s.number) s.number n
-claims_of nodes (At_inline host keys) n = false
+claims_of nodes (At_inline host inner) n = false
 
 -- only the meta pages
 abbrev pub meta_pages : ℕ → Bool
@@ -65,7 +65,7 @@ lost_at p (Some x) = loss_of p x ∷ []
 -- how many visits are of pages
 abbrev pub page_visit : Spot → ℕ
 page_visit (At_page s) = 1
-page_visit (At_inline host keys) = 0
+page_visit (At_inline host inner) = 0
 
 abbrev pub after_event : Nodes → Outcome → Event → Outcome
 after_event nodes o (Given path e) = o
@@ -131,7 +131,7 @@ module _ (file : List ℕ) (meta : Meta) where
     -- after a visit; `later` is what comes of the other tasks alone, if no page is claimed
     abbrev pub run_on : List Event → List Task → (ℕ → Bool) → Way → Site → Option Finding → Spot → List Event
     run_on later tasks claimed way p (Some x) s = later
-    run_on later tasks claimed way p None (At_inline host keys) = give_all (site_tasks way p) later
+    run_on later tasks claimed way p None (At_inline host inner) = give_all (site_tasks way p) later
     run_on later tasks claimed way p None (At_page s) = deeper (site_tasks way p ++ tasks) (claimed_after (node_at file meta) claimed (At_page s) None)
 
     abbrev pub run_all : List Task → (ℕ → Bool) → List Event

@@ -25,4 +25,4 @@ test_node claimed s (Err fault) = None
 
 abbrev pub test : Nodes → (ℕ → Bool) → Spot → Option Finding
 test nodes claimed (At_page s) = or_else (early_finding nodes s) (test_node claimed s (nodes s.number))
-test nodes claimed (At_inline host keys) = inline_finding host keys
+test nodes claimed (At_inline host inner) = inline_finding host inner.keys

@@ -7,7 +7,7 @@ use Rattle.bolt_check.proofs.for_bbolt.push_unread.Given as goal
 abbrev pub invariant-loop-i : goal.invariant-loop-i
 invariant-loop-i l = record {
   within : l.i ≤ length (shown_node l.page).entries;
-  pushed : unread_of l.unread.items ≡ map (mark l.in_root) (kids_from (shown_node l.page) (page_spot l.spot) l.i) ++ unread_of l.fn.unread.items;
+  pushed : unread_of l.unread.items ≡ map (mark l.in_root l.leaves) (kids_from (shown_node l.page) (page_spot l.spot) l.i) ++ unread_of l.fn.unread.items;
   few : vec_len l.unread + l.i ≤ vec_len l.fn.unread + length (shown_node l.page).entries;
 }
 

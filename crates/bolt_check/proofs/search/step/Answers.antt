@@ -1,5 +1,5 @@
 use Rattle.std.proofs.Common.{◌∷◌, arith, sym}
-use Rattle.bolt_check.proofs.Words.{At_inline, At_page, forest, inline_keys, IsClaimed, IsSearchFault, node_at, page_spot, shown_node, spots_of, Structure}
+use Rattle.bolt_check.proofs.Words.{At_inline, At_page, forest, shown_inner, IsClaimed, IsSearchFault, node_at, page_spot, shown_node, spots_of, Structure}
 use Rattle.bolt_check.proofs.{Forest.found_step, Visited.inline_carries, Visited.page_carries, Visited.passed_on}
 use Rattle.bolt_check.proofs.search.step.Goals as goal
 
@@ -24,7 +24,7 @@ pub returns-in_err-test-in-Bucket-clause-reported : goal.returns-in_err-test-in-
 returns-in_err-test-in-Bucket-clause-reported c =
     let nodes = node_at c.args.file.now c.args.meta.now in
     let spots = spots_of c.args.pending.now.items in
-    let bucket = At_inline c.in-Bucket.spot.host (inline_keys c.in-Bucket.spot.page) in
+    let bucket = At_inline c.in-Bucket.spot.host (shown_inner c.in-Bucket.spot.page) in
     rw c.in-Bucket.is
     (passed_on c.from_residual-in_err-test-in-Bucket.result (Structure c.in_err-test-in-Bucket.field-0.0)
     (IsSearchFault nodes (forest nodes (bucket ∷ spots)) (IsClaimed c.args.table.now))
@@ -34,7 +34,7 @@ returns-in_err-test-in-Bucket-clause-reported c =
 pub returns-in_ok-test-in-Bucket-clause-carried : goal.returns-in_ok-test-in-Bucket-clause-carried
 returns-in_ok-test-in-Bucket-clause-carried c =
     rw c.in-Bucket.is
-    (inline_carries (node_at c.args.file.now c.args.meta.now) c.in-Bucket.spot.host (inline_keys c.in-Bucket.spot.page)
+    (inline_carries (node_at c.args.file.now c.args.meta.now) c.in-Bucket.spot.host (shown_inner c.in-Bucket.spot.page)
     (spots_of c.args.pending.now.items) c.args.table.now (sym c.in_ok-test-in-Bucket.ensures))
 
 pub returns-in_ok-push_kids-in-Page-clause-less : goal.returns-in_ok-push_kids-in-Page-clause-less

@@ -9,10 +9,10 @@ pub invariant_of-result : goal.invariant_of-result
 invariant_of-result c =
     let value = c.args.value.now in
     record {
-      good = flat_leaves _ _ (good_elements value _ c.read.ensures.count c.requires.bucket c.requires.inline)
-          (flat_elements value _ c.read.ensures.count c.requires.bucket c.requires.inline);
+      good = flat_leaves _ _ (good_elements value _ c.read-header.ensures.count c.requires.bucket c.requires.inline)
+          (flat_elements value _ c.read-header.ensures.count c.requires.bucket c.requires.inline);
     }
 
 pub returns-clause-elements : goal.returns-clause-elements
 unfolding leaves_on
-returns-clause-elements c = ap (leaf_elements _) c.read.ensures.count ∙ ap (λ (bytes : List ℕ). leaf_elements bytes (count_field bytes)) (take_rest c.args.value.now 16)
+returns-clause-elements c = ap (leaf_elements _) c.read-header.ensures.count ∙ ap (λ (bytes : List ℕ). leaf_elements bytes (count_field bytes)) (take_rest c.args.value.now 16)

@@ -1,9 +1,0 @@
-use Rattle.std.proofs.Common.{◌≡◌, drop}
-use Rattle.std.specs.List.{list_any}
-use Rattle.bolt_format.specs.TreePages.{page_keys}
-use Rattle.bolt_check.specs.BboltFindings.{is_too_large}
-use Rattle.bolt_check.proofs.for_bbolt.has_large_key.Given as goal
-
--- the keys from here on decide
-abbrev pub invariant-loop-i : goal.invariant-loop-i
-invariant-loop-i l = list_any is_too_large (drop l.i (page_keys l.page)) ≡ list_any is_too_large (page_keys l.page)
