@@ -92,11 +92,11 @@ complete -c luntsegi -n '__luntsegi_is compact load' -l for-bbolt -d 'Give each 
 complete -c luntsegi -n '__luntsegi_is compact load' -l etcd-snapshot -d 'Write a snapshot that etcd restores'
 complete -c luntsegi -n '__luntsegi_is load' -l page-size -x -d 'The database\'s page size in bytes, a power of two from 1024 to 33554432'
 complete -c luntsegi -n '__luntsegi_is load' -l sequence -x -d 'The sequence of the root bucket, in decimal'
-complete -c luntsegi -n '__luntsegi_is etcd-revisions' -l from -x -d 'The revision to begin at, in decimal'
+complete -c luntsegi -n '__luntsegi_is etcd-revisions' -l from -x -d 'The revision to begin at, in decimal, below 2^63'
 complete -c luntsegi -n '__luntsegi_is etcd-revisions etcd-keys' -l prefix -x -d 'Print only the keys that begin with K, which is written as --parts says'
 complete -c luntsegi -n '__luntsegi_is etcd-revisions etcd-keys' -l values -d 'Also print the values'
 complete -c luntsegi -n '__luntsegi_is etcd-revisions etcd-keys' -l parts -x -a 'text hex mixed' -d 'How K is written'
-complete -c luntsegi -n '__luntsegi_is etcd-keys etcd-get' -l at -x -d 'Read etcd\'s keys as they were at revision R, in decimal'
+complete -c luntsegi -n '__luntsegi_is etcd-keys etcd-get' -l at -x -d 'Read etcd\'s keys as they were at revision R, in decimal, below 2^63'
 complete -c luntsegi -n '__luntsegi_is etcd-get' -l parts -x -a 'text hex mixed' -d 'How NAME is written'
 complete -c luntsegi -n '__luntsegi_is etcd-repair' -l etcd-snapshot -d 'Write a snapshot that etcd restores'
 # ---- end

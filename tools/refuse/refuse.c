@@ -5,7 +5,10 @@
    these, from 1. With REFUSED_LEAST only requests for at least so many bytes of memory count.
    REFUSED_MARK names a file that is made when it is refused: so whoever set these knows whether it was
    called at all. Where a write was refused the device is full: all later ones
-   to the same file are refused too. With REFUSED_MOST a write moves so many bytes at most.
+   to the same file are refused too, unless REFUSED_ONCE is set. With REFUSED_MOST a write moves so many
+   bytes at most.
+
+   A file that was synced must not be written to later: the process is aborted if it is.
 
    With REFUSED_CALL touch or append nothing is refused: each of the first REFUSED_NUMBER times that
    the process has read a regular file to its end, the file's time of change becomes a nanosecond later,
@@ -33,6 +36,9 @@ static size_t most_moved = (size_t)-1;
 static size_t least_asked;
 static long made;
 static int full_file = -1;
+static int is_full_once;
+static struct stat synced;
+static int is_synced;
 static ssize_t (*next_read)(int, void *, size_t);
 static ssize_t (*next_write)(int, const void *, size_t);
 static int (*next_sync)(int);
@@ -51,6 +57,7 @@ __attribute__((constructor)) static void begin(void)
 	refused_number = number ? atol(number) : 0;
 	most_moved = most ? (size_t)atol(most) : most_moved;
 	least_asked = least ? (size_t)atol(least) : 0;
+	is_full_once = getenv("REFUSED_ONCE") != NULL;
 }
 
 /* Counts a call of this kind, and says whether it is the one; the error is then this one. */
@@ -133,11 +140,24 @@ ssize_t read(int file, void *to, size_t count)
 	return moved;
 }
 
+/* Whether this is the file that was synced last. */
+static int was_synced(int file)
+{
+	struct stat status;
+
+	return is_synced && fstat(file, &status) == 0 && status.st_dev == synced.st_dev
+		&& status.st_ino == synced.st_ino;
+}
+
 ssize_t write(int file, const void *from, size_t count)
 {
-	if (is_refused("write", ENOSPC))
+	int refused = is_refused("write", ENOSPC);
+
+	if (was_synced(file))
+		abort();
+	if (refused && !is_full_once)
 		full_file = file;
-	if (file == full_file) {
+	if (refused || file == full_file) {
 		errno = ENOSPC;
 		return -1;
 	}
@@ -146,5 +166,8 @@ ssize_t write(int file, const void *from, size_t count)
 
 int fsync(int file)
 {
-	return is_refused("sync", EIO) ? -1 : next_sync(file);
+	if (is_refused("sync", EIO))
+		return -1;
+	is_synced = fstat(file, &synced) == 0;
+	return next_sync(file);
 }

@@ -3,8 +3,9 @@
 
     sweep.py PROGRAM LIBRARY CALL STEP FILE COMMAND..
 
-CALL is memory, read, write or sync; LIBRARY refuses the calls (refuse.c). A COMMAND may have several
-words; those after the first come after FILE; OUT stands for a file that doesn't exist. With STEP 1
+CALL is memory, read, write, once or sync; LIBRARY refuses the calls (refuse.c). A write that is refused `once`
+may be made again, but what was to be dropped by then mustn't be written; otherwise the device stays full. A COMMAND
+may have several words; those after the first come after FILE; OUT stands for a file that doesn't exist. With STEP 1
 each call that a command makes is refused in a run of its own; with STEP N the first one and then each
 N-th. A run must end as docs/COMMANDS.md says: with the full result, or with status 1, the line of the
 failure, and the parts of the text and of OUT that may be there then. Writes move at most seven bytes,
@@ -40,6 +41,7 @@ LINES = {
     "memory": ("out of memory", "cannot read FILE", "cannot make OUT"),
     "read": ("cannot read FILE",),
     "write": ("write failed", PART_OF_LINE),
+    "once": ("write failed", PART_OF_LINE),
     "sync": ("write failed",),
 }
 
@@ -53,9 +55,12 @@ class Command:
         self.mark = os.path.join(folder, "mark")
         self.name, *rest = words.split()
         self.words = [program, self.name, file] + [self.out if word == "OUT" else word for word in rest]
-        self.refusal = {"LD_PRELOAD": library, "REFUSED_CALL": call, "REFUSED_MARK": self.mark}
-        if call == "write":
+        self.is_write = call in ("write", "once")
+        self.refusal = {"LD_PRELOAD": library, "REFUSED_CALL": "write" if self.is_write else call, "REFUSED_MARK": self.mark}
+        if self.is_write:
             self.refusal["REFUSED_MOST"] = MOST_WRITTEN
+        if call == "once":
+            self.refusal["REFUSED_ONCE"] = "1"
         names = {"FILE": file, "OUT": self.out}
         self.lines = {self.line(words, names): words for words in LINES[call]}
 
@@ -92,9 +97,9 @@ class Command:
         status, out, err, copy = result
         if result == full:
             return FULL
-        if self.call == "write" and (status, out, copy) == (full[0], full[1], full[3]):
+        if self.is_write and (status, out, copy) == (full[0], full[1], full[3]):
             return PART_OF_LINE if full[2].startswith(err) else None
-        may_begin = self.may_begin() if self.call == "memory" else self.call == "write"
+        may_begin = self.may_begin() if self.call == "memory" else self.is_write
         # If a fault follows the whole text, or the program reads on after it, a call may be refused between the two.
         goes_on = full[2] != b"" or self.reads_on()
         is_part = full[1].startswith(out) and (out != full[1] or goes_on)
@@ -134,7 +139,7 @@ def sweep(command, step):
         result = command.run(number)
     ends = ", ".join(f"{count} {outcome}" for outcome, count in outcomes.items())
     print(f"{' '.join(command.words[1:])}: {sum(outcomes.values())} times {command.call}: {ends}", flush=True)
-    is_done = full[2] not in command.lines and result == full
+    is_done = full[0] in (0, 1) and full[2] not in command.lines and result == full
     if len(whole) > most_whole(full):
         wrong.append(whole[0])
         print(f"memory of {command.words[1:]}: OUT is whole {len(whole)} times")

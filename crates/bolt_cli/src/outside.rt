@@ -45,7 +45,8 @@ pub trait Outside {
             (ReadOn first.items limit
             (result_map_both (λ bytes. bytes.items) (λ fault. fault) result) ∷ []) };
 
-    /// Makes OUT with these permission bits, unless there is a file of that name.
+    /// Makes OUT with these permission bits, unless there is a file of that name. After `Memory` OUT may
+    /// have been made, and is empty then.
     fn create(&mut self, name: &str, permissions: u32) -> Result<Self::Target, CreateFault>
         ensures done { Adds (done self.old) (done self.new)
             (Made name.now permissions result ∷ []) }
