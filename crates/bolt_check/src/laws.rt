@@ -1,12 +1,23 @@
 //! What the definitions of sound files imply. docs/SOUND.md says what findings, accounts, roles, ways
 //! and tours are.
-ghost use Rattle.std.specs.Prelude.{◌≡◌, ◌≢◌, ◌↔◌, ◌<◌, ◌+◌, ℕ, IsTrue, List, Some, slice_get};
+ghost use Rattle.std.specs.Prelude.{◌≡◌, ◌≢◌, ◌↔◌, ◌<◌, ◌+◌, ◌∷◌, [], ℕ, IsTrue, List, Some, slice_get};
 ghost use Rattle.bolt_format.specs.{Elements.BranchElement, Elements.LeafElement, Elements.head_root, Pages.PageView, Pages.page_at};
 ghost use Rattle.bolt_format.specs.declared.header.Kind.TheVariants as kind;
 ghost use Rattle.bolt_format.specs.declared.meta.Meta.{Meta};
 ghost use Rattle.bolt_check.specs.{Nodes.node_at, Ones.AtMostOne, OnWays.IsOnWay, OnWays.reach_of, Roles.AreRoles, Roles.HasRole};
+ghost use Rattle.bolt_check.specs.declared.finding.TheConstants.Finding.{ABOVE_NEXT, BELOW_PARENT, EMPTY_BRANCH, FREED_TWICE, FREE_RANGE, ORDER, REACHED_FREED, TOO_DEEP, TWICE, UNREACHABLE};
+ghost use Rattle.bolt_check.specs.declared.finding.TheConstants.Finding.{FIRST_KEY, INLINE_NUMBER, LARGE_KEY, LEAF_DEPTH, ONE_CHILD, ROOT_VALUE};
 ghost use Rattle.bolt_check.specs.Sound.{AreFindingsOfAccounts, HasRightAccounts, HasSoundTrees, IsFirstFinding, PassesTests};
 ghost use Rattle.bolt_check.specs.{Tours.IsTour, Ways.At_page, Ways.Reach, Ways.reached, Ways.root_spot, declared.finding.Finding.Finding, declared.role_table.Role.Role};
+
+/// The codes of findings, which callers may keep, are these.
+pub fn codes_of_findings_are_fixed()
+    ensures of_files { TWICE ∷ ORDER ∷ BELOW_PARENT ∷ ABOVE_NEXT ∷ EMPTY_BRANCH ∷ TOO_DEEP
+        ∷ FREED_TWICE ∷ REACHED_FREED ∷ UNREACHABLE ∷ FREE_RANGE ∷ []
+        ≡ 18 ∷ 19 ∷ 20 ∷ 21 ∷ 22 ∷ 23 ∷ 24 ∷ 25 ∷ 26 ∷ 27 ∷ [] }
+    ensures for_bbolt { ONE_CHILD ∷ ROOT_VALUE ∷ LARGE_KEY ∷ FIRST_KEY ∷ LEAF_DEPTH
+        ∷ INLINE_NUMBER ∷ [] ≡ 37 ∷ 38 ∷ 39 ∷ 40 ∷ 41 ∷ 42 ∷ [] }
+{}
 
 /// No test of the trees fails, exactly if they are sound.
 #[tactic(auto, using(crate::proofs::Lawful::shape_passes, crate::proofs::Shaping::shape_of))]

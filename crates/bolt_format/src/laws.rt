@@ -1,11 +1,23 @@
 //! What the definitions of metas and of pages imply, and that what is written reads back.
-ghost use Rattle.std.specs.Prelude.{◌≡◌, ◌⊎◌, ◌↔◌, ◌<◌, ◌≤◌, ◌^◌, ℕ, ◌++◌, Bool, false, IsTrue, List, drop, length};
+ghost use Rattle.std.specs.Prelude.{◌≡◌, ◌⊎◌, ◌↔◌, ◌<◌, ◌≤◌, ◌^◌, ◌+◌, ◌-◌, ◌∷◌, [], ℕ, ◌++◌, Bool, false, IsTrue, List, drop, length};
 ghost use Rattle.bolt_format.specs.{Bytes.IsBytes, ElementLengths.HasFitLengths};
 ghost use Rattle.bolt_format.specs.{Elements.IsBucketValue, GoodElements.ForInlineElements, GoodElements.ForLeafElements};
 ghost use Rattle.bolt_format.specs.Metas.{ForMetasPrefix, HasMetaFault, HasSlotFault, IsActive, IsInSlot, IsMeta, IsOnlyActive};
 ghost use Rattle.bolt_format.specs.ReadBack.{BranchReadsBack, IsHead, IsHeader, IsHeaderFit, IsMetaFit, LeafReadsBack};
 ghost use Rattle.bolt_format.specs.{Encoded.head_bytes, Encoded.header_bytes, Encoded.meta_bytes, declared.header.Kind.Kind};
+ghost use Rattle.bolt_format.specs.declared.meta.TheConstants.{METAS_END, NO_FREELIST};
+ghost use Rattle.bolt_format.specs.declared.page_fault.TheConstants.PageFault.{BUCKET_SHORT, CUT, DATA_ORDER, ELEMENT_CUT, ID, INLINE_NESTED, INLINE_PAGE, KEY_LENGTH, LEAF_FLAGS, PAGE_KIND, RANGE, VALUE_LENGTH};
 ghost use Rattle.bolt_format.specs.{declared.meta.Meta.Meta, declared.meta.MetaFault.MetaFault, declared.meta.Slot.Slot};
+
+/// The numbers with names are those of the format (docs/FORMAT.md). The codes of faults, which callers
+/// may keep, are these.
+pub fn numbers_are_those_of_the_format()
+    ensures freelist { NO_FREELIST ≡ 2 ^ 64 - 1 }
+    ensures metas { METAS_END ≡ 2 ^ 25 + 80 }
+    ensures faults { RANGE ∷ CUT ∷ ID ∷ PAGE_KIND ∷ ELEMENT_CUT ∷ DATA_ORDER ∷ KEY_LENGTH
+        ∷ VALUE_LENGTH ∷ LEAF_FLAGS ∷ BUCKET_SHORT ∷ INLINE_PAGE ∷ INLINE_NESTED ∷ []
+        ≡ 6 ∷ 7 ∷ 8 ∷ 9 ∷ 10 ∷ 11 ∷ 12 ∷ 13 ∷ 14 ∷ 15 ∷ 16 ∷ 17 ∷ [] }
+{}
 
 /// A page has at most one meta fault, and none if its meta is valid.
 pub fn meta_fault_is_one()
