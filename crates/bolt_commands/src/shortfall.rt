@@ -1,5 +1,5 @@
 //! What the output of a recovery may lack.
-ghost use Rattle.std.specs.Prelude.{◌≡◌, ◌++◌, codes, decimal};
+ghost use Rattle.std.specs.Prelude.{◌≡◌};
 ghost use Rattle.bolt_format.specs.{Endings.ending, Wrote.Wrote};
 ghost use Rattle.bolt_recover.specs.ShownLosses.{lost_view};
 ghost use Rattle.bolt_report.specs.MetaLines.{slot_fault_text};
@@ -40,22 +40,17 @@ pub(crate) fn put_shortfall<E: Sink>(shortfall: Shortfall, err: &mut E) -> Resul
     ensures { Wrote E.Sink err.old err.new (shortfall_text shortfall) (ending result) }
 {
     match shortfall {
-        Shortfall::Pages(pages) => put_pages(pages, b"\n", err),
+        Shortfall::Pages(pages) => put_pieces(
+            &[Piece::Field(b"pages lost: ", pages), Piece::Bytes(b"\n")],
+            err,
+        ),
         Shortfall::State(slot, fault) => slot_fault_text(slot, fault, err),
         Shortfall::PagesAndState(pages, slot, fault) => {
-            put_pages(pages, b"; ", err)?;
+            put_pieces(
+                &[Piece::Field(b"pages lost: ", pages), Piece::Bytes(b"; ")],
+                err,
+            )?;
             slot_fault_text(slot, fault, err)
         }
     }
-}
-
-/// Writes how many pages were lost, and what comes after that.
-fn put_pages<E: Sink>(pages: u64, after: &[u8], err: &mut E) -> Result<(), SinkFault>
-    ensures { Wrote E.Sink err.old err.new (codes "pages lost: " ++ (decimal pages ++ after.now))
-        (ending result) }
-{
-    put_pieces(
-        &[Piece::Field(b"pages lost: ", pages), Piece::Bytes(after)],
-        err,
-    )
 }

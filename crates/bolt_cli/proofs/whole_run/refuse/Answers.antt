@@ -14,7 +14,7 @@ pub returns-in-Usage : goal.returns-in-Usage
 returns-in-Usage g c = DoesDeeds-as c.refuse_usage.ensures (λ deeds refuses. rw (c.in-Usage.is, ← c.as_str.ensures.value) refuses)
 
 pub returns-in-Word : goal.returns-in-Word
-returns-in-Word g c = DoesDeeds-one _ c.say-in-Word.ensures (rw c.in-Word.is (ap error_line c.as_bytes-in-Word.ensures.value, refl))
+returns-in-Word g c = DoesDeeds-one _ c.say.ensures (rw c.in-Word.is (ap error_line c.as_bytes.ensures.value, refl))
 
 pub returns-in-Help : goal.returns-in-Help
 returns-in-Help g c =

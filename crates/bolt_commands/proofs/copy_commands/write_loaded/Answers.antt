@@ -23,4 +23,4 @@ pub returns : goal.returns
 returns g c =
     let told = ap text_members (sym (c.members-members.ensures.text ∙ c.in_ok-listing.ensures.text)) in
     let copy = rw c.layout-layout.ensures at (c.in_ok-copy.ensures.copied (text_members c.args.input.file.now) told) in
-    inl (c.in_ok-listing.ensures.right, copy_written g.O.Sink (λ copy. done (lengths_line (length c.args.input.file.now) copy)) _ _ copy c.end_copy.ensures)
+    inl (c.in_ok-listing.ensures.right, copy_written g.O.Sink (λ copy. done (lengths_line (length c.args.input.file.now) copy)) _ _ copy (rw c.none.ensures at c.end_copy.ensures))

@@ -25,9 +25,9 @@ returns-in_err-value g c =
     let same : path_of c.as_slice-2.result.now ≡ path = ap path_of c.as_slice-2.ensures.value ∙ c.in_ok-path.ensures.path ∙ ap path_in c.as_slice.ensures.value in
     let holds : HoldsNow own path c.in_ok-at.at = rw (same, of.all own is) at (c.in_ok-at.ensures.held own (rw of.bytes is)) in
     let known = c.in_ok-at.ensures.end losses (rw of.bytes are) in
-    let (none, why) = none_known own path c.in_ok-at.at holds (shortfall (parts losses) c.other) _ (rw (c.find-lost.ensures, c.losses.ensures.losses, known) at c.in_err-value.ensures) in
+    let (none, why) = none_known own path c.in_ok-at.at holds (shortfall (parts losses) c.metas_fault-other.result) _ (rw (c.find-lost.ensures, c.losses.ensures.losses, known) at c.in_err-value.ensures) in
     of_recovery r of _ c.metas_fault-other.ensures (IsRecoveredValue c.args.job.now) _ own is losses are
-    (answer_nothing (no_value path own (shortfall (parts losses) c.other)) _ (inr (none, refl)) (rw why at c.from_residual-in_err-value.ensures.1))
+    (answer_nothing (no_value path own (shortfall (parts losses) c.metas_fault-other.result)) _ (inr (none, refl)) (rw why at c.from_residual-in_err-value.ensures.1))
 
 pub returns-in_err-put_value : goal.returns-in_err-put_value
 returns-in_err-put_value g c =
@@ -40,10 +40,10 @@ returns-in_err-put_value g c =
     let same : path_of c.as_slice-2.result.now ≡ path = ap path_of c.as_slice-2.ensures.value ∙ c.in_ok-path.ensures.path ∙ ap path_in c.as_slice.ensures.value in
     let holds : HoldsNow own path c.in_ok-at.at = rw (same, of.all own is) at (c.in_ok-at.ensures.held own (rw of.bytes is)) in
     let known = c.in_ok-at.ensures.end losses (rw of.bytes are) in
-    let held = value_known own path c.in_ok-at.at holds (shortfall (parts losses) c.other) _ (rw (c.find-lost.ensures, c.losses.ensures.losses, known) at c.in_ok-value.ensures) in
+    let held = value_known own path c.in_ok-at.at holds (shortfall (parts losses) c.metas_fault-other.result) _ (rw (c.find-lost.ensures, c.losses.ensures.losses, known) at c.in_ok-value.ensures) in
     let put = c.in_err-put_value.ensures in
     rw (ends_as _ _ c.from_residual-in_err-put_value.ensures.1)
-    (of_recovery r of _ c.metas_fault-other.ensures (IsRecoveredValue c.args.job.now) _ own is losses are (value_put {A = Bool} c.args.job.now own (shortfall (parts losses) c.other) _ held (Err _) put.written put.short put.fault))
+    (of_recovery r of _ c.metas_fault-other.ensures (IsRecoveredValue c.args.job.now) _ own is losses are (value_put {A = Bool} c.args.job.now own (shortfall (parts losses) c.metas_fault-other.result) _ held (Err _) put.written put.short put.fault))
 
 pub returns : goal.returns
 returns g c =
@@ -56,7 +56,7 @@ returns g c =
     let same : path_of c.as_slice-2.result.now ≡ path = ap path_of c.as_slice-2.ensures.value ∙ c.in_ok-path.ensures.path ∙ ap path_in c.as_slice.ensures.value in
     let holds : HoldsNow own path c.in_ok-at.at = rw (same, of.all own is) at (c.in_ok-at.ensures.held own (rw of.bytes is)) in
     let known = c.in_ok-at.ensures.end losses (rw of.bytes are) in
-    let held = value_known own path c.in_ok-at.at holds (shortfall (parts losses) c.other) _ (rw (c.find-lost.ensures, c.losses.ensures.losses, known) at c.in_ok-value.ensures) in
+    let held = value_known own path c.in_ok-at.at holds (shortfall (parts losses) c.metas_fault-other.result) _ (rw (c.find-lost.ensures, c.losses.ensures.losses, known) at c.in_ok-value.ensures) in
     let put = c.in_ok-put_value.ensures in
     rw (c.end_listing.ensures, c.find-lost.ensures, c.losses.ensures.losses, known)
-    (of_recovery r of _ c.metas_fault-other.ensures (IsRecoveredValue c.args.job.now) _ own is losses are (value_put {A = Bool} c.args.job.now own (shortfall (parts losses) c.other) _ held (Ok true) put.written put.short tt))
+    (of_recovery r of _ c.metas_fault-other.ensures (IsRecoveredValue c.args.job.now) _ own is losses are (value_put {A = Bool} c.args.job.now own (shortfall (parts losses) c.metas_fault-other.result) _ held (Ok true) put.written put.short tt))

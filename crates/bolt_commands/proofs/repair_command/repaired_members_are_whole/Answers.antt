@@ -1,10 +1,10 @@
 -- The repaired listing rises, is what a tree lists, and fits.
-use Rattle.std.proofs.Common.{◌≡◌, List, ℕ, refl, subst, sym}
+use Rattle.std.proofs.Common.{◌≡◌, List, ℕ, refl, subst}
 use Rattle.std.proofs.Math.Logic.{∥∥₁_map}
 use Rattle.std.specs.List.{Contains}
 use Rattle.bolt_format.specs.{Bytes.IsBytes, declared.meta.Meta.Meta}
-use Rattle.bolt_layout.specs.Storable.{IsFitListing, IsFitMember}
-use Rattle.bolt_tree.specs.{Entries.Item, Listing.Member, Listing.member_cmp, Order.Rises, Paths.Path, Tree.Tree, Tree.listing_of}
+use Rattle.bolt_layout.specs.Storable.{IsFitListing}
+use Rattle.bolt_tree.specs.{Listing.Member, Listing.member_cmp, Order.Rises, Tree.Tree, Tree.listing_of}
 use Rattle.bolt_etcd.specs.{Repaired.IsRepaired, Repaired.repaired_listing, RepairedMembers.repaired_file, RepairedMembers.repaired_meta, RepairedMerges.repair_back}
 use Rattle.bolt_commands.proofs.RepairedFits.{listing_fits}
 use Rattle.bolt_commands.proofs.repair_command.repaired_members_are_whole.Goals as goal

@@ -1,7 +1,7 @@
 -- The copy is made and then reported, or it isn't whole, or there is none.
-use Rattle.std.proofs.Common.{◌∙◌, inl, inr, length, refl, sym}
+use Rattle.std.proofs.Common.{◌∙◌, inl, inr, refl, sym}
 use Rattle.std.proofs.lemmas.List.{length-map}
-use Rattle.bolt_commands.proofs.{Doing.ends_as, ReadFiles.choice_page_size}
+use Rattle.bolt_commands.proofs.{Doing.ends_as}
 use Rattle.bolt_commands.proofs.RepairAnswers.{is_repaired, repair_done, repair_failed, unsearched_unrestored}
 use Rattle.bolt_commands.proofs.Vocabulary.{∥∥₁_map}
 use Rattle.bolt_etcd.specs.{FullRepairs.IsFullRepair, RepairedMembers.repair_file, RepairedMembers.repair_meta, RepairedMerges.repair_back, RepairedMerges.repair_is_made}
