@@ -27,8 +27,8 @@ help:
 		/^[a-z-]+:/ && about { sub(/:$$/, "", $$1); sub(/\. .*/, ".", about); printf "%-13s%s\n", $$1, about } \
 		{ about = "" }' $(firstword $(MAKEFILE_LIST))
 
-# These run the toolchain's command. Without it they end with one line that says so.
-build calls quick fmt demo programs wrong-bodies test: toolchain
+# These run the toolchain's command, as `make test` does. Without it they end with one line that says so.
+build calls quick fmt demo programs wrong-bodies: toolchain
 
 toolchain:
 	@$(if $(shell command -v rt 2>&1),:,$(error the Rattle toolchain is missing: put its command rt on the path))
@@ -116,7 +116,7 @@ set-up:
 # The merge gate: every proof from nothing, the wrong bodies of crates/*/must-fail, the built programs, what these targets
 # try, the same random files each time, and rounds beside bbolt and etcd. The prover keeps freed memory for 10 s: fewer
 # page faults. It ends with its processor minutes.
-test: set-up
+test: toolchain set-up
 	python3 -B tools/try/gate.py "RT_JOBS=$(JOBS) MIMALLOC_PURGE_DELAY=10000 rt ci" \
 		"make cases examples programs manual failures memory work" \
 		"$(MAKER) tools/fuzz/fuzz.py $(PROGRAM) --seed 1 --files 36" "tools/bbolt/try.sh $(PROGRAM) 3" \
