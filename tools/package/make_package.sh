@@ -23,8 +23,9 @@ test_version() {
     }
 }
 
-# Installs all files below a folder and a prefix.
+# Installs all files below a folder and a prefix. The manual page is made anew, with the date of this time.
 install_files() {
+    rm -f out/luntsegi.1
     make --no-print-directory -s install PROGRAM="$program" DESTDIR="$1" PREFIX="$2" ZSH_COMPLETIONS="$3"
     strip "$1$2/bin/luntsegi"
 }
