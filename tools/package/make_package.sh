@@ -65,25 +65,12 @@ END
 
 # The changes of each release, as Debian's packages have them.
 changelog() {
-    grep -E '^(## |- )' docs/CHANGELOG.md | while IFS= read -r line; do
-        case $line in
-        '## '*)
-            end_release
-            release=${line#'## '}
-            printf 'luntsegi (%s) unstable; urgency=medium\n\n' "${release%%, *}"
-            ;;
-        *) echo "  * ${line#- }" ;;
-        esac
-    done
-    release=$(grep '^## ' docs/CHANGELOG.md | tail -n 1)
-    end_release
-}
-
-# Ends the changes of a release, if one was begun.
-end_release() {
-    if [ -n "${release:-}" ]; then
+    grep '^## ' docs/CHANGELOG.md | while IFS= read -r heading; do
+        release=${heading#'## '}
+        printf 'luntsegi (%s) unstable; urgency=medium\n\n' "${release%%, *}"
+        awk -v heading="$heading" '/^## / { is_there = $0 == heading } is_there && sub(/^- /, "  * ")' docs/CHANGELOG.md
         printf '\n -- %s  %s\n\n' "$maintainer" "$(LC_ALL=C date -u -R -d "${release#*, }")"
-    fi
+    done
 }
 
 # What the package says of copying: no licence was named.
