@@ -1,22 +1,37 @@
-# The targets (docs/CONTRIBUTING.md). They need the toolchain's command `rt` on the path.
+# The targets (docs/CONTRIBUTING.md). `make help` lists them.
 PREFIX ?= /usr/local
 # Runs a tool that makes files. They take the format's numbers from tools/format.
 MAKER = PYTHONPATH=tools/format python3 -B
 PROGRAM = crates/luntsegi/out/luntsegi
 CALLS = crates/test_calls/out/test_calls
 
-.PHONY: build quick fmt demo set-up cases examples programs manual failures memory work bbolt etcd huge fuzz fuzz-wrong wrong-bodies test bench install dist deb clean
+.PHONY: build calls help toolchain quick fmt demo set-up cases examples programs manual failures memory work bbolt etcd huge fuzz fuzz-wrong wrong-bodies test bench install dist deb clean
 
 # Proves the libraries and the program, and builds it.
 build:
 	cd crates/luntsegi && rt run -- --help > /dev/null
 
 $(PROGRAM):
-	$(MAKE) build
+	@$(MAKE) --no-print-directory build
 
 # Proves and builds the program that makes calls of the libraries for tests.
-$(CALLS):
+calls:
 	cd crates/test_calls && rt run -- faults ../../README.md > /dev/null
+
+$(CALLS):
+	@$(MAKE) --no-print-directory calls
+
+# Lists the targets, each with what it does.
+help:
+	@awk '/^# / { about = about " " substr($$0, 3); next } \
+		/^[a-z-]+:/ && about { sub(/:$$/, "", $$1); sub(/\. .*/, ".", about); printf "%-13s%s\n", $$1, about } \
+		{ about = "" }' $(firstword $(MAKEFILE_LIST))
+
+# These run the toolchain's command, as `make test` does. Without it they end with one line that says so.
+build calls quick fmt demo programs wrong-bodies: toolchain
+
+toolchain:
+	@$(if $(shell command -v rt 2>&1),:,$(error the Rattle toolchain is missing: put its command rt on the path))
 
 # Tries the program without its proofs, in two minutes after any edit. It says what that doesn't show.
 quick:
@@ -38,8 +53,8 @@ cases: $(PROGRAM) $(CALLS)
 examples: $(PROGRAM)
 	tools/try/examples.sh $(PROGRAM)
 
-# Runs the programs that the READMEs of crates show, without their proofs.
 PROGRAMS = $(wildcard $(patsubst %,crates/bolt_%/README.md,bulk check commands etcd format job load recover report stats text tree))
+# Runs the programs that the READMEs of crates show, without their proofs.
 programs:
 	python3 -B tools/usage/run_programs.py $(PROGRAMS)
 
@@ -80,7 +95,7 @@ huge: $(PROGRAM)
 	mkdir -p out
 	PYTHONPATH=tests:tools/format python3 -B tools/try/huge.py $(PROGRAM) out
 
-# Alters the program's output in eleven ways. The comparisons must find each alteration.
+# Alters the program's output in twelve ways. The comparisons must find each alteration.
 fuzz-wrong: $(PROGRAM)
 	$(MAKER) tools/fuzz/try_wrong.py $(PROGRAM)
 
@@ -101,7 +116,7 @@ set-up:
 # The merge gate: every proof from nothing, the wrong bodies of crates/*/must-fail, the built programs, what these targets
 # try, the same random files each time, and rounds beside bbolt and etcd. The prover keeps freed memory for 10 s: fewer
 # page faults. It ends with its processor minutes.
-test: set-up
+test: toolchain set-up
 	python3 -B tools/try/gate.py "RT_JOBS=$(JOBS) MIMALLOC_PURGE_DELAY=10000 rt ci" \
 		"make cases examples programs manual failures memory work" \
 		"$(MAKER) tools/fuzz/fuzz.py $(PROGRAM) --seed 1 --files 36" "tools/bbolt/try.sh $(PROGRAM) 3" \
@@ -174,24 +189,28 @@ ZSH_COMPLETIONS ?= $(PREFIX)/share/zsh/site-functions
 # And that of fish.
 FISH_COMPLETIONS ?= $(PREFIX)/share/fish/vendor_completions.d
 
-# The manual page, made of help and docs/COMMANDS.md. It has the date of the last commit.
-out/luntsegi.1: docs/COMMANDS.md tools/usage/manual.py $(PROGRAM)
+# The manual page, made of help and docs/COMMANDS.md.
+out/luntsegi.1: docs/COMMANDS.md docs/CHANGELOG.md tools/usage/manual.py tools/package/release.sh $(PROGRAM)
 	mkdir -p $(@D)
-	python3 -B tools/usage/manual.py $(PROGRAM) $< "$$(git log -1 --format=%cs)" > $@
+	python3 -B tools/usage/manual.py $(PROGRAM) $< "$$(tools/package/release.sh date)" > $@
 
+# Installs the program, the manual page, the completions, the documents and the examples below PREFIX.
 install: $(PROGRAM) out/luntsegi.1
 	install -D -m 755 $(PROGRAM) $(DESTDIR)$(PREFIX)/bin/luntsegi
 	install -D -m 644 out/luntsegi.1 $(DESTDIR)$(PREFIX)/share/man/man1/luntsegi.1
 	install -D -m 644 completions/luntsegi.bash $(DESTDIR)$(PREFIX)/share/bash-completion/completions/luntsegi
 	install -D -m 644 completions/_luntsegi $(DESTDIR)$(ZSH_COMPLETIONS)/_luntsegi
 	install -D -m 644 completions/luntsegi.fish $(DESTDIR)$(FISH_COMPLETIONS)/luntsegi.fish
+	tools/package/install_documents.sh $(DESTDIR)$(PREFIX)/share/doc/luntsegi
 
-# Packages: an archive of the installed files and the documents, and a Debian package.
+# Makes an archive of what `make install` installs, and writes its sum to out/SHA256SUMS.
 dist: $(PROGRAM)
 	tools/package/make_package.sh archive $(PROGRAM)
 
+# Makes a Debian package of the same, and writes its sum to out/SHA256SUMS.
 deb: $(PROGRAM)
 	tools/package/make_package.sh deb $(PROGRAM)
 
+# Removes all that was built.
 clean:
 	rm -rf crates/*/out out

@@ -12,8 +12,10 @@ r"""What a test case requires.
 | `= STATUS` | the status, if it isn't 0; a word after it says why |
 | `+ COPY` | what the copy must be: `FILE` itself, the file that is `kept`, or a `new` one, which is the file of the next test cases |
 
-In a TEXT, \x and two digits stand for a byte. Without a line `+` there is no copy."""
+In a TEXT, \x and two digits stand for a byte, and `{version}` for the program's version. Without a line `+` there is no
+copy."""
 
+import os
 import re
 
 from words import Unread, bytes_of, halves, text_bytes
@@ -22,13 +24,23 @@ from words import Unread, bytes_of, halves, text_bytes
 GAP = b"\0..\0"
 
 
+def version():
+    """The version that the sources have."""
+    top = os.path.dirname(os.path.dirname(os.path.abspath(__file__)))
+    with open(f"{top}/crates/bolt_job/src/command_line.rt", encoding="utf-8") as file:
+        return re.search(r'^const VERSION: &str = "(.*)";$', file.read(), re.M)[1]
+
+
+VERSION = version()
+
+
 class Wanted:
     """What a run must write, its status, and what its copy must be."""
 
     def __init__(self, lines):
         self.out, self.err, self.status, self.copy = b"", b"", 0, ""
         for line in lines:
-            self.take(*halves(line, " "))
+            self.take(*halves(line.replace("{version}", VERSION), " "))
 
     def take(self, mark, text):
         match mark:

@@ -1,37 +1,33 @@
 #!/bin/sh
-# Writes a package of a program to out/, the same bytes for the same sources and program.
+# Writes a package of a program to out/, the same bytes for the same sources and program, and its sum to out/SHA256SUMS.
 #
 #     make_package.sh archive|deb PROGRAM
 #
-# An archive has the files where `make install` puts them, below one folder; a deb is a Debian package.
+# An archive has the files where `make install` puts them, below one folder; a deb is a Debian package. The program must
+# be of the newest release in docs/CHANGELOG.md. All packed files have the time of that release.
 set -eu
 umask 022
 kind=$1
 program=$2
-version=$("$program" --version | cut -d ' ' -f 2)
+maintainer="Luntsegi maintainers <maintainers@users.noreply.luntsegi.example>"
 stage=$PWD/out/stage
-# All packed files have the time of the last commit.
-: "${SOURCE_DATE_EPOCH:=$(git log -1 --format=%ct)}"
+version=$(tools/package/release.sh version)
+SOURCE_DATE_EPOCH=$(tools/package/release.sh time)
 export SOURCE_DATE_EPOCH
 
-# Installs all files below a folder and a prefix. Installed documents have no links to the sources, which aren't there.
-install_files() {
-    make --no-print-directory -s install PROGRAM="$program" DESTDIR="$1" PREFIX="$2" ZSH_COMPLETIONS="$3"
-    strip "$1$2/bin/luntsegi"
-    documents=$1$2/share/doc/luntsegi
-    install -D -m 644 -t "$documents" README.md
-    install -D -m 644 -t "$documents/docs" docs/*.md
-    sed -E -i 's#\[([^]]*)\]\((\.\./)?(crates|tests|tools)/[^)]*\)#\1#g' "$documents/README.md" "$documents"/docs/*.md
-    test_links "$documents"
+test_version() {
+    found=$("$program" --version)
+    [ "$found" = "luntsegi $version" ] || {
+        echo "$program is $found, but the newest release in docs/CHANGELOG.md is $version" >&2
+        exit 1
+    }
 }
 
-# Each link of the installed documents leads to one of them.
-test_links() {
-    grep -oE '\]\([^)#:]+' "$1/README.md" "$1"/docs/*.md | while IFS= read -r link; do
-        document=${link%%:*}
-        to=${link##*](}
-        [ -e "$(dirname "$document")/$to" ] || { echo "$document: no $to" >&2; exit 1; }
-    done
+# Installs all files below a folder and a prefix. The manual page is made anew, with the date of this time.
+install_files() {
+    rm -f out/luntsegi.1
+    make --no-print-directory -s install PROGRAM="$program" DESTDIR="$1" PREFIX="$2" ZSH_COMPLETIONS="$3"
+    strip "$1$2/bin/luntsegi"
 }
 
 # Gives all files below a folder that time.
@@ -40,12 +36,12 @@ set_times() {
 }
 
 make_archive() {
-    name=luntsegi-$version-linux-x86_64
-    install_files "$stage/$name" "" /share/zsh/site-functions
+    package=luntsegi-$version-linux-x86_64.tar.gz
+    folder=${package%.tar.gz}
+    install_files "$stage/$folder" "" /share/zsh/site-functions
     set_times "$stage"
-    tar --create --directory="$stage" --sort=name --format=gnu --owner=0 --group=0 --numeric-owner "$name" |
-        gzip -n -9 > "out/$name.tar.gz"
-    echo "out/$name.tar.gz"
+    tar --create --directory="$stage" --sort=name --format=gnu --owner=0 --group=0 --numeric-owner "$folder" |
+        gzip -n -9 > "out/$package"
 }
 
 # The package's description for dpkg. The oldest C library is that of the newest symbols that the program needs.
@@ -55,7 +51,7 @@ control() {
 Package: luntsegi
 Version: $version
 Architecture: amd64
-Maintainer: Luntsegi maintainers <maintainers@users.noreply.luntsegi.example>
+Maintainer: $maintainer
 Depends: libc6 (>= ${library#GLIBC_})
 Installed-Size: $(du -k -s --apparent-size "$stage/usr" | cut -f 1)
 Section: database
@@ -67,13 +63,14 @@ Description: inspect, check, compact and recover bbolt database files
 END
 }
 
-# The changes, as Debian's packages have them: those of docs/CHANGELOG.md, as of the last commit.
+# The changes of each release, as Debian's packages have them.
 changelog() {
-    echo "luntsegi ($version) unstable; urgency=medium"
-    echo
-    sed -nE 's/^- (.*)/  * \1/p' docs/CHANGELOG.md
-    echo
-    echo " -- Luntsegi maintainers <maintainers@users.noreply.luntsegi.example>  $(date -u -R --date="@$SOURCE_DATE_EPOCH")"
+    grep '^## ' docs/CHANGELOG.md | while IFS= read -r heading; do
+        release=${heading#'## '}
+        printf 'luntsegi (%s) unstable; urgency=medium\n\n' "${release%%, *}"
+        awk -v heading="$heading" '/^## / { is_there = $0 == heading } is_there && sub(/^- /, "  * ")' docs/CHANGELOG.md
+        printf '\n -- %s  %s\n\n' "$maintainer" "$(LC_ALL=C date -u -R -d "${release#*, }")"
+    done
 }
 
 # What the package says of copying: no licence was named.
@@ -82,7 +79,7 @@ copyright() {
 }
 
 make_deb() {
-    name=luntsegi_${version}_amd64
+    package=luntsegi_${version}_amd64.deb
     install_files "$stage" /usr /usr/share/zsh/vendor-completions
     gzip -n -9 "$stage/usr/share/man/man1/luntsegi.1"
     changelog | gzip -n -9 > "$stage/usr/share/doc/luntsegi/changelog.gz"
@@ -91,11 +88,18 @@ make_deb() {
     control > "$stage/DEBIAN/control"
     (cd "$stage" && find usr -type f | LC_ALL=C sort | xargs md5sum) > "$stage/DEBIAN/md5sums"
     set_times "$stage"
-    dpkg-deb --root-owner-group --threads-max=1 --build "$stage" "out/$name.deb" > /dev/null
-    echo "out/$name.deb"
+    dpkg-deb --root-owner-group --threads-max=1 --build "$stage" "out/$package" > /dev/null
 }
 
+# Writes the sums of the packages of this release that are there.
+write_sums() {
+    (cd out && find . -maxdepth 1 -name "luntsegi[-_]${version}[-_]*" -printf '%P\n' | LC_ALL=C sort | xargs sha256sum) > out/SHA256SUMS
+}
+
+test_version
 rm -rf "$stage"
 mkdir -p "$stage"
 "make_$kind"
 rm -r "$stage"
+write_sums
+echo "out/$package"

@@ -1,10 +1,12 @@
-"""Tries the command lines of files of test cases on files of at most 512 KB, and no calls.
+"""Tries the command lines of files of test cases on files of at most 512 KB, and no calls. The program is an unproved
+one, and says so in its version.
 
     command_lines.py PROGRAM FILE.."""
 
 import os
 import sys
 
+import wanted
 from run_cases import Bench, parted, try_file
 from words import halves
 
@@ -32,6 +34,7 @@ class Lines(Bench):
 
 def main():
     program, *names = sys.argv[1:]
+    wanted.VERSION += " unproved"
     counts = [try_file(name, os.path.abspath(program), "-", Lines) for name in names]
     held, failed = (sum(it) for it in zip(*counts))
     print(f"{held} command lines hold, {failed} don't, {left_out} on larger files are left out")

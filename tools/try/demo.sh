@@ -16,5 +16,8 @@ show list examples/app.db settings --form json
 echo "\$ head -c 16384 examples/app.db > out/half.db"
 show check --all out/half.db
 show list --recover --form json out/half.db settings
-echo "This was the program without its proofs, which make build adds. Run other commands so:"
-echo "    $program --help"
+cat <<-END
+	This program is unproved, and tests each access to memory. So it is about a thousand times slower than the proved one,
+	which make build makes. Try it on small files, of a few MB at most:
+	    $program --help
+END

@@ -14,8 +14,10 @@ import help_words
 import synopses
 
 NAME = "luntsegi - inspect, check, compact and recover bbolt database files"
-# A text in code type, a strong word, an emphasized one, and a link, which stands for its text.
-SPAN = re.compile(r"`([^`]+)`|\*\*(.+?)\*\*|\*(.+?)\*|\[([^\]]*)\]\([^)]*\)")
+# A text in code type, a strong word, an emphasized one, and a link.
+SPAN = re.compile(r"`([^`]+)`|\*\*(.+?)\*\*|\*(.+?)\*|\[([^\]]*)\]\(([^)#]*)[^)]*\)")
+# A link to another document alone in brackets.
+ASIDE = re.compile(r"\(\[[^\]]*\]\((\w+\.md)[^)]*\)\)")
 
 
 def escaped(text):
@@ -24,16 +26,17 @@ def escaped(text):
 
 
 def marked(match):
-    code, strong, emphasized, link = match.groups()
+    code, strong, emphasized, link, document = match.groups()
     if link is not None:
-        return spans(link)
+        return spans(link) + (f" ({document})" if document not in ("", link) else "")
     if emphasized is not None:
         return rf"\fI{spans(emphasized)}\fR"
     return rf"\fB{escaped(code) if code is not None else spans(strong)}\fR"
 
 
 def spans(text):
-    """A paragraph in Markdown, as the page has it."""
+    """A paragraph in Markdown, as the page has it. A link stands for its text, with the name of another document."""
+    text = ASIDE.sub(r"(see \1)", text)
     parts, end = [], 0
     for match in SPAN.finditer(text):
         parts += [escaped(text[end : match.start()]), marked(match)]
@@ -70,6 +73,8 @@ def block(lines):
     """A block of Markdown, as the page has it."""
     if lines[0].startswith("## "):
         return f".SH {escaped(lines[0][3:].upper())}\n"
+    if lines[0].startswith("### "):
+        return f".SS {escaped(lines[0][4:])}\n"
     if lines[0].startswith("|"):
         return table(lines)
     if lines[0].startswith("    "):
@@ -122,7 +127,7 @@ def main():
         f'.TH LUNTSEGI 1 {sys.argv[3]} luntsegi\n.SH NAME\n{escaped(NAME)}\n.SH SYNOPSIS\n{synopsis(program)}'
         f".SH COMMANDS\n{commands}.SH OPTIONS\n{''.join(options(program))}.SH DESCRIPTION\n{page_of(reference)}"
     )
-    print(re.sub(r"(?m)^(\.SH .*)\n\.PP$", r"\1", page), end="")
+    print(re.sub(r"(?m)^(\.S[HS] .*)\n\.PP$", r"\1", page), end="")
 
 
 main()
