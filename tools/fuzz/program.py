@@ -11,7 +11,8 @@ JSON_ENTRY = rb'\{"path":\[.+\],(?:"value":.+|"bucket":\d+)\}\n'
 BAD_HASH = rb"snapshot hash (?:cut off|differs)"
 HASH_FAULT = rb"(?:snapshot hash missing|%b)\n" % BAD_HASH
 ITEM = rb"(?:%b+ -> \d+|%b+ = %b*|%b+ bucket \d+ \d+|\d+)\n" % (HEX, HEX, HEX, HEX)
-FINDING = rb"pages? \d+(?: to \d+)?: [a-z ]+"
+FINDING = rb"pages? \d+(?: to \d+)?: [a-z' ]+"
+FOR_BBOLT = rb"meta [01]: (?:not taken by|txid too large for) bbolt"
 LOSS = rb"%b; lost: (?:everything|(?:root bucket|bucket %b+(?:/%b+)*)(?:, keys from %b*(?: to below %b+)?)?)\n" % (
     FINDING, HEX, HEX, HEX, HEX,
 )
@@ -46,7 +47,7 @@ JSON_TEXTS = {
 }
 LOSSES = rb"(?:%b)+" % LOSS
 FOUND = rb"(?:page \d+: nothing leads to it; found: \d+ entries, \d+ of them buckets, keys from [0-9a-f]+ to [0-9a-f]+\n)*"
-FINDINGS = rb"(?:%b\n)+\d+ errors found\n" % FINDING
+FINDINGS = rb"(?:(?:%b|%b)\n)+\d+ errors found\n" % (FOR_BBOLT, FINDING)
 META_FAULT = rb"file too short|invalid database|version mismatch|checksum error|page size refused"
 META_LINE = rb"meta [01]: (?:%b)" % META_FAULT
 OTHER_META = META_LINE + rb"\n"

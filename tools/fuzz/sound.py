@@ -162,6 +162,9 @@ class Trees:
         elements = [self.element(key, item) for key, item in bucket.in_order()]
         level = list(self.leaves(elements))
         height = 1
+        if self.draw.random() < 0.05:
+            level = [self.deeper(child) for child in level]
+            height = 2
         while len(level) > 1:
             level = list(self.branches(level, height))
             height += 1
@@ -180,6 +183,10 @@ class Trees:
                 before = after_before
             yield Child(self.bound(before, first), self.page(LEAF, run))
             before = run[-1].key if run else first
+
+    def deeper(self, child):
+        """The child itself, or below a branch of its own."""
+        return child if self.draw.random() < 0.7 else Child(child.key, self.page(BRANCH, [child]))
 
     def runs(self, elements, most):
         """The elements in runs, mostly such as a page takes."""
@@ -333,7 +340,7 @@ class Image:
             del data[draw.randint(place, len(data)) :]
 
 
-def draw_sound(draw):
+def draw_sound(draw, most_txid=2**64 - 1):
     """A sound file under both its metas, or under the one that is valid."""
     page_size = draw.choice(PAGE_SIZES)
     state = draw_state(draw, page_size)
@@ -346,7 +353,7 @@ def draw_sound(draw):
     if older:
         image.put_tree(older)
     slot = draw.randrange(2)
-    txid = draw.randint(1, 2**64 - 1)
+    txid = draw.randint(1, most_txid)
     image.made.slot = slot
     image.put_meta(slot, state, txid)
     kind = draw.randrange(4)

@@ -3,7 +3,7 @@ use Rattle.std.proofs.Common.{◌≡◌, ◌∙◌, ℕ, suc, ◌+◌, ◌-◌, 
 use Rattle.bolt_check.proofs.Words.{At_inline, At_page, Entry, follow, Node, ne_eqb, Nodes, none-some, PageSpot, root_spot, Spot, step, step_entry}
 use Rattle.bolt_check.proofs.Forest.{follow_none}
 use Rattle.bolt_check.specs.{BboltFindings.bucket_way, BboltFindings.first_leaf_depth, BboltFindings.leaf_depth, Ways.reached, Ways.step_at}
-use Rattle.bolt_check.specs.Private.Unread.{own_leaves, page_leaves}
+pub use Rattle.bolt_check.specs.Private.Unread.{own_leaves, page_leaves}
 
 -- the depth of the first leaf of the bucket in which a way from here ends, by that of the bucket of the page above
 abbrev pub leaves_along : Nodes → (above : ℕ) → Option Spot → List ℕ → ℕ
@@ -36,7 +36,7 @@ node_kid (Ok node) s k i h = entry_kid node.is_leaf s k (slice_get node.entries 
 -- ---- along a way
 
 module _ (nodes : Nodes) where
-  child_leaves : (above : ℕ) (k : PageSpot) → 2 ≤ k.depth → page_leaves nodes above k ≡ above
+  pub child_leaves : (above : ℕ) (k : PageSpot) → 2 ≤ k.depth → page_leaves nodes above k ≡ above
   child_leaves above k deep = rw (ne_eqb k.depth 1 (λ one. absurd (omega (arith, one, deep)))) refl
 
   root_leaves : (above : ℕ) (k : PageSpot) → k.depth ≡ 1 → page_leaves nodes above k ≡ first_leaf_depth nodes 63 k.number

@@ -1,60 +1,122 @@
--- Bbolt can write into the balanced layout of a listing with short keys and without a value in the root bucket.
-use Rattle.std.proofs.Common.{◌≡◌, ◌∙◌, ◌<◌, ◌≤◌, ◌^◌, ℕ, List, [], ◌∷◌, ◌++◌, Option, Some, ap, inl, inr, length, subst, sym}
-use Rattle.bolt_layout.proofs.Words.{AllByRecursion, Balanced, BranchElement, Contains, Contains-append_left, Contains-append_right, contains_head, contains_tail, end, IsAsked, layout_mark, layout_meta, layout_of, layout_pages, layout_root, listing_below, Member, Meta, node_at, page_at, PageView, Path, Placed, reached, Tree, tree_of, with_bucket, with_value}
-use Rattle.bolt_layout.proofs.{BboltWays.none_found, PlacedWays.IsPlaced, PlacedWays.placed_way, ShortKeys.HasShortBranches, ShortKeys.IsShort, ShortKeys.layout_short}
-use Rattle.bolt_layout.proofs.Soundness.{IsSoundLayout, PassingIsSound, laid_out, layout_sound, nodes_shown}
-use Rattle.bolt_layout.proofs.{SoundCopies.layout_tree, SpanLemmas.IsShown, TwoChildren.layout_twos}
-use Rattle.bolt_layout.specs.ForBbolt.{HasShortKeys, HoldsBuckets, IsForBbolt}
+-- Bbolt can write into the balanced layout of a listing without a value in the root bucket or under a key that is too large, and fails on branches of
+-- one child alone of the plain one.
+use Rattle.std.proofs.Common.{◌≡◌, ◌∙◌, ◌<◌, ◌≤◌, ◌^◌, ℕ, false, List, [], ◌∷◌, ◌++◌, Option, Some, ap, inl, inr, length, subst, sym, arith}
+use Rattle.bolt_layout.proofs.Words.{AllByRecursion, At_page, Balanced, Contains, Contains-append_left, Contains-append_right, contains_head, contains_tail, end, IsAsked, IsEntry, IsTreeOf, items_of, Key, Layout, layout_mark, layout_meta, layout_of, layout_pages, layout_root, listing_below, Member, Meta, node_at, page_at, PageSpot, PageView, Path, Placed, Plain, reached, Root_page, root_of, root_over, size_bounds, Spot, Tree, tree_of, with_bucket, with_value}
+use Rattle.bolt_layout.proofs.{BboltWays.all_lone, BboltWays.none_found, BboltWays.only_found, EvenPages.IsEven, EvenPages.IsNeat, EvenPages.IsNeatElement, EvenPages.over_even, EvenTrees.tree_neat}
+use Rattle.bolt_layout.proofs.{EvenWays.IsEvenSpot, EvenWays.IsNeatSpot, EvenWays.even_by, LaidPages.AreNodes, PlacedWays.IsPlaced, PlacedWays.placed_way}
+use Rattle.bolt_layout.proofs.Soundness.{IsLaidOut, IsSoundLayout, PassingIsSound, laid_out, layout_sound, nodes_shown}
+use Rattle.bolt_layout.proofs.{SoundCopies.layout_tree, SpanLemmas.IsShown, TreeItems.root_stands, TreeItems.tree_items, TwoChildren.layout_twos}
+use Rattle.bolt_layout.specs.ForBbolt.{HasShortKeys, HoldsBuckets, IsForBbolt, IsOneChild}
 use Rattle.bolt_layout.specs.{Copies.IsOfOneTree, Layout.HasTwoIfBranch}
-use Rattle.bolt_check.specs.{BboltFindings.AreBboltFindings, declared.finding.Finding.Finding}
-use Rattle.bolt_format.specs.declared.header.Kind.TheVariants as kind
-use Rattle.bolt_tree.specs.Entries.{Item, Value}
+use Rattle.bolt_check.specs.{BboltFindings.AreBboltFindings, BboltFindings.is_too_large, BboltFindings.leaves_at, declared.finding.Finding.Finding}
+use Rattle.bolt_tree.specs.Entries.{Value}
 
--- what is known of the branches that were placed
+-- ---- what is known of the pages that were placed
+
 same_view : (a b : PageView) → ◌≡◌ {A = Option PageView} (Some a) (Some b) → a ≡ b
 same_view a b e = cc
 
-abbrev IsGoodBranch : PageView → Type 0
-IsGoodBranch view = (2 ≤ length view.branches) × AllByRecursion (λ (e : BranchElement). IsShort e.key) view.branches
+placed_of : (P : Placed → Type 0) (file : List ℕ) (meta : Meta) (pages : List Placed) → AllByRecursion (λ (p : Placed). IsShown file meta p.number p.view) pages → AllByRecursion P pages
+    → (n : ℕ) (view : PageView) → IsPlaced pages n → page_at file meta n ≡ Some view → (p : Placed) × P p × (p.view ≡ view)
+placed_of P file meta [] shown all n view placed at = absurd placed
+placed_of P file meta (p ∷ pages) shown all n view (inl here) at = (p, all.0, same_view p.view view (sym shown.0.shows ∙ (ap (page_at file meta) here ∙ at)))
+placed_of P file meta (p ∷ pages) shown all n view (inr later) at = placed_of P file meta pages shown.1 all.1 n view later at
 
-branch_is : (file : List ℕ) (meta : Meta) (pages : List Placed) → AllByRecursion (λ (p : Placed). IsShown file meta p.number p.view) pages → AllByRecursion HasTwoIfBranch pages
-    → AllByRecursion HasShortBranches pages → (n : ℕ) (view : PageView) → IsPlaced pages n → page_at file meta n ≡ Some view → view.kind ≡ kind.Branch → IsGoodBranch view
-branch_is file meta [] shown twos short n view placed at branch = absurd placed
-branch_is file meta (p ∷ pages) shown twos short n view (inl here) at branch =
-    let same : p.view ≡ view = same_view p.view view (sym shown.0.shows ∙ (ap (page_at file meta) here ∙ at)) in
-    subst IsGoodBranch same (twos.0 (ap (λ (v : PageView). v.kind) same ∙ branch), short.0)
-branch_is file meta (p ∷ pages) shown twos short n view (inr later) at branch = branch_is file meta pages shown.1 twos.1 short.1 n view later at branch
+-- ---- of a tree
 
--- of a tree
-tree_for_bbolt : PassingIsSound → (page_size : ℕ) (tree : Tree) (sequence : ℕ) → IsAsked page_size tree sequence → length (layout_of Balanced page_size tree sequence) < 2 ^ 63
-    → HasShortKeys tree → HoldsBuckets tree → (findings : List Finding)
+module _ (passing : PassingIsSound) (which : Layout) (page_size : ℕ) (tree : Tree) (sequence : ℕ) (asked : IsAsked page_size tree sequence)
+    (small : length (layout_of which page_size tree sequence) < 2 ^ 63) where
+  abbrev file : List ℕ
+  file = layout_of which page_size tree sequence
+
+  abbrev meta : Meta
+  meta = layout_meta which page_size tree sequence 1
+
+  abbrev pages : List Placed
+  pages = layout_pages which page_size tree
+
+  laid : IsLaidOut which page_size tree sequence
+  laid = laid_out which page_size tree sequence asked.size asked.storable asked.sequence_fits small
+
+  sound : IsSoundLayout which page_size tree sequence
+  sound = layout_sound passing which page_size tree sequence asked.size laid
+
+  nodes : AreNodes (node_at file meta) pages
+  nodes = nodes_shown file meta pages sound.shown
+
+  placed : (way : List ℕ) (t : PageSpot) → reached (node_at file meta) meta.root way ≡ Some (At_page t) → IsPlaced pages t.number
+  placed = placed_way (node_at file meta) (reached (node_at file meta) meta.root) 3 (layout_mark which page_size tree) sound.part pages laid.row nodes
+
+  -- its pages are even
+  pages_even : (height : ℕ) × (height ≤ 63) × IsEven (node_at file meta) height meta.root × AllByRecursion (IsNeat (node_at file meta)) pages
+  unfolding root_of
+  pages_even =
+      let bounds = size_bounds page_size asked.size in
+      let room = sound.room in
+      let items = items_of which page_size tree in
+      let lengths = asked.storable.lengths in
+      let rises = asked.storable.rising_inside in
+      let all = tree_items which page_size (omega arith) (omega arith) tree lengths rises in
+      let neat = tree_neat which page_size (omega arith) (omega arith) tree lengths rises in
+      let (height, low, over) = root_stands which page_size items (omega arith) all in
+      let (even, each) = over_even (node_at file meta) page_size height (root_over which page_size items) items over neat 3 (omega arith) (omega arith) nodes in
+      (height, low (omega arith), even, each)
+
+  neat_spot : (way : List ℕ) (t : Spot) → reached (node_at file meta) meta.root way ≡ Some t → IsNeatSpot file meta t
+  neat_spot way t e = record {
+    good = λ s is. (sound.trees.good way s (e ∙ ap Some is)).1;
+    neat = λ s view is at leaf.
+        let (height, low, even, each) = pages_even in
+        let (p, neat, same) = placed_of (IsNeat (node_at file meta)) file meta pages sound.shown each s.number view (placed way s (e ∙ ap Some is)) at in
+        subst (λ (v : PageView). AllByRecursion (IsNeatElement (node_at file meta)) v.leaves) same (neat (ap (λ (v : PageView). v.kind) same ∙ leaf));
+  }
+
+  even_spot : (way : List ℕ) (t : Spot) → reached (node_at file meta) meta.root way ≡ Some t → IsEvenSpot (node_at file meta) (leaves_at (node_at file meta) meta.root way (Some t)) t
+  even_spot = let (height, low, even, each) = pages_even in even_by file meta height low even neat_spot
+
+  of_tree : IsTreeOf (IsEntry file meta) (Root_page meta.root) tree
+  of_tree = layout_tree which page_size tree sequence asked.size asked.storable sound
+
+  -- branches of one child alone are found
+  pub tree_lone : HasShortKeys tree → HoldsBuckets tree → (findings : List Finding) → AreBboltFindings (node_at file meta) meta.root findings → AllByRecursion IsOneChild findings
+  tree_lone short holds findings are =
+      subst (AllByRecursion IsOneChild) (sym (only_found file meta sound.trees tree of_tree short holds even_spot findings are))
+      (all_lone (node_at file meta) (reached (node_at file meta) meta.root) are.tour)
+
+-- and none in a balanced layout
+tree_for_bbolt : (passing : PassingIsSound) (page_size : ℕ) (tree : Tree) (sequence : ℕ) (asked : IsAsked page_size tree sequence)
+    (small : length (layout_of Balanced page_size tree sequence) < 2 ^ 63) → HasShortKeys tree → HoldsBuckets tree → (findings : List Finding)
     → AreBboltFindings (node_at (layout_of Balanced page_size tree sequence) (layout_meta Balanced page_size tree sequence 1)) (layout_root Balanced page_size tree) findings → findings ≡ []
 tree_for_bbolt passing page_size tree sequence asked small short holds findings are =
     let file = layout_of Balanced page_size tree sequence in
     let meta = layout_meta Balanced page_size tree sequence 1 in
-    let pages = layout_pages Balanced page_size tree in
-    let laid = laid_out Balanced page_size tree sequence asked.size asked.storable asked.sequence_fits small in
-    let sound : IsSoundLayout Balanced page_size tree sequence = layout_sound passing Balanced page_size tree sequence asked.size laid in
-    let nodes = nodes_shown file meta pages sound.shown in
-    let placed = placed_way (node_at file meta) (reached (node_at file meta) meta.root) 3 (layout_mark Balanced page_size tree) sound.part pages laid.row nodes in
-    none_found file meta sound.trees tree (layout_tree Balanced page_size tree sequence asked.size asked.storable sound) short holds
-    (λ way s view led at branch. branch_is file meta pages sound.shown (layout_twos page_size tree) (layout_short Balanced page_size tree short) s.number view (placed way s led) at branch)
+    let sound : IsSoundLayout Balanced page_size tree sequence = sound passing Balanced page_size tree sequence asked small in
+    none_found file meta sound.trees tree (of_tree passing Balanced page_size tree sequence asked small) short holds (even_spot passing Balanced page_size tree sequence asked small)
+    (λ way s view e at branch.
+    let (p, two, same) = placed_of HasTwoIfBranch file meta (layout_pages Balanced page_size tree) sound.shown (layout_twos page_size tree) s.number view
+    (placed passing Balanced page_size tree sequence asked small way s e) at in
+    subst (λ (v : PageView). 2 ≤ length v.branches) same (two (ap (λ (v : PageView). v.kind) same ∙ branch)))
     findings are
+
+pub balanced_for_bbolt : (passing : PassingIsSound) (which : Layout) → which ≡ Balanced → (page_size : ℕ) (tree : Tree) (sequence : ℕ) (asked : IsAsked page_size tree sequence)
+    (small : length (layout_of which page_size tree sequence) < 2 ^ 63) → HasShortKeys tree → HoldsBuckets tree → (findings : List Finding)
+    → AreBboltFindings (node_at (layout_of which page_size tree sequence) (layout_meta which page_size tree sequence 1)) (layout_root which page_size tree) findings → findings ≡ []
+balanced_for_bbolt passing Balanced is page_size tree sequence asked small = tree_for_bbolt passing page_size tree sequence asked small
+balanced_for_bbolt passing Plain is page_size tree sequence asked small = absurd (cc)
 
 -- ---- what holds of a listing holds of its tree
 
-keys_of_tree : (path : Path) (tree : Tree) → ((p : Path) (item : Item) (key : List ℕ) → Contains (listing_below path tree) (p, item) → Contains p key → IsShort key) → HasShortKeys tree
+keys_of_tree : (path : Path) (tree : Tree) → ((p : Path) (key : Key) (value : List ℕ) → Contains (listing_below path tree) (p ++ key ∷ [], Value value) → is_too_large key ≡ false) → HasShortKeys tree
 keys_of_tree path end short = tt
 keys_of_tree path (with_value key value after) short = (
-  short (path ++ key ∷ []) (Value value) key (contains_head _ _) (Contains-append_right path (key ∷ []) key (contains_head key [])),
-  keys_of_tree path after (λ p item k has. short p item k (contains_tail _ _ _ has)),
+  short path key value (contains_head _ _),
+  keys_of_tree path after (λ p k v has. short p k v (contains_tail _ _ _ has)),
 )
 keys_of_tree path (with_bucket key sequence inside after) short =
     let below = listing_below (path ++ key ∷ []) inside in
     let rest = listing_below path after in (
-      short (path ++ key ∷ []) _ key (contains_head _ _) (Contains-append_right path (key ∷ []) key (contains_head key [])),
-      keys_of_tree (path ++ key ∷ []) inside (λ p item k has. short p item k (contains_tail _ _ _ (Contains-append_left below rest (p, item) has))),
-      keys_of_tree path after (λ p item k has. short p item k (contains_tail _ _ _ (Contains-append_right below rest (p, item) has))),
+      keys_of_tree (path ++ key ∷ []) inside (λ p k v has. short p k v (contains_tail _ _ _ (Contains-append_left below rest (p ++ k ∷ [], Value v) has))),
+      keys_of_tree path after (λ p k v has. short p k v (contains_tail _ _ _ (Contains-append_right below rest (p ++ k ∷ [], Value v) has))),
     )
 
 buckets_of_tree : (tree : Tree) → ((key value : List ℕ) → Contains (listing_below [] tree) (key ∷ [], Value value) → ⊥) → HoldsBuckets tree
@@ -63,13 +125,12 @@ buckets_of_tree (with_value key value after) none = none key value (contains_hea
 buckets_of_tree (with_bucket key sequence inside after) none =
     buckets_of_tree after (λ k v has. none k v (contains_tail _ _ _ (Contains-append_right (listing_below (key ∷ []) inside) (listing_below [] after) (k ∷ [], Value v) has)))
 
-pub listing_for_bbolt : PassingIsSound → (listing : List Member) (page_size sequence : ℕ) → IsOfOneTree listing → IsForBbolt listing → IsAsked page_size (tree_of listing) sequence
-    → length (layout_of Balanced page_size (tree_of listing) sequence) < 2 ^ 63 → (findings : List Finding)
-    → AreBboltFindings (node_at (layout_of Balanced page_size (tree_of listing) sequence) (layout_meta Balanced page_size (tree_of listing) sequence 1)) (layout_root Balanced page_size (tree_of listing)) findings
-    → findings ≡ []
-listing_for_bbolt passing listing page_size sequence one for_bbolt asked small findings are =
-    let tree = tree_of listing in
-    let there : (m : Member) → Contains (listing_below [] tree) m → Contains listing m = λ m has. subst (λ (l : List Member). Contains l m) one.lists has in
-    tree_for_bbolt passing page_size tree sequence asked small
-    (keys_of_tree [] tree (λ p item key has inside. for_bbolt.short p item key (there (p, item) has) inside))
-    (buckets_of_tree tree (λ key value has. for_bbolt.inner key value (there (key ∷ [], Value value) has))) findings are
+module _ (listing : List Member) (one : IsOfOneTree listing) (for_bbolt : IsForBbolt listing) where
+  there : (m : Member) → Contains (listing_below [] (tree_of listing)) m → Contains listing m
+  there m has = subst (λ (l : List Member). Contains l m) one.lists has
+
+  pub listing_short : HasShortKeys (tree_of listing)
+  listing_short = keys_of_tree [] (tree_of listing) (λ p key value has. for_bbolt.short p key value (there (p ++ key ∷ [], Value value) has))
+
+  pub listing_holds : HoldsBuckets (tree_of listing)
+  listing_holds = buckets_of_tree (tree_of listing) (λ key value has. for_bbolt.inner key value (there (key ∷ [], Value value) has))

@@ -1,42 +1,49 @@
--- What bbolt fails on isn't found in a file whose tree has short keys and buckets alone in its root bucket, if its branches have two children
--- and short keys.
-use Rattle.std.proofs.Common.{◌≡◌, ◌∙◌, ◌==◌, ◌&&◌, ◌≤◌, ℕ, Bool, true, false, List, [], ◌∷◌, ◌++◌, Option, Some, None, Ok, Result, ap, cond, flat_map, inl, inr, length, map, not, refl, slice_get, subst, sym, arith}
+-- What bbolt fails on in a file whose pages are even, and whose tree has short keys and buckets alone in its root bucket: branches of one child,
+-- and nothing else.
+use Rattle.std.proofs.Common.{◌≡◌, ◌∙◌, ◌==◌, ◌&&◌, ◌≤◌, ℕ, Bool, true, false, List, [], ◌∷◌, ◌++◌, Option, Some, None, Ok, Err, Result, ap, ap₂, append-nil, cond, flat_map, inl, inr, length, map, not, refl, slice_get, subst, sym, arith}
 use Rattle.std.specs.List.{list_any}
 use Rattle.std.specs.Prelude.{is_some}
+use Rattle.std.proofs.lemmas.Bool.{eqb-true}
 use Rattle.std.proofs.lemmas.Option.{none-some, slice_get-map}
-use Rattle.bolt_layout.proofs.Words.{AllByRecursion, At_inline, At_page, BranchElement, Contains, contains_cases, contains_head, contains_none, contains_tail, end, Entry, follow, HasSoundTrees, head_root, Inline_page, inline_elements, IsEntry, IsTreeOf, Key, leaf_entry, LeafElement, length-map, Meta, ne_eqb, Node, node_at, Nodes, page_at, PageSpot, PageView, reached, root_spot, Root_page, Spot, Start, start_of, Tree, with_bucket, with_value}
-use Rattle.bolt_layout.proofs.ShortKeys.{IsShort}
-use Rattle.bolt_layout.specs.ForBbolt.{HasShortKeys, HoldsBuckets}
+use Rattle.bolt_layout.proofs.Words.{AllByRecursion, At_inline, At_page, Contains, contains_cases, contains_head, contains_none, contains_tail, end, Entry, eq-eqb, follow, HasSoundTrees, head_root, Inline_page, inline_elements, inline_page, InlinePage, IsEntry, IsTreeOf, Key, leaf_entry, LeafElement, length-map, Meta, ne_eqb, Node, node_at, Nodes, page_at, PageSpot, PageView, reached, root_spot, Root_page, Spot, Start, start_of, Tree, with_bucket, with_value}
+use Rattle.bolt_layout.proofs.{EvenWays.IsEvenSpot, EvenWays.leaf_is_first, EvenWays.same_node, ListLemmas.all_append}
+use Rattle.bolt_layout.specs.ForBbolt.{HasShortKeys, HoldsBuckets, IsOneChild}
 use Rattle.bolt_check.proofs.TreePages.{a_branch, a_leaf, branch_node, leaf_node, tree_page}
-use Rattle.bolt_check.specs.BboltFindings.{AreBboltFindings, finding_if, is_in_root, is_too_large, node_findings, seen_findings, spot_findings, way_findings}
-use Rattle.bolt_check.specs.declared.finding.TheConstants.Finding.{LARGE_KEY}
+use Rattle.bolt_check.specs.BboltFindings.{AreBboltFindings, begins_otherwise, finding_if, has_one_child, has_other_first_key, inline_findings, is_in_root, is_large_value, is_too_large, is_value, leaves_at, node_findings, seen_findings, spot_findings, way_findings}
+use Rattle.bolt_check.specs.declared.finding.TheConstants.Finding.{FIRST_KEY, INLINE_NUMBER, LARGE_KEY, LEAF_DEPTH, ONE_CHILD, ROOT_VALUE}
 use Rattle.bolt_check.specs.{Findings.keys_of, Lists.Has, Nodes.branch_entry, Shape.child_at, Shape.child_in, Shape.child_of, Shape.leads, Ways.bucket_spots, Ways.child_spot, Ways.step, Ways.step_entry, Ways.upper_from, declared.finding.Finding.Finding}
 use Rattle.bolt_check.proofs.{Forest.follow_some, WayFacts.leads_follow}
+use Rattle.bolt_format.proofs.PageFacts.{bucket_value, flat_inline}
+use Rattle.bolt_format.specs.Elements.{IsBucketValue}
 use Rattle.bolt_tree.proofs.EntryOrder.{contains_at}
 use Rattle.std.specs.Option.{option_map}
 use Rattle.bolt_tree.specs.{Entries.AreEntries, Tree.Shows}
 use Rattle.bolt_format.specs.declared.header.Kind.TheVariants as kind
 
+abbrev IsShort : Key → Type 0
+IsShort key = is_too_large key ≡ false
+
 -- ---- lists
 
--- the keys of all of these are short
+-- all of these keys are short
 short_any : (keys : List Key) → AllByRecursion IsShort keys → list_any is_too_large keys ≡ false
 short_any [] all = refl
 short_any (key ∷ keys) all = rw (all.0, short_any keys all.1) refl
 
-keys_short : (es : List LeafElement) → ((e : LeafElement) → Contains es e → IsShort e.key) → AllByRecursion IsShort (keys_of (map leaf_entry es))
-keys_short [] each = tt
-keys_short (e ∷ es) each = (each e (contains_head e es), keys_short es (λ x has. each x (contains_tail e x es has)))
+large_none : (bucket : Bool) (e : LeafElement) → e.is_bucket ≡ bucket → (e.is_bucket ≡ false → IsShort e.key) → is_large_value (leaf_entry e) ≡ false
+large_none true e is short = rw is refl
+large_none false e is short = let key = short is in rw (is, key) refl
+
+-- none of these is a value under a key that is too large
+large_any : (es : List LeafElement) → ((e : LeafElement) → Contains es e → e.is_bucket ≡ false → IsShort e.key) → list_any is_large_value (map leaf_entry es) ≡ false
+large_any [] each = refl
+large_any (e ∷ es) each = rw (large_none e.is_bucket e refl (each e (contains_head e es)), large_any es (λ x has. each x (contains_tail e x es has))) refl
 
 inner_short : (es : List LeafElement) → ((e : LeafElement) → Contains es e → IsShort e.key) → AllByRecursion IsShort (map (λ (e : LeafElement). e.key) es)
 inner_short [] each = tt
 inner_short (e ∷ es) each = (each e (contains_head e es), inner_short es (λ x has. each x (contains_tail e x es has)))
 
-branches_short : (es : List BranchElement) → AllByRecursion (λ (e : BranchElement). IsShort e.key) es → AllByRecursion IsShort (keys_of (map branch_entry es))
-branches_short [] all = tt
-branches_short (e ∷ es) all = (all.0, branches_short es all.1)
-
-buckets_any : (es : List LeafElement) → ((e : LeafElement) → Contains es e → e.is_bucket ≡ true) → list_any (λ (e : Entry). not e.is_bucket) (map leaf_entry es) ≡ false
+buckets_any : (es : List LeafElement) → ((e : LeafElement) → Contains es e → e.is_bucket ≡ true) → list_any is_value (map leaf_entry es) ≡ false
 buckets_any [] each = refl
 buckets_any (e ∷ es) each = rw (each e (contains_head e es), buckets_any es (λ x has. each x (contains_tail e x es has))) refl
 
@@ -49,21 +56,21 @@ module _ (file : List ℕ) (meta : Meta) where
   abbrev Own : Start → LeafElement → Type 0
   Own = IsEntry file meta
 
-  shows_short : (tree : Tree) (es : List LeafElement) → Shows Own tree es → HasShortKeys tree → (e : LeafElement) → Contains es e → IsShort e.key
-  shows_short end [] shows short e has = absurd (contains_none e has)
-  shows_short (with_value key value after) (x ∷ es) shows short e has =
+  shows_short : (tree : Tree) (es : List LeafElement) → Shows Own tree es → HasShortKeys tree → (e : LeafElement) → Contains es e → e.is_bucket ≡ false → IsShort e.key
+  shows_short end [] shows short e has value = absurd (contains_none e has)
+  shows_short (with_value key value after) (x ∷ es) shows short e has own =
       elim (contains_cases x e es has) [
         | inl is ↦ ap is_too_large (ap (λ (y : LeafElement). y.key) (sym is) ∙ shows.1) ∙ short.0
-        | inr later ↦ shows_short after es shows.3 short.1 e later
+        | inr later ↦ shows_short after es shows.3 short.1 e later own
       ]
-  shows_short (with_bucket key sequence inside after) (x ∷ es) shows short e has =
+  shows_short (with_bucket key sequence inside after) (x ∷ es) shows short e has own =
       elim (contains_cases x e es has) [
-        | inl is ↦ ap is_too_large (ap (λ (y : LeafElement). y.key) (sym is) ∙ shows.1) ∙ short.0
-        | inr later ↦ shows_short after es shows.4 short.2 e later
+        | inl is ↦ absurd (let no : x.is_bucket ≡ true = shows.0 in let yes : x.is_bucket ≡ false = ap (λ (y : LeafElement). y.is_bucket) is ∙ own in cc)
+        | inr later ↦ shows_short after es shows.4 short.1 e later own
       ]
-  shows_short end (x ∷ es) shows short e has = absurd shows
-  shows_short (with_value key value after) [] shows short e has = absurd shows
-  shows_short (with_bucket key sequence inside after) [] shows short e has = absurd shows
+  shows_short end (x ∷ es) shows short e has own = absurd shows
+  shows_short (with_value key value after) [] shows short e has own = absurd shows
+  shows_short (with_bucket key sequence inside after) [] shows short e has own = absurd shows
 
   -- a bucket with this start has a tree with short keys
   abbrev IsShortBucket : Start → Type 0
@@ -80,8 +87,8 @@ module _ (file : List ℕ) (meta : Meta) where
       elim (contains_cases x e es has) [
         | inl is ↦
             let (own, are, within) = shows.3 in
-            subst (λ (y : LeafElement). IsShortBucket (start_of y.value)) is (inside, own, are, within, short.1)
-        | inr later ↦ shows_inside after es shows.4 short.2 e later bucket
+            subst (λ (y : LeafElement). IsShortBucket (start_of y.value)) is (inside, own, are, within, short.0)
+        | inr later ↦ shows_inside after es shows.4 short.1 e later bucket
       ]
   shows_inside end (x ∷ es) shows short e has bucket = absurd shows
   shows_inside (with_value key value after) [] shows short e has bucket = absurd shows
@@ -98,7 +105,7 @@ module _ (file : List ℕ) (meta : Meta) where
   shows_buckets (with_value key value after) es shows holds e has = absurd holds
   shows_buckets (with_bucket key sequence inside after) [] shows holds e has = absurd shows
 
-  bucket_short : (start : Start) (e : LeafElement) → IsShortBucket start → Own start e → IsShort e.key
+  bucket_short : (start : Start) (e : LeafElement) → IsShortBucket start → Own start e → e.is_bucket ≡ false → IsShort e.key
   bucket_short start e (tree, es, are, shows, short) is = shows_short tree es shows short e ((are.exact e).1 is)
 
   -- ---- what a way leads to
@@ -119,13 +126,15 @@ module _ (file : List ℕ) (meta : Meta) where
   same_some : (a b : Spot) → ◌≡◌ {A = Option Spot} (Some a) (Some b) → a ≡ b
   same_some a b e = cc
 
-  bucket_led : (host : ℕ) (e : LeafElement) (t : Spot) → IsShortBucket (start_of e.value) → (b c : Bool) → (head_root e.value == 0) ≡ c
-      → cond b (Some (cond c (At_inline host (map (λ (x : LeafElement). x.key) (inline_elements e.value))) (At_page (root_spot (head_root e.value))))) None ≡ Some t → IsLed t
-  bucket_led host e t bucket false c z led = absurd (none-some t led)
-  bucket_led host e t bucket true true z led =
+  bucket_led : (host : ℕ) (e : LeafElement) (t : Spot) → IsBucketValue e.value → IsShortBucket (start_of e.value) → (b c : Bool) → (head_root e.value == 0) ≡ c
+      → cond b (Some (cond c (At_inline host (inline_page e.value)) (At_page (root_spot (head_root e.value))))) None ≡ Some t → IsLed t
+  bucket_led host e t passes bucket false c z led = absurd (none-some t led)
+  bucket_led host e t passes bucket true true z led =
       let inner : IsShortBucket (Inline_page (inline_elements e.value)) = rw z at bucket in
-      subst IsLed (same_some _ t led) (inner_short (inline_elements e.value) (λ x has. bucket_short (Inline_page (inline_elements e.value)) x inner has))
-  bucket_led host e t bucket true false z led =
+      let root = eqb-true (head_root e.value) 0 z in
+      subst IsLed (same_some _ t led)
+      (inner_short (inline_elements e.value) (λ x has. bucket_short (Inline_page (inline_elements e.value)) x inner has (flat_inline e.value x passes root has)))
+  bucket_led host e t passes bucket true false z led =
       let paged : IsShortBucket (Root_page (head_root e.value)) = rw z at bucket in
       subst IsLed (same_some _ t led) (head_root e.value, [], paged, refl)
 
@@ -134,15 +143,17 @@ module _ (file : List ℕ) (meta : Meta) where
   leaf_step s view i t next at is (root, address, bucket, led) e =
       by (slice_get view.leaves i) refl (subst (λ (x : Option Entry). step_entry true s x next ≡ Some t) (slice_get-map leaf_entry view.leaves i) e)
     where
-      of_bucket : (le : LeafElement) → Own (Root_page root) le → (b : Bool) → le.is_bucket ≡ b → bucket_spots s.number (leaf_entry le) ≡ Some t → IsLed t
-      of_bucket le own false ib e = absurd (none-some t (rw ib at e))
-      of_bucket le own true ib e =
+      of_bucket : (le : LeafElement) → Contains view.leaves le → Own (Root_page root) le → (b : Bool) → le.is_bucket ≡ b → bucket_spots s.number (leaf_entry le) ≡ Some t → IsLed t
+      of_bucket le has own false ib e = absurd (none-some t (rw ib at e))
+      of_bucket le has own true ib e =
           let (tree, es, are, shows, short) = bucket in
-          bucket_led s.number le t (shows_inside tree es shows short le ((are.exact le).1 own) ib) true (head_root le.value == 0) refl (rw ib at e)
+          bucket_led s.number le t (bucket_value file meta s.number view le at is has ib) (shows_inside tree es shows short le ((are.exact le).1 own) ib) true (head_root le.value == 0) refl (rw ib at e)
 
       by : (o : Option LeafElement) → slice_get view.leaves i ≡ o → step_entry true s (option_map leaf_entry o) next ≡ Some t → IsLed t
       by None found e = absurd (none-some t e)
-      by (Some le) found e = of_bucket le (leaf_is s view le at is (contains_at view.leaves i le found) root address led) le.is_bucket refl e
+      by (Some le) found e =
+          let has = contains_at view.leaves i le found in
+          of_bucket le has (leaf_is s view le at is has root address led) le.is_bucket refl e
 
   branch_step : (s : PageSpot) (view : PageView) (i : ℕ) (t : Spot) (next : Option Entry) → node_at file meta s.number ≡ Ok (branch_node view) → IsLed (At_page s)
       → step_entry false s (slice_get (map branch_entry view.branches) i) next ≡ Some t → IsLed t
@@ -173,11 +184,35 @@ module _ (file : List ℕ) (meta : Meta) where
       ways_led next way t (λ v p f. good (i ∷ v) p (ap (λ (o : Option Spot). follow nodes o v) is ∙ f))
       (step_led here i next (λ p same. good [] p (ap Some same)) led is) (ap (λ (o : Option Spot). follow nodes o way) (sym is) ∙ e)
 
--- ---- nothing is found
+-- ---- what is found
+
+-- a branch of one child alone
+abbrev lone : PageSpot → Result Node ℕ → List Finding
+lone s (Ok node) = finding_if (has_one_child node) ONE_CHILD s.number
+lone s (Err fault) = []
+
+abbrev pub lone_at : Nodes → Option Spot → List Finding
+lone_at at (Some (At_page s)) = lone s (at s.number)
+lone_at at (Some (At_inline host inner)) = []
+lone_at at None = []
+
+and_false : (b : Bool) → (b && false) ≡ false
+and_false true = refl
+and_false false = refl
+
+inline_none : (host : ℕ) (inner : InlinePage) → list_any is_too_large inner.keys ≡ false → (inner.number == 0) ≡ true → inline_findings host inner ≡ []
+inline_none host inner short number = rw (short, number) refl
+
+first_alone : (first : List Finding) (b c d e : Bool) (w x y z number : ℕ) → b ≡ false → c ≡ false → d ≡ false → e ≡ false
+    → first ++ (finding_if b w number ++ (finding_if c x number ++ (finding_if d y number ++ finding_if e z number))) ≡ first
+first_alone first b c d e w x y z number b_not c_not d_not e_not = rw (b_not, c_not, d_not, e_not) (append-nil first)
 
 module _ (file : List ℕ) (meta : Meta) (trees : HasSoundTrees file meta) (tree : Tree) (is : IsTreeOf (IsEntry file meta) (Root_page meta.root) tree) (short : HasShortKeys tree)
-    (holds : HoldsBuckets tree) (branches : (way : List ℕ) (s : PageSpot) (view : PageView) → reached (node_at file meta) meta.root way ≡ Some (At_page s)
-    → page_at file meta s.number ≡ Some view → view.kind ≡ kind.Branch → (2 ≤ length view.branches) × AllByRecursion (λ (e : BranchElement). IsShort e.key) view.branches) where
+    (holds : HoldsBuckets tree) (even : (way : List ℕ) (t : Spot) → reached (node_at file meta) meta.root way ≡ Some t → IsEvenSpot (node_at file meta) (leaves_at (node_at file meta) meta.root way (Some t)) t) where
+  abbrev HasTwoOnBranches : Type 0
+  HasTwoOnBranches = (way : List ℕ) (s : PageSpot) (view : PageView) → reached (node_at file meta) meta.root way ≡ Some (At_page s) → page_at file meta s.number ≡ Some view
+      → view.kind ≡ kind.Branch → 2 ≤ length view.branches
+
   root_led : IsLed file meta (At_page (root_spot meta.root))
   root_led = let (es, are, shows) = is in (meta.root, [], (tree, es, are, shows, short), refl)
 
@@ -195,50 +230,111 @@ module _ (file : List ℕ) (meta : Meta) (trees : HasSoundTrees file meta) (tree
 
   buckets_alone : (way : List ℕ) (s : PageSpot) (view : PageView) → reached (node_at file meta) meta.root way ≡ Some (At_page s) → page_at file meta s.number ≡ Some view
       → view.kind ≡ kind.Leaf → (o : Option ℕ) → leads (node_at file meta) (Some meta.root) way ≡ o
-      → (is_some o && list_any (λ (e : Entry). not e.is_bucket) (map leaf_entry view.leaves)) ≡ false
+      → (is_some o && list_any is_value (map leaf_entry view.leaves)) ≡ false
   buckets_alone way s view e at leaf None l = refl
   buckets_alone way s view e at leaf (Some n) l =
       let (es, are, shows) = is in
       let led = l ∙ ap Some (same_page way s n e l) in
       buckets_any view.leaves (λ x has. shows_buckets file meta tree es shows holds x ((are.exact x).1 (leaf_is file meta s view x at leaf has meta.root way led)))
 
-  leaf_none : (way : List ℕ) (s : PageSpot) (view : PageView) → reached (node_at file meta) meta.root way ≡ Some (At_page s) → page_at file meta s.number ≡ Some view
-      → view.kind ≡ kind.Leaf → node_findings (is_in_root (node_at file meta) meta.root way) s.number (leaf_node view) ≡ []
-  leaf_none way s view e at leaf =
-      let (root, address, bucket, led) = led_by way (At_page s) e in
-      let keys = short_any (keys_of (map leaf_entry view.leaves)) (keys_short view.leaves (λ x has. bucket_short file meta (Root_page root) x bucket (leaf_is file meta s view x at leaf has root address led))) in
-      let values = buckets_alone way s view e at leaf (leads (node_at file meta) (Some meta.root) way) refl in
-      rw (values, keys) refl
-
-  branch_none : (way : List ℕ) (s : PageSpot) (view : PageView) → reached (node_at file meta) meta.root way ≡ Some (At_page s) → page_at file meta s.number ≡ Some view
-      → view.kind ≡ kind.Branch → (in_root : Bool) → node_findings in_root s.number (branch_node view) ≡ []
-  branch_none way s view e at branch in_root =
-      let (two, all) = branches way s view e at branch in
-      let keys = short_any (keys_of (map branch_entry view.branches)) (branches_short view.branches all) in
-      let many : (length (map branch_entry view.branches) == 1) ≡ false = ne_eqb (length (map branch_entry view.branches)) 1 (λ one. absurd (omega (arith, one, two, length-map view.branches branch_entry))) in
-      by in_root many keys
+  -- the first key of a page is that of its entry
+  begins_so : (s : PageSpot) (node : Node) (leaves : ℕ) → node_at file meta s.number ≡ Ok node → IsEvenSpot (node_at file meta) leaves (At_page s) → has_other_first_key s.lower node ≡ false
+  begins_so s node leaves at stands = by s.lower refl
     where
-      by : (b : Bool) → (length (map branch_entry view.branches) == 1) ≡ false → list_any is_too_large (keys_of (map branch_entry view.branches)) ≡ false
-          → node_findings b s.number (branch_node view) ≡ []
-      by true many keys = rw (many, keys) refl
-      by false many keys = rw (many, keys) refl
+      by : (lower : Option Key) → s.lower ≡ lower → has_other_first_key lower node ≡ false
+      by None same = refl
+      by (Some key) same =
+          let (own, is, begins) = stands.begins key same in
+          let alike : own ≡ node = same_node own node (sym is ∙ at) in
+          subst (λ (n : Node). begins_otherwise key (keys_of n.entries) ≡ false) alike begins
 
-  way_none : (way : List ℕ) (t : Spot) → reached (node_at file meta) meta.root way ≡ Some t → way_findings (node_at file meta) meta.root way ≡ []
-  way_none way (At_inline host inner) e =
-      ap (spot_findings (node_at file meta) (is_in_root (node_at file meta) meta.root way)) e ∙ ap (λ (b : Bool). finding_if b LARGE_KEY host) (short_any keys (led_by way (At_inline host inner) e))
-  way_none way (At_page s) e =
+  leaf_only : (way : List ℕ) (s : PageSpot) (view : PageView) (leaves : ℕ) → reached (node_at file meta) meta.root way ≡ Some (At_page s) → page_at file meta s.number ≡ Some view
+      → view.kind ≡ kind.Leaf → node_at file meta s.number ≡ Ok (leaf_node view) → IsEvenSpot (node_at file meta) leaves (At_page s)
+      → node_findings (is_in_root (node_at file meta) meta.root way) leaves s (leaf_node view) ≡ []
+  leaf_only way s view leaves e at leaf shown stands =
+      let (root, address, bucket, led) = led_by way (At_page s) e in
+      let large = large_any view.leaves (λ x has. bucket_short file meta (Root_page root) x bucket (leaf_is file meta s view x at leaf has root address led)) in
+      let values = buckets_alone way s view e at leaf (leads (node_at file meta) (Some meta.root) way) refl in
+      let depth = eq-eqb s.depth leaves (leaf_is_first file meta s (leaf_node view) leaves shown refl stands) in
+      first_alone [] _ _ _ _ ROOT_VALUE LARGE_KEY FIRST_KEY LEAF_DEPTH s.number values large (begins_so s (leaf_node view) leaves shown stands) (ap not depth)
+
+  branch_only : (s : PageSpot) (view : PageView) (in_root : Bool) (leaves : ℕ) → node_at file meta s.number ≡ Ok (branch_node view) → IsEvenSpot (node_at file meta) leaves (At_page s)
+      → node_findings in_root leaves s (branch_node view) ≡ finding_if (has_one_child (branch_node view)) ONE_CHILD s.number
+  branch_only s view in_root leaves shown stands =
+      first_alone (finding_if (has_one_child (branch_node view)) ONE_CHILD s.number) _ _ _ _ ROOT_VALUE LARGE_KEY FIRST_KEY LEAF_DEPTH s.number
+      (and_false in_root) refl (begins_so s (branch_node view) leaves shown stands) refl
+
+  way_only : (way : List ℕ) (t : Spot) → reached (node_at file meta) meta.root way ≡ Some t → way_findings (node_at file meta) meta.root way ≡ lone_at (node_at file meta) (Some t)
+  way_only way (At_inline host inner) e =
+      let number = eq-eqb inner.number 0 (even way (At_inline host inner) e) in
+      ap (λ (o : Option Spot). spot_findings (node_at file meta) (is_in_root (node_at file meta) meta.root way) (leaves_at (node_at file meta) meta.root way o) o) e
+      ∙ inline_none host inner (short_any inner.keys (led_by way (At_inline host inner) e)) number
+  way_only way (At_page s) e =
       let good = (trees.good way s e).1 in
-      ap (spot_findings (node_at file meta) (is_in_root (node_at file meta) meta.root way)) e
+      let in_root = is_in_root (node_at file meta) meta.root way in
+      let leaves = leaves_at (node_at file meta) meta.root way (Some (At_page s)) in
+      let stands = even way (At_page s) e in
+      ap (λ (o : Option Spot). spot_findings (node_at file meta) in_root (leaves_at (node_at file meta) meta.root way o) o) e
       ∙ elim (tree_page file meta s.number good.0 good.1) [
-        | a_leaf view at leaf shown ↦ ap (seen_findings (is_in_root (node_at file meta) meta.root way) s.number) shown ∙ leaf_none way s view e at leaf
-        | a_branch view at branch shown ↦ ap (seen_findings (is_in_root (node_at file meta) meta.root way) s.number) shown ∙ branch_none way s view e at branch (is_in_root (node_at file meta) meta.root way)
+        | a_leaf view at leaf shown ↦ ap (seen_findings in_root leaves s) shown ∙ leaf_only way s view leaves e at leaf shown stands ∙ sym (ap (lone s) shown)
+        | a_branch view at branch shown ↦ ap (seen_findings in_root leaves s) shown ∙ branch_only s view in_root leaves shown stands ∙ sym (ap (lone s) shown)
       ]
 
-  none_in : (ways : List (List ℕ)) → ((way : List ℕ) → Has ways way → (t : Spot) × (reached (node_at file meta) meta.root way ≡ Some t)) → flat_map (way_findings (node_at file meta) meta.root) ways ≡ []
-  none_in [] only = refl
-  none_in (way ∷ ways) only =
-      let (t, e) = only way (inl refl) in
-      rw (way_none way t e) (none_in ways (λ v h. only v (inr h)))
+  -- along all ways
+  abbrev lone_along : List ℕ → List Finding
+  lone_along way = lone_at (node_at file meta) (reached (node_at file meta) meta.root way)
 
-  pub none_found : (findings : List Finding) → AreBboltFindings (node_at file meta) meta.root findings → findings ≡ []
-  none_found findings are = are.all ∙ none_in are.tour (λ way h. are.whole.only way h)
+  only_in : (ways : List (List ℕ)) → ((way : List ℕ) → Has ways way → (t : Spot) × (reached (node_at file meta) meta.root way ≡ Some t))
+      → flat_map (way_findings (node_at file meta) meta.root) ways ≡ flat_map lone_along ways
+  only_in [] only = refl
+  only_in (way ∷ ways) only =
+      let (t, e) = only way (inl refl) in
+      ap₂ (λ (a b : List Finding). a ++ b) (way_only way t e ∙ ap (lone_at (node_at file meta)) (sym e)) (only_in ways (λ v h. only v (inr h)))
+
+  -- what is found are branches of one child
+  pub only_found : (findings : List Finding) (are : AreBboltFindings (node_at file meta) meta.root findings) → findings ≡ flat_map lone_along are.tour
+  only_found findings are = are.all ∙ only_in are.tour (λ way h. are.whole.only way h)
+
+  -- if each branch has two children, nothing is
+  two_none : (s : PageSpot) (view : PageView) → 2 ≤ length view.branches → node_at file meta s.number ≡ Ok (branch_node view) → lone_at (node_at file meta) (Some (At_page s)) ≡ []
+  two_none s view two shown =
+      let many : (length (map branch_entry view.branches) == 1) ≡ false =
+      ne_eqb (length (map branch_entry view.branches)) 1 (λ one. absurd (omega (arith, one, two, length-map view.branches branch_entry))) in
+      ap (lone s) shown ∙ rw many refl
+
+  none_at : HasTwoOnBranches → (way : List ℕ) (t : Spot) → reached (node_at file meta) meta.root way ≡ Some t → lone_at (node_at file meta) (Some t) ≡ []
+  none_at twos way (At_inline host inner) e = refl
+  none_at twos way (At_page s) e =
+      let good = (trees.good way s e).1 in
+      elim (tree_page file meta s.number good.0 good.1) [
+        | a_leaf view at leaf shown ↦ ap (lone s) shown
+        | a_branch view at branch shown ↦ two_none s view (twos way s view e at branch) shown
+      ]
+
+  none_in : HasTwoOnBranches → (ways : List (List ℕ)) → ((way : List ℕ) → Has ways way → (t : Spot) × (reached (node_at file meta) meta.root way ≡ Some t)) → flat_map lone_along ways ≡ []
+  none_in twos [] only = refl
+  none_in twos (way ∷ ways) only =
+      let (t, e) = only way (inl refl) in
+      ap₂ (λ (a b : List Finding). a ++ b) (ap (lone_at (node_at file meta)) e ∙ none_at twos way t e) (none_in twos ways (λ v h. only v (inr h)))
+
+  pub none_found : HasTwoOnBranches → (findings : List Finding) → AreBboltFindings (node_at file meta) meta.root findings → findings ≡ []
+  none_found twos findings are = only_found findings are ∙ none_in twos are.tour (λ way h. are.whole.only way h)
+
+-- ---- and all of them are
+
+lone_code : (s : PageSpot) (r : Result Node ℕ) → AllByRecursion IsOneChild (lone s r)
+lone_code s (Err fault) = tt
+lone_code s (Ok node) = by (has_one_child node)
+  where
+    by : (b : Bool) → AllByRecursion IsOneChild (finding_if b ONE_CHILD s.number)
+    by true = (refl, tt)
+    by false = tt
+
+lone_codes : (nodes : Nodes) (o : Option Spot) → AllByRecursion IsOneChild (lone_at nodes o)
+lone_codes nodes (Some (At_page s)) = lone_code s (nodes s.number)
+lone_codes nodes (Some (At_inline host inner)) = tt
+lone_codes nodes None = tt
+
+pub all_lone : (nodes : Nodes) (reach : List ℕ → Option Spot) (ways : List (List ℕ)) → AllByRecursion IsOneChild (flat_map (λ (way : List ℕ). lone_at nodes (reach way)) ways)
+all_lone nodes reach [] = tt
+all_lone nodes reach (way ∷ ways) = all_append IsOneChild (lone_at nodes (reach way)) _ (lone_codes nodes (reach way)) (all_lone nodes reach ways)

@@ -2,7 +2,7 @@
 use Rattle.std.proofs.Common.{◌≡◌, ◌∙◌, ℕ, suc, ◌+◌, ◌*◌, ◌^◌, ◌<◌, ◌≤◌, nat_lt, false, List, [], ◌∷◌, ◌++◌, length, map, drop, Option, None, refl, sym, ap, arith}
 use Rattle.bolt_layout.proofs.Words.{AllByRecursion, append-nil, count_field, eq-eqb, head_root, head_sequence, head_written, header_bytes, header_written, inline_elements, inline_value, le-ltb, leaf_bytes, leaf_data, leaf_element, leaf_elements, LeafElement, length-append, length-header_bytes, range_with_len, value_fault}
 use Rattle.std.specs.List.{list_any}
-use Rattle.bolt_format.specs.Elements.{head_fault, inline_bytes, inline_fault, is_bucket_at}
+use Rattle.bolt_format.specs.Elements.{head_fault, inline_bytes, inline_fault, inline_number, is_bucket_at}
 use Rattle.bolt_format.specs.declared.header.Kind.TheVariants as kind
 use Rattle.bolt_layout.proofs.LeafLemmas.{IsLeafFit, leaves_written}
 
@@ -45,3 +45,11 @@ inline_written sequence es sized flat few small =
     let elements : leaf_elements bytes (count_field bytes) ≡ es = ap (leaf_elements bytes) header.0.count ∙ written.0 in
     let room : nat_lt (length bytes) 16 ≡ false = le-ltb (length bytes) 16 (omega arith) in
     grind (arith, eq-eqb, no_bucket_in)
+
+-- its page has no number
+pub inline_unnumbered : (sequence : ℕ) (es : List LeafElement) → sequence < 256 ^ 8 → length es < 256 ^ 2 → inline_number (inline_value sequence es) ≡ 0
+unfolding inline_value inline_number
+inline_unnumbered sequence es sized few =
+    let value = inline_value sequence es in
+    let head = head_written value (header_bytes 0 kind.Leaf (length es) 0 ++ leaf_bytes es) 0 sequence refl (omega arith) sized in
+    (header_written (inline_bytes value) (leaf_bytes es) 0 kind.Leaf (length es) 0 head.inline (record { id = omega arith; count = few; overflow = omega arith })).0.id

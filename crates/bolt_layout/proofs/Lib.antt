@@ -1,6 +1,10 @@
-mod Prefixes
 mod BboltCopies
+mod BboltMetas
 mod BboltWays
+mod EvenPages
+mod EvenTrees
+mod EvenWays
+mod Prefixes
 mod BranchPages
 pub mod FileTrees
 mod FullPages
@@ -12,7 +16,6 @@ mod LaidPages
 mod LeafPages
 mod Parts
 mod PlacedWays
-mod ShortKeys
 mod Showing
 mod SoundCopies
 mod Soundness

@@ -2,10 +2,10 @@
 use Rattle.bolt_layout.proofs.Parts.{none_some, nothing}
 use Rattle.std.proofs.Common.{◌≡◌, ◌∙◌, ℕ, ◌+◌, ◌*◌, ◌/◌, ◌^◌, ◌<◌, ◌≤◌, ◌==◌, not, nat_le, Bool, true, false, List, [], ◌∷◌, length, map, Option, Some, None, refl, sym, ap, subst, arith}
 use Rattle.std.proofs.lemmas.Bool.{leb-true, not-true}
-use Rattle.bolt_layout.proofs.Words.{AllByRecursion, and_parts, append-nil, At_inline, At_page, bucket_item, bucket_spots, common_steps, contains_head, contains_tail, elements_of, end, eq-eqb, finding_of, follow, HasLengths, head_bytes, head_root, head_sequence, head_written, holds_bucket, inline_elements, inline_finding, inline_value, is_inline, IsBelow, items_of, Key, key_cmp, keys_in, keys_of, Laid, largest_page, Layout, leaf_data, leaf_entry, leaf_item, LeafElement, length-append, length-header_bytes, max_items, ne_eqb, Nodes, Rises, RisesInside, root_over, root_spot, run_size, size_of, Spot, stored_bucket, Tree, value_fault, with_bucket, with_value}
+use Rattle.bolt_layout.proofs.Words.{AllByRecursion, and_parts, append-nil, At_inline, At_page, bucket_item, bucket_spots, common_steps, contains_head, contains_tail, elements_of, end, eq-eqb, finding_of, follow, HasLengths, head_bytes, head_root, head_sequence, head_written, holds_bucket, inline_elements, inline_page, inline_finding, inline_value, is_inline, IsBelow, items_of, Key, key_cmp, keys_in, keys_of, Laid, largest_page, Layout, leaf_data, leaf_entry, leaf_item, LeafElement, length-append, length-header_bytes, max_items, ne_eqb, Nodes, Rises, RisesInside, root_over, root_spot, run_size, size_of, Spot, stored_bucket, Tree, value_fault, with_bucket, with_value}
 use Rattle.bolt_layout.proofs.{InlineLemmas.IsFlat, InlineLemmas.inline_written, SpanLemmas.length-leaf_bytes}
 use Rattle.bolt_layout.proofs.{KeyLaws.IsBelowItem, KeyLaws.IsWithin, KeyLaws.Rise, ListLemmas.all_weaker}
-use Rattle.bolt_layout.proofs.{OverRows.HasShortKey, OverRows.IsAtMost, OverRows.root_is_over, Parts.IsPart, Parts.part_inline}
+use Rattle.bolt_layout.proofs.{OverRows.HasShortKey, OverRows.IsAtMost, OverRows.IsOver, OverRows.root_is_over, Parts.IsPart, Parts.part_inline}
 use Rattle.bolt_layout.proofs.{LaidPages.limit, LaidItems.IsItem, LaidItems.items_size, LaidItems.length-elements}
 use Rattle.bolt_layout.proofs.{LeafPages.IsPage, LeafPages.above_none, LeafPages.items_keys, BranchPages.over_page}
 use Rattle.bolt_format.proofs.EncodedHeaders.{length-head_bytes, root_passes}
@@ -46,9 +46,8 @@ length-inline_value : (sequence : ℕ) (es : List LeafElement) → length (inlin
 unfolding inline_value
 length-inline_value sequence es = grind (arith, length-head_bytes, length-header_bytes, length-leaf_bytes, length-append)
 
-inline_spot : (host : ℕ) (e : LeafElement) (keys : List Key) → e.is_bucket ≡ true → head_root e.value ≡ 0 → map (λ (i : LeafElement). i.key) (inline_elements e.value) ≡ keys
-    → bucket_spots host (leaf_entry e) ≡ Some (At_inline host inner)
-inline_spot host e keys bucket root same = let z : (head_root e.value == 0) ≡ true = eq-eqb (head_root e.value) 0 root in rw (bucket, z, same) refl
+inline_spot : (host : ℕ) (e : LeafElement) → e.is_bucket ≡ true → head_root e.value ≡ 0 → bucket_spots host (leaf_entry e) ≡ Some (At_inline host (inline_page e.value))
+inline_spot host e bucket root = let z : (head_root e.value == 0) ≡ true = eq-eqb (head_root e.value) 0 root in rw (bucket, z) refl
 
 -- what an inline bucket's value says
 pub inline_read : (which : Layout) (page_size sequence : ℕ) (inside : Tree) → page_size ≤ largest_page → sequence < 256 ^ 8 → HasLengths inside → AllByRecursion (IsItem page_size) (items_of which page_size inside)
@@ -86,17 +85,22 @@ inline_item which page_size key sequence inside small some short sized lengths a
     let keys = items_keys page_size items all None None None 0 rise (above_none items) (within_none items) in
     let named : map (λ (i : LeafElement). i.key) (inline_elements value) ≡ keys_of (map leaf_entry es) = ap (λ (x : List LeafElement). map (λ (i : LeafElement). i.key) x) written.3 ∙ sym (keys_same es) in
     flat_item page_size key value true some short (omega arith) (λ e. written.0) (λ nodes n host any.
-    let fine : inline_finding host (keys_of (map leaf_entry es)) ≡ None = ap (λ (o : Option ℕ). finding_of o host) keys in
-    subst (λ (o : Option Spot). IsPart nodes (follow nodes o) n (n + 0)) (sym (inline_spot host (record { key = key; value = value; is_bucket = true }) (keys_of (map leaf_entry es)) refl written.1 named))
-    (part_inline nodes host n (n + 0) (keys_of (map leaf_entry es)) (omega arith) fine))
+    let fine : inline_finding host (inline_page value).keys ≡ None = ap (inline_finding host) named ∙ ap (λ (o : Option ℕ). finding_of o host) keys in
+    subst (λ (o : Option Spot). IsPart nodes (follow nodes o) n (n + 0)) (sym (inline_spot host (record { key = key; value = value; is_bucket = true }) refl written.1))
+    (part_inline nodes host n (n + 0) (inline_page value) (omega arith) fine))
 
--- the root page of a bucket's items
+-- the root page of a bucket's items stands over them
+pub root_stands : (which : Layout) (page_size : ℕ) (items : List (Laid LeafElement)) → page_size ≤ largest_page → AllByRecursion (IsItem page_size) items
+    → (height : ℕ) × ((root_over which page_size items).numbers ≤ limit → height ≤ 63) × IsOver page_size height (root_over which page_size items) items
+root_stands which page_size items small all =
+    let keys = all_weaker (IsItem page_size) HasShortKey (λ item i. i.short) items all in
+    let sizes = all_weaker (IsItem page_size) (IsAtMost 0xFFFFFFEF) (λ item i. i.most) items all in
+    root_is_over which page_size items (omega arith) keys sizes
+
 pub root_page : (which : Layout) (page_size : ℕ) (items : List (Laid LeafElement)) → 0 < page_size → page_size ≤ largest_page → AllByRecursion (IsItem page_size) items → Rise items
     → (height : ℕ) × ((root_over which page_size items).numbers ≤ limit → height ≤ 63) × IsPage page_size height (root_over which page_size items) items
 root_page which page_size items sized small all rise =
-    let keys = all_weaker (IsItem page_size) HasShortKey (λ item i. i.short) items all in
-    let sizes = all_weaker (IsItem page_size) (IsAtMost 0xFFFFFFEF) (λ item i. i.most) items all in
-    let (height, low, over) = root_is_over which page_size items (omega arith) keys sizes in
+    let (height, low, over) = root_stands which page_size items small all in
     (height, low, over_page page_size sized height (root_over which page_size items) items over all rise)
 
 spot_of_root : (host root : ℕ) (e : LeafElement) → e.is_bucket ≡ true → head_root e.value ≡ root → 1 ≤ root → bucket_spots host (leaf_entry e) ≡ Some (At_page (root_spot (head_root e.value)))

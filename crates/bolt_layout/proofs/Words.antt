@@ -2,7 +2,7 @@
 pub use Rattle.bolt_check.proofs.Forest.{follow_none}
 pub use Rattle.bolt_check.specs.{EntrySpots.places, Findings.finding_of, Findings.inline_finding, Findings.keys_of, Findings.node_finding}
 pub use Rattle.bolt_check.specs.Keys.{Key, is_below, is_from, key_cmp, key_lt, keys_order_fault}
-pub use Rattle.bolt_check.specs.{Nodes.Entry, Nodes.InlinePage, Nodes.Node, Nodes.Nodes, Nodes.leaf_entry, Nodes.node_of, Sound.HasSoundTrees}
+pub use Rattle.bolt_check.specs.{Nodes.Entry, Nodes.InlinePage, Nodes.Node, Nodes.Nodes, Nodes.inline_page, Nodes.leaf_entry, Nodes.node_of, Sound.HasSoundTrees}
 pub use Rattle.bolt_check.specs.Ways.{At_inline, At_page, PageSpot, Spot, bucket_spots, follow, reached, root_spot}
 unfoldable pub use Rattle.bolt_check.specs.Nodes.{node_at}
 pub use Rattle.bolt_format.proofs.{FaultLemmas.first_of-both, NumberLemmas.part_next, NumberLemmas.part_read, NumberLemmas.part_within}

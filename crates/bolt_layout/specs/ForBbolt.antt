@@ -1,14 +1,18 @@
--- What bbolt can write: docs/LAYOUT.md, "What holds of both layouts". Keys of at most 32,768 bytes, and no value in the root bucket.
-use Rattle.std.specs.Prelude.{◌≡◌, ℕ, false, List, [], ◌∷◌, Contains}
-use Rattle.bolt_check.specs.{BboltFindings.is_too_large, Keys.Key}
-use Rattle.bolt_tree.specs.Entries.{Item, Value}
+-- What bbolt can write: docs/LAYOUT.md, "What holds of both layouts". No value is in the root bucket, and none under a key of more than 32,768
+-- bytes.
+use Rattle.std.specs.Prelude.{◌≡◌, ◌<◌, ◌^◌, ℕ, false, List, [], ◌∷◌, ◌++◌, Contains, length}
+use Rattle.bolt_check.specs.{BboltFindings.AreBboltFindings, BboltFindings.is_too_large, Keys.Key, Nodes.node_at, declared.finding.Finding.Finding}
+use Rattle.bolt_check.specs.declared.finding.TheConstants.Finding.{ONE_CHILD}
+use Rattle.bolt_tree.specs.Entries.{Value}
 use Rattle.bolt_tree.specs.{Listing.Member, Paths.Path, Tree.Tree}
-use Rattle.bolt_tree.specs.Tree.{end, with_bucket, with_value}
+use Rattle.bolt_tree.specs.Tree.{end, tree_of, with_bucket, with_value}
+use Rattle.bolt_layout.specs.{Copies.IsAsked, Copies.IsOfOneTree, Layout.layout_meta, Layout.layout_of, Layout.layout_root, declared.Layout.Layout}
 
+-- the names of buckets may have any length
 abbrev pub HasShortKeys : Tree → Type 0
 HasShortKeys end = Unit {0}
 HasShortKeys (with_value key value after) = (is_too_large key ≡ false) × HasShortKeys after
-HasShortKeys (with_bucket key sequence inside after) = (is_too_large key ≡ false) × HasShortKeys inside × HasShortKeys after
+HasShortKeys (with_bucket key sequence inside after) = HasShortKeys inside × HasShortKeys after
 
 -- the outermost bucket holds buckets alone
 abbrev pub HoldsBuckets : Tree → Type 0
@@ -16,7 +20,18 @@ HoldsBuckets end = Unit {0}
 HoldsBuckets (with_value key value after) = ⊥
 HoldsBuckets (with_bucket key sequence inside after) = HoldsBuckets after
 
--- each key of each path is short, and no value has a path of one key
+-- the last key of the path of each value is short, and no value has a path of one key
 pub record IsForBbolt (listing : List Member) : Type 0 where
-  pub short : (path : Path) (item : Item) (key : Key) → Contains listing (path, item) → Contains path key → is_too_large key ≡ false
+  pub short : (path : Path) (key : Key) (value : List ℕ) → Contains listing (path ++ key ∷ [], Value value) → is_too_large key ≡ false
   pub inner : (key value : List ℕ) → Contains listing (key ∷ [], Value value) → ⊥
+
+-- a branch of one child
+abbrev pub IsOneChild : Finding → Type 0
+IsOneChild x = x.number ≡ ONE_CHILD
+
+-- This holds of what is found on the ways of each layout of a listing that bbolt can write, if the layout has fewer than 2^63 bytes.
+abbrev pub ForBboltFindings : (Layout → List Finding → Type 0) → Type 0
+ForBboltFindings P = (which : Layout) (listing : List Member) (page_size sequence : ℕ) → IsOfOneTree listing → IsForBbolt listing → IsAsked page_size (tree_of listing) sequence
+    → length (layout_of which page_size (tree_of listing) sequence) < 2 ^ 63 → (findings : List Finding)
+    → AreBboltFindings (node_at (layout_of which page_size (tree_of listing) sequence) (layout_meta which page_size (tree_of listing) sequence 1))
+    (layout_root which page_size (tree_of listing)) findings → P which findings

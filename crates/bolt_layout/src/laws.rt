@@ -1,13 +1,12 @@
 //! What holds of the layout of a tree: docs/LAYOUT.md, "What holds of both layouts".
 ghost use Rattle.std.specs.Prelude.{◌≡◌, ◌≤◌, ◌<◌, ◌*◌, ◌^◌, ℕ, List, [], length};
 ghost use Rattle.std.specs.List.{AllByRecursion};
-ghost use Rattle.bolt_format.specs.{Elements.BranchElement, Elements.LeafElement, Bytes.IsBytes, Metas.IsPageSize, declared.meta.Meta.Meta};
-ghost use Rattle.bolt_check.specs.{BboltFindings.AreBboltFindings, Nodes.node_at, Sound.HasSoundTrees};
-ghost use Rattle.bolt_check.specs.declared.finding.Finding.{Finding};
+ghost use Rattle.bolt_format.specs.{Elements.BranchElement, Elements.LeafElement, Bytes.IsBytes, Metas.IsPageSize, declared.meta.Meta.Meta, declared.meta.Slot.TheVariants.One};
+ghost use Rattle.bolt_check.specs.{BboltFileFindings.file_findings, Sound.HasSoundTrees};
 ghost use Rattle.bolt_tree.specs.{Entries.IsEntry, Entries.Item, Entries.Root_page, Listing.IsListing, Listing.Member, Paths.Holds, Paths.Path};
 ghost use Rattle.bolt_tree.specs.Tree.{IsTreeOf, Tree, listing_of, tree_of};
 ghost use Rattle.bolt_layout.specs.{Copies.ForAsked, Copies.ForStorable, Copies.IsAsked, Copies.IsOfOneTree, Copies.IsSoundCopy, Copies.RefusesPrefixes, Copies.layout_of_listing, Cut.CutIsOne};
-ghost use Rattle.bolt_layout.specs.{ForBbolt.IsForBbolt, Held.most_held, Laid.Laid};
+ghost use Rattle.bolt_layout.specs.{ForBbolt.ForBboltFindings, ForBbolt.IsOneChild, Held.most_held, Laid.Laid};
 ghost use Rattle.bolt_layout.specs.Layout.{HasTwoIfBranch, layout_held, layout_mark, layout_meta, layout_of, layout_pages, layout_root};
 ghost use Rattle.bolt_layout.specs.{Levels.IsOverflow, Levels.TopIsAbove, Levels.overflow_of, Storable.IsFitListing, Storable.IsFitMember, Storable.IsStorable};
 ghost use Rattle.bolt_layout.specs.{declared.Layout.Layout, declared.Layout.TheVariants.Balanced};
@@ -52,18 +51,19 @@ pub fn balanced_branches_have_two()
         → AllByRecursion HasTwoIfBranch (layout_pages Balanced page_size tree) }
 {}
 
-/// The balanced layout of a listing has nothing that bbolt fails on, if no value is in the root bucket
-/// and no key has more than 32,768 bytes.
-pub fn balanced_layouts_are_for_bbolt()
-    ensures { (listing : List Member) (page_size sequence : ℕ) → IsOfOneTree listing
-        → IsForBbolt listing
-        → IsAsked page_size (tree_of listing) sequence
-        → length (layout_of Balanced page_size (tree_of listing) sequence) < 2 ^ 63
-        → (findings : List Finding)
-        → AreBboltFindings (node_at (layout_of Balanced page_size (tree_of listing) sequence)
-        (layout_meta Balanced page_size (tree_of listing) sequence 1))
-        (layout_root Balanced page_size (tree_of listing)) findings
-        → findings ≡ [] }
+/// Under the active meta of a layout nothing is found in the file as a whole that bbolt fails on.
+pub fn layouts_are_taken_by_bbolt()
+    ensures { ForAsked (λ which page_size tree sequence.
+        file_findings (layout_of which page_size tree sequence)
+        One (layout_meta which page_size tree sequence 1) ≡ []) }
+{}
+
+/// If no value is in the root bucket or under a key of more than 32,768 bytes, the balanced layout of a
+/// listing has nothing on its ways that bbolt fails on, and the plain one has branches of one child
+/// alone.
+pub fn layouts_are_for_bbolt()
+    ensures balanced { ForBboltFindings (λ which findings. which ≡ Balanced → findings ≡ []) }
+    ensures plain { ForBboltFindings (λ which findings. AllByRecursion IsOneChild findings) }
 {
     sound_trees_pass_the_tests();
 }

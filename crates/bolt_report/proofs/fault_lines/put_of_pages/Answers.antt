@@ -4,10 +4,10 @@ use Rattle.bolt_report.proofs.Words.{Wrote-same}
 use Rattle.bolt_report.specs.FaultWords.{pages_words}
 use Rattle.bolt_report.proofs.fault_lines.put_of_pages.Goals as goal
 
-pub returns-then-last : goal.returns-then-last
+pub returns-then-page-last : goal.returns-then-page-last
 unfolding pages_words
-returns-then-last g c = Wrote-same (rw (cond-true _ _ _ (eq-eqb _ _ c.if-last.true)) (simp (append_assoc, append-nil))) c.put_pieces.ensures
+returns-then-page-last g c = Wrote-same (rw (cond-true _ _ _ (eq-eqb _ _ c.if-page-last.true)) (simp (append_assoc, append-nil))) c.put_pieces.ensures
 
-pub returns-else-last : goal.returns-else-last
+pub returns-else-page-last : goal.returns-else-page-last
 unfolding pages_words
-returns-else-last g c = Wrote-same (rw (cond-false _ _ _ (ne_eqb _ _ c.if-last.false)) (simp (append_assoc, append-nil))) c.put_pieces-else-last.ensures
+returns-else-page-last g c = Wrote-same (rw (cond-false _ _ _ (ne_eqb _ _ c.if-page-last.false)) (simp (append_assoc, append-nil))) c.put_pieces-else-page-last.ensures

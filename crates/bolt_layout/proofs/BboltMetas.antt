@@ -1,0 +1,53 @@
+-- Bbolt takes the active meta of a layout, and finds all of its pages in the file.
+use Rattle.std.proofs.Common.{◌≡◌, ◌≢◌, ◌∙◌, ◌==◌, ◌&&◌, ◌||◌, ◌*◌, ◌+◌, ◌<◌, ◌≤◌, ◌/◌, ◌^◌, ℕ, Bool, true, false, List, [], Option, Some, ap, ap₂, length, nat_lt, refl, sym, arith}
+use Rattle.std.proofs.Math.Nat.{mul-div_cancel}
+use Rattle.std.proofs.lemmas.Bool.{le-leb}
+use Rattle.bolt_layout.proofs.Words.{copy_meta, eq-eqb, IsMeta, IsPageSize, Layout, le-ltb, layout_mark, layout_meta, layout_of, layout_pages, layout_root, lt-ltb, Meta, mul-le-mul_right, One, size_bounds, Tree}
+use Rattle.bolt_layout.proofs.Soundness.{IsFile, IsLaidOut}
+use Rattle.bolt_layout.specs.Copies.{IsAsked}
+use Rattle.bolt_check.specs.BboltFileFindings.{file_findings, takes, whole_pages}
+use Rattle.bolt_format.specs.BboltMetas.{bbolt_page_size, bbolt_slot, bbolt_txid, greater_txid, is_bbolt_meta}
+use Rattle.bolt_format.specs.{Bytes.fnv_of, Bytes.number_at, Metas.size_at, declared.meta.Slot.Slot}
+
+or_true : (b : Bool) → (b || true) ≡ true
+or_true true = refl
+or_true false = refl
+
+-- a valid meta is valid to bbolt
+valid_to_bbolt : (file : List ℕ) (at : ℕ) (meta : Meta) → IsMeta file at meta → is_bbolt_meta file at ≡ true
+unfolding is_bbolt_meta
+valid_to_bbolt file at meta is =
+    rw (le-leb (at + 80) (length file) is.whole, eq-eqb (number_at file (at + 16) 4) _ is.magic, eq-eqb (number_at file (at + 20) 4) _ is.version, eq-eqb (number_at file (at + 72) 8) _ is.sum)
+    (or_true _)
+
+txid_to_bbolt : (file : List ℕ) (at : ℕ) (meta : Meta) → IsMeta file at meta → bbolt_txid file at ≡ Some meta.txid
+txid_to_bbolt file at meta is = rw (valid_to_bbolt file at meta is) (ap Some (sym (ap (λ (m : Meta). m.txid) is.fields)))
+
+size_to_bbolt : (file : List ℕ) (meta : Meta) → IsMeta file 0 meta → bbolt_page_size file ≡ meta.page_size
+size_to_bbolt file meta is = rw (valid_to_bbolt file 0 meta is) (sym (ap (λ (m : Meta). m.page_size) is.fields))
+
+slot_one : (file : List ℕ) (page_size : ℕ) (zero one : Meta) → 4096 ≤ length file → IsMeta file 0 zero → IsMeta file page_size one → zero.page_size ≡ page_size → zero.txid < one.txid
+    → bbolt_slot file ≡ Some One
+unfolding bbolt_slot
+slot_one file page_size zero one long first second size newer =
+    let at : bbolt_page_size file ≡ page_size = size_to_bbolt file zero first ∙ size in
+    rw (le-ltb (length file) 4096 long)
+    (ap₂ greater_txid (txid_to_bbolt file 0 zero first) (ap (bbolt_txid file) at ∙ txid_to_bbolt file page_size one second)
+    ∙ rw (lt-ltb zero.txid one.txid newer) refl)
+
+-- nothing is found in the file as a whole
+pub layout_file_findings : (which : Layout) (page_size : ℕ) (tree : Tree) (sequence : ℕ) → IsPageSize page_size → IsLaidOut which page_size tree sequence
+    → file_findings (layout_of which page_size tree sequence) One (layout_meta which page_size tree sequence 1) ≡ []
+layout_file_findings which page_size tree sequence size laid =
+    let file = layout_of which page_size tree sequence in
+    let mark = layout_mark which page_size tree in
+    let bounds = size_bounds page_size size in
+    let above = laid.above in
+    let below = laid.below in
+    let exact = laid.long in
+    let wide : 4 * page_size ≤ mark * page_size = mul-le-mul_right page_size (omega arith) in
+    let stand = laid.file in
+    let slot = slot_one file page_size _ _ (omega arith) stand.first stand.second refl (omega arith) in
+    let page : (bbolt_page_size file == page_size) ≡ true = eq-eqb (bbolt_page_size file) page_size (size_to_bbolt file _ stand.first) in
+    let whole : length file / page_size ≡ mark = ap (λ (n : ℕ). n / page_size) exact ∙ mul-div_cancel mark (omega arith) in
+    rw (slot, page, whole, le-ltb mark mark (omega arith)) refl
