@@ -5,7 +5,7 @@ MAKER = PYTHONPATH=tools/format python3 -B
 PROGRAM = crates/luntsegi/out/luntsegi
 CALLS = crates/test_calls/out/test_calls
 
-.PHONY: build calls help toolchain quick fmt demo set-up cases examples programs manual failures memory work bbolt etcd huge fuzz fuzz-wrong wrong-bodies test bench install dist deb clean
+.PHONY: build calls help toolchain quick fmt demo set-up cases examples programs manual failures memory work bbolt bbolt-long etcd huge fuzz fuzz-wrong wrong-bodies test bench install dist deb clean
 
 # Proves the libraries and the program, and builds it.
 build:
@@ -84,6 +84,10 @@ fuzz: $(PROGRAM)
 # needs Go and bbolt's source, Debian's packages golang-go and golang-github-coreos-bbolt-dev.
 bbolt: $(PROGRAM)
 	tools/bbolt/try.sh $(PROGRAM) 30
+
+# The same with 3,000 random files. SEED=N repeats those of another run.
+bbolt-long: $(PROGRAM)
+	tools/bbolt/try.sh $(PROGRAM) 30 3000 $(SEED)
 
 # Compares the program with an etcd server on the files that etcd writes. SEED=N repeats the writes of another run. It
 # needs Debian's packages etcd-server and etcd-client.

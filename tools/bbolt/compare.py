@@ -1,6 +1,6 @@
 """Compares the program's output with that of bbolt's own library.
 
-    compare.py PROGRAM BBOLT FOLDER [--rounds N] [--guide DOCUMENT] FILE ..
+    compare.py PROGRAM BBOLT FOLDER [--rounds N] [--random N] [--seed N] [--guide DOCUMENT] FILE ..
 
 BBOLT is the program built from main.go beside this file. The files compared are each FILE and some
 that bbolt makes in FOLDER. Of each: bbolt accepts it where the program does, and both list the same
@@ -12,8 +12,10 @@ branch of one child, and never on the copy of the same file for bbolt: without t
 would show that these transactions can find such a branch. It has to do the same when it deletes every
 key. From each copy that the commands of DOCUMENT made, bbolt deletes every key: each was made for it.
 
-Each file in which `check --for-bbolt` finds nothing, bbolt empties key by key, and copies by its own compact. Of each of
-the three things that it finds, one file makes bbolt fail.
+Each file in which `check --for-bbolt` finds nothing, bbolt empties key by key, and copies by its own compact. It finds
+nothing in what bbolt wrote. In N random sound files (--random) it finds nothing either: bbolt drains each in four orders,
+fills it, compacts it and backs it up, and its own check and the content are compared after each step, and when the file
+is opened again. Of each of the nine things that are found, one small file makes bbolt fail.
 """
 
 import argparse
@@ -23,16 +25,13 @@ import shutil
 import subprocess
 import sys
 
+from random_files import try_failing, try_random
+
 KINDS = ["wide", "nested", "inline", "long", "churn"]
 COUNTED = [b"keys", b"branch pages", b"branch overflow", b"leaf pages", b"leaf overflow"]
 PANIC = 3
 FOR_BBOLT = "--for-bbolt"
 ONE_CHILD = b": branch of one child"
-# Listings of what bbolt fails on, and the line that `check --for-bbolt` prints of a file with it.
-FAILING = {
-    "root_value": ("61 = 62\n", b"page 3: value in the root bucket"),
-    "large_key": (f"62 bucket 0\n62/{'6b' * 32_769} = 76\n", b"page 3: key too large for bbolt"),
-}
 COMPACTED_AT_ONCE = "65536"
 STEPS = "60"
 RUNS = 12
@@ -130,6 +129,10 @@ class Programs:
         want(self.empty(file, folder) == 0, file, "bbolt can't delete every key")
         want(self.compact(file, folder) == 0, file, "bbolt can't compact it")
 
+    def bear(self, seed, file, folder):
+        """Bbolt does everything with copies of the file: its status."""
+        return ended(self.bbolt, "try", seed, file, folder)[0]
+
     def change(self, file, seed):
         """Random transactions by bbolt: its status."""
         return ended(self.bbolt, "change", str(seed), STEPS, file)[0]
@@ -162,6 +165,8 @@ def change_file(programs, file, rounds):
     for seed in range(rounds):
         want(programs.change(file, seed) == 0, file, "bbolt fails at round", seed)
         want(programs.is_sound(file), file, "isn't accepted after round", seed)
+        found = programs.found_for_bbolt(file)
+        want(found == [], file, "was written by bbolt, and found is", found)
         programs.compare(file)
 
 
@@ -188,21 +193,6 @@ def compare_panics(programs, file, folder):
     return count
 
 
-def compare_failing(programs, folder):
-    """Bbolt fails on a file of each of these listings, and `check --for-bbolt` says why."""
-    for name, (text, line) in FAILING.items():
-        file = os.path.join(folder, name + ".db")
-        if os.path.exists(file):
-            os.remove(file)
-        with open(file + ".list", "w", encoding="ascii") as lines:
-            lines.write(text)
-        want(ended(programs.program, "load", FOR_BBOLT, "-o", file, file + ".list")[0] == 0, file, "isn't loaded")
-        want(ended(programs.program, "check", file)[0] == 0, file, "isn't sound")
-        found = programs.found_for_bbolt(file)
-        want(found == [line], file, "found is", found)
-        want(programs.compact(file, folder) != 0, file, "bbolt compacts it")
-
-
 def empty_copies(programs, guide, folder):
     """How many copies the commands of a document made. Bbolt deletes every key of each."""
     with open(guide, encoding="utf-8") as document:
@@ -223,6 +213,8 @@ def main():
     parser.add_argument("folder")
     parser.add_argument("files", nargs="*")
     parser.add_argument("--rounds", type=int, default=30)
+    parser.add_argument("--random", type=int, default=300)
+    parser.add_argument("--seed", type=int, default=1)
     parser.add_argument("--guide")
     words = parser.parse_args()
     programs = Programs(words.program, words.bbolt)
@@ -235,7 +227,8 @@ def main():
     for file in words.files + made:
         compare_file(programs, file, words.folder)
     count = compare_panics(programs, made[KINDS.index("long")], words.folder)
-    compare_failing(programs, words.folder)
+    failing = try_failing(programs, words.folder)
+    drawn = try_random(programs, words.folder, words.random, words.seed)
     for file in made:
         change_file(programs, programs.copy_for_bbolt(file, file + ".copy"), words.rounds)
         change_file(programs, programs.load_for_bbolt(file, file + ".loaded"), words.rounds)
@@ -243,8 +236,9 @@ def main():
     emptied = empty_copies(programs, words.guide, words.folder) if words.guide else 0
     print(f"{len(words.files) + len(made)} files compared with bbolt; {len(made)}, their copies for "
           f"bbolt and what is loaded of them after each of {words.rounds} rounds of {STEPS} transactions; {count} of {RUNS} runs on a "
-          f"branch of one child panic, and none on the copy for bbolt; it fails on {len(FAILING)} others that "
-          f"check --for-bbolt finds; every key deleted from {emptied} copies of the guide")
+          f"branch of one child panic, and none on the copy for bbolt; it fails on {failing} small files that "
+          f"check --for-bbolt finds, and bears {words.random} random ones of {drawn} in which it finds nothing; every key deleted "
+          f"from {emptied} copies of the guide")
 
 
 if __name__ == "__main__":

@@ -15,6 +15,7 @@
 //	bbolt change SEED N FILE      N random transactions; status 3 if bbolt panics
 //	bbolt empty ORDER FILE        deletes every key and every bucket, a transaction each, and always the first or the
 //	                              last one that is left; status 3 if bbolt panics
+//	bbolt try SEED FILE FOLDER    everything that a file has to bear, on copies in a folder; status 3 if bbolt panics
 package main
 
 import (
@@ -69,6 +70,8 @@ func run(words []string) error {
 		return writeAll(rest[1], func(db *bolt.DB) error { return empty(db, (*bolt.Cursor).First) })
 	case words[0] == "empty" && len(rest) == 2 && rest[0] == "last":
 		return writeAll(rest[1], func(db *bolt.DB) error { return empty(db, (*bolt.Cursor).Last) })
+	case words[0] == "try" && len(rest) == 3:
+		return orPanic(func() error { return tryAll(rest[0], rest[1], rest[2]) })
 	}
 	return fmt.Errorf("unknown words")
 }
@@ -324,18 +327,25 @@ func changeAll(seed, count, name string) error {
 
 // writeAll writes into a file. If bbolt panics, the status is 3.
 func writeAll(name string, write func(*bolt.DB) error) error {
+	return orPanic(func() error {
+		db, err := open(name, false)
+		if err != nil {
+			return err
+		}
+		defer db.Close()
+		return write(db)
+	})
+}
+
+// orPanic ends the program with the status 3 if bbolt panics.
+func orPanic(do func() error) error {
 	defer func() {
 		if fault := recover(); fault != nil {
 			fmt.Println("panic:", fault)
 			os.Exit(3)
 		}
 	}()
-	db, err := open(name, false)
-	if err != nil {
-		return err
-	}
-	defer db.Close()
-	return write(db)
+	return do()
 }
 
 // empty deletes one key of a bucket after another, until none is left, and then the bucket.

@@ -235,9 +235,9 @@ class State:
     freelist: Page
 
 
-def draw_state(draw, page_size):
-    tree = draw_root(draw, page_size)
-    trees = Trees(draw, page_size)
+def draw_state(draw, page_size, kind):
+    tree = kind.draw_root(draw, page_size)
+    trees = kind.trees(draw, page_size)
     root = trees.bucket(tree)
     freelist = Page(FREELIST) if draw.random() < 0.85 else None
     return State(tree, root, trees.pages, freelist)
@@ -340,11 +340,20 @@ class Image:
             del data[draw.randint(place, len(data)) :]
 
 
-def draw_sound(draw, most_txid=2**64 - 1):
+@dataclass(frozen=True)
+class Kind:
+    """What is drawn: the root bucket, its pages, and the greatest transaction id."""
+
+    draw_root: object = draw_root
+    trees: object = Trees
+    most_txid: int = 2**64 - 1
+
+
+def draw_sound(draw, kind=Kind()):
     """A sound file under both its metas, or under the one that is valid."""
     page_size = draw.choice(PAGE_SIZES)
-    state = draw_state(draw, page_size)
-    older = draw_state(draw, page_size) if draw.random() < 0.5 else None
+    state = draw_state(draw, page_size, kind)
+    older = draw_state(draw, page_size, kind) if draw.random() < 0.5 else None
     image = Image(draw, page_size)
     image.place(state, older)
     image.put_tree(state)
@@ -353,12 +362,12 @@ def draw_sound(draw, most_txid=2**64 - 1):
     if older:
         image.put_tree(older)
     slot = draw.randrange(2)
-    txid = draw.randint(1, most_txid)
+    txid = draw.randint(1, kind.most_txid)
     image.made.slot = slot
     image.put_meta(slot, state, txid)
-    kind = draw.randrange(4)
-    if older or kind > 0:
-        is_tied = slot == 0 and kind == 3
+    metas = draw.randrange(4)
+    if older or metas > 0:
+        is_tied = slot == 0 and metas == 3
         image.put_meta(1 - slot, older or state, txid if is_tied else draw.randrange(txid))
     image.end()
     return image.made
