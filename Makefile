@@ -5,7 +5,7 @@ MAKER = PYTHONPATH=tools/format python3 -B
 PROGRAM = crates/luntsegi/out/luntsegi
 CALLS = crates/test_calls/out/test_calls
 
-.PHONY: build calls help toolchain quick fmt demo set-up cases examples programs manual failures memory work bbolt bbolt-long etcd huge fuzz fuzz-wrong wrong-bodies test bench install dist deb clean
+.PHONY: build calls help toolchain quick fmt demo set-up cases examples programs manual failures memory work bbolt etcd huge fuzz fuzz-wrong wrong-bodies test bench install dist deb clean
 
 # Proves the libraries and the program, and builds it.
 build:
@@ -86,6 +86,7 @@ bbolt: $(PROGRAM)
 	tools/bbolt/try.sh $(PROGRAM) 30
 
 # The same with 3,000 random files. SEED=N repeats those of another run.
+.PHONY: bbolt-long
 bbolt-long: $(PROGRAM)
 	tools/bbolt/try.sh $(PROGRAM) 30 3000 $(SEED)
 
