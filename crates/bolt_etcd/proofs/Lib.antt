@@ -32,6 +32,7 @@ pub mod NameSearches
 pub mod NewestEntries
 pub mod NewestOfNames
 pub mod NothingFound
+pub mod NumberSteps
 pub mod OldOnes
 pub mod OneRepair
 pub mod OtherCounts
