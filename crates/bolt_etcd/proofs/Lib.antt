@@ -24,6 +24,7 @@ pub mod LastOnes
 pub mod Leases
 pub mod ListedTexts
 pub mod MappedLists
+pub mod MarkLaws
 pub mod Messages
 pub mod MissingExact
 pub mod NameHistories

@@ -26,7 +26,8 @@ one_of_two e = by_value e.key (value_of e.item)
 
 -- ---- a revision is no mark
 
-abbrev view : Key → RevisionKey → Option RecordView → Option RevisionView
+-- what is under a revision key, if its value is this record
+abbrev pub view : Key → RevisionKey → Option RecordView → Option RevisionView
 view key k content = content >>= λ r. Some (record { place = key; key = k; content = content_of k.deleted r })
 
 unless : (key : Key) (k : RevisionKey) (b : Bool) (content : Option RecordView) (r : RevisionView) → view key k (cond b None content) ≡ Some r → view key k content ≡ Some r

@@ -1,9 +1,9 @@
 -- Which numbers of revisions are there: those of revisions, and those of marks.
-use Rattle.std.specs.Prelude.{◌≡◌, ℕ, List, [], ◌∷◌, Option, Some, None}
+use Rattle.std.specs.Prelude.{◌≡◌, ℕ, true, List, [], ◌∷◌, Option, Some, None}
 use Rattle.std.specs.List.{filter_map}
 use Rattle.bolt_format.specs.Elements.{LeafElement}
 use Rattle.bolt_tree.specs.Entries.{EntryView, entry_view}
-use Rattle.bolt_etcd.specs.{Records.record_of, RevisionKeys.revision_key, Revisions.RevisionView, Revisions.content_of, Revisions.value_of, Wire.◌>>=◌}
+use Rattle.bolt_etcd.specs.{Records.record_of, RevisionKeys.revision_key, RevisionMarks.is_mark, Revisions.RevisionView, Revisions.content_of, Revisions.value_of, Wire.◌>>=◌}
 use Rattle.bolt_etcd.specs.declared.revision_key.RevisionKey.{RevisionKey}
 
 -- what is under a revision key with a value that is a record. A mark is a record without fields: a revision that says nothing.
@@ -25,3 +25,7 @@ numbered entries = filter_map (λ e. numbered_of (entry_view e)) entries
 abbrev pub GivesNumber : (old new : List LeafElement) → Option RevisionKey → Type 0
 GivesNumber old new (Some k) = (r : RevisionView) × (numbered old ≡ r ∷ numbered new) × (r.key ≡ k)
 GivesNumber old new None = (numbered old ≡ []) × (new ≡ [])
+
+-- this holds of each mark: its key, its value, and what its key says
+abbrev pub ForMarks : ((key value : List ℕ) → RevisionKey → Type 0) → Type 0
+ForMarks P = (key value : List ℕ) (k : RevisionKey) → revision_key key ≡ Some k → is_mark k value ≡ true → P key value k
