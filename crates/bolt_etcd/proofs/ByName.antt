@@ -10,8 +10,8 @@ use Rattle.std.specs.Ordering.{is_lt}
 use Rattle.bolt_format.specs.Elements.{LeafElement}
 use Rattle.bolt_tree.proofs.Filters.{filter_all}
 use Rattle.bolt_tree.specs.Entries.{EntryView}
-use Rattle.bolt_etcd.specs.{NameFaults.AreByName, NameFaults.by_name_cmp, Newest.is_until, Newest.until, Records.record_of, RevisionKeys.revision_key}
-use Rattle.bolt_etcd.specs.{Revisions.RevisionView, Revisions.revision_in, Revisions.revision_of, Revisions.value_of, ShownRevisions.shown_revision, Stores.revisions}
+use Rattle.bolt_etcd.specs.{NameFaults.AreByName, NameFaults.by_name_cmp, Newest.is_until, Newest.until, RevisionKeys.revision_key}
+use Rattle.bolt_etcd.specs.{Revisions.RevisionView, Revisions.record_under, Revisions.revision_in, Revisions.revision_of, Revisions.value_of, ShownRevisions.shown_revision, Stores.revisions}
 use Rattle.bolt_etcd.specs.declared.revision.Revision.{Revision}
 use Rattle.bolt_etcd.proofs.{Currents.bind_some, Currents.from_entry, Keys.read_fits, MappedLists.sorted_mapped, SortedOnce.by_name_total}
 
@@ -22,7 +22,7 @@ unfolding revision_of
 main_fits v r e =
     let (value, _, inner) = bind_some (value_of v.item) (revision_in v.key) r e in
     let (k, read, later) = bind_some (revision_key v.key) _ r inner in
-    let (content, _, made) = bind_some (record_of value) _ r later in
+    let (content, _, made) = bind_some (record_under k value) _ r later in
     subst (λ (x : RevisionView). x.key.main < 2 ^ 63) (same_Some _ r made) (read_fits v.key k read).0
 
 pub until_all : (es : List LeafElement) → until (2 ^ 64 - 1) (revisions es) ≡ revisions es

@@ -16,8 +16,8 @@ use Rattle.bolt_format.specs.Elements.{LeafElement}
 use Rattle.bolt_tree.proofs.{Filters.kept, Lists.contains_cases, Lists.contains_head, Lists.contains_none, Lists.contains_tail}
 use Rattle.bolt_tree.specs.{Entries.EntryView, Entries.entry_cmp, Entries.entry_view, Order.Rises}
 use Rattle.bolt_check.specs.Keys.{key_cmp}
-use Rattle.bolt_etcd.specs.{Current.AreCurrent, Current.is_there, Current.name_cmp, Current.newest_first_cmp, Current.place_cmp, Newest.newest, Revisions.RevisionView, Revisions.name_of, Revisions.revision_in, Revisions.revision_of, Revisions.value_of}
-use Rattle.bolt_etcd.specs.{RevisionKeys.revision_key, Records.record_of, ShownRevisions.shown_revision, Stores.revisions, Wire.◌>>=◌}
+use Rattle.bolt_etcd.specs.{Current.AreCurrent, Current.is_there, Current.name_cmp, Current.newest_first_cmp, Current.place_cmp, Newest.newest, Revisions.RevisionView, Revisions.name_of, Revisions.record_under, Revisions.revision_in, Revisions.revision_of, Revisions.value_of}
+use Rattle.bolt_etcd.specs.{RevisionKeys.revision_key, ShownRevisions.shown_revision, Stores.revisions, Wire.◌>>=◌}
 use Rattle.bolt_etcd.specs.declared.revision.Revision.{Revision}
 use Rattle.bolt_etcd.proofs.{Filtered.filter_mapped, Filtered.kept_from, MappedLists.dedup_mapped, MappedLists.sorted_mapped}
 use Rattle.bolt_etcd.proofs.NewestOfNames.{kept_last, last_kept, names_rise, newest_ranks, text_ties}
@@ -49,7 +49,7 @@ unfolding revision_of
 place_is v r e =
     let (value, _, inner) = bind_some (value_of v.item) (revision_in v.key) r e in
     let (k, _, later) = bind_some (revision_key v.key) _ r inner in
-    let (content, _, made) = bind_some (record_of value) _ r later in
+    let (content, _, made) = bind_some (record_under k value) _ r later in
     sym (ap (λ (x : RevisionView). x.place) (same_Some _ r made))
 
 pub key_is : (e : EntryView) (r : RevisionView) → revision_of e ≡ Some r → revision_key e.key ≡ Some r.key
@@ -57,7 +57,7 @@ unfolding revision_of
 key_is e r is =
     let (value, _, inner) = bind_some (value_of e.item) (revision_in e.key) r is in
     let (k, read, later) = bind_some (revision_key e.key) _ r inner in
-    let (content, _, made) = bind_some (record_of value) _ r later in
+    let (content, _, made) = bind_some (record_under k value) _ r later in
     read ∙ ap Some (ap (λ (x : RevisionView). x.key) (same_Some _ r made))
 
 from_step : (o : Option RevisionView) (e : LeafElement) (es : List LeafElement) (r : RevisionView) → revision_of (entry_view e) ≡ o

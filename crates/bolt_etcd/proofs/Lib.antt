@@ -24,6 +24,7 @@ pub mod LastOnes
 pub mod Leases
 pub mod ListedTexts
 pub mod MappedLists
+pub mod MarkLaws
 pub mod Messages
 pub mod MissingExact
 pub mod NameHistories
@@ -32,6 +33,7 @@ pub mod NameSearches
 pub mod NewestEntries
 pub mod NewestOfNames
 pub mod NothingFound
+pub mod NumberSteps
 pub mod OldOnes
 pub mod OneRepair
 pub mod OtherCounts

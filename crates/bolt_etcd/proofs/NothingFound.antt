@@ -1,6 +1,6 @@
 -- Nothing is found in a store from which nothing is missing.
 use Rattle.std.proofs.Common.{◌≡◌, ◌∙◌, ◌++◌, ◌&&◌, ℕ, Bool, true, false, List, [], ◌∷◌, codes, flat_map, map, max, not, Option, Some, None}
-use Rattle.std.proofs.Common.{refl, sym, ap}
+use Rattle.std.proofs.Common.{refl, ap}
 use Rattle.std.proofs.lemmas.Bool.{and_left, and_right, eq-eqb, ltb-true}
 use Rattle.std.specs.List.{Contains, cons_option}
 use Rattle.std.specs.Option.{is_some}
@@ -12,13 +12,13 @@ use Rattle.bolt_etcd.specs.{CheckLines.fault_lines, Compactions.IsCompaction, Co
 use Rattle.bolt_etcd.specs.Histories.{Delete, Put, State, Transaction, history, nothing}
 use Rattle.bolt_etcd.specs.{Misplaced.is_misplaced, Misplaced.misplaced, MissingNumbers.is_above, MissingNumbers.keys_above}
 use Rattle.bolt_etcd.specs.{MissingNumbers.missing_after, MissingNumbers.missing_numbers}
-use Rattle.bolt_etcd.specs.{NameFaults.name_faults, Others.OtherView, Others.other_of, Others.others_of, Revisions.RevisionView}
+use Rattle.bolt_etcd.specs.{NameFaults.name_faults, Numbered.numbered, Others.OtherView, Others.others_of, Revisions.RevisionView}
 use Rattle.bolt_etcd.specs.{Revisions.revision_of}
 use Rattle.bolt_etcd.specs.{Possible.ArePossible, StoreBuckets.StoreView, Stores.revisions, WholeStores.GrantsLeases, WholeStores.HoldsExactly}
 use Rattle.bolt_etcd.specs.StoreFaults.{bucket_lines, bucket_names, entry_lines, key_lines, line_without, name_lines, store_granted, store_lines}
 use Rattle.bolt_etcd.proofs.{FaultsOfNames.faults_named, FaultsOfNames.none_of_any, Filtered.filter_both, Filtered.filter_rises}
 use Rattle.bolt_etcd.proofs.{Filtered.kept_from, HistoryNumbers.none_missing}
-use Rattle.bolt_etcd.proofs.{HistorySteps.IsWritten, HistorySteps.each, HistorySteps.goes, HistorySteps.places_rise, OtherCounts.one_of_two}
+use Rattle.bolt_etcd.proofs.{HistorySteps.IsWritten, HistorySteps.each, HistorySteps.goes, HistorySteps.places_rise, OtherCounts.is_numbered, OtherCounts.no_other}
 use Rattle.bolt_etcd.proofs.{WholeNames.no_faults}
 
 -- ---- buckets
@@ -46,11 +46,15 @@ revisions_are (e ∷ entries) (r ∷ rs) are =
     let later : map (λ (f : LeafElement). revision_of (entry_view f)) entries ≡ map Some rs = cc in
     ap (λ (o : Option RevisionView). cons_option o (revisions entries)) first ∙ ap (λ (l : List RevisionView). r ∷ l) (revisions_are entries rs later)
 
-no_other : (e : LeafElement) (r : RevisionView) (o : Option OtherView) → revision_of (entry_view e) ≡ Some r → other_of (entry_view e) ≡ o → o ≡ None
-no_other e r None is also = refl
-no_other e r (Some x) is also =
-    let one = sym (ap is_some also) ∙ one_of_two (entry_view e) ∙ ap (λ (o : Option RevisionView). not (is_some o)) is in
-    cc
+numbered_are : (entries : List LeafElement) (rs : List RevisionView) → map (λ (e : LeafElement). revision_of (entry_view e)) entries ≡ map Some rs
+    → numbered entries ≡ rs
+numbered_are [] [] are = refl
+numbered_are [] (r ∷ rs) are = cc
+numbered_are (e ∷ entries) [] are = cc
+numbered_are (e ∷ entries) (r ∷ rs) are =
+    let first : revision_of (entry_view e) ≡ Some r = cc in
+    let later : map (λ (f : LeafElement). revision_of (entry_view f)) entries ≡ map Some rs = cc in
+    ap (λ (o : Option RevisionView). cons_option o (numbered entries)) (is_numbered (entry_view e) r first) ∙ ap (λ (l : List RevisionView). r ∷ l) (numbered_are entries rs later)
 
 no_others : (entries : List LeafElement) (rs : List RevisionView) → map (λ (e : LeafElement). revision_of (entry_view e)) entries ≡ map Some rs
     → others_of entries ≡ []
@@ -59,7 +63,7 @@ no_others (e ∷ entries) [] are = cc
 no_others (e ∷ entries) (r ∷ rs) are =
     let first : revision_of (entry_view e) ≡ Some r = cc in
     let later : map (λ (f : LeafElement). revision_of (entry_view f)) entries ≡ map Some rs = cc in
-    ap (λ (o : Option OtherView). cons_option o (others_of entries)) (no_other e r (other_of (entry_view e)) first refl) ∙ no_others entries rs later
+    ap (λ (o : Option OtherView). cons_option o (others_of entries)) (no_other (entry_view e) r first) ∙ no_others entries rs later
 
 -- ---- what holds of each revision
 
@@ -100,9 +104,12 @@ module _ (compacted : ℕ) (ts : List Transaction) (keeps : RevisionView → Boo
     own : revisions is.entries ≡ kept keeps ts
     own = revisions_are is.entries (kept keeps ts) is.revisions
 
+    there_are : numbered is.entries ≡ kept keeps ts
+    there_are = numbered_are is.entries (kept keeps ts) is.revisions
+
     no_entry_lines : entry_lines (Some compacted) is.entries ≡ []
     no_entry_lines =
-        rw (no_others is.entries (kept keeps ts) is.revisions, own, none_misplaced, no_number) refl
+        rw (no_others is.entries (kept keeps ts) is.revisions, own, there_are, none_misplaced, no_number) refl
 
     no_name_lines : name_lines (Some compacted) (store_granted store) store.by_name ≡ []
     no_name_lines =

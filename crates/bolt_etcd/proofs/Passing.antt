@@ -1,10 +1,10 @@
 -- A pass over the entries of a bucket: each step takes the first of those ahead.
-use Rattle.std.proofs.Common.{◌≡◌, ◌∙◌, ◌<◌, ℕ, suc, List, [], ◌∷◌, cond, drop, length, not, Option, Some, None, refl, sym, ap, arith}
+use Rattle.std.proofs.Common.{◌≡◌, ◌∙◌, ◌<◌, ◌+◌, ℕ, List, [], ◌∷◌, cond, drop, length, Option, Some, None, refl, sym, ap, arith}
 use Rattle.std.proofs.Math.Logic.{∥∥₁_elim, ∥∥₁_prop}
 use Rattle.std.proofs.lemmas.List.{drop_all}
 use Rattle.std.proofs.lemmas.Option.{same_Some}
 use Rattle.std.specs.List.{cons_option}
-use Rattle.std.specs.Option.{is_some, option_map}
+use Rattle.std.specs.Option.{is_some, option_map, option_to_list}
 use Rattle.bolt_format.proofs.ListLemmas.{drop_at}
 use Rattle.bolt_check.specs.{CheckedFiles.bytes_of, CheckedFiles.meta_of, Keys.Key}
 use Rattle.bolt_format.specs.Elements.{LeafElement}
@@ -12,7 +12,8 @@ use Rattle.bolt_tree.proofs.{CursorMoves.ComesTo, CursorMoves.comes_from, Leavin
 use Rattle.bolt_tree.specs.{BucketViews.entries_of, Cursors.cursor_checked, Cursors.cursor_start, Entries.AreEntries, Entries.EntryView, Entries.entry_view, ShownEntries.shown_entry}
 use Rattle.bolt_tree.specs.{EntriesLeft.entries_left, FileTrees.file_entries, Places.Past, Places.Place, Places.least_from, Places.next_move, Places.place_in, Places.seek_move}
 use Rattle.bolt_tree.specs.declared.{cursor.Cursor.Cursor, entry.Entry.Entry}
-use Rattle.bolt_etcd.specs.{Passes.ShowsFirst, Revisions.RevisionView, Revisions.revision_of, Stores.entries_from, Stores.others, Stores.revisions}
+use Rattle.bolt_etcd.specs.{Others.OtherView, Others.other_of, Passes.ShowsFirst, Revisions.RevisionView, Revisions.revision_of, Stores.entries_from, Stores.others, Stores.revisions}
+use Rattle.bolt_etcd.proofs.OtherCounts.{no_other, one_more}
 
 pub nothing_shown : (o : Option Entry) → option_map shown_entry o ≡ None → o ≡ None
 nothing_shown None is = refl
@@ -73,14 +74,15 @@ gives old new v r (e, shown, first) is = ap revisions first ∙ passed (revision
 pub passes : (old new : List LeafElement) (v : EntryView) → ShowsFirst old new (Some v) → revision_of v ≡ None → revisions old ≡ revisions new
 passes old new v (e, shown, first) is = ap revisions first ∙ ap (λ (o : Option RevisionView). cons_option o (revisions new)) (sym (ap revision_of shown) ∙ is)
 
-others_if : (o x : Option RevisionView) (e : LeafElement) (rest : List LeafElement) → o ≡ x → cond (not (is_some o)) (e ∷ rest) rest ≡ cond (not (is_some x)) (e ∷ rest) rest
-others_if o x e rest is = ap (λ (z : Option RevisionView). cond (not (is_some z)) (e ∷ rest) rest) is
+others_if : (o x : Option OtherView) (e : LeafElement) (rest : List LeafElement) → o ≡ x → cond (is_some o) (e ∷ rest) rest ≡ cond (is_some x) (e ∷ rest) rest
+others_if o x e rest is = ap (λ (z : Option OtherView). cond (is_some z) (e ∷ rest) rest) is
 
 pub counts_none : (old new : List LeafElement) (v : EntryView) (r : RevisionView) → ShowsFirst old new (Some v) → revision_of v ≡ Some r → others old ≡ others new
-counts_none old new v r (e, shown, first) is = ap others first ∙ others_if _ _ e (others new) (sym (ap revision_of shown) ∙ is)
+counts_none old new v r (e, shown, first) is = ap others first ∙ others_if _ _ e (others new) (sym (ap other_of shown) ∙ no_other v r is)
 
-pub counts_one : (old new : List LeafElement) (v : EntryView) → ShowsFirst old new (Some v) → revision_of v ≡ None → length (others old) ≡ suc (length (others new))
-counts_one old new v (e, shown, first) is = ap length (ap others first ∙ others_if _ _ e (others new) (sym (ap revision_of shown) ∙ is))
+pub counts_one : (old new : List LeafElement) (v : EntryView) → ShowsFirst old new (Some v) → length (others old) ≡ length (option_to_list (other_of v)) + length (others new)
+counts_one old new v (e, shown, first) =
+    ap length (ap others first ∙ others_if (other_of (entry_view e)) (other_of v) e (others new) (sym (ap other_of shown))) ∙ one_more e (other_of v) (others new)
 
 pub fewer : (old new : List LeafElement) (v : EntryView) → ShowsFirst old new (Some v) → length new < length old
 fewer old new v (e, shown, first) = let n = ap length first in omega (arith, n)

@@ -2,12 +2,12 @@
 use Rattle.std.proofs.Common.{◌≡◌, ◌∙◌, ◌<◌, ◌≤◌, ◌⊎◌, inl, inr, ℕ, false, true, List, length, not, Option, Some, None, refl, sym, ap, subst, arith}
 use Rattle.std.proofs.Math.Logic.{∥∥₁_elim}
 use Rattle.std.proofs.Props.{props}
-use Rattle.std.specs.Option.{is_some}
+use Rattle.std.specs.Option.{is_some, option_to_list}
 use Rattle.bolt_check.specs.{CheckedFiles.bytes_of, CheckedFiles.meta_of, Counts.counted, declared.checked.Checked.Checked}
 use Rattle.bolt_format.specs.Elements.{LeafElement}
 use Rattle.bolt_tree.proofs.PagerLemmas.{counted_more}
 use Rattle.bolt_tree.specs.{Buckets.bucket_checked, Buckets.bucket_start, Entries.EntryView, Entries.Start, EntriesLeft.ForEntries, FileTrees.file_entries, declared.bucket.Bucket.Bucket}
-use Rattle.bolt_etcd.specs.{Passes.ShowsFirst, Revisions.RevisionView, Revisions.revision_of, Stores.ForBucket, Stores.others, Stores.revisions}
+use Rattle.bolt_etcd.specs.{Others.other_of, Passes.ShowsFirst, Revisions.RevisionView, Revisions.revision_of, Stores.ForBucket, Stores.others, Stores.revisions}
 use Rattle.bolt_etcd.specs.RevisionsLeft.{CountsOthers, ForPass, GivesFirst, OpensOne, ahead_of, begins_with_other, number_ahead, pass_checked, pass_entries, pass_others, pass_start}
 use Rattle.bolt_etcd.specs.declared.revisions.Revisions.{Revisions}
 use Rattle.bolt_etcd.proofs.Passing.{are_entries, counts_none, counts_one, fewer, gives, passes}
@@ -47,16 +47,16 @@ module _ (old here next : Revisions) (x : Option EntryView) (goes : Goes old her
   falls v is = ∥∥₁_elim (are_entries old.cursor) (hlevel props) (λ are. fewer _ _ v (rw is at (first_here (pass_entries old) are)))
 
   pub goes_on : (v : EntryView) (n : ℕ) → x ≡ Some v → revision_of v ≡ None → pass_checked next ≡ pass_checked here → pass_start next ≡ pass_start here
-      → n ≡ counted (pass_others here) 1 → Goes old (with_others next n)
+      → n ≡ counted (pass_others here) (length (option_to_list (other_of v))) → Goes old (with_others next n)
   unfolding ahead_of pass_checked pass_others pass_start
   goes_on v n is other file start more = record {
     checked = file ∙ goes.checked;
     start = start ∙ goes.start;
     same = λ entries are. goes.same entries are ∙ passes _ _ v (rw is at (first_here entries are)) other;
     counts = λ entries are.
-        let one = counts_one _ _ v (rw is at (first_here entries are)) other in
+        let one = counts_one _ _ v (rw is at (first_here entries are)) in
         ap (λ (k : ℕ). counted k (length (others (ahead_of next entries)))) more
-        ∙ counted_more (pass_others here) 1 (length (others (ahead_of next entries)))
+        ∙ counted_more (pass_others here) (length (option_to_list (other_of v))) (length (others (ahead_of next entries)))
         ∙ ap (counted (pass_others here)) (omega (arith, one))
         ∙ goes.counts entries are;
     behind = let less = falls v is in let before = goes.behind in omega (arith, less, before);

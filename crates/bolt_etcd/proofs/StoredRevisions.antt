@@ -12,7 +12,7 @@ use Rattle.bolt_check.specs.Keys.{Key, key_cmp}
 use Rattle.bolt_etcd.specs.RevisionKeys.{IsSpelled, numbers_cmp, revision_key, spelling}
 use Rattle.bolt_etcd.specs.declared.revision_key.RevisionKey.{RevisionKey}
 use Rattle.bolt_etcd.specs.declared.revision.Revision.{Revision}
-use Rattle.bolt_etcd.specs.{Records.record_of, Revisions.RevisionView, Revisions.name_of, Revisions.revision_in, Revisions.revision_of}
+use Rattle.bolt_etcd.specs.{Revisions.RevisionView, Revisions.name_of, Revisions.record_under, Revisions.revision_in, Revisions.revision_of}
 use Rattle.bolt_etcd.specs.ShownRevisions.{entry_of, or_nothing, shown_revision}
 use Rattle.bolt_etcd.specs.Superseded.{entry_name, is_deletion, is_key_deleted, is_key_until, is_old, name_if}
 use Rattle.bolt_etcd.proofs.{Currents.bind_some, KeyNumbers.spellings_cmp, Keys.read_spelled}
@@ -40,7 +40,7 @@ record Stored (r : Revision) : Type 0 where
 stored : (r : Revision) → Stored r
 stored r =
     let (k, read, later) = bind_some (revision_key r.key.now) _ (shown_revision r) (shows r).0 in
-    let (content, _, made) = bind_some (record_of r.value.now) _ (shown_revision r) later in
+    let (content, _, made) = bind_some (record_under k r.value.now) _ (shown_revision r) later in
     record { key = cc; place = cc }
 
 pub has_key : (r : Revision) → revision_key r.key.now ≡ Some (shown_revision r).key

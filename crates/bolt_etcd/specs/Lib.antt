@@ -22,6 +22,7 @@ pub mod MissingNumbers
 pub mod NameFaults
 pub mod NameOrder
 pub mod Newest
+pub mod Numbered
 pub mod Others
 pub mod Passes
 pub mod Possible
@@ -35,6 +36,7 @@ pub mod Repairs
 pub mod Returns
 pub mod RevisionKeys
 pub mod RevisionLines
+pub mod RevisionMarks
 pub mod Revisions
 pub mod RevisionsLeft
 pub mod Shown

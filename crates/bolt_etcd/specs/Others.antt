@@ -20,11 +20,11 @@ abbrev pub other_by : Key → Option (List ℕ) → Option OtherView
 other_by key None = Some (Other_key key)
 other_by key (Some value) = other_at key (revision_key key) (record_of value)
 
--- what an entry is, if it isn't a revision
+-- what an entry is, if it is neither a revision nor a mark: a mark is a record without fields
 unfoldable pub other_of : EntryView → Option OtherView
 other_of e = other_by e.key (value_of e.item)
 
--- the entries that aren't revisions, in their order
+-- the entries that are neither revisions nor marks, in their order
 abbrev pub others_of : List LeafElement → List OtherView
 others_of entries = filter_map (λ e. other_of (entry_view e)) entries
 

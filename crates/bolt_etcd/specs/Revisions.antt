@@ -2,7 +2,7 @@
 use Rattle.std.specs.Prelude.{Bool, List, [], ℕ, Option, Some, None, if◌then◌else◌}
 use Rattle.bolt_check.specs.Keys.{Key}
 use Rattle.bolt_tree.specs.{Entries.Bucket, Entries.EntryView, Entries.Item, Entries.Value}
-use Rattle.bolt_etcd.specs.{Records.RecordView, Records.record_of, RevisionKeys.revision_key, Wire.◌>>=◌}
+use Rattle.bolt_etcd.specs.{Records.RecordView, Records.record_of, RevisionKeys.revision_key, RevisionMarks.is_mark, Wire.◌>>=◌}
 use Rattle.bolt_etcd.specs.declared.revision_key.RevisionKey.{RevisionKey}
 
 -- its key as it is stored, by which revisions are ordered, and what that says; and what the revision says
@@ -18,11 +18,15 @@ without_value r = record r { created = 0; version = 0; value = []; lease = 0 }
 abbrev pub content_of : Bool → RecordView → RecordView
 content_of deleted r = if deleted then without_value r else r
 
+-- a mark is no record
+abbrev pub record_under : RevisionKey → List ℕ → Option RecordView
+record_under k value = if is_mark k value then None else record_of value
+
 -- the revision under a key with a value
 abbrev pub revision_in : List ℕ → List ℕ → Option RevisionView
 revision_in key value = do
   k ← revision_key key
-  r ← record_of value
+  r ← record_under k value
   Some (record { place = key; key = k; content = content_of k.deleted r })
 
 abbrev pub value_of : Item → Option (List ℕ)

@@ -4,7 +4,7 @@ use Rattle.std.specs.Option.{option_map}
 use Rattle.bolt_format.specs.Elements.{LeafElement}
 use Rattle.bolt_check.specs.Keys.{Key}
 use Rattle.bolt_etcd.specs.{CheckLines.fault_lines, CheckLines.misplaced_line, CheckLines.missing_line, CheckLines.other_line, Compacted.compacted_in}
-use Rattle.bolt_etcd.specs.{Misplaced.misplaced, MissingNumbers.missing_numbers, NameFaults.has_lease, NameFaults.name_faults, Others.others_of, Revisions.RevisionView, StoreBuckets.StoreView, Stores.revisions}
+use Rattle.bolt_etcd.specs.{Misplaced.misplaced, MissingNumbers.missing_numbers, NameFaults.has_lease, NameFaults.name_faults, Numbered.numbered, Others.others_of, Revisions.RevisionView, StoreBuckets.StoreView, Stores.revisions}
 use Rattle.bolt_etcd.specs.declared.missing.Missing.{Missing}
 
 -- the buckets that every store has
@@ -27,14 +27,14 @@ abbrev pub missing_if : Option ℕ → List RevisionView → List Missing
 missing_if None rs = []
 missing_if (Some compacted) rs = missing_numbers compacted rs
 
--- of the entries of the bucket `key` that aren't revisions
+-- of the entries of the bucket `key` that are neither revisions nor marks
 abbrev pub other_lines : List LeafElement → List (List ℕ)
 other_lines entries = map other_line (others_of entries)
 
 -- of the entries of the bucket `key`, one after another
 abbrev pub entry_lines : Option ℕ → List LeafElement → List (List ℕ)
 entry_lines compacted entries =
-    other_lines entries ++ (map misplaced_line (misplaced (revisions entries)) ++ map missing_line (missing_if compacted (revisions entries)))
+    other_lines entries ++ (map misplaced_line (misplaced (revisions entries)) ++ map missing_line (missing_if compacted (numbered entries)))
 
 -- of its revisions, name by name
 abbrev pub name_lines : Option ℕ → (ℕ → Bool) → List RevisionView → List (List ℕ)

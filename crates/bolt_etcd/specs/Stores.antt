@@ -1,11 +1,11 @@
 -- What a bucket has of revisions: those among its entries, in the order of the entries, which is that of their keys.
-use Rattle.std.specs.Prelude.{◌≡◌, ℕ, List, drop, filter, length, map, not}
+use Rattle.std.specs.Prelude.{◌≡◌, ℕ, List, drop, filter, length, map}
 use Rattle.std.specs.List.{filter_map}
 use Rattle.std.specs.Option.{is_some}
 use Rattle.bolt_format.specs.Elements.{LeafElement}
 use Rattle.bolt_check.specs.{Counts.counted, Keys.Key}
 use Rattle.bolt_tree.specs.{Buckets.bucket_checked, Buckets.bucket_start, Entries.entry_view, EntriesLeft.ForEntries, Places.least_from, declared.bucket.Bucket.Bucket}
-use Rattle.bolt_etcd.specs.{Revisions.RevisionView, Revisions.revision_of, ShownRevisions.shown_revision}
+use Rattle.bolt_etcd.specs.{Others.other_of, Revisions.RevisionView, Revisions.revision_of, ShownRevisions.shown_revision}
 use Rattle.bolt_etcd.specs.declared.collected.Collected.{Collected}
 
 -- this holds of a bucket's entries
@@ -16,9 +16,9 @@ ForBucket bucket P = ForEntries (bucket_checked bucket) (bucket_start bucket) P
 abbrev pub revisions : List LeafElement → List RevisionView
 revisions entries = filter_map (λ e. revision_of (entry_view e)) entries
 
--- the entries that aren't revisions
+-- the entries that aren't revisions, nor marks
 abbrev pub others : List LeafElement → List LeafElement
-others entries = filter (λ e. not (is_some (revision_of (entry_view e)))) entries
+others entries = filter (λ e. is_some (other_of (entry_view e))) entries
 
 -- the entries whose keys aren't below this one
 abbrev pub entries_from : Key → List LeafElement → List LeafElement

@@ -6,7 +6,7 @@ ghost use Rattle.bolt_format.specs.{Endings.ending, Wrote.Wrote};
 ghost use Rattle.bolt_etcd.specs.{CheckLines.misplaced_line, CheckLines.missing_line, Misplaced.misplaced, ShownRevisions.shown_revision};
 ghost use Rattle.bolt_etcd.specs.CheckLines.{fault_lines};
 ghost use Rattle.bolt_etcd.specs.FaultsLeft.{shown_fault, ForFaultLines};
-ghost use Rattle.bolt_etcd.specs.{MissingLeft.missing_left};
+ghost use Rattle.bolt_etcd.specs.{MissingLeft.ForMissing, MissingLeft.missing_left};
 ghost use Rattle.bolt_etcd.specs.StoreFaults.{other_lines};
 ghost use Rattle.bolt_etcd.specs.RevisionsLeft.{ForAhead};
 
@@ -62,10 +62,12 @@ pub(crate) fn put_all_missing<S: Sink>(
     mut pass: MissingNumbers<'_>,
     sink: &mut S,
 ) -> Result<u64, SinkFault>
-    ensures written { Wrote S.Sink sink.old sink.new
-        (concat (map missing_line (missing_left pass.entry))) (ending result) }
+    ensures written { ForMissing pass.entry (λ entries.
+        Wrote S.Sink sink.old sink.new
+        (concat (map missing_line (missing_left pass.entry entries))) (ending result)) }
     ensures number { IfOk result (λ n.
-        n ≡ counted 0 (length (map missing_line (missing_left pass.entry)))) }
+        ForMissing pass.entry (λ entries.
+        n ≡ counted 0 (length (map missing_line (missing_left pass.entry entries))))) }
 {
     let mut number = 0_u64;
     'rest: while let Some(missing) = pass.next() {

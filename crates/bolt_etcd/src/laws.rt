@@ -8,7 +8,7 @@ ghost use Rattle.bolt_etcd.specs.{Current.AreCurrent, Current.place_cmp, NameFau
 ghost use Rattle.bolt_etcd.specs.{Revisions.RevisionView, Told.IsMissing, Told.IsTold};
 ghost use Rattle.bolt_etcd.specs.{EtcdCompactions.etcd_keeps, Histories.history, FewTransactions.deletion_of_a, FewTransactions.first_a, FewTransactions.first_b, FewTransactions.second_a, FewTransactions.second_b, FewTransactions.few_transactions};
 ghost use Rattle.bolt_etcd.specs.{HeldNames.AreHeld, Histories.state_at, Newest.until, Taken.IsShownBy, Taken.IsTaken, Taken.TellsOneBefore, ToldRevisions.IsMissingRevision, ToldRevisions.IsToldRevision};
-ghost use Rattle.bolt_etcd.specs.{Others.other_of, Others.others_of, Revisions.revision_of, Stores.others};
+ghost use Rattle.bolt_etcd.specs.{Numbered.ForMarks, Numbered.numbered_in, Numbered.numbered_of, Others.other_by, Others.other_of, Others.others_of, Records.empty, Revisions.revision_in, Revisions.revision_of, Stores.others};
 ghost use Rattle.bolt_etcd.specs.{RevisionKeys.IsSpelled, RevisionKeys.numbers_cmp, RevisionKeys.revision_key, RevisionKeys.spelling, Wire.field_and_later, Wire.fields};
 ghost use Rattle.bolt_etcd.specs.declared.revision_key.RevisionKey.{RevisionKey};
 ghost use Rattle.bolt_etcd.specs.{Compactions.IsCompaction, Compactions.kept, Histories.Transaction, Possible.ArePossible, StoreFaults.store_lines, WholeStores.GrantsLeases, WholeStores.HoldsExactly};
@@ -54,13 +54,23 @@ pub fn revision_keys_are_in_the_order_of_their_numbers()
         → key_cmp (spelling a) (spelling b) ≡ numbers_cmp a b }
 {}
 
-/// An entry is a revision, or it is listed with why it isn't one: so as many are listed as are
-/// counted.
-#[tactic(auto, using(crate::proofs::OtherCounts::as_many, crate::proofs::OtherCounts::one_of_two))]
+/// An entry is a revision or a mark, or it is listed with why it isn't one: so as many are listed as
+/// are counted.
+#[tactic(auto, using(crate::proofs::OtherCounts::as_many, crate::proofs::OtherCounts::one_of_two, crate::proofs::OtherCounts::is_numbered))]
 pub fn an_entry_is_a_revision_or_another()
-    ensures one { (e : EntryView) → is_some (other_of e) ≡ not (is_some (revision_of e)) }
+    ensures one { (e : EntryView) → is_some (other_of e) ≡ not (is_some (numbered_of e)) }
+    ensures revision { (e : EntryView) (r : RevisionView)
+        → revision_of e ≡ Some r → numbered_of e ≡ Some r }
     ensures number { (entries : List LeafElement)
         → length (others_of entries) ≡ length (others entries) }
+{}
+
+/// A mark is no revision, and isn't counted with those that aren't. It is there by its number alone.
+pub fn a_mark_has_a_number_alone()
+    ensures revision { ForMarks (λ key value k. revision_in key value ≡ None) }
+    ensures other { ForMarks (λ key value k. other_by key (Some value) ≡ None) }
+    ensures number { ForMarks (λ key value k. numbered_in key value
+        ≡ Some (record { place = key; key = k; content = empty })) }
 {}
 
 /// If revisions are in the order of their numbers, the missing numbers tell that a transaction is

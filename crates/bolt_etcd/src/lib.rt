@@ -17,6 +17,7 @@ mod name_faults;
 mod name_order;
 mod newest;
 mod other;
+mod passes;
 mod put_back;
 mod record;
 mod repair;

@@ -1,11 +1,13 @@
 //! Revisions that are missing by their numbers.
-ghost use Rattle.std.specs.Prelude.{◌≡◌, ◌<◌, ◌++◌, ◌+◌, ◌^◌, None, map};
+ghost use Rattle.std.specs.Prelude.{◌≡◌, ◌<◌, ◌++◌, ◌+◌, ◌^◌, IfSome, None};
 ghost use Rattle.std.specs.Option.{option_to_list};
+ghost use Rattle.bolt_tree.specs.Buckets.{bucket_checked, bucket_start};
 ghost use Rattle.bolt_etcd.specs.MissingNumbers.{missing_before, missing_numbers, revisions_between, transactions_between};
-ghost use Rattle.bolt_etcd.specs.ShownRevisions.{shown_revision};
+ghost use Rattle.bolt_etcd.specs.Numbered.{numbered};
 
-use crate::revision::Revision;
 use crate::revision_key::RevisionKey;
+use crate::revisions::Revisions;
+use bolt_tree::Bucket;
 
 /// Revisions that are missing by their numbers.
 #[derive(Clone, Copy, Debug, PartialEq, Eq)]
@@ -28,13 +30,11 @@ pub enum Missing {
     },
 }
 
-/// A pass over revisions in the order of their keys that returns what is missing by its number. It
+/// A pass over the revisions and the marks of a bucket that returns what is missing by its number. It
 /// needs no memory.
 #[derive(Drop)]
 pub struct MissingNumbers<'a> {
-    revisions: &'a [Revision<'a>],
-    /// How many of them it has gone over.
-    at: usize,
+    pass: Revisions<'a>,
     above: u64,
     /// The last transaction so far.
     main: u64,
@@ -46,17 +46,18 @@ pub struct MissingNumbers<'a> {
 
 #[tactic(auto, unfolding(crate::specs::MissingLeft::missing_left))]
 impl<'a> MissingNumbers<'a> {
-    ghost use Rattle.bolt_etcd.specs.MissingLeft.{GivesMissing, missing_left};
+    ghost use Rattle.bolt_etcd.specs.MissingLeft.{ForMissing, GivesMissing, missing_checked, missing_left, missing_number, missing_start};
 
-    /// What is missing of these revisions after a compaction at this transaction. Earlier
-    /// transactions aren't looked at.
-    pub fn of(revisions: &'a [Revision<'a>], compacted: u64) -> MissingNumbers<'a>
-        ensures { missing_left result
-            ≡ missing_numbers compacted (map shown_revision revisions.now) }
+    /// What is missing in a bucket after a compaction at this transaction. Of earlier transactions
+    /// nothing is missing.
+    pub fn of(bucket: &Bucket<'a>, compacted: u64) -> MissingNumbers<'a>
+        ensures checked { missing_checked result ≡ bucket_checked bucket.now }
+        ensures start { missing_start result ≡ bucket_start bucket.now }
+        ensures all { ForMissing result (λ entries.
+            missing_left result entries ≡ missing_numbers compacted (numbered entries)) }
     {
         MissingNumbers {
-            revisions,
-            at: 0,
+            pass: Revisions::of(bucket),
             above: compacted,
             main: compacted.max(1),
             sub: 0,
@@ -66,14 +67,16 @@ impl<'a> MissingNumbers<'a> {
 
     /// Returns what is missing next, in the order of the numbers, or `None` if nothing more is.
     pub fn next(&mut self) -> Option<Missing>
-        ensures { GivesMissing (missing_left self.old) (missing_left self.new) result }
+        ensures checked { missing_checked self.new ≡ missing_checked self.old }
+        ensures start { missing_start self.new ≡ missing_start self.old }
+        ensures given { ForMissing self.old (λ entries.
+            GivesMissing (missing_left self.old entries) (missing_left self.new entries) result) }
+        ensures fewer { IfSome result (λ _. missing_number self.new < missing_number self.old) }
     {
         if let Some(missing) = self.pending.take() {
             return Some(missing);
         }
-        'rest: while self.at < self.revisions.len() {
-            let key = self.revisions[self.at].key();
-            self.at += 1;
+        'rest: while let Some(key) = self.pass.next_number() {
             if key.main > self.above {
                 let missing = self.step(key);
                 if missing.is_some() {
@@ -91,8 +94,7 @@ impl<'a> MissingNumbers<'a> {
         ensures main { self.new.main ≡ key.main }
         ensures sub { self.new.sub ≡ key.sub + 1 }
         ensures above { self.new.above ≡ self.old.above }
-        ensures revisions { self.new.revisions ≡ self.old.revisions }
-        ensures at { self.new.at ≡ self.old.at }
+        ensures pass { self.new.pass ≡ self.old.pass }
         ensures missing { option_to_list result ++ option_to_list self.new.pending
             ≡ missing_before self.old.main self.old.sub key }
         ensures none { result ≡ None → self.new.pending ≡ None }

@@ -1,15 +1,14 @@
-//! Entries that aren't revisions.
-ghost use Rattle.std.specs.Prelude.{◌≡◌, ◌<◌, IfSome, None};
-ghost use Rattle.std.specs.Option.{option_map};
+//! Entries that are neither revisions nor marks.
+ghost use Rattle.std.specs.Prelude.{◌≡◌, length};
+ghost use Rattle.std.specs.Option.{option_map, option_to_list};
 ghost use Rattle.bolt_tree.specs.ShownEntries.{shown_entry};
 ghost use Rattle.bolt_etcd.specs.{Others.other_of, ShownOthers.shown_other};
 
 use crate::record::Record;
 use crate::revision_key::RevisionKey;
-use crate::revisions::Revisions;
 use bolt_tree::{Entry, Item};
 
-/// An entry of the bucket `key` that isn't a revision.
+/// An entry of the bucket `key` that is neither a revision nor a mark.
 #[derive(Clone, Copy, Debug, PartialEq, Eq)]
 pub enum Other<'a> {
     /// It is a bucket, or its key, which this is, isn't a revision key.
@@ -19,7 +18,7 @@ pub enum Other<'a> {
 }
 
 impl<'a> Other<'a> {
-    /// What an entry is, or `None` if it is a revision. Needs no memory.
+    /// What an entry is, or `None` if it is a revision or a mark. Needs no memory.
     #[tactic(auto, unfolding(crate::specs::Others::other_of))]
     pub fn of(entry: &Entry<'a>) -> Option<Other<'a>>
         ensures { option_map shown_other result ≡ other_of (shown_entry entry.now) }
@@ -37,27 +36,12 @@ impl<'a> Other<'a> {
     }
 }
 
-impl<'a> Revisions<'a> {
-    ghost use Rattle.bolt_etcd.specs.Others.{GivesOther};
-    ghost use Rattle.bolt_etcd.specs.RevisionsLeft.{ForPass, ahead_of, number_ahead, pass_checked, pass_others, pass_start};
-
-    /// Returns the next entry that isn't a revision, or `None` if there is none. Revisions are
-    /// passed over, and nothing is counted.
-    pub fn next_other(&mut self) -> Option<Other<'a>>
-        ensures checked { pass_checked self.new ≡ pass_checked self.old }
-        ensures start { pass_start self.new ≡ pass_start self.old }
-        ensures others { pass_others self.new ≡ pass_others self.old }
-        ensures given { ForPass self.old (λ entries.
-            GivesOther (ahead_of self.old entries) (ahead_of self.new entries)
-            (option_map shown_other result)) }
-        ensures fewer { IfSome result (λ _. number_ahead self.new < number_ahead self.old) }
-    {
-        'rest: while let Some(entry) = self.advance() {
-            let other = Other::of(&entry);
-            if other.is_some() {
-                return other;
-            }
-        }
-        None
+/// How many others an entry is: 1, or 0 if it is a revision or a mark.
+pub(crate) fn others_in(entry: &Entry<'_>) -> u64
+    ensures { result ≡ length (option_to_list (other_of (shown_entry entry.now))) }
+{
+    match Other::of(entry) {
+        Some(_) => 1,
+        None => 0,
     }
 }

@@ -47,7 +47,8 @@ impl<'a> Revision<'a> {
     }
 
     /// The entry of the bucket `key` as a revision. Returns `None` if it isn't one: if it is a
-    /// bucket, or its key isn't a revision key, or its value isn't a record. Needs no memory.
+    /// bucket or a mark, or its key isn't a revision key, or its value isn't a record. A mark has
+    /// the key of a revision that isn't a deletion, and a value without bytes. Needs no memory.
     pub fn of(entry: &Entry<'a>) -> Option<Revision<'a>>
         ensures { Returns shown_revision result (revision_of (shown_entry entry.now)) }
     {
@@ -153,6 +154,9 @@ impl<'a> Decoded<'a> {
         ensures { Returns (shown_decoded key.now) result (revision_in key.now value.now) }
     {
         let key = RevisionKey::read(key)?;
+        if !key.deleted && value.is_empty() {
+            return None;
+        }
         let mut content = Record::decode(value)?;
         if key.deleted {
             content.forget_value();

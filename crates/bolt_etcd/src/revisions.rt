@@ -6,6 +6,7 @@ ghost use Rattle.bolt_tree.specs.{BucketViews.bucket_in, CursorBounds.OpensGap, 
 ghost use Rattle.bolt_tree.specs.{Buckets.bucket_checked, Buckets.bucket_start, ShownEntries.shown_entry};
 ghost use Rattle.bolt_etcd.specs.{ShownRevisions.shown_revision, Stores.entries_from};
 
+use crate::other::others_in;
 use crate::revision::Revision;
 use bolt_tree::{Bucket, Cursor, Entry};
 
@@ -62,7 +63,7 @@ impl<'a> Revisions<'a> {
     }
 
     /// Returns the next revision, or `None` if there is none. Entries that aren't revisions are
-    /// passed over and counted. If the next entry is a revision, it opens the pages of a seek if it
+    /// passed over, and counted unless they are marks. If the next entry is a revision, it opens the pages of a seek if it
     /// is the first one of `from`, and otherwise those of the cursor's `next`.
     pub fn next(&mut self) -> Option<Revision<'a>>
         ensures checked { pass_checked self.new ≡ pass_checked self.old }
@@ -80,7 +81,7 @@ impl<'a> Revisions<'a> {
             if let Some(revision) = Revision::of(&entry) {
                 return Some(revision);
             }
-            self.others = self.others.saturating_add(1);
+            self.others = self.others.saturating_add(others_in(&entry));
         }
         None
     }

@@ -5,18 +5,17 @@ ghost use Rattle.bolt_check.specs.Counts.{counted};
 ghost use Rattle.bolt_format.specs.{Endings.ending, Wrote.Wrote};
 ghost use Rattle.bolt_text.specs.ReportEndings.{report_ending};
 ghost use Rattle.bolt_etcd.specs.{CheckLines.missing_line};
-ghost use Rattle.bolt_etcd.specs.{ShownRevisions.shown_revision, Stores.others};
+ghost use Rattle.bolt_etcd.specs.{Numbered.numbered, Stores.others};
 ghost use Rattle.bolt_etcd.specs.StoreBuckets.{ForStore};
 ghost use Rattle.bolt_etcd.specs.StoreFaults.{bucket_line, bucket_lines, entry_lines, line_without, missing_if, store_lines, other_lines};
 ghost use Rattle.bolt_etcd.specs.ForNames.{ForNameLines};
-ghost use Rattle.bolt_etcd.specs.Stores.{ForFound, ForOthers};
+ghost use Rattle.bolt_etcd.specs.Stores.{ForBucket, ForFound, ForOthers};
 
 use crate::check_texts::{put_all_misplaced, put_all_missing, put_name_faults, put_others};
 use crate::collected::Collected;
 use crate::compaction::store_compacted;
 use crate::missing::MissingNumbers;
 use crate::name_faults::NameFaults;
-use crate::revision::Revision;
 use crate::revisions::Revisions;
 use bolt_format::{Sink, SinkFault};
 use bolt_text::{Piece, ReportFault, put_pieces};
@@ -147,7 +146,7 @@ fn put_entry_faults<S: Sink>(
 {
     let others = put_counted_others(keys, found.others, sink)?;
     let misplaced = put_all_misplaced(&found.revisions, sink)?;
-    let missing = put_missing_numbers(&found.revisions, compacted, sink)?;
+    let missing = put_missing_numbers(keys, compacted, sink)?;
     Ok(others.saturating_add(misplaced).saturating_add(missing))
 }
 
@@ -169,22 +168,22 @@ fn put_counted_others<S: Sink>(
     }
 }
 
-/// Writes a line for what is missing of these revisions by its number, if the transaction of the
-/// last compaction is known.
+/// Writes a line for what is missing in the bucket `key` by its number, if the transaction of the last
+/// compaction is known.
 fn put_missing_numbers<S: Sink>(
-    revisions: &[Revision<'_>],
+    keys: &Bucket<'_>,
     compacted: Option<u64>,
     sink: &mut S,
 ) -> Result<u64, SinkFault>
-    ensures written { Wrote S.Sink sink.old sink.new
-        (concat (map missing_line (missing_if compacted (map shown_revision revisions.now))))
-        (ending result) }
+    ensures written { ForBucket keys.now (λ entries.
+        Wrote S.Sink sink.old sink.new
+        (concat (map missing_line (missing_if compacted (numbered entries)))) (ending result)) }
     ensures number { IfOk result (λ n.
-        n ≡ counted 0
-        (length (map missing_line (missing_if compacted (map shown_revision revisions.now))))) }
+        ForBucket keys.now (λ entries.
+        n ≡ counted 0 (length (map missing_line (missing_if compacted (numbered entries)))))) }
 {
     match compacted {
-        Some(compacted) => put_all_missing(MissingNumbers::of(revisions, compacted), sink),
+        Some(compacted) => put_all_missing(MissingNumbers::of(keys, compacted), sink),
         None => Ok(0),
     }
 }

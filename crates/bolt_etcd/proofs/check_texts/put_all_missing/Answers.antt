@@ -1,12 +1,33 @@
-use Rattle.std.proofs.Common.{ap, map}
-use Rattle.bolt_etcd.specs.CheckLines.{missing_line}
-use Rattle.bolt_etcd.proofs.ListedTexts.{listed_fault, listed_one}
+use Rattle.std.proofs.Common.{◌∙◌, ap, map, refl}
+use Rattle.bolt_etcd.specs.{CheckLines.missing_line, MissingLeft.GivesMissing, MissingLeft.missing_left}
+use Rattle.bolt_etcd.proofs.ListedTexts.{listed_fault, listed_none, listed_number, listed_one, listed_whole}
+use Rattle.bolt_etcd.proofs.RevisionSteps.{moved_to}
 use Rattle.bolt_etcd.proofs.check_texts.put_all_missing.Goals as goal
+
+pub rest-init : goal.rest-init
+rest-init g c = record { checked = refl; start = refl; listed = λ entries are. listed_none c.args.sink.now _ _ refl }
 
 pub rest-preserved : goal.rest-preserved
 rest-preserved g c =
-    listed_one c.rest.invariant _ _ _ (ap (map missing_line) (rw c.in-Some.is at c.next.ensures)) c.in_ok-put_missing.ensures c.saturating_add-number.ensures
+    let given = moved_to _ _ _ _ (λ entries. GivesMissing (missing_left c.rest.pass entries) (missing_left c.next.new.self entries) c.next.result) c.rest.invariant.checked c.rest.invariant.start c.next.ensures.given in
+    record {
+      checked = c.next.ensures.checked ∙ c.rest.invariant.checked;
+      start = c.next.ensures.start ∙ c.rest.invariant.start;
+      listed = λ entries are.
+          listed_one (c.rest.invariant.listed entries are) _ _ _ (ap (map missing_line) (rw c.in-Some.is at (given entries are))) c.in_ok-put_missing.ensures c.saturating_add-number.ensures;
+    }
 
 pub returns-in_err-put_missing-clause-written : goal.returns-in_err-put_missing-clause-written
-returns-in_err-put_missing-clause-written g c =
-    listed_fault c.rest.invariant _ _ _ (ap (map missing_line) (rw c.in-Some.is at c.next.ensures)) c.in_err-put_missing.ensures c.from_residual.ensures.0
+returns-in_err-put_missing-clause-written g c = λ entries are.
+    let given = moved_to _ _ _ _ (λ entries. GivesMissing (missing_left c.rest.pass entries) (missing_left c.next.new.self entries) c.next.result) c.rest.invariant.checked c.rest.invariant.start c.next.ensures.given in
+    listed_fault (c.rest.invariant.listed entries are) _ _ _ (ap (map missing_line) (rw c.in-Some.is at (given entries are))) c.in_err-put_missing.ensures c.from_residual.ensures.0
+
+pub returns-clause-written : goal.returns-clause-written
+returns-clause-written g c = λ entries are.
+    let given = moved_to _ _ _ _ (λ entries. GivesMissing (missing_left c.rest.pass entries) (missing_left c.next.new.self entries) c.next.result) c.rest.invariant.checked c.rest.invariant.start c.next.ensures.given in
+    listed_whole (c.rest.invariant.listed entries are) (ap (map missing_line) (rw c.in_default.is at (given entries are)).0)
+
+pub returns-clause-number : goal.returns-clause-number
+returns-clause-number g c = λ entries are.
+    let given = moved_to _ _ _ _ (λ entries. GivesMissing (missing_left c.rest.pass entries) (missing_left c.next.new.self entries) c.next.result) c.rest.invariant.checked c.rest.invariant.start c.next.ensures.given in
+    listed_number (c.rest.invariant.listed entries are) (ap (map missing_line) (rw c.in_default.is at (given entries are)).0)

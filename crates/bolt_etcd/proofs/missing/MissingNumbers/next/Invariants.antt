@@ -1,13 +1,17 @@
-use Rattle.std.proofs.Common.{◌≡◌, ◌-◌, None, length}
+use Rattle.std.proofs.Common.{◌≡◌, ◌≤◌, None}
 use Rattle.bolt_etcd.specs.MissingLeft.{missing_left}
+use Rattle.bolt_etcd.specs.RevisionsLeft.{ForPass, number_ahead, pass_checked, pass_start}
 use Rattle.bolt_etcd.proofs.missing.MissingNumbers.next.Given as goal
 
 -- nothing was returned, and nothing is known already
 abbrev pub invariant-rest : goal.invariant-rest
 invariant-rest l = record {
   none : l.self.pending ≡ None;
-  left : missing_left l.fn.self ≡ missing_left l.self;
+  checked : pass_checked l.self.pass ≡ pass_checked l.fn.self.pass;
+  start : pass_start l.self.pass ≡ pass_start l.fn.self.pass;
+  behind : number_ahead l.self.pass ≤ number_ahead l.fn.self.pass;
+  left : ForPass l.fn.self.pass (λ entries. missing_left l.fn.self entries ≡ missing_left l.self entries);
 }
 
 abbrev pub decreases-rest : goal.decreases-rest
-decreases-rest l = length l.self.revisions.now - l.self.at
+decreases-rest l = number_ahead l.self.pass

@@ -1,4 +1,4 @@
-use Rattle.std.proofs.Common.{◌∙◌, ℕ, ap, inl, inr, refl}
+use Rattle.std.proofs.Common.{◌∙◌, ap, ap₂, inl, inr, refl}
 use Rattle.std.specs.Option.{option_map}
 use Rattle.bolt_check.specs.Counts.{counted}
 use Rattle.bolt_tree.specs.ShownEntries.{shown_entry}
@@ -20,7 +20,7 @@ unfolding pass_others
 rest-preserved c = record {
   goes = goes_on c.args.self.now c.rest.self c.advance.new.self _ c.rest.invariant.goes c.advance.ensures.first (shown_entry c.in-Some.entry) c.saturating_add-self.result
       (ap (option_map shown_entry) c.in-Some.is) c.in_default-of.ensures c.advance.ensures.checked c.advance.ensures.start
-      (c.saturating_add-self.ensures ∙ ap (λ (k : ℕ). counted k 1) c.advance.ensures.others);
+      (c.saturating_add-self.ensures ∙ ap₂ counted c.advance.ensures.others c.others_in.ensures);
   opens = inr (other_first c.args.self.now c.rest.self c.advance.new.self _ c.rest.invariant.goes c.advance.ensures.first c.rest.invariant.opens (shown_entry c.in-Some.entry)
       (ap (option_map shown_entry) c.in-Some.is) c.in_default-of.ensures);
 }
