@@ -5,7 +5,8 @@
 #
 # Tries files that can't be read or created, full devices, closed streams, readers that leave, and who may read a copy.
 # Then each write of each command fails in turn (a write has at most seven bytes), but only each 10th of a copy, and
-# each 200th of what is recovered. So do each read of FILE and the sync of OUT. make has made the files in out.
+# each 200th of what is recovered. So do each read of FILE and the sync of OUT. A device may also take bytes again after a
+# refusal: then nothing more may be written to it. make has made the files in out.
 set -eux
 . tools/try/commands.sh
 program=$1
@@ -27,6 +28,8 @@ with_lines printing.txt not_printing.txt -- sweep write 1 $app
 sweep write 1 $leaked check list
 with_lines etcd.txt -- sweep write 1 $etcd
 sweep write 10 $app "compact -o OUT" "compact -o OUT --etcd-snapshot"
+sweep once 1 $app list "buckets --sizes"
+sweep once 10 $app "compact -o OUT" "compact -o OUT --etcd-snapshot"
 sweep write 10 $listing "load -o OUT" "load -o OUT --etcd-snapshot"
 sweep write 1 $damaged "check --all" "check --lost-and-found"
 with_lines recoveries.txt -- sweep write 200 $damaged
