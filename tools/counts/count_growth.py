@@ -4,11 +4,13 @@
     count_growth.py PROGRAM
 
 Each command is run on a file of a size, on one of twice the size, and on one of four times: with more entries, with
-more buckets beside each other and one within another, with more pages that are lost, and with more free ids. The
+more buckets beside each other and one within another, with more pages that are lost, with more free ids, with more
+of etcd's revisions, and with more of them that are found though all branches are lost. The
 second step takes about twice the instructions of the first, and would take four times as many if the work grew with
 the square of the size. The status is 1 if that is so."""
 
 import os
+import subprocess
 import sys
 import tempfile
 
@@ -22,6 +24,12 @@ COMMANDS = [
     "keys FILE a --recover",
     "get FILE a 00000 --recover",
     "compact FILE --lost-and-found --for-bbolt -o OUT",
+]
+STORE_COMMANDS = [
+    "etcd-revisions FILE --values",
+    "etcd-keys FILE",
+    "etcd-get FILE none",
+    "etcd-check FILE",
 ]
 # The text of a listing has the whole path on each line, so it grows with the square of the depth.
 LEFT_OUT = ("deep", "list FILE --recover")
@@ -60,7 +68,28 @@ def freed(size):
     return [f"meta mark={size + 4}", f"pages {size + 4}", "leaf 3 a=v", f"free 2 4-{size + 3}"]
 
 
+def write_shape(shape, size, path):
+    with open(path, "wb") as file:
+        file.write(make("\n".join(shape(size))))
+
+
+def run_maker(name, *words):
+    subprocess.run([sys.executable, "-B", os.path.join("tools/bench", name), *map(str, words)], check=True)
+
+
+def revisions(size, path):
+    run_maker("make_store.py", path, 30, size)
+
+
+def candidates(size, path):
+    """All branches are lost, so that all leaves are found."""
+    run_maker("make_store.py", path + ".whole", 30, size)
+    run_maker("zero_leaves.py", path + ".whole", path, 0, 1000)
+
+
 SIZES = {entries: 20, buckets: 10, deep: 200, lost: 60, freed: 120}
+STORES = {revisions: STORE_COMMANDS, candidates: ["etcd-repair FILE -o OUT"]}
+STORE_SIZE = 2000
 
 
 def grows_in_proportion(program, folders, shape, words):
@@ -71,20 +100,29 @@ def grows_in_proportion(program, folders, shape, words):
     return growth <= MOST_GROWTH and first[1] == second[1] == third[1]
 
 
-def try_shape(program, shape, size):
+def try_sizes(program, shape, commands, write):
+    """Tries commands on files of three sizes, which `write` makes of how many times the first they have."""
     with tempfile.TemporaryDirectory() as room:
         folders = [os.path.join(room, str(times)) for times in (1, 2, 4)]
         for folder, times in zip(folders, (1, 2, 4)):
             os.mkdir(folder)
-            with open(os.path.join(folder, "FILE"), "wb") as file:
-                file.write(make("\n".join(shape(times * size))))
-        tried = [words for words in COMMANDS if (shape.__name__, words) != LEFT_OUT]
-        return [grows_in_proportion(program, folders, shape, words) for words in tried]
+            write(times, os.path.join(folder, "FILE"))
+        return [grows_in_proportion(program, folders, shape, words) for words in commands]
+
+
+def try_shape(program, shape, size):
+    tried = [words for words in COMMANDS if (shape.__name__, words) != LEFT_OUT]
+    return try_sizes(program, shape, tried, lambda times, path: write_shape(shape, times * size, path))
+
+
+def try_store(program, shape, commands):
+    return try_sizes(program, shape, commands, lambda times, path: shape(times * STORE_SIZE, path))
 
 
 def main():
     program = os.path.abspath(sys.argv[1])
     results = [good for shape, size in SIZES.items() for good in try_shape(program, shape, size)]
+    results += [good for shape, commands in STORES.items() for good in try_store(program, shape, commands)]
     sys.exit(0 if all(results) else 1)
 
 
