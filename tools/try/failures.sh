@@ -9,7 +9,7 @@
 # refusal: then nothing more may be written to it. make has made the files in out.
 set -eux
 . tools/try/commands.sh
-program=$1
+program=$(realpath "$1")
 app=examples/app.db
 etcd=examples/etcd.db
 listing=examples/app.list
@@ -22,7 +22,7 @@ sweep() {
 
 with_lines printing.txt -- sh tools/streams/try_failures.sh "$program" $app $leaked out/listed_long.db
 sh tools/streams/try_changes.sh "$program" out/refuse.so $app
-bash tools/streams/try_reading.sh "$PWD/$program" "$PWD/out/refuse.so" $app
+bash tools/streams/try_reading.sh "$program" "$PWD/out/refuse.so" $app
 
 with_lines printing.txt not_printing.txt -- sweep write 1 $app
 sweep write 1 $leaked check list
