@@ -33,7 +33,7 @@ build calls quick fmt demo programs wrong-bodies: toolchain
 toolchain:
 	@$(if $(shell command -v rt 2>&1),:,$(error the Rattle toolchain is missing: put its command rt on the path))
 
-# Tries the program without its proofs, in two minutes after any edit. It says what that doesn't show.
+# Tries the program without its proofs, in three minutes after any edit. It says what that doesn't show.
 quick:
 	PYTHONPATH=tests:tools/fuzz:tools/format python3 -B tools/quick/quick.py out/try
 
