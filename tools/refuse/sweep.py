@@ -139,7 +139,7 @@ def sweep(command, step):
         result = command.run(number)
     ends = ", ".join(f"{count} {outcome}" for outcome, count in outcomes.items())
     print(f"{' '.join(command.words[1:])}: {sum(outcomes.values())} times {command.call}: {ends}", flush=True)
-    is_done = full[0] in (0, 1) and full[2] not in command.lines and result == full
+    is_done = full[0] >= 0 and full[2] not in command.lines and result == full
     if len(whole) > most_whole(full):
         wrong.append(whole[0])
         print(f"memory of {command.words[1:]}: OUT is whole {len(whole)} times")
