@@ -2,6 +2,8 @@
 PREFIX ?= /usr/local
 # Runs a tool that makes files. They take the format's numbers from tools/format.
 MAKER = PYTHONPATH=tools/format python3 -B
+# It also runs lines of docs/GUIDE.md, which a tool in tools/usage reads.
+TRY_ETCD = PYTHONPATH=tools/format:tools/usage python3 -B tools/etcd/try_etcd.py
 PROGRAM = crates/luntsegi/out/luntsegi
 CALLS = crates/test_calls/out/test_calls
 
@@ -53,7 +55,7 @@ cases: $(PROGRAM) $(CALLS)
 examples: $(PROGRAM)
 	tools/try/examples.sh $(PROGRAM)
 
-PROGRAMS = $(wildcard $(patsubst %,crates/bolt_%/README.md,bulk check commands etcd format job load recover report stats text tree))
+PROGRAMS = $(wildcard $(patsubst %,crates/bolt_%/README.md,bulk check cli commands etcd format job load recover report stats text tree))
 # Runs the programs that the READMEs of crates show, without their proofs.
 programs:
 	python3 -B tools/usage/run_programs.py $(PROGRAMS)
@@ -70,7 +72,7 @@ failures: $(PROGRAM) out/refuse.so out/listed_long.db out/damaged.db out/many_lo
 memory: $(PROGRAM) $(CALLS) out/refuse.so out/nested.db out/deep.db out/damaged.db
 	tools/try/memory.sh $(PROGRAM) $(CALLS)
 
-# Counts requests for memory and instructions, which tell of work that isn't needed or grows too fast.
+# Counts requests for memory and instructions, which show work that isn't needed or grows too fast.
 work: $(PROGRAM) $(CALLS) out/refuse.so
 	tools/try/work.sh $(PROGRAM) $(CALLS)
 
@@ -93,18 +95,18 @@ bbolt-long: $(PROGRAM)
 # Compares the program with an etcd server on the files that etcd writes. SEED=N repeats the writes of another run. It
 # needs Debian's packages etcd-server and etcd-client.
 etcd: $(PROGRAM)
-	$(MAKER) tools/etcd/try_etcd.py $(PROGRAM) --seed $(SEED) --keys 3000 --seconds 600
+	$(TRY_ETCD) $(PROGRAM) --seed $(SEED) --keys 3000 --seconds 600
 
 # Tries sparse files of more than 4 GB, if there is memory for them.
 huge: $(PROGRAM)
 	mkdir -p out
 	PYTHONPATH=tests:tools/format python3 -B tools/try/huge.py $(PROGRAM) out
 
-# Alters the program's output in twelve ways. The comparisons must find each alteration.
+# Alters the program's output in fourteen ways. The comparisons must find each alteration.
 fuzz-wrong: $(PROGRAM)
 	$(MAKER) tools/fuzz/try_wrong.py $(PROGRAM)
 
-# Tries the wrong bodies that the gate leaves out, in a copy of the crates. CRATES="bolt_tree bolt_cli" tries those
+# Tries the mutants that the gate leaves out, in a copy of the crates. CRATES="bolt_tree bolt_cli" tries those
 # of some crates.
 wrong-bodies:
 	RT_JOBS=$(JOBS) python3 -B tools/wrong_bodies/try_others.py $(CRATES)
@@ -118,14 +120,14 @@ JOBS ?= $(shell awk -v processors=$$(nproc) '/MemTotal/ { print ($$2 < 13000000 
 set-up:
 	tools/set_up.sh
 
-# The merge gate: every proof from nothing, the wrong bodies of crates/*/must-fail, the built programs, what these targets
+# The merge gate: every proof from nothing, the mutants of crates/*/must-fail, the built programs, what these targets
 # try, the same random files each time, and rounds beside bbolt and etcd. The prover keeps freed memory for 10 s: fewer
 # page faults. It ends with its processor minutes.
 test: toolchain set-up
 	python3 -B tools/try/gate.py "RT_JOBS=$(JOBS) MIMALLOC_PURGE_DELAY=10000 rt ci" \
 		"make cases examples programs manual failures memory work" \
 		"$(MAKER) tools/fuzz/fuzz.py $(PROGRAM) --seed 1 --files 36" "tools/bbolt/try.sh $(PROGRAM) 3" \
-		"$(MAKER) tools/etcd/try_etcd.py $(PROGRAM) --seed 1 --keys 300 --seconds 150"
+		"$(TRY_ETCD) $(PROGRAM) --seed 1 --keys 300 --seconds 150"
 
 # Stores of etcd that lost half of their branches, and all.
 LOST_STORES = out/store_half.db out/store_all.db out/short_half.db out/short_all.db

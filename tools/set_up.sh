@@ -13,6 +13,7 @@ missing() {
 	command -v zsh >/dev/null || echo zsh
 	command -v fish >/dev/null || echo fish
 	command -v valgrind >/dev/null || echo valgrind
+	command -v jq >/dev/null || echo jq
 	command -v go >/dev/null || echo golang-go
 	[ -d "$bbolt" ] || echo golang-github-coreos-bbolt-dev
 	command -v etcd >/dev/null || echo etcd-server
@@ -31,6 +32,7 @@ for package in $(missing); do
 	mandoc) echo "set-up: mandoc is missing: the manual page isn't linted" ;;
 	zsh | fish) echo "set-up: $package is missing: its completions are not tried" ;;
 	valgrind) echo "set-up: valgrind is missing: no instructions are counted" ;;
+	jq) echo "set-up: jq is missing: two lines of docs/GUIDE.md aren't run" ;;
 	golang-*) echo "set-up: $package is missing: nothing is compared with bbolt" ;;
 	etcd-*) echo "set-up: $package is missing: nothing is compared with etcd" ;;
 	esac

@@ -5,17 +5,17 @@
 
 Each command is run on a file of a size, on one of twice the size, and on one of four times: with more entries, with
 more buckets beside each other and one within another, with more pages that are lost, with more free ids, with more
-of etcd's revisions, and with more of them that are found though all branches are lost. The
+of etcd's revisions, and with more of them that are found though all branches are lost, or half of them. The
 second step takes about twice the instructions of the first, and would take four times as many if the work grew with
 the square of the size. The status is 1 if that is so."""
 
 import os
-import subprocess
 import sys
 import tempfile
 
 from draft import make
 from instructions import instructions
+from stores import STORES
 
 COMMANDS = [
     "stats FILE",
@@ -24,12 +24,6 @@ COMMANDS = [
     "keys FILE a --recover",
     "get FILE a 00000 --recover",
     "compact FILE --lost-and-found --for-bbolt -o OUT",
-]
-STORE_COMMANDS = [
-    "etcd-revisions FILE --values",
-    "etcd-keys FILE",
-    "etcd-get FILE none",
-    "etcd-check FILE",
 ]
 # The text of a listing has the whole path on each line, so it grows with the square of the depth.
 LEFT_OUT = ("deep", "list FILE --recover")
@@ -73,22 +67,7 @@ def write_shape(shape, size, path):
         file.write(make("\n".join(shape(size))))
 
 
-def run_maker(name, *words):
-    subprocess.run([sys.executable, "-B", os.path.join("tools/bench", name), *map(str, words)], check=True)
-
-
-def revisions(size, path):
-    run_maker("make_store.py", path, 30, size)
-
-
-def candidates(size, path):
-    """All branches are lost, so that all leaves are found."""
-    run_maker("make_store.py", path + ".whole", 30, size)
-    run_maker("zero_leaves.py", path + ".whole", path, 0, 1000)
-
-
 SIZES = {entries: 20, buckets: 10, deep: 200, lost: 60, freed: 120}
-STORES = {revisions: STORE_COMMANDS, candidates: ["etcd-repair FILE -o OUT"]}
 STORE_SIZE = 2000
 
 

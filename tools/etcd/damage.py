@@ -44,15 +44,16 @@ class Damage:
 
 
 class Store:
-    """The pages of the bucket `key` of a file: its root page, its other branches and its leaves, in order."""
+    """The pages of the bucket `key` of a file: its root page, its other branches and its leaves, in order; and the meta
+    and the root page of the newest state."""
 
     def __init__(self, data):
         self.data = data
         metas = [self.meta_at(HEADER.size)]
         metas.append(self.meta_at(metas[0][2] + HEADER.size))
-        newest = max(metas, key=lambda meta: meta[8])
-        self.page_size = newest[2]
-        self.root, _ = BUCKET_HEAD.unpack_from(dict(self.elements(newest[4], BUCKET_FLAGS))[b"key"])
+        self.newest_meta = max((0, 1), key=lambda place: metas[place][8])
+        _, _, self.page_size, _, self.newest_root, *_ = metas[self.newest_meta]
+        self.root, _ = BUCKET_HEAD.unpack_from(dict(self.elements(self.newest_root, BUCKET_FLAGS))[b"key"])
         self.branches, self.leaves = [], []
         self.add_below(self.root)
 

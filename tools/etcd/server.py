@@ -15,6 +15,8 @@ HOST = "127.0.0.1"
 REQUEST_SECONDS = 20
 START_SECONDS = 20
 END_SECONDS = 10
+# By then etcd has stored what it was sent.
+STORE_SECONDS = 0.5
 # How often a start is tried: another process may take one of the ports first.
 STARTS = 3
 
@@ -60,9 +62,10 @@ def faults_named(path):
         raise EtcdFault(f"{path}: {fault!r}") from None
 
 
-def send(connection, path, body):
-    """The response to a request, which must have succeeded."""
-    connection.request("POST", "/v3/" + path, json.dumps(body), {"Content-Type": "application/json"})
+def send(connection, path, body, token=None):
+    """The response to a request, which must have succeeded. A user who has logged in has a token."""
+    user = {"Authorization": token} if token else {}
+    connection.request("POST", "/v3/" + path, json.dumps(body), {"Content-Type": "application/json"} | user)
     response = connection.getresponse()
     if response.status != 200:
         raise EtcdFault(f"{path}: {response.read()[-300:]}")
@@ -70,18 +73,22 @@ def send(connection, path, body):
 
 
 class Server:
-    """A server of one member, and a connection to it. Its log is beside its data folder.
+    """A server of one member, and a connection to it. Its log is beside its data folder. Another command may start it,
+    and it may make a `.snap` file after fewer entries than by default.
 
     Use it in a `with` block: the server ends with the block."""
 
-    def __init__(self, folder):
+    def __init__(self, folder, command=None, snapshot_count=None):
         self.folder = folder
+        self.command = command or ["etcd", "--data-dir", folder]
+        self.snapshot_count = snapshot_count
         self.file = os.path.join(folder, "member", "snap", "db")
         self.name = uuid.uuid4().hex
         self.process = None
         self.port = None
         self.connection = None
         self.version = None
+        self.token = None
 
     def __enter__(self):
         try:
@@ -108,21 +115,29 @@ class Server:
         self.port, peers = free_ports(2)
         client_url, peer_url = f"http://{HOST}:{self.port}", f"http://{HOST}:{peers}"
         guard = ["setpriv", "--pdeathsig", "KILL"] if shutil.which("setpriv") else []
-        settings = {
-            "name": self.name,
-            "data-dir": self.folder,
-            "listen-client-urls": client_url,
-            "advertise-client-urls": client_url,
-            "listen-peer-urls": peer_url,
-            "initial-advertise-peer-urls": peer_url,
-            "initial-cluster": f"{self.name}={peer_url}",
-        }
-        words = [word for name, value in settings.items() for word in ("--" + name, value)]
         with open(self.folder + ".log", "ab") as log:
             self.process = subprocess.Popen(
-                [*guard, "etcd", *words], env=clean_environment(), stdin=subprocess.DEVNULL, stdout=log, stderr=log
+                [*guard, *self.command],
+                env=clean_environment() | self.settings(client_url, peer_url),
+                stdin=subprocess.DEVNULL,
+                stdout=log,
+                stderr=log,
             )
         self.connection = http.client.HTTPConnection(HOST, self.port, timeout=REQUEST_SECONDS)
+
+    def settings(self, client_url, peer_url):
+        """What etcd reads of the environment."""
+        settings = {
+            "NAME": self.name,
+            "LISTEN_CLIENT_URLS": client_url,
+            "ADVERTISE_CLIENT_URLS": client_url,
+            "LISTEN_PEER_URLS": peer_url,
+            "INITIAL_ADVERTISE_PEER_URLS": peer_url,
+            "INITIAL_CLUSTER": f"{self.name}={peer_url}",
+        }
+        if self.snapshot_count:
+            settings["SNAPSHOT_COUNT"] = str(self.snapshot_count)
+        return {"ETCD_" + name: value for name, value in settings.items()}
 
     def waits_until_it_serves(self):
         """Whether the server serves in time, before its process ends."""
@@ -158,17 +173,27 @@ class Server:
             self.process.wait(END_SECONDS)
         self.process = None
 
+    def kill(self):
+        """Kills the server when it has stored what it was sent."""
+        time.sleep(STORE_SECONDS)
+        self.process.kill()
+        self.process.wait(END_SECONDS)
+
     def request(self, path, body):
         """What the server returns for a request to its JSON gateway."""
         with faults_named(path):
-            return json.loads(send(self.connection, path, body).read())
+            return json.loads(send(self.connection, path, body, self.token).read())
 
     def stream(self, path, body):
         """The messages that the server sends for a request, as they come, on a connection of their own."""
         connection = http.client.HTTPConnection(HOST, self.port, timeout=REQUEST_SECONDS)
         with closing(connection), faults_named(path):
-            for line in send(connection, path, body):
+            for line in send(connection, path, body, self.token):
                 yield json.loads(line)["result"]
+
+    def log_in(self, name, password):
+        """Has this user make the requests that follow."""
+        self.token = self.request("auth/authenticate", {"name": name, "password": password})["token"]
 
     def save_snapshot(self, path):
         """Saves a snapshot by etcdctl."""

@@ -23,6 +23,9 @@ second half. A server starts from the copy of each that `etcd-repair --etcd-snap
 another compaction. If all leaves are found, it reports what the first server did. If not, its keys are those of the
 leaves that are left.
 
+The lines of docs/GUIDE.md for etcd are run on files of another server: after the recipe of etcd's log a server has the
+keys that it had before, and the new cluster those of the repaired copy. Nobody reads them without logging in.
+
 The same seed makes the same writes. At a difference both sides are shown, the status is 1, and the files stay in
 out/etcd. The run ends after `--seconds`, and the servers end with it, whatever happens. Without etcd or etcdctl nothing
 is compared.
@@ -39,6 +42,7 @@ from answers import ask
 from compare import Comparisons, Difference
 from repairs import Repairs
 from server import EtcdFault, Server, restore_snapshot
+from try_guide import try_guide
 from writes import Writer
 
 FOLDER = os.path.join("out", "etcd")
@@ -111,7 +115,9 @@ def try_all(words):
     server, last = try_member(writer, comparisons, words.keys)
     try_repairs(writer, comparisons, words.keys, server.file, last)
     revisions = try_copy(writer, comparisons, words.keys, server.file, last)
-    return f"etcd: {server.version}, {revisions} revisions, {comparisons.files} files, {comparisons.count} comparisons"
+    runs = try_guide(comparisons, in_folder("guide"))
+    counts = f"{comparisons.files} files, {comparisons.count} comparisons, {runs} runs of the guide's lines"
+    return f"etcd: {server.version}, {revisions} revisions, {counts}"
 
 
 def read_words():

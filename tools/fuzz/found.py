@@ -3,16 +3,26 @@
 import re
 
 from program import want
-from results import read
+from results import named, read
 
 BUCKET = b"lost+found".hex().encode()
 PAGE = re.compile(rb"%b/([0-9a-f]{32}) bucket 0" % BUCKET)
 NAMED = re.compile(rb"^page (\d+): nothing leads to it", re.M)
+KEYS = re.compile(r"keys from ([0-9a-f]+)(?: \(.*?\))? to ([0-9a-f]+)(?: \(.*\))?")
 
 
 def pages_in(lines):
     """The numbers of the pages that have a bucket in `lost+found`, among these lines of a listing."""
     return [int(bytes.fromhex(page.group(1).decode())) for line in lines if (page := PAGE.fullmatch(line))]
+
+
+def compare_key_names(printed):
+    """The lines of found pages have the texts of their keys."""
+    for line in printed.splitlines():
+        if NAMED.match(line):
+            keys = KEYS.search(line.decode())
+            first, last = ([bytes.fromhex(key)] for key in keys.groups())
+            want(keys[0] == f"keys from {named(first)} to {named(last)}", "other texts of keys:", line)
 
 
 def compare_found(file, words):
@@ -23,17 +33,18 @@ def compare_found(file, words):
     copied = file.run("compact", "--lost-and-found", "-o", copy, *words)
     listed = file.run("list", "--lost-and-found", *words)
     checked = file.run("check", "--lost-and-found", *words)
-    named = [int(number) for number in NAMED.findall(checked.out)]
+    compare_key_names(checked.out)
+    pages = [int(number) for number in NAMED.findall(checked.out)]
     if copied.err:
         want(listed.out == b"" and listed.err == copied.err, "list and compact refuse the file in two ways:", listed)
         want(read(copy) == b"", "the copy of what is refused isn't empty")
-        want(not named or copied.err == b"error: lost+found exists\n", "pages are found, and not listed:", named)
+        want(not pages or copied.err == b"error: lost+found exists\n", "pages are found, and not listed:", pages)
         return
     want(file.program.text("check", copy) == b"OK\n", "the copy with what is found isn't sound")
     want(file.program.text("list", copy) == listed.out, "the copy with what is found lists other things")
     lines = listed.out.splitlines()
-    want(pages_in(lines) == named, "check names", named, "and list has", pages_in(lines))
-    own = [line for line in lines if not named or not line.startswith(BUCKET)]
+    want(pages_in(lines) == pages, "check names", pages, "and list has", pages_in(lines))
+    own = [line for line in lines if not pages or not line.startswith(BUCKET)]
     want(own == file.run("list", "--recover", *words).out.splitlines(), "what is recovered isn't listed with what is found")
 
 

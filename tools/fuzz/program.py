@@ -13,8 +13,10 @@ HASH_FAULT = rb"(?:snapshot hash missing|%b)\n" % BAD_HASH
 ITEM = rb"(?:%b+ -> \d+|%b+ = %b*|%b+ bucket \d+ \d+|\d+)\n" % (HEX, HEX, HEX, HEX)
 FINDING = rb"pages? \d+(?: to \d+)?: [a-z' ]+"
 FOR_BBOLT = rb"meta [01]: (?:not taken by|txid too large for) bbolt"
-LOSS = rb"%b; lost: (?:everything|(?:root bucket|bucket %b+(?:/%b+)*)(?:, keys from %b*(?: to below %b+)?)?)\n" % (
-    FINDING, HEX, HEX, HEX, HEX,
+# The text of a path or a key after its hexadecimal.
+NAME = rb"(?: \([ -~]+\))?"
+LOSS = rb"%b; lost: (?:everything|(?:root bucket|bucket %b+(?:/%b+)*%b)(?:, keys from %b*%b(?: to below %b+%b)?)?)\n" % (
+    FINDING, HEX, HEX, NAME, HEX, NAME, HEX, NAME,
 )
 FIGURES = [
     "buckets", "inline buckets", "inline used", "keys", "depth", "branch pages", "branch overflow",
@@ -46,7 +48,9 @@ JSON_TEXTS = {
     "list": rb"(?:%b)*" % JSON_ENTRY,
 }
 LOSSES = rb"(?:%b)+" % LOSS
-FOUND = rb"(?:page \d+: nothing leads to it; found: \d+ entries, \d+ of them buckets, keys from [0-9a-f]+ to [0-9a-f]+\n)*"
+FOUND = rb"(?:page \d+: nothing leads to it; found: \d+ entries, \d+ of them buckets, keys from %b+%b to %b+%b\n)*" % (
+    HEX, NAME, HEX, NAME,
+)
 FINDINGS = rb"(?:(?:%b|%b)\n)+\d+ errors found\n" % (FOR_BBOLT, FINDING)
 META_FAULT = rb"file too short|invalid database|version mismatch|checksum error|page size refused"
 META_LINE = rb"meta [01]: (?:%b)" % META_FAULT

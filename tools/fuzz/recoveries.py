@@ -8,13 +8,13 @@ from listings import paths_between
 from options import buckets_of, lines_of_json, part_of
 from program import Result, want
 from recovered_buckets import compare_recovered_buckets
-from results import File, entries_of, info_of, read, rows_of, word_of, words_of
+from results import File, entries_of, info_of, named, read, rows_of, word_of, words_of
 from snapshots import compare_hash, compare_snapshot
 
 LOSS = re.compile(
     r"(?P<finding>pages? (?P<page>\d+)(?: to \d+)?: [a-z ]+); lost: "
-    r"(?:(?P<all>everything)|(?:root bucket|bucket (?P<path>[0-9a-f/]+))"
-    r"(?:, keys from (?P<low>[0-9a-f]*)(?: to below (?P<high>[0-9a-f]+))?)?)"
+    r"(?:(?P<all>everything)|(?:root bucket|bucket (?P<path>[0-9a-f/]+)(?: \(.*?\))?)"
+    r"(?:, keys from (?P<low>[0-9a-f]*)(?: \(.*?\))?(?: to below (?P<high>[0-9a-f]+)(?: \(.*?\))?)?)?)"
 )
 MOST_RESTS = 3
 MOST_ZEROED = 3
@@ -31,6 +31,15 @@ class Loss:
         self.is_all = parts["all"] is not None
         self.bucket = tuple(bytes.fromhex(key) for key in (parts["path"] or "").split("/") if key)
         self.low, self.high = (key if key is None else bytes.fromhex(key) for key in (parts["low"], parts["high"]))
+        want(line == f"{self.finding}; lost: {self.words()}", "other texts of paths or keys:", line)
+
+    def words(self):
+        """What is lost, as the line says it."""
+        if self.is_all:
+            return "everything"
+        bucket = f"bucket {named(self.bucket)}" if self.bucket else "root bucket"
+        low = "" if self.low is None else f", keys from {named([self.low])}"
+        return bucket + low + ("" if self.high is None else f" to below {named([self.high])}")
 
     def place(self):
         """Where it stands in the order of ways, as a path."""

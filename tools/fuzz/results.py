@@ -41,6 +41,12 @@ def word_of(path):
     return "/".join(key.hex() for key in path)
 
 
+def named(path):
+    """A path in hexadecimal and, if each part has bytes and all are printable, its text in brackets."""
+    is_readable = all(key and is_printable(key) for key in path)
+    return word_of(path) + (" (" + "/".join(key.decode() for key in path) + ")" if is_readable else "")
+
+
 def words_of(draw, path):
     """The words for a path: in hexadecimal, mixed or, if possible, as text."""
     kind = draw.random()

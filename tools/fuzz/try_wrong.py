@@ -126,6 +126,18 @@ def report_less(words, result):
     result.out = b"".join(result.out.splitlines(keepends=True)[1:])
 
 
+@alters("check", "--all", status=1)
+def drop_name(words, result):
+    """losses: check --all drops the text of a path or a key"""
+    result.out = re.sub(rb"(; lost: .*?[0-9a-f]) \(.*?\)", rb"\1", result.out, count=1)
+
+
+@alters("check", "--lost-and-found", status=1)
+def show_other_name(words, result):
+    """found pages: check --lost-and-found shows another text of a key"""
+    result.out = re.sub(rb"(; found: .*?[0-9a-f]) \(.", rb"\1 (~", result.out, count=1)
+
+
 @alters("keys", "--recover", status=1)
 def drop_recovered_key(words, result):
     """recovered buckets: keys --recover drops its last key"""

@@ -13,3 +13,4 @@ done
 python3 -B tools/usage/words.py --check "$program"
 python3 -B tools/usage/check_links.py README.md docs/*.md crates/*/README.md
 python3 -B tools/usage/run_examples.py "$program" README.md docs/GUIDE.md docs/COMMANDS.md
+python3 -B tools/usage/run_guide.py "$program"

@@ -5,8 +5,12 @@
    these, from 1. With REFUSED_LEAST only requests for at least so many bytes of memory count.
    REFUSED_MARK names a file that is made when it is refused: so whoever set these knows whether it was
    called at all. Where a write was refused the device is full: all later ones
-   to the same file are refused too, unless REFUSED_ONCE is set. With REFUSED_MOST a write moves so many
-   bytes at most.
+   to the same file are refused too, unless REFUSED_ONCE is set: then it takes bytes again, but what was
+   gathered for standard output was to be dropped, so the process is aborted if it writes there again.
+   With REFUSED_MOST a write moves so many bytes at most.
+
+   REFUSED_COUNTS names a file that gets, when the process ends, how many requests for memory it made, and the
+   most bytes that it had at once. While a block is moved, both its old and its new bytes count.
 
    A file that was synced must not be written to later: the process is aborted if it is.
 
@@ -18,6 +22,7 @@
 #include <dlfcn.h>
 #include <errno.h>
 #include <fcntl.h>
+#include <malloc.h>
 #include <stdio.h>
 #include <stdlib.h>
 #include <string.h>
@@ -29,14 +34,19 @@
 void *__libc_malloc(size_t size);
 void *__libc_calloc(size_t count, size_t size);
 void *__libc_realloc(void *block, size_t size);
+void __libc_free(void *block);
 
 static const char *refused_call = "";
 static long refused_number;
 static size_t most_moved = (size_t)-1;
 static size_t least_asked;
 static long made;
+static long requests;
+static long held;
+static long most_held;
 static int full_file = -1;
 static int is_full_once;
+static int is_output_dropped;
 static struct stat synced;
 static int is_synced;
 static ssize_t (*next_read)(int, void *, size_t);
@@ -60,6 +70,21 @@ __attribute__((constructor)) static void begin(void)
 	is_full_once = getenv("REFUSED_ONCE") != NULL;
 }
 
+__attribute__((destructor)) static void end(void)
+{
+	const char *name = getenv("REFUSED_COUNTS");
+	char counts[64];
+	int file;
+
+	if (!name)
+		return;
+	snprintf(counts, sizeof counts, "%ld %ld\n", requests, most_held);
+	file = open(name, O_WRONLY | O_CREAT | O_TRUNC, 0600);
+	if (next_write(file, counts, strlen(counts)) < 0)
+		abort();
+	close(file);
+}
+
 /* Counts a call of this kind, and says whether it is the one; the error is then this one. */
 static int is_refused(const char *call, int error)
 {
@@ -75,22 +100,44 @@ static int is_refused(const char *call, int error)
 
 static int is_memory_refused(size_t size)
 {
+	requests++;
 	return size >= least_asked && is_refused("memory", ENOMEM);
+}
+
+/* Counts the bytes of a new block. */
+static void *counted(void *block)
+{
+	held += (long)malloc_usable_size(block);
+	if (held > most_held)
+		most_held = held;
+	return block;
 }
 
 void *malloc(size_t size)
 {
-	return is_memory_refused(size) ? NULL : __libc_malloc(size);
+	return is_memory_refused(size) ? NULL : counted(__libc_malloc(size));
 }
 
 void *calloc(size_t count, size_t size)
 {
-	return is_memory_refused(count * size) ? NULL : __libc_calloc(count, size);
+	return is_memory_refused(count * size) ? NULL : counted(__libc_calloc(count, size));
 }
 
 void *realloc(void *block, size_t size)
 {
-	return is_memory_refused(size) ? NULL : __libc_realloc(block, size);
+	long old = (long)malloc_usable_size(block);
+	void *moved = is_memory_refused(size) ? NULL : __libc_realloc(block, size);
+
+	counted(moved);
+	if (moved)
+		held -= old;
+	return moved;
+}
+
+void free(void *block)
+{
+	held -= (long)malloc_usable_size(block);
+	__libc_free(block);
 }
 
 static void touch(int file, const struct stat *status)
@@ -155,7 +202,11 @@ ssize_t write(int file, const void *from, size_t count)
 
 	if (was_synced(file))
 		abort();
-	if (refused && !is_full_once)
+	if (is_output_dropped && file == STDOUT_FILENO)
+		abort();
+	if (refused && is_full_once)
+		is_output_dropped = file == STDOUT_FILENO;
+	else if (refused)
 		full_file = file;
 	if (refused || file == full_file) {
 		errno = ENOSPC;

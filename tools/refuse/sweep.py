@@ -3,8 +3,8 @@
 
     sweep.py PROGRAM LIBRARY CALL STEP FILE COMMAND..
 
-CALL is memory, read, write, once or sync; LIBRARY refuses the calls (refuse.c). A write that is refused `once`
-may be made again, but what was to be dropped by then mustn't be written; otherwise the device stays full. A COMMAND
+CALL is memory, read, write, once or sync; LIBRARY refuses the calls (refuse.c). After a write that is refused `once`
+the device takes bytes again, but nothing more may be written to standard output; otherwise it stays full. A COMMAND
 may have several words; those after the first come after FILE; OUT stands for a file that doesn't exist. With STEP 1
 each call that a command makes is refused in a run of its own; with STEP N the first one and then each
 N-th. A run must end as docs/COMMANDS.md says: with the full result, or with status 1, the line of the

@@ -4,7 +4,8 @@
 #     examples.sh PROGRAM
 #
 # A compact copy of each must be sound and list the same, its listing must make the same copy, and an existing OUT must
-# be refused. Output that can't be written must be reported. Documents must show what is printed.
+# be refused. Output that can't be written must be reported. Documents must show what is printed, and the other lines of
+# docs/GUIDE.md must do what it says.
 set -eux
 program=$1
 leaked=examples/leaked
@@ -47,3 +48,4 @@ status=0
 tools/bbolt/build.sh
 python3 -B tools/lost/try_lost_pages.py "$program" $(ls examples/*.buckets | sed 's/\.buckets$/.db/')
 python3 -B tools/usage/run_examples.py "$program" README.md docs/GUIDE.md docs/COMMANDS.md
+python3 -B tools/usage/run_guide.py "$program"

@@ -29,6 +29,7 @@ sweep write 1 $leaked check list
 with_lines etcd.txt -- sweep write 1 $etcd
 sweep write 10 $app "compact -o OUT" "compact -o OUT --etcd-snapshot"
 sweep once 1 $app list "buckets --sizes"
+sweep once 6000 out/listed_long.db list
 sweep once 10 $app "compact -o OUT" "compact -o OUT --etcd-snapshot"
 sweep write 10 $listing "load -o OUT" "load -o OUT --etcd-snapshot"
 sweep write 1 $damaged "check --all" "check --lost-and-found"

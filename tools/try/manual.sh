@@ -1,5 +1,5 @@
 #!/bin/sh
-# Compares the synopses, and what bash, zsh and fish complete, with help, for `make manual`.
+# Compares the synopses, what bash, zsh and fish complete, and the lists of the tools with help, for `make manual`.
 #
 #     manual.sh PROGRAM
 #
@@ -10,6 +10,7 @@ program=$1
 if command -v mandoc >/dev/null; then mandoc -Tlint -Wwarning out/luntsegi.1; fi
 python3 -B tools/usage/words.py --check "$program"
 python3 -B tools/usage/compare_completions.py "$program"
+PYTHONPATH=tests:tools/format python3 -B tools/usage/check_lists.py "$program"
 set +x
 echo "check_links.py on all documents, and on the sources that refer to them" >&2
 python3 -B tools/usage/check_links.py README.md docs/*.md crates/*/README.md \

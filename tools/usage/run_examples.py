@@ -78,4 +78,5 @@ def main():
     sys.exit(not all(right))
 
 
-main()
+if __name__ == "__main__":
+    main()

@@ -1,6 +1,6 @@
 -- The spots that are still to be visited, as ways: the first number of a way picks the spot, the rest leads on from it.
 use Rattle.std.proofs.Common.{rules, ◌≡◌, ℕ, zero, suc, ◌<◌, ◌⊎◌, inl, inr, Bool, List, [], ◌∷◌, ◌++◌, Option, Some, None, Ok, slice_get, refl, sym, ap, subst, arith, ◌∙◌}
-use Rattle.bolt_check.proofs.Words.{InlinePage, At_inline, At_page, Before, Entry, Finding, follow, forest, IsClaimedBefore, IsClean, IsCovered, IsFirst, Key, Node, Nodes, PageSpot, places, somes, Spot, step, step_entry, Tests}
+use Rattle.bolt_check.proofs.Words.{InlinePage, At_inline, At_page, Before, Entry, Finding, follow, forest, IsClaimedBefore, IsClean, IsCovered, IsFirst, Node, Nodes, PageSpot, places, somes, Spot, step, step_entry, Tests}
 use Rattle.bolt_check.proofs.{Judging.tests_same, Visiting.Visits}
 
 pub follow_none : (nodes : Nodes) (way : List ℕ) → follow nodes None way ≡ None

@@ -2,7 +2,6 @@
 use Rattle.std.proofs.Common.{rules, ◌≡◌, ◌==◌, ℕ, suc, ◌≤◌, List, [], ◌∷◌, ◌++◌, true, false, Option, Some, None, Result, Ok, slice_get, map, refl, sym, ap, ◌∙◌, arith, subst}
 use Rattle.std.proofs.lemmas.Option.{slice_get_cases}
 use Rattle.bolt_check.proofs.Words.{inline_page, At_inline, At_page, branch_entry, BranchElement, bucket_spot, child_at, child_in, child_spot, Entry, HasSoundTrees, head_root, IsOnWay, keys_of, Kind, leads, leaf_entry, LeafElement, Meta, Node, node_at, node_of, node_seen, Nodes, none-some, option_map, page_at, page_fault, PageSpot, PageView, root_spot, slice_get-map, Spot, step, upper_from}
-use Rattle.bolt_format.specs.Elements.{inline_elements}
 use Rattle.bolt_format.specs.declared.header.Kind.TheVariants as kind
 use Rattle.bolt_check.specs.Ways.{reached}
 use Rattle.bolt_check.proofs.{MarkLemmas.node_page, WayFacts.follow_append, WayFacts.key_at, WayFacts.leads_some, WayFacts.step_child}

@@ -2,7 +2,7 @@
 -- spot, and then along the ways of what is left.
 use Rattle.std.proofs.Common.{◌≡◌, ◌∙◌, ℕ, zero, suc, ◌&&◌, ◌⊎◌, inl, inr, Bool, true, false, List, [], ◌∷◌, ◌++◌, Option, Some, None, Ok, ap, ap₂, flat_map, map, not, refl, sym, slice_get, arith}
 use Rattle.std.specs.Prelude.{is_some}
-use Rattle.bolt_check.proofs.Words.{InlinePage, At_inline, At_page, Entry, Finding, follow, forest, Has, IsTour, Key, kids, Node, Nodes, option_map, PageSpot, places, Reach, root_spot, somes, Spot, step, step_entry}
+use Rattle.bolt_check.proofs.Words.{InlinePage, At_inline, At_page, Entry, Finding, follow, forest, Has, IsTour, kids, Node, Nodes, option_map, PageSpot, places, Reach, root_spot, somes, Spot, step, step_entry}
 use Rattle.bolt_check.proofs.Forest.{flat, follow_none, forest_empty, inline_visits, kids_step, lift, nothing_is, page_visits, root_visits, tail, up, way_of, where_is}
 use Rattle.bolt_check.proofs.{TourLemmas.Ways, TourLemmas.tour_map, TourLemmas.tour_step, Visiting.Visits, WayFacts.leads_none}
 use Rattle.bolt_check.proofs.LeafDepths.{leaves_along, leaves_same}

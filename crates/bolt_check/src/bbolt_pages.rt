@@ -31,7 +31,9 @@ pub(crate) fn find_at_page(
     add_if(has_one_child(page), Finding::ONE_CHILD, number, findings)?;
     let has_value = has_root_value(page, in_root);
     add_if(has_value, Finding::ROOT_VALUE, number, findings)?;
-    add_if(has_large_value(page), Finding::LARGE_KEY, number, findings)?;
+    // Without a value there is none under a large key.
+    let has_large = (!in_root || has_value) && has_large_value(page);
+    add_if(has_large, Finding::LARGE_KEY, number, findings)?;
     let begins_otherwise = has_other_first_key(page, spot.lower);
     add_if(begins_otherwise, Finding::FIRST_KEY, number, findings)?;
     let is_elsewhere = is_leaf_elsewhere(page, spot.depth, leaves);

@@ -1,7 +1,9 @@
 pub mod BufferedJobs
 pub mod BufferedLines
+pub mod Gathering
 pub mod MetasAlone
 pub mod Ordering
+pub mod Printing
 pub mod Sentences
 pub mod Telling
 pub mod Vocabulary

@@ -1,13 +1,13 @@
 -- The words that the proofs of this crate cite, passed on from the modules that define them.
-pub use Rattle.bolt_cli.specs.Deeds.{Adds, Closed, Deed, Dropped, Ended, Made, Opened, Read, ReadFirst, ReadOn, Said}
-pub use Rattle.bolt_cli.specs.Runs.{Choose, Closes, WritesOut, Ends, Fails, FailsNaming, Goes, IsBufferedLine, IsReported, IsRun, PrintsText, PrintsBuffered, DoesAsked, Reads, ReadsMetas, ReadsRest, Refuses, Shows, error_line}
+pub use Rattle.bolt_cli.specs.Deeds.{Adds, Closed, Deed, Dropped, Ended, Lacked, Made, Opened, Read, ReadFirst, ReadOn, Said}
+pub use Rattle.bolt_cli.specs.Runs.{Choose, Closes, WritesOut, Ends, Fails, FailsGathered, FailsLacking, FailsUnended, Goes, HoldsUnless, IsBufferedLine, IsReported, IsRun, PrintsText, PrintsBuffered, DoesAsked, Reads, ReadsMetas, ReadsRest, Refuses, Shows, error_line}
 pub use Rattle.bolt_cli.specs.Runs.{buffered_failures, buffered_of, buffered_text}
 pub use Rattle.bolt_commands.specs.Answers.{Answer, CopiesUnless, Does, DoesJob, Ending, MakesCopy, WritesCopy, WritesRestored, copy_page_size, copy_report, repair_report, Reports, done, hash_refusal, lengths_line}
 pub use Rattle.bolt_commands.specs.Answers.{status_of}
 pub use Rattle.bolt_commands.specs.Failures.{failure_line}
 pub use Rattle.bolt_format.specs.{Sinks.AppendsPrefix, declared.sink.Sink.Ghosts}
 pub use Rattle.bolt_job.specs.declared.refusal.Refusal.TheVariants.{Help, Version}
-pub use Rattle.bolt_job.specs.{Jobs.needs_metas_alone, Jobs.target_name, LineWords.Text, declared.choices.Extent.Extent, declared.job.Job.Job}
+pub use Rattle.bolt_job.specs.{CommandLine.Asks, Jobs.needs_metas_alone, Jobs.target_name, LineWords.Text, declared.choices.Extent.Extent, declared.job.Job.Job}
 pub use Rattle.bolt_job.specs.{declared.choices.MetaChoice.MetaChoice, declared.choices.PageSize.PageSize, declared.refusal.Refusal.Refusal}
 pub use Rattle.bolt_layout.specs.{Copies.layout_of_listing, declared.Layout.Layout}
 pub use Rattle.bolt_text.specs.{LineMembers.text_members}

@@ -23,6 +23,8 @@ pub data Deed (T O : Type 0) : Type 0 where
   Dropped : O → OutputFault → Deed T O
   -- a text goes to standard error
   Said : (text : List ℕ) → Deed T O
+  -- this line goes there in place of a text for which there was no memory: the sink that it was put to has failed so often
+  Lacked : (failures : ℕ) (line : List ℕ) → Deed T O
 
 -- whatever the deeds were before, these were added
 abbrev pub Adds : {D : Type 0} → (List D → Type 0) → (List D → Type 0) → List D → Type 0

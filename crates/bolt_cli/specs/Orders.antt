@@ -1,9 +1,10 @@
 -- The order of the deeds of a run, whatever its words and its job are: a definition for each sentence.
-use Rattle.std.specs.Prelude.{◌≡◌, ◌≤◌, ℕ, List, [], ◌∷◌, ◌++◌, Bool, true, false, IsTrue, not, ◌&&◌, Ok, Err, length}
+use Rattle.std.specs.Prelude.{◌≡◌, ◌≤◌, ℕ, List, [], ◌∷◌, ◌++◌, Bool, true, false, IsTrue, not, ◌&&◌, Some, Result, Ok, Err, length}
 use Rattle.std.specs.List.{filter, list_any}
-use Rattle.bolt_cli.specs.Deeds.{Deed, Read, ReadFirst, ReadOn, Made, Ended, Opened, Closed, Dropped, Said}
+use Rattle.bolt_cli.specs.Deeds.{Deed, Read, ReadFirst, ReadOn, Made, Ended, Opened, Closed, Dropped, Said, Lacked}
 use Rattle.bolt_cli.specs.Runs.{IsRun}
-use Rattle.bolt_cli.specs.declared.outside.OutputFault.TheVariants.{ReaderLeft}
+use Rattle.bolt_cli.specs.{declared.outside.CreateFault.CreateFault, declared.outside.OutputFault.TheVariants.ReaderLeft}
+use Rattle.bolt_job.specs.{CommandLine.Asks, Jobs.target_name, declared.job.Job.Job}
 use Rattle.bolt_format.specs.declared.sink.Sink.{Ghosts}
 use Rattle.bolt_job.specs.LineWords.{Text}
 
@@ -26,6 +27,7 @@ module _ {T O : Type 0} where
 
   abbrev pub is_said : Deed T O → Bool
   is_said (Said text) = true
+  is_said (Lacked failures line) = true
   is_said deed = false
 
   abbrev pub is_ended : Deed T O → Bool
@@ -148,6 +150,20 @@ module _ {T O : Type 0} where
   abbrev pub SucceedsOnlyWithoutFailures : List (Deed T O) → ℕ → Type 0
   SucceedsOnlyWithoutFailures deeds code = code ≡ 0 → HasNone has_failed deeds × HasNone is_said deeds
 
+  -- If something failed, the status is 1.
+  abbrev pub FailsWithStatus1 : List (Deed T O) → ℕ → Type 0
+  FailsWithStatus1 deeds code = AfterEach has_failed (λ after. code ≡ 1) deeds
+
+  -- If the words ask for no job, FILE isn't read, and no OUT is made.
+  abbrev pub RefusesBeforeReading : List Text → List (Deed T O) → Type 0
+  RefusesBeforeReading words deeds = ((job : Job) → Asks words job → ⊥) → HasNone is_read deeds × HasNone is_made deeds
+
+  -- OUT is made only if the words ask for a job that has one, and under its name.
+  abbrev pub MakesAskedOut : List Text → List (Deed T O) → Type 0
+  MakesAskedOut words deeds =
+      (before : List (Deed T O)) (name : Text) (permissions : ℕ) (result : Result T CreateFault) (after : List (Deed T O))
+      → deeds ≡ before ++ Made name permissions result ∷ after → (job : Job) × Asks words job × (target_name job ≡ Some name)
+
 -- ---- of which runs they are said
 
 module _ {T O : Type 0} (target : Ghosts T) (output : Ghosts O) where
@@ -155,6 +171,10 @@ module _ {T O : Type 0} (target : Ghosts T) (output : Ghosts O) where
   abbrev pub ForEachRun : (List (Deed T O) → ℕ → Type 0) → Type 0
   ForEachRun Holds =
       (words : List Text) (deeds : List (Deed T O)) (code : ℕ) → IsRun target output words deeds code → Holds deeds code
+
+  -- this holds of the words and the deeds of each run
+  abbrev pub ForWords : (List Text → List (Deed T O) → Type 0) → Type 0
+  ForWords Holds = (words : List Text) (deeds : List (Deed T O)) (code : ℕ) → IsRun target output words deeds code → Holds words deeds
 
   -- this holds of the deeds of each run
   abbrev pub ForDeeds : (List (Deed T O) → Type 0) → Type 0

@@ -4,13 +4,12 @@ use Rattle.std.specs.Io.KnownBytes.{Appends, IsAtEnd}
 use Rattle.bolt_format.specs.{Metas.IsMetasEnd, Sinks.AppendsPrefix, declared.sink.Sink.Ghosts}
 use Rattle.bolt_commands.specs.Answers.{DoesJob, Ending, status_of}
 use Rattle.bolt_job.specs.CommandLine.{Asks, IsRefusalOf}
-use Rattle.bolt_cli.specs.Deeds.{Deed, Does, Read, ReadFirst, ReadOn, Made, Ended, Opened, Closed, Dropped, Said}
+use Rattle.bolt_cli.specs.Deeds.{Deed, Does, Read, ReadFirst, ReadOn, Made, Ended, Opened, Closed, Dropped, Said, Lacked}
 use Rattle.bolt_cli.specs.Names.{shown_lines, shown_name}
 use Rattle.bolt_commands.specs.Failures.{failure_line}
 use Rattle.bolt_job.specs.LineWords.{Text}
 use Rattle.bolt_job.specs.{Jobs.needs_metas_alone, Jobs.file_name, Jobs.target_name}
 use Rattle.bolt_cli.specs.Sources.{is_changed}
-use Rattle.bolt_commands.specs.declared.failure.Failure.{Failure}
 use Rattle.bolt_commands.specs.declared.failure.Failure.TheVariants.{Memory, Write}
 use Rattle.bolt_job.specs.declared.job.Job.{Job}
 use Rattle.bolt_job.specs.declared.refusal.Refusal.{Refusal}
@@ -36,24 +35,20 @@ abbrev pub unread_line : Text → ReadFault → List ℕ
 unread_line name read.Refused = codes "error: cannot read " ++ (shown_name name ++ codes "\n")
 unread_line name read.Memory = failure_line Memory
 
--- the line of a failure, or that of memory, if there was none for the line
-abbrev pub IsLineOf : Failure → List ℕ → Type 0
-IsLineOf failure line = (line ≡ failure_line failure) ⊎ (line ≡ failure_line Memory)
+-- what a sink holds of this text, if it has failed so often
+abbrev pub HoldsUnless : Option (List ℕ) → (failures : ℕ) → List ℕ → Type 0
+HoldsUnless taken failures text = ((taken ≡ Some text) × (failures ≡ 0)) ⊎ (0 < failures)
 
--- what is buffered for standard error once a job has ended so
-abbrev pub IsBufferedLine : Ending → List ℕ → Type 0
-IsBufferedLine (Ok status) line = line ≡ []
-IsBufferedLine (Err failure) line = IsLineOf failure line
+-- what is buffered for standard error once a job has ended so: the line of its failure, unless there was no memory for it
+abbrev pub IsBufferedLine : Ending → Option (List ℕ) → (failures : ℕ) → Type 0
+IsBufferedLine (Ok status) taken failures = (taken ≡ Some []) × (failures ≡ 0)
+IsBufferedLine (Err failure) taken failures = HoldsUnless taken failures (failure_line failure)
 
--- Some deeds were added, and with the status after them they are so, for each ending of a job of which this line is buffered and this is the
--- status.
-abbrev pub DoesBuffered : {O D : Type 0} → (done : O → List D → Type 0) → (old new : O) → (after : ℕ) → (line : List ℕ) → (code : ℕ) → (Ending → List D → ℕ → Type 0) → Type 0
-DoesBuffered done old new after line code Are = (ending : Ending) → IsBufferedLine ending line → code ≡ status_of ending → Does done old new after (Are ending)
-
--- the line if OUT isn't on the disk: that of the failure before or, if there was none, of a failed write
-abbrev pub IsUnendedLine : Ending → List ℕ → Type 0
-IsUnendedLine (Ok status) line = line ≡ failure_line Write
-IsUnendedLine (Err failure) line = IsLineOf failure line
+-- Some deeds were added, and with the status after them they are so, for each ending of a job of which this is buffered for standard error and
+-- this is the status.
+abbrev pub DoesBuffered : {O D : Type 0} → (done : O → List D → Type 0) → (old new : O) → (after : ℕ) → Option (List ℕ) → (failures : ℕ) → (code : ℕ) → (Ending → List D → ℕ → Type 0) → Type 0
+DoesBuffered done old new after taken failures code Are =
+    (ending : Ending) → IsBufferedLine ending taken failures → code ≡ status_of ending → Does done old new after (Are ending)
 
 -- what a sink in memory holds, and how often it failed
 pub record Buffered : Type 0 where
@@ -98,23 +93,28 @@ module _ {T O : Type 0} where
   abbrev pub Fails : List ℕ → List (Deed T O) → ℕ → Type 0
   Fails line deeds code = Ends line deeds × (code ≡ 1)
 
-  -- the same with a line that needs memory, or with that of memory, if there was none for the line
-  abbrev pub FailsNaming : List ℕ → List (Deed T O) → ℕ → Type 0
-  FailsNaming line deeds code = Fails line deeds code ⊎ Fails (failure_line Memory) deeds code
+  -- the line of memory goes to standard error, since a text was put to a sink in memory which has failed
+  abbrev pub FailsLacking : List (Deed T O) → ℕ → Type 0
+  FailsLacking (Lacked failures line ∷ []) code = (0 < failures) × (line ≡ failure_line Memory) × (code ≡ 1)
+  FailsLacking deeds code = ⊥
 
-  -- words are no line of a command, as this text says; or there was no memory for the text
+  -- this line, which is gathered in memory, goes there, unless a request for memory was refused
+  abbrev pub FailsGathered : List ℕ → List (Deed T O) → ℕ → Type 0
+  FailsGathered line deeds code = Fails line deeds code ⊎ FailsLacking deeds code
+
+  -- words are no line of a command, as this text says, which is gathered in memory
   abbrev pub RefusesUsage : List ℕ → List (Deed T O) → ℕ → Type 0
-  RefusesUsage text deeds code = (Ends (shown_lines text) deeds × (code ≡ 2)) ⊎ Fails (failure_line Memory) deeds code
+  RefusesUsage text deeds code = (Ends (shown_lines text) deeds × (code ≡ 2)) ⊎ FailsLacking deeds code
 
   -- OUT isn't on the disk after a job that ended so
   abbrev pub FailsUnended : Ending → List (Deed T O) → ℕ → Type 0
-  FailsUnended ending deeds code = (line : List ℕ) × IsUnendedLine ending line × Fails line deeds code
+  FailsUnended (Ok status) deeds code = Fails (failure_line Write) deeds code
+  FailsUnended (Err failure) deeds code = FailsGathered (failure_line failure) deeds code
 
   -- a job that ended so is over: with the line of its failure, if there was one
   abbrev pub IsReported : Ending → List (Deed T O) → ℕ → Type 0
-  IsReported (Ok status) [] code = code ≡ status
-  IsReported (Err failure) (Said line ∷ []) code = IsLineOf failure line × (code ≡ 1)
-  IsReported ending deeds code = ⊥
+  IsReported (Ok status) deeds code = (deeds ≡ []) × (code ≡ status)
+  IsReported (Err failure) deeds code = FailsGathered (failure_line failure) deeds code
 
   -- if the reader of standard output has left, nothing more is said
   abbrev pub IsUnprinted : OutputFault → List (Deed T O) → ℕ → Type 0
@@ -145,7 +145,7 @@ module _ {T O : Type 0} (output_taken : O → Option (List ℕ)) (output_failed 
   -- if OUT is on the disk, what was buffered is printed, provided there was memory for it; otherwise none of it is
   abbrev pub PrintsBuffered : (failures : ℕ) → List ℕ → Ending → List (Deed T O) → ℕ → Type 0
   PrintsBuffered zero text ending deeds code = PrintsText text ending deeds code
-  PrintsBuffered (suc more) text ending deeds code = Fails (failure_line Memory) deeds code
+  PrintsBuffered (suc more) text ending deeds code = FailsLacking deeds code
 
   abbrev pub IsEnded : Result (Unit {0}) EndFault → Buffered → Ending → List (Deed T O) → ℕ → Type 0
   IsEnded (Ok done) buffered ending deeds code = PrintsBuffered buffered.failures buffered.text ending deeds code
@@ -156,13 +156,13 @@ module _ {T O : Type 0} (output_taken : O → Option (List ℕ)) (output_failed 
   ReadsRest job first (ReadOn begun limit (Ok bytes) ∷ deeds) code =
       (begun ≡ first) × IsMetasEnd first (80 + limit) × Shows bytes job deeds code
   ReadsRest job first (ReadOn begun limit (Err fault) ∷ deeds) code =
-      (begun ≡ first) × IsMetasEnd first (80 + limit) × FailsNaming (unread_line (file_name job) fault) deeds code
+      (begun ≡ first) × IsMetasEnd first (80 + limit) × FailsGathered (unread_line (file_name job) fault) deeds code
   ReadsRest job first deeds code = ⊥
 
   abbrev pub ReadsMetas : Job → List (Deed T O) → ℕ → Type 0
   ReadsMetas job (ReadFirst name limit (Ok first) ∷ deeds) code = (name ≡ file_name job) × (limit ≡ 80) × ReadsRest job first deeds code
   ReadsMetas job (ReadFirst name limit (Err fault) ∷ deeds) code =
-      (name ≡ file_name job) × (limit ≡ 80) × FailsNaming (unread_line (file_name job) fault) deeds code
+      (name ≡ file_name job) × (limit ≡ 80) × FailsGathered (unread_line (file_name job) fault) deeds code
   ReadsMetas job deeds code = ⊥
 
 module _ {T O : Type 0} (target : Ghosts T) (output : Ghosts O) where
@@ -177,7 +177,7 @@ module _ {T O : Type 0} (target : Ghosts T) (output : Ghosts O) where
   Makes out source job (Made name permissions (Ok made) ∷ deeds) code =
       (name ≡ out) × (permissions ≡ source.permissions) × IsFresh target.taken target.failed made × WritesOut made source.bytes.items job deeds code
   Makes out source job (Made name permissions (Err fault) ∷ deeds) code =
-      (name ≡ out) × (permissions ≡ source.permissions) × FailsNaming (unmade_line out fault) deeds code
+      (name ≡ out) × (permissions ≡ source.permissions) × FailsGathered (unmade_line out fault) deeds code
   Makes out source job deeds code = ⊥
 
   -- the job is done: with an OUT, if it has one
@@ -190,7 +190,7 @@ module _ {T O : Type 0} (target : Ghosts T) (output : Ghosts O) where
   Reads zero job deeds code = Fails (error_line (codes "file changed while it was read")) deeds code
   Reads (suc left) job (Read name (Ok source) ∷ deeds) code =
       (name ≡ file_name job) × Choose (is_changed source) (Reads left job deeds code) (Goes (target_name job) source job deeds code)
-  Reads (suc left) job (Read name (Err fault) ∷ deeds) code = (name ≡ file_name job) × FailsNaming (unread_line (file_name job) fault) deeds code
+  Reads (suc left) job (Read name (Err fault) ∷ deeds) code = (name ≡ file_name job) × FailsGathered (unread_line (file_name job) fault) deeds code
   Reads (suc left) job deeds code = ⊥
 
   -- as much of FILE is read as the job needs, and it is done

@@ -1,8 +1,10 @@
 //! A whole run of `luntsegi`: from the words of its command line to what it does to files and streams.
 #![tactic(auto)]
 
+mod faults;
 mod names;
 mod outside;
+mod printer;
 mod whole_run;
 
 pub use bolt_commands::{Failure, Status, run};
@@ -14,4 +16,5 @@ pub use bolt_job::{
 pub use outside::{
     CreateFault, EndFault, OpenFault, OutputFault, Outside, ReadFault, Source, Stamp,
 };
-pub use whole_run::{refuse, run_program, runs_are_in_order};
+pub use printer::Printer;
+pub use whole_run::{answers_are_printed, refuse, run_program, runs_are_in_order};

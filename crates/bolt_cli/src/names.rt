@@ -1,47 +1,67 @@
-//! Names of files, as standard error has them.
-ghost use Rattle.std.specs.Prelude.{◌≡◌, ◌++◌, IfOk, OnOk, flat_map, string_bytes};
+//! Names of files, as standard error has them. They are gathered in memory: if there is none, the sink
+//! has failed.
+ghost use Rattle.std.specs.Prelude.{flat_map};
 ghost use Rattle.std.specs.Char.{encode_utf8};
 ghost use Rattle.std.specs.Char.Escape.{escape_default};
-ghost use Rattle.bolt_cli.specs.Names.{shown_lines, shown_name, shown_text};
+ghost use Rattle.bolt_cli.specs.Names.{shown_char, shown_lines, shown_name, shown_text};
+ghost use Rattle.bolt_cli.specs.Gathered.{Gathers};
 
-use std::alloc::{AllocError, Global};
+use bolt_format::{MemSink, Sink};
 
-/// A name as the line of a fault has it: each control character is escaped. So the line stays one line,
-/// and a terminal shows it as it is.
-pub(crate) fn shown_name(alloc: Global, name: &str) -> Result<String, AllocError>
-    ensures { IfOk result (λ shown. string_bytes shown ≡ shown_name name.now) }
+/// Adds a name as the line of a fault has it: each control character is escaped. So the line stays one
+/// line, and a terminal shows it as it is.
+pub(crate) fn add_name(name: &str, line: &mut MemSink)
+    ensures { Gathers ⟦<MemSink as Sink>⟧ line.old line.new (shown_name name.now) }
 {
-    shown_text(alloc, name, false)
+    add_text(name, false, line);
 }
 
-/// A text of several lines that has names: each other control character is escaped.
-pub(crate) fn shown_lines(alloc: Global, text: &str) -> Result<String, AllocError>
-    ensures { IfOk result (λ shown. string_bytes shown ≡ shown_lines text.now) }
+/// Adds a text of several lines that has names: each other control character is escaped.
+pub(crate) fn add_lines(text: &str, lines: &mut MemSink)
+    ensures { Gathers ⟦<MemSink as Sink>⟧ lines.old lines.new (shown_lines text.now) }
 {
-    shown_text(alloc, text, true)
+    add_text(text, true, lines);
 }
 
-/// A text without control characters, but for line feeds, if it has lines.
-fn shown_text(alloc: Global, text: &str, has_lines: bool) -> Result<String, AllocError>
-    ensures { IfOk result (λ shown. string_bytes shown ≡ shown_text has_lines text.now) }
+/// Adds a text without control characters, but for line feeds, if it has lines.
+fn add_text(text: &str, has_lines: bool, shown: &mut MemSink)
+    ensures { Gathers ⟦<MemSink as Sink>⟧ shown.old shown.new (shown_text has_lines text.now) }
 {
-    let mut shown = String::new(alloc);
     for c in text.chars() {
-        if c.is_control() && !(has_lines && c == '\n') {
-            push_escaped(c, &mut shown)?;
-        } else {
-            shown.push(c)?;
-        }
+        add_char(c, has_lines, shown);
     }
-    Ok(shown)
 }
 
-fn push_escaped(c: char, shown: &mut String) -> Result<(), AllocError>
-    ensures { OnOk result (string_bytes shown.new ≡ string_bytes shown.old
-        ++ flat_map encode_utf8 (escape_default c)) }
+fn add_char(c: char, has_lines: bool, shown: &mut MemSink)
+    ensures { Gathers ⟦<MemSink as Sink>⟧ shown.old shown.new
+        (flat_map encode_utf8 (shown_char has_lines c)) }
+{
+    if c.is_control() && !(has_lines && c == '\n') {
+        add_escaped(c, shown);
+    } else {
+        add_plain(c, shown);
+    }
+}
+
+fn add_escaped(c: char, shown: &mut MemSink)
+    ensures { Gathers ⟦<MemSink as Sink>⟧ shown.old shown.new
+        (flat_map encode_utf8 (escape_default c)) }
 {
     for escaped in c.escape_default() {
-        shown.push(escaped)?;
+        add_plain(escaped, shown);
     }
-    Ok(())
+}
+
+fn add_plain(c: char, shown: &mut MemSink)
+    ensures { Gathers ⟦<MemSink as Sink>⟧ shown.old shown.new (encode_utf8 c) }
+{
+    let mut room = [0; 4];
+    add(c.encode_utf8(&mut room).as_bytes(), shown);
+}
+
+/// Adds bytes.
+pub(crate) fn add(bytes: &[u8], text: &mut MemSink)
+    ensures { Gathers ⟦<MemSink as Sink>⟧ text.old text.new bytes.now }
+{
+    let _ = text.put(bytes);
 }

@@ -1,10 +1,12 @@
 //! What lies outside of the program: the files and the streams, and what they answer.
 ghost use Rattle.std.specs.Prelude.{◌≡◌, List, [], ◌∷◌, IfOk, map};
 ghost use Rattle.std.specs.Io.KnownBytes.{IsAtEnd};
-ghost use Rattle.std.specs.Result.{result_map_both};
-ghost use Rattle.bolt_cli.specs.Deeds.{Deed, Read, ReadFirst, ReadOn, Made, Ended, Opened, Closed, Dropped, Said, Adds, joined};
+ghost use Rattle.std.specs.{IoError.error_kind, Result.result_map_both};
+ghost use Rattle.bolt_cli.specs.SystemFaults.{create_fault, read_fault};
+ghost use Rattle.bolt_cli.specs.Deeds.{Deed, Read, ReadFirst, ReadOn, Made, Ended, Opened, Closed, Dropped, Said, Lacked, Adds, joined};
 
-use bolt_format::Sink;
+use bolt_format::{MemSink, Sink};
+use std::io::{self, ErrorKind};
 
 /// The files and the streams. Each method is one deed.
 ///
@@ -76,6 +78,12 @@ pub trait Outside {
     fn say(&mut self, pieces: &[&[u8]])
         ensures { Adds (done self.old) (done self.new)
             (Said (joined (map (λ piece. piece.now) pieces.now)) ∷ []) };
+
+    /// Prints this line to standard error, as far as it can, in place of a text for which there was no
+    /// memory: the sink that the text was put to has failed.
+    fn say_instead(&mut self, text: &MemSink, line: &[u8])
+        ensures { Adds (done self.old) (done self.new)
+            (Lacked (⟦<MemSink as Sink>⟧.failed text.now) line.now ∷ []) };
 }
 
 /// FILE as it was read.
@@ -127,6 +135,17 @@ pub enum ReadFault {
     Memory,
 }
 
+impl From<io::Error> for ReadFault {
+    ghost from_gives = { λ error fault. fault ≡ read_fault (error_kind error) };
+
+    fn from(error: io::Error) -> ReadFault {
+        match error.kind() {
+            ErrorKind::OutOfMemory => ReadFault::Memory,
+            _ => ReadFault::Refused,
+        }
+    }
+}
+
 /// Why OUT can't be made.
 #[derive(Clone, Copy, Debug)]
 pub enum CreateFault {
@@ -138,6 +157,18 @@ pub enum CreateFault {
     Memory,
 }
 
+impl From<io::Error> for CreateFault {
+    ghost from_gives = { λ error fault. fault ≡ create_fault (error_kind error) };
+
+    fn from(error: io::Error) -> CreateFault {
+        match error.kind() {
+            ErrorKind::AlreadyExists => CreateFault::Exists,
+            ErrorKind::OutOfMemory => CreateFault::Memory,
+            _ => CreateFault::Refused,
+        }
+    }
+}
+
 /// Not everything that OUT accepted is known to be on the disk.
 #[derive(Clone, Copy, Debug)]
 pub struct EndFault;
@@ -145,6 +176,12 @@ pub struct EndFault;
 /// There is no memory for what is printed.
 #[derive(Clone, Copy, Debug)]
 pub struct OpenFault;
+
+impl From<io::Error> for OpenFault {
+    fn from(_error: io::Error) -> OpenFault {
+        OpenFault
+    }
+}
 
 /// Why not everything was printed.
 #[derive(Clone, Copy, Debug)]

@@ -1,32 +1,25 @@
 //! A whole run of the program: from its words to its status. And a law: its deeds are in order.
-ghost use Rattle.std.specs.Prelude.{◌≡◌, ◌<◌, ◌++◌, ℕ, List, None, Some, codes, map, string_bytes};
-ghost use Rattle.bolt_commands.specs.{Answers.Ending, Failures.failure_line};
-ghost use Rattle.bolt_cli.specs.{Deeds.Deed, Deeds.joined, Orders.ForDeeds, Orders.ForEachRun};
-ghost use Rattle.bolt_cli.specs.Orders.{ClosesWhatIsOpened, CopiesBeforeOpening, EndsWhatIsMade, MakesAfterReading, MakesOnce, OpensOnce, ReadsFirst, SaysFailures, SaysLast, StopsAfterFailures, StopsWithoutReader, SucceedsOnlyWithoutFailures};
+ghost use Rattle.std.specs.Prelude.{◌≡◌, ℕ, List, None, Some, map, string_bytes};
+ghost use Rattle.bolt_commands.specs.Answers.{Ending};
+ghost use Rattle.bolt_cli.specs.Printed.{PrintsAnswers, ShowsAll};
+ghost use Rattle.bolt_cli.specs.{Deeds.Does, Orders.ForDeeds, Orders.ForEachRun, Orders.ForWords};
+ghost use Rattle.bolt_cli.specs.Orders.{ClosesWhatIsOpened, CopiesBeforeOpening, EndsWhatIsMade, FailsWithStatus1, MakesAfterReading, MakesAskedOut, MakesOnce, OpensOnce, ReadsFirst, RefusesBeforeReading, SaysFailures, SaysLast, StopsAfterFailures, StopsWithoutReader, SucceedsOnlyWithoutFailures};
 ghost use Rattle.bolt_job.specs.Jobs.{target_name};
-ghost use Rattle.bolt_cli.specs.Names.{shown_name};
-ghost use Rattle.bolt_cli.specs.Runs.{Closes, DoesAsked, DoesBuffered, WritesOut, Fails, FailsNaming, Goes, IsEnded, IsBufferedLine, IsRun, IsUnprinted, Makes, PrintsText, Reads, ReadsMetas, ReadsRest, Refuses, RefusesUsage, Shows, FailsUnended};
-ghost use Rattle.bolt_cli.specs.Runs.{buffered_of, unmade_line, unread_line};
-ghost use Rattle.bolt_commands.specs.declared.failure.Failure.TheVariants.{Memory};
-ghost use Rattle.bolt_cli.specs.Deeds.{Does};
+ghost use Rattle.bolt_cli.specs.Runs.{Closes, DoesAsked, DoesBuffered, FailsGathered, FailsUnended, Goes, IsBufferedLine, IsRun, IsUnprinted, Makes, PrintsBuffered, PrintsText, Reads, ReadsMetas, ReadsRest, Refuses, Shows, WritesOut};
+ghost use Rattle.bolt_cli.specs.Runs.{unmade_line, unread_line};
 
-use crate::names::{shown_lines, shown_name};
-use crate::outside::{CreateFault, EndFault, OutputFault, Outside, ReadFault, Source};
+use crate::faults::{
+    FAILED, NO_MEMORY, UNWRITTEN, end_with, fail, fail_lacking, fail_naming, refuse_usage,
+    refuse_word,
+};
+use crate::outside::{CreateFault, OutputFault, Outside, ReadFault, Source};
 use bolt_commands::run;
 use bolt_format::{META_LEN, MemSink, Sink, metas_end};
 use bolt_job::{Job, Refusal, read_words};
 use std::alloc::Global;
 
-/// The status of a command line that was refused.
-const REFUSED: u8 = 2;
-/// The status of a job that failed.
-const FAILED: u8 = 1;
 /// How often FILE is read if it is changed each time.
 const READINGS: u32 = 3;
-
-const NO_MEMORY: &[u8] = b"error: out of memory\n";
-
-const UNWRITTEN: &[u8] = b"error: write failed\n";
 
 /// Reads the words, of which the first is the program's name, does what they ask for, and returns the
 /// status (docs/COMMANDS.md).
@@ -48,25 +41,11 @@ pub fn refuse<O: Outside>(outside: &mut O, alloc: Global, refusal: &Refusal) -> 
 {
     match refusal {
         Refusal::Memory => fail(outside, &[NO_MEMORY]),
-        Refusal::Help(text) | Refusal::Version(text) => print(outside, text.as_bytes(), b"", 0),
+        Refusal::Help(text) | Refusal::Version(text) => {
+            print(outside, text.as_bytes(), &MemSink::new(alloc), 0)
+        }
         Refusal::Usage(text) => refuse_usage(outside, alloc, text.as_str()),
-        Refusal::Word(text) => {
-            outside.say(&[b"error: ", text.as_bytes(), b"\n"]);
-            REFUSED
-        }
-    }
-}
-
-/// Prints why the words are no line of a command. The text may have words that are names.
-fn refuse_usage<O: Outside>(outside: &mut O, alloc: Global, text: &str) -> u8
-    ensures { Does O.done outside.old outside.new result (RefusesUsage text.now) }
-{
-    match shown_lines(alloc, text) {
-        Ok(shown) => {
-            outside.say(&[shown.as_bytes()]);
-            REFUSED
-        }
-        Err(_) => fail(outside, &[NO_MEMORY]),
+        Refusal::Word(text) => refuse_word(outside, text),
     }
 }
 
@@ -138,7 +117,7 @@ fn read_file<O: Outside>(outside: &mut O, alloc: Global, job: &Job, left: u32) -
 
 fn report_unread<O: Outside>(outside: &mut O, alloc: Global, fault: ReadFault, name: &str) -> u8
     ensures { Does O.done outside.old outside.new result
-        (FailsNaming (unread_line name.now fault)) }
+        (FailsGathered (unread_line name.now fault)) }
 {
     match fault {
         ReadFault::Refused => fail_naming(outside, alloc, b"error: cannot read ", name),
@@ -159,7 +138,7 @@ fn do_job<O: Outside>(outside: &mut O, alloc: Global, job: &Job, source: &Source
 }
 
 /// Makes OUT with the permission bits of FILE, and does the job on it. The bits are set as it is made,
-/// so at no time can anybody open OUT who can't read FILE.
+/// so at no time has OUT a bit that FILE hasn't.
 fn make<O: Outside>(outside: &mut O, alloc: Global, job: &Job, source: &Source, name: &str) -> u8
     ensures { Does O.done outside.old outside.new result
         (Makes O.Target.Sink O.Output.Sink
@@ -173,7 +152,7 @@ fn make<O: Outside>(outside: &mut O, alloc: Global, job: &Job, source: &Source, 
 
 fn report_unmade<O: Outside>(outside: &mut O, alloc: Global, fault: CreateFault, name: &str) -> u8
     ensures { Does O.done outside.old outside.new result
-        (FailsNaming (unmade_line name.now fault)) }
+        (FailsGathered (unmade_line name.now fault)) }
 {
     match fault {
         CreateFault::Exists => fail(outside, &[b"error: output exists\n"]),
@@ -197,55 +176,37 @@ fn copy<O: Outside>(
     let mut out = MemSink::new(alloc);
     let mut err = MemSink::new(alloc);
     let status = run(alloc, job, file, &mut out, &mut err, &mut target);
-    let failures = out.failures();
-    let ended = outside.end(target);
-    print_buffered(
-        outside,
-        ended,
-        failures,
-        out.bytes(),
-        line_of(&err),
-        status.code,
-    )
-}
-
-/// Prints what was buffered, if OUT is on the disk and there was memory for it.
-fn print_buffered<O: Outside>(
-    outside: &mut O,
-    ended: Result<(), EndFault>,
-    failures: u64,
-    text: &[u8],
-    line: &[u8],
-    code: u8,
-) -> u8
-    ensures { DoesBuffered O.done outside.old outside.new result line.now code
-        (IsEnded O.Output.taken O.Output.failed ended (buffered_of text.now failures)) }
-{
-    match ended {
-        Ok(()) if failures > 0 => fail(outside, &[NO_MEMORY]),
-        Ok(()) => print(outside, text, line, code),
-        Err(_) => report_unended(outside, line),
+    match outside.end(target) {
+        Ok(()) => print_buffered(outside, &out, &err, status.code),
+        Err(_) => report_unended(outside, &err),
     }
 }
 
-/// The line that is buffered, or that of memory, if there was none for it.
-fn line_of(err: &MemSink) -> &[u8]
-    ensures sound { ⟦<MemSink as Sink>⟧.failed err.now ≡ 0
-        → ⟦<MemSink as Sink>⟧.taken err.now ≡ Some result.now }
-    ensures failed { 0 < ⟦<MemSink as Sink>⟧.failed err.now → result.now ≡ failure_line Memory }
+/// Prints what was buffered, if there was memory for it.
+fn print_buffered<O: Outside>(outside: &mut O, out: &MemSink, err: &MemSink, code: u8) -> u8
+    ensures { (text : List ℕ) → ⟦<MemSink as Sink>⟧.taken out.now ≡ Some text
+        → DoesBuffered O.done outside.old outside.new result
+        (⟦<MemSink as Sink>⟧.taken err.now) (⟦<MemSink as Sink>⟧.failed err.now) code
+        (PrintsBuffered O.Output.taken O.Output.failed
+        (⟦<MemSink as Sink>⟧.failed out.now) text) }
 {
-    if err.failures() > 0 {
-        NO_MEMORY
+    if out.failures() > 0 {
+        fail_lacking(outside, out)
     } else {
-        err.bytes()
+        print(outside, out.bytes(), err, code)
     }
 }
 
 /// Reports that OUT isn't on the disk, unless there is a line of a failure before that.
-fn report_unended<O: Outside>(outside: &mut O, line: &[u8]) -> u8
-    ensures { (ending : Ending) → IsBufferedLine ending line.now
+fn report_unended<O: Outside>(outside: &mut O, err: &MemSink) -> u8
+    ensures { (ending : Ending) → IsBufferedLine ending (⟦<MemSink as Sink>⟧.taken err.now)
+        (⟦<MemSink as Sink>⟧.failed err.now)
         → Does O.done outside.old outside.new result (FailsUnended ending) }
 {
+    if err.failures() > 0 {
+        return fail_lacking(outside, err);
+    }
+    let line = err.bytes();
     if line.is_empty() {
         fail(outside, &[UNWRITTEN])
     } else {
@@ -264,30 +225,31 @@ fn show<O: Outside>(outside: &mut O, alloc: Global, job: &Job, file: &[u8]) -> u
             let mut err = MemSink::new(alloc);
             let mut target = MemSink::new(alloc);
             let status = run(alloc, job, file, &mut output, &mut err, &mut target);
-            close(outside, output, line_of(&err), status.code)
+            close(outside, output, &err, status.code)
         }
         Err(_) => fail(outside, &[NO_MEMORY]),
     }
 }
 
-/// Prints a text, and then the line of a failure, if it isn't empty.
-fn print<O: Outside>(outside: &mut O, text: &[u8], line: &[u8], code: u8) -> u8
-    ensures { DoesBuffered O.done outside.old outside.new result line.now code
+/// Prints a text, and then what is buffered for standard error.
+fn print<O: Outside>(outside: &mut O, text: &[u8], err: &MemSink, code: u8) -> u8
+    ensures { DoesBuffered O.done outside.old outside.new result
+        (⟦<MemSink as Sink>⟧.taken err.now) (⟦<MemSink as Sink>⟧.failed err.now) code
         (PrintsText O.Output.taken O.Output.failed text.now) }
 {
     match outside.open() {
         Ok(mut output) => {
             let _ = output.put(text);
-            close(outside, output, line, code)
+            close(outside, output, err, code)
         }
         Err(_) => fail(outside, &[NO_MEMORY]),
     }
 }
 
-/// Closes standard output, or drops it if it has failed. Then prints the line of a failure, if it isn't
-/// empty.
-fn close<O: Outside>(outside: &mut O, output: O::Output, line: &[u8], code: u8) -> u8
-    ensures { DoesBuffered O.done outside.old outside.new result line.now code
+/// Closes standard output, or drops it if it has failed. Then prints what is buffered for standard error.
+fn close<O: Outside>(outside: &mut O, output: O::Output, err: &MemSink, code: u8) -> u8
+    ensures { DoesBuffered O.done outside.old outside.new result
+        (⟦<MemSink as Sink>⟧.taken err.now) (⟦<MemSink as Sink>⟧.failed err.now) code
         (Closes O.Output.taken O.Output.failed output) }
 {
     if output.failures() > 0 {
@@ -295,8 +257,7 @@ fn close<O: Outside>(outside: &mut O, output: O::Output, line: &[u8], code: u8) 
         return report_unprinted(outside, fault);
     }
     match outside.close(output) {
-        Ok(()) if line.is_empty() => code,
-        Ok(()) => fail(outside, &[line]),
+        Ok(()) => end_with(outside, err, code),
         Err(fault) => report_unprinted(outside, fault),
     }
 }
@@ -309,26 +270,6 @@ fn report_unprinted<O: Outside>(outside: &mut O, fault: OutputFault) -> u8
     match fault {
         OutputFault::ReaderLeft => FAILED,
         OutputFault::Failed => fail(outside, &[UNWRITTEN]),
-    }
-}
-
-/// Prints the line of a fault, and returns the status.
-fn fail<O: Outside>(outside: &mut O, pieces: &[&[u8]]) -> u8
-    ensures { Does O.done outside.old outside.new result
-        (Fails (joined (map (λ piece. piece.now) pieces.now))) }
-{
-    outside.say(pieces);
-    FAILED
-}
-
-/// Prints the line of a fault that names a file, and returns the status.
-fn fail_naming<O: Outside>(outside: &mut O, alloc: Global, words: &[u8], name: &str) -> u8
-    ensures { Does O.done outside.old outside.new result
-        (FailsNaming (words.now ++ (shown_name name.now ++ codes "\n"))) }
-{
-    match shown_name(alloc, name) {
-        Ok(shown) => fail(outside, &[words, shown.as_bytes(), b"\n"]),
-        Err(_) => fail(outside, &[NO_MEMORY]),
     }
 }
 
@@ -346,4 +287,14 @@ pub fn runs_are_in_order<O: Outside>()
     ensures says_failures { ForDeeds O.Target.Sink O.Output.Sink SaysFailures }
     ensures stops_without_reader { ForDeeds O.Target.Sink O.Output.Sink StopsWithoutReader }
     ensures succeeds { ForEachRun O.Target.Sink O.Output.Sink SucceedsOnlyWithoutFailures }
+    ensures fails_with_1 { ForEachRun O.Target.Sink O.Output.Sink FailsWithStatus1 }
+    ensures refuses_before_reading { ForWords O.Target.Sink O.Output.Sink RefusesBeforeReading }
+    ensures makes_asked_out { ForWords O.Target.Sink O.Output.Sink MakesAskedOut }
+{}
+
+/// Standard output has what the job answers for the bytes of FILE that were read, if it is closed well. Of
+/// a standard output that shows what it has taken.
+pub fn answers_are_printed<O: Outside>()
+    ensures { ShowsAll O.Target.Sink O.Output.Sink
+        → ForWords O.Target.Sink O.Output.Sink (PrintsAnswers O.Target.Sink O.Output.Sink) }
 {}

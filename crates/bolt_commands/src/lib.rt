@@ -43,7 +43,8 @@ use std::alloc::Global;
 /// How a run ended.
 #[derive(Clone, Copy)]
 pub struct Status {
-    /// 0 if the job is done; 1 if there was a fault, or if `check` found something.
+    /// 0 if the job is done; 1 if there was a fault, or if something was found or lost that is printed
+    /// as the result (docs/COMMANDS.md, "Exit status").
     pub code: u8,
 }
 

@@ -1,27 +1,31 @@
 -- The keys that there are are the newest revisions that aren't deletions.
-use Rattle.std.proofs.Common.{◌≡◌, ◌∙◌, ◌++◌, inl, inr, Bool, false, List, [], ◌∷◌, filter, map, not, Option, Some, None, Result, Ok, Err, refl, sym, ap, if◌then◌else◌}
+use Rattle.std.proofs.Common.{◌≡◌, ◌∙◌, ◌++◌, ◌↔◌, inl, inr, ℕ, Bool, false, List, [], ◌∷◌, filter, map, not, Option, Some, None, Result, Ok, Err, refl, sym, ap, subst, if◌then◌else◌}
 use Rattle.std.proofs.lemmas.Bool.{not-true}
 use Rattle.std.proofs.lemmas.Cmp.{nat_list_cmp_total, on_total}
 use Rattle.std.proofs.lemmas.List.{append_assoc, map-append}
 use Rattle.std.proofs.lemmas.List.Kept.{IsStrictlySortedBy-filter}
-use Rattle.std.proofs.lemmas.List.Sorted.{IsPermutation-map}
+use Rattle.std.proofs.lemmas.List.MinMax.{ranks_by}
+use Rattle.std.proofs.lemmas.List.Sorted.{Contains-permutation, IsPermutation-map, IsPermutation-sym}
 use Rattle.std.proofs.lemmas.Option.{same_Some}
 use Rattle.std.specs.List.{Contains, cons_option, dedup}
-use Rattle.std.specs.List.Sorted.{IsPermutation, IsSortedBy}
-use Rattle.std.specs.Cmp.{IsStrictWeakOrder}
-use Rattle.std.specs.Ordering.{is_lt}
+use Rattle.std.specs.List.Sorted.{IsPermutation, IsSorted, IsSortedBy}
+use Rattle.std.specs.Cmp.{IsStrictWeakOrder, IsTotalOrder}
+use Rattle.std.specs.Ordering.{eq_by_cmp, is_eq, is_lt, ordering_then}
 use Rattle.std.specs.Result.{is_err, is_ok}
 use Rattle.std.specs.Str.{bytes_eq}
+use Rattle.std.specs.declared.cmp.Ordering.{Ordering}
+use Rattle.std.specs.declared.cmp.Ordering.TheVariants.{Less}
 use Rattle.bolt_format.specs.Elements.{LeafElement}
 use Rattle.bolt_tree.proofs.{Filters.kept, Lists.contains_cases, Lists.contains_head, Lists.contains_none, Lists.contains_tail}
 use Rattle.bolt_tree.specs.{Entries.EntryView, Entries.entry_cmp, Entries.entry_view, Order.Rises}
 use Rattle.bolt_check.specs.Keys.{key_cmp}
-use Rattle.bolt_etcd.specs.{Current.AreCurrent, Current.is_there, Current.name_cmp, Current.newest_first_cmp, Current.place_cmp, Newest.newest, Revisions.RevisionView, Revisions.name_of, Revisions.record_under, Revisions.revision_in, Revisions.revision_of, Revisions.value_of}
+use Rattle.bolt_etcd.specs.{Current.AreCurrent, Current.IsCurrent, Current.is_there, Current.name_cmp, Current.newest_first_cmp, Current.place_cmp, Newest.newest, Revisions.RevisionView, Revisions.name_of, Revisions.record_under, Revisions.revision_in, Revisions.revision_of, Revisions.value_of}
 use Rattle.bolt_etcd.specs.{RevisionKeys.revision_key, ShownRevisions.shown_revision, Stores.revisions, Wire.◌>>=◌}
+use Rattle.bolt_etcd.specs.{NameOrder.sums_cmp, SumOrder.AreNewestBySum}
 use Rattle.bolt_etcd.specs.declared.revision.Revision.{Revision}
 use Rattle.bolt_etcd.proofs.{Filtered.filter_mapped, Filtered.kept_from, MappedLists.dedup_mapped, MappedLists.sorted_mapped}
-use Rattle.bolt_etcd.proofs.NewestOfNames.{kept_last, last_kept, names_rise, newest_ranks, text_ties}
-use Rattle.bolt_etcd.proofs.SortedOnce.{rises_from}
+use Rattle.bolt_etcd.proofs.NewestOfNames.{kept_last, last_kept, names_rise, text_ties}
+use Rattle.bolt_etcd.proofs.{NameOrders.sums_tie, NameOrders.sums_total, SortedOnce.rises_from, SortedOnce.sorted_in}
 
 -- ---- one more is pushed
 
@@ -89,8 +93,8 @@ revisions_rise (e ∷ es) rises = rise_step (revision_of (entry_view e)) e es re
 
 -- ---- what is kept, as it is shown
 
-abbrev pub code_newest_first : Revision → Revision → Bool
-code_newest_first a b = is_lt (newest_first_cmp (shown_revision a) (shown_revision b))
+abbrev pub code_by_name : Revision → Revision → Bool
+code_by_name a b = is_lt (name_cmp (shown_revision a) (shown_revision b))
 
 abbrev pub code_same_name : Revision → Revision → Bool
 code_same_name a b = bytes_eq (name_of (shown_revision a)) (name_of (shown_revision b))
@@ -98,34 +102,65 @@ code_same_name a b = bytes_eq (name_of (shown_revision a)) (name_of (shown_revis
 abbrev pub view_same_name : RevisionView → RevisionView → Bool
 view_same_name a b = bytes_eq (name_of a) (name_of b)
 
-pub code_ranks : IsStrictWeakOrder code_newest_first
-code_ranks = newest_ranks (λ r. name_of (shown_revision r)) (λ r. (shown_revision r).place) key_cmp nat_list_cmp_total text_ties
+names_total : IsTotalOrder name_cmp
+names_total = on_total name_of nat_list_cmp_total
+
+pub code_name_ranks : IsStrictWeakOrder code_by_name
+code_name_ranks = ranks_by names_total shown_revision
 
 abbrev pub code_is_there : Revision → Bool
 code_is_there r = is_there (shown_revision r)
 
--- of revisions sorted by names, the newest first, the first of each name that isn't a deletion
-pub first_are_current : (rs sorted : List RevisionView) → Rises place_cmp rs → IsPermutation rs sorted → IsSortedBy (λ a b. is_lt (newest_first_cmp a b)) sorted
-    → AreCurrent rs (filter is_there (dedup view_same_name sorted))
-unfolding newest
-first_are_current rs sorted rises moved up = record {
-  rises = rises_from (on_total name_of nat_list_cmp_total) _ (IsStrictlySortedBy-filter name_cmp is_there _ (names_rise name_of (λ r. r.place) key_cmp nat_list_cmp_total text_ties sorted up));
-  exact = λ r. (
+-- of revisions sorted by names in an order of them, the newest first, the first of each name that isn't a deletion
+module _ (cmp : List ℕ → List ℕ → Ordering) (total : IsTotalOrder cmp) (ties : (a b : List ℕ) → bytes_eq a b ≡ is_eq (cmp a b)) (rs sorted : List RevisionView)
+    (rises : Rises place_cmp rs) (moved : IsPermutation rs sorted) (up : IsSortedBy (λ a b. is_lt (ordering_then (cmp (name_of a) (name_of b)) (place_cmp b a))) sorted) where
+  abbrev by : RevisionView → RevisionView → Ordering
+  by a b = cmp (name_of a) (name_of b)
+
+  abbrev first_there : List RevisionView
+  first_there = filter is_there (dedup view_same_name sorted)
+
+  first_rise : Rises by first_there
+  first_rise = rises_from (on_total name_of total) _ (IsStrictlySortedBy-filter by is_there _ (names_rise name_of (λ r. r.place) cmp total ties sorted up))
+
+  first_exact : (r : RevisionView) → Contains first_there r ↔ IsCurrent rs r
+  unfolding newest
+  first_exact r = (
     λ has.
         let (kept_one, live) = kept_from is_there _ r has in
-        (kept_last name_of (λ r. r.place) key_cmp nat_list_cmp_total text_ties _ _ rises moved up r kept_one, not-true r.key.deleted live),
+        (kept_last name_of (λ r. r.place) cmp total ties _ _ rises moved up r kept_one, not-true r.key.deleted live),
     λ (last, live).
-        kept is_there _ r (last_kept name_of (λ r. r.place) key_cmp nat_list_cmp_total text_ties _ _ rises moved up r last) (ap not live),
-  );
+        kept is_there _ r (last_kept name_of (λ r. r.place) cmp total ties _ _ rises moved up r last) (ap not live),
+  )
+
+  differ : (a b : RevisionView) → by a b ≡ Less → eq_by_cmp name_cmp a b ≡ false
+  differ a b less = sym (text_ties (name_of a) (name_of b)) ∙ ties (name_of a) (name_of b) ∙ ap is_eq less
+
+  -- and these by name
+  pub sorted_are_current : (current : List RevisionView) → IsPermutation first_there current → IsSorted name_cmp current → AreCurrent rs current
+  sorted_are_current current same by_name = record {
+    rises = sorted_in names_total by first_there current (λ a b has also less. differ a b less) first_rise same by_name;
+    exact = λ r. (
+      λ has. (first_exact r).0 (Contains-permutation current first_there r (IsPermutation-sym first_there current same) has),
+      λ is. Contains-permutation first_there current r same ((first_exact r).1 is),
+    );
+  }
+
+pub first_are_current : (rs sorted : List RevisionView) → Rises place_cmp rs → IsPermutation rs sorted → IsSortedBy (λ a b. is_lt (newest_first_cmp a b)) sorted
+    → AreCurrent rs (filter is_there (dedup view_same_name sorted))
+first_are_current rs sorted rises moved up = record {
+  rises = first_rise key_cmp nat_list_cmp_total text_ties rs sorted rises moved up;
+  exact = first_exact key_cmp nat_list_cmp_total text_ties rs sorted rises moved up;
 }
 
-module _ (old sorted left new : List Revision) (moved : IsPermutation old sorted) (up : IsSortedBy code_newest_first sorted)
-    (once : left ≡ dedup code_same_name sorted) (there : new ≡ filter code_is_there left) (rises : Rises place_cmp (map shown_revision old)) where
-  shown : map shown_revision new ≡ filter is_there (dedup view_same_name (map shown_revision sorted))
-  shown = ap (map shown_revision) there ∙ filter_mapped shown_revision is_there left ∙ ap (filter is_there) (ap (map shown_revision) once ∙ dedup_mapped shown_revision view_same_name sorted)
-
-  moved_shown : IsPermutation (map shown_revision old) (map shown_revision sorted)
-  moved_shown = IsPermutation-map shown_revision old sorted moved
+module _ (old sorted left there new : List Revision) (are : AreNewestBySum (map shown_revision old) (map shown_revision sorted))
+    (once : left ≡ dedup code_same_name sorted) (live : there ≡ filter code_is_there left) (moved : IsPermutation there new) (by_name : IsSortedBy code_by_name new)
+    (rises : Rises place_cmp (map shown_revision old)) where
+  shown : map shown_revision there ≡ filter is_there (dedup view_same_name (map shown_revision sorted))
+  shown = ap (map shown_revision) live ∙ filter_mapped shown_revision is_there left ∙ ap (filter is_there) (ap (map shown_revision) once ∙ dedup_mapped shown_revision view_same_name sorted)
 
   pub are_current : AreCurrent (map shown_revision old) (map shown_revision new)
-  are_current = rw shown (first_are_current (map shown_revision old) (map shown_revision sorted) rises moved_shown (sorted_mapped shown_revision (λ a b. is_lt (newest_first_cmp a b)) sorted up))
+  are_current =
+      sorted_are_current sums_cmp sums_total sums_tie (map shown_revision old) (map shown_revision sorted) rises are.same are.rises (map shown_revision new)
+      (subst (λ (rs : List RevisionView). IsPermutation rs (map shown_revision new)) shown (IsPermutation-map shown_revision there new moved))
+      (sorted_mapped shown_revision (λ a b. is_lt (name_cmp a b)) new by_name)

@@ -1,12 +1,12 @@
 -- What is missing of one name is what its revisions alone say, wherever they stand among those of other names.
 use Rattle.std.proofs.Common.{◌≡◌, ◌∙◌, ◌&&◌, ◌||◌, ℕ, Bool, true, false, List, [], ◌∷◌, cond, filter, not, Option, Some, None, refl, sym, ap}
 use Rattle.std.proofs.lemmas.Bool.{cond-false, cond-true}
-use Rattle.std.proofs.lemmas.Cmp.{nat_list_cmp_total, on_total, tied_itself}
+use Rattle.std.proofs.lemmas.Cmp.{nat_list_cmp_total, tied_itself}
 use Rattle.std.proofs.lemmas.List.Sorted.{Contains-permutation, IsPermutation-sym}
-use Rattle.std.proofs.lemmas.Map.Text.{is_eq-slice_cmp}
 use Rattle.std.specs.Cmp.{IsTotalOrder}
 use Rattle.std.specs.Cmp.Lexicographic.{same_text}
 use Rattle.std.specs.List.{Contains}
+use Rattle.std.specs.List.Sorted.{IsPermutation}
 use Rattle.std.specs.Ordering.{is_eq, ordering_reverse, ordering_then}
 use Rattle.std.specs.Str.{bytes_eq}
 use Rattle.std.specs.declared.cmp.Ordering.{Ordering}
@@ -14,15 +14,13 @@ use Rattle.std.specs.declared.cmp.Ordering.TheVariants.{Equal, Greater, Less}
 use Rattle.bolt_check.specs.Keys.{Key, key_cmp}
 use Rattle.bolt_tree.proofs.{Filters.filter_none, Filters.kept, Lists.contains_head, Lists.rises_once}
 use Rattle.bolt_tree.specs.Order.{IsBelow, Rises}
-use Rattle.bolt_etcd.specs.{Current.name_cmp, Current.place_cmp, Follows.follows, MissingNumbers.is_above, Newest.is_named}
+use Rattle.bolt_etcd.specs.{Current.place_cmp, Follows.follows, MissingNumbers.is_above, NameOrder.sums_cmp, Newest.is_named, SumOrder.AreBySum}
 use Rattle.bolt_etcd.specs.{Revisions.RevisionView, Revisions.name_of}
-use Rattle.bolt_etcd.specs.NameFaults.{AreByName, NameFaultView, by_name_cmp, fault_of, is_newest, lacks_lease, lacks_one_before}
+use Rattle.bolt_etcd.specs.NameFaults.{AreByName, NameFaultView, fault_of, is_newest, lacks_lease, lacks_one_before}
 use Rattle.bolt_etcd.specs.NameFaults.{name_faults}
-use Rattle.bolt_etcd.proofs.{Filtered.filter_rises, Filtered.kept_from, SortedOnce.by_name_rises, SortedOnce.by_name_total, Rising.rises_as}
+use Rattle.bolt_etcd.proofs.{Filtered.filter_rises, Filtered.kept_from, NameOrders.sums_tie, NameOrders.sums_total, NewestOfNames.text_ties}
+use Rattle.bolt_etcd.proofs.{SortedOnce.by_name_rises, SortedOnce.named_rises, SortedOnce.named_total, Rising.rises_as}
 use Rattle.bolt_etcd.proofs.{StoreLemmas.itself}
-
-names_total : IsTotalOrder name_cmp
-names_total = on_total name_of nat_list_cmp_total
 
 -- ---- revisions of one name stand together
 
@@ -31,149 +29,163 @@ both_ways Less p q first second = cc
 both_ways Equal p q first second = refl
 both_ways Greater p q first second = cc
 
-between : (a b c : RevisionView) → by_name_cmp a b ≡ Less → by_name_cmp b c ≡ Less → name_of c ≡ name_of a → name_of b ≡ name_of a
-between a b c first second same =
-    let back : name_cmp b c ≡ ordering_reverse (name_cmp a b) = ap (key_cmp (name_of b)) same ∙ names_total.antisymm b a in
-    let alike = sym (is_eq-slice_cmp (name_of a) (name_of b)) ∙ both_ways (name_cmp a b) _ _ first (rw back at second) in
-    sym (same_text (name_of a) (name_of b) (sym alike))
+module _ (cmp : Key → Key → Ordering) (total : IsTotalOrder cmp) (ties : (a b : Key) → bytes_eq a b ≡ is_eq (cmp a b)) where
+  abbrev by : RevisionView → RevisionView → Ordering
+  by a b = cmp (name_of a) (name_of b)
 
-module _ (name : Key) where
-  abbrev named : List RevisionView → List RevisionView
-  named rs = filter (is_named name) rs
+  abbrev ordered : RevisionView → RevisionView → Ordering
+  ordered a b = ordering_then (by a b) (place_cmp a b)
 
-  own : (r : RevisionView) → is_named name r ≡ true → name_of r ≡ name
-  own r is = same_text (name_of r) name (sym is)
+  between : (a b c : RevisionView) → ordered a b ≡ Less → ordered b c ≡ Less → name_of c ≡ name_of a → name_of b ≡ name_of a
+  between a b c first second same =
+      let back : by b c ≡ ordering_reverse (by a b) = ap (cmp (name_of b)) same ∙ total.antisymm (name_of b) (name_of a) in
+      let alike = ties (name_of a) (name_of b) ∙ both_ways (by a b) _ _ first (rw back at second) in
+      sym (same_text (name_of a) (name_of b) (sym alike))
 
-  none_later : (a b : RevisionView) (rs : List RevisionView) → is_named name a ≡ true → is_named name b ≡ false → by_name_cmp a b ≡ Less
-      → IsBelow by_name_cmp b rs → named rs ≡ []
-  none_later a b rs is other less below = filter_none (is_named name) rs (λ r has. by r (is_named name r) refl (below r has))
-    where
-      by : (r : RevisionView) (t : Bool) → is_named name r ≡ t → by_name_cmp b r ≡ Less → is_named name r ≡ false
-      by r true also up =
-          let same = between a b r less up (own r also ∙ sym (own a is)) in
-          let here : is_named name b ≡ true = rw (same ∙ own a is) (itself name) in
-          cc
-      by r false e up = e
+  module _ (name : Key) where
+    abbrev named : List RevisionView → List RevisionView
+    named rs = filter (is_named name) rs
 
-  -- ---- the faults of a name
+    own : (r : RevisionView) → is_named name r ≡ true → name_of r ≡ name
+    own r is = same_text (name_of r) name (sym is)
 
-  abbrev is_of_name : NameFaultView → Bool
-  is_of_name f = is_named name f.revision
+    none_later : (a b : RevisionView) (rs : List RevisionView) → is_named name a ≡ true → is_named name b ≡ false → ordered a b ≡ Less
+        → IsBelow ordered b rs → named rs ≡ []
+    none_later a b rs is other less below = filter_none (is_named name) rs (λ r has. other_name r (is_named name r) refl (below r has))
+      where
+        other_name : (r : RevisionView) (t : Bool) → is_named name r ≡ t → ordered b r ≡ Less → is_named name r ≡ false
+        other_name r true also up =
+            let same = between a b r less up (own r also ∙ sym (own a is)) in
+            let here : is_named name b ≡ true = rw (same ∙ own a is) (itself name) in
+            cc
+        other_name r false e up = e
 
-  abbrev BeforeAll : Option RevisionView → List RevisionView → Type 0
-  BeforeAll None rs = Unit {0}
-  BeforeAll (Some before) rs = IsBelow by_name_cmp before rs
+    -- ---- the faults of a name
 
-  newest_step : (r x : RevisionView) (rs : List RevisionView) (b : Bool) → is_named name x ≡ b → is_named name r ≡ true → by_name_cmp r x ≡ Less
-      → IsBelow by_name_cmp x rs
-      → is_newest r (cond b (x ∷ named rs) (named rs)) ≡ not b
-  newest_step r x rs true is own_r less below = ap not (ap (bytes_eq (name_of x)) (own r own_r) ∙ is)
-  newest_step r x rs false other own_r less below = ap (is_newest r) (none_later r x rs own_r other less below)
+    abbrev is_of_name : NameFaultView → Bool
+    is_of_name f = is_named name f.revision
 
-  newest_same : (r : RevisionView) (rs : List RevisionView) → is_named name r ≡ true → IsBelow by_name_cmp r rs → Rises by_name_cmp rs
-      → is_newest r (named rs) ≡ is_newest r rs
-  newest_same r [] is below rises = refl
-  newest_same r (x ∷ rs) is below rises =
-      newest_step r x rs (is_named name x) refl is (below x (contains_head x rs)) rises.0
-      ∙ sym (ap not (ap (bytes_eq (name_of x)) (own r is)))
+    abbrev BeforeAll : Option RevisionView → List RevisionView → Type 0
+    BeforeAll None rs = Unit {0}
+    BeforeAll (Some before) rs = IsBelow ordered before rs
 
-  module _ (compacted : Option ℕ) (granted : ℕ → Bool) where
-    abbrev faults : Option RevisionView → List RevisionView → List NameFaultView
-    faults before rs = name_faults compacted granted before rs
+    newest_step : (r x : RevisionView) (rs : List RevisionView) (b : Bool) → is_named name x ≡ b → is_named name r ≡ true → ordered r x ≡ Less
+        → IsBelow ordered x rs
+        → is_newest r (cond b (x ∷ named rs) (named rs)) ≡ not b
+    newest_step r x rs true is own_r less below = ap not (ap (bytes_eq (name_of x)) (own r own_r) ∙ is)
+    newest_step r x rs false other own_r less below = ap (is_newest r) (none_later r x rs own_r other less below)
 
-    -- a fault, if anything is missing, and then others
-    abbrev listed : Bool → NameFaultView → List NameFaultView → List NameFaultView
-    listed b f later = cond b (f ∷ later) later
+    newest_same : (r : RevisionView) (rs : List RevisionView) → is_named name r ≡ true → IsBelow ordered r rs → Rises ordered rs
+        → is_newest r (named rs) ≡ is_newest r rs
+    newest_same r [] is below rises = refl
+    newest_same r (x ∷ rs) is below rises =
+        newest_step r x rs (is_named name x) refl is (below x (contains_head x rs)) rises.0
+        ∙ sym (ap not (ap (bytes_eq (name_of x)) (own r is)))
 
-    fault_same : (before : Option RevisionView) (r : RevisionView) (rs : List RevisionView) → is_named name r ≡ true → IsBelow by_name_cmp r rs
-        → Rises by_name_cmp rs → fault_of compacted granted before r rs ≡ fault_of compacted granted before r (named rs)
-    fault_same before r rs is below rises =
-        ap (λ (b : Bool). record { revision = r; one_before = lacks_one_before compacted before r; lease = b && lacks_lease granted r })
-        (sym (newest_same r rs is below rises))
+    module _ (compacted : Option ℕ) (granted : ℕ → Bool) where
+      abbrev faults : Option RevisionView → List RevisionView → List NameFaultView
+      faults before rs = name_faults compacted granted before rs
 
-    -- one of another name before them is as none
-    lacks_same : (c : Option ℕ) (a r : RevisionView) → is_named (name_of r) a ≡ false → lacks_one_before c (Some a) r ≡ lacks_one_before c None r
-    lacks_same None a r other = refl
-    lacks_same (Some at) a r other = ap (λ (x : Option RevisionView). is_above at r && not (follows x r)) (cond-false _ (Some a) None other)
+      -- a fault, if anything is missing, and then others
+      abbrev listed : Bool → NameFaultView → List NameFaultView → List NameFaultView
+      listed b f later = cond b (f ∷ later) later
 
-    not_own : (a : RevisionView) (rs : List RevisionView) → is_named name a ≡ false → ((r : RevisionView) → Contains rs r → is_named name r ≡ true)
-        → faults (Some a) rs ≡ faults None rs
-    not_own a [] other are = refl
-    not_own a (r ∷ rs) other are =
-        let apart = ap (bytes_eq (name_of a)) (own r (are r (contains_head r rs))) ∙ other in
-        let lease = is_newest r rs && lacks_lease granted r in
-        ap (λ (b : Bool). listed (b || lease) (record { revision = r; one_before = b; lease = lease }) (faults (Some r) rs))
-        (lacks_same compacted a r apart)
+      fault_same : (before : Option RevisionView) (r : RevisionView) (rs : List RevisionView) → is_named name r ≡ true → IsBelow ordered r rs
+          → Rises ordered rs → fault_of compacted granted before r rs ≡ fault_of compacted granted before r (named rs)
+      fault_same before r rs is below rises =
+          ap (λ (b : Bool). record { revision = r; one_before = lacks_one_before compacted before r; lease = b && lacks_lease granted r })
+          (sym (newest_same r rs is below rises))
 
-    filter_own : (b : Bool) (f : NameFaultView) (later : List NameFaultView) → is_of_name f ≡ true
-        → filter is_of_name (listed b f later) ≡ listed b f (filter is_of_name later)
-    filter_own true f later is = cond-true (is_of_name f) _ _ is
-    filter_own false f later is = refl
+      -- one of another name before them is as none
+      lacks_same : (c : Option ℕ) (a r : RevisionView) → is_named (name_of r) a ≡ false → lacks_one_before c (Some a) r ≡ lacks_one_before c None r
+      lacks_same None a r other = refl
+      lacks_same (Some at) a r other = ap (λ (x : Option RevisionView). is_above at r && not (follows x r)) (cond-false _ (Some a) None other)
 
-    filter_other : (b : Bool) (f : NameFaultView) (later : List NameFaultView) → is_of_name f ≡ false
-        → filter is_of_name (listed b f later) ≡ filter is_of_name later
-    filter_other true f later other = cond-false (is_of_name f) _ _ other
-    filter_other false f later other = refl
+      not_own : (a : RevisionView) (rs : List RevisionView) → is_named name a ≡ false → ((r : RevisionView) → Contains rs r → is_named name r ≡ true)
+          → faults (Some a) rs ≡ faults None rs
+      not_own a [] other are = refl
+      not_own a (r ∷ rs) other are =
+          let apart = ap (bytes_eq (name_of a)) (own r (are r (contains_head r rs))) ∙ other in
+          let lease = is_newest r rs && lacks_lease granted r in
+          ap (λ (b : Bool). listed (b || lease) (record { revision = r; one_before = b; lease = lease }) (faults (Some r) rs))
+          (lacks_same compacted a r apart)
 
-    are_own : (rs : List RevisionView) (r : RevisionView) → Contains (named rs) r → is_named name r ≡ true
-    are_own rs r has = (kept_from (is_named name) rs r has).1
+      filter_own : (b : Bool) (f : NameFaultView) (later : List NameFaultView) → is_of_name f ≡ true
+          → filter is_of_name (listed b f later) ≡ listed b f (filter is_of_name later)
+      filter_own true f later is = cond-true (is_of_name f) _ _ is
+      filter_own false f later is = refl
 
-    -- after a revision of another name there are none of this name, or none was before it
-    skip_own : (before r : RevisionView) (rs : List RevisionView) (b : Bool) → is_named name before ≡ b → is_named name r ≡ false
-        → by_name_cmp before r ≡ Less → IsBelow by_name_cmp r rs → faults (Some r) (named rs) ≡ faults (Some before) (named rs)
-    skip_own before r rs true is other less below =
-        let none = none_later before r rs is other less below in
-        ap (faults (Some r)) none ∙ sym (ap (faults (Some before)) none)
-    skip_own before r rs false is other less below = not_own r (named rs) other (are_own rs) ∙ sym (not_own before (named rs) is (are_own rs))
+      filter_other : (b : Bool) (f : NameFaultView) (later : List NameFaultView) → is_of_name f ≡ false
+          → filter is_of_name (listed b f later) ≡ filter is_of_name later
+      filter_other true f later other = cond-false (is_of_name f) _ _ other
+      filter_other false f later other = refl
 
-    skip : (before : Option RevisionView) (r : RevisionView) (rs : List RevisionView) → is_named name r ≡ false → BeforeAll before (r ∷ rs)
-        → IsBelow by_name_cmp r rs → faults (Some r) (named rs) ≡ faults before (named rs)
-    skip None r rs other all below = not_own r (named rs) other (are_own rs)
-    skip (Some before) r rs other all below = skip_own before r rs (is_named name before) refl other (all r (contains_head r rs)) below
+      are_own : (rs : List RevisionView) (r : RevisionView) → Contains (named rs) r → is_named name r ≡ true
+      are_own rs r has = (kept_from (is_named name) rs r has).1
 
-    name_step : (before : Option RevisionView) (r : RevisionView) (rs : List RevisionView) (b : Bool) → is_named name r ≡ b
-        → BeforeAll before (r ∷ rs) → Rises by_name_cmp (r ∷ rs)
-        → filter is_of_name (faults (Some r) rs) ≡ faults (Some r) (named rs)
-        → filter is_of_name (faults before (r ∷ rs)) ≡ faults before (cond b (r ∷ named rs) (named rs))
-    name_step before r rs true is all rises later =
-        let f = fault_of compacted granted before r rs in
-        filter_own (f.one_before || f.lease) f (faults (Some r) rs) is
-        ∙ ap (listed (f.one_before || f.lease) f) later
-        ∙ ap (λ (x : NameFaultView). listed (x.one_before || x.lease) x (faults (Some r) (named rs))) (fault_same before r rs is rises.0 rises.1)
-    name_step before r rs false other all rises later =
-        let f = fault_of compacted granted before r rs in
-        filter_other (f.one_before || f.lease) f (faults (Some r) rs) other
-        ∙ later
-        ∙ skip before r rs other all rises.0
+      -- after a revision of another name there are none of this name, or none was before it
+      skip_own : (before r : RevisionView) (rs : List RevisionView) (b : Bool) → is_named name before ≡ b → is_named name r ≡ false
+          → ordered before r ≡ Less → IsBelow ordered r rs → faults (Some r) (named rs) ≡ faults (Some before) (named rs)
+      skip_own before r rs true is other less below =
+          let none = none_later before r rs is other less below in
+          ap (faults (Some r)) none ∙ sym (ap (faults (Some before)) none)
+      skip_own before r rs false is other less below = not_own r (named rs) other (are_own rs) ∙ sym (not_own before (named rs) is (are_own rs))
 
-    of_name : (before : Option RevisionView) (rs : List RevisionView) → BeforeAll before rs → Rises by_name_cmp rs
-        → filter is_of_name (faults before rs) ≡ faults before (named rs)
-    of_name before [] all rises = refl
-    of_name before (r ∷ rs) all rises = name_step before r rs (is_named name r) refl all rises (of_name (Some r) rs rises.0 rises.1)
+      skip : (before : Option RevisionView) (r : RevisionView) (rs : List RevisionView) → is_named name r ≡ false → BeforeAll before (r ∷ rs)
+          → IsBelow ordered r rs → faults (Some r) (named rs) ≡ faults before (named rs)
+      skip None r rs other all below = not_own r (named rs) other (are_own rs)
+      skip (Some before) r rs other all below = skip_own before r rs (is_named name before) refl other (all r (contains_head r rs)) below
 
-  -- ---- in the order of their names they are in the order of their keys
+      name_step : (before : Option RevisionView) (r : RevisionView) (rs : List RevisionView) (b : Bool) → is_named name r ≡ b
+          → BeforeAll before (r ∷ rs) → Rises ordered (r ∷ rs)
+          → filter is_of_name (faults (Some r) rs) ≡ faults (Some r) (named rs)
+          → filter is_of_name (faults before (r ∷ rs)) ≡ faults before (cond b (r ∷ named rs) (named rs))
+      name_step before r rs true is all rises later =
+          let f = fault_of compacted granted before r rs in
+          filter_own (f.one_before || f.lease) f (faults (Some r) rs) is
+          ∙ ap (listed (f.one_before || f.lease) f) later
+          ∙ ap (λ (x : NameFaultView). listed (x.one_before || x.lease) x (faults (Some r) (named rs))) (fault_same before r rs is rises.0 rises.1)
+      name_step before r rs false other all rises later =
+          let f = fault_of compacted granted before r rs in
+          filter_other (f.one_before || f.lease) f (faults (Some r) rs) other
+          ∙ later
+          ∙ skip before r rs other all rises.0
 
-  kept_named : (rs sorted : List RevisionView) → AreByName rs sorted → (r : RevisionView) → Contains (named sorted) r → Contains (named rs) r
-  kept_named rs sorted is r has =
-      let (there, passes) = kept_from (is_named name) sorted r has in
-      kept (is_named name) rs r (Contains-permutation sorted rs r (IsPermutation-sym rs sorted is.same) there) passes
+      of_name : (before : Option RevisionView) (rs : List RevisionView) → BeforeAll before rs → Rises ordered rs
+          → filter is_of_name (faults before rs) ≡ faults before (named rs)
+      of_name before [] all rises = refl
+      of_name before (r ∷ rs) all rises = name_step before r rs (is_named name r) refl all rises (of_name (Some r) rs rises.0 rises.1)
 
-  sorted_named : (rs sorted : List RevisionView) → AreByName rs sorted → (r : RevisionView) → Contains (named rs) r → Contains (named sorted) r
-  sorted_named rs sorted is r has =
-      let (there, passes) = kept_from (is_named name) rs r has in
-      kept (is_named name) sorted r (Contains-permutation rs sorted r is.same there) passes
+    -- ---- in the order of their names they are in the order of their keys
 
-  by_place : (rs : List RevisionView) → ((r : RevisionView) → Contains rs r → is_named name r ≡ true) → Rises place_cmp rs → Rises by_name_cmp rs
-  by_place rs are = rises_as place_cmp by_name_cmp rs (λ a b has also less.
-      let tied : name_cmp a b ≡ Equal = rw (own a (are a has), own b (are b also)) (tied_itself nat_list_cmp_total name) in
-      rw (tied, less) refl)
+    kept_named : (rs sorted : List RevisionView) → IsPermutation rs sorted → (r : RevisionView) → Contains (named sorted) r → Contains (named rs) r
+    kept_named rs sorted same r has =
+        let (there, passes) = kept_from (is_named name) sorted r has in
+        kept (is_named name) rs r (Contains-permutation sorted rs r (IsPermutation-sym rs sorted same) there) passes
 
-  same_named : (rs sorted : List RevisionView) → Rises place_cmp rs → AreByName rs sorted → named sorted ≡ named rs
-  same_named rs sorted rises is =
-      rises_once by_name_total (named sorted) (named rs)
-      (filter_rises by_name_cmp (is_named name) sorted (by_name_rises rs sorted rises is))
-      (by_place (named rs) (λ r has. (kept_from (is_named name) rs r has).1) (filter_rises place_cmp (is_named name) rs rises))
-      (kept_named rs sorted is) (sorted_named rs sorted is)
+    sorted_named : (rs sorted : List RevisionView) → IsPermutation rs sorted → (r : RevisionView) → Contains (named rs) r → Contains (named sorted) r
+    sorted_named rs sorted same r has =
+        let (there, passes) = kept_from (is_named name) rs r has in
+        kept (is_named name) sorted r (Contains-permutation rs sorted r same there) passes
+
+    by_place : (rs : List RevisionView) → ((r : RevisionView) → Contains rs r → is_named name r ≡ true) → Rises place_cmp rs → Rises ordered rs
+    by_place rs are = rises_as place_cmp ordered rs (λ a b has also less.
+        let tied : by a b ≡ Equal = rw (own a (are a has), own b (are b also)) (tied_itself total name) in
+        rw (tied, less) refl)
+
+    same_named : (rs sorted : List RevisionView) → Rises place_cmp rs → IsPermutation rs sorted → Rises ordered sorted → named sorted ≡ named rs
+    same_named rs sorted rises same up =
+        rises_once (named_total total) (named sorted) (named rs)
+        (filter_rises ordered (is_named name) sorted up)
+        (by_place (named rs) (λ r has. (kept_from (is_named name) rs r has).1) (filter_rises place_cmp (is_named name) rs rises))
+        (kept_named rs sorted same) (sorted_named rs sorted same)
+
+    -- the faults of a name, of revisions among which those of a name stand together
+    pub faults_of : (compacted : Option ℕ) (granted : ℕ → Bool) (rs sorted : List RevisionView) → Rises place_cmp rs → IsPermutation rs sorted → Rises ordered sorted
+        → filter is_of_name (name_faults compacted granted None sorted) ≡ name_faults compacted granted None (named rs)
+    faults_of compacted granted rs sorted rises same up =
+        of_name compacted granted None sorted tt up
+        ∙ ap (name_faults compacted granted None) (same_named rs sorted rises same up)
 
 -- those of each name are all
 pub none_of_any : (fs : List NameFaultView) → ((name : Key) → filter (λ (f : NameFaultView). is_named name f.revision) fs ≡ []) → fs ≡ []
@@ -189,5 +201,14 @@ pub faults_named : (compacted : Option ℕ) (granted : ℕ → Bool) (rs sorted 
     → filter (λ (f : NameFaultView). is_named name f.revision) (name_faults compacted granted None sorted)
     ≡ name_faults compacted granted None (filter (is_named name) rs)
 faults_named compacted granted rs sorted name rises is =
-    of_name name compacted granted None sorted tt (by_name_rises rs sorted rises is)
-    ∙ ap (name_faults compacted granted None) (same_named name rs sorted rises is)
+    faults_of key_cmp nat_list_cmp_total text_ties name compacted granted rs sorted rises is.same (by_name_rises rs sorted rises is)
+
+-- if none is found in the order of the sums of names, then none is by name
+pub none_by_name : (compacted : Option ℕ) (granted : ℕ → Bool) (rs by_sum by_name : List RevisionView) → Rises place_cmp rs → AreBySum rs by_sum
+    → AreByName rs by_name → name_faults compacted granted None by_sum ≡ [] → name_faults compacted granted None by_name ≡ []
+none_by_name compacted granted rs by_sum by_name rises sums names none =
+    none_of_any (name_faults compacted granted None by_name) (λ name.
+    faults_named compacted granted rs by_name name rises names
+    ∙ sym (faults_of sums_cmp sums_total sums_tie name compacted granted rs by_sum rises sums.same
+    (named_rises sums_total rs by_sum rises sums.same sums.rises))
+    ∙ ap (filter (λ (f : NameFaultView). is_named name f.revision)) none)

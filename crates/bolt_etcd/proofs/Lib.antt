@@ -32,12 +32,14 @@ pub mod NameOrders
 pub mod NameSearches
 pub mod NewestEntries
 pub mod NewestOfNames
+pub mod NoFaults
 pub mod NothingFound
 pub mod NumberSteps
 pub mod OldOnes
 pub mod OneRepair
 pub mod OtherCounts
 pub mod OtherSteps
+pub mod PassSteps
 pub mod Passing
 pub mod Places
 pub mod RepairLaws
@@ -57,6 +59,7 @@ pub mod StatesKept
 pub mod StoreExists
 pub mod StoreLemmas
 pub mod StoredRevisions
+pub mod SumOrders
 pub mod SupersededKeys
 pub mod Surveyed
 pub mod TakenAway

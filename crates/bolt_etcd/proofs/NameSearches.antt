@@ -12,15 +12,18 @@ use Rattle.std.specs.Ordering.{is_lt}
 use Rattle.std.specs.declared.cmp.Ordering.{Ordering}
 use Rattle.std.specs.declared.cmp.Ordering.TheVariants.{Equal, Greater, Less}
 use Rattle.bolt_check.specs.Keys.{Key, key_cmp}
-use Rattle.bolt_etcd.specs.NameOrder.{ends_cmp}
-use Rattle.bolt_etcd.proofs.NameOrders.{ends_exact, ends_total}
+use Rattle.bolt_etcd.specs.NameOrder.{sums_cmp}
+use Rattle.bolt_etcd.proofs.NameOrders.{sums_exact, sums_total}
 use Rattle.bolt_tree.specs.{Entries.EntryView, Order.Rises}
-use Rattle.bolt_etcd.specs.ShownRevisions.{entry_of}
+use Rattle.bolt_etcd.specs.ShownRevisions.{entry_of, shown_revision}
 use Rattle.bolt_etcd.specs.declared.revision.Revision.{Revision}
 use Rattle.bolt_etcd.specs.{Revisions.RevisionView, Revisions.name_of}
 use Rattle.bolt_etcd.specs.Superseded.{IsSupersededBy, entry_name, entry_name_cmp}
 use Rattle.bolt_etcd.proofs.MappedLists.{shows_from, shows_has, sorted_by_shown}
-use Rattle.bolt_etcd.proofs.{KeySearches.not_found, NewestEntries.entry_name_total, Rising.one_of, SortedOnce.rises_sorted}
+use Rattle.bolt_etcd.proofs.{KeySearches.not_found, NewestEntries.entry_name_total, Rising.one_of, SortedOnce.rises_sorted, StoredRevisions.named}
+
+pub beside_candidate : (r e : Revision) (o : Ordering) → o ≡ sums_cmp (name_of (shown_revision e)) (name_of (shown_revision r)) → o ≡ sums_cmp (entry_name (entry_of e)) (name_of (shown_revision r))
+beside_candidate r e o is = is ∙ ap (λ (n : Key). sums_cmp n (name_of (shown_revision r))) (sym (named e))
 
 module _ (es : List Revision) (r : RevisionView) where
   abbrev name : Revision → Key
@@ -28,17 +31,17 @@ module _ (es : List Revision) (r : RevisionView) where
 
   -- where an entry stands beside that of the name
   abbrev pub beside : Revision → Ordering
-  beside e = ends_cmp (name e) (name_of r)
+  beside e = sums_cmp (name e) (name_of r)
 
   module _ (rises : Rises entry_name_cmp (map entry_of es)) where
-    up : IsSortedBy (λ a b. is_lt (ends_cmp (name a) (name b))) es
+    up : IsSortedBy (λ a b. is_lt (sums_cmp (name a) (name b))) es
     up = sorted_by_shown entry_of (λ a b. is_lt (entry_name_cmp a b)) es (rises_sorted entry_name_total (map entry_of es) rises)
 
     none_named : (i : ℕ) → IsBinarySearchResult beside es (Err i) → (key : Key) → IsSupersededBy (map entry_of es) r key → ⊥
     none_named i searched key (e, has, is, named, less) =
         let (x, there, shown) = shows_from entry_of es e has in
         let has_name = subst (Contains (map name es)) (ap entry_name shown ∙ named) (shows_has name es x there) in
-        not_found name (name_of r) ends_cmp ends_total ends_exact es i (searched (searchable_from_sorted ends_total name es (name_of r) up)) has_name
+        not_found name (name_of r) sums_cmp sums_total sums_exact es i (searched (searchable_from_sorted sums_total name es (name_of r) up)) has_name
 
     pub absent : (searched : Result ℕ ℕ) → IsBinarySearchResult beside es searched → result_ok searched ≡ None → (o : Option (Bor Key)) → o ≡ None → (key : Key)
         → (option_map (λ (k : Bor Key). k.now) o ≡ Some key) ↔ IsSupersededBy (map entry_of es) r key
@@ -55,12 +58,12 @@ module _ (es : List Revision) (r : RevisionView) where
           (i, omega (arith, long), get_or-map entry_of es i entry (entry_of entry) lt ∙ ap entry_of (sym is))
 
       found_named : entry_name (entry_of entry) ≡ name_of r
-      found_named = ends_exact _ _ (subst (λ (x : Revision). beside x ≡ Equal) (sym is) (searched entry))
+      found_named = sums_exact _ _ (subst (λ (x : Revision). beside x ≡ Equal) (sym is) (searched entry))
 
       -- it is the only one of the name
       same_entry : (key : Key) → IsSupersededBy (map entry_of es) r key → (key_cmp entry.key.now r.place ≡ Less) × (entry.key.now ≡ key)
       same_entry key (e, has, at_key, named, less) =
-          let same = one_of ends_total entry_name (map entry_of es) (entry_of entry) e rises found_has has (found_named ∙ sym named) in
+          let same = one_of sums_total entry_name (map entry_of es) (entry_of entry) e rises found_has has (found_named ∙ sym named) in
           (subst (λ (x : EntryView). key_cmp x.key r.place ≡ Less) (sym same) less, ap (λ (x : EntryView). x.key) same ∙ at_key)
 
       by_order : (o : Ordering) (key : Key) → key_cmp entry.key.now r.place ≡ o

@@ -1,5 +1,5 @@
 -- A list whose elements an order tells apart has one sorted order.
-use Rattle.std.proofs.Common.{◌≡◌, ◌∙◌, false, List, [], ◌∷◌, refl, ap, subst}
+use Rattle.std.proofs.Common.{◌≡◌, ◌∙◌, ℕ, false, List, [], ◌∷◌, refl, ap, subst}
 use Rattle.std.proofs.lemmas.Bool.{cond-false}
 use Rattle.std.proofs.lemmas.Cmp.{nat_list_cmp_total, on_total, then_total}
 use Rattle.std.proofs.lemmas.List.Kept.{IsStrictlySortedBy-dedup}
@@ -7,7 +7,7 @@ use Rattle.std.proofs.lemmas.List.Sorted.{Contains-permutation, IsPermutation-sy
 use Rattle.std.proofs.lemmas.Map.Keys.{IsDistinct-IsPermutation}
 use Rattle.std.specs.Cmp.{IsTotalOrder}
 use Rattle.std.specs.List.{AllByRecursion, Contains, IsDistinct, dedup, dedup_from}
-use Rattle.std.specs.List.Sorted.{IsPermutation, IsSorted, IsStrictlySortedBy}
+use Rattle.std.specs.List.Sorted.{IsPermutation, IsSorted, IsSortedBy, IsStrictlySortedBy}
 use Rattle.std.specs.Ordering.{eq_by_cmp, is_eq, is_lt, ordering_reverse, ordering_then}
 use Rattle.std.specs.declared.cmp.Ordering.{Ordering}
 use Rattle.std.specs.declared.cmp.Ordering.TheVariants.{Equal, Greater, Less}
@@ -84,8 +84,21 @@ then_apart Less b less = refl
 then_apart Equal b less = ap is_eq less
 then_apart Greater b less = refl
 
+-- by names in an order of them, and of one name by places
+module _ {cmp : List ℕ → List ℕ → Ordering} (total : IsTotalOrder cmp) where
+  abbrev named_cmp : RevisionView → RevisionView → Ordering
+  named_cmp a b = ordering_then (cmp (name_of a) (name_of b)) (place_cmp a b)
+
+  pub named_total : IsTotalOrder named_cmp
+  named_total = then_total (on_total name_of total) (on_total (λ (r : RevisionView). r.place) nat_list_cmp_total)
+
+  -- sorted so, none is there twice
+  pub named_rises : (rs sorted : List RevisionView) → Rises place_cmp rs → IsPermutation rs sorted → IsSortedBy (λ a b. is_lt (named_cmp a b)) sorted → Rises named_cmp sorted
+  named_rises rs sorted rises same up =
+      sorted_in named_total place_cmp rs sorted (λ x y has also less. then_apart (cmp (name_of x) (name_of y)) _ less) rises same up
+
 pub by_name_total : IsTotalOrder by_name_cmp
-by_name_total = then_total (on_total name_of nat_list_cmp_total) (on_total (λ (r : RevisionView). r.place) nat_list_cmp_total)
+by_name_total = named_total nat_list_cmp_total
 
 -- revisions in the order of their keys have one order by name
 pub by_name_once : (rs a b : List RevisionView) → Rises place_cmp rs → AreByName rs a → AreByName rs b → a ≡ b
@@ -99,4 +112,4 @@ current_once rs a b is also =
 
 -- sorted by name, none is there twice
 pub by_name_rises : (rs sorted : List RevisionView) → Rises place_cmp rs → AreByName rs sorted → Rises by_name_cmp sorted
-by_name_rises rs sorted rises is = sorted_in by_name_total place_cmp rs sorted (λ x y has also less. then_apart (name_cmp x y) _ less) rises is.same is.rises
+by_name_rises rs sorted rises is = named_rises nat_list_cmp_total rs sorted rises is.same is.rises

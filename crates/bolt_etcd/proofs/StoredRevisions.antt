@@ -106,7 +106,7 @@ by_numbers a b =
     let (also, fit) = is_spelled b in
     ap (λ (k : Key). key_cmp k b.key.now) is ∙ ap (key_cmp (spelling (shown_revision a).key)) also ∙ spellings_cmp (shown_revision a).key (shown_revision b).key fits fit
 
-decided : (o p : Ordering) → (o ≡ Equal → ⊥) → ordering_then o p ≡ o
+pub decided : (o p : Ordering) → (o ≡ Equal → ⊥) → ordering_then o p ≡ o
 decided Less p differ = refl
 decided Equal p differ = absurd (differ refl)
 decided Greater p differ = refl

@@ -46,6 +46,7 @@ pub mod SnapshotFaults
 pub mod StoreBuckets
 pub mod StoreFaults
 pub mod Stores
+pub mod SumOrder
 pub mod Superseded
 pub mod Surveys
 pub mod Taken

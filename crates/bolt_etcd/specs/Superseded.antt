@@ -9,7 +9,7 @@ use Rattle.bolt_format.specs.declared.meta.Meta.{Meta}
 use Rattle.bolt_check.specs.Keys.{Key, key_cmp}
 use Rattle.bolt_recover.specs.Recovered.{ForRecovered}
 use Rattle.bolt_tree.specs.{Entries.EntryView, InBuckets.view_cmp, Listing.Member, Order.Rises}
-use Rattle.bolt_etcd.specs.NameOrder.{ends_cmp}
+use Rattle.bolt_etcd.specs.NameOrder.{sums_cmp}
 use Rattle.bolt_etcd.specs.{Newest.is_until, Repairs.IsKept, RevisionKeys.revision_key, Revisions.RevisionView, Revisions.name_of, Revisions.revision_of}
 use Rattle.bolt_etcd.specs.declared.revision_key.RevisionKey.{RevisionKey}
 
@@ -37,9 +37,9 @@ is_key_deleted (Some key) = key.deleted
 abbrev pub is_deletion : EntryView → Bool
 is_deletion e = is_key_deleted (revision_key e.key)
 
--- by name, and that first by its end
+-- by name, and that first by its sum
 abbrev pub entry_name_cmp : EntryView → EntryView → Ordering
-entry_name_cmp a b = ends_cmp (entry_name a) (entry_name b)
+entry_name_cmp a b = sums_cmp (entry_name a) (entry_name b)
 
 -- by name, and of one name the later ones first
 abbrev pub newest_cmp : EntryView → EntryView → Ordering

@@ -18,7 +18,7 @@ use std::alloc::{AllocError, Global};
 use std::cmp::Ordering;
 
 /// The values on found pages that are revisions with records of their own transactions, by rising key,
-/// and of one key by rising value, each once. Goes over all found elements twice. Needs 48 bytes for
+/// and of one key by rising value, each once. Goes over all found elements twice. Needs 56 bytes for
 /// each under a revision key.
 pub(crate) fn candidates_of<'a>(
     alloc: Global,

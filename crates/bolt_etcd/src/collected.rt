@@ -21,7 +21,7 @@ pub struct Collected<'a> {
 
 impl<'a> Collected<'a> {
     /// Collects the revisions of a bucket of no later transaction than `up_to`, in the order of their
-    /// keys. Goes over all entries of the bucket twice. Keeps 48 bytes for each of these revisions.
+    /// keys. Goes over all entries of the bucket twice. Keeps 56 bytes for each of these revisions.
     ///
     /// # Errors
     ///

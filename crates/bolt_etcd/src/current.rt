@@ -2,11 +2,12 @@
 ghost use Rattle.std.specs.Prelude.{◌≡◌, IfOk, length, map};
 ghost use Rattle.bolt_check.specs.Counts.{counted};
 ghost use Rattle.bolt_tree.specs.Order.{Rises};
-ghost use Rattle.bolt_etcd.specs.{Current.AreCurrent, Current.newest_first_cmp, Current.place_cmp};
+ghost use Rattle.bolt_etcd.specs.{Current.AreCurrent, Current.name_cmp, Current.place_cmp};
 ghost use Rattle.bolt_etcd.specs.{ShownRevisions.shown_revision, Stores.ForBucket, Stores.others, Stores.revisions};
 ghost use Rattle.bolt_etcd.specs.ForNames.{AreCurrentAt};
 
 use crate::collected::Collected;
+use crate::name_order::{sort_newest_by_sum, sort_roughly};
 use crate::revision::Revision;
 use bolt_tree::{Bucket, NoMemory};
 use std::alloc::Global;
@@ -24,7 +25,7 @@ pub struct Current<'a> {
 
 impl<'a> Current<'a> {
     /// Finds the keys that there are in a bucket at a transaction. Goes over all entries of the
-    /// bucket twice. Keeps 48 bytes for each revision of no later transaction than `up_to`.
+    /// bucket twice. Keeps 56 bytes for each revision of no later transaction than `up_to`.
     ///
     /// # Errors
     ///
@@ -45,19 +46,21 @@ impl<'a> Current<'a> {
     }
 }
 
-/// Keeps the newest revision of each name, if it isn't a deletion, by rising name.
+/// Keeps the newest revision of each name, if it isn't a deletion, by rising name. All are sorted by sums,
+/// and only those that are kept by name.
 fn keep_newest(revisions: &mut Vec<Revision<'_>>)
     ensures { let found = map shown_revision revisions.old.items in
         Rises place_cmp found → AreCurrent found (map shown_revision revisions.new.items) }
 {
-    revisions.sort_unstable_by(newest_first);
+    sort_newest_by_sum(revisions);
     revisions.dedup_by(|older, newest| older.name() == newest.name());
     revisions.retain(|newest| !newest.key().deleted);
+    sort_roughly(revisions);
+    revisions.sort_unstable_by(by_name);
 }
 
-/// By name, and of one name the newer ones first.
-fn newest_first(a: &Revision<'_>, b: &Revision<'_>) -> Ordering
-    ensures { result ≡ newest_first_cmp (shown_revision a.now) (shown_revision b.now) }
+fn by_name(a: &Revision<'_>, b: &Revision<'_>) -> Ordering
+    ensures { result ≡ name_cmp (shown_revision a.now) (shown_revision b.now) }
 {
-    a.name().cmp(b.name()).then(b.place().cmp(a.place()))
+    a.name().cmp(b.name())
 }

@@ -1,30 +1,82 @@
-//! An order of names that mostly looks at their ends alone.
-ghost use Rattle.std.specs.Prelude.{◌≡◌};
-ghost use Rattle.bolt_etcd.specs.NameOrder.{end_number, ends_cmp};
+//! Orders of revisions by the sums of their names. Most comparisons look at the tags of revisions and at no
+//! name, so it is quicker to sort by sums than by names.
+ghost use Rattle.std.specs.Prelude.{◌≡◌, ◌+◌, ◌*◌, ◌/◌, ◌%◌, ◌^◌, map};
+ghost use Rattle.std.specs.List.Sorted.{IsPermutation};
+ghost use Rattle.bolt_etcd.specs.{NameOrder.name_sum, NameOrder.sums_cmp, Revisions.name_of, ShownRevisions.entry_of, ShownRevisions.shown_revision};
+ghost use Rattle.bolt_etcd.specs.SumOrder.{AreBySum, AreNewestBySum, by_sum_cmp, newest_by_sum_cmp};
+ghost use Rattle.bolt_etcd.specs.Superseded.{entry_name_cmp};
 
-use byteorder::{BigEndian, ByteOrder};
+use crate::revision::Revision;
+use bolt_format::fnv1a;
 use std::cmp::Ordering;
 
-/// The number of bytes at the end of a name that are compared first.
-const END: usize = 8;
+/// How many transactions a tag tells apart.
+pub(crate) const MAINS: u64 = 0x100_0000;
 
-/// Compares names: first by their ends, which tell most names apart and take one look at memory.
-pub(crate) fn cmp_by_ends(a: &[u8], b: &[u8]) -> Ordering
-    ensures { result ≡ ends_cmp a.now b.now }
+/// The tag of a revision: the sum of its name, which is the upper 40 bits of its checksum, and the lower 24
+/// bits of the number of its transaction.
+pub(crate) fn tag_of(name: &[u8], main: u64) -> u64
+    ensures tag { result ≡ name_sum name.now * 2 ^ 24 + main % 2 ^ 24 }
+    ensures sum { result / 2 ^ 24 ≡ name_sum name.now }
 {
-    match end_of(a).cmp(&end_of(b)) {
-        Ordering::Equal => a.cmp(b),
+    fnv1a(name) / MAINS * MAINS + main % MAINS
+}
+
+/// By the sums of names, and of one sum by name.
+pub(crate) fn cmp_by_sums(a: &Revision<'_>, b: &Revision<'_>) -> Ordering
+    ensures revisions { result
+        ≡ sums_cmp (name_of (shown_revision a.now)) (name_of (shown_revision b.now)) }
+    ensures entries { result ≡ entry_name_cmp (entry_of a.now) (entry_of b.now) }
+{
+    match a.sum().cmp(&b.sum()) {
+        Ordering::Equal => a.name().cmp(b.name()),
         order => order,
     }
 }
 
-/// The end of a name as a number, or 0 if the name is shorter.
-fn end_of(name: &[u8]) -> u64
-    ensures { result ≡ end_number name.now }
+/// By the sums of names, and of one name the earlier ones first.
+fn by_sum(a: &Revision<'_>, b: &Revision<'_>) -> Ordering
+    ensures { result ≡ by_sum_cmp (shown_revision a.now) (shown_revision b.now) }
 {
-    if name.len() < END {
-        0
-    } else {
-        BigEndian::read_u64(&name[name.len() - END..])
+    match cmp_by_sums(a, b) {
+        Ordering::Equal => a.place().cmp(b.place()),
+        order => order,
     }
+}
+
+/// By the sums of names, and of one name the later ones first.
+fn newest_by_sum(a: &Revision<'_>, b: &Revision<'_>) -> Ordering
+    ensures { result ≡ newest_by_sum_cmp (shown_revision a.now) (shown_revision b.now) }
+{
+    match cmp_by_sums(a, b) {
+        Ordering::Equal => b.place().cmp(a.place()),
+        order => order,
+    }
+}
+
+/// Sorts revisions by the sums of their names, and those of one name in the order of their keys. The first
+/// sort looks at tags alone. Mostly it leaves nothing to do for the second one, which compares neighbors.
+pub(crate) fn sort_by_sum(revisions: &mut Vec<Revision<'_>>)
+    ensures { AreBySum (map shown_revision revisions.old.items)
+        (map shown_revision revisions.new.items) }
+{
+    revisions.sort_unstable_by(|a, b| a.tag().cmp(&b.tag()));
+    revisions.sort_unstable_by(by_sum);
+}
+
+/// The same, but of one name the later ones come first.
+pub(crate) fn sort_newest_by_sum(revisions: &mut Vec<Revision<'_>>)
+    ensures { AreNewestBySum (map shown_revision revisions.old.items)
+        (map shown_revision revisions.new.items) }
+{
+    revisions.sort_unstable_by(|a, b| a.sum().cmp(&b.sum()).then(b.tag().cmp(&a.tag())));
+    revisions.sort_unstable_by(newest_by_sum);
+}
+
+/// Puts revisions mostly in the order of their keys, by tags alone. Names are read more quickly that are near each
+/// other in the file.
+pub(crate) fn sort_roughly(revisions: &mut Vec<Revision<'_>>)
+    ensures { IsPermutation revisions.old.items revisions.new.items }
+{
+    revisions.sort_unstable_by(|a, b| a.low_main().cmp(&b.low_main()));
 }

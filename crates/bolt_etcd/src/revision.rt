@@ -1,12 +1,13 @@
 //! A revision of a key, as the bucket `key` keeps it.
-ghost use Rattle.std.specs.Prelude.{◌≡◌, Some, None};
+ghost use Rattle.std.specs.Prelude.{◌≡◌, ◌/◌, ◌%◌, ◌^◌, Some, None};
 ghost use Rattle.std.specs.Option.{option_map};
 ghost use Rattle.std.proofs.Props.{props};
 ghost use Rattle.bolt_format.specs.Bytes.{IsBytes};
 ghost use Rattle.bolt_check.specs.Keys.{key_cmp};
 ghost use Rattle.bolt_tree.specs.ShownEntries.{shown_entry};
-ghost use Rattle.bolt_etcd.specs.{Candidates.candidate_at, Candidates.value_bytes, Returns.Returns, RevisionKeys.IsSpelled, Revisions.name_of, Revisions.revision_in, Revisions.revision_of, Shown.shown_record, Superseded.is_deletion};
+ghost use Rattle.bolt_etcd.specs.{Candidates.candidate_at, Candidates.value_bytes, NameOrder.name_sum, Returns.Returns, RevisionKeys.IsSpelled, Revisions.name_of, Revisions.revision_in, Revisions.revision_of, Shown.shown_record, Superseded.is_deletion};
 
+use crate::name_order::{MAINS, tag_of};
 use crate::record::Record;
 use crate::revision_key::{LEN, RevisionKey};
 use bolt_tree::{Entry, Item};
@@ -14,14 +15,18 @@ use byteorder::{BigEndian, ByteOrder};
 use std::cmp::Ordering;
 
 /// A revision: the key and the value of an entry that is one, and the name of the key that it is a
-/// revision of. It takes 48 bytes. What else it says is decoded again when it is asked for.
+/// revision of. It takes 56 bytes. What else it says is decoded again when it is asked for.
 #[derive(Clone, Copy)]
 pub struct Revision<'a> {
     key: &'a [u8],
     value: &'a [u8],
     name: &'a [u8],
+    /// The sum of the name and the lower bits of the transaction, by which most revisions are told apart without
+    /// a look at their names.
+    tag: u64,
     ghost decodes: { option_map name_of (revision_in key.now value.now) ≡ Some name.now },
     ghost bytes: { IsBytes key.now },
+    ghost sums: { tag / 2 ^ 24 ≡ name_sum name.now },
 }
 
 /// What a revision says: its key, and its record.
@@ -37,13 +42,19 @@ pub struct Decoded<'a> {
 impl<'a> Revision<'a> {
     ghost use Rattle.bolt_etcd.specs.ShownRevisions.{entry_of, shown_decoded, shown_revision};
 
-    /// The revision that is under a key, with its value and its name.
-    fn new(key: &'a [u8], value: &'a [u8], name: &'a [u8]) -> Revision<'a>
+    /// The revision of a transaction that is under a key, with its value and its name.
+    fn new(key: &'a [u8], value: &'a [u8], name: &'a [u8], main: u64) -> Revision<'a>
         requires { option_map name_of (revision_in key.now value.now) ≡ Some name.now }
         ensures key { result.key.now ≡ key.now }
         ensures value { result.value.now ≡ value.now }
     {
-        Revision { key, value, name }
+        let tag = tag_of(name, main);
+        Revision {
+            key,
+            value,
+            name,
+            tag,
+        }
     }
 
     /// The entry of the bucket `key` as a revision. Returns `None` if it isn't one: if it is a
@@ -56,7 +67,7 @@ impl<'a> Revision<'a> {
             return None;
         };
         let decoded = Decoded::of(entry.key, value)?;
-        Some(Revision::new(entry.key, value, decoded.content.name))
+        Some(Revision::new(entry.key, value, decoded.content.name, decoded.key.main))
     }
 
     /// The entry as a candidate: a revision with a record of its own transaction. Returns `None` if
@@ -71,7 +82,7 @@ impl<'a> Revision<'a> {
         if decoded.is_misplaced() {
             return None;
         }
-        Some(Revision::new(entry.key, value, decoded.content.name))
+        Some(Revision::new(entry.key, value, decoded.content.name, decoded.key.main))
     }
 
     /// The name of the key that it is a revision of.
@@ -79,6 +90,27 @@ impl<'a> Revision<'a> {
         ensures { result.now ≡ name_of (shown_revision self.now) }
     {
         self.name
+    }
+
+    /// The sum of its name.
+    pub(crate) fn sum(&self) -> u64
+        ensures { result ≡ name_sum (name_of (shown_revision self.now)) }
+    {
+        self.tag / MAINS
+    }
+
+    /// The lower bits of the number of its transaction.
+    pub(crate) fn low_main(&self) -> u64
+        ensures { result ≡ self.now.tag % 2 ^ 24 }
+    {
+        self.tag % MAINS
+    }
+
+    /// The sum of its name, and the lower bits of the number of its transaction.
+    pub(crate) fn tag(&self) -> u64
+        ensures { result ≡ self.now.tag }
+    {
+        self.tag
     }
 
     /// Its key.

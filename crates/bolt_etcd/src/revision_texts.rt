@@ -53,7 +53,7 @@ impl RevisionWriter {
 
     /// Writes the lines of the keys that there are in a bucket at a transaction and whose names begin
     /// with `prefix`, by rising name: of each its newest revision of no later transaction than
-    /// `up_to`. Returns the number of entries that aren't revisions. Keeps 48 bytes for each revision
+    /// `up_to`. Returns the number of entries that aren't revisions. Keeps 56 bytes for each revision
     /// of no later transaction.
     ///
     /// # Errors

@@ -1,5 +1,5 @@
 //! What is wrong with a store, of its root bucket.
-ghost use Rattle.std.specs.Prelude.{◌≡◌, ◌⊎◌, IfErr, IfOk, length, map, ◌++◌};
+ghost use Rattle.std.specs.Prelude.{◌≡◌, ◌⊎◌, ◌↔◌, [], IfErr, IfOk, None, length, map, true, ◌++◌};
 ghost use Rattle.std.specs.List.{concat};
 ghost use Rattle.bolt_check.specs.Counts.{counted};
 ghost use Rattle.bolt_format.specs.{Endings.ending, Wrote.Wrote};
@@ -8,7 +8,7 @@ ghost use Rattle.bolt_etcd.specs.{CheckLines.missing_line};
 ghost use Rattle.bolt_etcd.specs.{Numbered.numbered, Stores.others};
 ghost use Rattle.bolt_etcd.specs.StoreBuckets.{ForStore};
 ghost use Rattle.bolt_etcd.specs.StoreFaults.{bucket_line, bucket_lines, entry_lines, line_without, missing_if, store_lines, other_lines};
-ghost use Rattle.bolt_etcd.specs.ForNames.{ForNameLines};
+ghost use Rattle.bolt_etcd.specs.{FaultsLeft.ForGranted, ForNames.ForNameLines, NameFaults.name_faults, ShownRevisions.shown_revision};
 ghost use Rattle.bolt_etcd.specs.Stores.{ForBucket, ForFound, ForOthers};
 
 use crate::check_texts::{put_all_misplaced, put_all_missing, put_name_faults, put_others};
@@ -16,6 +16,8 @@ use crate::collected::Collected;
 use crate::compaction::store_compacted;
 use crate::missing::MissingNumbers;
 use crate::name_faults::NameFaults;
+use crate::name_order::{sort_by_sum, sort_roughly};
+use crate::revision::Revision;
 use crate::revisions::Revisions;
 use bolt_format::{Sink, SinkFault};
 use bolt_text::{Piece, ReportFault, put_pieces};
@@ -42,7 +44,7 @@ const BUCKETS: [&[u8]; 6] = [
 /// - name by name, revisions that don't follow the one before them, and leases that aren't there.
 ///
 /// Without the bucket `key`, only missing buckets have lines. The number saturates at 2^64 - 1. Keeps
-/// 48 bytes for each revision.
+/// 56 bytes for each revision.
 ///
 /// # Errors
 ///
@@ -189,7 +191,8 @@ fn put_missing_numbers<S: Sink>(
 }
 
 /// Writes a line for each thing that is missing of the names of these revisions, and returns how
-/// many these are.
+/// many these are. If nothing is missing, which is seen in any order in which those of one name stand
+/// together, they aren't sorted by name.
 fn put_faults_by_name<S: Sink>(
     mut found: Collected<'_>,
     compacted: Option<u64>,
@@ -202,6 +205,24 @@ fn put_faults_by_name<S: Sink>(
         ForNameLines found.entry.revisions.items compacted leases.entry (λ lines.
         n ≡ counted 0 (length lines))) }
 {
+    sort_by_sum(&mut found.revisions);
+    if lacks_nothing(&found.revisions, compacted, leases) {
+        return Ok(0);
+    }
+    sort_roughly(&mut found.revisions);
     found.sort_by_name();
     put_name_faults(NameFaults::of(&found.revisions, compacted, leases), sink)
+}
+
+/// Whether nothing is missing of the names of these revisions, of which those of one name stand together.
+fn lacks_nothing(
+    revisions: &[Revision<'_>],
+    compacted: Option<u64>,
+    leases: Option<Bucket<'_>>,
+) -> bool
+    ensures { ForGranted leases.entry (λ granted.
+        (result ≡ true) ↔ (name_faults compacted granted None (map shown_revision revisions.now) ≡ [])) }
+{
+    let mut faults = NameFaults::of(revisions, compacted, leases);
+    faults.next().is_none()
 }

@@ -7,7 +7,7 @@ ghost use Rattle.bolt_etcd.specs.Superseded.{AreSupersededIn, IsPartedAt, KeepsN
 ghost use Rattle.bolt_etcd.specs.Superseded.{entry_name, entry_name_cmp, is_old, is_older_old, newest_cmp, stays};
 
 use crate::candidates::add_key;
-use crate::name_order::cmp_by_ends;
+use crate::name_order::cmp_by_sums;
 use crate::revision::Revision;
 use crate::survey::revision_until;
 use bolt_recover::{Kept, LostAndFound};
@@ -41,7 +41,7 @@ pub(crate) fn old_among(revisions: &[Revision<'_>], compacted: u64) -> usize
 fn newest_first(a: &Revision<'_>, b: &Revision<'_>) -> Ordering
     ensures { result ≡ newest_cmp (entry_of a.now) (entry_of b.now) }
 {
-    match cmp_by_ends(name_of(a), name_of(b)) {
+    match cmp_by_sums(a, b) {
         Ordering::Equal => b.cmp_place(a),
         order => order,
     }
@@ -126,8 +126,7 @@ fn superseded_by<'a>(revision: &Revision<'_>, candidates: &[Revision<'a>]) -> Op
     ensures { Supersedes (map entry_of candidates.now) (shown_revision revision.now)
         (option_map (λ key. key.now) result) }
 {
-    let name = revision.name();
-    let found = candidates.binary_search_by(|candidate| cmp_by_ends(name_of(candidate), name));
+    let found = candidates.binary_search_by(|candidate| cmp_by_sums(candidate, revision));
     let candidate = candidates.get(found.ok()?)?;
     candidate
         .cmp_place(revision)

@@ -51,7 +51,7 @@ pub use Rattle.bolt_tree.specs.Paths.{Path, path_of}
 pub use Rattle.bolt_tree.specs.Places.{On, Past, Place, least_from}
 pub use Rattle.bolt_tree.specs.ShownEntries.{item_view, shown_entry}
 pub use Rattle.bolt_tree.specs.Walks.{left_of, walk_checked}
-pub use Rattle.hex.specs.Hex.{IsBytes, encode_lower}
+pub use Rattle.hex.specs.Hex.{IsBytes}
 unfoldable pub use Rattle.json.specs.Print.{escape_byte, print_from}
 pub use Rattle.json.specs.Token.{end_object}
 pub use Rattle.json.specs.Tree.{json_tokens}

@@ -1,12 +1,11 @@
 -- The lines of found pages, after those of losses: docs/COMMANDS.md, "Lost and found".
 use Rattle.std.specs.Prelude.{◌≢◌, ◌+◌, ◌-◌, ℕ, List, [], ◌++◌, codes, decimal, flat_map, length, option_map, slice_get, unwrap_or}
 use Rattle.std.specs.List.{filter}
-use Rattle.hex.specs.Hex.{encode_lower}
 use Rattle.bolt_format.specs.{Elements.LeafElement, TreePages.leaves_on}
 use Rattle.bolt_check.specs.Keys.{Key}
 use Rattle.bolt_recover.specs.{Losses.LostView, declared.found.Found.Found}
 use Rattle.bolt_report.specs.{FaultWords.count_line, LossLines.lost_count, LossLines.lost_lines}
-use Rattle.bolt_text.specs.Lines.{line}
+use Rattle.bolt_text.specs.{Lines.line, NamedPaths.named_key}
 
 -- a leaf page by its number and its elements
 pub record FoundView : Type 0 where
@@ -31,7 +30,7 @@ bucket_count elements = length (filter (λ (e : LeafElement). e.is_bucket) eleme
 unfoldable pub found_line : FoundView → List ℕ
 found_line found =
     codes "page " ++ (decimal found.number ++ (codes ": nothing leads to it; found: " ++ (decimal (length found.elements) ++ (codes " entries, " ++ (decimal (bucket_count found.elements)
-    ++ (codes " of them buckets, keys from " ++ (encode_lower (key_at found.elements 0) ++ (codes " to " ++ line (encode_lower (key_at found.elements (length found.elements - 1)))))))))))
+    ++ (codes " of them buckets, keys from " ++ (named_key (key_at found.elements 0) ++ (codes " to " ++ line (named_key (key_at found.elements (length found.elements - 1)))))))))))
 
 abbrev pub found_text : List FoundView → List ℕ
 found_text found = flat_map found_line found

@@ -2,26 +2,25 @@
 use Rattle.std.specs.Prelude.{ℕ, List, [], ◌∷◌, ◌++◌, Option, Some, None, codes, flat_map, length}
 use Rattle.std.specs.Borrow.{Bor}
 use Rattle.std.specs.Option.{option_map}
-use Rattle.hex.specs.Hex.{encode_lower}
 use Rattle.bolt_check.specs.Keys.{Key}
 use Rattle.bolt_tree.specs.Paths.{Path}
 use Rattle.bolt_recover.specs.Losses.{LossView, LostView, everything, parts}
 use Rattle.bolt_report.specs.FaultWords.{finding_sentence}
-use Rattle.bolt_text.specs.{Lines.line, ListLines.hex_path}
+use Rattle.bolt_text.specs.{Lines.line, NamedPaths.named_key, NamedPaths.named_path}
 
 -- the bucket that a lost page belongs to
 abbrev pub bucket_words : Path → List ℕ
 bucket_words [] = codes "root bucket"
-bucket_words (part ∷ path) = codes "bucket " ++ hex_path (part ∷ path)
+bucket_words (part ∷ path) = codes "bucket " ++ named_path (part ∷ path)
 
 -- the bounds of its keys, where it lies below a branch
 abbrev pub upper_words : Option Key → List ℕ
 upper_words None = []
-upper_words (Some key) = codes " to below " ++ encode_lower key
+upper_words (Some key) = codes " to below " ++ named_key key
 
 abbrev pub bounds_words : Option Key → Option Key → List ℕ
 bounds_words None upper = []
-bounds_words (Some key) upper = codes ", keys from " ++ (encode_lower key ++ upper_words upper)
+bounds_words (Some key) upper = codes ", keys from " ++ (named_key key ++ upper_words upper)
 
 -- of bounds that the code holds as slices
 abbrev pub bounds_line : (lower upper : Option (Bor Key)) → List ℕ

@@ -11,7 +11,7 @@ ghost use Rattle.bolt_report.specs.FoundLines.{IsFoundLeaf, bucket_count, counte
 use crate::fault_lines::{put_count, put_sentence};
 use bolt_format::{LeafPage, Sink, SinkFault};
 use bolt_recover::{Found, Loss, Lost};
-use bolt_text::{PathForm, Piece, put, put_pieces};
+use bolt_text::{Piece, put, put_pieces};
 
 /// Writes the line of each loss, or the one that says that everything is lost.
 fn put_lost<S: Sink>(lost: Lost<'_>, sink: &mut S) -> Result<(), SinkFault>
@@ -60,13 +60,7 @@ fn put_bucket<S: Sink>(path: &[&[u8]], sink: &mut S) -> Result<(), SinkFault>
     if path.is_empty() {
         put(b"root bucket", sink)
     } else {
-        put_pieces(
-            &[
-                Piece::Bytes(b"bucket "),
-                Piece::HexPath(path, PathForm::Slashes),
-            ],
-            sink,
-        )
+        put_pieces(&[Piece::Bytes(b"bucket "), Piece::NamedPath(path)], sink)
     }
 }
 
@@ -83,7 +77,7 @@ fn put_bounds<'a, S: Sink>(
         (Some(from), None) => put_pieces(
             &[
                 Piece::Bytes(b", keys from "),
-                Piece::Hex(from),
+                Piece::NamedKey(from),
                 Piece::Bytes(b"\n"),
             ],
             sink,
@@ -91,9 +85,9 @@ fn put_bounds<'a, S: Sink>(
         (Some(from), Some(end)) => put_pieces(
             &[
                 Piece::Bytes(b", keys from "),
-                Piece::Hex(from),
+                Piece::NamedKey(from),
                 Piece::Bytes(b" to below "),
-                Piece::Hex(end),
+                Piece::NamedKey(end),
                 Piece::Bytes(b"\n"),
             ],
             sink,
@@ -168,9 +162,9 @@ fn put_found<S: Sink>(found: &Found<'_>, sink: &mut S) -> Result<(), SinkFault>
         Piece::Bytes(b" entries, "),
         Piece::Number(u64::from(count_buckets(page))),
         Piece::Bytes(b" of them buckets, keys from "),
-        Piece::Hex(page.element(0).key),
+        Piece::NamedKey(page.element(0).key),
         Piece::Bytes(b" to "),
-        Piece::Hex(page.element(count - 1).key),
+        Piece::NamedKey(page.element(count - 1).key),
         Piece::Bytes(b"\n"),
     ];
     put_pieces(&pieces, sink)

@@ -2,7 +2,7 @@
 use Rattle.std.proofs.Common.{◌≡◌, ◌∙◌, ◌+◌, ℕ, suc, List, [], ◌∷◌, ◌++◌, Bor, Some, Result, add-one, ap, append_assoc, append-nil, drop, flat_map, refl, slice_get, sym, take}
 use Rattle.bolt_text.proofs.Vocabulary.{broken, ending, flat_map-take_more, Gathers, Ghosts, IsErr, later_parts, part_text, path_of, path_text, separator, SinkFault, whole, Wrote, Wrote-return, Wrote-same, Wrote-then}
 use Rattle.bolt_format.specs.Endings.{Ending, cut, halted}
-use Rattle.bolt_text.specs.{Gathers.left_gathered, declared.pieces.PathForm.PathForm}
+use Rattle.bolt_text.specs.{Gathers.left_gathered, declared.path_pieces.PathForm.PathForm}
 use Rattle.bolt_format.proofs.{ListLemmas.flat_map-cut_at, WroteLemmas.broken_by}
 
 none_gathered : (end : Ending) {gathers : List ℕ} → gathers ≡ [] → left_gathered end gathers ≡ []

@@ -10,7 +10,7 @@ use Rattle.hex.specs.Hex.{encode_with}
 use Rattle.json.proofs.Printed.Strings.{escape_byte_plain}
 use Rattle.json.specs.{Print.escape, Tree.members_tokens}
 use Rattle.bolt_tree.specs.Entries.{Bucket}
-use Rattle.bolt_text.specs.{Pieces.hex_string, declared.pieces.PathForm.TheVariants.Strings}
+use Rattle.bolt_text.specs.{Pieces.hex_string, declared.path_pieces.PathForm.TheVariants.Strings}
 
 encode_with-append : (digits xs ys : List ℕ) → encode_with digits (xs ++ ys) ≡ encode_with digits xs ++ encode_with digits ys
 unfolding encode_with

@@ -9,6 +9,7 @@ pub mod LineWords
 pub mod Lines
 pub mod ListForms
 pub mod ListLines
+pub mod NamedPaths
 pub mod Numbers
 pub mod PartWords
 pub mod Pieces

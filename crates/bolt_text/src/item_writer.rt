@@ -2,14 +2,16 @@
 ghost use Rattle.std.specs.Prelude.{◌≡◌, ◌⊎◌, IfErr, if◌then◌else◌};
 ghost use Rattle.hex.specs.Hex.{encode_lower};
 ghost use Rattle.bolt_format.specs.{Endings.ending, Wrote.Wrote};
-ghost use Rattle.bolt_text.specs.Forms.{digits_json, is_printable, is_text, item_text, json_text, mixed_text, value_text};
+ghost use Rattle.bolt_text.specs.Forms.{digits_json, is_text, item_text, json_text, mixed_text, value_text};
 ghost use Rattle.bolt_text.specs.{Pieces.piece_text, ReportEndings.HaltsShort, ReportEndings.report_ending};
 
 use crate::fault::ReportFault;
 use crate::forms::Form;
+use crate::gathered::put;
 use crate::hexadecimal::put_hex;
 use crate::json_text::JsonText;
-use crate::pieces::{Piece, put, put_pieces};
+use crate::pieces::{Piece, put_pieces};
+use crate::readable::can_be_printed;
 use bolt_format::{Sink, SinkFault};
 use std::alloc::Global;
 use std::str;
@@ -111,13 +113,6 @@ pub fn printable(name: &[u8]) -> Piece<'_>
     } else {
         Piece::Hex(name)
     }
-}
-
-/// Whether each byte is a printable ASCII character.
-fn can_be_printed(bytes: &[u8]) -> bool
-    ensures { result ≡ is_printable bytes.now }
-{
-    bytes.iter().all(|byte| *byte >= b' ' && *byte <= b'~')
 }
 
 /// Whether the bytes are UTF-8 without control characters.

@@ -5,6 +5,7 @@
 
 mod fault;
 mod forms;
+mod gathered;
 mod hexadecimal;
 mod item_writer;
 mod json_text;
@@ -12,15 +13,19 @@ pub mod laws;
 mod line_words;
 mod member_lines;
 mod path_order;
+mod path_pieces;
 mod pieces;
+mod readable;
 mod words;
 
 pub use fault::ReportFault;
 pub use forms::{FigureForm, Form, ListForm};
+pub use gathered::put;
 pub use hexadecimal::decode_digits;
 pub use item_writer::{ItemWriter, item, printable, value};
 pub use line_words::{ItemWord, LineWords, cut_at, first_line, words_of};
 pub use member_lines::MemberLines;
 pub use path_order::{is_before, is_below};
-pub use pieces::{PathForm, Piece, put, put_pieces};
+pub use path_pieces::PathForm;
+pub use pieces::{Piece, put_pieces};
 pub use words::{Parts, read_number};

@@ -7,8 +7,10 @@ ghost use Rattle.bolt_tree.specs.{Paths.path_of, ShownEntries.item_view};
 
 use crate::fault::ReportFault;
 use crate::forms::ListForm;
+use crate::gathered::put;
 use crate::json_text::JsonText;
-use crate::pieces::{PathForm, Piece, put, put_pieces};
+use crate::path_pieces::PathForm;
+use crate::pieces::{Piece, put_pieces};
 use bolt_format::{Sink, SinkFault};
 use bolt_tree::Item;
 use std::alloc::Global;
@@ -80,7 +82,7 @@ fn put_hex_json<'a, S: Sink>(
     ensures { Wrote S.Sink sink.old sink.new
         (json_line digits_json (path_of path.now, item_view item.now)) (ending result) }
 {
-    let path = Piece::HexPath(path, PathForm::Strings);
+    let path = Piece::JoinedPath(path, PathForm::Strings);
     let begin = Piece::Bytes(b"{\"path\":[");
     match item {
         Item::Value(value) => put_pieces(
@@ -118,7 +120,7 @@ fn put_member<'a, S: Sink>(
     match item {
         Item::Value(value) => put_pieces(
             &[
-                Piece::HexPath(path, PathForm::Slashes),
+                Piece::JoinedPath(path, PathForm::Slashes),
                 Piece::Bytes(b" = "),
                 Piece::Hex(value),
                 Piece::Bytes(b"\n"),
@@ -127,7 +129,7 @@ fn put_member<'a, S: Sink>(
         ),
         Item::Bucket { sequence } => put_pieces(
             &[
-                Piece::HexPath(path, PathForm::Slashes),
+                Piece::JoinedPath(path, PathForm::Slashes),
                 Piece::Field(b" bucket ", *sequence),
                 Piece::Bytes(b"\n"),
             ],

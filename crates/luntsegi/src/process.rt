@@ -1,8 +1,10 @@
 //! The files and the streams of the process.
 ghost use Rattle.std.specs.Prelude.{⊤};
 
-use bolt_cli::{CreateFault, EndFault, OpenFault, OutputFault, Outside, ReadFault, Source, Stamp};
-use bolt_format::WriteSink;
+use bolt_cli::{
+    CreateFault, EndFault, OpenFault, OutputFault, Outside, Printer, ReadFault, Source, Stamp,
+};
+use bolt_format::{MemSink, WriteSink};
 use std::fs::{File, Metadata, OpenOptions};
 use std::io::{self, BufWriter, Read, Stdout, Write};
 use std::os::unix::fs::{MetadataExt, OpenOptionsExt};
@@ -59,13 +61,6 @@ fn read_limited(file: &mut File, bytes: &mut Vec<u8>, limit: u64) -> io::Result<
     Ok(())
 }
 
-fn read_fault(error: &io::Error) -> ReadFault {
-    match error.kind() {
-        io::ErrorKind::OutOfMemory => ReadFault::Memory,
-        _ => ReadFault::Refused,
-    }
-}
-
 fn stamp_of(metadata: &Metadata) -> Stamp {
     Stamp {
         length: metadata.len(),
@@ -74,56 +69,21 @@ fn stamp_of(metadata: &Metadata) -> Stamp {
     }
 }
 
-/// Standard output. It notes when its reader has left.
-#[derive(Drop)]
-pub struct Printer {
-    stdout: Stdout,
-    reader_left: bool,
-}
-
-impl Printer {
-    /// Why it failed.
-    fn fault(&self) -> OutputFault {
-        if self.reader_left {
-            OutputFault::ReaderLeft
-        } else {
-            OutputFault::Failed
-        }
-    }
-}
-
-impl Write for Printer {
-    fn write(&mut self, bytes: &[u8]) -> io::Result<usize> {
-        let written = self.stdout.write(bytes);
-        if let Err(error) = &written {
-            if error.kind() == io::ErrorKind::BrokenPipe {
-                self.reader_left = true;
-            }
-        }
-        written
-    }
-
-    fn flush(&mut self) -> io::Result<()> {
-        self.stdout.flush()
-    }
-}
-
 impl Outside for Process<'_> {
     type File = File;
 
     type Target = WriteSink<BufWriter<File>>;
 
-    type Output = WriteSink<BufWriter<Printer>>;
+    type Output = WriteSink<BufWriter<Printer<Stdout>>>;
 
     ghost done = { λ _ _. ⊤ };
 
     fn read(&mut self, name: &str) -> Result<Source, ReadFault> {
-        self.read_source(name).map_err(|error| read_fault(&error))
+        Ok(self.read_source(name)?)
     }
 
     fn read_first(&mut self, name: &str, limit: u64) -> Result<(Vec<u8>, File), ReadFault> {
-        self.open_first(name, limit)
-            .map_err(|error| read_fault(&error))
+        Ok(self.open_first(name, limit)?)
     }
 
     fn read_on(
@@ -132,10 +92,8 @@ impl Outside for Process<'_> {
         mut first: Vec<u8>,
         limit: u64,
     ) -> Result<Vec<u8>, ReadFault> {
-        match read_limited(&mut file, &mut first, limit) {
-            Ok(()) => Ok(first),
-            Err(error) => Err(read_fault(&error)),
-        }
+        read_limited(&mut file, &mut first, limit)?;
+        Ok(first)
     }
 
     /// `create_new` follows no link and truncates nothing, so OUT is never FILE, under any name. The
@@ -150,18 +108,9 @@ impl Outside for Process<'_> {
             .write(true)
             .create_new(true)
             .mode(permissions)
-            .open(self.rt, name);
-        let made = match made {
-            Ok(made) => made,
-            Err(error) if error.kind() == io::ErrorKind::AlreadyExists => return Err(
-                CreateFault::Exists,
-            ),
-            Err(_) => return Err(CreateFault::Refused),
-        };
-        match BufWriter::with_capacity(self.rt.alloc(), COPIED, made) {
-            Ok(target) => Ok(WriteSink::new(target)),
-            Err(_) => Err(CreateFault::Memory),
-        }
+            .open(self.rt, name)?;
+        let target = BufWriter::with_capacity(self.rt.alloc(), COPIED, made)?;
+        Ok(WriteSink::new(target))
     }
 
     /// The folder of OUT isn't synced.
@@ -172,18 +121,13 @@ impl Outside for Process<'_> {
         file.sync_all().map_err(|_| EndFault)
     }
 
-    fn open(&mut self) -> Result<WriteSink<BufWriter<Printer>>, OpenFault> {
-        let printer = Printer {
-            stdout: self.rt.stdout(),
-            reader_left: false,
-        };
-        match BufWriter::with_capacity(self.rt.alloc(), GATHERED, printer) {
-            Ok(output) => Ok(WriteSink::new(output)),
-            Err(_) => Err(OpenFault),
-        }
+    fn open(&mut self) -> Result<WriteSink<BufWriter<Printer<Stdout>>>, OpenFault> {
+        let printer = Printer::new(self.rt.stdout());
+        let output = BufWriter::with_capacity(self.rt.alloc(), GATHERED, printer)?;
+        Ok(WriteSink::new(output))
     }
 
-    fn close(&mut self, output: WriteSink<BufWriter<Printer>>) -> Result<(), OutputFault> {
+    fn close(&mut self, output: WriteSink<BufWriter<Printer<Stdout>>>) -> Result<(), OutputFault> {
         let mut gathered = output.into_inner();
         let printed = gathered.flush();
         // Without this, what could not be written would be tried again.
@@ -191,7 +135,7 @@ impl Outside for Process<'_> {
         printed.map_err(|_| printer.fault())
     }
 
-    fn drop_output(&mut self, output: WriteSink<BufWriter<Printer>>) -> OutputFault {
+    fn drop_output(&mut self, output: WriteSink<BufWriter<Printer<Stdout>>>) -> OutputFault {
         let (printer, _unwritten) = output.into_inner().into_parts();
         printer.fault()
     }
@@ -201,5 +145,9 @@ impl Outside for Process<'_> {
         for piece in pieces {
             let _ = stderr.write_all(piece);
         }
+    }
+
+    fn say_instead(&mut self, _text: &MemSink, line: &[u8]) {
+        self.say(&[line]);
     }
 }

@@ -44,6 +44,7 @@ look taken (deeds.Closed output (Err Failed)) = look_of kind.Unprinted [] (bytes
 look taken (deeds.Dropped output ReaderLeft) = look_of kind.Left [] (bytes_in (taken output)) 0
 look taken (deeds.Dropped output Failed) = look_of kind.Unprinted [] (bytes_in (taken output)) 0
 look taken (deeds.Said text) = look_of kind.Said [] text 0
+look taken (deeds.Lacked failures line) = look_of kind.Said [] line 0
 
 abbrev pub look_at : Record → Look
 look_at record_ = look_of record_.kind record_.name.items record_.bytes.items record_.permissions

@@ -196,6 +196,10 @@ impl<'a> Outside for Memory<'a> {
             Err(_) => self.log.has_lost = true,
         }
     }
+
+    fn say_instead(&mut self, _text: &MemSink, line: &[u8]) {
+        self.log.note(Kind::Said, &[], line, 0);
+    }
 }
 
 fn gather(alloc: Global, pieces: &[&[u8]]) -> Result<Vec<u8>, AllocError>

@@ -1,4 +1,4 @@
-use Rattle.std.proofs.Common.{◌≡◌, ◌-◌, ◌∙◌, ap, suc, sym, arith}
+use Rattle.std.proofs.Common.{◌≡◌, ◌-◌, suc, sym, arith}
 use Rattle.bolt_check.proofs.Words.{∥∥₁_map}
 use Rattle.bolt_check.proofs.FirstLeaves.{branch_goes_on, child_good, empty_ends, leaf_ends}
 use Rattle.bolt_check.specs.CheckedFiles.{checked_nodes}

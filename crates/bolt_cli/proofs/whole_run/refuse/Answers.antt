@@ -1,6 +1,6 @@
-use Rattle.std.proofs.Common.{◌≡◌, ◌⊎◌, Global, List, Ok, String, ap, inl, inr, refl, string_bytes, ℕ}
-use Rattle.bolt_cli.proofs.Vocabulary.{Deed, Ghosts, Help, PrintsText, Refusal, Refuses, Version, error_line}
-use Rattle.bolt_cli.proofs.Telling.{DoesDeeds-as, DoesDeeds-one}
+use Rattle.std.proofs.Common.{◌≡◌, ◌⊎◌, Global, List, Ok, String, inl, inr, refl, string_bytes, ℕ}
+use Rattle.bolt_cli.proofs.Vocabulary.{Deed, Ghosts, Help, PrintsText, Refusal, Refuses, Version}
+use Rattle.bolt_cli.proofs.Telling.{DoesDeeds-as}
 use Rattle.bolt_cli.proofs.whole_run.refuse.Goals as goal
 
 -- help and the version are printed
@@ -14,9 +14,9 @@ pub returns-in-Usage : goal.returns-in-Usage
 returns-in-Usage g c = DoesDeeds-as c.refuse_usage.ensures (λ deeds refuses. rw (c.in-Usage.is, ← c.as_str.ensures.value) refuses)
 
 pub returns-in-Word : goal.returns-in-Word
-returns-in-Word g c = DoesDeeds-one _ c.say.ensures (rw c.in-Word.is (ap error_line c.as_bytes.ensures.value, refl))
+returns-in-Word g c = DoesDeeds-as c.refuse_word.ensures (λ deeds refuses. rw c.in-Word.is refuses)
 
 pub returns-in-Help : goal.returns-in-Help
 returns-in-Help g c =
-    DoesDeeds-as (c.print.ensures (Ok 0) refl refl)
-    (λ deeds prints. printed g.O.Target.Sink g.O.Output.Sink c.args.refusal.now c.in-Help.text deeds _ c.in-Help.is (rw c.as_bytes-in-Help.ensures.value at prints))
+    DoesDeeds-as (c.print.ensures (Ok 0) (c.new.ensures.taken, c.new.ensures.sound) refl)
+    (λ deeds prints. printed g.O.Target.Sink g.O.Output.Sink c.args.refusal.now c.in-Help.text deeds _ c.in-Help.is (rw c.as_bytes.ensures.value at prints))

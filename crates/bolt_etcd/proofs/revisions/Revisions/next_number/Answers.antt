@@ -1,15 +1,15 @@
-use Rattle.std.proofs.Common.{Option, ap, arith, sym, ◌∙◌, ◌<◌}
+use Rattle.std.proofs.Common.{Option, Some, ap, arith, refl, sym, ◌∙◌, ◌<◌}
 use Rattle.std.specs.Option.{option_map}
 use Rattle.std.specs.Prelude.{IfSome}
 use Rattle.bolt_tree.specs.ShownEntries.{shown_entry}
-use Rattle.bolt_etcd.specs.{Numbered.GivesNumber, RevisionsLeft.ahead_of, RevisionsLeft.number_ahead}
+use Rattle.bolt_etcd.specs.{Numbered.GivesNumber, Numbered.numbered_of, RevisionsLeft.ahead_of, RevisionsLeft.number_ahead}
 use Rattle.bolt_etcd.specs.declared.revision_key.RevisionKey.{RevisionKey}
-use Rattle.bolt_etcd.proofs.NumberSteps.{goes_by_none, none_numbered, number_given, number_goes_on, number_none, some_numbered}
+use Rattle.bolt_etcd.proofs.{NumberSteps.none_numbered, NumberSteps.some_numbered, PassSteps.goes_by_none, PassSteps.goes_by_one, PassSteps.none_shown, PassSteps.one_shown}
 use Rattle.bolt_etcd.proofs.RevisionSteps.{goes_none, number_falls}
 use Rattle.bolt_etcd.proofs.revisions.Revisions.next_number.Goals as goal
 
 pub rest-init : goal.rest-init
-rest-init c = goes_by_none c.args.self.now
+rest-init c = goes_by_none numbered_of c.args.self.now
 
 pub rest-smaller : goal.rest-smaller
 rest-smaller c =
@@ -18,7 +18,7 @@ rest-smaller c =
 
 pub rest-preserved : goal.rest-preserved
 rest-preserved c =
-    number_goes_on c.args.self.now c.rest.self c.advance.new.self _ c.rest.invariant c.advance.ensures.checked c.advance.ensures.start c.advance.ensures.first
+    goes_by_one numbered_of c.args.self.now c.rest.self c.advance.new.self _ c.rest.invariant c.advance.ensures.checked c.advance.ensures.start c.advance.ensures.first
     (shown_entry c.in-Some.entry) (ap (option_map shown_entry) c.in-Some.is) (none_numbered c.number_of-key.result _ (sym c.is_some.ensures ∙ c.if-is_some.false) c.number_of-key.ensures.key)
     (number_falls c.rest.self c.rest.self c.advance.new.self _ (goes_none c.rest.self) c.advance.ensures.first (shown_entry c.in-Some.entry)
     (ap (option_map shown_entry) c.in-Some.is) c.advance.ensures.checked c.advance.ensures.start)
@@ -26,9 +26,12 @@ rest-preserved c =
 pub returns-then-is_some-clause-given : goal.returns-then-is_some-clause-given
 returns-then-is_some-clause-given c = λ entries are.
     some_numbered (λ (o : Option RevisionKey). GivesNumber (ahead_of c.args.self.now entries) (ahead_of c.advance.new.self entries) o) c.number_of-key.result _
-    (sym c.is_some.ensures ∙ c.if-is_some.true) c.number_of-key.ensures.key (λ r found.
-    number_given c.args.self.now c.rest.self c.advance.new.self _ c.rest.invariant c.advance.ensures.checked c.advance.ensures.start c.advance.ensures.first
-    (shown_entry c.in-Some.entry) r (ap (option_map shown_entry) c.in-Some.is) found entries are)
+    (sym c.is_some.ensures ∙ c.if-is_some.true) c.number_of-key.ensures.key (λ r found. (
+      r,
+      one_shown numbered_of c.args.self.now c.rest.self c.advance.new.self _ c.rest.invariant c.advance.ensures.checked c.advance.ensures.start c.advance.ensures.first
+          (shown_entry c.in-Some.entry) (Some r) (ap (option_map shown_entry) c.in-Some.is) found entries are,
+      refl,
+    ))
 
 pub returns-then-is_some-clause-fewer : goal.returns-then-is_some-clause-fewer
 returns-then-is_some-clause-fewer c =
@@ -42,5 +45,5 @@ returns-then-is_some-clause-fewer c =
 
 pub returns-clause-given : goal.returns-clause-given
 returns-clause-given c =
-    number_none c.args.self.now c.rest.self c.advance.new.self _ c.rest.invariant c.advance.ensures.checked c.advance.ensures.start c.advance.ensures.first
+    none_shown numbered_of c.args.self.now c.rest.self c.advance.new.self _ c.rest.invariant c.advance.ensures.checked c.advance.ensures.start c.advance.ensures.first
     (ap (option_map shown_entry) c.in_default.is)

@@ -1,13 +1,13 @@
-use Rattle.std.proofs.Common.{Option, ap, arith, refl, sym, ◌∙◌, ◌<◌}
+use Rattle.std.proofs.Common.{Option, Some, ap, arith, refl, sym, ◌∙◌, ◌<◌}
 use Rattle.std.specs.Option.{option_map}
 use Rattle.bolt_tree.specs.ShownEntries.{shown_entry}
-use Rattle.bolt_etcd.specs.{Others.GivesOther, Others.OtherView, RevisionsLeft.ahead_of, RevisionsLeft.number_ahead}
-use Rattle.bolt_etcd.proofs.OtherSteps.{goes_by_none, if_other, none_other, other_given, other_goes_on, other_none, some_other}
+use Rattle.bolt_etcd.specs.{Others.GivesOther, Others.OtherView, Others.other_of, RevisionsLeft.ahead_of, RevisionsLeft.number_ahead}
+use Rattle.bolt_etcd.proofs.{OtherSteps.if_other, OtherSteps.none_other, OtherSteps.some_other, PassSteps.goes_by_none, PassSteps.goes_by_one, PassSteps.none_shown, PassSteps.one_shown}
 use Rattle.bolt_etcd.proofs.RevisionSteps.{goes_none, number_falls}
 use Rattle.bolt_etcd.proofs.revisions.Revisions.next_other.Goals as goal
 
 pub rest-init : goal.rest-init
-rest-init c = record { goes = goes_by_none c.args.self.now; others = refl }
+rest-init c = record { goes = goes_by_none other_of c.args.self.now; others = refl }
 
 pub rest-smaller : goal.rest-smaller
 rest-smaller c =
@@ -16,7 +16,7 @@ rest-smaller c =
 
 pub rest-preserved : goal.rest-preserved
 rest-preserved c = record {
-  goes = other_goes_on c.args.self.now c.rest.self c.advance.new.self _ c.rest.invariant.goes c.advance.ensures.checked c.advance.ensures.start c.advance.ensures.first
+  goes = goes_by_one other_of c.args.self.now c.rest.self c.advance.new.self _ c.rest.invariant.goes c.advance.ensures.checked c.advance.ensures.start c.advance.ensures.first
       (shown_entry c.in-Some.entry) (ap (option_map shown_entry) c.in-Some.is) (none_other c.of-other.result _ (sym c.is_some.ensures ∙ c.if-is_some.false) c.of-other.ensures)
       (number_falls c.rest.self c.rest.self c.advance.new.self _ (goes_none c.rest.self) c.advance.ensures.first (shown_entry c.in-Some.entry)
       (ap (option_map shown_entry) c.in-Some.is) c.advance.ensures.checked c.advance.ensures.start);
@@ -27,8 +27,8 @@ pub returns-then-is_some-clause-given : goal.returns-then-is_some-clause-given
 returns-then-is_some-clause-given c = λ entries are.
     some_other (λ (o : Option OtherView). GivesOther (ahead_of c.args.self.now entries) (ahead_of c.advance.new.self entries) o) c.of-other.result _
     (sym c.is_some.ensures ∙ c.if-is_some.true) c.of-other.ensures (λ o found.
-    other_given c.args.self.now c.rest.self c.advance.new.self _ c.rest.invariant.goes c.advance.ensures.checked c.advance.ensures.start c.advance.ensures.first
-    (shown_entry c.in-Some.entry) o (ap (option_map shown_entry) c.in-Some.is) found entries are)
+    one_shown other_of c.args.self.now c.rest.self c.advance.new.self _ c.rest.invariant.goes c.advance.ensures.checked c.advance.ensures.start c.advance.ensures.first
+    (shown_entry c.in-Some.entry) (Some o) (ap (option_map shown_entry) c.in-Some.is) found entries are)
 
 pub returns-then-is_some-clause-fewer : goal.returns-then-is_some-clause-fewer
 returns-then-is_some-clause-fewer c =
@@ -41,5 +41,5 @@ returns-then-is_some-clause-fewer c =
 
 pub returns-clause-given : goal.returns-clause-given
 returns-clause-given c =
-    other_none c.args.self.now c.rest.self c.advance.new.self _ c.rest.invariant.goes c.advance.ensures.checked c.advance.ensures.start c.advance.ensures.first
+    none_shown other_of c.args.self.now c.rest.self c.advance.new.self _ c.rest.invariant.goes c.advance.ensures.checked c.advance.ensures.start c.advance.ensures.first
     (ap (option_map shown_entry) c.in_default.is)

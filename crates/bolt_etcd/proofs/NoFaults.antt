@@ -1,0 +1,43 @@
+-- If nothing is missing of names in the order of their sums, no line is written of them.
+use Rattle.std.proofs.Common.{◌≡◌, ◌∙◌, ◌↔◌, Bool, true, false, ℕ, List, [], flat_map, map, not, Option, Some, None, refl, sym, ap, subst}
+use Rattle.std.proofs.lemmas.List.Sorted.{IsPermutation-map, IsPermutation-trans}
+use Rattle.std.specs.List.Sorted.{IsPermutation}
+use Rattle.std.specs.Option.{is_some}
+use Rattle.bolt_tree.specs.declared.bucket.Bucket.{Bucket}
+use Rattle.bolt_tree.specs.Order.{Rises}
+use Rattle.bolt_etcd.specs.{CheckLines.fault_lines, Current.place_cmp, FaultsLeft.ForGranted, FaultsLeft.GivesFault, NameFaults.AreByName}
+use Rattle.bolt_etcd.specs.{NameFaults.NameFaultView, NameFaults.name_faults, Revisions.RevisionView, ShownRevisions.shown_revision, StoreFaults.name_lines, SumOrder.AreBySum}
+use Rattle.bolt_etcd.specs.declared.{name_faults.NameFault.NameFault, revision.Revision.Revision}
+use Rattle.bolt_etcd.proofs.{FaultsOfNames.none_by_name, StoreLemmas.granted_map}
+
+is_true : (b : Bool) → false ≡ not b → b ≡ true
+is_true true e = refl
+is_true false e = cc
+
+-- a pass has nothing to return if it returns nothing first
+pub none_first : (old new : List NameFaultView) (o : Option NameFault) (b : Bool) → is_some o ≡ not b → GivesFault old new o → (b ≡ true) ↔ (old ≡ [])
+none_first old new None b is (none, end) = (λ whole. none, λ empty. is_true b is)
+none_first old new (Some f) b is first = (
+  λ whole. absurd (let both : true ≡ false = is ∙ ap not whole in cc),
+  λ empty. absurd (let both = sym first ∙ empty in cc),
+)
+
+-- nor has a store lines of its names then
+pub none_lines : (rs : List RevisionView) (slice by_sum : List Revision) (compacted : Option ℕ) (leases : Option Bucket) (b : Bool) → Rises place_cmp rs
+    → AreBySum rs (map shown_revision by_sum) → slice ≡ by_sum → b ≡ true
+    → ForGranted leases (λ granted. (b ≡ true) ↔ (name_faults compacted granted None (map shown_revision slice) ≡ []))
+    → ForGranted leases (λ granted. (by_name : List RevisionView) → AreByName rs by_name → name_lines compacted granted by_name ≡ [])
+none_lines rs slice by_sum compacted leases b rises sums same whole none =
+    granted_map leases (λ granted. (b ≡ true) ↔ (name_faults compacted granted None (map shown_revision slice) ≡ []))
+    (λ granted. (by_name : List RevisionView) → AreByName rs by_name → name_lines compacted granted by_name ≡ [])
+    (λ granted both by_name is.
+    let empty = subst (λ (l : List Revision). name_faults compacted granted None (map shown_revision l) ≡ []) same (both.0 whole) in
+    ap (flat_map fault_lines) (none_by_name compacted granted rs (map shown_revision by_sum) by_name rises sums is empty)) none
+
+-- sorted by sums and then by name
+pub by_name_after : (rs by_name : List RevisionView) (by_sum rough : List Revision) → AreBySum rs (map shown_revision by_sum) → IsPermutation by_sum rough
+    → AreByName (map shown_revision rough) by_name → AreByName rs by_name
+by_name_after rs by_name by_sum rough sums moved names = record {
+  same = IsPermutation-trans _ _ _ sums.same (IsPermutation-trans _ _ _ (IsPermutation-map shown_revision by_sum rough moved) names.same);
+  rises = names.rises;
+}

@@ -1,0 +1,53 @@
+-- Revisions sorted by the sums of their names, as they are shown.
+use Rattle.std.proofs.Common.{◌≡◌, ◌∙◌, ℕ, Bool, List, ap, ap₂, map, nat_cmp, sym}
+use Rattle.std.proofs.lemmas.List.MinMax.{ranks_by}
+use Rattle.std.proofs.lemmas.List.Sorted.{IsPermutation-map}
+use Rattle.std.specs.Cmp.{IsStrictWeakOrder}
+use Rattle.std.specs.List.Sorted.{IsPermutation, IsSortedBy}
+use Rattle.std.specs.Ordering.{is_lt, ordering_then}
+use Rattle.std.specs.declared.cmp.Ordering.{Ordering}
+use Rattle.std.specs.declared.cmp.Ordering.TheVariants.{Equal}
+use Rattle.bolt_check.specs.Keys.{key_cmp}
+use Rattle.bolt_etcd.specs.{NameOrder.name_sum, NameOrder.sums_cmp, Revisions.RevisionView, Revisions.name_of, ShownRevisions.entry_of, ShownRevisions.shown_revision, Superseded.entry_name_cmp}
+use Rattle.bolt_etcd.specs.SumOrder.{AreSortedBy, by_sum_cmp, newest_by_sum_cmp}
+use Rattle.bolt_etcd.specs.declared.revision.Revision.{Revision}
+use Rattle.bolt_etcd.proofs.{MappedLists.sorted_mapped, NameOrders.sums_tie, NameOrders.sums_total, NewestOfNames.newest_ranks, SortedOnce.named_total, StoredRevisions.decided, StoredRevisions.named}
+
+-- ---- sums decide, or else names
+
+module _ (a b : Revision) where
+  abbrev name_a : List ℕ
+  name_a = name_of (shown_revision a)
+
+  abbrev name_b : List ℕ
+  name_b = name_of (shown_revision b)
+
+  pub as_entries : (o : Ordering) → o ≡ sums_cmp name_a name_b → o ≡ entry_name_cmp (entry_of a) (entry_of b)
+  as_entries o is = is ∙ sym (ap₂ sums_cmp (named a) (named b))
+
+  pub by_sums : (o : Ordering) → o ≡ nat_cmp (name_sum name_a) (name_sum name_b) → (o ≡ Equal → ⊥) → o ≡ sums_cmp name_a name_b
+  by_sums o is differ = is ∙ sym (decided _ _ (λ e. differ (is ∙ e)))
+
+  pub by_names : (o p : Ordering) → o ≡ nat_cmp (name_sum name_a) (name_sum name_b) → o ≡ Equal → p ≡ key_cmp name_a name_b → p ≡ sums_cmp name_a name_b
+  by_names o p is tied names = names ∙ sym (ap (λ (q : Ordering). ordering_then q (key_cmp name_a name_b)) (sym is ∙ tied))
+
+-- ---- sorted so
+
+abbrev pub code_by_sum : Revision → Revision → Bool
+code_by_sum a b = is_lt (by_sum_cmp (shown_revision a) (shown_revision b))
+
+pub code_by_sum_ranks : IsStrictWeakOrder code_by_sum
+code_by_sum_ranks = ranks_by (named_total sums_total) shown_revision
+
+abbrev pub code_newest_by_sum : Revision → Revision → Bool
+code_newest_by_sum a b = is_lt (newest_by_sum_cmp (shown_revision a) (shown_revision b))
+
+pub code_newest_by_sum_ranks : IsStrictWeakOrder code_newest_by_sum
+code_newest_by_sum_ranks = newest_ranks (λ r. name_of (shown_revision r)) (λ r. (shown_revision r).place) sums_cmp sums_total sums_tie
+
+pub are_sorted : (cmp : RevisionView → RevisionView → Ordering) (old sorted : List Revision) → IsPermutation old sorted
+    → IsSortedBy (λ a b. is_lt (cmp (shown_revision a) (shown_revision b))) sorted → AreSortedBy cmp (map shown_revision old) (map shown_revision sorted)
+are_sorted cmp old sorted moved up = record {
+  same = IsPermutation-map shown_revision old sorted moved;
+  rises = sorted_mapped shown_revision (λ a b. is_lt (cmp a b)) sorted up;
+}

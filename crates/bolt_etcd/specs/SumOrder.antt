@@ -1,0 +1,25 @@
+-- Revisions by the sums of their names. Those of one name stand together, and it is quicker than by name.
+use Rattle.std.specs.Prelude.{List}
+use Rattle.std.specs.List.Sorted.{IsPermutation, IsSortedBy}
+use Rattle.std.specs.Ordering.{is_lt, ordering_then}
+use Rattle.std.specs.declared.cmp.Ordering.{Ordering}
+use Rattle.bolt_etcd.specs.{Current.place_cmp, NameOrder.sums_cmp, Revisions.RevisionView, Revisions.name_of}
+
+-- by the sums of names, and of one name in their order
+abbrev pub by_sum_cmp : RevisionView → RevisionView → Ordering
+by_sum_cmp a b = ordering_then (sums_cmp (name_of a) (name_of b)) (place_cmp a b)
+
+-- by the sums of names, and of one name the later ones first
+abbrev pub newest_by_sum_cmp : RevisionView → RevisionView → Ordering
+newest_by_sum_cmp a b = ordering_then (sums_cmp (name_of a) (name_of b)) (place_cmp b a)
+
+-- these revisions, in an order
+pub record AreSortedBy (cmp : RevisionView → RevisionView → Ordering) (rs sorted : List RevisionView) : Type 0 where
+  pub same : IsPermutation rs sorted
+  pub rises : IsSortedBy (λ a b. is_lt (cmp a b)) sorted
+
+abbrev pub AreBySum : List RevisionView → List RevisionView → Type 0
+AreBySum rs sorted = AreSortedBy by_sum_cmp rs sorted
+
+abbrev pub AreNewestBySum : List RevisionView → List RevisionView → Type 0
+AreNewestBySum rs sorted = AreSortedBy newest_by_sum_cmp rs sorted

@@ -1,0 +1,123 @@
+//! Adds a path to what is gathered.
+ghost use Rattle.std.specs.Prelude.{◌≡◌, ◌∷◌};
+ghost use Rattle.bolt_format.specs.{Endings.ending};
+ghost use Rattle.bolt_tree.specs.Paths.{path_of};
+ghost use Rattle.bolt_text.specs.Gathers.{Gathers};
+ghost use Rattle.bolt_text.specs.NamedPaths.{named_path, text_after};
+ghost use Rattle.bolt_text.specs.Pieces.{later_parts, part_text, path_text, separator};
+
+use crate::gathered::{Gathered, add_bytes, add_hex, add_hex_string};
+use crate::readable::is_readable;
+use bolt_format::{Sink, SinkFault};
+
+/// How the parts of a path are written.
+#[derive(Clone, Copy)]
+pub enum PathForm {
+    /// In lower-case hexadecimal, joined by slashes.
+    Slashes,
+    /// In lower-case hexadecimal as JSON strings, joined by commas.
+    Strings,
+    /// As they are, joined by slashes.
+    Plain,
+}
+
+/// Adds a path in hexadecimal, and its text if it can be read.
+pub(crate) fn add_named_path<S: Sink>(
+    parts: &[&[u8]],
+    gathered: &mut Gathered,
+    sink: &mut S,
+) -> Result<(), SinkFault>
+    ensures { Gathers S.Sink sink.old sink.new gathered.old.items gathered.new.items
+        (named_path (path_of parts.now)) (ending result) }
+{
+    add_path(parts, PathForm::Slashes, gathered, sink)?;
+    add_text_after(parts, gathered, sink)
+}
+
+/// Adds the parts of a path in brackets, if it can be read.
+fn add_text_after<S: Sink>(
+    parts: &[&[u8]],
+    gathered: &mut Gathered,
+    sink: &mut S,
+) -> Result<(), SinkFault>
+    ensures { Gathers S.Sink sink.old sink.new gathered.old.items gathered.new.items
+        (text_after (path_of parts.now)) (ending result) }
+{
+    if !is_readable(parts) {
+        return Ok(());
+    }
+    add_bytes(b" (", gathered, sink)?;
+    add_path(parts, PathForm::Plain, gathered, sink)?;
+    add_bytes(b")", gathered, sink)
+}
+
+/// Adds the parts of a path in a form.
+pub(crate) fn add_path<S: Sink>(
+    parts: &[&[u8]],
+    form: PathForm,
+    gathered: &mut Gathered,
+    sink: &mut S,
+) -> Result<(), SinkFault>
+    ensures { Gathers S.Sink sink.old sink.new gathered.old.items gathered.new.items
+        (path_text form (path_of parts.now)) (ending result) }
+{
+    let Some((first, rest)) = parts.split_first() else {
+        return Ok(());
+    };
+    add_part(first, form, gathered, sink)?;
+    add_later_parts(rest, form, gathered, sink)
+}
+
+/// Adds a separator and then the part, for each of these parts.
+fn add_later_parts<S: Sink>(
+    parts: &[&[u8]],
+    form: PathForm,
+    gathered: &mut Gathered,
+    sink: &mut S,
+) -> Result<(), SinkFault>
+    ensures { Gathers S.Sink sink.old sink.new gathered.old.items gathered.new.items
+        (later_parts form parts.now) (ending result) }
+{
+    for part in parts {
+        add_later_part(part, form, gathered, sink)?;
+    }
+    Ok(())
+}
+
+fn add_later_part<S: Sink>(
+    part: &[u8],
+    form: PathForm,
+    gathered: &mut Gathered,
+    sink: &mut S,
+) -> Result<(), SinkFault>
+    ensures { Gathers S.Sink sink.old sink.new gathered.old.items gathered.new.items
+        (separator form ∷ part_text form part.now) (ending result) }
+{
+    add_bytes(&[separator(form)], gathered, sink)?;
+    add_part(part, form, gathered, sink)
+}
+
+fn separator(form: PathForm) -> u8
+    ensures { result ≡ separator form }
+{
+    match form {
+        PathForm::Slashes | PathForm::Plain => b'/',
+        PathForm::Strings => b',',
+    }
+}
+
+fn add_part<S: Sink>(
+    part: &[u8],
+    form: PathForm,
+    gathered: &mut Gathered,
+    sink: &mut S,
+) -> Result<(), SinkFault>
+    ensures { Gathers S.Sink sink.old sink.new gathered.old.items gathered.new.items
+        (part_text form part.now) (ending result) }
+{
+    match form {
+        PathForm::Slashes => add_hex(part, gathered, sink),
+        PathForm::Strings => add_hex_string(part, gathered, sink),
+        PathForm::Plain => add_bytes(part, gathered, sink),
+    }
+}
