@@ -4,10 +4,11 @@
     compare_bbolt.py PROGRAM BBOLT FILE [BUCKET KEY]
 
 BBOLT is the program of tools/bbolt. Each command is run by both in turn; the figures are medians of
-five. If BUCKET, a bucket of FILE, and KEY, a key of it, are there, `keys` and `get` are timed too. A copy by bbolt is made with each size of a
-transaction that one would choose, its own default and a large one, and not synced; the faster one
-counts. Memory is the most that was resident; bbolt maps the file, and what it touched of it counts too.
-Prints a row for each command. The status is 1 if a command fails.
+five. If BUCKET, a bucket of FILE, and KEY, a key of it, are there, `keys` and `get` are timed too. A copy by
+bbolt is made with each size of a transaction that one would choose, its own default and a large one, and not
+synced; the faster one counts. Memory is the most that was resident; bbolt maps the file, and what it touched of
+it counts too. Prints a row for each command, and one of `check` in turn without large pages and with them, which
+the kernel may give on request. The status is 1 if a command fails.
 """
 
 import os
@@ -20,6 +21,7 @@ from statistics import median
 MEASURED = "out/measured"
 ROUNDS = 5
 TRANSACTIONS = (65536, 16 << 20)
+LARGE_PAGES = ["env", "GLIBC_TUNABLES=glibc.malloc.hugetlb=1"]
 
 
 def run(words):
@@ -67,6 +69,12 @@ def compare_copies(program, bbolt, file):
     fresh(copy)
 
 
+def compare_large_pages(program, file):
+    """Prints the row of `check` without large pages and with them."""
+    words = [program, "check", file]
+    shown("check without large pages, with them", medians(lambda: run(words), lambda: run([*LARGE_PAGES, *words])))
+
+
 def main():
     program, bbolt, file, *path = sys.argv[1:]
     print(f"{file}: luntsegi, bbolt")
@@ -76,6 +84,7 @@ def main():
         compare(program, bbolt, file, "keys", path[0])
         compare(program, bbolt, file, "get", *path)
     compare_copies(program, bbolt, file)
+    compare_large_pages(program, file)
 
 
 if __name__ == "__main__":
