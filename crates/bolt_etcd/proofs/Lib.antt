@@ -45,6 +45,7 @@ pub mod Places
 pub mod RepairLaws
 pub mod RepairedListings
 pub mod RestoredStores
+pub mod RevisionDocuments
 pub mod RevisionLoops
 pub mod RevisionSteps
 pub mod RevisionTexts

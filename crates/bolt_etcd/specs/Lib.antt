@@ -37,6 +37,7 @@ pub mod Returns
 pub mod RevisionKeys
 pub mod RevisionLines
 pub mod RevisionMarks
+pub mod RevisionObjects
 pub mod Revisions
 pub mod RevisionsLeft
 pub mod Shown

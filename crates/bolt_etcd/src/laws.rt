@@ -1,4 +1,4 @@
-//! What the definitions imply.
+//! What the definitions imply, and that revisions as JSON are read back.
 ghost use Rattle.std.specs.Prelude.{◌≡◌, ◌≤◌, ◌<◌, ◌↔◌, ℕ, ◌&&◌, Bool, List, [], ◌∷◌, None, Some, codes, false, length, not, true, map};
 ghost use Rattle.std.specs.Option.{is_some};
 ghost use Rattle.bolt_check.specs.Keys.{key_cmp};
@@ -22,6 +22,9 @@ ghost use Rattle.bolt_check.specs.{Ones.AtMostOne, Sound.HasSoundTrees};
 ghost use Rattle.bolt_format.specs.declared.meta.Meta.{Meta};
 ghost use Rattle.bolt_recover.specs.Recovered.{IsRecovered};
 ghost use Rattle.bolt_etcd.specs.LostRevisions.{LosesRevisions};
+ghost use Rattle.bolt_etcd.specs.{RevisionLines.revision_line, RevisionObjects.ReadsRevisionsBack, RevisionObjects.revision_json};
+ghost use Rattle.bolt_text.specs.{Forms.digits_json, Forms.item_json, Forms.json_text, JsonReadings.digits_of, JsonReadings.item_of, Lines.line};
+ghost use Rattle.bolt_text.specs.declared.forms.Form.TheVariants as Form;
 ghost use Rattle.bolt_etcd.specs.{Repaired.ForRepaired, Repaired.IsRepaired, Repairs.GoesBack, Repairs.store_path, Revisions.name_of};
 ghost use Rattle.bolt_tree.specs.{Entries.Bucket, InBuckets.entry_in, Listing.IsListing, Listing.Member, Listing.member_cmp, Tree.Tree, Tree.listing_of};
 
@@ -79,6 +82,19 @@ pub fn a_mark_has_a_number_alone()
 pub fn missing_transactions_are_told_exactly()
     ensures { ForNumbered (λ compacted rs missing. (t : ℕ)
         → IsTold t missing ↔ IsMissing compacted t rs) }
+{}
+
+/// The line of a revision as JSON is, without its line feed, a JSON document, with its value or
+/// without. A reader that looks up its members by their names finds its numbers, its name and its
+/// value.
+#[tactic(auto, using(crate::proofs::RevisionDocuments::read_back))]
+pub fn json_revisions_read_back()
+    ensures text { (values : Bool) (r : RevisionView) → revision_line Form.Json values r
+        ≡ line (json_text (revision_json item_json values r)) }
+    ensures hex_text { (values : Bool) (r : RevisionView) → revision_line Form.JsonHex values r
+        ≡ line (json_text (revision_json digits_json values r)) }
+    ensures item { ReadsRevisionsBack item_of item_json }
+    ensures hex_item { ReadsRevisionsBack digits_of digits_json }
 {}
 
 /// Revisions in the order of their keys have one order by name, and there is one list of the keys

@@ -3,13 +3,9 @@ use Rattle.std.specs.Prelude.{◌≡◌, ℕ, ◌<◌, ◌^◌, List, [], ◌∷
 use Rattle.std.specs.Str.Parse.{digits_value}
 use Rattle.hex.specs.Hex.{IsBytes}
 use Rattle.json.specs.Json.{Json, Members, document, member, no_members, null, number}
-use Rattle.bolt_text.specs.{Forms.json_text, JsonReadings.members_of, JsonReadings.named, JsonReadings.number_of}
+use Rattle.bolt_text.specs.{Forms.json_text, JsonReadings.members_of, JsonReadings.named, JsonReadings.number_under}
 use Rattle.bolt_stats.specs.declared.figures.Stats.{Stats}
 use Rattle.bolt_report.specs.{FigureForms.Named, SizeLines.bytes_allocated, SizeLines.bytes_used, SizeLines.size_json}
-
--- the number under a name
-abbrev pub figure_in : List ℕ → Members → Option ℕ
-figure_in name ms = option_and_then number_of (named name ms)
 
 -- by what reads a key or a value
 module _ (read : Json → Option (List ℕ)) where
@@ -17,7 +13,7 @@ module _ (read : Json → Option (List ℕ)) where
   abbrev pub size_of_members : Members → Option (ℕ × ℕ × ℕ × List ℕ)
   size_of_members ms =
       option_and_then (λ keys. option_and_then (λ used. option_and_then (λ allocated. option_map (λ name. (keys, used, allocated, name))
-      (option_and_then read (named (codes "name") ms))) (figure_in (codes "allocated") ms)) (figure_in (codes "used") ms)) (figure_in (codes "keys") ms)
+      (option_and_then read (named (codes "name") ms))) (number_under (codes "allocated") ms)) (number_under (codes "used") ms)) (number_under (codes "keys") ms)
 
   abbrev pub size_of : Json → Option (ℕ × ℕ × ℕ × List ℕ)
   size_of json = option_and_then size_of_members (members_of json)

@@ -38,6 +38,10 @@ abbrev pub number_of : Json → Option ℕ
 number_of (number s) = Some (digits_value 10 s)
 number_of _ = None
 
+-- the number under a name
+abbrev pub number_under : List ℕ → Members → Option ℕ
+number_under name ms = option_and_then number_of (named name ms)
+
 -- by what reads a key or a value
 module _ (read : Json → Option (List ℕ)) where
   abbrev pub parts_of : Items → Option Path
