@@ -44,7 +44,7 @@ def lines_in_cases():
 def failing_lines(script):
     """The words of each command line whose calls fail in a script: lines of its lists, and its own, mostly in quotes."""
     lists = [line for text in texts_of("tools/try/*.txt") for line in text.splitlines()]
-    own = [part for text in texts_of(f"tools/try/{script}") for part in re.split(r'["\n]', text)]
+    own = [part for text in texts_of(f"tools/try/{script}") for part in re.split(r'["\n]', re.sub(r"(?m)^#.*", "", text))]
     return [set(line.split()) for line in lists + own]
 
 
