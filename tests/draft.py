@@ -11,6 +11,7 @@
 | `at OFFSET BYTES ..` | bytes over those at a place |
 | `cut LENGTH` | the file ends there |
 | `nested COUNT` | this many buckets `b`, each in the preceding one, in pages of 1,024 bytes |
+| `levels COUNT` | this many pages of 1,024 bytes, each but the last a branch with one child |
 
 An ELEMENT of a leaf is `KEY=VALUE`; a bucket `KEY:BYTES` with these bytes as its value, `KEY>PAGE/SEQUENCE` with a
 root page, or `KEY@N`, the inline bucket number N. `0..9=v` is one for each number, in five digits, and `#0..9=v` in
@@ -156,6 +157,8 @@ class Draft:
                 del self.file[int(words[0]) :]
             case "nested":
                 self.nest(int(words[0]))
+            case "levels":
+                self.stack(int(words[0]))
             case _:
                 raise Unread(verb)
 
@@ -239,3 +242,11 @@ class Draft:
         self.take("leaf", ["3", f"b@{len(self.inline) - 1}"])
         for number in range(4, count + 3):
             self.take("leaf", [str(number), f"b>{number - 1}/0"])
+
+    def stack(self, count):
+        """The root page is the first of these pages, and an empty leaf the last."""
+        self.set_fields(self.metas, ["page_size=1024", f"mark={count + 3}"])
+        self.begin(count + 3)
+        for number in range(3, count + 2):
+            self.take("branch", [str(number), f"a>{number + 1}"])
+        self.take("leaf", [str(count + 2)])

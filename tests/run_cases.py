@@ -10,8 +10,8 @@ of these other lines is the verb:
 
 | verb | what |
 |---|---|
-| `file` | describes the file of the next test cases (draft.py) |
-| `text` | gives the lines of the next file, which is a text, as those of a result (wanted.py) |
+| `file` | names the file of the next test cases, and describes it (descriptions.py, draft.py) |
+| `text` | the same of a text, whose lines are those of a result (wanted.py) |
 | `swap` | exchanges it for the one that is kept |
 | `cut` | ends it at a length |
 | `$` | a command line and its result (wanted.py) |
@@ -22,16 +22,19 @@ of these other lines is the verb:
 Other verbs are calls, which crates/test_calls/src/main.rt lists, and their results. In their words keys are written
 as in `file`. Walks print lines in hexadecimal, as `list` does; other calls print keys as they are.
 
-Prints each test case that doesn't hold, after its comment and what its file is, and how many of each file do. The
-status is 1 unless all hold, and unless a file of test cases holds some. With `--none` before the FILEs no test case
-may hold: so a file of wrong ones shows that these are found."""
+Prints each test case that doesn't hold, after its comment and what its file is, and how many of each file do. A test
+case that repeats the line of another one, on a file of the same bytes, doesn't hold either. The status is 1 unless all
+hold, and unless a file of test cases holds some. With `--none` before the FILEs no test case may hold: so a file of
+wrong ones shows that these are found."""
 
+import hashlib
 import os
 import subprocess
 import sys
 import tempfile
-from itertools import takewhile
 
+from blocks import blocks_of, parted
+from descriptions import Descriptions, Misnamed
 from draft import make
 from wanted import Wanted
 from words import Unread, bytes_of, halves, path_of
@@ -39,13 +42,6 @@ from words import Unread, bytes_of, halves, path_of
 SECONDS = 120
 # The program prints the name by which it was called, so it is always called by this one.
 NAME = "luntsegi"
-
-
-def parted(block):
-    """The comment of a block, and its other lines."""
-    lines = block.split("\n")
-    comment = [*takewhile(lambda line: line.startswith("#"), lines)]
-    return "\n".join(comment), "\n".join(lines[len(comment) :])
 
 
 def key(word):
@@ -93,14 +89,76 @@ def handed_over(verb, words):
     return [ways[min(i, len(ways) - 1)](word) for i, word in enumerate(words)]
 
 
-class Bench:
-    """The file of the next test cases, with its description and their comment; another file, which is kept; and how
-    many test cases held and didn't."""
+class Differs(Exception):
+    """A test case that doesn't hold, and its result."""
 
-    def __init__(self, program, calls, folder):
-        self.program, self.calls, self.folder = program, calls, folder
+    def __str__(self):
+        out, err, status, copy = self.args[0]
+        return f"standard output {out!r:.600}\nstandard error {err!r:.300}\nstatus {status}, {len(copy)} bytes in OUT"
+
+
+class Repeated(Exception):
+    """A test case whose line was tried before, on the same file."""
+
+
+class Bench:
+    """The file of the next test cases, with its name and their comment; another file, which is kept; how many test cases
+    of a file of them held and didn't; and where each line was first tried on a file of these bytes."""
+
+    def __init__(self, program, calls):
+        self.program, self.calls = os.path.abspath(program), os.path.abspath(calls)
+        self.descriptions, self.tried = Descriptions(), {}
+
+    def try_file(self, name):
+        """Tries the test cases of a file. Returns how many hold and how many don't."""
+        self.place = name
+        self.descriptions.begin(name)
         self.file, self.kept, self.held, self.failed = b"", b"", 0, 0
-        self.comment, self.described = "", ""
+        self.comment, self.named = "", ""
+        with tempfile.TemporaryDirectory() as self.folder:
+            for block in blocks_of(name):
+                self.try_block(*parted(block))
+        print(f"{name}: {self.held} hold, {self.failed} don't", flush=True)
+        return self.held, self.failed
+
+    def try_block(self, comment, head, lines):
+        self.comment = comment or self.comment
+        try:
+            self.take(head, lines)
+        except (Differs, Misnamed, Repeated, Unread, subprocess.TimeoutExpired, ValueError, KeyError, IndexError) as fault:
+            self.failed += 1
+            what = [self.comment, self.named, head, *lines]
+            print(f"{type(fault).__name__}:", "\n".join(it for it in what if it), f"\n{fault!s:.1000}\n")
+
+    def take(self, head, lines):
+        verb, words = halves(head, " ")
+        match verb:
+            case "file" | "text":
+                self.named = ""
+                described = self.descriptions.lines_of(head, lines)
+                self.file = make("\n".join(described)) if verb == "file" else Wanted(described).out
+                self.named = head
+            case "cut":
+                self.file = self.file[: int(words)]
+            case "swap":
+                self.file, self.kept = self.kept, self.file
+            case "":
+                pass
+            case _:
+                self.try_case(verb, words.split(), lines)
+
+    def try_case(self, verb, words, lines):
+        """Tries a test case, which holds only if it is the first with its line on this file."""
+        case = hashlib.sha256(self.file).digest(), verb, *words
+        before = self.tried.get(case)
+        self.tried[case] = before or f"`{self.named}` in {self.place}"
+        if verb == "flips":
+            self.flip_each(words, Wanted(lines))
+        else:
+            self.compare(self.result(verb, words), Wanted(it for it in lines if it))
+        if before:
+            raise Repeated(f"this line was tried on the same file, {before}")
+        self.held += 1
 
     def run(self, program, *words):
         """What a program writes on the file, its status, and what it writes into OUT."""
@@ -116,29 +174,6 @@ class Bench:
             os.remove(out)
         return ran.stdout, ran.stderr, ran.returncode, copy
 
-    def take(self, block):
-        comment, block = parted(block)
-        self.comment = comment or self.comment
-        head, *lines = block.split("\n")
-        verb, words = halves(head, " ")
-        match verb:
-            case "file":
-                self.described = head
-                self.file = make("\n".join(lines))
-            case "text":
-                self.described = head
-                self.file = Wanted(lines).out
-            case "cut":
-                self.file = self.file[: int(words)]
-            case "swap":
-                self.file, self.kept = self.kept, self.file
-            case "":
-                pass
-            case "flips":
-                self.flip_each(words.split(), Wanted(lines))
-            case _:
-                self.compare(self.result(verb, words.split()), Wanted(it for it in lines if it))
-
     def flip_each(self, words, wanted):
         """Runs a command line with the lowest bit of each byte in a range changed, one after the other."""
         bounds, *line = words
@@ -150,7 +185,6 @@ class Bench:
             self.file = whole
             if (result[0].partition(b"\n")[0] + b"\n", result[2]) != (wanted.out, 1):
                 raise Differs(result)
-        self.held += 1
 
     def result(self, verb, words):
         if verb == "$":
@@ -168,42 +202,13 @@ class Bench:
             raise Differs(result)
         if wanted.copy == "new":
             self.file = copy
-        self.held += 1
-
-    def try_block(self, block):
-        try:
-            self.take(block)
-        except (Differs, Unread, subprocess.TimeoutExpired, ValueError, KeyError, IndexError) as fault:
-            self.failed += 1
-            case = parted(block)[1]
-            what = [case] if case.startswith("file") else [self.comment, self.described, case]
-            print(f"{type(fault).__name__}:", "\n".join(it for it in what if it), f"\n{fault!s:.1000}\n")
-
-
-class Differs(Exception):
-    """A test case that doesn't hold, and its result."""
-
-    def __str__(self):
-        out, err, status, copy = self.args[0]
-        return f"standard output {out!r:.600}\nstandard error {err!r:.300}\nstatus {status}, {len(copy)} bytes in OUT"
-
-
-def try_file(name, program, calls, kind=Bench):
-    """Tries the test cases of a file on a bench of this kind. Returns how many hold and how many don't."""
-    with open(name, encoding="utf-8", newline="\n") as it:
-        blocks = it.read().rstrip("\n").split("\n\n")
-    with tempfile.TemporaryDirectory() as folder:
-        bench = kind(program, calls, folder)
-        for block in blocks:
-            bench.try_block(block)
-    print(f"{name}: {bench.held} hold, {bench.failed} don't", flush=True)
-    return bench.held, bench.failed
 
 
 def main(words):
     program, calls, *names = words
     are_wrong = names[:1] == ["--none"]
-    counts = [try_file(name, os.path.abspath(program), os.path.abspath(calls)) for name in names[are_wrong:]]
+    bench = Bench(program, calls)
+    counts = [bench.try_file(name) for name in names[are_wrong:]]
     return all(failed > 0 and held == 0 if are_wrong else held > 0 and failed == 0 for held, failed in counts)
 
 

@@ -4,6 +4,9 @@ from program import want
 from results import Shown, figures_of, rows_of, word_of
 
 FIRST_ROLES = ("branch", "leaf", "freelist")
+# The letter of each kind on the map, which has so many a line.
+LETTERS = {"meta": "M", "freelist": "F", "branch": "B", "leaf": "L", "free": "."}
+LETTERS_A_LINE = 64
 
 
 def compare_tree(tree, entries):
@@ -20,18 +23,29 @@ def compare_tree(tree, entries):
         want(listed.get(path) == shown.get(path), "page and list differ at", word_of(path))
 
 
+def compare_map(file, letters, past_end):
+    """`pages --map` has these letters, and then how many free pages lie past the end, as `pages` has."""
+    starts = range(0, len(letters), LETTERS_A_LINE)
+    lines = [f"{start:<8} {letters[start : start + LETTERS_A_LINE]}\n" for start in starts]
+    if past_end:
+        lines.append(f"{past_end} free pages past the end of the file\n")
+    want(file.text("pages", "--map").decode() == "".join(lines), "pages --map isn't pages:", lines)
+
+
 def compare_pages(file, info, length):
-    """Each page below the mark stands once in `pages`, with what `page` shows of it; and those that
+    """Each page below the mark stands once in `pages`, with what `page` shows of it, and on the map; and those that
     are free are those of the freelist."""
     rows, past_end = rows_of(file.text("pages"))
-    numbers = []
+    numbers, letters = [], ""
     shown = file.some(number for _, number, kind in rows if kind in FIRST_ROLES)
     for line, number, kind in rows:
-        taken = line[8 + 1 + 10 + 1 + 6 + 1 :].strip()
-        numbers += range(number, number + 1 + int(taken or 0))
+        taken = int(line[8 + 1 + 10 + 1 + 6 + 1 :].strip() or 0)
+        numbers += range(number, number + 1 + taken)
+        letters += LETTERS[kind] + "+" * taken
         if number in shown:
             page = Shown(file.text("page", number))
             want(page.row() == line, "page", number, "and pages differ:", page.row(), line)
+    compare_map(file, letters, past_end)
     begun = min(info["high water"], -(-length // info["page size"]))
     is_whole = len(numbers) == begun and numbers == list(range(begun))
     want(is_whole, "pages has other pages than those that begin in the file")

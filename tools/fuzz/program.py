@@ -23,6 +23,7 @@ FIGURES = [
     "branch allocated", "branch used", "leaf pages", "leaf overflow", "leaf allocated", "leaf used",
 ]
 TABLE = rb"ID       TYPE       ITEMS  OVRFLW\n={8} ={10} ={6} ={6}\n"
+MAP_LINE = rb"\d+ +[MFBL+.]{1,64}\n"
 ROW = rb"\d+ +(?:meta|freelist|branch|leaf|free) +\d* +\d* *\n"
 PAST_END = rb"(?:\d+ free pages past the end of the file\n)?"
 
@@ -31,7 +32,7 @@ TEXTS = {
     "info": rb"page size \d+\nmeta [01]\ntxid \d+\nroot \d+\nsequence \d+\n"
     rb"freelist (?:\d+|none)\nhigh water \d+\n",
     "page": rb"page \d+\ntype (?:branch|leaf|meta|freelist)\nitems \d+\noverflow \d+\n(?:%b)*" % ITEM,
-    "pages": TABLE + rb"(?:%b)*" % ROW + PAST_END,
+    "pages": rb"(?:%b(?:%b)*|(?:%b)+)%b" % (TABLE, ROW, MAP_LINE, PAST_END),
     "check": rb"OK\n",
     "etcd-check": rb"OK\n",
     "stats": b"".join(figure.encode() + rb" \d+\n" for figure in FIGURES),

@@ -3,7 +3,14 @@
 from program import want
 
 BUCKETS = (b"auth", b"authRoles", b"authUsers", b"key", b"lease", b"meta")
-READING = (["etcd-revisions"], ["etcd-revisions", "--from", "1"], ["etcd-keys", "--values"], ["etcd-get", "a"])
+READING = (
+    ["etcd-revisions"],
+    ["etcd-revisions", "--from", "1"],
+    ["etcd-keys", "--values"],
+    ["etcd-keys", "--at", "1"],
+    ["etcd-get", "a"],
+    ["etcd-get", "a", "--at", "1"],
+)
 
 
 def compare_unread_store(file, checked):

@@ -3,11 +3,10 @@ one, and says so in its version.
 
     command_lines.py PROGRAM FILE.."""
 
-import os
 import sys
 
 import wanted
-from run_cases import Bench, parted, try_file
+from run_cases import Bench
 from words import halves
 
 MOST_BYTES = 2**19
@@ -21,12 +20,11 @@ class Lines(Bench):
         known = self.file is not None and ("+ kept" not in wanted or self.kept is not None)
         return known and len(self.file) <= MOST_BYTES
 
-    def take(self, block):
+    def take(self, head, wanted):
         global left_out
-        head, *wanted = parted(block)[1].split("\n")
         verb, _ = halves(head, " ")
         if verb in ("file", "text", "swap", "") or (verb in ("$", "cut") and self.is_small(wanted)):
-            super().take(block)
+            super().take(head, wanted)
         elif verb != "cut" or self.file is not None:
             left_out += verb == "$"
             self.file = None if "+ new" in wanted else self.file
@@ -35,7 +33,8 @@ class Lines(Bench):
 def main():
     program, *names = sys.argv[1:]
     wanted.VERSION += " unproved"
-    counts = [try_file(name, os.path.abspath(program), "-", Lines) for name in names]
+    bench = Lines(program, "-")
+    counts = [bench.try_file(name) for name in names]
     held, failed = (sum(it) for it in zip(*counts))
     print(f"{held} command lines hold, {failed} don't, {left_out} on larger files are left out")
     sys.exit(held == 0 or failed != 0)

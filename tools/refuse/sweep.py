@@ -23,17 +23,24 @@ SECONDS = 60
 MOST_WRITTEN = "7"
 FULL = "the full result"
 PART_OF_LINE = "a part of its line"
-# The commands that may have printed a part of their text when memory runs out: always, or with one of
-# these words.
+# The words with which a command may have printed a part of its text when memory runs out; None if it always may.
 MAY_BEGIN = {
-    "list": None,
+    "info": (),
+    "page": (),
+    "pages": (),
+    "check": (),
     "buckets": ("--sizes", "json", "--recover"),
     "keys": ("json", "--recover"),
     "get": ("json", "--recover"),
+    "stats": (),
+    "list": None,
+    "compact": (),
+    "load": (),
     "etcd-revisions": ("json",),
     "etcd-keys": ("json",),
     "etcd-get": ("json",),
     "etcd-check": None,
+    "etcd-repair": (),
 }
 
 # The lines that report the failure of a call; the first of them must come.
@@ -85,7 +92,7 @@ class Command:
         return os.path.exists(self.mark)
 
     def may_begin(self):
-        words = MAY_BEGIN.get(self.name, ())
+        words = MAY_BEGIN[self.name]
         return words is None or any(word in self.words for word in words)
 
     def reads_on(self):

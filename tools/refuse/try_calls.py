@@ -16,8 +16,10 @@ import sys
 import tempfile
 from collections import Counter
 
+from blocks import blocks_of, parted
+from descriptions import Descriptions
 from draft import make
-from run_cases import handed_over, parted
+from run_cases import handed_over
 from words import halves
 
 SECONDS = 60
@@ -65,15 +67,9 @@ def is_right(verb, path, said):
     return said.count(GOES_ON) > 1 if path == ["."] else BEGINS_AGAIN in said
 
 
-def try_block(calls, library, folder, block):
-    """Writes a file that is described, or tries a call. Returns whether it ended as it must."""
-    head, *lines = parted(block)[1].split("\n")
+def try_call(calls, library, folder, head):
+    """Tries a call, and says how its runs ended. Returns whether that is as it must be."""
     verb, words = halves(head, " ")
-    if verb == "file":
-        with open(os.path.join(folder, "FILE"), "wb") as it:
-            it.write(make("\n".join(lines)))
-    if verb not in ENDS:
-        return True
     words = handed_over(verb, words.split())
     said = outcomes_of(calls, library, folder, [verb, "FILE", *words])
     ends = ", ".join(f"{count} {it.decode().strip() or 'the full result'}" for it, count in Counter(said).items())
@@ -83,10 +79,18 @@ def try_block(calls, library, folder, block):
 
 def main():
     calls, library, cases = (os.path.abspath(it) for it in sys.argv[1:])
-    with open(cases, encoding="utf-8", newline="\n") as it:
-        blocks = it.read().rstrip("\n").split("\n\n")
+    descriptions = Descriptions()
+    descriptions.begin(cases)
+    good = []
     with tempfile.TemporaryDirectory() as folder:
-        good = [try_block(calls, library, folder, block) for block in blocks]
+        for block in blocks_of(cases):
+            _, head, lines = parted(block)
+            verb, _ = halves(head, " ")
+            if verb == "file":
+                with open(os.path.join(folder, "FILE"), "wb") as it:
+                    it.write(make("\n".join(descriptions.lines_of(head, lines))))
+            elif verb in ENDS:
+                good.append(try_call(calls, library, folder, head))
     sys.exit(0 if all(good) else 1)
 
 

@@ -27,11 +27,11 @@ bash tools/streams/try_reading.sh "$program" "$PWD/out/refuse.so" $app
 with_lines printing.txt not_printing.txt -- sweep write 1 $app
 sweep write 1 $leaked check list
 with_lines etcd.txt -- sweep write 1 $etcd
-sweep write 10 $app "compact -o OUT" "compact -o OUT --etcd-snapshot"
+sweep write 10 $app "compact -o OUT" "compact -o OUT --etcd-snapshot --page-size 1024"
 sweep once 1 $app list "buckets --sizes"
 sweep once 6000 out/listed_long.db list
 sweep once 10 $app "compact -o OUT" "compact -o OUT --etcd-snapshot"
-sweep write 10 $listing "load -o OUT" "load -o OUT --etcd-snapshot"
+sweep write 10 $listing "load -o OUT --for-bbolt" "load -o OUT --etcd-snapshot --page-size 1024 --sequence 7"
 sweep write 1 $damaged "check --all" "check --lost-and-found"
 with_lines recoveries.txt -- sweep write 200 $damaged
 sweep read 1 $app info list "compact -o OUT"

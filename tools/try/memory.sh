@@ -26,7 +26,8 @@ sweep 1 $nested info "page 3" pages check buckets stats list "list --from 62/62"
 with_lines printing.txt not_printing.txt -- sweep 1 $app "compact -o OUT --page-size 1024" \
 	"compact -o OUT --etcd-snapshot"
 with_lines etcd.txt -- sweep 1 examples/etcd.db "etcd-keys --form json --values"
-sweep 1 examples/app.list "load -o OUT" "load -o OUT --for-bbolt" "load -o OUT --etcd-snapshot"
+sweep 1 examples/app.list "load -o OUT" "load -o OUT --for-bbolt --page-size 1024 --sequence 7" \
+	"load -o OUT --etcd-snapshot"
 sweep 1 examples/leaked.db check "list --meta 1" "compact -o OUT --meta 1"
 sweep 1 $deep info check buckets stats
 REFUSED_CALL=memory REFUSED_NUMBER=300 LD_PRELOAD=out/refuse.so "$program" check $deep | grep -qx OK
