@@ -1,5 +1,5 @@
 -- Revisions as JSON: their text, and that they are read back.
-use Rattle.std.proofs.Common.{◌≡◌, ◌∙◌, ℕ, zero, suc, ◌<◌, ◌≤◌, ◌/◌, ◌%◌, ◌^◌, ◌++◌, Bool, true, false, List, [], ◌∷◌, Option, Some, None, ap, append_assoc, arith, codes, decimal, get_or, length, map, option_and_then, option_map, refl, sym}
+use Rattle.std.proofs.Common.{◌≡◌, ◌∙◌, ℕ, zero, suc, ◌<◌, ◌≤◌, ◌/◌, ◌%◌, ◌^◌, ◌++◌, Bool, true, false, List, [], ◌∷◌, Option, Some, ap, append_assoc, arith, codes, decimal, get_or, length, map, option_and_then, refl, sym}
 use Rattle.std.proofs.lemmas.Bool.{cond_both}
 use Rattle.std.proofs.lemmas.Fmt.{digits_is_IsNumeral}
 use Rattle.std.proofs.lemmas.List.FromFn.{get_or-map-range_with_len}
@@ -10,12 +10,12 @@ use Rattle.std.specs.Str.{is_utf8}
 use Rattle.std.specs.Str.Parse.{digits_value}
 use Rattle.hex.specs.Hex.{encode_lower}
 use Rattle.json.proofs.{Printed.Decimals.IsNumber-decimal, Printed.Tokens.print_from-append, Printed.Trees.document-print}
-use Rattle.json.specs.{Json.Json, Json.document, Json.member, Json.no_members, Json.object, Json.string, Print.escape, Print.escape_byte, Print.print_from, Token.Token, Tree.HasNumbers, Tree.MembersHaveNumbers, Tree.depth, Tree.json_tokens, Tree.members_depth, Tree.members_tokens}
+use Rattle.json.specs.{Json.Json, Json.document, Json.member, Json.no_members, Json.object, Json.string, Print.escape, Print.escape_byte, Print.print_from, Token.Token, Tree.HasNumbers, Tree.MembersHaveNumbers, Tree.json_tokens, Tree.members_depth, Tree.members_tokens}
 use Rattle.bolt_text.proofs.JsonLemmas.{Reads, digits_read, items_read, numeral_back}
 use Rattle.bolt_text.specs.{Forms.digits_json, Forms.item_json, Forms.json_text, JsonReadings.digits_of, JsonReadings.item_of, Lines.line}
 use Rattle.bolt_text.specs.declared.forms.Form.TheVariants as form
 use Rattle.bolt_etcd.specs.{RevisionLines.members, RevisionLines.revision_line, Revisions.RevisionView}
-use Rattle.bolt_etcd.specs.RevisionObjects.{IsOfBytes, ReadRevision, ReadsRevisionsBack, as_read, read_revision, revision_json, value_if_there, value_member}
+use Rattle.bolt_etcd.specs.RevisionObjects.{IsOfBytes, ReadRevision, ReadsRevisionsBack, as_read, read_revision, revision_json, value_member}
 
 -- ---- digits in hexadecimal need no escapes
 
