@@ -100,9 +100,12 @@ class Repeated(Exception):
     """A test case whose line was tried before, on the same file."""
 
 
+FAULTS = (Differs, Misnamed, Repeated, Unread, subprocess.TimeoutExpired, ValueError, LookupError)
+
+
 class Bench:
-    """The file of the next test cases, with its name and their comment; how many test cases of a file of them held and
-    didn't; and where each line was first tried on a file of these bytes."""
+    """The file of the next test cases, with its name and their comment; how many test cases held and didn't; and where
+    each line was first tried on a file of these bytes."""
 
     def __init__(self, program, calls):
         self.program, self.calls = os.path.abspath(program), os.path.abspath(calls)
@@ -124,7 +127,7 @@ class Bench:
         self.comment = comment or self.comment
         try:
             self.take(head, lines)
-        except (Differs, Misnamed, Repeated, Unread, subprocess.TimeoutExpired, ValueError, KeyError, IndexError) as fault:
+        except FAULTS as fault:
             self.failed += 1
             what = [self.comment, self.named, head, *lines]
             print(f"{type(fault).__name__}:", "\n".join(it for it in what if it), f"\n{fault!s:.1000}\n")
