@@ -102,7 +102,7 @@ huge: $(PROGRAM)
 	mkdir -p out
 	PYTHONPATH=tests:tools/format python3 -B tools/try/huge.py $(PROGRAM) out
 
-# Alters the program's output in fourteen ways. The comparisons must find each alteration.
+# Alters the program's output in many ways. The comparisons must find each alteration.
 fuzz-wrong: $(PROGRAM)
 	$(MAKER) tools/fuzz/try_wrong.py $(PROGRAM)
 

@@ -45,7 +45,7 @@ class Descriptions:
         if head in self.own:
             raise Misnamed(f"`{head}` is described already: this line is enough, or this file needs another name")
         if (kind, *whole) in self.places:
-            raise Misnamed("`{}` in {} is the same file: use its name".format(*self.places[kind, *whole]))
+            raise Misnamed("`{}` in {} is the same file: it is described once, for several in shared.files".format(*self.places[kind, *whole]))
         self.places[kind, *whole] = head, self.place
         self.own[head] = whole
         return whole

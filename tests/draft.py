@@ -8,6 +8,7 @@
 | `inline SEQUENCE ELEMENT ..` | an inline bucket, to which `@0`, `@1` and so on refer |
 | `leaf PAGE ELEMENT ..`, `branch PAGE KEY>CHILD ..` | a page; `PAGE+1` is one with overflow 1 |
 | `free PAGE 4 7-9 ..`, `long PAGE COUNT 4 7-9 ..` | a freelist in the short form, or in the long one; `10-20/2*3` is each second page, thrice |
+| `zero PAGE ..` | pages of zeros |
 | `at OFFSET BYTES ..` | bytes over those at a place |
 | `cut LENGTH` | the file ends there |
 | `nested COUNT` | this many buckets `b`, each in the preceding one, in pages of 1,024 bytes |
@@ -151,6 +152,9 @@ class Draft:
                 self.put(words[0], self.freelist(words[0], words[1:]))
             case "long":
                 self.put(words[0], self.long_freelist(words[0], words[1:]))
+            case "zero":
+                for number in words:
+                    self.put(number, bytes(self.size()))
             case "at":
                 self.patch(int(words[0]), b"".join(bytes_of(word) for word in words[1:]))
             case "cut":

@@ -12,7 +12,6 @@ of these other lines is the verb:
 |---|---|
 | `file` | names the file of the next test cases, and describes it (descriptions.py, draft.py) |
 | `text` | the same of a text, whose lines are those of a result (wanted.py) |
-| `swap` | exchanges it for the one that is kept |
 | `cut` | ends it at a length |
 | `$` | a command line and its result (wanted.py) |
 | `cuts` | `FIRST-LAST` and a command line, which has this result on each prefix of the file with a length in this range |
@@ -101,9 +100,12 @@ class Repeated(Exception):
     """A test case whose line was tried before, on the same file."""
 
 
+FAULTS = (Differs, Misnamed, Repeated, Unread, subprocess.TimeoutExpired, ValueError, LookupError)
+
+
 class Bench:
-    """The file of the next test cases, with its name and their comment; another file, which is kept; how many test cases
-    of a file of them held and didn't; and where each line was first tried on a file of these bytes."""
+    """The file of the next test cases, with its name and their comment; how many test cases held and didn't; and where
+    each line was first tried on a file of these bytes."""
 
     def __init__(self, program, calls):
         self.program, self.calls = os.path.abspath(program), os.path.abspath(calls)
@@ -113,7 +115,7 @@ class Bench:
         """Tries the test cases of a file. Returns how many hold and how many don't."""
         self.place = name
         self.descriptions.begin(name)
-        self.file, self.kept, self.held, self.failed = b"", b"", 0, 0
+        self.file, self.held, self.failed = b"", 0, 0
         self.comment, self.named = "", ""
         with tempfile.TemporaryDirectory() as self.folder:
             for block in blocks_of(name):
@@ -125,7 +127,7 @@ class Bench:
         self.comment = comment or self.comment
         try:
             self.take(head, lines)
-        except (Differs, Misnamed, Repeated, Unread, subprocess.TimeoutExpired, ValueError, KeyError, IndexError) as fault:
+        except FAULTS as fault:
             self.failed += 1
             what = [self.comment, self.named, head, *lines]
             print(f"{type(fault).__name__}:", "\n".join(it for it in what if it), f"\n{fault!s:.1000}\n")
@@ -140,8 +142,6 @@ class Bench:
                 self.named = head
             case "cut":
                 self.file = self.file[: int(words)]
-            case "swap":
-                self.file, self.kept = self.kept, self.file
             case "":
                 pass
             case _:
@@ -196,12 +196,20 @@ class Bench:
 
     def compare(self, result, wanted):
         out, err, status, copy = result
-        copies = {"": b"", "FILE": self.file, "kept": self.kept, "new": copy}
-        is_copy = copy == copies[wanted.copy] and (wanted.copy != "new" or copy != b"")
-        if not is_copy or not wanted.is_met(out, err, status):
+        if not self.is_copy(copy, wanted.copy) or not wanted.is_met(out, err, status):
             raise Differs(result)
         if wanted.copy == "new":
             self.file = copy
+
+    def is_copy(self, copy, wanted):
+        match wanted:
+            case "":
+                return copy == b""
+            case "new":
+                return copy != b""
+            case "FILE":
+                return copy == self.file
+        return copy == make("\n".join(self.descriptions.known(f"file {wanted}")))
 
 
 def main(words):

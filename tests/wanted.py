@@ -10,7 +10,7 @@ r"""What a test case requires.
 | `>x FIRST LAST BEFORE AFTER` | a line for each with five digits in hexadecimal, between two texts |
 | `>..`, `!..` | any lines |
 | `= STATUS` | the status, if it isn't 0; a word after it says why |
-| `+ COPY` | what the copy must be: `FILE` itself, the file that is `kept`, or a `new` one, which is the file of the next test cases |
+| `+ COPY` | what the copy must be: `FILE` itself, the file of a name (descriptions.py), or a `new` one, of which the next test cases are |
 
 In a TEXT, \x and two digits stand for a byte, and `{version}` for the program's version. Without a line `+` there is no
 copy."""

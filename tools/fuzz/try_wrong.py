@@ -90,6 +90,12 @@ def report_other_fault(words, result):
     result.err = re.sub(rb"(page \d+): .*", rb"\1: cut off", result.err)
 
 
+@alters("pages", "--map")
+def show_leaf(words, result):
+    """maps: pages --map shows a branch as a leaf"""
+    result.out = result.out.replace(b"B", b"L", 1)
+
+
 @alters("buckets", "--sizes")
 def drop_size(words, result):
     """buckets: buckets --sizes drops its last bucket"""

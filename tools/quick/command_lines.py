@@ -16,14 +16,13 @@ left_out = 0
 class Lines(Bench):
     """A bench that leaves the other test cases out. A file that one of them would make is none."""
 
-    def is_small(self, wanted):
-        known = self.file is not None and ("+ kept" not in wanted or self.kept is not None)
-        return known and len(self.file) <= MOST_BYTES
+    def is_small(self):
+        return self.file is not None and len(self.file) <= MOST_BYTES
 
     def take(self, head, wanted):
         global left_out
         verb, _ = halves(head, " ")
-        if verb in ("file", "text", "swap", "") or (verb in ("$", "cut") and self.is_small(wanted)):
+        if verb in ("file", "text", "") or (verb in ("$", "cut") and self.is_small()):
             super().take(head, wanted)
         elif verb != "cut" or self.file is not None:
             left_out += verb == "$"
