@@ -1,20 +1,20 @@
 -- The repair of a file that was searched.
-use Rattle.std.proofs.Common.{◌≡◌, ◌∙◌, ◌-◌, ◌≤◌, ◌&&◌, ◌==◌, ◌++◌, ℕ, Bool, true, false, List, [], ◌∷◌, Option, Some, arith, length, map, not, refl, sym, ap, ap₂, subst}
+use Rattle.std.proofs.Common.{◌≡◌, ◌∙◌, ◌-◌, ◌≤◌, ◌&&◌, ◌==◌, ◌++◌, ℕ, Bool, true, false, List, [], ◌∷◌, Some, arith, length, map, not, refl, sym, ap, ap₂, subst}
 use Rattle.std.proofs.Math.Logic.{∥∥₁_elim, ∥∥₁_map}
 use Rattle.std.proofs.Props.{props}
 use Rattle.std.proofs.lemmas.{Bool.eqb-true, Bool.ne_eqb, List.Elements.All-head, List.Elements.All-tail, List.length-map}
 use Rattle.std.specs.{Borrow.Bor, List.All, Option.option_map}
 use Rattle.bolt_format.specs.{Elements.LeafElement, Pages.page_at, TreePages.leaves_on, declared.meta.Meta.Meta}
 use Rattle.bolt_check.specs.{Keys.Key, declared.finding.Finding.Finding}
-use Rattle.bolt_tree.specs.{Entries.EntryView, Entries.Item, Listing.Member, ShownEntries.item_view}
+use Rattle.bolt_tree.specs.{Listing.Member, ShownEntries.item_view}
 use Rattle.bolt_recover.proofs.Existing.{has_recovered}
 use Rattle.bolt_recover.specs.{Losses.everything, Lost.IsAllLost, LostAndFound.all_lost}
-use Rattle.bolt_recover.specs.{Found.AreFound, Found.numbers_of, Recovered.ForRecovered, Recovered.IsRecovered, Refusals.LosesRoot, ShownFound.IsFoundView, Sites.leaves_of, declared.found.Found.Found, declared.lost_and_found.LostAndFound.LostAndFound}
+use Rattle.bolt_recover.specs.{Found.numbers_of, Recovered.ForRecovered, Recovered.IsRecovered, Refusals.LosesRoot, ShownFound.IsFoundView, Sites.leaves_of, declared.found.Found.Found, declared.lost_and_found.LostAndFound.LostAndFound}
 use Rattle.bolt_etcd.specs.declared.revision.Revision.{Revision}
 use Rattle.bolt_etcd.specs.ShownRevisions.{entry_of}
 use Rattle.bolt_etcd.specs.{Among.without, Candidates.AreCandidates, Candidates.elements_of, Compacted.compacted_by, FullRepairs.IsFullRepair}
-use Rattle.bolt_etcd.specs.{Repaired.IsRepair, Repaired.MakesStore, Repaired.elements_on, Repaired.lacks_bucket, Superseded.ArePutBack, Surveys.IsSurvey, Surveys.IsSurveyOf, Undisputed.AreKeys, Undisputed.AreUndisputed, declared.survey.Survey.Survey}
-use Rattle.bolt_etcd.proofs.WholeRepairs.{are_back, back_fewer, candidate_keys, compacted_at, is_nil, makes, no_value}
+use Rattle.bolt_etcd.specs.{Repaired.IsRepair, Repaired.elements_on, Repaired.lacks_bucket, Superseded.ArePutBack, Surveys.IsSurvey, Surveys.IsSurveyOf, Undisputed.AreKeys, Undisputed.AreUndisputed, declared.survey.Survey.Survey}
+use Rattle.bolt_etcd.proofs.WholeRepairs.{back_least, full_repair, is_nil, repair}
 
 -- the elements of the pages of the code are those of the pages with their numbers
 elements_found : (file : List ℕ) (meta : Meta) (found : List Found) → All (IsFoundView file meta) found → elements_on file meta (numbers_of found) ≡ elements_of found
@@ -22,44 +22,6 @@ elements_found file meta [] views = refl
 elements_found file meta (f ∷ found) views =
     let here : leaves_of (page_at file meta f.number) ≡ leaves_on f.page = ap leaves_of (All-head (IsFoundView file meta) f found views).page in
     ap₂ (λ (a b : List LeafElement). a ++ b) here (elements_found file meta found (All-tail (IsFoundView file meta) f found views))
-
-module _ (file : List ℕ) (meta : Meta) (found : List Found) (are_found : AreFound file meta (numbers_of found)) (views : All (IsFoundView file meta) found)
-    (all agreed back : List EntryView) (met : List Key) (under : Option Item) (noted : Option (List ℕ)) (candidates : AreCandidates (elements_of found) all) (agree : AreUndisputed (without met all) agreed)
-    (recovered : List Member) (recovers : IsRecovered file meta recovered) (survey : IsSurvey recovered all under noted met)
-    (put : ArePutBack (compacted_by noted) recovered agreed back) where
-  abbrev elements : List LeafElement
-  elements = elements_on file meta (numbers_of found)
-
-  on_pages : AreCandidates elements all
-  on_pages = subst (λ (es : List LeafElement). AreCandidates es all) (sym (elements_found file meta found views)) candidates
-
-  pub back_least : (keys : List Key) → AreKeys (without met all) keys → length back ≤ length keys
-  back_least keys are = back_fewer recovered elements all met under noted on_pages survey agreed agree (compacted_by noted) back put keys are
-
-  module _ (lacks : Bool) (is_lacking : lacks_bucket under ≡ Some lacks) (is_made : Bool) (made : is_made ≡ (lacks && not (is_nil back))) where
-    pub repair : IsRepair file meta back is_made
-    repair = record {
-      recovered = recovered;
-      recovers = recovers;
-      found = numbers_of found;
-      are_found = are_found;
-      compacted = compacted_by noted;
-      is_compacted = compacted_at recovered elements all met under noted on_pages survey;
-      are_back = are_back recovered elements all met under noted on_pages survey agreed agree (compacted_by noted) back put;
-      makes = subst (MakesStore recovered back) (sym made) (makes recovered elements all met under noted on_pages survey lacks is_lacking back);
-    }
-
-    pub full_repair : (keys : List Key) → AreKeys (without met all) keys → (left_out : ℕ) → left_out ≡ length keys - length back → IsFullRepair file meta back is_made left_out
-    unfolding repair
-    full_repair keys are left_out number =
-        let few = back_least keys are in
-        record {
-          repair = repair;
-          left = (keys, candidate_keys recovered elements all met under noted on_pages survey keys are, omega (arith, few, number));
-          bucket = no_value recovered elements all met under noted on_pages survey lacks is_lacking;
-        }
-
--- ---- of the code
 
 pub loses_root : (both : LostAndFound) (x : Finding) → all_lost both ≡ everything x → ∥ LosesRoot both.file.now both.meta x ∥₁
 unfolding all_lost
@@ -99,6 +61,9 @@ module _ (both : LostAndFound) (pages : List Found) (on : pages ≡ both.found.i
   on_all : AreCandidates (elements_of both.found.items) (map entry_of all)
   on_all = subst (λ (ps : List Found). AreCandidates (elements_of ps) (map entry_of all)) on candidates
 
+  on_pages : All (IsFoundView both.file.now both.meta) both.found.items → AreCandidates (elements_on both.file.now both.meta (numbers_of both.found.items)) (map entry_of all)
+  on_pages views = subst (λ (es : List LeafElement). AreCandidates es (map entry_of all)) (sym (elements_found both.file.now both.meta both.found.items views)) on_all
+
   surveyed : IsSurvey recovered (map entry_of all) (option_map item_view survey.store) (option_map now survey.compaction) (map now survey.met.items)
   surveyed = subst (λ (es : List Revision). IsSurveyOf recovered (map entry_of es) survey) same (surveys recovered is_recovered)
 
@@ -108,17 +73,17 @@ module _ (both : LostAndFound) (pages : List Found) (on : pages ≡ both.found.i
   pub searched_least : (keys : List Key) → AreKeys (without (map now survey.met.items) (map entry_of all)) keys → length back ≤ length keys
   searched_least keys are = ∥∥₁_elim both.searched (hlevel props) (λ searched.
       let long = length-map back entry_of in
-      let few = back_least both.file.now both.meta both.found.items searched.are_found searched.views (map entry_of all) (map entry_of left) (map entry_of back) (map now survey.met.items) _ _ on_all agree recovered is_recovered surveyed put_back keys are in
+      let few = back_least both.file.now both.meta (numbers_of both.found.items) searched.are_found (map entry_of all) (map entry_of left) (map entry_of back) (map now survey.met.items) _ _ (on_pages searched.views) agree recovered is_recovered surveyed put_back keys are in
       omega (arith, long, few))
 
   module _ (lacks : Bool) (is_lacking : lacks_bucket (option_map item_view survey.store) ≡ Some lacks) (is_made : Bool) (made : is_made ≡ (lacks && not (is_nil (map entry_of back)))) where
     pub searched_repair : ∥ IsRepair both.file.now both.meta (map entry_of back) is_made ∥₁
     searched_repair = ∥∥₁_map both.searched (λ searched.
-        repair both.file.now both.meta both.found.items searched.are_found searched.views (map entry_of all) (map entry_of left) (map entry_of back) (map now survey.met.items) _ _ on_all agree recovered is_recovered surveyed put_back
+        repair both.file.now both.meta (numbers_of both.found.items) searched.are_found (map entry_of all) (map entry_of left) (map entry_of back) (map now survey.met.items) _ _ (on_pages searched.views) agree recovered is_recovered surveyed put_back
         lacks is_lacking is_made made)
 
     pub searched_full : (keys : List Key) → AreKeys (without (map now survey.met.items) (map entry_of all)) keys → (left_out : ℕ) → left_out ≡ length keys - length back
         → ∥ IsFullRepair both.file.now both.meta (map entry_of back) is_made left_out ∥₁
     searched_full keys are left_out number = ∥∥₁_map both.searched (λ searched.
-        full_repair both.file.now both.meta both.found.items searched.are_found searched.views (map entry_of all) (map entry_of left) (map entry_of back) (map now survey.met.items) _ _ on_all agree recovered is_recovered surveyed put_back
+        full_repair both.file.now both.meta (numbers_of both.found.items) searched.are_found (map entry_of all) (map entry_of left) (map entry_of back) (map now survey.met.items) _ _ (on_pages searched.views) agree recovered is_recovered surveyed put_back
         lacks is_lacking is_made made keys are left_out (let long = length-map back entry_of in omega (arith, long, number)))

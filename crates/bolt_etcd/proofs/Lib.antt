@@ -4,6 +4,7 @@ pub mod CandidateLemmas
 pub mod CompactedFirst
 pub mod CompactionsAdded
 pub mod Currents
+pub mod Decisions
 pub mod EtcdCompacts
 pub mod FaultsOfNames
 pub mod Fields
@@ -42,6 +43,7 @@ pub mod OtherSteps
 pub mod PassSteps
 pub mod Passing
 pub mod Places
+pub mod RepairExists
 pub mod RepairLaws
 pub mod RepairedListings
 pub mod RestoredStores
@@ -53,6 +55,7 @@ pub mod RevisionsExact
 pub mod RevisionsUntil
 pub mod Rising
 pub mod SnapshotLemmas
+pub mod SortedChoice
 pub mod SortedExists
 pub mod SortedFirst
 pub mod SortedOnce

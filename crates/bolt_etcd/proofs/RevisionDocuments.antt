@@ -114,9 +114,19 @@ module _ (shown : List ℕ → Json) (read : Json → Option (List ℕ)) (reads 
   value_depth false r = omega arith
 
   has_numbers : (values : Bool) (r : RevisionView) → IsOfBytes r → HasNumbers (revision_json shown values r)
-  has_numbers values r is =
-      (IsNumber-decimal r.key.main is.main, (IsNumber-decimal r.key.sub is.sub, (IsNumber-decimal r.content.created is.created, (IsNumber-decimal r.content.version is.version,
-      (tt, (IsNumber-decimal (length r.content.value) is.bytes, (reads.numbers r.content.name, value_numbers values r)))))))
+  has_numbers values r is = (
+    IsNumber-decimal r.key.main is.main,
+    (
+      IsNumber-decimal r.key.sub is.sub,
+      (
+        IsNumber-decimal r.content.created is.created,
+        (
+          IsNumber-decimal r.content.version is.version,
+          (tt, (IsNumber-decimal (length r.content.value) is.bytes, (reads.numbers r.content.name, value_numbers values r))),
+        ),
+      ),
+    ),
+  )
 
   -- what is found in turn
   abbrev found_by : (revision sub created version lease bytes : ℕ) → Option (List ℕ) → Option (Option (List ℕ)) → Option ReadRevision

@@ -75,6 +75,9 @@ same_candidates x y first second e =
     let (keys, values) = and_parts (bytes_eq x.key y.key) (bytes_eq (value_bytes x) (value_bytes y)) e in
     same_values x y v w is also (same_text x.key y.key (sym keys)) (same_text (value_bytes x) (value_bytes y) (sym values))
 
+pub same_whole : (x y : EntryView) → is_candidate x ≡ true → is_candidate y ≡ true → whole_cmp x y ≡ Equal → x ≡ y
+same_whole x y first second e = same_candidates x y first second (ties x y ∙ ap is_eq e)
+
 -- ---- sorted and merged
 
 module _ (elements : List LeafElement) (es : List EntryView) (moved : IsPermutation (candidates_in elements) es) where

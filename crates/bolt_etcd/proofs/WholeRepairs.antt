@@ -1,15 +1,16 @@
 -- From what is found and what the recovered listing says of a store: what goes back, and how many keys are left out.
-use Rattle.std.proofs.Common.{◌≡◌, ◌∙◌, ◌⊎◌, ◌<◌, ◌≤◌, ◌&&◌, inl, inr, ℕ, Bool, true, false, List, [], ◌∷◌, Option, Some, None, arith, length, map, nat_lt, not, refl, sym, ap, subst}
+use Rattle.std.proofs.Common.{◌≡◌, ◌∙◌, ◌⊎◌, ◌<◌, ◌≤◌, ◌&&◌, ◌-◌, inl, inr, ℕ, Bool, true, false, List, [], ◌∷◌, Option, Some, None, arith, length, map, nat_lt, not, refl, sym, ap, subst}
 use Rattle.std.proofs.lemmas.Bool.{cases_Bool, le-ltb, lt-ltb, ltb-false, ltb-true, not-false, not-true}
 use Rattle.std.proofs.lemmas.List.{length-map}
 use Rattle.std.specs.List.{Contains}
 use Rattle.std.specs.declared.cmp.Ordering.TheVariants.{Less}
-use Rattle.bolt_format.specs.Elements.{LeafElement}
+use Rattle.bolt_format.specs.{Elements.LeafElement, declared.meta.Meta.Meta}
 use Rattle.bolt_check.specs.Keys.{Key, key_cmp}
+use Rattle.bolt_recover.specs.{Found.AreFound, Recovered.IsRecovered}
 use Rattle.bolt_tree.proofs.{Filters.kept, PathOrder.key_total}
 use Rattle.bolt_tree.specs.{Entries.Bucket, Entries.EntryView, Entries.Item, Entries.Value, Entries.entry_view, Listing.Member}
 use Rattle.bolt_etcd.specs.{Among.without, Candidates.AreCandidates, Candidates.is_candidate, Candidates.is_in_place, Compacted.compacted_by}
-use Rattle.bolt_etcd.specs.{FullRepairs.AreCandidateKeys, Newest.is_until, Repaired.MakesStore, Repaired.lacks_bucket}
+use Rattle.bolt_etcd.specs.{FullRepairs.AreCandidateKeys, FullRepairs.IsFullRepair, Newest.is_until, Repaired.IsRepair, Repaired.MakesStore, Repaired.elements_on, Repaired.lacks_bucket}
 use Rattle.bolt_etcd.specs.Repairs.{AreBack, GoesBack, IsAgreed, IsCandidate, IsCompactedAt, IsNewestUpTo, store_path}
 use Rattle.bolt_etcd.specs.{Revisions.RevisionView, Revisions.name_of, Revisions.revision_of}
 use Rattle.bolt_etcd.specs.{Superseded.ArePutBack, Superseded.IsNewestOf, Superseded.entry_name, Superseded.is_deletion, Superseded.is_key_deleted, Superseded.is_key_until, Superseded.is_old, Superseded.name_if}
@@ -188,3 +189,37 @@ module _ (recovered : List Member) (found : List LeafElement) (all : List EntryV
         by (Some (Value value)) b is some (e ∷ entries) = cc
         by (Some (Bucket sequence)) true is some (e ∷ entries) = cc
         by (Some (Bucket sequence)) false is some (e ∷ entries) = (sequence, (survey.store (Bucket sequence)).1 is)
+
+-- ---- the repair of a file
+
+module _ (file : List ℕ) (meta : Meta) (found : List ℕ) (are_found : AreFound file meta found) (all agreed back : List EntryView) (met : List Key) (under : Option Item) (noted : Option (List ℕ))
+    (candidates : AreCandidates (elements_on file meta found) all) (agree : AreUndisputed (without met all) agreed) (recovered : List Member) (recovers : IsRecovered file meta recovered)
+    (survey : IsSurvey recovered all under noted met) (put : ArePutBack (compacted_by noted) recovered agreed back) where
+  abbrev elements : List LeafElement
+  elements = elements_on file meta found
+
+  pub back_least : (keys : List Key) → AreKeys (without met all) keys → length back ≤ length keys
+  back_least keys are = back_fewer recovered elements all met under noted candidates survey agreed agree (compacted_by noted) back put keys are
+
+  module _ (lacks : Bool) (is_lacking : lacks_bucket under ≡ Some lacks) (is_made : Bool) (made : is_made ≡ (lacks && not (is_nil back))) where
+    pub repair : IsRepair file meta back is_made
+    repair = record {
+      recovered = recovered;
+      recovers = recovers;
+      found = found;
+      are_found = are_found;
+      compacted = compacted_by noted;
+      is_compacted = compacted_at recovered elements all met under noted candidates survey;
+      are_back = are_back recovered elements all met under noted candidates survey agreed agree (compacted_by noted) back put;
+      makes = subst (MakesStore recovered back) (sym made) (makes recovered elements all met under noted candidates survey lacks is_lacking back);
+    }
+
+    pub full_repair : (keys : List Key) → AreKeys (without met all) keys → (left_out : ℕ) → left_out ≡ length keys - length back → IsFullRepair file meta back is_made left_out
+    unfolding repair
+    full_repair keys are left_out number =
+        let few = back_least keys are in
+        record {
+          repair = repair;
+          left = (keys, candidate_keys recovered elements all met under noted candidates survey keys are, omega (arith, few, number));
+          bucket = no_value recovered elements all met under noted candidates survey lacks is_lacking;
+        }

@@ -20,8 +20,12 @@ pub record AreCandidateKeys (recovered : List Member) (found : List LeafElement)
 abbrev pub IsLeftOut : List Member → List LeafElement → List EntryView → ℕ → Type 0
 IsLeftOut recovered found back left_out = (keys : List Key) × AreCandidateKeys recovered found keys × (left_out + length back ≡ length keys)
 
+-- no value is under the name of the bucket
+abbrev pub LacksStoreValue : List Member → Type 0
+LacksStoreValue recovered = (value : List ℕ) → Contains recovered (store_path, Value value) → ⊥
+
 -- What goes back into the bucket, which is no value, and how many keys of candidates don't.
 pub record IsFullRepair (file : List ℕ) (meta : Meta) (back : List EntryView) (is_made : Bool) (left_out : ℕ) : Type 0 where
   pub repair : IsRepair file meta back is_made
   pub left : IsLeftOut repair.recovered (elements_on file meta repair.found) back left_out
-  pub bucket : (value : List ℕ) → Contains repair.recovered (store_path, Value value) → ⊥
+  pub bucket : LacksStoreValue repair.recovered

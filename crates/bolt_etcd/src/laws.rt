@@ -25,12 +25,12 @@ ghost use Rattle.bolt_etcd.specs.LostRevisions.{LosesRevisions};
 ghost use Rattle.bolt_etcd.specs.{RevisionLines.revision_line, RevisionObjects.ReadsRevisionsBack, RevisionObjects.revision_json};
 ghost use Rattle.bolt_text.specs.{Forms.digits_json, Forms.item_json, Forms.json_text, JsonReadings.digits_of, JsonReadings.item_of, Lines.line};
 ghost use Rattle.bolt_text.specs.declared.forms.Form.TheVariants as Form;
-ghost use Rattle.bolt_etcd.specs.{Repaired.ForRepaired, Repaired.IsRepaired, Repairs.GoesBack, Repairs.store_path, Revisions.name_of};
+ghost use Rattle.bolt_etcd.specs.{FullRepairs.IsFullRepair, FullRepairs.LacksStoreValue, Repaired.ForRepaired, Repaired.IsRepaired, Repairs.GoesBack, Repairs.store_path, Revisions.name_of};
 ghost use Rattle.bolt_tree.specs.{Entries.Bucket, InBuckets.entry_in, Listing.IsListing, Listing.Member, Listing.member_cmp, Tree.Tree, Tree.listing_of};
 
 use bolt_recover::laws::{
-    found_pages_are_one, recovered_listing_is_of_a_tree, sound_trees_lose_nothing,
-    sound_trees_recover_their_listing,
+    each_file_has_found_pages, found_pages_are_one, recovered_listing_is_of_a_tree,
+    sound_trees_lose_nothing, sound_trees_recover_their_listing,
 };
 use bolt_tree::laws::listing_is_of_a_tree;
 
@@ -196,6 +196,20 @@ pub fn repaired_listing_is_one()
     ensures { (file : List ℕ) (meta : Meta) → AtMostOne (IsRepaired file meta) }
 {
     found_pages_are_one();
+}
+
+/// Each file has a repaired listing, if the recovered listing has no value under the name of the bucket
+/// `key`. So it also has all that goes back, and the number of the other keys of candidates.
+pub fn each_file_has_a_repaired_listing()
+    ensures listing { (file : List ℕ) (meta : Meta) (recovered : List Member)
+        → IsRecovered file meta recovered → LacksStoreValue recovered
+        → (listing : List Member) × IsRepaired file meta listing }
+    ensures repair { (file : List ℕ) (meta : Meta) (recovered : List Member)
+        → IsRecovered file meta recovered → LacksStoreValue recovered
+        → (back : List EntryView) × (is_made : Bool) × (left_out : ℕ)
+        × IsFullRepair file meta back is_made left_out }
+{
+    each_file_has_found_pages();
 }
 
 /// The repaired listing of sound trees is their listing. So repairing a copy again changes nothing.

@@ -15,6 +15,7 @@ mod misplaced;
 mod missing;
 mod name_faults;
 mod name_order;
+mod name_tag;
 mod newest;
 mod other;
 mod passes;

@@ -1,26 +1,13 @@
 //! Orders of revisions by the sums of their names. Most comparisons look at the tags of revisions and at no
 //! name, so it is quicker to sort by sums than by names.
-ghost use Rattle.std.specs.Prelude.{◌≡◌, ◌+◌, ◌*◌, ◌/◌, ◌%◌, ◌^◌, map};
+ghost use Rattle.std.specs.Prelude.{◌≡◌, map};
 ghost use Rattle.std.specs.List.Sorted.{IsPermutation};
-ghost use Rattle.bolt_etcd.specs.{NameOrder.name_sum, NameOrder.sums_cmp, Revisions.name_of, ShownRevisions.entry_of, ShownRevisions.shown_revision};
+ghost use Rattle.bolt_etcd.specs.{NameOrder.sums_cmp, Revisions.name_of, ShownRevisions.entry_of, ShownRevisions.shown_revision};
 ghost use Rattle.bolt_etcd.specs.SumOrder.{AreBySum, AreNewestBySum, by_sum_cmp, newest_by_sum_cmp};
 ghost use Rattle.bolt_etcd.specs.Superseded.{entry_name_cmp};
 
 use crate::revision::Revision;
-use bolt_format::fnv1a;
 use std::cmp::Ordering;
-
-/// How many transactions a tag tells apart.
-pub(crate) const MAINS: u64 = 0x100_0000;
-
-/// The tag of a revision: the sum of its name, which is the upper 40 bits of its checksum, and the lower 24
-/// bits of the number of its transaction.
-pub(crate) fn tag_of(name: &[u8], main: u64) -> u64
-    ensures tag { result ≡ name_sum name.now * 2 ^ 24 + main % 2 ^ 24 }
-    ensures sum { result / 2 ^ 24 ≡ name_sum name.now }
-{
-    fnv1a(name) / MAINS * MAINS + main % MAINS
-}
 
 /// By the sums of names, and of one sum by name.
 pub(crate) fn cmp_by_sums(a: &Revision<'_>, b: &Revision<'_>) -> Ordering

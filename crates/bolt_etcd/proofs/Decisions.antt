@@ -1,0 +1,94 @@
+-- What can be decided: whether two things are the same, what is said of both, of either, or of one if the other is, and what holds of each element of
+-- a list, or of one.
+use Rattle.std.proofs.Common.{◌≡◌, ◌≢◌, ◌⊎◌, inl, inr, Bool, true, false, List, [], ◌∷◌, Option, Some, None, refl, subst, sym}
+use Rattle.std.proofs.lemmas.Cmp.{tied_itself}
+use Rattle.std.proofs.lemmas.Option.{same_Some}
+use Rattle.std.specs.Cmp.{IsTotalOrder}
+use Rattle.std.specs.List.{Contains}
+use Rattle.std.specs.declared.cmp.Ordering.{Ordering}
+use Rattle.std.specs.declared.cmp.Ordering.TheVariants.{Equal, Greater, Less}
+use Rattle.bolt_check.specs.Keys.{Key}
+use Rattle.bolt_tree.proofs.{Lists.contains_cases, Lists.contains_head, Lists.contains_none, Lists.contains_tail, PathOrder.key_exact, PathOrder.key_total, PathOrder.path_exact, PathOrder.path_total}
+use Rattle.bolt_tree.specs.Paths.{Path}
+
+abbrev pub told : {P : Type 0} → Dec P → Bool
+told (yes p) = true
+told (no never) = false
+
+pub told_true : {P : Type 0} (d : Dec P) → told d ≡ true → P
+told_true (yes p) e = p
+told_true (no never) e = cc
+
+pub true_told : {P : Type 0} (d : Dec P) → P → told d ≡ true
+true_told (yes p) q = refl
+true_told (no never) q = absurd (never q)
+
+-- ---- one from another, or from two
+
+pub dec_as : {P Q : Type 0} → Dec P → (P → Q) → (Q → P) → Dec Q
+dec_as (yes p) to from = yes (to p)
+dec_as (no never) to from = no (λ q. never (from q))
+
+pub dec_both : {P Q : Type 0} → Dec P → Dec Q → Dec (P × Q)
+dec_both (yes p) (yes q) = yes (p, q)
+dec_both (yes p) (no never) = no (λ both. never both.1)
+dec_both (no never) q = no (λ both. never both.0)
+
+pub dec_either : {P Q : Type 0} → Dec P → Dec Q → Dec (P ⊎ Q)
+dec_either (yes p) q = yes (inl p)
+dec_either (no never) (yes q) = yes (inr q)
+dec_either (no never) (no neither) = no (λ either. elim either [ inl p ↦ never p | inr q ↦ neither q ])
+
+pub dec_if : {P Q : Type 0} → Dec P → Dec Q → Dec (P → Q)
+dec_if (yes p) (yes q) = yes (λ h. q)
+dec_if (yes p) (no never) = no (λ f. never (f p))
+dec_if (no never) q = yes (λ p. absurd (never p))
+
+-- ---- whether two are the same
+
+pub dec_bool : (a b : Bool) → Dec (a ≡ b)
+dec_bool true true = yes refl
+dec_bool false false = yes refl
+dec_bool true false = no (λ e. cc)
+dec_bool false true = no (λ e. cc)
+
+pub dec_equal : (o : Ordering) → Dec (o ≡ Equal)
+dec_equal Less = no (λ e. cc)
+dec_equal Equal = yes refl
+dec_equal Greater = no (λ e. cc)
+
+pub dec_not_less : (o : Ordering) → Dec (o ≢ Less)
+dec_not_less Less = no (λ differs. differs refl)
+dec_not_less Equal = yes (λ e. cc)
+dec_not_less Greater = yes (λ e. cc)
+
+-- by an order that tells them apart
+dec_tied : {A : Type 0} {cmp : A → A → Ordering} → IsTotalOrder cmp → ((a b : A) → cmp a b ≡ Equal → a ≡ b) → (a b : A) → Dec (a ≡ b)
+dec_tied {A = A} {cmp = cmp} total exact a b =
+    dec_as (dec_equal (cmp a b)) (exact a b) (λ same. subst (λ (x : A). cmp x b ≡ Equal) (sym same) (tied_itself total b))
+
+pub dec_key : (a b : Key) → Dec (a ≡ b)
+dec_key = dec_tied key_total key_exact
+
+pub dec_path : (a b : Path) → Dec (a ≡ b)
+dec_path = dec_tied path_total path_exact
+
+-- ---- of each or of one
+
+module _ {A : Type 0} (P : A → Type 0) (dec : (x : A) → Dec (P x)) where
+  pub dec_each : (xs : List A) → Dec ((x : A) → Contains xs x → P x)
+  dec_each [] = yes (λ x has. absurd (contains_none x has))
+  dec_each (x ∷ xs) =
+      dec_as (dec_both (dec x) (dec_each xs)) (λ both y has. elim (contains_cases x y xs has) [ inl is ↦ subst P is both.0 | inr more ↦ both.1 y more ])
+      (λ all. (all x (contains_head x xs), λ y has. all y (contains_tail x y xs has)))
+
+  pub dec_some : (xs : List A) → Dec ((x : A) × Contains xs x × P x)
+  dec_some [] = no (λ (x, has, is). contains_none x has)
+  dec_some (x ∷ xs) =
+      dec_as (dec_either (dec x) (dec_some xs))
+      (λ either. elim either [ inl here ↦ (x, contains_head x xs, here) | inr (y, has, is) ↦ (y, contains_tail x y xs has, is) ])
+      (λ (y, has, is). elim (contains_cases x y xs has) [ inl same ↦ inl (subst P (sym same) is) | inr more ↦ inr (y, more, is) ])
+
+  pub dec_if_some : (o : Option A) → Dec ((x : A) → o ≡ Some x → P x)
+  dec_if_some None = yes (λ x e. cc)
+  dec_if_some (Some y) = dec_as (dec y) (λ is x e. subst P (same_Some y x e) is) (λ all. all y refl)
