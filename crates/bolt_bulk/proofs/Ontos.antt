@@ -81,9 +81,6 @@ ends_inline which page_size entries small few = grind (arith, onto_holds, onto_s
 never_first : (a b : Bool) → (a && (false && b)) ≡ false
 never_first a b = grind arith
 
-never_last : (a b : Bool) → (a && (b && false)) ≡ false
-never_last a b = grind arith
-
 -- one with a value more than takes a quarter of a page, or than a page may have, isn't
 pub value_too_large : (which : Layout) (page_size : ℕ) (entries : List LeafElement) (key value : List ℕ) (after : Tree)
     → (page_size / 4 < entries_size entries + (16 + (length key + length value))) ⊎ (65534 ≤ length entries)

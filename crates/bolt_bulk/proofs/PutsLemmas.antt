@@ -4,7 +4,7 @@ use Rattle.std.proofs.Common.{◌≡◌, ◌≢◌, ℕ, ◌<◌, ◌≤◌, Lis
 use Rattle.std.proofs.KnownBytes.{Appends-nil}
 use Rattle.std.proofs.lemmas.List.{length-append}
 use Rattle.bolt_format.proofs.SinkLemmas.{AppendsPrefix-whole, AppendsProperPrefix-first, AppendsProperPrefix-second, more_some}
-use Rattle.bolt_format.proofs.WroteLemmas.{Wrote-cut, Wrote-halt, Wrote-none, Wrote-return_cut, Wrote-stop, Wrote-stop_cut, Wrote-stop_halted, Wrote-then, Wrote-unkept}
+use Rattle.bolt_format.proofs.WroteLemmas.{Wrote-halt, Wrote-none, Wrote-return_cut, Wrote-stop, Wrote-stop_cut, Wrote-stop_halted, Wrote-then, Wrote-unkept}
 use Rattle.bolt_format.proofs.EncodedHeaders.{length-header_bytes}
 use Rattle.bolt_format.specs.{Endings.whole, Endings.halted, Pages.PageView, Sinks.AppendsProperPrefix, Wrote.Wrote, declared.sink.Sink.Ghosts}
 use Rattle.bolt_layout.specs.{Laid.Placed, Layout.placed_bytes, PageBytes.page_bytes}

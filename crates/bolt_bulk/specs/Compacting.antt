@@ -26,6 +26,10 @@ pub record Plans (which : Layout) (page_size sequence : ℕ) (listing : List Mem
   pub fits : OnOk result (length (layout_of_listing which page_size listing sequence) < too_many)
   pub large : IfErr result (λ fault. fault ≡ planned.TooLarge → too_many ≤ length (layout_of_listing which page_size listing sequence))
 
+-- What a call promises that plans a copy of members: this for each listing that they have.
+abbrev pub PlansEach : {W : Type 0} → (W → Type 0) → (W → List Member) → Layout → (page_size sequence : ℕ) → Result Plan PlanFault → Type 0
+PlansEach {W} reads listing which page_size sequence result = (whole : W) → reads whole → Plans which page_size sequence (listing whole) result
+
 -- If the call returns Ok, the sink has accepted the whole layout, without a failure, and the number of its bytes is returned. Otherwise the
 -- sink has accepted a proper prefix of it. The fault is Sink only if the sink failed, and another one only if it didn't. It is TooLarge only
 -- if the layout has 2^63 bytes or more. Of such a layout nothing is written, and the call returns a fault other than Sink.

@@ -1,4 +1,4 @@
-//! The compact copy of a sound file, and its plan.
+//! The compact copy of a sound file in the plain layout, and its plan.
 ghost use Rattle.std.specs.Prelude.{◌≡◌};
 ghost use Rattle.bolt_check.specs.CheckedFiles.{meta_of};
 ghost use Rattle.bolt_format.specs.Metas.{IsPageSize};
@@ -16,56 +16,43 @@ use bolt_layout::Layout;
 use bolt_tree::Walk;
 use std::alloc::Global;
 
-/// Returns where a copy of a file in this layout, at this page size, will have its root page and
-/// its high-water mark (docs/LAYOUT.md). Nothing is written. It needs memory only for what
-/// `compact_as` needs it for too.
+/// Returns where a copy of a file in the plain layout, at this page size, will have its root page and
+/// its high-water mark: `plan_members` for what the file holds.
 ///
 /// # Errors
 ///
-/// `TooLarge` if the layout has 2^63 bytes or more; `Memory` if memory runs out. A layout of that
-/// size has no plan: the error is one of these two.
-pub fn plan_as(
-    alloc: Global,
-    checked: Checked<'_>,
-    layout: Layout,
-    page_size: u64,
-) -> Result<Plan, PlanFault>
-    requires { IsPageSize page_size }
-    ensures { ForListing checked.entry
-        (λ listing. Plans layout page_size (meta_of checked.entry).root_sequence listing result) }
-{
-    let blueprint = blueprint_of(&checked, layout, page_size);
-    let mut walk = Walk::new(alloc, checked);
-    a_walk_is_whole(&walk);
-    plan_members(alloc, &mut walk, &blueprint)
-}
-
-/// Returns where a copy in the plain layout will have its root page and its high-water mark:
-/// `plan_as` for that layout.
-///
-/// # Errors
-///
-/// Those of `plan_as`.
+/// Those of `plan_members`.
 pub fn plan(alloc: Global, checked: Checked<'_>, page_size: u64) -> Result<Plan, PlanFault>
     requires { IsPageSize page_size }
     ensures { ForListing checked.entry
         (λ listing. Plans Plain page_size (meta_of checked.entry).root_sequence listing result) }
 {
-    plan_as(alloc, checked, Layout::Plain, page_size)
+    let blueprint = blueprint_of(&checked, Layout::Plain, page_size);
+    let mut walk = Walk::new(alloc, checked);
+    a_walk_is_whole(&walk);
+    plan_members(alloc, &mut walk, &blueprint)
 }
 
-/// Writes the compact copy of a file at this page size, from its first byte to its last: the one
-/// plain or balanced layout of what the file holds (docs/LAYOUT.md). The file is walked twice, for
-/// the plan and for the pages. For a balanced copy it is walked once more before that, for the
-/// limits of the rows; one number is kept for each row that would end in a page with one child. If
-/// the result isn't `Ok`, the sink has accepted a proper prefix of the layout, which `check`
-/// refuses.
+/// Writes the compact copy of a file in the plain layout, at this page size: `compact_members` for what
+/// the file holds.
 ///
 /// # Errors
 ///
-/// `TooLarge` if the layout has 2^63 bytes or more, and then no byte was written; `Memory` if
-/// memory runs out; `Sink` if the sink fails.
-pub fn compact_as<S: Sink>(
+/// Those of `compact_members`.
+pub fn compact<S: Sink>(
+    alloc: Global,
+    checked: Checked<'_>,
+    page_size: u64,
+    sink: &mut S,
+) -> Result<Done, BulkFault>
+    requires { IsPageSize page_size }
+    ensures { CopiesFile S.taken S.failed sink.old sink.new checked.entry Plain page_size result }
+{
+    compact_as(alloc, checked, Layout::Plain, page_size, sink)
+}
+
+/// Writes the copy of a file in this layout.
+fn compact_as<S: Sink>(
     alloc: Global,
     checked: Checked<'_>,
     layout: Layout,
@@ -79,23 +66,6 @@ pub fn compact_as<S: Sink>(
     let mut walk = Walk::new(alloc, checked);
     a_walk_is_whole(&walk);
     compact_members(alloc, &mut walk, &blueprint, sink)
-}
-
-/// Writes the compact copy of a file in the plain layout: `compact_as` for that layout.
-///
-/// # Errors
-///
-/// Those of `compact_as`.
-pub fn compact<S: Sink>(
-    alloc: Global,
-    checked: Checked<'_>,
-    page_size: u64,
-    sink: &mut S,
-) -> Result<Done, BulkFault>
-    requires { IsPageSize page_size }
-    ensures { CopiesFile S.taken S.failed sink.old sink.new checked.entry Plain page_size result }
-{
-    compact_as(alloc, checked, Layout::Plain, page_size, sink)
 }
 
 /// What the copy of a checked file looks like.

@@ -26,6 +26,6 @@ mod upper_runs;
 mod waiting_bucket;
 
 pub use blueprint::Blueprint;
-pub use copy::{compact, compact_as, plan, plan_as};
+pub use copy::{compact, plan};
 pub use fault::{BulkFault, PlanFault};
-pub use members_copy::{Done, Plan, compact_members};
+pub use members_copy::{Done, Plan, compact_members, plan_members};

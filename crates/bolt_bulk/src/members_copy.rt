@@ -1,8 +1,8 @@
 //! The copy of all members that are given one after another, in a few passes over them.
 ghost use Rattle.std.specs.Prelude.{◌≡◌, ◌≤◌, IfOk, List, OnOk, length, ◌↔◌, None};
 ghost use Rattle.bolt_tree.specs.Listing.{Member};
-ghost use Rattle.bolt_bulk.specs.{Compacting.CopiesEach, WholeListings.IsAgain, WholeListings.IsWhole};
-ghost use Rattle.bolt_bulk.specs.Private.{FindsLimits, first_pages, FitAll, PlansEach, PutsMembers, WritesText};
+ghost use Rattle.bolt_bulk.specs.{Compacting.CopiesEach, Compacting.PlansEach, WholeListings.IsAgain, WholeListings.IsWhole};
+ghost use Rattle.bolt_bulk.specs.Private.{FindsLimits, first_pages, FitAll, PutsMembers, WritesText};
 ghost use Rattle.bolt_layout.specs.{PageBytes.copy_meta, PageBytes.filled, declared.Layout.TheVariants.Balanced};
 
 use crate::blueprint::Blueprint;
@@ -110,8 +110,15 @@ fn plan_within<'a, M: Members<'a>>(
     }
 }
 
-/// The plan of a copy of all members.
-pub(crate) fn plan_members<'a, M: Members<'a>>(
+/// Returns where a copy of all members of a listing that is of one tree will have its root page and its
+/// high-water mark (docs/LAYOUT.md). Nothing is written. No member may have been taken before. It needs
+/// memory only for what `compact_members` needs it for too.
+///
+/// # Errors
+///
+/// `TooLarge` if the layout has 2^63 bytes or more; `Memory` if memory runs out. A layout of that
+/// size has no plan: the error is one of these two.
+pub fn plan_members<'a, M: Members<'a>>(
     alloc: Global,
     members: &mut M,
     blueprint: &Blueprint,
@@ -124,13 +131,17 @@ pub(crate) fn plan_members<'a, M: Members<'a>>(
     plan_within(alloc, members, &limits, blueprint)
 }
 
-/// Writes the copy of all members of a listing that is of one tree: its one layout, written as
-/// `compact_as` writes that of a sound file. No member may have been taken before. They begin again
-/// after each pass but the last.
+/// Writes the copy of all members of a listing that is of one tree, from its first byte to its last: its
+/// one plain or balanced layout (docs/LAYOUT.md). No member may have been taken before. They come twice,
+/// for the plan and for the pages, and begin again in between. For a balanced copy they come once more
+/// before that, for the limits of the rows; one number is kept for each row that would end in a page with
+/// one child. If the result isn't `Ok`, the sink has accepted a proper prefix of the layout, which
+/// `check` refuses.
 ///
 /// # Errors
 ///
-/// Those of `compact_as`.
+/// `TooLarge` if the layout has 2^63 bytes or more, and then no byte was written; `Memory` if
+/// memory runs out; `Sink` if the sink fails.
 pub fn compact_members<'a, M: Members<'a>, S: Sink>(
     alloc: Global,
     members: &mut M,

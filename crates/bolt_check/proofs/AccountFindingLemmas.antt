@@ -1,5 +1,5 @@
 -- Findings reported page by page.
-use Rattle.std.proofs.Common.{◌≡◌, ℕ, suc, ◌-◌, ◌<◌, ◌≤◌, inl, inr, List, [], ◌∷◌, ◌++◌, refl, sym, arith, length-append, All, AllPairs, Contains}
+use Rattle.std.proofs.Common.{◌≡◌, ℕ, suc, ◌-◌, ◌<◌, ◌≤◌, inl, inr, List, [], ◌∷◌, ◌++◌, refl, arith, length-append, All, AllPairs, Contains}
 use Rattle.std.proofs.lemmas.List.{get_or_append_left}
 use Rattle.std.proofs.Math.Seq.{get_or-append_right}
 use Rattle.std.proofs.lemmas.List.Elements.{All-append, Contains-append_left, Contains-append_right}
@@ -21,12 +21,6 @@ append_empty (x ∷ xs) ys e = absurd (cc)
 rises_append : (xs ys : List Finding) (from : ℕ) → AllPairs IsBefore xs → AllPairs IsBefore ys → All (λ x. x.page < from) xs → All (λ x. from ≤ x.page) ys
     → AllPairs IsBefore (xs ++ ys)
 rises_append xs ys from rx ry below above i j d h l = grind (arith, length-append, cases_lt, get_or_append_left, get_or-append_right)
-
-pub is_one : (x y : Finding) → x ≡ y → Contains (y ∷ []) x
-is_one x y e = (0, omega arith, sym e)
-
-pub one_rises : (y : Finding) → AllPairs IsBefore (y ∷ [])
-one_rises y i j d h l = absurd (omega arith)
 
 pub reported_append : {mark : ℕ} {in_use : ℕ → Type 0} {times : ℕ → ℕ} {from next : ℕ} {findings ys : List Finding}
     → AreFindingsBelow mark in_use times from findings → from ≤ next

@@ -3,9 +3,6 @@ use Rattle.std.proofs.Common.{◌≡◌, ◌≢◌, ◌⊎◌, ℕ, List, [], �
 use Rattle.bolt_check.proofs.Words.{AreAccountFindings, Finding, free_ids_of, IsBefore, IsFreelistFinding, IsUsed, Meta}
 use Rattle.bolt_check.proofs.{AccountLemmas.unwritten, Lists.contains_from_has, Lists.has_from_contains, Lists.one_list, Lists.rises_from_pairs}
 
-same_finding : (x y : Finding) → x.number ≡ y.number → x.page ≡ y.page → x.last ≡ y.last → x ≡ y
-same_finding x y number page last = grind arith
-
 finding_differs : (x y : Finding) → (x ≡ y) ⊎ (x ≢ y)
 finding_differs x y = grind arith
 

@@ -2,9 +2,8 @@
 -- of both are right, or of neither. For the crates above: where bytes are added that no page has, or left out, only this is to be shown.
 use Rattle.std.proofs.Common.{arith, ◌≡◌, ◌↔◌, ℕ, List, Option, refl, subst, sym}
 use Rattle.std.proofs.Math.Path.{fun_ext}
-use Rattle.bolt_check.proofs.{AccountsAlong.SameFreelist, AccountsAlong.freelist_back, AccountsAlong.has_accounts_along}
-use Rattle.bolt_check.proofs.Words.{HasRightAccounts, HasShape, HasSoundTrees, IsCovered, IsMetaPage, IsUsed, Meta, Nodes, node_at, page_at, page_fault, PageView}
-use Rattle.bolt_check.specs.Ways.{reached}
+use Rattle.bolt_check.proofs.{AccountsAlong.SameFreelist, AccountsAlong.has_accounts_along}
+use Rattle.bolt_check.proofs.Words.{HasRightAccounts, HasShape, HasSoundTrees, IsUsed, Meta, Nodes, node_at, page_at, page_fault, PageView}
 
 pub record Agree (file other : List ℕ) (meta : Meta) : Type 0 where
   pub shown : (n : ℕ) → page_at other meta n ≡ page_at file meta n
@@ -12,9 +11,6 @@ pub record Agree (file other : List ℕ) (meta : Meta) : Type 0 where
   pub freelist : SameFreelist file other meta
 
 module _ (file other : List ℕ) (meta : Meta) (agree : Agree file other meta) where
-  pub agree_back : Agree other file meta
-  agree_back = record { shown = λ n. sym (agree.shown n); fault = λ n. sym (agree.fault n); freelist = freelist_back file other meta agree.freelist }
-
   pub same_pages : ◌≡◌ {A = ℕ → Option PageView} (page_at other meta) (page_at file meta)
   same_pages = fun_ext agree.shown
 
@@ -27,9 +23,6 @@ module _ (file other : List ℕ) (meta : Meta) (agree : Agree file other meta) w
 
   pub trees_along : HasSoundTrees file meta → HasSoundTrees other meta
   trees_along trees = subst (λ (nodes : Nodes). HasShape nodes meta.root) (sym same_nodes) trees
-
-  abbrev used_by : Nodes → ℕ → Type 0
-  used_by nodes n = IsCovered nodes (reached nodes meta.root) IsMetaPage n
 
   used_along : (n : ℕ) → IsUsed file meta n ↔ IsUsed other meta n
   used_along n = grind (arith, same_nodes)

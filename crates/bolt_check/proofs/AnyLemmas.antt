@@ -10,10 +10,6 @@ module _ {X : Type 0} (p : X → Bool) (xs : List X) (i : ℕ) (x : X) (at : sli
   pub any_next : p x ≡ false → list_any p (drop i xs) ≡ list_any p (drop (i + 1) xs)
   any_next other = rw (drop_next xs i x at, other) refl
 
-  -- or it is one
-  pub any_here : p x ≡ true → list_any p (drop i xs) ≡ true
-  any_here holds = rw (drop_next xs i x at, holds) refl
-
 -- without a value there is none under a large key
 large_is_value : (entries : List Entry) → (list_any is_value entries && list_any is_large_value entries) ≡ list_any is_large_value entries
 large_is_value [] = refl

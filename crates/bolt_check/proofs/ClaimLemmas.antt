@@ -1,14 +1,9 @@
 -- Claiming page after page.
-use Rattle.std.proofs.Common.{rules, ◌≡◌, ◌≢◌, ◌∙◌, ℕ, ◌+◌, ◌<◌, ◌≤◌, ◌^◌, ◌⊎◌, List, None, length, inl, inr, sym, ap, arith}
+use Rattle.std.proofs.Common.{◌≡◌, ◌≢◌, ◌∙◌, ℕ, ◌+◌, ◌<◌, ◌≤◌, ◌^◌, ◌⊎◌, List, None, length, inl, inr, sym, ap, arith}
 use Rattle.bolt_check.proofs.Words.{claims_file, ClaimsFreelist, false≢true, freelist_fault_of, HasRoom, is_used, IsClaimed, IsInFreelist, IsUnclaimed, Meta, NO_FREELIST, page_overflow, PageUse, times_of, use_at}
 use Rattle.bolt_check.proofs.{FreelistLemmas.freelist_within, Spans.outside, Spans.still_unlisted}
 use Rattle.bolt_format.specs.Bytes.{IsBytes}
 use Rattle.bolt_check.specs.{Claims.claims_visited, Counts.counted, declared.claims.Claims.Claims, declared.table.PageUse.TheVariants.Used}
-
--- a span whose first page is used as the others are
-pub all_used : (t : List PageUse) (from last : ℕ) (u : PageUse) → use_at t from ≡ u → ((k : ℕ) → from < k → k ≤ last → use_at t k ≡ u)
-    → (k : ℕ) → from ≤ k → k ≤ last → use_at t k ≡ u
-all_used t from last u first later k a b = search rules
 
 -- the freelist's span, of which nothing was claimed, is claimed
 pub claims_freelist : (file : List ℕ) (meta : Meta) (old new : List PageUse) (last : ℕ) → last ≡ meta.freelist + page_overflow file meta meta.freelist
@@ -34,13 +29,6 @@ claims_freelist file meta old new last end written good none used unlisted all b
 
     in_list : (n : ℕ) → (meta.freelist ≤ n) × (n ≤ last) → IsInFreelist file meta n
     in_list n at = record { written = written; good = good; from = at.0; last = omega (arith, end, at.1) }
-
--- the lowest claimed page of the freelist's span
-pub lowest_shared : (file : List ℕ) (meta : Meta) (old : List PageUse) (last n : ℕ) → last ≡ meta.freelist + page_overflow file meta meta.freelist
-    → meta.freelist ≢ NO_FREELIST → freelist_fault_of file meta ≡ None
-    → (meta.freelist ≤ n) × (n ≤ last) × IsClaimed old n × ((k : ℕ) → meta.freelist ≤ k → k < n → IsUnclaimed old k)
-    → IsInFreelist file meta n × IsClaimed old n × ((k : ℕ) → IsInFreelist file meta k → IsClaimed old k → n ≤ k)
-lowest_shared file meta old last n end written good (low, high, claimed, none) = grind arith
 
 -- the freelist's span lies in a table of the pages that begin in the file
 pub span_within : (file : List ℕ) (meta : Meta) (table : List PageUse) (overflow : ℕ) → overflow ≡ page_overflow file meta meta.freelist

@@ -40,11 +40,6 @@ module _ (nodes : Nodes) (branches left number : ℕ) (more : branches ≡ suc l
   branch_goes_on page e at first =
       rw more (ap (node_depth (first_leaf_depth nodes left)) at ∙ ap (above_first (first_leaf_depth nodes left)) (first_entry (branches_on page) e first))
 
--- no branch is left
-pub none_left : (nodes : Nodes) (branches number : ℕ) → branches ≡ 0 → first_leaf_depth nodes branches number ≡ 1
-unfolding first_leaf_depth
-none_left nodes branches number none = rw none refl
-
 -- the first child is good with all pages below it
 pub child_good : (nodes : Nodes) (number : ℕ) (page : BranchPage) (e : BranchElement) → nodes number ≡ Ok (shown_node (Branch page)) → slice_get (branches_on page) 0 ≡ Some e
     → IsGoodDown nodes number → IsGoodDown nodes e.child

@@ -72,12 +72,6 @@ way_of (inr k) v = suc k ∷ v
 way_rising : (x y : ℕ ⊎ ℕ) (v w : List ℕ) → Less x y → Before (way_of x v) (way_of y w)
 way_rising x y v w h = grind arith
 
-way_same : (x : ℕ ⊎ ℕ) (v w : List ℕ) → Before v w → Before (way_of x v) (way_of x w)
-way_same x v w h = grind arith
-
-first_before : (x : ℕ ⊎ ℕ) (w : List ℕ) → Before (0 ∷ []) (way_of x w)
-first_before x w = grind arith
-
 -- a way of the spots after a visit, as a way of those before it
 abbrev pub lift : List (Option Spot) → List ℕ → List ℕ
 lift os [] = []

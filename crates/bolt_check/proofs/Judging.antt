@@ -1,6 +1,6 @@
 -- The tests at a spot speak of the nodes that were claimed before only as a set.
-use Rattle.std.proofs.Common.{arith, ◌≡◌, ℕ, Option, Some, None, refl}
-use Rattle.bolt_check.proofs.Words.{At_inline, At_page, early, Finding, late, Nodes, PagePasses, PageSpot, PageTests, PageUse, Passes, SpanHas, Spot, Tests, UseAt, UseOf}
+use Rattle.std.proofs.Common.{arith, ◌≡◌, ℕ, Option, Some}
+use Rattle.bolt_check.proofs.Words.{At_inline, At_page, early, Finding, late, Nodes, PageSpot, PageTests, Passes, SpanHas, Spot, Tests}
 use Rattle.bolt_check.specs.Findings.{twice}
 
 page_same : (nodes : Nodes) (a b : ℕ → Type 0) (s : PageSpot) (x : Finding) → ((n : ℕ) → a n → b n) → ((n : ℕ) → b n → a n)
@@ -17,21 +17,8 @@ tests_same nodes a b (At_inline host inner) x to from h = h
 pub passes_fewer : (nodes : Nodes) (a b : ℕ → Type 0) (s : Spot) → ((n : ℕ) → b n → a n) → Passes nodes a s → Passes nodes b s
 passes_fewer nodes a b s from h = grind arith
 
-fault_none : (x : Finding) (o : Option Finding) → o ≡ None → o ≡ Some x → ⊥
-fault_none x o e h = cc
-
-page_silent : (nodes : Nodes) (a : ℕ → Type 0) (s : PageSpot) (x : Finding) → PagePasses nodes a s → PageTests nodes a s x → ⊥
-page_silent nodes a s x h g = grind arith
-
 pub passes_silent : (nodes : Nodes) (a : ℕ → Type 0) (s : Spot) (x : Finding) → Passes nodes a s → Tests nodes a s x → ⊥
 passes_silent nodes a s x h t = grind arith
 
 pub span_spot : (nodes : Nodes) (o : Option Spot) (n : ℕ) → SpanHas nodes o n → (t : Spot) × ((o ≡ Some t) × SpanHas nodes (Some t) n)
 span_spot nodes o n h = grind arith
-
-pub use_spot : (nodes : Nodes) (o : Option Spot) (n : ℕ) (u : PageUse) → UseOf nodes o n u → (t : Spot) × ((o ≡ Some t) × UseAt nodes t n u)
-use_spot nodes None n u h = absurd h
-use_spot nodes (Some t) n u h = (t, (refl, h))
-
-pub use_back : (nodes : Nodes) (o : Option Spot) (t : Spot) (n : ℕ) (u : PageUse) → o ≡ Some t → UseAt nodes t n u → UseOf nodes o n u
-use_back nodes o t n u e h = rw e h

@@ -11,9 +11,6 @@ use Rattle.bolt_check.proofs.Words.{both_ways, is_above, is_below, is_from, Key,
 pub less_of : (o : Ordering) → is_lt o ≡ true → o ≡ Less
 less_of o e = grind arith
 
-pub not_true : (b : Bool) → not b ≡ true → b ≡ false
-not_true = not-true
-
 order : IsStrictWeakOrder key_lt
 order = ranks_by nat_list_cmp_total (λ (key : Key). key)
 

@@ -1,26 +1,12 @@
 -- A good page lies below the mark and in the file.
-use Rattle.std.proofs.Common.{◌≡◌, ℕ, ◌+◌, ◌*◌, ◌<◌, ◌≤◌, List, Option, Some, None, Result, Ok, Err, length, refl, inl, inr, arith, []}
-use Rattle.bolt_check.proofs.Words.{At_page, cases_lt, HasRoom, IsClean, IsMetaPage, IsSome, Kind, Meta, Node, node_at, node_of, node_seen, page_at, page_overflow, PageUse, PageView, root_spot, span_within}
+use Rattle.std.proofs.Common.{◌≡◌, ℕ, ◌+◌, ◌*◌, ◌<◌, ◌≤◌, List, Some, Ok, length, refl, inl, inr, arith, []}
+use Rattle.bolt_check.proofs.Words.{At_page, cases_lt, HasRoom, IsClean, IsMetaPage, IsSome, Meta, Node, node_at, page_at, page_overflow, PageUse, PageView, root_spot, span_within}
 use Rattle.bolt_check.specs.Ways.{reached}
 use Rattle.bolt_format.proofs.PageFacts.{span_passes}
-
-abbrev node_overflow : Result Node ℕ → ℕ
-node_overflow (Ok node) = node.overflow
-node_overflow (Err fault) = 0
-
-seen-some : (view : Option PageView) (fault : Option ℕ) (node : Node) → node_seen view fault ≡ Ok node → (shown : PageView) × (view ≡ Some shown)
-seen-some view fault node e = grind arith
-
-abbrev overflow_of : Option PageView → ℕ
-overflow_of None = 0
-overflow_of (Some view) = view.overflow
 
 pub page_overflows : (file : List ℕ) (meta : Meta) (id : ℕ) (view : PageView) → page_at file meta id ≡ Some view → view.overflow ≡ page_overflow file meta id
 unfolding page_at
 page_overflows file meta id view e = grind arith
-
-node_overflows : (k : Kind) (view : PageView) (node : Node) → node_of k view ≡ Ok node → node.overflow ≡ view.overflow
-node_overflows k view node e = grind arith
 
 -- a node's page is good, and its span lies below the mark and in the file
 pub node_page : (file : List ℕ) (meta : Meta) (id : ℕ) (node : Node) → node_at file meta id ≡ Ok node → (view : PageView) × (page_at file meta id ≡ Some view) × (node.overflow ≡ view.overflow)

@@ -1,6 +1,6 @@
 -- What is reported of one page.
 use Rattle.std.proofs.lemmas.Grind.{common_steps}
-use Rattle.std.proofs.Common.{◌≡◌, ℕ, suc, ◌<◌, ◌≤◌, ◌⊎◌, true, [], ◌∷◌, refl, subst, arith}
+use Rattle.std.proofs.Common.{◌≡◌, ℕ, suc, ◌<◌, ◌≤◌, ◌⊎◌, true, [], ◌∷◌, refl, arith}
 use Rattle.bolt_check.proofs.Words.{cases_lt, false≢true, finding, Finding, Free, FREE_RANGE, FREED_TWICE, freed_twice, FreeTwice, is_used, IsAccountFinding, IsInRange, IsLost, lt-ltb, out_of_range, page_findings, PageUse, reached_freed, times_of, Unused, UsedFree, UsedFreeTwice}
 use Rattle.bolt_check.proofs.AccountFindingLemmas.{Reports, reports_one}
 use Rattle.bolt_check.specs.{Private.Freelists.meta_findings, Private.Freelists.use_findings, declared.finding.TheConstants.Finding.REACHED_FREED}
@@ -16,15 +16,9 @@ module _ (mark : ℕ) (in_use : ℕ → Type 0) (times : ℕ → ℕ) where
   pub on_own_page : (x : Finding) → IsAccountFinding mark in_use times x → OnPage mark in_use times x x.page
   on_own_page x h = grind arith
 
-  on_page : (x : Finding) (n : ℕ) → IsAccountFinding mark in_use times x → n ≤ x.page → x.page < suc n → OnPage mark in_use times x n
-  on_page x n is low high = let same : x.page ≡ n = omega arith in subst (OnPage mark in_use times x) same (on_own_page x is)
-
   -- no page is lost that is listed or in use
   pub not_lost_listed : (n : ℕ) → 1 ≤ times n → IsLost mark in_use times n → ⊥
   not_lost_listed n one is = let zero = is.unlisted in omega (arith, zero, one)
-
-  only_here : (n : ℕ) → (IsLost mark in_use times n → ⊥) → (k : ℕ) → n ≤ k → k < suc n → IsLost mark in_use times k → ⊥
-  only_here n there k low high gone = let same : k ≡ n = omega arith in there (subst (IsLost mark in_use times) same gone)
 
   -- a page that is free and listed once, or used and not listed
   pub reports_well : (n : ℕ) → times n ≤ 1 → (in_use n → times n ≡ 0) → (IsLost mark in_use times n → ⊥) → IsInRange mark n → Reports mark in_use times n (suc n) []

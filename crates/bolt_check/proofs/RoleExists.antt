@@ -1,10 +1,10 @@
 -- In a sound file each page below the mark has a role: the tour says whether a way leads to it.
 use Rattle.std.proofs.lemmas.Grind.{common_steps}
-use Rattle.std.proofs.Common.{◌≡◌, ℕ, ◌<◌, ◌≤◌, ◌⊎◌, inl, inr, Bool, List, [], ◌∷◌, Option, Some, Result, Ok, refl, sym, arith}
-use Rattle.bolt_check.proofs.Words.{At_page, cases_eq, cases_lt, Has, HasRightAccounts, HasRole, HasSoundTrees, IsInFreelist, IsTour, Meta, Node, node_at, Nodes, PageSpot, Reach, Role, SpanHas, SpanOf, Spot}
+use Rattle.std.proofs.Common.{ℕ, ◌<◌, ◌⊎◌, inl, inr, List, [], ◌∷◌, Option, Result, refl, sym, arith}
+use Rattle.bolt_check.proofs.Words.{cases_eq, cases_lt, Has, HasRightAccounts, HasRole, HasSoundTrees, IsInFreelist, IsTour, Meta, Node, node_at, Nodes, Reach, Role, SpanHas, SpanOf, Spot}
 use Rattle.bolt_check.specs.Ways.{reached}
 use Rattle.bolt_check.specs.declared.role_table.Role.TheVariants as role
-use Rattle.bolt_check.proofs.{Judging.span_spot, RoleOnce.Used, RoleOnce.first_role, RoleOnce.node_role, RoleOnce.spot_role, RoleOnce.used_role}
+use Rattle.bolt_check.proofs.{Judging.span_spot, RoleOnce.Used, RoleOnce.used_role}
 use Rattle.bolt_check.proofs.{TourSums.bucket_tour, TourLemmas.Ways}
 
 abbrev Either : Type 0 → Type 0
@@ -16,9 +16,6 @@ module _ (file : List ℕ) (meta : Meta) (n : ℕ) where
 
   abbrev reach : Reach
   reach = reached nodes meta.root
-
-  within : (from last : ℕ) → Either ((from ≤ n) × (n ≤ last))
-  within from last = grind arith
 
   in_node : (o : Result Node ℕ) (number : ℕ) → Either (SpanOf o number n)
   in_node o number = grind arith
@@ -55,17 +52,6 @@ module _ (file : List ℕ) (meta : Meta) (n : ℕ) where
       ]
     ]
   ]
-
-  first_page : (way : List ℕ) (s : PageSpot) (node : Node) (b : Bool) → node.is_leaf ≡ b → reach way ≡ Some (At_page s) → nodes s.number ≡ Ok node
-      → n ≡ s.number → HasRole file meta n (first_role b)
-  first_page way s node b kind e page same = grind arith
-
-  at_node : (way : List ℕ) (s : PageSpot) (o : Result Node ℕ) → reach way ≡ Some (At_page s) → nodes s.number ≡ o → SpanOf o s.number n
-      → HasRole file meta n (node_role n o s.number)
-  at_node way s o e page h = grind arith
-
-  on_way : (way : List ℕ) (o : Option Spot) → reach way ≡ o → SpanHas nodes o n → HasRole file meta n (spot_role n nodes o)
-  on_way way o e h = grind arith
 
   has_role : (p : Used file meta n) → HasRole file meta n (used_role file meta n p)
   has_role p = grind arith

@@ -1,6 +1,6 @@
 -- If the tests find nothing at any way, the shape holds.
-use Rattle.std.proofs.Common.{◌≡◌, ◌≢◌, ℕ, suc, ◌≤◌, inl, inr, Bool, true, false, not, ◌&&◌, ◌==◌, if◌then◌else◌, List, [], ◌∷◌, ◌++◌, length, Option, Some, None, Result, Ok, slice_get, refl, arith, ◌∙◌}
-use Rattle.bolt_check.proofs.Words.{At_inline, At_page, cases_lt, child_at, child_spot, early_finding, Entry, Finding, follow, HasShape, is_below, is_from, IsClaimedBefore, IsClean, IsMetaPage, Key, key_lt, keys_of, keys_order_fault, leads, Node, node_finding, Nodes, not-true, PagePasses, PageSpot, Passes, Reach, SpanAt, SpanHas, Spot, step, upper_from}
+use Rattle.std.proofs.Common.{◌≡◌, ◌≢◌, ℕ, suc, ◌≤◌, inl, inr, true, false, not, ◌&&◌, ◌==◌, List, [], ◌∷◌, ◌++◌, length, Option, Some, None, Result, Ok, slice_get, refl, arith, ◌∙◌}
+use Rattle.bolt_check.proofs.Words.{At_inline, At_page, cases_lt, child_at, child_spot, early_finding, Entry, follow, HasShape, is_below, is_from, IsClaimedBefore, IsClean, IsMetaPage, Key, key_lt, keys_of, keys_order_fault, leads, Node, node_finding, Nodes, not-true, PagePasses, PageSpot, Passes, Reach, SpanAt, SpanHas, Spot, step, upper_from}
 use Rattle.bolt_check.proofs.{WayOrder.before_total, KeyLaws.below_less, KeyLaws.from_more, KeyOrder.key_each, KeyOrder.key_rise}
 use Rattle.bolt_check.proofs.WayFacts.{follow_append, is_child, key_at, leads_some, step_child}
 use Rattle.bolt_check.specs.{Ways.reached}
@@ -9,9 +9,6 @@ use Rattle.bolt_check.specs.Findings.{finding_of}
 -- the content's tests report nothing
 pub finding_none : (o : Option ℕ) (page : ℕ) → finding_of o page ≡ None → o ≡ None
 finding_none o page e = grind arith
-
-filled_if : (b : Bool) (x : Finding) (o : Option Finding) → (if b then Some x else o) ≡ None → (b ≡ false) × (o ≡ None)
-filled_if b x o e = grind arith
 
 content_parts : (node : Node) (s : PageSpot) → node_finding node s ≡ None
     → ((not node.is_leaf && (length node.entries == 0)) ≡ false) × (keys_order_fault None s.lower s.upper (keys_of node.entries) ≡ None)

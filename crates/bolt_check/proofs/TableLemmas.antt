@@ -1,6 +1,6 @@
 -- Claiming lowers the count of what is unclaimed, and listing an id claims nothing.
 use Rattle.std.proofs.lemmas.Grind.{common_steps}
-use Rattle.std.proofs.Common.{◌≡◌, ◌≢◌, ◌↔◌, ◌∙◌, ℕ, ◌<◌, ◌≤◌, List, length, min, set, arith, cond, not, true, inl, inr, ap, get_or, get_or-set_other, get_or-set_same, refl, sym}
+use Rattle.std.proofs.Common.{◌≡◌, ◌↔◌, ◌∙◌, ℕ, ◌<◌, ◌≤◌, List, length, min, set, arith, cond, not, true, inl, inr, ap, get_or, get_or-set_other, get_or-set_same, refl, sym}
 use Rattle.std.proofs.lemmas.List.{get_or_past, set_past}
 use Rattle.std.proofs.lemmas.List.Sums.{sum_by-set}
 use Rattle.bolt_check.proofs.Words.{cases_eq, cases_lt, first_use, get_or_default, is_used, IsUnclaimed, le-ltb, lt-ltb, PageUse, times_of, unclaimed, Unused, use_at}
@@ -18,9 +18,6 @@ unclaimed_set t i =
       | inl h ↦ let k = sum_by-set weight t i Used (first_use i) h in omega (arith, k)
       | inr h ↦ rw (set_past t i Used h) (omega arith)
     ]
-
-pub other_kept : (t : List PageUse) (n k : ℕ) (u : PageUse) → k ≢ n → use_at t k ≡ u → use_at (set t n Used) k ≡ u
-other_kept t n k u ne h = rw get_or-set_other h
 
 pub used_kept : (t : List PageUse) (i : ℕ) (u : PageUse) → i < length t → is_used u ≡ is_used (get_or t i Unused) → (n : ℕ) → is_used (use_at (set t i u) n) ≡ is_used (use_at t n)
 used_kept t i u inside same n =

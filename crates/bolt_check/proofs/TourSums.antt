@@ -1,5 +1,6 @@
 -- A sum over the tour of a bucket, page by page: a page's own, and those of the pages that it leads to.
 use Rattle.std.proofs.lemmas.Grind.{common_steps}
+use Rattle.std.proofs.lemmas.List.Sums.{sum_by-append}
 use Rattle.std.proofs.Common.{◌≡◌, ◌∙◌, ◌==◌, ℕ, zero, suc, ◌+◌, ◌≤◌, inl, inr, Bool, true, false, List, [], ◌∷◌, ◌++◌, Option, Some, None, Result, Ok, cond, length, map, sum_by, refl, sym, ap, subst, arith}
 use Rattle.bolt_check.proofs.Words.{InlinePage, At_inline, At_page, Entry, forest, Has, HasSoundTrees, IsSome, IsTour, Meta, Node, node_at, Nodes, page_at, PageSpot, places, Reach, root_spot, somes, Spot, sum_by-cons}
 use Rattle.bolt_check.proofs.Forest.{forest_empty, inline_visits, page_visits, root_visits, tail}
@@ -31,10 +32,6 @@ pub pages_of_kids : (is_leaf : Bool) (s : PageSpot) (entries : List Entry) → p
 pages_of_kids is_leaf s [] = refl
 pages_of_kids false s (e ∷ entries) = ap (λ (l : List ℕ). e.child ∷ l) (pages_of_kids false s entries)
 pages_of_kids true s (e ∷ entries) = somes_bucket e.is_bucket (e.child == 0) s.number e (places true s entries) ∙ ap (λ (l : List ℕ). root_page e ++ l) (pages_of_kids true s entries)
-
-pub sum_append : (f : ℕ → ℕ) (a b : List ℕ) → sum_by f (a ++ b) ≡ sum_by f a + sum_by f b
-sum_append f [] b = omega arith
-sum_append f (x ∷ a) b = let h = sum_append f a b in let p = sum_by-cons f x (a ++ b) in let q = sum_by-cons f x a in omega (arith, h, p, q)
 
 sum_same : (f g : ℕ → ℕ) (xs : List ℕ) → ((m : ℕ) → Has xs m → f m ≡ g m) → sum_by f xs ≡ sum_by g xs
 sum_same f g [] same = refl
@@ -108,7 +105,7 @@ module _ (nodes : Nodes) where
         let good : (m : ℕ) → Has (kids ++ pages_of rest) m → Enough nodes n m = λ m h. all m (subst (λ (l : List ℕ). Has l m) (sym pages) h) in
         let v = page_visits nodes s node rest page in
         let first = step_sum (At_page s) v tour is in
-        let both = ap (sum_by (weight nodes own n)) pages ∙ sum_append (weight nodes own n) kids (pages_of rest) in
+        let both = ap (sum_by (weight nodes own n)) pages ∙ sum_by-append (weight nodes own n) kids (pages_of rest) in
         let others = sum_same (weight nodes own n) (weight nodes own (suc n)) (pages_of rest)
         (λ m h. sym (weight_more own n m (good m (has_right kids (pages_of rest) m h)))) in
         let here : weight nodes own (suc n) s.number ≡ own s.number + sum_by (weight nodes own n) kids

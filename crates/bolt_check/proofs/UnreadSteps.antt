@@ -1,10 +1,11 @@
 -- Which spots are still to be read: ways lead to each of them, and all pages below them are good, of which fewer are left after each step.
 use Rattle.std.proofs.Common.{◌≡◌, ◌∙◌, ◌&&◌, ℕ, ◌+◌, ◌≤◌, inl, inr, true, List, [], ◌∷◌, ◌++◌, Some, Result, Ok, Err, ap, not, refl, subst, sum_by, arith}
+use Rattle.std.proofs.lemmas.List.Sums.{sum_by-append}
 use Rattle.bolt_check.proofs.Words.{InlinePage, At_inline, At_page, forest, Has, HasSoundTrees, kids, Meta, Node, node_at, Nodes, PageSpot, places, props, root_spot, somes, Spot, sum_by-cons, ∥∥₁_elim}
 use Rattle.bolt_check.proofs.Pendings.{unread_push}
 use Rattle.bolt_check.proofs.Forest.{inline_visits, lift, page_visits, root_visits, tail}
 use Rattle.bolt_check.proofs.{Lists.has_split}
-use Rattle.bolt_check.proofs.TourSums.{bucket_sum, enough_kids, enough_node, pages_append, pages_of, pages_of_kids, sum_append, weight_kids}
+use Rattle.bolt_check.proofs.TourSums.{bucket_sum, enough_kids, enough_node, pages_append, pages_of, pages_of_kids, weight_kids}
 use Rattle.bolt_check.proofs.UnreadWays.{spots_in, spots_kids}
 use Rattle.bolt_check.specs.{Subtrees.Enough, Subtrees.kid_pages, Subtrees.weight, Ways.reached}
 use Rattle.bolt_check.specs.Private.Unread.{IsReadable, Unread, mark, most_kids, page_leaves, unread_at, unread_kids, unread_of}
@@ -53,7 +54,7 @@ module _ (nodes : Nodes) (root steps : ℕ) where
     page_left enough =
         let w = weight nodes share steps in
         let here = weight_kids nodes share steps s.number node page enough in
-        let both = ap (sum_by w) pages_are ∙ sum_append w (kid_pages node.is_leaf node.entries) (pages_of rest) in
+        let both = ap (sum_by w) pages_are ∙ sum_by-append w (kid_pages node.is_leaf node.entries) (pages_of rest) in
         let whole = sum_by-cons w s.number (pages_of rest) in
         omega (arith, here, both, whole)
 

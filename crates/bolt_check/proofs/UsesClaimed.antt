@@ -1,13 +1,6 @@
 -- The table of pages, after the freelist's span was claimed and its ids were listed.
-use Rattle.std.proofs.Common.{◌≡◌, ◌≢◌, ◌∙◌, ℕ, inl, inr, List, ap, arith, sym}
-use Rattle.bolt_check.proofs.Words.{ClaimsFreelist, ClaimsUses, is_used, IsClaimed, IsInUse, ListsFree, Meta, NO_FREELIST, PageUse, times_in, use_at}
-
--- no freelist was written
-pub uses_unwritten : (file : List ℕ) (meta : Meta) (table : List PageUse) → (meta.freelist ≢ NO_FREELIST → ⊥) → ClaimsUses file meta table table
-uses_unwritten file meta table none = record {
-  noted = λ n u noted. inl noted;
-  claimed = λ n in_use. elim in_use [ inl used ↦ used | inr is ↦ absurd (none is.written) ];
-}
+use Rattle.std.proofs.Common.{◌≡◌, ◌∙◌, ℕ, inl, inr, List, ap, arith, sym}
+use Rattle.bolt_check.proofs.Words.{ClaimsFreelist, ClaimsUses, is_used, IsClaimed, IsInUse, ListsFree, Meta, PageUse, times_in, use_at}
 
 module _ (file : List ℕ) (meta : Meta) (old mid : List PageUse) (claims : ClaimsFreelist file meta old mid) where
   pub uses_claimed : ClaimsUses file meta old mid

@@ -1,8 +1,8 @@
 -- A search for findings goes on from what a visited spot leads to.
 use Rattle.std.proofs.Common.{arith, ◌≡◌, ℕ, ◌⊎◌, inl, inr, List, Option, Some, None}
-use Rattle.bolt_check.proofs.Words.{Before, Carries, HasUse, IsClaimedBefore, IsCovered, Nodes, PageUse, Passes, Reach, SpanHas, Spot, Tests, UseOf}
+use Rattle.bolt_check.proofs.Words.{Before, Carries, HasUse, IsClaimedBefore, IsCovered, Nodes, PageUse, Passes, Reach, SpanHas, Spot, Tests}
 use Rattle.bolt_check.proofs.WayOrder.{before_irreflexive, before_strict, before_total}
-use Rattle.bolt_check.proofs.Judging.{tests_same, passes_fewer, passes_silent, span_spot, use_back, use_spot}
+use Rattle.bolt_check.proofs.Judging.{tests_same, passes_fewer, passes_silent, span_spot}
 use Rattle.bolt_check.specs.Private.Carries.{Takes}
 
 -- the ways of `old` are `first`, if o is a spot, and after it and in the same order those of `new`
@@ -30,9 +30,6 @@ module _ (nodes : Nodes) {old new : Reach} {o : Option Spot} {first : List ℕ} 
     (v : Visits old new o first f) (takes : Takes nodes o c d a b) where
   span_first : (n : ℕ) → SpanHas nodes o n → SpanHas nodes (old first) n
   span_first n h = grind (arith, span_spot)
-
-  use_first : (n : ℕ) (u : PageUse) → UseOf nodes o n u → UseOf nodes (old first) n u
-  use_first n u h = let s = use_spot nodes o n u h in use_back nodes (old first) s.0 n u (v.leads s.0 s.1.0) s.1.1
 
   span_later : (w : List ℕ) (n : ℕ) → SpanHas nodes (new w) n → SpanHas nodes (old (f w)) n
   span_later w n h = grind (arith, span_spot)

@@ -1,8 +1,8 @@
 -- Ways, addresses and the pages that they lead to, for the crates above too.
-use Rattle.std.proofs.Common.{◌≡◌, ◌∙◌, ℕ, suc, Bool, true, false, List, [], ◌∷◌, ◌++◌, map, Option, Some, None, Result, Ok, slice_get, refl, sym, ap, subst, arith}
+use Rattle.std.proofs.Common.{◌≡◌, ◌∙◌, ℕ, suc, true, false, List, [], ◌∷◌, ◌++◌, map, Option, Some, None, Result, Ok, slice_get, refl, sym, ap, subst, arith}
 use Rattle.bolt_check.proofs.Words.{At_page, child_at, child_in, child_spot, Entry, follow, HasShape, keys_of, Kind, leads, leaf_entry, Meta, Node, node_at, node_of, node_seen, Nodes, none-some, option_map, page_at, page_fault, PageSpot, PageView, same_Some, slice_get-map, SpanHas, SpanOf, Spot, step, upper_from}
 use Rattle.bolt_format.specs.declared.header.Kind.TheVariants as kind
-use Rattle.bolt_check.specs.{Shape.child_of, Ways.reached}
+use Rattle.bolt_check.specs.{Ways.reached}
 
 -- one way after another
 pub follow_append : (nodes : Nodes) (here : Option Spot) (v w : List ℕ) → follow nodes here (v ++ w) ≡ follow nodes (follow nodes here v) w
@@ -18,16 +18,10 @@ pub step_child : (nodes : Nodes) (s : PageSpot) (i : ℕ) (node : Node) (e : Ent
     → step nodes (Some (At_page s)) i ≡ Some (At_page (child_spot s e (upper_from (slice_get node.entries (suc i)) s.upper)))
 step_child nodes s i node e q leaf g = rw (q, leaf, g) refl
 
-pub none_number : (x : ℕ) → None ≡ Some x → ⊥
-none_number x e = cc
-
 -- no address leads on from nowhere
 pub leads_none : (nodes : Nodes) (address : List ℕ) → leads nodes None address ≡ None
 leads_none nodes [] = refl
 leads_none nodes (i ∷ address) = leads_none nodes address
-
-is_entry : (leaf : Bool) (o : Option Entry) (c : ℕ) → child_of leaf o ≡ Some c → (e : Entry) × (leaf ≡ false) × (o ≡ Some e) × (e.child ≡ c)
-is_entry leaf o c h = grind arith
 
 -- a child of a branch
 pub is_child : (nodes : Nodes) (s : PageSpot) (i : ℕ) (o : Result Node ℕ) (c : ℕ) → nodes s.number ≡ o → child_in o i ≡ Some c

@@ -56,7 +56,7 @@ fn alone(alloc: Global, finding: Finding) -> Result<Vec<Finding>, AllocError>
 
 /// Claims the freelist's span, unless a page of it is claimed. Then it returns the lowest such
 /// page.
-pub(crate) fn claim_freelist(file: &[u8], meta: &Meta, table: &mut [PageUse]) -> Option<u64>
+fn claim_freelist(file: &[u8], meta: &Meta, table: &mut [PageUse]) -> Option<u64>
     requires written { meta.now.freelist ≢ NO_FREELIST }
     requires good { freelist_fault_of file.now meta.now ≡ None }
     requires room { HasRoom file.now meta.now table.old }

@@ -50,7 +50,7 @@ impl Finding {
     pub const INLINE_NUMBER: u8 = 42;
 
     /// A finding of one page.
-    pub fn of_page(code: u8, page: u64) -> Finding
+    pub(crate) fn of_page(code: u8, page: u64) -> Finding
         ensures { result ≡ record { number = code; page = page; last = page } }
     {
         Finding {

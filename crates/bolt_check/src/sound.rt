@@ -3,7 +3,8 @@
 ghost use Rattle.std.specs.Prelude.{◌≡◌, ◌<◌, IfErr, IfOk, OnOk, false, true};
 ghost use Rattle.bolt_format.specs.{Metas.IsActive, Metas.IsInSlot};
 ghost use Rattle.bolt_check.specs.{CheckedFiles.bytes_of, CheckedFiles.has_accounts, CheckedFiles.meta_of, RoledFiles.roles_checked};
-ghost use Rattle.bolt_check.specs.Sound.{HasSoundTrees, IsRefused, IsRefusedFor, IsSlotRefused, IsSound};
+ghost use Rattle.bolt_check.specs.Private.RoleTables.{AreUses};
+ghost use Rattle.bolt_check.specs.Sound.{HasRightAccounts, HasSoundTrees, IsRefused, IsRefusedFor, IsSlotRefused, IsSound};
 
 use crate::accounts::test_accounts;
 use crate::checked::Checked;
@@ -11,6 +12,7 @@ use crate::fault::CheckFault;
 use crate::finding_list::Findings;
 use crate::role_table::Roles;
 use crate::search::search;
+use crate::table::PageUse;
 use bolt_format::{Meta, Slot, choose, slot_meta};
 use std::alloc::Global;
 
@@ -40,7 +42,7 @@ pub fn check<'a>(alloc: Global, file: &'a [u8]) -> Result<Checked<'a>, CheckFaul
 /// # Errors
 ///
 /// Those of `check`.
-#[tactic(auto, using(crate::proofs::MarkLemmas::table_wide), unfolding(crate::specs::RoledFiles::roles_checked, crate::specs::CheckedFiles::bytes_of, crate::specs::CheckedFiles::has_accounts, crate::specs::CheckedFiles::meta_of))]
+#[tactic(auto, unfolding(crate::specs::RoledFiles::roles_checked, crate::specs::CheckedFiles::bytes_of, crate::specs::CheckedFiles::has_accounts, crate::specs::CheckedFiles::meta_of))]
 pub fn check_roles<'a>(alloc: Global, file: &'a [u8]) -> Result<Roles<'a>, CheckFault>
     ensures bytes { IfOk result (λ roles. bytes_of (roles_checked roles) ≡ file.now) }
     ensures meta { IfOk result (λ roles. (slot : _)
@@ -50,17 +52,30 @@ pub fn check_roles<'a>(alloc: Global, file: &'a [u8]) -> Result<Roles<'a>, Check
     ensures refused { IfErr result (IsRefused file.now) }
 {
     let (_, meta) = choose(file)?;
-    let mut table = search(alloc, file, &meta)?;
-    let findings = test_accounts(alloc, file, &meta, &mut table)?;
-    if let Some(findings) = Findings::of(findings) {
-        return Err(CheckFault::Accounts(findings));
-    }
+    let table = test_file(alloc, file, &meta)?;
     let checked = Checked {
         bytes: file,
         meta,
         accounts: true,
     };
     Ok(Roles { checked, table })
+}
+
+/// Tests the trees and the accounts of a file under a meta. Returns what its pages are used for.
+#[tactic(auto, using(crate::proofs::MarkLemmas::table_wide))]
+pub(crate) fn test_file(alloc: Global, file: &[u8], meta: &Meta) -> Result<Vec<PageUse>, CheckFault>
+    requires { 0 < meta.now.page_size }
+    ensures trees { OnOk result (HasSoundTrees file.now meta.now) }
+    ensures right { OnOk result (HasRightAccounts file.now meta.now) }
+    ensures uses { IfOk result (λ table. ∥ AreUses file.now meta.now table.items ∥₁) }
+    ensures refused { IfErr result (IsRefusedFor file.now meta.now true) }
+{
+    let mut table = search(alloc, file, meta)?;
+    let findings = test_accounts(alloc, file, meta, &mut table)?;
+    if let Some(findings) = Findings::of(findings) {
+        return Err(CheckFault::Accounts(findings));
+    }
+    Ok(table)
 }
 
 /// Tests the trees of a file under the meta of a slot, active or not (docs/SOUND.md, "One meta

@@ -115,7 +115,7 @@ impl Source {
     ghost use Rattle.bolt_cli.specs.Sources.{is_changed};
 
     /// Whether FILE was changed while it was read. Of other files than regular ones it isn't known.
-    pub fn is_changed(&self) -> bool
+    pub(crate) fn is_changed(&self) -> bool
         ensures { result ≡ is_changed self.now }
     {
         let (before, after) = (self.before, self.after);

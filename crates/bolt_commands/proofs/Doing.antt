@@ -9,11 +9,6 @@ pub ends_as : {A : Type 0} (ending : Result A Failure) (why : Failure) → IsErr
 ends_as (Ok x) why is = absurd is
 ends_as (Err said) why is = ap Err is
 
--- what follows if a call goes well
-pub on_ok : {A E X Y : Type 0} (result : Result A E) → (X → Y) → OnOk result X → OnOk result Y
-on_ok (Ok a) step x = step x
-on_ok (Err e) step x = tt
-
 pub on_any : {A E X : Type 0} (result : Result A E) → X → OnOk result X
 on_any (Ok a) x = x
 on_any (Err e) x = tt

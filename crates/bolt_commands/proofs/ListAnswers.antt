@@ -1,10 +1,11 @@
 -- What `list` puts, and how it then ends.
 use Rattle.std.proofs.Common.{◌≡◌, ◌∙◌, Bool, true, false, IfOk, List, Option, Result, Ok, Err, ap, if◌then◌else◌, inl, inr, refl, subst, sym, ℕ}
+use Rattle.std.proofs.lemmas.Result.{on_ok_weaker}
 use Rattle.bolt_commands.proofs.Vocabulary.{Ending, Failure, Ghosts, IsEndedOrCut, IsListPrint, IsMetasFault, ListJob, LostView, MayFail, Member, MetaFault, OnOk, Opened, PrintsAnswer, PutsListing}
 use Rattle.bolt_commands.proofs.Vocabulary.{PutsPart, ReportFault, Rises, Shortfall, Slot, Wrote, Wrote-none, failing, finds, job_part, lost_ending, member_cmp, opened_lost}
 use Rattle.bolt_commands.proofs.Vocabulary.{part_ending, path_in, report_ending, reported, shortfall, sound_part}
 use Rattle.bolt_commands.specs.declared.failure.Failure.TheVariants.{NoBucket}
-use Rattle.bolt_commands.proofs.{CutTexts.ended_put, Doing.answer_as, Doing.answer_nothing, Doing.on_ok}
+use Rattle.bolt_commands.proofs.{CutTexts.ended_put, Doing.answer_as, Doing.answer_nothing}
 
 -- ---- the part of a sound file, with the bucket or without it
 
@@ -62,7 +63,7 @@ module _ {S : Type 0} (sink : Ghosts S) (old new : S) (job : ListJob) (file : Li
 
   pub part_listed : (result : Result Bool Failure) → PutsPart sink old new job file after result → PrintsAnswer sink old new (IsListPrint job file) (end_of_part result lacking)
   part_listed result (inl (meta, listing, lost, found, read, same, (put, wrote, fault, knows, is))) =
-      let known = on_ok (failing reported put) (λ (eq : opened_lost after ≡ lost). ap (λ (l : LostView). lost_ending (shortfall l other)) eq) (rw is at same) in
+      let known = on_ok_weaker (failing reported put) (λ (eq : opened_lost after ≡ lost). ap (λ (l : LostView). lost_ending (shortfall l other)) eq) (rw is at same) in
       rw is (answer_as (part_ended listing (lost_ending (shortfall lost other)) put wrote fault knows known)
       (λ answer ended. inl (meta, listing, lost, found, read, shortfall lost other, (other, are, refl), ended)))
   part_listed result (inr (why, unread, same, is)) = rw (same, is) (answer_nothing why (Err why) (inr (why, unread, refl)) refl)

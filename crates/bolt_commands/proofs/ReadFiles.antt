@@ -1,6 +1,6 @@
 -- What is known of a file that is read, under whatever meta.
-use Rattle.std.proofs.Common.{Option, Some, None, ◌≡◌, ◌<◌, arith, ℕ, List, Result, Ok, Err, IsTrue, ap, inl, inr, refl, subst, sym, true}
-use Rattle.bolt_commands.proofs.Vocabulary.{Active, Assumed, CheckFault, Checked, Failure, HasSoundTrees, InSlot, IsErrAnd, IsFailureOf, IsInSlot, IsMeta, IsMetaOf, IsPageSize, IsReadUnder, Meta, MetaChoice, One, PageSize, Slot, Zero, bytes_of, copy_page_size, meta_of}
+use Rattle.std.proofs.Common.{◌≡◌, ◌<◌, arith, ℕ, List, Result, Ok, Err, IsTrue, ap, inl, inr, refl, subst, sym, true}
+use Rattle.bolt_commands.proofs.Vocabulary.{Active, Assumed, CheckFault, Checked, Failure, HasSoundTrees, InSlot, IsErrAnd, IsFailureOf, IsInSlot, IsMeta, IsMetaOf, IsPageSize, IsReadUnder, Meta, MetaChoice, One, Slot, Zero, bytes_of, meta_of}
 use Rattle.bolt_commands.proofs.Vocabulary.{HasRightAccounts, IsActive, IsRefused, IsRefusedUnder, IsFirstFinding, IsSound, counts_accounts}
 use Rattle.bolt_check.specs.declared.fault.CheckFault.TheVariants as check
 use Rattle.bolt_format.proofs.PageSizes.{size_bounds}
@@ -50,15 +50,8 @@ choice_page_size file Active meta (slot, chosen) = slot_page_size file slot meta
 choice_page_size file (InSlot slot) meta is = slot_page_size file slot meta is
 choice_page_size file (Assumed assumed) meta same = subst (λ (m : Meta). IsPageSize m.page_size) (sym same) assumed.page_size.accepted
 
-pub read_page_size : (file : List ℕ) (choice : MetaChoice) (meta : Meta) → IsReadUnder file choice meta → IsPageSize meta.page_size
-read_page_size file choice meta under = choice_page_size file choice meta (read_meta file choice meta under)
-
 pub some_page_size : (file : List ℕ) (choice : MetaChoice) (meta : Meta) → IsMetaOf file choice meta → 0 < meta.page_size
 some_page_size file choice meta is = let (least, most) = size_bounds meta.page_size (choice_page_size file choice meta is) in omega (arith, least)
-
-pub copy_size : (size : Option PageSize) (meta : Meta) → IsPageSize meta.page_size → IsPageSize (copy_page_size size meta)
-copy_size (Some size) meta is = size.accepted
-copy_size None meta is = is
 
 -- ---- why the file is refused, or nothing of it is recovered
 

@@ -5,7 +5,7 @@ use Rattle.std.proofs.KnownBytes.{Appends-nil, Appends-trans}
 use Rattle.std.specs.Prelude.{IsErr}
 use Rattle.std.specs.Io.KnownBytes.{Appends}
 use Rattle.bolt_format.proofs.ListLemmas.{flat_map-cut_at, flat_map-take_more}
-use Rattle.bolt_format.proofs.SinkLemmas.{AppendsPrefix-first, AppendsPrefix-none, AppendsPrefix-second, AppendsProperPrefix-first, AppendsProperPrefix-prefix, AppendsProperPrefix-second}
+use Rattle.bolt_format.proofs.SinkLemmas.{AppendsPrefix-first, AppendsPrefix-none, AppendsPrefix-second, AppendsProperPrefix-first, AppendsProperPrefix-second}
 use Rattle.bolt_format.specs.{Endings.Ending, Endings.whole, Endings.cut, Endings.broken, Endings.halted, Endings.ending, Endings.page_ending, Wrote.Wrote}
 use Rattle.bolt_format.specs.{declared.sink.Sink.Ghosts, declared.sink.SinkFault.SinkFault}
 
@@ -54,10 +54,6 @@ Wrote-stop_halted {sink} {old} {new} {first} second a = record {
   appends = AppendsPrefix-first (sink.taken old) (sink.taken new) first second a.appends;
   failures = a.failures;
 }
-
--- a proper prefix is a prefix
-pub Wrote-cut : {S : Type 0} {sink : Ghosts S} {old new : S} {text : List ℕ} → Wrote sink old new text cut → Wrote sink old new text broken
-Wrote-cut {sink} {old} {new} {text} a = record { appends = AppendsProperPrefix-prefix (sink.taken old) (sink.taken new) text a.appends; failures = a.failures }
 
 -- the same text in other words
 pub Wrote-same : {S : Type 0} {sink : Ghosts S} {old new : S} {text same : List ℕ} {end : Ending}

@@ -7,7 +7,6 @@ pub mod ElementsLeft
 pub mod Encoded
 pub mod Endings
 pub mod Freelists
-pub mod GoodElements
 pub mod Headers
 pub mod Metas
 pub mod Pages

@@ -1,7 +1,5 @@
 //! What the definitions of metas and of pages imply, and that what is written reads back.
-ghost use Rattle.std.specs.Prelude.{◌≡◌, ◌⊎◌, ◌↔◌, ◌<◌, ◌≤◌, ◌^◌, ◌+◌, ◌-◌, ◌∷◌, [], ℕ, ◌++◌, Bool, false, IsTrue, List, drop, length};
-ghost use Rattle.bolt_format.specs.{Bytes.IsBytes, ElementLengths.HasFitLengths};
-ghost use Rattle.bolt_format.specs.{Elements.IsBucketValue, GoodElements.ForInlineElements, GoodElements.ForLeafElements};
+ghost use Rattle.std.specs.Prelude.{◌≡◌, ◌⊎◌, ◌↔◌, ◌<◌, ◌≤◌, ◌^◌, ◌+◌, ◌-◌, ◌∷◌, [], ℕ, ◌++◌, Bool, List, drop, length};
 ghost use Rattle.bolt_format.specs.Metas.{ForMetasPrefix, HasMetaFault, HasSlotFault, IsActive, IsInSlot, IsMeta, IsOnlyActive};
 ghost use Rattle.bolt_format.specs.ReadBack.{BranchReadsBack, IsHead, IsHeader, IsHeaderFit, IsMetaFit, LeafReadsBack};
 ghost use Rattle.bolt_format.specs.{Encoded.head_bytes, Encoded.header_bytes, Encoded.meta_bytes, declared.header.Kind.Kind};
@@ -50,16 +48,6 @@ pub fn metas_lie_in_a_prefix()
         → HasMetaFault prefix 0 fault ↔ HasMetaFault file 0 fault) }
     ensures slot_fault { ForMetasPrefix (λ prefix file. (slot : Slot) (fault : MetaFault)
         → HasSlotFault prefix slot fault ↔ HasSlotFault file slot fault) }
-{}
-
-/// The elements of a good leaf and of an inline bucket have lengths that the format allows. A
-/// bucket on a good leaf has a good value. No element of an inline bucket is a bucket. The values
-/// of a file are bytes.
-pub fn good_elements_fit()
-    ensures leaf { ForLeafElements (λ _ e. HasFitLengths e) }
-    ensures bucket { ForLeafElements (λ _ e. IsTrue e.is_bucket → IsBucketValue e.value) }
-    ensures bytes { ForLeafElements (λ file e. IsBytes file → IsBytes e.value) }
-    ensures inline { ForInlineElements (λ e. HasFitLengths e × (e.is_bucket ≡ false)) }
 {}
 
 /// The header of a page reads back: its number, its kind, its count and its overflow.

@@ -11,7 +11,6 @@ pub use Rattle.bolt_job.specs.Syntaxes.{argument_rule, line_of}
 pub use Rattle.bolt_job.specs.declared.refusal.Refusal.TheVariants.{Help, Memory, Usage, Version, Word}
 pub use Rattle.bolt_job.specs.{declared.job.Job.Job, declared.choices.PageSize.PageSize, declared.refusal.Refusal.Refusal}
 pub use Rattle.bolt_text.specs.Numbers.{number_in}
-pub use Rattle.bolt_tree.proofs.{Filters.not_true}
 pub use Rattle.bolt_tree.specs.{Paths.Path}
 pub use Rattle.clap.proofs.WalkLemmas.{first_value-rows, list_any-map, raw_values-rows}
 pub use Rattle.clap.specs.Words.{AddsArg, AddsSubcommand, App, HasKind, HasMatchesOf, IsAmong, Kinds, Row, Rule, all_of, app_of, fault_of, found_of, is_simple}

@@ -15,7 +15,7 @@ pub struct PageSize {
 
 impl PageSize {
     /// That of most files, since most systems have pages of this size.
-    pub const USUAL: PageSize = PageSize { bytes: 4096 };
+    pub(crate) const USUAL: PageSize = PageSize { bytes: 4096 };
 
     /// The page size of this many bytes, if it is accepted.
     pub fn new(bytes: u64) -> Option<PageSize>
@@ -77,7 +77,7 @@ impl AssumedMeta {
     ghost use Rattle.bolt_job.specs.MetaChoices.{assumed_for};
 
     /// The meta that is assumed of a file.
-    pub fn for_file(self, file: &[u8]) -> Meta
+    fn for_file(self, file: &[u8]) -> Meta
         ensures meta { result ≡ assumed_for file.now self }
         ensures accepted { IsPageSize result.page_size }
     {

@@ -7,7 +7,6 @@ mod EvenWays
 mod Prefixes
 mod BranchPages
 pub mod FileTrees
-mod FullPages
 mod HeldBounds
 mod Holding
 mod InlineLemmas

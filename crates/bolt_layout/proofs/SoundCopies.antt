@@ -34,8 +34,3 @@ sound_copy passing lists which page_size tree sequence asked short =
       full = sound.full;
       lists = lists file meta (Root_page (layout_root which page_size tree)) tree (layout_tree which page_size tree sequence asked.size asked.storable sound);
     }
-
--- the copy of what has a listing lists it again
-abbrev pub LayoutsAreSound : Type 0
-LayoutsAreSound = (which : Layout) (page_size : ℕ) (tree : Tree) (sequence : ℕ) → IsAsked page_size tree sequence → length (layout_of which page_size tree sequence) < 2 ^ 63
-    → IsSoundCopy which page_size tree sequence (listing_of tree)

@@ -9,7 +9,7 @@ use Rattle.bolt_format.specs.Elements.{IsBucketValue, LeafElement, head_root, in
 use Rattle.bolt_format.specs.{Pages.span_bytes, declared.meta.Meta.Meta}
 use Rattle.bolt_format.proofs.{ElementFacts.drop_bytes, PageFacts.bucket_value, PageFacts.flat_inline, PageFacts.in_inline, PageFacts.on_leaf}
 use Rattle.bolt_text.specs.JsonReadings.{IsItemOfBytes}
-use Rattle.bolt_tree.specs.{Entries.Inline_page, Entries.IsEntry, Entries.Root_page, Entries.Start, Entries.item_of, Entries.start_of, Listing.IsListing}
+use Rattle.bolt_tree.specs.{Entries.Inline_page, Entries.IsEntry, Entries.Root_page, Entries.Start, Entries.start_of, Listing.IsListing}
 use Rattle.bolt_tree.specs.Paths.{Holds}
 use Rattle.bolt_layout.specs.Storable.{IsFitMember}
 use Rattle.bolt_load.specs.ByteMembers.{AreOfBytes}
@@ -52,9 +52,6 @@ module _ (file : List ℕ) (meta : Meta) (bytes : IsBytes file) where
         bytes_are = subst AreBytes (sym on.same) (element_bytes (inline_bytes value) on.i (drop_bytes value 16 value_bytes));
         start = λ b. absurd (not_both e.is_bucket (flat_inline value e good root within) b);
       }
-
-  item_bytes : (e : LeafElement) (item : Item) → AreBytes e → item_of e ≡ item → IsFitItem item → IsItemOfBytes item
-  item_bytes e item are is fits = grind arith
 
   held_bytes : (path : Path) (item : Item) (from : Start) → IsOfBytes from → Holds (IsEntry file meta) from path item → IsFitItem item → ArePartsBytes path × IsItemOfBytes item
   held_bytes [] item from start held fits = absurd held

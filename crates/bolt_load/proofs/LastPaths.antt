@@ -190,8 +190,5 @@ module _ (before : List Member) (last : Path) (bucket : Bool) (is : IsLast befor
           subst (λ (above : Path). has_bucket above (before ++ (path, item) ∷ []) ≡ true) same (has_new path item before (sym (ap (λ b. b || is_bucket item) not_shorter) ∙ kind))
       at (key ∷ rest) split kind = has_more above before ((path, item) ∷ []) (below_above above key rest split)
 
-  now_root : path ≡ [] → is_bucket item ≡ true
-  now_root none = let l = ap length none in absurd (omega (arith, some, l))
-
   pub next_last : IsLast (before ++ (path, item) ∷ []) path (is_bucket item)
   next_last = grind (arith, common_steps, now_most, now_opens, option_map_or, is_lt, path_cmp, last_of)

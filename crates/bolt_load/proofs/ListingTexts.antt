@@ -51,9 +51,6 @@ above_last before path below = at (slice_get before (length before - 1)) refl
         ap (λ (found : Option Member). option_map_or (λ (last : Member). is_lt (path_cmp last.0 path)) found true) is
         ∙ ap is_lt (below last (at_has before (length before - 1) last is))
 
-above_is : (front : Path) (key : Key) → path_above (front ++ key ∷ []) ≡ front
-above_is front key = grind (arith, common_steps, length-append)
-
 placed : (before : List Member) (front : Path) (key : Key) (item : Item) → is_above_last before (front ++ key ∷ []) ≡ true → has_bucket front before ≡ true
     → place_fault before (front ++ key ∷ [], item) ≡ None
 placed before front key item above has = grind (arith, common_steps, has_bucket, path_above)

@@ -1,6 +1,6 @@
 -- What the words of a line tell, and what their bytes are.
 use Rattle.std.proofs.Common.{arith, ◌≡◌, ◌∙◌, ℕ, Bool, true, false, List, Option, Some, None, length, refl, ap}
-use Rattle.bolt_load.proofs.Words.{hex_bytes_in, is_long_item, is_long_key, is_some, Item, length_fault, line_member, list_any, Member, member_bytes, option_and_then, option_map, Path, shape_fault, Text, Value, ValueTooLong}
+use Rattle.bolt_load.proofs.Words.{hex_bytes_in, is_long_item, is_long_key, is_some, Item, line_member, list_any, Member, member_bytes, option_and_then, option_map, Path, shape_fault, Text, Value, ValueTooLong}
 use Rattle.bolt_load.proofs.PathLemmas.{halved}
 use Rattle.std.specs.Prelude.{◌/◌, nat_lt}
 
@@ -17,15 +17,7 @@ long_value digits item is = at (hex_bytes_in digits) refl is
         let same : Value value ≡ item = cc in
         ap (nat_lt 0x7FFFFFFE) (halved digits value found) ∙ ap is_long_item same
 
--- what is wrong with a line
-parts_told : (path : Option Path) (item : Option Item) → is_some (option_map member_bytes (member_of path item)) ≡ true
-    → (p : Path) × (i : Item) × (path ≡ Some p) × (item ≡ Some i) × (member_of path item ≡ Some (p, i))
-parts_told path item some = grind arith
-
 module _ (line : Text) (path : Option Path) (item : Option Item) (told : line_member line ≡ member_of path item) (some : is_some (option_map member_bytes (member_of path item)) ≡ true) where
-  shape_is : let parts = parts_told path item some in shape_fault line ≡ length_fault (parts.0, parts.1)
-  shape_is = let parts = parts_told path item some in rw (told ∙ parts.4) refl
-
   pub value_is_long : (long_key long : Bool) → ((p : Path) → path ≡ Some p → long_key ≡ list_any is_long_key p) → ((i : Item) → item ≡ Some i → long ≡ is_long_item i) → long_key ≡ false → long ≡ true → Some ValueTooLong ≡ shape_fault line
   value_is_long long_key long keys values short is = grind arith
 

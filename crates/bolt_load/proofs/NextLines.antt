@@ -1,12 +1,10 @@
 -- The next line tells the member whose bytes come next.
 use Rattle.std.proofs.Common.{rules, ◌≡◌, ◌∙◌, ℕ, List, [], ◌∷◌, ◌++◌, Option, Some, None, length, drop, take, refl, sym, ap, ap₂, subst, arith, append_assoc}
-use Rattle.bolt_load.proofs.Words.{All, AreDecoded, BeginsWith, drop-append_seam, GivesLine, IsFirstLine, IsSome, Item, item_bytes, line_member, lines_of, Member, member_bytes, members_in, Path, path_bytes, take-append-drop, take-append_seam, Text, text_members}
+use Rattle.std.proofs.lemmas.List.{append_cancel_left}
+use Rattle.bolt_load.proofs.Words.{All, AreDecoded, BeginsWith, GivesLine, IsFirstLine, IsSome, Item, item_bytes, line_member, lines_of, Member, member_bytes, members_in, Path, path_bytes, take-append-drop, take-append_seam, Text, text_members}
 use Rattle.bolt_load.proofs.MemberLemmas.{member_of}
 use Rattle.std.specs.Prelude.{suc, IsSomeAnd}
 use Rattle.bolt_load.specs.Private.Decoding.{listing_bytes}
-
-cancelled : (front a b : List ℕ) → front ++ a ≡ front ++ b → a ≡ b
-cancelled front a b is = sym (drop-append_seam front a) ∙ ap (drop (length front)) is ∙ drop-append_seam front b
 
 told_by : (found : Option Member) → IsSome found → (member : Member) × (found ≡ Some member)
 told_by found some = grind arith
@@ -20,9 +18,6 @@ others_of P line lines all = λ k d below. all (suc k) d (omega (arith, below))
 module _ (line : Text) (lines : List Text) (member : Member) (is : line_member line ≡ Some member) where
   pub members_first : members_in (line ∷ lines) ≡ member ∷ members_in lines
   members_first = rw is refl
-
-some_is : {A : Type 0} (a b : A) → Some a ≡ Some b → a ≡ b
-some_is a b is = cc
 
 pub parts_of : (path : Option Path) (item : Option Item) (member : Member) → member_of path item ≡ Some member → (path ≡ Some member.0) × (item ≡ Some member.1)
 parts_of path item member is = grind arith
@@ -56,7 +51,7 @@ module _ (text line after : Text) (bytes : List ℕ) (first : IsFirstLine text l
 
     module _ (newer : Path) (bytes_left : List ℕ) (pushed : (told : Path) → path ≡ Some told → (newer ≡ told) × (bytes ≡ path_bytes told ++ bytes_left)) where
       left_are : bytes_left ≡ item_bytes told.0.1 ++ later
-      left_are = cancelled (path_bytes told.0.0) bytes_left (item_bytes told.0.1 ++ later) (sym (pushed told.0.0 both.0).1 ∙ bytes_are)
+      left_are = append_cancel_left (path_bytes told.0.0) bytes_left (item_bytes told.0.1 ++ later) (sym (pushed told.0.0 both.0).1 ∙ bytes_are)
 
       pub item_begins : IsSomeAnd item (λ told. BeginsWith (item_bytes told) bytes_left)
       item_begins = subst (λ (item : Option Item). IsSomeAnd item (λ told. BeginsWith (item_bytes told) bytes_left)) (sym both.1) (record { after = later; whole = left_are })
@@ -66,7 +61,7 @@ module _ (text line after : Text) (bytes : List ℕ) (first : IsFirstLine text l
         item_same = let f : Some given ≡ Some told.0.1 = item_is ∙ both.1 in cc
 
         rest_same : rest ≡ later
-        rest_same = cancelled (item_bytes given) rest later (sym rest_is ∙ left_are ∙ ap (λ item. item_bytes item ++ later) item_same)
+        rest_same = append_cancel_left (item_bytes given) rest later (sym rest_is ∙ left_are ∙ ap (λ item. item_bytes item ++ later) item_same)
 
         pub rest_decoded : AreDecoded (lines_of after) rest
         unfolding later

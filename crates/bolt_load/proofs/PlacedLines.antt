@@ -1,5 +1,5 @@
 -- The places of lines are tested one after another.
-use Rattle.std.proofs.Common.{rules, ◌≡◌, ◌∙◌, ◌<◌, ◌≤◌, ◌+◌, ◌==◌, ℕ, Bool, true, List, [], ◌∷◌, ◌++◌, Option, Some, None, length, Bor, refl, sym, ap, ap₂, subst, arith, append_assoc, append-nil, length-append}
+use Rattle.std.proofs.Common.{rules, ◌≡◌, ◌∙◌, ◌<◌, ◌≤◌, ◌+◌, ◌==◌, ℕ, Bool, true, List, [], ◌∷◌, ◌++◌, Option, Some, None, length, Bor, refl, sym, ap, subst, arith, append_assoc, append-nil, length-append}
 use Rattle.std.proofs.lemmas.Grind.{common_steps}
 use Rattle.bolt_load.proofs.Words.{All, fault_after, fault_by, filter_map-append, GivesLine, hex_path_in, is_bucket, is_lt, is_open, IsFirstFault, Item, Key, length-map, less_lt, line_fault, line_member, LineFault, lines_of, Member, member_in, members_in, option_and_then, option_map, part_in, parts_in, Path, path_above, path_cmp, path_of, place_fault, RightAfter, slice_split, Text}
 use Rattle.bolt_text.proofs.CutLemmas.{some_parts}
@@ -102,10 +102,6 @@ module _ (text left : Text) (last : Path) (bucket : Bool) (number : ℕ) (so_far
 
 pub begun : (text left : Text) (path : Path) → All IsShaped (lines_of text) → left ≡ text → path ≡ [] → HasPlaced text left path true 0
 begun text left path shaped left_is path_is = search (rules, none_placed)
-
-pub fault_of_slices : (last path : Path) (bucket : Bool) (last_parts path_parts : List (Bor (List ℕ))) (result : Option LineFault) → result ≡ fault_after (path_of last_parts) bucket (path_of path_parts)
-    → path_of last_parts ≡ last → path_of path_parts ≡ path → result ≡ fault_after last bucket path
-fault_of_slices last path bucket last_parts path_parts result is last_is path_is = is ∙ ap₂ (λ last path. fault_after last bucket path) last_is path_is
 
 pub slices_some : (path : Path) (parts : List (Bor (List ℕ))) → path_of parts ≡ path → 0 < length path → 0 < length parts
 slices_some path parts is some = let many = length-map parts (λ (part : Bor (List ℕ)). part.now) in let l = ap length is in omega (arith, many, l, some)

@@ -1,9 +1,8 @@
 -- What a right text tells can be stored: its keys and its values have lengths that the format allows, and its sequences have 64 bits.
 use Rattle.std.proofs.lemmas.Grind.{common_steps}
-use Rattle.std.proofs.Common.{◌≡◌, ◌∙◌, ◌==◌, ◌≤◌, ℕ, false, List, [], ◌∷◌, ◌++◌, Option, Some, None, length, refl, sym, ap, subst, arith}
+use Rattle.std.proofs.Common.{◌≡◌, ◌∙◌, ◌==◌, ◌≤◌, false, List, [], ◌∷◌, ◌++◌, Some, None, length, sym, ap, subst, arith}
 use Rattle.std.proofs.lemmas.Bool.{ltb-false, or_parts}
-use Rattle.bolt_load.proofs.Words.{Bucket, cases_Bool, Has, has_from_contains, hex_bytes_in, hex_path_in, is_long_item, is_long_key, IsFitItem, IsListingText, Item, item_in, Key, length_fault, line_member, lines_of, list_any, Member, member_in, members_in, number_in, option_and_then, option_map, option_map_or, part_in, parts_in, Path, place_fault, RightAfter, shape_fault, slice_split, Text, text_members, Value}
-use Rattle.bolt_text.proofs.DecimalNumbers.{number_is}
+use Rattle.bolt_load.proofs.Words.{cases_Bool, Has, has_from_contains, hex_bytes_in, hex_path_in, is_long_item, is_long_key, IsFitItem, IsListingText, item_in, Key, length_fault, line_member, lines_of, list_any, Member, member_in, members_in, option_and_then, option_map_or, part_in, parts_in, Path, place_fault, RightAfter, shape_fault, slice_split, Text, text_members}
 use Rattle.bolt_load.proofs.{DecodedLines.shaped_member, NextLines.members_first, NextLines.parts_of}
 use Rattle.bolt_load.proofs.{PathLemmas.digits_are, PathLemmas.part_is, PathLemmas.with_some, TextTrees.or_parts_none, TextTrees.text_tree}
 use Rattle.bolt_format.specs.ElementLengths.{IsKeyLength}
@@ -36,22 +35,6 @@ parts_fit (word ∷ words) path is short =
 path_fits : (word : Text) (path : Path) → hex_path_in word ≡ Some path → list_any is_long_key path ≡ false → AreKeys path
 unfolding hex_path_in
 path_fits word path is short = parts_fit (slice_split (λ byte. byte == 47) word) path is short
-
-value_fits : (found : Option (List ℕ)) (item : Item) → option_map Value found ≡ Some item → is_long_item item ≡ false → IsFitItem item
-value_fits found item is short = grind arith
-
-sequence_fits : (word : Text) (item : Item) → option_map Bucket (number_in word) ≡ Some item → IsFitItem item
-sequence_fits word item is = at (number_in word) refl is
-  where
-    at : (found : Option ℕ) → number_in word ≡ found → option_map Bucket found ≡ Some item → IsFitItem item
-    at None found is = absurd (let f : None ≡ Some item = is in cc)
-    at (Some n) found is = let same : Bucket n ≡ item = (let f : Some (Bucket n) ≡ Some item = is in cc) in subst IsFitItem same (number_is word n found).2
-
-none_some : (item : Item) → None ≡ Some item → ⊥
-none_some item is = cc
-
-item_fits : (mark word : Text) (item : Item) → item_in mark word ≡ Some item → is_long_item item ≡ false → IsFitItem item
-item_fits mark word item is short = grind arith
 
 member_fits : (words : List Text) (member : Member) → member_in words ≡ Some member → list_any is_long_key member.0 ≡ false → is_long_item member.1 ≡ false → FitsMember member
 member_fits words member is keys value = grind (arith, common_steps, parts_of, hex_path_in, item_in, path_fits)

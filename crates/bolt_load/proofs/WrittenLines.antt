@@ -1,5 +1,6 @@
 -- The line of a member is read back as that member.
 use Rattle.std.proofs.Common.{rules, ◌≡◌, ◌∙◌, ◌==◌, ◌<◌, ◌≤◌, ◌^◌, ℕ, zero, suc, Bool, true, false, List, [], ◌∷◌, ◌++◌, Option, Some, None, codes, length, map, refl, sym, ap, ap₂, arith, append_assoc}
+use Rattle.std.proofs.lemmas.Bool.{not-true}
 use Rattle.std.proofs.lemmas.Grind.{common_steps}
 use Rattle.std.proofs.lemmas.List.Elements.{All-cons, All-nil}
 use Rattle.bolt_load.proofs.Words.{All-append, all_ascii_digits, and_parts, ArePartsBytes, Bucket, decimal, digits_decimal, encode_lower, encode_with, hex_bytes_in, hex_path, hex_path_in, is_ascii_digit, is_long_item, is_long_key, IsFitItem, IsMemberOfBytes, IsWithout, Item, item_end, Key, line, line_member, list_any, lower_digits, Member, member_in, member_line, nat_tests, number_in, option_and_then, option_map, part_in, parts_in, Path, result_ok, shape_fault, slice_split, slice_split_at, slice_split_none, Text, Value, value_end}
@@ -31,11 +32,8 @@ at_index p [] i below all = absurd (omega (arith, below))
 at_index p (x ∷ xs) zero below all = (and_parts (p x) (list_all p xs) all).0
 at_index p (x ∷ xs) (suc i) below all = at_index p xs i (omega (arith, below)) (and_parts (p x) (list_all p xs) all).1
 
-not_true : (b : Bool) → not b ≡ true → b ≡ false
-not_true b is = grind arith
-
 digit_apart : (mark : ℕ) → IsApart mark → (i : ℕ) → i < 16 → (slice_index lower_digits i == mark) ≡ false
-digit_apart mark apart i below = not_true (slice_index lower_digits i == mark) (at_index (λ digit. not (digit == mark)) lower_digits i below apart.0)
+digit_apart mark apart i below = not-true (slice_index lower_digits i == mark) (at_index (λ digit. not (digit == mark)) lower_digits i below apart.0)
 
 module _ (mark : ℕ) (apart : IsApart mark) where
   abbrev Other : ℕ → Type 0

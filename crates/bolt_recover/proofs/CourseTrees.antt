@@ -1,7 +1,7 @@
 -- What a course returns is what a tree lists: each site that is visited comes to a tree, in which a bucket holds what its own site comes to. The keys
 -- of each bucket rise, within the bounds of its site.
 use Rattle.std.proofs.Common.{◌≡◌, ◌∙◌, ◌≤◌, inl, inr, ℕ, zero, suc, Bool, true, false, List, [], ◌∷◌, ◌++◌, ◌⊎◌, Option, Some, None, slice_get, refl, sym, ap, subst, arith, append_assoc}
-use Rattle.bolt_recover.proofs.Words.{Visited, all_events, append-nil, below_less, Bucket, cases_Bool, cases_order, end, entry_tasks, Event, Finding, from_more, get_before, Gives, gives_at, head_sequence, is_below, is_from, is_lt, Item, item_of, Key, key_lt, key_same, LeafElement, listing_below, listing_of, lower_of, lt_not_trans, lt_trans, Member, member_cmp, members_of, Meta, meta_pages, node_at, none-some, not_true, Path, Rises, root_tasks, same_Some, Site, Spot, step_site, Task, tasks_after, tasks_from, To_give, To_visit, Tree, upper_of, Value, visits_at, Way, with_bucket, with_value, further, Among}
+use Rattle.bolt_recover.proofs.Words.{Visited, all_events, append-nil, below_less, Bucket, cases_Bool, cases_order, end, entry_tasks, Event, Finding, from_more, get_before, Gives, gives_at, head_sequence, is_below, is_from, is_lt, Item, item_of, Key, key_lt, key_same, LeafElement, listing_below, listing_of, lower_of, lt_not_trans, lt_trans, Member, member_cmp, members_of, Meta, meta_pages, node_at, none-some, not-true, Path, Rises, root_tasks, same_Some, Site, Spot, step_site, Task, tasks_after, tasks_from, To_give, To_visit, Tree, upper_of, Value, visits_at, Way, with_bucket, with_value, further, Among}
 use Rattle.bolt_recover.proofs.{Courses.Course, Courses.Course.done, Courses.Course.give, Courses.Course.visit, Courses.course, SiteKeys.IsChild, SiteKeys.Keyed, SiteKeys.keyed}
 use Rattle.bolt_recover.proofs.{CourseSurveys.placed, MembersInBuckets.well_at, SiteSteps.IsTidy}
 use Rattle.bolt_recover.proofs.TreeOrder.{HasKey, IsFirst, Ordered, ordered_rises}
@@ -121,7 +121,7 @@ module _ (file : List ℕ) (meta : Meta) (w : Way) (p : Site) (keys : List Key) 
   -- what a child of a branch comes to
   module _ (i : ℕ) (t : Site) (child : IsChild p t i keys) (tree : Tree) (within : IsWithin t.spot tree) where
     child_from : (k : Key) → HasKey tree k → key_lt k child.key ≡ false
-    child_from k h = not_true (key_lt k child.key) (subst (λ (o : Option Key). is_from o k ≡ true) child.lower (within k h).0)
+    child_from k h = not-true (key_lt k child.key) (subst (λ (o : Option Key). is_from o k ≡ true) child.lower (within k h).0)
 
     child_below : (k next : Key) → HasKey tree k → slice_get keys (suc i) ≡ Some next → key_lt k next ≡ true
     child_below k next h at = subst (λ (o : Option Key). is_below o k ≡ true) (child.next next at) (within k h).1

@@ -4,10 +4,6 @@ use Rattle.bolt_recover.proofs.Words.{At_page, cases_lt, cases_order, Contains, 
 use Rattle.bolt_format.specs.{TreePages.leaves_on, TreePages.shown_page, declared.tree_page.LeafPage.LeafPage, declared.tree_page.TreePage.TheVariants.Leaf}
 use Rattle.bolt_check.proofs.LeafLemmas.{lone_free, lone_same, lone_span}
 
-pub not_true : (b : Bool) → (b ≡ true → ⊥) → b ≡ false
-not_true true never = absurd (never refl)
-not_true false never = refl
-
 no_entries : (page : LeafPage) → leaves_on page ≡ [] → (shown_node (Leaf page)).entries ≡ []
 unfolding shown_node
 no_entries page none = rw none refl
@@ -73,7 +69,7 @@ module _ (file : List ℕ) (meta : Meta) where
     module _ (found : List ℕ) (n : ℕ) (taken listed first : ℕ → Bool) (are : (k : ℕ) → (taken k ≡ true) ↔ (kept k ⊎ IsFoundPage file meta found k))
         (same : taken n ≡ false → listed n ≡ first n) (free : (first n ≡ true) ↔ IsListedFree file meta n) (below : FoundBelow file meta kept n found) where
       untaken : {before : ℕ → Type 0} → ((k : ℕ) → taken k ≡ true → before k) → IsLoneLeaf nodes before n → taken n ≡ false
-      untaken {before} to lone = not_true (taken n) (λ was. lone_free nodes before n lone (to n was))
+      untaken {before} to lone = false_from_ne_true (taken n) (λ was. lone_free nodes before n lone (to n was))
 
       next_of : IsLoneLeaf nodes (λ k. taken k ≡ true) n → listed n ≡ false → IsFoundNext file meta kept found n
       next_of lone none = record {
@@ -91,7 +87,7 @@ module _ (file : List ℕ) (meta : Meta) where
           let more : suc n ≡ n + 1 = omega arith in
           let not_next : IsFoundNext file meta kept found n → ⊥ = λ next.
           let lone = lone_same nodes (λ k. kept k ⊎ IsFoundPage file meta found k) (λ k. taken k ≡ true) n (λ k was. (are k).0 was) next.leaf in
-          none lone (not_true (listed n) (λ is. next.unlisted (free.0 (sym (same (untaken (λ k was. was) lone)) ∙ is)))) in
+          none lone (false_from_ne_true (listed n) (λ is. next.unlisted (free.0 (sym (same (untaken (λ k was. was) lone)) ∙ is)))) in
           subst (λ (m : ℕ). FoundBelow file meta kept m found) more (found, below, inr (not_next, refl))
 
     -- one page more is taken

@@ -1,5 +1,5 @@
 -- A recovery between its calls: what comes of it in the end is all that comes of its file.
-use Rattle.std.proofs.Common.{◌≡◌, ◌∙◌, ◌≤◌, ◌<◌, ◌^◌, ℕ, true, ◌↔◌, List, [], ◌∷◌, ◌++◌, length, map, take, Option, Some, None, Result, Ok, Err, IfOk, OnErr, refl, sym, ap, subst, arith, append_assoc, Vec, Global}
+use Rattle.std.proofs.Common.{◌≡◌, ◌∙◌, ◌≤◌, ℕ, true, ◌↔◌, List, [], ◌∷◌, ◌++◌, length, map, take, Option, Some, None, Result, Ok, Err, IfOk, OnErr, refl, sym, ap, subst, arith, append_assoc, Vec, Global}
 use Rattle.bolt_recover.proofs.Words.{Advances, after_event, after_events, all_events, append-nil, AreFirst, AreKeptPages, AreLosses, AreOpen, ArePageWays, claims_file, claims_meta, claims_nodes, claims_visited, TreePage, counted, Ends, Event, Given, GoesOn, is_claimed, IsAllLeft, IsGoodPage, IsKeptPage, IsOn, IsPlaced, IsRecovered, loss_view, losses_of, LossView, lost_at, Member, members_left, Meta, node_at, Nodes, OpenPage, Outcome, outcome_of, page_ways, props, reached, StaysOn, steps_left, SurveyedWay, take-append-le, take_all, tally_of, Visited}
 use Rattle.bolt_recover.proofs.{Existing.one_recovered, Existing.recovers, CourseSurveys.all_claimed, CourseSurveys.survey_of, CourseSurveys.surveyed, CourseSurveys.tally, SurveyIsOne.same_survey}
 use Rattle.bolt_format.specs.declared.element.Leaf.{Leaf}
@@ -42,14 +42,13 @@ module _ (file : List ℕ) (meta : Meta) (begun : ℕ) where
   pub whole_claimed : AreKeptPages file meta whole.claimed
   whole_claimed survey is n = subst (λ (s : List SurveyedWay). (whole.claimed n ≡ true) ↔ IsKeptPage file meta s n) (same_survey file meta (survey_of file meta) survey (surveyed file meta) is) (all_claimed file meta begun n)
 
--- events add losses and are counted
-grows : (nodes : Nodes) (o : Outcome) (events : List Event)
-    → ((rest : List LossView) × ((after_events nodes o events).losses ≡ o.losses ++ rest)) × (o.visited < 2 ^ 64 → o.visited ≤ (after_events nodes o events).visited)
-grows nodes o [] = (([], sym (append-nil o.losses)), λ fits. omega arith)
+-- events add losses
+grows : (nodes : Nodes) (o : Outcome) (events : List Event) → (rest : List LossView) × ((after_events nodes o events).losses ≡ o.losses ++ rest)
+grows nodes o [] = ([], sym (append-nil o.losses))
 grows nodes o (Given path e ∷ events) = grows nodes o events
 grows nodes o (Visited way p found ∷ events) =
-    let ((rest, same), up) = grows nodes (after_event nodes o (Visited way p found)) events in
-    ((lost_at p found ++ rest, same ∙ append_assoc o.losses (lost_at p found) rest), λ fits. let more = up (omega (arith, fits)) in omega (arith, more, fits))
+    let (rest, same) = grows nodes (after_event nodes o (Visited way p found)) events in
+    (lost_at p found ++ rest, same ∙ append_assoc o.losses (lost_at p found) rest)
 
 -- at the start all is left
 pub left_all : (file : List ℕ) (meta : Meta) (begun : ℕ) (s : Steps) (listing : List Member) → IsAllLeft file meta begun s → IsRecovered file meta listing → members_left s ≡ listing
@@ -90,16 +89,7 @@ module _ {s : Steps} {meta : Meta} {begun : ℕ} (on : IsOn s meta begun) where
   pub reported_first : (losses : List LossView) → AreLosses (claims_file s.claims) meta losses → AreFirst (map loss_view s.losses.items) losses
   reported_first losses are =
       let so_far = map loss_view s.losses.items in
-      let ((rest, same), up) = grows (claims_nodes s.claims) (tally_of s) (steps_left s) in
+      let (rest, same) = grows (claims_nodes s.claims) (tally_of s) (steps_left s) in
       let more : losses ≡ so_far ++ rest = whole_losses (claims_file s.claims) meta begun losses are ∙ ap (λ (o : Outcome). o.losses) (sym on.comes) ∙ same in
       let short : length so_far ≤ length so_far = omega arith in
       sym (ap (take (length so_far)) more ∙ take-append-le (length so_far) so_far rest short ∙ take_all (length so_far) so_far short)
-
-  -- and no more pages were visited than ways lead to
-  pub visited_within : claims_visited s.claims < 2 ^ 64 → (ways : ℕ) → ArePageWays (claims_file s.claims) meta ways → claims_visited s.claims ≤ counted begun ways
-  visited_within fits ways are =
-      let (lost, up) = grows (claims_nodes s.claims) (tally_of s) (steps_left s) in
-      let more = up fits in
-      let same = ap (λ (o : Outcome). o.visited) on.comes in
-      let all = whole_visited (claims_file s.claims) meta begun ways are in
-      omega (arith, more, same, all, fits)

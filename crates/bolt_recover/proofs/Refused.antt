@@ -1,13 +1,9 @@
 -- Nothing is recovered under a meta that was looked for.
-use Rattle.std.proofs.Common.{ℕ, List, Result, Ok, Err, IfErr}
+use Rattle.std.proofs.Common.{ℕ, List}
 use Rattle.bolt_check.specs.declared.fault.CheckFault.{CheckFault}
 use Rattle.bolt_check.specs.declared.fault.CheckFault.TheVariants.{Accounts, Memory, Open, Structure}
 use Rattle.bolt_format.specs.{declared.meta.Meta.Meta, declared.meta.MetaFault.MetaFault}
 use Rattle.bolt_recover.specs.Refusals.{IsRefusedRoot, IsUnrecoverable}
-
-pub if_err : {X E : Type 0} {P Q : E → Type 0} (result : Result X E) → ((e : E) → P e → Q e) → IfErr result P → IfErr result Q
-if_err (Ok x) to h = h
-if_err (Err e) to h = to e h
 
 -- refused under a meta that was looked for
 pub refused_under : (file : List ℕ) (IsMeta : Meta → Type 0) (HasNone : MetaFault → Type 0) (meta : Meta) → IsMeta meta → (fault : CheckFault)

@@ -1,7 +1,7 @@
 -- The words that the proofs of this crate cite, passed on from the modules that define them.
 pub use Rattle.bolt_check.proofs.ClaimLemmas.{claims_bytes, counted_none, visited_fits}
 pub use Rattle.bolt_check.proofs.Judging.{passes_fewer, passes_silent, span_spot, tests_same}
-pub use Rattle.bolt_check.proofs.KeyLaws.{below_less, from_more, less_of, lt_not_trans, lt_trans, not_true}
+pub use Rattle.bolt_check.proofs.KeyLaws.{below_less, from_more, less_of, lt_not_trans, lt_trans}
 pub use Rattle.bolt_check.proofs.{KeyOrder.key_each, KeyOrder.key_rise, Lawful.shape_passes, Lawful.sound_reports_nothing}
 pub use Rattle.bolt_check.proofs.{MarkLemmas.node_below, MarkLemmas.node_within, NodeLemmas.length_entries, Shaping.finding_none, Shaping.shape_of}
 pub use Rattle.bolt_check.proofs.{Visited.passed_on, WayFacts.follow_append, WayFacts.key_at, WayFacts.leads_none, WayFacts.leaf_node}
@@ -77,7 +77,7 @@ unfoldable pub use Rattle.bolt_tree.specs.Walks.{left_of, walk_checked}
 pub use Rattle.std.proofs.Math.Logic.{∥∥₁_elim, ∥∥₁_map}
 pub use Rattle.std.proofs.Math.Nat.{div-lt_iff_lt-mul, le-div_iff_mul-le, lt_of_mul-lt-mul_right}
 pub use Rattle.std.proofs.Props.{props}
-pub use Rattle.std.proofs.lemmas.Bool.{and_parts, cases_Bool, cases_lt, cases_order, cond_both, eqb-true, false_from_ne_true, false≢true, or_cases, or_left}
+pub use Rattle.std.proofs.lemmas.Bool.{and_parts, cases_Bool, cases_lt, cases_order, cond_both, eqb-true, false_from_ne_true, false≢true, not-true, or_cases, or_left}
 pub use Rattle.std.proofs.lemmas.Bool.{or_parts, or_right}
 pub use Rattle.std.proofs.lemmas.Bool.Decides.{nat_tests}
 pub use Rattle.std.proofs.lemmas.Cmp.{nat_cmp_total, tied_itself}

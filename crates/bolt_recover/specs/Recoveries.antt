@@ -74,10 +74,6 @@ ForLosses file meta P = (losses : List LossView) → AreLosses file meta losses 
 abbrev pub HasReportedAll : Recovery → Recovery → Type 0
 HasReportedAll old new = ForLosses (recovery_file old) (recovery_meta old) (λ losses. recovery_losses new ≡ losses)
 
--- no way to a page number was visited twice
-abbrev pub IsWithinWays : Recovery → Type 0
-IsWithinWays recovery = ForPageWays (recovery_file recovery) (recovery_meta recovery) (λ ways. recovery_visited recovery ≤ counted (recovery_begun recovery) ways)
-
 -- these are the first of all losses
 abbrev pub AreFirst : List LossView → List LossView → Type 0
 AreFirst reported losses = reported ≡ take (length reported) losses

@@ -3,10 +3,9 @@ ghost use Rattle.std.specs.Option.{IfNone};
 ghost use Rattle.std.specs.Prelude.{◌≡◌, ◌<◌, ◌≤◌, ◌^◌, [], IfErr, IfOk, IfSome, List, OnErr, OnOk, map};
 ghost use Rattle.bolt_check.specs.{Claims.claims_file, Claims.claims_meta, Counts.counted};
 ghost use Rattle.bolt_check.specs.Sound.{HasSoundTrees};
-ghost use Rattle.bolt_format.specs.Metas.{HasActive, HasNoActive, HasNoneInSlot, IsInSlot};
 ghost use Rattle.bolt_tree.specs.{Listing.Member, Paths.path_of};
 ghost use Rattle.bolt_recover.specs.{KeptPages.AreKeptPages, Private.Frames.IsOn, Private.Frames.IsPlaced, Recovered.ForRecovered, Recovered.IsRecovered};
-ghost use Rattle.bolt_recover.specs.Refusals.{IsRefusedRoot, IsUnrecoverable, KeepsRoot};
+ghost use Rattle.bolt_recover.specs.Refusals.{IsRefusedRoot, KeepsRoot};
 ghost use Rattle.bolt_recover.specs.ShownLosses.{loss_view};
 
 use crate::bucket_key::compare_first;
@@ -15,7 +14,7 @@ use crate::found_leaves::find_leaves;
 use crate::losses::{Damage, Loss};
 use crate::steps::Steps;
 use bolt_check::{CheckFault, Claims, Leftovers, NoMemory};
-use bolt_format::{Meta, Slot, choose, slot_meta};
+use bolt_format::Meta;
 use bolt_tree::{Item, Members};
 use std::alloc::Global;
 
@@ -39,54 +38,7 @@ pub struct Recovery<'a> {
 impl<'a> Recovery<'a> {
     ghost use Rattle.bolt_recover.specs.{Private.Joining.TellsBucketKey, Private.TreesLeft.IsSearched};
     ghost use Rattle.bolt_recover.specs.declared.lost_and_found.Trees.TheVariants as Trees;
-    ghost use Rattle.bolt_recover.specs.Recoveries.{AreFirst, ForLosses, GivesRecovered, HasReportedAll, HasVisitedAll, IsWithinWays, LeavesNone, LeavesRecovered, LeavesRest, recovery_begun, recovery_claimed, recovery_file, recovery_left, recovery_losses, recovery_meta, recovery_path, recovery_visited, recovery_work};
-
-    /// A walk under the active meta.
-    ///
-    /// # Errors
-    ///
-    /// `Open` if no meta is valid; `Structure` with the finding of the root page if that is lost,
-    /// and nothing is recovered; `Memory` if memory runs out. Never `Accounts`.
-    pub fn new(alloc: Global, file: &'a [u8]) -> Result<Recovery<'a>, CheckFault>
-        ensures file { IfOk result (λ recovery. recovery_file recovery ≡ file.now) }
-        ensures meta { IfOk result (λ recovery. HasActive file.now (recovery_meta recovery)) }
-        ensures all { IfOk result (λ recovery.
-            ForRecovered file.now (recovery_meta recovery) (λ listing.
-            recovery_left recovery listing ≡ listing)) }
-        ensures path { IfOk result (λ recovery. recovery_path recovery ≡ []) }
-        ensures losses { IfOk result (λ recovery. recovery_losses recovery ≡ []) }
-        ensures begun { IfOk result (λ recovery. recovery_begun recovery ≡ 0) }
-        ensures visited { IfOk result (λ recovery. recovery_visited recovery ≡ 1) }
-        ensures root { IfOk result (λ recovery. KeepsRoot file.now (recovery_meta recovery)) }
-        ensures refused { IfErr result
-            (IsUnrecoverable file.now (HasActive file.now) (HasNoActive file.now)) }
-    {
-        let (_, meta) = choose(file)?;
-        Recovery::under(alloc, file, meta)
-    }
-
-    /// A walk under the meta of a slot, active or not.
-    ///
-    /// # Errors
-    ///
-    /// Those of `new`, but `Open` with the slot's fault if it has no valid meta.
-    pub fn of_slot(alloc: Global, file: &'a [u8], slot: Slot) -> Result<Recovery<'a>, CheckFault>
-        ensures file { IfOk result (λ recovery. recovery_file recovery ≡ file.now) }
-        ensures meta { IfOk result (λ recovery. IsInSlot file.now slot (recovery_meta recovery)) }
-        ensures all { IfOk result (λ recovery.
-            ForRecovered file.now (recovery_meta recovery) (λ listing.
-            recovery_left recovery listing ≡ listing)) }
-        ensures path { IfOk result (λ recovery. recovery_path recovery ≡ []) }
-        ensures losses { IfOk result (λ recovery. recovery_losses recovery ≡ []) }
-        ensures begun { IfOk result (λ recovery. recovery_begun recovery ≡ 0) }
-        ensures visited { IfOk result (λ recovery. recovery_visited recovery ≡ 1) }
-        ensures root { IfOk result (λ recovery. KeepsRoot file.now (recovery_meta recovery)) }
-        ensures refused { IfErr result
-            (IsUnrecoverable file.now (IsInSlot file.now slot) (HasNoneInSlot file.now slot)) }
-    {
-        let meta = slot_meta(file, slot)?;
-        Recovery::under(alloc, file, meta)
-    }
+    ghost use Rattle.bolt_recover.specs.Recoveries.{AreFirst, ForLosses, GivesRecovered, HasReportedAll, HasVisitedAll, LeavesNone, LeavesRecovered, LeavesRest, recovery_begun, recovery_claimed, recovery_file, recovery_left, recovery_losses, recovery_meta, recovery_path, recovery_visited, recovery_work};
 
     /// A walk under a meta that is handed in. The metas of the file are ignored.
     ///
@@ -281,15 +233,6 @@ impl<'a> Recovery<'a> {
             (AreFirst (recovery_losses self.now)) }
     {
         self.steps.losses.as_slice()
-    }
-
-    /// The number of visits so far, those before it began included: of each way to a page number at
-    /// most one. Saturates at 2^64 - 1.
-    pub fn visited(&self) -> u64
-        ensures visited { result ≡ recovery_visited self.now }
-        ensures within { IsWithinWays self.now }
-    {
-        self.steps.claims.visited()
     }
 }
 

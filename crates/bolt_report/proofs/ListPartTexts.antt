@@ -5,7 +5,7 @@ use Rattle.std.proofs.lemmas.List.Sums.{take_while-cons}
 use Rattle.std.proofs.Math.Bool.{or_assoc}
 use Rattle.std.proofs.lemmas.Bool.{cond-false, or_cases}
 use Rattle.std.proofs.lemmas.Slice.Eq.{bytes_eq-Decides, slice_eq-Decides}
-use Rattle.bolt_report.proofs.Words.{and_parts, begins_with, bytes_eq, bytes_of, Checked, cond-true, Contains, contains_head, contains_tail, is_bucket_at, list_any, list_line, ListForm, listing_lines, Member, member_cmp, meta_of, not_true, Path, pointwise, rest_from, Rises, take_while}
+use Rattle.bolt_report.proofs.Words.{and_parts, begins_with, bytes_eq, bytes_of, Checked, cond-true, Contains, contains_head, contains_tail, is_bucket_at, list_any, list_line, ListForm, listing_lines, Member, member_cmp, meta_of, false_from_ne_true, Path, pointwise, rest_from, Rises, take_while}
 use Rattle.bolt_tree.specs.{Listing.IsListing, ListingParts.is_bucket, ListingParts.part_below, Paths.path_cmp}
 use Rattle.bolt_tree.proofs.PartLemmas.{begins_after}
 use Rattle.std.specs.Prelude.{if◌then◌else◌}
@@ -44,7 +44,7 @@ module _ (below : Path) where
   apart_before path [] less any = cc
   apart_before path (m ∷ ms) less any =
       elim (or_cases (is_bucket_at below m) (list_any (is_bucket_at below) ms) any) [
-        | inl here ↦ not_true (begins_with below path) (λ begins.
+        | inl here ↦ false_from_ne_true (begins_with below path) (λ begins.
             let before : path_cmp path below ≡ Less = ap (path_cmp path) (sym (at_path m here)) ∙ less m (contains_head m ms) in
             let g : true ≡ false = sym (ap is_lt before) ∙ begins_after below path begins in cc)
         | inr later ↦ apart_before path ms (λ y has. less y (contains_tail m y ms has)) later

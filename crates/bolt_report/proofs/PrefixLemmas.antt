@@ -1,7 +1,7 @@
 -- The entries that begin with given bytes: none of them is below these bytes, and they lie side by side.
 use Rattle.std.proofs.Common.{◌≡◌, ◌==◌, ◌+◌, ℕ, suc, Bool, true, false, not, inl, inr, List, [], ◌∷◌, cond, drop, refl, ap, subst, arith}
 use Rattle.std.proofs.lemmas.Bool.Decides.{nat_tests}
-use Rattle.bolt_report.proofs.Words.{begins, Contains, entry_cmp, Key, key_lt, LeafElement, least_from, not_true, Rises, starts_with, with_prefix}
+use Rattle.bolt_report.proofs.Words.{begins, Contains, entry_cmp, Key, key_lt, LeafElement, least_from, false_from_ne_true, Rises, starts_with, with_prefix}
 use Rattle.bolt_check.specs.Keys.{key_cmp}
 use Rattle.bolt_check.proofs.KeyLaws.{lt_trans}
 use Rattle.bolt_tree.proofs.{Filters.filter_none, Filters.lt_of, Lists.contains_cases, Lists.contains_none}
@@ -42,7 +42,7 @@ module _ (prefix : Key) where
   none_later e entries rises after other =
       filter_none (begins prefix) (e ∷ entries) (λ f h. elim (contains_cases e f entries h) [
         | inl s ↦ subst (λ (x : LeafElement). begins prefix x ≡ false) s other
-        | inr later ↦ not_true (begins prefix f) (λ t. let c = between prefix e.key f.key after (lt_of (key_cmp e.key f.key) (rises.0 f later)) t in cc)
+        | inr later ↦ false_from_ne_true (begins prefix f) (λ t. let c = between prefix e.key f.key after (lt_of (key_cmp e.key f.key) (rises.0 f later)) t in cc)
       ])
 
   -- they are among the entries from the least one on that isn't below the prefix,
@@ -58,7 +58,7 @@ module _ (prefix : Key) where
       by_first later false below = refl
 
   not_below : (e f : LeafElement) → key_lt e.key prefix ≡ false → key_lt e.key f.key ≡ true → key_lt f.key prefix ≡ false
-  not_below e f after less = not_true (key_lt f.key prefix) (λ t. let c = lt_trans e.key f.key prefix less t in cc)
+  not_below e f after less = false_from_ne_true (key_lt f.key prefix) (λ t. let c = lt_trans e.key f.key prefix less t in cc)
 
   -- of which none is below it
   pub after_least : (entries : List LeafElement) → Rises entry_cmp entries → (f : LeafElement) → Contains (drop (least_from prefix entries) entries) f → key_lt f.key prefix ≡ false

@@ -36,7 +36,6 @@ pub use Rattle.bolt_text.specs.ListForms.{lines_form, list_line, listing_lines}
 pub use Rattle.bolt_text.specs.declared.fault.ReportFault.{ReportFault}
 pub use Rattle.bolt_text.specs.declared.forms.Form.{Form}
 pub use Rattle.bolt_text.specs.declared.forms.ListForm.{ListForm}
-pub use Rattle.bolt_tree.proofs.Filters.{not_true}
 pub use Rattle.bolt_tree.proofs.Leaving.{fewer_left, next_shows, next_stands, the_entries}
 pub use Rattle.bolt_tree.proofs.Lists.{contains_head, contains_tail}
 pub use Rattle.bolt_tree.specs.Buckets.{bucket_checked, bucket_start}
@@ -57,7 +56,7 @@ pub use Rattle.json.specs.Token.{end_object}
 pub use Rattle.json.specs.Tree.{json_tokens}
 pub use Rattle.std.proofs.Math.Logic.{∥∥₁_elim}
 pub use Rattle.std.proofs.Props.{props}
-pub use Rattle.std.proofs.lemmas.Bool.{and_parts, cases_Bool, cond-true}
+pub use Rattle.std.proofs.lemmas.Bool.{and_parts, cases_Bool, cond-true, false_from_ne_true}
 pub use Rattle.std.proofs.lemmas.List.{drop_all, length-map}
 pub use Rattle.std.proofs.lemmas.List.FromFn.{length-range_with_len}
 pub use Rattle.std.proofs.lemmas.List.Sums.{sum_by-cons}

@@ -6,7 +6,7 @@ use Rattle.std.proofs.lemmas.Option.{none-some}
 use Rattle.bolt_stats.proofs.Words.{At_page, cases_Bool, deepest_from, Enough, enough_kids, enough_node, follow, follow_append, greatest, Has, has_right, height_from, inline, inline_depth, inner_pages, IsBucketIn, IsDeepest, IsDepth, IsHeight, kid_pages, leaf_depth, Node, Nodes, paged, pages_in_bucket, PageSpot, root_spot, roots_in_bucket, same_Some, Spot, step}
 use Rattle.bolt_stats.proofs.DepthSums.{deepest_kids, depth_from, greatest_append, greatest_has, height_kids, page_has}
 use Rattle.bolt_check.specs.{Nodes.Entry, Shape.child_at, Shape.child_in, Shape.child_of, Shape.leads, Subtrees.root_page, Ways.child_spot, Ways.upper_from}
-use Rattle.bolt_check.proofs.WayFacts.{leads_follow, leads_none, none_number, step_child}
+use Rattle.bolt_check.proofs.WayFacts.{leads_follow, leads_none, step_child}
 use Rattle.bolt_stats.specs.{Deepest.inline_in_bucket, Depths.IsLeafAt}
 
 -- one of the numbers has the greatest
@@ -40,8 +40,8 @@ module _ (nodes : Nodes) where
   -- the first step of an address
   child_step : (is_leaf : Bool) (o : Option Entry) (rest : List ℕ) (number : ℕ) → leads nodes (child_of is_leaf o) rest ≡ Some number
       → (e : Entry) × (is_leaf ≡ false) × (o ≡ Some e) × (leads nodes (Some e.child) rest ≡ Some number)
-  child_step true o rest number h = absurd (none_number number (sym (leads_none nodes rest) ∙ h))
-  child_step false None rest number h = absurd (none_number number (sym (leads_none nodes rest) ∙ h))
+  child_step true o rest number h = absurd (none-some number (sym (leads_none nodes rest) ∙ h))
+  child_step false None rest number h = absurd (none-some number (sym (leads_none nodes rest) ∙ h))
   child_step false (Some e) rest number h = (e, refl, refl, h)
 
   step_in : (n i : ℕ) (rest : List ℕ) (number : ℕ) (node : Node) → nodes n ≡ Ok node → leads nodes (child_at nodes (Some n) i) rest ≡ Some number

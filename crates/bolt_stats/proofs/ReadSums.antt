@@ -1,9 +1,10 @@
 -- Sums over what is still to be read, through the reading of a page.
 use Rattle.std.proofs.Common.{◌≡◌, ◌∙◌, ◌+◌, ◌-◌, ◌≤◌, ◌⊎◌, ℕ, inl, inr, Bool, true, false, List, [], ◌∷◌, ◌++◌, Ok, map, take, sum_by, refl, sym, ap, subst, arith}
+use Rattle.std.proofs.lemmas.List.Sums.{sum_by-append}
 use Rattle.bolt_stats.proofs.Words.{AreGood, bucket_figure, Enough, enough_kids, Figure, figure, Has, has_right, inner_pages, inner_roots, kid_pages, map-append, Meta, Node, node_at, numbers_of, pages_in_bucket, roots_in_bucket, roots_of, Stats, sum_by-cons, total_of, UnreadBucket, UnreadPage, weight, ∥∥₁_map}
 use Rattle.bolt_stats.proofs.DepthSums.{page_has, root_has}
 use Rattle.bolt_check.specs.Nodes.{Entry}
-use Rattle.bolt_check.proofs.{Lists.has_left, Lists.has_split, TourSums.sum_append, TourSums.weight_kids}
+use Rattle.bolt_check.proofs.{Lists.has_left, Lists.has_split, TourSums.weight_kids}
 
 -- the last page was taken
 pub popped : (old new : List UnreadPage) (p : UnreadPage) → old ≡ new ++ p ∷ [] → numbers_of old ≡ numbers_of new ++ p.number ∷ []
@@ -27,9 +28,9 @@ module _ (file : List ℕ) (meta : Meta) where
       let w = weight (node_at file meta) own meta.high_water in
       let here = weight_kids (node_at file meta) own meta.high_water n node page enough in
       let inner = inner_sum own node.is_leaf node.entries in
-      let p = ap (sum_by w) a ∙ sum_append w rest (inner_pages node) in
-      let q = ap (sum_by w) b ∙ sum_append w roots (inner_roots node) in
-      let r = sum_append w rest (n ∷ []) in
+      let p = ap (sum_by w) a ∙ sum_by-append w rest (inner_pages node) in
+      let q = ap (sum_by w) b ∙ sum_by-append w roots (inner_roots node) in
+      let r = sum_by-append w rest (n ∷ []) in
       let one = sum_by-cons w n [] in
       omega (arith, here, inner, p, q, r, one)
 
@@ -68,7 +69,7 @@ zero_depth s zero = grind arith
 pub more_found : (file : List ℕ) (meta : Meta) (own : ℕ → ℕ) (roots found inner : List ℕ) → found ≡ roots ++ inner → total_of file meta own roots ≤ total_of file meta own found
 more_found file meta own roots found inner e =
     let w = weight (node_at file meta) own meta.high_water in
-    let both = ap (sum_by w) e ∙ sum_append w roots inner in omega (arith, both)
+    let both = ap (sum_by w) e ∙ sum_by-append w roots inner in omega (arith, both)
 
 -- nothing was taken, so nothing is left
 pub none_left : {X : Type 0} {items rest : List X} {n : ℕ} → n ≡ 0 → rest ≡ take (n - 1) items → items ≡ rest ++ [] → items ≡ []
@@ -81,8 +82,8 @@ module _ (before more : List UnreadBucket) (b : UnreadBucket) (roots rest : List
 
   pub moved_sum : (w : ℕ → ℕ) → sum_by w (roots_of more) + sum_by w rest ≡ sum_by w (roots_of before) + sum_by w roots
   moved_sum w =
-      let p = ap (sum_by w) opened ∙ sum_append w (roots_of before) (root ∷ []) in
-      let q = ap (sum_by w) popped_ ∙ sum_append w rest (root ∷ []) in
+      let p = ap (sum_by w) opened ∙ sum_by-append w (roots_of before) (root ∷ []) in
+      let q = ap (sum_by w) popped_ ∙ sum_by-append w rest (root ∷ []) in
       omega (arith, p, q)
 
   pub moved_from : (m : ℕ) → Has (roots_of more) m ⊎ Has rest m → Has (roots_of before) m ⊎ Has roots m
@@ -109,7 +110,7 @@ module _ (file : List ℕ) (meta : Meta) where
   unread_popped old new b e = ap (map (λ (x : UnreadBucket). x.root)) e ∙ map-append (λ (x : UnreadBucket). x.root) new (b ∷ [])
 
   pub total_popped : (own : ℕ → ℕ) (old rest : List ℕ) (n : ℕ) → old ≡ rest ++ n ∷ [] → total_of file meta own old ≡ total_of file meta own rest + total_of file meta own (n ∷ [])
-  total_popped own old rest n e = let w = weight (node_at file meta) own meta.high_water in ap (sum_by w) e ∙ sum_append w rest (n ∷ [])
+  total_popped own old rest n e = let w = weight (node_at file meta) own meta.high_water in ap (sum_by w) e ∙ sum_by-append w rest (n ∷ [])
 
   pub last_good : (old rest : List ℕ) (n : ℕ) → old ≡ rest ++ n ∷ [] → AreGood file meta old → AreGood file meta (n ∷ [])
   last_good old rest n e good m h = good m (subst (λ (l : List ℕ). Has l m) (sym e) (has_right rest (n ∷ []) m h))

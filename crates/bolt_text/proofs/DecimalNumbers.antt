@@ -2,7 +2,7 @@
 use Rattle.std.proofs.Common.{◌≡◌, ◌<◌, ◌^◌, ◌&&◌, ◌==◌, ℕ, [], ◌∷◌, Option, Some, None, Result, Ok, Err, true, false, length, get_or, inl, inr, refl, sym, ap, rules, arith, subst}
 use Rattle.std.proofs.lemmas.Str.{IsUtf8-from_ascii}
 use Rattle.std.proofs.lemmas.Fmt.{decimal_nonempty, digits_value-decimal}
-use Rattle.std.proofs.lemmas.Bool.{and_left, and_right, false_from_ne_true, ltb-true}
+use Rattle.std.proofs.lemmas.Bool.{false_from_ne_true, ltb-true}
 use Rattle.std.proofs.lemmas.Str.Parse.{IsNumeralModel, numerals_by_weight, parse_plain}
 use Rattle.std.specs.Prelude.{IsUtf8, ◌≢◌, option_copied, slice_get, zero, suc, MatchResult, nat_lt}
 use Rattle.std.specs.Borrow.{Bor}
@@ -35,12 +35,6 @@ number_is word n is = elim (cases_Bool (is_number word)) [
       (good, same, subst (λ (m : ℕ). m < 2 ^ 64) same (is_good word good).2)
   | inr bad ↦ let none = no_number word bad in absurd (cc)
 ]
-
-pub plus_number : (word : Text) → get_or word 0 0 ≡ 43 → number_in word ≡ None
-plus_number [] plus = absurd (omega arith)
-plus_number (first ∷ rest) plus =
-    let no_digit : all_ascii_digits (first ∷ rest) ≡ false = ap (λ (byte : ℕ). all_ascii_digits (byte ∷ rest)) plus in
-    no_number (first ∷ rest) (and_left _ _ (and_right _ _ no_digit))
 
 -- without a plus before it
 pub parsed_number : {E : Type 0} (word : Text) (parsed : Result ℕ E) → ParsesUnsigned 64 10 word parsed → get_or word 0 0 ≢ 43 → result_ok parsed ≡ number_in word

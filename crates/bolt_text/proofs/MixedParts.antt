@@ -1,19 +1,18 @@
 -- What is printed of an item in the form `mixed` is a word, which is read back as a part.
 use Rattle.std.proofs.Common.{◌≡◌, ◌∙◌, ◌++◌, ◌&&◌, ◌==◌, List, ℕ, Bool, true, false, Result, Some, ap, codes, drop, nat_le, not, refl, sym, take}
 use Rattle.bolt_text.proofs.Vocabulary.{FromHexError, and_parts, bytes_eq, bytes_eq-Decides, encode_lower, hex_bytes_in, if◌then◌else◌, result_ok}
-use Rattle.std.proofs.lemmas.Bool.{not-true}
+use Rattle.std.proofs.lemmas.Bool.{false_from_ne_true, not-true}
 use Rattle.std.specs.Cmp.Lexicographic.{pointwise}
 use Rattle.hex.proofs.HexLemmas.{decode_of-encode_lower}
 use Rattle.hex.specs.Hex.{IsBytes}
 use Rattle.bolt_text.specs.PartWords.{mixed_in}
 use Rattle.bolt_text.specs.Forms.{is_marked, is_printable, mixed_text}
 use Rattle.bolt_text.proofs.HexStrings.{digits_pass}
-use Rattle.bolt_tree.proofs.Filters.{not_true}
 
 -- without the mark it is read as text
 unmarked : (bytes : List ℕ) → is_marked bytes ≡ false → bytes_eq (take 2 bytes) (codes "0x") ≡ false
 unmarked bytes none =
-    not_true (bytes_eq (take 2 bytes) (codes "0x")) (λ marked.
+    false_from_ne_true (bytes_eq (take 2 bytes) (codes "0x")) (λ marked.
     let same : take 2 bytes ≡ codes "0x" = (bytes_eq-Decides (take 2 bytes) (codes "0x")).0 marked in
     let both : true ≡ false = sym (ap (λ (front : List ℕ). pointwise (λ a b. a == b) (codes "0x") front) same) ∙ none in cc)
 

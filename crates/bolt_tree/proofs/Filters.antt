@@ -19,9 +19,6 @@ pub filter_all : {A : Type 0} (f : A → Bool) (xs : List A) → ((x : A) → Co
 filter_all f [] all = refl
 filter_all f (x ∷ xs) all = rw (all x (contains_head x xs)) (ap (λ ys. x ∷ ys) (filter_all f xs (λ y h. all y (contains_tail x y xs h))))
 
-pub not_true : (a : Bool) → (a ≡ true → ⊥) → a ≡ false
-not_true a h = false_from_ne_true a h
-
 pub lt_of : (o : Ordering) → o ≡ Less → is_lt o ≡ true
 lt_of o e = rw e refl
 
@@ -39,7 +36,7 @@ module _ {A : Type 0} {cmp : A → A → Ordering} (o : IsTotalOrder cmp) (f : A
       grind (arith, tied_itself, filter_same, lt_of)
   at y ys r kept first later (inr h) =
       let before : cmp y m ≡ Less = r.0 m h in
-      grind (arith, not_true, contains_head, lt_of, not_lt_of, flip_less)
+      grind (arith, false_from_ne_true, contains_head, lt_of, not_lt_of, flip_less)
 
   pub filter_first : (xs : List A) → Rises cmp xs → Contains xs m → f m ≡ true → ((x : A) → Contains xs x → f x ≡ true → is_lt (cmp x m) ≡ false)
       → filter f xs ≡ m ∷ filter (λ x. is_lt (cmp m x)) xs

@@ -57,9 +57,6 @@ next_shows a b s t before after x file start moves entries are =
 
 -- ---- where a cursor is then: on what was returned
 
-at_place : (entries : List LeafElement) (n : ℕ) (place : Place) (e : LeafElement) → ComesTo entries n place (Some e) → entry_at entries place ≡ Some e
-at_place entries n place e (on, at) = rw on at
-
 next_at : (entries : List LeafElement) (before after : Place) (e : LeafElement)
     → (place_in entries after ≡ (next_move entries (place_in entries before)).place) × (Some e ≡ (next_move entries (place_in entries before)).answer)
     → entry_at entries after ≡ Some e

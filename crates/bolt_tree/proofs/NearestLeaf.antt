@@ -1,15 +1,7 @@
 -- For each key there is one nearest leaf.
-use Rattle.std.proofs.Common.{◌≡◌, ℕ, zero, suc, ◌+◌, ◌≤◌, ◌<◌, ◌⊎◌, inl, inr, List, [], ◌∷◌, Some, slice_get, length, refl, sym, ap, ◌∙◌, subst, arith, false, true}
-use Rattle.bolt_tree.proofs.Words.{BranchElement, HasSoundTrees, Inline_page, IsAddress, IsNear, IsNearFrom, IsNearest, IsOnWay, IsStart, Key, Kind, Meta, PageView, Root_page, Start, cases_Bool, key_lt, leads, leads_child, node_at, none-some, on_child, one_some, page_at, shallow}
-use Rattle.bolt_format.specs.declared.header.Kind.TheVariants as kind
+use Rattle.std.proofs.Common.{◌≡◌, ℕ, zero, suc, ◌+◌, ◌≤◌, ◌⊎◌, inl, inr, List, [], ◌∷◌, Some, slice_get, length, refl, sym, ap, ◌∙◌, subst, arith, false, true}
+use Rattle.bolt_tree.proofs.Words.{BranchElement, HasSoundTrees, Inline_page, IsAddress, IsNear, IsNearFrom, IsNearest, IsOnWay, IsStart, Key, Meta, PageView, Root_page, Start, cases_Bool, key_lt, leads, leads_child, node_at, none-some, on_child, one_some, page_at, shallow}
 use Rattle.bolt_tree.proofs.{TourLemmas.filled, TourLemmas.not_deepest, WayPages.a_branch, WayPages.a_leaf, WayPages.on_way_page}
-
-kinds_apart : (k : Kind) → k ≡ kind.Leaf → k ≡ kind.Branch → ⊥
-kinds_apart k e h = cc
-
--- there is one nearest element, and one nearest leaf
-one_nearest : (bs : List BranchElement) (key : Key) (i j : ℕ) (a b : BranchElement) → IsNearest bs key i → IsNearest bs key j → slice_get bs i ≡ Some a → slice_get bs j ≡ Some b → (i < j → ⊥)
-one_nearest bs key i j a b h g k q l = grind arith
 
 same_nearest : (bs : List BranchElement) (key : Key) (i j : ℕ) (a b : BranchElement) → IsNearest bs key i → IsNearest bs key j → slice_get bs i ≡ Some a → slice_get bs j ≡ Some b → i ≡ j
 same_nearest bs key i j a b h k g q = grind arith

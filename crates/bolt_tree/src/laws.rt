@@ -1,14 +1,13 @@
 //! What the definitions of a bucket's entries and of its pages imply.
-ghost use Rattle.std.specs.Prelude.{◌≡◌, ◌≢◌, ◌↔◌, ◌⊎◌, ℕ, Bool, List, ◌∷◌, [], true};
+ghost use Rattle.std.specs.Prelude.{◌≡◌, ◌≢◌, ◌↔◌, ◌⊎◌, ℕ, List, ◌∷◌, []};
 ghost use Rattle.std.specs.List.{Contains, take_while};
 ghost use Rattle.bolt_format.specs.{Elements.LeafElement, Elements.head_root, Elements.inline_elements, declared.meta.Meta.Meta};
 ghost use Rattle.bolt_check.specs.{Ones.AtMostOne, Sound.HasSoundTrees};
-ghost use Rattle.bolt_tree.specs.Entries.{AreEntries, EntryView, Inline_page, IsEntry, IsStart, Item, Root_page, Start};
+ghost use Rattle.bolt_tree.specs.Entries.{AreEntries, Inline_page, IsEntry, IsStart, Item, Root_page, Start};
 ghost use Rattle.bolt_tree.specs.Laws.{ForBucketElements, ForBuckets, ForListings, ForSorted, SeeksAreBounded, SeeksAreCounted};
 ghost use Rattle.bolt_tree.specs.{Listing.IsListing, Listing.Lists, Listing.Member, Listing.member_cmp, Listing.rest_from, Openings.GapsCoverAll};
-ghost use Rattle.bolt_tree.specs.{Tree.IsTreeOf, Tree.Tree, Tree.listing_of, Tree.tree_of, ListingParts.begins_with, ListingParts.part_below, Order.Rises};
-ghost use Rattle.bolt_tree.specs.{InBuckets.members_in, InBuckets.view_cmp, Paths.Path};
-ghost use Rattle.bolt_tree.specs.Merges.{AreApart, HasBucket, HasPlace, HavePlaces, merge};
+ghost use Rattle.bolt_tree.specs.{Tree.IsTreeOf, Tree.Tree, Tree.listing_of, Tree.tree_of, ListingParts.begins_with, ListingParts.part_below, Order.Rises, Paths.Path};
+ghost use Rattle.bolt_tree.specs.Merges.{AreApart, HavePlaces, merge};
 
 use bolt_check::laws::ways_go_on;
 
@@ -135,23 +134,4 @@ pub fn merged_members_have_places()
 #[tactic(auto, using(crate::proofs::PlacedTrees::placed_tree))]
 pub fn placed_members_are_of_a_tree()
     ensures { (listing : List Member) → Rises member_cmp listing → HavePlaces listing listing → listing_of (tree_of listing) ≡ listing }
-{}
-
-/// The members that a tree lists have their places.
-#[tactic(auto, using(crate::proofs::InBucketLemmas::tree_placed))]
-pub fn what_a_tree_lists_has_places()
-    ensures { (tree : Tree) → HavePlaces (listing_of tree) (listing_of tree) }
-{}
-
-/// Entries of a bucket are in the order of paths, if their keys rise.
-#[tactic(auto, using(crate::proofs::InBucketLemmas::members_rise))]
-pub fn entries_of_a_bucket_rise()
-    ensures { (is_made : Bool) (bucket : Path) (entries : List EntryView) → Rises view_cmp entries
-        → Rises member_cmp (members_in is_made bucket entries) }
-{}
-
-/// Entries of a bucket have their places, if the bucket is there, and itself has a place if it is made.
-pub fn entries_of_a_bucket_have_places()
-    ensures { (listing : List Member) (is_made : Bool) (bucket : Path) (entries : List EntryView) → HasBucket listing bucket
-        → (is_made ≡ true → HasPlace listing bucket) → HavePlaces listing (members_in is_made bucket entries) }
 {}

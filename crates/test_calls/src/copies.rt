@@ -3,19 +3,18 @@
 use crate::fault::Fault;
 use crate::walks::put_members;
 use crate::words::{Input, Text, number};
-use bolt_bulk::{compact, compact_as, plan, plan_as};
+use bolt_bulk::{compact, plan};
 use bolt_check::Checked;
 use bolt_cli::PageSize;
 use bolt_format::{MemSink, Sink};
-use bolt_layout::Layout;
 use bolt_load::{LineMembers, ListingText};
 use bolt_report::ReportFault;
 use bolt_tree::Members;
 use std::alloc::Global;
 
-/// A copy in a layout with pages of a size, by two words: `plain`, or else the balanced layout; and a
-/// number of bytes. Of `plan` the root page and the high-water mark; of `copy` the number of its bytes,
-/// the number that its sink accepted, and how many items were held at one time.
+/// A plain copy with pages of a size, which is the one word. Of `plan` the root page and the high-water
+/// mark; of `copy` the number of its bytes, the number that its sink accepted, and how many items were
+/// held at one time.
 pub fn put_copy(
     verb: &str,
     alloc: Global,
@@ -23,55 +22,40 @@ pub fn put_copy(
     words: &[String],
     text: &mut Text,
 ) -> Result<(), Fault> {
-    let [layout, size] = words else {
+    let [size] = words else {
         return Err(Fault::UNREAD);
     };
-    let is_plain = layout.as_str() == "plain";
     let Some(size) = PageSize::new(number(size.as_str())?) else {
         return Err(Fault::UNREAD);
     };
     if verb == "plan" {
-        put_plan(alloc, checked, is_plain, size, text)
+        put_plan(alloc, checked, size, text)
     } else {
-        put_copied(alloc, checked, is_plain, size, text)
+        put_copied(alloc, checked, size, text)
     }
 }
 
-/// The plain layout is planned by `plan`, the other by `plan_as`.
 fn put_plan(
     alloc: Global,
     checked: Checked<'_>,
-    is_plain: bool,
     size: PageSize,
     text: &mut Text,
 ) -> Result<(), Fault> {
-    let planned = if is_plain {
-        plan(alloc, checked, size.bytes)
-    } else {
-        plan_as(alloc, checked, Layout::Balanced, size.bytes)
-    };
-    let Ok(planned) = planned else {
+    let Ok(planned) = plan(alloc, checked, size.bytes) else {
         return Err(Fault::UNREAD);
     };
     text.numbers(&[planned.root, planned.high_water]);
     Ok(())
 }
 
-/// The plain layout is made by `compact`, the other by `compact_as`.
 fn put_copied(
     alloc: Global,
     checked: Checked<'_>,
-    is_plain: bool,
     size: PageSize,
     text: &mut Text,
 ) -> Result<(), Fault> {
     let mut sink = MemSink::new(alloc);
-    let done = if is_plain {
-        compact(alloc, checked, size.bytes, &mut sink)
-    } else {
-        compact_as(alloc, checked, Layout::Balanced, size.bytes, &mut sink)
-    };
-    let Ok(done) = done else {
+    let Ok(done) = compact(alloc, checked, size.bytes, &mut sink) else {
         return Err(Fault::UNREAD);
     };
     text.numbers(&[done.bytes, sink.bytes().len() as u64, done.held]);

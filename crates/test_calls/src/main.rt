@@ -16,8 +16,8 @@
 //! | `print buckets FORM PATH`, `print value FORM PATH KEY` | the keys of its buckets, and a value |
 //! | `print list FORM PATH`, `print part FORM PATH` | what `list` writes from a path and of the part below it: `hex`, `json` or `json-hex` |
 //! | `loaded` | the line of each member that the file tells, which is the text of a listing |
-//! | `plan LAYOUT SIZE` | the root page and the high-water mark of a copy |
-//! | `copy LAYOUT SIZE` | the bytes of a copy, those that were accepted, and the items held at one time |
+//! | `plan SIZE` | the root page and the high-water mark of a plain copy |
+//! | `copy SIZE` | the bytes of a plain copy, those that were accepted, and the items held at one time |
 //! | `pages` | the table of all pages |
 //! | `checked`, `checked SLOT` | the transaction, the length, and whether the accounts were tested |
 //! | `pager`, `root`, `bucket KEY` | keys that are found over a pager, and what it opened |

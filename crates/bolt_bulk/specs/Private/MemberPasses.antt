@@ -3,7 +3,7 @@ use Rattle.std.specs.Prelude.{◌≡◌, ◌≤◌, ◌<◌, ℕ, Bool, List, []
 use Rattle.bolt_format.specs.declared.sink.Sink.{Ghosts}
 use Rattle.bolt_tree.specs.{Listing.Member, Tree.tree_of}
 use Rattle.bolt_layout.specs.{Copies.IsOfOneTree, Copies.layout_of_listing, declared.Layout.Layout}
-use Rattle.bolt_bulk.specs.{Compacting.Plans, Compacting.too_many, WholeListings.IsAgain, declared.members_copy.Plan.Plan}
+use Rattle.bolt_bulk.specs.{Compacting.too_many, WholeListings.IsAgain}
 use Rattle.bolt_bulk.specs.Private.{Endings.Ends, Passes.FitLimits, Passes.limits_with}
 use Rattle.bolt_bulk.specs.{declared.fault.BulkFault.BulkFault, declared.limits.Limits.Limits, declared.page_setup.PageSetup.PageSetup}
 use Rattle.bolt_bulk.specs.declared.pass.Ended.{Ended}
@@ -21,10 +21,6 @@ pub record FindsLimits {M W : Type 0} (reads : M → W → Type 0) (listing : W 
   pub large : IfErr result (λ fault. fault ≡ TooLarge → (whole : W) → reads old whole
       → too_many ≤ length (layout_of_listing which page_size (listing whole) sequence))
   pub again : IfOk result (λ limits. IsAgain reads listing left ends_as old new)
-
--- a layout of each tree that is listed is planned
-abbrev pub PlansEach : {W : Type 0} → (W → Type 0) → (W → List Member) → Layout → (page_size sequence : ℕ) → Result Plan PlanFault → Type 0
-PlansEach {W} reads listing which page_size sequence result = (whole : W) → reads whole → Plans which page_size sequence (listing whole) result
 
 -- a pass over all members, with limits that are right for them
 abbrev pub PutsMembers : {S M W : Type 0} → Ghosts S → (old new : S) → (M → W → Type 0) → (W → List Member) → M → PageSetup → Limits → (notes : Bool)

@@ -110,10 +110,6 @@ Finds back found before after frames end = MatchOption found ((before ≡ []) ×
 abbrev pub ComesTo : Bool → Option Leaf → (before : List LeafElement) → (new : Trail) → (end : List Frame) → Type 0
 ComesTo back found before new end = Finds back found before (entries_left back new) (trail_frames new) end
 
--- the entries from a key on
-abbrev pub entries_from : Key → List LeafElement → List LeafElement
-entries_from key entries = drop (least_from key entries) entries
-
 -- a move in a direction from where a trail rests to where it rests: without an entry there, it stays
 pub record Goes (back : Bool) (old new : Trail) (gives : Option Leaf) : Type 0 where
   pub moved : IsMoved old new

@@ -1,6 +1,6 @@
 use Rattle.std.proofs.Common.{◌≡◌, ◌∙◌, ◌⊎◌, ◌↔◌, ◌<◌, ◌+◌, ◌-◌, ◌++◌, ◌∷◌, inl, ℕ, true, List, [], ap, arith, subst, sym}
-use Rattle.bolt_recover.proofs.Words.{All, All-push, false≢true, Found, FoundBelow, is_listed, is_taken, IsFoundPage, IsFoundView, leftovers_file, leftovers_length, leftovers_meta, map-append, numbers_of}
-use Rattle.bolt_recover.proofs.FoundLemmas.{found_next, found_not, found_up, not_true, taken_more, view_of}
+use Rattle.bolt_recover.proofs.Words.{All, All-push, false_from_ne_true, false≢true, Found, FoundBelow, is_listed, is_taken, IsFoundPage, IsFoundView, leftovers_file, leftovers_length, leftovers_meta, map-append, numbers_of}
+use Rattle.bolt_recover.proofs.FoundLemmas.{found_next, found_not, found_up, taken_more, view_of}
 use Rattle.bolt_recover.proofs.found_leaves.find_leaves.Goals as goal
 use Rattle.bolt_recover.proofs.found_leaves.find_leaves.Goals.{in-Some, in_default}
 
@@ -35,7 +35,7 @@ loop-number-preserved c =
                 (found_next file meta kept found n old listed first inv.taken (inv.listed n) free inv.below some.leaf some.unlisted);
             taken = subst (λ (xs : List ℕ). (k : ℕ) → (new k ≡ true) ↔ (kept k ⊎ IsFoundPage file meta xs k)) (sym numbers)
                 (taken_more file meta kept found n old new inv.taken some.taken);
-            listed = λ k untaken. c.take.ensures.noted k untaken ∙ inv.listed k (not_true (old k) (λ was. false≢true (sym untaken ∙ (some.taken k).1 (inl was))));
+            listed = λ k untaken. c.take.ensures.noted k untaken ∙ inv.listed k (false_from_ne_true (old k) (λ was. false≢true (sym untaken ∙ (some.taken k).1 (inl was))));
             views = subst (All (IsFoundView file meta)) (sym items) (All-push (IsFoundView file meta) l.found.items f inv.views view);
           }
       | in_default w ↦

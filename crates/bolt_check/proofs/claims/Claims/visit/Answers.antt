@@ -1,13 +1,10 @@
-use Rattle.std.proofs.Common.{rules, ◌≡◌, ◌∙◌, List, OnErr, OnOk, Result, ap, arith, length}
+use Rattle.std.proofs.Common.{rules, ◌∙◌, ap, arith, length}
 use Rattle.std.proofs.lemmas.Grind.{common_steps}
 use Rattle.std.proofs.lemmas.Result.{on_err_weaker}
-use Rattle.bolt_check.proofs.Words.{claims_file, IsUnlisted, PageUse, unclaimed}
+use Rattle.bolt_check.proofs.Words.{claims_file, unclaimed}
 use Rattle.bolt_check.proofs.Visited.{stored}
 use Rattle.bolt_check.specs.Claims.{claims_length, claims_meta, is_claimed, pages_left}
 use Rattle.bolt_check.proofs.claims.Claims.visit.Goals as goal
-
-still_unlisted : {T E : Type 0} (r : Result T E) (old new : List PageUse) → OnOk r (IsUnlisted old → IsUnlisted new) → OnErr r (new ≡ old) → IsUnlisted old → IsUnlisted new
-still_unlisted r old new kept same plain = grind arith
 
 pub invariant_of-self : goal.invariant_of-self
 invariant_of-self c = search (rules, stored)

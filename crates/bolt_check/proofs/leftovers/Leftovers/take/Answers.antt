@@ -1,12 +1,8 @@
 use Rattle.std.proofs.lemmas.Grind.{common_steps}
-use Rattle.std.proofs.Common.{◌∙◌, Option, ap, arith, length}
-use Rattle.std.specs.Prelude.{IfSome}
+use Rattle.std.proofs.Common.{◌∙◌, ap, arith, length}
 use Rattle.bolt_check.specs.Leftovers.{is_listed, is_taken, leftovers_file, leftovers_length, leftovers_meta}
 use Rattle.bolt_check.proofs.{LeafLemmas.if_none, LeafLemmas.none_listed, Visited.stored}
 use Rattle.bolt_check.proofs.leftovers.Leftovers.take.Goals as goal
-
-if_some : {X : Type 0} {P Q : Type 0} (o : Option X) → (P → Q) → IfSome o (λ _. P) → IfSome o (λ _. Q)
-if_some o to h = grind arith
 
 pub returns-clause-length : goal.returns-clause-length
 unfolding leftovers_length

@@ -1,5 +1,5 @@
 -- The members are those of the file's listing.
-use Rattle.bolt_bulk.proofs.copy.plan_as.Goals as goal
+use Rattle.bolt_bulk.proofs.copy.plan.Goals as goal
 
 pub a_walk_is_whole-requires : goal.a_walk_is_whole-requires
 a_walk_is_whole-requires c = rw c.new-walk.ensures.checked c.new-walk.ensures.all
