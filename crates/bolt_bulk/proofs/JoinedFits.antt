@@ -6,7 +6,7 @@ use Rattle.bolt_format.specs.{Bytes.IsBytes, ElementLengths.IsKeyLength, declare
 use Rattle.bolt_check.specs.Keys.{Key}
 use Rattle.bolt_tree.specs.{Entries.Bucket, Entries.Item, Listing.Member, Paths.Path}
 use Rattle.bolt_layout.specs.{Copies.IsOfOneTree, Storable.IsFitListing, Storable.IsFitMember}
-use Rattle.bolt_bulk.specs.WholeListings.{IsWhole}
+use Rattle.bolt_bulk.specs.WholeListings.{IsWholeListing}
 use Rattle.bolt_layout.proofs.FileTrees.{good_fits, good_inner, good_shown, held_fits}
 use Rattle.bolt_recover.specs.{Joined.IsFoundMember, Joined.IsJoined, Joined.lost_and_found, PageKeys.page_key, Recovered.IsRecovered}
 use Rattle.bolt_recover.proofs.{MembersInBuckets.path_holds, MembersInBuckets.shows_entry, JoinedContents.joined_contents, PageNames.digits_long}
@@ -14,7 +14,7 @@ use Rattle.bolt_recover.proofs.{MembersInBuckets.path_holds, MembersInBuckets.sh
 -- Members of a listing that fits are whole, if all are left.
 pub whole_if_fit : {M : Type 0} {lists : M → List Member → Type 0} {left : M → List Member → List Member} {members : M} → (listing : List Member) × lists members listing
     → ((listing : List Member) → lists members listing → left members listing ≡ listing) → ((listing : List Member) → IsFitListing listing → IsOfOneTree listing)
-    → ((listing : List Member) → lists members listing → IsFitListing listing) → IsWhole lists (λ listing. listing) left members
+    → ((listing : List Member) → lists members listing → IsFitListing listing) → IsWholeListing lists (λ listing. listing) left members
 whole_if_fit some all law fit = record { some = ∣ some ∣₁; all = all; one = λ listing is. ∣ law listing (fit listing is) ∣₁ }
 
 abbrev Fits : Member → Type 0

@@ -4,7 +4,7 @@ use Rattle.std.proofs.Math.Logic.{∥∥₁_elim, ∥∥₁_map}
 use Rattle.std.proofs.Props.{props}
 use Rattle.std.specs.List.{AllByRecursion}
 use Rattle.bolt_tree.specs.{Entries.Bucket, Entries.Item, Entries.Value, Listing.Member, Paths.Path}
-use Rattle.bolt_bulk.specs.{Private.IsFitItem, Private.IsFitMember, Private.last_part, WholeListings.IsAgain, WholeListings.IsWhole}
+use Rattle.bolt_bulk.specs.{Private.IsFitItem, Private.IsFitMember, Private.last_part, WholeListings.IsAgain, WholeListings.IsWholeListing}
 use Rattle.bolt_bulk.proofs.FileLayouts.{listing_fits}
 
 fit_prop : (path : Path) (item : Item) → IsProp ((1 ≤ length path) × (length (last_part path) ≤ 1073741824) × IsFitItem item)
@@ -29,12 +29,12 @@ module _ {M W : Type 0} (reads : M → W → Type 0) (left : M → W → List Me
   others_fit first old new path item fit next whole is = ∥∥₁_map (fit whole is) (λ all. (subst (AllByRecursion IsFitMember) (next whole is) all).1)
 
   -- where nothing is given yet, all fit
-  pub whole_fits : {listing : W → List Member} (members : M) → IsWhole reads listing left members → AllFit members members
+  pub whole_fits : {listing : W → List Member} (members : M) → IsWholeListing reads listing left members → AllFit members members
   whole_fits {listing} members all whole is = grind (arith, listing_fits)
 
   -- the same members from their beginning
-  pub whole_again : {listing : W → List Member} {ends_as : M → M → Type 0} (old new : M) → IsAgain reads listing left ends_as old new → IsWhole reads listing left old
-      → IsWhole reads listing left new
+  pub whole_again : {listing : W → List Member} {ends_as : M → M → Type 0} (old new : M) → IsAgain reads listing left ends_as old new → IsWholeListing reads listing left old
+      → IsWholeListing reads listing left new
   whole_again old new again all = record {
     some = ∥∥₁_map all.some (λ is. (is.0, (again.same is.0).1 is.1));
     all = λ whole is. again.all whole ((again.same whole).0 is);

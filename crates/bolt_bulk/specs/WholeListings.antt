@@ -8,7 +8,7 @@ use Rattle.bolt_recover.specs.declared.recovery.Recovery.{Recovery}
 use Rattle.bolt_tree.specs.{Listing.IsListing, Listing.Member, Walks.left_of, Walks.walk_checked, declared.walk.Walk.Walk}
 
 -- There is a listing; all its members are left, and it is that of one tree.
-pub record IsWhole {M W : Type 0} (reads : M → W → Type 0) (listing : W → List Member) (left : M → W → List Member) (members : M) : Type 0 where
+pub record IsWholeListing {M W : Type 0} (reads : M → W → Type 0) (listing : W → List Member) (left : M → W → List Member) (members : M) : Type 0 where
   pub some : ∥ ((whole : W) × reads members whole) ∥₁
   pub all : (whole : W) → reads members whole → left members whole ≡ listing whole
   pub one : (whole : W) → reads members whole → ∥ IsOfOneTree (listing whole) ∥₁
@@ -21,12 +21,12 @@ pub record IsAgain {M W : Type 0} (reads : M → W → Type 0) (listing : W → 
 
 -- all members of a sound file
 abbrev pub IsWholeWalk : Walk → Type 0
-IsWholeWalk walk = IsWhole (λ (w : Walk) (listing : List Member). IsListing (bytes_of (walk_checked w)) (meta_of (walk_checked w)) listing) (λ listing. listing) (λ (w : Walk) (listing : List Member). left_of w listing) walk
+IsWholeWalk walk = IsWholeListing (λ (w : Walk) (listing : List Member). IsListing (bytes_of (walk_checked w)) (meta_of (walk_checked w)) listing) (λ listing. listing) (λ (w : Walk) (listing : List Member). left_of w listing) walk
 
 -- all that is recovered of a damaged one
 abbrev pub IsWholeRecovery : Recovery → Type 0
-IsWholeRecovery recovery = IsWhole (λ (r : Recovery) (listing : List Member). IsRecovered (recovery_file r) (recovery_meta r) listing) (λ listing. listing) (λ (r : Recovery) (listing : List Member). recovery_left r listing) recovery
+IsWholeRecovery recovery = IsWholeListing (λ (r : Recovery) (listing : List Member). IsRecovered (recovery_file r) (recovery_meta r) listing) (λ listing. listing) (λ (r : Recovery) (listing : List Member). recovery_left r listing) recovery
 
 -- and that with what is found of it
 abbrev pub IsWholeJoined : Joined → Type 0
-IsWholeJoined joined = IsWhole (λ (j : Joined) (listing : List Member). IsJoined (joined_file j) (joined_meta j) listing) (λ listing. listing) (λ (j : Joined) (listing : List Member). joined_left j listing) joined
+IsWholeJoined joined = IsWholeListing (λ (j : Joined) (listing : List Member). IsJoined (joined_file j) (joined_meta j) listing) (λ listing. listing) (λ (j : Joined) (listing : List Member). joined_left j listing) joined

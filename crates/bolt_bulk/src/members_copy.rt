@@ -1,7 +1,7 @@
 //! The copy of all members that are given one after another, in a few passes over them.
 ghost use Rattle.std.specs.Prelude.{◌≡◌, ◌≤◌, IfOk, List, OnOk, length, ◌↔◌, None};
 ghost use Rattle.bolt_tree.specs.Listing.{Member};
-ghost use Rattle.bolt_bulk.specs.{Compacting.CopiesEach, Compacting.PlansEach, WholeListings.IsAgain, WholeListings.IsWhole};
+ghost use Rattle.bolt_bulk.specs.{Compacting.CopiesEach, Compacting.PlansEach, WholeListings.IsAgain, WholeListings.IsWholeListing};
 ghost use Rattle.bolt_bulk.specs.Private.{FindsLimits, first_pages, FitAll, PutsMembers, WritesText};
 ghost use Rattle.bolt_layout.specs.{PageBytes.copy_meta, PageBytes.filled, declared.Layout.TheVariants.Balanced};
 
@@ -46,7 +46,7 @@ fn balanced_limits<'a, M: Members<'a>>(
     members: &mut M,
     blueprint: &Blueprint,
 ) -> Result<Limits, PlanFault>
-    requires { IsWhole M.reads M.listing M.left members.old }
+    requires { IsWholeListing M.reads M.listing M.left members.old }
     ensures { FindsLimits M.reads M.listing M.left M.ends_as members.old members.new Balanced
         blueprint.now.page_size blueprint.now.sequence result }
 {
@@ -70,7 +70,7 @@ fn limits_of<'a, M: Members<'a>>(
     members: &mut M,
     blueprint: &Blueprint,
 ) -> Result<Limits, PlanFault>
-    requires { IsWhole M.reads M.listing M.left members.old }
+    requires { IsWholeListing M.reads M.listing M.left members.old }
     ensures { FindsLimits M.reads M.listing M.left M.ends_as members.old members.new blueprint.now.layout
         blueprint.now.page_size blueprint.now.sequence result }
 {
@@ -87,7 +87,7 @@ fn plan_within<'a, M: Members<'a>>(
     limits: &Limits,
     blueprint: &Blueprint,
 ) -> Result<Plan, PlanFault>
-    requires whole { IsWhole M.reads M.listing M.left members.old }
+    requires whole { IsWholeListing M.reads M.listing M.left members.old }
     requires fit { FitAll M.reads M.listing members.old blueprint.now.layout blueprint.now.page_size
         limits.now }
     ensures plans { PlansEach (M.reads members.old) M.listing blueprint.now.layout blueprint.now.page_size
@@ -123,7 +123,7 @@ pub fn plan_members<'a, M: Members<'a>>(
     members: &mut M,
     blueprint: &Blueprint,
 ) -> Result<Plan, PlanFault>
-    requires { IsWhole M.reads M.listing M.left members.old }
+    requires { IsWholeListing M.reads M.listing M.left members.old }
     ensures { PlansEach (M.reads members.old) M.listing blueprint.now.layout blueprint.now.page_size
         blueprint.now.sequence result }
 {
@@ -148,7 +148,7 @@ pub fn compact_members<'a, M: Members<'a>, S: Sink>(
     blueprint: &Blueprint,
     sink: &mut S,
 ) -> Result<Done, BulkFault>
-    requires { IsWhole M.reads M.listing M.left members.old }
+    requires { IsWholeListing M.reads M.listing M.left members.old }
     ensures copies { CopiesEach S.taken S.failed sink.old sink.new (M.reads members.old) M.listing
         blueprint.now.layout blueprint.now.page_size blueprint.now.sequence result }
     ensures end { OnOk result (M.ends_as members.old members.new) }
@@ -216,7 +216,7 @@ fn put_pages<'a, M: Members<'a>, S: Sink>(
     sink: &mut S,
 ) -> Result<Ended, BulkFault>
     requires room { 3 ≤ setup.highest_mark }
-    requires whole { IsWhole M.reads M.listing M.left members.old }
+    requires whole { IsWholeListing M.reads M.listing M.left members.old }
     ensures pages { PutsMembers S.Sink sink.old sink.new M.reads M.listing members.old setup limits.now notes
         result }
     ensures end { OnOk result (M.ends_as members.old members.new) }

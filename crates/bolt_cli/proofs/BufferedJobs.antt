@@ -1,13 +1,13 @@
 -- What a job does, whatever its standard output and its target are.
 use Rattle.std.proofs.Common.{◌≡◌, ◌<◌, ◌∙◌, ap, inl, inr, ℕ, List, [], Option, None, Some, Bool, length, refl, subst, sym}
-use Rattle.bolt_cli.proofs.Vocabulary.{Answer, CopiesUnless, Does, DoesJob, Ending, Extent, Ghosts, Job, Layout, MakesCopy, Member, MetaChoice, PageSize, WritesCopy, WritesRestored, copy_page_size, copy_report, done, buffered_failures, buffered_of, buffered_text, hash_refusal, layout_of_listing, lengths_line, repair_report, target_name, text_members, ∥∥₁_map}
+use Rattle.bolt_cli.proofs.Vocabulary.{Answer, CopiesUnless, WritesAnswer, DoesJob, JobEnding, Extent, Ghosts, Job, Layout, MakesCopy, Member, MetaChoice, PageSize, WritesCopy, WritesRestored, copy_page_size, copy_report, done, buffered_failures, buffered_of, buffered_text, hash_refusal, layout_of_listing, lengths_line, repair_report, target_name, text_members, ∥∥₁_map}
 use Rattle.bolt_job.specs.declared.job.Job.TheVariants as job
 use Rattle.bolt_layout.specs.declared.Layout.TheVariants.{Balanced}
 
 module _ {O T : Type 0} (out_taken : O → Option (List ℕ)) (out_failed : O → ℕ) (out_old out_new : O)
     (target_taken : T → Option (List ℕ)) (target_failed : T → ℕ) (target_old target_new : T) where
   -- a job without an OUT does the same, whatever its target is
-  pub shown : (file : List ℕ) (j : Job) (ending : Ending) → target_name j ≡ None
+  pub shown : (file : List ℕ) (j : Job) (ending : JobEnding) → target_name j ≡ None
       → DoesJob out_taken out_failed out_old out_new target_taken target_failed target_old target_new file j ending
       → DoesJob {T = Unit {0}} out_taken out_failed out_old out_new (λ _. None) (λ _. 0) tt tt file j ending
   shown file (job.Compact j) ending none does = absurd (cc)
@@ -19,8 +19,8 @@ module _ {O T : Type 0} (out_taken : O → Option (List ℕ)) (out_failed : O �
 module _ {O T : Type 0} (out : Ghosts O) (target : Ghosts T) (out_old out_new : O) (target_old target_new : T) {text : List ℕ} {failures : ℕ}
     (was_empty : out.taken out_old ≡ Some []) (was_sound : out.failed out_old ≡ 0)
     (holds : out.taken out_new ≡ Some text) (fails : out.failed out_new ≡ failures) where
-  does_buffered : (answer : Answer) (ending : Ending) → Does out.taken out.failed out_old out_new answer ending
-      → Does buffered_text buffered_failures (buffered_of [] 0) (buffered_of text failures) answer ending
+  does_buffered : (answer : Answer) (ending : JobEnding) → WritesAnswer out.taken out.failed out_old out_new answer ending
+      → WritesAnswer buffered_text buffered_failures (buffered_of [] 0) (buffered_of text failures) answer ending
   does_buffered answer ending (inl (put, same, is)) = inl (rw holds at (rw was_empty at put), sym fails ∙ same ∙ was_sound, is)
   does_buffered answer ending (inr (less, part, is)) = inr (
     subst (λ n. 0 < n) fails less,
@@ -34,13 +34,13 @@ module _ {O T : Type 0} (out : Ghosts O) (target : Ghosts T) (out_old out_new : 
       let sound : failures ≡ 0 = sym fails ∙ ap out.failed same ∙ was_sound in
       ap (λ t. buffered_of t failures) empty ∙ ap (buffered_of []) sound
 
-  written : (snapshot : Bool) (listing : List Member) (layout : List ℕ) (answer : ℕ → Answer) (ending : Ending)
+  written : (snapshot : Bool) (listing : List Member) (layout : List ℕ) (answer : ℕ → Answer) (ending : JobEnding)
       → WritesCopy out.taken out.failed out_old out_new target.taken target.failed target_old target_new snapshot listing layout answer ending
       → WritesCopy buffered_text buffered_failures (buffered_of [] 0) (buffered_of text failures) target.taken target.failed target_old target_new snapshot listing layout answer ending
   written snapshot listing layout answer ending (inl (small, good, put, sound, does)) = inl (small, good, put, sound, does_buffered _ ending does)
   written snapshot listing layout answer ending (inr (failure, stops, same, is)) = inr (failure, stops, untouched same, is)
 
-  module _ (snapshot : Bool) (listing : List Member) (layout : List ℕ) (answer : ℕ → Answer) (ending : Ending) where
+  module _ (snapshot : Bool) (listing : List Member) (layout : List ℕ) (answer : ℕ → Answer) (ending : JobEnding) where
     unless : (hash : _)
         → CopiesUnless out.taken out.failed out_old out_new target.taken target.failed target_old target_new hash
         (WritesCopy out.taken out.failed out_old out_new target.taken target.failed target_old target_new snapshot listing layout answer) ending
@@ -49,7 +49,7 @@ module _ {O T : Type 0} (out : Ghosts O) (target : Ghosts T) (out_old out_new : 
     unless (Some fault) (same, untouched_target, is) = (untouched same, untouched_target, is)
     unless None writes = written snapshot listing layout answer ending writes
 
-  copied : (file : List ℕ) (choice : MetaChoice) (size : Option PageSize) (which : Layout) (snapshot : Bool) (extent : Extent) (ending : Ending)
+  copied : (file : List ℕ) (choice : MetaChoice) (size : Option PageSize) (which : Layout) (snapshot : Bool) (extent : Extent) (ending : JobEnding)
       → MakesCopy out.taken out.failed out_old out_new target.taken target.failed target_old target_new file choice size which snapshot extent ending
       → MakesCopy buffered_text buffered_failures (buffered_of [] 0) (buffered_of text failures) target.taken target.failed target_old target_new file choice size which snapshot extent ending
   copied file choice size which snapshot extent ending (inl (meta, listing, lost, found, read, faults, are, copies)) =
@@ -57,14 +57,14 @@ module _ {O T : Type 0} (out : Ghosts O) (target : Ghosts T) (out_old out_new : 
       inl (meta, listing, lost, found, read, faults, are, unless snapshot listing layout (copy_report faults lost found (length file)) ending (hash_refusal extent faults.hash) copies)
   copied file choice size which snapshot extent ending (inr (why, unread, (same, untouched_target, is))) = inr (why, unread, (untouched same, untouched_target, is))
 
-  restored : (file : List ℕ) (choice : MetaChoice) (size : Option PageSize) (snapshot : Bool) (ending : Ending)
+  restored : (file : List ℕ) (choice : MetaChoice) (size : Option PageSize) (snapshot : Bool) (ending : JobEnding)
       → WritesRestored out.taken out.failed out_old out_new target.taken target.failed target_old target_new file choice size snapshot ending
       → WritesRestored buffered_text buffered_failures (buffered_of [] 0) (buffered_of text failures) target.taken target.failed target_old target_new file choice size snapshot ending
   restored file choice size snapshot ending (meta, listing, lost, back, left_out, is, faults, are, writes) =
       let layout = layout_of_listing Balanced (copy_page_size size meta) listing meta.root_sequence in
       (meta, listing, lost, back, left_out, is, faults, are, written snapshot listing layout (repair_report faults lost back left_out (length file)) ending writes)
 
-  pub buffered_job : (file : List ℕ) (j : Job) (ending : Ending)
+  pub buffered_job : (file : List ℕ) (j : Job) (ending : JobEnding)
       → DoesJob out.taken out.failed out_old out_new target.taken target.failed target_old target_new file j ending
       → DoesJob buffered_text buffered_failures (buffered_of [] 0) (buffered_of text failures) target.taken target.failed target_old target_new file j ending
   buffered_job file (job.Compact j) ending does = copied file j.meta j.page_size _ _ j.extent ending does

@@ -1,6 +1,6 @@
 -- Each run does its deeds in order.
 use Rattle.std.proofs.Common.{◌≡◌, ◌≢◌, ◌∙◌, ◌⊎◌, sym, inl, inr, arith, ℕ, zero, suc, List, [], ◌∷◌, Bool, true, false, Option, Some, None, Ok, Err, refl, rules}
-use Rattle.bolt_cli.proofs.Vocabulary.{Asks, Choose, Closed, Closes, Deed, DoesAsked, Dropped, Ended, Ending, Ends, Fails, FailsGathered, FailsLacking, FailsUnended, Ghosts, Goes, IsReported, IsRun, Job, Lacked, Made, Opened, PrintsBuffered, PrintsText, Read, ReadFirst, ReadOn, Reads, ReadsMetas, ReadsRest, Refusal, Refuses, Said, Shows, Text, WritesOut, needs_metas_alone, string_bytes, target_name}
+use Rattle.bolt_cli.proofs.Vocabulary.{Asks, Choose, Closed, Closes, Deed, DoesAsked, Dropped, Ended, JobEnding, Ends, Fails, FailsGathered, FailsLacking, FailsUnended, Ghosts, Goes, IsReported, IsRun, Job, Lacked, Made, Opened, PrintsBuffered, PrintsText, Read, ReadFirst, ReadOn, Reads, ReadsMetas, ReadsRest, Refusal, Refuses, Said, Shows, Text, WritesOut, needs_metas_alone, string_bytes, target_name}
 use Rattle.bolt_cli.specs.{Orders.HasNone, Orders.is_made, Orders.is_read, Sources.is_changed}
 use Rattle.bolt_cli.proofs.Sentences.{IsOrdered, MakesOfRead, MakesOnly, makes_none, none_made_of_read}
 use Rattle.bolt_job.specs.declared.refusal.Refusal.TheVariants as refusal
@@ -40,7 +40,7 @@ module _ {T O : Type 0} where
   FailsGathered-said line deeds code (inl fails) = Fails-said line deeds code fails
   FailsGathered-said line deeds code (inr fails) = FailsLacking-said deeds code fails
 
-  FailsUnended-said : (ending : Ending) (deeds : List (Deed T O)) (code : ℕ) → FailsUnended ending deeds code → IsSaid deeds code 1
+  FailsUnended-said : (ending : JobEnding) (deeds : List (Deed T O)) (code : ℕ) → FailsUnended ending deeds code → IsSaid deeds code 1
   FailsUnended-said (Ok status) deeds code fails = Fails-said _ deeds code fails
   FailsUnended-said (Err failure) deeds code fails = FailsGathered-said _ deeds code fails
 
@@ -81,7 +81,7 @@ module _ {T O : Type 0} where
   printed before output done (Lacked failures line ∷ []) code is = let some = not_0 code is in search rules
   printed before output done deeds code is = absurd is
 
-  reported : (before output : O) (done : Unit {0}) (ending : Ending) (deeds : List (Deed T O)) (code : ℕ) → IsReported ending deeds code
+  reported : (before output : O) (done : Unit {0}) (ending : JobEnding) (deeds : List (Deed T O)) (code : ℕ) → IsReported ending deeds code
       → Prints (Opened (Ok before) ∷ Closed output (Ok done) ∷ deeds) code
   reported before output done (Ok status) [] code (none, is) = search rules
   reported before output done (Ok status) (deed ∷ deeds) code (none, is) = absurd (cc)
@@ -153,7 +153,7 @@ Choose-either true first second chosen = first chosen
 Choose-either false first second chosen = second chosen
 
 module _ {T O : Type 0} (output_taken : O → Option (List ℕ)) (output_failed : O → ℕ) where
-  closes : (before after : O) (ending : Ending) (deeds : List (Deed T O)) (code : ℕ) → Closes output_taken output_failed after ending deeds code → Prints (Opened (Ok before) ∷ deeds) code
+  closes : (before after : O) (ending : JobEnding) (deeds : List (Deed T O)) (code : ℕ) → Closes output_taken output_failed after ending deeds code → Prints (Opened (Ok before) ∷ deeds) code
   closes before after ending (Closed output (Ok done) ∷ deeds) code are = reported before output done ending deeds code are.2
   closes before after ending (Closed output (Err ReaderLeft) ∷ deeds) code (is, sound, (none, failed)) = reader_left before output deeds code none failed
   closes before after ending (Closed output (Err Failed) ∷ deeds) code (is, sound, fails) = unprinted before output deeds code (Fails-said _ deeds code fails)
@@ -161,7 +161,7 @@ module _ {T O : Type 0} (output_taken : O → Option (List ℕ)) (output_failed 
   closes before after ending (Dropped output Failed ∷ deeds) code (is, less, fails) = dropped before output deeds code (Fails-said _ deeds code fails)
   closes before after ending deeds code are = absurd are
 
-  prints : (text : List ℕ) (ending : Ending) (deeds : List (Deed T O)) (code : ℕ) → PrintsText output_taken output_failed text ending deeds code → Prints deeds code
+  prints : (text : List ℕ) (ending : JobEnding) (deeds : List (Deed T O)) (code : ℕ) → PrintsText output_taken output_failed text ending deeds code → Prints deeds code
   prints text ending (Opened (Ok before) ∷ deeds) code (fresh, after, takes, is) = closes before after ending deeds code is
   prints text ending (Opened (Err fault) ∷ deeds) code are = unopened fault deeds code (Fails-said _ deeds code are)
   prints text ending deeds code are = absurd are
@@ -182,7 +182,7 @@ module _ {T O : Type 0} (output_taken : O → Option (List ℕ)) (output_failed 
     reads_metas (ReadFirst name limit (Err fault) ∷ deeds) code (is, at_most, fails) = unopened_file out name limit fault deeds code (FailsGathered-said _ deeds code fails)
     reads_metas deeds code are = absurd are
 
-  prints_buffered : (failures : ℕ) (text : List ℕ) (ending : Ending) (deeds : List (Deed T O)) (code : ℕ)
+  prints_buffered : (failures : ℕ) (text : List ℕ) (ending : JobEnding) (deeds : List (Deed T O)) (code : ℕ)
       → PrintsBuffered output_taken output_failed failures text ending deeds code → Prints deeds code
   prints_buffered zero text ending deeds code are = prints text ending deeds code are
   prints_buffered (suc more) text ending deeds code are = failed deeds code (FailsLacking-said deeds code are)

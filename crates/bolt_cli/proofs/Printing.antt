@@ -2,7 +2,7 @@
 use Rattle.std.proofs.Common.{◌≡◌, inl, inr, ap, sym, ℕ, zero, suc, List, [], ◌∷◌, ◌++◌, Bool, true, false, Option, Some, None, Ok, Err, refl, subst}
 use Rattle.std.proofs.lemmas.Option.{same_Some}
 use Rattle.std.specs.Io.KnownBytes.{IsAtEnd}
-use Rattle.bolt_cli.proofs.Vocabulary.{Appends, Choose, Closed, Deed, DoesAsked, DoesJob, Dropped, Ended, Ending, Fails, FailsGathered, FailsLacking, FailsUnended, Ghosts, Goes, IsReported, IsRun, Job, Lacked, Made, Opened, PrintsBuffered, PrintsText, Read, ReadFirst, ReadOn, Reads, ReadsMetas, Said, Shows, Text, WritesOut, buffered_failures, buffered_of, buffered_text, needs_metas_alone, target_name}
+use Rattle.bolt_cli.proofs.Vocabulary.{Appends, Choose, Closed, Deed, DoesAsked, DoesJob, Dropped, Ended, JobEnding, Fails, FailsGathered, FailsLacking, FailsUnended, Ghosts, Goes, IsReported, IsRun, Job, Lacked, Made, Opened, PrintsBuffered, PrintsText, Read, ReadFirst, ReadOn, Reads, ReadsMetas, Said, Shows, Text, WritesOut, buffered_failures, buffered_of, buffered_text, needs_metas_alone, target_name}
 use Rattle.bolt_cli.proofs.BufferedJobs.{buffered_job}
 use Rattle.bolt_cli.proofs.MetasAlone.{metas_have_no_target}
 use Rattle.bolt_cli.proofs.Ordering as ordering
@@ -43,7 +43,7 @@ module _ {T O : Type 0} where
   fails_gathered Is line deeds code (inl is) = fails Is line deeds code is
   fails_gathered Is line deeds code (inr is) = lacks Is deeds code is
 
-  fails_unended : (Is : O → Type 0) (ending : Ending) (deeds : List (Deed T O)) (code : ℕ) → FailsUnended ending deeds code → ForClosed Is deeds
+  fails_unended : (Is : O → Type 0) (ending : JobEnding) (deeds : List (Deed T O)) (code : ℕ) → FailsUnended ending deeds code → ForClosed Is deeds
   fails_unended Is (Ok status) deeds code is = fails Is _ deeds code is
   fails_unended Is (Err failure) deeds code is = fails_gathered Is _ deeds code is
 
@@ -51,7 +51,7 @@ module _ {T O : Type 0} where
   nothing Is [] none = tt
   nothing Is (deed ∷ deeds) none = absurd (cc)
 
-  reported : (Is : O → Type 0) (ending : Ending) (deeds : List (Deed T O)) (code : ℕ) → IsReported ending deeds code → ForClosed Is deeds
+  reported : (Is : O → Type 0) (ending : JobEnding) (deeds : List (Deed T O)) (code : ℕ) → IsReported ending deeds code → ForClosed Is deeds
   reported Is (Ok status) deeds code is = nothing Is deeds is.0
   reported Is (Err failure) deeds code is = fails_gathered Is _ deeds code is
 
@@ -76,7 +76,7 @@ module _ {T O : Type 0} (target : Ghosts T) (output : Ghosts O) (all : ShowsAll 
 
   -- standard output has what this job answers for this file
   abbrev HasAnswer : Option Text → Job → (file : List ℕ) → O → Type 0
-  HasAnswer out job file printed = (text : List ℕ) × (ending : Ending) × (output.taken printed ≡ Some text) × AnswersTo target output out job file text ending
+  HasAnswer out job file printed = (text : List ℕ) × (ending : JobEnding) × (output.taken printed ≡ Some text) × AnswersTo target output out job file text ending
 
   shows : (file : List ℕ) (job : Job) (deeds : List (Deed T O)) (code : ℕ) → Shows output.taken output.failed file job deeds code → ForClosed (HasAnswer None job file) deeds
   shows file job (Opened (Ok before) ∷ Closed printed (Ok done) ∷ deeds) code (begun, after, ending, does, (is, sound, rest)) =
@@ -89,7 +89,7 @@ module _ {T O : Type 0} (target : Ghosts T) (output : Ghosts O) (all : ShowsAll 
   shows file job (Opened (Err fault) ∷ deeds) code is = fails _ _ deeds code is
   shows file job deeds code is = absurd is
 
-  prints : (piece : List ℕ) (ending : Ending) (deeds : List (Deed T O)) (code : ℕ) → PrintsText output.taken output.failed piece ending deeds code
+  prints : (piece : List ℕ) (ending : JobEnding) (deeds : List (Deed T O)) (code : ℕ) → PrintsText output.taken output.failed piece ending deeds code
       → ForClosed (λ printed. output.taken printed ≡ Some piece) deeds
   prints piece ending (Opened (Ok before) ∷ Closed printed (Ok done) ∷ deeds) code (begun, after, takes, (is, sound, rest)) =
       let put = rw (← is) at takes in
@@ -100,14 +100,14 @@ module _ {T O : Type 0} (target : Ghosts T) (output : Ghosts O) (all : ShowsAll 
   prints piece ending (Opened (Err fault) ∷ deeds) code is = fails _ _ deeds code is
   prints piece ending deeds code is = absurd is
 
-  prints_buffered : (failures : ℕ) (piece : List ℕ) (ending : Ending) (deeds : List (Deed T O)) (code : ℕ)
+  prints_buffered : (failures : ℕ) (piece : List ℕ) (ending : JobEnding) (deeds : List (Deed T O)) (code : ℕ)
       → PrintsBuffered output.taken output.failed failures piece ending deeds code → ForClosed (λ printed. (output.taken printed ≡ Some piece) × (failures ≡ 0)) deeds
   prints_buffered zero piece ending deeds code is = closed_as _ _ (λ printed whole. (whole, refl)) deeds (prints piece ending deeds code is)
   prints_buffered (suc more) piece ending deeds code is = lacks _ deeds code is
 
   module _ (out : Text) (file : List ℕ) (job : Job) where
     -- OUT is on the disk, and its report is printed
-    answered : (made after : T) (buffered : Buffered) (ending : Ending)
+    answered : (made after : T) (buffered : Buffered) (ending : JobEnding)
         → DoesJob buffered_text buffered_failures (buffered_of [] 0) buffered target.taken target.failed made after file job ending
         → (printed : O) → (output.taken printed ≡ Some buffered.text) × (buffered.failures ≡ 0) → HasAnswer (Some out) job file printed
     answered made after buffered ending does printed (whole, sound) =

@@ -4,5 +4,5 @@ use Rattle.std.specs.Io.KnownBytes.{Appends}
 use Rattle.bolt_format.specs.declared.sink.Sink.{Ghosts}
 
 -- a piece was added, if the sink hasn't failed by then
-abbrev pub Gathers : {S : Type 0} → (sink : Ghosts S) → (old new : S) → List ℕ → Type 0
-Gathers sink old new piece = sink.failed new ≡ 0 → (sink.failed old ≡ 0) × Appends (sink.taken old) (sink.taken new) piece
+abbrev pub GathersPiece : {S : Type 0} → (sink : Ghosts S) → (old new : S) → List ℕ → Type 0
+GathersPiece sink old new piece = sink.failed new ≡ 0 → (sink.failed old ≡ 0) × Appends (sink.taken old) (sink.taken new) piece

@@ -1,6 +1,6 @@
 -- What is printed: what the job answers for the bytes of FILE that were read.
 use Rattle.std.specs.Prelude.{◌≡◌, ◌⊎◌, ℕ, List, [], ◌∷◌, ◌++◌, Option, Some, None, Ok}
-use Rattle.bolt_commands.specs.Answers.{DoesJob, Ending}
+use Rattle.bolt_commands.specs.Answers.{DoesJob, JobEnding}
 use Rattle.bolt_format.specs.declared.sink.Sink.{Ghosts}
 use Rattle.bolt_job.specs.{CommandLine.Asks, CommandLine.IsRefusalOf, Jobs.target_name, LineWords.Text, declared.job.Job.Job, declared.refusal.Refusal.Refusal}
 use Rattle.bolt_cli.specs.Deeds.{Deed, Closed, Read, ReadOn}
@@ -23,13 +23,13 @@ module _ {T O : Type 0} where
 
 module _ {T O : Type 0} (target : Ghosts T) (output : Ghosts O) where
   -- a job writes this text to a sink that has room for it, and ends so; with an OUT, it writes that too
-  abbrev pub AnswersTo : Option Text → Job → (file text : List ℕ) → Ending → Type 0
+  abbrev pub AnswersTo : Option Text → Job → (file text : List ℕ) → JobEnding → Type 0
   AnswersTo (Some out) job file text ending =
       (before after : T) × DoesJob buffered_text buffered_failures (buffered_of [] 0) (buffered_of text 0) target.taken target.failed before after file job ending
   AnswersTo None job file text ending =
       DoesJob {T = Unit {0}} buffered_text buffered_failures (buffered_of [] 0) (buffered_of text 0) (λ _. None) (λ _. 0) tt tt file job ending
 
-  abbrev pub Answers : Job → (file text : List ℕ) → Ending → Type 0
+  abbrev pub Answers : Job → (file text : List ℕ) → JobEnding → Type 0
   Answers job = AnswersTo (target_name job) job
 
   -- what standard output shows of itself
@@ -40,6 +40,6 @@ module _ {T O : Type 0} (target : Ghosts T) (output : Ghosts O) where
   abbrev pub PrintsAnswers : List Text → List (Deed T O) → Type 0
   PrintsAnswers words deeds =
       (before : List (Deed T O)) (printed : O) (done : Unit {0}) (after : List (Deed T O)) → deeds ≡ before ++ Closed printed (Ok done) ∷ after
-      → ((job : Job) × (file text : List ℕ) × (ending : Ending) × Asks words job × (last_read deeds ≡ Some file)
+      → ((job : Job) × (file text : List ℕ) × (ending : JobEnding) × Asks words job × (last_read deeds ≡ Some file)
       × (output.taken printed ≡ Some text) × Answers job file text ending)
       ⊎ ((refusal : Refusal) × IsRefusalOf words refusal)

@@ -2,7 +2,7 @@
 use Rattle.std.specs.Prelude.{◌≡◌, ◌<◌, ◌+◌, ◌⊎◌, ℕ, zero, suc, List, [], ◌∷◌, ◌++◌, Bool, true, false, Option, Some, None, Result, Ok, Err, codes, string_bytes}
 use Rattle.std.specs.Io.KnownBytes.{Appends, IsAtEnd}
 use Rattle.bolt_format.specs.{Metas.IsMetasEnd, Sinks.AppendsPrefix, declared.sink.Sink.Ghosts}
-use Rattle.bolt_commands.specs.Answers.{DoesJob, Ending, status_of}
+use Rattle.bolt_commands.specs.Answers.{DoesJob, JobEnding, status_of}
 use Rattle.bolt_job.specs.CommandLine.{Asks, IsRefusalOf}
 use Rattle.bolt_cli.specs.Deeds.{Deed, Does, Read, ReadFirst, ReadOn, Made, Ended, Opened, Closed, Dropped, Said, Lacked}
 use Rattle.bolt_cli.specs.Names.{shown_lines, shown_name}
@@ -40,15 +40,15 @@ abbrev pub HoldsUnless : Option (List ℕ) → (failures : ℕ) → List ℕ →
 HoldsUnless taken failures text = ((taken ≡ Some text) × (failures ≡ 0)) ⊎ (0 < failures)
 
 -- what is buffered for standard error once a job has ended so: the line of its failure, unless there was no memory for it
-abbrev pub IsBufferedLine : Ending → Option (List ℕ) → (failures : ℕ) → Type 0
+abbrev pub IsBufferedLine : JobEnding → Option (List ℕ) → (failures : ℕ) → Type 0
 IsBufferedLine (Ok status) taken failures = (taken ≡ Some []) × (failures ≡ 0)
 IsBufferedLine (Err failure) taken failures = HoldsUnless taken failures (failure_line failure)
 
 -- Some deeds were added, and with the status after them they are so, for each ending of a job of which this is buffered for standard error and
 -- this is the status.
-abbrev pub DoesBuffered : {O D : Type 0} → (done : O → List D → Type 0) → (old new : O) → (after : ℕ) → Option (List ℕ) → (failures : ℕ) → (code : ℕ) → (Ending → List D → ℕ → Type 0) → Type 0
+abbrev pub DoesBuffered : {O D : Type 0} → (done : O → List D → Type 0) → (old new : O) → (after : ℕ) → Option (List ℕ) → (failures : ℕ) → (code : ℕ) → (JobEnding → List D → ℕ → Type 0) → Type 0
 DoesBuffered done old new after taken failures code Are =
-    (ending : Ending) → IsBufferedLine ending taken failures → code ≡ status_of ending → Does done old new after (Are ending)
+    (ending : JobEnding) → IsBufferedLine ending taken failures → code ≡ status_of ending → Does done old new after (Are ending)
 
 -- what a sink in memory holds, and how often it failed
 pub record Buffered : Type 0 where
@@ -81,7 +81,7 @@ module _ {O : Type 0} (output_taken : O → Option (List ℕ)) (output_failed : 
       (output_failed after ≡ 0 → Appends (output_taken before) (output_taken after) text) × AppendsPrefix (output_taken before) (output_taken after) text
 
   -- a job without an OUT, on standard output from one state to another
-  abbrev pub ShowsJob : O → O → List ℕ → Job → Ending → Type 0
+  abbrev pub ShowsJob : O → O → List ℕ → Job → JobEnding → Type 0
   ShowsJob before after file job ending = DoesJob {T = Unit {0}} output_taken output_failed before after (λ _. None) (λ _. 0) tt tt file job ending
 
 module _ {T O : Type 0} where
@@ -107,12 +107,12 @@ module _ {T O : Type 0} where
   RefusesUsage text deeds code = (Ends (shown_lines text) deeds × (code ≡ 2)) ⊎ FailsLacking deeds code
 
   -- OUT isn't on the disk after a job that ended so
-  abbrev pub FailsUnended : Ending → List (Deed T O) → ℕ → Type 0
+  abbrev pub FailsUnended : JobEnding → List (Deed T O) → ℕ → Type 0
   FailsUnended (Ok status) deeds code = Fails (failure_line Write) deeds code
   FailsUnended (Err failure) deeds code = FailsGathered (failure_line failure) deeds code
 
   -- a job that ended so is over: with the line of its failure, if there was one
-  abbrev pub IsReported : Ending → List (Deed T O) → ℕ → Type 0
+  abbrev pub IsReported : JobEnding → List (Deed T O) → ℕ → Type 0
   IsReported (Ok status) deeds code = (deeds ≡ []) × (code ≡ status)
   IsReported (Err failure) deeds code = FailsGathered (failure_line failure) deeds code
 
@@ -123,14 +123,14 @@ module _ {T O : Type 0} where
 
 module _ {T O : Type 0} (output_taken : O → Option (List ℕ)) (output_failed : O → ℕ) where
   -- standard output comes back in this state
-  abbrev pub Closes : O → Ending → List (Deed T O) → ℕ → Type 0
+  abbrev pub Closes : O → JobEnding → List (Deed T O) → ℕ → Type 0
   Closes after ending (Closed output (Ok done) ∷ deeds) code = (output ≡ after) × (output_failed output ≡ 0) × IsReported ending deeds code
   Closes after ending (Closed output (Err fault) ∷ deeds) code = (output ≡ after) × (output_failed output ≡ 0) × IsUnprinted fault deeds code
   Closes after ending (Dropped output fault ∷ deeds) code = (output ≡ after) × (0 < output_failed output) × IsUnprinted fault deeds code
   Closes after ending deeds code = ⊥
 
   -- standard output is opened, takes the text, and is closed
-  abbrev pub PrintsText : List ℕ → Ending → List (Deed T O) → ℕ → Type 0
+  abbrev pub PrintsText : List ℕ → JobEnding → List (Deed T O) → ℕ → Type 0
   PrintsText text ending (Opened (Ok before) ∷ deeds) code = IsFresh output_taken output_failed before × (after : O) × Takes output_taken output_failed text before after × Closes after ending deeds code
   PrintsText text ending (Opened (Err fault) ∷ deeds) code = Fails (failure_line Memory) deeds code
   PrintsText text ending deeds code = ⊥
@@ -138,16 +138,16 @@ module _ {T O : Type 0} (output_taken : O → Option (List ℕ)) (output_failed 
   -- standard output is opened, the job is done on it, and it is closed
   abbrev pub Shows : List ℕ → Job → List (Deed T O) → ℕ → Type 0
   Shows file job (Opened (Ok before) ∷ deeds) code =
-      IsFresh output_taken output_failed before × (after : O) × (ending : Ending) × ShowsJob output_taken output_failed before after file job ending × Closes after ending deeds code
+      IsFresh output_taken output_failed before × (after : O) × (ending : JobEnding) × ShowsJob output_taken output_failed before after file job ending × Closes after ending deeds code
   Shows file job (Opened (Err fault) ∷ deeds) code = Fails (failure_line Memory) deeds code
   Shows file job deeds code = ⊥
 
   -- if OUT is on the disk, what was buffered is printed, provided there was memory for it; otherwise none of it is
-  abbrev pub PrintsBuffered : (failures : ℕ) → List ℕ → Ending → List (Deed T O) → ℕ → Type 0
+  abbrev pub PrintsBuffered : (failures : ℕ) → List ℕ → JobEnding → List (Deed T O) → ℕ → Type 0
   PrintsBuffered zero text ending deeds code = PrintsText text ending deeds code
   PrintsBuffered (suc more) text ending deeds code = FailsLacking deeds code
 
-  abbrev pub IsEnded : Result (Unit {0}) EndFault → Buffered → Ending → List (Deed T O) → ℕ → Type 0
+  abbrev pub IsEnded : Result (Unit {0}) EndFault → Buffered → JobEnding → List (Deed T O) → ℕ → Type 0
   IsEnded (Ok done) buffered ending deeds code = PrintsBuffered buffered.failures buffered.text ending deeds code
   IsEnded (Err fault) buffered ending deeds code = FailsUnended ending deeds code
 
@@ -169,7 +169,7 @@ module _ {T O : Type 0} (target : Ghosts T) (output : Ghosts O) where
   -- the job is done on OUT, while what it prints is buffered, and then OUT is ended
   abbrev pub WritesOut : T → List ℕ → Job → List (Deed T O) → ℕ → Type 0
   WritesOut before file job (Ended after result ∷ deeds) code =
-      (buffered : Buffered) × (ending : Ending) × DoesJob buffered_text buffered_failures (buffered_of [] 0) buffered target.taken target.failed before after file job ending × IsEnded output.taken output.failed result buffered ending deeds code
+      (buffered : Buffered) × (ending : JobEnding) × DoesJob buffered_text buffered_failures (buffered_of [] 0) buffered target.taken target.failed before after file job ending × IsEnded output.taken output.failed result buffered ending deeds code
   WritesOut before file job deeds code = ⊥
 
   -- OUT is made, with FILE's permission bits, and the job is done on it

@@ -1,8 +1,8 @@
 //! Lines on standard error: why nothing was done, or not all. Each function returns the status.
 ghost use Rattle.std.specs.Prelude.{◌≡◌, ◌<◌, ◌++◌, List, ℕ, codes, map};
-ghost use Rattle.bolt_commands.specs.Answers.{Ending};
+ghost use Rattle.bolt_commands.specs.Answers.{JobEnding};
 ghost use Rattle.bolt_commands.specs.Answers.{status_of};
-ghost use Rattle.bolt_cli.specs.{Deeds.Does, Deeds.joined, Gathered.Gathers, Names.shown_name};
+ghost use Rattle.bolt_cli.specs.{Deeds.Does, Deeds.joined, Gathered.GathersPiece, Names.shown_name};
 ghost use Rattle.bolt_cli.specs.Runs.{DoesBuffered, Ends, Fails, FailsGathered, FailsLacking, HoldsUnless, IsBufferedLine, IsReported, RefusesUsage, error_line};
 
 use crate::names::{add, add_lines, add_name};

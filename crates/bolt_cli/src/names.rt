@@ -4,28 +4,28 @@ ghost use Rattle.std.specs.Prelude.{flat_map};
 ghost use Rattle.std.specs.Char.{encode_utf8};
 ghost use Rattle.std.specs.Char.Escape.{escape_default};
 ghost use Rattle.bolt_cli.specs.Names.{shown_char, shown_lines, shown_name, shown_text};
-ghost use Rattle.bolt_cli.specs.Gathered.{Gathers};
+ghost use Rattle.bolt_cli.specs.Gathered.{GathersPiece};
 
 use bolt_format::{MemSink, Sink};
 
 /// Adds a name as the line of a fault has it: each control character is escaped. So the line stays one
 /// line, and a terminal shows it as it is.
 pub(crate) fn add_name(name: &str, line: &mut MemSink)
-    ensures { Gathers ⟦<MemSink as Sink>⟧ line.old line.new (shown_name name.now) }
+    ensures { GathersPiece ⟦<MemSink as Sink>⟧ line.old line.new (shown_name name.now) }
 {
     add_text(name, false, line);
 }
 
 /// Adds a text of several lines that has names: each other control character is escaped.
 pub(crate) fn add_lines(text: &str, lines: &mut MemSink)
-    ensures { Gathers ⟦<MemSink as Sink>⟧ lines.old lines.new (shown_lines text.now) }
+    ensures { GathersPiece ⟦<MemSink as Sink>⟧ lines.old lines.new (shown_lines text.now) }
 {
     add_text(text, true, lines);
 }
 
 /// Adds a text without control characters, but for line feeds, if it has lines.
 fn add_text(text: &str, has_lines: bool, shown: &mut MemSink)
-    ensures { Gathers ⟦<MemSink as Sink>⟧ shown.old shown.new (shown_text has_lines text.now) }
+    ensures { GathersPiece ⟦<MemSink as Sink>⟧ shown.old shown.new (shown_text has_lines text.now) }
 {
     for c in text.chars() {
         add_char(c, has_lines, shown);
@@ -33,7 +33,7 @@ fn add_text(text: &str, has_lines: bool, shown: &mut MemSink)
 }
 
 fn add_char(c: char, has_lines: bool, shown: &mut MemSink)
-    ensures { Gathers ⟦<MemSink as Sink>⟧ shown.old shown.new
+    ensures { GathersPiece ⟦<MemSink as Sink>⟧ shown.old shown.new
         (flat_map encode_utf8 (shown_char has_lines c)) }
 {
     if c.is_control() && !(has_lines && c == '\n') {
@@ -44,7 +44,7 @@ fn add_char(c: char, has_lines: bool, shown: &mut MemSink)
 }
 
 fn add_escaped(c: char, shown: &mut MemSink)
-    ensures { Gathers ⟦<MemSink as Sink>⟧ shown.old shown.new
+    ensures { GathersPiece ⟦<MemSink as Sink>⟧ shown.old shown.new
         (flat_map encode_utf8 (escape_default c)) }
 {
     for escaped in c.escape_default() {
@@ -53,7 +53,7 @@ fn add_escaped(c: char, shown: &mut MemSink)
 }
 
 fn add_plain(c: char, shown: &mut MemSink)
-    ensures { Gathers ⟦<MemSink as Sink>⟧ shown.old shown.new (encode_utf8 c) }
+    ensures { GathersPiece ⟦<MemSink as Sink>⟧ shown.old shown.new (encode_utf8 c) }
 {
     let mut room = [0; 4];
     add(c.encode_utf8(&mut room).as_bytes(), shown);
@@ -61,7 +61,7 @@ fn add_plain(c: char, shown: &mut MemSink)
 
 /// Adds bytes.
 pub(crate) fn add(bytes: &[u8], text: &mut MemSink)
-    ensures { Gathers ⟦<MemSink as Sink>⟧ text.old text.new bytes.now }
+    ensures { GathersPiece ⟦<MemSink as Sink>⟧ text.old text.new bytes.now }
 {
     let _ = text.put(bytes);
 }

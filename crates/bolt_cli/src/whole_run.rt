@@ -1,6 +1,6 @@
 //! A whole run of the program: from its words to its status. And a law: its deeds are in order.
 ghost use Rattle.std.specs.Prelude.{◌≡◌, ℕ, List, None, Some, map, string_bytes};
-ghost use Rattle.bolt_commands.specs.Answers.{Ending};
+ghost use Rattle.bolt_commands.specs.Answers.{JobEnding};
 ghost use Rattle.bolt_cli.specs.Printed.{PrintsAnswers, ShowsAll};
 ghost use Rattle.bolt_cli.specs.{Deeds.Does, Orders.ForDeeds, Orders.ForEachRun, Orders.ForWords};
 ghost use Rattle.bolt_cli.specs.Orders.{ClosesWhatIsOpened, CopiesBeforeOpening, EndsWhatIsMade, FailsWithStatus1, MakesAfterReading, MakesAskedOut, MakesOnce, OpensOnce, ReadsFirst, RefusesBeforeReading, SaysFailures, SaysLast, StopsAfterFailures, StopsWithoutReader, SucceedsOnlyWithoutFailures};
@@ -199,7 +199,7 @@ fn print_buffered<O: Outside>(outside: &mut O, out: &MemSink, err: &MemSink, cod
 
 /// Reports that OUT isn't on the disk, unless there is a line of a failure before that.
 fn report_unended<O: Outside>(outside: &mut O, err: &MemSink) -> u8
-    ensures { (ending : Ending) → IsBufferedLine ending (⟦<MemSink as Sink>⟧.taken err.now)
+    ensures { (ending : JobEnding) → IsBufferedLine ending (⟦<MemSink as Sink>⟧.taken err.now)
         (⟦<MemSink as Sink>⟧.failed err.now)
         → Does O.done outside.old outside.new result (FailsUnended ending) }
 {

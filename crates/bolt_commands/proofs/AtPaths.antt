@@ -1,7 +1,7 @@
 -- What a path leads to in a sound file, and what it holds.
 use Rattle.std.proofs.Common.{◌≡◌, ◌∙◌, ◌⊎◌, ◌++◌, ◌-◌, ◌+◌, List, [], ◌∷◌, ℕ, Some, None, Result, Ok, Err, IfErr, Vec, drop, get_or, inl, inr, length, take}
 use Rattle.std.proofs.Common.{refl, sym, ap, subst, rules, arith, ◌<◌}
-use Rattle.bolt_commands.proofs.Vocabulary.{AreEntries, Bucket, Checked, Failure, ForEntries, HasSoundTrees, HoldsIn, HoldsNone, IsBucketAt, IsErrAnd, IsValueAt, Item, Key, LeadsTo, LeafElement, Path, Start, Value, bucket_checked, bucket_start, bytes_of, drop_more, entries_of, held_down, held_up, length-append, map-append, meta_of, names_push, parents_of, path_in, props, root_start, start_of, take-append-drop, take-append_seam, ∥∥₁_elim, ∥∥₁_map}
+use Rattle.bolt_commands.proofs.Vocabulary.{AreEntries, Bucket, Checked, Failure, ForEntries, HasSoundTrees, HoldsIn, HoldsNone, IsBucketAt, IsErrAnd, IsValueAt, Item, Key, LeadsTo, LeafElement, Path, Start, Value, bucket_checked, bucket_start, bytes_of, drop_more, entries_of, held_down, held_up, length-append, map-append, meta_of, names_push, parents_of, owned_path, props, root_start, start_of, take-append-drop, take-append_seam, ∥∥₁_elim, ∥∥₁_map}
 use Rattle.bolt_tree.proofs.AllEntries.{all_entries, checked_entries}
 use Rattle.bolt_commands.specs.declared.failure.Failure.TheVariants as failure
 use Rattle.bolt_job.proofs.CommandLineLemmas.{made_more}
@@ -64,14 +64,14 @@ module _ {Z : Type 0} (path : List (Vec ℕ Z)) (i : ℕ) (part : Vec ℕ Z) (is
   bytes_in part = part.items
 
   -- up to one of them, that one, and the rest
-  pub parts_at : path_in path ≡ path_in (take i path) ++ part.items ∷ path_in (drop (i + 1) path)
+  pub parts_at : owned_path path ≡ owned_path (take i path) ++ part.items ∷ owned_path (drop (i + 1) path)
   parts_at =
-      sym (ap path_in (take-append-drop i path)) ∙ map-append bytes_in (take i path) (drop i path)
-      ∙ ap (λ (rest : List (Vec ℕ Z)). path_in (take i path) ++ path_in rest) (drop_more path i part within)
-      ∙ ap (λ (p : Vec ℕ Z). path_in (take i path) ++ bytes_in p ∷ path_in (drop (i + 1) path)) (sym is)
+      sym (ap owned_path (take-append-drop i path)) ∙ map-append bytes_in (take i path) (drop i path)
+      ∙ ap (λ (rest : List (Vec ℕ Z)). owned_path (take i path) ++ owned_path rest) (drop_more path i part within)
+      ∙ ap (λ (p : Vec ℕ Z). owned_path (take i path) ++ bytes_in p ∷ owned_path (drop (i + 1) path)) (sym is)
 
-  pub parts_more : path_in (take (i + 1) path) ≡ path_in (take i path) ++ part.items ∷ []
-  parts_more = made_more bytes_in path i part within ∙ ap (λ (p : Vec ℕ Z). path_in (take i path) ++ bytes_in p ∷ []) (sym is)
+  pub parts_more : owned_path (take (i + 1) path) ≡ owned_path (take i path) ++ part.items ∷ []
+  parts_more = made_more bytes_in path i part within ∙ ap (λ (p : Vec ℕ Z). owned_path (take i path) ++ bytes_in p ∷ []) (sym is)
 
 -- all but the last
 pub parents_are : (parents : Path) (key : Key) → parents_of (parents ++ key ∷ []) ≡ parents
@@ -79,7 +79,7 @@ parents_are parents key =
     let one : length (parents ++ key ∷ []) - 1 ≡ length parents = let whole = length-append parents (key ∷ []) in omega (arith, whole) in
     ap (λ n. take n (parents ++ key ∷ [])) one ∙ take-append_seam parents (key ∷ [])
 
-pub no_parts : {Z : Type 0} (path : List (Vec ℕ Z)) → length path ≡ 0 → path_in path ≡ []
+pub no_parts : {Z : Type 0} (path : List (Vec ℕ Z)) → length path ≡ 0 → owned_path path ≡ []
 no_parts [] none = refl
 no_parts (part ∷ path) none = absurd (omega (arith, none))
 
@@ -89,34 +89,34 @@ module _ (checked : Checked) where
   abbrev IsReason : Path → Failure → Type 0
   IsReason path reason = HoldsNone (bytes_of checked) path (meta_of checked) reason
 
-  pub none_at_root : {Z : Type 0} (path : List (Vec ℕ Z)) → length path ≡ 0 → IsReason (path_in path) failure.NoKey
+  pub none_at_root : {Z : Type 0} (path : List (Vec ℕ Z)) → length path ≡ 0 → IsReason (owned_path path) failure.NoKey
   none_at_root path none = rw (no_parts path none) (inl (refl, λ value held. held, (root_start checked, ∣ refl ∣₁)))
 
   module _ {Z : Type 0} (path parents : List (Vec ℕ Z)) (key : Vec ℕ Z) (is : path ≡ parents ++ key ∷ []) where
-    last_part : path_in path ≡ path_in parents ++ key.items ∷ []
-    last_part = ap path_in is ∙ map-append (λ (part : Vec ℕ Z). part.items) parents (key ∷ [])
+    last_part : owned_path path ≡ owned_path parents ++ key.items ∷ []
+    last_part = ap owned_path is ∙ map-append (λ (part : Vec ℕ Z). part.items) parents (key ∷ [])
 
-    parents_in : parents_of (path_in path) ≡ path_in parents
-    parents_in = ap parents_of last_part ∙ parents_are (path_in parents) key.items
+    parents_in : parents_of (owned_path path) ≡ owned_path parents
+    parents_in = ap parents_of last_part ∙ parents_are (owned_path parents) key.items
 
     pub reason_named : {X : Type 0} (said : Failure) (result : Result X Failure)
-        → (said ≡ failure.NoBucket) × ((bucket : Start) → LeadsIn checked (path_in parents) bucket → ⊥)
-        → IsErrAnd result (λ reason. reason ≡ said) → IfErr result (IsReason (path_in path))
+        → (said ≡ failure.NoBucket) × ((bucket : Start) → LeadsIn checked (owned_path parents) bucket → ⊥)
+        → IsErrAnd result (λ reason. reason ≡ said) → IfErr result (IsReason (owned_path path))
     reason_named said (Ok x) refused is = tt
     reason_named said (Err reason) (no_bucket, none) is = inr (is ∙ no_bucket, λ bucket names. none bucket (subst (λ (p : Path). LeadsIn checked p bucket) parents_in names))
 
-    pub value_at : (bucket : Bucket) (value : List ℕ) → bucket_checked bucket ≡ checked → ∥ LeadsIn checked (path_in parents) (bucket_start bucket) ∥₁
-        → IsValueAt (entries_of (bucket_checked bucket)) (bucket_start bucket) key.items (Some value) → ∥ HoldsAt checked (path_in path) (Value value) ∥₁
+    pub value_at : (bucket : Bucket) (value : List ℕ) → bucket_checked bucket ≡ checked → ∥ LeadsIn checked (owned_path parents) (bucket_start bucket) ∥₁
+        → IsValueAt (entries_of (bucket_checked bucket)) (bucket_start bucket) key.items (Some value) → ∥ HoldsAt checked (owned_path path) (Value value) ∥₁
     value_at bucket value same known found =
         ∥∥₁_elim known (hlevel props) (λ names. ∥∥₁_map (rw same at found) (λ (e, is, k, is_value, held).
-        rw last_part (held_up (entries_of checked) (root_start checked) (path_in parents) (bucket_start bucket) key.items [] (Value value) names (e, is, k, rw is_value (ap Value held)))))
+        rw last_part (held_up (entries_of checked) (root_start checked) (owned_path parents) (bucket_start bucket) key.items [] (Value value) names (e, is, k, rw is_value (ap Value held)))))
 
-    pub none_at : (bucket : Bucket) → bucket_checked bucket ≡ checked → ∥ LeadsIn checked (path_in parents) (bucket_start bucket) ∥₁
-        → IsValueAt (entries_of (bucket_checked bucket)) (bucket_start bucket) key.items None → IsReason (path_in path) failure.NoKey
+    pub none_at : (bucket : Bucket) → bucket_checked bucket ≡ checked → ∥ LeadsIn checked (owned_path parents) (bucket_start bucket) ∥₁
+        → IsValueAt (entries_of (bucket_checked bucket)) (bucket_start bucket) key.items None → IsReason (owned_path path) failure.NoKey
     none_at bucket same known none =
         let here = rw same at none in
-        let empty : (value : List ℕ) → HoldsAt checked (path_in path) (Value value) → ⊥ = λ value held.
+        let empty : (value : List ℕ) → HoldsAt checked (owned_path path) (Value value) → ⊥ = λ value held.
         ∥∥₁_elim known (hlevel props) (λ names. ∥∥₁_elim (checked_entries checked) (hlevel props) (λ all.
-        let (e, is, k, item) = held_down (entries_of checked) (root_start checked) (path_in parents) (bucket_start bucket) key.items [] (Value value) all names (rw last_part at held) in
+        let (e, is, k, item) = held_down (entries_of checked) (root_start checked) (owned_path parents) (bucket_start bucket) key.items [] (Value value) all names (rw last_part at held) in
         let bad = rw (here e is k) at item in absurd (search (rules, bad)))) in
         inl (refl, empty, (bucket_start bucket, rw parents_in known))

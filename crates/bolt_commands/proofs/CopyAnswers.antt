@@ -1,6 +1,6 @@
 -- The copy of a listing, and what is then reported of it.
 use Rattle.std.proofs.Common.{◌≡◌, ◌∙◌, ℕ, List, Bool, Option, None, Some, Result, Ok, Err, inl, inr, length, map, refl, subst}
-use Rattle.bolt_commands.proofs.Vocabulary.{Answer, AreCopyFaults, BulkFault, CopiesTo, Does, Ending, EndsCopy, Failure, FileFaults, Ghosts, Member, WritesCopy, copied, copy_page_size}
+use Rattle.bolt_commands.proofs.Vocabulary.{Answer, AreCopyFaults, BulkFault, CopiesTo, WritesAnswer, JobEnding, EndsCopy, Failure, FileFaults, Ghosts, Member, WritesCopy, copied, copy_page_size}
 use Rattle.bolt_commands.proofs.Vocabulary.{CompactsTo, CopiesListing, CopiesRead, IsOpened, IsReadTo, copy_report, hash_refusal, LostView, OnOk, Opened, found_view, is_snapshot, opened_found, opened_lost, opened_meta}
 use Rattle.bolt_commands.proofs.Vocabulary.{HasGoodCopies, IsAskedBlueprint, Meta, layout_for, layout_of_listing, blueprint_layout, failing, ∥∥₁_map}
 use Rattle.bolt_commands.proofs.{OpenedReads.refused_read}
@@ -33,25 +33,25 @@ copy_read job file before after lost read asked (Err fault) copy known result is
 
 -- it is whole and reported, or it isn't whole and nothing is
 pub copy_written : {O T : Type 0} (out : Ghosts O) {out_old out_new : O} {target : Ghosts T} {old new : T} {layout : List ℕ} {listing : List Member} {snapshot : Bool} (answer : ℕ → Answer)
-    (count : ℕ) (ending : Ending) → CopiesTo target old new layout listing snapshot (Ok count) → Does out.taken out.failed out_old out_new (answer count) ending
+    (count : ℕ) (ending : JobEnding) → CopiesTo target old new layout listing snapshot (Ok count) → WritesAnswer out.taken out.failed out_old out_new (answer count) ending
     → WritesCopy out.taken out.failed out_old out_new target.taken target.failed old new snapshot listing layout answer ending
 copy_written out {out_old} {out_new} answer count ending copy does =
     let whole = copy.ends in
-    inl (whole.small, copy.good, whole.all, whole.sound, subst (λ (n : ℕ). Does out.taken out.failed out_old out_new (answer n) ending) whole.long does)
+    inl (whole.small, copy.good, whole.all, whole.sound, subst (λ (n : ℕ). WritesAnswer out.taken out.failed out_old out_new (answer n) ending) whole.long does)
 
 pub copy_stopped : {O T : Type 0} (out : Ghosts O) (out_old : O) {target : Ghosts T} {old new : T} {layout : List ℕ} {listing : List Member} {snapshot : Bool} (answer : ℕ → Answer)
-    (fault : BulkFault) (ending : Ending) → CopiesTo target old new layout listing snapshot (Err fault) → ending ≡ Err (copied fault)
+    (fault : BulkFault) (ending : JobEnding) → CopiesTo target old new layout listing snapshot (Err fault) → ending ≡ Err (copied fault)
     → WritesCopy out.taken out.failed out_old out_old target.taken target.failed old new snapshot listing layout answer ending
 copy_stopped out out_old answer fault ending copy is = inr (copied fault, copy.ends, refl, is)
 
 -- the copy of a listing, if its length or the failure is known
-module _ {O T : Type 0} (out : Ghosts O) (out_old : O) {target : Ghosts T} {old new : T} {layout : List ℕ} {listing : List Member} {snapshot : Bool} (answer : ℕ → Answer) (ending : Ending) where
+module _ {O T : Type 0} (out : Ghosts O) (out_old : O) {target : Ghosts T} {old new : T} {layout : List ℕ} {listing : List Member} {snapshot : Bool} (answer : ℕ → Answer) (ending : JobEnding) where
   pub listing_failed : (why : Failure) → CopiesListing target old new layout listing snapshot (Err why) → ending ≡ Err why
       → WritesCopy out.taken out.failed out_old out_old target.taken target.failed old new snapshot listing layout answer ending
   listing_failed why (Err fault, copy, same) ends = copy_stopped out out_old answer fault ending copy (ends ∙ same)
   listing_failed why (Ok count, copy, same) ends = absurd (cc)
 
-  pub listing_done : {out_new : O} (count : ℕ) → CopiesListing target old new layout listing snapshot (Ok count) → Does out.taken out.failed out_old out_new (answer count) ending
+  pub listing_done : {out_new : O} (count : ℕ) → CopiesListing target old new layout listing snapshot (Ok count) → WritesAnswer out.taken out.failed out_old out_new (answer count) ending
       → WritesCopy out.taken out.failed out_old out_new target.taken target.failed old new snapshot listing layout answer ending
   listing_done count (Ok made, copy, same) does = let number : count ≡ made = (cc) in copy_written out answer made ending copy (rw number at does)
   listing_done count (Err fault, copy, same) does = absurd (cc)
@@ -67,7 +67,7 @@ compact_refused out out_old target old job file o to faults are fault is =
     inl (meta, listing, lost, found, read, faults, are, rw is (refl, refl, refl))
 
 module _ {O T : Type 0} (out : Ghosts O) (out_old : O) {target : Ghosts T} {old new : T} (job : CompactJob) (file : List ℕ) (before after : Opened)
-    (faults : FileFaults) (are : AreCopyFaults job.extent (is_snapshot job.kind) file job.meta faults) (right : hash_refusal job.extent faults.hash ≡ None) (ending : Ending) where
+    (faults : FileFaults) (are : AreCopyFaults job.extent (is_snapshot job.kind) file job.meta faults) (right : hash_refusal job.extent faults.hash ≡ None) (ending : JobEnding) where
   pub compact_failed : (why : Failure) → CopiesRead target old new job file before after (Err why) → ending ≡ Err why → CompactsTo out out_old out_old target old new job file ending
   compact_failed why read ends = elim read [
     | inl (listing, lost, is, known, copy) ↦
@@ -76,7 +76,7 @@ module _ {O T : Type 0} (out : Ghosts O) (out_old : O) {target : Ghosts T} {old 
   ]
 
   pub compact_done : {out_new : O} (count : ℕ) → CopiesRead target old new job file before after (Ok count)
-      → Does out.taken out.failed out_old out_new (copy_report faults (opened_lost after) (map found_view (opened_found before)) (length file) count) ending
+      → WritesAnswer out.taken out.failed out_old out_new (copy_report faults (opened_lost after) (map found_view (opened_found before)) (length file) count) ending
       → CompactsTo out out_old out_new target old new job file ending
   compact_done count read does = elim read [
     | inl (listing, lost, is, known, copy) ↦

@@ -1,7 +1,7 @@
 -- What is answered of the entries of the bucket at a path, or of their sizes.
 use Rattle.std.proofs.Common.{◌⊎◌, ◌≡◌, ℕ, IfErr, List, Ok, Result, inl, inr, refl}
-use Rattle.bolt_commands.proofs.Vocabulary.{AreEntries, Bucket, ForEntries, Ghosts, IsBucketOf, IsEntriesAnswer, IsEntry, IsReadAnswer, IsSizesAnswer, Json, LeadsTo, LeafElement}
-use Rattle.bolt_commands.proofs.Vocabulary.{Meta, MetaChoice, Path, PrintsAnswer, ReportFault, Start, Wrote, bucket_checked, bucket_start, bytes_of, end_of, meta_of}
+use Rattle.bolt_commands.proofs.Vocabulary.{AreEntries, Bucket, ForEntries, Ghosts, IsOpenedBucket, IsEntriesAnswer, IsEntry, IsReadAnswer, IsSizesAnswer, Json, LeadsTo, LeafElement}
+use Rattle.bolt_commands.proofs.Vocabulary.{Meta, MetaChoice, Path, PrintsAnswer, ReportFault, Start, Wrote, bucket_checked, bucket_start, bytes_of, ending_by, meta_of}
 use Rattle.bolt_commands.proofs.Vocabulary.{report_ending, ⊤}
 use Rattle.bolt_report.specs.{SizeLines.AreSized, SizeLines.Sized, SizeLines.sizes_text}
 use Rattle.bolt_text.specs.{ReportEndings.HaltsShort, declared.forms.Form.Form}
@@ -9,7 +9,7 @@ use Rattle.bolt_text.specs.declared.fault.ReportFault.TheVariants as report
 use Rattle.bolt_report.proofs.SizesExist.{named_sizes}
 use Rattle.bolt_commands.proofs.{AtPaths.at_path, CutTexts.allowed, CutTexts.short_put, Doing.answer_as, ReadFiles.own_trees, ReadFiles.read_trees}
 
-module _ {file : List ℕ} {choice : MetaChoice} {path : Path} {bucket : Bucket} (of : IsBucketOf file choice path bucket) where
+module _ {file : List ℕ} {choice : MetaChoice} {path : Path} {bucket : Bucket} (of : IsOpenedBucket file choice path bucket) where
   abbrev meta : Meta
   meta = meta_of (bucket_checked bucket)
 
@@ -34,7 +34,7 @@ module _ {file : List ℕ} {choice : MetaChoice} {path : Path} {bucket : Bucket}
         → ForEntries (bucket_checked bucket) (bucket_start bucket) (λ entries. Wrote sink old new (text entries) (report_ending put))
         → ForEntries (bucket_checked bucket) (bucket_start bucket) (λ entries. HaltsShort sink old new (text entries) (report_ending put))
         → IfErr put (λ e. (e ≡ report.Sink) ⊎ ((e ≡ report.NoMemory) × (form ≡ Json)))
-        → PrintsAnswer sink old new (IsReadAnswer file choice (IsEntriesAnswer file path form text)) (end_of put (Ok 0))
+        → PrintsAnswer sink old new (IsReadAnswer file choice (IsEntriesAnswer file path form text)) (ending_by put (Ok 0))
     entries_put text written short fault =
         let (start, entries, names, are, here) = promised (λ entries. Puts sink old new put (text entries)) (λ entries are. record { wrote = written entries are; halts = short entries are }) in
         answer_as (short_put (form ≡ Json) (text entries) (Ok 0) put here.wrote here.halts fault) (λ answer shown. inl (meta, of.under, inl (start, entries, names, are, shown)))
@@ -42,7 +42,7 @@ module _ {file : List ℕ} {choice : MetaChoice} {path : Path} {bucket : Bucket}
     pub sizes_put : ForEntries (bucket_checked bucket) (bucket_start bucket) (OfSizes form (λ text. Wrote sink old new text (report_ending put)))
         → ForEntries (bucket_checked bucket) (bucket_start bucket) (OfSizes form (λ text. HaltsShort sink old new text (report_ending put)))
         → IfErr put (λ e. (e ≡ report.Sink) ⊎ (e ≡ report.NoMemory))
-        → PrintsAnswer sink old new (IsReadAnswer file choice (IsSizesAnswer file path form)) (end_of put (Ok 0))
+        → PrintsAnswer sink old new (IsReadAnswer file choice (IsSizesAnswer file path form)) (ending_by put (Ok 0))
     sizes_put written short fault =
         let (start, entries, names, are, here) =
         promised (OfSizes form (Puts sink old new put)) (λ entries are sized sizes. record { wrote = written entries are sized sizes; halts = short entries are sized sizes }) in

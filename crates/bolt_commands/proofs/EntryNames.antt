@@ -12,7 +12,7 @@ use Rattle.bolt_check.proofs.Lists.{contains_from_has, has_from_contains, has_ma
 use Rattle.bolt_check.specs.Keys.{key_cmp}
 use Rattle.bolt_commands.proofs.Vocabulary.{AreEntries, Contains, HasSoundTrees, IsEntry, IsListing, Item, Key, LeadsTo, LeafElement, Member, Meta, Path, Rises, Root_page, Start, bytes_eq, bytes_eq-Decides, held_down, is_bucket, item_of, keys_text, member_cmp}
 use Rattle.bolt_commands.proofs.ListedBuckets.{has_named}
-use Rattle.bolt_report.specs.MemberNames.{Wanted, entry_name, key_in, member_name, names_text}
+use Rattle.bolt_report.specs.MemberNames.{WantedNames, entry_name, key_in, member_name, names_text}
 use Rattle.bolt_text.specs.{Forms.value_text, declared.forms.Form.Form}
 use Rattle.bolt_tree.proofs.{AllEntries.all_entries, Lists.contains_cases, Lists.contains_head, Lists.contains_none, Lists.contains_tail, Lists.rises_once}
 use Rattle.bolt_tree.proofs.{Named.held_here, PathOrder.key_total, PathOrder.same_front}
@@ -153,7 +153,7 @@ module _ (file : List ℕ) (meta : Meta) (trees : HasSoundTrees file meta) (list
 
 -- ---- as text
 
-module _ (form : Form) (wanted : Wanted) where
+module _ (form : Form) (wanted : WantedNames) where
   abbrev line : Named → List ℕ
   line n = entry_name form wanted n.1 (Some n.0)
 

@@ -3,17 +3,17 @@ use Rattle.std.proofs.Common.{◌≡◌, ◌⊎◌, ◌++◌, ℕ, true, false, 
 use Rattle.bolt_check.specs.Counts.{counted}
 use Rattle.bolt_etcd.proofs.{Currents.revisions_rise, Filtered.filter_rises, SortedExists.current_is_one, StoreExists.one_store, StoreLemmas.fits, StoreLemmas.fits_some}
 use Rattle.bolt_etcd.specs.{Current.AreCurrent, Current.place_cmp, Newest.is_until, Newest.until, Revisions.RevisionView, Stores.revisions}
-use Rattle.bolt_etcd.specs.{StoreBuckets.HasBucket, StoreBuckets.IsStore, StoreBuckets.StoreView, StoreFaults.store_compacted, Stores.others}
+use Rattle.bolt_etcd.specs.{StoreBuckets.HasEntriesUnder, StoreBuckets.IsStore, StoreBuckets.StoreView, StoreFaults.store_compacted, Stores.others}
 use Rattle.bolt_format.proofs.WroteLemmas.{Wrote-stop_halted}
 use Rattle.bolt_text.specs.declared.fault.ReportFault.TheVariants as report
 use Rattle.bolt_tree.proofs.BucketWays.{root_starts}
 use Rattle.bolt_tree.specs.BucketViews.{entries_of}
-use Rattle.bolt_commands.specs.Answers.{IsAnswerAt, IsCut, IsStoreAnswer, OfKeys, entries_ending, is_compacted, others_ending}
+use Rattle.bolt_commands.specs.Answers.{IsAnswerAt, IsCutAnswer, IsStoreAnswer, OfKeys, entries_ending, is_compacted, others_ending}
 use Rattle.bolt_commands.specs.Private.Etcd.{IsStoreRead, IsUnreadStore, end_of_revisions}
 use Rattle.bolt_commands.specs.declared.etcd_commands.Store.{Store}
 use Rattle.bolt_commands.specs.declared.failure.Failure.TheVariants as failure
-use Rattle.bolt_commands.proofs.Vocabulary.{Answer, AreEntries, Checked, Ending, Failure, Ghosts, HasSoundTrees, IsBucketAt, IsEndedOrCut, IsEntry, IsErrAnd, IsReadAnswer, LeafElement, MayFail, Meta, MetaChoice}
-use Rattle.bolt_commands.proofs.Vocabulary.{PrintsAnswer, ReportFault, Root_page, Start, Wrote, Wrote-stop, bucket_checked, bucket_start, end_of, meta_of, refused, report_ending, reported}
+use Rattle.bolt_commands.proofs.Vocabulary.{Answer, AreEntries, Checked, JobEnding, Failure, Ghosts, HasSoundTrees, IsBucketAt, IsEndedOrCut, IsEntry, IsErrAnd, IsReadAnswer, LeafElement, MayFail, Meta, MetaChoice}
+use Rattle.bolt_commands.proofs.Vocabulary.{PrintsAnswer, ReportFault, Root_page, Start, Wrote, Wrote-stop, bucket_checked, bucket_start, ending_by, meta_of, refused, report_ending, reported}
 use Rattle.bolt_commands.proofs.{CutTexts.ended_put, CutTexts.text_put, Doing.answer_as, Doing.answer_nothing, ReadFiles.read_trees}
 
 -- ---- the store of a file that is read
@@ -26,7 +26,7 @@ has_store file meta trees = let (store, is, once) = one_store file meta (Root_pa
 
 -- ---- without the bucket `key`
 
-no_keys : (Entry : Start → LeafElement → Type 0) (root : Start) (b : Option (List LeafElement)) → HasBucket Entry root (codes "key") b → IsBucketAt Entry root (codes "key") None → b ≡ None
+no_keys : (Entry : Start → LeafElement → Type 0) (root : Start) (b : Option (List LeafElement)) → HasEntriesUnder Entry root (codes "key") b → IsBucketAt Entry root (codes "key") None → b ≡ None
 no_keys Entry root None has none = refl
 no_keys Entry root (Some entries) (e, there, key, bucket, are) none = let flat = none e there key in absurd (cc)
 
@@ -56,7 +56,7 @@ module _ (file : List ℕ) (choice : MetaChoice) (s : Store) (of : IsStoreRead f
       let (entries, at, are) = fits_some s.root s.keys (own.0.bucket (codes "key")) (fits s.root (codes "key") (Some s.keys) (own.0.bucket (codes "key")) of.keys (here.buckets (codes "key"))) in
       (entries, at, subst (λ (c : Checked). AreEntries (entries_of c) (bucket_start s.keys) entries) (sym of.checked) are)
 
-  module _ {S : Type 0} {sink : Ghosts S} {old new : S} (P : List LeafElement → Answer → Type 0) (ending : Ending) where
+  module _ {S : Type 0} {sink : Ghosts S} {old new : S} (P : List LeafElement → Answer → Type 0) (ending : JobEnding) where
     pub keys_answer : PrintsAnswer sink old new (P keys.0) ending
         → PrintsAnswer sink old new (IsReadAnswer file choice (IsStoreAnswer file (λ store. OfKeys (store.bucket (codes "key")) P))) ending
     keys_answer put = answer_as put (λ answer is. inl (meta, of.under, (own.0, own.1, rw keys.1 is)))
@@ -65,7 +65,7 @@ module _ (file : List ℕ) (choice : MetaChoice) (s : Store) (of : IsStoreRead f
         → PrintsAnswer sink old new (IsReadAnswer file choice (IsStoreAnswer file (λ store. IsAnswerAt at store P))) ending
     answer_at at kept put = answer_as put (λ answer is. inl (meta, of.under, (own.0, own.1, rw (keys.1, kept) is)))
 
-  pub compacted_answer : {S : Type 0} {sink : Ghosts S} (old : S) (P : List LeafElement → Answer → Type 0) (ending : Ending) (at : Option ℕ) → is_compacted at (store_compacted own.0) ≡ true
+  pub compacted_answer : {S : Type 0} {sink : Ghosts S} (old : S) (P : List LeafElement → Answer → Type 0) (ending : JobEnding) (at : Option ℕ) → is_compacted at (store_compacted own.0) ≡ true
       → (why : Failure) → why ≡ failure.Compacted → IsErrAnd ending (λ said. said ≡ why)
       → PrintsAnswer sink old old (IsReadAnswer file choice (IsStoreAnswer file (λ store. IsAnswerAt at store P))) ending
   compacted_answer old P ending at gone why is said = answer_nothing why ending (rw is (inl (meta, of.under, (own.0, own.1, rw (keys.1, gone) refl)))) said
@@ -82,21 +82,21 @@ pub known_of : {P : ℕ → Type 0} (put : Result ℕ ReportFault) (n : ℕ) →
 known_of (Ok m) n known same = same m known
 known_of (Err fault) n known same = tt
 
-ends_counted : (put : Result ℕ ReportFault) (n : ℕ) → IfOk put (λ m. m ≡ n) → end_of_revisions put ≡ end_of put (others_ending n)
+ends_counted : (put : Result ℕ ReportFault) (n : ℕ) → IfOk put (λ m. m ≡ n) → end_of_revisions put ≡ ending_by put (others_ending n)
 ends_counted (Ok m) n same = rw same refl
 ends_counted (Err fault) n same = refl
 
 module _ {S : Type 0} {sink : Ghosts S} {old new : S} (text : List ℕ) (entries : List LeafElement) (put : Result ℕ ReportFault) (written : Wrote sink old new text (report_ending put))
     (knows : IfOk put (λ m. m ≡ counted 0 (length (others entries)))) where
   pub counted_put : (X : Type 0) → IfErr put (λ e. (e ≡ report.Sink) ⊎ ((e ≡ report.NoMemory) × X))
-      → PrintsAnswer sink old new (λ answer. (answer ≡ record { out = text; ending = entries_ending entries }) ⊎ (X × IsCut text answer)) (end_of_revisions put)
+      → PrintsAnswer sink old new (λ answer. (answer ≡ record { out = text; ending = entries_ending entries }) ⊎ (X × IsCutAnswer text answer)) (end_of_revisions put)
   counted_put X fault = rw (ends_counted put (counted 0 (length (others entries))) knows) (text_put X text (entries_ending entries) put written fault)
 
   pub counted_ended : MayFail put → PrintsAnswer sink old new (IsEndedOrCut text (entries_ending entries)) (end_of_revisions put)
   counted_ended fault = rw (ends_counted put (counted 0 (length (others entries))) knows) (ended_put text (entries_ending entries) put written fault)
 
 -- a text that stopped in its first part
-pub first_cut : {S : Type 0} {sink : Ghosts S} {old new : S} (first second : List ℕ) (wanted : Ending) (e : ReportFault) → Wrote sink old new first (report_ending {A = ℕ} (Err e))
+pub first_cut : {S : Type 0} {sink : Ghosts S} {old new : S} (first second : List ℕ) (wanted : JobEnding) (e : ReportFault) → Wrote sink old new first (report_ending {A = ℕ} (Err e))
     → MayFail {A = ℕ} (Err e) → PrintsAnswer sink old new (IsEndedOrCut (first ++ second) wanted) (Err (reported e))
 first_cut first second wanted report.Sink written fault = ended_put {A = ℕ} (first ++ second) wanted (Err report.Sink) (Wrote-stop second written) fault
 first_cut first second wanted report.NoMemory written fault = ended_put {A = ℕ} (first ++ second) wanted (Err report.NoMemory) (Wrote-stop_halted second written) fault

@@ -4,7 +4,7 @@ use Rattle.std.proofs.lemmas.List.Elements.{All-head, All-tail}
 use Rattle.bolt_commands.proofs.Vocabulary.{All, AreFoundPages, Found, FoundView, IsFoundLeaf, IsJoined, IsJoinedOf, IsSalvaged, IsSearchOf, LostAndFound, Member, Meta, MetaChoice}
 use Rattle.bolt_commands.proofs.Vocabulary.{all_lost, found_page, found_view, leaves_of}
 use Rattle.bolt_format.specs.Pages.{PageView}
-use Rattle.bolt_recover.specs.{Found.AreFound, Found.numbers_of, ShownFound.IsFoundView, declared.joined.Joined.Joined}
+use Rattle.bolt_recover.specs.{Found.AreFound, Found.found_numbers, ShownFound.IsFoundView, declared.joined.Joined.Joined}
 
 module _ (file : List ℕ) (meta : Meta) where
   -- ---- what is shown of the found pages
@@ -12,13 +12,13 @@ module _ (file : List ℕ) (meta : Meta) where
   view_is : (f : Found) → IsFoundView file meta f → found_view f ≡ found_page file meta f.number
   view_is f is = ap (λ (o : Option PageView). record { number = f.number; elements = leaves_of o }) (sym is.page)
 
-  views_are : (found : List Found) → All (IsFoundView file meta) found → map found_view found ≡ map (found_page file meta) (numbers_of found)
+  views_are : (found : List Found) → All (IsFoundView file meta) found → map found_view found ≡ map (found_page file meta) (found_numbers found)
   views_are [] all = refl
   views_are (f ∷ found) all =
       ap₂ (λ (v : FoundView) (vs : List FoundView). v ∷ vs) (view_is f (All-head (IsFoundView file meta) f found all)) (views_are found (All-tail (IsFoundView file meta) f found all))
 
-  pub are_pages : (found : List Found) → AreFound file meta (numbers_of found) → All (IsFoundView file meta) found → AreFoundPages file meta (map found_view found)
-  are_pages found are all = (numbers_of found, are, views_are found all)
+  pub are_pages : (found : List Found) → AreFound file meta (found_numbers found) → All (IsFoundView file meta) found → AreFoundPages file meta (map found_view found)
+  are_pages found are all = (found_numbers found, are, views_are found all)
 
   -- ---- each of them has at least one element
 

@@ -1,9 +1,9 @@
 -- What `list` puts, and how it then ends.
 use Rattle.std.proofs.Common.{◌≡◌, ◌∙◌, Bool, true, false, IfOk, List, Option, Result, Ok, Err, ap, if◌then◌else◌, inl, inr, refl, subst, sym, ℕ}
 use Rattle.std.proofs.lemmas.Result.{on_ok_weaker}
-use Rattle.bolt_commands.proofs.Vocabulary.{Ending, Failure, Ghosts, IsEndedOrCut, IsListPrint, IsMetasFault, ListJob, LostView, MayFail, Member, MetaFault, OnOk, Opened, PrintsAnswer, PutsListing}
+use Rattle.bolt_commands.proofs.Vocabulary.{JobEnding, Failure, Ghosts, IsEndedOrCut, IsListPrint, IsMetasFault, ListJob, LostView, MayFail, Member, MetaFault, OnOk, Opened, PrintsAnswer, PutsListing}
 use Rattle.bolt_commands.proofs.Vocabulary.{PutsPart, ReportFault, Rises, Shortfall, Slot, Wrote, Wrote-none, failing, finds, job_part, lost_ending, member_cmp, opened_lost}
-use Rattle.bolt_commands.proofs.Vocabulary.{part_ending, path_in, report_ending, reported, shortfall, sound_part}
+use Rattle.bolt_commands.proofs.Vocabulary.{part_ending, owned_path, report_ending, reported, shortfall, sound_part}
 use Rattle.bolt_commands.specs.declared.failure.Failure.TheVariants.{NoBucket}
 use Rattle.bolt_commands.proofs.{CutTexts.ended_put, Doing.answer_as, Doing.answer_nothing}
 
@@ -34,7 +34,7 @@ members_put job listing Lists left lists all rises (Err e) fault puts knows resu
 -- ---- the end
 
 -- how the job ends: with what is lacking, or without the bucket, or with the failure
-abbrev pub end_of_part : Result Bool Failure → Option Shortfall → Ending
+abbrev pub end_of_part : Result Bool Failure → Option Shortfall → JobEnding
 end_of_part (Ok true) lacking = lost_ending lacking
 end_of_part (Ok false) lacking = Err NoBucket
 end_of_part (Err why) lacking = Err why
@@ -44,22 +44,22 @@ module _ {S : Type 0} (sink : Ghosts S) (old new : S) (job : ListJob) (file : Li
   abbrev lacking : Option Shortfall
   lacking = shortfall (opened_lost after) other
 
-  abbrev Ended : List Member → Ending → Ending → Type 0
-  Ended listing wanted ending = PrintsAnswer sink old new (IsEndedOrCut (job_part job listing) (part_ending (path_in job.path.items) listing wanted)) ending
+  abbrev Ended : List Member → JobEnding → JobEnding → Type 0
+  Ended listing wanted ending = PrintsAnswer sink old new (IsEndedOrCut (job_part job listing) (part_ending (owned_path job.path.items) listing wanted)) ending
 
-  ends_so : (listing : List Member) (wanted : Ending) (found : Bool) → found ≡ finds job listing → lost_ending lacking ≡ wanted
-      → part_ending (path_in job.path.items) listing wanted ≡ end_of_part (Ok found) lacking
+  ends_so : (listing : List Member) (wanted : JobEnding) (found : Bool) → found ≡ finds job listing → lost_ending lacking ≡ wanted
+      → part_ending (owned_path job.path.items) listing wanted ≡ end_of_part (Ok found) lacking
   ends_so listing wanted true knows same = ap (λ (has : Bool). if has then wanted else Err NoBucket) (sym knows) ∙ sym same
   ends_so listing wanted false knows same = ap (λ (has : Bool). if has then wanted else Err NoBucket) (sym knows)
 
-  part_ended : (listing : List Member) (wanted : Ending) (put : Result Bool ReportFault) → Wrote sink old new (job_part job listing) (report_ending put) → MayFail put
+  part_ended : (listing : List Member) (wanted : JobEnding) (put : Result Bool ReportFault) → Wrote sink old new (job_part job listing) (report_ending put) → MayFail put
       → IfOk put (λ found. found ≡ finds job listing) → OnOk (failing reported put) (lost_ending lacking ≡ wanted)
       → Ended listing wanted (end_of_part (failing reported put) lacking)
   part_ended listing wanted (Ok found) wrote fault knows same =
-      let put = ended_put {A = Bool} (job_part job listing) (part_ending (path_in job.path.items) listing wanted) (Ok found) wrote tt in
-      subst (λ (e : Ending). Ended listing wanted e) (ends_so listing wanted found knows same) put
+      let put = ended_put {A = Bool} (job_part job listing) (part_ending (owned_path job.path.items) listing wanted) (Ok found) wrote tt in
+      subst (λ (e : JobEnding). Ended listing wanted e) (ends_so listing wanted found knows same) put
   part_ended listing wanted (Err e) wrote fault knows same =
-      ended_put {A = Bool} (job_part job listing) (part_ending (path_in job.path.items) listing wanted) (Err e) wrote fault
+      ended_put {A = Bool} (job_part job listing) (part_ending (owned_path job.path.items) listing wanted) (Err e) wrote fault
 
   pub part_listed : (result : Result Bool Failure) → PutsPart sink old new job file after result → PrintsAnswer sink old new (IsListPrint job file) (end_of_part result lacking)
   part_listed result (inl (meta, listing, lost, found, read, same, (put, wrote, fault, knows, is))) =

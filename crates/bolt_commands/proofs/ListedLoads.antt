@@ -1,6 +1,6 @@
 -- What `list` prints of a file is loaded as the listing of the file.
 use Rattle.std.proofs.Common.{◌≡◌, ◌∙◌, ◌<◌, ℕ, Bool, List, [], ◌∷◌, Option, Ok, ap, arith, false, inl, inr, length, refl, subst, sym}
-use Rattle.bolt_commands.proofs.Vocabulary.{Answer, Ending, First, HasSoundTrees, IsEndedOrCut, IsListedAnswer, IsListing, IsListingText, IsLoadFault, IsOfOneTree, IsReadUnder, Layout, Loads, LoadsListing, Member, Meta, MetaChoice, Path, Rises, filter_all, listing_lines, member_cmp, not, part_below, part_text, path_cmp, rest_from, text_members}
+use Rattle.bolt_commands.proofs.Vocabulary.{Answer, JobEnding, First, HasSoundTrees, IsEndedOrCut, IsListedAnswer, IsListing, IsListingText, IsLoadFault, IsOfOneTree, IsReadUnder, Layout, Loads, LoadsListing, Member, Meta, MetaChoice, Path, Rises, filter_all, listing_lines, member_cmp, not, part_below, listing_part_text, path_cmp, rest_from, text_members}
 use Rattle.bolt_commands.proofs.ReadFiles.{read_trees}
 use Rattle.std.specs.Ordering.{is_lt}
 use Rattle.bolt_format.specs.Bytes.{IsBytes}
@@ -30,18 +30,18 @@ module _ (below : Below) where
   rest_all : (listing : List Member) → rest_from [] listing ≡ listing
   rest_all listing = filter_all (λ m. not (is_lt (path_cmp m.0 []))) listing (λ m has. ap not (none_before m.0))
 
-  whole_text : (listing : List Member) → part_text Hex [] [] listing ≡ listing_text listing
+  whole_text : (listing : List Member) → listing_part_text Hex [] [] listing ≡ listing_text listing
   whole_text listing = ap (λ part. listing_lines Hex (rest_from [] part)) (below.below_root listing) ∙ ap (listing_lines Hex) (rest_all listing) ∙ below.hex_lines listing
 
   -- what is printed with status 0 is the whole text
-  printed : (listing : List Member) (ending : Ending) (answer : Answer) → IsEndedOrCut (part_text Hex [] [] listing) ending answer → answer.ending ≡ Ok 0
+  printed : (listing : List Member) (ending : JobEnding) (answer : Answer) → IsEndedOrCut (listing_part_text Hex [] [] listing) ending answer → answer.ending ≡ Ok 0
       → answer.out ≡ listing_text listing
   printed listing ending answer (inl is) good = ap (λ (a : Answer). a.out) is ∙ whole_text listing
   printed listing ending answer (inr (front, rest, parts, is)) good = absurd (let bad = rw is at good in cc)
 
   module _ {O T : Type 0} (out_taken : O → Option (List ℕ)) (out_failed : O → ℕ) (target_taken : T → Option (List ℕ)) (target_failed : T → ℕ) where
     abbrev Told : List Member → List ℕ → Type 0
-    Told listing text = (out_old out_new : O) (target_old target_new : T) (page_size sequence : ℕ) (layout : Layout) (snapshot : Bool) (ending : Ending)
+    Told listing text = (out_old out_new : O) (target_old target_new : T) (page_size sequence : ℕ) (layout : Layout) (snapshot : Bool) (ending : JobEnding)
         → Loads out_taken out_failed out_old out_new target_taken target_failed target_old target_new text page_size sequence layout snapshot ending
         → LoadsListing out_taken out_failed out_old out_new target_taken target_failed target_old target_new listing text page_size sequence layout snapshot ending
 

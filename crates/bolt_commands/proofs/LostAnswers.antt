@@ -1,7 +1,7 @@
 -- The answers of `check --all` and `check --lost-and-found`.
 use Rattle.std.proofs.Common.{◌≡◌, ◌≢◌, ◌∷◌, ℕ, Bool, List, [], true, false, inl, inr, map, refl, sym}
 use Rattle.bolt_commands.proofs.Vocabulary.{Answer, AnswersLost, Extent, Failure, FileFaults, First, FoundView, IsCheckAnswerAfter, IsFoundAnswer, IsLostAnswer, IsLostKnown, MayRunOut}
-use Rattle.bolt_commands.proofs.Vocabulary.{IsOpened, IsUnopened, Losses, LostView, MetaChoice, Opened, everything, false≢true, found_view, is_nothing, lost_and_found, opened_found}
+use Rattle.bolt_commands.proofs.Vocabulary.{IsOpened, IsUnopened, Losses, LostView, MetaChoice, Opened, everything, false≢true, found_view, is_nothing, lost_and_found_answer, opened_found}
 use Rattle.bolt_commands.proofs.Vocabulary.{opened_lost, opened_meta, parts}
 use Rattle.bolt_check.specs.declared.fault.CheckFault.TheVariants as check
 use Rattle.bolt_commands.proofs.OpenedReads.{found_opened, opened_under}
@@ -15,7 +15,7 @@ module _ (for_bbolt : Bool) (faults : FileFaults) (file : List ℕ) (choice : Me
   none_lost (parts []) found none answer is = is
   none_lost lost found none answer is = absurd (false≢true none)
 
-  pub some_lost : (lost : LostView) (found : List FoundView) → is_nothing lost ≡ false → AnswersLost for_bbolt faults file choice lost found (lost_and_found faults lost found)
+  pub some_lost : (lost : LostView) (found : List FoundView) → is_nothing lost ≡ false → AnswersLost for_bbolt faults file choice lost found (lost_and_found_answer faults lost found)
   some_lost (everything x) found some = refl
   some_lost (parts []) found some = absurd (false≢true (sym some))
   some_lost (parts (loss ∷ losses)) found some = refl

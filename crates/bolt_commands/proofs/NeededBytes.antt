@@ -1,6 +1,6 @@
 -- A job that shows nothing but metas does the same on any two files with the same metas.
 use Rattle.std.proofs.Common.{◌≡◌, ◌↔◌, inl, inr, ℕ, List, Option, None, Some, true}
-use Rattle.bolt_commands.proofs.Vocabulary.{Answer, DoesJob, Ending, FigureForm, HasMetaFault, HasSlotFault, IsActive, IsInSlot, IsInfoAnswer, Job, Meta, MetaFault, Slot}
+use Rattle.bolt_commands.proofs.Vocabulary.{Answer, DoesJob, JobEnding, FigureForm, HasMetaFault, HasSlotFault, IsActive, IsInSlot, IsInfoAnswer, Job, Meta, MetaFault, Slot}
 use Rattle.bolt_job.specs.Jobs.{needs_metas_alone}
 use Rattle.bolt_job.specs.declared.job.Job.TheVariants as job
 
@@ -30,7 +30,7 @@ back file other s = record {
 
 module _ {O T : Type 0} (out_taken : O → Option (List ℕ)) (out_failed : O → ℕ) (target_taken : T → Option (List ℕ)) (target_failed : T → ℕ)
     (part file : List ℕ) (same : SameMetas part file) where
-  pub enough : (j : Job) → needs_metas_alone j ≡ true → (out_old out_new : O) (target_old target_new : T) (ending : Ending)
+  pub enough : (j : Job) → needs_metas_alone j ≡ true → (out_old out_new : O) (target_old target_new : T) (ending : JobEnding)
       → DoesJob out_taken out_failed out_old out_new target_taken target_failed target_old target_new part j ending
       ↔ DoesJob out_taken out_failed out_old out_new target_taken target_failed target_old target_new file j ending
   enough (job.Info j) is out_old out_new target_old target_new ending = (

@@ -1,8 +1,8 @@
 -- What is answered of what is recovered of a bucket or at a path.
 use Rattle.std.proofs.Common.{◌≡◌, ◌⊎◌, ℕ, Bool, Err, IfErr, IfOk, List, None, Ok, Option, Result, Some, inl, inr, refl, subst, if◌then◌else◌}
 use Rattle.std.specs.{Borrow.Bor, Option.IfNone, Prelude.IfSome}
-use Rattle.bolt_commands.proofs.Vocabulary.{AreLosses, Contains, Ending, Failure, ForLosses, Ghosts, IsErrAnd, IsRecovered, IsRecoveryOf, Json, IsMetasFault, LossView, Losses, MayFail, Member, MetaChoice, MetaFault, OnOk, Path, Shortfall, Slot}
-use Rattle.bolt_commands.proofs.Vocabulary.{PrintsAnswer, ReportFault, Rises, Value, Wrote, end_of, has_bucket, has_losses, has_recovered, lost_ending, member_cmp, parts, path_in, recovery_file, recovery_left, recovery_meta, report_ending, reported, shortfall, value_shown}
+use Rattle.bolt_commands.proofs.Vocabulary.{AreLosses, Contains, JobEnding, Failure, ForLosses, Ghosts, IsErrAnd, IsRecovered, IsRecoveryOf, Json, IsMetasFault, LossView, Losses, MayFail, Member, MetaChoice, MetaFault, OnOk, Path, Shortfall, Slot}
+use Rattle.bolt_commands.proofs.Vocabulary.{PrintsAnswer, ReportFault, Rises, Value, Wrote, ending_by, has_bucket, has_losses, has_recovered, lost_ending, member_cmp, parts, owned_path, recovery_file, recovery_left, recovery_meta, report_ending, reported, shortfall, value_shown}
 use Rattle.bolt_check.specs.declared.fault.CheckFault.TheVariants as check
 use Rattle.bolt_commands.specs.Answers.{Answer, IsNamesAnswer, IsRecoveredAnswer, IsRecoveredValue, names_ending, no_bucket, no_key, no_value}
 use Rattle.bolt_commands.specs.Private.Recovered.{HoldsNow, bucket_ending, value_or_why}
@@ -11,12 +11,12 @@ use Rattle.bolt_commands.proofs.{CutTexts.ended_put, CutTexts.short_put, Doing.a
 use Rattle.bolt_text.specs.ReportEndings.{HaltsShort}
 use Rattle.bolt_job.specs.declared.bucket_commands.GetJob.{GetJob}
 use Rattle.bolt_recover.specs.declared.recovery.Recovery.{Recovery}
-use Rattle.bolt_report.specs.MemberNames.{Wanted, names_text}
+use Rattle.bolt_report.specs.MemberNames.{WantedNames, names_text}
 use Rattle.bolt_text.specs.declared.forms.Form.{Form}
 use Rattle.bolt_text.specs.declared.fault.ReportFault.TheVariants as report
 
 -- memory may run out of any file before anything is written
-pub recovered_none : {S : Type 0} {sink : Ghosts S} {old : S} (file : List ℕ) (choice : MetaChoice) (IsWanted : List Member → Option Shortfall → Answer → Type 0) (result : Ending)
+pub recovered_none : {S : Type 0} {sink : Ghosts S} {old : S} (file : List ℕ) (choice : MetaChoice) (IsWanted : List Member → Option Shortfall → Answer → Type 0) (result : JobEnding)
     → IsErrAnd result (λ said. said ≡ Memory) → PrintsAnswer sink old old (IsRecoveredAnswer file choice IsWanted) result
 recovered_none file choice IsWanted result said = answer_nothing Memory result (inr (Memory, (check.Memory, tt, refl), refl)) said
 
@@ -26,7 +26,7 @@ ended_so path found listing after losses other is lost = rw (is, lost) refl
 
 module _ {file : List ℕ} {choice : MetaChoice} (r : Recovery) (of : IsRecoveryOf file choice r) (other : Option (Slot × MetaFault)) (shown : IsMetasFault Losses file choice other) where
   -- what is wanted of the recovered listing and of what it lacks
-  pub of_recovery : {S : Type 0} {sink : Ghosts S} {old new : S} (IsWanted : List Member → Option Shortfall → Answer → Type 0) (result : Ending)
+  pub of_recovery : {S : Type 0} {sink : Ghosts S} {old new : S} (IsWanted : List Member → Option Shortfall → Answer → Type 0) (result : JobEnding)
       (listing : List Member) → IsRecovered file (recovery_meta r) listing → (losses : List LossView) → AreLosses file (recovery_meta r) losses
       → PrintsAnswer sink old new (IsWanted listing (shortfall (parts losses) other)) result → PrintsAnswer sink old new (IsRecoveredAnswer file choice IsWanted) result
   of_recovery IsWanted result listing is losses are put =
@@ -35,14 +35,14 @@ module _ {file : List ℕ} {choice : MetaChoice} (r : Recovery) (of : IsRecovery
   -- ---- the names in a bucket
 
   -- how the job ends
-  abbrev pub end_of_names : Result Bool ReportFault → List LossView → Ending
+  abbrev pub end_of_names : Result Bool ReportFault → List LossView → JobEnding
   end_of_names (Ok found) losses = bucket_ending found (shortfall (parts losses) other)
   end_of_names (Err e) losses = Err (reported e)
 
   abbrev Lists : List Member → Type 0
   Lists listing = IsRecovered (recovery_file r) (recovery_meta r) listing
 
-  module _ {S : Type 0} {sink : Ghosts S} {old new : S} (form : Form) (wanted : Wanted) (path : Path) where
+  module _ {S : Type 0} {sink : Ghosts S} {old new : S} (form : Form) (wanted : WantedNames) (path : Path) where
     pub names_answered : (put : Result Bool ReportFault) → MayFail put
         → ((listing : List Member) → Lists listing → Rises member_cmp (recovery_left r listing) → Wrote sink old new (names_text form wanted path (recovery_left r listing)) (report_ending put))
         → IfOk put (λ found. (listing : List Member) → Lists listing → found ≡ has_bucket path (recovery_left r listing))
@@ -57,7 +57,7 @@ module _ {file : List ℕ} {choice : MetaChoice} (r : Recovery) (of : IsRecovery
         let has = rw all at (knows own here) in
         let put = ended_put {A = Bool} (names_text form wanted path own) (names_ending path own (shortfall (parts losses) other)) (Ok found) wrote tt in
         of_recovery (IsNamesAnswer form wanted path) _ own is losses are
-        (subst (λ (e : Ending). PrintsAnswer sink old new (IsNamesAnswer form wanted path own (shortfall (parts losses) other)) e) (ended_so path found own after losses other has (known losses (rw of.bytes are))) put)
+        (subst (λ (e : JobEnding). PrintsAnswer sink old new (IsNamesAnswer form wanted path own (shortfall (parts losses) other)) e) (ended_so path found own after losses other has (known losses (rw of.bytes are))) put)
     names_answered (Err e) fault puts knows after known =
         let (own, is) = has_recovered file (recovery_meta r) in
         let (losses, are) = has_losses file (recovery_meta r) in
@@ -89,9 +89,9 @@ module _ (members : List Member) (path : Path) (at : AtPath) (holds : HoldsNow m
       (none, rw holds.bucket at is)
 
 pub value_put : {S A : Type 0} {sink : Ghosts S} {old new : S} (job : GetJob) (listing : List Member) (lost : Option Shortfall) (value : List ℕ)
-    → Contains listing (path_in job.path.items, Value value) → (put : Result A ReportFault) → Wrote sink old new (value_shown job.form job.no_newline value) (report_ending put)
+    → Contains listing (owned_path job.path.items, Value value) → (put : Result A ReportFault) → Wrote sink old new (value_shown job.form job.no_newline value) (report_ending put)
     → HaltsShort sink old new (value_shown job.form job.no_newline value) (report_ending put)
     → IfErr put (λ e. (e ≡ report.Sink) ⊎ ((e ≡ report.NoMemory) × (job.form ≡ Json)))
-    → PrintsAnswer sink old new (IsRecoveredValue job listing lost) (end_of put (lost_ending lost))
+    → PrintsAnswer sink old new (IsRecoveredValue job listing lost) (ending_by put (lost_ending lost))
 value_put job listing lost value holds put wrote halts fault =
     answer_as (short_put (job.form ≡ Json) (value_shown job.form job.no_newline value) (lost_ending lost) put wrote halts fault) (λ answer shown. inl (value, holds, shown))

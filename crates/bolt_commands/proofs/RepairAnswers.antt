@@ -1,6 +1,6 @@
 -- The copy of the repaired listing, and what is then reported of it.
 use Rattle.std.proofs.Common.{◌≡◌, ◌≢◌, ℕ, List, [], Bool, Option, Result, Err, Ok, inl, inr, length, refl, subst, sym}
-use Rattle.bolt_commands.proofs.Vocabulary.{CopiesListing, Does, Ending, Failure, Finding, Ghosts, IsAskedBlueprint, IsSearchOf, LostAndFound, Member, Meta, MetaChoice, PageSize}
+use Rattle.bolt_commands.proofs.Vocabulary.{CopiesListing, WritesAnswer, JobEnding, Failure, Finding, Ghosts, IsAskedBlueprint, IsSearchOf, LostAndFound, Member, Meta, MetaChoice, PageSize}
 use Rattle.bolt_commands.proofs.Vocabulary.{AreCopyFaults, FileFaults, all_lost, blueprint_layout, copy_page_size, everything, is_snapshot, layout_for, layout_of_listing}
 use Rattle.bolt_commands.proofs.{CopyAnswers.copy_asked, CopyAnswers.listing_done, CopyAnswers.listing_failed}
 use Rattle.bolt_bulk.specs.declared.blueprint.Blueprint.{Blueprint}
@@ -52,7 +52,7 @@ module _ (file : List ℕ) (choice : MetaChoice) (both : LostAndFound) (repair :
   -- its copy is whole and reported, or it isn't whole and nothing is
   module _ {O T : Type 0} (out : Ghosts O) (out_old : O) {target : Ghosts T} {old new : T} (kind : CopyKind) (size : Option PageSize) (snapshot : Bool) (blueprint : Blueprint)
       (same_kind : is_snapshot kind ≡ snapshot) (layout : layout_for kind ≡ Balanced) (asked : IsAskedBlueprint kind size both.meta blueprint)
-      (faults : FileFaults) (are : AreCopyFaults Joins snapshot file choice faults) (ending : Ending) where
+      (faults : FileFaults) (are : AreCopyFaults Joins snapshot file choice faults) (ending : JobEnding) where
     copy_of_repaired : (result : Result ℕ Failure) → CopiesListing target old new (blueprint_layout blueprint the_repaired) the_repaired (is_snapshot kind) result
         → CopiesListing target old new (layout_of_listing Balanced (copy_page_size size both.meta) the_repaired both.meta.root_sequence) the_repaired snapshot result
     copy_of_repaired result copy = listing_asked kind size both.meta blueprint result layout asked (rw same_kind at copy)
@@ -64,7 +64,7 @@ module _ (file : List ℕ) (choice : MetaChoice) (both : LostAndFound) (repair :
         (both.meta, the_repaired, all_lost both, back, repair.left_out, is_restored, faults, are, listing_failed out out_old report ending why (copy_of_repaired (Err why) copy) ends)
 
     pub repair_done : {out_new : O} (count : ℕ) → CopiesListing target old new (blueprint_layout blueprint the_repaired) the_repaired (is_snapshot kind) (Ok count)
-        → Does out.taken out.failed out_old out_new (repair_report faults (all_lost both) back repair.left_out (length file) count) ending
+        → WritesAnswer out.taken out.failed out_old out_new (repair_report faults (all_lost both) back repair.left_out (length file) count) ending
         → WritesRestored out.taken out.failed out_old out_new target.taken target.failed old new file choice size snapshot ending
     repair_done count copy does =
         let report = repair_report faults (all_lost both) back repair.left_out (length file) in

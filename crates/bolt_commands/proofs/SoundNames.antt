@@ -1,6 +1,6 @@
 -- With sound trees, `keys`, `buckets` and `get` print with `--recover` what they print without it.
 use Rattle.std.proofs.Common.{◌≡◌, ◌≢◌, ◌∙◌, ◌↔◌, ◌⊎◌, ◌-◌, arith, ℕ, Bool, true, false, List, [], ◌∷◌, Err, None, Option, ap, filter, inl, inr, length, refl, subst, take}
-use Rattle.bolt_commands.proofs.Vocabulary.{Active, Answer, CheckFault, Contains, Failure, HasSoundTrees, HoldsIn, HoldsNone, Holds, IsEntriesAnswer, IsEntry, IsFailureOf, IsListing, IsMetaOf, IsReadAnswer, Key, LeadsTo, LeafElement, Member, Meta, MetaChoice, Names, Path, Root_page, Shortfall, Start, Value, has_bucket, has_listing, item_of, keys_text, parents_of, path_in, props, refused, start_of, ∥∥₁_elim}
+use Rattle.bolt_commands.proofs.Vocabulary.{Active, Answer, CheckFault, Contains, Failure, HasSoundTrees, HoldsIn, HoldsNone, Holds, IsEntriesAnswer, IsEntry, IsFailureOf, IsListing, IsMetaOf, IsReadAnswer, Key, LeadsTo, LeafElement, Member, Meta, MetaChoice, Names, Path, Root_page, Shortfall, Start, Value, has_bucket, has_listing, item_of, keys_text, parents_of, owned_path, props, refused, start_of, ∥∥₁_elim}
 use Rattle.bolt_commands.specs.Answers.{IsGetAnswer, IsNamesAnswer, IsRecoveredAnswer, IsRecoveredValue, no_value}
 use Rattle.bolt_check.specs.declared.fault.CheckFault.TheVariants as check
 use Rattle.bolt_commands.specs.declared.failure.Failure.TheVariants as failure
@@ -11,7 +11,7 @@ use Rattle.bolt_commands.proofs.SoundRecovery.{Below, names_one, no_losses, reco
 use Rattle.bolt_commands.specs.Alike.{HidesNoState}
 use Rattle.bolt_job.specs.declared.bucket_commands.GetJob.{GetJob}
 use Rattle.bolt_recover.specs.Losses.{parts}
-use Rattle.bolt_report.specs.MemberNames.{Wanted}
+use Rattle.bolt_report.specs.MemberNames.{WantedNames}
 use Rattle.bolt_text.specs.declared.forms.Form.{Form}
 use Rattle.bolt_tree.proofs.AllEntries.{all_entries}
 
@@ -21,7 +21,7 @@ memory_fails fault why same of = subst (λ (f : CheckFault). IsFailureOf f why) 
 -- ---- the names of a listing are those of entries
 
 module _ (file : List ℕ) (meta : Meta) (trees : HasSoundTrees file meta) (listing : List Member) (lists : IsListing file meta listing) (answer : Answer) where
-  module _ (form : Form) (want : Wanted) (is_named : LeafElement → Bool) (same : (e : LeafElement) → want e.key (item_of e) ≡ is_named e) (path : Path) where
+  module _ (form : Form) (want : WantedNames) (is_named : LeafElement → Bool) (same : (e : LeafElement) → want e.key (item_of e) ≡ is_named e) (path : Path) where
     abbrev IsNames : Type 0
     IsNames = IsNamesAnswer form want path listing None answer
 
@@ -85,15 +85,15 @@ module _ (file : List ℕ) (meta : Meta) (listing : List Member) (lists : IsList
   )
 
   value_there : (job : GetJob) (answer : Answer) → IsRecoveredValue job listing None answer → IsGetAnswer file job meta answer
-  value_there job answer (inl (value, has, shown)) = inl (value, (lists.exact (path_in job.path.items) (Value value)).0 has, shown)
+  value_there job answer (inl (value, has, shown)) = inl (value, (lists.exact (owned_path job.path.items) (Value value)).0 has, shown)
   value_there job answer (inr (none, is)) =
-      let path = path_in job.path.items in
+      let path = owned_path job.path.items in
       inr (no_value path listing None, why_there path none (has_bucket (parents_of path) listing) refl, is)
 
   value_back : (job : GetJob) (answer : Answer) → IsGetAnswer file job meta answer → IsRecoveredValue job listing None answer
-  value_back job answer (inl (value, held, shown)) = inl (value, (lists.exact (path_in job.path.items) (Value value)).1 held, shown)
+  value_back job answer (inl (value, held, shown)) = inl (value, (lists.exact (owned_path job.path.items) (Value value)).1 held, shown)
   value_back job answer (inr (reason, why, is)) =
-      let (none, same) = why_back (path_in job.path.items) reason why in
+      let (none, same) = why_back (owned_path job.path.items) reason why in
       inr (none, is ∙ ap refused same)
 
 -- ---- the answers
@@ -144,7 +144,7 @@ module _ (b : Below) (file : List ℕ) (meta : Meta) (trees : HasSoundTrees file
   no_memory_there : (IsWanted : List Member → Option Shortfall → Answer → Type 0) → answer ≡ refused failure.Memory → IsRecoveredAnswer file wanted IsWanted answer
   no_memory_there IsWanted none = inr (failure.Memory, (check.Memory, tt, refl), none)
 
-  module _ (form : Form) (want : Wanted) (is_named : LeafElement → Bool) (same : (e : LeafElement) → want e.key (item_of e) ≡ is_named e) (path : Path)
+  module _ (form : Form) (want : WantedNames) (is_named : LeafElement → Bool) (same : (e : LeafElement) → want e.key (item_of e) ≡ is_named e) (path : Path)
       (whole : answer.ending ≢ Err failure.Memory) where
     abbrev IsKeysOf : Meta → Answer → Type 0
     IsKeysOf = IsEntriesAnswer file path form (λ entries. keys_text form (filter is_named entries))

@@ -1,7 +1,7 @@
 -- With sound trees, `--recover` does what is done without it under the same meta, if the accounts don't count there, and `--lost-and-found`
 -- does what `--recover` does.
 use Rattle.std.proofs.Common.{◌≡◌, ◌≢◌, ◌↔◌, ◌*◌, ◌<◌, ◌^◌, ℕ, Bool, List, [], Option, ap, arith, inl, inr, length, refl, rules, subst, sym, ◌∙◌}
-use Rattle.bolt_commands.proofs.Vocabulary.{Active, Answer, AreLosses, Assumed, CheckFault, Ending, Extent, Failure, First, FoundView, HasSoundTrees, InSlot, IsActive, IsFailureOf, IsInSlot, IsListedAnswer, IsListing, IsMetaOf, IsMetasFault, IsReadTo, IsReadUnder, IsRecovered, IsSalvaged, IsUnreadTo, Layout, ListForm, LossView, Losses, LostView, MakesCopy, Member, Meta, MetaChoice, MetaFault, PageSize, Path, Slot, bad_hash, everything, has_losses, hash_refusal, parts, props, unjoined, ∥∥₁_elim}
+use Rattle.bolt_commands.proofs.Vocabulary.{Active, Answer, AreLosses, Assumed, CheckFault, JobEnding, Extent, Failure, First, FoundView, HasSoundTrees, InSlot, IsActive, IsFailureOf, IsInSlot, IsListedAnswer, IsListing, IsMetaOf, IsMetasFault, IsReadTo, IsReadUnder, IsRecovered, IsSalvaged, IsUnreadTo, Layout, ListForm, LossView, Losses, LostView, MakesCopy, Member, Meta, MetaChoice, MetaFault, PageSize, Path, Slot, bad_hash, everything, has_losses, hash_refusal, parts, props, unjoined, ∥∥₁_elim}
 use Rattle.bolt_check.specs.declared.fault.CheckFault.TheVariants as check
 use Rattle.bolt_commands.specs.declared.failure.Failure.TheVariants as failure
 use Rattle.bolt_commands.proofs.OtherMetas.{found_metas, metas_found, no_hidden, none_hidden}
@@ -52,7 +52,7 @@ module _ {file : List ℕ} {meta : Meta} {from to : Extent} {wanted named : Meta
   listed r form path start answer (inr (why, unread, is)) = inr (why, r.unread why unread, is)
 
   module _ {O T : Type 0} (out_taken : O → Option (List ℕ)) (out_failed : O → ℕ) (target_taken : T → Option (List ℕ)) (target_failed : T → ℕ)
-      (out_old out_new : O) (target_old target_new : T) (size : Option PageSize) (which : Layout) (snapshot : Bool) (ending : Ending) where
+      (out_old out_new : O) (target_old target_new : T) (size : Option PageSize) (which : Layout) (snapshot : Bool) (ending : JobEnding) where
     copied : Reads file meta from to wanted named → hash_refusal from (bad_hash snapshot file) ≡ hash_refusal to (bad_hash snapshot file)
         → MakesCopy out_taken out_failed out_old out_new target_taken target_failed target_old target_new file wanted size which snapshot from ending
         → MakesCopy out_taken out_failed out_old out_new target_taken target_failed target_old target_new file named size which snapshot to ending
@@ -179,7 +179,7 @@ lists_the_same r form path start answer = (listed r.there form path start answer
 
 pub copies_the_same : {file : List ℕ} {meta : Meta} {from to : Extent} {wanted named : MetaChoice} → ReadsAlike file meta from to wanted named
     → {O T : Type 0} (out_taken : O → Option (List ℕ)) (out_failed : O → ℕ) (target_taken : T → Option (List ℕ)) (target_failed : T → ℕ)
-    (out_old out_new : O) (target_old target_new : T) (size : Option PageSize) (which : Layout) (snapshot : Bool) (ending : Ending)
+    (out_old out_new : O) (target_old target_new : T) (size : Option PageSize) (which : Layout) (snapshot : Bool) (ending : JobEnding)
     → hash_refusal from (bad_hash snapshot file) ≡ hash_refusal to (bad_hash snapshot file)
     → MakesCopy out_taken out_failed out_old out_new target_taken target_failed target_old target_new file wanted size which snapshot from ending
     ↔ MakesCopy out_taken out_failed out_old out_new target_taken target_failed target_old target_new file named size which snapshot to ending

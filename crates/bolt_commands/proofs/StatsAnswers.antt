@@ -1,6 +1,6 @@
 -- The figures of a bucket's buckets, added up entry by entry.
 use Rattle.std.proofs.Common.{◌≡◌, ◌⊎◌, inl, inr, ap, ℕ, Vec, length, List, [], ◌∷◌, None, Option, Some, false, is_some, option_map, refl, sym, subst, true}
-use Rattle.bolt_commands.proofs.Vocabulary.{AddsEntry, AreEntries, Bucket, Checked, EntryView, Failure, FigureForm, ForEntries, HasSoundTrees, HasStats, IsStatsAnswer, IsTotal, LeadsTo, LeafElement, Meta, Path, Root_page, Start, Stats, add_stats, bucket_checked, bucket_start, bytes_of, entries_of, meta_of, no_stats, path_in, props, refused, ∥∥₁_elim, ∥∥₁_map}
+use Rattle.bolt_commands.proofs.Vocabulary.{AddsEntry, AreEntries, Bucket, Checked, EntryView, Failure, FigureForm, ForEntries, HasSoundTrees, HasStats, IsStatsAnswer, IsTotal, LeadsTo, LeafElement, Meta, Path, Root_page, Start, Stats, add_stats, bucket_checked, bucket_start, bytes_of, entries_of, meta_of, no_stats, owned_path, props, refused, ∥∥₁_elim, ∥∥₁_map}
 use Rattle.bolt_tree.specs.{Lookups.IsBucketOf, ShownEntries.shown_entry, declared.entry.Entry.Entry}
 use Rattle.bolt_commands.proofs.AtPaths.{at_path, no_parts}
 use Rattle.bolt_stats.specs.StatsOf.{IsStatsOf}
@@ -37,7 +37,7 @@ total_more file meta old new e before after total is adds later =
 pub root_stats : {Z : Type 0} (path : List (Vec ℕ Z)) (checked : Checked) (root : Bucket) (total : Stats) → length path ≡ 0 → HasSoundTrees (bytes_of checked) (meta_of checked)
     → bucket_checked root ≡ checked → bucket_start root ≡ Root_page (meta_of checked).root
     → ForEntries (bucket_checked root) (bucket_start root) (λ entries. ∥ IsTotal (bytes_of (bucket_checked root)) (meta_of (bucket_checked root)) entries no_stats total ∥₁)
-    → HasStats (bytes_of checked) (path_in path) (meta_of checked) total
+    → HasStats (bytes_of checked) (owned_path path) (meta_of checked) total
 root_stats path checked root total empty trees is begins promised =
     let Sum : List LeafElement → Type 0 = λ entries. ∥ IsTotal (bytes_of (bucket_checked root)) (meta_of (bucket_checked root)) entries no_stats total ∥₁ in
     let (start, entries, names, are, known) = at_path checked [] root Sum trees is ∣ sym begins ∣₁ promised in
@@ -47,9 +47,9 @@ root_stats path checked root total empty trees is begins promised =
 
 -- and those of another bucket
 pub bucket_stats : {Z : Type 0} (path : List (Vec ℕ Z)) (checked : Checked) (bucket : Bucket) (own : Stats) → (length path ≡ 0 → ⊥)
-    → bucket_checked bucket ≡ checked → ∥ LeadsTo (bytes_of checked) (meta_of checked) (path_in path) (bucket_start bucket) ∥₁
+    → bucket_checked bucket ≡ checked → ∥ LeadsTo (bytes_of checked) (meta_of checked) (owned_path path) (bucket_start bucket) ∥₁
     → ∥ IsStatsOf (bytes_of (bucket_checked bucket)) (meta_of (bucket_checked bucket)) (bucket_start bucket) own ∥₁
-    → HasStats (bytes_of checked) (path_in path) (meta_of checked) own
+    → HasStats (bytes_of checked) (owned_path path) (meta_of checked) own
 bucket_stats [] checked bucket own some is named stats = absurd (some refl)
 bucket_stats (part ∷ path) checked bucket own some is named stats =
     (bucket_start bucket, ∥∥₁_elim named (hlevel props) (λ led. ∥∥₁_map (rw is at stats) (λ are. (led, are))))

@@ -5,20 +5,20 @@ pub use Rattle.bolt_check.specs.Findings.{IsClaimedBefore, IsMetaPage, finding}
 pub use Rattle.bolt_check.specs.Nodes.{leaf_entry, node_at}
 pub use Rattle.bolt_check.specs.Sound.{HasRightAccounts, HasSoundTrees, IsFirstFinding, IsRefused, IsSound}
 pub use Rattle.bolt_check.specs.{Keys.Key, declared.checked.Checked.Checked, declared.fault.CheckFault.CheckFault, declared.finding.Finding.Finding}
-pub use Rattle.bolt_commands.specs.Answers.{AddsEntry, Answer, AnswersLost, AreFoundPages, AreFoundTo, Does, DoesJob, Ending, HasStats, HoldsIn, HoldsNone}
+pub use Rattle.bolt_commands.specs.Answers.{AddsEntry, Answer, AnswersLost, AreFoundPages, AreFoundTo, WritesAnswer, DoesJob, JobEnding, HasStats, HoldsIn, HoldsNone}
 pub use Rattle.bolt_commands.specs.Answers.{IsCheckAnswer, IsCheckAnswerAfter, IsEndedOrCut, IsEntriesAnswer, IsFileRefusal, IsFoundAnswer}
 pub use Rattle.bolt_commands.specs.Answers.{IsInfoAnswer, IsListPrint, IsListedAnswer, IsLostAnswer, MayRunOut, IsReadAnswer, IsReadUnder}
 pub use Rattle.bolt_commands.specs.Answers.{IsReadTo, IsRecoveredUnder, IsRefusedUnder, IsSalvaged, IsSizesAnswer, IsStatsAnswer}
 pub use Rattle.bolt_commands.specs.Answers.{IsTotal, IsUnreadTo, IsUnrecoverableUnder, LeadsTo, Loads, LoadsListing, MakesCopy, StopsShort, WritesCopy, counts_accounts}
-pub use Rattle.bolt_commands.specs.Answers.{check_refusal, copy_page_size, copy_report, done, found, found_page, hash_refusal, lost_and_found, lost_ending}
-pub use Rattle.bolt_commands.specs.Answers.{no_stats, none_found, page_answer, parents_of, part_ending, part_text, refused, value_shown}
+pub use Rattle.bolt_commands.specs.Answers.{check_refusal, copy_page_size, copy_report, done, found, found_page, hash_refusal, lost_and_found_answer, lost_ending}
+pub use Rattle.bolt_commands.specs.Answers.{no_stats, none_found, page_answer, parents_of, part_ending, listing_part_text, refused, value_shown}
 pub use Rattle.bolt_commands.specs.Failures.{IsFailureOf, copied, reported, unjoined}
-pub use Rattle.bolt_commands.specs.FileFaults.{AreCopyFaults, IsMetasFault, IsOtherFault, errors_in, other_lines}
+pub use Rattle.bolt_commands.specs.FileFaults.{AreCopyFaults, IsMetasFault, IsOtherFault, errors_in, other_meta_lines}
 pub use Rattle.bolt_commands.specs.{Shortfalls.shortfall, declared.shortfall.Shortfall.Shortfall}
 pub use Rattle.bolt_commands.specs.GoodCopies.{HasGoodCopies, IsGoodCopy, RefusesFile}
 pub use Rattle.bolt_commands.specs.Private.Copying.{CompactsTo, CopiesJoined, CopiesListing, CopiesRead, CopiesTo, IsAskedBlueprint, blueprint_layout, job_layout}
-pub use Rattle.bolt_commands.specs.Private.Endings.{MayFail, end_of, end_written, failing}
-pub use Rattle.bolt_commands.specs.Private.Opened.{HasNoBucket, IsBucketOf, IsJoinedOf, IsLostKnown, IsOpened, IsRecoveryOf, IsSearchOf, IsSoundOf, IsUnopened, IsUnread, opened_found, opened_lost, opened_meta}
+pub use Rattle.bolt_commands.specs.Private.Endings.{MayFail, ending_by, end_written, failing}
+pub use Rattle.bolt_commands.specs.Private.Opened.{HasNoBucket, IsOpenedBucket, IsJoinedOf, IsLostKnown, IsOpened, IsRecoveryOf, IsSearchOf, IsSoundOf, IsUnopened, IsUnread, opened_found, opened_lost, opened_meta}
 pub use Rattle.bolt_commands.specs.SnapshotAnswers.{bad_hash, copy_of, hash_found}
 pub use Rattle.bolt_commands.specs.{CopyEnds.EndsCopy, Hashes.HashesSince, declared.failure.Failure.Failure, declared.file_faults.FileFaults.FileFaults, declared.opened.Opened.Opened}
 pub use Rattle.bolt_commands.specs.Private.Printing.{PrintsAnswer, PutsJoined, PutsListing, PutsPart, finds, job_part, sound_part}
@@ -34,7 +34,7 @@ pub use Rattle.bolt_commands.specs.CopyLayouts.{layout_for}
 pub use Rattle.bolt_job.specs.MetaChoices.{IsMetaOf, assumed_for}
 pub use Rattle.bolt_job.specs.declared.choices.Extent.TheVariants.{First, Losses}
 pub use Rattle.bolt_job.specs.declared.choices.MetaChoice.TheVariants.{Active, Assumed, InSlot}
-pub use Rattle.bolt_job.specs.{PlainWords.path_in, declared.choices.Extent.Extent, declared.job.Job.Job, declared.choices.MetaChoice.MetaChoice}
+pub use Rattle.bolt_job.specs.{PlainWords.owned_path, declared.choices.Extent.Extent, declared.job.Job.Job, declared.choices.MetaChoice.MetaChoice}
 pub use Rattle.bolt_job.specs.{declared.bucket_commands.ListJob.ListJob, declared.choices.PageSize.PageSize}
 pub use Rattle.bolt_layout.specs.Copies.{IsAsked, IsOfOneTree, IsSoundCopy, RefusesPrefixes, layout_of_listing}
 pub use Rattle.bolt_layout.specs.{declared.Layout.Layout}

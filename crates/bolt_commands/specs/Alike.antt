@@ -7,7 +7,7 @@ use Rattle.bolt_etcd.specs.Repairs.{store_path}
 use Rattle.bolt_recover.specs.Losses.{parts}
 use Rattle.bolt_text.specs.declared.forms.ListForm.{ListForm}
 use Rattle.bolt_tree.specs.{Entries.Value, Listing.IsListing, Listing.Member, Paths.Path}
-use Rattle.bolt_commands.specs.Answers.{Answer, DoesJob, Ending, HoldsIn, IsBucketsShown, IsKeysShown, IsListedAnswer, IsValueShown, MakesCopy, MakesRepair, WritesCopy, WritesNone, copy_page_size, hash_refusal, repair_report}
+use Rattle.bolt_commands.specs.Answers.{Answer, DoesJob, JobEnding, HoldsIn, IsBucketsShown, IsKeysShown, IsListedAnswer, IsValueShown, MakesCopy, MakesRepair, WritesCopy, WritesNone, copy_page_size, hash_refusal, repair_report}
 use Rattle.bolt_commands.specs.{FileFaults.AreCopyFaults, SnapshotAnswers.bad_hash, declared.file_faults.FileFaults.FileFaults, declared.failure.Failure.Failure, declared.failure.Failure.TheVariants.Memory, declared.failure.Failure.TheVariants.NotABucket}
 use Rattle.bolt_job.specs.MetaChoices.{IsMetaOf}
 use Rattle.bolt_job.specs.declared.bucket_commands.{BucketsJob.BucketsJob, GetJob.GetJob, KeysJob.KeysJob}
@@ -18,7 +18,7 @@ use Rattle.bolt_job.specs.declared.choices.MetaChoice.TheVariants.{Active}
 
 -- a job does the same on one file as on the other
 abbrev pub DoesAlike : {O T : Type 0} (out : Ghosts O) (target : Ghosts T) → Job → (one other : List ℕ) → Type 0
-DoesAlike {O} {T} out target job one other = (out_old out_new : O) (target_old target_new : T) (ending : Ending)
+DoesAlike {O} {T} out target job one other = (out_old out_new : O) (target_old target_new : T) (ending : JobEnding)
     → DoesJob out.taken out.failed out_old out_new target.taken target.failed target_old target_new one job ending
     ↔ DoesJob out.taken out.failed out_old out_new target.taken target.failed target_old target_new other job ending
 
@@ -51,7 +51,7 @@ ListsAlike one other file wanted named = (form : ListForm) (path from : Path) (a
 -- and `compact` does the same, if the hash of a file that isn't right is refused to both extents or to none
 abbrev pub CopiesAlike : {O T : Type 0} (out : Ghosts O) (target : Ghosts T) → (one other : Extent) → List ℕ → (wanted named : MetaChoice) → Type 0
 CopiesAlike {O} {T} out target one other file wanted named =
-    (out_old out_new : O) (target_old target_new : T) (size : Option PageSize) (layout : Layout) (snapshot : Bool) (ending : Ending)
+    (out_old out_new : O) (target_old target_new : T) (size : Option PageSize) (layout : Layout) (snapshot : Bool) (ending : JobEnding)
     → hash_refusal one (bad_hash snapshot file) ≡ hash_refusal other (bad_hash snapshot file)
     → MakesCopy out.taken out.failed out_old out_new target.taken target.failed target_old target_new file wanted size layout snapshot one ending
     ↔ MakesCopy out.taken out.failed out_old out_new target.taken target.failed target_old target_new file named size layout snapshot other ending
@@ -78,7 +78,7 @@ IsUnrepairable file meta why =
 -- Nothing goes back or stays out: The copy is that of the file's own listing, for bbolt.
 abbrev pub RepairsNothing : {O T : Type 0} (out : Ghosts O) (target : Ghosts T) → List ℕ → Meta → MetaChoice → Type 0
 RepairsNothing {O} {T} out target file meta choice =
-    (out_old out_new : O) (target_old target_new : T) (size : Option PageSize) (snapshot : Bool) (ending : Ending)
+    (out_old out_new : O) (target_old target_new : T) (size : Option PageSize) (snapshot : Bool) (ending : JobEnding)
     → MakesRepair out.taken out.failed out_old out_new target.taken target.failed target_old target_new file choice size snapshot ending
     → ∥ ((listing : List Member) × IsListing file meta listing × (faults : FileFaults) × AreCopyFaults LostAndFound snapshot file choice faults
     × WritesCopy out.taken out.failed out_old out_new target.taken target.failed target_old target_new snapshot listing

@@ -22,7 +22,7 @@ use Rattle.bolt_etcd.specs.{FullRepairs.IsFullRepair, RepairRefusals.IsRepairRef
 use Rattle.bolt_etcd.specs.declared.repair.RepairFault.{RepairFault}
 use Rattle.bolt_report.specs.{BboltLines.bbolt_findings_text, FaultWords.count_line, FaultWords.findings_text, FoundLines.FoundView, FoundLines.counted_lost_text, FoundLines.lost_text}
 use Rattle.bolt_report.specs.{StatsLines.stats_text, KeyLines.buckets_text, KeyLines.keys_text}
-use Rattle.bolt_report.specs.MemberNames.{Wanted, begins_so, names_bucket, names_text}
+use Rattle.bolt_report.specs.MemberNames.{WantedNames, begins_so, names_bucket, names_text}
 use Rattle.bolt_text.specs.{Forms.value_text, Forms.item_text}
 use Rattle.bolt_stats.specs.{Figures.add_stats}
 use Rattle.bolt_report.specs.{KeyPrefixes.with_prefix, MetaLines.info_text, PageMaps.map_text, PageTables.pages_text}
@@ -51,7 +51,7 @@ use Rattle.bolt_commands.specs.declared.file_faults.FileFaults.{FileFaults}
 use Rattle.bolt_check.specs.ShownFindings.{findings_in}
 use Rattle.bolt_load.specs.declared.fault.LineFault.TheVariants.{CutOff}
 use Rattle.bolt_etcd.specs.declared.snapshot.SnapshotFault.{SnapshotFault}
-use Rattle.bolt_etcd.specs.{Current.AreCurrent, Newest.newest, Newest.until, Newest.value_if, RevisionLines.named, RevisionLines.revision_lines, Revisions.RevisionView}
+use Rattle.bolt_etcd.specs.{Current.AreCurrent, Newest.newest, Newest.until, Newest.value_if, RevisionLines.named_with, RevisionLines.revision_lines, Revisions.RevisionView}
 use Rattle.bolt_etcd.specs.{StoreBuckets.IsStore, StoreBuckets.StoreView, StoreFaults.store_compacted, StoreFaults.store_lines, Stores.entries_from, Stores.others, Stores.revisions}
 use Rattle.bolt_check.specs.Counts.{counted}
 use Rattle.std.specs.{Int.to_be_bytes, Int.w64, List.concat}
@@ -61,17 +61,17 @@ use Rattle.bolt_job.specs.declared.job.Job.{Job}
 use Rattle.bolt_job.specs.declared.job.Job.TheVariants as job
 use Rattle.bolt_job.specs.declared.choices.MetaChoice.{MetaChoice}
 use Rattle.bolt_job.specs.declared.choices.MetaChoice.TheVariants.{Active, Assumed, InSlot}
-use Rattle.bolt_job.specs.{declared.choices.PageSize.PageSize, PlainWords.path_in}
+use Rattle.bolt_job.specs.{declared.choices.PageSize.PageSize, PlainWords.owned_path}
 use Rattle.bolt_layout.specs.{declared.Layout.Layout, declared.Layout.TheVariants.Balanced}
 
 -- How a job ends: with a status, or with a failure that is reported.
-abbrev pub Ending : Type 0
-Ending = Result ℕ Failure
+abbrev pub JobEnding : Type 0
+JobEnding = Result ℕ Failure
 
 -- the text for standard output, and how the job ends
 pub record Answer : Type 0 where
   pub out : List ℕ
-  pub ending : Ending
+  pub ending : JobEnding
 
 abbrev pub done : List ℕ → Answer
 done text = record { out = text; ending = Ok 0 }
@@ -85,10 +85,10 @@ abbrev pub page_answer : Option PageFault → List ℕ → Answer
 page_answer None text = done text
 page_answer (Some fault) text = refused (failure.Page fault)
 
--- the meta that is shown: that of the slot that is named, or the active one
+-- the meta that is shown: that of the slot that is named_with, or the active one
 abbrev pub IsShownMeta : List ℕ → Option Slot → Slot → Meta → Type 0
 IsShownMeta file None slot meta = IsActive file slot meta
-IsShownMeta file (Some named) slot meta = (slot ≡ named) × IsInSlot file named meta
+IsShownMeta file (Some named_with) slot meta = (slot ≡ named_with) × IsInSlot file named_with meta
 
 -- why there is none
 abbrev pub HasNoMeta : List ℕ → Option Slot → MetaFault → Type 0
@@ -142,31 +142,31 @@ abbrev pub parents_of : Path → Path
 parents_of path = take (length path - 1) path
 
 -- memory ran out: a prefix of the text, maybe all of it
-abbrev pub IsCut : List ℕ → Answer → Type 0
-IsCut text answer = (front rest : List ℕ) × (text ≡ front ++ rest) × (answer ≡ record { out = front; ending = Err failure.Memory })
+abbrev pub IsCutAnswer : List ℕ → Answer → Type 0
+IsCutAnswer text answer = (front rest : List ℕ) × (text ≡ front ++ rest) × (answer ≡ record { out = front; ending = Err failure.Memory })
 
 -- memory ran out before the last byte of the text: a prefix, and not all of it
 abbrev pub IsCutShort : List ℕ → Answer → Type 0
 IsCutShort text answer = (front rest : List ℕ) × (text ≡ front ++ rest) × (rest ≢ []) × (answer ≡ record { out = front; ending = Err failure.Memory })
 
 -- the whole text, and this ending; or memory ran out on the way, or before it was known that the text is whole
-abbrev pub IsEndedOrCut : List ℕ → Ending → Answer → Type 0
-IsEndedOrCut text ending answer = (answer ≡ record { out = text; ending = ending }) ⊎ IsCut text answer
+abbrev pub IsEndedOrCut : List ℕ → JobEnding → Answer → Type 0
+IsEndedOrCut text ending answer = (answer ≡ record { out = text; ending = ending }) ⊎ IsCutAnswer text answer
 
 -- the whole text; or memory ran out on the way
 abbrev pub IsWholeOrShort : List ℕ → Answer → Type 0
 IsWholeOrShort text answer = (answer ≡ done text) ⊎ IsCutShort text answer
 
 -- the whole text, and this ending; or memory ran out on the way, which JSON alone needs
-abbrev pub IsShownAndEnded : Form → List ℕ → Ending → Answer → Type 0
+abbrev pub IsShownAndEnded : Form → List ℕ → JobEnding → Answer → Type 0
 IsShownAndEnded form text ending answer = (answer ≡ record { out = text; ending = ending }) ⊎ ((form ≡ Json) × IsCutShort text answer)
 
 abbrev pub IsShownText : Form → List ℕ → Answer → Type 0
 IsShownText form text answer = IsShownAndEnded form text (Ok 0) answer
 
 -- the same, but the text may be whole if memory ran out
-abbrev pub IsShownOrCut : Form → List ℕ → Ending → Answer → Type 0
-IsShownOrCut form text ending answer = (answer ≡ record { out = text; ending = ending }) ⊎ ((form ≡ Json) × IsCut text answer)
+abbrev pub IsShownOrCut : Form → List ℕ → JobEnding → Answer → Type 0
+IsShownOrCut form text ending answer = (answer ≡ record { out = text; ending = ending }) ⊎ ((form ≡ Json) × IsCutAnswer text answer)
 
 -- a text of the entries of the bucket that the path leads to; or it leads to none
 abbrev pub IsEntriesAnswer : List ℕ → Path → Form → (List LeafElement → List ℕ) → Meta → Answer → Type 0
@@ -187,8 +187,8 @@ value_shown form no_newline value = if no_newline then item_text form value else
 -- the value that the path holds; or why it holds none
 abbrev pub IsGetAnswer : List ℕ → GetJob → Meta → Answer → Type 0
 IsGetAnswer file job meta answer =
-    ((value : List ℕ) × HoldsIn file meta (path_in job.path.items) (Value value) × IsShownText job.form (value_shown job.form job.no_newline value) answer)
-    ⊎ ((reason : Failure) × HoldsNone file (path_in job.path.items) meta reason × (answer ≡ refused reason))
+    ((value : List ℕ) × HoldsIn file meta (owned_path job.path.items) (Value value) × IsShownText job.form (value_shown job.form job.no_newline value) answer)
+    ⊎ ((reason : Failure) × HoldsNone file (owned_path job.path.items) meta reason × (answer ≡ refused reason))
 
 -- The sizes of the buckets in the bucket that the path leads to, or memory ran out before the last byte of them was written; or the path
 -- leads to no bucket.
@@ -199,11 +199,11 @@ IsSizesAnswer file path form meta answer =
     ⊎ (LeadsNowhere file meta path × (answer ≡ refused failure.NoBucket))
 
 -- a line for each member of a listing at and below the bucket at a path that doesn't come before another path
-abbrev pub part_text : ListForm → (path from : Path) → List Member → List ℕ
-part_text form path from listing = listing_lines form (rest_from from (bucket_part path listing))
+abbrev pub listing_part_text : ListForm → (path from : Path) → List Member → List ℕ
+listing_part_text form path from listing = listing_lines form (rest_from from (bucket_part path listing))
 
 -- if the listing doesn't have that bucket, this is reported
-abbrev pub part_ending : Path → List Member → Ending → Ending
+abbrev pub part_ending : Path → List Member → JobEnding → JobEnding
 part_ending path listing ending = if has_bucket path listing then ending else Err failure.NoBucket
 
 -- the table of all pages by their roles, or the map of them
@@ -320,8 +320,8 @@ abbrev pub IsUnrecoverableUnder : List ℕ → MetaChoice → CheckFault → Typ
 IsUnrecoverableUnder file choice fault = IsUnrecoverable file (IsMetaOf file choice) (HasNoMetaOf file choice) fault
 
 -- each loss and each page that is found; what is wrong with the file apart from its pages comes first
-abbrev pub lost_and_found : FileFaults → LostView → List FoundView → Answer
-lost_and_found faults lost found = record { out = fault_lines faults ++ counted_lost_text (errors_in faults) lost found; ending = Ok 1 }
+abbrev pub lost_and_found_answer : FileFaults → LostView → List FoundView → Answer
+lost_and_found_answer faults lost found = record { out = fault_lines faults ++ counted_lost_text (errors_in faults) lost found; ending = Ok 1 }
 
 -- ---- the pages that are found though nothing leads to them
 
@@ -341,7 +341,7 @@ AreFoundTo extent file meta found = found ≡ []
 -- if nothing is lost, what `check` writes
 abbrev pub AnswersLost : (for_bbolt : Bool) → FileFaults → List ℕ → MetaChoice → LostView → List FoundView → Answer → Type 0
 AnswersLost for_bbolt faults file choice (parts []) found answer = IsFoundAnswer for_bbolt faults file choice answer
-AnswersLost for_bbolt faults file choice lost found answer = answer ≡ lost_and_found faults lost found
+AnswersLost for_bbolt faults file choice lost found answer = answer ≡ lost_and_found_answer faults lost found
 
 -- memory may run out; where pages are looked for, only of a file that has the meta
 abbrev pub MayRunOut : Extent → List ℕ → MetaChoice → Type 0
@@ -405,7 +405,7 @@ IsUnreadTo LostAndFound file choice why = IsUnjoinedUnder file choice why
 -- ---- `list`
 
 -- if something is lacking, this is reported on standard error
-abbrev pub lost_ending : Option Shortfall → Ending
+abbrev pub lost_ending : Option Shortfall → JobEnding
 lost_ending None = Ok 0
 lost_ending (Some lost) = Err (failure.Lost lost)
 
@@ -418,7 +418,7 @@ abbrev pub IsListedAnswer : Extent → List ℕ → MetaChoice → ListForm → 
 IsListedAnswer extent file choice form path from answer =
     ((meta : Meta) × (listing : List Member) × (lost : LostView) × (found : List FoundView) × IsReadTo extent file choice meta listing lost found
     × (lacking : Option Shortfall) × IsLackingTo extent file choice lost lacking
-    × IsEndedOrCut (part_text form path from listing) (part_ending path listing (lost_ending lacking)) answer)
+    × IsEndedOrCut (listing_part_text form path from listing) (part_ending path listing (lost_ending lacking)) answer)
     ⊎ ((why : Failure) × IsUnreadTo extent file choice why × (answer ≡ refused why))
 
 -- ---- `buckets`, `keys` and `get` with `--recover`
@@ -442,10 +442,10 @@ abbrev pub no_key : Option Shortfall → Failure
 no_key lost = missing failure.NoKey failure.KeyMaybeLost lost
 
 -- the names that are wanted in a bucket of the listing, and then what is lacking; or the bucket isn't there
-abbrev pub names_ending : Path → List Member → Option Shortfall → Ending
+abbrev pub names_ending : Path → List Member → Option Shortfall → JobEnding
 names_ending path listing lost = if has_bucket path listing then lost_ending lost else Err (no_bucket lost)
 
-abbrev pub IsNamesAnswer : Form → Wanted → Path → List Member → Option Shortfall → Answer → Type 0
+abbrev pub IsNamesAnswer : Form → WantedNames → Path → List Member → Option Shortfall → Answer → Type 0
 IsNamesAnswer form wanted path listing lost answer = IsEndedOrCut (names_text form wanted path listing) (names_ending path listing lost) answer
 
 -- why a listing has no value at a path
@@ -455,14 +455,14 @@ no_value path listing lost = if has_bucket (parents_of path) listing then no_key
 -- the value that the listing has at the path, and then what is lacking; or it has none
 abbrev pub IsRecoveredValue : GetJob → List Member → Option Shortfall → Answer → Type 0
 IsRecoveredValue job listing lost answer =
-    let path = path_in job.path.items in
+    let path = owned_path job.path.items in
     ((value : List ℕ) × Contains listing (path, Value value) × IsShownAndEnded job.form (value_shown job.form job.no_newline value) (lost_ending lost) answer)
     ⊎ (((value : List ℕ) → Contains listing (path, Value value) → ⊥) × (answer ≡ refused (no_value path listing lost)))
 
 -- From its state `old` to `new` standard output accepted the text of the answer without a failure, and the job ends so; or it has failed
 -- by then, accepted a prefix, and the job ends with that.
-abbrev pub Does : {S : Type 0} → (taken : S → Option (List ℕ)) (failed : S → ℕ) (old new : S) → Answer → Ending → Type 0
-Does taken failed old new answer ending =
+abbrev pub WritesAnswer : {S : Type 0} → (taken : S → Option (List ℕ)) (failed : S → ℕ) (old new : S) → Answer → JobEnding → Type 0
+WritesAnswer taken failed old new answer ending =
     (Appends (taken old) (taken new) answer.out × (failed new ≡ failed old) × (ending ≡ answer.ending))
     ⊎ ((0 < failed new) × AppendsPrefix (taken old) (taken new) answer.out × (ending ≡ Err failure.Write))
 
@@ -539,9 +539,9 @@ repair_report faults lost back left_out source copy =
 
 -- the names of the buckets, their sizes, or the names of those that are recovered, of a file under a meta
 abbrev pub IsBucketsShown : BucketsShown → List ℕ → MetaChoice → BucketsJob → Answer → Type 0
-IsBucketsShown shown.Names file choice job answer = IsReadAnswer file choice (IsEntriesAnswer file (path_in job.path.items) job.form (buckets_text job.form)) answer
-IsBucketsShown shown.Sizes file choice job answer = IsReadAnswer file choice (IsSizesAnswer file (path_in job.path.items) job.form) answer
-IsBucketsShown shown.Recovered file choice job answer = IsRecoveredAnswer file choice (IsNamesAnswer job.form names_bucket (path_in job.path.items)) answer
+IsBucketsShown shown.Names file choice job answer = IsReadAnswer file choice (IsEntriesAnswer file (owned_path job.path.items) job.form (buckets_text job.form)) answer
+IsBucketsShown shown.Sizes file choice job answer = IsReadAnswer file choice (IsSizesAnswer file (owned_path job.path.items) job.form) answer
+IsBucketsShown shown.Recovered file choice job answer = IsRecoveredAnswer file choice (IsNamesAnswer job.form names_bucket (owned_path job.path.items)) answer
 
 abbrev pub IsBucketsPrint : BucketsJob → List ℕ → Answer → Type 0
 IsBucketsPrint job file answer = IsBucketsShown job.shown file job.meta job answer
@@ -549,8 +549,8 @@ IsBucketsPrint job file answer = IsBucketsShown job.shown file job.meta job answ
 -- the keys, or those that are recovered
 abbrev pub IsKeysShown : (recover : Bool) → List ℕ → MetaChoice → KeysJob → Answer → Type 0
 IsKeysShown false file choice job answer =
-    IsReadAnswer file choice (IsEntriesAnswer file (path_in job.path.items) job.form (λ entries. keys_text job.form (with_prefix job.prefix.items entries))) answer
-IsKeysShown true file choice job answer = IsRecoveredAnswer file choice (IsNamesAnswer job.form (begins_so job.prefix.items) (path_in job.path.items)) answer
+    IsReadAnswer file choice (IsEntriesAnswer file (owned_path job.path.items) job.form (λ entries. keys_text job.form (with_prefix job.prefix.items entries))) answer
+IsKeysShown true file choice job answer = IsRecoveredAnswer file choice (IsNamesAnswer job.form (begins_so job.prefix.items) (owned_path job.path.items)) answer
 
 abbrev pub IsKeysPrint : KeysJob → List ℕ → Answer → Type 0
 IsKeysPrint job file answer = IsKeysShown job.recover file job.meta job answer
@@ -564,10 +564,10 @@ abbrev pub IsGetPrint : GetJob → List ℕ → Answer → Type 0
 IsGetPrint job file answer = IsValueShown job.recover file job.meta job answer
 
 abbrev pub IsStatsPrint : StatsJob → List ℕ → Answer → Type 0
-IsStatsPrint job file answer = IsReadAnswer file job.meta (IsStatsAnswer file (path_in job.path.items) job.form) answer
+IsStatsPrint job file answer = IsReadAnswer file job.meta (IsStatsAnswer file (owned_path job.path.items) job.form) answer
 
 abbrev pub IsListPrint : ListJob → List ℕ → Answer → Type 0
-IsListPrint job file answer = IsListedAnswer job.extent file job.meta job.form (path_in job.path.items) (path_in job.from.items) answer
+IsListPrint job file answer = IsListedAnswer job.extent file job.meta job.form (owned_path job.path.items) (owned_path job.from.items) answer
 
 -- ---- what etcd keeps
 
@@ -581,24 +581,24 @@ OfKeys None IsWanted answer = answer ≡ refused failure.NoBucket
 OfKeys (Some entries) IsWanted answer = IsWanted entries answer
 
 -- entries that aren't revisions are counted on standard error: they may have been newer
-abbrev pub others_ending : ℕ → Ending
+abbrev pub others_ending : ℕ → JobEnding
 others_ending zero = Ok 0
 others_ending (suc n) = Err (failure.Others (suc n))
 
-abbrev pub entries_ending : List LeafElement → Ending
+abbrev pub entries_ending : List LeafElement → JobEnding
 entries_ending entries = others_ending (counted 0 (length (others entries)))
 
--- from a transaction on, if one is named: the entries whose keys aren't below its number in eight bytes
+-- from a transaction on, if one is named_with: the entries whose keys aren't below its number in eight bytes
 abbrev pub entries_asked : Option ℕ → List LeafElement → List LeafElement
 entries_asked None entries = entries
 entries_asked (Some main) entries = entries_from (to_be_bytes w64 main) entries
 
--- of the revisions of no later transaction, if one is named; no number is above 2^64 - 1
+-- of the revisions of no later transaction, if one is named_with; no number is above 2^64 - 1
 abbrev pub up_to : Option ℕ → ℕ
 up_to None = 2 ^ 64 - 1
 up_to (Some main) = main
 
--- whether the transaction that is named was compacted away
+-- whether the transaction that is named_with was compacted away
 abbrev pub is_compacted : Option ℕ → Option ℕ → Bool
 is_compacted (Some main) (Some compacted) = nat_lt main compacted
 is_compacted _ _ = false
@@ -615,16 +615,16 @@ IsAnswerAt at store IsWanted answer = OfKeys (store.bucket (codes "key")) (λ en
 abbrev pub IsRevisionsText : EtcdRevisionsJob → List LeafElement → Answer → Type 0
 IsRevisionsText job entries answer =
     let asked = entries_asked job.from entries in
-    IsShownOrCut job.form (revision_lines job.form job.values (named job.prefix.items (revisions asked))) (entries_ending asked) answer
+    IsShownOrCut job.form (revision_lines job.form job.values (named_with job.prefix.items (revisions asked))) (entries_ending asked) answer
 
 -- the lines of the keys that there are at a transaction
 abbrev pub IsCurrentText : EtcdKeysJob → List LeafElement → Answer → Type 0
 IsCurrentText job entries answer =
     (current : List RevisionView) × AreCurrent (until (up_to job.at) (revisions entries)) current
-    × IsEndedOrCut (revision_lines job.form job.values (named job.prefix.items current)) (entries_ending entries) answer
+    × IsEndedOrCut (revision_lines job.form job.values (named_with job.prefix.items current)) (entries_ending entries) answer
 
 -- a value, if there is one
-abbrev pub IsValueText : EtcdGetJob → Ending → Option (List ℕ) → Answer → Type 0
+abbrev pub IsValueText : EtcdGetJob → JobEnding → Option (List ℕ) → Answer → Type 0
 IsValueText job ending None answer = answer ≡ refused failure.NoKey
 IsValueText job ending (Some value) answer = IsShownAndEnded job.form (value_shown job.form job.no_newline value) ending answer
 
@@ -672,40 +672,40 @@ IsEtcdCheckPrint job file answer =
 module _ {O T : Type 0} (out_taken : O → Option (List ℕ)) (out_failed : O → ℕ) (out_old out_new : O)
     (target_taken : T → Option (List ℕ)) (target_failed : T → ℕ) (target_old target_new : T) where
   -- standard output accepts the text of the answer, and the target isn't touched
-  abbrev pub Prints : (Answer → Type 0) → Ending → Type 0
-  Prints IsWanted ending = (answer : Answer) × IsWanted answer × Does out_taken out_failed out_old out_new answer ending × (target_new ≡ target_old)
+  abbrev pub Prints : (Answer → Type 0) → JobEnding → Type 0
+  Prints IsWanted ending = (answer : Answer) × IsWanted answer × WritesAnswer out_taken out_failed out_old out_new answer ending × (target_new ≡ target_old)
 
   -- The target accepted the whole copy without a failure, which is the layout and, in a snapshot, its hash. The layout has fewer than 2^63
   -- bytes, and what the target accepted is a good copy of this listing. Then standard output is to accept the text of the answer to its
   -- length.
-  abbrev pub CopiesWhole : (snapshot : Bool) → (listing : List Member) → (layout : List ℕ) → (ℕ → Answer) → Ending → Type 0
+  abbrev pub CopiesWhole : (snapshot : Bool) → (listing : List Member) → (layout : List ℕ) → (ℕ → Answer) → JobEnding → Type 0
   CopiesWhole snapshot listing layout answer ending =
       let copy = copy_of snapshot layout in
       (length layout < too_many) × ∥ IsGoodCopy snapshot layout listing ∥₁
       × Appends (target_taken target_old) (target_taken target_new) copy × (target_failed target_new ≡ target_failed target_old)
-      × Does out_taken out_failed out_old out_new (answer (length copy)) ending
+      × WritesAnswer out_taken out_failed out_old out_new (answer (length copy)) ending
 
   -- the target stopped short, standard output isn't touched, and the job ends with the failure
-  abbrev pub CopiesInPart : (snapshot : Bool) → (layout : List ℕ) → Ending → Type 0
+  abbrev pub CopiesInPart : (snapshot : Bool) → (layout : List ℕ) → JobEnding → Type 0
   CopiesInPart snapshot layout ending =
       (failure : Failure) × StopsShort target_taken target_failed target_old target_new layout (copy_of snapshot layout) failure × (out_new ≡ out_old) × (ending ≡ Err failure)
 
-  abbrev pub WritesCopy : (snapshot : Bool) → (listing : List Member) → (layout : List ℕ) → (ℕ → Answer) → Ending → Type 0
+  abbrev pub WritesCopy : (snapshot : Bool) → (listing : List Member) → (layout : List ℕ) → (ℕ → Answer) → JobEnding → Type 0
   WritesCopy snapshot listing layout answer ending = CopiesWhole snapshot listing layout answer ending ⊎ CopiesInPart snapshot layout ending
 
   -- nothing is written, for this reason
-  abbrev pub WritesNone : Failure → Ending → Type 0
+  abbrev pub WritesNone : Failure → JobEnding → Type 0
   WritesNone why ending = (out_new ≡ out_old) × (target_new ≡ target_old) × (ending ≡ Err why)
 
   -- a file with a wrong hash is refused for it; otherwise it is copied
-  abbrev pub CopiesUnless : Option SnapshotFault → (Ending → Type 0) → Ending → Type 0
+  abbrev pub CopiesUnless : Option SnapshotFault → (JobEnding → Type 0) → JobEnding → Type 0
   CopiesUnless (Some fault) Copies ending = WritesNone (failure.Hash fault) ending
   CopiesUnless None Copies ending = Copies ending
 
   -- `compact` to any extent: The target accepts the layout that is asked for of what is read, at the copy's page size, and for a snapshot then
   -- its hash: a good copy of that listing. Then it is reported if the file has a hash that isn't right, if the newest state may be lost, what is
   -- lost and what is found. Or the file isn't read, and neither is touched.
-  abbrev pub MakesCopy : List ℕ → MetaChoice → Option PageSize → Layout → (snapshot : Bool) → Extent → Ending → Type 0
+  abbrev pub MakesCopy : List ℕ → MetaChoice → Option PageSize → Layout → (snapshot : Bool) → Extent → JobEnding → Type 0
   MakesCopy file choice size which snapshot extent ending =
       ((meta : Meta) × (listing : List Member) × (lost : LostView) × (found : List FoundView) × IsReadTo extent file choice meta listing lost found
       × (faults : FileFaults) × AreCopyFaults extent snapshot file choice faults × CopiesUnless (hash_refusal extent faults.hash)
@@ -713,7 +713,7 @@ module _ {O T : Type 0} (out_taken : O → Option (List ℕ)) (out_failed : O �
       ⊎ ((why : Failure) × IsUnreadTo extent file choice why × WritesNone why ending)
 
   -- the copy of the repaired listing, and what is reported of it
-  abbrev pub WritesRestored : List ℕ → MetaChoice → Option PageSize → (snapshot : Bool) → Ending → Type 0
+  abbrev pub WritesRestored : List ℕ → MetaChoice → Option PageSize → (snapshot : Bool) → JobEnding → Type 0
   WritesRestored file choice size snapshot ending =
       (meta : Meta) × (listing : List Member) × (lost : LostView) × (back left_out : ℕ) × IsRestored file choice meta listing lost back left_out
       × (faults : FileFaults) × AreCopyFaults LostAndFound snapshot file choice faults
@@ -722,31 +722,31 @@ module _ {O T : Type 0} (out_taken : O → Option (List ℕ)) (out_failed : O �
   -- `etcd-repair`: The target accepts the balanced layout of the repaired listing at the copy's page size, and for a snapshot then its hash: a good
   -- copy of that listing. Then it is reported if the file has a hash that isn't right, if the newest state may be lost, what is lost, and how many
   -- revisions go back. Or there is no repaired listing, or memory ran out, and neither is touched.
-  abbrev pub MakesRepair : List ℕ → MetaChoice → Option PageSize → (snapshot : Bool) → Ending → Type 0
+  abbrev pub MakesRepair : List ℕ → MetaChoice → Option PageSize → (snapshot : Bool) → JobEnding → Type 0
   MakesRepair file choice size snapshot ending =
       ∥ WritesRestored file choice size snapshot ending ∥₁ ⊎ ((why : Failure) × IsUnrestored file choice why × WritesNone why ending)
 
   -- `load`: The target accepts the layout that is asked for of the listing that the lines of the file tell, with this root sequence, and for a
   -- snapshot then its hash: a good copy of that listing. Or a line isn't right, or memory ran out, and neither is touched.
-  abbrev pub Loads : List ℕ → (page_size sequence : ℕ) → Layout → (snapshot : Bool) → Ending → Type 0
+  abbrev pub Loads : List ℕ → (page_size sequence : ℕ) → Layout → (snapshot : Bool) → JobEnding → Type 0
   Loads file page_size sequence which snapshot ending =
       (IsListingText file
       × WritesCopy snapshot (text_members file) (layout_of_listing which page_size (text_members file) sequence) (λ copy. done (lengths_line (length file) copy)) ending)
       ⊎ ((fault : LoadFault) × IsLoadFault file fault × WritesNone (unloaded fault) ending)
 
   -- nothing is written, and the job ends with this failure or for want of memory
-  abbrev pub StopsAt : Failure → Ending → Type 0
+  abbrev pub StopsAt : Failure → JobEnding → Type 0
   StopsAt why ending = (out_new ≡ out_old) × (target_new ≡ target_old) × ((ending ≡ Err why) ⊎ (ending ≡ Err failure.Memory))
 
   -- the same of the text of this listing, which has no line that isn't right; a text without a line is cut off
-  abbrev pub LoadsListing : List Member → List ℕ → (page_size sequence : ℕ) → Layout → (snapshot : Bool) → Ending → Type 0
+  abbrev pub LoadsListing : List Member → List ℕ → (page_size sequence : ℕ) → Layout → (snapshot : Bool) → JobEnding → Type 0
   LoadsListing [] file page_size sequence which snapshot ending = StopsAt (failure.Line 1 CutOff) ending
   LoadsListing (member ∷ listing) file page_size sequence which snapshot ending =
       WritesCopy snapshot (member ∷ listing) (layout_of_listing which page_size (member ∷ listing) sequence) (λ copy. done (lengths_line (length file) copy)) ending
       ⊎ StopsAt failure.Memory ending
 
   -- what a job does, and how it ends
-  abbrev pub DoesJob : List ℕ → Job → Ending → Type 0
+  abbrev pub DoesJob : List ℕ → Job → JobEnding → Type 0
   DoesJob file (job.Info j) = Prints (IsInfoAnswer file j.slot j.form)
   DoesJob file (job.Page j) = Prints (IsPageAnswer file j.meta j.id)
   DoesJob file (job.Pages j) = Prints (IsReadAnswer file Active (IsPagesAnswer file j.map))
@@ -766,7 +766,7 @@ module _ {O T : Type 0} (out_taken : O → Option (List ℕ)) (out_failed : O �
 
 -- ---- the end of a run
 
-abbrev pub status_of : Ending → ℕ
+abbrev pub status_of : JobEnding → ℕ
 status_of (Ok status) = status
 status_of (Err failure) = 1
 
@@ -777,6 +777,6 @@ Accepts taken failed old new text =
     ⊎ ((0 < failed new) × AppendsPrefix (taken old) (taken new) text)
 
 -- the line of a failure was written to standard error; if there was none, nothing was
-abbrev pub Reports : {S : Type 0} → (taken : S → Option (List ℕ)) (failed : S → ℕ) (old new : S) → Ending → Type 0
+abbrev pub Reports : {S : Type 0} → (taken : S → Option (List ℕ)) (failed : S → ℕ) (old new : S) → JobEnding → Type 0
 Reports taken failed old new (Ok status) = new ≡ old
 Reports taken failed old new (Err failure) = Accepts taken failed old new (failure_line failure)

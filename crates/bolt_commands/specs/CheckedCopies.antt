@@ -3,7 +3,7 @@ use Rattle.std.specs.Prelude.{◌≡◌, ◌≢◌, ◌<◌, ◌⊎◌, ℕ, Boo
 use Rattle.bolt_format.specs.declared.sink.Sink.{Ghosts}
 use Rattle.bolt_layout.specs.declared.Layout.{Layout}
 use Rattle.bolt_tree.specs.Listing.{Member}
-use Rattle.bolt_commands.specs.Answers.{Answer, Ending, IsCheckAnswer, Loads, LoadsListing, done, refused}
+use Rattle.bolt_commands.specs.Answers.{Answer, JobEnding, IsCheckAnswer, Loads, LoadsListing, done, refused}
 use Rattle.bolt_commands.specs.declared.failure.Failure.TheVariants.{Memory}
 use Rattle.bolt_job.specs.declared.choices.Extent.{Extent}
 use Rattle.bolt_job.specs.declared.choices.MetaChoice.TheVariants.{Active}
@@ -21,6 +21,6 @@ FailsCutOff snapshot file = (n : ℕ) → n < length file → (extent : Extent) 
 -- `load` of this text does what it does of a text of this listing
 abbrev pub LoadsAs : {O T : Type 0} (out : Ghosts O) (target : Ghosts T) → List ℕ → List Member → Type 0
 LoadsAs {O} {T} out target text listing =
-    (out_old out_new : O) (target_old target_new : T) (page_size sequence : ℕ) (layout : Layout) (snapshot : Bool) (ending : Ending)
+    (out_old out_new : O) (target_old target_new : T) (page_size sequence : ℕ) (layout : Layout) (snapshot : Bool) (ending : JobEnding)
     → Loads out.taken out.failed out_old out_new target.taken target.failed target_old target_new text page_size sequence layout snapshot ending
     → LoadsListing out.taken out.failed out_old out_new target.taken target.failed target_old target_new listing text page_size sequence layout snapshot ending

@@ -58,12 +58,12 @@ abbrev pub hash_lines : Option SnapshotFault → List ℕ
 hash_lines None = []
 hash_lines (Some fault) = snapshot_fault_text fault
 
-abbrev pub other_lines : Option (Slot × MetaFault) → List ℕ
-other_lines None = []
-other_lines (Some (slot, fault)) = slot_fault_text slot fault
+abbrev pub other_meta_lines : Option (Slot × MetaFault) → List ℕ
+other_meta_lines None = []
+other_meta_lines (Some (slot, fault)) = slot_fault_text slot fault
 
 abbrev pub fault_lines : FileFaults → List ℕ
-fault_lines faults = hash_lines faults.hash ++ other_lines faults.other
+fault_lines faults = hash_lines faults.hash ++ other_meta_lines faults.other
 
 -- how many errors these are
 abbrev pub errors_of : {A : Type 0} → Option A → ℕ

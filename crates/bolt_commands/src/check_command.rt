@@ -3,7 +3,7 @@ ghost use Rattle.std.specs.Prelude.{◌≢◌, ◌&&◌, IfOk, map};
 ghost use Rattle.std.specs.List.{All};
 ghost use Rattle.bolt_check.specs.CheckedFiles.{in_checked};
 ghost use Rattle.bolt_recover.specs.ShownLosses.{lost_view};
-ghost use Rattle.bolt_commands.specs.Answers.{AreFoundFor, AreOfFile, Does, IsCheckAnswer, all_found, check_refusal, found, lost_and_found};
+ghost use Rattle.bolt_commands.specs.Answers.{AreFoundFor, AreOfFile, WritesAnswer, IsCheckAnswer, all_found, check_refusal, found, lost_and_found_answer};
 ghost use Rattle.bolt_commands.specs.FileFaults.{is_fine};
 ghost use Rattle.bolt_report.specs.FoundLines.{IsFoundLeaf, found_view};
 ghost use Rattle.bolt_commands.specs.Private.{Checks.ChecksTo, Checks.unopened, Printing.PrintsAnswer};
@@ -129,7 +129,7 @@ fn find_in_file(
 
 /// Writes `OK`, or what is wrong with a sound file.
 fn put_all<O: Sink>(found: &ForBbolt, faults: FileFaults, out: &mut O) -> Outcome
-    ensures { Does O.taken O.failed out.old out.new
+    ensures { WritesAnswer O.taken O.failed out.old out.new
         (all_found faults found.now.of_file.items found.now.on_ways.items) result }
 {
     if !found.of_file.is_empty() || !found.on_ways.is_empty() {
@@ -145,7 +145,7 @@ fn put_all<O: Sink>(found: &ForBbolt, faults: FileFaults, out: &mut O) -> Outcom
 
 /// Writes why nothing is recovered.
 fn put_unopened<O: Sink>(failure: Failure, faults: FileFaults, out: &mut O) -> Outcome
-    ensures { Does O.taken O.failed out.old out.new (unopened faults failure) result }
+    ensures { WritesAnswer O.taken O.failed out.old out.new (unopened faults failure) result }
 {
     match failure {
         Failure::Metas(fault) => put_unread(fault, faults, out),
@@ -156,7 +156,7 @@ fn put_unopened<O: Sink>(failure: Failure, faults: FileFaults, out: &mut O) -> O
 
 /// Writes the findings that a file is refused for.
 pub(crate) fn put_refusal<O: Sink>(fault: &CheckFault, faults: FileFaults, out: &mut O) -> Outcome
-    ensures { Does O.taken O.failed out.old out.new (check_refusal faults fault.now) result }
+    ensures { WritesAnswer O.taken O.failed out.old out.new (check_refusal faults fault.now) result }
 {
     match fault {
         CheckFault::Open(fault) => put_unread(*fault, faults, out),
@@ -168,7 +168,7 @@ pub(crate) fn put_refusal<O: Sink>(fault: &CheckFault, faults: FileFaults, out: 
 
 /// Writes what else is wrong with a file that has no valid meta. The failure says that.
 fn put_unread<O: Sink>(fault: MetaFault, faults: FileFaults, out: &mut O) -> Outcome
-    ensures { Does O.taken O.failed out.old out.new
+    ensures { WritesAnswer O.taken O.failed out.old out.new
         (check_refusal faults (check.Open fault)) result }
 {
     put_file_faults(faults, out)?;
@@ -176,7 +176,7 @@ fn put_unread<O: Sink>(fault: MetaFault, faults: FileFaults, out: &mut O) -> Out
 }
 
 fn put_findings<O: Sink>(findings: &[Finding], faults: FileFaults, out: &mut O) -> Outcome
-    ensures { Does O.taken O.failed out.old out.new (found faults findings.now) result }
+    ensures { WritesAnswer O.taken O.failed out.old out.new (found faults findings.now) result }
 {
     let earlier = put_file_faults(faults, out)?;
     findings_text(findings, earlier, out)?;
@@ -192,8 +192,8 @@ fn put_lost<O: Sink>(
     out: &mut O,
 ) -> Outcome
     requires { All IsFoundLeaf found.now }
-    ensures { Does O.taken O.failed out.old out.new
-        (lost_and_found faults (lost_view lost.entry) (map found_view found.now)) result }
+    ensures { WritesAnswer O.taken O.failed out.old out.new
+        (lost_and_found_answer faults (lost_view lost.entry) (map found_view found.now)) result }
 {
     let earlier = put_file_faults(faults, out)?;
     counted_lost_text(lost, found, earlier, out)?;

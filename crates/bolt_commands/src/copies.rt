@@ -4,11 +4,11 @@
 ghost use Rattle.std.specs.Prelude.{◌≡◌, ℕ, List, IsOk, OnOk, true, Option, None};
 ghost use Rattle.std.specs.Borrow.{GName};
 ghost use Rattle.std.specs.List.{All};
-ghost use Rattle.bolt_bulk.specs.{Compacting.Copies, WholeListings.IsWhole};
+ghost use Rattle.bolt_bulk.specs.{Compacting.Copies, WholeListings.IsWholeListing};
 ghost use Rattle.bolt_format.specs.{Endings.ending, Wrote.Wrote};
 ghost use Rattle.bolt_recover.specs.ShownLosses.{lost_view};
 ghost use Rattle.bolt_report.specs.FoundLines.{IsFoundLeaf};
-ghost use Rattle.bolt_commands.specs.{Answers.Does, Answers.copy_status, Answers.lengths_line};
+ghost use Rattle.bolt_commands.specs.{Answers.WritesAnswer, Answers.copy_status, Answers.lengths_line};
 ghost use Rattle.bolt_commands.specs.{CopyEnds.EndsCopy, Hashes.HashesSince, Private.Copying.CopiesTo, Private.Copying.ForLayout};
 ghost use Rattle.bolt_commands.specs.Private.Reports.{report_answer, report_text};
 ghost use Rattle.bolt_job.specs.CopyKinds.{is_snapshot};
@@ -35,7 +35,7 @@ pub(crate) fn copy_members<C: CopySource, T: Sink>(
     kind: CopyKind,
     target: &mut T,
 ) -> Result<u64, BulkFault>
-    requires { IsWhole C.lists (λ listing. listing) C.left source.old }
+    requires { IsWholeListing C.lists (λ listing. listing) C.left source.old }
     ensures copied { ForLayout C.lists source.old blueprint.now (λ all layout.
         CopiesTo T.Sink target.old target.new layout all (is_snapshot kind) result) }
     ensures end { OnOk result (C.ends_as source.old source.new) }
@@ -52,7 +52,7 @@ fn copy_all<C: CopySource, T: Sink>(
     snapshot: bool,
     target: &mut T,
 ) -> Result<u64, BulkFault>
-    requires { IsWhole C.lists (λ listing. listing) C.left source.old }
+    requires { IsWholeListing C.lists (λ listing. listing) C.left source.old }
     ensures copied { ForLayout C.lists source.old blueprint.now (λ _ layout.
         EndsCopy T.taken T.failed target.old target.new layout snapshot result) }
     ensures end { OnOk result (C.ends_as source.old source.new) }
@@ -83,7 +83,7 @@ fn hash_all<'a, K: Origin, T: Sink, C: CopySource>(
     blueprint: &Blueprint,
     target: &'a mut T,
 ) -> Hashed<'a, T>
-    requires whole { IsWhole C.lists (λ listing. listing) C.left source.old }
+    requires whole { IsWholeListing C.lists (λ listing. listing) C.left source.old }
     requires name { target.ghost_name ≡ K.name }
     requires start { T.taken target.old ≡ K.start }
     ensures same { result.target.ghost_name ≡ target.entry.ghost_name }
@@ -179,7 +179,7 @@ pub(crate) struct CopyReport<'l, 'f> {
 /// Ends a job that made a copy of this length: reports it, and returns the status.
 pub(crate) fn end_copy<O: Sink>(copy: u64, report: &CopyReport<'_, '_>, out: &mut O) -> Outcome
     requires { All IsFoundLeaf report.now.found.now }
-    ensures { Does O.taken O.failed out.old out.new (report_answer report.now copy) result }
+    ensures { WritesAnswer O.taken O.failed out.old out.new (report_answer report.now copy) result }
 {
     put_report(report, copy, out)?;
     Ok(status_of(report.faults, report.lost))

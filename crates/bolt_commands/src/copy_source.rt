@@ -2,7 +2,7 @@
 //! lifetime, so a function that is generic over them can't be handed which borrow it hashes; this
 //! trait has none. And why such a copy is good.
 ghost use Rattle.std.specs.Prelude.{◌≡◌, List, OnOk};
-ghost use Rattle.bolt_bulk.specs.{Compacting.Copies, WholeListings.IsWhole};
+ghost use Rattle.bolt_bulk.specs.{Compacting.Copies, WholeListings.IsWholeListing};
 ghost use Rattle.bolt_check.specs.CheckedFiles.{bytes_of, meta_of};
 ghost use Rattle.bolt_load.specs.{ShownMembers.members_left, ShownMembers.members_text};
 ghost use Rattle.bolt_text.specs.{LineMembers.text_members};
@@ -38,7 +38,7 @@ pub(crate) trait CopySource {
     /// Writes the copy of all members, of which none may have been returned yet
     /// (`bolt_bulk::compact_members`).
     fn copy<S: Sink>(&mut self, alloc: Global, blueprint: &Blueprint, sink: &mut S) -> Copied
-        requires { IsWhole lists (λ listing. listing) left self.old }
+        requires { IsWholeListing lists (λ listing. listing) left self.old }
         ensures copied { ForLayout lists self.old blueprint.now (λ _ layout.
             Copies S.taken S.failed sink.old sink.new layout result) }
         ensures end { OnOk result (ends_as self.old self.new) };
@@ -107,7 +107,7 @@ impl CopySource for LineMembers<'_> {
 /// The copies of a source are good. The range of a type is known of a
 /// value that the body reads: so it reads the sequence, and does nothing else.
 pub(crate) fn sources_have_good_copies<C: CopySource>(_source: &C, sequence: u64)
-    requires { IsWhole C.lists (λ listing. listing) C.left _source.now }
+    requires { IsWholeListing C.lists (λ listing. listing) C.left _source.now }
     ensures { (listing : List Member) → C.lists _source.now listing
         → ∥ HasGoodCopies listing sequence ∥₁ }
 {

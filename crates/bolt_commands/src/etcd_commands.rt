@@ -7,7 +7,7 @@ ghost use Rattle.bolt_etcd.specs.RevisionsLeft.{ForPass, ahead_of, pass_checked,
 ghost use Rattle.bolt_tree.specs.Buckets.{bucket_checked, bucket_start};
 ghost use Rattle.bolt_etcd.specs.StoreFaults.{store_compacted};
 ghost use Rattle.bolt_commands.specs.Answers.{IsEtcdCheckPrint, IsEtcdGetPrint, IsEtcdKeysPrint, IsEtcdRevisionsPrint, entries_asked, errors_end, errors_status, is_compacted, others_ending, up_to};
-ghost use Rattle.bolt_commands.specs.Private.{Etcd.IsStoreRead, Etcd.IsUnreadStore, Endings.end_of, Etcd.end_of_revisions, Printing.PrintsAnswer};
+ghost use Rattle.bolt_commands.specs.Private.{Etcd.IsStoreRead, Etcd.IsUnreadStore, Endings.ending_by, Etcd.end_of_revisions, Printing.PrintsAnswer};
 ghost use Rattle.bolt_commands.specs.declared.failure.Failure.TheVariants.{Compacted};
 
 use crate::check_command::put_refusal;
@@ -147,7 +147,7 @@ fn end_revisions(put: Result<u64, ReportFault>) -> Outcome
 
 /// How a job ends that wrote a value.
 fn end_held(put: Result<(), ReportFault>, others: u64) -> Outcome
-    ensures { result ≡ end_of put (others_ending others) }
+    ensures { result ≡ ending_by put (others_ending others) }
 {
     put?;
     end_others(others)

@@ -2,7 +2,7 @@
 ghost use Rattle.std.specs.Prelude.{◌≡◌, Ok};
 ghost use Rattle.bolt_commands.specs.Failures.{IsFailureOf, copied, reported, unjoined, unloaded, unrepaired};
 ghost use Rattle.bolt_commands.specs.declared.failure.Failure.TheVariants as failure;
-ghost use Rattle.bolt_commands.specs.Private.Endings.{end_of, end_written};
+ghost use Rattle.bolt_commands.specs.Private.Endings.{ending_by, end_written};
 
 use crate::shortfall::Shortfall;
 use bolt_bulk::BulkFault;
@@ -62,7 +62,7 @@ pub(crate) type Outcome = Result<u8, Failure>;
 
 /// How a job ends that put a text.
 pub(crate) fn ended(put: Result<(), ReportFault>) -> Outcome
-    ensures { result ≡ end_of put (Ok 0) }
+    ensures { result ≡ ending_by put (Ok 0) }
 {
     put?;
     Ok(0)

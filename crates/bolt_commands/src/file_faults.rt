@@ -1,7 +1,7 @@
 //! What is wrong with a file apart from its pages.
 ghost use Rattle.std.specs.Prelude.{◌≡◌, ◌≤◌, IfOk};
 ghost use Rattle.bolt_format.specs.{Endings.ending, Wrote.Wrote};
-ghost use Rattle.bolt_commands.specs.FileFaults.{AreCopyFaults, AreFileFaults, IsMetasFault, IsOtherFault, errors_of, errors_in, fault_lines, hash_lines, is_fine, no_faults, other_lines};
+ghost use Rattle.bolt_commands.specs.FileFaults.{AreCopyFaults, AreFileFaults, IsMetasFault, IsOtherFault, errors_of, errors_in, fault_lines, hash_lines, is_fine, no_faults, other_meta_lines};
 ghost use Rattle.bolt_commands.specs.SnapshotAnswers.{bad_hash, hash_found};
 ghost use Rattle.bolt_job.specs.CopyKinds.{is_snapshot};
 
@@ -138,7 +138,7 @@ fn put_hash_line<O: Sink>(hash: Option<SnapshotFault>, out: &mut O) -> Result<()
 }
 
 fn put_other_line<O: Sink>(other: Option<(Slot, MetaFault)>, out: &mut O) -> Result<(), SinkFault>
-    ensures { Wrote O.Sink out.old out.new (other_lines other) (ending result) }
+    ensures { Wrote O.Sink out.old out.new (other_meta_lines other) (ending result) }
 {
     match other {
         Some((slot, fault)) => slot_fault_text(slot, fault, out),

@@ -2,7 +2,7 @@
 #![tactic(auto)]
 
 ghost use Rattle.std.specs.Prelude.{◌≡◌, Result};
-ghost use Rattle.bolt_commands.specs.{Answers.Accepts, Answers.DoesJob, Answers.Ending, Answers.Reports, Answers.status_of, Failures.failure_line};
+ghost use Rattle.bolt_commands.specs.{Answers.Accepts, Answers.DoesJob, Answers.JobEnding, Answers.Reports, Answers.status_of, Failures.failure_line};
 
 mod check_command;
 mod copies;
@@ -59,7 +59,7 @@ pub fn run<O: Sink, E: Sink, T: Sink>(
     err: &mut E,
     target: &mut T,
 ) -> Status
-    ensures { (ending : Ending)
+    ensures { (ending : JobEnding)
         × DoesJob O.taken O.failed out.old out.new T.taken T.failed target.old target.new file.now job.now ending
         × (result.code ≡ status_of ending) × Reports E.taken E.failed err.old err.new ending }
 {

@@ -4,7 +4,7 @@ ghost use Rattle.bolt_format.specs.Wrote.{Wrote};
 ghost use Rattle.bolt_report.specs.MembersLeft.{ForLeft, ForRising};
 ghost use Rattle.bolt_text.specs.ReportEndings.{report_ending};
 ghost use Rattle.bolt_tree.specs.{FileListings.ForListing, Paths.path_of};
-ghost use Rattle.bolt_job.specs.PlainWords.{path_in};
+ghost use Rattle.bolt_job.specs.PlainWords.{owned_path};
 ghost use Rattle.bolt_commands.specs.Answers.{IsListPrint, lost_ending};
 ghost use Rattle.bolt_commands.specs.Private.{Endings.MayFail, Opened.IsOpened, Opened.IsSearchOf, Printing.PrintsAnswer, Printing.PutsJoined, Printing.PutsListing};
 ghost use Rattle.bolt_commands.specs.Private.Printing.{PutsPart, finds, job_part, sound_part};
@@ -152,7 +152,7 @@ fn put_members_part<'a, M: Members<'a>, O: Sink>(
 
 /// The parts of a path as slices.
 pub(crate) fn slices<'a>(alloc: Global, parts: &'a [Vec<u8>]) -> Result<Vec<&'a [u8]>, ReportFault>
-    ensures path { IfOk result (λ path. path_of path.items ≡ path_in parts.now) }
+    ensures path { IfOk result (λ path. path_of path.items ≡ owned_path parts.now) }
     ensures memory { IfErr result (λ fault. fault ≡ ReportFault.NoMemory) }
 {
     let mut path = Vec::new(alloc);

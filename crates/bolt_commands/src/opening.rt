@@ -2,8 +2,8 @@
 ghost use Rattle.std.specs.Prelude.{◌≡◌, IfErr, IfOk};
 ghost use Rattle.bolt_check.specs.CheckedFiles.{bytes_of, meta_of, in_checked};
 ghost use Rattle.bolt_commands.specs.Answers.{IsReadUnder, IsRecoveredUnder, IsRefusedUnder, IsUnjoinedUnder, IsUnrecoverableUnder, LeadsTo, LeadsNowhere};
-ghost use Rattle.bolt_job.specs.PlainWords.{path_in};
-ghost use Rattle.bolt_commands.specs.Private.Opened.{HasNoBucket, IsBucketOf, IsJoinedOf, IsOpened, IsSearchOf, IsUnopened, IsUnread, IsUnsearched};
+ghost use Rattle.bolt_job.specs.PlainWords.{owned_path};
+ghost use Rattle.bolt_commands.specs.Private.Opened.{HasNoBucket, IsOpenedBucket, IsJoinedOf, IsOpened, IsSearchOf, IsUnopened, IsUnread, IsUnsearched};
 ghost use Rattle.bolt_commands.specs.declared.failure.Failure.TheVariants.{NoBucket};
 ghost use Rattle.bolt_recover.specs.{Recovered.ForRecovered, Recoveries.recovery_file, Recoveries.recovery_left, Recoveries.recovery_meta};
 ghost use Rattle.bolt_tree.specs.{Buckets.bucket_checked, Buckets.bucket_start};
@@ -64,8 +64,8 @@ impl<'f> Input<'f> {
 
     /// The bucket at a path of the file, which is checked first.
     pub(crate) fn bucket(self, choice: MetaChoice, path: &[Vec<u8>]) -> Result<Bucket<'f>, Failure>
-        ensures found { IfOk result (IsBucketOf self.entry.file.now choice (path_in path.now)) }
-        ensures refused { IfErr result (HasNoBucket self.entry.file.now choice (path_in path.now)) }
+        ensures found { IfOk result (IsOpenedBucket self.entry.file.now choice (owned_path path.now)) }
+        ensures refused { IfErr result (HasNoBucket self.entry.file.now choice (owned_path path.now)) }
     {
         let checked = self.read(choice)?;
         let bucket = open_bucket(checked, path)?;
@@ -120,9 +120,9 @@ pub(crate) fn join<'a>(
 pub(crate) fn open_bucket<'a>(checked: Checked<'a>, path: &[Vec<u8>]) -> Result<Bucket<'a>, Failure>
     ensures file { IfOk result (λ bucket. bucket_checked bucket ≡ checked.entry) }
     ensures named { IfOk result (λ bucket.
-        ∥ in_checked LeadsTo checked.entry (path_in path.now) (bucket_start bucket) ∥₁) }
+        ∥ in_checked LeadsTo checked.entry (owned_path path.now) (bucket_start bucket) ∥₁) }
     ensures refused { IfErr result (λ failure. (failure ≡ NoBucket)
-        × in_checked LeadsNowhere checked.entry (path_in path.now)) }
+        × in_checked LeadsNowhere checked.entry (owned_path path.now)) }
 {
     let mut bucket = Bucket::root(checked);
     for part in path {

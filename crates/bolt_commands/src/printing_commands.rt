@@ -8,7 +8,7 @@ ghost use Rattle.bolt_tree.specs.{Buckets.bucket_checked, Entries.Value};
 ghost use Rattle.bolt_commands.specs.Answers.{HasNoMeta, HasStats, HoldsIn, HoldsNone, IsBucketsPrint, IsBucketsShown, IsGetPrint, IsInfoAnswer};
 ghost use Rattle.bolt_commands.specs.Answers.{IsKeysPrint, IsKeysShown, IsPageAnswer, IsValueShown, IsPagesAnswer, IsReadAnswer, IsShownMeta, IsStatsPrint, IsTotal, no_stats, pages_shown, LeadsNowhere};
 ghost use Rattle.bolt_commands.specs.Private.Printing.{PrintsAnswer};
-ghost use Rattle.bolt_job.specs.{PlainWords.path_in, declared.choices.MetaChoice.TheVariants.Active};
+ghost use Rattle.bolt_job.specs.{PlainWords.owned_path, declared.choices.MetaChoice.TheVariants.Active};
 ghost use Rattle.bolt_job.specs.declared.choices.BucketsShown.TheVariants as shown;
 ghost use Rattle.bolt_commands.specs.declared.failure.Failure.TheVariants.{Memory, NoBucket};
 
@@ -168,10 +168,10 @@ fn print_sound_value<O: Sink>(input: Input<'_>, job: &GetJob, out: &mut O) -> Ou
 /// The value at a path. The last part is its key.
 fn find_value<'a>(checked: Checked<'a>, path: &[Vec<u8>]) -> Result<&'a [u8], Failure>
     ensures holds { IfOk result (λ value.
-        ∥ HoldsIn (bytes_of checked.entry) (meta_of checked.entry) (path_in path.now)
+        ∥ HoldsIn (bytes_of checked.entry) (meta_of checked.entry) (owned_path path.now)
         (Value value.now) ∥₁) }
     ensures refused { IfErr result
-        (HoldsNone (bytes_of checked.entry) (path_in path.now) (meta_of checked.entry)) }
+        (HoldsNone (bytes_of checked.entry) (owned_path path.now) (meta_of checked.entry)) }
 {
     let Some((key, parents)) = path.split_last() else {
         return Err(Failure::NoKey);
@@ -198,9 +198,9 @@ pub(crate) fn print_stats<O: Sink>(input: Input<'_>, job: &StatsJob, out: &mut O
 fn find_stats(alloc: Global, checked: Checked<'_>, path: &[Vec<u8>]) -> Result<Stats, Failure>
     requires { HasSoundTrees (bytes_of checked) (meta_of checked) }
     ensures found { IfOk result
-        (HasStats (bytes_of checked.entry) (path_in path.now) (meta_of checked.entry)) }
+        (HasStats (bytes_of checked.entry) (owned_path path.now) (meta_of checked.entry)) }
     ensures missing { IfErr result (λ failure. (failure ≡ Memory) ⊎ ((failure ≡ NoBucket)
-        × in_checked LeadsNowhere checked.entry (path_in path.now))) }
+        × in_checked LeadsNowhere checked.entry (owned_path path.now))) }
 {
     if path.is_empty() {
         return Ok(sum_buckets(alloc, &Bucket::root(checked))?);

@@ -3,7 +3,7 @@ ghost use Rattle.std.specs.Prelude.{◌≡◌};
 ghost use Rattle.bolt_format.specs.{Endings.ending, Wrote.Wrote};
 ghost use Rattle.bolt_layout.specs.declared.Layout.TheVariants.{Balanced};
 ghost use Rattle.bolt_commands.specs.{Answers.counts_line, CopyLayouts.layout_for, Private.Repairing.CopiesRepaired, Private.Repairing.RepairsTo, Private.Repairing.repaired_answer, Private.Repairing.repaired_text};
-ghost use Rattle.bolt_commands.specs.{Answers.Does, Private.Repairing.IsWholeRepaired};
+ghost use Rattle.bolt_commands.specs.{Answers.WritesAnswer, Private.Repairing.IsWholeRepaired};
 ghost use Rattle.bolt_etcd.specs.{Repaired.ForRepaired, RepairedMembers.repaired_file, RepairedMembers.repaired_left, RepairedMembers.repaired_meta};
 ghost use Rattle.bolt_job.specs.CopyKinds.{is_snapshot};
 
@@ -105,7 +105,7 @@ struct RepairReport<'l> {
 
 /// Ends a repair that made a copy of this length: reports it, and returns the status.
 fn end_repair<O: Sink>(copy: u64, report: &RepairReport<'_>, out: &mut O) -> Outcome
-    ensures { Does O.taken O.failed out.old out.new (repaired_answer report.now copy) result }
+    ensures { WritesAnswer O.taken O.failed out.old out.new (repaired_answer report.now copy) result }
 {
     put_report(report, copy, out)?;
     Ok(status_of(report.faults, report.lost))

@@ -10,7 +10,7 @@ use Rattle.bolt_tree.proofs.{Filters.filter_all, Filters.kept, PathOrder.key_tot
 use Rattle.bolt_tree.specs.{Entries.EntryView, InBuckets.view_cmp, Listing.Member, Order.Rises}
 use Rattle.bolt_etcd.specs.{Among.among, Among.without, RevisionKeys.revision_key, ShownRevisions.entry_of}
 use Rattle.bolt_etcd.specs.declared.revision.Revision.{Revision}
-use Rattle.bolt_etcd.specs.Superseded.{AreSuperseded, CompactsFirst, IsNewestOf, IsPartedAt, KeepsNewest, entry_name, entry_name_cmp, is_deletion, is_key_until, is_old, stays}
+use Rattle.bolt_etcd.specs.Superseded.{AreSuperseded, CompactsFirst, IsNewestOf, IsPartedAt, KeepsNewest, name_of_entry, entry_name_cmp, is_deletion, is_key_until, is_old, stays}
 use Rattle.bolt_etcd.proofs.{KeysAmong.not_among, KeysAmong.without_has, Filtered.filter_rises, Filtered.kept_from, Rising.one_of, SortedFirst.in_first, SortedFirst.in_parts}
 
 module _ (compacted n : ℕ) (recovered : List Member) (before after : List EntryView) (rises : Rises view_cmp before) (parted : IsPartedAt compacted before n)
@@ -42,14 +42,14 @@ module _ (compacted n : ℕ) (recovered : List Member) (before after : List Entr
       kept (stays compacted) (without superseded keeps.newest) e ((without_has superseded keeps.newest e).1 ((keeps.are.exact e).1 (has, top), free))
       (or_right (not (is_old compacted e)) (not (is_deletion e)) (ap not is.there))
     where
-      top : (other : EntryView) → Contains (take n before) other → entry_name other ≡ entry_name e → key_cmp e.key other.key ≡ Less → ⊥
+      top : (other : EntryView) → Contains (take n before) other → name_of_entry other ≡ name_of_entry e → key_cmp e.key other.key ≡ Less → ⊥
       top other there names less = is.of_agreed other (in_first n before other there) names (parted.old other there) less
 
       free : Contains superseded e.key → ⊥
       free gone =
           let (r, kept_one, until, (x, there, same, names, less)) = (keys.exact e.key).0 gone in
           let at : x ≡ e = one_of key_total (λ (y : EntryView). y.key) before x e rises (in_first n before x ((keeps.are.exact x).0 there).0) (in_first n before e has) same in
-          is.of_kept r kept_one (sym names ∙ ap entry_name at) until (subst (λ (y : EntryView). key_cmp y.key r.place ≡ Less) at less)
+          is.of_kept r kept_one (sym names ∙ ap name_of_entry at) until (subst (λ (y : EntryView). key_cmp y.key r.place ≡ Less) at less)
 
   -- a later one has the key of no old one
   later_free : (e : EntryView) → Contains (drop n before) e → Contains superseded e.key → ⊥

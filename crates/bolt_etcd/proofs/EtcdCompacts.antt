@@ -10,7 +10,7 @@ use Rattle.std.specs.declared.cmp.Ordering.TheVariants.{Less}
 use Rattle.bolt_check.specs.Keys.{Key}
 use Rattle.bolt_tree.proofs.{Filters.kept as passes, Lists.asymmetric, Lists.irreflexive}
 use Rattle.bolt_tree.specs.Order.{Rises}
-use Rattle.bolt_etcd.specs.{Compactions.IsCompaction, Current.place_cmp, EtcdCompactions.etcd_keeps, EtcdCompactions.is_same}
+use Rattle.bolt_etcd.specs.{Compactions.IsCompaction, Current.place_cmp, EtcdCompactions.etcd_keeps, EtcdCompactions.is_same_revision}
 use Rattle.bolt_etcd.specs.{Histories.Transaction, Histories.history, Histories.state_at}
 use Rattle.bolt_etcd.specs.{Newest.is_named, Newest.is_until, Newest.newest, Newest.until, Revisions.RevisionView, Revisions.name_of, Possible.ArePossible}
 use Rattle.bolt_etcd.proofs.{Filtered.filter_rises, Filtered.kept_from, HistorySteps.places_rise, HistorySteps.same_order}
@@ -37,7 +37,7 @@ module _ (ts : List Transaction) (new : Bool) (compacted : ℕ) (possible : AreP
   own_rise name = filter_rises place_cmp (is_named name) _ (filter_rises place_cmp (is_until compacted) (history ts) (places_rise ts possible))
 
   -- none of its name is between the newest one and the compaction
-  none_after : (a b : RevisionView) (o : Option RevisionView) → last_or None (own (name_of a)) ≡ o → is_same a o ≡ true
+  none_after : (a b : RevisionView) (o : Option RevisionView) → last_or None (own (name_of a)) ≡ o → is_same_revision a o ≡ true
       → Contains (own (name_of a)) b → place_cmp a b ≡ Less → ⊥
   none_after a b None e same has less = cc
   none_after a b (Some last) e same has less =
@@ -60,7 +60,7 @@ module _ (ts : List Transaction) (new : Bool) (compacted : ℕ) (possible : AreP
         | inl nowhere ↦ cc
         | inr has ↦
             let named = same_text (name_of r) name (sym (kept_from (is_named name) _ r has).1) in
-            let same = ap (is_same r) (ap (λ (n : Key). last_or None (own n)) named ∙ last) ∙ itself r.place in
+            let same = ap (is_same_revision r) (ap (λ (n : Key). last_or None (own n)) named ∙ last) ∙ itself r.place in
             or_right _ _ (and_from _ _ same (or_left _ _ (ap not live)))
       ]
 

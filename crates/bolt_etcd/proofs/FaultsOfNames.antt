@@ -14,7 +14,7 @@ use Rattle.std.specs.declared.cmp.Ordering.TheVariants.{Equal, Greater, Less}
 use Rattle.bolt_check.specs.Keys.{Key, key_cmp}
 use Rattle.bolt_tree.proofs.{Filters.filter_none, Filters.kept, Lists.contains_head, Lists.rises_once}
 use Rattle.bolt_tree.specs.Order.{IsBelow, Rises}
-use Rattle.bolt_etcd.specs.{Current.place_cmp, Follows.follows, MissingNumbers.is_above, NameOrder.sums_cmp, Newest.is_named, SumOrder.AreBySum}
+use Rattle.bolt_etcd.specs.{Current.place_cmp, Follows.follows, MissingNumbers.is_of_later, NameOrder.sums_cmp, Newest.is_named, SumOrder.AreBySum}
 use Rattle.bolt_etcd.specs.{Revisions.RevisionView, Revisions.name_of}
 use Rattle.bolt_etcd.specs.NameFaults.{AreByName, NameFaultView, fault_of, is_newest, lacks_lease, lacks_one_before}
 use Rattle.bolt_etcd.specs.NameFaults.{name_faults}
@@ -99,7 +99,7 @@ module _ (cmp : Key → Key → Ordering) (total : IsTotalOrder cmp) (ties : (a 
       -- one of another name before them is as none
       lacks_same : (c : Option ℕ) (a r : RevisionView) → is_named (name_of r) a ≡ false → lacks_one_before c (Some a) r ≡ lacks_one_before c None r
       lacks_same None a r other = refl
-      lacks_same (Some at) a r other = ap (λ (x : Option RevisionView). is_above at r && not (follows x r)) (cond-false _ (Some a) None other)
+      lacks_same (Some at) a r other = ap (λ (x : Option RevisionView). is_of_later at r && not (follows x r)) (cond-false _ (Some a) None other)
 
       not_own : (a : RevisionView) (rs : List RevisionView) → is_named name a ≡ false → ((r : RevisionView) → Contains rs r → is_named name r ≡ true)
           → faults (Some a) rs ≡ faults None rs

@@ -9,15 +9,15 @@ use Rattle.bolt_check.specs.{Keys.Key, declared.finding.Finding.Finding}
 use Rattle.bolt_tree.specs.{Listing.Member, ShownEntries.item_view}
 use Rattle.bolt_recover.proofs.Existing.{has_recovered}
 use Rattle.bolt_recover.specs.{Losses.everything, Lost.IsAllLost, LostAndFound.all_lost}
-use Rattle.bolt_recover.specs.{Found.numbers_of, Recovered.ForRecovered, Recovered.IsRecovered, Refusals.LosesRoot, ShownFound.IsFoundView, Sites.leaves_of, declared.found.Found.Found, declared.lost_and_found.LostAndFound.LostAndFound}
+use Rattle.bolt_recover.specs.{Found.found_numbers, Recovered.ForRecovered, Recovered.IsRecovered, Refusals.LosesRoot, ShownFound.IsFoundView, Sites.leaves_of, declared.found.Found.Found, declared.lost_and_found.LostAndFound.LostAndFound}
 use Rattle.bolt_etcd.specs.declared.revision.Revision.{Revision}
 use Rattle.bolt_etcd.specs.ShownRevisions.{entry_of}
-use Rattle.bolt_etcd.specs.{Among.without, Candidates.AreCandidates, Candidates.elements_of, Compacted.compacted_by, FullRepairs.IsFullRepair}
-use Rattle.bolt_etcd.specs.{Repaired.IsRepair, Repaired.elements_on, Repaired.lacks_bucket, Superseded.ArePutBack, Surveys.IsSurvey, Surveys.IsSurveyOf, Undisputed.AreKeys, Undisputed.AreUndisputed, declared.survey.Survey.Survey}
+use Rattle.bolt_etcd.specs.{Among.without, Candidates.AreCandidates, Candidates.found_elements, Compacted.compacted_by, FullRepairs.IsFullRepair}
+use Rattle.bolt_etcd.specs.{Repaired.IsRepair, Repaired.elements_on, Repaired.lacks_bucket, Superseded.ArePutBack, Surveys.IsStoreSurvey, Surveys.IsSurveyOf, Undisputed.AreKeys, Undisputed.AreUndisputed, declared.survey.Survey.Survey}
 use Rattle.bolt_etcd.proofs.WholeRepairs.{back_least, full_repair, is_nil, repair}
 
 -- the elements of the pages of the code are those of the pages with their numbers
-elements_found : (file : List ℕ) (meta : Meta) (found : List Found) → All (IsFoundView file meta) found → elements_on file meta (numbers_of found) ≡ elements_of found
+elements_found : (file : List ℕ) (meta : Meta) (found : List Found) → All (IsFoundView file meta) found → elements_on file meta (found_numbers found) ≡ found_elements found
 elements_found file meta [] views = refl
 elements_found file meta (f ∷ found) views =
     let here : leaves_of (page_at file meta f.number) ≡ leaves_on f.page = ap leaves_of (All-head (IsFoundView file meta) f found views).page in
@@ -48,7 +48,7 @@ abbrev now : Bor Key → Key
 now key = key.now
 
 module _ (both : LostAndFound) (pages : List Found) (on : pages ≡ both.found.items) (all listed left back : List Revision) (same : listed ≡ all) (survey : Survey)
-    (compacted : ℕ) (at : compacted ≡ compacted_by (option_map now survey.compaction)) (candidates : AreCandidates (elements_of pages) (map entry_of all))
+    (compacted : ℕ) (at : compacted ≡ compacted_by (option_map now survey.compaction)) (candidates : AreCandidates (found_elements pages) (map entry_of all))
     (surveys : ForRecovered both.file.now both.meta (λ recovered. IsSurveyOf recovered (map entry_of listed) survey))
     (agree : AreUndisputed (without (map now survey.met.items) (map entry_of all)) (map entry_of left))
     (put : ForRecovered both.file.now both.meta (λ recovered. ArePutBack compacted recovered (map entry_of left) (map entry_of back))) where
@@ -58,13 +58,13 @@ module _ (both : LostAndFound) (pages : List Found) (on : pages ≡ both.found.i
   is_recovered : IsRecovered both.file.now both.meta recovered
   is_recovered = (has_recovered both.file.now both.meta).1
 
-  on_all : AreCandidates (elements_of both.found.items) (map entry_of all)
-  on_all = subst (λ (ps : List Found). AreCandidates (elements_of ps) (map entry_of all)) on candidates
+  on_all : AreCandidates (found_elements both.found.items) (map entry_of all)
+  on_all = subst (λ (ps : List Found). AreCandidates (found_elements ps) (map entry_of all)) on candidates
 
-  on_pages : All (IsFoundView both.file.now both.meta) both.found.items → AreCandidates (elements_on both.file.now both.meta (numbers_of both.found.items)) (map entry_of all)
+  on_pages : All (IsFoundView both.file.now both.meta) both.found.items → AreCandidates (elements_on both.file.now both.meta (found_numbers both.found.items)) (map entry_of all)
   on_pages views = subst (λ (es : List LeafElement). AreCandidates es (map entry_of all)) (sym (elements_found both.file.now both.meta both.found.items views)) on_all
 
-  surveyed : IsSurvey recovered (map entry_of all) (option_map item_view survey.store) (option_map now survey.compaction) (map now survey.met.items)
+  surveyed : IsStoreSurvey recovered (map entry_of all) (option_map item_view survey.store) (option_map now survey.compaction) (map now survey.met.items)
   surveyed = subst (λ (es : List Revision). IsSurveyOf recovered (map entry_of es) survey) same (surveys recovered is_recovered)
 
   put_back : ArePutBack (compacted_by (option_map now survey.compaction)) recovered (map entry_of left) (map entry_of back)
@@ -73,17 +73,17 @@ module _ (both : LostAndFound) (pages : List Found) (on : pages ≡ both.found.i
   pub searched_least : (keys : List Key) → AreKeys (without (map now survey.met.items) (map entry_of all)) keys → length back ≤ length keys
   searched_least keys are = ∥∥₁_elim both.searched (hlevel props) (λ searched.
       let long = length-map back entry_of in
-      let few = back_least both.file.now both.meta (numbers_of both.found.items) searched.are_found (map entry_of all) (map entry_of left) (map entry_of back) (map now survey.met.items) _ _ (on_pages searched.views) agree recovered is_recovered surveyed put_back keys are in
+      let few = back_least both.file.now both.meta (found_numbers both.found.items) searched.are_found (map entry_of all) (map entry_of left) (map entry_of back) (map now survey.met.items) _ _ (on_pages searched.views) agree recovered is_recovered surveyed put_back keys are in
       omega (arith, long, few))
 
   module _ (lacks : Bool) (is_lacking : lacks_bucket (option_map item_view survey.store) ≡ Some lacks) (is_made : Bool) (made : is_made ≡ (lacks && not (is_nil (map entry_of back)))) where
     pub searched_repair : ∥ IsRepair both.file.now both.meta (map entry_of back) is_made ∥₁
     searched_repair = ∥∥₁_map both.searched (λ searched.
-        repair both.file.now both.meta (numbers_of both.found.items) searched.are_found (map entry_of all) (map entry_of left) (map entry_of back) (map now survey.met.items) _ _ (on_pages searched.views) agree recovered is_recovered surveyed put_back
+        repair both.file.now both.meta (found_numbers both.found.items) searched.are_found (map entry_of all) (map entry_of left) (map entry_of back) (map now survey.met.items) _ _ (on_pages searched.views) agree recovered is_recovered surveyed put_back
         lacks is_lacking is_made made)
 
     pub searched_full : (keys : List Key) → AreKeys (without (map now survey.met.items) (map entry_of all)) keys → (left_out : ℕ) → left_out ≡ length keys - length back
         → ∥ IsFullRepair both.file.now both.meta (map entry_of back) is_made left_out ∥₁
     searched_full keys are left_out number = ∥∥₁_map both.searched (λ searched.
-        full_repair both.file.now both.meta (numbers_of both.found.items) searched.are_found (map entry_of all) (map entry_of left) (map entry_of back) (map now survey.met.items) _ _ (on_pages searched.views) agree recovered is_recovered surveyed put_back
+        full_repair both.file.now both.meta (found_numbers both.found.items) searched.are_found (map entry_of all) (map entry_of left) (map entry_of back) (map now survey.met.items) _ _ (on_pages searched.views) agree recovered is_recovered surveyed put_back
         lacks is_lacking is_made made keys are left_out (let long = length-map back entry_of in omega (arith, long, number)))

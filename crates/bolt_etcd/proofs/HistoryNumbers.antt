@@ -3,7 +3,7 @@ use Rattle.std.proofs.Common.{◌≡◌, ◌∙◌, ◌<◌, ◌≤◌, ◌+◌,
 use Rattle.std.proofs.lemmas.Bool.{cases_lt, cond-false, cond-true, eq-eqb, le-ltb, lt-ltb, ne_eqb}
 use Rattle.std.specs.Option.{option_to_list}
 use Rattle.bolt_etcd.specs.{Histories.State, Histories.after, Revisions.RevisionView}
-use Rattle.bolt_etcd.specs.MissingNumbers.{is_above, keys_above, missing_after, missing_before, missing_numbers, revisions_between}
+use Rattle.bolt_etcd.specs.MissingNumbers.{is_of_later, keys_above, missing_after, missing_before, missing_numbers, revisions_between}
 use Rattle.bolt_etcd.specs.MissingNumbers.{transactions_between}
 use Rattle.bolt_etcd.specs.declared.{missing.Missing.Missing, revision_key.RevisionKey.RevisionKey}
 use Rattle.bolt_etcd.specs.declared.missing.Missing.TheVariants.{Revisions, Transactions}
@@ -36,10 +36,10 @@ keys rs = map (λ (r : RevisionView). r.key) rs
 
 module _ (compacted : ℕ) where
   above : (r : RevisionView) (rs : List RevisionView) → compacted < r.key.main → keys_above compacted (r ∷ rs) ≡ r.key ∷ keys_above compacted rs
-  above r rs lt = ap keys (keeps (is_above compacted) (r ∷ rs) rs r refl (lt-ltb compacted r.key.main lt))
+  above r rs lt = ap keys (keeps (is_of_later compacted) (r ∷ rs) rs r refl (lt-ltb compacted r.key.main lt))
 
   below : (r : RevisionView) (rs : List RevisionView) → r.key.main ≤ compacted → keys_above compacted (r ∷ rs) ≡ keys_above compacted rs
-  below r rs le = ap keys (drops (is_above compacted) (r ∷ rs) rs r refl (le-ltb compacted r.key.main le))
+  below r rs le = ap keys (drops (is_of_later compacted) (r ∷ rs) rs r refl (le-ltb compacted r.key.main le))
 
   next_main : (main sub : ℕ) (k : RevisionKey) → IsNext main sub k → main ≤ k.main
   next_main main sub k (inl (m, s)) = omega (arith, m)

@@ -12,7 +12,7 @@ use Rattle.bolt_tree.proofs.{Filters.filter_all, Filters.filter_none, Filters.fi
 use Rattle.bolt_tree.proofs.{Lists.contains_none}
 use Rattle.bolt_tree.proofs.{Lists.contains_tail}
 use Rattle.bolt_tree.specs.Order.{Rises}
-use Rattle.bolt_etcd.specs.{Compactions.IsCompaction, Compactions.kept, Current.place_cmp, Histories.Transaction, Histories.history}
+use Rattle.bolt_etcd.specs.{Compactions.IsCompaction, Compactions.kept_revisions, Current.place_cmp, Histories.Transaction, Histories.history}
 use Rattle.bolt_etcd.specs.{Newest.is_named, Newest.is_until, Newest.newest, Newest.until, Revisions.RevisionView, Revisions.name_of, Possible.ArePossible}
 use Rattle.bolt_etcd.proofs.{Filtered.filter_both, Filtered.filter_rises, Filtered.kept_from, HistorySteps.places_rise, HistoryUntil.until_early}
 use Rattle.bolt_etcd.proofs.{HistoryUntil.until_late, HistoryUntil.held_at, LastOnes.last_in}
@@ -68,10 +68,10 @@ module _ (compacted : ℕ) (ts : List Transaction) (keeps : RevisionView → Boo
       compaction.oldest_first r s first second (named ∙ sym also) (rise.0 s has) is)
       (split rs rise.1 (λ s has. are s (contains_tail r s rs has)))
 
-  -- a first part is removed, up to the compaction at most; if all that is kept is later, what was removed ends in a deletion or is nothing
+  -- a first part is removed, up to the compaction at most; if all that is kept_revisions is later, what was removed ends in a deletion or is nothing
   pub record IsCut (removed rest : List RevisionView) : Type 0 where
     pub joined : filter (is_named name) (history ts) ≡ removed ++ rest
-    pub is_rest : filter (is_named name) (kept keeps ts) ≡ rest
+    pub is_rest : filter (is_named name) (kept_revisions keeps ts) ≡ rest
     pub early : (r : RevisionView) → Contains removed r → r.key.main ≤ compacted
     pub gone : ((r : RevisionView) → Contains rest r → compacted < r.key.main) → held_of (last_or None removed) ≡ None
 

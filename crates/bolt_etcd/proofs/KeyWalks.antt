@@ -10,7 +10,7 @@ use Rattle.std.specs.declared.cmp.Ordering.TheVariants.{Equal, Greater, Less}
 use Rattle.bolt_check.specs.Keys.{Key, key_cmp}
 use Rattle.bolt_tree.proofs.{Lists.irreflexive, PathOrder.key_exact, PathOrder.key_same, PathOrder.key_total}
 use Rattle.bolt_tree.specs.{Entries.EntryView, Order.Rises}
-use Rattle.bolt_etcd.specs.{Candidates.HasKey, Candidates.whole_cmp, Keyed.AreBelow, ShownRevisions.entry_of}
+use Rattle.bolt_etcd.specs.{Candidates.HasKey, Candidates.whole_cmp, Keyed.HaveLesserKeys, ShownRevisions.entry_of}
 use Rattle.bolt_etcd.specs.declared.revision.Revision.{Revision}
 use Rattle.bolt_etcd.proofs.{Alones.entries_climb, Alones.entry_below, Alones.neither, MappedLists.Climbs, MappedLists.shows_from, MappedLists.shows_has, OldOnes.has_at}
 
@@ -48,7 +48,7 @@ module _ (key : Key) (xs : List Revision) (rises : Rises whole_cmp (map entry_of
   not_above j k d le lt = ap is_lt (sym (key_total.antisymm (slice_index_or xs k d).key.now (slice_index_or xs j d).key.now)) ∙ climbs_at xs climbs j k d le lt
 
   -- if the one before a place is below, all before it are
-  pub below_all : (n : ℕ) (r : Revision) → 0 < n → n ≤ length xs → r ≡ slice_index_or xs (n - 1) r → is_lt (key_cmp r.key.now key) ≡ true → AreBelow key xs n
+  pub below_all : (n : ℕ) (r : Revision) → 0 < n → n ≤ length xs → r ≡ slice_index_or xs (n - 1) r → is_lt (key_cmp r.key.now key) ≡ true → HaveLesserKeys key xs n
   below_all n r some within at less = (
     within,
     λ k d lt.
@@ -58,14 +58,14 @@ module _ (key : Key) (xs : List Revision) (rises : Rises whole_cmp (map entry_of
         (subst (λ (x : Revision). key_cmp x.key.now key ≡ Less) (at ∙ last) before),
   )
 
-  pub none_below : AreBelow key xs 0
+  pub none_below : HaveLesserKeys key xs 0
   none_below = (omega arith, λ k d lt. absurd (omega arith))
 
-  pub one_more : (i : ℕ) (r : Revision) → AreBelow key xs i → i < length xs → r ≡ slice_index_or xs i r → is_lt (key_cmp r.key.now key) ≡ true → AreBelow key xs (i + 1)
+  pub one_more : (i : ℕ) (r : Revision) → HaveLesserKeys key xs i → i < length xs → r ≡ slice_index_or xs i r → is_lt (key_cmp r.key.now key) ≡ true → HaveLesserKeys key xs (i + 1)
   one_more i r below lt at less = below_all (i + 1) r (omega arith) (omega arith) (let same : i + 1 - 1 ≡ i = omega arith in rw same at) less
 
   -- none has the key, if all are below
-  pub past_all : (i : ℕ) → AreBelow key xs i → length xs ≤ i → HasKey (map entry_of xs) key → ⊥
+  pub past_all : (i : ℕ) → HaveLesserKeys key xs i → length xs ≤ i → HasKey (map entry_of xs) key → ⊥
   past_all i below all (e, has, at) =
       let (x, (k, lt, is), shows) = shows_from entry_of xs e has in
       let less = below.1 k x (omega arith) in
@@ -74,7 +74,7 @@ module _ (key : Key) (xs : List Revision) (rises : Rises whole_cmp (map entry_of
       irreflexive key_total key wrong
 
   -- else the next one has it, or none
-  module _ (i : ℕ) (r : Revision) (below : AreBelow key xs i) (lt : i < length xs) (at : r ≡ slice_index_or xs i r) (not_less : is_lt (key_cmp r.key.now key) ≡ false) where
+  module _ (i : ℕ) (r : Revision) (below : HaveLesserKeys key xs i) (lt : i < length xs) (at : r ≡ slice_index_or xs i r) (not_less : is_lt (key_cmp r.key.now key) ≡ false) where
     next_only : HasKey (map entry_of xs) key → r.key.now ≡ key
     next_only (e, has, same) =
         let (x, (k, within, is), shows) = shows_from entry_of xs e has in

@@ -7,7 +7,7 @@ use Rattle.std.specs.declared.cmp.Ordering.TheVariants.{Less}
 use Rattle.bolt_tree.proofs.Lists.{contains_cases, contains_head, contains_none, contains_tail}
 use Rattle.bolt_tree.specs.Order.{Rises}
 use Rattle.bolt_etcd.specs.{Revisions.RevisionView, RevisionKeys.numbers_cmp, Told.IsMissing, Told.IsTold, Told.number_cmp}
-use Rattle.bolt_etcd.specs.MissingNumbers.{is_above, keys_above, missing_after, missing_before, missing_numbers, revisions_between, transactions_between}
+use Rattle.bolt_etcd.specs.MissingNumbers.{is_of_later, keys_above, missing_after, missing_before, missing_numbers, revisions_between, transactions_between}
 use Rattle.bolt_etcd.specs.declared.{missing.Missing.Missing, revision_key.RevisionKey.RevisionKey}
 use Rattle.bolt_etcd.specs.declared.missing.Missing.TheVariants.{Revisions, Transactions}
 use Rattle.bolt_etcd.proofs.KeyNumbers.{greater}
@@ -114,7 +114,7 @@ key_list rs = map (λ (r : RevisionView). r.key) rs
 
 from_step : (compacted m : ℕ) (r : RevisionView) (rs : List RevisionView) (b : Bool) → nat_lt compacted r.key.main ≡ b → Rises number_cmp (r ∷ rs) → AtLeast compacted m (r ∷ rs)
     → ((m' : ℕ) → AtLeast compacted m' rs → From m' (keys_above compacted rs))
-    → From m (key_list (cond b (r ∷ filter (is_above compacted) rs) (filter (is_above compacted) rs)))
+    → From m (key_list (cond b (r ∷ filter (is_of_later compacted) rs) (filter (is_of_later compacted) rs)))
 from_step compacted m r rs true test rises least later = (
   least r (contains_head r rs) (ltb-true compacted r.key.main test),
   later r.key.main (λ s has above. main_le r.key s.key (rises.0 s has)),
@@ -130,7 +130,7 @@ abbrev HasLater : ℕ → List RevisionView → Type 0
 HasLater t rs = (r : RevisionView) × Contains rs r × (t < r.key.main)
 
 later_step : (compacted t : ℕ) (r : RevisionView) (rs : List RevisionView) (b : Bool) → (Later t (keys_above compacted rs) → HasLater t rs)
-    → Later t (key_list (cond b (r ∷ filter (is_above compacted) rs) (filter (is_above compacted) rs))) → HasLater t (r ∷ rs)
+    → Later t (key_list (cond b (r ∷ filter (is_of_later compacted) rs) (filter (is_of_later compacted) rs))) → HasLater t (r ∷ rs)
 later_step compacted t r rs true rest (inl lt) = (r, contains_head r rs, lt)
 later_step compacted t r rs true rest (inr more) = let (s, has, lt) = rest more in (s, contains_tail r s rs has, lt)
 later_step compacted t r rs false rest later = let (s, has, lt) = rest later in (s, contains_tail r s rs has, lt)
@@ -141,7 +141,7 @@ later_from compacted t (r ∷ rs) later = later_step compacted t r rs (nat_lt co
 
 later_to_step : (compacted t : ℕ) (r s : RevisionView) (rs : List RevisionView) (b : Bool) → nat_lt compacted r.key.main ≡ b → compacted < s.key.main → t < s.key.main
     → (r ≡ s) ⊎ Contains rs s → (Contains rs s → Later t (keys_above compacted rs))
-    → Later t (key_list (cond b (r ∷ filter (is_above compacted) rs) (filter (is_above compacted) rs)))
+    → Later t (key_list (cond b (r ∷ filter (is_of_later compacted) rs) (filter (is_of_later compacted) rs)))
 later_to_step compacted t r s rs true test above lt (inl is) rest = inl (subst (λ (x : RevisionView). t < x.key.main) (sym is) lt)
 later_to_step compacted t r s rs true test above lt (inr has) rest = inr (rest has)
 later_to_step compacted t r s rs false test above lt (inl is) rest =
@@ -155,7 +155,7 @@ later_to compacted t (r ∷ rs) s has above lt =
 
 without_step : (compacted t : ℕ) (r s : RevisionView) (rs : List RevisionView) (b : Bool) → nat_lt compacted r.key.main ≡ b → compacted < t → s.key.main ≡ t → (r ≡ s) ⊎ Contains rs s
     → (Without t (keys_above compacted rs) → Contains rs s → ⊥)
-    → Without t (key_list (cond b (r ∷ filter (is_above compacted) rs) (filter (is_above compacted) rs))) → ⊥
+    → Without t (key_list (cond b (r ∷ filter (is_of_later compacted) rs) (filter (is_of_later compacted) rs))) → ⊥
 without_step compacted t r s rs true test above same (inl is) rest none = none.0 (ap (λ (x : RevisionView). x.key.main) is ∙ same)
 without_step compacted t r s rs true test above same (inr has) rest none = rest none.1 has
 without_step compacted t r s rs false test above same (inl is) rest none =
@@ -168,7 +168,7 @@ without_to_none compacted t (r ∷ rs) s above same none has =
     without_step compacted t r s rs (nat_lt compacted r.key.main) refl above same (contains_cases r s rs has) (λ none' has'. without_to_none compacted t rs s above same none' has') none
 
 without_of_step : (compacted t : ℕ) (r : RevisionView) (rs : List RevisionView) (b : Bool) → (r.key.main ≡ t → ⊥) → Without t (keys_above compacted rs)
-    → Without t (key_list (cond b (r ∷ filter (is_above compacted) rs) (filter (is_above compacted) rs)))
+    → Without t (key_list (cond b (r ∷ filter (is_of_later compacted) rs) (filter (is_of_later compacted) rs)))
 without_of_step compacted t r rs true other rest = (other, rest)
 without_of_step compacted t r rs false other rest = rest
 

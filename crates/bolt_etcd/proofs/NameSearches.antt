@@ -18,16 +18,16 @@ use Rattle.bolt_tree.specs.{Entries.EntryView, Order.Rises}
 use Rattle.bolt_etcd.specs.ShownRevisions.{entry_of, shown_revision}
 use Rattle.bolt_etcd.specs.declared.revision.Revision.{Revision}
 use Rattle.bolt_etcd.specs.{Revisions.RevisionView, Revisions.name_of}
-use Rattle.bolt_etcd.specs.Superseded.{IsSupersededBy, entry_name, entry_name_cmp}
+use Rattle.bolt_etcd.specs.Superseded.{IsSupersededBy, name_of_entry, entry_name_cmp}
 use Rattle.bolt_etcd.proofs.MappedLists.{shows_from, shows_has, sorted_by_shown}
 use Rattle.bolt_etcd.proofs.{KeySearches.not_found, NewestEntries.entry_name_total, Rising.one_of, SortedOnce.rises_sorted, StoredRevisions.named}
 
-pub beside_candidate : (r e : Revision) (o : Ordering) → o ≡ sums_cmp (name_of (shown_revision e)) (name_of (shown_revision r)) → o ≡ sums_cmp (entry_name (entry_of e)) (name_of (shown_revision r))
+pub beside_candidate : (r e : Revision) (o : Ordering) → o ≡ sums_cmp (name_of (shown_revision e)) (name_of (shown_revision r)) → o ≡ sums_cmp (name_of_entry (entry_of e)) (name_of (shown_revision r))
 beside_candidate r e o is = is ∙ ap (λ (n : Key). sums_cmp n (name_of (shown_revision r))) (sym (named e))
 
 module _ (es : List Revision) (r : RevisionView) where
   abbrev name : Revision → Key
-  name e = entry_name (entry_of e)
+  name e = name_of_entry (entry_of e)
 
   -- where an entry stands beside that of the name
   abbrev pub beside : Revision → Ordering
@@ -40,7 +40,7 @@ module _ (es : List Revision) (r : RevisionView) where
     none_named : (i : ℕ) → IsBinarySearchResult beside es (Err i) → (key : Key) → IsSupersededBy (map entry_of es) r key → ⊥
     none_named i searched key (e, has, is, named, less) =
         let (x, there, shown) = shows_from entry_of es e has in
-        let has_name = subst (Contains (map name es)) (ap entry_name shown ∙ named) (shows_has name es x there) in
+        let has_name = subst (Contains (map name es)) (ap name_of_entry shown ∙ named) (shows_has name es x there) in
         not_found name (name_of r) sums_cmp sums_total sums_exact es i (searched (searchable_from_sorted sums_total name es (name_of r) up)) has_name
 
     pub absent : (searched : Result ℕ ℕ) → IsBinarySearchResult beside es searched → result_ok searched ≡ None → (o : Option (Bor Key)) → o ≡ None → (key : Key)
@@ -57,13 +57,13 @@ module _ (es : List Revision) (r : RevisionView) where
           let long = length-map es entry_of in
           (i, omega (arith, long), get_or-map entry_of es i entry (entry_of entry) lt ∙ ap entry_of (sym is))
 
-      found_named : entry_name (entry_of entry) ≡ name_of r
+      found_named : name_of_entry (entry_of entry) ≡ name_of r
       found_named = sums_exact _ _ (subst (λ (x : Revision). beside x ≡ Equal) (sym is) (searched entry))
 
       -- it is the only one of the name
       same_entry : (key : Key) → IsSupersededBy (map entry_of es) r key → (key_cmp entry.key.now r.place ≡ Less) × (entry.key.now ≡ key)
       same_entry key (e, has, at_key, named, less) =
-          let same = one_of sums_total entry_name (map entry_of es) (entry_of entry) e rises found_has has (found_named ∙ sym named) in
+          let same = one_of sums_total name_of_entry (map entry_of es) (entry_of entry) e rises found_has has (found_named ∙ sym named) in
           (subst (λ (x : EntryView). key_cmp x.key r.place ≡ Less) (sym same) less, ap (λ (x : EntryView). x.key) same ∙ at_key)
 
       by_order : (o : Ordering) (key : Key) → key_cmp entry.key.now r.place ≡ o

@@ -13,7 +13,7 @@ use Rattle.std.specs.declared.cmp.Ordering.TheVariants.{Equal, Greater, Less}
 use Rattle.bolt_check.specs.Keys.{Key, key_cmp}
 use Rattle.bolt_tree.proofs.{Lists.contains_head, Lists.contains_tail, PathOrder.key_total}
 use Rattle.bolt_tree.specs.{Entries.EntryView, InBuckets.view_cmp, Order.Rises}
-use Rattle.bolt_etcd.specs.Superseded.{AreNewest, IsNewestAmong, entry_name, entry_name_cmp, is_old, is_older_old, newest_cmp}
+use Rattle.bolt_etcd.specs.Superseded.{AreNewest, IsNewestAmong, name_of_entry, entry_name_cmp, is_old, is_older_old, newest_cmp}
 use Rattle.bolt_etcd.specs.NameOrder.{sums_cmp}
 use Rattle.bolt_etcd.proofs.{NameOrders.sums_tie, NameOrders.sums_total, NewestOfNames.greatest_kept, NewestOfNames.kept_greatest, NewestOfNames.names_rise, NewestOfNames.newest_total, SortedOnce.rises_from}
 
@@ -24,13 +24,13 @@ pub view_total : IsTotalOrder view_cmp
 view_total = on_total key_of key_total
 
 pub entry_name_total : IsTotalOrder entry_name_cmp
-entry_name_total = on_total entry_name sums_total
+entry_name_total = on_total name_of_entry sums_total
 
 pub newest_cmp_total : IsTotalOrder newest_cmp
-newest_cmp_total = newest_total entry_name key_of sums_cmp sums_total sums_tie
+newest_cmp_total = newest_total name_of_entry key_of sums_cmp sums_total sums_tie
 
 abbrev pub same_name : EntryView → EntryView → Bool
-same_name a b = bytes_eq (entry_name a) (entry_name b)
+same_name a b = bytes_eq (name_of_entry a) (name_of_entry b)
 
 -- ---- the newest of each name
 
@@ -42,19 +42,19 @@ not_less Greater differs = refl
 module _ (old sorted : List EntryView) (rises : Rises view_cmp old) (moved : IsPermutation old sorted) (up : IsSorted newest_cmp sorted) where
   newest_from : (e : EntryView) → Contains (dedup same_name sorted) e → Contains old e × IsNewestAmong old e
   newest_from e has =
-      let g = kept_greatest entry_name key_of sums_cmp sums_total sums_tie old sorted rises moved up e has in
-      (g.has, λ other there names less. let no = g.greatest other there ((bytes_eq-Decides (entry_name other) (entry_name e)).1 names) in cc)
+      let g = kept_greatest name_of_entry key_of sums_cmp sums_total sums_tie old sorted rises moved up e has in
+      (g.has, λ other there names less. let no = g.greatest other there ((bytes_eq-Decides (name_of_entry other) (name_of_entry e)).1 names) in cc)
 
   newest_to : (e : EntryView) → Contains old e → IsNewestAmong old e → Contains (dedup same_name sorted) e
-  newest_to e has newest = greatest_kept entry_name key_of sums_cmp sums_total sums_tie old sorted rises moved up e (record {
+  newest_to e has newest = greatest_kept name_of_entry key_of sums_cmp sums_total sums_tie old sorted rises moved up e (record {
     has = has;
-    passes = (bytes_eq-Decides (entry_name e) (entry_name e)).1 refl;
-    greatest = λ other there names. not_less (key_cmp e.key other.key) (newest other there ((bytes_eq-Decides (entry_name other) (entry_name e)).0 names));
+    passes = (bytes_eq-Decides (name_of_entry e) (name_of_entry e)).1 refl;
+    greatest = λ other there names. not_less (key_cmp e.key other.key) (newest other there ((bytes_eq-Decides (name_of_entry other) (name_of_entry e)).0 names));
   })
 
   pub are_newest : AreNewest old (dedup same_name sorted)
   are_newest = record {
-    rises = rises_from entry_name_total _ (names_rise entry_name key_of sums_cmp sums_total sums_tie sorted up);
+    rises = rises_from entry_name_total _ (names_rise name_of_entry key_of sums_cmp sums_total sums_tie sorted up);
     exact = λ e. (newest_from e, λ (has, newest). newest_to e has newest);
   }
 

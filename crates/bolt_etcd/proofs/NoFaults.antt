@@ -5,7 +5,7 @@ use Rattle.std.specs.List.Sorted.{IsPermutation}
 use Rattle.std.specs.Option.{is_some}
 use Rattle.bolt_tree.specs.declared.bucket.Bucket.{Bucket}
 use Rattle.bolt_tree.specs.Order.{Rises}
-use Rattle.bolt_etcd.specs.{CheckLines.fault_lines, Current.place_cmp, FaultsLeft.ForGranted, FaultsLeft.GivesFault, NameFaults.AreByName}
+use Rattle.bolt_etcd.specs.{CheckLines.name_fault_lines, Current.place_cmp, FaultsLeft.ForGranted, FaultsLeft.GivesFault, NameFaults.AreByName}
 use Rattle.bolt_etcd.specs.{NameFaults.NameFaultView, NameFaults.name_faults, Revisions.RevisionView, ShownRevisions.shown_revision, StoreFaults.name_lines, SumOrder.AreBySum}
 use Rattle.bolt_etcd.specs.declared.{name_faults.NameFault.NameFault, revision.Revision.Revision}
 use Rattle.bolt_etcd.proofs.{FaultsOfNames.none_by_name, StoreLemmas.granted_map}
@@ -32,7 +32,7 @@ none_lines rs slice by_sum compacted leases b rises sums same whole none =
     (λ granted. (by_name : List RevisionView) → AreByName rs by_name → name_lines compacted granted by_name ≡ [])
     (λ granted both by_name is.
     let empty = subst (λ (l : List Revision). name_faults compacted granted None (map shown_revision l) ≡ []) same (both.0 whole) in
-    ap (flat_map fault_lines) (none_by_name compacted granted rs (map shown_revision by_sum) by_name rises sums is empty)) none
+    ap (flat_map name_fault_lines) (none_by_name compacted granted rs (map shown_revision by_sum) by_name rises sums is empty)) none
 
 -- sorted by sums and then by name
 pub by_name_after : (rs by_name : List RevisionView) (by_sum rough : List Revision) → AreBySum rs (map shown_revision by_sum) → IsPermutation by_sum rough

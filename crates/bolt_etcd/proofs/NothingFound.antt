@@ -8,14 +8,14 @@ use Rattle.bolt_check.specs.Keys.{Key}
 use Rattle.bolt_format.specs.Elements.{LeafElement}
 use Rattle.bolt_tree.proofs.{Filters.filter_none, Filters.filter_same, Lists.contains_head, Lists.contains_tail}
 use Rattle.bolt_tree.specs.{Entries.entry_view, Order.Rises}
-use Rattle.bolt_etcd.specs.{CheckLines.fault_lines, Compactions.IsCompaction, Compactions.kept, Current.place_cmp}
+use Rattle.bolt_etcd.specs.{CheckLines.name_fault_lines, Compactions.IsCompaction, Compactions.kept_revisions, Current.place_cmp}
 use Rattle.bolt_etcd.specs.Histories.{Delete, Put, State, Transaction, history, nothing}
-use Rattle.bolt_etcd.specs.{Misplaced.is_misplaced, Misplaced.misplaced, MissingNumbers.is_above, MissingNumbers.keys_above}
+use Rattle.bolt_etcd.specs.{Misplaced.is_misplaced, Misplaced.misplaced, MissingNumbers.is_of_later, MissingNumbers.keys_above}
 use Rattle.bolt_etcd.specs.{MissingNumbers.missing_after, MissingNumbers.missing_numbers}
 use Rattle.bolt_etcd.specs.{NameFaults.name_faults, Numbered.numbered, Others.OtherView, Others.others_of, Revisions.RevisionView}
 use Rattle.bolt_etcd.specs.{Revisions.revision_of}
 use Rattle.bolt_etcd.specs.{Possible.ArePossible, StoreBuckets.StoreView, Stores.revisions, WholeStores.GrantsLeases, WholeStores.HoldsExactly}
-use Rattle.bolt_etcd.specs.StoreFaults.{bucket_lines, bucket_names, entry_lines, key_lines, line_without, name_lines, store_granted, store_lines}
+use Rattle.bolt_etcd.specs.StoreFaults.{missing_bucket_lines, bucket_names, entry_lines, key_lines, line_without, name_lines, store_granted, store_lines}
 use Rattle.bolt_etcd.proofs.{FaultsOfNames.faults_named, FaultsOfNames.none_of_any, Filtered.filter_both, Filtered.filter_rises}
 use Rattle.bolt_etcd.proofs.{Filtered.kept_from, HistoryNumbers.none_missing}
 use Rattle.bolt_etcd.proofs.{HistorySteps.IsWritten, HistorySteps.each, HistorySteps.goes, HistorySteps.places_rise, OtherCounts.is_numbered, OtherCounts.no_other}
@@ -28,10 +28,10 @@ no_line name (Some entries) some = refl
 no_line name None some = cc
 
 no_bucket_lines : (store : StoreView) (names : List Key) → ((name : Key) → Contains names name → is_some (store.bucket name) ≡ true)
-    → bucket_lines store names ≡ []
+    → missing_bucket_lines store names ≡ []
 no_bucket_lines store [] there = refl
 no_bucket_lines store (name ∷ names) there =
-    ap (λ (l : List (List ℕ)). l ++ bucket_lines store names) (no_line name (store.bucket name) (there name (contains_head name names)))
+    ap (λ (l : List (List ℕ)). l ++ missing_bucket_lines store names) (no_line name (store.bucket name) (there name (contains_head name names)))
     ∙ no_bucket_lines store names (λ other has. there other (contains_tail name other names has))
 
 -- ---- entries that are these revisions
@@ -74,48 +74,48 @@ not_misplaced state r (Put name value lease, can, is) =
 not_misplaced state r (Delete name, can, is) = and_left _ _ (ap (λ (x : RevisionView). not x.key.deleted) is)
 
 module _ (compacted : ℕ) (ts : List Transaction) (keeps : RevisionView → Bool) (possible : ArePossible ts) (compaction : IsCompaction compacted ts keeps) where
-  there : (r : RevisionView) → Contains (kept keeps ts) r → Contains (history ts) r
+  there : (r : RevisionView) → Contains (kept_revisions keeps ts) r → Contains (history ts) r
   there r has = (kept_from keeps (history ts) r has).0
 
-  kept_rises : Rises place_cmp (kept keeps ts)
+  kept_rises : Rises place_cmp (kept_revisions keeps ts)
   kept_rises = filter_rises place_cmp keeps (history ts) (places_rise ts possible)
 
-  none_misplaced : misplaced (kept keeps ts) ≡ []
+  none_misplaced : misplaced (kept_revisions keeps ts) ≡ []
   none_misplaced =
-      filter_none is_misplaced (kept keeps ts) (λ r has.
+      filter_none is_misplaced (kept_revisions keeps ts) (λ r has.
       each (λ (s : RevisionView). is_misplaced s ≡ false) not_misplaced nothing 2 0 (history ts) (goes ts possible) r (there r has))
 
-  above_kept : (r : RevisionView) (b : Bool) → is_above compacted r ≡ b → Contains (history ts) r
-      → (is_above compacted r && keeps r) ≡ is_above compacted r
+  above_kept : (r : RevisionView) (b : Bool) → is_of_later compacted r ≡ b → Contains (history ts) r
+      → (is_of_later compacted r && keeps r) ≡ is_of_later compacted r
   above_kept r true above has = rw (above, compaction.later r has (ltb-true compacted r.key.main above)) refl
   above_kept r false above has = rw above refl
 
-  keys_kept : keys_above compacted (kept keeps ts) ≡ keys_above compacted (history ts)
+  keys_kept : keys_above compacted (kept_revisions keeps ts) ≡ keys_above compacted (history ts)
   keys_kept =
       ap (map (λ (r : RevisionView). r.key))
-      (filter_both (is_above compacted) keeps (history ts)
-      ∙ filter_same (λ (r : RevisionView). is_above compacted r && keeps r) (is_above compacted) (history ts) (λ r has.
-      above_kept r (is_above compacted r) refl has))
+      (filter_both (is_of_later compacted) keeps (history ts)
+      ∙ filter_same (λ (r : RevisionView). is_of_later compacted r && keeps r) (is_of_later compacted) (history ts) (λ r has.
+      above_kept r (is_of_later compacted r) refl has))
 
-  no_number : missing_numbers compacted (kept keeps ts) ≡ []
+  no_number : missing_numbers compacted (kept_revisions keeps ts) ≡ []
   no_number = ap (missing_after (max compacted 1) 0) keys_kept ∙ none_missing compacted nothing (history ts) (goes ts possible)
 
-  module _ (store : StoreView) (is : HoldsExactly store compacted (kept keeps ts)) (grants : GrantsLeases store ts) where
-    own : revisions is.entries ≡ kept keeps ts
-    own = revisions_are is.entries (kept keeps ts) is.revisions
+  module _ (store : StoreView) (is : HoldsExactly store compacted (kept_revisions keeps ts)) (grants : GrantsLeases store ts) where
+    own : revisions is.entries ≡ kept_revisions keeps ts
+    own = revisions_are is.entries (kept_revisions keeps ts) is.revisions
 
-    there_are : numbered is.entries ≡ kept keeps ts
-    there_are = numbered_are is.entries (kept keeps ts) is.revisions
+    there_are : numbered is.entries ≡ kept_revisions keeps ts
+    there_are = numbered_are is.entries (kept_revisions keeps ts) is.revisions
 
     no_entry_lines : entry_lines (Some compacted) is.entries ≡ []
     no_entry_lines =
-        rw (no_others is.entries (kept keeps ts) is.revisions, own, there_are, none_misplaced, no_number) refl
+        rw (no_others is.entries (kept_revisions keeps ts) is.revisions, own, there_are, none_misplaced, no_number) refl
 
     no_name_lines : name_lines (Some compacted) (store_granted store) store.by_name ≡ []
     no_name_lines =
-        ap (flat_map fault_lines)
+        ap (flat_map name_fault_lines)
         (none_of_any (name_faults (Some compacted) (store_granted store) None store.by_name) (λ name.
-        faults_named (Some compacted) (store_granted store) (kept keeps ts) store.by_name name kept_rises is.sorted
+        faults_named (Some compacted) (store_granted store) (kept_revisions keeps ts) store.by_name name kept_rises is.sorted
         ∙ no_faults compacted ts keeps possible compaction name (store_granted store) (grants name)))
 
     pub nothing_found : store_lines store ≡ []

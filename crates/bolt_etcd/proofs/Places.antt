@@ -4,7 +4,7 @@ use Rattle.std.specs.Cmp.Lexicographic.{same_text}
 use Rattle.std.specs.Str.{bytes_eq}
 use Rattle.bolt_check.specs.Keys.{Key}
 use Rattle.bolt_tree.specs.{Entries.Item, Paths.Path, Paths.path_of}
-use Rattle.bolt_etcd.specs.{Repairs.store_path, Revisions.RevisionView, Surveys.IsAt, Surveys.revision_at}
+use Rattle.bolt_etcd.specs.{Repairs.store_path, Revisions.RevisionView, Surveys.LeadsToPlace, Surveys.revision_at}
 use Rattle.bolt_etcd.specs.declared.survey.Place.{Place}
 use Rattle.bolt_etcd.specs.declared.survey.Place.TheVariants.{Compaction, InStore, Other, Store}
 use Rattle.bolt_etcd.proofs.KeptRevisions.{revision_from}
@@ -30,7 +30,7 @@ none_there path item None is other = refl
 none_there path item (Some r) is other = let (e, same, _) = revision_from path item r is in absurd (other e.key (ap (λ m. m.0) same))
 
 -- no revision, if it isn't in the bucket `key`
-pub no_revision : (path : Path) (place : Place) (item : Item) → IsAt path place → ((key : Bor Key) → place ≡ InStore key → ⊥) → revision_at path item ≡ None
+pub no_revision : (path : Path) (place : Place) (item : Item) → LeadsToPlace path place → ((key : Bor Key) → place ≡ InStore key → ⊥) → revision_at path item ≡ None
 unfolding revision_at
 no_revision path Store item at other = ap (λ (p : Path). revision_at p item) at
 no_revision path (InStore key) item at other = absurd (other key refl)

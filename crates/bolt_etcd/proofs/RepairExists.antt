@@ -11,11 +11,11 @@ use Rattle.bolt_check.specs.Keys.{Key, key_cmp}
 use Rattle.bolt_recover.specs.{Found.AreFound, Recovered.IsRecovered}
 use Rattle.bolt_tree.proofs.PathOrder.{key_exact, key_total}
 use Rattle.bolt_tree.specs.{Entries.Bucket, Entries.EntryView, Entries.Item, Entries.Value, Entries.entry_view, InBuckets.entry_in, InBuckets.view_cmp, Listing.Member, Listing.member_cmp, Order.Rises, Paths.Path}
-use Rattle.bolt_etcd.specs.{Among.without, Candidates.AreCandidates, Candidates.HasKey, Candidates.candidates_in, Candidates.is_candidate, Candidates.is_same, Candidates.whole_cmp, Compacted.compacted_by}
+use Rattle.bolt_etcd.specs.{Among.without, Candidates.AreCandidates, Candidates.HasKey, Candidates.candidates_in, Candidates.is_candidate, Candidates.is_same_entry, Candidates.whole_cmp, Compacted.compacted_by}
 use Rattle.bolt_etcd.specs.{FullRepairs.IsFullRepair, FullRepairs.LacksStoreValue, Newest.is_until, Repaired.IsRepaired, Repaired.elements_on, Repaired.lacks_bucket, Repaired.repaired_listing}
 use Rattle.bolt_etcd.specs.{Repairs.IsKept, Repairs.compaction_path, Repairs.store_path, Revisions.RevisionView, Revisions.name_of, Revisions.value_of}
-use Rattle.bolt_etcd.specs.{Superseded.ArePutBack, Superseded.IsNewestOf, Superseded.entry_name, Superseded.is_deletion, Superseded.is_old}
-use Rattle.bolt_etcd.specs.{Surveys.HasKeptKey, Surveys.IsSurvey, Surveys.revision_at, Undisputed.AreKeys, Undisputed.AreUndisputed}
+use Rattle.bolt_etcd.specs.{Superseded.ArePutBack, Superseded.IsNewestOf, Superseded.name_of_entry, Superseded.is_deletion, Superseded.is_old}
+use Rattle.bolt_etcd.specs.{Surveys.HasKeptKey, Surveys.IsStoreSurvey, Surveys.revision_at, Undisputed.AreKeys, Undisputed.AreUndisputed}
 use Rattle.bolt_etcd.proofs.Decisions.{dec_as, dec_bool, dec_both, dec_each, dec_either, dec_equal, dec_if, dec_if_some, dec_key, dec_not_less, dec_path, dec_some}
 use Rattle.bolt_etcd.proofs.{Filtered.kept_from, KeptRevisions.revision_from, KeptRevisions.revision_to, KeysAmong.without_has, MappedLists.shows_from, MappedLists.shows_has}
 use Rattle.bolt_etcd.proofs.{NewestEntries.view_total, OneRepair.member_once, Rising.one_of, SortedChoice.sorted_choice, SortedChoice.sorted_elements, SortedExists.sorted_exists}
@@ -26,7 +26,7 @@ use Rattle.bolt_etcd.proofs.{WholeOrder.merged_are_candidates, WholeOrder.same_w
 candidates_exist : (elements : List LeafElement) → (es : List EntryView) × AreCandidates elements es
 candidates_exist elements =
     let (sorted, moved, up) = sorted_exists (λ (a b : EntryView). is_lt (whole_cmp a b)) (ranks_by whole_total (λ (e : EntryView). e)) (candidates_in elements) in
-    (dedup is_same sorted, merged_are_candidates elements sorted moved up)
+    (dedup is_same_entry sorted, merged_are_candidates elements sorted moved up)
 
 abbrev keys_of : List EntryView → List Key
 keys_of es = map (λ (e : EntryView). e.key) es
@@ -71,14 +71,14 @@ module _ (es : List EntryView) (are : (e : EntryView) → Contains es e → is_c
 
 module _ (compacted : ℕ) (recovered : List Member) (agreed : List EntryView) where
   abbrev IsNoLater : EntryView → RevisionView → Type 0
-  IsNoLater e r = name_of r ≡ entry_name e → is_until compacted r ≡ true → key_cmp e.key r.place ≢ Less
+  IsNoLater e r = name_of r ≡ name_of_entry e → is_until compacted r ≡ true → key_cmp e.key r.place ≢ Less
 
   abbrev IsNoLaterEntry : EntryView → EntryView → Type 0
-  IsNoLaterEntry e other = entry_name other ≡ entry_name e → is_old compacted other ≡ true → key_cmp e.key other.key ≢ Less
+  IsNoLaterEntry e other = name_of_entry other ≡ name_of_entry e → is_old compacted other ≡ true → key_cmp e.key other.key ≢ Less
 
   dec_of_kept : (e : EntryView) → Dec ((r : RevisionView) → IsKept recovered r → IsNoLater e r)
   dec_of_kept e =
-      let each = λ (r : RevisionView). dec_if (dec_key (name_of r) (entry_name e)) (dec_if (dec_bool (is_until compacted r) true) (dec_not_less (key_cmp e.key r.place))) in
+      let each = λ (r : RevisionView). dec_if (dec_key (name_of r) (name_of_entry e)) (dec_if (dec_bool (is_until compacted r) true) (dec_not_less (key_cmp e.key r.place))) in
       dec_as (dec_each (λ (m : Member). (r : RevisionView) → revision_at m.0 m.1 ≡ Some r → IsNoLater e r) (λ m. dec_if_some (IsNoLater e) each (revision_at m.0 m.1)) recovered)
       (λ all r (x, has, is). all (entry_in store_path x) has r (revision_to x ∙ is))
       (λ of_kept m has r is. let (x, at, reads) = revision_from m.0 m.1 r is in of_kept r (x, subst (Contains recovered) at has, reads))
@@ -86,7 +86,7 @@ module _ (compacted : ℕ) (recovered : List Member) (agreed : List EntryView) w
   dec_of_agreed : (e : EntryView) → Dec ((other : EntryView) → Contains agreed other → IsNoLaterEntry e other)
   dec_of_agreed e =
       dec_each (IsNoLaterEntry e)
-      (λ other. dec_if (dec_key (entry_name other) (entry_name e)) (dec_if (dec_bool (is_old compacted other) true) (dec_not_less (key_cmp e.key other.key)))) agreed
+      (λ other. dec_if (dec_key (name_of_entry other) (name_of_entry e)) (dec_if (dec_bool (is_old compacted other) true) (dec_not_less (key_cmp e.key other.key)))) agreed
 
   abbrev Goes : EntryView → Type 0
   Goes e = (is_old compacted e ≡ false) ⊎ IsNewestOf compacted recovered agreed e
@@ -134,7 +134,7 @@ module _ (recovered : List Member) (rises : Rises member_cmp recovered) where
   dec_kept_key : (key : Key) → Dec (HasKeptKey recovered key)
   dec_kept_key key = let (o, is) = under (store_path ++ key ∷ []) in kept_by key o is
 
-  survey_exists : (candidates : List EntryView) → (met : List Key) × IsSurvey recovered candidates (under store_path).0 (value_in (under compaction_path).0) met
+  survey_exists : (candidates : List EntryView) → (met : List Key) × IsStoreSurvey recovered candidates (under store_path).0 (value_in (under compaction_path).0) met
   survey_exists candidates =
       let (met, up, those) = sorted_choice key_total (HasKeptKey recovered) dec_kept_key (keys_of candidates) (λ x y has _ also _ tied. key_exact x y tied) in
       let noted = (under compaction_path).0 in

@@ -12,7 +12,7 @@ use Rattle.hex.specs.Hex.{encode_lower}
 use Rattle.json.proofs.{Printed.Decimals.IsNumber-decimal, Printed.Tokens.print_from-append, Printed.Trees.document-print}
 use Rattle.json.specs.{Json.Json, Json.document, Json.member, Json.no_members, Json.object, Json.string, Print.escape, Print.escape_byte, Print.print_from, Token.Token, Tree.HasNumbers, Tree.MembersHaveNumbers, Tree.json_tokens, Tree.members_depth, Tree.members_tokens}
 use Rattle.bolt_text.proofs.JsonLemmas.{Reads, digits_read, items_read, numeral_back}
-use Rattle.bolt_text.specs.{Forms.digits_json, Forms.item_json, Forms.json_text, JsonReadings.digits_of, JsonReadings.item_of, Lines.line}
+use Rattle.bolt_text.specs.{Forms.digits_json, Forms.item_json, Forms.json_text, JsonReadings.digits_of, JsonReadings.item_in_json, Lines.line}
 use Rattle.bolt_text.specs.declared.forms.Form.TheVariants as form
 use Rattle.bolt_etcd.specs.{RevisionLines.members, RevisionLines.revision_line, Revisions.RevisionView}
 use Rattle.bolt_etcd.specs.RevisionObjects.{IsOfBytes, ReadRevision, ReadsRevisionsBack, as_read, read_revision, revision_json, value_member}
@@ -143,8 +143,8 @@ module _ (shown : List ℕ → Json) (read : Json → Option (List ℕ)) (reads 
       all_found true = rw (numeral_back r.key.main is.main, numeral_back r.key.sub is.sub, numeral_back r.content.created is.created, numeral_back r.content.version is.version, lease_back r.content.lease is.lease, numeral_back (length r.content.value) is.bytes, reads.back r.content.name is.name, reads.back r.content.value is.value) refl
       all_found false = rw (numeral_back r.key.main is.main, numeral_back r.key.sub is.sub, numeral_back r.content.created is.created, numeral_back r.content.version is.version, lease_back r.content.lease is.lease, numeral_back (length r.content.value) is.bytes, reads.back r.content.name is.name) refl
 
-pub items_back : ReadsRevisionsBack item_of item_json
-items_back = revision_back item_json item_of items_read
+pub items_back : ReadsRevisionsBack item_in_json item_json
+items_back = revision_back item_json item_in_json items_read
 
 pub digits_back : ReadsRevisionsBack digits_of digits_json
 digits_back = revision_back digits_json digits_of digits_read

@@ -11,7 +11,7 @@ use Rattle.bolt_tree.proofs.{Filters.kept, Lists.contains_cases, Lists.contains_
 use Rattle.bolt_tree.specs.Order.{Rises}
 use Rattle.bolt_etcd.specs.{Revisions.RevisionView, Told.number_cmp, ToldRevisions.IsMissingRevision, ToldRevisions.IsToldRevision}
 use Rattle.bolt_etcd.specs.{ToldRevisions.TellsRevision}
-use Rattle.bolt_etcd.specs.MissingNumbers.{is_above, missing_after, missing_before, missing_numbers, revisions_between, transactions_between}
+use Rattle.bolt_etcd.specs.MissingNumbers.{is_of_later, missing_after, missing_before, missing_numbers, revisions_between, transactions_between}
 use Rattle.bolt_etcd.specs.declared.{missing.Missing.Missing, revision_key.RevisionKey.RevisionKey}
 use Rattle.bolt_etcd.specs.declared.missing.Missing.TheVariants.{Revisions, Transactions}
 use Rattle.bolt_etcd.proofs.{Filtered.filter_rises, Filtered.kept_from, KeyNumbers.greater}
@@ -195,13 +195,13 @@ module _ (t s : ℕ) where
 
   module _ (compacted : ℕ) (rs : List RevisionView) (rises : Rises number_cmp rs) where
     abbrev above : List RevisionView
-    above = filter (is_above compacted) rs
+    above = filter (is_of_later compacted) rs
 
     is_later : (r : RevisionView) → Contains above r → Contains rs r × (compacted < r.key.main)
-    is_later r has = let (there, passes) = kept_from (is_above compacted) rs r has in (there, ltb-true compacted r.key.main passes)
+    is_later r has = let (there, passes) = kept_from (is_of_later compacted) rs r has in (there, ltb-true compacted r.key.main passes)
 
     later_is : (r : RevisionView) → Contains rs r → compacted < r.key.main → Contains above r
-    later_is r has lt = kept (is_above compacted) rs r has (lt-ltb compacted r.key.main lt)
+    later_is r has lt = kept (is_of_later compacted) rs r has (lt-ltb compacted r.key.main lt)
 
     begins : (r : RevisionView) → Contains above r → IsAfter (max compacted 1) 0 r
     begins r has =
@@ -213,7 +213,7 @@ module _ (t s : ℕ) where
 
     pub revisions_told : IsToldRevision t s (missing_numbers compacted rs) ↔ IsMissingRevision compacted t s rs
     revisions_told =
-        let core = told_exactly (max compacted 1) 0 above (filter_rises number_cmp (is_above compacted) rs rises) begins in (
+        let core = told_exactly (max compacted 1) 0 above (filter_rises number_cmp (is_of_later compacted) rs rises) begins in (
           λ told.
               let gap = (core.0 told).0 in
               let (there, lt) = is_later gap.later gap.there in

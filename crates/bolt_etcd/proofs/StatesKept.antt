@@ -7,7 +7,7 @@ use Rattle.std.proofs.lemmas.List.Elements.{filter-append}
 use Rattle.std.specs.List.{Contains, last_or}
 use Rattle.bolt_check.specs.Keys.{Key}
 use Rattle.bolt_tree.proofs.{Filters.filter_all, Filters.kept as passes, Lists.contains_none}
-use Rattle.bolt_etcd.specs.{Compactions.IsCompaction, Compactions.kept, Current.AreCurrent, Current.IsCurrent, HeldNames.AreHeld}
+use Rattle.bolt_etcd.specs.{Compactions.IsCompaction, Compactions.kept_revisions, Current.AreCurrent, Current.IsCurrent, HeldNames.AreHeld}
 use Rattle.bolt_etcd.specs.{Histories.Transaction, Histories.history, Histories.state_at}
 use Rattle.bolt_etcd.specs.{Newest.is_named, Newest.is_until, Newest.newest, Newest.until, Revisions.RevisionView, Revisions.name_of, Possible.ArePossible}
 use Rattle.bolt_etcd.proofs.{HistoryUntil.held_at, HistoryUntil.until_early, KeptOfNames.IsCut, KeptOfNames.cut, KeptOfNames.filter_swap}
@@ -44,27 +44,27 @@ module _ (compacted at : ℕ) (ts : List Transaction) (keeps : RevisionView → 
         ∙ filter-append (is_until at) removed rest
         ∙ ap (λ (l : List RevisionView). l ++ filter (is_until at) rest) until_removed
 
-    kept_at : filter (is_named name) (until at (kept keeps ts)) ≡ filter (is_until at) rest
-    kept_at = filter_swap (is_named name) (is_until at) (kept keeps ts) ∙ ap (filter (is_until at)) is.is_rest
+    kept_at : filter (is_named name) (until at (kept_revisions keeps ts)) ≡ filter (is_until at) rest
+    kept_at = filter_swap (is_named name) (is_until at) (kept_revisions keeps ts) ∙ ap (filter (is_until at)) is.is_rest
 
-    held_alike : held_of (newest name (until at (kept keeps ts))) ≡ state_at at ts name
+    held_alike : held_of (newest name (until at (kept_revisions keeps ts))) ≡ state_at at ts name
     unfolding newest
     held_alike =
         ap (λ (l : List RevisionView). held_of (last_or None l)) kept_at
         ∙ same_last (filter (is_until at) rest) refl
         ∙ sym (held_at at ts name ∙ ap (λ (l : List RevisionView). held_of (last_or None l)) all_at)
 
-  held_kept : (name : Key) → held_of (newest name (until at (kept keeps ts))) ≡ state_at at ts name
+  held_kept : (name : Key) → held_of (newest name (until at (kept_revisions keeps ts))) ≡ state_at at ts name
   held_kept name = let (removed, rest, is) = cut compacted ts keeps possible compaction name in held_alike name removed rest is
 
-  current_held : (r : RevisionView) → IsCurrent (until at (kept keeps ts)) r ↔ (state_at at ts (name_of r) ≡ Some r)
+  current_held : (r : RevisionView) → IsCurrent (until at (kept_revisions keeps ts)) r ↔ (state_at at ts (name_of r) ≡ Some r)
   current_held r =
-      let one = current_is_held (until at (kept keeps ts)) r in (
+      let one = current_is_held (until at (kept_revisions keeps ts)) r in (
         λ current. sym (held_kept (name_of r)) ∙ one.0 current,
         λ holds. one.1 (held_kept (name_of r) ∙ holds),
       )
 
-  pub currents_held : (current : List RevisionView) → AreCurrent (until at (kept keeps ts)) current ↔ AreHeld (state_at at ts) current
+  pub currents_held : (current : List RevisionView) → AreCurrent (until at (kept_revisions keeps ts)) current ↔ AreHeld (state_at at ts) current
   currents_held current = (
     λ are. record {
       rises = are.rises;

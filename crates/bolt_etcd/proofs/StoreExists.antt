@@ -11,7 +11,7 @@ use Rattle.bolt_format.specs.{Elements.LeafElement, declared.meta.Meta.Meta}
 use Rattle.bolt_tree.proofs.{BucketWays.starts_below, Named.entry_once, SortedLemmas.sorted, SortedLemmas.sorted_one}
 use Rattle.bolt_tree.specs.Entries.{AreEntries, IsEntry, IsStart, Start, start_of}
 use Rattle.bolt_tree.specs.{FileTrees.file_entries, Order.Rises}
-use Rattle.bolt_etcd.specs.{Current.place_cmp, StoreBuckets.HasBucket, StoreBuckets.IsStore, StoreBuckets.StoreView, StoreBuckets.revisions_in}
+use Rattle.bolt_etcd.specs.{Current.place_cmp, StoreBuckets.HasEntriesUnder, StoreBuckets.IsStore, StoreBuckets.StoreView, StoreBuckets.revisions_in}
 use Rattle.bolt_etcd.proofs.{Currents.revisions_rise, SortedExists.by_name_exists, SortedOnce.by_name_once, StoreLemmas.Finds, StoreLemmas.finds, StoreLemmas.itself}
 
 abbrev is_bucket_under : Key → LeafElement → Bool
@@ -29,7 +29,7 @@ module _ (file : List ℕ) (meta : Meta) (root : Start) (trees : HasSoundTrees f
   abbrev bucket : Key → Option (List LeafElement)
   bucket name = option_map inside (find (is_bucket_under name) (file_entries file meta root))
 
-  bucket_by : (name : Key) (o : Option LeafElement) → Finds (is_bucket_under name) (file_entries file meta root) o → HasBucket (IsEntry file meta) root name (option_map inside o)
+  bucket_by : (name : Key) (o : Option LeafElement) → Finds (is_bucket_under name) (file_entries file meta root) o → HasEntriesUnder (IsEntry file meta) root name (option_map inside o)
   bucket_by name None none = λ e is same.
       let fails = none e ((all_are.exact e).1 is) in
       let here : bytes_eq e.key name ≡ true = rw same (itself name) in
@@ -51,7 +51,7 @@ module _ (file : List ℕ) (meta : Meta) (root : Start) (trees : HasSoundTrees f
 
   -- ---- and no other
 
-  same_bucket : (name : Key) (a b : Option (List LeafElement)) → HasBucket (IsEntry file meta) root name a → HasBucket (IsEntry file meta) root name b → a ≡ b
+  same_bucket : (name : Key) (a b : Option (List LeafElement)) → HasEntriesUnder (IsEntry file meta) root name a → HasEntriesUnder (IsEntry file meta) root name b → a ≡ b
   same_bucket name None None has also = refl
   same_bucket name None (Some entries) has (e, is, same, bucket, are) = let flat = has e is same in absurd (cc)
   same_bucket name (Some entries) None (e, is, same, bucket, are) also = let flat = also e is same in absurd (cc)
@@ -59,7 +59,7 @@ module _ (file : List ℕ) (meta : Meta) (root : Start) (trees : HasSoundTrees f
       let one = entry_once (IsEntry file meta) root (file_entries file meta root) all_are e f is there (same ∙ sym at) in
       ap Some (sorted_one file meta (start_of f.value) own others (subst (λ (x : LeafElement). AreEntries (IsEntry file meta) (start_of x.value) own) one are) also)
 
-  keys_rise : (o : Option (List LeafElement)) → HasBucket (IsEntry file meta) root (codes "key") o → Rises place_cmp (revisions_in o)
+  keys_rise : (o : Option (List LeafElement)) → HasEntriesUnder (IsEntry file meta) root (codes "key") o → Rises place_cmp (revisions_in o)
   keys_rise None has = tt
   keys_rise (Some entries) (e, is, same, bucket, are) = revisions_rise entries are.rises
 

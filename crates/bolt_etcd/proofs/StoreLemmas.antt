@@ -15,10 +15,10 @@ use Rattle.bolt_tree.specs.{BucketViews.entries_of, Buckets.bucket_checked, Buck
 use Rattle.bolt_tree.specs.{Lookups.IsBucketAt, Lookups.IsValueAt, declared.bucket.Bucket.Bucket}
 use Rattle.bolt_tree.specs.Order.{Rises}
 use Rattle.bolt_etcd.specs.Current.{place_cmp}
-use Rattle.bolt_etcd.specs.Compacted.{IsCompacted, compacted_by, compacted_in, is_value, value_under}
-use Rattle.bolt_etcd.specs.{CheckLines.fault_lines, FaultsLeft.ForGranted, FaultsLeft.faults_leases, FaultsLeft.faults_left, NameFaults.AreByName, NameFaults.NameFaultView, NameFaults.name_faults}
-use Rattle.bolt_etcd.specs.{Revisions.RevisionView, StoreBuckets.HasBucket, StoreBuckets.IsStore, StoreBuckets.StoreView, StoreBuckets.revisions_in, Stores.ForBucket, Stores.revisions}
-use Rattle.bolt_etcd.specs.StoreFaults.{bucket_line, bucket_lines, bucket_names, entry_lines, granted_in, key_lines, line_without, name_lines, store_compacted, store_granted, store_lines}
+use Rattle.bolt_etcd.specs.Compacted.{IsCompacted, compacted_by, compacted_in, is_value_under, value_under}
+use Rattle.bolt_etcd.specs.{CheckLines.name_fault_lines, FaultsLeft.ForGranted, FaultsLeft.faults_leases, FaultsLeft.faults_left, NameFaults.AreByName, NameFaults.NameFaultView, NameFaults.name_faults}
+use Rattle.bolt_etcd.specs.{Revisions.RevisionView, StoreBuckets.HasEntriesUnder, StoreBuckets.IsStore, StoreBuckets.StoreView, StoreBuckets.revisions_in, Stores.ForBucket, Stores.revisions}
+use Rattle.bolt_etcd.specs.StoreFaults.{bucket_line, missing_bucket_lines, bucket_names, entry_lines, granted_in, key_lines, line_without, name_lines, store_compacted, store_granted, store_lines}
 use Rattle.bolt_etcd.specs.declared.name_faults.NameFaults.{NameFaults}
 use Rattle.bolt_etcd.proofs.{Currents.revisions_rise, ListedTexts.concat_three, SortedOnce.by_name_once}
 
@@ -44,10 +44,10 @@ itself (x ∷ xs) = and_from _ _ (eq-eqb x x refl) (itself xs)
 -- ---- a value among entries
 
 module _ (Entry : Start → LeafElement → Type 0) (start : Start) (entries : List LeafElement) (key : Key) (are : AreEntries Entry start entries) where
-  is_under : (e : LeafElement) → is_value key e ≡ true → (e.key ≡ key) × (e.is_bucket ≡ false)
+  is_under : (e : LeafElement) → is_value_under key e ≡ true → (e.key ≡ key) × (e.is_bucket ≡ false)
   is_under e passes = let (named, flat) = and_parts (bytes_eq e.key key) (not e.is_bucket) passes in (same_text e.key key (sym named), not-true _ flat)
 
-  value_by : (f : Option LeafElement) → Finds (is_value key) entries f → (o : Option (List ℕ)) → IsValueAt Entry start key o → option_map (λ (e : LeafElement). e.value) f ≡ o
+  value_by : (f : Option LeafElement) → Finds (is_value_under key) entries f → (o : Option (List ℕ)) → IsValueAt Entry start key o → option_map (λ (e : LeafElement). e.value) f ≡ o
   value_by None found None at = refl
   value_by (Some e) (has, passes) (Some value) at =
       let (named, flat) = is_under e passes in
@@ -58,11 +58,11 @@ module _ (Entry : Start → LeafElement → Type 0) (start : Start) (entries : L
       absurd (cc)
   value_by None found (Some value) at = absurd (∥∥₁_elim at (hlevel props) (λ (g, there, under, flat, holds).
       let fails = found g ((are.exact g).1 there) in
-      let passes : is_value key g ≡ true = and_from _ _ (rw under (itself key)) (ap not flat) in
+      let passes : is_value_under key g ≡ true = and_from _ _ (rw under (itself key)) (ap not flat) in
       cc))
 
   pub value_at : (o : Option (List ℕ)) → IsValueAt Entry start key o → value_under key entries ≡ o
-  value_at o at = value_by (find (is_value key) entries) (finds (is_value key) entries) o at
+  value_at o at = value_by (find (is_value_under key) entries) (finds (is_value_under key) entries) o at
 
 -- ---- a bucket under a name
 
@@ -83,7 +83,7 @@ module _ (root : Bucket) where
   Fits (Some inner) (Some entries) = AreEntries (entries_of (bucket_checked root)) (bucket_start inner) entries
 
   pub fits : (name : Key) (o : Option Bucket) (b : Option (List LeafElement)) → IsBucketAt (entries_of (bucket_checked root)) (bucket_start root) name o
-      → HasBucket (entries_of (bucket_checked root)) (bucket_start root) name b → Fits o b
+      → HasEntriesUnder (entries_of (bucket_checked root)) (bucket_start root) name b → Fits o b
   fits name None None found has = tt
   fits name None (Some entries) found (e, there, key, bucket, are) = let flat = found e there key in cc
   fits name (Some inner) None found has = ∥∥₁_elim found (hlevel props) (λ (f, is, at, bucket, begins, numbered). let flat = has f is at in cc)
@@ -134,17 +134,17 @@ granted_map None P R each all = each _ all
 granted_map (Some leases) P R each all = λ entries are. each _ (all entries are)
 
 pub same_names : (compacted : Option ℕ) (granted : ℕ → Bool) (left : List NameFaultView) (all by_name : List RevisionView) → left ≡ name_faults compacted granted None all → all ≡ by_name
-    → flat_map fault_lines left ≡ name_lines compacted granted by_name
-same_names compacted granted left all by_name is same = ap (flat_map fault_lines) (is ∙ ap (name_faults compacted granted None) same)
+    → flat_map name_fault_lines left ≡ name_lines compacted granted by_name
+same_names compacted granted left all by_name is same = ap (flat_map name_fault_lines) (is ∙ ap (name_faults compacted granted None) same)
 
 pub for_names : (rs : List RevisionView) (compacted : Option ℕ) (leases : Option Bucket) (pass : NameFaults) (all : List RevisionView) (Q : List (List ℕ) → Type 0) → Rises place_cmp rs
     → faults_leases pass ≡ leases → ((granted : ℕ → Bool) → faults_left pass granted ≡ name_faults compacted granted None all) → AreByName rs all
-    → ForGranted (faults_leases pass) (λ granted. Q (flat_map fault_lines (faults_left pass granted)))
+    → ForGranted (faults_leases pass) (λ granted. Q (flat_map name_fault_lines (faults_left pass granted)))
     → ForGranted leases (λ granted. (by_name : List RevisionView) → AreByName rs by_name → Q (name_lines compacted granted by_name))
 for_names rs compacted leases pass all Q rises from left sorted each =
-    granted_map leases (λ granted. Q (flat_map fault_lines (faults_left pass granted))) (λ granted. (by_name : List RevisionView) → AreByName rs by_name → Q (name_lines compacted granted by_name))
+    granted_map leases (λ granted. Q (flat_map name_fault_lines (faults_left pass granted))) (λ granted. (by_name : List RevisionView) → AreByName rs by_name → Q (name_lines compacted granted by_name))
     (λ granted one by_name is. subst Q (same_names compacted granted (faults_left pass granted) all by_name (left granted) (by_name_once rs all by_name rises sorted is)) one)
-    (subst (λ (o : Option Bucket). ForGranted o (λ granted. Q (flat_map fault_lines (faults_left pass granted)))) from each)
+    (subst (λ (o : Option Bucket). ForGranted o (λ granted. Q (flat_map name_fault_lines (faults_left pass granted)))) from each)
 
 -- of the revisions that were found in a bucket
 pub found_names : (keys : Bucket) (rs : List RevisionView) (leases : Option Bucket) (compacted : Option ℕ) (Q : List (List ℕ) → Type 0) → ForBucket keys (λ entries. rs ≡ revisions entries)
@@ -170,11 +170,11 @@ module _ (root keys : Bucket) (compacted : Option ℕ) (store : StoreView) (is :
   abbrev pub of_names : List (List ℕ)
   of_names = name_lines (store_compacted store) (store_granted store) store.by_name
 
-  pub lines_are : store_lines store ≡ bucket_lines store bucket_names ++ (of_entries ++ of_names)
-  lines_are = ap (λ (b : Option (List LeafElement)). bucket_lines store bucket_names ++ key_lines store b) key_entries.1
+  pub lines_are : store_lines store ≡ missing_bucket_lines store bucket_names ++ (of_entries ++ of_names)
+  lines_are = ap (λ (b : Option (List LeafElement)). missing_bucket_lines store bucket_names ++ key_lines store b) key_entries.1
 
-  pub lines_text : concat (bucket_lines store bucket_names) ++ (concat of_entries ++ concat of_names) ≡ concat (store_lines store)
-  lines_text = concat_three (bucket_lines store bucket_names) of_entries of_names ∙ ap concat (sym lines_are)
+  pub lines_text : concat (missing_bucket_lines store bucket_names) ++ (concat of_entries ++ concat of_names) ≡ concat (store_lines store)
+  lines_text = concat_three (missing_bucket_lines store bucket_names) of_entries of_names ∙ ap concat (sym lines_are)
 
   pub entries_hold : (P : List (List ℕ) → Type 0) → ForBucket keys (λ entries. P (entry_lines compacted entries)) → P of_entries
   entries_hold P all = subst (λ (c : Option ℕ). P (entry_lines c key_entries.0)) same (all key_entries.0 key_entries.2)

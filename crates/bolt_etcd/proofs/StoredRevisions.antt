@@ -14,7 +14,7 @@ use Rattle.bolt_etcd.specs.declared.revision_key.RevisionKey.{RevisionKey}
 use Rattle.bolt_etcd.specs.declared.revision.Revision.{Revision}
 use Rattle.bolt_etcd.specs.{Revisions.RevisionView, Revisions.name_of, Revisions.record_under, Revisions.revision_in, Revisions.revision_of}
 use Rattle.bolt_etcd.specs.ShownRevisions.{entry_of, or_nothing, shown_revision}
-use Rattle.bolt_etcd.specs.Superseded.{entry_name, is_deletion, is_key_deleted, is_key_until, is_old, name_if}
+use Rattle.bolt_etcd.specs.Superseded.{name_of_entry, is_deletion, is_key_deleted, is_key_until, is_old, name_if}
 use Rattle.bolt_etcd.proofs.{Currents.bind_some, KeyNumbers.spellings_cmp, Keys.read_spelled}
 
 some_of : (o : Option RevisionView) (name : List ℕ) → option_map name_of o ≡ Some name → (o ≡ Some (or_nothing o)) × (name_of (or_nothing o) ≡ name)
@@ -51,7 +51,7 @@ has_place r = (stored r).place
 
 -- ---- as an entry
 
-pub named : (r : Revision) → entry_name (entry_of r) ≡ name_of (shown_revision r)
+pub named : (r : Revision) → name_of_entry (entry_of r) ≡ name_of (shown_revision r)
 named r = ap name_if (is_revision r)
 
 old : (compacted : ℕ) (r : Revision) → is_old compacted (entry_of r) ≡ not (nat_lt compacted (shown_revision r).key.main)

@@ -11,7 +11,7 @@ use Rattle.bolt_check.specs.Keys.{Key, key_cmp}
 use Rattle.bolt_tree.proofs.{Lists.contains_cases, Lists.contains_head, Lists.contains_none, Lists.contains_tail, Lists.irreflexive, PathOrder.path_total}
 use Rattle.bolt_tree.specs.{Entries.Bucket, Entries.EntryView, Entries.Item, Entries.Value, Listing.Member, Listing.member_cmp, Order.Rises, Paths.Path, Paths.path_cmp}
 use Rattle.bolt_etcd.proofs.Rising.{before_it}
-use Rattle.bolt_etcd.specs.{Candidates.HasKey, Repairs.compaction_path, Repairs.store_path, Surveys.HasKeptKey, Surveys.IsAfter, Surveys.IsSurvey}
+use Rattle.bolt_etcd.specs.{Candidates.HasKey, Repairs.compaction_path, Repairs.store_path, Surveys.HasKeptKey, Surveys.ComesAfter, Surveys.IsStoreSurvey}
 
 -- one is among these or is the last
 last_cases : {A : Type 0} (xs : List A) (x y : A) → Contains (xs ++ x ∷ []) y → Contains xs y ⊎ (x ≡ y)
@@ -36,7 +36,7 @@ module _ (before : List Member) (m : Member) where
   )
 
   -- and at its path it is alone
-  alone : IsAfter before m → (item : Item) → Contains before (m.0, item) → ⊥
+  alone : ComesAfter before m → (item : Item) → Contains before (m.0, item) → ⊥
   alone after item has = irreflexive path_total m.0 (after (m.0, item) has)
 
 -- ---- the paths differ
@@ -65,8 +65,8 @@ then_less Greater e = cc
 
 -- ---- a survey of these members, and of one more
 
-module _ (before : List Member) (path : Path) (item : Item) (after : IsAfter before (path, item)) (candidates : List EntryView)
-    (under : Option Item) (noted : Option (List ℕ)) (keys : List Key) (s : IsSurvey before candidates under noted keys) where
+module _ (before : List Member) (path : Path) (item : Item) (after : ComesAfter before (path, item)) (candidates : List EntryView)
+    (under : Option Item) (noted : Option (List ℕ)) (keys : List Key) (s : IsStoreSurvey before candidates under noted keys) where
   abbrev now : List Member
   now = before ++ (path, item) ∷ []
 
@@ -93,7 +93,7 @@ module _ (before : List Member) (path : Path) (item : Item) (after : IsAfter bef
     ],
   )
 
-  pub store_noted : path ≡ store_path → IsSurvey now candidates (Some item) noted keys
+  pub store_noted : path ≡ store_path → IsStoreSurvey now candidates (Some item) noted keys
   store_noted at = record {
     store = λ i. (
       λ has. elim (last_cases before (path, item) (store_path, i) has) [
@@ -108,7 +108,7 @@ module _ (before : List Member) (path : Path) (item : Item) (after : IsAfter bef
   }
 
   module _ (value : List ℕ) (is_value : item ≡ Value value) where
-    pub compaction_noted : path ≡ compaction_path → IsSurvey now candidates under (Some value) keys
+    pub compaction_noted : path ≡ compaction_path → IsStoreSurvey now candidates under (Some value) keys
     compaction_noted at = record {
       store = store_same (λ e. bucket_not_compaction (sym e ∙ at));
       compaction = λ v. (
@@ -124,7 +124,7 @@ module _ (before : List Member) (path : Path) (item : Item) (after : IsAfter bef
 
   -- a bucket notes no compaction
   module _ (sequence : ℕ) (is_bucket : item ≡ Bucket sequence) where
-    pub bucket_there : path ≡ compaction_path → IsSurvey now candidates under noted keys
+    pub bucket_there : path ≡ compaction_path → IsStoreSurvey now candidates under noted keys
     bucket_there at = record {
       store = store_same (λ e. bucket_not_compaction (sym e ∙ at));
       compaction = λ v. (
@@ -150,7 +150,7 @@ module _ (before : List Member) (path : Path) (item : Item) (after : IsAfter bef
         let (_, (i, kept)) = (s.met k).0 has in
         then_less (key_cmp k key) (subst (λ (p : Path). path_cmp (store_path ++ k ∷ []) p ≡ Less) at (after _ kept))
 
-    more_keys : HasKey candidates key → IsSurvey now candidates under noted (keys ++ key ∷ [])
+    more_keys : HasKey candidates key → IsStoreSurvey now candidates under noted (keys ++ key ∷ [])
     more_keys wanted = record {
       store = store_same not_store;
       compaction = compaction_same nothing_noted;
@@ -170,10 +170,10 @@ module _ (before : List Member) (path : Path) (item : Item) (after : IsAfter bef
       );
     }
 
-    pub key_noted : (more : List Key) → more ≡ keys ++ key ∷ [] → HasKey candidates key → IsSurvey now candidates under noted more
-    key_noted more is wanted = subst (λ (l : List Key). IsSurvey now candidates under noted l) (sym is) (more_keys wanted)
+    pub key_noted : (more : List Key) → more ≡ keys ++ key ∷ [] → HasKey candidates key → IsStoreSurvey now candidates under noted more
+    key_noted more is wanted = subst (λ (l : List Key). IsStoreSurvey now candidates under noted l) (sym is) (more_keys wanted)
 
-    pub key_not_wanted : (HasKey candidates key → ⊥) → IsSurvey now candidates under noted keys
+    pub key_not_wanted : (HasKey candidates key → ⊥) → IsStoreSurvey now candidates under noted keys
     key_not_wanted unwanted = record {
       store = store_same not_store;
       compaction = compaction_same nothing_noted;
@@ -181,7 +181,7 @@ module _ (before : List Member) (path : Path) (item : Item) (after : IsAfter bef
       met = met_same (λ k e want. unwanted (subst (HasKey candidates) (same_last k key (sym e ∙ at)) want));
     }
 
-  pub nothing_there : (path ≡ store_path → ⊥) → ((key : Key) → path ≡ store_path ++ key ∷ [] → ⊥) → (path ≡ compaction_path → ⊥) → IsSurvey now candidates under noted keys
+  pub nothing_there : (path ≡ store_path → ⊥) → ((key : Key) → path ≡ store_path ++ key ∷ [] → ⊥) → (path ≡ compaction_path → ⊥) → IsStoreSurvey now candidates under noted keys
   nothing_there no_bucket no_entry no_compaction = record {
     store = store_same no_bucket;
     compaction = compaction_same no_compaction;
@@ -191,7 +191,7 @@ module _ (before : List Member) (path : Path) (item : Item) (after : IsAfter bef
 
 -- ---- of no member
 
-pub none_surveyed : (candidates : List EntryView) → IsSurvey [] candidates None None []
+pub none_surveyed : (candidates : List EntryView) → IsStoreSurvey [] candidates None None []
 none_surveyed candidates = record {
   store = λ i. (λ has. absurd (contains_none _ has), λ e. cc);
   compaction = λ v. (λ has. absurd (contains_none _ has), λ e. cc);
@@ -202,7 +202,7 @@ none_surveyed candidates = record {
 -- ---- the members of a listing, one after another
 
 pub next_member : (listing before left new : List Member) (path given : Path) (item : Item) → Rises member_cmp listing → before ++ left ≡ listing → left ≡ (given, item) ∷ new → path ≡ given
-    → IsAfter before (path, item) × ((before ++ (path, item) ∷ []) ++ new ≡ listing)
+    → ComesAfter before (path, item) × ((before ++ (path, item) ∷ []) ++ new ≡ listing)
 next_member listing before left new path given item rises all first same =
     let next : left ≡ (path, item) ∷ new = first ∙ ap (λ (p : Path). (p, item) ∷ new) (sym same) in
     let whole : before ++ (path, item) ∷ new ≡ listing = ap (λ (ms : List Member). before ++ ms) (sym next) ∙ all in (

@@ -6,7 +6,7 @@ use Rattle.std.specs.List.{Contains}
 use Rattle.std.specs.declared.cmp.Ordering.TheVariants.{Less}
 use Rattle.bolt_tree.proofs.Lists.{contains_head}
 use Rattle.bolt_tree.specs.Order.{Rises}
-use Rattle.bolt_etcd.specs.{Compactions.kept, Current.place_cmp, Histories.Transaction, Histories.history, Histories.nothing}
+use Rattle.bolt_etcd.specs.{Compactions.kept_revisions, Current.place_cmp, Histories.Transaction, Histories.history, Histories.nothing}
 use Rattle.bolt_etcd.specs.{MissingNumbers.missing_numbers, Revisions.RevisionView, Possible.ArePossible, Taken.IsTaken}
 use Rattle.bolt_etcd.specs.{Told.IsTold, ToldRevisions.IsToldRevision}
 use Rattle.bolt_etcd.proofs.{Filtered.filter_rises, Filtered.kept_from, HistorySteps.from, HistorySteps.goes, HistorySteps.history_rises}
@@ -18,7 +18,7 @@ apart : (a b : RevisionView) → pair_cmp a b ≡ Less → a.key.main ≡ b.key.
 apart a b less main sub = let tied = rw (main, sub, tied_itself nat_cmp_total b.key.main, tied_itself nat_cmp_total b.key.sub) at less in cc
 
 module _ (compacted : ℕ) (ts : List Transaction) (keeps : RevisionView → Bool) (possible : ArePossible ts) (r : RevisionView) (left : List RevisionView)
-    (is : IsTaken compacted (kept keeps ts) r left) where
+    (is : IsTaken compacted (kept_revisions keeps ts) r left) where
   pub all_rise : Rises pair_cmp (is.before ++ r ∷ is.after)
   all_rise = subst (Rises pair_cmp) is.there (filter_rises pair_cmp keeps (history ts) (history_rises ts possible))
 

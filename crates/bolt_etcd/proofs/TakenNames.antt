@@ -6,7 +6,7 @@ use Rattle.std.proofs.lemmas.List.Elements.{Contains-append_left, filter-append}
 use Rattle.std.proofs.lemmas.Option.{same_Some}
 use Rattle.std.specs.List.{Contains, find, last_or}
 use Rattle.bolt_tree.proofs.Lists.{contains_head, contains_tail}
-use Rattle.bolt_etcd.specs.{Compactions.IsCompaction, Compactions.kept, Follows.creates, Follows.follows, Follows.is_next_of}
+use Rattle.bolt_etcd.specs.{Compactions.IsCompaction, Compactions.kept_revisions, Follows.creates, Follows.follows, Follows.is_next_of}
 use Rattle.bolt_etcd.specs.{Histories.Delete, Histories.Put, Histories.State, Histories.Transaction, Histories.history, Histories.nothing}
 use Rattle.bolt_etcd.specs.{Histories.version_after}
 use Rattle.bolt_etcd.specs.{NameFaults.AreByName, NameFaults.NameFaultView, NameFaults.fault_of, NameFaults.name_faults, Newest.is_named}
@@ -126,7 +126,7 @@ fault_in c granted o (z ∷ xs) x ys is =
     one_more (g.one_before || g.lease) g _ (name_faults c granted (Some z) (xs ++ x ∷ ys)) (fault_in c granted (Some z) xs x ys is)
 
 module _ (compacted : ℕ) (ts : List Transaction) (keeps : RevisionView → Bool) (possible : ArePossible ts) (compaction : IsCompaction compacted ts keeps)
-    (r next : RevisionView) (left : List RevisionView) (is : IsTaken compacted (kept keeps ts) r left)
+    (r next : RevisionView) (left : List RevisionView) (is : IsTaken compacted (kept_revisions keeps ts) r left)
     (shown : IsShownBy next r is.before is.after) where
   its_next : IsFound (is_named (name_of r)) is.after next
   its_next = found_there (is_named (name_of r)) is.after next shown.next_of_name
@@ -137,7 +137,7 @@ module _ (compacted : ℕ) (ts : List Transaction) (keeps : RevisionView → Boo
   abbrev later : List RevisionView
   later = its_next.0
 
-  own_kept : filter (is_named (name_of r)) (kept keeps ts) ≡ earlier ++ r ∷ next ∷ later
+  own_kept : filter (is_named (name_of r)) (kept_revisions keeps ts) ≡ earlier ++ r ∷ next ∷ later
   own_kept =
       ap (filter (is_named (name_of r))) is.there
       ∙ filter-append (is_named (name_of r)) is.before (r ∷ is.after)

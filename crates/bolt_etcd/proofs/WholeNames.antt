@@ -8,9 +8,9 @@ use Rattle.std.specs.Str.{bytes_eq}
 use Rattle.bolt_check.specs.Keys.{Key}
 use Rattle.bolt_tree.proofs.Lists.{contains_cases, contains_head, contains_tail}
 use Rattle.bolt_tree.specs.Order.{Rises}
-use Rattle.bolt_etcd.specs.{Compactions.IsCompaction, Compactions.kept, Follows.follows, Histories.Delete, Histories.Put}
+use Rattle.bolt_etcd.specs.{Compactions.IsCompaction, Compactions.kept_revisions, Follows.follows, Histories.Delete, Histories.Put}
 use Rattle.bolt_etcd.specs.{Histories.State, Histories.Transaction, Histories.after_all, Histories.history, Histories.nothing}
-use Rattle.bolt_etcd.specs.{MissingNumbers.is_above, NameFaults.before_of, NameFaults.is_newest, NameFaults.lacks_lease}
+use Rattle.bolt_etcd.specs.{MissingNumbers.is_of_later, NameFaults.before_of, NameFaults.is_newest, NameFaults.lacks_lease}
 use Rattle.bolt_etcd.specs.{NameFaults.lacks_one_before, NameFaults.name_faults, Newest.is_named, Newest.newest, Revisions.RevisionView}
 use Rattle.bolt_etcd.specs.{Revisions.name_of}
 use Rattle.bolt_etcd.specs.{Possible.ArePossible, Told.number_cmp}
@@ -69,11 +69,11 @@ no_lease state r (Delete name, can, is) deleted = ap (λ (x : RevisionView). x.c
 module _ (compacted : ℕ) (ts : List Transaction) (keeps : RevisionView → Bool) (possible : ArePossible ts) (compaction : IsCompaction compacted ts keeps)
     (name : Key) where
   abbrev own_kept : List RevisionView
-  own_kept = filter (is_named name) (kept keeps ts)
+  own_kept = filter (is_named name) (kept_revisions keeps ts)
 
   own_rise : Rises number_cmp own_kept
   own_rise =
-      filter_rises number_cmp (is_named name) (kept keeps ts)
+      filter_rises number_cmp (is_named name) (kept_revisions keeps ts)
       (filter_rises number_cmp keeps (history ts) (numbers_rise (history ts) (history_rises ts possible)))
 
   all_own : AllFollow None (filter (is_named name) (history ts))
@@ -112,7 +112,7 @@ module _ (compacted : ℕ) (ts : List Transaction) (keeps : RevisionView → Boo
   lease_there granted grants r e false true test deleted = elim (last_in None own_kept r e) [
     | inl nowhere ↦ cc
     | inr has ↦
-        let there = (kept_from keeps (history ts) r (kept_from (is_named name) (kept keeps ts) r has).0).0 in
+        let there = (kept_from keeps (history ts) r (kept_from (is_named name) (kept_revisions keeps ts) r has).0).0 in
         absurd (eqb-false r.content.lease 0 test (each HasNoLeaseIfDeleted no_lease nothing 2 0 (history ts) (goes ts possible) r there deleted))
   ]
   lease_there granted grants r e false false test deleted =
@@ -122,7 +122,7 @@ module _ (compacted : ℕ) (ts : List Transaction) (keeps : RevisionView → Boo
   -- ---- so it has no fault
 
   module _ (granted : ℕ → Bool) where
-    none_before : (o : Option RevisionView) (r : RevisionView) (b : Bool) → is_above compacted r ≡ b → before_of o r ≡ o
+    none_before : (o : Option RevisionView) (r : RevisionView) (b : Bool) → is_of_later compacted r ≡ b → before_of o r ≡ o
         → (compacted < r.key.main → follows o r ≡ true)
         → lacks_one_before (Some compacted) o r ≡ false
     none_before o r true above is here =
@@ -147,10 +147,10 @@ module _ (compacted : ℕ) (ts : List Transaction) (keeps : RevisionView → Boo
     no_fault o (r ∷ rs) is own follow lease =
         let own_r = own r (contains_head r rs) in
         cond-false _ _ _
-        (neither _ _ (none_before o r (is_above compacted r) refl (own_before name o r is own_r) follow.0) (none_of_lease r rs own lease))
+        (neither _ _ (none_before o r (is_of_later compacted r) refl (own_before name o r is own_r) follow.0) (none_of_lease r rs own lease))
         ∙ no_fault (Some r) rs own_r (λ s has. own s (contains_tail r s rs has)) follow.1 lease
 
     pub no_faults : Grants granted → name_faults (Some compacted) granted None own_kept ≡ []
     no_faults grants =
-        no_fault None own_kept tt (λ r has. (kept_from (is_named name) (kept keeps ts) r has).1) kept_follow
+        no_fault None own_kept tt (λ r has. (kept_from (is_named name) (kept_revisions keeps ts) r has).1) kept_follow
         (λ r e. lease_there granted grants r e (r.content.lease == 0) r.key.deleted refl refl)

@@ -19,7 +19,7 @@ use Rattle.bolt_check.specs.Keys.{Key, key_cmp}
 use Rattle.bolt_tree.specs.{Entries.Bucket, Entries.EntryView, Entries.Item, Entries.Value, Entries.entry_view}
 use Rattle.bolt_etcd.specs.ShownRevisions.{entry_of}
 use Rattle.bolt_etcd.specs.declared.revision.Revision.{Revision}
-use Rattle.bolt_etcd.specs.Candidates.{AreCandidates, bytes_of_item, candidates_in, is_candidate, is_in_place, is_same, value_bytes, whole_cmp}
+use Rattle.bolt_etcd.specs.Candidates.{AreCandidates, bytes_of_item, candidates_in, is_candidate, is_in_place, is_same_entry, value_bytes, whole_cmp}
 use Rattle.bolt_etcd.specs.Misplaced.{is_misplaced}
 use Rattle.bolt_etcd.specs.Revisions.{RevisionView, revision_in, revision_of, value_of}
 use Rattle.bolt_etcd.proofs.{Currents.bind_some, Filtered.kept_from, MappedLists.dedup_mapped, MappedLists.sorted_mapped, SortedOnce.rises_from}
@@ -32,7 +32,7 @@ both_tied Less b = refl
 both_tied Equal b = refl
 both_tied Greater b = refl
 
-ties : (x y : EntryView) → is_same x y ≡ eq_by_cmp whole_cmp x y
+ties : (x y : EntryView) → is_same_entry x y ≡ eq_by_cmp whole_cmp x y
 ties x y =
     let keys = is_eq-slice_cmp x.key y.key in
     let values = is_eq-slice_cmp (value_bytes x) (value_bytes y) in
@@ -40,7 +40,7 @@ ties x y =
     ∙ ap (λ (b : Bool). is_eq (key_cmp x.key y.key) && b) (sym values)
     ∙ sym (both_tied (key_cmp x.key y.key) (key_cmp (value_bytes x) (value_bytes y)))
 
-same_equal : IsEquivalence is_same
+same_equal : IsEquivalence is_same_entry
 same_equal = and_equiv (on_equiv (λ (e : EntryView). e.key) nat_list_eq_equiv) (on_equiv value_bytes nat_list_eq_equiv)
 
 -- ---- each candidate is a value, so it is what its key and its bytes say
@@ -68,7 +68,7 @@ same_values x y v w is also key bytes =
     let value : v ≡ w = sym (ap bytes_of_item is) ∙ bytes ∙ ap bytes_of_item also in
     same_view x y key (is ∙ ap Value value ∙ sym also)
 
-same_candidates : (x y : EntryView) → is_candidate x ≡ true → is_candidate y ≡ true → is_same x y ≡ true → x ≡ y
+same_candidates : (x y : EntryView) → is_candidate x ≡ true → is_candidate y ≡ true → is_same_entry x y ≡ true → x ≡ y
 same_candidates x y first second e =
     let (v, is) = candidate_value x first in
     let (w, also) = candidate_value y second in
@@ -84,17 +84,17 @@ module _ (elements : List LeafElement) (es : List EntryView) (moved : IsPermutat
   passes : (e : EntryView) → Contains es e → is_candidate e ≡ true
   passes e has = (kept_from is_candidate (map entry_view elements) e (Contains-permutation es _ e (IsPermutation-sym _ es moved) has)).1
 
-  merged_has : (e : EntryView) → Contains es e → Contains (dedup is_same es) e
+  merged_has : (e : EntryView) → Contains es e → Contains (dedup is_same_entry es) e
   merged_has e has =
       let (k, other, lt, at, same) = Any-dedup same_equal es e has in
-      let kept : Contains (dedup is_same es) other = (k, lt, at) in
-      subst (Contains (dedup is_same es)) (sym (same_candidates e other (passes e has) (passes other (Contains-from_dedup is_same es other kept)) same)) kept
+      let kept : Contains (dedup is_same_entry es) other = (k, lt, at) in
+      subst (Contains (dedup is_same_entry es)) (sym (same_candidates e other (passes e has) (passes other (Contains-from_dedup is_same_entry es other kept)) same)) kept
 
-  pub merged_are_candidates : IsSorted whole_cmp es → AreCandidates elements (dedup is_same es)
+  pub merged_are_candidates : IsSorted whole_cmp es → AreCandidates elements (dedup is_same_entry es)
   merged_are_candidates up = record {
     rises = rises_from whole_total _ (IsStrictlySortedBy-dedup whole_total ties es up);
     exact = λ e. (
-      λ has. Contains-permutation es _ e (IsPermutation-sym _ es moved) (Contains-from_dedup is_same es e has),
+      λ has. Contains-permutation es _ e (IsPermutation-sym _ es moved) (Contains-from_dedup is_same_entry es e has),
       λ has. merged_has e (Contains-permutation _ es e moved has),
     );
   }
@@ -105,7 +105,7 @@ abbrev pub code_whole : Revision → Revision → Bool
 code_whole a b = is_lt (whole_cmp (entry_of a) (entry_of b))
 
 abbrev pub code_same : Revision → Revision → Bool
-code_same a b = is_same (entry_of a) (entry_of b)
+code_same a b = is_same_entry (entry_of a) (entry_of b)
 
 pub code_ranks : IsStrictWeakOrder code_whole
 code_ranks = ranks_by whole_total entry_of
@@ -113,7 +113,7 @@ code_ranks = ranks_by whole_total entry_of
 pub are_candidates : (elements : List LeafElement) (all sorted left : List Revision) → map entry_of all ≡ candidates_in elements → IsPermutation all sorted → IsSortedBy code_whole sorted
     → left ≡ dedup code_same sorted → AreCandidates elements (map entry_of left)
 are_candidates elements all sorted left are moved up once =
-    let shown = ap (map entry_of) once ∙ dedup_mapped entry_of is_same sorted in
+    let shown = ap (map entry_of) once ∙ dedup_mapped entry_of is_same_entry sorted in
     let moved_shown = subst (λ (es : List EntryView). IsPermutation es (map entry_of sorted)) are (IsPermutation-map entry_of all sorted moved) in
     subst (AreCandidates elements) (sym shown)
     (merged_are_candidates elements (map entry_of sorted) moved_shown (sorted_mapped entry_of (λ a b. is_lt (whole_cmp a b)) sorted up))

@@ -13,14 +13,14 @@ use Rattle.bolt_etcd.specs.{Among.without, Candidates.AreCandidates, Candidates.
 use Rattle.bolt_etcd.specs.{FullRepairs.AreCandidateKeys, FullRepairs.IsFullRepair, Newest.is_until, Repaired.IsRepair, Repaired.MakesStore, Repaired.elements_on, Repaired.lacks_bucket}
 use Rattle.bolt_etcd.specs.Repairs.{AreBack, GoesBack, IsAgreed, IsCandidate, IsCompactedAt, IsNewestUpTo, store_path}
 use Rattle.bolt_etcd.specs.{Revisions.RevisionView, Revisions.name_of, Revisions.revision_of}
-use Rattle.bolt_etcd.specs.{Superseded.ArePutBack, Superseded.IsNewestOf, Superseded.entry_name, Superseded.is_deletion, Superseded.is_key_deleted, Superseded.is_key_until, Superseded.is_old, Superseded.name_if}
-use Rattle.bolt_etcd.specs.{Surveys.IsSurvey, Undisputed.AreKeys, Undisputed.AreUndisputed}
+use Rattle.bolt_etcd.specs.{Superseded.ArePutBack, Superseded.IsNewestOf, Superseded.name_of_entry, Superseded.is_deletion, Superseded.is_key_deleted, Superseded.is_key_until, Superseded.is_old, Superseded.name_if}
+use Rattle.bolt_etcd.specs.{Surveys.IsStoreSurvey, Undisputed.AreKeys, Undisputed.AreUndisputed}
 use Rattle.bolt_etcd.proofs.{Currents.key_is, Currents.place_is, Filtered.kept_from, KeysAmong.without_has, MappedLists.shows_from, MappedLists.shows_has, Rising.fewer, Rising.rises_mapped, WholeOrder.in_place}
 
 -- ---- what an entry says if it is a revision
 
 module _ (compacted : ℕ) (e : EntryView) (r : RevisionView) (is : revision_of e ≡ Some r) where
-  named : entry_name e ≡ name_of r
+  named : name_of_entry e ≡ name_of r
   named = ap name_if is
 
   old_is : is_old compacted e ≡ is_until compacted r
@@ -53,7 +53,7 @@ value_under (Some (Value value)) none = (value, refl)
 -- ---- from elements
 
 module _ (recovered : List Member) (found : List LeafElement) (all : List EntryView) (met : List Key) (under : Option Item) (noted : Option (List ℕ))
-    (are : AreCandidates found all) (survey : IsSurvey recovered all under noted met) where
+    (are : AreCandidates found all) (survey : IsStoreSurvey recovered all under noted met) where
   -- ---- candidates
 
   candidate_from : (e : EntryView) → Contains (without met all) e → (r : RevisionView) × IsCandidate recovered found e r
@@ -194,7 +194,7 @@ module _ (recovered : List Member) (found : List LeafElement) (all : List EntryV
 
 module _ (file : List ℕ) (meta : Meta) (found : List ℕ) (are_found : AreFound file meta found) (all agreed back : List EntryView) (met : List Key) (under : Option Item) (noted : Option (List ℕ))
     (candidates : AreCandidates (elements_on file meta found) all) (agree : AreUndisputed (without met all) agreed) (recovered : List Member) (recovers : IsRecovered file meta recovered)
-    (survey : IsSurvey recovered all under noted met) (put : ArePutBack (compacted_by noted) recovered agreed back) where
+    (survey : IsStoreSurvey recovered all under noted met) (put : ArePutBack (compacted_by noted) recovered agreed back) where
   abbrev elements : List LeafElement
   elements = elements_on file meta found
 

@@ -29,8 +29,8 @@ abbrev pub candidates_in : List LeafElement → List EntryView
 candidates_in elements = filter is_candidate (map entry_view elements)
 
 -- the elements of found pages of the code
-abbrev pub elements_of : List Found → List LeafElement
-elements_of found = flat_map (λ (f : Found). leaves_on f.page) found
+abbrev pub found_elements : List Found → List LeafElement
+found_elements found = flat_map (λ (f : Found). leaves_on f.page) found
 
 abbrev pub bytes_of_item : Item → List ℕ
 bytes_of_item (Value value) = value
@@ -43,8 +43,8 @@ value_bytes e = bytes_of_item e.item
 abbrev pub whole_cmp : EntryView → EntryView → Ordering
 whole_cmp a b = ordering_then (key_cmp a.key b.key) (key_cmp (value_bytes a) (value_bytes b))
 
-abbrev pub is_same : EntryView → EntryView → Bool
-is_same a b = bytes_eq a.key b.key && bytes_eq (value_bytes a) (value_bytes b)
+abbrev pub is_same_entry : EntryView → EntryView → Bool
+is_same_entry a b = bytes_eq a.key b.key && bytes_eq (value_bytes a) (value_bytes b)
 
 -- the candidates among these elements, by key and value, each once
 pub record AreCandidates (elements : List LeafElement) (es : List EntryView) : Type 0 where

@@ -41,5 +41,5 @@ abbrev pub lease_line : RevisionView → List ℕ
 lease_line r = named_then r (codes ": lease " ++ (digits 16 false r.content.lease ++ codes " is missing\n"))
 
 -- of a revision of which something is missing: a line for each
-abbrev pub fault_lines : NameFaultView → List (List ℕ)
-fault_lines f = (if f.one_before then one_before_line f.revision ∷ [] else []) ++ (if f.lease then lease_line f.revision ∷ [] else [])
+abbrev pub name_fault_lines : NameFaultView → List (List ℕ)
+name_fault_lines f = (if f.one_before then one_before_line f.revision ∷ [] else []) ++ (if f.lease then lease_line f.revision ∷ [] else [])

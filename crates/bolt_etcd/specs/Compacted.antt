@@ -21,11 +21,11 @@ abbrev pub IsCompacted : (Start → LeafElement → Type 0) → Start → ℕ �
 IsCompacted Entry meta n = (value : Option (List ℕ)) × IsValueAt Entry meta (codes "scheduledCompactRev") value × (n ≡ compacted_by value)
 
 -- the value under a key, if these are the entries of a bucket
-abbrev pub is_value : Key → LeafElement → Bool
-is_value key e = bytes_eq e.key key && not e.is_bucket
+abbrev pub is_value_under : Key → LeafElement → Bool
+is_value_under key e = bytes_eq e.key key && not e.is_bucket
 
 abbrev pub value_under : Key → List LeafElement → Option (List ℕ)
-value_under key entries = option_map (λ (e : LeafElement). e.value) (find (is_value key) entries)
+value_under key entries = option_map (λ (e : LeafElement). e.value) (find (is_value_under key) entries)
 
 -- by the entries of the bucket `meta`
 abbrev pub compacted_in : List LeafElement → ℕ

@@ -16,5 +16,5 @@ pub record IsCompaction (compacted : ℕ) (ts : List Transaction) (keeps : Revis
       → IsTrue (keeps a) → IsTrue (keeps b)
 
 -- what is there after it
-abbrev pub kept : (RevisionView → Bool) → List Transaction → List RevisionView
-kept keeps ts = filter keeps (history ts)
+abbrev pub kept_revisions : (RevisionView → Bool) → List Transaction → List RevisionView
+kept_revisions keeps ts = filter keeps (history ts)

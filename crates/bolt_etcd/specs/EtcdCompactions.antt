@@ -3,11 +3,11 @@
 use Rattle.std.specs.Prelude.{ℕ, Bool, false, List, Option, Some, None, bytes_eq, nat_lt, not, ◌==◌, ◌&&◌, ◌||◌}
 use Rattle.bolt_etcd.specs.{Newest.newest, Newest.until, Revisions.RevisionView, Revisions.name_of}
 
-abbrev pub is_same : RevisionView → Option RevisionView → Bool
-is_same r None = false
-is_same r (Some other) = bytes_eq other.place r.place
+abbrev pub is_same_revision : RevisionView → Option RevisionView → Bool
+is_same_revision r None = false
+is_same_revision r (Some other) = bytes_eq other.place r.place
 
 abbrev pub etcd_keeps : (new : Bool) (compacted : ℕ) → List RevisionView → RevisionView → Bool
 etcd_keeps new compacted rs r =
     nat_lt compacted r.key.main
-    || (is_same r (newest (name_of r) (until compacted rs)) && (not r.key.deleted || (new && (r.key.main == compacted))))
+    || (is_same_revision r (newest (name_of r) (until compacted rs)) && (not r.key.deleted || (new && (r.key.main == compacted))))

@@ -2,11 +2,11 @@
 use Rattle.std.specs.Prelude.{◌≡◌, ◌||◌, ◌+◌, if◌then◌else◌, ℕ, Bool, false, List, [], ◌∷◌, drop, flat_map, length, map, Option, Some, None}
 use Rattle.std.specs.Option.{option_map}
 use Rattle.bolt_tree.specs.declared.bucket.Bucket.{Bucket}
-use Rattle.bolt_etcd.specs.{CheckLines.fault_lines, NameFaults.NameFaultView, NameFaults.fault_of, NameFaults.has_lease, NameFaults.name_faults, ShownRevisions.shown_revision, Stores.ForBucket}
+use Rattle.bolt_etcd.specs.{CheckLines.name_fault_lines, NameFaults.NameFaultView, NameFaults.fault_of, NameFaults.has_lease, NameFaults.name_faults, ShownRevisions.shown_revision, Stores.ForBucket}
 use Rattle.bolt_etcd.specs.declared.{name_faults.NameFault.NameFault, name_faults.NameFaults.NameFaults, revision.Revision.Revision}
 
-abbrev pub shown_fault : NameFault → NameFaultView
-shown_fault f = record { revision = shown_revision f.revision; one_before = f.one_before; lease = f.lease }
+abbrev pub shown_name_fault : NameFault → NameFaultView
+shown_name_fault f = record { revision = shown_revision f.revision; one_before = f.one_before; lease = f.lease }
 
 -- the revisions that it still has to go over
 abbrev pub revisions_left : NameFaults → List Revision
@@ -31,19 +31,19 @@ ForGranted (Some leases) P = ForBucket leases (λ entries. P (has_lease entries)
 -- it is what is missing of its next revision
 abbrev pub IsNextFault : NameFaults → (ℕ → Bool) → NameFault → Type 0
 IsNextFault pass granted f =
-    shown_fault f ≡ fault_of pass.compacted granted (option_map shown_revision pass.before) (shown_revision f.revision)
+    shown_name_fault f ≡ fault_of pass.compacted granted (option_map shown_revision pass.before) (shown_revision f.revision)
     (map shown_revision (drop (pass.at + 1) pass.revisions.now))
 
 -- this holds of the lines of the faults that it still has to return
 abbrev pub ForFaultLines : NameFaults → (List (List ℕ) → Type 0) → Type 0
-ForFaultLines pass P = ForGranted (faults_leases pass) (λ granted. P (flat_map fault_lines (faults_left pass granted)))
+ForFaultLines pass P = ForGranted (faults_leases pass) (λ granted. P (flat_map name_fault_lines (faults_left pass granted)))
 
 -- the first is returned, and the others are left; or none is left
 abbrev pub GivesFault : (old new : List NameFaultView) → Option NameFault → Type 0
-GivesFault old new (Some f) = old ≡ shown_fault f ∷ new
+GivesFault old new (Some f) = old ≡ shown_name_fault f ∷ new
 GivesFault old new None = (old ≡ []) × (new ≡ [])
 
 -- the fault of the next revision is returned, if anything is missing of it, and those of later ones are left
 abbrev pub StepsOver : (ℕ → Bool) → (old new : NameFaults) → Option NameFault → Type 0
-StepsOver granted old new (Some f) = faults_left old granted ≡ (if f.one_before || f.lease then shown_fault f ∷ faults_left new granted else faults_left new granted)
+StepsOver granted old new (Some f) = faults_left old granted ≡ (if f.one_before || f.lease then shown_name_fault f ∷ faults_left new granted else faults_left new granted)
 StepsOver granted old new None = (faults_left old granted ≡ []) × (faults_left new granted ≡ [])

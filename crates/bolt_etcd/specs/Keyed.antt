@@ -5,5 +5,5 @@ use Rattle.bolt_check.specs.Keys.{Key, key_cmp}
 use Rattle.bolt_etcd.specs.{ShownRevisions.entry_of, declared.revision.Revision.Revision}
 
 -- the first n have lesser keys
-abbrev pub AreBelow : Key → List Revision → ℕ → Type 0
-AreBelow key rs n = (n ≤ length rs) × ((k : ℕ) (d : Revision) → k < n → key_cmp (entry_of (slice_index_or rs k d)).key key ≡ Less)
+abbrev pub HaveLesserKeys : Key → List Revision → ℕ → Type 0
+HaveLesserKeys key rs n = (n ≤ length rs) × ((k : ℕ) (d : Revision) → k < n → key_cmp (entry_of (slice_index_or rs k d)).key key ≡ Less)

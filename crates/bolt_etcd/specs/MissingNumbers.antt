@@ -25,11 +25,11 @@ missing_after main sub [] = []
 missing_after main sub (k ∷ ks) = missing_before main sub k ++ missing_after k.main (k.sub + 1) ks
 
 -- the keys of later transactions
-abbrev pub is_above : ℕ → RevisionView → Bool
-is_above compacted r = nat_lt compacted r.key.main
+abbrev pub is_of_later : ℕ → RevisionView → Bool
+is_of_later compacted r = nat_lt compacted r.key.main
 
 abbrev pub keys_above : ℕ → List RevisionView → List RevisionKey
-keys_above compacted rs = map (λ (r : RevisionView). r.key) (filter (is_above compacted) rs)
+keys_above compacted rs = map (λ (r : RevisionView). r.key) (filter (is_of_later compacted) rs)
 
 -- what is missing after a compaction; before transaction 2 there is none
 abbrev pub missing_numbers : ℕ → List RevisionView → List Missing

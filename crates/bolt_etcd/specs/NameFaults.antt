@@ -8,7 +8,7 @@ use Rattle.std.specs.Ordering.{is_lt, ordering_then}
 use Rattle.std.specs.Str.{bytes_eq}
 use Rattle.std.specs.declared.cmp.Ordering.{Ordering}
 use Rattle.bolt_format.specs.Elements.{LeafElement}
-use Rattle.bolt_etcd.specs.{Current.name_cmp, Current.place_cmp, Follows.follows, MissingNumbers.is_above, Newest.is_named, Revisions.RevisionView, Revisions.name_of}
+use Rattle.bolt_etcd.specs.{Current.name_cmp, Current.place_cmp, Follows.follows, MissingNumbers.is_of_later, Newest.is_named, Revisions.RevisionView, Revisions.name_of}
 
 -- by name, and of one name in their order
 abbrev pub by_name_cmp : RevisionView → RevisionView → Ordering
@@ -34,7 +34,7 @@ before_of (Some before) r = if is_named (name_of r) before then Some before else
 -- whether it doesn't follow the one before it. Without the transaction of the last compaction nobody knows
 abbrev pub lacks_one_before : Option ℕ → Option RevisionView → RevisionView → Bool
 lacks_one_before None before r = false
-lacks_one_before (Some compacted) before r = is_above compacted r && not (follows (before_of before r) r)
+lacks_one_before (Some compacted) before r = is_of_later compacted r && not (follows (before_of before r) r)
 
 -- whether it is the newest of its name, if these come next
 abbrev pub is_newest : RevisionView → List RevisionView → Bool

@@ -3,7 +3,7 @@ use Rattle.std.specs.Prelude.{◌≡◌, ℕ, true, List, [], ◌∷◌, Option,
 use Rattle.std.specs.List.{filter_map}
 use Rattle.bolt_format.specs.Elements.{LeafElement}
 use Rattle.bolt_tree.specs.Entries.{EntryView, entry_view}
-use Rattle.bolt_etcd.specs.{Records.record_of, RevisionKeys.revision_key, RevisionMarks.is_mark, Revisions.RevisionView, Revisions.content_of, Revisions.value_of, Wire.◌>>=◌}
+use Rattle.bolt_etcd.specs.{Records.record_of, RevisionKeys.revision_key, RevisionMarks.is_mark, Revisions.RevisionView, Revisions.record_content, Revisions.value_of, Wire.◌>>=◌}
 use Rattle.bolt_etcd.specs.declared.revision_key.RevisionKey.{RevisionKey}
 
 -- what is under a revision key with a value that is a record. A mark is a record without fields: a revision that says nothing.
@@ -11,7 +11,7 @@ abbrev pub numbered_in : List ℕ → List ℕ → Option RevisionView
 numbered_in key value = do
   k ← revision_key key
   r ← record_of value
-  Some (record { place = key; key = k; content = content_of k.deleted r })
+  Some (record { place = key; key = k; content = record_content k.deleted r })
 
 -- the revision or the mark that an entry is, if it is one
 unfoldable pub numbered_of : EntryView → Option RevisionView

@@ -14,10 +14,10 @@ pub record RecordView : Type 0 where
 abbrev pub empty : RecordView
 empty = record { name = []; created = 0; modified = 0; version = 0; value = []; lease = 0 }
 
-abbrev pub number_in : Value → Option ℕ
-number_in (Varint n) = Some n
-number_in (LengthDelimited bytes) = None
-number_in Fixed = None
+abbrev pub varint_in : Value → Option ℕ
+varint_in (Varint n) = Some n
+varint_in (LengthDelimited bytes) = None
+varint_in Fixed = None
 
 abbrev pub bytes_in : Value → Option (List ℕ)
 bytes_in (Varint n) = None
@@ -28,11 +28,11 @@ bytes_in Fixed = None
 unfoldable pub with : RecordView → Field → Option RecordView
 with r f =
     if f.number == 1 then option_map (λ x. record r { name = x }) (bytes_in f.value)
-    else if f.number == 2 then option_map (λ x. record r { created = x }) (number_in f.value)
-    else if f.number == 3 then option_map (λ x. record r { modified = x }) (number_in f.value)
-    else if f.number == 4 then option_map (λ x. record r { version = x }) (number_in f.value)
+    else if f.number == 2 then option_map (λ x. record r { created = x }) (varint_in f.value)
+    else if f.number == 3 then option_map (λ x. record r { modified = x }) (varint_in f.value)
+    else if f.number == 4 then option_map (λ x. record r { version = x }) (varint_in f.value)
     else if f.number == 5 then option_map (λ x. record r { value = x }) (bytes_in f.value)
-    else if f.number == 6 then option_map (λ x. record r { lease = x }) (number_in f.value)
+    else if f.number == 6 then option_map (λ x. record r { lease = x }) (varint_in f.value)
     else Some r
 
 abbrev pub with_all : RecordView → List Field → Option RecordView

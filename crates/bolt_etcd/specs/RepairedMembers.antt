@@ -13,8 +13,8 @@ abbrev pub repair_meta : Repair → Meta
 repair_meta repair = repair.both.now.meta
 
 -- it is all that goes back, and says how many candidates don't
-abbrev pub IsWhole : Repair → Type 0
-IsWhole repair = ∥ IsFullRepair (repair_file repair) (repair_meta repair) (repair_back repair) (repair_is_made repair) repair.left_out ∥₁
+abbrev pub IsWholeRepair : Repair → Type 0
+IsWholeRepair repair = ∥ IsFullRepair (repair_file repair) (repair_meta repair) (repair_back repair) (repair_is_made repair) repair.left_out ∥₁
 
 unfoldable pub repaired_file : Repaired → List ℕ
 repaired_file repaired = repair_file repaired.repair.now

@@ -42,9 +42,9 @@ revision_lines form values rs = flat_map (revision_line form values) rs
 abbrev pub begins : List ℕ → RevisionView → Bool
 begins prefix r = starts_with (λ a b. a == b) r.content.name prefix
 
-abbrev pub named : List ℕ → List RevisionView → List RevisionView
-named prefix rs = filter (begins prefix) rs
+abbrev pub named_with : List ℕ → List RevisionView → List RevisionView
+named_with prefix rs = filter (begins prefix) rs
 
 -- what one revision adds to the lines of these
-abbrev pub named_line : List ℕ → Form → (values : Bool) → RevisionView → List ℕ
-named_line prefix form values r = if begins prefix r then revision_line form values r else []
+abbrev pub prefix_line : List ℕ → Form → (values : Bool) → RevisionView → List ℕ
+prefix_line prefix form values r = if begins prefix r then revision_line form values r else []

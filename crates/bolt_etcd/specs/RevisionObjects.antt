@@ -4,7 +4,7 @@ use Rattle.std.specs.Fmt.{digits}
 use Rattle.std.specs.Str.Parse.{digits_value}
 use Rattle.hex.specs.Hex.{IsBytes}
 use Rattle.json.specs.Json.{Json, Members, document, member, no_members, number, object, string}
-use Rattle.bolt_text.specs.{Forms.json_text, JsonReadings.members_of, JsonReadings.named, JsonReadings.number_under, JsonReadings.string_of}
+use Rattle.bolt_text.specs.{Forms.json_text, JsonReadings.object_members, JsonReadings.named, JsonReadings.number_under, JsonReadings.string_of}
 use Rattle.bolt_etcd.specs.{Revisions.RevisionView, Wire.◌>>=◌}
 
 -- by the JSON value of a name or a value: the value of a revision, if values are wanted
@@ -53,7 +53,7 @@ module _ (read : Json → Option (List ℕ)) where
     Some (record { revision = revision; sub = sub; created = created; version = version; lease = lease; bytes = bytes; name = name; value = value })
 
   abbrev pub read_revision : Json → Option ReadRevision
-  read_revision json = option_and_then read_members (members_of json)
+  read_revision json = option_and_then read_members (object_members json)
 
 -- its numbers have 64 bits, and its name and its value are bytes
 pub record IsOfBytes (r : RevisionView) : Type 0 where

@@ -15,8 +15,8 @@ pub record RevisionView : Type 0 where
 abbrev pub without_value : RecordView → RecordView
 without_value r = record r { created = 0; version = 0; value = []; lease = 0 }
 
-abbrev pub content_of : Bool → RecordView → RecordView
-content_of deleted r = if deleted then without_value r else r
+abbrev pub record_content : Bool → RecordView → RecordView
+record_content deleted r = if deleted then without_value r else r
 
 -- a mark is no record
 abbrev pub record_under : RevisionKey → List ℕ → Option RecordView
@@ -27,7 +27,7 @@ abbrev pub revision_in : List ℕ → List ℕ → Option RevisionView
 revision_in key value = do
   k ← revision_key key
   r ← record_under k value
-  Some (record { place = key; key = k; content = content_of k.deleted r })
+  Some (record { place = key; key = k; content = record_content k.deleted r })
 
 abbrev pub value_of : Item → Option (List ℕ)
 value_of (Value value) = Some value

@@ -6,9 +6,9 @@ use Rattle.bolt_tree.specs.{BucketViews.entries_of, Buckets.bucket_checked, Buck
 use Rattle.bolt_etcd.specs.{NameFaults.AreByName, Revisions.RevisionView, Stores.revisions}
 
 -- the bucket under a name has these entries in order; or no bucket is under it
-abbrev pub HasBucket : (Start → LeafElement → Type 0) → Start → Key → Option (List LeafElement) → Type 0
-HasBucket Entry root name (Some entries) = (e : LeafElement) × Entry root e × (e.key ≡ name) × IsTrue e.is_bucket × AreEntries Entry (start_of e.value) entries
-HasBucket Entry root name None = (e : LeafElement) → Entry root e → e.key ≡ name → e.is_bucket ≡ false
+abbrev pub HasEntriesUnder : (Start → LeafElement → Type 0) → Start → Key → Option (List LeafElement) → Type 0
+HasEntriesUnder Entry root name (Some entries) = (e : LeafElement) × Entry root e × (e.key ≡ name) × IsTrue e.is_bucket × AreEntries Entry (start_of e.value) entries
+HasEntriesUnder Entry root name None = (e : LeafElement) → Entry root e → e.key ≡ name → e.is_bucket ≡ false
 
 -- a store: under each name the entries of the bucket, if there is one; and the revisions, name by name
 pub record StoreView : Type 0 where
@@ -21,7 +21,7 @@ revisions_in None = []
 revisions_in (Some entries) = revisions entries
 
 pub record IsStore (Entry : Start → LeafElement → Type 0) (root : Start) (store : StoreView) : Type 0 where
-  pub buckets : (name : Key) → HasBucket Entry root name (store.bucket name)
+  pub buckets : (name : Key) → HasEntriesUnder Entry root name (store.bucket name)
   pub sorted : AreByName (revisions_in (store.bucket (codes "key"))) store.by_name
 
 -- this holds of the store with this root bucket

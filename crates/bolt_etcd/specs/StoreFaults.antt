@@ -3,7 +3,7 @@ use Rattle.std.specs.Prelude.{ℕ, Bool, false, List, [], ◌∷◌, ◌++◌, c
 use Rattle.std.specs.Option.{option_map}
 use Rattle.bolt_format.specs.Elements.{LeafElement}
 use Rattle.bolt_check.specs.Keys.{Key}
-use Rattle.bolt_etcd.specs.{CheckLines.fault_lines, CheckLines.misplaced_line, CheckLines.missing_line, CheckLines.other_line, Compacted.compacted_in}
+use Rattle.bolt_etcd.specs.{CheckLines.name_fault_lines, CheckLines.misplaced_line, CheckLines.missing_line, CheckLines.other_line, Compacted.compacted_in}
 use Rattle.bolt_etcd.specs.{Misplaced.misplaced, MissingNumbers.missing_numbers, NameFaults.has_lease, NameFaults.name_faults, Numbered.numbered, Others.others_of, Revisions.RevisionView, StoreBuckets.StoreView, Stores.revisions}
 use Rattle.bolt_etcd.specs.declared.missing.Missing.{Missing}
 
@@ -19,8 +19,8 @@ abbrev pub line_without : Key → Option (List LeafElement) → List (List ℕ)
 line_without name None = bucket_line name ∷ []
 line_without name (Some entries) = []
 
-abbrev pub bucket_lines : StoreView → List Key → List (List ℕ)
-bucket_lines store names = flat_map (λ name. line_without name (store.bucket name)) names
+abbrev pub missing_bucket_lines : StoreView → List Key → List (List ℕ)
+missing_bucket_lines store names = flat_map (λ name. line_without name (store.bucket name)) names
 
 -- what is missing by its number, if the transaction of the last compaction is known
 abbrev pub missing_if : Option ℕ → List RevisionView → List Missing
@@ -38,7 +38,7 @@ entry_lines compacted entries =
 
 -- of its revisions, name by name
 abbrev pub name_lines : Option ℕ → (ℕ → Bool) → List RevisionView → List (List ℕ)
-name_lines compacted granted by_name = flat_map fault_lines (name_faults compacted granted None by_name)
+name_lines compacted granted by_name = flat_map name_fault_lines (name_faults compacted granted None by_name)
 
 -- up to which transaction it was compacted, if it has the bucket `meta`
 abbrev pub store_compacted : StoreView → Option ℕ
@@ -59,4 +59,4 @@ key_lines store (Some entries) = entry_lines (store_compacted store) entries ++ 
 
 -- the lines of a store, in their order
 abbrev pub store_lines : StoreView → List (List ℕ)
-store_lines store = bucket_lines store bucket_names ++ key_lines store (store.bucket (codes "key"))
+store_lines store = missing_bucket_lines store bucket_names ++ key_lines store (store.bucket (codes "key"))

@@ -18,8 +18,8 @@ abbrev pub name_if : Option RevisionView → List ℕ
 name_if None = []
 name_if (Some r) = name_of r
 
-abbrev pub entry_name : EntryView → List ℕ
-entry_name e = name_if (revision_of e)
+abbrev pub name_of_entry : EntryView → List ℕ
+name_of_entry e = name_if (revision_of e)
 
 -- Its key says that a compaction at this transaction may have removed it.
 abbrev pub is_key_until : ℕ → Option RevisionKey → Bool
@@ -39,7 +39,7 @@ is_deletion e = is_key_deleted (revision_key e.key)
 
 -- by name, and that first by its sum
 abbrev pub entry_name_cmp : EntryView → EntryView → Ordering
-entry_name_cmp a b = sums_cmp (entry_name a) (entry_name b)
+entry_name_cmp a b = sums_cmp (name_of_entry a) (name_of_entry b)
 
 -- by name, and of one name the later ones first
 abbrev pub newest_cmp : EntryView → EntryView → Ordering
@@ -47,7 +47,7 @@ newest_cmp a b = ordering_then (entry_name_cmp a b) (view_cmp b a)
 
 -- it is old, and of the same name as the newest one
 abbrev pub is_older_old : ℕ → EntryView → EntryView → Bool
-is_older_old compacted older newest = is_old compacted older && bytes_eq (entry_name older) (entry_name newest)
+is_older_old compacted older newest = is_old compacted older && bytes_eq (name_of_entry older) (name_of_entry newest)
 
 -- the first n are old, and no other one is
 pub record IsPartedAt (compacted : ℕ) (es : List EntryView) (n : ℕ) : Type 0 where
@@ -68,7 +68,7 @@ stays compacted e = not (is_old compacted e) || not (is_deletion e)
 
 -- none of its name is later
 abbrev pub IsNewestAmong : List EntryView → EntryView → Type 0
-IsNewestAmong es e = (other : EntryView) → Contains es other → entry_name other ≡ entry_name e → key_cmp e.key other.key ≢ Less
+IsNewestAmong es e = (other : EntryView) → Contains es other → name_of_entry other ≡ name_of_entry e → key_cmp e.key other.key ≢ Less
 
 -- exactly these of the old ones, in the order of names
 pub record AreNewest (old newest : List EntryView) : Type 0 where
@@ -83,7 +83,7 @@ pub record KeepsNewest (n : ℕ) (before after : List EntryView) : Type 0 where
 
 -- this revision of its name comes after the one with this key
 abbrev pub IsSupersededBy : List EntryView → RevisionView → Key → Type 0
-IsSupersededBy es r key = (e : EntryView) × Contains es e × (e.key ≡ key) × (entry_name e ≡ name_of r) × (key_cmp e.key r.place ≡ Less)
+IsSupersededBy es r key = (e : EntryView) × Contains es e × (e.key ≡ key) × (name_of_entry e ≡ name_of r) × (key_cmp e.key r.place ≡ Less)
 
 -- this is the key that it supersedes, if there is one
 abbrev pub Supersedes : List EntryView → RevisionView → Option Key → Type 0
@@ -101,8 +101,8 @@ pub record AreSuperseded (compacted : ℕ) (recovered : List Member) (es : List 
 -- It isn't a deletion, and no revision of its name up to this transaction is later, of those that are kept and those that are agreed.
 pub record IsNewestOf (compacted : ℕ) (recovered : List Member) (agreed : List EntryView) (e : EntryView) : Type 0 where
   pub there : is_deletion e ≡ false
-  pub of_kept : (r : RevisionView) → IsKept recovered r → name_of r ≡ entry_name e → is_until compacted r ≡ true → key_cmp e.key r.place ≢ Less
-  pub of_agreed : (other : EntryView) → Contains agreed other → entry_name other ≡ entry_name e → is_old compacted other ≡ true → key_cmp e.key other.key ≢ Less
+  pub of_kept : (r : RevisionView) → IsKept recovered r → name_of r ≡ name_of_entry e → is_until compacted r ≡ true → key_cmp e.key r.place ≢ Less
+  pub of_agreed : (other : EntryView) → Contains agreed other → name_of_entry other ≡ name_of_entry e → is_old compacted other ≡ true → key_cmp e.key other.key ≢ Less
 
 -- of the first n, which are old, m are left: the newest of their names, in the order of names; and all others
 pub record CompactsFirst (compacted n m : ℕ) (recovered : List Member) (before after : List EntryView) : Type 0 where

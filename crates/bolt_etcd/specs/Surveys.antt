@@ -12,7 +12,7 @@ abbrev pub HasKeptKey : List Member → Key → Type 0
 HasKeptKey recovered key = (item : Item) × Contains recovered (entry_in store_path (record { key = key; item = item }))
 
 -- What the recovered listing says of a store, and which keys its bucket and the candidates have both.
-pub record IsSurvey (recovered : List Member) (candidates : List EntryView) (under : Option Item) (noted : Option (List ℕ)) (keys : List Key) : Type 0 where
+pub record IsStoreSurvey (recovered : List Member) (candidates : List EntryView) (under : Option Item) (noted : Option (List ℕ)) (keys : List Key) : Type 0 where
   pub store : (item : Item) → Contains recovered (store_path, item) ↔ (under ≡ Some item)
   pub compaction : (value : List ℕ) → Contains recovered (compaction_path, Value value) ↔ (noted ≡ Some value)
   pub rises : Rises key_cmp keys
@@ -21,23 +21,23 @@ pub record IsSurvey (recovered : List Member) (candidates : List EntryView) (und
 -- a survey of the code says so of these members
 abbrev pub IsSurveyOf : List Member → List EntryView → Survey → Type 0
 IsSurveyOf members candidates survey =
-    IsSurvey members candidates (option_map item_view survey.store) (option_map (λ (value : Bor (List ℕ)). value.now) survey.compaction)
+    IsStoreSurvey members candidates (option_map item_view survey.store) (option_map (λ (value : Bor (List ℕ)). value.now) survey.compaction)
     (map (λ (key : Bor (List ℕ)). key.now) survey.met.items)
 
 -- a member comes after these
-abbrev pub IsAfter : List Member → Member → Type 0
-IsAfter before m = (x : Member) → Contains before x → member_cmp x m ≡ Less
+abbrev pub ComesAfter : List Member → Member → Type 0
+ComesAfter before m = (x : Member) → Contains before x → member_cmp x m ≡ Less
 
 -- A survey of the members before this one becomes a survey of this one too.
-abbrev pub Notes : List EntryView → Member → (old new : Survey) → Type 0
-Notes candidates m old new = (before : List Member) → IsAfter before m → IsSurveyOf before candidates old → IsSurveyOf (before ++ m ∷ []) candidates new
+abbrev pub NotesMember : List EntryView → Member → (old new : Survey) → Type 0
+NotesMember candidates m old new = (before : List Member) → ComesAfter before m → IsSurveyOf before candidates old → IsSurveyOf (before ++ m ∷ []) candidates new
 
 -- where a path leads, as far as a store is concerned
-abbrev pub IsAt : Path → Place → Type 0
-IsAt path Store = path ≡ store_path
-IsAt path (InStore key) = path ≡ store_path ++ key.now ∷ []
-IsAt path Compaction = path ≡ compaction_path
-IsAt path Other = (path ≡ store_path → ⊥) × ((key : Key) → path ≡ store_path ++ key ∷ [] → ⊥) × (path ≡ compaction_path → ⊥)
+abbrev pub LeadsToPlace : Path → Place → Type 0
+LeadsToPlace path Store = path ≡ store_path
+LeadsToPlace path (InStore key) = path ≡ store_path ++ key.now ∷ []
+LeadsToPlace path Compaction = path ≡ compaction_path
+LeadsToPlace path Other = (path ≡ store_path → ⊥) × ((key : Key) → path ≡ store_path ++ key ∷ [] → ⊥) × (path ≡ compaction_path → ⊥)
 
 -- the revision that a member is, if it is one of the bucket `key`
 unfoldable pub revision_at : Path → Item → Option RevisionView

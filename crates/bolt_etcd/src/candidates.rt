@@ -5,9 +5,9 @@ ghost use Rattle.std.specs.List.{Contains, Sorted.IsSorted};
 ghost use Rattle.bolt_format.specs.{ElementPlaces.leaf_view, Elements.IsBucketValue, ElementsLeft.leaves_left};
 ghost use Rattle.bolt_check.specs.{Counts.counted, Keys.key_cmp};
 ghost use Rattle.bolt_tree.specs.{Entries.entry_view, Order.Rises};
-ghost use Rattle.bolt_etcd.specs.Candidates.{AreCandidates, HasKey, candidates_in, elements_of};
-ghost use Rattle.bolt_etcd.specs.Candidates.{candidate_at, is_same, under_revision_keys, whole_cmp};
-ghost use Rattle.bolt_etcd.specs.{Keyed.AreBelow, ShownRevisions.entry_of};
+ghost use Rattle.bolt_etcd.specs.Candidates.{AreCandidates, HasKey, candidates_in, found_elements};
+ghost use Rattle.bolt_etcd.specs.Candidates.{candidate_at, is_same_entry, under_revision_keys, whole_cmp};
+ghost use Rattle.bolt_etcd.specs.{Keyed.HaveLesserKeys, ShownRevisions.entry_of};
 
 use crate::revision::Revision;
 use crate::revision_key::RevisionKey;
@@ -25,7 +25,7 @@ pub(crate) fn candidates_of<'a>(
     found: &[Found<'a>],
 ) -> Result<Vec<Revision<'a>>, NoMemory>
     ensures { IfOk result (λ candidates.
-        AreCandidates (elements_of found.now) (map entry_of candidates.items)) }
+        AreCandidates (found_elements found.now) (map entry_of candidates.items)) }
 {
     let mut candidates = collect(alloc, found)?;
     candidates.sort_unstable_by(by_key_and_value);
@@ -36,7 +36,7 @@ pub(crate) fn candidates_of<'a>(
 /// The candidates on all pages, page by page.
 fn collect<'a>(alloc: Global, found: &[Found<'a>]) -> Result<Vec<Revision<'a>>, NoMemory>
     ensures { IfOk result (λ all.
-        map entry_of all.items ≡ candidates_in (elements_of found.now)) }
+        map entry_of all.items ≡ candidates_in (found_elements found.now)) }
 {
     let mut candidates = Vec::with_capacity(alloc, count(found))?;
     'rest: for page in found {
@@ -71,7 +71,7 @@ fn candidate_at<'a>(leaf: &Leaf<'a>) -> Option<Revision<'a>>
 
 /// The number of elements on all pages that are under revision keys, as candidates are.
 fn count(found: &[Found<'_>]) -> usize
-    ensures { result ≡ counted 0 (length (under_revision_keys (elements_of found.now))) }
+    ensures { result ≡ counted 0 (length (under_revision_keys (found_elements found.now))) }
 {
     let mut n = 0_usize;
     'rest: for page in found {
@@ -103,7 +103,7 @@ fn by_key_and_value(a: &Revision<'_>, b: &Revision<'_>) -> Ordering
 }
 
 fn is_same(a: &Revision<'_>, b: &Revision<'_>) -> bool
-    ensures { result ≡ is_same (entry_of a.now) (entry_of b.now) }
+    ensures { result ≡ is_same_entry (entry_of a.now) (entry_of b.now) }
 {
     a.place() == b.place() && a.value() == b.value()
 }
@@ -143,7 +143,7 @@ pub(crate) fn has_candidate(candidates: &[Revision<'_>], at: &mut usize, key: &[
 /// A place before which all candidates have lesser keys: this one, if it is one.
 fn start(candidates: &[Revision<'_>], at: usize, key: &[u8]) -> usize
     requires { Rises whole_cmp (map entry_of candidates.now) }
-    ensures { AreBelow key.now candidates.now result }
+    ensures { HaveLesserKeys key.now candidates.now result }
 {
     if 0 < at && at <= candidates.len() && is_below(&candidates[at - 1], key) {
         at

@@ -2,8 +2,8 @@
 ghost use Rattle.std.specs.Prelude.{[], if◌then◌else◌};
 ghost use Rattle.std.specs.List.{concat};
 ghost use Rattle.bolt_format.specs.{Endings.ending, Wrote.Wrote};
-ghost use Rattle.bolt_etcd.specs.CheckLines.{fault_lines, lease_line, misplaced_line, missing_line, one_before_line, other_line};
-ghost use Rattle.bolt_etcd.specs.{FaultsLeft.shown_fault, Others.No_record, Others.Other_key, ShownOthers.shown_other, ShownRevisions.shown_decoded, ShownRevisions.shown_revision};
+ghost use Rattle.bolt_etcd.specs.CheckLines.{name_fault_lines, lease_line, misplaced_line, missing_line, one_before_line, other_line};
+ghost use Rattle.bolt_etcd.specs.{FaultsLeft.shown_name_fault, Others.No_record, Others.Other_key, ShownOthers.shown_other, ShownRevisions.shown_decoded, ShownRevisions.shown_revision};
 ghost use Rattle.bolt_check.specs.Keys.{Key};
 
 use crate::missing::Missing;
@@ -139,7 +139,7 @@ fn put_revisions<S: Sink>(main: u64, first: u64, last: u64, sink: &mut S) -> Res
 
 /// Writes a line for each thing that is missing of a revision.
 pub(crate) fn put_name_fault<S: Sink>(fault: &NameFault<'_>, sink: &mut S) -> Result<(), SinkFault>
-    ensures { Wrote S.Sink sink.old sink.new (concat (fault_lines (shown_fault fault.now)))
+    ensures { Wrote S.Sink sink.old sink.new (concat (name_fault_lines (shown_name_fault fault.now)))
         (ending result) }
 {
     let decoded = fault.revision.decode();

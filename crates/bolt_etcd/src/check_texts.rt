@@ -4,8 +4,8 @@ ghost use Rattle.std.specs.List.{concat};
 ghost use Rattle.bolt_check.specs.Counts.{counted};
 ghost use Rattle.bolt_format.specs.{Endings.ending, Wrote.Wrote};
 ghost use Rattle.bolt_etcd.specs.{CheckLines.misplaced_line, CheckLines.missing_line, Misplaced.misplaced, ShownRevisions.shown_revision};
-ghost use Rattle.bolt_etcd.specs.CheckLines.{fault_lines};
-ghost use Rattle.bolt_etcd.specs.FaultsLeft.{shown_fault, ForFaultLines};
+ghost use Rattle.bolt_etcd.specs.CheckLines.{name_fault_lines};
+ghost use Rattle.bolt_etcd.specs.FaultsLeft.{shown_name_fault, ForFaultLines};
 ghost use Rattle.bolt_etcd.specs.{MissingLeft.ForMissing, MissingLeft.missing_left};
 ghost use Rattle.bolt_etcd.specs.StoreFaults.{other_lines};
 ghost use Rattle.bolt_etcd.specs.RevisionsLeft.{ForAhead};
@@ -98,7 +98,7 @@ pub(crate) fn put_name_faults<S: Sink>(
 
 /// How many lines are written of it.
 fn number_of(fault: &NameFault<'_>) -> u64
-    ensures { result ≡ length (fault_lines (shown_fault fault.now)) }
+    ensures { result ≡ length (name_fault_lines (shown_name_fault fault.now)) }
 {
     u64::from(fault.one_before) + u64::from(fault.lease)
 }

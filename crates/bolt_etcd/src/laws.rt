@@ -11,7 +11,7 @@ ghost use Rattle.bolt_etcd.specs.{HeldNames.AreHeld, Histories.state_at, Newest.
 ghost use Rattle.bolt_etcd.specs.{Numbered.ForMarks, Numbered.numbered_in, Numbered.numbered_of, Others.other_by, Others.other_of, Others.others_of, Records.empty, Revisions.revision_in, Revisions.revision_of, Stores.others};
 ghost use Rattle.bolt_etcd.specs.{RevisionKeys.IsSpelled, RevisionKeys.numbers_cmp, RevisionKeys.revision_key, RevisionKeys.spelling, Wire.field_and_later, Wire.fields};
 ghost use Rattle.bolt_etcd.specs.declared.revision_key.RevisionKey.{RevisionKey};
-ghost use Rattle.bolt_etcd.specs.{Compactions.IsCompaction, Compactions.kept, Histories.Transaction, Possible.ArePossible, StoreFaults.store_lines, WholeStores.GrantsLeases, WholeStores.HoldsExactly};
+ghost use Rattle.bolt_etcd.specs.{Compactions.IsCompaction, Compactions.kept_revisions, Histories.Transaction, Possible.ArePossible, StoreFaults.store_lines, WholeStores.GrantsLeases, WholeStores.HoldsExactly};
 ghost use Rattle.bolt_etcd.specs.ForHistories.{ForCompacted, ForTaken, ForNumbered};
 ghost use Rattle.bolt_etcd.specs.Current.{IsOne};
 ghost use Rattle.bolt_etcd.specs.Told.{HasNoneOf};
@@ -23,7 +23,7 @@ ghost use Rattle.bolt_format.specs.declared.meta.Meta.{Meta};
 ghost use Rattle.bolt_recover.specs.Recovered.{IsRecovered};
 ghost use Rattle.bolt_etcd.specs.LostRevisions.{LosesRevisions};
 ghost use Rattle.bolt_etcd.specs.{RevisionLines.revision_line, RevisionObjects.ReadsRevisionsBack, RevisionObjects.revision_json};
-ghost use Rattle.bolt_text.specs.{Forms.digits_json, Forms.item_json, Forms.json_text, JsonReadings.digits_of, JsonReadings.item_of, Lines.line};
+ghost use Rattle.bolt_text.specs.{Forms.digits_json, Forms.item_json, Forms.json_text, JsonReadings.digits_of, JsonReadings.item_in_json, Lines.line};
 ghost use Rattle.bolt_text.specs.declared.forms.Form.TheVariants as Form;
 ghost use Rattle.bolt_etcd.specs.{FullRepairs.IsFullRepair, FullRepairs.LacksStoreValue, Repaired.ForRepaired, Repaired.IsRepaired, Repairs.GoesBack, Repairs.store_path, Revisions.name_of};
 ghost use Rattle.bolt_tree.specs.{Entries.Bucket, InBuckets.entry_in, Listing.IsListing, Listing.Member, Listing.member_cmp, Tree.Tree, Tree.listing_of};
@@ -93,7 +93,7 @@ pub fn json_revisions_read_back()
         ≡ line (json_text (revision_json item_json values r)) }
     ensures hex_text { (values : Bool) (r : RevisionView) → revision_line Form.JsonHex values r
         ≡ line (json_text (revision_json digits_json values r)) }
-    ensures item { ReadsRevisionsBack item_of item_json }
+    ensures item { ReadsRevisionsBack item_in_json item_json }
     ensures hex_item { ReadsRevisionsBack digits_of digits_json }
 {}
 
@@ -129,9 +129,9 @@ pub fn an_example_of_transactions()
         ≡ first_a ∷ first_b ∷ deletion_of_a ∷ second_b ∷ second_a ∷ [] }
     ensures held { map (λ at. state_at at few_transactions (codes "a")) (2 ∷ 3 ∷ 4 ∷ [])
         ≡ Some first_a ∷ None ∷ Some second_a ∷ [] }
-    ensures kept_by_old { kept (etcd_keeps false 3 (history few_transactions)) few_transactions
+    ensures kept_by_old { kept_revisions (etcd_keeps false 3 (history few_transactions)) few_transactions
         ≡ first_b ∷ second_b ∷ second_a ∷ [] }
-    ensures kept_by_new { kept (etcd_keeps true 3 (history few_transactions)) few_transactions
+    ensures kept_by_new { kept_revisions (etcd_keeps true 3 (history few_transactions)) few_transactions
         ≡ first_b ∷ deletion_of_a ∷ second_b ∷ second_a ∷ [] }
 {}
 

@@ -57,7 +57,7 @@ impl From<NoMemory> for RepairFault {
 }
 
 impl<'a> Repair<'a> {
-    ghost use Rattle.bolt_etcd.specs.{RepairedMembers.IsWhole, RepairedMembers.repair_file, RepairedMembers.repair_meta, RepairedMerges.repair_back};
+    ghost use Rattle.bolt_etcd.specs.{RepairedMembers.IsWholeRepair, RepairedMembers.repair_file, RepairedMembers.repair_meta, RepairedMerges.repair_back};
 
     /// Finds what goes back. Goes over what is recovered once, and once more if a compaction may have
     /// removed some of the candidates.
@@ -69,7 +69,7 @@ impl<'a> Repair<'a> {
     pub fn find(alloc: Global, both: &'a LostAndFound<'_>) -> Result<Repair<'a>, RepairFault>
         ensures file { IfOk result (λ repair. repair_file repair ≡ both.now.file.now) }
         ensures meta { IfOk result (λ repair. repair_meta repair ≡ both.now.meta) }
-        ensures back { IfOk result (λ repair. IsWhole repair) }
+        ensures back { IfOk result (λ repair. IsWholeRepair repair) }
         ensures some { IfOk result (λ repair.
             (x : Finding) → all_lost both.now ≡ everything x → repair_back repair ≢ []) }
         ensures refused { IfErr result (IsRepairRefusal both.now.file.now both.now.meta) }

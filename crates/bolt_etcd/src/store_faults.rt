@@ -7,7 +7,7 @@ ghost use Rattle.bolt_text.specs.ReportEndings.{report_ending};
 ghost use Rattle.bolt_etcd.specs.{CheckLines.missing_line};
 ghost use Rattle.bolt_etcd.specs.{Numbered.numbered, Stores.others};
 ghost use Rattle.bolt_etcd.specs.StoreBuckets.{ForStore};
-ghost use Rattle.bolt_etcd.specs.StoreFaults.{bucket_line, bucket_lines, entry_lines, line_without, missing_if, store_lines, other_lines};
+ghost use Rattle.bolt_etcd.specs.StoreFaults.{bucket_line, missing_bucket_lines, entry_lines, line_without, missing_if, store_lines, other_lines};
 ghost use Rattle.bolt_etcd.specs.{FaultsLeft.ForGranted, ForNames.ForNameLines, NameFaults.name_faults, ShownRevisions.shown_revision};
 ghost use Rattle.bolt_etcd.specs.Stores.{ForBucket, ForFound, ForOthers};
 
@@ -86,10 +86,10 @@ fn put_missing_buckets<S: Sink>(
 ) -> Result<u64, SinkFault>
     ensures written { ForStore root.now (λ store.
         Wrote S.Sink sink.old sink.new
-        (concat (bucket_lines store (map (λ n. n.now) names.now))) (ending result)) }
+        (concat (missing_bucket_lines store (map (λ n. n.now) names.now))) (ending result)) }
     ensures number { IfOk result (λ n.
         ForStore root.now (λ store.
-        n ≡ counted 0 (length (bucket_lines store (map (λ n. n.now) names.now))))) }
+        n ≡ counted 0 (length (missing_bucket_lines store (map (λ n. n.now) names.now))))) }
 {
     let mut number = 0_u64;
     'rest: for name in names {

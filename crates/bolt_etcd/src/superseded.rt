@@ -4,7 +4,7 @@ ghost use Rattle.std.specs.Option.{option_map};
 ghost use Rattle.bolt_tree.specs.{InBuckets.view_cmp, Order.Rises};
 ghost use Rattle.bolt_etcd.specs.ShownRevisions.{entry_of, shown_revision};
 ghost use Rattle.bolt_etcd.specs.Superseded.{AreSupersededIn, IsPartedAt, KeepsNewest, SortsFirst, Supersedes};
-ghost use Rattle.bolt_etcd.specs.Superseded.{entry_name, entry_name_cmp, is_old, is_older_old, newest_cmp, stays};
+ghost use Rattle.bolt_etcd.specs.Superseded.{name_of_entry, entry_name_cmp, is_old, is_older_old, newest_cmp, stays};
 
 use crate::candidates::add_key;
 use crate::name_order::cmp_by_sums;
@@ -17,7 +17,7 @@ use std::cmp::Ordering;
 
 /// The name of the key that it is a revision of.
 fn name_of<'a>(revision: &Revision<'a>) -> &'a [u8]
-    ensures { result.now ≡ entry_name (entry_of revision.now) }
+    ensures { result.now ≡ name_of_entry (entry_of revision.now) }
 {
     revision.name()
 }

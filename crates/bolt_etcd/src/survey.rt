@@ -4,7 +4,7 @@ ghost use Rattle.bolt_tree.specs.{Order.Rises, Paths.path_of};
 ghost use Rattle.bolt_tree.specs.ShownEntries.{item_view};
 ghost use Rattle.bolt_recover.specs.Recovered.{ForRecovered};
 ghost use Rattle.bolt_etcd.specs.{Candidates.whole_cmp, Returns.Returns, ShownRevisions.entry_of, ShownRevisions.shown_revision};
-ghost use Rattle.bolt_etcd.specs.Surveys.{IsAt, revision_until};
+ghost use Rattle.bolt_etcd.specs.Surveys.{LeadsToPlace, revision_until};
 
 use crate::candidates::{add_key, has_candidate};
 use crate::revision::Revision;
@@ -49,7 +49,7 @@ pub(crate) struct Survey<'a> {
 }
 
 impl<'a> Survey<'a> {
-    ghost use Rattle.bolt_etcd.specs.Surveys.{IsSurveyOf, Notes};
+    ghost use Rattle.bolt_etcd.specs.Surveys.{IsSurveyOf, NotesMember};
 
     /// Goes over all that is recovered of a file.
     pub fn of(
@@ -83,7 +83,7 @@ impl<'a> Survey<'a> {
         candidates: &[Revision<'a>],
     ) -> Result<(), NoMemory>
         requires { Rises whole_cmp (map entry_of candidates.now) }
-        ensures { OnOk result (Notes (map entry_of candidates.now)
+        ensures { OnOk result (NotesMember (map entry_of candidates.now)
             (path_of path.now, item_view item.entry) self.old self.new) }
     {
         match place_of(path) {
@@ -106,7 +106,7 @@ impl<'a> Survey<'a> {
 
 /// Where a path leads.
 fn place_of<'a>(path: &[&'a [u8]]) -> Place<'a>
-    ensures { IsAt (path_of path.now) result }
+    ensures { LeadsToPlace (path_of path.now) result }
 {
     match path {
         [bucket] if *bucket == STORE => Place::Store,

@@ -1,6 +1,6 @@
 //! The wire format of protocol buffers: a message is a list of fields, each a tag and a value.
 ghost use Rattle.std.specs.Prelude.{◌<◌, ◌≤◌, IfSome, length};
-ghost use Rattle.bolt_etcd.specs.{Records.bytes_in, Records.number_in, Returns.Returns, Shown.before, Shown.shown_field, Shown.shown_value};
+ghost use Rattle.bolt_etcd.specs.{Records.bytes_in, Records.varint_in, Returns.Returns, Shown.before, Shown.shown_field, Shown.shown_value};
 ghost use Rattle.bolt_etcd.specs.Wire.{field, first, value, varint};
 
 /// The greatest number of bytes in a varint.
@@ -27,7 +27,7 @@ pub(crate) struct Field<'a> {
 impl<'a> Value<'a> {
     /// The number, if it is a varint.
     pub fn number(self) -> Option<u64>
-        ensures { Returns (λ n. n) result (number_in (shown_value self.entry)) }
+        ensures { Returns (λ n. n) result (varint_in (shown_value self.entry)) }
     {
         match self {
             Value::Varint(n) => Some(n),

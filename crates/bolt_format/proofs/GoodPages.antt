@@ -7,7 +7,7 @@ use Rattle.std.proofs.lemmas.List.{take_rest}
 use Rattle.std.proofs.lemmas.List.Folds.{list_any_at}
 use Rattle.std.proofs.lemmas.Option.{slice_get-get_or}
 use Rattle.std.specs.List.{list_any, range_with_len}
-use Rattle.bolt_format.specs.Elements.{IsBucketValue, branch_element, branch_elements, branch_end, branch_fault, branch_key_length, branch_key_start, branches_fault, data_fault, element_at, faults_from, has_bucket, head_fault, head_root, inline_bytes, inline_fault, inline_page_fault, first_of, is_bucket_at, key_length_fault, leaf_element, leaf_fault, leaf_elements, leaf_end, leaf_flags, leaf_flags_fault, leaf_key_length, leaf_key_start, leaf_value, leaf_value_length, leaves_fault, plain_leaf_fault, table_fault, value_fault, value_length_fault}
+use Rattle.bolt_format.specs.Elements.{IsBucketValue, branch_element, branch_elements, branch_end, branch_fault, branch_key_length, branch_key_start, branches_fault, data_fault, element_at, faults_from, page_has_bucket, head_fault, head_root, inline_bytes, inline_fault, inline_page_fault, first_of, is_bucket_element, key_length_fault, leaf_element, leaf_fault, leaf_elements, leaf_end, leaf_flags, leaf_flags_fault, leaf_key_length, leaf_key_start, leaf_value, leaf_value_length, leaves_fault, plain_leaf_fault, table_fault, value_fault, value_length_fault}
 use Rattle.bolt_format.specs.Headers.{count_field, flags_field, id_field, kind_of}
 use Rattle.bolt_format.specs.Pages.{content_fault, fault_as, from_page, page_at, page_fault, page_overflow, shown_as, span_bytes, span_fault}
 use Rattle.bolt_format.specs.{Private.Spans.IsSpan, Private.Spans.IsWithin, declared.meta.Meta.Meta, declared.open_page.Span.Span, declared.header.Kind.Kind}
@@ -63,14 +63,14 @@ chosen-none false fault e h = absurd (cc)
 
 -- element i of a good leaf
 pub good_leaf : (bucket_fault : List ℕ → Option ℕ) (bytes : List ℕ) (count i : ℕ) → leaves_fault bucket_fault bytes count ≡ None → i < count
-    → (element_at (i + 1) ≤ length bytes) × (leaf_end bytes i ≤ length bytes) × (is_bucket_at bytes i ≡ true → bucket_fault (leaf_value bytes i) ≡ None)
+    → (element_at (i + 1) ≤ length bytes) × (leaf_end bytes i ≤ length bytes) × (is_bucket_element bytes i ≡ true → bucket_fault (leaf_value bytes i) ≡ None)
 unfolding leaves_fault
 good_leaf bucket_fault bytes count i e h =
     let both = first_of-none (table_fault bytes count) _ e in
     let table = table-none bytes count both.0 in
     let (before, one) = faults_from-none _ _ (element_at count) 0 count both.1 i (omega arith) (omega arith) in
     let parts = first_of-none (plain_leaf_fault bytes before i) _ one in
-    (omega (arith, table), plain-none bytes before i parts.0, chosen-none (is_bucket_at bytes i) _ parts.1)
+    (omega (arith, table), plain-none bytes before i parts.0, chosen-none (is_bucket_element bytes i) _ parts.1)
 
 -- what is good of a page of a known kind
 pub good_content : (k l : Kind) (count : ℕ) (bytes : List ℕ) → content_fault k count bytes ≡ None → k ≡ l → content_fault l count bytes ≡ None
@@ -129,7 +129,7 @@ good_head value e = let short = ltb-false _ _ (guard-none (nat_lt (length value)
 pub record IsInlinePage (bytes : List ℕ) : Type 0 where
   pub header : 16 ≤ length bytes
   pub good : leaves_fault head_fault bytes (count_field bytes) ≡ None
-  pub flat : has_bucket bytes (count_field bytes) ≡ false
+  pub flat : page_has_bucket bytes (count_field bytes) ≡ false
 
 not-some : (o : Option ℕ) → is_some o ≡ false → o ≡ None
 not-some None e = refl
@@ -144,7 +144,7 @@ good_inline_fault bytes e =
     record {
       header = ltb-false _ _ tests.0;
       good = not-some _ elements.1;
-      flat = (guard-none (has_bucket bytes (count_field bytes)) _ None parts.1).0;
+      flat = (guard-none (page_has_bucket bytes (count_field bytes)) _ None parts.1).0;
     }
 
 pub good_inline : (value bytes : List ℕ) → bytes ≡ inline_bytes value → IsBucketValue value → head_root value ≡ 0 → IsInlinePage bytes
@@ -162,7 +162,7 @@ pub good_elements : (value : List ℕ) (count : ℕ) → count ≡ count_field (
 good_elements value count is e root = rw is (good_inline value (after_head value) (take_rest value 16) e root).good
 
 pub flat_elements : (value : List ℕ) (count : ℕ) → count ≡ count_field (after_head value) → IsBucketValue value → head_root value ≡ 0
-    → has_bucket (after_head value) count ≡ false
+    → page_has_bucket (after_head value) count ≡ false
 flat_elements value count is e root = rw is (good_inline value (after_head value) (take_rest value 16) e root).flat
 
 -- The elements of an inline page: how many they are, and that none is a bucket.
@@ -177,18 +177,18 @@ none-at test count i true none h is =
     let found = list_any_at test (range_with_len 0 count) i 0 (omega (arith, length-range_with_len 0 count)) (ap test (at ∙ zero-add i) ∙ is) in
     absurd (cc)
 
-pub no_bucket-at : (bytes : List ℕ) (count i : ℕ) → has_bucket bytes count ≡ false → i < count → is_bucket_at bytes i ≡ false
-no_bucket-at bytes count i none h = none-at (is_bucket_at bytes) count i (is_bucket_at bytes i) none h refl
+pub no_bucket-at : (bytes : List ℕ) (count i : ℕ) → page_has_bucket bytes count ≡ false → i < count → is_bucket_element bytes i ≡ false
+no_bucket-at bytes count i none h = none-at (is_bucket_element bytes) count i (is_bucket_element bytes i) none h refl
 
 -- So the tests of all buckets' values find nothing either.
-same-faults : (bytes : List ℕ) (free i n : ℕ) → ((k : ℕ) → i ≤ k → k < i + n → is_bucket_at bytes k ≡ false)
+same-faults : (bytes : List ℕ) (free i n : ℕ) → ((k : ℕ) → i ≤ k → k < i + n → is_bucket_element bytes k ≡ false)
     → faults_from (leaf_fault value_fault bytes) (leaf_end bytes) free i n ≡ faults_from (leaf_fault head_fault bytes) (leaf_end bytes) free i n
 same-faults bytes free i zero flat = refl
 same-faults bytes free i (suc n) flat =
     let here : leaf_fault value_fault bytes free i ≡ leaf_fault head_fault bytes free i = rw (flat i (omega arith) (omega arith)) refl in
     rw here (ap (first_of (leaf_fault head_fault bytes free i)) (same-faults bytes (leaf_end bytes i) (suc i) n (λ k low high. flat k (omega arith) (omega arith))))
 
-pub flat_leaves : (bytes : List ℕ) (count : ℕ) → leaves_fault head_fault bytes count ≡ None → has_bucket bytes count ≡ false
+pub flat_leaves : (bytes : List ℕ) (count : ℕ) → leaves_fault head_fault bytes count ≡ None → page_has_bucket bytes count ≡ false
     → leaves_fault value_fault bytes count ≡ None
 unfolding leaves_fault
 flat_leaves bytes count good flat =

@@ -66,8 +66,8 @@ abbrev pub leaf_end : List ℕ → ℕ → ℕ
 leaf_end bytes i = leaf_value_start bytes i + leaf_value_length bytes i
 
 -- flags are 1 for a bucket and 0 for a value
-abbrev pub is_bucket_at : List ℕ → ℕ → Bool
-is_bucket_at bytes i = leaf_flags bytes i == 1
+abbrev pub is_bucket_element : List ℕ → ℕ → Bool
+is_bucket_element bytes i = leaf_flags bytes i == 1
 
 abbrev pub leaf_value : List ℕ → ℕ → List ℕ
 leaf_value bytes i = slice_range bytes (leaf_value_start bytes i) (leaf_end bytes i)
@@ -76,7 +76,7 @@ abbrev pub leaf_element : List ℕ → ℕ → LeafElement
 leaf_element bytes i = record {
   key = slice_range bytes (leaf_key_start bytes i) (leaf_value_start bytes i);
   value = leaf_value bytes i;
-  is_bucket = is_bucket_at bytes i;
+  is_bucket = is_bucket_element bytes i;
 }
 
 -- the elements of a page with this many
@@ -125,7 +125,7 @@ plain_leaf_fault bytes free i =
 -- all tests of leaf element i; `bucket_fault` tests the value of a bucket
 abbrev pub leaf_fault : (List ℕ → Option ℕ) → List ℕ → ℕ → ℕ → Option ℕ
 leaf_fault bucket_fault bytes free i =
-    first_of (plain_leaf_fault bytes free i) (if is_bucket_at bytes i then bucket_fault (leaf_value bytes i) else None)
+    first_of (plain_leaf_fault bytes free i) (if is_bucket_element bytes i then bucket_fault (leaf_value bytes i) else None)
 
 -- the first fault of n elements from i on, by the test of one and where its data ends
 abbrev pub faults_from : (ℕ → ℕ → Option ℕ) → (ℕ → ℕ) → (free i n : ℕ) → Option ℕ
@@ -158,14 +158,14 @@ inline_page_fault bytes =
     if nat_lt (length bytes) 16 || (not (flags_field bytes == flags_of kind.Leaf) || is_some (leaves_fault head_fault bytes (count_field bytes))) then Some INLINE_PAGE
     else None
 
-abbrev pub has_bucket : List ℕ → ℕ → Bool
-has_bucket bytes count = list_any (is_bucket_at bytes) (range_with_len 0 count)
+abbrev pub page_has_bucket : List ℕ → ℕ → Bool
+page_has_bucket bytes count = list_any (is_bucket_element bytes) (range_with_len 0 count)
 
 -- then none of its elements is a bucket
 unfoldable pub inline_fault : List ℕ → Option ℕ
 inline_fault bytes =
     first_of (inline_page_fault bytes)
-    (if has_bucket bytes (count_field bytes) then Some INLINE_NESTED else None)
+    (if page_has_bucket bytes (count_field bytes) then Some INLINE_NESTED else None)
 
 -- what follows a bucket's root page and sequence
 abbrev pub inline_bytes : List ℕ → List ℕ

@@ -1,6 +1,6 @@
 -- What is read of headers, and of the head of a bucket's value, after they were written.
 use Rattle.std.specs.Prelude.{◌≡◌, ◌<◌, ◌^◌, ℕ, ◌+◌, ◌++◌, Bool, List, None, Some, drop}
-use Rattle.bolt_format.specs.Elements.{branch_child, branch_key_length, branch_key_start, element_at, head_fault, head_root, head_sequence, inline_bytes, is_bucket_at, leaf_flags, leaf_key_length, leaf_key_start, leaf_value_length}
+use Rattle.bolt_format.specs.Elements.{branch_child, branch_key_length, branch_key_start, element_at, head_fault, head_root, head_sequence, inline_bytes, is_bucket_element, leaf_flags, leaf_key_length, leaf_key_start, leaf_value_length}
 use Rattle.bolt_format.specs.Headers.{count_field, flags_field, flags_of, id_field, kind_of, overflow_field}
 use Rattle.bolt_format.specs.{Metas.IsPageSize, Encoded.branch_header, Encoded.leaf_flag, Encoded.leaf_header, declared.header.Kind.Kind, declared.meta.Meta.Meta}
 
@@ -31,7 +31,7 @@ pub record IsBranchHeaderFit (pos n leads_to : ℕ) : Type 0 where
 -- the header of leaf element i
 pub record IsLeafHeader (bytes : List ℕ) (i : ℕ) (is_bucket : Bool) (pos n m : ℕ) : Type 0 where
   pub flags : leaf_flags bytes i ≡ leaf_flag is_bucket
-  pub bucket : is_bucket_at bytes i ≡ is_bucket
+  pub bucket : is_bucket_element bytes i ≡ is_bucket
   pub start : leaf_key_start bytes i ≡ element_at i + pos
   pub key : leaf_key_length bytes i ≡ n
   pub value : leaf_value_length bytes i ≡ m

@@ -2,7 +2,7 @@
 ghost use Rattle.std.specs.Prelude.{◌≡◌, ◌<◌, ◌==◌, ◌≤◌, IfOk, None, OnOk, Some, false, length, slice_get};
 ghost use Rattle.std.specs.Result.{result_err};
 ghost use Rattle.std.proofs.Props.{props};
-ghost use Rattle.bolt_format.specs.Elements.{element_at, has_bucket, head_fault, inline_fault, inline_page_fault, leaves_fault, value_fault};
+ghost use Rattle.bolt_format.specs.Elements.{element_at, page_has_bucket, head_fault, inline_fault, inline_page_fault, leaves_fault, value_fault};
 ghost use Rattle.bolt_format.specs.{ElementPlaces.leaf_view, Headers.count_field};
 
 use crate::bytes::u64_at;
@@ -39,7 +39,7 @@ pub struct Inline<'a> {
     pub number: u64,
     /// The page as a leaf.
     pub page: LeafPage<'a>,
-    ghost flat: { has_bucket page.bytes.now page.count ≡ false } by { Prim.hlevel props },
+    ghost flat: { page_has_bucket page.bytes.now page.count ≡ false } by { Prim.hlevel props },
 }
 
 impl<'a> Inline<'a> {
@@ -137,7 +137,7 @@ fn test_inline_leaves(bytes: &[u8], count: u16) -> Result<(), u8>
 #[tactic(auto, using(crate::proofs::FaultLemmas::any_steps))]
 fn has_bucket(bytes: &[u8], count: u16) -> bool
     requires { element_at count ≤ length bytes.now }
-    ensures { result ≡ has_bucket bytes.now count }
+    ensures { result ≡ page_has_bucket bytes.now count }
 {
     for i in 0..count {
         if is_bucket(bytes, i) {

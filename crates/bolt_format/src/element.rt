@@ -2,7 +2,7 @@
 //! byte to the end of its span or, for an inline page, to the end of the bucket's value.
 ghost use Rattle.std.specs.Prelude.{◌≡◌, ◌+◌, ◌≤◌, length, IfOk};
 ghost use Rattle.std.specs.Result.{result_err};
-ghost use Rattle.bolt_format.specs.Elements.{branch_element, branch_end, branch_fault, branch_key_start, data_fault, element_at, is_bucket_at};
+ghost use Rattle.bolt_format.specs.Elements.{branch_element, branch_end, branch_fault, branch_key_start, data_fault, element_at, is_bucket_element};
 ghost use Rattle.bolt_format.specs.Elements.{key_length_fault, leaf_element, leaf_end, leaf_flags, plain_leaf_fault, table_fault};
 ghost use Rattle.bolt_format.specs.{ElementPlaces.IsBranchPlace, ElementPlaces.IsLeafPlace, ElementPlaces.branch_view, ElementPlaces.leaf_view};
 
@@ -151,7 +151,7 @@ fn flags_at(bytes: &[u8], i: u16) -> u32
 /// Whether leaf element `i` is a bucket.
 pub(crate) fn is_bucket(bytes: &[u8], i: u16) -> bool
     requires { element_at (i + 1) ≤ length bytes.now }
-    ensures { result ≡ is_bucket_at bytes.now i }
+    ensures { result ≡ is_bucket_element bytes.now i }
 {
     flags_at(bytes, i) == BUCKET_FLAGS
 }

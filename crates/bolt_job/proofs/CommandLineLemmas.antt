@@ -1,7 +1,7 @@
 -- The command line as it is built, and what its matches say.
 use Rattle.std.proofs.Common.{◌≡◌, ◌⊎◌, ◌∙◌, List, [], ◌∷◌, ◌++◌, ℕ, ◌+◌, ◌<◌, true, false, add-one, get_or, length, map, take, refl, sym, ap, ap₂, subst, inl}
 use Rattle.std.proofs.Common.{inr, rules, ◌||◌, Option, None, Some, Result, Ok, Err, IfOk, IfErr, option_map, slice_get, unwrap_or}
-use Rattle.bolt_job.proofs.Vocabulary.{AddsArg, AddsSubcommand, App, Asked, Asks, Box, Command, Gives, HasKindOf, HasMatchesOf, Help, IsAmong, IsCommand, IsRefusedBy, Job, Kinds, Memory, Refusal, Row, Rule, Usage, Version, Word, asked, asked_by, asked_by_subcommand, asked_of, command_with, fault_of, first_of, is_simple, is_simple_and_free, map-append, option_and_then, program, rule_of, subcommand_of, subcommand_rows_of, take-suc, values_in, with_rule, with_subcommand}
+use Rattle.bolt_job.proofs.Vocabulary.{AddsArg, AddsSubcommand, App, Asked, Asks, Box, Command, ReadsAs, HasKindOf, HasMatchesOf, Help, IsAmong, IsCommand, IsRefusedBy, Job, Kinds, Memory, Refusal, Row, Rule, Usage, Version, Word, asked, asked_by, asked_by_subcommand, asked_of, command_with, fault_of, first_word_of, is_simple, is_simple_and_free, map-append, option_and_then, program, rule_of, subcommand_of, subcommand_rows_of, take-suc, values_in, with_rule, with_subcommand}
 use Rattle.std.specs.Box.{box_value}
 use Rattle.clap.specs.{Words.Text, declared.parser.ArgMatches.ArgMatches}
 use Rattle.clap.specs.declared.parser.matches.ArgMatches.TheViews.{out-ArgMatches, out-SubCommand}
@@ -42,17 +42,17 @@ subcommand_met a b ws vs m same words simple matches =
     (matches (ap is_simple same ∙ simple)).1 ∙ ap₂ subcommand_of same words
 
 module _ {T X : Type 0} where
-  pub gives_same : (view : T → X) (a b : Result X Text) (r : Result T Refusal) → a ≡ b → Gives view b r → Gives view a r
-  gives_same view a b r same gives = subst (λ (x : Result X Text). Gives view x r) (sym same) gives
+  pub gives_same : (view : T → X) (a b : Result X Text) (r : Result T Refusal) → a ≡ b → ReadsAs view b r → ReadsAs view a r
+  gives_same view a b r same gives = subst (λ (x : Result X Text). ReadsAs view x r) (sym same) gives
 
 -- ---- matches
 
-first_at : (words : List Text) → slice_get words 0 ≡ first_of words
+first_at : (words : List Text) → slice_get words 0 ≡ first_word_of words
 first_at [] = refl
 first_at (word ∷ words) = refl
 
 -- the first word that a row has
-pub found_first : (row : Option Row) → option_and_then (λ (r : Row). slice_get r.values 0) row ≡ first_of (unwrap_or (option_map (λ (r : Row). r.values) row) [])
+pub found_first : (row : Option Row) → option_and_then (λ (r : Row). slice_get r.values 0) row ≡ first_word_of (unwrap_or (option_map (λ (r : Row). r.values) row) [])
 found_first None = refl
 found_first (Some row) = first_at row.values
 
@@ -71,12 +71,12 @@ asked_named m name rows named has = ap asked_by_subcommand (named_rows (out-ArgM
 
 -- ---- answers
 
-pub job_answered : (texts : List Text) (r : Result Job Refusal) → Gives asked_of (asked_by texts) r
+pub job_answered : (texts : List Text) (r : Result Job Refusal) → ReadsAs asked_of (asked_by texts) r
     → fault_of program texts ≡ [] → IfOk r (Asks texts)
 job_answered texts (Ok job) gives taken = (gives, taken)
 job_answered texts (Err e) gives taken = tt
 
-pub word_refused : (kinds : Kinds) (wanted : Result Asked Text) (r : Result Job Refusal) → Gives asked_of wanted r
+pub word_refused : (kinds : Kinds) (wanted : Result Asked Text) (r : Result Job Refusal) → ReadsAs asked_of wanted r
     → kinds ≡ [] → IfErr r (IsRefusedBy kinds wanted)
 word_refused kinds wanted (Ok job) gives taken = tt
 word_refused kinds wanted (Err e) gives taken = elim gives [

@@ -1,7 +1,7 @@
 -- Page sizes, alone and in an assumed meta, are read of their words.
 use Rattle.std.proofs.Common.{◌≡◌, ◌∙◌, ◌+◌, ◌&&◌, ◌==◌, Bool, ℕ, [], Option, Some, None, Result, Ok, Err, codes, length, sym, refl, ap, ap₂, arith, subst}
 use Rattle.bolt_job.proofs.Vocabulary.{IfNone, IfSome, IsPageSize, MatchOption, PageSize, after_first, assumed_of, assumed_when, before_first, drop_all}
-use Rattle.bolt_job.proofs.Vocabulary.{false_from_ne_true, if◌then◌else◌, is_page_size, list_any, number_in, page_size_of, page_sizes, position_or_len}
+use Rattle.bolt_job.proofs.Vocabulary.{false_from_ne_true, if◌then◌else◌, is_page_size, list_any, number_in, page_size_asked, page_sizes, position_or_len}
 use Rattle.clap.specs.Words.{Text}
 use Rattle.bolt_text.proofs.DecimalNumbers.{number_is}
 
@@ -11,17 +11,17 @@ tested word n is = let parts = number_is word n is in ap₂ (λ (b : Bool) (m : 
 abbrev size_when : Bool → ℕ → Result ℕ Text
 size_when accepted n = if accepted then Ok n else Err (codes "bad page size")
 
-size_read : (word : Text) (n : ℕ) → number_in word ≡ Some n → IsPageSize n → page_size_of word ≡ Ok n
+size_read : (word : Text) (n : ℕ) → number_in word ≡ Some n → IsPageSize n → page_size_asked word ≡ Ok n
 size_read word n is accepted = ap₂ size_when (tested word n is ∙ accepted) (number_is word n is).1
 
-size_refused : (word : Text) (n : ℕ) → number_in word ≡ Some n → (IsPageSize n → ⊥) → page_size_of word ≡ Err (codes "bad page size")
+size_refused : (word : Text) (n : ℕ) → number_in word ≡ Some n → (IsPageSize n → ⊥) → page_size_asked word ≡ Err (codes "bad page size")
 size_refused word n is refused = ap₂ size_when (tested word n is ∙ false_from_ne_true _ refused) (number_is word n is).1
 
 pub size_answered : (word : Text) (n : ℕ) (answer : Option PageSize) → number_in word ≡ Some n
     → IfSome answer (λ size. size.bytes ≡ n) → IfNone answer (IsPageSize n → ⊥)
-    → MatchOption answer (page_size_of word ≡ Err (codes "bad page size")) (λ size. page_size_of word ≡ Ok size.bytes)
+    → MatchOption answer (page_size_asked word ≡ Err (codes "bad page size")) (λ size. page_size_asked word ≡ Ok size.bytes)
 size_answered word n None is same refused = size_refused word n is refused
-size_answered word n (Some size) is same refused = subst (λ (m : ℕ). page_size_of word ≡ Ok m) (sym same) (size_read word n is (subst IsPageSize same size.accepted))
+size_answered word n (Some size) is same refused = subst (λ (m : ℕ). page_size_asked word ≡ Ok m) (sym same) (size_read word n is (subst IsPageSize same size.accepted))
 
 -- ---- an assumed meta
 
@@ -33,4 +33,4 @@ no_root (Err why) = refl
 pub no_colon : (word : Text) → position_or_len (λ byte. byte == 58) word ≡ length word → assumed_of word ≡ Err (codes "bad meta: use PAGE_SIZE:ROOT, and no --meta")
 no_colon word end =
     let empty : after_first (λ byte. byte == 58) word ≡ [] = drop_all (position_or_len (λ byte. byte == 58) word + 1) word (omega (arith, end)) in
-    ap (λ (root : Text). assumed_when (page_size_of (before_first (λ byte. byte == 58) word)) (number_in root)) empty ∙ no_root (page_size_of (before_first (λ byte. byte == 58) word))
+    ap (λ (root : Text). assumed_when (page_size_asked (before_first (λ byte. byte == 58) word)) (number_in root)) empty ∙ no_root (page_size_asked (before_first (λ byte. byte == 58) word))

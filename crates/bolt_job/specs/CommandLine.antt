@@ -49,8 +49,8 @@ asked_by words = asked_by_subcommand (subcommand_of program words)
 -- ---- answers
 
 -- the result is what is wanted, and an error says that memory ran out or what is wrong
-abbrev pub Gives : {T X : Type 0} → (T → X) → Result X Text → Result T Refusal → Type 0
-Gives view wanted answer = MatchResult answer (λ value. wanted ≡ Ok (view value))
+abbrev pub ReadsAs : {T X : Type 0} → (T → X) → Result X Text → Result T Refusal → Type 0
+ReadsAs view wanted answer = MatchResult answer (λ value. wanted ≡ Ok (view value))
     (λ refusal. (refusal ≡ Memory) ⊎ (why : _) × (refusal ≡ Word why) × (wanted ≡ Err why.now))
 
 -- the words ask for the job, and `clap` finds no fault in them

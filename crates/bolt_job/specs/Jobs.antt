@@ -1,17 +1,17 @@
 -- A job: what it asks for, by that of its command; its files, and how much of FILE it needs (docs/COMMANDS.md).
 use Rattle.std.specs.Prelude.{Bool, true, false, Option, Some, None, string_bytes}
 use Rattle.bolt_job.specs.LineWords.{Text}
-use Rattle.bolt_job.specs.PlainWords.{Asked, buckets_of, check_of, compact_of, etcd_check_of, etcd_get_of, etcd_keys_of, etcd_repair_of, etcd_revisions_of, get_of, info_of, keys_of, list_of, load_of, page_of, pages_of, stats_of}
+use Rattle.bolt_job.specs.PlainWords.{Asked, buckets_of, check_of, compact_of, etcd_check_of, etcd_get_of, etcd_keys_of, etcd_repair_of, etcd_revisions_of, get_of, info_of, keys_asked, list_of, load_of, page_of, pages_asked, stats_of}
 use Rattle.bolt_job.specs.declared.job.Job.{Job}
 use Rattle.bolt_job.specs.declared.job.Job.TheVariants as job
 
 abbrev pub asked_of : Job → Asked
 asked_of (job.Info j) = info_of j
 asked_of (job.Page j) = page_of j
-asked_of (job.Pages j) = pages_of j
+asked_of (job.Pages j) = pages_asked j
 asked_of (job.Check j) = check_of j
 asked_of (job.Buckets j) = buckets_of j
-asked_of (job.Keys j) = keys_of j
+asked_of (job.Keys j) = keys_asked j
 asked_of (job.Get j) = get_of j
 asked_of (job.Stats j) = stats_of j
 asked_of (job.List j) = list_of j

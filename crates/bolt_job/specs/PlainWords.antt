@@ -76,8 +76,8 @@ pub data Asked : Type 0 where
   etcd_repair : (file : Text) → AskedMeta → (target : Text) → (page_size : Option ℕ) → (snapshot : Bool) → Asked
 
 -- the path that the code owns
-abbrev pub path_in : {Z : Type 0} → List (Vec ℕ Z) → Path
-path_in {Z} parts = map (λ (part : Vec ℕ Z). part.items) parts
+abbrev pub owned_path : {Z : Type 0} → List (Vec ℕ Z) → Path
+owned_path {Z} parts = map (λ (part : Vec ℕ Z). part.items) parts
 
 -- the page size that the code has
 abbrev pub size_in : Option PageSize → Option ℕ
@@ -96,26 +96,26 @@ info_of j = info (string_bytes j.file) j.slot j.form
 abbrev pub page_of : PageJob → Asked
 page_of j = page (string_bytes j.file) (meta_in j.meta) j.id
 
-abbrev pub pages_of : PagesJob → Asked
-pages_of j = pages (string_bytes j.file) j.map
+abbrev pub pages_asked : PagesJob → Asked
+pages_asked j = pages (string_bytes j.file) j.map
 
 abbrev pub check_of : CheckJob → Asked
 check_of j = check (string_bytes j.file) (meta_in j.meta) j.extent j.snapshot j.for_bbolt
 
 abbrev pub buckets_of : BucketsJob → Asked
-buckets_of j = buckets (string_bytes j.file) (meta_in j.meta) (path_in j.path.items) j.form j.shown
+buckets_of j = buckets (string_bytes j.file) (meta_in j.meta) (owned_path j.path.items) j.form j.shown
 
-abbrev pub keys_of : KeysJob → Asked
-keys_of j = keys (string_bytes j.file) (meta_in j.meta) (path_in j.path.items) j.prefix.items j.form j.recover
+abbrev pub keys_asked : KeysJob → Asked
+keys_asked j = keys (string_bytes j.file) (meta_in j.meta) (owned_path j.path.items) j.prefix.items j.form j.recover
 
 abbrev pub get_of : GetJob → Asked
-get_of j = get (string_bytes j.file) (meta_in j.meta) (path_in j.path.items) j.form j.no_newline j.recover
+get_of j = get (string_bytes j.file) (meta_in j.meta) (owned_path j.path.items) j.form j.no_newline j.recover
 
 abbrev pub stats_of : StatsJob → Asked
-stats_of j = stats (string_bytes j.file) (meta_in j.meta) j.form (path_in j.path.items)
+stats_of j = stats (string_bytes j.file) (meta_in j.meta) j.form (owned_path j.path.items)
 
 abbrev pub list_of : ListJob → Asked
-list_of j = list (string_bytes j.file) (meta_in j.meta) j.form (path_in j.path.items) (path_in j.from.items) j.extent
+list_of j = list (string_bytes j.file) (meta_in j.meta) j.form (owned_path j.path.items) (owned_path j.from.items) j.extent
 
 abbrev pub compact_of : CompactJob → Asked
 compact_of j = compact (string_bytes j.file) (meta_in j.meta) (string_bytes j.target) (size_in j.page_size) j.kind j.extent
@@ -142,16 +142,16 @@ etcd_repair_of j = etcd_repair (string_bytes j.file) (meta_in j.meta) (string_by
 abbrev pub Values : Type 0
 Values = Text → List Text
 
-abbrev pub first_of : List Text → Option Text
-first_of [] = None
-first_of (word ∷ words) = Some word
+abbrev pub first_word_of : List Text → Option Text
+first_word_of [] = None
+first_word_of (word ∷ words) = Some word
 
 abbrev pub or_missing : Option Text → Result Text Text
 or_missing (Some word) = Ok word
 or_missing None = Err (codes "value missing")
 
 abbrev pub given : Values → (name : Text) → Option Text
-given values name = first_of (values name)
+given values name = first_word_of (values name)
 
 abbrev pub text_by : Text → Values → Result Text Text
 text_by name values = or_missing (given values name)
@@ -170,17 +170,17 @@ id_by values = text_by (codes "ID") values >>= λ word. number_or (codes "bad pa
 abbrev pub is_page_size : Text → Bool
 is_page_size word = is_number word && list_any (λ size. size == decimal_value word) page_sizes
 
-abbrev pub page_size_of : Text → Result ℕ Text
-page_size_of word = if is_page_size word then Ok (decimal_value word) else Err (codes "bad page size")
+abbrev pub page_size_asked : Text → Result ℕ Text
+page_size_asked word = if is_page_size word then Ok (decimal_value word) else Err (codes "bad page size")
 
 -- the page size of a copy by its word; without one it is that of the file
 abbrev pub page_size_by : Option Text → Result (Option ℕ) Text
-page_size_by (Some word) = page_size_of word >>= λ size. Ok (Some size)
+page_size_by (Some word) = page_size_asked word >>= λ size. Ok (Some size)
 page_size_by None = Ok None
 
 -- the page size of a database that is made of a listing, and the sequence of its root bucket
 abbrev pub load_size_by : Option Text → Result ℕ Text
-load_size_by (Some word) = page_size_of word
+load_size_by (Some word) = page_size_asked word
 load_size_by None = Ok 4096
 
 abbrev pub sequence_by : Option Text → Result ℕ Text
@@ -194,9 +194,9 @@ is_revision word = is_number word && nat_lt (decimal_value word) (2 ^ 63)
 abbrev pub revision_of : Text → Result ℕ Text
 revision_of word = if is_revision word then Ok (decimal_value word) else Err (codes "bad revision")
 
-abbrev pub revision_by : Option Text → Result (Option ℕ) Text
-revision_by (Some word) = revision_of word >>= λ revision. Ok (Some revision)
-revision_by None = Ok None
+abbrev pub revision_asked : Option Text → Result (Option ℕ) Text
+revision_asked (Some word) = revision_of word >>= λ revision. Ok (Some revision)
+revision_asked None = Ok None
 
 -- the kind of a copy, by the words of `--for-bbolt` and `--etcd-snapshot` if they are given; a snapshot is for bbolt too
 abbrev pub copy_kind_by : (for_bbolt snapshot : Option Text) → CopyKind
@@ -241,7 +241,7 @@ assumed_when (Ok page_size) (Some root) = Ok (assumed page_size root)
 assumed_when _ _ = Err bad_assumed
 
 abbrev pub assumed_of : Text → Result AskedMeta Text
-assumed_of word = assumed_when (page_size_of (before_first (λ byte. byte == 58) word)) (number_in (after_first (λ byte. byte == 58) word))
+assumed_of word = assumed_when (page_size_asked (before_first (λ byte. byte == 58) word)) (number_in (after_first (λ byte. byte == 58) word))
 
 -- the meta by the words of `--meta` and `--assume-meta`, of which only one may be given
 abbrev pub meta_asked : (named assumed : Option Text) → Result AskedMeta Text
@@ -325,17 +325,17 @@ asks_load values =
 
 abbrev pub asks_etcd_revisions : Values → Result Asked Text
 asks_etcd_revisions values =
-    meta_by values >>= λ meta. form_by (given values (codes "form")) >>= λ form. prefix_by values >>= λ prefix. revision_by (given values (codes "from")) >>= λ from.
+    meta_by values >>= λ meta. form_by (given values (codes "form")) >>= λ form. prefix_by values >>= λ prefix. revision_asked (given values (codes "from")) >>= λ from.
     file_by values >>= λ file. Ok (etcd_revisions file meta prefix from form (is_given (given values (codes "values"))))
 
 abbrev pub asks_etcd_keys : Values → Result Asked Text
 asks_etcd_keys values =
-    meta_by values >>= λ meta. form_by (given values (codes "form")) >>= λ form. prefix_by values >>= λ prefix. revision_by (given values (codes "at")) >>= λ revision.
+    meta_by values >>= λ meta. form_by (given values (codes "form")) >>= λ form. prefix_by values >>= λ prefix. revision_asked (given values (codes "at")) >>= λ revision.
     file_by values >>= λ file. Ok (etcd_keys file meta prefix revision form (is_given (given values (codes "values"))))
 
 abbrev pub asks_etcd_get : Values → Result Asked Text
 asks_etcd_get values =
-    meta_by values >>= λ meta. form_by (given values (codes "form")) >>= λ form. name_by values >>= λ name. revision_by (given values (codes "at")) >>= λ revision.
+    meta_by values >>= λ meta. form_by (given values (codes "form")) >>= λ form. name_by values >>= λ name. revision_asked (given values (codes "at")) >>= λ revision.
     file_by values >>= λ file. Ok (etcd_get file meta name revision form (is_given (given values (codes "no-newline"))))
 
 abbrev pub asks_etcd_check : Values → Result Asked Text

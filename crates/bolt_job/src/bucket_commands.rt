@@ -1,7 +1,7 @@
 //! The commands that print what buckets hold: which arguments each has and their help, its job, and how that is
 //! read. A job's names are copied last: until then there is nothing to drop if a word can't be read.
-ghost use Rattle.bolt_job.specs.CommandLine.{Gives};
-ghost use Rattle.bolt_job.specs.PlainWords.{asks_buckets, asks_get, asks_keys, asks_list, asks_stats, buckets_of, get_of, keys_of, list_of, stats_of};
+ghost use Rattle.bolt_job.specs.CommandLine.{ReadsAs};
+ghost use Rattle.bolt_job.specs.PlainWords.{asks_buckets, asks_get, asks_keys, asks_list, asks_stats, buckets_of, get_of, keys_asked, list_of, stats_of};
 ghost use Rattle.bolt_job.specs.Private.CommandLines.{values_of};
 
 use crate::choices::{BucketsShown, Extent, MetaChoice};
@@ -134,7 +134,7 @@ pub(crate) static BUCKETS: Syntax = Syntax {
 };
 
 pub(crate) fn read_buckets(line: &Line<'_, '_>) -> Result<BucketsJob, Refusal>
-    ensures { Gives buckets_of (asks_buckets (values_of line.now)) result }
+    ensures { ReadsAs buckets_of (asks_buckets (values_of line.now)) result }
 {
     Ok(BucketsJob {
         meta: line.meta()?,
@@ -174,7 +174,7 @@ pub(crate) static KEYS: Syntax = Syntax {
 };
 
 pub(crate) fn read_keys(line: &Line<'_, '_>) -> Result<KeysJob, Refusal>
-    ensures { Gives keys_of (asks_keys (values_of line.now)) result }
+    ensures { ReadsAs keys_asked (asks_keys (values_of line.now)) result }
 {
     Ok(KeysJob {
         meta: line.meta()?,
@@ -216,7 +216,7 @@ pub(crate) static GET: Syntax = Syntax {
 };
 
 pub(crate) fn read_get(line: &Line<'_, '_>) -> Result<GetJob, Refusal>
-    ensures { Gives get_of (asks_get (values_of line.now)) result }
+    ensures { ReadsAs get_of (asks_get (values_of line.now)) result }
 {
     Ok(GetJob {
         meta: line.meta()?,
@@ -246,7 +246,7 @@ pub(crate) static STATS: Syntax = Syntax {
 };
 
 pub(crate) fn read_stats(line: &Line<'_, '_>) -> Result<StatsJob, Refusal>
-    ensures { Gives stats_of (asks_stats (values_of line.now)) result }
+    ensures { ReadsAs stats_of (asks_stats (values_of line.now)) result }
 {
     Ok(StatsJob {
         meta: line.meta()?,
@@ -286,7 +286,7 @@ pub(crate) static LIST: Syntax = Syntax {
 };
 
 pub(crate) fn read_list(line: &Line<'_, '_>) -> Result<ListJob, Refusal>
-    ensures { Gives list_of (asks_list (values_of line.now)) result }
+    ensures { ReadsAs list_of (asks_list (values_of line.now)) result }
 {
     Ok(ListJob {
         meta: line.meta()?,

@@ -1,6 +1,6 @@
 //! The commands that read what etcd keeps in its file, and put back what is found of it: which arguments each has and their help, its job, and how that
 //! is read. A job's names are copied last: until then there is nothing to drop if a word can't be read.
-ghost use Rattle.bolt_job.specs.CommandLine.{Gives};
+ghost use Rattle.bolt_job.specs.CommandLine.{ReadsAs};
 ghost use Rattle.bolt_job.specs.PlainWords.{asks_etcd_check, asks_etcd_get, asks_etcd_keys, asks_etcd_repair, asks_etcd_revisions, etcd_check_of, etcd_get_of, etcd_keys_of, etcd_repair_of, etcd_revisions_of};
 ghost use Rattle.bolt_job.specs.Private.CommandLines.{values_of};
 
@@ -107,7 +107,7 @@ pub(crate) static ETCD_REVISIONS: Syntax = Syntax {
 };
 
 pub(crate) fn read_etcd_revisions(line: &Line<'_, '_>) -> Result<EtcdRevisionsJob, Refusal>
-    ensures { Gives etcd_revisions_of (asks_etcd_revisions (values_of line.now)) result }
+    ensures { ReadsAs etcd_revisions_of (asks_etcd_revisions (values_of line.now)) result }
 {
     Ok(EtcdRevisionsJob {
         meta: line.meta()?,
@@ -149,7 +149,7 @@ pub(crate) static ETCD_KEYS: Syntax = Syntax {
 };
 
 pub(crate) fn read_etcd_keys(line: &Line<'_, '_>) -> Result<EtcdKeysJob, Refusal>
-    ensures { Gives etcd_keys_of (asks_etcd_keys (values_of line.now)) result }
+    ensures { ReadsAs etcd_keys_of (asks_etcd_keys (values_of line.now)) result }
 {
     Ok(EtcdKeysJob {
         meta: line.meta()?,
@@ -192,7 +192,7 @@ pub(crate) static ETCD_GET: Syntax = Syntax {
 };
 
 pub(crate) fn read_etcd_get(line: &Line<'_, '_>) -> Result<EtcdGetJob, Refusal>
-    ensures { Gives etcd_get_of (asks_etcd_get (values_of line.now)) result }
+    ensures { ReadsAs etcd_get_of (asks_etcd_get (values_of line.now)) result }
 {
     Ok(EtcdGetJob {
         meta: line.meta()?,
@@ -219,7 +219,7 @@ pub(crate) static ETCD_CHECK: Syntax = Syntax {
 };
 
 pub(crate) fn read_etcd_check(line: &Line<'_, '_>) -> Result<EtcdCheckJob, Refusal>
-    ensures { Gives etcd_check_of (asks_etcd_check (values_of line.now)) result }
+    ensures { ReadsAs etcd_check_of (asks_etcd_check (values_of line.now)) result }
 {
     Ok(EtcdCheckJob {
         meta: line.meta()?,
@@ -255,7 +255,7 @@ pub(crate) static ETCD_REPAIR: Syntax = Syntax {
 };
 
 pub(crate) fn read_etcd_repair(line: &Line<'_, '_>) -> Result<EtcdRepairJob, Refusal>
-    ensures { Gives etcd_repair_of (asks_etcd_repair (values_of line.now)) result }
+    ensures { ReadsAs etcd_repair_of (asks_etcd_repair (values_of line.now)) result }
 {
     Ok(EtcdRepairJob {
         meta: line.meta()?,

@@ -1,7 +1,7 @@
 //! The commands, each by its name: what help tells of it, and how its job is read. A job is what the words of a
 //! command line ask for.
 ghost use Rattle.std.specs.Prelude.{◌≡◌, map};
-ghost use Rattle.bolt_job.specs.CommandLine.{Gives};
+ghost use Rattle.bolt_job.specs.CommandLine.{ReadsAs};
 ghost use Rattle.bolt_job.specs.{Jobs.asked_of, PlainWords.asked, PlainWords.lines};
 ghost use Rattle.bolt_job.specs.Private.CommandLines.{values_of};
 ghost use Rattle.bolt_job.specs.Syntaxes.{line_of};
@@ -122,7 +122,7 @@ pub(crate) fn commands<'a>() -> [&'a Syntax; 16]
 
 /// The job of a command by its name, and the words that its operands and options are given.
 pub(crate) fn read_command(name: &str, line: &Line<'_, '_>) -> Result<Job, Refusal>
-    ensures { Gives asked_of (asked name.now (values_of line.now)) result }
+    ensures { ReadsAs asked_of (asked name.now (values_of line.now)) result }
 {
     match name {
         "info" => Ok(Job::Info(read_info(line)?)),

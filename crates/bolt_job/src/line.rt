@@ -1,9 +1,9 @@
 //! The line of a command: what its operands and options are given, and how each of their words is read.
 ghost use Rattle.std.specs.Prelude.{◌≡◌, Err, MatchOption, Ok, Some, codes, option_map, string_bytes};
-ghost use Rattle.bolt_job.specs.CommandLine.{Gives};
+ghost use Rattle.bolt_job.specs.CommandLine.{ReadsAs};
 ghost use Rattle.bolt_job.specs.FormWords.{figure_form_by, form_by, list_form_by};
 ghost use Rattle.bolt_job.specs.PathWords.{hex_path_by, parts_by};
-ghost use Rattle.bolt_job.specs.PlainWords.{assumed_of, copy_kind_by, extent_by, first_of, id_by, is_given, load_size_by, meta_by, meta_in, name_by, number_or, page_size_by, page_size_of, path_by, path_in, prefix_by, revision_by, revision_of, sequence_by, shown_by, size_in, slot_by, slot_of, text_by};
+ghost use Rattle.bolt_job.specs.PlainWords.{assumed_of, copy_kind_by, extent_by, first_word_of, id_by, is_given, load_size_by, meta_by, meta_in, name_by, number_or, page_size_by, page_size_asked, path_by, owned_path, prefix_by, revision_asked, revision_of, sequence_by, shown_by, size_in, slot_by, slot_of, text_by};
 ghost use Rattle.bolt_job.specs.Private.CommandLines.{IsAssumedBy, values_of};
 
 use crate::choices::{AssumedMeta, BucketsShown, CopyKind, Extent, MetaChoice, PageSize};
@@ -28,43 +28,43 @@ pub(crate) struct Line<'m, 'a> {
 impl Line<'_, '_> {
     /// The text of an operand or option that is required.
     pub(crate) fn text(&self, id: &str) -> Result<String, Refusal>
-        ensures { Gives string_bytes (text_by id.now (values_of self.now)) result }
+        ensures { ReadsAs string_bytes (text_by id.now (values_of self.now)) result }
     {
         Ok(String::from_str(self.alloc, self.value(id)?)?)
     }
 
     /// The word of one that is required.
     fn value(&self, id: &str) -> Result<&str, Refusal>
-        ensures { Gives (λ text. text.now) (text_by id.now (values_of self.now)) result }
+        ensures { ReadsAs (λ text. text.now) (text_by id.now (values_of self.now)) result }
     {
         self.choice(id).ok_or(Refusal::Word("value missing"))
     }
 
     /// The word of one that may be missing.
     fn choice(&self, id: &str) -> Option<&str>
-        ensures { option_map (λ text. text.now) result ≡ first_of (values_of self.now id.now) }
+        ensures { option_map (λ text. text.now) result ≡ first_word_of (values_of self.now id.now) }
     {
         self.matches.get_str(id)
     }
 
     /// Whether an option without a value is given.
     pub(crate) fn is_given(&self, id: &str) -> bool
-        ensures { result ≡ is_given (first_of (values_of self.now id.now)) }
+        ensures { result ≡ is_given (first_word_of (values_of self.now id.now)) }
     {
         self.choice(id).is_some()
     }
 
     /// The number of a page.
     pub(crate) fn page_id(&self) -> Result<u64, Refusal>
-        ensures { Gives (λ id. id) (id_by (values_of self.now)) result }
+        ensures { ReadsAs (λ id. id) (id_by (values_of self.now)) result }
     {
         number_or("bad page id", self.value("ID")?)
     }
 
     /// The slot of a meta, if one is named.
     pub(crate) fn slot(&self) -> Result<Option<Slot>, Refusal>
-        ensures { Gives (λ slot. slot)
-            (slot_by (first_of (values_of self.now (codes "meta")))) result }
+        ensures { ReadsAs (λ slot. slot)
+            (slot_by (first_word_of (values_of self.now (codes "meta")))) result }
     {
         match self.choice("meta") {
             Some(word) => Ok(Some(slot_of(word)?)),
@@ -74,7 +74,7 @@ impl Line<'_, '_> {
 
     /// The meta that is read under. It may be named or assumed, but not both.
     pub(crate) fn meta(&self) -> Result<MetaChoice, Refusal>
-        ensures { Gives meta_in (meta_by (values_of self.now)) result }
+        ensures { ReadsAs meta_in (meta_by (values_of self.now)) result }
     {
         match (self.choice("meta"), self.choice("assume-meta")) {
             (None, None) => Ok(MetaChoice::Active),
@@ -86,8 +86,8 @@ impl Line<'_, '_> {
 
     /// The form of names, keys and values.
     pub(crate) fn form(&self) -> Result<Form, Refusal>
-        ensures { Gives (λ form. form)
-            (form_by (first_of (values_of self.now (codes "form")))) result }
+        ensures { ReadsAs (λ form. form)
+            (form_by (first_word_of (values_of self.now (codes "form")))) result }
     {
         match self.choice("form") {
             Some(word) => form_of(word),
@@ -97,9 +97,9 @@ impl Line<'_, '_> {
 
     /// What is printed of buckets. Sizes aren't known of what is recovered.
     pub(crate) fn buckets_shown(&self) -> Result<BucketsShown, Refusal>
-        ensures { Gives (λ shown. shown)
-            (shown_by (first_of (values_of self.now (codes "sizes")))
-            (first_of (values_of self.now (codes "recover")))) result }
+        ensures { ReadsAs (λ shown. shown)
+            (shown_by (first_word_of (values_of self.now (codes "sizes")))
+            (first_word_of (values_of self.now (codes "recover")))) result }
     {
         match (self.choice("sizes"), self.choice("recover")) {
             (None, None) => Ok(BucketsShown::Names),
@@ -111,8 +111,8 @@ impl Line<'_, '_> {
 
     /// The form of a listing.
     pub(crate) fn list_form(&self) -> Result<ListForm, Refusal>
-        ensures { Gives (λ form. form)
-            (list_form_by (first_of (values_of self.now (codes "form")))) result }
+        ensures { ReadsAs (λ form. form)
+            (list_form_by (first_word_of (values_of self.now (codes "form")))) result }
     {
         match self.choice("form") {
             None | Some("hex") => Ok(ListForm::Hex),
@@ -124,8 +124,8 @@ impl Line<'_, '_> {
 
     /// The form of figures.
     pub(crate) fn figure_form(&self) -> Result<FigureForm, Refusal>
-        ensures { Gives (λ form. form)
-            (figure_form_by (first_of (values_of self.now (codes "form")))) result }
+        ensures { ReadsAs (λ form. form)
+            (figure_form_by (first_word_of (values_of self.now (codes "form")))) result }
     {
         match self.choice("form") {
             None | Some("lines") => Ok(FigureForm::Lines),
@@ -136,8 +136,8 @@ impl Line<'_, '_> {
 
     /// How the parts of a path are written.
     fn parts(&self) -> Result<Parts, Refusal>
-        ensures { Gives (λ parts. parts)
-            (parts_by (first_of (values_of self.now (codes "parts")))) result }
+        ensures { ReadsAs (λ parts. parts)
+            (parts_by (first_word_of (values_of self.now (codes "parts")))) result }
     {
         match self.choice("parts") {
             None | Some("text") => Ok(Parts::Text),
@@ -149,7 +149,7 @@ impl Line<'_, '_> {
 
     /// The path that the words of PART stand for.
     pub(crate) fn path(&self) -> Result<Vec<Vec<u8>>, Refusal>
-        ensures { Gives (λ path. path_in path.items) (path_by (values_of self.now)) result }
+        ensures { ReadsAs (λ path. owned_path path.items) (path_by (values_of self.now)) result }
     {
         let parts = self.parts()?;
         match self.matches.get_strs("PART") {
@@ -160,7 +160,7 @@ impl Line<'_, '_> {
 
     /// The bytes that keys are to begin with, which are written as the words of PART are.
     pub(crate) fn prefix(&self) -> Result<Vec<u8>, Refusal>
-        ensures { Gives (λ prefix. prefix.items) (prefix_by (values_of self.now)) result }
+        ensures { ReadsAs (λ prefix. prefix.items) (prefix_by (values_of self.now)) result }
     {
         let parts = self.parts()?;
         read_prefix(self.alloc, parts, self.choice("prefix"))
@@ -168,7 +168,7 @@ impl Line<'_, '_> {
 
     /// The name of a key in etcd, which is written as a word of PART is.
     pub(crate) fn name(&self) -> Result<Vec<u8>, Refusal>
-        ensures { Gives (λ name. name.items) (name_by (values_of self.now)) result }
+        ensures { ReadsAs (λ name. name.items) (name_by (values_of self.now)) result }
     {
         let parts = self.parts()?;
         read_part(self.alloc, parts, self.value("NAME")?)
@@ -176,8 +176,8 @@ impl Line<'_, '_> {
 
     /// A revision of etcd's, by the option of this name if it is given.
     pub(crate) fn revision(&self, id: &str) -> Result<Option<u64>, Refusal>
-        ensures { Gives (λ revision. revision)
-            (revision_by (first_of (values_of self.now id.now))) result }
+        ensures { ReadsAs (λ revision. revision)
+            (revision_asked (first_word_of (values_of self.now id.now))) result }
     {
         match self.choice(id) {
             Some(word) => Ok(Some(revision_of(word)?)),
@@ -187,16 +187,16 @@ impl Line<'_, '_> {
 
     /// The path at which a listing begins.
     pub(crate) fn from(&self) -> Result<Vec<Vec<u8>>, Refusal>
-        ensures { Gives (λ path. path_in path.items)
-            (hex_path_by (first_of (values_of self.now (codes "from")))) result }
+        ensures { ReadsAs (λ path. owned_path path.items)
+            (hex_path_by (first_word_of (values_of self.now (codes "from")))) result }
     {
         read_from(self.alloc, self.choice("from"))
     }
 
     /// The page size of a copy. Without one it is that of the file.
     pub(crate) fn page_size(&self) -> Result<Option<PageSize>, Refusal>
-        ensures { Gives size_in
-            (page_size_by (first_of (values_of self.now (codes "page-size")))) result }
+        ensures { ReadsAs size_in
+            (page_size_by (first_word_of (values_of self.now (codes "page-size")))) result }
     {
         let Some(word) = self.choice("page-size") else {
             return Ok(None);
@@ -207,8 +207,8 @@ impl Line<'_, '_> {
 
     /// The page size of a database that is made of a listing.
     pub(crate) fn load_size(&self) -> Result<PageSize, Refusal>
-        ensures { Gives (λ size. size.bytes)
-            (load_size_by (first_of (values_of self.now (codes "page-size")))) result }
+        ensures { ReadsAs (λ size. size.bytes)
+            (load_size_by (first_word_of (values_of self.now (codes "page-size")))) result }
     {
         match self.choice("page-size") {
             Some(word) => read_size(word).ok_or(Refusal::Word(BAD_SIZE)),
@@ -218,8 +218,8 @@ impl Line<'_, '_> {
 
     /// The sequence of the root bucket of such a database.
     pub(crate) fn sequence(&self) -> Result<u64, Refusal>
-        ensures { Gives (λ sequence. sequence)
-            (sequence_by (first_of (values_of self.now (codes "sequence")))) result }
+        ensures { ReadsAs (λ sequence. sequence)
+            (sequence_by (first_word_of (values_of self.now (codes "sequence")))) result }
     {
         match self.choice("sequence") {
             Some(word) => number_or("bad sequence", word),
@@ -229,8 +229,8 @@ impl Line<'_, '_> {
 
     /// The kind of a copy. A snapshot is for bbolt too.
     pub(crate) fn copy_kind(&self) -> CopyKind
-        ensures { result ≡ copy_kind_by (first_of (values_of self.now (codes "for-bbolt")))
-            (first_of (values_of self.now (codes "etcd-snapshot"))) }
+        ensures { result ≡ copy_kind_by (first_word_of (values_of self.now (codes "for-bbolt")))
+            (first_word_of (values_of self.now (codes "etcd-snapshot"))) }
     {
         match (self.choice("for-bbolt"), self.choice("etcd-snapshot")) {
             (_, Some(_)) => CopyKind::EtcdSnapshot,
@@ -241,8 +241,8 @@ impl Line<'_, '_> {
 
     /// How far a command goes, by the option of this name and `--lost-and-found`, which implies it.
     pub(crate) fn extent(&self, losses: &str) -> Extent
-        ensures { result ≡ extent_by (first_of (values_of self.now losses.now))
-            (first_of (values_of self.now (codes "lost-and-found"))) }
+        ensures { result ≡ extent_by (first_word_of (values_of self.now losses.now))
+            (first_word_of (values_of self.now (codes "lost-and-found"))) }
     {
         match (self.choice(losses), self.choice("lost-and-found")) {
             (_, Some(_)) => Extent::LostAndFound,
@@ -253,7 +253,7 @@ impl Line<'_, '_> {
 }
 
 fn form_of(word: &str) -> Result<Form, Refusal>
-    ensures { Gives (λ form. form) (form_by (Some word.now)) result }
+    ensures { ReadsAs (λ form. form) (form_by (Some word.now)) result }
 {
     match word {
         "printable" => Ok(Form::Printable),
@@ -270,7 +270,7 @@ fn form_of(word: &str) -> Result<Form, Refusal>
 }
 
 fn slot_of(word: &str) -> Result<Slot, Refusal>
-    ensures { Gives (λ slot. slot) (slot_of word.now) result }
+    ensures { ReadsAs (λ slot. slot) (slot_of word.now) result }
 {
     match word {
         "0" => Ok(Slot::Zero),
@@ -280,7 +280,7 @@ fn slot_of(word: &str) -> Result<Slot, Refusal>
 }
 
 fn assumed_of(word: &str) -> Result<MetaChoice, Refusal>
-    ensures { Gives meta_in (assumed_of word.now) result }
+    ensures { ReadsAs meta_in (assumed_of word.now) result }
 {
     match find_assumed(word) {
         Some(assumed) => Ok(MetaChoice::Assumed(assumed)),
@@ -300,15 +300,15 @@ fn find_assumed(word: &str) -> Option<AssumedMeta>
 }
 
 fn read_size(word: &str) -> Option<PageSize>
-    ensures { MatchOption result (page_size_of word.now ≡ Err (codes "bad page size")) (λ size.
-        page_size_of word.now ≡ Ok size.bytes) }
+    ensures { MatchOption result (page_size_asked word.now ≡ Err (codes "bad page size")) (λ size.
+        page_size_asked word.now ≡ Ok size.bytes) }
 {
     PageSize::new(read_number(word.as_bytes())?)
 }
 
 /// The revision that these digits stand for. It is below 2^63.
 fn revision_of(word: &str) -> Result<u64, Refusal>
-    ensures { Gives (λ revision. revision) (revision_of word.now) result }
+    ensures { ReadsAs (λ revision. revision) (revision_of word.now) result }
 {
     match read_number(word.as_bytes()) {
         Some(revision) if revision < 1 << 63 => Ok(revision),
@@ -318,7 +318,7 @@ fn revision_of(word: &str) -> Result<u64, Refusal>
 
 /// The number that these digits stand for, or a refusal with these words.
 fn number_or(why: &'static str, word: &str) -> Result<u64, Refusal>
-    ensures { Gives (λ number. number) (number_or why.now word.now) result }
+    ensures { ReadsAs (λ number. number) (number_or why.now word.now) result }
 {
     read_number(word.as_bytes()).ok_or(Refusal::Word(why))
 }

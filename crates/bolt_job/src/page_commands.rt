@@ -1,7 +1,7 @@
 //! The commands that print pages and what is wrong with a file: which arguments each has and their help, its job,
 //! and how that is read. A job's names are copied last: until then there is nothing to drop if a word can't be read.
-ghost use Rattle.bolt_job.specs.CommandLine.{Gives};
-ghost use Rattle.bolt_job.specs.PlainWords.{asks_check, asks_info, asks_page, asks_pages, check_of, info_of, page_of, pages_of};
+ghost use Rattle.bolt_job.specs.CommandLine.{ReadsAs};
+ghost use Rattle.bolt_job.specs.PlainWords.{asks_check, asks_info, asks_page, asks_pages, check_of, info_of, page_of, pages_asked};
 ghost use Rattle.bolt_job.specs.Private.CommandLines.{values_of};
 
 use crate::choices::{Extent, MetaChoice};
@@ -115,7 +115,7 @@ pub(crate) static INFO: Syntax = Syntax {
 };
 
 pub(crate) fn read_info(line: &Line<'_, '_>) -> Result<InfoJob, Refusal>
-    ensures { Gives info_of (asks_info (values_of line.now)) result }
+    ensures { ReadsAs info_of (asks_info (values_of line.now)) result }
 {
     Ok(InfoJob {
         slot: line.slot()?,
@@ -140,7 +140,7 @@ pub(crate) static PAGE: Syntax = Syntax {
 };
 
 pub(crate) fn read_page(line: &Line<'_, '_>) -> Result<PageJob, Refusal>
-    ensures { Gives page_of (asks_page (values_of line.now)) result }
+    ensures { ReadsAs page_of (asks_page (values_of line.now)) result }
 {
     Ok(PageJob {
         meta: line.meta()?,
@@ -165,7 +165,7 @@ pub(crate) static PAGES: Syntax = Syntax {
 };
 
 pub(crate) fn read_pages(line: &Line<'_, '_>) -> Result<PagesJob, Refusal>
-    ensures { Gives pages_of (asks_pages (values_of line.now)) result }
+    ensures { ReadsAs pages_asked (asks_pages (values_of line.now)) result }
 {
     Ok(PagesJob {
         map: line.is_given("map"),
@@ -201,7 +201,7 @@ pub(crate) static CHECK: Syntax = Syntax {
 };
 
 pub(crate) fn read_check(line: &Line<'_, '_>) -> Result<CheckJob, Refusal>
-    ensures { Gives check_of (asks_check (values_of line.now)) result }
+    ensures { ReadsAs check_of (asks_check (values_of line.now)) result }
 {
     Ok(CheckJob {
         meta: line.meta()?,

@@ -1,9 +1,9 @@
 //! Reads paths from the words of a command line.
 ghost use Rattle.std.specs.Prelude.{◌≡◌, ◌==◌, IfOk, length, map, option_map};
 ghost use Rattle.std.specs.List.{list_any, slice_split};
-ghost use Rattle.bolt_job.specs.CommandLine.{Gives};
+ghost use Rattle.bolt_job.specs.CommandLine.{ReadsAs};
 ghost use Rattle.bolt_job.specs.PathWords.{each_part, hex_path_by, hex_path_of, part_of, prefix_of};
-ghost use Rattle.bolt_job.specs.PlainWords.{path_in};
+ghost use Rattle.bolt_job.specs.PlainWords.{owned_path};
 
 use crate::refusal::Refusal;
 use bolt_text::Parts;
@@ -16,7 +16,7 @@ pub(crate) fn read_path(
     parts: Parts,
     words: &[&str],
 ) -> Result<Vec<Vec<u8>>, Refusal>
-    ensures { Gives (λ path. path_in path.items)
+    ensures { ReadsAs (λ path. owned_path path.items)
         (each_part (part_of parts) (map (λ word. word.now) words.now)) result }
 {
     let mut path = Vec::new(alloc);
@@ -28,7 +28,7 @@ pub(crate) fn read_path(
 
 /// The part of a path that a word stands for.
 pub(crate) fn read_part(alloc: Global, parts: Parts, word: &str) -> Result<Vec<u8>, Refusal>
-    ensures { Gives (λ part. part.items) (part_of parts word.now) result }
+    ensures { ReadsAs (λ part. part.items) (part_of parts word.now) result }
 {
     match parts.read(alloc, word) {
         Ok(part) => Ok(part),
@@ -43,7 +43,7 @@ pub(crate) fn read_prefix(
     parts: Parts,
     word: Option<&str>,
 ) -> Result<Vec<u8>, Refusal>
-    ensures { Gives (λ prefix. prefix.items)
+    ensures { ReadsAs (λ prefix. prefix.items)
         (prefix_of parts (option_map (λ text. text.now) word.entry)) result }
 {
     match word {
@@ -54,7 +54,7 @@ pub(crate) fn read_prefix(
 
 /// The path at which a listing begins, by the value of `--from`.
 pub(crate) fn read_from(alloc: Global, word: Option<&str>) -> Result<Vec<Vec<u8>>, Refusal>
-    ensures { Gives (λ path. path_in path.items)
+    ensures { ReadsAs (λ path. owned_path path.items)
         (hex_path_by (option_map (λ text. text.now) word.entry)) result }
 {
     match word {
@@ -65,7 +65,7 @@ pub(crate) fn read_from(alloc: Global, word: Option<&str>) -> Result<Vec<Vec<u8>
 
 /// The path whose parts are in hexadecimal, between slashes.
 fn read_hex_path(alloc: Global, word: &str) -> Result<Vec<Vec<u8>>, Refusal>
-    ensures { Gives (λ path. path_in path.items) (hex_path_of word.now) result }
+    ensures { ReadsAs (λ path. owned_path path.items) (hex_path_of word.now) result }
 {
     let parts = cut_at_slashes(alloc, word)?;
     if has_empty(parts.as_slice()) {

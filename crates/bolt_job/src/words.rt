@@ -1,7 +1,7 @@
 //! Reads the words of a command line: which job they ask for.
 ghost use Rattle.std.specs.Prelude.{IfErr, IfOk, map, string_bytes};
 ghost use Rattle.clap.specs.Words.{kind_of, subcommand_rows_of};
-ghost use Rattle.bolt_job.specs.CommandLine.{Asks, Gives, HasKindOf, IsCommand, IsRefusalOf, asked_by_subcommand, program};
+ghost use Rattle.bolt_job.specs.CommandLine.{Asks, ReadsAs, HasKindOf, IsCommand, IsRefusalOf, asked_by_subcommand, program};
 ghost use Rattle.bolt_job.specs.Jobs.{asked_of};
 
 use crate::command_line::{bare_program, with_commands};
@@ -54,7 +54,7 @@ fn refusal_of(alloc: Global, error: &Error) -> Result<Refusal, AllocError>
 }
 
 fn read_matches(alloc: Global, matches: &ArgMatches<'_>) -> Result<Job, Refusal>
-    ensures { Gives asked_of (asked_by_subcommand (subcommand_rows_of matches.now)) result }
+    ensures { ReadsAs asked_of (asked_by_subcommand (subcommand_rows_of matches.now)) result }
 {
     match matches.subcommand() {
         Some((name, matches)) => read_command(name, &Line { alloc, matches }),

@@ -1,6 +1,6 @@
 //! The commands that write a database: which arguments each has and their help, its job, and how that is read. A
 //! job's names are copied last: until then there is nothing to drop if a word can't be read.
-ghost use Rattle.bolt_job.specs.CommandLine.{Gives};
+ghost use Rattle.bolt_job.specs.CommandLine.{ReadsAs};
 ghost use Rattle.bolt_job.specs.PlainWords.{asks_compact, asks_load, compact_of, load_of};
 ghost use Rattle.bolt_job.specs.Private.CommandLines.{values_of};
 
@@ -102,7 +102,7 @@ pub(crate) static COMPACT: Syntax = Syntax {
 };
 
 pub(crate) fn read_compact(line: &Line<'_, '_>) -> Result<CompactJob, Refusal>
-    ensures { Gives compact_of (asks_compact (values_of line.now)) result }
+    ensures { ReadsAs compact_of (asks_compact (values_of line.now)) result }
 {
     Ok(CompactJob {
         meta: line.meta()?,
@@ -142,7 +142,7 @@ pub(crate) static LOAD: Syntax = Syntax {
 };
 
 pub(crate) fn read_load(line: &Line<'_, '_>) -> Result<LoadJob, Refusal>
-    ensures { Gives load_of (asks_load (values_of line.now)) result }
+    ensures { ReadsAs load_of (asks_load (values_of line.now)) result }
 {
     Ok(LoadJob {
         sequence: line.sequence()?,

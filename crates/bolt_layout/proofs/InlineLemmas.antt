@@ -2,7 +2,7 @@
 use Rattle.std.proofs.Common.{◌≡◌, ◌∙◌, ℕ, suc, ◌+◌, ◌*◌, ◌^◌, ◌<◌, ◌≤◌, nat_lt, false, List, [], ◌∷◌, ◌++◌, length, map, drop, Option, None, refl, sym, ap, arith}
 use Rattle.bolt_layout.proofs.Words.{AllByRecursion, append-nil, count_field, eq-eqb, head_root, head_sequence, head_written, header_bytes, header_written, inline_elements, inline_value, le-ltb, leaf_bytes, leaf_data, leaf_element, leaf_elements, LeafElement, length-append, length-header_bytes, range_with_len, value_fault}
 use Rattle.std.specs.List.{list_any}
-use Rattle.bolt_format.specs.Elements.{head_fault, inline_bytes, inline_fault, inline_number, is_bucket_at}
+use Rattle.bolt_format.specs.Elements.{head_fault, inline_bytes, inline_fault, inline_number, is_bucket_element}
 use Rattle.bolt_format.specs.declared.header.Kind.TheVariants as kind
 use Rattle.bolt_layout.proofs.LeafLemmas.{IsLeafFit, leaves_written}
 
@@ -19,11 +19,11 @@ flat_fits bucket_fault (e ∷ es) h = grind (arith, flat_fits bucket_fault es h.
 
 -- none of the elements that are read is a bucket
 no_bucket_in : (bytes : List ℕ) (from n : ℕ) (es : List LeafElement) → map (leaf_element bytes) (range_with_len from n) ≡ es → AllByRecursion IsFlat es
-    → list_any (is_bucket_at bytes) (range_with_len from n) ≡ false
+    → list_any (is_bucket_element bytes) (range_with_len from n) ≡ false
 no_bucket_in bytes from (suc n) (x ∷ es) e flat =
     let first : leaf_element bytes from ≡ x = cc in
     let rest : map (leaf_element bytes) (range_with_len (from + 1) n) ≡ es = cc in
-    let one : is_bucket_at bytes from ≡ false = ap (λ (y : LeafElement). y.is_bucket) first ∙ flat.0.flat in
+    let one : is_bucket_element bytes from ≡ false = ap (λ (y : LeafElement). y.is_bucket) first ∙ flat.0.flat in
     rw (one, no_bucket_in bytes (from + 1) n es rest flat.1) refl
 no_bucket_in bytes from n es e flat = grind arith
 

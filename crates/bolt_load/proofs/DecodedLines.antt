@@ -1,7 +1,7 @@
 -- The lines of a text are decoded one after another.
 use Rattle.std.proofs.Common.{rules, ◌≡◌, ◌∙◌, ◌<◌, ◌-◌, ℕ, List, [], ◌∷◌, ◌++◌, Option, Some, None, length, get_or, take, refl, sym, ap, subst, arith, append_assoc, append-nil, length-append}
 use Rattle.std.proofs.lemmas.Grind.{common_steps, flat_map-append}
-use Rattle.bolt_load.proofs.Words.{Adds, All, All-append, AreDecoded, filter_map-append, flat_map, IfSome, IsFirstLine, IsSome, length_fault, line_member, LineFault, lines_of, Member, member_bytes, members_in, NotALine, option_map, option_map_or, shape_fault, StopsAt, take-append_seam, Text}
+use Rattle.bolt_load.proofs.Words.{AddsDecoded, All, All-append, AreDecoded, filter_map-append, flat_map, IfSome, IsFirstLine, IsSome, length_fault, line_member, LineFault, lines_of, Member, member_bytes, members_of_lines, NotALine, option_map, option_map_or, shape_fault, StopsAt, take-append_seam, Text}
 use Rattle.bolt_text.proofs.LineLemmas.{no_lines}
 use Rattle.std.specs.Prelude.{zero, suc}
 
@@ -17,11 +17,11 @@ shaped_member line shaped = at (line_member line) refl
     at None is = absurd (let f : Some NotALine ≡ None = sym (ap (λ found. option_map_or length_fault found (Some NotALine)) is) ∙ shaped in cc)
     at (Some member) is = (member, is)
 
-pub member_alone : (line : Text) (member : Member) → line_member line ≡ Some member → members_in (line ∷ []) ≡ member ∷ []
+pub member_alone : (line : Text) (member : Member) → line_member line ≡ Some member → members_of_lines (line ∷ []) ≡ member ∷ []
 member_alone line member is = rw is refl
 
-pub members_push : (front : List Text) (line : Text) (member : Member) → line_member line ≡ Some member → members_in (front ++ line ∷ []) ≡ members_in front ++ member ∷ []
-members_push front line member is = filter_map-append line_member front (line ∷ []) ∙ ap (λ more. members_in front ++ more) (member_alone line member is)
+pub members_push : (front : List Text) (line : Text) (member : Member) → line_member line ≡ Some member → members_of_lines (front ++ line ∷ []) ≡ members_of_lines front ++ member ∷ []
+members_push front line member is = filter_map-append line_member front (line ∷ []) ∙ ap (λ more. members_of_lines front ++ more) (member_alone line member is)
 
 bytes_push : (listing : List Member) (member : Member) → flat_map member_bytes (listing ++ member ∷ []) ≡ flat_map member_bytes listing ++ member_bytes member
 bytes_push listing member = flat_map-append member_bytes listing (member ∷ []) ∙ ap (λ more. flat_map member_bytes listing ++ more) (append-nil (member_bytes member))
@@ -45,7 +45,7 @@ pub record HasDecoded (text rest : Text) (bytes : List ℕ) : Type 0 where
   pub lines : lines_of text ≡ front ++ lines_of rest
   pub others : (rest ≡ [] → ⊥) → (other : Text) → lines_of (head ++ other) ≡ front ++ lines_of other
   pub shaped : All IsShaped front
-  pub bytes_are : bytes ≡ flat_map member_bytes (members_in front)
+  pub bytes_are : bytes ≡ flat_map member_bytes (members_of_lines front)
 
 none_shaped : All IsShaped []
 none_shaped = λ k d below. absurd (omega (arith, below))
@@ -65,7 +65,7 @@ not_nil text line after first none = let below = first.shorter in let same = ap 
 
 module _ (text rest : Text) (bytes new : List ℕ) (so_far : HasDecoded text rest bytes) where
   module _ (line after : Text) (first : IsFirstLine rest line after) where
-    pub line_decoded : None ≡ shape_fault line → Adds (option_map member_bytes (line_member line)) bytes new → HasDecoded text after new
+    pub line_decoded : None ≡ shape_fault line → AddsDecoded (option_map member_bytes (line_member line)) bytes new → HasDecoded text after new
     line_decoded shaped adds =
         let found = shaped_member line (sym shaped) in
         let more : adds.more ≡ member_bytes found.0 = adds.are (member_bytes found.0) (ap (option_map member_bytes) found.1) in
@@ -83,8 +83,8 @@ module _ (text rest : Text) (bytes new : List ℕ) (so_far : HasDecoded text res
           bytes_are =
               adds.added
               ∙ ap (λ bytes. bytes ++ adds.more) so_far.bytes_are
-              ∙ ap (λ more. flat_map member_bytes (members_in so_far.front) ++ more) more
-              ∙ sym (ap (flat_map member_bytes) (members_push so_far.front line found.0 found.1) ∙ bytes_push (members_in so_far.front) found.0);
+              ∙ ap (λ more. flat_map member_bytes (members_of_lines so_far.front) ++ more) more
+              ∙ sym (ap (flat_map member_bytes) (members_push so_far.front line found.0 found.1) ∙ bytes_push (members_of_lines so_far.front) found.0);
         }
 
     head_lines : lines_of so_far.head ≡ so_far.front
@@ -97,7 +97,7 @@ module _ (text rest : Text) (bytes new : List ℕ) (so_far : HasDecoded text res
       decoded_lines : lines_of decoded ≡ so_far.front
       decoded_lines = ap lines_of is ∙ head_lines
 
-      pub front_decoded : {found : Option (List ℕ)} → Adds found bytes new → AreDecoded (lines_of decoded) new
+      pub front_decoded : {found : Option (List ℕ)} → AddsDecoded found bytes new → AreDecoded (lines_of decoded) new
       front_decoded adds = grind (arith, common_steps, decoded_lines, all_tell, begins_with, flat_map, member_bytes)
 
       pub front_shaped : All IsShaped (lines_of decoded)
@@ -113,7 +113,7 @@ module _ (text rest : Text) (bytes new : List ℕ) (so_far : HasDecoded text res
     pub all_decoded : AreDecoded (lines_of text) bytes
     all_decoded = subst (λ (lines : List Text). AreDecoded lines bytes) (sym all_lines) (record {
       tell = all_tell so_far.front so_far.shaped;
-      begin = begins_with (flat_map member_bytes (members_in so_far.front)) [] bytes (so_far.bytes_are ∙ sym (append-nil (flat_map member_bytes (members_in so_far.front))));
+      begin = begins_with (flat_map member_bytes (members_of_lines so_far.front)) [] bytes (so_far.bytes_are ∙ sym (append-nil (flat_map member_bytes (members_of_lines so_far.front))));
     })
 
     pub all_shaped : All IsShaped (lines_of text)

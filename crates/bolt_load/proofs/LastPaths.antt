@@ -7,7 +7,7 @@ use Rattle.std.proofs.lemmas.Slice.Eq.{slice_eq-Decides}
 use Rattle.std.proofs.Math.Seq.{take-append-add}
 use Rattle.std.specs.Cmp.Lexicographic.{pointwise}
 use Rattle.std.specs.Prelude.{nat_lt}
-use Rattle.bolt_load.proofs.Words.{and_parts, begins_of, begins_with, bytes_eq, bytes_eq-Decides, fault_after, fault_by, Has, has_bucket, has_split, is_above_last, is_bucket, is_lt, is_open, Item, Key, Less, less_lt, list_any, Member, nat_tests, option_map_or, Path, path_above, path_cmp, path_total, place_fault, take-append-drop}
+use Rattle.bolt_load.proofs.Words.{and_parts, begins_of, begins_with, bytes_eq, bytes_eq-Decides, fault_after, order_fault, Has, has_bucket, has_split, is_above_last, is_bucket, is_lt, is_open, Item, Key, Less, less_lt, list_any, Member, nat_tests, option_map_or, Path, path_above, path_cmp, path_total, place_fault, take-append-drop}
 use Rattle.bolt_tree.specs.ListingParts.{is_bucket_at}
 use Rattle.bolt_check.proofs.Lists.{get_behind}
 use Rattle.bolt_tree.proofs.{Lists.asymmetric, PartLemmas.begins_by, PathOrder.beyond_less, PathOrder.beyond_or_longer}
@@ -130,11 +130,11 @@ module _ (before : List Member) (last : Path) (bucket : Bool) (is : IsLast befor
       where
         at : (less : Bool) → is_lt (path_cmp last path) ≡ less → place_fault before (path, item) ≡ fault_after last bucket path
         at true less =
-            ap (λ b. fault_by b (has_bucket (path_above path) before)) (is.above path some)
-            ∙ ap (fault_by (is_lt (path_cmp last path))) (path_open (less_lt (path_cmp last path) less))
+            ap (λ b. order_fault b (has_bucket (path_above path) before)) (is.above path some)
+            ∙ ap (order_fault (is_lt (path_cmp last path))) (path_open (less_lt (path_cmp last path) less))
         at false less =
-            ap (λ b. fault_by b (has_bucket (path_above path) before)) (is.above path some ∙ less)
-            ∙ sym (ap (λ b. fault_by b (is_open last bucket (path_above path))) less)
+            ap (λ b. order_fault b (has_bucket (path_above path) before)) (is.above path some ∙ less)
+            ∙ sym (ap (λ b. order_fault b (is_open last bucket (path_above path))) less)
 
 -- ---- one member more
 

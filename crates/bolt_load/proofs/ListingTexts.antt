@@ -2,7 +2,7 @@
 use Rattle.std.proofs.lemmas.Grind.{common_steps}
 use Rattle.std.proofs.Common.{◌≡◌, ◌∙◌, ◌==◌, ◌<◌, ◌-◌, ℕ, true, false, List, [], ◌∷◌, ◌++◌, Option, Some, None, length, map, slice_get, inl, inr, refl, sym, ap, ap₂, subst, arith, append_assoc, append-nil, length-append}
 use Rattle.std.proofs.lemmas.List.Elements.{Contains-append_left}
-use Rattle.bolt_load.proofs.Words.{Bucket, Contains, contains_from_has, end, filter_map-append, Has, has_bucket, if◌then◌else◌, is_above_last, is_lt, IsListingText, IsLoadFault, IsMemberOfBytes, Item, Key, Less, line_fault, line_member, LineFault, lines_of, listing_below, listing_of, listing_text, Member, member_cmp, member_line, members_in, option_map_or, Path, path_above, path_cmp, place_fault, RightAfter, Rises, Text, text_members, Tree, Value, with_bucket, with_value}
+use Rattle.bolt_load.proofs.Words.{Bucket, Contains, contains_from_has, end, filter_map-append, Has, has_bucket, if◌then◌else◌, is_above_last, is_lt, IsListingText, IsLoadFault, IsMemberOfBytes, Item, Key, Less, line_fault, line_member, LineFault, lines_of, listing_below, listing_of, listing_text, Member, member_cmp, member_line, members_of_lines, option_map_or, Path, path_above, path_cmp, place_fault, RightAfter, Rises, Text, text_members, Tree, Value, with_bucket, with_value}
 use Rattle.bolt_load.proofs.{DecodedLines.member_alone, LastPaths.has_more, LastPaths.has_new}
 use Rattle.bolt_text.proofs.LineLemmas.{lines_cut, no_lines}
 use Rattle.bolt_load.proofs.{NextLines.members_first, PlacedLines.fault_is_of_place, StoredTexts.AreKeys, StoredTexts.FitsMember}
@@ -57,15 +57,15 @@ placed before front key item above has = grind (arith, common_steps, has_bucket,
 
 -- ---- all lines
 
-right_append : (before : List Member) (first second : List Text) → RightAfter before first → RightAfter (before ++ members_in first) second → RightAfter before (first ++ second)
+right_append : (before : List Member) (first second : List Text) → RightAfter before first → RightAfter (before ++ members_of_lines first) second → RightAfter before (first ++ second)
 right_append before [] second right more = subst (λ (ms : List Member). RightAfter ms second) (append-nil before) more
 right_append before (line ∷ first) second right more = (
   right.0,
-  right_append (before ++ members_in (line ∷ [])) first second right.1 (subst (λ (ms : List Member). RightAfter ms second) (members_first_of before line first) more),
+  right_append (before ++ members_of_lines (line ∷ [])) first second right.1 (subst (λ (ms : List Member). RightAfter ms second) (members_first_of before line first) more),
 )
   where
-    members_first_of : (before : List Member) (line : Text) (first : List Text) → before ++ members_in (line ∷ first) ≡ (before ++ members_in (line ∷ [])) ++ members_in first
-    members_first_of before line first = ap (λ ms. before ++ ms) (filter_map-append line_member (line ∷ []) first) ∙ sym (append_assoc before (members_in (line ∷ [])) (members_in first))
+    members_first_of : (before : List Member) (line : Text) (first : List Text) → before ++ members_of_lines (line ∷ first) ≡ (before ++ members_of_lines (line ∷ [])) ++ members_of_lines first
+    members_first_of before line first = ap (λ ms. before ++ ms) (filter_map-append line_member (line ∷ []) first) ∙ sym (append_assoc before (members_of_lines (line ∷ [])) (members_of_lines first))
 
 map_append : (xs ys : List Member) → map member_words (xs ++ ys) ≡ map member_words xs ++ map member_words ys
 map_append [] ys = refl
@@ -94,13 +94,13 @@ module _ (before : List Member) (front : Path) (key : Key) (item : Item) (rest :
   first_right : Rises member_cmp (before ++ own ∷ rest) → has_bucket front before ≡ true → line_fault before (member_words own) ≡ None
   first_right rises has = grind (arith, common_steps, fault_is_of_place, member_words, line_shaped, told, placed, above_last, rises_after)
 
-  told_alone : members_in (member_words own ∷ []) ≡ own ∷ []
+  told_alone : members_of_lines (member_words own ∷ []) ≡ own ∷ []
   told_alone = member_alone (member_words own) own told
 
-  told_first : (listing : List Member) → members_in (map member_words listing) ≡ listing → members_in (map member_words (own ∷ listing)) ≡ own ∷ listing
+  told_first : (listing : List Member) → members_of_lines (map member_words listing) ≡ listing → members_of_lines (map member_words (own ∷ listing)) ≡ own ∷ listing
   told_first listing same = members_first (member_words own) (map member_words listing) own told ∙ ap (λ ms. own ∷ ms) same
 
-members_back : (front : Path) (tree : Tree) → IsPlain front tree → members_in (map member_words (listing_below front tree)) ≡ listing_below front tree
+members_back : (front : Path) (tree : Tree) → IsPlain front tree → members_of_lines (map member_words (listing_below front tree)) ≡ listing_below front tree
 members_back front end plain = refl
 members_back front (with_value key value after) plain =
     let fits : FitsMember (front ++ key ∷ [], Value value) = (push_key front key plain.keys (plain.lengths.0, tt), plain.lengths.1) in
@@ -110,8 +110,8 @@ members_back front (with_bucket key sequence inside after) plain =
     let keys = push_key front key plain.keys (plain.lengths.0, tt) in
     let deep : List Member = listing_below (front ++ key ∷ []) inside in
     let behind : List Member = listing_below front after in
-    let same : members_in (map member_words (deep ++ behind)) ≡ deep ++ behind =
-    ap members_in (map_append deep behind) ∙ filter_map-append line_member (map member_words deep) (map member_words behind)
+    let same : members_of_lines (map member_words (deep ++ behind)) ≡ deep ++ behind =
+    ap members_of_lines (map_append deep behind) ∙ filter_map-append line_member (map member_words deep) (map member_words behind)
     ∙ ap₂ (λ a b. a ++ b)
     (members_back (front ++ key ∷ []) inside (record { keys = keys; lengths = plain.lengths.2; good = λ member has. plain.good member (inr (has_left deep behind member has)) }))
     (members_back front after (record { keys = plain.keys; lengths = plain.lengths.3; good = λ member has. plain.good member (inr (has_right deep behind member has)) })) in
@@ -197,4 +197,4 @@ module _ (listing : List Member) (one : IsOfOneTree listing) (rises : Rises memb
   text_is_right some = grind (arith, common_steps, lines, right_below, tree_of, plain, member_cmp, text_is_whole)
 
   pub text_is_read_back : text_members (listing_text listing) ≡ listing
-  text_is_read_back = ap members_in lines ∙ members_back [] (tree_of listing) plain ∙ one.lists
+  text_is_read_back = ap members_of_lines lines ∙ members_back [] (tree_of listing) plain ∙ one.lists

@@ -1,7 +1,7 @@
 -- The next line tells the member whose bytes come next.
 use Rattle.std.proofs.Common.{rules, ◌≡◌, ◌∙◌, ℕ, List, [], ◌∷◌, ◌++◌, Option, Some, None, length, drop, take, refl, sym, ap, ap₂, subst, arith, append_assoc}
 use Rattle.std.proofs.lemmas.List.{append_cancel_left}
-use Rattle.bolt_load.proofs.Words.{All, AreDecoded, BeginsWith, GivesLine, IsFirstLine, IsSome, Item, item_bytes, line_member, lines_of, Member, member_bytes, members_in, Path, path_bytes, take-append-drop, take-append_seam, Text, text_members}
+use Rattle.bolt_load.proofs.Words.{All, AreDecoded, BeginsWith, GivesLine, IsFirstLine, IsSome, Item, item_bytes, line_member, lines_of, Member, member_bytes, members_of_lines, Path, path_bytes, take-append-drop, take-append_seam, Text, text_members}
 use Rattle.bolt_load.proofs.MemberLemmas.{member_of}
 use Rattle.std.specs.Prelude.{suc, IsSomeAnd}
 use Rattle.bolt_load.specs.Private.Decoding.{listing_bytes}
@@ -16,7 +16,7 @@ pub others_of : (P : Text → Type 0) (line : Text) (lines : List Text) → All 
 others_of P line lines all = λ k d below. all (suc k) d (omega (arith, below))
 
 module _ (line : Text) (lines : List Text) (member : Member) (is : line_member line ≡ Some member) where
-  pub members_first : members_in (line ∷ lines) ≡ member ∷ members_in lines
+  pub members_first : members_of_lines (line ∷ lines) ≡ member ∷ members_of_lines lines
   members_first = rw is refl
 
 pub parts_of : (path : Option Path) (item : Option Item) (member : Member) → member_of path item ≡ Some member → (path ≡ Some member.0) × (item ≡ Some member.1)
@@ -33,7 +33,7 @@ module _ (text line after : Text) (bytes : List ℕ) (first : IsFirstLine text l
   no_words none = let f : None ≡ Some told.0 = sym none ∙ told.1 in absurd (cc)
 
   members_are : text_members text ≡ told.0 ∷ text_members after
-  members_are = ap members_in first.lines ∙ members_first line (lines_of after) told.0 told.1
+  members_are = ap members_of_lines first.lines ∙ members_first line (lines_of after) told.0 told.1
 
   later : List ℕ
   later = listing_bytes (text_members after) ++ drop (length (listing_bytes (text_members text))) bytes

@@ -1,7 +1,7 @@
 -- A path in hexadecimal is read part by part.
 use Rattle.std.proofs.lemmas.Grind.{common_steps}
 use Rattle.std.proofs.Common.{◌≡◌, ◌∙◌, ◌==◌, ◌<◌, ◌≤◌, ◌*◌, ℕ, Bool, true, false, List, [], ◌∷◌, ◌++◌, Option, Some, None, length, refl, sym, ap, arith, append_assoc, append-nil}
-use Rattle.bolt_load.proofs.Words.{Adds, hex_bytes_in, hex_path_in, if◌then◌else◌, is_long_key, is_some, IsCutAt, IsWithout, Key, list_any, nat_tests, option_and_then, option_map, part_in, parts_in, Path, path_bytes, result_ok, Text}
+use Rattle.bolt_load.proofs.Words.{AddsDecoded, hex_bytes_in, hex_path_in, if◌then◌else◌, is_long_key, is_some, IsCutAt, IsWithout, Key, list_any, nat_tests, option_and_then, option_map, part_in, parts_in, Path, path_bytes, result_ok, Text}
 use Rattle.bolt_text.proofs.CutLemmas.{parts_cut, parts_whole}
 use Rattle.std.specs.Prelude.{◌/◌, ◌||◌, Result, Ok, nat_lt}
 use Rattle.hex.specs.Hex.{decode_of}
@@ -81,7 +81,7 @@ module _ (word rest : Text) (old bytes new : List ℕ) (so_far : AddsParts word 
   more_added : (more : List ℕ) → new ≡ bytes ++ more → new ≡ old ++ (path_bytes so_far.front ++ more)
   more_added more is = is ∙ ap (λ bytes. bytes ++ more) so_far.added ∙ append_assoc old (path_bytes so_far.front) more
 
-  pub part_added : (part after : Text) → IsCutAt 47 rest part after → is_some (part_in part) ≡ true → Adds (part_in part) bytes new → AddsParts word after old new
+  pub part_added : (part after : Text) → IsCutAt 47 rest part after → is_some (part_in part) ≡ true → AddsDecoded (part_in part) bytes new → AddsParts word after old new
   part_added part after cut good adds =
       let found = is_there (part_in part) good in
       record {
@@ -90,13 +90,13 @@ module _ (word rest : Text) (old bytes new : List ℕ) (so_far : AddsParts word 
         added = more_added adds.more adds.added ∙ ap (λ bytes. old ++ bytes) (ap (λ more. path_bytes so_far.front ++ more) (adds.are found.0 found.1) ∙ sym (path_bytes_push so_far.front found.0));
       }
 
-  pub path_refused : (found : Option Key) → hex_path_in word ≡ None → Adds found bytes new → Adds (option_map path_bytes (hex_path_in word)) old new
+  pub path_refused : (found : Option Key) → hex_path_in word ≡ None → AddsDecoded found bytes new → AddsDecoded (option_map path_bytes (hex_path_in word)) old new
   path_refused found none adds = grind (arith, common_steps, path_bytes, more_added)
 
-  pub path_added : IsWithout 47 rest → Adds (part_in rest) bytes new → Adds (option_map path_bytes (hex_path_in word)) old new
+  pub path_added : IsWithout 47 rest → AddsDecoded (part_in rest) bytes new → AddsDecoded (option_map path_bytes (hex_path_in word)) old new
   path_added without adds = at (part_in rest) refl
     where
-      at : (found : Option Key) → part_in rest ≡ found → Adds (option_map path_bytes (hex_path_in word)) old new
+      at : (found : Option Key) → part_in rest ≡ found → AddsDecoded (option_map path_bytes (hex_path_in word)) old new
       at None found = path_refused (part_in rest) (bad_end word rest so_far.front so_far.parts without found) adds
       at (Some key) found =
           let whole = end_part word rest so_far.front so_far.parts key without found in

@@ -1,7 +1,7 @@
 -- The places of lines are tested one after another.
 use Rattle.std.proofs.Common.{rules, ◌≡◌, ◌∙◌, ◌<◌, ◌≤◌, ◌+◌, ◌==◌, ℕ, Bool, true, List, [], ◌∷◌, ◌++◌, Option, Some, None, length, Bor, refl, sym, ap, subst, arith, append_assoc, append-nil, length-append}
 use Rattle.std.proofs.lemmas.Grind.{common_steps}
-use Rattle.bolt_load.proofs.Words.{All, fault_after, fault_by, filter_map-append, GivesLine, hex_path_in, is_bucket, is_lt, is_open, IsFirstFault, Item, Key, length-map, less_lt, line_fault, line_member, LineFault, lines_of, Member, member_in, members_in, option_and_then, option_map, part_in, parts_in, Path, path_above, path_cmp, path_of, place_fault, RightAfter, slice_split, Text}
+use Rattle.bolt_load.proofs.Words.{All, fault_after, order_fault, filter_map-append, GivesLine, hex_path_in, is_bucket, is_lt, is_open, IsFirstFault, Item, Key, length-map, less_lt, line_fault, line_member, LineFault, lines_of, Member, member_in, members_of_lines, option_and_then, option_map, part_in, parts_in, Path, path_above, path_cmp, path_of, place_fault, RightAfter, slice_split, Text}
 use Rattle.bolt_text.proofs.CutLemmas.{some_parts}
 use Rattle.bolt_load.proofs.DecodedLines.{IsShaped, members_push}
 use Rattle.bolt_load.proofs.LastPaths.{IsLast, next_last, none_last, path_open, place_same}
@@ -37,12 +37,12 @@ line_path_some line path item is = member_some (slice_split (λ byte. byte == 32
 pub fault_is_of_place : (before : List Member) (line : Text) (member : Member) → IsShaped line → line_member line ≡ Some member → line_fault before line ≡ place_fault before member
 fault_is_of_place before line member shaped is = grind arith
 
-right_push : (before : List Member) (front : List Text) (line : Text) → RightAfter before front → line_fault (before ++ members_in front) line ≡ None → RightAfter before (front ++ line ∷ [])
+right_push : (before : List Member) (front : List Text) (line : Text) → RightAfter before front → line_fault (before ++ members_of_lines front) line ≡ None → RightAfter before (front ++ line ∷ [])
 right_push before [] line right good = (sym (ap (λ before. line_fault before line) (append-nil before)) ∙ good, tt)
 right_push before (first ∷ front) line right good = (
   right.0,
-  right_push (before ++ members_in (first ∷ [])) front line right.1
-      (ap (λ before. line_fault before line) (append_assoc before (members_in (first ∷ [])) (members_in front) ∙ ap (λ more. before ++ more) (sym (filter_map-append line_member (first ∷ []) front))) ∙ good),
+  right_push (before ++ members_of_lines (first ∷ [])) front line right.1
+      (ap (λ before. line_fault before line) (append_assoc before (members_of_lines (first ∷ [])) (members_of_lines front) ∙ ap (λ more. before ++ more) (sym (filter_map-append line_member (first ∷ []) front))) ∙ good),
 )
 
 -- ---- the lines so far
@@ -54,12 +54,12 @@ pub record HasPlaced (text left : Text) (last : Path) (bucket : Bool) (number : 
   pub fits : number + length left ≤ length text
   pub shaped : All IsShaped (lines_of left)
   pub right : RightAfter [] front
-  pub last_is : IsLast (members_in front) last bucket
+  pub last_is : IsLast (members_of_lines front) last bucket
 
 pub none_placed : (text : Text) → All IsShaped (lines_of text) → HasPlaced text text [] true 0
 none_placed text shaped = record { front = []; lines = refl; number_is = refl; fits = omega arith; shaped = shaped; right = tt; last_is = none_last }
 
-pub fault_parts : (above below : Bool) → fault_by above below ≡ None → (above ≡ true) × (below ≡ true)
+pub fault_parts : (above below : Bool) → order_fault above below ≡ None → (above ≡ true) × (below ≡ true)
 fault_parts above below none = grind arith
 
 module _ (text left : Text) (last : Path) (bucket : Bool) (number : ℕ) (so_far : HasPlaced text left last bucket number) where
@@ -70,8 +70,8 @@ module _ (text left : Text) (last : Path) (bucket : Bool) (number : ℕ) (so_far
     this_shaped : IsShaped given.0
     this_shaped = first_of IsShaped given.0 (lines_of after) (subst (All IsShaped) given.1 so_far.shaped)
 
-    fault_here : line_fault (members_in so_far.front) given.0 ≡ fault_after last bucket path
-    fault_here = fault_is_of_place (members_in so_far.front) given.0 (path, item) this_shaped given.2 ∙ place_same (members_in so_far.front) last bucket so_far.last_is path path_some item
+    fault_here : line_fault (members_of_lines so_far.front) given.0 ≡ fault_after last bucket path
+    fault_here = fault_is_of_place (members_of_lines so_far.front) given.0 (path, item) this_shaped given.2 ∙ place_same (members_of_lines so_far.front) last bucket so_far.last_is path path_some item
 
     lines_here : lines_of text ≡ so_far.front ++ given.0 ∷ lines_of after
     lines_here = so_far.lines ∙ ap (λ lines. so_far.front ++ lines) given.1
@@ -92,7 +92,7 @@ module _ (text left : Text) (last : Path) (bucket : Bool) (number : ℕ) (so_far
           shaped = others_of IsShaped given.0 (lines_of after) (subst (All IsShaped) given.1 so_far.shaped);
           right = right_push [] so_far.front given.0 so_far.right (fault_here ∙ none);
           last_is = subst (λ (members : List Member). IsLast members path (is_bucket item)) (sym (members_push so_far.front given.0 (path, item) given.2))
-              (next_last (members_in so_far.front) last bucket so_far.last_is path item path_some less (path_open (members_in so_far.front) last bucket so_far.last_is path path_some less ∙ both.1));
+              (next_last (members_of_lines so_far.front) last bucket so_far.last_is path item path_some less (path_open (members_of_lines so_far.front) last bucket so_far.last_is path path_some less ∙ both.1));
         }
 
     pub line_refused : (fault : LineFault) → Some fault ≡ fault_after last bucket path → IsFirstFault text (number + 1) fault

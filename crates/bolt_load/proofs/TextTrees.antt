@@ -1,6 +1,6 @@
 -- What the lines of a text tell is what one tree lists: each member is put at the end of its bucket.
 use Rattle.std.proofs.Common.{rules, ◌≡◌, ◌∙◌, inl, inr, ◌<◌, ◌||◌, Bool, true, false, List, [], ◌∷◌, ◌++◌, Option, None, drop, length, refl, sym, ap, subst, arith, append_assoc, append-nil}
-use Rattle.bolt_load.proofs.Words.{and_parts, begins_of, begins_with, contains_from_has, end, Has, has_bucket, has_from_contains, has_split, is_bucket, is_lt, is_open, IsListingText, Item, Less, less_lt, line_member, LineFault, lines_of, listing_of, Member, member_cmp, members_in, nat_tests, option_and_then, option_or, Path, path_above, path_cmp, path_total, place_fault, RightAfter, Rises, shape_fault, Text, text_members, Tree}
+use Rattle.bolt_load.proofs.Words.{and_parts, begins_of, begins_with, contains_from_has, end, Has, has_bucket, has_from_contains, has_split, is_bucket, is_lt, is_open, IsListingText, Item, Less, less_lt, line_member, LineFault, lines_of, listing_of, Member, member_cmp, members_of_lines, nat_tests, option_and_then, option_or, Path, path_above, path_cmp, path_total, place_fault, RightAfter, Rises, shape_fault, Text, text_members, Tree}
 use Rattle.bolt_load.proofs.DecodedLines.{member_alone, shaped_member}
 use Rattle.bolt_load.proofs.EdgeTrees.{OnEdge, front_on_edge, new_on_edge, put_last, put_lists}
 use Rattle.bolt_load.proofs.LastPaths.{IsLast, above_append, next_last, none_last, place_same, split_last}
@@ -81,7 +81,7 @@ pub or_parts_none : (a b : Option LineFault) → option_or a b ≡ None → (a �
 or_parts_none a b none = grind arith
 
 grows : (lines : List Text) (before : List Member) (tree : Tree) (last : Path) (bucket : Bool) → HasGrown before tree last bucket → RightAfter before lines
-    → (all : Tree) × (listing_of all ≡ before ++ members_in lines) × Rises member_cmp (before ++ members_in lines)
+    → (all : Tree) × (listing_of all ≡ before ++ members_of_lines lines) × Rises member_cmp (before ++ members_of_lines lines)
 grows [] before tree last bucket so_far right = (tree, so_far.lists ∙ sym (append-nil before), subst (Rises member_cmp) (sym (append-nil before)) so_far.rises)
 grows (line ∷ lines) before tree last bucket so_far right =
     let parts = or_parts_none (shape_fault line) (option_and_then (place_fault before) (line_member line)) right.0 in
@@ -95,8 +95,8 @@ grows (line ∷ lines) before tree last bucket so_far right =
     let next = next_grown before tree last bucket so_far path item some less both.1 in
     let rest = grows lines (before ++ told.0 ∷ []) (next_tree before tree last bucket so_far path item some less both.1) path (is_bucket item) next
     (subst (λ (more : List Member). RightAfter (before ++ more) lines) (member_alone line told.0 told.1) right.1) in
-    let same : (before ++ told.0 ∷ []) ++ members_in lines ≡ before ++ members_in (line ∷ lines) =
-    append_assoc before (told.0 ∷ []) (members_in lines) ∙ ap (λ more. before ++ more) (sym (members_first line lines told.0 told.1)) in
+    let same : (before ++ told.0 ∷ []) ++ members_of_lines lines ≡ before ++ members_of_lines (line ∷ lines) =
+    append_assoc before (told.0 ∷ []) (members_of_lines lines) ∙ ap (λ more. before ++ more) (sym (members_first line lines told.0 told.1)) in
     (rest.0, rest.1 ∙ same, subst (Rises member_cmp) same rest.2)
 
 pub text_tree : (text : Text) → IsListingText text → (tree : Tree) × (listing_of tree ≡ text_members text) × Rises member_cmp (text_members text)

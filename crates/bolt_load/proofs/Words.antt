@@ -2,8 +2,8 @@
 pub use Rattle.bolt_check.specs.Keys.{Key}
 pub use Rattle.bolt_layout.specs.Storable.{IsFitItem}
 pub use Rattle.bolt_load.specs.LineFaults.{IsFaultOfLines, IsFirstFault, IsListingText, IsLoadFault, RightAfter, is_above_last, is_long_item, is_long_key, length_fault, line_fault, path_above, place_fault, shape_fault}
-pub use Rattle.bolt_load.specs.Private.Decoding.{Adds, AreDecoded, BeginsWith, GivesLine, StopsAt, item_bytes, member_bytes, path_bytes}
-pub use Rattle.bolt_load.specs.Private.OpenPaths.{fault_after, fault_by, is_open}
+pub use Rattle.bolt_load.specs.Private.Decoding.{AddsDecoded, AreDecoded, BeginsWith, GivesLine, StopsAt, item_bytes, member_bytes, path_bytes}
+pub use Rattle.bolt_load.specs.Private.OpenPaths.{fault_after, order_fault, is_open}
 unfoldable pub use Rattle.bolt_load.specs.ShownMembers.{members_left, members_path}
 pub use Rattle.bolt_load.specs.declared.fault.LineFault.{LineFault}
 pub use Rattle.bolt_load.specs.declared.fault.LineFault.TheVariants.{KeyTooLong, NotALine, ValueTooLong}
@@ -11,7 +11,7 @@ pub use Rattle.bolt_text.specs.Cuts.{IsCutAt, IsFirstLine, IsWithout}
 pub use Rattle.bolt_text.specs.HexPaths.{hex_bytes_in, part_in, parts_in}
 unfoldable pub use Rattle.bolt_text.specs.HexPaths.{hex_path_in}
 pub use Rattle.bolt_text.specs.JsonReadings.{ArePartsBytes, IsMemberOfBytes}
-pub use Rattle.bolt_text.specs.LineMembers.{item_in, member_in, members_in, text_members}
+pub use Rattle.bolt_text.specs.LineMembers.{item_in, member_in, members_of_lines, text_members}
 unfoldable pub use Rattle.bolt_text.specs.LineMembers.{line_member}
 pub use Rattle.bolt_text.specs.LineWords.{word_item}
 pub use Rattle.bolt_text.specs.Lines.{Text, line}

@@ -5,7 +5,7 @@ use Rattle.std.specs.Option.{option_map_or, option_or}
 use Rattle.std.specs.Ordering.{is_lt}
 use Rattle.bolt_check.specs.Keys.{Key}
 use Rattle.bolt_tree.specs.{Entries.Bucket, Entries.Item, Entries.Value, Listing.Member, ListingParts.has_bucket, Paths.Path, Paths.path_cmp}
-use Rattle.bolt_text.specs.{LineMembers.line_member, LineMembers.members_in, Lines.Text, Lines.lines_of}
+use Rattle.bolt_text.specs.{LineMembers.line_member, LineMembers.members_of_lines, Lines.Text, Lines.lines_of}
 use Rattle.bolt_load.specs.declared.fault.LineFault.{LineFault}
 use Rattle.bolt_load.specs.{declared.fault.LoadFault.LoadFault, declared.fault.LoadFault.TheVariants.Line, declared.fault.LoadFault.TheVariants.Memory}
 use Rattle.bolt_load.specs.declared.fault.LineFault.TheVariants.{CutOff, KeyTooLong, NoBucketAbove, NotALine, PathNotRising, ValueTooLong}
@@ -47,7 +47,7 @@ line_fault before line = option_or (shape_fault line) (option_and_then (place_fa
 -- each line is right after those before it, which come after these members
 abbrev pub RightAfter : List Member → List Text → Type 0
 RightAfter before [] = Unit {0}
-RightAfter before (line ∷ lines) = (line_fault before line ≡ None) × RightAfter (before ++ members_in (line ∷ [])) lines
+RightAfter before (line ∷ lines) = (line_fault before line ≡ None) × RightAfter (before ++ members_of_lines (line ∷ [])) lines
 
 -- the text ends with a line feed, so that its last line is whole
 abbrev pub is_whole : Text → Bool
@@ -70,7 +70,7 @@ pub record IsFirstFault (text : Text) (number : ℕ) (fault : LineFault) : Type 
   pub lines : lines_of text ≡ front ++ line ∷ rest
   pub number_is : number ≡ length front + 1
   pub right : RightAfter [] front
-  pub fault_is : line_fault (members_in front) line ≡ Some fault
+  pub fault_is : line_fault (members_of_lines front) line ≡ Some fault
 
 -- All lines are right, but the text is cut off within the last of them, or before line 1 if it is empty.
 pub record IsCutOff (text : Text) (number : ℕ) : Type 0 where

@@ -5,7 +5,7 @@ ghost use Rattle.bolt_tree.specs.Paths.{Path};
 ghost use Rattle.bolt_text.specs.HexPaths.{hex_bytes_in, hex_path_in, part_in};
 ghost use Rattle.bolt_load.specs.LineFaults.{is_long_key, shape_fault};
 ghost use Rattle.bolt_text.specs.{LineMembers.line_member, Lines.lines_of};
-ghost use Rattle.bolt_load.specs.Private.Decoding.{Adds, AreDecoded, StopsAt, member_bytes, path_bytes};
+ghost use Rattle.bolt_load.specs.Private.Decoding.{AddsDecoded, AreDecoded, StopsAt, member_bytes, path_bytes};
 ghost use Rattle.bolt_text.specs.LineWords.{word_item, words_member};
 ghost use Rattle.bolt_tree.specs.Entries as entries;
 ghost use Rattle.bolt_load.specs.LineFaults as faults;
@@ -29,7 +29,7 @@ pub(crate) struct Decoded<'a> {
 /// Adds the bytes of a word in hexadecimal. Returns whether it is one.
 fn add_bytes(digits: &[u8], bytes: &mut Vec<u8>) -> Result<bool, NoMemory>
     ensures good { IfOk result (λ good. good ≡ is_some (hex_bytes_in digits.now)) }
-    ensures added { OnOk result (Adds (hex_bytes_in digits.now) bytes.old.items bytes.new.items) }
+    ensures added { OnOk result (AddsDecoded (hex_bytes_in digits.now) bytes.old.items bytes.new.items) }
 {
     if !digits.len().is_multiple_of(2) {
         return Ok(false);
@@ -42,7 +42,7 @@ fn add_bytes(digits: &[u8], bytes: &mut Vec<u8>) -> Result<bool, NoMemory>
 /// Adds the bytes of a part of a path. Returns whether it is one.
 fn add_part(word: &[u8], bytes: &mut Vec<u8>) -> Result<bool, NoMemory>
     ensures good { IfOk result (λ good. good ≡ is_some (part_in word.now)) }
-    ensures added { OnOk result (Adds (part_in word.now) bytes.old.items bytes.new.items) }
+    ensures added { OnOk result (AddsDecoded (part_in word.now) bytes.old.items bytes.new.items) }
 {
     if word.is_empty() {
         return Ok(false);
@@ -55,7 +55,7 @@ fn add_path(word: &[u8], bytes: &mut Vec<u8>) -> Result<bool, NoMemory>
     ensures good { IfOk result (λ good.
         good ≡ is_some (option_map path_bytes (hex_path_in word.now))) }
     ensures added { OnOk result
-        (Adds (option_map path_bytes (hex_path_in word.now)) bytes.old.items bytes.new.items) }
+        (AddsDecoded (option_map path_bytes (hex_path_in word.now)) bytes.old.items bytes.new.items) }
 {
     let mut rest = word;
     while let Some((part, after)) = cut_at(b'/', rest) {
@@ -72,7 +72,7 @@ fn add_words(words: &LineWords<'_>, bytes: &mut Vec<u8>) -> Result<bool, NoMemor
     ensures good { IfOk result (λ good.
         good ≡ is_some (option_map member_bytes (words_member words.now))) }
     ensures added { OnOk result
-        (Adds (option_map member_bytes (words_member words.now)) bytes.old.items bytes.new.items) }
+        (AddsDecoded (option_map member_bytes (words_member words.now)) bytes.old.items bytes.new.items) }
 {
     if !add_path(words.path, bytes)? {
         return Ok(false);
@@ -111,7 +111,7 @@ fn is_long_item(item: &ItemWord<'_>) -> bool
 fn add_line(line: &[u8], bytes: &mut Vec<u8>) -> Result<Option<LineFault>, NoMemory>
     ensures fault { IfOk result (λ fault. fault ≡ shape_fault line.now) }
     ensures added { OnOk result
-        (Adds (option_map member_bytes (line_member line.now)) bytes.old.items bytes.new.items) }
+        (AddsDecoded (option_map member_bytes (line_member line.now)) bytes.old.items bytes.new.items) }
 {
     let Some(words) = words_of(line) else {
         return Ok(Some(LineFault::NotALine));

@@ -1,6 +1,6 @@
--- What a course visits is a survey, and what it returns are the elements at the kept ways.
+-- What a course visits is a survey, and what it returns are the elements at the way_kept ways.
 use Rattle.std.proofs.Common.{◌≡◌, ◌∙◌, ◌⊎◌, ◌↔◌, ◌≤◌, ◌<◌, inl, inr, ℕ, ◌+◌, Bool, true, ◌||◌, ◌&&◌, List, [], ◌∷◌, ◌++◌, nat_le, Option, Some, None, Result, Ok, Err, refl, sym, ap, subst, arith, append_assoc, cond}
-use Rattle.bolt_recover.proofs.Words.{after_event, after_events, all_events, and_parts, append-nil, At_inline, At_page, claimed_after, claims_of, Contains, contains_at, contains_cases, contains_head, contains_none, contains_tail, counted, Each, Event, false≢true, Finding, further, Given, Gives, Has, has_left, has_right, has_split, in_span, is_at_page, IsClaimedIn, IsKeptPage, IsMetaPage, IsOpen, IsRecoveredMember, IsSurvey, Item, item_of, kept, LeafElement, loss_at, losses_of, lost_at, members_of, Meta, meta_pages, nat_tests, Node, node_at, Nodes, or_cases, or_left, or_right, Outcome, outcome_of, page_visit, page_ways, Path, Reach, reached, root_site, root_tasks, same_Some, Site, site_at, site_size, span_of, SpanAt, SpanHas, SpanOf, Spot, step_site, sum_by-cons, SurveyedWay, Task, tasks_after, To_give, To_visit, Visited, visits_of, Way, Has, RisesBy, Before}
+use Rattle.bolt_recover.proofs.Words.{after_event, after_events, all_events, and_parts, append-nil, At_inline, At_page, claimed_after, claims_of, Contains, contains_at, contains_cases, contains_head, contains_none, contains_tail, counted, Each, Event, false≢true, Finding, further, Given, Gives, Has, has_left, has_right, has_split, in_span, is_at_page, IsClaimedIn, IsKeptPage, IsMetaPage, IsOpen, IsRecoveredMember, IsSurvey, Item, item_of, way_kept, LeafElement, loss_at, losses_of, lost_at, members_of, Meta, meta_pages, nat_tests, Node, node_at, Nodes, or_cases, or_left, or_right, Outcome, outcome_of, page_visit, page_ways, Path, Reach, reached, root_site, root_tasks, same_Some, Site, site_at, site_size, span_of, SpanAt, SpanHas, SpanOf, Spot, step_site, sum_by-cons, SurveyedWay, Task, tasks_after, To_give, To_visit, Visited, visits_of, Way, Has, RisesBy, Before}
 use Rattle.bolt_recover.proofs.{Courses.Course, Courses.Course.done, Courses.Course.give, Courses.Course.visit, Courses.course, CourseOrder.rises_course}
 use Rattle.bolt_recover.proofs.SiteFacts.{leads_within, site_further, site_is, size_enough, slice_of, spot_is, step_spot}
 use Rattle.bolt_recover.proofs.SurveyIsOne.{Suffix, earlier, gives_same, next_suffix, ways}
@@ -36,9 +36,9 @@ module _ (file : List ℕ) (meta : Meta) where
   abbrev pub reach : Reach
   reach = reached nodes meta.root
 
-  -- page n is claimed by a visit, if that is kept
+  -- page n is claimed by a visit, if that is way_kept
   abbrev ByKept : (SurveyedWay → Type 0) → ℕ → Type 0
-  ByKept IsVisit n = (v : Way) × (IsVisit (kept v) × SpanHas nodes (reach v) n)
+  ByKept IsVisit n = (v : Way) × (IsVisit (way_kept v) × SpanHas nodes (reach v) n)
 
   by_visit : (w : Way) (p : Site) (found : Option Finding) (n : ℕ) → site_at file meta w ≡ Some p → (span_of nodes p.spot found n ≡ true) ↔ ByKept (λ v. v ≡ record { way = w; found = found }) n
   by_visit w p None n at = (
@@ -76,13 +76,13 @@ module _ (file : List ℕ) (meta : Meta) where
       }
 
 module _ (file : List ℕ) (meta : Meta) (survey : List SurveyedWay) where
-  -- the claims are those of the kept visits in front
+  -- the claims are those of the way_kept visits in front
   abbrev AreClaims : (SurveyedWay → Type 0) → (ℕ → Bool) → Type 0
   AreClaims InFront claimed = (n : ℕ) → (claimed n ≡ true) ↔ (IsMetaPage n ⊎ ByKept file meta InFront n)
 
-  -- an element at a kept way
+  -- an element at a way_kept way
   abbrev IsGiven : Path → LeafElement → Type 0
-  IsGiven path e = (way : Way) × (p : Site) × Has survey (kept way) × (site_at file meta way ≡ Some p) × Contains p.elements e × (path ≡ p.path ++ e.key ∷ [])
+  IsGiven path e = (way : Way) × (p : Site) × Has survey (way_kept way) × (site_at file meta way ≡ Some p) × Contains p.elements e × (path ≡ p.path ++ e.key ∷ [])
 
   abbrev IsTask : Task → Type 0
   IsTask (To_give path e) = IsGiven path e
@@ -92,7 +92,7 @@ module _ (file : List ℕ) (meta : Meta) (survey : List SurveyedWay) where
   IsEvent (Given path e) = IsGiven path e
   IsEvent (Visited w p found) = IsOpen survey w × (site_at file meta w ≡ Some p) × Gives (nodes file meta) (IsClaimedIn (nodes file meta) (reach file meta) survey w) p.spot found
 
-  child_is : (w : Way) (p : Site) (i : ℕ) (task : Task) → Has survey (kept w) → site_at file meta w ≡ Some p → IsAt file meta w p i task → IsTask task
+  child_is : (w : Way) (p : Site) (i : ℕ) (task : Task) → Has survey (way_kept w) → site_at file meta w ≡ Some p → IsAt file meta w p i task → IsTask task
   child_is w p i (To_give path e) has at (get, named) = (w, p, has, at, contains_at p.elements i e get, named)
   child_is w p i (To_visit v t) has at (is, next) = (inr (w, i, is, has), ap (site_at file meta) is ∙ site_further file meta w i p at ∙ next)
 
@@ -109,7 +109,7 @@ module _ (file : List ℕ) (meta : Meta) (survey : List SurveyedWay) where
   tasks_of (Given path e) = []
   tasks_of (Visited w p found) = tasks_after file meta w p found
 
-  -- what comes of a course: the tasks are done, and those at the sites that are visited, and the kept visits claim what is claimed at the end
+  -- what comes of a course: the tasks are done, and those at the sites that are visited, and the way_kept visits claim what is claimed at the end
   record Comes (claimed : ℕ → Bool) (tasks : List Task) (events : List Event) : Type 0 where
     claims : (o : Outcome) → o.claimed ≡ claimed → AreClaims (Has survey) (after_events (nodes file meta) o events).claimed
     only : Each IsEvent events
@@ -120,14 +120,14 @@ module _ (file : List ℕ) (meta : Meta) (survey : List SurveyedWay) where
   claimed_here : (InFront : SurveyedWay → Type 0) (x : SurveyedWay) (rest : List SurveyedWay) (claimed : ℕ → Bool) → Suffix survey InFront (x ∷ rest) → AreClaims InFront claimed
       → (n : ℕ) → IsClaimedIn (nodes file meta) (reach file meta) survey x.way n → claimed n ≡ true
   claimed_here InFront x rest claimed at claims n (inl is) = (claims n).1 (inl is)
-  claimed_here InFront x rest claimed at claims n (inr (v, (has, lt, span))) = (claims n).1 (inr (v, (earlier survey InFront x rest at (kept v) has lt, span)))
+  claimed_here InFront x rest claimed at claims n (inr (v, (has, lt, span))) = (claims n).1 (inr (v, (earlier survey InFront x rest at (way_kept v) has lt, span)))
 
   claimed_there : (InFront : SurveyedWay → Type 0) (x : SurveyedWay) (rest : List SurveyedWay) (claimed : ℕ → Bool) → Suffix survey InFront (x ∷ rest) → AreClaims InFront claimed
       → (n : ℕ) → claimed n ≡ true → IsClaimedIn (nodes file meta) (reach file meta) survey x.way n
   claimed_there InFront x rest claimed at claims n is =
       elim ((claims n).0 is) [
         | inl meta_page ↦ inl meta_page
-        | inr (v, (front, span)) ↦ inr (v, (at.front (kept v) front, at.after (kept v) x front (inl refl), span))
+        | inr (v, (front, span)) ↦ inr (v, (at.front (way_kept v) front, at.after (way_kept v) x front (inl refl), span))
       ]
 
   -- the claims after a visit
@@ -158,8 +158,8 @@ module _ (file : List ℕ) (meta : Meta) (survey : List SurveyedWay) where
       → (InFront : SurveyedWay → Type 0) → Suffix survey InFront (visits_of events) → AreClaims InFront claimed → Each IsTask tasks → Comes claimed tasks events
   comes_course claimed tasks events done InFront at claims are = record {
     claims = λ o same n. (
-      λ is. elim ((claims n).0 (ap (λ (f : ℕ → Bool). f n) (sym same) ∙ is)) [ inl low ↦ inl low | inr (v, (front, span)) ↦ inr (v, (at.front (kept v) front, span)) ],
-      λ is. ap (λ (f : ℕ → Bool). f n) same ∙ (claims n).1 (elim is [ inl low ↦ inl low | inr (v, (has, span)) ↦ elim (at.split (kept v) has) [ inl front ↦ inr (v, (front, span)) | inr none ↦ absurd none ] ]),
+      λ is. elim ((claims n).0 (ap (λ (f : ℕ → Bool). f n) (sym same) ∙ is)) [ inl low ↦ inl low | inr (v, (front, span)) ↦ inr (v, (at.front (way_kept v) front, span)) ],
+      λ is. ap (λ (f : ℕ → Bool). f n) same ∙ (claims n).1 (elim is [ inl low ↦ inl low | inr (v, (has, span)) ↦ elim (at.split (way_kept v) has) [ inl front ↦ inr (v, (front, span)) | inr none ↦ absurd none ] ]),
     );
     only = λ x h. absurd h;
     led = λ t h. absurd h;
@@ -233,7 +233,7 @@ module _ (file : List ℕ) (meta : Meta) where
   pub placed : (w : Way) (p : Site) (found : Option Finding) → Has (all_events file meta) (Visited w p found) → site_at file meta w ≡ Some p
   placed w p found there = (comes.only (Visited w p found) there).1
 
-  -- a site that is visited, and what there is to do at a kept one
+  -- a site that is visited, and what there is to do at a way_kept one
   site_of : (u : SurveyedWay) → Has survey_of u → (p : Site) × Has (all_events file meta) (Visited u.way p u.found) × (site_at file meta u.way ≡ Some p)
       × Gives (nodes file meta) (IsClaimedIn (nodes file meta) (reach file meta) survey_of u.way) p.spot u.found
   site_of u has =
@@ -255,7 +255,7 @@ module _ (file : List ℕ) (meta : Meta) where
           (found, subst (λ (w : Way). Has survey_of (record { way = w; found = found })) (sym none) (in_visits (all_events file meta) [] (root_site file meta) found there))
       | inr (parent, i, is, has) ↦
           let (t, leads_to, same) = site_is file meta way s leads in
-          let (p, there, at, gives) = site_of (kept parent) has in
+          let (p, there, at, gives) = site_of (way_kept parent) has in
           let on : step_site file meta p i ≡ Some t = sym (site_further file meta parent i p at) ∙ ap (site_at file meta) (sym is) ∙ leads_to in
           let lt = leads_within (nodes file meta) p.spot p.elements i t.spot (step_spot file meta p t i on) in
           let (found, below) = done_at parent p i (To_visit (further parent i) t) there lt (refl, on) in
@@ -270,7 +270,7 @@ module _ (file : List ℕ) (meta : Meta) where
         let (way, p, keeps, leads, inside, named) = comes.only (Given path e) there in
         record { way = way; site = p; element = e; keeps = keeps; leads = leads; has = inside; named = named; is = is },
     λ is.
-        let (p, there, at, gives) = site_of (kept is.way) is.keeps in
+        let (p, there, at, gives) = site_of (way_kept is.way) is.keeps in
         let one : p ≡ is.site = same_Some p is.site (sym at ∙ is.leads) in
         let (i, lt, get) = slice_of p.elements is.element (subst (λ (z : Site). Contains z.elements is.element) (sym one) is.has) in
         let enough = size_enough file meta _ p.spot p.elements (well_at file meta is.way p at).1 gives in
@@ -282,6 +282,6 @@ module _ (file : List ℕ) (meta : Meta) where
   pub tally : (begun : ℕ) → Tallied file meta (record { losses = []; visited = begun; claimed = meta_pages }) (all_events file meta)
   tally begun = tallied file meta (record { losses = []; visited = begun; claimed = meta_pages }) (all_events file meta) placed
 
-  -- the pages that its kept visits take in
+  -- the pages that its way_kept visits take in
   pub all_claimed : (begun n : ℕ) → ((outcome_of (nodes file meta) begun (all_events file meta)).claimed n ≡ true) ↔ IsKeptPage file meta survey_of n
   all_claimed begun n = comes.claims (record { losses = []; visited = begun; claimed = meta_pages }) refl n

@@ -1,6 +1,6 @@
 -- The found pages of a whole file.
 use Rattle.std.proofs.Common.{◌≡◌, ◌∙◌, ◌↔◌, ◌⊎◌, ◌||◌, inl, inr, ℕ, suc, Bool, true, false, arith, List, [], ◌∷◌, Option, Some, None, refl, sym, ap, subst}
-use Rattle.bolt_recover.proofs.Words.{all_events, AreFound, AreKeptPages, AreLosses, At_page, claims_of, Contains, contains_cases, contains_head, contains_none, contains_tail, Event, false≢true, Finding, first_claimed, FoundBelow, Has, HasSoundTrees, IsFoundPage, IsKeptPage, IsListedFree, IsLoneLeaf, IsMetaPage, IsRecovered, IsSurvey, kept, LosesNothing, LosesRoot, lost, Member, members_of, Meta, meta_pages, nat_tests, node_at, node_below, root_site, root_spot, SpanAt, SurveyedWay, Visited, visits_of}
+use Rattle.bolt_recover.proofs.Words.{all_events, AreFound, AreKeptPages, AreLosses, At_page, claims_of, Contains, contains_cases, contains_head, contains_none, contains_tail, Event, false≢true, Finding, first_claimed, FoundBelow, Has, HasSoundTrees, IsFoundPage, IsKeptPage, IsListedFree, IsLoneLeaf, IsMetaPage, IsRecovered, IsSurvey, way_kept, LosesNothing, LosesRoot, lost, Member, members_of, Meta, meta_pages, nat_tests, node_at, node_below, root_site, root_spot, SpanAt, SurveyedWay, Visited, visits_of}
 use Rattle.bolt_recover.proofs.Existing.{has_survey, one_recovered, recovers}
 use Rattle.bolt_recover.proofs.FoundLemmas.{found_one, found_same, passed}
 use Rattle.bolt_recover.proofs.{LostWays.nothing_lost, Tested.IsFirst, Tested.first_is}
@@ -20,7 +20,7 @@ lost_or_none (v ∷ survey) = first v survey v.found refl (lost_or_none survey)
     first v survey None e (inl none) = inl (λ u has. elim has [ inl same ↦ ap (λ (z : SurveyedWay). z.found) (sym same) ∙ e | inr later ↦ none u later ])
 
 module _ (file : List ℕ) (meta : Meta) where
-  -- if nothing is lost, nothing is found; otherwise what is found next to the kept pages
+  -- if nothing is lost, nothing is found; otherwise what is found next to the way_kept pages
   pub are_none : (survey : List SurveyedWay) → IsSurvey file meta survey → LosesNothing survey → AreFound file meta []
   are_none survey is none = record {
     survey = survey;
@@ -48,7 +48,7 @@ module _ (file : List ℕ) (meta : Meta) where
             (λ k was. (are survey is k).0 (sym (same k) ∙ was)) (λ k was. same k ∙ (are survey is k).1 was) meta.high_water found below)
       ]
 
-  -- the found pages next to the kept ones of the survey
+  -- the found pages next to the way_kept ones of the survey
   pub below_of : (found : List ℕ) (survey : List SurveyedWay) (way : List ℕ) (x : Finding) → AreFound file meta found → IsSurvey file meta survey → Has survey (lost way x)
       → FoundBelow file meta (IsKeptPage file meta survey) meta.high_water found
   below_of found survey way x are is has =
@@ -78,7 +78,7 @@ module _ (file : List ℕ) (meta : Meta) where
       ]
 
 module _ (file : List ℕ) (meta : Meta) where
-  -- whether page k is found, and whether it is kept or found
+  -- whether page k is found, and whether it is way_kept or found
   abbrev in_found : List ℕ → ℕ → Bool
   in_found [] k = false
   in_found (m ∷ found) k = claims_of (node_at file meta) (At_page (root_spot m)) k || in_found found k
@@ -127,7 +127,7 @@ module _ (file : List ℕ) (meta : Meta) (x : Finding) (loses : LosesRoot file m
       (gives_same (node_at file meta) IsMetaPage (λ n. meta_pages n ≡ true) (At_page (root_spot meta.root)) (Some x) (λ n low. grind (arith, nat_tests)) (λ n is. grind (arith, nat_tests)) loses)
       ∙ ap (λ (es : List Event). Visited [] (root_site file meta) (Some x) ∷ es) (events_none file meta _)
 
-  not_kept : (way : List ℕ) → Has alone (kept way) → ⊥
+  not_kept : (way : List ℕ) → Has alone (way_kept way) → ⊥
   not_kept way (inl same) = let f : None ≡ Some x = ap (λ (v : SurveyedWay). v.found) (sym same) in cc
   not_kept way (inr has) = has
 

@@ -1,6 +1,6 @@
 -- The members of a joined listing are recovered or found.
 use Rattle.std.proofs.Common.{◌≡◌, ◌⊎◌, inl, inr, ℕ, Bool, true, false, IsTrue, is_none, List, [], ◌∷◌, ◌++◌, None, map, ◌==◌, if◌then◌else◌, refl, sym, subst}
-use Rattle.bolt_recover.proofs.Words.{AreFound, Bucket, Contains, Contains-append_cases, contains_cases, contains_head, contains_none, contains_tail, end, eqb-true, found_tree, head_root, head_sequence, inline_elements, inside_of, IsElement, IsFoundMember, IsInner, IsJoined, IsRecovered, item_of, joined_listing, keys_order_fault, LeafElement, leaves_of, listing_below, lost_and_found, Member, Meta, page_at, page_key, Path, Tree, tree_with, Value, with_bucket, with_value}
+use Rattle.bolt_recover.proofs.Words.{AreFound, Bucket, Contains, Contains-append_cases, contains_cases, contains_head, contains_none, contains_tail, end, eqb-true, found_tree, head_root, head_sequence, inline_elements, inside_of, IsElement, IsFoundMember, IsInnerMember, IsJoined, IsRecovered, item_of, joined_listing, keys_order_fault, LeafElement, leaves_of, listing_below, lost_and_found, Member, Meta, page_at, page_key, Path, Tree, tree_of_elements, Value, with_bucket, with_value}
 use Rattle.bolt_recover.proofs.JoinedLemmas.{joined_of, put_of, put_or_there, put_recovered, with_elements}
 
 -- an element, what it holds, or a later one
@@ -8,20 +8,20 @@ abbrev IsHere : (inside : LeafElement → Tree) → Path → LeafElement → Mem
 IsHere inside path e m = (m ≡ (path ++ e.key ∷ [], item_of e)) ⊎ (IsTrue e.is_bucket × Contains (listing_below (path ++ e.key ∷ []) (inside e)) m)
 
 here_by : (inside : LeafElement → Tree) (path : Path) (e : LeafElement) (elements : List LeafElement) (m : Member) (b : Bool)
-    → Contains (listing_below path (if b then with_bucket e.key (head_sequence e.value) (inside e) (tree_with inside elements) else with_value e.key e.value (tree_with inside elements))) m
+    → Contains (listing_below path (if b then with_bucket e.key (head_sequence e.value) (inside e) (tree_of_elements inside elements) else with_value e.key e.value (tree_of_elements inside elements))) m
     → ((m ≡ (path ++ e.key ∷ [], if b then Bucket (head_sequence e.value) else Value e.value)) ⊎ (IsTrue b × Contains (listing_below (path ++ e.key ∷ []) (inside e)) m))
-    ⊎ Contains (listing_below path (tree_with inside elements)) m
+    ⊎ Contains (listing_below path (tree_of_elements inside elements)) m
 here_by inside path e elements m true has =
     let deep : List Member = listing_below (path ++ e.key ∷ []) (inside e) in
-    let behind : List Member = listing_below path (tree_with inside elements) in
+    let behind : List Member = listing_below path (tree_of_elements inside elements) in
     elim (contains_cases (path ++ e.key ∷ [], Bucket (head_sequence e.value)) m (deep ++ behind) has) [
       | inl same ↦ inl (inl (sym same))
       | inr more ↦ elim (Contains-append_cases deep behind m more) [ inl inner ↦ inl (inr (refl, inner)) | inr later ↦ inr later ]
     ]
 here_by inside path e elements m false has =
-    elim (contains_cases (path ++ e.key ∷ [], Value e.value) m (listing_below path (tree_with inside elements)) has) [ inl same ↦ inl (inl (sym same)) | inr later ↦ inr later ]
+    elim (contains_cases (path ++ e.key ∷ [], Value e.value) m (listing_below path (tree_of_elements inside elements)) has) [ inl same ↦ inl (inl (sym same)) | inr later ↦ inr later ]
 
-element_of : (inside : LeafElement → Tree) (path : Path) (elements : List LeafElement) (m : Member) → Contains (listing_below path (tree_with inside elements)) m
+element_of : (inside : LeafElement → Tree) (path : Path) (elements : List LeafElement) (m : Member) → Contains (listing_below path (tree_of_elements inside elements)) m
     → (e : LeafElement) × (Contains elements e × IsHere inside path e m)
 element_of inside path [] m has = absurd (contains_none m has)
 element_of inside path (e ∷ elements) m has = elim (here_by inside path e elements m e.is_bucket has) [
@@ -38,7 +38,7 @@ inside_by path e m true true root rise has =
 inside_by path e m true false root rise has = absurd (contains_none m (rw (root, rise) at has))
 inside_by path e m false b root rise has = absurd (contains_none m (rw root at has))
 
-on_page : (path : Path) (elements : List LeafElement) (m : Member) → Contains (listing_below path (tree_with inside_of elements)) m → IsElement elements path m ⊎ IsInner elements path m
+on_page : (path : Path) (elements : List LeafElement) (m : Member) → Contains (listing_below path (tree_of_elements inside_of elements)) m → IsElement elements path m ⊎ IsInnerMember elements path m
 on_page path elements m has =
     let (e, (there, here)) = element_of inside_of path elements m has in
     elim here [
@@ -53,7 +53,7 @@ module _ (file : List ℕ) (meta : Meta) where
   in_bucket [] m has = absurd (contains_none m has)
   in_bucket (n ∷ found) m has =
       let path : Path = lost_and_found ∷ page_key n ∷ [] in
-      let own : List Member = listing_below path (tree_with inside_of (leaves_of (page_at file meta n))) in
+      let own : List Member = listing_below path (tree_of_elements inside_of (leaves_of (page_at file meta n))) in
       let behind : List Member = listing_below (lost_and_found ∷ []) (found_tree (with_elements file meta found)) in
       elim (contains_cases (path, Bucket 0) m (own ++ behind) has) [
         | inl same ↦ (n, (contains_head n found, inl (sym same)))

@@ -1,7 +1,7 @@
 -- The joined listing is the recovered one with the bucket of what is found put in.
 use Rattle.std.proofs.Common.{◌≡◌, ◌∙◌, ◌⊎◌, inl, inr, ℕ, Bool, true, false, not, List, [], ◌∷◌, ◌++◌, filter, map, refl, sym, ap, subst, ◌≢◌}
 use Rattle.bolt_format.specs.TreePages.{leaves_on}
-use Rattle.bolt_recover.proofs.Words.{append-nil, AreFound, Bucket, cases_Bool, Contains, Contains-append_cases, contains_cases, contains_head, contains_tail, end, Equal, filter-append, filter_all, filter_none, first_cmp, found_tree, Greater, is_eq, is_found_path, is_lt, IsJoined, IsRecovered, joined_listing, key_cmp, key_lt, key_total, LacksBucketKey, LeafElement, leaves_of, Less, less_of, listing_below, listing_of, lost_and_found, Member, member_cmp, member_total, Meta, Ordering, page_at, Path, path_cmp, put_bucket, Rises, Tree, tree_of, Value, with_bucket, with_value, All, All-head, All-tail, AreJoinable, Found, found_listing, IsFoundView, numbers_of, pages_of, recovered_of}
+use Rattle.bolt_recover.proofs.Words.{append-nil, AreFound, Bucket, cases_Bool, Contains, Contains-append_cases, contains_cases, contains_head, contains_tail, end, Equal, filter-append, filter_all, filter_none, first_cmp, found_tree, Greater, is_eq, is_found_path, is_lt, IsJoined, IsRecovered, joined_listing, key_cmp, key_lt, key_total, LacksBucketKey, LeafElement, leaves_of, Less, less_of, listing_below, listing_of, lost_and_found, Member, member_cmp, member_total, Meta, Ordering, page_at, Path, path_cmp, put_bucket, Rises, Tree, tree_of, Value, with_bucket, with_value, All, All-head, All-tail, AreJoinable, Found, found_listing, IsFoundView, found_numbers, found_pages_of, recovered_of}
 use Rattle.bolt_recover.proofs.{Existing.has_recovered, Existing.one_recovered, Existing.recovers, FoundAll.one_found, FoundExists.has_found}
 use Rattle.bolt_recover.proofs.{CourseTrees.all_tree, TreeOrder.Ordered, TreeOrder.ordered_rises, TreeOrder.rises_both, TreeOrder.under}
 use Rattle.bolt_tree.proofs.{MergeLemmas.merge_none, PathOrder.flip_less, PathOrder.path_total, ReadBack.tree_back}
@@ -163,23 +163,23 @@ module _ (file : List ℕ) (meta : Meta) where
   joined_tree recovered [] of = of
   joined_tree recovered (page ∷ found) of = (put_bucket lost_and_found (found_tree (page ∷ found)) (tree_of recovered), refl)
 
-  pages_same : (found : List Found) → All (IsFoundView file meta) found → with_elements (numbers_of found) ≡ pages_of found
+  pages_same : (found : List Found) → All (IsFoundView file meta) found → with_elements (found_numbers found) ≡ found_pages_of found
   pages_same [] views = refl
   pages_same (f ∷ found) views =
       let view = All-head (IsFoundView file meta) f found views in
       let here : leaves_of (page_at file meta f.number) ≡ leaves_on f.page = ap leaves_of view.page in
-      ap (λ (own : List LeafElement). (f.number, own) ∷ with_elements (numbers_of found)) here
+      ap (λ (own : List LeafElement). (f.number, own) ∷ with_elements (found_numbers found)) here
       ∙ ap (λ (pages : List (ℕ × List LeafElement)). (f.number, leaves_on f.page) ∷ pages) (pages_same found (All-tail (IsFoundView file meta) f found views))
 
   -- the joined listing, if these are the found pages
-  joined_is : (found : List Found) (listing : List Member) → AreJoinable file meta found → IsJoined file meta listing → listing ≡ joined_listing (recovered_of file meta) (pages_of found)
+  joined_is : (found : List Found) (listing : List Member) → AreJoinable file meta found → IsJoined file meta listing → listing ≡ joined_listing (recovered_of file meta) (found_pages_of found)
   joined_is found listing are is =
-      joined_of listing (recovered_of file meta) (numbers_of found) is (recovers file meta) are.are_found ∙ ap (joined_listing (recovered_of file meta)) (pages_same found are.views)
+      joined_of listing (recovered_of file meta) (found_numbers found) is (recovers file meta) are.are_found ∙ ap (joined_listing (recovered_of file meta)) (pages_same found are.views)
 
   pub merged_joined : (found : List Found) (listing : List Member) → AreJoinable file meta found → IsJoined file meta listing → merge (recovered_of file meta) (found_listing found) ≡ listing
   merged_joined [] listing are is = merge_none (recovered_of file meta) ∙ sym (joined_is [] listing are is)
   merged_joined (f ∷ found) listing are is =
       let not_none : (f ∷ found) ≢ [] = λ e. cc in
-      merged_put (found_tree (pages_of (f ∷ found))) (recovered_of file meta) (are.apart not_none (recovered_of file meta) (recovers file meta))
-      ∙ put_recovered (pages_of (f ∷ found)) (recovered_of file meta) (recovers file meta)
+      merged_put (found_tree (found_pages_of (f ∷ found))) (recovered_of file meta) (are.apart not_none (recovered_of file meta) (recovers file meta))
+      ∙ put_recovered (found_pages_of (f ∷ found)) (recovered_of file meta) (recovers file meta)
       ∙ sym (joined_is (f ∷ found) listing are is)

@@ -1,6 +1,6 @@
 -- A joined listing is in the order of paths.
 use Rattle.std.proofs.Common.{◌≡◌, ◌≢◌, ◌∙◌, inl, inr, ℕ, zero, suc, ◌<◌, ◌+◌, ◌*◌, ◌^◌, true, List, [], ◌∷◌, Some, length, refl, sym, ap, subst, arith, slice_get}
-use Rattle.bolt_recover.proofs.Words.{AreFound, contains_from_has, Each, found_tree, FoundBelow, inside_of, IsJoined, IsKeptPage, IsLoneLeaf, IsRecovered, joined_listing, Key, key_lt, LeafElement, leaves_of, LeavesRoom, lt_of_mul-lt-mul_right, map_has, Member, member_cmp, Meta, node_at, node_within, page_at, page_key, Rises, rises_append, rises_map, RisesBy, root_spot, tree_with, Has, At_page, none-some, same_Some}
+use Rattle.bolt_recover.proofs.Words.{AreFound, contains_from_has, Each, found_tree, FoundBelow, inside_of, IsJoined, IsKeptPage, IsLoneLeaf, IsRecovered, joined_listing, Key, key_lt, LeafElement, leaves_of, LeavesRoom, lt_of_mul-lt-mul_right, map_has, Member, member_cmp, Meta, node_at, node_within, page_at, page_key, Rises, rises_append, rises_map, RisesBy, root_spot, tree_of_elements, Has, At_page, none-some, same_Some}
 use Rattle.bolt_recover.proofs.{FoundAll.lost_or_none, FoundLemmas.found_here, FoundLemmas.found_leaf, SiteKeys.keyed, SiteSteps.keys_in}
 use Rattle.bolt_recover.proofs.{JoinedLemmas.joined_between, JoinedLemmas.with_elements, PageNames.digits_rise}
 use Rattle.bolt_recover.proofs.TreeOrder.{HasKey, Ordered, elements_ordered, inside_ordered}
@@ -14,7 +14,7 @@ has_page [] k has = absurd has
 has_page (p ∷ pages) k (inl same) = (p, inl refl, same)
 has_page (p ∷ pages) k (inr later) = let (q, there, is) = has_page pages k later in (q, inr there, is)
 
-pages_ordered : (pages : List Page) → RisesBy (λ p q. p.0 < q.0) pages → Each (λ p. (p.0 < 10 ^ 16) × Ordered (tree_with inside_of p.1)) pages → Ordered (found_tree pages)
+pages_ordered : (pages : List Page) → RisesBy (λ p q. p.0 < q.0) pages → Each (λ p. (p.0 < 10 ^ 16) × Ordered (tree_of_elements inside_of p.1)) pages → Ordered (found_tree pages)
 pages_ordered [] rise good = tt
 pages_ordered (p ∷ pages) (first, rise) good = (
   λ k has. let (q, there, is) = has_page pages k has in
@@ -39,7 +39,7 @@ module _ (file : List ℕ) (meta : Meta) where
   key_get (x ∷ elements) zero key e = (x, refl, same_Some x.key key e)
   key_get (x ∷ elements) (suc i) key e = key_get elements i key e
 
-  leaf_ordered : (kept : ℕ → Type 0) (n : ℕ) → IsLoneLeaf (node_at file meta) kept n → Ordered (tree_with inside_of (leaves_of (page_at file meta n)))
+  leaf_ordered : (kept : ℕ → Type 0) (n : ℕ) → IsLoneLeaf (node_at file meta) kept n → Ordered (tree_of_elements inside_of (leaves_of (page_at file meta n)))
   leaf_ordered kept n lone =
       let elements = leaves_of (page_at file meta n) in
       let (keys, known) = keyed file meta kept (record { spot = At_page (root_spot n); path = []; elements = elements }) refl lone.passes in
@@ -65,7 +65,7 @@ module _ (file : List ℕ) (meta : Meta) where
         pages_ordered (with_elements file meta found) (rises_map (λ p q. p.0 < q.0) pages found (found_rise kept meta.high_water found below)) (λ p has.
         let (n, there, is) = map_has pages found p has in
         let here = found_leaf file meta kept meta.high_water found n (found_here file meta kept meta.high_water found n below (contains_from_has found n there)) in
-        subst (λ (q : Page). (q.0 < 10 ^ 16) × Ordered (tree_with inside_of q.1)) is (number_small kept n small here, leaf_ordered kept n here))
+        subst (λ (q : Page). (q.0 < 10 ^ 16) × Ordered (tree_of_elements inside_of q.1)) is (number_small kept n small here, leaf_ordered kept n here))
   ]
 
   rises_with : (recovered : List Member) (found : List ℕ) → IsRecovered file meta recovered → AreFound file meta found → length file < 10 ^ 16 * meta.page_size → LeavesRoom file meta

@@ -1,6 +1,6 @@
 -- A recovery between its calls: what comes of it in the end is all that comes of its file.
 use Rattle.std.proofs.Common.{◌≡◌, ◌∙◌, ◌≤◌, ℕ, true, ◌↔◌, List, [], ◌∷◌, ◌++◌, length, map, take, Option, Some, None, Result, Ok, Err, IfOk, OnErr, refl, sym, ap, subst, arith, append_assoc, Vec, Global}
-use Rattle.bolt_recover.proofs.Words.{Advances, after_event, after_events, all_events, append-nil, AreFirst, AreKeptPages, AreLosses, AreOpen, ArePageWays, claims_file, claims_meta, claims_nodes, claims_visited, TreePage, counted, Ends, Event, Given, GoesOn, is_claimed, IsAllLeft, IsGoodPage, IsKeptPage, IsOn, IsPlaced, IsRecovered, loss_view, losses_of, LossView, lost_at, Member, members_left, Meta, node_at, Nodes, OpenPage, Outcome, outcome_of, page_ways, props, reached, StaysOn, steps_left, SurveyedWay, take-append-le, take_all, tally_of, Visited}
+use Rattle.bolt_recover.proofs.Words.{Advances, after_event, after_events, all_events, append-nil, AreFirst, AreKeptPages, AreLosses, AreOpenPages, ArePageWays, claims_file, claims_meta, claims_nodes, claims_visited, TreePage, counted, Ends, Event, Given, StepsOn, is_claimed, IsAllLeft, IsGoodPage, IsKeptPage, StepsAreOn, AreStepsPlaced, IsRecovered, loss_view, losses_of, LossView, lost_at, Member, members_left, Meta, node_at, Nodes, OpenPage, Outcome, outcome_of, page_ways, props, reached, StaysOn, steps_left, SurveyedWay, take-append-le, take_all, tally_of, Visited}
 use Rattle.bolt_recover.proofs.{Existing.one_recovered, Existing.recovers, CourseSurveys.all_claimed, CourseSurveys.survey_of, CourseSurveys.surveyed, CourseSurveys.tally, SurveyIsOne.same_survey}
 use Rattle.bolt_format.specs.declared.element.Leaf.{Leaf}
 use Rattle.bolt_check.specs.declared.spot.Spot.{Spot}
@@ -15,11 +15,11 @@ content_prop file meta page (spots.Bucket s) = hlevel props
 good_prop : (file : List ℕ) (meta : Meta) (page : OpenPage) (x y : IsGoodPage file meta page) → x ≡ y
 good_prop file meta page = hlevel (props, content_prop)
 
-open_prop : (file : List ℕ) (meta : Meta) (low : ℕ) (pages : List OpenPage) (high : ℕ) (x y : AreOpen file meta low pages high) → x ≡ y
+open_prop : (file : List ℕ) (meta : Meta) (low : ℕ) (pages : List OpenPage) (high : ℕ) (x y : AreOpenPages file meta low pages high) → x ≡ y
 open_prop file meta low [] high = hlevel props
 open_prop file meta low (page ∷ pages) high = hlevel (props, good_prop file meta page, open_prop file meta page.path_len pages high)
 
-pub placed_prop : (s : Steps) (x y : IsPlaced s) → x ≡ y
+pub placed_prop : (s : Steps) (x y : AreStepsPlaced s) → x ≡ y
 placed_prop s = hlevel (props, open_prop)
 
 pub one_losses : (file : List ℕ) (meta : Meta) (a b : List LossView) → AreLosses file meta a → AreLosses file meta b → a ≡ b
@@ -54,20 +54,20 @@ grows nodes o (Visited way p found ∷ events) =
 pub left_all : (file : List ℕ) (meta : Meta) (begun : ℕ) (s : Steps) (listing : List Member) → IsAllLeft file meta begun s → IsRecovered file meta listing → members_left s ≡ listing
 left_all file meta begun s listing all recovered = all.members ∙ one_recovered file meta _ listing (recovers file meta) recovered
 
-pub on_begun : (file : List ℕ) (meta : Meta) (begun : ℕ) (s : Steps) → claims_file s.claims ≡ file → claims_meta s.claims ≡ meta → IsAllLeft file meta begun s → IsOn s meta begun
+pub on_begun : (file : List ℕ) (meta : Meta) (begun : ℕ) (s : Steps) → claims_file s.claims ≡ file → claims_meta s.claims ≡ meta → IsAllLeft file meta begun s → StepsAreOn s meta begun
 on_begun file meta begun s of_file of_meta all = record { meta = of_meta; comes = all.outcome ∙ ap (λ (f : List ℕ). whole f meta begun) (sym of_file) }
 
 -- where there is room for more open pages, the same is left
-pub on_reserved : (s : Steps) (meta : Meta) (begun : ℕ) (stack : Vec OpenPage Global) → stack.items ≡ s.open.items → IsOn s meta begun → IsOn (record s { «open» = stack }) meta begun
+pub on_reserved : (s : Steps) (meta : Meta) (begun : ℕ) (stack : Vec OpenPage Global) → stack.items ≡ s.open.items → StepsAreOn s meta begun → StepsAreOn (record s { «open» = stack }) meta begun
 on_reserved s meta begun stack same on = record { meta = on.meta; comes = rw same on.comes }
 
-pub stays_advanced : {E : Type 0} (old new : Steps) (result : Result (Option Leaf) E) → IfOk result (Advances old new) → OnErr result (GoesOn old new) → StaysOn old new
+pub stays_advanced : {E : Type 0} (old new : Steps) (result : Result (Option Leaf) E) → IfOk result (Advances old new) → OnErr result (StepsOn old new) → StaysOn old new
 stays_advanced old new (Ok (Some leaf)) given same = given.on
 stays_advanced old new (Ok None) given same = given.on
 stays_advanced old new (Err e) given same = same.on
 
-module _ {s : Steps} {meta : Meta} {begun : ℕ} (on : IsOn s meta begun) where
-  pub on_further : {new : Steps} → StaysOn s new → IsOn new meta begun
+module _ {s : Steps} {meta : Meta} {begun : ℕ} (on : StepsAreOn s meta begun) where
+  pub on_further : {new : Steps} → StaysOn s new → StepsAreOn new meta begun
   on_further stays = record { meta = stays.meta ∙ on.meta; comes = stays.outcome ∙ on.comes ∙ ap (λ (file : List ℕ). whole file meta begun) (sym stays.file) }
 
   -- after the end

@@ -1,15 +1,15 @@
 -- Values of an open page that are skipped: the same comes of the rest.
 use Rattle.std.proofs.Common.{◌≡◌, ◌∙◌, ◌≤◌, ◌<◌, ℕ, zero, suc, ◌+◌, ◌-◌, Bool, true, false, List, [], ◌∷◌, ◌++◌, Option, Some, None, slice_get, take, refl, sym, ap, arith, append_assoc, Vec, Global}
-use Rattle.bolt_recover.proofs.Words.{after_events, claims_file, claims_meta, claims_nodes, content_elements, content_site, Entry, Event, events, further, gives_at, is_claimed, IsPlaced, item_of, leaf_entry, LeafElement, Member, members_of, Meta, Nodes, open_tasks, OpenPage, option_map, Outcome, page_spot, Path, shown_node, Site, slice_get-map, step_entry, step_on, step_site, steps_left, steps_path, tally_of, Task, tasks_from, TreePage, visits_at, Way, way_of}
+use Rattle.bolt_recover.proofs.Words.{after_events, claims_file, claims_meta, claims_nodes, content_elements, content_site, Entry, Event, events, further, gives_at, is_claimed, AreStepsPlaced, item_of, leaf_entry, LeafElement, Member, members_of, Meta, Nodes, open_tasks, OpenPage, option_map, Outcome, page_spot, Path, shown_node, Site, slice_get-map, step_entry, step_on, step_site, steps_left, steps_path, tally_of, Task, tasks_from, TreePage, visits_at, Way, way_of}
 use Rattle.bolt_format.specs.TreePages.{leaves_on, shown_page}
 use Rattle.bolt_format.specs.declared.tree_page.TreePage.TheVariants.{Branch, Leaf}
 use Rattle.bolt_check.specs.{declared.spot.PageSpot.PageSpot, declared.spot.Spot.Spot}
 use Rattle.bolt_check.specs.declared.spot.Spot.TheVariants as spots
-use Rattle.bolt_recover.specs.{Private.Frames.IsGoodAt, Private.Frames.IsValueAt, Private.Frames.Skips, declared.steps.Steps.Steps}
+use Rattle.bolt_recover.specs.{Private.Frames.IsGoodAt, Private.Frames.IsValueElement, Private.Frames.Skips, declared.steps.Steps.Steps}
 use Rattle.bolt_recover.proofs.{Courses.events_give, StepLemmas.are_open_push, StepLemmas.inner, StepLemmas.open_last, StepLemmas.tasks_top}
 
 -- ---- Values lead nowhere.
-nowhere : (page : TreePage) (s : PageSpot) (n : ℕ) → IsValueAt (shown_page page).leaves n → step_on (shown_node page) (page_spot s) n ≡ None
+nowhere : (page : TreePage) (s : PageSpot) (n : ℕ) → IsValueElement (shown_page page).leaves n → step_on (shown_node page) (page_spot s) n ≡ None
 unfolding shown_node
 nowhere (Branch page) s n value = absurd (cc)
 nowhere (Leaf page) s n value =
@@ -20,7 +20,7 @@ nowhere (Leaf page) s n value =
     by None value = refl
     by (Some e) value = let plain : e.is_bucket ≡ false = cc in rw plain refl
 
-value_at : (file : List ℕ) (meta : Meta) (path : Path) (page : TreePage) (s : Spot) (n : ℕ) → IsGoodAt file meta page s → IsValueAt (shown_page page).leaves n
+value_at : (file : List ℕ) (meta : Meta) (path : Path) (page : TreePage) (s : Spot) (n : ℕ) → IsGoodAt file meta page s → IsValueElement (shown_page page).leaves n
     → step_site file meta (content_site path (record { spot = s; page = page })) n ≡ None
 value_at file meta path page (spots.Page s) n good value = rw (good.0, nowhere page s n value) refl
 value_at file meta path page (spots.Bucket s) n good value = refl
@@ -47,7 +47,7 @@ module _ (file : List ℕ) (meta : Meta) (claimed : ℕ → Bool) (way : Way) (p
       rw (events_give file meta claimed (p.path ++ e.key ∷ []) e (more ++ rest)) (record { dropped = (p.path ++ e.key ∷ [], item_of e) ∷ []; members = refl; same = λ nodes o. refl })
 
   -- from i to j
-  values_drop : (k i j a b : ℕ) → i + k ≡ j → a ≡ k + b → ((n : ℕ) → i ≤ n → n < j → IsValueAt p.elements n × (step_site file meta p n ≡ None))
+  values_drop : (k i j a b : ℕ) → i + k ≡ j → a ≡ k + b → ((n : ℕ) → i ≤ n → n < j → IsValueElement p.elements n × (step_site file meta p n ≡ None))
       → Drops (events file meta (tasks_from file meta way p i a ++ rest) claimed) (events file meta (tasks_from file meta way p j b ++ rest) claimed)
   values_drop zero i j a b to all values =
       let there : j ≡ i = omega (arith, to) in
@@ -62,7 +62,7 @@ module _ (file : List ℕ) (meta : Meta) (claimed : ℕ → Bool) (way : Way) (p
 
 -- ---- The innermost page goes on.
 skips : (s : Steps) (stack : Vec OpenPage Global) (old new : List Event) → let on : Steps = record s { «open» = stack } in
-    IsPlaced on → steps_left s ≡ old → steps_left on ≡ new → Drops old new → Skips s on
+    AreStepsPlaced on → steps_left s ≡ old → steps_left on ≡ new → Drops old new → Skips s on
 skips s stack old new placed before after drops =
     let on : Steps = record s { «open» = stack } in
     let outcome : List Event → Outcome = after_events (claims_nodes s.claims) (tally_of s) in
@@ -72,8 +72,8 @@ skips s stack old new placed before after drops =
       left = ap members_of before ∙ drops.members ∙ ap (λ (es : List Event). drops.dropped ++ members_of es) (sym after);
     }
 
-pub skipped : (s : Steps) (front : List OpenPage) (top : OpenPage) (stack : Vec OpenPage Global) (next : ℕ) → IsPlaced s → s.ahead ≡ None → s.open.items ≡ front ++ top ∷ []
-    → top.next ≤ next → next ≤ top.count → ((n : ℕ) → top.next ≤ n → n < next → IsValueAt (content_elements top.content) n)
+pub skipped : (s : Steps) (front : List OpenPage) (top : OpenPage) (stack : Vec OpenPage Global) (next : ℕ) → AreStepsPlaced s → s.ahead ≡ None → s.open.items ≡ front ++ top ∷ []
+    → top.next ≤ next → next ≤ top.count → ((n : ℕ) → top.next ≤ n → n < next → IsValueElement (content_elements top.content) n)
     → stack.items ≡ front ++ record top { next = next } ∷ [] → Skips s (record s { «open» = stack })
 skipped s front top stack next has is pages from within values put =
     let file = claims_file s.claims in

@@ -1,6 +1,6 @@
--- If nothing is lost, each way is kept, and what a path holds is an element at a way.
+-- If nothing is lost, each way is way_kept, and what a path holds is an element at a way.
 use Rattle.std.proofs.Common.{◌≡◌, ◌∙◌, ◌⊎◌, inl, inr, ℕ, suc, Bool, true, false, IsTrue, eqb, eqb-true, List, [], ◌∷◌, ◌++◌, Option, Some, None, Result, Ok, Err, slice_get, refl, sym, ap, subst, append_assoc}
-use Rattle.bolt_recover.proofs.Words.{At_inline, At_page, cases_Bool, child_in, child_of, child_spot, Contains, contains_at, Entry, Has, HasSoundTrees, head_root, Holds, inline_elements, Inline_page, IsEntry, IsListing, IsRecovered, IsRecoveredMember, Item, item_of, kept, Key, leads, leads_none, leaf_node, LeafElement, leaves_of, Member, Meta, Node, node_at, Nodes, none-some, page_at, PageSpot, Path, Site, site_at, reached, Root_page, root_site, root_spot, same_Some, ShowsEntry, Spot, Start, start_of, step_site, upper_from, SurveyedWay}
+use Rattle.bolt_recover.proofs.Words.{At_inline, At_page, cases_Bool, child_in, child_of, child_spot, Contains, contains_at, Entry, Has, HasSoundTrees, head_root, Holds, inline_elements, Inline_page, IsEntry, IsListing, IsRecovered, IsRecoveredMember, Item, item_of, way_kept, Key, leads, leads_none, leaf_node, LeafElement, leaves_of, Member, Meta, Node, node_at, Nodes, none-some, page_at, PageSpot, Path, Site, site_at, reached, Root_page, root_site, root_spot, same_Some, ShowsEntry, Spot, Start, start_of, step_site, upper_from, SurveyedWay}
 use Rattle.bolt_recover.proofs.SiteFacts.{site_further, slice_of, spot_is}
 use Rattle.bolt_recover.proofs.MembersInBuckets.{path_holds, shows_entry, well_at}
 use Rattle.bolt_recover.proofs.SiteSteps.{IsBranchPage, IsLeafPage, IsTidy, IsTidyAt, bucket_site, on_page}
@@ -112,7 +112,7 @@ module _ (file : List ℕ) (meta : Meta) where
         | inr branch ↦ absurd (none-some e (ap (λ (xs : List LeafElement). slice_get xs i) (sym branch.none) ∙ get))
       ]
 
-  module _ (survey : List SurveyedWay) (all : (way : List ℕ) (s : Spot) → reached nodes meta.root way ≡ Some s → Has survey (kept way)) where
+  module _ (survey : List SurveyedWay) (all : (way : List ℕ) (s : Spot) → reached nodes meta.root way ≡ Some s → Has survey (way_kept way)) where
     member_there : (path full : Path) (e : LeafElement) (item : Item) → IsThere path e → full ≡ path ++ e.key ∷ [] → item ≡ item_of e → IsRecoveredMember file meta survey full item
     member_there path full e item there named is = record {
       way = there.way;

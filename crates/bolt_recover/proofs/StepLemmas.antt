@@ -1,6 +1,6 @@
 -- What the steps of a recovering walk leave to be done.
 use Rattle.std.proofs.Common.{◌≡◌, ◌∙◌, ◌≤◌, ◌<◌, ℕ, suc, ◌+◌, ◌-◌, Bool, true, ◌↔◌, List, [], ◌∷◌, ◌++◌, length, map, take, Option, Some, None, slice_get, drop, refl, sym, ap, arith, append_assoc, sum_by, Vec, Global, Bor}
-use Rattle.bolt_recover.proofs.Words.{after_event, after_events, ahead_path_len, ahead_tasks, all_events, append-nil, AreOpen, At_page, both_ways, claimed_after, claims_file, claims_meta, claims_nodes, claims_visited, claims_with, Event, loss_of, Passes, Tests, KeptPage, content_elements, content_site, content_size, content_spot, counted, Ends, entry_tasks, events, Finding, further, Given, Gives, gives_at, GivesHead, GoesOn, is_claimed, IsAllLeft, IsContent, IsGoodContent, IsGoodPage, IsMetaPage, IsPlaced, IsShallow, LeafElement, length_entries, length-map, length-take-le, loss_view, lost_at, map-append, members_of, Meta, meta_pages, nat_tests, NextVisit, node_at, Nodes, open_tasks, OpenPage, option_map, Outcome, outcome_of, page_tasks, page_visit, page_weight, Path, path_of, root_spot, Site, site_size, site_tasks, spot_at, spot_site, steps_left, steps_path, steps_weight, TreePage, sum_by-append, take-append-drop, take-append-le, tally_of, Task, tasks_after, tasks_from, tasks_left, Visited, visits_at, Way, way_of, step_site}
+use Rattle.bolt_recover.proofs.Words.{after_event, after_events, ahead_path_len, ahead_tasks, all_events, append-nil, AreOpenPages, At_page, both_ways, claimed_after, claims_file, claims_meta, claims_nodes, claims_visited, claims_with, Event, loss_of, Passes, Tests, KeptPage, content_elements, content_site, content_size, content_spot, counted, Ends, entry_tasks, events, Finding, further, Given, Gives, gives_at, GivesHead, StepsOn, is_claimed, IsAllLeft, IsContent, IsGoodKeptPage, IsGoodPage, IsMetaPage, AreStepsPlaced, IsShallow, LeafElement, length_entries, length-map, length-take-le, loss_view, lost_at, map-append, members_of, Meta, meta_pages, nat_tests, NextVisit, node_at, Nodes, open_tasks, OpenPage, option_map, Outcome, outcome_of, page_tasks, page_visit, page_weight, Path, path_of, root_spot, Site, site_size, site_tasks, spot_at, spot_site, steps_left, steps_path, steps_weight, TreePage, sum_by-append, take-append-drop, take-append-le, tally_of, Task, tasks_after, tasks_from, tasks_left, Visited, visits_at, Way, way_of, step_site}
 use Rattle.bolt_format.specs.TreePages.{leaves_on, page_keys, shown_page}
 use Rattle.bolt_check.specs.ShownNodes.{is_leaf_page}
 use Rattle.bolt_format.specs.declared.tree_page.TreePage.TheVariants.{Branch, Leaf}
@@ -23,31 +23,31 @@ module _ (file : List ℕ) (meta : Meta) where
       ∙ ap (λ (w : Way). page_tasks file meta path w page ++ open_tasks file meta path next pages more) (append_assoc way ((first.next - 1) ∷ []) (way_of pages))
 
   pub are_open_push : (low : ℕ) (pages : List OpenPage) (page : OpenPage) (high : ℕ)
-      → AreOpen file meta low pages page.path_len → IsGoodPage file meta page → page.path_len ≤ high → AreOpen file meta low (pages ++ page ∷ []) high
+      → AreOpenPages file meta low pages page.path_len → IsGoodPage file meta page → page.path_len ≤ high → AreOpenPages file meta low (pages ++ page ∷ []) high
   are_open_push low [] page high are good le = (are, good, le)
   are_open_push low (first ∷ pages) page high are good le = (are.0, are.1, are_open_push first.path_len pages page high are.2 good le)
 
   -- the innermost page, and those before it
   pub record Innermost (low : ℕ) (pages : List OpenPage) (page : OpenPage) (high : ℕ) : Type 0 where
-    pub below : AreOpen file meta low pages page.path_len
+    pub below : AreOpenPages file meta low pages page.path_len
     pub good : IsGoodPage file meta page
     pub within : page.path_len ≤ high
 
-  low_high : (low : ℕ) (pages : List OpenPage) (high : ℕ) → AreOpen file meta low pages high → low ≤ high
+  low_high : (low : ℕ) (pages : List OpenPage) (high : ℕ) → AreOpenPages file meta low pages high → low ≤ high
   low_high low [] high are = are
   low_high low (first ∷ pages) high are = let more = low_high first.path_len pages high are.2 in let here = are.0 in omega (arith, more, here)
 
-  innermost : (low : ℕ) (pages : List OpenPage) (page : OpenPage) (high : ℕ) → AreOpen file meta low (pages ++ page ∷ []) high → Innermost low pages page high
+  innermost : (low : ℕ) (pages : List OpenPage) (page : OpenPage) (high : ℕ) → AreOpenPages file meta low (pages ++ page ∷ []) high → Innermost low pages page high
   innermost low [] page high are = record { below = are.0; good = are.1; within = are.2 }
   innermost low (first ∷ pages) page high are =
       let more = innermost first.path_len pages page high are.2 in record { below = (are.0, are.1, more.below); good = more.good; within = more.within }
 
-  are_open_up : (low : ℕ) (pages : List OpenPage) (high higher : ℕ) → AreOpen file meta low pages high → high ≤ higher → AreOpen file meta low pages higher
+  are_open_up : (low : ℕ) (pages : List OpenPage) (high higher : ℕ) → AreOpenPages file meta low pages high → high ≤ higher → AreOpenPages file meta low pages higher
   are_open_up low [] high higher are le = omega (arith, are, le)
   are_open_up low (first ∷ pages) high higher are le = (are.0, are.1, are_open_up first.path_len pages high higher are.2 le)
 
   -- the tasks of open pages look at no more of the path than that of their bucket
-  same_open : (low high : ℕ) (pages : List OpenPage) (way : Way) (a b : Path) (rest : List Task) → AreOpen file meta low pages high
+  same_open : (low high : ℕ) (pages : List OpenPage) (way : Way) (a b : Path) (rest : List Task) → AreOpenPages file meta low pages high
       → ((n : ℕ) → n ≤ high → take n a ≡ take n b) → open_tasks file meta a way pages rest ≡ open_tasks file meta b way pages rest
   same_open low high [] way a b rest are same = refl
   same_open low high (page ∷ pages) way a b rest are same =
@@ -65,7 +65,7 @@ module _ (file : List ℕ) (meta : Meta) where
   size_at page (spots.Page s) good = rw good.0 (sym (length_entries page))
   size_at page (spots.Bucket s) good = inline_size page good.0
 
-  size_is : (content : KeptPage) → IsGoodContent file meta content → content_size content ≡ site_size (node_at file meta) (content_spot content) (content_elements content)
+  size_is : (content : KeptPage) → IsGoodKeptPage file meta content → content_size content ≡ site_size (node_at file meta) (content_spot content) (content_elements content)
   size_is content good = size_at content.page content.spot good
 
   opened : (path : Path) (pages : List OpenPage) (s : Spot) (content : KeptPage) (path_len count : ℕ) → IsContent file meta s content → count ≡ content_size content
@@ -85,7 +85,7 @@ take_below m n path rest long le =
 
 -- what is ahead was visited, with these pages open after it
 module _ (s : Steps) (claims : Claims) (stack : Vec OpenPage Global) (losses : Vec Loss Global) (loss_path : Vec (Bor (List ℕ)) Global) (ahead : NextVisit)
-    (has : IsPlaced s) (is : s.ahead ≡ Some ahead) (file : claims_file claims ≡ claims_file s.claims) (meta : claims_meta claims ≡ claims_meta s.claims)
+    (has : AreStepsPlaced s) (is : s.ahead ≡ Some ahead) (file : claims_file claims ≡ claims_file s.claims) (meta : claims_meta claims ≡ claims_meta s.claims)
     (counts : claims_visited claims ≡ counted (claims_visited s.claims) (page_visit (spot_at ahead.spot))) where
   abbrev visited : Steps
   visited = record s { claims = claims; ahead = None; «open» = stack; losses = losses; loss_path = loss_path }
@@ -102,7 +102,7 @@ module _ (s : Steps) (claims : Claims) (stack : Vec OpenPage Global) (losses : V
   goes_visiting : (found : Option Finding) → Finds found → ((n : ℕ) → is_claimed claims n ≡ claimed_after (claims_nodes s.claims) (is_claimed s.claims) (spot_at ahead.spot) found n)
       → open_tasks (claims_file s.claims) (claims_meta s.claims) (steps_path s) [] stack.items [] ≡ tasks_after (claims_file s.claims) (claims_meta s.claims) (way_of s.open.items) site found ++ rest
       → map loss_view losses.items ≡ map loss_view s.losses.items ++ lost_at site found
-      → AreOpen (claims_file s.claims) (claims_meta s.claims) 0 stack.items (length (steps_path s)) → sum_by page_weight stack.items ≤ 65537 + sum_by page_weight s.open.items → GoesOn s visited
+      → AreOpenPages (claims_file s.claims) (claims_meta s.claims) 0 stack.items (length (steps_path s)) → sum_by page_weight stack.items ≤ 65537 + sum_by page_weight s.open.items → StepsOn s visited
   goes_visiting found gives after tasks lost placed weight =
       let event = Visited (way_of s.open.items) site found in
       let old_file = claims_file s.claims in let old_meta = claims_meta s.claims in
@@ -129,7 +129,7 @@ module _ (s : Steps) (claims : Claims) (stack : Vec OpenPage Global) (losses : V
 
   -- it is lost
   pub goes_lost : (x : Finding) → Tests (claims_nodes s.claims) (λ n. is_claimed s.claims n ≡ true) (spot_at ahead.spot) x → ((n : ℕ) → is_claimed claims n ≡ is_claimed s.claims n)
-      → stack.items ≡ s.open.items → map loss_view losses.items ≡ map loss_view s.losses.items ++ loss_of site x ∷ [] → GoesOn s visited
+      → stack.items ≡ s.open.items → map loss_view losses.items ≡ map loss_view s.losses.items ++ loss_of site x ∷ [] → StepsOn s visited
   goes_lost x tests same stays lost =
       let are = rw is at has.pages in
       let within = rw is at has.within in
@@ -141,7 +141,7 @@ module _ (s : Steps) (claims : Claims) (stack : Vec OpenPage Global) (losses : V
   pub goes_in : (content : KeptPage) (count : ℕ) → Passes (claims_nodes s.claims) (λ n. is_claimed s.claims n ≡ true) (spot_at ahead.spot)
       → IsContent (claims_file s.claims) (claims_meta s.claims) ahead.spot content
       → ((n : ℕ) → is_claimed claims n ≡ claims_with s.claims (spot_at ahead.spot) n) → count ≡ content_size content → count < 65536
-      → stack.items ≡ s.open.items ++ record { content = content; path_len = ahead.path_len; count = count; next = 0 } ∷ [] → losses.items ≡ s.losses.items → GoesOn s visited
+      → stack.items ≡ s.open.items ++ record { content = content; path_len = ahead.path_len; count = count; next = 0 } ∷ [] → losses.items ≡ s.losses.items → StepsOn s visited
   goes_in content count passes opens after long fits pushed kept =
       let page : OpenPage = record { content = content; path_len = ahead.path_len; count = count; next = 0 } in
       let are = rw is at has.pages in
@@ -154,7 +154,7 @@ module _ (s : Steps) (claims : Claims) (stack : Vec OpenPage Global) (losses : V
       (record { content = opens.good; count = long; fits = fits; taken = omega arith }) within)) (omega (arith, weight, fits))
 
 -- the innermost page goes on, with this ahead, these pages open and this path
-module _ (s : Steps) (front : List OpenPage) (top : OpenPage) (has : IsPlaced s) (is : s.ahead ≡ None) (pages : s.open.items ≡ front ++ top ∷ []) where
+module _ (s : Steps) (front : List OpenPage) (top : OpenPage) (has : AreStepsPlaced s) (is : s.ahead ≡ None) (pages : s.open.items ≡ front ++ top ∷ []) where
   abbrev file_of : List ℕ
   file_of = claims_file s.claims
 
@@ -179,7 +179,7 @@ module _ (s : Steps) (front : List OpenPage) (top : OpenPage) (has : IsPlaced s)
 
     -- where the same is left to be done, the same comes of it
     goes_by : tasks_left file_of meta_of (steps_path s) s.ahead s.open.items ≡ tasks_left file_of meta_of (path_of path.items) ahead stack.items → path_of path.items ≡ steps_path s
-        → IsPlaced on → sum_by page_weight stack.items < sum_by page_weight s.open.items → GoesOn s on × (steps_weight on < steps_weight s)
+        → AreStepsPlaced on → sum_by page_weight stack.items < sum_by page_weight s.open.items → StepsOn s on × (steps_weight on < steps_weight s)
     goes_by tasks same placed weight =
         let left : steps_left on ≡ steps_left s = ap (λ (ts : List Task). events file_of meta_of ts (is_claimed s.claims)) (sym tasks) in
         let long = ap length left in (
@@ -196,7 +196,7 @@ module _ (s : Steps) (front : List OpenPage) (top : OpenPage) (has : IsPlaced s)
     weight_of = let sum = ap (sum_by page_weight) pages ∙ sum_by-append page_weight front (top ∷ []) in omega (arith, sum)
 
     -- it had no more elements
-    pub took_last : top.next ≡ top.count → ahead ≡ None → stack.items ≡ front → path.items ≡ s.path.items → GoesOn s on × (steps_weight on < steps_weight s)
+    pub took_last : top.next ≡ top.count → ahead ≡ None → stack.items ≡ front → path.items ≡ s.path.items → StepsOn s on × (steps_weight on < steps_weight s)
     took_last over none left same =
         let nothing : top.count - top.next ≡ 0 = omega (arith, over) in
         let weight = ap (sum_by page_weight) left in
@@ -257,7 +257,7 @@ module _ (s : Steps) (front : List OpenPage) (top : OpenPage) (has : IsPlaced s)
       ahead_within None high le = (le, omega arith)
       ahead_within (Some spot) high le = (omega arith, le)
 
-      placed_on : IsPlaced on
+      placed_on : AreStepsPlaced on
       placed_on =
           let (up, within) = ahead_within r (length (path_of path.items)) high in
           rw (of, put) (record {
@@ -266,7 +266,7 @@ module _ (s : Steps) (front : List OpenPage) (top : OpenPage) (has : IsPlaced s)
           })
 
       -- an element of a branch
-      pub took_branch : slice_get (content_elements top.content) top.next ≡ None → path.items ≡ s.path.items → GoesOn s on × (steps_weight on < steps_weight s)
+      pub took_branch : slice_get (content_elements top.content) top.next ≡ None → path.items ≡ s.path.items → StepsOn s on × (steps_weight on < steps_weight s)
       took_branch none same =
           goes_by (tasks_moved ∙ ap (λ (o : Option LeafElement). gives_at file_of meta_of here.path o ++ tasks_left file_of meta_of (path_of path.items) ahead stack.items) none) (ap path_of same) placed_on lighter
 
@@ -291,7 +291,7 @@ shallow_at : (file : List ℕ) (meta : Meta) (page : TreePage) (s : Spot) → Is
 shallow_at file meta page (spots.Page s) good = good.2
 shallow_at file meta page (spots.Bucket s) good = tt
 
-pub is_shallow : (file : List ℕ) (meta : Meta) (content : KeptPage) → IsGoodContent file meta content → IsShallow content
+pub is_shallow : (file : List ℕ) (meta : Meta) (content : KeptPage) → IsGoodKeptPage file meta content → IsShallow content
 is_shallow file meta content good = shallow_at file meta content.page content.spot good
 
 -- nothing was open

@@ -1,6 +1,6 @@
--- There is at most one survey. Where two first differ, the preceding kept ways are the same, and so is what the tests find.
+-- There is at most one survey. Where two first differ, the preceding way_kept ways are the same, and so is what the tests find.
 use Rattle.std.proofs.Common.{◌≡◌, ◌∙◌, ℕ, ◌⊎◌, inl, inr, List, [], ◌∷◌, ◌++◌, map, Option, Some, None, refl, sym, ap, subst}
-use Rattle.bolt_recover.proofs.Words.{Before, before_irreflexive, before_strict, Finding, Gives, Has, Each, IsClaimedIn, IsOpen, IsSurvey, kept, Meta, node_at, Nodes, passes_fewer, passes_silent, Reach, reached, Spot, Surveys, tests_same, SurveyedWay, RisesBy}
+use Rattle.bolt_recover.proofs.Words.{Before, before_irreflexive, before_strict, Finding, Gives, Has, Each, IsClaimedIn, IsOpen, IsSurvey, way_kept, Meta, node_at, Nodes, passes_fewer, passes_silent, Reach, reached, Spot, Surveys, tests_same, SurveyedWay, RisesBy}
 use Rattle.bolt_check.proofs.Single.{tests_one}
 
 abbrev pub ways : List SurveyedWay → List (List ℕ)
@@ -39,7 +39,7 @@ open_over : (a b : List SurveyedWay) (InFront : SurveyedWay → Type 0) (x : Sur
     → IsOpen a x.way → IsOpen b x.way
 open_over a b InFront x xs ys at_a at_b (inl e) = inl e
 open_over a b InFront x xs ys at_a at_b (inr (parent, i, e, has)) =
-    inr (parent, i, e, at_b.front (kept parent) (earlier a InFront x xs at_a (kept parent) has (subst (λ (z : List ℕ). Before parent z) (sym e) (parent_before parent i))))
+    inr (parent, i, e, at_b.front (way_kept parent) (earlier a InFront x xs at_a (way_kept parent) has (subst (λ (z : List ℕ). Before parent z) (sym e) (parent_before parent i))))
 
 pub gives_same : (nodes : Nodes) (a b : ℕ → Type 0) (s : Spot) (f : Option Finding) → ((n : ℕ) → a n → b n) → ((n : ℕ) → b n → a n) → Gives nodes a s f → Gives nodes b s f
 gives_same nodes a b s None to from h = passes_fewer nodes a b s from h
@@ -74,7 +74,7 @@ module _ (nodes : Nodes) (reach : Reach) where
   claims_over : (a b : List SurveyedWay) (InFront : SurveyedWay → Type 0) (x : SurveyedWay) (xs ys : List SurveyedWay) → Suffix a InFront (x ∷ xs) → Suffix b InFront ys
       → (n : ℕ) → IsClaimedIn nodes reach a x.way n → IsClaimedIn nodes reach b x.way n
   claims_over a b InFront x xs ys at_a at_b n (inl h) = inl h
-  claims_over a b InFront x xs ys at_a at_b n (inr (v, (has, lt, span))) = inr (v, (at_b.front (kept v) (earlier a InFront x xs at_a (kept v) has lt), lt, span))
+  claims_over a b InFront x xs ys at_a at_b n (inr (v, (has, lt, span))) = inr (v, (at_b.front (way_kept v) (earlier a InFront x xs at_a (way_kept v) has lt), lt, span))
 
   same_found : (a b : List SurveyedWay) → Surveys nodes reach a → Surveys nodes reach b → (InFront : SurveyedWay → Type 0) (way : List ℕ) (f g : Option Finding) (xs ys : List SurveyedWay)
       → Suffix a InFront (record { way = way; found = f } ∷ xs) → Suffix b InFront (record { way = way; found = g } ∷ ys) → f ≡ g

@@ -1,6 +1,6 @@
 -- Trees whose keys rise, and what they list.
 use Rattle.std.proofs.Common.{◌≡◌, ◌∙◌, ◌⊎◌, inl, inr, ℕ, zero, suc, Bool, true, false, List, [], ◌∷◌, ◌++◌, Option, Some, None, map, slice_get, ◌==◌, refl, sym, ap, subst, arith, append_assoc}
-use Rattle.bolt_recover.proofs.Words.{before_longer, Bucket, cases_Bool, cond_both, Contains, Contains-append_cases, contains_cases, contains_head, contains_none, contains_tail, end, head_root, head_sequence, inline_elements, inside_of, Key, key_cmp, key_lt, key_rise, keys_order_fault, KeysRise, LeafElement, Less, less_of, listing_below, Member, member_cmp, Path, path_cmp, Rises, same_front, Tree, tree_with, Value, with_bucket, with_value}
+use Rattle.bolt_recover.proofs.Words.{before_longer, Bucket, cases_Bool, cond_both, Contains, Contains-append_cases, contains_cases, contains_head, contains_none, contains_tail, end, head_root, head_sequence, inline_elements, inside_of, Key, key_cmp, key_lt, key_rise, keys_order_fault, KeysRise, LeafElement, Less, less_of, listing_below, Member, member_cmp, Path, path_cmp, Rises, same_front, Tree, tree_of_elements, Value, with_bucket, with_value}
 
 -- a key of the outermost bucket
 abbrev pub HasKey : Tree → Key → Type 0
@@ -72,20 +72,20 @@ ordered_rises (with_bucket key sequence inside after) front (first, own, later) 
 abbrev keys_in : List LeafElement → List Key
 keys_in elements = map (λ (e : LeafElement). e.key) elements
 
-has_element : (inside : LeafElement → Tree) (elements : List LeafElement) (k : Key) → HasKey (tree_with inside elements) k → (j : ℕ) × (slice_get (keys_in elements) j ≡ Some k)
+has_element : (inside : LeafElement → Tree) (elements : List LeafElement) (k : Key) → HasKey (tree_of_elements inside elements) k → (j : ℕ) × (slice_get (keys_in elements) j ≡ Some k)
 has_element inside [] k has = absurd has
 has_element inside (e ∷ elements) k has =
-    elim (elim (cases_Bool e.is_bucket) as (λ _. (e.key ≡ k) ⊎ HasKey (tree_with inside elements) k) [ inl is ↦ rw is at has | inr is ↦ rw is at has ]) [
+    elim (elim (cases_Bool e.is_bucket) as (λ _. (e.key ≡ k) ⊎ HasKey (tree_of_elements inside elements) k) [ inl is ↦ rw is at has | inr is ↦ rw is at has ]) [
       | inl same ↦ (zero, ap Some same)
       | inr later ↦ let (j, at) = has_element inside elements k later in (suc j, at)
     ]
 
-pub elements_ordered : (inside : LeafElement → Tree) (elements : List LeafElement) → ((e : LeafElement) → Ordered (inside e)) → KeysRise (keys_in elements) → Ordered (tree_with inside elements)
+pub elements_ordered : (inside : LeafElement → Tree) (elements : List LeafElement) → ((e : LeafElement) → Ordered (inside e)) → KeysRise (keys_in elements) → Ordered (tree_of_elements inside elements)
 elements_ordered inside [] own rise = tt
 elements_ordered inside (e ∷ elements) own rise =
     let later = elements_ordered inside elements own (λ i j a b lt. rise (suc i) (suc j) a b (omega (arith, lt))) in
-    let first : IsFirst e.key (tree_with inside elements) = λ k has. let (j, at) = has_element inside elements k has in rise zero (suc j) e.key k (omega arith) refl at in
-    cond_both e.is_bucket (with_bucket e.key (head_sequence e.value) (inside e) (tree_with inside elements)) (with_value e.key e.value (tree_with inside elements)) Ordered
+    let first : IsFirst e.key (tree_of_elements inside elements) = λ k has. let (j, at) = has_element inside elements k has in rise zero (suc j) e.key k (omega arith) refl at in
+    cond_both e.is_bucket (with_bucket e.key (head_sequence e.value) (inside e) (tree_of_elements inside elements)) (with_value e.key e.value (tree_of_elements inside elements)) Ordered
     (λ is. (first, own e, later)) (λ is. (first, later))
 
 pub inside_ordered : (e : LeafElement) → Ordered (inside_of e)

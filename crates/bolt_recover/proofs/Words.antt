@@ -29,15 +29,15 @@ pub use Rattle.bolt_format.specs.Headers.{count_field, flags_field, kind_of}
 pub use Rattle.bolt_format.specs.Pages.{PageView, from_page, page_overflow, shown_as, shown_leaves, span_bytes}
 pub use Rattle.bolt_format.specs.{declared.header.Kind.Kind, declared.meta.Meta.Meta}
 unfoldable pub use Rattle.bolt_format.specs.{Pages.page_at, Pages.page_fault, Shown.shown}
-pub use Rattle.bolt_recover.specs.Found.{AreFound, FoundBelow, IsFoundNext, IsFoundPage, numbers_of}
-pub use Rattle.bolt_recover.specs.Joined.{HasBucketKey, IsElement, IsFoundMember, IsInner, IsJoined, LacksBucketKey, LeavesRoom, found_tree, inside_of}
-pub use Rattle.bolt_recover.specs.Joined.{is_found_path, joined_listing, lost_and_found, put_bucket, tree_with}
+pub use Rattle.bolt_recover.specs.Found.{AreFound, FoundBelow, IsFoundNext, IsFoundPage, found_numbers}
+pub use Rattle.bolt_recover.specs.Joined.{HasBucketKey, IsElement, IsFoundMember, IsInnerMember, IsJoined, LacksBucketKey, LeavesRoom, found_tree, inside_of}
+pub use Rattle.bolt_recover.specs.Joined.{is_found_path, joined_listing, lost_and_found, put_bucket, tree_of_elements}
 pub use Rattle.bolt_recover.specs.KeptPages.{AreKeptPages, IsKeptPage}
 pub use Rattle.bolt_recover.specs.Losses.{AreLosses, LossView, everything, loss_at, loss_of, losses_of, lower_of, parts, upper_of}
 pub use Rattle.bolt_recover.specs.{PageKeys.last_digits, PageKeys.page_key, PageWays.ArePageWays, PageWays.is_at_page, PageWays.page_ways}
 pub use Rattle.bolt_recover.specs.Sites.{Site, elements_at, follow_sites, leaves_of, next_site, site_at, site_on, root_site, step_site}
-pub use Rattle.bolt_recover.specs.Private.FoundLeft.{found_listing, pages_of}
-pub use Rattle.bolt_recover.specs.Private.Frames.{Advances, AreOpen, Ends, GivesHead, GoesOn, IsAllLeft, IsContent, IsGoodContent, IsGoodPage, IsOn, IsPlaced}
+pub use Rattle.bolt_recover.specs.Private.FoundLeft.{found_listing, found_pages_of}
+pub use Rattle.bolt_recover.specs.Private.Frames.{Advances, AreOpenPages, Ends, GivesHead, StepsOn, IsAllLeft, IsContent, IsGoodKeptPage, IsGoodPage, StepsAreOn, AreStepsPlaced}
 pub use Rattle.bolt_recover.specs.Private.Frames.{IsShallow, StaysOn, ahead_path_len, ahead_tasks, claims_nodes, claims_with, content_elements, content_site, content_size}
 pub use Rattle.bolt_recover.specs.Private.Frames.{content_spot, members_left, open_tasks, page_tasks, page_weight, spot_site, step_path, steps_left}
 pub use Rattle.bolt_recover.specs.Private.Frames.{steps_path, steps_weight, tally_of, tasks_left, way_of}
@@ -53,7 +53,7 @@ pub use Rattle.bolt_recover.specs.Private.TreesLeft.{AreTreesOf, IsSearched, los
 pub use Rattle.bolt_recover.specs.{Recovered.ForRecovered, Recovered.IsRecovered, Recovered.IsRecoveredMember, Recoveries.AreFirst, Recoveries.ForLosses}
 pub use Rattle.bolt_recover.specs.Refusals.{IsRefusedRoot, KeepsRoot, LosesRoot}
 pub use Rattle.bolt_recover.specs.{ShownFound.IsFoundView, ShownLosses.loss_view}
-pub use Rattle.bolt_recover.specs.Surveys.{Gives, IsClaimedIn, IsOpen, IsSurvey, LosesNothing, Surveys, SurveyedWay, kept, lost}
+pub use Rattle.bolt_recover.specs.Surveys.{Gives, IsClaimedIn, IsOpen, IsSurvey, LosesNothing, Surveys, SurveyedWay, way_kept, lost}
 pub use Rattle.bolt_format.specs.declared.tree_page.TreePage.{TreePage}
 pub use Rattle.bolt_recover.specs.{declared.content.KeptPage.KeptPage, declared.content.OpenPage.OpenPage}
 pub use Rattle.bolt_recover.specs.{declared.found.Found.Found, declared.kept.Kept.Kept}

@@ -40,5 +40,5 @@ abbrev pub ForFoundPages : (List ℕ → Meta → List ℕ → ℕ → Type 0) �
 ForFoundPages P = (file : List ℕ) (meta : Meta) (found : List ℕ) (n : ℕ) → AreFound file meta found → Contains found n → P file meta found n
 
 -- the numbers of found pages of the code
-abbrev pub numbers_of : List Found → List ℕ
-numbers_of found = map (λ (f : Found). f.number) found
+abbrev pub found_numbers : List Found → List ℕ
+found_numbers found = map (λ (f : Found). f.number) found

@@ -18,22 +18,22 @@ is_found_path [] = false
 is_found_path (key ∷ path) = is_eq (key_cmp key lost_and_found)
 
 -- elements as a tree, with what each bucket among them holds
-abbrev pub tree_with : (LeafElement → Tree) → List LeafElement → Tree
-tree_with inside [] = end
-tree_with inside (e ∷ elements) =
-    if e.is_bucket then with_bucket e.key (head_sequence e.value) (inside e) (tree_with inside elements)
-    else with_value e.key e.value (tree_with inside elements)
+abbrev pub tree_of_elements : (LeafElement → Tree) → List LeafElement → Tree
+tree_of_elements inside [] = end
+tree_of_elements inside (e ∷ elements) =
+    if e.is_bucket then with_bucket e.key (head_sequence e.value) (inside e) (tree_of_elements inside elements)
+    else with_value e.key e.value (tree_of_elements inside elements)
 
 -- An inline bucket holds its elements if their keys rise. What a bucket with a root page holds is kept, found or lost by itself.
 abbrev pub inside_of : LeafElement → Tree
 inside_of e =
     if (head_root e.value == 0) && is_none (keys_order_fault None None None (map (λ (inner : LeafElement). inner.key) (inline_elements e.value)))
-    then tree_with (λ inner. end) (inline_elements e.value) else end
+    then tree_of_elements (λ inner. end) (inline_elements e.value) else end
 
 -- found pages with their elements, each in a bucket that its number names
 abbrev pub found_tree : List (ℕ × List LeafElement) → Tree
 found_tree [] = end
-found_tree ((n, elements) ∷ found) = with_bucket (page_key n) 0 (tree_with inside_of elements) (found_tree found)
+found_tree ((n, elements) ∷ found) = with_bucket (page_key n) 0 (tree_of_elements inside_of elements) (found_tree found)
 
 -- a tree with one bucket more, before the first key that is above its own
 abbrev pub put_bucket : Key → Tree → Tree → Tree
@@ -73,12 +73,12 @@ abbrev pub IsElement : List LeafElement → Path → Member → Type 0
 IsElement elements path m = (e : LeafElement) × (Contains elements e × (m ≡ (path ++ e.key ∷ [], item_of e)))
 
 -- an element of an inline bucket among these
-abbrev pub IsInner : List LeafElement → Path → Member → Type 0
-IsInner elements path m =
+abbrev pub IsInnerMember : List LeafElement → Path → Member → Type 0
+IsInnerMember elements path m =
     (e : LeafElement) × (Contains elements e × IsTrue e.is_bucket × (head_root e.value ≡ 0) × IsElement (inline_elements e.value) (path ++ e.key ∷ []) m)
 
 -- What is in that bucket: a bucket for each found page, with its elements, and the elements of the inline buckets among them.
 abbrev pub IsFoundMember : List ℕ → Meta → List ℕ → Member → Type 0
 IsFoundMember file meta found m =
     (n : ℕ) × (Contains found n × ((m ≡ (lost_and_found ∷ page_key n ∷ [], Bucket 0)) ⊎ (IsElement (leaves_of (page_at file meta n)) (lost_and_found ∷ page_key n ∷ []) m
-    ⊎ IsInner (leaves_of (page_at file meta n)) (lost_and_found ∷ page_key n ∷ []) m)))
+    ⊎ IsInnerMember (leaves_of (page_at file meta n)) (lost_and_found ∷ page_key n ∷ []) m)))

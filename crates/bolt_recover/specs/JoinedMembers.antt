@@ -3,7 +3,7 @@ use Rattle.std.specs.Prelude.{ℕ, List}
 use Rattle.bolt_format.specs.declared.meta.Meta.{Meta}
 use Rattle.bolt_tree.specs.{Listing.Member, Merging.merged_left, Merging.merged_path, Merging.merged_work, Paths.Path}
 use Rattle.bolt_recover.specs.{Joined.IsJoined, KeptMembers.kept_left, KeptMembers.kept_path, KeptMembers.kept_work, declared.joined.Joined.Joined}
-use Rattle.bolt_recover.specs.Private.{FoundLeft.found_left, FoundLeft.found_path, FoundLeft.found_work, Merging.both_listings}
+use Rattle.bolt_recover.specs.Private.{FoundLeft.found_left, FoundLeft.found_path, FoundLeft.found_work, Merging.recovered_and_found}
 
 unfoldable pub joined_file : Joined → List ℕ
 joined_file joined = joined.file.now
@@ -14,7 +14,7 @@ joined_meta joined = joined.meta
 -- The part of the joined listing that is left. (There is one listing, so it is the same of each.)
 unfoldable pub joined_left : Joined → List Member → List Member
 joined_left joined listing =
-    merged_left kept_path kept_left found_path found_left joined.members (both_listings joined.file.now joined.meta joined.found.now)
+    merged_left kept_path kept_left found_path found_left joined.members (recovered_and_found joined.file.now joined.meta joined.found.now)
 
 -- how much it has to do at most, until it has returned everything
 unfoldable pub joined_work : Joined → ℕ

@@ -4,7 +4,7 @@ ghost use Rattle.std.specs.Option.{option_map};
 ghost use Rattle.bolt_format.specs.{Elements.IsBucketValue, ElementPlaces.leaf_view};
 ghost use Rattle.bolt_check.specs.{Claims.claims_file, Claims.claims_meta, Claims.claims_visited, Claims.is_claimed, Counts.counted};
 ghost use Rattle.bolt_check.specs.{Findings.Passes, Findings.Tests, ShownSpots.spot_at};
-ghost use Rattle.bolt_recover.specs.Private.Frames.{IsContent, IsShallow, IsValueAt, ElementLeads, claims_nodes, claims_with, content_elements, content_size};
+ghost use Rattle.bolt_recover.specs.Private.Frames.{IsContent, IsShallow, IsValueElement, ElementLeads, claims_nodes, claims_with, content_elements, content_size};
 ghost use Rattle.bolt_recover.specs.Private.Courses.{page_visit};
 
 use bolt_check::{Claims, Finding, Spot};
@@ -88,9 +88,9 @@ impl<'a> KeptPage<'a> {
         requires { i ≤ content_size self.now }
         ensures from { i ≤ result }
         ensures within { result ≤ content_size self.now }
-        ensures values { (n : ℕ) → i ≤ n → n < result → IsValueAt (content_elements self.now) n }
+        ensures values { (n : ℕ) → i ≤ n → n < result → IsValueElement (content_elements self.now) n }
         ensures stops { result < content_size self.now
-            → IsValueAt (content_elements self.now) result → ⊥ }
+            → IsValueElement (content_elements self.now) result → ⊥ }
     {
         let TreePage::Leaf(page) = &self.page else {
             return i;

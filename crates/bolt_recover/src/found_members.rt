@@ -3,7 +3,7 @@
 ghost use Rattle.std.specs.Prelude.{◌≡◌, ◌≤◌, [], IsTrue, List, false};
 ghost use Rattle.bolt_format.specs.{ElementPlaces.leaf_view, Elements.IsBucketValue, Elements.LeafElement, ElementsLeft.leaves_left};
 ghost use Rattle.bolt_tree.specs.{Listing.Member, ShownEntries.item_view, Tree.end};
-ghost use Rattle.bolt_recover.specs.Joined.{inside_of, tree_with};
+ghost use Rattle.bolt_recover.specs.Joined.{inside_of, tree_of_elements};
 
 use crate::bucket_key::lost_and_found;
 use crate::found::Found;
@@ -46,7 +46,7 @@ fn inner_of<'a>(leaf: &Leaf<'a>) -> Leaves<'a>
     requires { IsTrue leaf.now.is_bucket → IsBucketValue leaf.now.value.now }
     ensures value { leaf.now.is_bucket ≡ false → leaves_left result ≡ [] }
     ensures bucket { IsTrue leaf.now.is_bucket
-        → tree_with (λ (inner : LeafElement). end) (leaves_left result)
+        → tree_of_elements (λ (inner : LeafElement). end) (leaves_left result)
         ≡ inside_of (leaf_view leaf.now) }
 {
     if !leaf.is_bucket || !head(leaf.value).is_inline() {

@@ -2,7 +2,7 @@
 ghost use Rattle.std.specs.Prelude.{◌≡◌, ◌≢◌, ◌<◌, ◌*◌, ◌^◌, [], IfErr, IfOk, List, OnOk, length};
 ghost use Rattle.bolt_check.specs.declared.finding.Finding.{Finding};
 ghost use Rattle.bolt_format.specs.Bytes.{IsBytes};
-ghost use Rattle.bolt_recover.specs.{Found.numbers_of, Joined.IsJoined, Joined.LacksBucketKey, JoinRefusals.IsJoinRefusal};
+ghost use Rattle.bolt_recover.specs.{Found.found_numbers, Joined.IsJoined, Joined.LacksBucketKey, JoinRefusals.IsJoinRefusal};
 ghost use Rattle.bolt_recover.specs.{Losses.everything, LostAndFound.all_lost, Private.Joining.AreJoinable, Private.Merging.ReadsJoined};
 ghost use Rattle.bolt_recover.specs.Recovered.{ForRecovered};
 ghost use Rattle.bolt_recover.specs.declared.joined.JoinFault.TheVariants as faults;
@@ -64,7 +64,7 @@ fn test_join(both: &LostAndFound<'_>) -> Result<(), JoinFault>
         → both.now.found.items ≢ []) }
     ensures few { OnOk result (length both.now.file.now < 10 ^ 16 * both.now.meta.page_size) }
     ensures refused { IfErr result
-        (IsJoinRefusal both.now.file.now both.now.meta (numbers_of both.now.found.items)) }
+        (IsJoinRefusal both.now.file.now both.now.meta (found_numbers both.now.found.items)) }
 {
     if both.file.len() as u64 / u64::from(both.meta.page_size) >= NAMES {
         return Err(JoinFault::TooLarge);
@@ -113,7 +113,7 @@ impl<'a> Joined<'a> {
             → both.now.found.items ≢ []) }
         ensures few { OnOk result (length both.now.file.now < 10 ^ 16 * both.now.meta.page_size) }
         ensures refused { IfErr result
-            (IsJoinRefusal both.now.file.now both.now.meta (numbers_of both.now.found.items)) }
+            (IsJoinRefusal both.now.file.now both.now.meta (found_numbers both.now.found.items)) }
     {
         test_join(both)?;
         let kept = Kept::of(alloc, both)?;

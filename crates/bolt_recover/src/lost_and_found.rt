@@ -3,7 +3,7 @@ ghost use Rattle.std.specs.List.{All};
 ghost use Rattle.std.specs.Prelude.{◌≡◌, ◌<◌, IfOk};
 ghost use Rattle.bolt_check.specs.{Sound.HasSoundTrees, declared.finding.Finding.Finding};
 ghost use Rattle.bolt_format.specs.Bytes.{IsBytes};
-ghost use Rattle.bolt_recover.specs.{Found.AreFound, Found.numbers_of, Lost.IsAllLost, Private.TreesLeft.IsSearched, ShownFound.IsFoundView};
+ghost use Rattle.bolt_recover.specs.{Found.AreFound, Found.found_numbers, Lost.IsAllLost, Private.TreesLeft.IsSearched, ShownFound.IsFoundView};
 ghost use Rattle.bolt_recover.specs.{Refusals.LosesRoot, ShownLosses.lost_view};
 
 use crate::found::Found;
@@ -57,7 +57,7 @@ impl<'a> LostAndFound<'a> {
         ensures file { IfOk result (λ both. both.file.now ≡ file.now) }
         ensures meta { IfOk result (λ both. both.meta ≡ meta) }
         ensures lost { IfOk result (λ both. IsAllLost file.now meta (all_lost both)) }
-        ensures found { IfOk result (λ both. AreFound file.now meta (numbers_of both.found.items)) }
+        ensures found { IfOk result (λ both. AreFound file.now meta (found_numbers both.found.items)) }
         ensures views { IfOk result (λ both. All (IsFoundView file.now meta) both.found.items) }
     {
         match check_under(alloc, file, meta) {
@@ -128,7 +128,7 @@ fn found_without_root<'a>(
 ) -> Result<Vec<Found<'a>>, NoMemory>
     requires size { 0 < meta.page_size }
     requires lost { (x : Finding) × LosesRoot file.now meta x }
-    ensures found { IfOk result (λ found. AreFound file.now meta (numbers_of found.items)) }
+    ensures found { IfOk result (λ found. AreFound file.now meta (found_numbers found.items)) }
     ensures views { IfOk result (λ found. All (IsFoundView file.now meta) found.items) }
 {
     let claims = Claims::new(alloc, file, meta)?;

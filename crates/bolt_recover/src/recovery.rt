@@ -4,7 +4,7 @@ ghost use Rattle.std.specs.Prelude.{◌≡◌, ◌<◌, ◌≤◌, ◌^◌, [], 
 ghost use Rattle.bolt_check.specs.{Claims.claims_file, Claims.claims_meta, Counts.counted};
 ghost use Rattle.bolt_check.specs.Sound.{HasSoundTrees};
 ghost use Rattle.bolt_tree.specs.{Listing.Member, Paths.path_of};
-ghost use Rattle.bolt_recover.specs.{KeptPages.AreKeptPages, Private.Frames.IsOn, Private.Frames.IsPlaced, Recovered.ForRecovered, Recovered.IsRecovered};
+ghost use Rattle.bolt_recover.specs.{KeptPages.AreKeptPages, Private.Frames.StepsAreOn, Private.Frames.AreStepsPlaced, Recovered.ForRecovered, Recovered.IsRecovered};
 ghost use Rattle.bolt_recover.specs.Refusals.{IsRefusedRoot, KeepsRoot};
 ghost use Rattle.bolt_recover.specs.ShownLosses.{loss_view};
 
@@ -29,8 +29,8 @@ pub struct Recovery<'a> {
     /// The visits that were made before it began.
     begun: u64,
     ghost sized: { 0 < meta.page_size },
-    ghost placed: { ∥ IsPlaced steps ∥₁ },
-    ghost on: { IsOn steps meta begun },
+    ghost placed: { ∥ AreStepsPlaced steps ∥₁ },
+    ghost on: { StepsAreOn steps meta begun },
     ghost root: { ∥ KeepsRoot (claims_file steps.claims) meta ∥₁ },
 }
 

@@ -4,7 +4,7 @@ ghost use Rattle.std.specs.Option.{option_map};
 ghost use Rattle.bolt_check.specs.{Claims.claims_file, Claims.claims_meta, Claims.claims_visited, Claims.is_claimed, Counts.counted, Findings.IsMetaPage};
 ghost use Rattle.bolt_check.specs.declared.spot.Spot.TheVariants as spots;
 ghost use Rattle.bolt_format.specs.Elements.{IsBucketValue};
-ghost use Rattle.bolt_recover.specs.Private.Frames.{Advances, GoesOn, IsAllLeft, IsPlaced, Skips, Takes, TakesBucket, loss_ahead, steps_path};
+ghost use Rattle.bolt_recover.specs.Private.Frames.{Advances, StepsOn, IsAllLeft, AreStepsPlaced, Skips, TakesStep, TakesBucket, loss_ahead, steps_path};
 ghost use Rattle.bolt_recover.specs.{Refusals.IsRefusedRoot, Refusals.KeepsRoot, ShownLosses.loss_view};
 
 use crate::content::{KeptPage, OpenPage};
@@ -87,7 +87,7 @@ impl<'a> Steps<'a> {
         ensures visited { IfOk result (λ steps.
             claims_visited steps.claims ≡ counted (claims_visited claims.entry) 1) }
         ensures path { IfOk result (λ steps. steps_path steps ≡ []) }
-        ensures placed { IfOk result IsPlaced }
+        ensures placed { IfOk result AreStepsPlaced }
         ensures losses { IfOk result (λ steps. steps.losses.items ≡ []) }
         ensures root { OnOk result
             (KeepsRoot (claims_file claims.entry) (claims_meta claims.entry)) }
@@ -130,7 +130,7 @@ impl<'a> Steps<'a> {
         ensures visited { OnOk result
             (claims_visited self.new.claims ≡ counted (claims_visited self.old.claims) 1) }
         ensures path { OnOk result (steps_path self.new ≡ []) }
-        ensures placed { OnOk result (IsPlaced self.new) }
+        ensures placed { OnOk result (AreStepsPlaced self.new) }
         ensures losses { OnOk result (self.new.losses.items ≡ []) }
         ensures all { OnOk result
             (IsAllLeft (claims_file self.old.claims) (claims_meta self.old.claims)
@@ -181,8 +181,8 @@ impl<'a> Steps<'a> {
     /// Visits what is ahead, if anything. Then a kept page is open, and a lost one is recorded. All
     /// memory is asked for before the visit, so no page is visited twice.
     fn enter(&mut self) -> Result<(), NoMemory>
-        requires { IsPlaced self.old }
-        ensures on { GoesOn self.old self.new }
+        requires { AreStepsPlaced self.old }
+        ensures on { StepsOn self.old self.new }
         ensures entered { OnOk result (self.new.ahead ≡ None) }
     {
         let Some(ahead) = self.ahead else {
@@ -211,11 +211,11 @@ impl<'a> Steps<'a> {
 
     /// Goes to the next element of the innermost open page, or closes the page if it has no more.
     fn step(&mut self) -> Result<Taken<'a>, NoMemory>
-        requires placed { IsPlaced self.old }
+        requires placed { AreStepsPlaced self.old }
         requires ahead { self.old.ahead ≡ None }
-        ensures taken { IfOk result (Takes self.old self.new) }
+        ensures taken { IfOk result (TakesStep self.old self.new) }
         ensures bucket { IfOk result TakesBucket }
-        ensures same { OnErr result (GoesOn self.old self.new) }
+        ensures same { OnErr result (StepsOn self.old self.new) }
     {
         self.path.reserve(1)?;
         let Some(top) = self.open.pop() else {
@@ -243,7 +243,7 @@ impl<'a> Steps<'a> {
     /// Skips the values that come next in the innermost open page, if nothing is ahead of them. They
     /// lead nowhere.
     pub fn skip_values(&mut self)
-        requires { IsPlaced self.old }
+        requires { AreStepsPlaced self.old }
         ensures { Skips self.old self.new }
     {
         if self.ahead.is_some() {
@@ -258,11 +258,11 @@ impl<'a> Steps<'a> {
 
     /// Goes to the next element that is to be returned.
     pub fn advance(&mut self) -> Result<Option<Leaf<'a>>, NoMemory>
-        requires { IsPlaced self.old }
+        requires { AreStepsPlaced self.old }
         ensures given { IfOk result (Advances self.old self.new) }
         ensures bucket { IfOk result (λ given.
             IfSome given (λ leaf. IsTrue leaf.is_bucket → IsBucketValue leaf.value.now)) }
-        ensures same { OnErr result (GoesOn self.old self.new) }
+        ensures same { OnErr result (StepsOn self.old self.new) }
     {
         loop {
             self.enter()?;

@@ -6,7 +6,7 @@ use Rattle.std.specs.Prelude.{if◌then◌else◌}
 use Rattle.bolt_report.proofs.Words.{begins_with, bytes_eq, Form, is_bucket_at, Key, list_any, Member, member_cmp, Path, path_of, pointwise, Rises}
 use Rattle.bolt_report.proofs.ListPartTexts.{apart_before, has_next}
 use Rattle.bolt_text.proofs.PartTests.{same_path}
-use Rattle.bolt_report.specs.MemberNames.{Wanted, entry_name, key_in, member_name}
+use Rattle.bolt_report.specs.MemberNames.{WantedNames, entry_name, key_in, member_name}
 
 no_items : (path : List (Bor (List ℕ))) → length path ≡ 0 → path_of path ≡ []
 no_items [] none = refl
@@ -64,7 +64,7 @@ module _ (bucket path : List (Bor (List ℕ))) where
 
 -- ---- the text of what is left
 
-module _ (form : Form) (wanted : Wanted) (bucket : Path) where
+module _ (form : Form) (wanted : WantedNames) (bucket : Path) where
   -- the names of what is left, if the bucket was found or is among it
   abbrev pub left_names : Bool → List Member → List ℕ
   left_names found members = if found || list_any (is_bucket_at bucket) members then flat_map (member_name form wanted bucket) members else []

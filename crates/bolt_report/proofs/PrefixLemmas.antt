@@ -1,7 +1,7 @@
 -- The entries that begin with given bytes: none of them is below these bytes, and they lie side by side.
 use Rattle.std.proofs.Common.{◌≡◌, ◌==◌, ◌+◌, ℕ, suc, Bool, true, false, not, inl, inr, List, [], ◌∷◌, cond, drop, refl, ap, subst, arith}
 use Rattle.std.proofs.lemmas.Bool.Decides.{nat_tests}
-use Rattle.bolt_report.proofs.Words.{begins, Contains, entry_cmp, Key, key_lt, LeafElement, least_from, false_from_ne_true, Rises, starts_with, with_prefix}
+use Rattle.bolt_report.proofs.Words.{has_key_prefix, Contains, entry_cmp, Key, key_lt, LeafElement, least_from, false_from_ne_true, Rises, starts_with, with_prefix}
 use Rattle.bolt_check.specs.Keys.{key_cmp}
 use Rattle.bolt_check.proofs.KeyLaws.{lt_trans}
 use Rattle.bolt_tree.proofs.{Filters.filter_none, Filters.lt_of, Lists.contains_cases, Lists.contains_none}
@@ -19,7 +19,7 @@ next_between q x y p a b later after less starts = grind (arith, nat_tests)
 next_below : (q x : ℕ) (p a : Key) → (key_lt a p ≡ true → key_begins a p ≡ false) → key_lt (x ∷ a) (q ∷ p) ≡ true → key_begins (x ∷ a) (q ∷ p) ≡ false
 next_below q x p a later less = grind (arith, nat_tests)
 
--- what isn't below a prefix, and is below a key that begins with it, begins with it
+-- what isn't below a prefix, and is below a key that has_key_prefix with it, has_key_prefix with it
 pub between : (prefix a b : Key) → key_lt a prefix ≡ false → key_lt a b ≡ true → key_begins b prefix ≡ true → key_begins a prefix ≡ true
 between [] a b after less starts = refl
 between (q ∷ p) [] b after less starts = cc
@@ -37,12 +37,12 @@ below_prefix (q ∷ p) (x ∷ a) less = next_below q x p a (below_prefix p a) le
 
 module _ (prefix : Key) where
   -- the first that doesn't begin so, and isn't below the prefix, ends them
-  pub none_later : (e : LeafElement) (entries : List LeafElement) → Rises entry_cmp (e ∷ entries) → key_lt e.key prefix ≡ false → begins prefix e ≡ false
+  pub none_later : (e : LeafElement) (entries : List LeafElement) → Rises entry_cmp (e ∷ entries) → key_lt e.key prefix ≡ false → has_key_prefix prefix e ≡ false
       → with_prefix prefix (e ∷ entries) ≡ []
   none_later e entries rises after other =
-      filter_none (begins prefix) (e ∷ entries) (λ f h. elim (contains_cases e f entries h) [
-        | inl s ↦ subst (λ (x : LeafElement). begins prefix x ≡ false) s other
-        | inr later ↦ false_from_ne_true (begins prefix f) (λ t. let c = between prefix e.key f.key after (lt_of (key_cmp e.key f.key) (rises.0 f later)) t in cc)
+      filter_none (has_key_prefix prefix) (e ∷ entries) (λ f h. elim (contains_cases e f entries h) [
+        | inl s ↦ subst (λ (x : LeafElement). has_key_prefix prefix x ≡ false) s other
+        | inr later ↦ false_from_ne_true (has_key_prefix prefix f) (λ t. let c = between prefix e.key f.key after (lt_of (key_cmp e.key f.key) (rises.0 f later)) t in cc)
       ])
 
   -- they are among the entries from the least one on that isn't below the prefix,
@@ -76,7 +76,7 @@ module _ (prefix : Key) where
             | inr more ↦ not_below e f below (lt_of (key_cmp e.key f.key) (rises.0 f more))
           ]
 
--- every key begins with no bytes
+-- every key has_key_prefix with no bytes
 pub with_none : (entries : List LeafElement) → with_prefix [] entries ≡ entries
 with_none [] = refl
 with_none (e ∷ entries) = ap (λ (es : List LeafElement). e ∷ es) (with_none entries)

@@ -1,13 +1,13 @@
 -- A cursor goes along the entries that begin with given bytes: what it has gone over, and what is left.
 -- Rests on that a bucket's entries in order exist, and are one.
 use Rattle.std.proofs.Common.{◌≡◌, ◌∙◌, ◌<◌, ◌⊎◌, inl, inr, ◌+◌, ℕ, zero, suc, Bool, true, false, List, [], ◌∷◌, Option, Some, None, Result, Ok, Err, cond, drop, length, nat_lt, refl, slice_get, sym, ap, subst, arith, add-one}
-use Rattle.bolt_report.proofs.Words.{begins, bytes_of, cond-true, Contains, contains_head, contains_tail, cursor_checked, cursor_start, drop_all, drop_next, entries_left, entry_cmp, entry_view, EntryView, Form, Key, key_lt, LeafElement, least_from, meta_of, On, Past, Place, ReportFault, Rises, same_Some, shown_entry, with_prefix, ∥∥₁_elim}
+use Rattle.bolt_report.proofs.Words.{has_key_prefix, bytes_of, cond-true, Contains, contains_head, contains_tail, cursor_checked, cursor_start, drop_all, drop_next, entries_left, entry_cmp, entry_view, EntryView, Form, Key, key_lt, LeafElement, least_from, meta_of, On, Past, Place, ReportFault, Rises, same_Some, shown_entry, with_prefix, ∥∥₁_elim}
 use Rattle.bolt_report.proofs.PrefixLemmas.{after_least, from_least, key_begins, none_later}
 use Rattle.std.specs.Option.{option_map}
 use Rattle.std.specs.Prelude.{⊤, IfErr, IsErrAnd}
 use Rattle.bolt_tree.specs.{BucketViews.AreSorted, BucketViews.BucketView, CursorBounds.OpensByNext, CursorBounds.OpensSeek}
 use Rattle.bolt_tree.specs.Openings.{IsGap, IsSeekCount, sum_to}
-use Rattle.bolt_tree.specs.{Places.next_move, Places.nothing_at, Places.onto, Places.place_in, Places.seek_move, declared.cursor.Cursor.Cursor}
+use Rattle.bolt_tree.specs.{Places.next_move, Places.nothing_at, Places.move_onto, Places.place_in, Places.seek_move, declared.cursor.Cursor.Cursor}
 use Rattle.bolt_tree.specs.declared.entry.Entry.{Entry}
 use Rattle.bolt_check.specs.Counts.{counted}
 use Rattle.bolt_tree.proofs.{AllEntries.sorted_at, CursorMoves.none_past, CursorMoves.not_below, Leaving.TheEntries, Leaving.the_one, PagerLemmas.counted_more}
@@ -40,7 +40,7 @@ shows_by entries n place (Some v) (Some e) at on is =
     (e, same_Some v (entry_view e) is, on, drop_next entries n e at ∙ ap (λ (k : ℕ). e ∷ drop k entries) (add-one n))
 
 stands_by : (entries : List LeafElement) (n : ℕ) (place other : Place) (x : Option EntryView) (b : Bool) → nat_lt n (length entries) ≡ b
-    → place ≡ (cond b (onto entries n) (nothing_at other)).place → x ≡ option_map entry_view (cond b (onto entries n) (nothing_at other)).answer → StandsAt entries n place x
+    → place ≡ (cond b (move_onto entries n) (nothing_at other)).place → x ≡ option_map entry_view (cond b (move_onto entries n) (nothing_at other)).answer → StandsAt entries n place x
 stands_by entries n place other x true t p a = shows_by entries n place x (slice_get entries n) refl p a
 stands_by entries n place other None false t p a = drop_all n entries (not_below n (length entries) t)
 stands_by entries n place other (Some v) false t p a = cc
@@ -123,7 +123,7 @@ module _ (b : BucketView) (first : ℕ) (prefix : Key) (entries : List LeafEleme
       → with_prefix prefix (drop n entries) ≡ stage.stands.0 ∷ with_prefix prefix (drop (suc n) entries)
   next_first v stage starts =
       let (e, shown, on, rest) = stage.stands in
-      ap (with_prefix prefix) rest ∙ cond-true (begins prefix e) (e ∷ with_prefix prefix (drop (suc n) entries)) (with_prefix prefix (drop (suc n) entries)) (rw shown at starts)
+      ap (with_prefix prefix) rest ∙ cond-true (has_key_prefix prefix e) (e ∷ with_prefix prefix (drop (suc n) entries)) (with_prefix prefix (drop (suc n) entries)) (rw shown at starts)
 
   -- and is gone over
   pub stage_next : (v : EntryView) → Stage b first prefix entries opened place (Some v) n done → key_begins v.key prefix ≡ true
@@ -146,7 +146,7 @@ module _ (b : BucketView) (first : ℕ) (prefix : Key) (entries : List LeafEleme
             step ∙ ap (λ (k : ℕ). counted k (gap (suc n))) (stage.opens seek gap is gaps) ∙ counted_more first (seek + before) (gap (suc n)) ∙ ap (counted first) (omega (arith, sum));
       }
 
-  -- no other begins so, if none is left,
+  -- no other has_key_prefix so, if none is left,
   pub none_shown : Stage b first prefix entries opened place None n done → with_prefix prefix (drop n entries) ≡ []
   none_shown stage = ap (with_prefix prefix) stage.stands
 

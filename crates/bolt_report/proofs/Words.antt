@@ -19,7 +19,7 @@ pub use Rattle.bolt_report.specs.FaultWords.{finding_text}
 pub use Rattle.bolt_report.specs.FoundLines.{bucket_count, found_view}
 unfoldable pub use Rattle.bolt_report.specs.FoundLines.{found_line}
 pub use Rattle.bolt_report.specs.KeyLines.{bucket_name, keys_text}
-pub use Rattle.bolt_report.specs.KeyPrefixes.{begins, with_prefix}
+pub use Rattle.bolt_report.specs.KeyPrefixes.{has_key_prefix, with_prefix}
 unfoldable pub use Rattle.bolt_report.specs.LossLines.{loss_text}
 pub use Rattle.bolt_report.specs.PageLines.{branch_line, id_line, leaf_line}
 pub use Rattle.bolt_report.specs.PageMaps.{line_at, page_mark}

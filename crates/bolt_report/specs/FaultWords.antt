@@ -23,8 +23,8 @@ pub record FaultWords : Type 0 where
   pub code : ℕ
   pub words : List ℕ
 
-abbrev pub named : ℕ → List ℕ → FaultWords
-named code words = record { code = code; words = words }
+abbrev pub fault_named : ℕ → List ℕ → FaultWords
+fault_named code words = record { code = code; words = words }
 
 -- the words of a code in a table, and none where it isn't there
 abbrev pub words_in : List FaultWords → ℕ → List ℕ
@@ -34,18 +34,18 @@ words_in (entry ∷ table) code = if code == entry.code then entry.words else wo
 -- the faults of one page
 abbrev pub page_fault_table : List FaultWords
 page_fault_table =
-    named RANGE (codes "out of range")
-    ∷ named CUT (codes "cut off")
-    ∷ named ID (codes "wrong page number")
-    ∷ named PAGE_KIND (codes "invalid type")
-    ∷ named ELEMENT_CUT (codes "element past the page")
-    ∷ named DATA_ORDER (codes "element data out of order")
-    ∷ named KEY_LENGTH (codes "key length refused")
-    ∷ named VALUE_LENGTH (codes "value length refused")
-    ∷ named LEAF_FLAGS (codes "leaf flags refused")
-    ∷ named BUCKET_SHORT (codes "bucket value too short")
-    ∷ named INLINE_PAGE (codes "inline page refused")
-    ∷ named INLINE_NESTED (codes "bucket in an inline bucket")
+    fault_named RANGE (codes "out of range")
+    ∷ fault_named CUT (codes "cut off")
+    ∷ fault_named ID (codes "wrong page number")
+    ∷ fault_named PAGE_KIND (codes "invalid type")
+    ∷ fault_named ELEMENT_CUT (codes "element past the page")
+    ∷ fault_named DATA_ORDER (codes "element data out of order")
+    ∷ fault_named KEY_LENGTH (codes "key length refused")
+    ∷ fault_named VALUE_LENGTH (codes "value length refused")
+    ∷ fault_named LEAF_FLAGS (codes "leaf flags refused")
+    ∷ fault_named BUCKET_SHORT (codes "bucket value too short")
+    ∷ fault_named INLINE_PAGE (codes "inline page refused")
+    ∷ fault_named INLINE_NESTED (codes "bucket in an inline bucket")
     ∷ []
 
 unfoldable pub page_fault_words : ℕ → List ℕ
@@ -58,22 +58,22 @@ page_fault_text fault = line (codes "page " ++ decimal fault.page ++ codes ": " 
 -- the findings of the structure, of the accounts, and for bbolt
 abbrev pub finding_table : List FaultWords
 finding_table =
-    named TWICE (codes "referenced twice")
-    ∷ named ORDER (codes "keys not rising")
-    ∷ named BELOW_PARENT (codes "key below its branch key")
-    ∷ named ABOVE_NEXT (codes "key not below the next branch key")
-    ∷ named EMPTY_BRANCH (codes "empty branch")
-    ∷ named TOO_DEEP (codes "tree too deep")
-    ∷ named FREED_TWICE (codes "freed twice")
-    ∷ named REACHED_FREED (codes "reachable freed")
-    ∷ named UNREACHABLE (codes "unreachable unfreed")
-    ∷ named FREE_RANGE (codes "free page out of range")
-    ∷ named ONE_CHILD (codes "branch of one child")
-    ∷ named ROOT_VALUE (codes "value in the root bucket")
-    ∷ named LARGE_KEY (codes "key too large for bbolt")
-    ∷ named FIRST_KEY (codes "first key isn't its branch key")
-    ∷ named LEAF_DEPTH (codes "leaf at another depth")
-    ∷ named INLINE_NUMBER (codes "inline page with a number")
+    fault_named TWICE (codes "referenced twice")
+    ∷ fault_named ORDER (codes "keys not rising")
+    ∷ fault_named BELOW_PARENT (codes "key below its branch key")
+    ∷ fault_named ABOVE_NEXT (codes "key not below the next branch key")
+    ∷ fault_named EMPTY_BRANCH (codes "empty branch")
+    ∷ fault_named TOO_DEEP (codes "tree too deep")
+    ∷ fault_named FREED_TWICE (codes "freed twice")
+    ∷ fault_named REACHED_FREED (codes "reachable freed")
+    ∷ fault_named UNREACHABLE (codes "unreachable unfreed")
+    ∷ fault_named FREE_RANGE (codes "free page out of range")
+    ∷ fault_named ONE_CHILD (codes "branch of one child")
+    ∷ fault_named ROOT_VALUE (codes "value in the root bucket")
+    ∷ fault_named LARGE_KEY (codes "key too large for bbolt")
+    ∷ fault_named FIRST_KEY (codes "first key isn't its branch key")
+    ∷ fault_named LEAF_DEPTH (codes "leaf at another depth")
+    ∷ fault_named INLINE_NUMBER (codes "inline page with a number")
     ∷ page_fault_table
 
 unfoldable pub finding_words : ℕ → List ℕ

@@ -3,7 +3,7 @@ use Rattle.std.specs.Prelude.{◌≡◌, ℕ, ◌<◌, ◌^◌, List, [], ◌∷
 use Rattle.std.specs.Str.Parse.{digits_value}
 use Rattle.hex.specs.Hex.{IsBytes}
 use Rattle.json.specs.Json.{Json, Members, document, member, no_members, null, number}
-use Rattle.bolt_text.specs.{Forms.json_text, JsonReadings.members_of, JsonReadings.named, JsonReadings.number_under}
+use Rattle.bolt_text.specs.{Forms.json_text, JsonReadings.object_members, JsonReadings.named, JsonReadings.number_under}
 use Rattle.bolt_stats.specs.declared.figures.Stats.{Stats}
 use Rattle.bolt_report.specs.{FigureForms.Named, SizeLines.bytes_allocated, SizeLines.bytes_used, SizeLines.size_json}
 
@@ -16,7 +16,7 @@ module _ (read : Json → Option (List ℕ)) where
       (option_and_then read (named (codes "name") ms))) (number_under (codes "allocated") ms)) (number_under (codes "used") ms)) (number_under (codes "keys") ms)
 
   abbrev pub size_of : Json → Option (ℕ × ℕ × ℕ × List ℕ)
-  size_of json = option_and_then size_of_members (members_of json)
+  size_of json = option_and_then size_of_members (object_members json)
 
 -- figures by their names, in their order; `null` is no number
 abbrev pub count_of : Json → Option (Option ℕ)
@@ -29,7 +29,7 @@ figures_in no_members = Some []
 figures_in (member name j ms) = option_and_then (λ n. option_map (λ figures. (name, n) ∷ figures) (figures_in ms)) (count_of j)
 
 abbrev pub figures_of : Json → Option (List Named)
-figures_of json = option_and_then figures_in (members_of json)
+figures_of json = option_and_then figures_in (object_members json)
 
 -- each figure that has a number has one of 64 bits
 abbrev pub HaveWords : List Named → Type 0

@@ -5,12 +5,12 @@ use Rattle.bolt_format.specs.Elements.{LeafElement}
 use Rattle.bolt_check.specs.{Keys.Key, Counts.counted}
 use Rattle.bolt_tree.specs.{BucketViews.AreSorted, BucketViews.BucketView, Openings.IsGap, Openings.IsSeekCount, Openings.sum_to, Places.least_from}
 
-abbrev pub begins : Key → LeafElement → Bool
-begins prefix e = starts_with (λ a b. a == b) e.key prefix
+abbrev pub has_key_prefix : Key → LeafElement → Bool
+has_key_prefix prefix e = starts_with (λ a b. a == b) e.key prefix
 
 -- the entries whose keys begin with these bytes
 abbrev pub with_prefix : Key → List LeafElement → List LeafElement
-with_prefix prefix entries = filter (begins prefix) entries
+with_prefix prefix entries = filter (has_key_prefix prefix) entries
 
 -- What is opened for them: what a seek of these bytes opens, and then the pages between each of them and the entry after it, or the
 -- bucket's end.

@@ -15,29 +15,29 @@ key_in (part ∷ bucket) (first ∷ path) = if bytes_eq part first then key_in b
 key_in _ _ = None
 
 -- which entries of a bucket are named: those whose keys begin with these bytes, or the buckets
-abbrev pub Wanted : Type 0
-Wanted = Key → Item → Bool
+abbrev pub WantedNames : Type 0
+WantedNames = Key → Item → Bool
 
-abbrev pub begins_so : (prefix : Key) → Wanted
+abbrev pub begins_so : (prefix : Key) → WantedNames
 begins_so prefix key item = starts_with (λ a b. a == b) key prefix
 
-abbrev pub names_bucket : Wanted
+abbrev pub names_bucket : WantedNames
 names_bucket key item = is_bucket item
 
-abbrev pub is_wanted : Names → Wanted
+abbrev pub is_wanted : Names → WantedNames
 is_wanted (BeginningWith prefix) = begins_so prefix.now
 is_wanted Buckets = names_bucket
 
 -- the line of an entry, if it is wanted, and of a member of a listing, if it is an entry of the bucket
-abbrev pub entry_name : Form → Wanted → Item → Option Key → List ℕ
+abbrev pub entry_name : Form → WantedNames → Item → Option Key → List ℕ
 entry_name form wanted item None = []
 entry_name form wanted item (Some key) = if wanted key item then value_text form key else []
 
-abbrev pub member_name : Form → Wanted → (bucket : Path) → Member → List ℕ
+abbrev pub member_name : Form → WantedNames → (bucket : Path) → Member → List ℕ
 member_name form wanted bucket m = entry_name form wanted m.1 (key_in bucket m.0)
 
 -- the lines of those in a bucket of a listing, and nothing if the listing doesn't have it
-abbrev pub names_text : Form → Wanted → (bucket : Path) → List Member → List ℕ
+abbrev pub names_text : Form → WantedNames → (bucket : Path) → List Member → List ℕ
 names_text form wanted bucket listing = if has_bucket bucket listing then flat_map (member_name form wanted bucket) listing else []
 
 -- the same of the entries that are asked for

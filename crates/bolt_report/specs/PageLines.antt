@@ -58,9 +58,9 @@ item_lines kind.Leaf view ids = flat_map leaf_line view.leaves
 item_lines kind.Meta view ids = []
 item_lines kind.Freelist view ids = flat_map id_line ids
 
-abbrev pub head_of : ℕ → PageView → List ℕ → List ℕ
-head_of id view ids = head_lines id view.kind (items_on view.kind view.count ids) view.overflow
+abbrev pub page_head : ℕ → PageView → List ℕ → List ℕ
+page_head id view ids = head_lines id view.kind (items_on view.kind view.count ids) view.overflow
 
 -- what page `id` shows, with its ids if it is a freelist
 abbrev pub page_lines : ℕ → PageView → List ℕ → List ℕ
-page_lines id view ids = head_of id view ids ++ item_lines view.kind view ids
+page_lines id view ids = page_head id view ids ++ item_lines view.kind view ids

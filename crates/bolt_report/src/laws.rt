@@ -5,7 +5,7 @@ ghost use Rattle.bolt_format.specs.{Elements.LeafElement, declared.meta.Meta.Met
 ghost use Rattle.bolt_report.specs.FigureForms.{Named, figures_json, json_name};
 ghost use Rattle.bolt_text.specs.Forms.{digits_json, item_json, json_text};
 ghost use Rattle.bolt_report.specs.FigureReadings.{HaveWords, figures_of, ReadsSizesBack};
-ghost use Rattle.bolt_text.specs.JsonReadings.{digits_of, item_of};
+ghost use Rattle.bolt_text.specs.JsonReadings.{digits_of, item_in_json};
 ghost use Rattle.bolt_report.specs.SizeLines.{AreSized, Sized};
 ghost use Rattle.bolt_check.specs.Ones.{AtMostOne};
 ghost use Rattle.bolt_tree.specs.Laws.{ForSorted};
@@ -37,6 +37,6 @@ pub fn json_figures_read_back()
 /// looks up its members by their names finds the number of keys, the bytes used, the bytes allocated,
 /// and the name.
 pub fn json_sizes_read_back()
-    ensures item { ReadsSizesBack item_of item_json }
+    ensures item { ReadsSizesBack item_in_json item_json }
     ensures hex_item { ReadsSizesBack digits_of digits_json }
 {}

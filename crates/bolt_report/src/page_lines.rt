@@ -4,7 +4,7 @@ ghost use Rattle.std.specs.Result.{result_err};
 ghost use Rattle.bolt_format.specs.{Endings.ending, Freelists.free_ids_at, Pages.page_at, Shown.shown, ShownIds.shown_ids, Wrote.Wrote};
 ghost use Rattle.bolt_format.specs.TreePages.{branches_on, leaves_on};
 ghost use Rattle.bolt_format.specs.{ElementPlaces.branch_view, ElementPlaces.leaf_view, Elements.IsBucketValue};
-ghost use Rattle.bolt_report.specs.PageLines.{head_lines, head_of, item_lines, items_on, kind_text, page_lines, branch_line, bucket_end, id_line, leaf_line, read_ids};
+ghost use Rattle.bolt_report.specs.PageLines.{head_lines, page_head, item_lines, items_on, kind_text, page_lines, branch_line, bucket_end, id_line, leaf_line, read_ids};
 ghost use Rattle.bolt_text.specs.ListLines.{value_end};
 ghost use Rattle.bolt_report.specs.PageTexts.{page_text, page_text_fault};
 ghost use Rattle.bolt_text.specs.ReportEndings.{report_ending};
@@ -96,7 +96,7 @@ fn put_head<S: Sink>(
     sink: &mut S,
 ) -> Result<(), SinkFault>
     requires { (shown page.now).kind ≡ Kind.Meta → ids.now ≡ None }
-    ensures { Wrote S.Sink sink.old sink.new (head_of id (shown page.now) (read_ids ids.now))
+    ensures { Wrote S.Sink sink.old sink.new (page_head id (shown page.now) (read_ids ids.now))
         (ending result) }
 {
     put_pieces(

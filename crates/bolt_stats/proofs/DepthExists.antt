@@ -3,7 +3,7 @@ use Rattle.std.proofs.Common.{◌≡◌, ◌≢◌, ◌∙◌, ◌==◌, ℕ, ze
 use Rattle.std.proofs.Math.Dec.{eqb-suc-zero}
 use Rattle.std.proofs.lemmas.Bool.{cases_lt}
 use Rattle.std.proofs.lemmas.Option.{none-some}
-use Rattle.bolt_stats.proofs.Words.{At_page, cases_Bool, deepest_from, Enough, enough_kids, enough_node, follow, follow_append, greatest, Has, has_right, height_from, inline, inline_depth, inner_pages, IsBucketIn, IsDeepest, IsDepth, IsHeight, kid_pages, leaf_depth, Node, Nodes, paged, pages_in_bucket, PageSpot, root_spot, roots_in_bucket, same_Some, Spot, step}
+use Rattle.bolt_stats.proofs.Words.{At_page, cases_Bool, deepest_from, Enough, enough_kids, enough_node, follow, follow_append, greatest, Has, has_right, height_from, inline, inline_depth, inner_pages, IsBucketIn, IsDeepest, IsDepth, IsHeight, kid_pages, counted_depth, Node, Nodes, paged, pages_in_bucket, PageSpot, root_spot, roots_in_bucket, same_Some, Spot, step}
 use Rattle.bolt_stats.proofs.DepthSums.{deepest_kids, depth_from, greatest_append, greatest_has, height_kids, page_has}
 use Rattle.bolt_check.specs.{Nodes.Entry, Shape.child_at, Shape.child_in, Shape.child_of, Shape.leads, Subtrees.root_page, Ways.child_spot, Ways.upper_from}
 use Rattle.bolt_check.proofs.WayFacts.{leads_follow, leads_none, step_child}
@@ -69,7 +69,7 @@ module _ (nodes : Nodes) where
     height_above [] depth n h is =
         let page : nodes n ≡ Ok is.node = ap nodes (same_Some n is.number is.leads) ∙ is.page in
         let whole = height_kids nodes depth steps n is.node page h in
-        let own = ap (λ (b : Bool). leaf_depth b depth) is.leaf in
+        let own = ap (λ (b : Bool). counted_depth b depth) is.leaf in
         omega (arith, whole, own)
     height_above (i ∷ address) depth n h is =
         let (node, page) = enough_node nodes steps n h in

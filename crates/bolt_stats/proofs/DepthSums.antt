@@ -1,6 +1,6 @@
 -- The depths of a bucket, page by page: a page's own, and those of the pages that it leads to.
 use Rattle.std.proofs.Common.{◌≡◌, ◌∙◌, ℕ, zero, suc, ◌+◌, ◌≤◌, max, inl, inr, Bool, true, false, List, [], ◌∷◌, ◌++◌, Result, Ok, map, refl, sym, ap, subst, arith}
-use Rattle.bolt_stats.proofs.Words.{deepest_from, Enough, greatest, Has, height_from, inner_inline, inner_pages, inner_roots, kid_pages, leaf_at, leaf_depth, Node, Nodes, pages_at, pages_in_bucket, roots_in_bucket}
+use Rattle.bolt_stats.proofs.Words.{deepest_from, Enough, greatest, Has, height_from, inner_inline, inner_pages, inner_roots, kid_pages, leaf_at, counted_depth, Node, Nodes, child_pages, pages_in_bucket, roots_in_bucket}
 use Rattle.bolt_check.specs.Nodes.{Entry}
 use Rattle.bolt_stats.specs.Deepest.{inline_at, roots_at}
 
@@ -33,8 +33,8 @@ module _ (nodes : Nodes) where
   abbrev pub depth_from : ℕ → ℕ → ℕ
   depth_from k root = height_from nodes 1 k root + deepest_from nodes k root
 
-  low_page : (k n m : ℕ) → Enough nodes (suc k) n → Has (pages_at (nodes n)) m → Enough nodes k m
-  low_page k n m (node, page, kids) i = kids m (page_has m node.is_leaf node.entries (subst (λ (r : Result Node ℕ). Has (pages_at r) m) page i))
+  low_page : (k n m : ℕ) → Enough nodes (suc k) n → Has (child_pages (nodes n)) m → Enough nodes k m
+  low_page k n m (node, page, kids) i = kids m (page_has m node.is_leaf node.entries (subst (λ (r : Result Node ℕ). Has (child_pages r) m) page i))
 
   low_root : (k n m : ℕ) → Enough nodes (suc k) n → Has (roots_at (nodes n)) m → Enough nodes k m
   low_root k n m (node, page, kids) i = kids m (root_has m node.is_leaf node.entries (subst (λ (r : Result Node ℕ). Has (roots_at r) m) page i))
@@ -43,23 +43,23 @@ module _ (nodes : Nodes) where
   height_more : (depth k n : ℕ) → Enough nodes k n → height_from nodes depth (suc k) n ≡ height_from nodes depth k n
   height_more depth zero n h = absurd h
   height_more depth (suc k) n h =
-      ap (max (leaf_at (nodes n) depth)) (greatest_same (height_from nodes (suc depth) (suc k)) (height_from nodes (suc depth) k) (pages_at (nodes n)) (λ m i. height_more (suc depth) k m (low_page k n m h i)))
+      ap (max (leaf_at (nodes n) depth)) (greatest_same (height_from nodes (suc depth) (suc k)) (height_from nodes (suc depth) k) (child_pages (nodes n)) (λ m i. height_more (suc depth) k m (low_page k n m h i)))
 
   deepest_more : (k n : ℕ) → Enough nodes k n → deepest_from nodes (suc k) n ≡ deepest_from nodes k n
   deepest_more zero n h = absurd h
   deepest_more (suc k) n h =
-      let pages = greatest_same (deepest_from nodes (suc k)) (deepest_from nodes k) (pages_at (nodes n)) (λ m i. deepest_more k m (low_page k n m h i)) in
+      let pages = greatest_same (deepest_from nodes (suc k)) (deepest_from nodes k) (child_pages (nodes n)) (λ m i. deepest_more k m (low_page k n m h i)) in
       let roots = greatest_same (depth_from (suc k)) (depth_from k) (roots_at (nodes n)) (λ m i.
       let low = low_root k n m h i in let a = height_more 1 k m low in let b = deepest_more k m low in omega (arith, a, b)) in
       omega (arith, pages, roots)
 
   -- a page's own, and those below it
   pub height_kids : (depth k n : ℕ) (node : Node) → nodes n ≡ Ok node → Enough nodes k n
-      → height_from nodes depth k n ≡ max (leaf_depth node.is_leaf depth) (greatest (height_from nodes (suc depth) k) (inner_pages node))
+      → height_from nodes depth k n ≡ max (counted_depth node.is_leaf depth) (greatest (height_from nodes (suc depth) k) (inner_pages node))
   height_kids depth k n node page h =
-      sym (height_more depth k n h) ∙ ap (λ (r : Result Node ℕ). max (leaf_at r depth) (greatest (height_from nodes (suc depth) k) (pages_at r))) page
+      sym (height_more depth k n h) ∙ ap (λ (r : Result Node ℕ). max (leaf_at r depth) (greatest (height_from nodes (suc depth) k) (child_pages r))) page
 
   pub deepest_kids : (k n : ℕ) (node : Node) → nodes n ≡ Ok node → Enough nodes k n
       → deepest_from nodes k n ≡ max (inner_inline node) (max (greatest (deepest_from nodes k) (inner_pages node)) (greatest (depth_from k) (inner_roots node)))
   deepest_kids k n node page h =
-      sym (deepest_more k n h) ∙ ap (λ (r : Result Node ℕ). max (inline_at r) (max (greatest (deepest_from nodes k) (pages_at r)) (greatest (depth_from k) (roots_at r)))) page
+      sym (deepest_more k n h) ∙ ap (λ (r : Result Node ℕ). max (inline_at r) (max (greatest (deepest_from nodes k) (child_pages r)) (greatest (depth_from k) (roots_at r)))) page

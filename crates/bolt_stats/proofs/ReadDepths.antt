@@ -1,6 +1,6 @@
 -- Depths of what is still to be read, through the reading of a page and of a bucket.
 use Rattle.std.proofs.Common.{◌≡◌, ◌∙◌, ℕ, zero, suc, ◌+◌, max, Bool, true, false, List, [], ◌∷◌, ◌++◌, Result, Ok, Err, map, refl, ap, arith}
-use Rattle.bolt_stats.proofs.Words.{saturated, deepest_of, depth_of, Enough, greatest, height_from, height_of, inner_inline, inner_pages, inner_roots, leaf_at, leaf_depth, map-append, Meta, Node, node_at, Nodes, numbers_of, pages_at, unread_bucket, unread_page, UnreadBucket, UnreadPage}
+use Rattle.bolt_stats.proofs.Words.{saturated, deepest_of, depth_of, Enough, greatest, height_from, height_of, inner_inline, inner_pages, inner_roots, leaf_at, counted_depth, map-append, Meta, Node, node_at, Nodes, unread_numbers, child_pages, unread_bucket, unread_page, UnreadBucket, UnreadPage}
 use Rattle.bolt_stats.proofs.DepthSums.{deepest_kids, greatest_append, greatest_map, height_kids}
 
 -- a depth that is saturated counts the same
@@ -12,7 +12,7 @@ leaf_capped : (r : Result Node ℕ) (a b : ℕ) → saturated a ≡ saturated b 
 leaf_capped (Err fault) a b same = refl
 leaf_capped (Ok node) a b same = by_kind node.is_leaf
   where
-    by_kind : (is_leaf : Bool) → saturated (leaf_depth is_leaf a) ≡ saturated (leaf_depth is_leaf b)
+    by_kind : (is_leaf : Bool) → saturated (counted_depth is_leaf a) ≡ saturated (counted_depth is_leaf b)
     by_kind true = same
     by_kind false = refl
 
@@ -21,17 +21,17 @@ height_capped nodes a b zero n same = refl
 height_capped nodes a b (suc k) n same =
     let own = leaf_capped (nodes n) a b same in
     let next : saturated (suc a) ≡ saturated (suc b) = omega (arith, same) in
-    let below = greatest_capped (height_from nodes (suc a) k) (height_from nodes (suc b) k) (pages_at (nodes n)) (λ m. height_capped nodes (suc a) (suc b) k m next) in
+    let below = greatest_capped (height_from nodes (suc a) k) (height_from nodes (suc b) k) (child_pages (nodes n)) (λ m. height_capped nodes (suc a) (suc b) k m next) in
     omega (arith, own, below)
 
 -- the numbers of pages that were opened
-opened_numbers : (depth : ℕ) (ns : List ℕ) → numbers_of (map (unread_page depth) ns) ≡ ns
+opened_numbers : (depth : ℕ) (ns : List ℕ) → unread_numbers (map (unread_page depth) ns) ≡ ns
 opened_numbers depth [] = refl
 opened_numbers depth (n ∷ ns) = ap (λ (l : List ℕ). n ∷ l) (opened_numbers depth ns)
 
-pub numbers_opened : (old new : List UnreadPage) (depth : ℕ) (ns : List ℕ) → new ≡ old ++ map (unread_page depth) ns → numbers_of new ≡ numbers_of old ++ ns
+pub numbers_opened : (old new : List UnreadPage) (depth : ℕ) (ns : List ℕ) → new ≡ old ++ map (unread_page depth) ns → unread_numbers new ≡ unread_numbers old ++ ns
 numbers_opened old new depth ns e =
-    ap numbers_of e ∙ map-append (λ (p : UnreadPage). p.number) old (map (unread_page depth) ns) ∙ ap (λ (l : List ℕ). numbers_of old ++ l) (opened_numbers depth ns)
+    ap unread_numbers e ∙ map-append (λ (p : UnreadPage). p.number) old (map (unread_page depth) ns) ∙ ap (λ (l : List ℕ). unread_numbers old ++ l) (opened_numbers depth ns)
 
 module _ (file : List ℕ) (meta : Meta) where
   abbrev pub page_height : UnreadPage → ℕ
@@ -46,7 +46,7 @@ module _ (file : List ℕ) (meta : Meta) where
 
   -- the height of a page's own, and then of what is left, are that of what was left
   pub read_height : (rest old new : List UnreadPage) (p : UnreadPage) (node : Node) (h : ℕ) → node_at file meta p.number ≡ Ok node → Enough (node_at file meta) meta.high_water p.number
-      → old ≡ rest ++ p ∷ [] → new ≡ rest ++ map (unread_page (saturated (p.depth + 1))) (inner_pages node) → h ≡ leaf_depth node.is_leaf p.depth
+      → old ≡ rest ++ p ∷ [] → new ≡ rest ++ map (unread_page (saturated (p.depth + 1))) (inner_pages node) → h ≡ counted_depth node.is_leaf p.depth
       → saturated (max h (greatest page_height new)) ≡ saturated (greatest page_height old)
   read_height rest old new p node h page enough before after own =
       let nodes = node_at file meta in

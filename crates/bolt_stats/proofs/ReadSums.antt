@@ -1,18 +1,18 @@
 -- Sums over what is still to be read, through the reading of a page.
 use Rattle.std.proofs.Common.{◌≡◌, ◌∙◌, ◌+◌, ◌-◌, ◌≤◌, ◌⊎◌, ℕ, inl, inr, Bool, true, false, List, [], ◌∷◌, ◌++◌, Ok, map, take, sum_by, refl, sym, ap, subst, arith}
 use Rattle.std.proofs.lemmas.List.Sums.{sum_by-append}
-use Rattle.bolt_stats.proofs.Words.{AreGood, bucket_figure, Enough, enough_kids, Figure, figure, Has, has_right, inner_pages, inner_roots, kid_pages, map-append, Meta, Node, node_at, numbers_of, pages_in_bucket, roots_in_bucket, roots_of, Stats, sum_by-cons, total_of, UnreadBucket, UnreadPage, weight, ∥∥₁_map}
+use Rattle.bolt_stats.proofs.Words.{AreGood, bucket_figure, Enough, enough_kids, Figure, figure, Has, has_right, inner_pages, inner_roots, kid_pages, map-append, Meta, Node, node_at, unread_numbers, pages_in_bucket, roots_in_bucket, roots_of, Stats, sum_by-cons, total_of, UnreadBucket, UnreadPage, weight, ∥∥₁_map}
 use Rattle.bolt_stats.proofs.DepthSums.{page_has, root_has}
 use Rattle.bolt_check.specs.Nodes.{Entry}
 use Rattle.bolt_check.proofs.{Lists.has_left, Lists.has_split, TourSums.weight_kids}
 
 -- the last page was taken
-pub popped : (old new : List UnreadPage) (p : UnreadPage) → old ≡ new ++ p ∷ [] → numbers_of old ≡ numbers_of new ++ p.number ∷ []
+pub popped : (old new : List UnreadPage) (p : UnreadPage) → old ≡ new ++ p ∷ [] → unread_numbers old ≡ unread_numbers new ++ p.number ∷ []
 popped old new p e = ap (map (λ (q : UnreadPage). q.number)) e ∙ map-append (λ (q : UnreadPage). q.number) new (p ∷ [])
 
 -- the first page was opened
-pub started : (old new : List UnreadPage) (p : UnreadPage) → old ≡ [] → new ≡ old ++ p ∷ [] → numbers_of new ≡ p.number ∷ []
-started old new p none e = ap numbers_of (e ∙ ap (λ (l : List UnreadPage). l ++ p ∷ []) none)
+pub started : (old new : List UnreadPage) (p : UnreadPage) → old ≡ [] → new ≡ old ++ p ∷ [] → unread_numbers new ≡ p.number ∷ []
+started old new p none e = ap unread_numbers (e ∙ ap (λ (l : List UnreadPage). l ++ p ∷ []) none)
 
 module _ (file : List ℕ) (meta : Meta) where
   inner_sum : (own : ℕ → ℕ) (is_leaf : Bool) (entries : List Entry)

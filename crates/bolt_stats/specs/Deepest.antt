@@ -21,17 +21,17 @@ abbrev pub inner_inline : Node → ℕ
 inner_inline node = inline_in_bucket node.is_leaf node.entries
 
 -- so deep a page counts if it is a leaf
-abbrev pub leaf_depth : Bool → ℕ → ℕ
-leaf_depth false depth = 0
-leaf_depth true depth = depth
+abbrev pub counted_depth : Bool → ℕ → ℕ
+counted_depth false depth = 0
+counted_depth true depth = depth
 
 abbrev pub leaf_at : Result Node ℕ → ℕ → ℕ
-leaf_at (Ok node) depth = leaf_depth node.is_leaf depth
+leaf_at (Ok node) depth = counted_depth node.is_leaf depth
 leaf_at (Err fault) depth = 0
 
-abbrev pub pages_at : Result Node ℕ → List ℕ
-pages_at (Ok node) = inner_pages node
-pages_at (Err fault) = []
+abbrev pub child_pages : Result Node ℕ → List ℕ
+child_pages (Ok node) = inner_pages node
+child_pages (Err fault) = []
 
 abbrev pub roots_at : Result Node ℕ → List ℕ
 roots_at (Ok node) = inner_roots node
@@ -45,13 +45,13 @@ module _ (nodes : Nodes) where
   -- the greatest depth of a leaf of the bucket at or below page n, which is so deep itself
   abbrev pub height_from : ℕ → ℕ → ℕ → ℕ
   height_from depth zero n = 0
-  height_from depth (suc k) n = max (leaf_at (nodes n) depth) (greatest (height_from (suc depth) k) (pages_at (nodes n)))
+  height_from depth (suc k) n = max (leaf_at (nodes n) depth) (greatest (height_from (suc depth) k) (child_pages (nodes n)))
 
   -- the greatest depth of a bucket that lies in a leaf of the bucket at or below page n
   abbrev pub deepest_from : ℕ → ℕ → ℕ
   deepest_from zero n = 0
   deepest_from (suc k) n =
-      max (inline_at (nodes n)) (max (greatest (deepest_from k) (pages_at (nodes n))) (greatest (λ root. height_from 1 k root + deepest_from k root) (roots_at (nodes n))))
+      max (inline_at (nodes n)) (max (greatest (deepest_from k) (child_pages (nodes n))) (greatest (λ root. height_from 1 k root + deepest_from k root) (roots_at (nodes n))))
 
 -- of the pages of a file
 abbrev pub height_of : List ℕ → Meta → ℕ → ℕ → ℕ

@@ -6,8 +6,8 @@ use Rattle.bolt_check.specs.{Subtrees.Enough, Lists.Has, Subtrees.kid_pages, Sub
 use Rattle.bolt_stats.specs.{Figures.Figure, Figures.page_figure, declared.bucket_stats.UnreadBucket.UnreadBucket, declared.bucket_stats.UnreadPage.UnreadPage}
 
 -- the pages and the buckets of the code, by their numbers
-abbrev pub numbers_of : List UnreadPage → List ℕ
-numbers_of pages = map (λ (p : UnreadPage). p.number) pages
+abbrev pub unread_numbers : List UnreadPage → List ℕ
+unread_numbers pages = map (λ (p : UnreadPage). p.number) pages
 
 abbrev pub roots_of : List UnreadBucket → List ℕ
 roots_of buckets = map (λ (b : UnreadBucket). b.root) buckets

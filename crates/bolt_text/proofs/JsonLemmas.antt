@@ -11,7 +11,7 @@ use Rattle.json.specs.Json.{Items, Json, array, document, member, no_members, ob
 use Rattle.json.specs.Tree.{HasNumbers, ItemsHaveNumbers, MembersHaveNumbers, depth, items_depth, members_depth}
 use Rattle.bolt_tree.specs.Entries.{Bucket, Item}
 use Rattle.bolt_text.specs.JsonLines.{member_json}
-use Rattle.bolt_text.specs.JsonReadings.{ArePartsBytes, IsItemOfBytes, IsMemberOfBytes, digits_of, end_of, item_of, member_of, parts_of}
+use Rattle.bolt_text.specs.JsonReadings.{ArePartsBytes, IsItemOfBytes, IsMemberOfBytes, digits_of, end_of, item_in_json, member_of, parts_of}
 
 -- a key or a value as JSON, and what reads it
 pub record Reads (shown : List ℕ → Json) (read : Json → Option (List ℕ)) : Type 0 where
@@ -29,9 +29,9 @@ digits_read = record { back = digits_back; numbers = λ bytes. tt; shallow = λ 
 abbrev hex_object : List ℕ → Json
 hex_object bytes = object (member (codes "hex") (string (encode_lower bytes)) no_members)
 
-pub items_read : Reads item_json item_of
+pub items_read : Reads item_json item_in_json
 items_read = record {
-  back = λ bytes h. cond_both (is_utf8 bytes) (string bytes) (hex_object bytes) (λ json. item_of json ≡ Some bytes) (λ e. refl) (λ e. digits_back bytes h);
+  back = λ bytes h. cond_both (is_utf8 bytes) (string bytes) (hex_object bytes) (λ json. item_in_json json ≡ Some bytes) (λ e. refl) (λ e. digits_back bytes h);
   numbers = λ bytes. cond_both (is_utf8 bytes) (string bytes) (hex_object bytes) HasNumbers (λ e. tt) (λ e. (tt, tt));
   shallow = λ bytes. cond_both (is_utf8 bytes) (string bytes) (hex_object bytes) (λ json. depth json ≤ 1) (λ e. omega arith) (λ e. omega arith);
 }

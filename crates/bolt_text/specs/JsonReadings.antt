@@ -11,9 +11,9 @@ abbrev pub string_of : Json → Option (List ℕ)
 string_of (string s) = Some s
 string_of _ = None
 
-abbrev pub members_of : Json → Option Members
-members_of (object ms) = Some ms
-members_of _ = None
+abbrev pub object_members : Json → Option Members
+object_members (object ms) = Some ms
+object_members _ = None
 
 -- the member of an object that has a name
 abbrev pub named : List ℕ → Members → Option Json
@@ -29,10 +29,10 @@ abbrev pub digits_of : Json → Option (List ℕ)
 digits_of json = option_and_then bytes_of_digits (string_of json)
 
 -- or a string, or an object whose `hex` has hexadecimal digits
-abbrev pub item_of : Json → Option (List ℕ)
-item_of (string s) = Some s
-item_of (object ms) = option_and_then bytes_of_digits (option_and_then string_of (named (codes "hex") ms))
-item_of _ = None
+abbrev pub item_in_json : Json → Option (List ℕ)
+item_in_json (string s) = Some s
+item_in_json (object ms) = option_and_then bytes_of_digits (option_and_then string_of (named (codes "hex") ms))
+item_in_json _ = None
 
 abbrev pub number_of : Json → Option ℕ
 number_of (number s) = Some (digits_value 10 s)
@@ -65,7 +65,7 @@ module _ (read : Json → Option (List ℕ)) where
   member_of_members ms = option_and_then (λ path. option_map (λ last. (path, last)) (end_of ms)) (option_and_then path_of_json (named (codes "path") ms))
 
   abbrev pub member_of : Json → Option Member
-  member_of json = option_and_then member_of_members (members_of json)
+  member_of json = option_and_then member_of_members (object_members json)
 
 -- parts and values are bytes, and a sequence has 64 bits
 abbrev pub ArePartsBytes : Path → Type 0

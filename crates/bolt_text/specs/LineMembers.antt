@@ -24,9 +24,9 @@ member_in (path ∷ mark ∷ word ∷ more ∷ words) = None
 unfoldable pub line_member : Text → Option Member
 line_member line = member_in (slice_split (λ byte. byte == 32) line)
 
-abbrev pub members_in : List Text → List Member
-members_in lines = filter_map line_member lines
+abbrev pub members_of_lines : List Text → List Member
+members_of_lines lines = filter_map line_member lines
 
 -- what the lines of a text tell
 abbrev pub text_members : Text → List Member
-text_members text = members_in (lines_of text)
+text_members text = members_of_lines (lines_of text)

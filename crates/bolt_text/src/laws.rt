@@ -4,7 +4,7 @@ ghost use Rattle.hex.specs.Hex.{IsBytes};
 ghost use Rattle.json.specs.Json.{document};
 ghost use Rattle.bolt_tree.specs.Listing.{Member};
 ghost use Rattle.bolt_text.specs.{Forms.digits_json, Forms.is_printable, Forms.item_json, Forms.item_text, Forms.json_text, JsonLines.member_json};
-ghost use Rattle.bolt_text.specs.JsonReadings.{IsMemberOfBytes, digits_of, item_of, member_of};
+ghost use Rattle.bolt_text.specs.JsonReadings.{IsMemberOfBytes, digits_of, item_in_json, member_of};
 ghost use Rattle.bolt_text.specs.{ListForms.listing_lines, ListLines.listing_text, PartWords.part_by};
 ghost use Rattle.bolt_text.specs.declared.forms.Form.TheVariants as Form;
 ghost use Rattle.bolt_text.specs.declared.forms.ListForm.TheVariants as ListForm;
@@ -18,7 +18,7 @@ pub fn json_lines_read_back()
     ensures document { (m : Member) → IsMemberOfBytes m
         → document (json_text (member_json item_json m)) ≡ Some (member_json item_json m) }
     ensures member { (m : Member) → IsMemberOfBytes m
-        → option_and_then (member_of item_of) (document (json_text (member_json item_json m)))
+        → option_and_then (member_of item_in_json) (document (json_text (member_json item_json m)))
         ≡ Some m }
     ensures hex_document { (m : Member) → IsMemberOfBytes m
         → document (json_text (member_json digits_json m)) ≡ Some (member_json digits_json m) }
@@ -30,7 +30,7 @@ pub fn json_lines_read_back()
 /// A key or a value as JSON is a JSON document, of which a reader finds its bytes.
 pub fn json_items_read_back()
     ensures item { (bytes : List ℕ) → IsBytes bytes
-        → option_and_then item_of (document (json_text (item_json bytes))) ≡ Some bytes }
+        → option_and_then item_in_json (document (json_text (item_json bytes))) ≡ Some bytes }
     ensures hex_item { (bytes : List ℕ) → IsBytes bytes
         → option_and_then digits_of (document (json_text (digits_json bytes))) ≡ Some bytes }
 {}

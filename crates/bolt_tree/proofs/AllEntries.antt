@@ -1,11 +1,11 @@
 -- Each bucket that a path of a sound file names has its entries in order.
 -- Rests on the law that a bucket of the tree has them, and on that each such bucket is one of the tree (BucketWays).
 use Rattle.std.proofs.Common.{ℕ, List}
-use Rattle.bolt_tree.proofs.Words.{AreEntries, Checked, HasEntries, HasSoundTrees, IsEntry, IsStart, LeafElement, Meta, Root_page, Start, bytes_of, elements_of, entries_of, meta_of, pages_at, root_start, with_trees, ∥∥₁_prop}
+use Rattle.bolt_tree.proofs.Words.{AreEntries, Checked, HasEntries, HasSoundTrees, IsEntry, IsStart, LeafElement, Meta, Root_page, Start, bytes_of, tour_elements, entries_of, meta_of, pages_at, root_start, with_trees, ∥∥₁_prop}
 use Rattle.bolt_tree.proofs.{SortedLemmas.sorted, BucketWays.root_starts, BucketWays.starts_named}
 
 pub sorted_at : (file : List ℕ) (meta : Meta) → HasSoundTrees file meta → (start : Start) → IsStart file meta start → (entries : List LeafElement) × AreEntries (IsEntry file meta) start entries
-sorted_at file meta sound start is = (elements_of (pages_at file meta start), sorted file meta sound start is)
+sorted_at file meta sound start is = (tour_elements (pages_at file meta start), sorted file meta sound start is)
 
 pub all_entries : (file : List ℕ) (meta : Meta) → HasSoundTrees file meta → HasEntries (IsEntry file meta) (Root_page meta.root)
 all_entries file meta sound = λ path bucket names. sorted_at file meta sound bucket (starts_named file meta (Root_page meta.root) path bucket (root_starts file meta) names)

@@ -1,6 +1,6 @@
 -- Numbers of pages: an address is counted by its place on the tour.
 use Rattle.std.proofs.Common.{◌≡◌, ℕ, suc, ◌+◌, ◌-◌, ◌≤◌, ◌<◌, ◌⊎◌, inl, inr, List, [], ◌∷◌, ◌++◌, Some, length, map, refl, sym, ap, ◌∙◌, subst, arith, append_assoc, append-nil, length-append}
-use Rattle.bolt_tree.proofs.Words.{Before, BucketView, HasCount, HasSoundTrees, Inline_page, IsAddress, IsAfter, IsEntry, IsHome, IsPagesUpTo, IsSeekPage, IsSoundBucket, IsStart, IsUpTo, LeafElement, Meta, Root_page, Start, TourPage, cases_lt, content_at, leads, length-map, lt_strict, node_at, pages_at, pages_in}
+use Rattle.bolt_tree.proofs.Words.{Before, BucketView, HasCount, HasSoundTrees, Inline_page, IsAddress, IsAfter, IsEntry, IsHome, IsPagesUpTo, IsSeekPage, IsSoundBucket, IsStart, IsUpTo, LeafElement, Meta, Root_page, Start, TourPage, cases_lt, content_at, leads, length-map, lt_strict, node_at, pages_at, tour_pages_in}
 use Rattle.bolt_check.proofs.Lists.{Has, RisesBy, contains_from_has, flat_has, has_from_contains, has_left, has_map, has_right, has_split, map_has, one_list, pairs_from_rises, rises_across, rises_from_pairs, rises_left, rises_map, rises_right, rises_weaker}
 use Rattle.bolt_tree.proofs.SortedLemmas.{entry_visited, home_visited, start_rises, visit_is}
 use Rattle.bolt_tree.proofs.TourLemmas.{IsApart, led_tour, tour_led, visit_of}
@@ -86,19 +86,19 @@ module _ (file : List ℕ) (meta : Meta) (trees : HasSoundTrees file meta) where
 
 -- where the page with an entry is
 pub record IsAt (b : BucketView) (e : LeafElement) : Type 0 where
-  pub cut : Cut (pages_in b)
+  pub cut : Cut (tour_pages_in b)
   pub has : Has cut.page.entries e
 
 module _ (b : BucketView) (s : IsSoundBucket b) where
-  at_address : (v : TourPage) → Has (pages_in b) v → IsAddress b.file b.meta b.start v.address
+  at_address : (v : TourPage) → Has (tour_pages_in b) v → IsAddress b.file b.meta b.start v.address
   at_address v h = visit_address b.file b.meta s.trees b.start v s.start h
 
-  rising : RisesBy IsApart (pages_in b)
+  rising : RisesBy IsApart (tour_pages_in b)
   rising = start_rises b.file b.meta s.trees b.start s.start
 
   -- pages that stand together, if their addresses are all those of a kind
-  part_exact : (Is : List ℕ → Type 0) (left part right : List TourPage) (n : ℕ) → pages_in b ≡ left ++ (part ++ right) → length part ≡ n → ((a : List ℕ) → Is a → IsAddress b.file b.meta b.start a)
-      → ((v : TourPage) → Has (pages_in b) v → Has part v → Is v.address) → ((v : TourPage) → Has (pages_in b) v → Is v.address → Has part v) → IsExactly Is n
+  part_exact : (Is : List ℕ → Type 0) (left part right : List TourPage) (n : ℕ) → tour_pages_in b ≡ left ++ (part ++ right) → length part ≡ n → ((a : List ℕ) → Is a → IsAddress b.file b.meta b.start a)
+      → ((v : TourPage) → Has (tour_pages_in b) v → Has part v → Is v.address) → ((v : TourPage) → Has (tour_pages_in b) v → Is v.address → Has part v) → IsExactly Is n
   part_exact Is left part right n whole size are sound complete = record {
     members = map address_of part;
     rises = rises_map Before address_of part (rises_weaker IsApart (λ v w. Before v.address w.address) part (λ v w a. a.addresses)
@@ -107,16 +107,16 @@ module _ (b : BucketView) (s : IsSoundBucket b) where
         let r = map_has address_of part a h in
         subst Is r.2 (sound r.0 (subst (λ (vs : List TourPage). Has vs r.0) (sym whole) (has_right left (part ++ right) r.0 (has_left part right r.0 r.1))) r.1);
     complete = λ a i.
-        let r = map_has address_of (pages_in b) a (address_visited b.file b.meta s.trees b.start a s.start (are a i)) in
+        let r = map_has address_of (tour_pages_in b) a (address_visited b.file b.meta s.trees b.start a s.start (are a i)) in
         subst (Has (map address_of part)) r.2 (has_map address_of part r.0 (complete r.0 r.1 (subst Is (sym r.2) i)));
     number = length-map part address_of ∙ size;
   }
 
   -- all pages
-  pub all_exact : IsExactly (IsAddress b.file b.meta b.start) (length (pages_in b))
-  all_exact = part_exact (IsAddress b.file b.meta b.start) [] (pages_in b) [] (length (pages_in b)) (sym (append-nil (pages_in b))) refl (λ a i. i) (λ v h k. at_address v h) (λ v h i. h)
+  pub all_exact : IsExactly (IsAddress b.file b.meta b.start) (length (tour_pages_in b))
+  all_exact = part_exact (IsAddress b.file b.meta b.start) [] (tour_pages_in b) [] (length (tour_pages_in b)) (sym (append-nil (tour_pages_in b))) refl (λ a i. i) (λ v h k. at_address v h) (λ v h i. h)
 
-  module _ (c : Cut (pages_in b)) where
+  module _ (c : Cut (tour_pages_in b)) where
     whole_rises : RisesBy IsApart (c.left ++ (c.page ∷ c.right))
     whole_rises = subst (RisesBy IsApart) c.whole rising
 
@@ -126,13 +126,13 @@ module _ (b : BucketView) (s : IsSoundBucket b) where
     right_apart : (u : TourPage) → Has c.right u → IsApart c.page u
     right_apart u h = (rises_right IsApart c.left (c.page ∷ c.right) whole_rises).0 u h
 
-    sides : (u : TourPage) → Has (pages_in b) u → (Has c.left u × IsApart u c.page) ⊎ ((c.page ≡ u) ⊎ (Has c.right u × IsApart c.page u))
+    sides : (u : TourPage) → Has (tour_pages_in b) u → (Has c.left u × IsApart u c.page) ⊎ ((c.page ≡ u) ⊎ (Has c.right u × IsApart c.page u))
     sides u h = grind (arith, has_split, left_apart, right_apart)
 
     -- the home of its entries
     pub its_home : (e : LeafElement) → Has c.page.entries e → IsHome b.file b.meta b.start e c.page.address
     its_home e h =
-        let here : Has (pages_in b) c.page = subst (λ (vs : List TourPage). Has vs c.page) (sym c.whole) (has_right c.left (c.page ∷ c.right) c.page (inl refl)) in
+        let here : Has (tour_pages_in b) c.page = subst (λ (vs : List TourPage). Has vs c.page) (sym c.whole) (has_right c.left (c.page ∷ c.right) c.page (inl refl)) in
         (visit_is b.file b.meta s.trees b.start c.page s.start here).home e h
 
     home_is : (e : LeafElement) (home : List ℕ) → Has c.page.entries e → IsHome b.file b.meta b.start e home → home ≡ c.page.address
@@ -166,7 +166,7 @@ module _ (b : BucketView) (s : IsSoundBucket b) where
     upto_is e n h up = exact_is up_to_exact (subst (λ (a : List ℕ). HasCount (IsUpTo b.file b.meta b.start a) n) (home_is e up.0 h up.1) up.2)
 
     -- those after it
-    from_after : (u : TourPage) → Has (pages_in b) u → Before c.page.address u.address → Has c.right u
+    from_after : (u : TourPage) → Has (tour_pages_in b) u → Before c.page.address u.address → Has c.right u
     from_after u h after = grind (arith, sides, before_strict, before_irreflexive)
 
     pub after_exact : IsExactly (IsAfter b.file b.meta b.start c.page.address) (length c.right)
@@ -175,17 +175,17 @@ module _ (b : BucketView) (s : IsSoundBucket b) where
         (λ u h k. (at_address u h, (right_apart u k).addresses)) (λ u h i. from_after u h i.1)
 
   -- the page that comes first
-  pub apart : (c d : Cut (pages_in b)) → length c.left < length d.left → IsApart c.page d.page
+  pub apart : (c d : Cut (tour_pages_in b)) → length c.left < length d.left → IsApart c.page d.page
   apart c d lt = left_apart d c.page (first_cut c.left c.right d.left d.right c.page d.page (sym c.whole ∙ d.whole) lt)
 
   pub entry_at : (e : LeafElement) → IsEntry b.file b.meta b.start e → IsAt b e
   entry_at e entry =
-      let r = flat_has (λ (v : TourPage). v.entries) (pages_in b) e (entry_visited b.file b.meta s.trees b.start e s.start entry) in
-      let c = has_cut (pages_in b) r.0 r.1 in
+      let r = flat_has (λ (v : TourPage). v.entries) (tour_pages_in b) e (entry_visited b.file b.meta s.trees b.start e s.start entry) in
+      let c = has_cut (tour_pages_in b) r.0 r.1 in
       record { cut = record { left = c.0; page = r.0; right = c.1; whole = c.2 }; has = r.2 }
 
   -- the pages after one, up to that of an entry: none, if that doesn't come later
-  between_exact : (c d : Cut (pages_in b)) (e : LeafElement) → Has d.page.entries e → length d.right ≤ length c.right
+  between_exact : (c d : Cut (tour_pages_in b)) (e : LeafElement) → Has d.page.entries e → length d.right ≤ length c.right
       → IsExactly (IsSeekPage b.file b.meta b.start c.page.address (Some e)) (length c.right - length d.right)
   between_exact c d e h le =
       let (part, rest, upto) = two_cuts c.left c.right d.left d.right c.page d.page (sym c.whole ∙ d.whole) le in
@@ -202,7 +202,7 @@ module _ (b : BucketView) (s : IsSoundBucket b) where
             (subst (λ (home : List ℕ). (u.address ≡ home) ⊎ Before u.address home) (home_is d e page.1.0 h page.1.1) page.1.2))
       ])
 
-  pub seek_exact : (c : Cut (pages_in b)) (e : LeafElement) (at : IsAt b e) → IsExactly (IsSeekPage b.file b.meta b.start c.page.address (Some e)) (length c.right - length at.cut.right)
+  pub seek_exact : (c : Cut (tour_pages_in b)) (e : LeafElement) (at : IsAt b e) → IsExactly (IsSeekPage b.file b.meta b.start c.page.address (Some e)) (length c.right - length at.cut.right)
   seek_exact c e at = elim (cases_lt (length c.right) (length at.cut.right)) [
     | inr le ↦ between_exact c at.cut e at.has le
     | inl lt ↦ (

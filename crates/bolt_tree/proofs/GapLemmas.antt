@@ -1,6 +1,6 @@
 -- The gaps between entries exist, and cover all pages.
 use Rattle.std.proofs.Common.{◌≡◌, ℕ, zero, suc, ◌-◌, ◌≤◌, ◌<◌, inl, inr, List, Some, None, Option, slice_get, length, refl, sym, subst, arith}
-use Rattle.bolt_tree.proofs.Words.{AreSorted, BucketView, GapsCoverAll, IsGap, IsPagesUpTo, IsSoundBucket, LeafElement, cases_lt, lt_strict, pages_in, slice_get_past, sum_to}
+use Rattle.bolt_tree.proofs.Words.{AreSorted, BucketView, GapsCoverAll, IsGap, IsPagesUpTo, IsSoundBucket, LeafElement, cases_lt, lt_strict, tour_pages_in, slice_get_past, sum_to}
 use Rattle.bolt_tree.proofs.{TourLemmas.IsBelowElement}
 use Rattle.bolt_check.proofs.Lists.{at_has, contains_from_has, rises_gets}
 use Rattle.bolt_tree.proofs.CountLemmas.{IsAt, all_exact, apart, cut_size, entry_at, exact_count, exact_is, upto_exists, upto_is}
@@ -11,7 +11,7 @@ module _ (b : BucketView) (s : IsSoundBucket b) (entries : List LeafElement) (so
   at_place i x g = entry_at b s x ((sorted.exact x).0 (contains_from_has entries x (at_has entries i x g)))
 
   by_entry : (i : ℕ) (o : Option LeafElement) → slice_get entries i ≡ o → (n : ℕ) × IsPagesUpTo b.file b.meta b.start o n
-  by_entry i None g = (length (pages_in b), exact_count (all_exact b s))
+  by_entry i None g = (length (tour_pages_in b), exact_count (all_exact b s))
   by_entry i (Some x) g = let at = at_place i x g in upto_exists b s at.cut x at.has
 
   up : (i : ℕ) → (n : ℕ) × IsPagesUpTo b.file b.meta b.start (slice_get entries i) n

@@ -1,7 +1,7 @@
 -- Cursors that wait, and go on.
 use Rattle.std.proofs.lemmas.Grind.{common_steps}
 use Rattle.std.proofs.Common.{◌≡◌, ◌∙◌, ◌≤◌, ◌-◌, ℕ, Bool, List, [], ◌∷◌, ◌++◌, Option, Some, None, drop, take, length, reverse, refl, sym, ap, subst, arith}
-use Rattle.bolt_tree.proofs.Words.{AreKept, AreOfFile, BucketView, Checked, Cursor, CursorView, Frame, HasStack, IsResting, IsInnermost, IsKept, Position, Trail, bucket_in, cursor_checked, cursor_place, cursor_start, cursor_trail, cursor_view, drop-append_seam, frames_of, innermost_views, kept_view, kept_views, length-append, length-drop, pager_checked, props, reverse-append, same_from_push, start_at, take-append_seam, take-length, ∥∥₁_elim, ∥∥₁_map}
+use Rattle.bolt_tree.proofs.Words.{AreKept, AreCursorsOfFile, BucketView, Checked, Cursor, CursorView, Frame, HasStack, IsResting, IsInnermost, IsKeptStack, Position, Trail, bucket_in, cursor_checked, cursor_place, cursor_start, cursor_trail, cursor_view, drop-append_seam, frames_of, innermost_views, kept_view, kept_views, length-append, length-drop, pager_checked, props, reverse-append, same_from_push, start_at, take-append_seam, take-length, ∥∥₁_elim, ∥∥₁_map}
 use Rattle.bolt_tree.proofs.{StackLemmas.stack_short, TrailLemmas.length-frames}
 use Rattle.bolt_tree.specs.{declared.at.At.At, declared.open_buckets.WaitingCursor.WaitingCursor}
 
@@ -10,19 +10,19 @@ frames_short bucket [] stack = omega arith
 frames_short bucket (f ∷ below) stack = stack_short bucket f below stack
 
 -- so many positions have room in a cursor
-pub kept_short : (checked : Checked) (at : At) (is_past : Bool) (positions : List Position) → ∥ IsKept checked at is_past positions ∥₁ → length positions ≤ 64
+pub kept_short : (checked : Checked) (at : At) (is_past : Bool) (positions : List Position) → ∥ IsKeptStack checked at is_past positions ∥₁ → length positions ≤ 64
 kept_short checked at is_past positions kept =
     ∥∥₁_elim kept (hlevel props) (λ k.
     subst (λ (n : ℕ). n ≤ 64) (length-frames positions) (frames_short (bucket_in checked (start_at at)) (frames_of positions) k.stack))
 
 -- a cursor goes on by the positions that were kept
 pub resumed : (trail : Trail) (is_past : Bool) (checked : Checked) (positions : List Position) → pager_checked trail.pages.pager ≡ checked → trail.positions ≡ positions
-    → ∥ IsKept checked trail.pages.at is_past positions ∥₁ → ∥ IsResting trail is_past ∥₁
+    → ∥ IsKeptStack checked trail.pages.at is_past positions ∥₁ → ∥ IsResting trail is_past ∥₁
 resumed trail is_past checked positions file items kept =
     ∥∥₁_map kept (λ k. record { stack = rw (file, items) k.stack; rest = rw items k.rest; empty = rw items k.empty })
 
 -- those of a cursor may be kept
-resting_kept : (trail : Trail) (is_past : Bool) (checked : Checked) → pager_checked trail.pages.pager ≡ checked → IsResting trail is_past → IsKept checked trail.pages.at is_past trail.positions
+resting_kept : (trail : Trail) (is_past : Bool) (checked : Checked) → pager_checked trail.pages.pager ≡ checked → IsResting trail is_past → IsKeptStack checked trail.pages.at is_past trail.positions
 resting_kept trail is_past checked file h = record {
   stack = subst (λ (c : Checked). HasStack (bucket_in c (start_at trail.pages.at)) (frames_of trail.positions)) file h.stack;
   rest = h.rest;
@@ -37,7 +37,7 @@ module _ (checked : Checked) (waiting : List WaitingCursor) (w : WaitingCursor) 
   taken : take w.begin (positions ++ more) ≡ positions
   taken = ap (λ (n : ℕ). take n (positions ++ more)) begins ∙ take-append_seam positions more
 
-  pub one_more : AreKept checked (reverse waiting) positions → IsKept checked w.at w.is_past more → AreKept checked (reverse (waiting ++ w ∷ [])) (positions ++ more)
+  pub one_more : AreKept checked (reverse waiting) positions → IsKeptStack checked w.at w.is_past more → AreKept checked (reverse (waiting ++ w ∷ [])) (positions ++ more)
   one_more are is = grind (arith, length-append, dropped, taken, reverse-append)
 
   pub one_more_view : kept_views checked (reverse (waiting ++ w ∷ [])) (positions ++ more) ≡ kept_views checked (reverse waiting) positions ++ kept_view checked w.at w.is_past more ∷ []
@@ -54,14 +54,14 @@ file_of checked cursor file = file
 
 -- the innermost cursor waits, and another one is put behind it
 module _ (checked : Checked) (waiting : List WaitingCursor) (positions : List Position) (innermost : Option Cursor) (outer cursor : Cursor) (begin : ℕ)
-    (known : ∥ AreOfFile checked waiting positions innermost ∥₁) (is : innermost ≡ Some outer) (begins : begin ≡ length positions) (file : cursor_checked cursor ≡ checked) where
+    (known : ∥ AreCursorsOfFile checked waiting positions innermost ∥₁) (is : innermost ≡ Some outer) (begins : begin ≡ length positions) (file : cursor_checked cursor ≡ checked) where
   abbrev put : WaitingCursor
   put = record { at = outer.pages.at; is_past = outer.is_past; begin = begin }
 
-  of_file : AreOfFile checked waiting positions innermost → cursor_checked outer ≡ checked
+  of_file : AreCursorsOfFile checked waiting positions innermost → cursor_checked outer ≡ checked
   of_file k = subst (λ (o : Option Cursor). IsInnermost checked waiting o) is k.1
 
-  pub waits : ∥ AreOfFile checked (waiting ++ put ∷ []) (positions ++ outer.stack.items) (Some cursor) ∥₁
+  pub waits : ∥ AreCursorsOfFile checked (waiting ++ put ∷ []) (positions ++ outer.stack.items) (Some cursor) ∥₁
   waits =
       ∥∥₁_elim known (hlevel props) (λ k. ∥∥₁_map outer.resting (λ h. (
         one_more checked waiting put positions outer.stack.items begins k.0
@@ -77,7 +77,7 @@ module _ (checked : Checked) (waiting : List WaitingCursor) (positions : List Po
       ∙ ap (λ (o : Option Cursor). kept_views checked (reverse waiting) positions ++ innermost_views o) (sym is)))
 
 -- without an innermost cursor there is none
-pub none_open : (checked : Checked) (waiting : List WaitingCursor) (positions : List Position) (innermost : Option Cursor) → ∥ AreOfFile checked waiting positions innermost ∥₁ → innermost ≡ None
+pub none_open : (checked : Checked) (waiting : List WaitingCursor) (positions : List Position) (innermost : Option Cursor) → ∥ AreCursorsOfFile checked waiting positions innermost ∥₁ → innermost ≡ None
     → ∥ kept_views checked (reverse waiting) positions ++ innermost_views innermost ≡ [] ∥₁
 none_open checked waiting positions innermost known is =
     ∥∥₁_map known (λ k.
@@ -86,20 +86,20 @@ none_open checked waiting positions innermost known is =
     ∙ ap (λ (ws : List WaitingCursor). kept_views checked (reverse ws) positions ++ []) none)
 
 -- A cursor is open, and the innermost one moves.
-module _ (checked : Checked) (waiting : List WaitingCursor) (positions : List Position) (innermost : Option Cursor) (known : ∥ AreOfFile checked waiting positions innermost ∥₁) where
+module _ (checked : Checked) (waiting : List WaitingCursor) (positions : List Position) (innermost : Option Cursor) (known : ∥ AreCursorsOfFile checked waiting positions innermost ∥₁) where
   pub some_innermost : (kept_views checked (reverse waiting) positions ++ innermost_views innermost ≡ [] → ⊥) → innermost ≡ None → ⊥
   some_innermost some none = ∥∥₁_elim (none_open checked waiting positions innermost known none) (hlevel props) some
 
-  pub moved_file : (cursor moved : Cursor) → innermost ≡ Some cursor → cursor_checked moved ≡ cursor_checked cursor → ∥ AreOfFile checked waiting positions (Some moved) ∥₁
+  pub moved_file : (cursor moved : Cursor) → innermost ≡ Some cursor → cursor_checked moved ≡ cursor_checked cursor → ∥ AreCursorsOfFile checked waiting positions (Some moved) ∥₁
   moved_file cursor moved is file = ∥∥₁_map known (λ k. (k.0, file ∙ subst (λ (o : Option Cursor). IsInnermost checked waiting o) is k.1))
 
 -- the first one
-pub first_one : (checked : Checked) (waiting : List WaitingCursor) (positions : List Position) (innermost : Option Cursor) (cursor : Cursor) → ∥ AreOfFile checked waiting positions innermost ∥₁ → innermost ≡ None
-    → cursor_checked cursor ≡ checked → ∥ AreOfFile checked waiting positions (Some cursor) ∥₁
+pub first_one : (checked : Checked) (waiting : List WaitingCursor) (positions : List Position) (innermost : Option Cursor) (cursor : Cursor) → ∥ AreCursorsOfFile checked waiting positions innermost ∥₁ → innermost ≡ None
+    → cursor_checked cursor ≡ checked → ∥ AreCursorsOfFile checked waiting positions (Some cursor) ∥₁
 first_one checked waiting positions innermost cursor known is file = ∥∥₁_map known (λ k. (k.0, file))
 
 -- the innermost cursor is one of the file, and there is one where another waits
-pub innermost_file : (checked : Checked) (waiting : List WaitingCursor) (positions : List Position) (innermost : Option Cursor) (cursor : Cursor) → ∥ AreOfFile checked waiting positions innermost ∥₁
+pub innermost_file : (checked : Checked) (waiting : List WaitingCursor) (positions : List Position) (innermost : Option Cursor) (cursor : Cursor) → ∥ AreCursorsOfFile checked waiting positions innermost ∥₁
     → innermost ≡ Some cursor → cursor_checked cursor ≡ checked
 innermost_file checked waiting positions innermost cursor known is =
     ∥∥₁_elim known (hlevel props) (λ k. subst (λ (o : Option Cursor). IsInnermost checked waiting o) is k.1)
@@ -112,18 +112,18 @@ goes_on_view checked file w positions slice view same_file same_positions shown 
 
 -- the last one that waits is taken off
 module _ (checked : Checked) (old new : List WaitingCursor) (w : WaitingCursor) (positions : List Position) (innermost : Option Cursor)
-    (known : ∥ AreOfFile checked old positions innermost ∥₁) (split : old ≡ new ++ w ∷ []) where
-  all_but : AreOfFile checked old positions innermost → AreKept checked (w ∷ reverse new) positions
+    (known : ∥ AreCursorsOfFile checked old positions innermost ∥₁) (split : old ≡ new ++ w ∷ []) where
+  all_but : AreCursorsOfFile checked old positions innermost → AreKept checked (w ∷ reverse new) positions
   all_but k = subst (λ (ws : List WaitingCursor). AreKept checked ws positions) (ap reverse split ∙ reverse-append new (w ∷ [])) k.0
 
   whole : drop w.begin positions ≡ take (length positions - w.begin) (drop w.begin positions)
   whole = sym (ap (λ (n : ℕ). take n (drop w.begin positions)) (sym (length-drop w.begin positions)) ∙ take-length (drop w.begin positions))
 
-  pub goes_on : ∥ IsKept checked w.at w.is_past (take (length positions - w.begin) (drop w.begin positions)) ∥₁
-  goes_on = ∥∥₁_map known (λ k. subst (λ (ps : List Position). IsKept checked w.at w.is_past ps) whole (all_but k).1)
+  pub goes_on : ∥ IsKeptStack checked w.at w.is_past (take (length positions - w.begin) (drop w.begin positions)) ∥₁
+  goes_on = ∥∥₁_map known (λ k. subst (λ (ps : List Position). IsKeptStack checked w.at w.is_past ps) whole (all_but k).1)
 
   pub others : (cursor : Cursor) → cursor_view cursor ≡ kept_view checked w.at w.is_past (take (length positions - w.begin) (drop w.begin positions))
-      → ∥ AreOfFile checked new (take w.begin positions) (Some cursor) ∥₁
+      → ∥ AreCursorsOfFile checked new (take w.begin positions) (Some cursor) ∥₁
   others cursor view = ∥∥₁_map known (λ k. ((all_but k).2, ap (λ (v : CursorView). v.checked) view))
 
   under : (o : Option Cursor) (outer : List CursorView) (last : CursorView) → IsInnermost checked old o → kept_views checked (reverse old) positions ++ innermost_views o ≡ outer ++ last ∷ []
@@ -142,7 +142,7 @@ module _ (checked : Checked) (old new : List WaitingCursor) (w : WaitingCursor) 
 
 -- the same of the same
 pub same_file : (checked : Checked) (waiting others : List WaitingCursor) (positions more : List Position) (innermost : Option Cursor) → others ≡ waiting → more ≡ positions
-    → ∥ AreOfFile checked waiting positions innermost ∥₁ → ∥ AreOfFile checked others more innermost ∥₁
+    → ∥ AreCursorsOfFile checked waiting positions innermost ∥₁ → ∥ AreCursorsOfFile checked others more innermost ∥₁
 same_file checked waiting others positions more innermost same_waiting same_positions known = rw (same_waiting, same_positions) known
 
 pub same_views : (checked : Checked) (waiting others : List WaitingCursor) (positions more : List Position) → others ≡ waiting → more ≡ positions

@@ -1,6 +1,6 @@
 -- Moves from entry to entry. Within a leaf, one element more of the page on top of a stack is taken, in place.
 use Rattle.std.proofs.Common.{rules, ◌≡◌, ℕ, Bool, true, false, List, [], ◌∷◌, Some, None, length, arith, ◌+◌, suc, sym, subst}
-use Rattle.bolt_tree.proofs.Words.{BucketView, Content, Contents, Frame, HasStack, IsBeside, IsEntered, IsLast, IsOn, LeafElement, StandsOn, contents_in, elements_in, entries_to, nearer, pages_in, pages_to, root_content, taken_at}
+use Rattle.bolt_tree.proofs.Words.{BucketView, Content, Contents, Frame, HasStack, IsBeside, IsEntered, IsLast, IsOn, LeafElement, LeafStandsOn, contents_in, elements_in, entries_to, nearer, tour_pages_in, pages_to, root_content, taken_at}
 use Rattle.bolt_tree.proofs.{BackLemmas.back_none, BackLemmas.back_some, BackLemmas.left_out, BackLemmas.root_behind, StackLemmas.root_ahead, StackLemmas.root_right}
 use Rattle.bolt_tree.proofs.TrailLemmas.{entered_length, entered_none, entered_some, exhausted}
 
@@ -36,14 +36,14 @@ module _ (old now : BucketView) (whole below new : List Frame) (f : Frame) (same
 
 -- at the edge of the root page, everything lies in the direction
 at_root : (back : Bool) (bucket : BucketView) → let frames : List Frame = record { content = root_content bucket; taken = taken_at back (root_content bucket) } ∷ [] in
-    (elements_in bucket ≡ entries_to back (contents_in bucket) frames) × (length (pages_in bucket) ≡ suc (length (pages_to back (contents_in bucket) frames)))
+    (elements_in bucket ≡ entries_to back (contents_in bucket) frames) × (length (tour_pages_in bucket) ≡ suc (length (pages_to back (contents_in bucket) frames)))
 at_root back bucket = grind (arith, root_ahead, root_right, root_behind)
 
 pub at_edge : (back : Bool) (bucket now : BucketView) (frames : List Frame) → now ≡ bucket → frames ≡ record { content = root_content bucket; taken = taken_at back (root_content bucket) } ∷ []
-    → (elements_in bucket ≡ entries_to back (contents_in now) frames) × (length (pages_in bucket) ≡ suc (length (pages_to back (contents_in now) frames)))
+    → (elements_in bucket ≡ entries_to back (contents_in now) frames) × (length (tour_pages_in bucket) ≡ suc (length (pages_to back (contents_in now) frames)))
 at_edge back bucket now frames same at = rw (same, at) (at_root back bucket)
 
 -- the entry on which a leaf stands then was taken
-pub taken_entry : (contents : Contents) (content : Content) (i : ℕ) (below new : List Frame) (e : LeafElement) → StandsOn content (i + 1) e → new ≡ record { content = content; taken = i + 1 } ∷ below
+pub taken_entry : (contents : Contents) (content : Content) (i : ℕ) (below new : List Frame) (e : LeafElement) → LeafStandsOn content (i + 1) e → new ≡ record { content = content; taken = i + 1 } ∷ below
     → IsEntered contents false content i below new (Some e)
 taken_entry contents content i below new e stands put = grind arith

@@ -1,6 +1,6 @@
 -- The nearest leaf to a key: the way down to it, step by step, and what lies ahead of the key there.
 use Rattle.std.proofs.Common.{◌≡◌, ℕ, suc, ◌+◌, ◌-◌, ◌≤◌, inl, inr, true, false, List, [], ◌∷◌, ◌++◌, Some, slice_get, length, map, drop, take, refl, sym, ap, ◌∙◌, subst, arith, append_assoc, length-append, append-nil}
-use Rattle.bolt_tree.proofs.Words.{AreBelow, BranchElement, BucketView, Content, Contents, Frame, HasSoundTrees, HasStack, Inline_page, IsBetween, IsLeafTop, IsNear, IsNearFrom, IsNearTo, IsNearTop, IsNearest, IsOnWayDown, IsPlaceOf, IsSought, IsSoundBucket, IsStart, Key, KeysRise, LeafElement, Meta, Of_branch, Of_leaf, Root_page, Start, TourPage, address_on, ahead_of, branch_key, branch_node, cases_lt, content_at, content_at_start, content_keys, content_length, contents_in, elements_in, elements_of, key_lt, least_from, passed_of, none-some, on_child, opened_content, option_map, pages_in, props, later_of, root_content, slice_get-map, spot_node, tour, ∥∥₁_elim, ∥∥₁_map, ∥∥₁_prop}
+use Rattle.bolt_tree.proofs.Words.{AreBelow, BranchElement, BucketView, Content, Contents, Frame, HasSoundTrees, HasStack, Inline_page, IsBetween, IsLeafTop, IsNear, IsNearFrom, IsNearTo, IsNearTop, IsNearest, IsOnWayDown, IsPlaceOf, IsSought, IsSoundBucket, IsStart, Key, KeysRise, LeafElement, Meta, Of_branch, Of_leaf, Root_page, Start, TourPage, address_on, ahead_of, branch_key, branch_node, cases_lt, content_at, content_at_start, content_keys, content_length, contents_in, elements_in, tour_elements, key_lt, least_from, passed_of, none-some, on_child, opened_content, option_map, tour_pages_in, props, later_of, root_content, slice_get-map, spot_node, tour, ∥∥₁_elim, ∥∥₁_map, ∥∥₁_prop}
 use Rattle.bolt_tree.proofs.{PlaceMoves.drop_front, PlaceMoves.leaf_parts}
 use Rattle.bolt_check.proofs.Lists.{Has, has_right, rises_gets}
 use Rattle.bolt_tree.proofs.{SeekLemmas.are_append, SeekLemmas.drop_get, SeekLemmas.is_above, SeekLemmas.not_above, SeekLemmas.take_get, SortedLemmas.visit_is}
@@ -21,7 +21,7 @@ leaf_rises bucket es t below stack = λ i j a c l g h.
     let y = key_at (λ (e : LeafElement). e.key) es j c h in
     let less : key_lt x.0.key y.0.key ≡ true = ∥∥₁_elim stack (Prim.hlevel props) (λ k.
     let v : TourPage = record { address = address_on below; entries = es } in
-    let here : Has (pages_in bucket) v = subst (λ (vs : List TourPage). Has vs v) (sym k.1.0.placed) (has_right (passed_of (contents_in bucket) below) (v ∷ later_of (contents_in bucket) below) v (inl refl)) in
+    let here : Has (tour_pages_in bucket) v = subst (λ (vs : List TourPage). Has vs v) (sym k.1.0.placed) (has_right (passed_of (contents_in bucket) below) (v ∷ later_of (contents_in bucket) below) v (inl refl)) in
     rises_gets IsBelowElement es i j x.0 y.0 (visit_is bucket.file bucket.meta k.0.trees bucket.start v k.0.start here).rises l x.1 y.1) in
     rw (← x.2, ← y.2) less
 
@@ -101,10 +101,10 @@ leaf_key_at : (es : List LeafElement) (k : ℕ) (e : LeafElement) → slice_get 
 leaf_key_at es k e g = slice_get-map (λ (x : LeafElement). x.key) es k ∙ ap (option_map (λ (x : LeafElement). x.key)) g
 
 sought_leaf : (contents : Contents) (n : ℕ) (whole : List TourPage) (key : Key) (es : List LeafElement) (t : ℕ) (below : List Frame) → whole ≡ passed_of contents below ++ (tour contents n (address_on below) (Of_leaf es) ++ later_of contents below)
-    → IsPlaceOf (content_keys (Of_leaf es)) false key t → t ≤ length es → IsBetween contents key below → IsSought (elements_of whole) key (ahead_of contents (record { content = Of_leaf es; taken = t } ∷ below))
+    → IsPlaceOf (content_keys (Of_leaf es)) false key t → t ≤ length es → IsBetween contents key below → IsSought (tour_elements whole) key (ahead_of contents (record { content = Of_leaf es; taken = t } ∷ below))
 sought_leaf contents n whole key es t below placed place most between =
-    let left = elements_of (passed_of contents below) in
-    let right = elements_of (later_of contents below) in
+    let left = tour_elements (passed_of contents below) in
+    let right = tour_elements (later_of contents below) in
     let parts = leaf_parts contents n whole es t below placed in
     let front : AreBelow true key (left ++ take t es) = are_append true key left (take t es) between.passed
     (λ k e g. let r = take_get es t k e g in place.below k e.key r.1 (leaf_key_at es k e r.0)) in
@@ -116,7 +116,7 @@ pub sought : (bucket : BucketView) (key : Key) (es : List LeafElement) (t u : �
     → IsPlaceOf (content_keys (Of_leaf es)) false key t → t ≤ length es → IsBetween (contents_in bucket) key below
     → IsSought (elements_in bucket) key (ahead_of (contents_in bucket) (record { content = Of_leaf es; taken = t } ∷ below))
 sought bucket key es t u below stack place most between = ∥∥₁_elim stack (Prim.hlevel props) (λ s.
-    sought_leaf (contents_in bucket) (63 - length below) (pages_in bucket) key es t below s.1.0.placed place most between)
+    sought_leaf (contents_in bucket) (63 - length below) (tour_pages_in bucket) key es t below s.1.0.placed place most between)
 
 -- a branch has an element
 pub branch_filled : (bucket : BucketView) (bs : List BranchElement) (t : ℕ) (below : List Frame) → HasStack bucket (record { content = Of_branch bs; taken = t } ∷ below) → 1 ≤ length bs

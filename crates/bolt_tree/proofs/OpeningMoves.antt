@@ -1,6 +1,6 @@
 -- What the moves of a trail open, counted by the pages up to an entry, and what a seek opens and compares.
 use Rattle.std.proofs.Common.{false, ◌≡◌, ℕ, suc, ◌+◌, ◌-◌, ◌≤◌, List, [], ◌∷◌, ◌++◌, Some, None, Option, slice_get, length, refl, ap, ◌∙◌, subst, arith, ◌*◌, sym, length-append}
-use Rattle.bolt_tree.proofs.Words.{BucketView, Content, Contents, Finds, Frame, HasCount, HasStack, IsAtRest, IsLeafContent, IsLeafTop, IsNear, IsNearTop, IsPagesUpTo, IsSeekPage, IsSought, IsSoundBucket, IsStack, Key, Leaf, LeafElement, Of_branch, Of_leaf, OpensByNext, OpensGap, OpensSeek, RestsOn, SeeksInBounds, StandsOn, address_on, ahead_of, contents_in, counted, elements_in, index_of, leaf_view, least_from, passed_of, opened_to, option_map, pages_in, place_on, props, later_of, slice_get_past, top_address, tour, ∥∥₁_elim}
+use Rattle.bolt_tree.proofs.Words.{BucketView, Content, Contents, Finds, Frame, HasCount, HasStack, IsAtRest, IsLeafContent, IsLeafTop, IsNear, IsNearTop, IsPagesUpTo, IsSeekPage, IsSought, IsSoundBucket, IsStack, Key, Leaf, LeafElement, Of_branch, Of_leaf, OpensByNext, OpensGap, OpensSeek, RestsOn, SeeksInBounds, LeafStandsOn, address_on, ahead_of, contents_in, counted, elements_in, index_of, leaf_view, least_from, passed_of, opened_to, option_map, tour_pages_in, place_on, props, later_of, slice_get_past, top_address, tour, ∥∥₁_elim}
 use Rattle.bolt_tree.proofs.CountLemmas.{Cut, IsAt, all_exact, cut_size, exact_is, upto_is, after_exact, seek_exact}
 use Rattle.bolt_check.proofs.Lists.{at_has, get_exists}
 use Rattle.bolt_tree.proofs.PlaceMoves.{on_rests, split, ahead_number, current, the_entries, get_next}
@@ -8,16 +8,16 @@ use Rattle.bolt_tree.proofs.{NearestLeaf.one_near, StackLemmas.stack_short}
 
 -- the page of a leaf on a stack among the pages of the bucket
 abbrev pub leaf_cut : (bucket : BucketView) (es : List LeafElement) (below : List Frame)
-    → pages_in bucket ≡ passed_of (contents_in bucket) below ++ (record { address = address_on below; entries = es } ∷ later_of (contents_in bucket) below) → Cut (pages_in bucket)
+    → tour_pages_in bucket ≡ passed_of (contents_in bucket) below ++ (record { address = address_on below; entries = es } ∷ later_of (contents_in bucket) below) → Cut (tour_pages_in bucket)
 leaf_cut bucket es below placed = record { left = passed_of (contents_in bucket) below; page = record { address = address_on below; entries = es }; right = later_of (contents_in bucket) below; whole = placed }
 
 -- the entry on which a stack rests, and its page among the pages of the bucket
-rest_stands : (content : Content) (taken : ℕ) → RestsOn content taken → (e : LeafElement) × StandsOn content taken e
+rest_stands : (content : Content) (taken : ℕ) → RestsOn content taken → (e : LeafElement) × LeafStandsOn content taken e
 rest_stands (Of_leaf es) taken rest = let e = get_exists es (taken - 1) (omega (arith, rest.0, rest.1)) in (e.0, (rest.0, e.1))
 rest_stands (Of_branch bs) taken rest = absurd rest
 
-pub stands_at : (bucket : BucketView) (content : Content) (taken : ℕ) (below : List Frame) (e : LeafElement) → StandsOn content taken e
-    → pages_in bucket ≡ passed_of (contents_in bucket) below ++ (tour (contents_in bucket) (63 - length below) (address_on below) content ++ later_of (contents_in bucket) below)
+pub stands_at : (bucket : BucketView) (content : Content) (taken : ℕ) (below : List Frame) (e : LeafElement) → LeafStandsOn content taken e
+    → tour_pages_in bucket ≡ passed_of (contents_in bucket) below ++ (tour (contents_in bucket) (63 - length below) (address_on below) content ++ later_of (contents_in bucket) below)
     → (at : IsAt bucket e) × (at.cut.right ≡ later_of (contents_in bucket) (record { content = content; taken = taken } ∷ below))
 stands_at bucket (Of_leaf es) taken below e on placed = (record { cut = leaf_cut bucket es below placed; has = at_has es (taken - 1) e on.1 }, refl)
 stands_at bucket (Of_branch bs) taken below e on placed = absurd on
@@ -28,7 +28,7 @@ module _ (bucket : BucketView) where
   IsUpTo i n = IsPagesUpTo bucket.file bucket.meta bucket.start (slice_get (elements_in bucket) i) n
 
   stack_upto : (f : Frame) (below : List Frame) (n : ℕ) → HasStack bucket (f ∷ below) → IsAtRest (f ∷ below) → IsUpTo (index_of (contents_in bucket) (f ∷ below)) n
-      → n + length (later_of (contents_in bucket) (f ∷ below)) ≡ length (pages_in bucket)
+      → n + length (later_of (contents_in bucket) (f ∷ below)) ≡ length (tour_pages_in bucket)
   stack_upto f below n stack rest up =
       let on = rest_stands f.content f.taken rest in
       let up2 : IsPagesUpTo bucket.file bucket.meta bucket.start (Some on.0) n =
@@ -37,7 +37,7 @@ module _ (bucket : BucketView) where
       let at = stands_at bucket f.content f.taken below on.0 on.1 s.1.0.placed in
       omega (arith, upto_is bucket s.0 at.0.cut on.0 n at.0.has up2, cut_size at.0.cut, ap length at.1))
 
-  all_upto : (n i : ℕ) → ∥ IsSoundBucket bucket ∥₁ → length (elements_in bucket) ≤ i → IsUpTo i n → n ≡ length (pages_in bucket)
+  all_upto : (n i : ℕ) → ∥ IsSoundBucket bucket ∥₁ → length (elements_in bucket) ≤ i → IsUpTo i n → n ≡ length (tour_pages_in bucket)
   all_upto n i is end up =
       let none : slice_get (elements_in bucket) i ≡ None = slice_get_past (elements_in bucket) i (omega (arith, end)) in
       let up2 : IsPagesUpTo bucket.file bucket.meta bucket.start None n = subst (λ (o : Option LeafElement). IsPagesUpTo bucket.file bucket.meta bucket.start o n) none up in
@@ -46,7 +46,7 @@ module _ (bucket : BucketView) where
   -- what a move to the first entry opens
   pub first_opens : (found : Option Leaf) (frames : List Frame) (old new : ℕ) → ∥ IsSoundBucket bucket ∥₁ → HasStack bucket frames
       → Finds false found (elements_in bucket) (ahead_of (contents_in bucket) frames) frames []
-      → new ≡ counted old (length (pages_in bucket) - length (later_of (contents_in bucket) frames)) → OpensGap bucket 0 old new
+      → new ≡ counted old (length (tour_pages_in bucket) - length (later_of (contents_in bucket) frames)) → OpensGap bucket 0 old new
   first_opens None frames old new is stack h opened = λ entries gap are up.
       let g = all_upto gap 0 is (let z = ap length h.0 in omega (arith, z)) (rw (← the_entries bucket entries is are) at up) in
       let zero_right : length (later_of (contents_in bucket) frames) ≡ 0 = ap (λ (fs : List Frame). length (later_of (contents_in bucket) fs)) h.1 in

@@ -1,7 +1,7 @@
 -- The place of a stack among the entries of its bucket, and what the moves of a trail are to a cursor's place.
 use Rattle.std.proofs.lemmas.Grind.{common_steps}
 use Rattle.std.proofs.Common.{true, false, Bool, ◌≡◌, ℕ, suc, ◌+◌, ◌-◌, ◌≤◌, ◌<◌, List, [], ◌∷◌, ◌++◌, Some, None, Option, slice_get, length, drop, refl, sym, ap, ◌∙◌, arith, length-append, take, append_assoc}
-use Rattle.bolt_tree.proofs.Words.{AreSorted, BucketView, Content, Contents, Finds, Frame, HasStack, IsAtRest, IsOn, IsSoundBucket, Key, Leaf, LeafElement, Move, Of_branch, Of_leaf, On, Past, Place, RestsOn, StandsOn, TourPage, address_on, ahead_of, contents_in, drop-append_seam, elements_in, elements_of, entries_to, first_move, flat_map-append, index_of, is_none, last_move, le-ltb, leaf_view, least_from, passed_of, length-drop, length-take, next_move, option_map, pages_in, place_by, place_in, place_on, preceding_of, prev_move, props, later_of, seek_move, slice_get_within, take-append-drop, tour, ∥∥₁_elim, ∥∥₁_map}
+use Rattle.bolt_tree.proofs.Words.{AreSorted, BucketView, Content, Contents, Finds, Frame, HasStack, IsAtRest, IsOn, IsSoundBucket, Key, Leaf, LeafElement, Move, Of_branch, Of_leaf, On, Past, Place, RestsOn, LeafStandsOn, TourPage, address_on, ahead_of, contents_in, drop-append_seam, elements_in, tour_elements, entries_to, first_move, flat_map-append, index_of, is_none, last_move, le-ltb, leaf_view, least_from, passed_of, length-drop, length-take, next_move, option_map, tour_pages_in, place_by, place_in, place_on, preceding_of, prev_move, props, later_of, seek_move, slice_get_within, take-append-drop, tour, ∥∥₁_elim, ∥∥₁_map}
 use Rattle.bolt_tree.proofs.{BackLemmas.behind_index, SortedLemmas.sorted, SortedLemmas.sorted_one}
 use Rattle.bolt_check.proofs.Lists.{get_behind, get_front}
 
@@ -25,19 +25,19 @@ pub record IsSplit (elements : List LeafElement) (contents : Contents) (frames :
 -- the bucket's entries, cut in a leaf
 pub leaf_parts : (contents : Contents) (n : ℕ) (whole : List TourPage) (es : List LeafElement) (taken : ℕ) (below : List Frame)
     → whole ≡ passed_of contents below ++ (tour contents n (address_on below) (Of_leaf es) ++ later_of contents below)
-    → elements_of whole ≡ (elements_of (passed_of contents below) ++ take taken es) ++ (drop taken es ++ elements_of (later_of contents below))
+    → tour_elements whole ≡ (tour_elements (passed_of contents below) ++ take taken es) ++ (drop taken es ++ tour_elements (later_of contents below))
 leaf_parts contents n whole es taken below placed =
-    let left = elements_of (passed_of contents below) in
-    let right = elements_of (later_of contents below) in
-    ap elements_of placed ∙ (flat_map-append (λ (v : TourPage). v.entries) (passed_of contents below) (record { address = address_on below; entries = es } ∷ later_of contents below)
+    let left = tour_elements (passed_of contents below) in
+    let right = tour_elements (later_of contents below) in
+    ap tour_elements placed ∙ (flat_map-append (λ (v : TourPage). v.entries) (passed_of contents below) (record { address = address_on below; entries = es } ∷ later_of contents below)
     ∙ (ap (λ (l : List LeafElement). left ++ (l ++ right)) (sym (take-append-drop taken es)) ∙ simp append_assoc))
 
 split_leaf : (contents : Contents) (n : ℕ) (whole : List TourPage) (es : List LeafElement) (taken : ℕ) (below : List Frame) → 1 ≤ taken → taken ≤ length es
     → whole ≡ passed_of contents below ++ (tour contents n (address_on below) (Of_leaf es) ++ later_of contents below)
-    → IsSplit (elements_of whole) contents (record { content = Of_leaf es; taken = taken } ∷ below)
+    → IsSplit (tour_elements whole) contents (record { content = Of_leaf es; taken = taken } ∷ below)
 split_leaf contents n whole es taken below one most placed =
-    let left = elements_of (passed_of contents below) in
-    let back = drop taken es ++ elements_of (later_of contents below) in
+    let left = tour_elements (passed_of contents below) in
+    let back = drop taken es ++ tour_elements (later_of contents below) in
     let parts = leaf_parts contents n whole es taken below placed in
     let len : length (left ++ take taken es) ≡ suc (length left + (taken - 1)) =
     length-append left (take taken es) ∙ (let t = length-take taken es in omega (arith, t, one, most)) in
@@ -51,9 +51,9 @@ pub split : (bucket : BucketView) (f : Frame) (below : List Frame) → HasStack 
 split bucket f below stack rest = ∥∥₁_elim stack (Prim.hlevel props) (λ s. by_content bucket f.content f.taken below rest s.1.0.placed)
   where
     by_content : (bucket : BucketView) (content : Content) (taken : ℕ) (below : List Frame) → RestsOn content taken
-        → pages_in bucket ≡ passed_of (contents_in bucket) below ++ (tour (contents_in bucket) (63 - length below) (address_on below) content ++ later_of (contents_in bucket) below)
+        → tour_pages_in bucket ≡ passed_of (contents_in bucket) below ++ (tour (contents_in bucket) (63 - length below) (address_on below) content ++ later_of (contents_in bucket) below)
         → IsSplit (elements_in bucket) (contents_in bucket) (record { content = content; taken = taken } ∷ below)
-    by_content bucket (Of_leaf es) taken below rest placed = split_leaf (contents_in bucket) (63 - length below) (pages_in bucket) es taken below rest.0 rest.1 placed
+    by_content bucket (Of_leaf es) taken below rest placed = split_leaf (contents_in bucket) (63 - length below) (tour_pages_in bucket) es taken below rest.0 rest.1 placed
     by_content bucket (Of_branch bs) taken below rest placed = absurd rest
 
 pub on_rests : (frames : List Frame) (e : LeafElement) → IsOn frames e → IsAtRest frames
@@ -111,20 +111,20 @@ seek_past : (key : Key) (entries : List LeafElement) → length entries ≤ leas
 seek_past key entries h = grind arith
 
 -- the entry on which a stack stands
-current_content : (contents : Contents) (n : ℕ) (whole : List TourPage) (content : Content) (t : ℕ) (below : List Frame) (e : LeafElement) → StandsOn content t e
+current_content : (contents : Contents) (n : ℕ) (whole : List TourPage) (content : Content) (t : ℕ) (below : List Frame) (e : LeafElement) → LeafStandsOn content t e
     → whole ≡ passed_of contents below ++ (tour contents n (address_on below) content ++ later_of contents below)
-    → slice_get (elements_of whole) (index_of contents (record { content = content; taken = t } ∷ below)) ≡ Some e
+    → slice_get (tour_elements whole) (index_of contents (record { content = content; taken = t } ∷ below)) ≡ Some e
 current_content contents n whole (Of_leaf es) t below e at placed =
-    let left = elements_of (passed_of contents below) in
-    let right = elements_of (later_of contents below) in
-    let all : elements_of whole ≡ left ++ (es ++ right) =
-    ap elements_of placed ∙ flat_map-append (λ (v : TourPage). v.entries) (passed_of contents below) (record { address = address_on below; entries = es } ∷ later_of contents below) in
+    let left = tour_elements (passed_of contents below) in
+    let right = tour_elements (later_of contents below) in
+    let all : tour_elements whole ≡ left ++ (es ++ right) =
+    ap tour_elements placed ∙ flat_map-append (λ (v : TourPage). v.entries) (passed_of contents below) (record { address = address_on below; entries = es } ∷ later_of contents below) in
     ap (λ (xs : List LeafElement). slice_get xs (length left + (t - 1))) all ∙ (get_behind left (es ++ right) (length left + (t - 1)) (t - 1) refl ∙ get_front es right (t - 1) e at.1)
 current_content contents n whole (Of_branch bs) t below e at placed = absurd at
 
 pub current : (bucket : BucketView) (f : Frame) (below : List Frame) (e : LeafElement) → HasStack bucket (f ∷ below) → IsOn (f ∷ below) e
     → slice_get (elements_in bucket) (index_of (contents_in bucket) (f ∷ below)) ≡ Some e
-current bucket f below e stack at = ∥∥₁_elim stack (Prim.hlevel props) (λ s. current_content (contents_in bucket) (63 - length below) (pages_in bucket) f.content f.taken below e at s.1.0.placed)
+current bucket f below e stack at = ∥∥₁_elim stack (Prim.hlevel props) (λ s. current_content (contents_in bucket) (63 - length below) (tour_pages_in bucket) f.content f.taken below e at s.1.0.placed)
 
 -- how many entries lie ahead of where a stack stands
 pub ahead_number : (elements : List LeafElement) (contents : Contents) (f : Frame) (below : List Frame) → IsSplit elements contents (f ∷ below)

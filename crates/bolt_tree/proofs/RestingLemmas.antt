@@ -1,7 +1,7 @@
 -- What a cursor keeps, and its moves by those of its trail.
 use Rattle.std.proofs.Common.{arith, ◌≡◌, ◌∙◌, ℕ, ◌-◌, ◌≤◌, Bool, true, false, List, [], ◌∷◌, Option, None, Some, length, drop, ap, refl, subst}
 use Rattle.std.proofs.lemmas.Grind.{common_steps}
-use Rattle.bolt_tree.proofs.Words.{BucketView, Content, Contents, EntryView, Finds, Frame, HasBucket, HasStack, HasTrail, IsAtRest, IsEntry, IsResting, IsMoved, Key, Leaf, LeafElement, MatchOption, Move, Moves, Of_branch, Of_leaf, OpensByNext, OpensGap, Place, RestsOn, ShowsMove, Start, Trail, ahead, contents_in, counted, elements_in, entry_view, first_move, is_none, last_move, leaf_view, least_from, next_move, opened_to, option_map, pages_in, place_by, place_in, place_on, preceding, prev_move, props, pages_ahead, seek_move, trail_bucket, trail_frames, ∥∥₁_elim, ∥∥₁_map}
+use Rattle.bolt_tree.proofs.Words.{BucketView, Content, Contents, EntryView, Finds, Frame, IsOfSoundTree, HasStack, HasTrail, IsAtRest, IsEntry, IsResting, IsMoved, Key, Leaf, LeafElement, MatchOption, Move, Moves, Of_branch, Of_leaf, OpensByNext, OpensGap, Place, RestsOn, ShowsMove, Start, Trail, ahead, contents_in, counted, elements_in, entry_view, first_move, is_none, last_move, leaf_view, least_from, next_move, opened_to, option_map, tour_pages_in, place_by, place_in, place_on, preceding, prev_move, props, pages_ahead, seek_move, trail_bucket, trail_frames, ∥∥₁_elim, ∥∥₁_map}
 use Rattle.bolt_tree.proofs.OpeningMoves.{first_opens, next_opens}
 use Rattle.bolt_tree.proofs.PlaceMoves.{Comes, first_moves, go_moves, last_moves, seek_moves, stack_bucket, the_entries}
 use Rattle.bolt_tree.proofs.TrailLemmas.{empty_stack, same_bucket}
@@ -15,13 +15,13 @@ rest_prop [] = Prim.hlevel props
 rest_prop (f ∷ below) = rest_on_prop f.content f.taken
 
 -- before the first call
-pub fresh_resting : (trail : Trail) → HasBucket trail.pages → trail_frames trail ≡ [] → ∥ IsResting trail false ∥₁
+pub fresh_resting : (trail : Trail) → IsOfSoundTree trail.pages → trail_frames trail ≡ [] → ∥ IsResting trail false ∥₁
 fresh_resting trail is none = grind (arith, common_steps, empty_stack, is)
 
 pub resting_stack : (trail : Trail) (is_past : Bool) → ∥ IsResting trail is_past ∥₁ → HasTrail trail
 resting_stack trail is_past resting = ∥∥₁_elim resting (Prim.hlevel props) (λ h. h.stack)
 
-pub resting_bucket : (trail : Trail) (is_past : Bool) → ∥ IsResting trail is_past ∥₁ → HasBucket trail.pages
+pub resting_bucket : (trail : Trail) (is_past : Bool) → ∥ IsResting trail is_past ∥₁ → IsOfSoundTree trail.pages
 resting_bucket trail is_past resting = stack_bucket (trail_bucket trail) (trail_frames trail) (resting_stack trail is_past resting)
 
 pub resting_rest : (trail : Trail) (is_past : Bool) → ∥ IsResting trail is_past ∥₁ → IsAtRest (trail_frames trail)
@@ -62,7 +62,7 @@ module _ (old new : Trail) (moved : IsMoved old new) (is_past : Bool) (resting :
   abbrev MovesTo : (List LeafElement → Place → Move) → Place → Place → Type 0
   MovesTo move from to = Moves (IsEntry (trail_bucket old).file (trail_bucket old).meta) (trail_bucket old).start move from to (option_map leaf_view found)
 
-  is : HasBucket old.pages
+  is : IsOfSoundTree old.pages
   is = resting_bucket old is_past resting
 
   there : HasStack (trail_bucket old) (trail_frames new)
@@ -77,7 +77,7 @@ module _ (old new : Trail) (moved : IsMoved old new) (is_past : Bool) (resting :
   moves_first from h = rw moved.file (moves_by (λ entries place. first_move entries) from (place_on (contents_in (trail_bucket old)) (trail_frames new))
       (first_moves (trail_bucket old) found (trail_frames new) there (rw moved.file at h)))
 
-  pub opens_first : (before after : ℕ) → Finds false found elements (ahead new) (trail_frames new) [] → after ≡ counted before (length (pages_in (trail_bucket old)) - length (pages_ahead new)) → OpensGap (trail_bucket old) 0 before after
+  pub opens_first : (before after : ℕ) → Finds false found elements (ahead new) (trail_frames new) [] → after ≡ counted before (length (tour_pages_in (trail_bucket old)) - length (pages_ahead new)) → OpensGap (trail_bucket old) 0 before after
   opens_first before after h opened = first_opens (trail_bucket old) found (trail_frames new) before after is there (rw moved.file at h) (rw moved.file at opened)
 
   pub moves_last : (from : Place) → Finds true found elements (preceding new) (trail_frames new) [] → MovesTo (λ entries place. last_move entries) from (place_on (contents_in (trail_bucket new)) (trail_frames new))
@@ -100,7 +100,7 @@ module _ (old new : Trail) (moved : IsMoved old new) (is_past : Bool) (resting :
         (next_first (contents_in (trail_bucket old))) (moves_first (place_by false (contents_in (trail_bucket old)) []) h))
 
     pub opens_next_first : (before after : ℕ) → is_past ≡ false → Finds false found elements (ahead new) (trail_frames new) []
-        → after ≡ counted before (length (pages_in (trail_bucket old)) - length (pages_ahead new)) → OpensByNext (trail_bucket old) (place_by is_past (contents_in (trail_bucket old)) (trail_frames old)) before after
+        → after ≡ counted before (length (tour_pages_in (trail_bucket old)) - length (pages_ahead new)) → OpensByNext (trail_bucket old) (place_by is_past (contents_in (trail_bucket old)) (trail_frames old)) before after
     opens_next_first before after here h opened = rw (here, empty) (opens_first before after h opened)
 
     pub moves_prev_last : Finds true found elements (preceding new) (trail_frames new) []

@@ -1,7 +1,7 @@
 -- A number of pages that a seek opens: no more than the way down and the gap before the entry that it comes to. For every entry on a page after
 -- the nearest leaf is not below the key, so the page of the entry before is not after that leaf.
 use Rattle.std.proofs.Common.{◌≡◌, ℕ, zero, suc, ◌+◌, ◌-◌, ◌≤◌, ◌<◌, inl, inr, true, false, not, List, [], ◌∷◌, Some, None, Option, slice_get, length, refl, sym, ap, ◌∙◌, subst, arith}
-use Rattle.bolt_tree.proofs.Words.{AreSorted, Before, BranchElement, BucketView, HasCount, HasSoundTrees, Inline_page, IsEntry, IsGap, IsHome, IsNear, IsNearFrom, IsNearest, IsOnWay, IsPagesUpTo, IsSeekCount, IsSeekPage, IsSoundBucket, IsStart, Key, LeafElement, Meta, Root_page, Start, TourPage, branch_step, cases_lt, content_at, key_lt, leads, leads_child, leaf_ends, least_from, node_at, node_is, on_address, on_child, pages_in, prefix_len-le-length}
+use Rattle.bolt_tree.proofs.Words.{AreSorted, Before, BranchElement, BucketView, HasCount, HasSoundTrees, Inline_page, IsEntry, IsGap, IsHome, IsNear, IsNearFrom, IsNearest, IsOnWay, IsPagesUpTo, IsSeekCount, IsSeekPage, IsSoundBucket, IsStart, Key, LeafElement, Meta, Root_page, Start, TourPage, branch_step, cases_lt, content_at, key_lt, leads, leads_child, leaf_ends, least_from, node_at, node_is, on_address, on_child, tour_pages_in, prefix_len-le-length}
 use Rattle.bolt_format.specs.declared.header.Kind.TheVariants as kind
 use Rattle.bolt_check.proofs.Lists.{Has, at_has, contains_from_has, get_exists, has_from_contains, map_has}
 use Rattle.bolt_tree.proofs.{SeekLemmas.not_below, TourLemmas.IsUnder, TourLemmas.entries_shown, TourLemmas.under_child, WayPages.content_is}
@@ -39,15 +39,15 @@ module _ (file : List ℕ) (meta : Meta) (trees : HasSoundTrees file meta) where
 
 module _ (b : BucketView) (s : IsSoundBucket b) (key : Key) where
   -- the page of the nearest leaf
-  near_cut : (c : Cut (pages_in b)) × IsNear b.file b.meta b.start key c.page.address × (1 + length c.page.address ≤ 64)
+  near_cut : (c : Cut (tour_pages_in b)) × IsNear b.file b.meta b.start key c.page.address × (1 + length c.page.address ≤ 64)
   near_cut =
       let near = near_exists b.file b.meta s.trees b.start key s.start in
-      let r = map_has address_of (pages_in b) near.0 (address_visited b.file b.meta s.trees b.start near.0 s.start near.2) in
-      let c = has_cut (pages_in b) r.0 r.1 in
+      let r = map_has address_of (tour_pages_in b) near.0 (address_visited b.file b.meta s.trees b.start near.0 s.start near.2) in
+      let c = has_cut (tour_pages_in b) r.0 r.1 in
       (record { left = c.0; page = r.0; right = c.1; whole = c.2 }, subst (IsNear b.file b.meta b.start key) (sym r.2) near.1, subst (λ (a : List ℕ). 1 + length a ≤ 64) (sym r.2) near.3)
 
   -- how many pages lie after it, up to that of an entry
-  seek_pages : (c : Cut (pages_in b)) (o : Option LeafElement) → ((x : LeafElement) → o ≡ Some x → IsEntry b.file b.meta b.start x) → (m : ℕ) × HasCount (IsSeekPage b.file b.meta b.start c.page.address o) m
+  seek_pages : (c : Cut (tour_pages_in b)) (o : Option LeafElement) → ((x : LeafElement) → o ≡ Some x → IsEntry b.file b.meta b.start x) → (m : ℕ) × HasCount (IsSeekPage b.file b.meta b.start c.page.address o) m
   seek_pages c None entry = (length c.right, exact_count (after_exact b s c))
   seek_pages c (Some x) entry = let at = entry_at b s x (entry x refl) in (length c.right - length at.cut.right, exact_count (seek_exact b s c x at))
 
@@ -58,7 +58,7 @@ module _ (b : BucketView) (s : IsSoundBucket b) (key : Key) where
         let m = seek_pages near.0 (slice_get entries (least_from key entries)) (λ x g. (sorted.exact x).0 (contains_from_has entries x (at_has entries (least_from key entries) x g))) in
         (1 + length near.0.page.address + m.0, record { near = near.0.page.address; down = near.1; further = m.0; counted = m.1; sum = refl {a = 1 + length near.0.page.address + m.0} })
 
-    module _ (c : Cut (pages_in b)) (near : IsNear b.file b.meta b.start key c.page.address) where
+    module _ (c : Cut (tour_pages_in b)) (near : IsNear b.file b.meta b.start key c.page.address) where
       -- the page of an entry below the key is not after the nearest leaf
       not_after : (e : LeafElement) (at : IsAt b e) → key_lt e.key key ≡ true → length at.cut.left ≤ length c.left
       not_after e at less = elim (cases_lt (length c.left) (length at.cut.left)) [

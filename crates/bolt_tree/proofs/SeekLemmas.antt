@@ -1,7 +1,7 @@
 -- On the way down to the leaf that is near a key, the key is between what was passed and what comes later.
 use Rattle.std.proofs.lemmas.Grind.{common_steps}
 use Rattle.std.proofs.Common.{◌≡◌, ℕ, suc, ◌+◌, ◌-◌, ◌≤◌, ◌<◌, inl, inr, Bool, true, false, List, [], ◌∷◌, ◌++◌, Some, Ok, slice_get, length, drop, take, refl, sym, ap, ◌∙◌, subst, arith}
-use Rattle.bolt_tree.proofs.Words.{AreBelow, BranchElement, BucketView, Contents, Frame, HasSoundTrees, HasStack, IsBetween, IsOnWay, IsPlaceOf, Key, LeafElement, Meta, Of_branch, PageView, TourPage, address_on, branch_node, cases_lt, content_at, content_keys, contents_in, elements_of, false_from_ne_true, flat_map-append, key_lt, passed_of, lt_not_trans, lt_trans, node_at, none-some, not-false, not-true, on_child, option_map, props, later_of, slice_get-map, tour, under_at, ∥∥₁_elim}
+use Rattle.bolt_tree.proofs.Words.{AreBelow, BranchElement, BucketView, Contents, Frame, HasSoundTrees, HasStack, IsBetween, IsOnWay, IsPlaceOf, Key, LeafElement, Meta, Of_branch, PageView, TourPage, address_on, branch_node, cases_lt, content_at, content_keys, contents_in, tour_elements, false_from_ne_true, flat_map-append, key_lt, passed_of, lt_not_trans, lt_trans, node_at, none-some, not-false, not-true, on_child, option_map, props, later_of, slice_get-map, tour, under_at, ∥∥₁_elim}
 use Rattle.bolt_check.proofs.Lists.{Has, at_has, flat_has, get_before, has_at, has_split}
 use Rattle.bolt_tree.proofs.TourLemmas.{IsUnder, branches_rise, tour_led, under_child, under_has}
 use Rattle.bolt_tree.proofs.WayPages.{branch_page}
@@ -42,7 +42,7 @@ module _ (file : List ℕ) (meta : Meta) (trees : HasSoundTrees file meta) where
     under_all i elements = under_at (content_at file meta) H address i elements
 
     pub side_left : (i : ℕ) (e : BranchElement) (key : Key) (x : LeafElement) → slice_get view.branches i ≡ Some e → key_lt key e.key ≡ false
-        → Has (elements_of (under_all 0 (take i view.branches))) x → key_lt x.key key ≡ true
+        → Has (tour_elements (under_all 0 (take i view.branches))) x → key_lt x.key key ≡ true
     side_left i e key x g h m =
         let r = flat_has (λ (v : TourPage). v.entries) (under_all 0 (take i view.branches)) x m in
         let q = under_has (λ j child. tour (content_at file meta) (62 - H) (address ++ j ∷ []) (content_at file meta child)) 0 (take i view.branches) r.0 r.1 in
@@ -50,7 +50,7 @@ module _ (file : List ℕ) (meta : Meta) (trees : HasSoundTrees file meta) where
         lt_not_trans x.key e.key key (below_later q.0 i q.1 q.2 e r.0 x d.1 d.0 g q.5 r.2) h
 
     pub side_right : (i : ℕ) (key : Key) (x : LeafElement) → ((k : ℕ) (d : BranchElement) → i ≤ k → slice_get view.branches k ≡ Some d → key_lt key d.key ≡ true)
-        → Has (elements_of (under_all i (drop i view.branches))) x → key_lt x.key key ≡ false
+        → Has (tour_elements (under_all i (drop i view.branches))) x → key_lt x.key key ≡ false
     side_right i key x later m =
         let r = flat_has (λ (v : TourPage). v.entries) (under_all i (drop i view.branches)) x m in
         let q = under_has (λ j child. tour (content_at file meta) (62 - H) (address ++ j ∷ []) (content_at file meta child)) i (drop i view.branches) r.0 r.1 in
@@ -73,7 +73,7 @@ are_append below key xs ys a b k e g = elim (has_split xs ys e (at_has (xs ++ ys
   | inr r ↦ (let p = has_at ys e r in b p.0 e p.1)
 ]
 
-nothing_left : (contents : Contents) (H : ℕ) (address : List ℕ) (i : ℕ) (elements : List BranchElement) (x : LeafElement) → i ≡ 0 → Has (elements_of (under_at contents H address 0 (take i elements))) x → ⊥
+nothing_left : (contents : Contents) (H : ℕ) (address : List ℕ) (i : ℕ) (elements : List BranchElement) (x : LeafElement) → i ≡ 0 → Has (tour_elements (under_at contents H address 0 (take i elements))) x → ⊥
 nothing_left contents H address i elements x e h = grind arith
 
 -- under the nearest element the key still stands between
@@ -87,27 +87,27 @@ between_down bucket key elements i n t e below stack is g place deep between =
     let next : i + 1 ≡ suc i = omega arith in
     record {
       passed =
-          let inner : AreBelow true key (elements_of (under_at contents (length below) (address_on below) 0 (take i elements))) = λ k x h.
+          let inner : AreBelow true key (tour_elements (under_at contents (length below) (address_on below) 0 (take i elements))) = λ k x h.
           ∥∥₁_elim stack (Prim.hlevel props) (λ s.
           let page = branch_page bucket.file bucket.meta s.0.trees s.1.0.good.0 (suc (length below)) elements s.1.0.good.1 s.1.0.good.2 in
-          let m = rw (← page.branches) at (at_has (elements_of (under_at contents (length below) (address_on below) 0 (take i elements))) k x h) in
+          let m = rw (← page.branches) at (at_has (tour_elements (under_at contents (length below) (address_on below) 0 (take i elements))) k x h) in
           elim (cases_lt i n) [
             | inl lt ↦ side_left bucket.file bucket.meta s.0.trees s.1.0.good.0 (length below) page.view s.1.0.good.1 page.node deep (address_on below) i e key x (rw page.branches g) (not_above elements key n i e place lt g) m
-            | inr ge ↦ (let zero_i : i ≡ 0 = omega arith in absurd (nothing_left contents (length below) (address_on below) i elements x zero_i (at_has (elements_of (under_at contents (length below) (address_on below) 0 (take i elements))) k x h)))
+            | inr ge ↦ (let zero_i : i ≡ 0 = omega arith in absurd (nothing_left contents (length below) (address_on below) i elements x zero_i (at_has (tour_elements (under_at contents (length below) (address_on below) 0 (take i elements))) k x h)))
           ]) in
-          let whole : elements_of (passed_of contents (record { content = Of_branch elements; taken = i + 1 } ∷ below)) ≡ elements_of (passed_of contents below) ++ elements_of (under_at contents (length below) (address_on below) 0 (take i elements)) =
+          let whole : tour_elements (passed_of contents (record { content = Of_branch elements; taken = i + 1 } ∷ below)) ≡ tour_elements (passed_of contents below) ++ tour_elements (under_at contents (length below) (address_on below) 0 (take i elements)) =
           flat_map-append (λ (v : TourPage). v.entries) (passed_of contents below) (record { address = address_on below; entries = [] } ∷ under_at contents (length below) (address_on below) 0 (take ((i + 1) - 1) elements))
-          ∙ ap (λ (j : ℕ). elements_of (passed_of contents below) ++ elements_of (under_at contents (length below) (address_on below) 0 (take j elements))) back in
-          subst (AreBelow true key) (sym whole) (are_append true key (elements_of (passed_of contents below)) (elements_of (under_at contents (length below) (address_on below) 0 (take i elements))) between.passed inner);
+          ∙ ap (λ (j : ℕ). tour_elements (passed_of contents below) ++ tour_elements (under_at contents (length below) (address_on below) 0 (take j elements))) back in
+          subst (AreBelow true key) (sym whole) (are_append true key (tour_elements (passed_of contents below)) (tour_elements (under_at contents (length below) (address_on below) 0 (take i elements))) between.passed inner);
       later =
-          let inner : AreBelow false key (elements_of (under_at contents (length below) (address_on below) (suc i) (drop (suc i) elements))) = λ k x h.
+          let inner : AreBelow false key (tour_elements (under_at contents (length below) (address_on below) (suc i) (drop (suc i) elements))) = λ k x h.
           ∥∥₁_elim stack (Prim.hlevel props) (λ s.
           let page = branch_page bucket.file bucket.meta s.0.trees s.1.0.good.0 (suc (length below)) elements s.1.0.good.1 s.1.0.good.2 in
-          let m = rw (← page.branches) at (at_has (elements_of (under_at contents (length below) (address_on below) (suc i) (drop (suc i) elements))) k x h) in
+          let m = rw (← page.branches) at (at_has (tour_elements (under_at contents (length below) (address_on below) (suc i) (drop (suc i) elements))) k x h) in
           side_right bucket.file bucket.meta s.0.trees s.1.0.good.0 (length below) page.view s.1.0.good.1 page.node deep (address_on below) (suc i) key x
           (λ j d l gd. is_above elements key n j d place (omega (arith, l, is)) (ap (λ (es : List BranchElement). slice_get es j) (sym page.branches) ∙ gd)) m) in
-          let whole : elements_of (later_of contents (record { content = Of_branch elements; taken = i + 1 } ∷ below)) ≡ elements_of (under_at contents (length below) (address_on below) (suc i) (drop (suc i) elements)) ++ elements_of (later_of contents below) =
+          let whole : tour_elements (later_of contents (record { content = Of_branch elements; taken = i + 1 } ∷ below)) ≡ tour_elements (under_at contents (length below) (address_on below) (suc i) (drop (suc i) elements)) ++ tour_elements (later_of contents below) =
           flat_map-append (λ (v : TourPage). v.entries) (under_at contents (length below) (address_on below) (i + 1) (drop (i + 1) elements)) (later_of contents below)
-          ∙ ap (λ (j : ℕ). elements_of (under_at contents (length below) (address_on below) j (drop j elements)) ++ elements_of (later_of contents below)) next in
-          subst (AreBelow false key) (sym whole) (are_append false key (elements_of (under_at contents (length below) (address_on below) (suc i) (drop (suc i) elements))) (elements_of (later_of contents below)) inner between.later);
+          ∙ ap (λ (j : ℕ). tour_elements (under_at contents (length below) (address_on below) j (drop j elements)) ++ tour_elements (later_of contents below)) next in
+          subst (AreBelow false key) (sym whole) (are_append false key (tour_elements (under_at contents (length below) (address_on below) (suc i) (drop (suc i) elements))) (tour_elements (later_of contents below)) inner between.later);
     }

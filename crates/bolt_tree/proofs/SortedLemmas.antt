@@ -1,6 +1,6 @@
 -- The entries of a bucket in order are the elements along its tour, and there is one such list.
 use Rattle.std.proofs.Common.{rules, ◌≡◌, ℕ, List, [], ◌∷◌, ◌++◌, Some, slice_get, map, refl, sym, ap, ◌∙◌, subst, arith, inl, inr, eq-eqb, eqb}
-use Rattle.bolt_tree.proofs.Words.{AreEntries, Contains, HasSoundTrees, Inline_page, IsEntry, IsHome, IsStart, KeysRise, LeafElement, Meta, Root_page, Start, TourPage, content_at, elements_of, entry_cmp, head_root, inline_elements, inline_page, inline_reached, leads, less_of, lt_strict, node_at, node_is, option_map, pages_at, slice_get-map}
+use Rattle.bolt_tree.proofs.Words.{AreEntries, Contains, HasSoundTrees, Inline_page, IsEntry, IsHome, IsStart, KeysRise, LeafElement, Meta, Root_page, Start, TourPage, content_at, tour_elements, entry_cmp, head_root, inline_elements, inline_page, inline_reached, leads, less_of, lt_strict, node_at, node_is, option_map, pages_at, slice_get-map}
 use Rattle.bolt_format.specs.declared.header.Kind.TheVariants as kind
 use Rattle.bolt_tree.specs.Order as order
 use Rattle.bolt_check.proofs.Lists.{Has, RisesBy, contains_from_has, flat_has, has_at, has_flat, has_from_contains, one_list, rises_flat, rises_from_gets, rises_weaker}
@@ -64,12 +64,12 @@ module _ (file : List ℕ) (meta : Meta) (trees : HasSoundTrees file meta) where
   start_rises (Root_page number) is = tour_rises file meta trees 63 number 1 [] is (omega arith)
   start_rises (Inline_page elements) is = (λ y h. absurd h, tt)
 
-  pub elements_rise : (start : Start) → IsStart file meta start → RisesBy IsBelowElement (elements_of (pages_at file meta start))
+  pub elements_rise : (start : Start) → IsStart file meta start → RisesBy IsBelowElement (tour_elements (pages_at file meta start))
   elements_rise start is = rises_flat IsBelowElement (λ (v : TourPage). v.entries) (pages_at file meta start) (λ v h. (visit_is start v is h).rises)
       (rises_weaker IsApart (λ v w. (a b : LeafElement) → Has v.entries a → Has w.entries b → IsBelowElement a b) (pages_at file meta start) (λ v w a. a.keys) (start_rises start is))
 
   -- what is on the tour is an entry of the bucket
-  pub is_entry : (start : Start) (x : LeafElement) → IsStart file meta start → Has (elements_of (pages_at file meta start)) x → IsEntry file meta start x
+  pub is_entry : (start : Start) (x : LeafElement) → IsStart file meta start → Has (tour_elements (pages_at file meta start)) x → IsEntry file meta start x
   is_entry start x is h =
       let r = flat_has (λ (v : TourPage). v.entries) (pages_at file meta start) x h in
       entry_from file meta start x r.0.address ((visit_is start r.0 is r.1).home x r.2)
@@ -83,15 +83,15 @@ module _ (file : List ℕ) (meta : Meta) (trees : HasSoundTrees file meta) where
       (view.leaves, subst (λ (es : List LeafElement). Has (pages_at file meta (Root_page number)) (record { address = address; entries = es })) same r, has_from_contains view.leaves x has)
   home_visited (Inline_page elements) address x is (empty, has) = (elements, inl (rw empty refl), has_from_contains elements x has)
 
-  pub entry_visited : (start : Start) (x : LeafElement) → IsStart file meta start → IsEntry file meta start x → Has (elements_of (pages_at file meta start)) x
+  pub entry_visited : (start : Start) (x : LeafElement) → IsStart file meta start → IsEntry file meta start x → Has (tour_elements (pages_at file meta start)) x
   entry_visited start x is e = grind (arith, entry_home, home_visited, has_flat)
 
   -- the sorted entries
-  pub sorted : (start : Start) → IsStart file meta start → AreEntries (IsEntry file meta) start (elements_of (pages_at file meta start))
+  pub sorted : (start : Start) → IsStart file meta start → AreEntries (IsEntry file meta) start (tour_elements (pages_at file meta start))
   sorted start is = search (rules, rises_order, elements_rise, is_entry, has_from_contains, contains_from_has, entry_visited)
 
   pub entries_exist : (start : Start) → IsStart file meta start → (entries : List LeafElement) × AreEntries (IsEntry file meta) start entries
-  entries_exist start is = (elements_of (pages_at file meta start), sorted start is)
+  entries_exist start is = (tour_elements (pages_at file meta start), sorted start is)
 
 below_strict : (a b : LeafElement) → IsBelowElement a b → IsBelowElement b a → ⊥
 below_strict a b h k = lt_strict a.key b.key h k

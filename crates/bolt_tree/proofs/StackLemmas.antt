@@ -1,6 +1,6 @@
 -- What a push does to a stack, and the root page of a bucket, alone on a stack.
 use Rattle.std.proofs.Common.{◌≡◌, ℕ, suc, ◌+◌, ◌-◌, ◌≤◌, List, [], ◌∷◌, ◌++◌, Some, slice_get, length, drop, take, sym, ap, ◌∙◌, arith, append_assoc, append-nil}
-use Rattle.bolt_tree.proofs.Words.{BranchElement, BucketView, Checked, Content, Contents, Frame, HasSoundTrees, HasStack, HasStart, IsGoodContent, IsOnWay, IsSoundBucket, IsStack, IsStart, Of_branch, Root_page, Start, TourPage, address_on, ahead_of, all_under, bucket_in, bytes_of, checked_trees, content_at_start, content_length, contents_in, elements_in, elements_of, here_under, passed_of, passed_under, meta_of, none-some, on_child, pages_in, props, later_of, later_under, root_content, shallow, tour, ∥∥₁_elim, ∥∥₁_map, ∥∥₁_prop}
+use Rattle.bolt_tree.proofs.Words.{BranchElement, BucketView, Checked, Content, Contents, Frame, HasSoundTrees, HasStack, HasStart, IsGoodContent, IsOnWay, IsSoundBucket, IsStack, IsStart, Of_branch, Root_page, Start, TourPage, address_on, ahead_of, all_under, bucket_in, bytes_of, checked_trees, content_at_start, content_length, contents_in, elements_in, tour_elements, here_under, passed_of, passed_under, meta_of, none-some, on_child, tour_pages_in, props, later_of, later_under, root_content, shallow, tour, ∥∥₁_elim, ∥∥₁_map, ∥∥₁_prop}
 use Rattle.bolt_tree.proofs.{TourLemmas.not_deepest, WayPages.branch_page}
 
 -- what lies under the elements of a branch, cut at one
@@ -67,9 +67,9 @@ module _ (bucket : BucketView) (trees : HasSoundTrees bucket.file bucket.meta) w
       let next : suc t ≡ t + 1 = omega arith in
       let address = address_on below in
       let cut = tour_cut contents (63 - length below) (62 - length below) t address elements e fuel g in
-      let placed : pages_in bucket ≡ (passed_of contents below ++ passed_under contents (length below) address (Of_branch elements) t)
+      let placed : tour_pages_in bucket ≡ (passed_of contents below ++ passed_under contents (length below) address (Of_branch elements) t)
       ++ (tour contents (62 - length below) (address ++ t ∷ []) (contents e.child) ++ (later_under contents (length below) address (Of_branch elements) (suc t) ++ later_of contents below)) =
-      cut_between (passed_of contents below) (later_of contents below) (pages_in bucket) (tour contents (63 - length below) address (Of_branch elements)) (record { address = address; entries = [] })
+      cut_between (passed_of contents below) (later_of contents below) (tour_pages_in bucket) (tour contents (63 - length below) address (Of_branch elements)) (record { address = address; entries = [] })
       (all_under (under contents (62 - length below) address) 0 (take t elements)) (under contents (62 - length below) address t e.child)
       (all_under (under contents (62 - length below) address) (suc t) (drop (suc t) elements)) over.placed cut in (
         record {
@@ -147,7 +147,7 @@ top_of : (contents : Contents) (content : Content) → tour contents 63 [] conte
 top_of contents content = grind (arith, append-nil)
 
 pub root_ahead : (bucket : BucketView) → ahead_of (contents_in bucket) (record { content = root_content bucket; taken = 0 } ∷ []) ≡ elements_in bucket
-root_ahead bucket = sym (ap elements_of (top_of (contents_in bucket) (root_content bucket)))
+root_ahead bucket = sym (ap tour_elements (top_of (contents_in bucket) (root_content bucket)))
 
-pub root_right : (bucket : BucketView) → length (pages_in bucket) ≡ suc (length (later_of (contents_in bucket) (record { content = root_content bucket; taken = 0 } ∷ [])))
+pub root_right : (bucket : BucketView) → length (tour_pages_in bucket) ≡ suc (length (later_of (contents_in bucket) (record { content = root_content bucket; taken = 0 } ∷ [])))
 root_right bucket = ap length (top_of (contents_in bucket) (root_content bucket))

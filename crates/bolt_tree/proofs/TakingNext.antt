@@ -1,7 +1,7 @@
 -- The next entry is in the same leaf, and is taken: one element more of the page on top of the stack, in place.
 use Rattle.std.proofs.Common.{◌≡◌, ◌∙◌, ◌+◌, ◌-◌, ◌<◌, ◌≤◌, ℕ, suc, Bool, false, IsTrue, List, [], ◌∷◌, ◌++◌, None, Some, length, slice_get, slice_index_or, slice_set, take, refl, sym, ap, subst, append-nil, arith}
 use Rattle.std.proofs.lemmas.Grind.{common_steps}
-use Rattle.bolt_tree.proofs.Words.{Frame, HasStack, IsResting, Leaf, Moves, Of_leaf, OpensByNext, Place, Position, StandsOn, Trail, content_length, contents_in, counted, drop_all, entries_of, frame_of, frames_of, get_or_default, leaf_view, leaves_on, length-set, next_move, opened_content, pager_checked, pager_opened, pages_ahead, place_by, refill, slice_get_read, start_at, take-suc-set, take_all, take_next, trail_bucket, trail_frames}
+use Rattle.bolt_tree.proofs.Words.{Frame, HasStack, IsResting, Leaf, Moves, Of_leaf, OpensByNext, Place, Position, LeafStandsOn, Trail, content_length, contents_in, counted, drop_all, entries_of, frame_of, frames_of, get_or_default, leaf_view, leaves_on, length-set, next_move, opened_content, pager_checked, pager_opened, pages_ahead, place_by, refill, slice_get_read, start_at, take-suc-set, take_all, take_next, trail_bucket, trail_frames}
 use Rattle.bolt_tree.proofs.{MoveLemmas.entry_taken, MoveLemmas.page_left, MoveLemmas.taken_entry, PagerLemmas.counted_zero, PlaceMoves.on_rests, StackLemmas.retaken}
 use Rattle.bolt_tree.proofs.{RestingLemmas.moved_resting, RestingLemmas.moves_next, RestingLemmas.opens_next, RestingLemmas.resting_rest, RestingLemmas.resting_stack, TrailLemmas.filled, TrailLemmas.frames_push}
 use Rattle.bolt_tree.specs.Private.Trails.{Goes}
@@ -55,7 +55,7 @@ module _ (old : Trail) (is_past : Bool) (resting : ∥ IsResting old is_past ∥
     some : top.taken < content_length (opened_content top.page)
     some = rw content less
 
-    stands : StandsOn (opened_content top.page) (top.taken + 1) (leaf_view leaf)
+    stands : LeafStandsOn (opened_content top.page) (top.taken + 1) (leaf_view leaf)
     stands = let back : (top.taken + 1) - 1 ≡ top.taken = omega arith in rw (content, back) (omega arith, shown)
 
     restacked : HasStack (trail_bucket old) (record { content = opened_content top.page; taken = top.taken + 1 } ∷ below)

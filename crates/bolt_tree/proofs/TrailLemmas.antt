@@ -1,7 +1,7 @@
 -- What the moves of a trail do to its stack.
 use Rattle.std.proofs.lemmas.Grind.{common_steps}
 use Rattle.std.proofs.Common.{◌≡◌, ◌==◌, ℕ, suc, ◌+◌, ◌-◌, ◌≤◌, ◌<◌, Bool, true, false, List, [], ◌∷◌, ◌++◌, Some, None, slice_get, length, map, reverse, drop, refl, sym, ap, ◌∙◌, subst, arith, append_assoc, append-nil}
-use Rattle.bolt_tree.proofs.Words.{BranchElement, BucketPages, BucketView, Content, Contents, Frame, HasBucket, HasStack, HasTrail, IsBranchContent, IsBranchTop, IsEntered, IsOn, IsMoved, LeafElement, Of_branch, Of_leaf, Position, Trail, TourPage, address_on, ahead_of, content_length, contents_in, drop_all, drop_at, frame_of, frames_of, here_of, here_under, length-map, length-reverse, nat_tests, option_to_list, pages_bucket, props, reverse-append, later_of, later_under, tour, taken_at, trail_bucket, trail_frames, trail_on, under_at, ∥∥₁_elim, ∥∥₁_map}
+use Rattle.bolt_tree.proofs.Words.{BranchElement, BucketPages, BucketView, Content, Contents, Frame, IsOfSoundTree, HasStack, HasTrail, IsBranchContent, IsBranchTop, IsEntered, IsOn, IsMoved, LeafElement, Of_branch, Of_leaf, Position, Trail, TourPage, address_on, ahead_of, content_length, contents_in, drop_all, drop_at, frame_of, frames_of, here_of, here_under, length-map, length-reverse, nat_tests, option_to_list, pages_bucket, props, reverse-append, later_of, later_under, tour, taken_at, trail_bucket, trail_frames, trail_on, under_at, ∥∥₁_elim, ∥∥₁_map}
 use Rattle.bolt_tree.proofs.StackLemmas.{branch_room, retaken, stack_short, under_next}
 
 -- one equation moves every fact of a bucket
@@ -120,7 +120,7 @@ pub popped_none : (pages : BucketPages) (old items : List Position) → old ≡ 
 popped_none pages old items e stack = subst (λ (ps : List Position). HasStack (pages_bucket pages) (frames_of ps)) (e ∙ append-nil items) stack
 
 -- an empty stack is one of each bucket
-pub empty_stack : (trail : Trail) → HasBucket trail.pages → trail_frames trail ≡ [] → HasTrail trail
+pub empty_stack : (trail : Trail) → IsOfSoundTree trail.pages → trail_frames trail ≡ [] → HasTrail trail
 empty_stack trail is none = subst (HasStack (trail_bucket trail)) (sym none) (∥∥₁_map is (λ s. (s, tt)))
 
 -- a stack that was kept is still one of the bucket

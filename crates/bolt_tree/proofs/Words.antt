@@ -25,14 +25,14 @@ pub use Rattle.bolt_tree.specs.Listing.{IsListing, Lists, Member, member_cmp, re
 pub use Rattle.bolt_tree.specs.Openings.{GapsCoverAll, HasCount, IsAddress, IsAfter, IsGap, IsHome, IsNear, IsNearFrom, IsNearest, IsPagesUpTo, IsSeekCount}
 pub use Rattle.bolt_tree.specs.{Openings.IsSeekPage, Openings.IsUpTo, Openings.sum_to, Order.IsBelow, Order.Rises}
 pub use Rattle.bolt_tree.specs.Paths.{HasEntries, Holds, Names, Path, path_cmp, path_of}
-pub use Rattle.bolt_tree.specs.Places.{Fresh, Move, Moves, On, Past, Place, ShowsMove, first_move, last_move, least_from, next_move, nothing_at, onto, place_in}
+pub use Rattle.bolt_tree.specs.Places.{Fresh, Move, Moves, On, Past, Place, ShowsMove, first_move, last_move, least_from, next_move, nothing_at, move_onto, place_in}
 pub use Rattle.bolt_tree.specs.Places.{prev_move, seek_move}
-pub use Rattle.bolt_tree.specs.Private.BucketPages.{IsSoundBucket, contents_in, elements_in, pages_in, root_content}
+pub use Rattle.bolt_tree.specs.Private.BucketPages.{IsSoundBucket, contents_in, elements_in, tour_pages_in, root_content}
 pub use Rattle.bolt_tree.specs.Private.Contents.{Content, Contents, Of_branch, Of_leaf, content_by, content_keys, content_length, content_of, content_seen}
-pub use Rattle.bolt_tree.specs.Private.CursorViews.{AreOfFile, IsInnermost, Opens, cursor_view, fresh_view, innermost_views}
+pub use Rattle.bolt_tree.specs.Private.CursorViews.{AreCursorsOfFile, IsInnermost, Opens, cursor_view, fresh_view, innermost_views}
 pub use Rattle.bolt_tree.specs.{Private.Entered.IsEntered, Private.Entered.opened_to, Private.Entered.taken_at, Private.Resting.IsResting, Private.Resting.place_by}
 pub use Rattle.bolt_tree.specs.Private.Resting.{place_on}
-pub use Rattle.bolt_tree.specs.Private.Kept.{AreKept, CursorView, IsKept, kept_view, kept_views}
+pub use Rattle.bolt_tree.specs.Private.Kept.{AreKept, CursorView, IsKeptStack, kept_view, kept_views}
 pub use Rattle.bolt_tree.specs.Private.OpenBuckets.{AreOpen, ComesNext, IsAhead, IsInPlace, IsInside, IsNamed, cursors_of, is_end, left_by, open_path, reported_path, waiting_of}
 pub use Rattle.bolt_tree.specs.Private.PageKeys.{IsPlaceOf, doubled, stands_before}
 pub use Rattle.bolt_tree.specs.Private.Seeks.{AreBelow, IsBetween, IsNearTo, IsNearTop, IsOnWayDown, IsSought, top_address}
@@ -40,10 +40,10 @@ pub use Rattle.bolt_tree.specs.Private.ShownPages.{opened_content}
 pub use Rattle.bolt_tree.specs.Private.Stacks.{Frame, HasStack, IsAtRest, IsBeside, IsBranchContent, IsBranchTop, IsGoodContent, IsLast, IsLeafContent}
 pub use Rattle.bolt_tree.specs.Private.Stacks.{IsLeafTop, IsOn}
 pub use Rattle.bolt_tree.specs.Private.Stacks.{IsStack}
-pub use Rattle.bolt_tree.specs.Private.Stacks.{RestsOn, StandsOn, address_on, ahead_of, before_of, before_under, done_of, done_under, here_of, here_under}
+pub use Rattle.bolt_tree.specs.Private.Stacks.{RestsOn, LeafStandsOn, address_on, ahead_of, pages_before, before_under, done_of, done_under, here_of, here_under}
 pub use Rattle.bolt_tree.specs.Private.Stacks.{index_of, passed_under, preceding_of, later_of, later_under, under_at}
-pub use Rattle.bolt_tree.specs.Private.Tours.{TourPage, all_under, content_at_start, elements_of, pages_at, tour}
-pub use Rattle.bolt_tree.specs.Private.Trails.{Finds, HasBucket, HasTrail, IsMoved, ahead, entries_left, entries_to, frame_of, frames_of, nearer, pages_left}
+pub use Rattle.bolt_tree.specs.Private.Tours.{TourPage, all_under, content_at_start, tour_elements, pages_at, tour}
+pub use Rattle.bolt_tree.specs.Private.Trails.{Finds, IsOfSoundTree, HasTrail, IsMoved, ahead, trail_entries_left, entries_to, frame_of, frames_of, nearer, pages_left}
 pub use Rattle.bolt_tree.specs.Private.Trails.{pages_ahead, pages_to, preceding}
 pub use Rattle.bolt_tree.specs.Private.Trails.{Trail, pages_bucket, trail_bucket, trail_frames, trail_on}
 pub use Rattle.bolt_tree.specs.{RestAfter.beyond, RestAfter.by_first, RestAfter.is_beyond, RestAfter.rest_after, ShownEntries.item_view}

@@ -43,8 +43,8 @@ ReturnsElement move old new found =
     Moves (entries_of (cursor_checked old)) (cursor_start old) move (cursor_place old) (cursor_place new) (option_map leaf_view found)
 
 -- the element of the entry that it is on
-abbrev pub IsCurrent : Cursor → Option Leaf → Type 0
-IsCurrent cursor found = IsEntryAt (entries_of (cursor_checked cursor)) (cursor_start cursor) (cursor_place cursor) (option_map leaf_view found)
+abbrev pub IsElementOf : Cursor → Option Leaf → Type 0
+IsElementOf cursor found = IsEntryAt (entries_of (cursor_checked cursor)) (cursor_start cursor) (cursor_place cursor) (option_map leaf_view found)
 
 -- what the calls open
 abbrev pub FirstOpens : (old new : Cursor) → Type 0

@@ -2,7 +2,7 @@
 -- and an inline one has no bucket in it. So buckets nest no deeper than there are pages below the mark, and one.
 use Rattle.std.specs.Prelude.{ℕ, zero, suc, List, [], ◌∷◌, if◌then◌else◌}
 use Rattle.bolt_format.specs.{Elements.LeafElement, Elements.head_sequence, declared.meta.Meta.Meta}
-use Rattle.bolt_tree.specs.{Entries.Root_page, Entries.Start, Entries.start_of, Private.Tours.elements_of, Private.Tours.pages_at}
+use Rattle.bolt_tree.specs.{Entries.Root_page, Entries.Start, Entries.start_of, Private.Tours.tour_elements, Private.Tours.pages_at}
 use Rattle.bolt_tree.specs.Tree.{Tree, end, with_bucket, with_value}
 
 -- the tree of these entries, if this is inside their buckets
@@ -19,7 +19,7 @@ tree_within entries (suc n) bucket = tree_with (tree_within entries n) (entries 
 
 -- the elements of a bucket in their order
 abbrev pub file_entries : List ℕ → Meta → Start → List LeafElement
-file_entries file meta bucket = elements_of (pages_at file meta bucket)
+file_entries file meta bucket = tour_elements (pages_at file meta bucket)
 
 unfoldable pub file_tree : List ℕ → Meta → Tree
 file_tree file meta = tree_within (file_entries file meta) (suc meta.high_water) (Root_page meta.root)

@@ -17,8 +17,8 @@ pub record Move : Type 0 where
   pub place : Place
   pub answer : Option LeafElement
 
-abbrev pub onto : List LeafElement → ℕ → Move
-onto entries i = record { place = On i; answer = slice_get entries i }
+abbrev pub move_onto : List LeafElement → ℕ → Move
+move_onto entries i = record { place = On i; answer = slice_get entries i }
 
 abbrev pub nothing_at : Place → Move
 nothing_at place = record { place = place; answer = None }
@@ -26,16 +26,16 @@ nothing_at place = record { place = place; answer = None }
 -- without entries every call returns nothing, and the place stays fresh
 abbrev pub first_move : List LeafElement → Move
 first_move [] = nothing_at Fresh
-first_move (e ∷ entries) = onto (e ∷ entries) 0
+first_move (e ∷ entries) = move_onto (e ∷ entries) 0
 
 abbrev pub last_move : List LeafElement → Move
 last_move [] = nothing_at Fresh
-last_move (e ∷ entries) = onto (e ∷ entries) (length entries)
+last_move (e ∷ entries) = move_onto (e ∷ entries) (length entries)
 
 -- to the next entry; at the last one nothing, and the place stays
 abbrev pub next_move : List LeafElement → Place → Move
 next_move entries Fresh = first_move entries
-next_move entries (On i) = if nat_lt (suc i) (length entries) then onto entries (suc i) else nothing_at (On i)
+next_move entries (On i) = if nat_lt (suc i) (length entries) then move_onto entries (suc i) else nothing_at (On i)
 next_move [] Past = nothing_at Fresh
 next_move (e ∷ entries) Past = nothing_at Past
 
@@ -43,7 +43,7 @@ next_move (e ∷ entries) Past = nothing_at Past
 abbrev pub prev_move : List LeafElement → Place → Move
 prev_move entries Fresh = last_move entries
 prev_move entries (On zero) = nothing_at (On 0)
-prev_move entries (On (suc i)) = onto entries i
+prev_move entries (On (suc i)) = move_onto entries i
 prev_move entries Past = last_move entries
 
 -- the least entry with a key at or above this one, or the number of entries if there is none
@@ -54,7 +54,7 @@ least_from key entries = position_or_len (λ (e : LeafElement). not (key_lt e.ke
 abbrev pub seek_move : Key → List LeafElement → Move
 seek_move key [] = nothing_at Fresh
 seek_move key (e ∷ entries) =
-    if nat_lt (least_from key (e ∷ entries)) (length (e ∷ entries)) then onto (e ∷ entries) (least_from key (e ∷ entries)) else nothing_at Past
+    if nat_lt (least_from key (e ∷ entries)) (length (e ∷ entries)) then move_onto (e ∷ entries) (least_from key (e ∷ entries)) else nothing_at Past
 
 -- moves that come to the same place from each
 abbrev pub to_first : List LeafElement → Place → Move

@@ -22,13 +22,13 @@ pub(crate) struct BucketPages<'a> {
 
 #[tactic(auto, using(crate::proofs::StackLemmas::retaken, crate::proofs::PagerLemmas::counted_zero, crate::proofs::TrailLemmas::stack_room))]
 impl<'a> BucketPages<'a> {
-    ghost use Rattle.bolt_tree.specs.Private.Trails.{ComesTo, HasBucket, HasOpened, HasRoom, HasTrail, IsMoved, LeadsTo, OpensBetween, ahead, entries_left, frames_of};
+    ghost use Rattle.bolt_tree.specs.Private.Trails.{ComesTo, IsOfSoundTree, HasOpened, HasTrailRoom, HasTrail, IsMoved, LeadsToChild, OpensBetween, ahead, trail_entries_left, frames_of};
     ghost use Rattle.bolt_tree.specs.Private.Trails.{pages_bucket, pages_left, trail_on, trail_with};
 
     /// Opens the root page of the bucket, or its inline page.
     #[tactic(auto, using(crate::proofs::StackLemmas::root_way))]
     pub fn open_root(&mut self) -> TreePage<'a>
-        requires { HasBucket self.old }
+        requires { IsOfSoundTree self.old }
         ensures checked { pager_checked self.new.pager ≡ pager_checked self.old.pager }
         ensures at { self.new.at ≡ self.old.at }
         ensures content { opened_content result ≡ root_content (pages_bucket self.old) }
@@ -49,7 +49,7 @@ impl<'a> BucketPages<'a> {
         requires { HasTrail (trail_on self.old stack.old.items) }
         ensures moved { IsMoved (trail_on self.old stack.old.items) (trail_on self.new stack.new.items) }
         ensures rest { IsAtRest (frames_of stack.new.items) }
-        ensures found { ComesTo back result (entries_left back (trail_on self.old stack.old.items)) (trail_on self.new stack.new.items) [] }
+        ensures found { ComesTo back result (trail_entries_left back (trail_on self.old stack.old.items)) (trail_on self.new stack.new.items) [] }
         ensures bucket { HasBucketValue result }
         ensures less { length (pages_left back (trail_on self.new stack.new.items)) ≤ length (pages_left back (trail_on self.old stack.old.items)) }
         ensures opened { OpensBetween back (trail_on self.old stack.old.items) (trail_on self.new stack.new.items) }
@@ -80,7 +80,7 @@ impl<'a> BucketPages<'a> {
     /// page.
     #[tactic(auto, using(crate::proofs::StackLemmas::retaken, crate::proofs::StackLemmas::stack_short, crate::proofs::WayPages::length_keys, crate::proofs::TrailLemmas::stack_room))]
     pub fn descend(&mut self, stack: &mut Stack<'a>, root: TreePage<'a>, key: &[u8]) -> u64
-        requires bucket { HasBucket self.old }
+        requires bucket { IsOfSoundTree self.old }
         requires empty { frames_of stack.old.items ≡ [] }
         requires root { opened_content root ≡ root_content (pages_bucket self.old) }
         ensures moved { IsMoved (trail_on self.old stack.old.items) (trail_on self.new stack.new.items) }
@@ -107,12 +107,12 @@ impl<'a> BucketPages<'a> {
 
     /// Pushes a branch that is on its element `i`, and opens the page under that element.
     fn go_under(&mut self, stack: &mut Stack<'a>, page: BranchPage<'a>, i: u16) -> TreePage<'a>
-        requires stack { HasRoom (Of_branch (branches_on page)) 0 (trail_on self.old stack.old.items) }
+        requires stack { HasTrailRoom (Of_branch (branches_on page)) 0 (trail_on self.old stack.old.items) }
         requires below { i < length (branches_on page) }
         ensures moved { IsMoved (trail_on self.old stack.old.items) (trail_on self.new stack.new.items) }
         ensures frames { frames_of stack.new.items ≡ trail_with (Of_branch (branches_on page.entry)) (i + 1) (trail_on self.old stack.old.items) }
-        ensures child { LeadsTo self.old (branches_on page.entry) i (opened_content result) }
-        ensures stack { HasRoom (opened_content result) 0 (trail_on self.new stack.new.items) }
+        ensures child { LeadsToChild self.old (branches_on page.entry) i (opened_content result) }
+        ensures stack { HasTrailRoom (opened_content result) 0 (trail_on self.new stack.new.items) }
         ensures opened { HasOpened 1 self.old.pager self.new.pager }
     {
         stack.push(Position {

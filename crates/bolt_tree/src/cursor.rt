@@ -3,7 +3,7 @@ ghost use Rattle.std.specs.Prelude.{◌≡◌, ◌≢◌, [], MatchOption, false
 ghost use Rattle.std.specs.Option.{option_map};
 ghost use Rattle.bolt_format.specs.ElementPlaces.{leaf_view};
 ghost use Rattle.bolt_tree.specs.{Entries.entry_view, Private.BucketValues.HasBucketValue};
-ghost use Rattle.bolt_tree.specs.{Private.Kept.IsKept, Private.Kept.kept_view, Private.Resting.IsResting};
+ghost use Rattle.bolt_tree.specs.{Private.Kept.IsKeptStack, Private.Kept.kept_view, Private.Resting.IsResting};
 ghost use Rattle.bolt_tree.specs.Pagers.{pager_checked, pager_opened};
 ghost use Rattle.bolt_tree.specs.Places.{Fresh, Past, next_move, prev_move, seek_to, to_first, to_last};
 ghost use Rattle.bolt_tree.specs.Private.BucketPages.{elements_in};
@@ -32,7 +32,7 @@ pub struct Cursor<'a> {
 
 #[tactic(auto, unfolding(crate::specs::Cursors::cursor_checked, crate::specs::Cursors::cursor_compared, crate::specs::Cursors::cursor_opened, crate::specs::Cursors::cursor_place, crate::specs::Cursors::cursor_start), using(crate::proofs::RestingLemmas::fresh_resting, crate::proofs::RestingLemmas::resting_bucket, crate::proofs::RestingLemmas::resting_rest, crate::proofs::RestingLemmas::resting_stack, crate::proofs::KeptLemmas::kept_short, crate::proofs::StackLemmas::sound_bucket))]
 impl<'a> Cursor<'a> {
-    ghost use Rattle.bolt_tree.specs.Cursors.{FirstOpens, IsCurrent, NextOpens, ReturnsElement, ReturnsEntry, SeekCompares, SeekOpens};
+    ghost use Rattle.bolt_tree.specs.Cursors.{FirstOpens, IsElementOf, NextOpens, ReturnsElement, ReturnsEntry, SeekCompares, SeekOpens};
     ghost use Rattle.bolt_tree.specs.Cursors.{cursor_checked, cursor_compared, cursor_opened, cursor_place, cursor_start, cursor_trail};
     ghost use Rattle.bolt_tree.specs.Private.CursorViews.{cursor_view};
 
@@ -69,7 +69,7 @@ impl<'a> Cursor<'a> {
 
     /// Takes the place of a cursor of the same file that had these positions.
     pub(crate) fn resume(&mut self, at: At<'a>, is_past: bool, positions: &[Position<'a>])
-        requires { ∥ IsKept (cursor_checked self.old) at is_past positions.now ∥₁ }
+        requires { ∥ IsKeptStack (cursor_checked self.old) at is_past positions.now ∥₁ }
         ensures { cursor_view self.new ≡ kept_view (cursor_checked self.old) at.entry is_past positions.now }
     {
         set_positions(&mut self.stack, positions);
@@ -115,7 +115,7 @@ impl<'a> Cursor<'a> {
 
     /// The element of the entry that it is on, or `None` if it is on none.
     pub(crate) fn element(&self) -> Option<Leaf<'a>>
-        ensures entry { IsCurrent self.now result }
+        ensures entry { IsElementOf self.now result }
         ensures bucket { HasBucketValue result }
     {
         let top = self.stack.last()?;

@@ -3,7 +3,7 @@
 ghost use Rattle.std.specs.Option.{IfNone};
 ghost use Rattle.std.specs.Prelude.{◌≡◌, ◌<◌, ◌++◌, ◌∷◌, [], List, IfSome, IfOk, OnOk, OnErr, vec_capacity, vec_len};
 ghost use Rattle.bolt_tree.specs.{Buckets.bucket_checked, Listing.rest_from, RestAfter.rest_after, RestAfter.beyond, Paths.path_of};
-ghost use Rattle.bolt_tree.specs.{Private.CursorViews.AreOfFile, Private.CursorViews.fresh_view, Private.Kept.CursorView};
+ghost use Rattle.bolt_tree.specs.{Private.CursorViews.AreCursorsOfFile, Private.CursorViews.fresh_view, Private.Kept.CursorView};
 
 use crate::at::At;
 use crate::bucket::Bucket;
@@ -54,7 +54,7 @@ pub(crate) struct OpenBuckets<'a> {
     positions: Vec<Position<'a>>,
     innermost: Option<Cursor<'a>>,
     pub path: Vec<&'a [u8]>,
-    ghost kept: { ∥ AreOfFile checked waiting.items positions.items innermost ∥₁ },
+    ghost kept: { ∥ AreCursorsOfFile checked waiting.items positions.items innermost ∥₁ },
 }
 
 impl<'a> OpenBuckets<'a> {

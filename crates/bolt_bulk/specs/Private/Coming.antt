@@ -32,7 +32,7 @@ abbrev pub leaves_coming : ℕ → List (Laid LeafElement) → List (Laid LeafEl
 leaves_coming page_size run items = map (page_over leaf_page_view page_size) (cut_from page_size 1 size_of run items)
 
 -- an open bucket becomes this root page
-pub record IsOpen (which : Layout) (page_size : ℕ) (state : Open) (items : List (Laid LeafElement)) (root : Laid BranchElement) : Type 0 where
+pub record BecomesRoot (which : Layout) (page_size : ℕ) (state : Open) (items : List (Laid LeafElement)) (root : Laid BranchElement) : Type 0 where
   pub comes : Comes which page_size (bucket_limit state.known.limits) state.uppers state.known.leaves (leaves_coming page_size state.run items) root
 
 -- only a bucket that has taken no item yet has an empty run
@@ -48,13 +48,13 @@ abbrev pub held_item : BucketFrame → Laid BranchElement → Laid LeafElement
 held_item frame root = bucket_item frame.key frame.sequence root
 
 -- if the innermost bucket becomes `root`, all of them become `whole`
-abbrev pub IsStack : Layout → ℕ → List BucketFrame → Laid BranchElement → Laid BranchElement → Type 0
-IsStack which page_size [] root whole = root ≡ whole
-IsStack which page_size (frame ∷ frames) root whole = (outer : Laid BranchElement)
-    × IsOpen which page_size (pushing frame.state (held_item frame root)) (items_of which page_size frame.after) outer × IsStack which page_size frames outer whole
+abbrev pub BecomesWhole : Layout → ℕ → List BucketFrame → Laid BranchElement → Laid BranchElement → Type 0
+BecomesWhole which page_size [] root whole = root ≡ whole
+BecomesWhole which page_size (frame ∷ frames) root whole = (outer : Laid BranchElement)
+    × BecomesRoot which page_size (pushing frame.state (held_item frame root)) (items_of which page_size frame.after) outer × BecomesWhole which page_size frames outer whole
 
 pub record IsPass (which : Layout) (page_size : ℕ) (frames : List BucketFrame) (state : Open) (items : List (Laid LeafElement)) (whole : Laid BranchElement) : Type 0 where
   pub root : Laid BranchElement
-  pub current : IsOpen which page_size state items root
+  pub current : BecomesRoot which page_size state items root
   pub begun : HasBegun state
-  pub stack : IsStack which page_size frames root whole
+  pub stack : BecomesWhole which page_size frames root whole

@@ -14,7 +14,7 @@ use Rattle.bolt_format.specs.{Wrote.Wrote, declared.sink.Sink.Ghosts}
 
 -- The root page, the high-water mark and the number of items held are returned and, if they are asked for, the limits that yield the balanced
 -- layout.
-pub record Returns (wanted : Wanted) (setup : PageSetup) (result : Result Ended BulkFault) : Type 0 where
+pub record ReturnsEnded (wanted : Wanted) (setup : PageSetup) (result : Result Ended BulkFault) : Type 0 where
   pub root : IfOk result (λ ended. ended.root ≡ layout_root wanted.which setup.page_size wanted.tree)
   pub mark : IfOk result (λ ended. ended.high_water ≡ layout_mark wanted.which setup.page_size wanted.tree)
   pub within : IfOk result (λ ended. ended.high_water ≤ setup.highest_mark)
@@ -23,12 +23,12 @@ pub record Returns (wanted : Wanted) (setup : PageSetup) (result : Result Ended 
   pub large : IfErr result (λ e. e ≡ fault.TooLarge → setup.highest_mark < layout_mark wanted.which setup.page_size wanted.tree)
 
 -- The pages `put` were written earlier. The others of the layout are written, or a proper prefix of their bytes.
-pub record Ends {S : Type 0} (wanted : Wanted) (sink : Ghosts S) (old new : S) (setup : PageSetup) (put : List Placed) (result : Result Ended BulkFault) : Type 0 where
+pub record EndsPass {S : Type 0} (wanted : Wanted) (sink : Ghosts S) (old new : S) (setup : PageSetup) (put : List Placed) (result : Result Ended BulkFault) : Type 0 where
   pub others : List Placed
   pub all : layout_pages wanted.which setup.page_size wanted.tree ≡ put ++ others
   pub puts : Wrote sink old new (placed_bytes setup.page_size others) (bulk_ending result)
   pub short : OnErr result (AppendsProperPrefix (sink.taken old) (sink.taken new) (placed_bytes setup.page_size others))
-  pub returned : Returns wanted setup result
+  pub returned : ReturnsEnded wanted setup result
 
 -- the last part of a path
 abbrev pub last_part : Path → Key
@@ -37,9 +37,9 @@ last_part (key ∷ []) = key
 last_part (key ∷ next ∷ path) = last_part (next ∷ path)
 
 -- a member has a path, with keys and values of lengths that the format allows
-abbrev pub IsFitItem : Item → Type 0
-IsFitItem (Value value) = IsValueLength (length value)
-IsFitItem (Bucket sequence) = Unit {0}
+abbrev pub HasItemLength : Item → Type 0
+HasItemLength (Value value) = IsValueLength (length value)
+HasItemLength (Bucket sequence) = Unit {0}
 
-abbrev pub IsFitMember : Member → Type 0
-IsFitMember member = (1 ≤ length member.0) × (length (last_part member.0) ≤ longest_key) × IsFitItem member.1
+abbrev pub HasMemberLengths : Member → Type 0
+HasMemberLengths member = (1 ≤ length member.0) × (length (last_part member.0) ≤ longest_key) × HasItemLength member.1

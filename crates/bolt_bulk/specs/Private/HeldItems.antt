@@ -47,8 +47,8 @@ IsStored inlined (stored.Inline sequence first count size) = IsInlined inlined f
 abbrev pub IsHeld : List Leaf → Held → Type 0
 IsHeld inlined held = (length held.key.now ≤ longest_key) × IsStored inlined held.stored
 
-abbrev pub AreHeld : List Leaf → List Held → Type 0
-AreHeld inlined items = AllByRecursion (IsHeld inlined) items
+abbrev pub HoldsLeaves : List Leaf → List Held → Type 0
+HoldsLeaves inlined items = AllByRecursion (IsHeld inlined) items
 
 -- the size of an item on its page
 abbrev pub held_size : List Leaf → Held → ℕ

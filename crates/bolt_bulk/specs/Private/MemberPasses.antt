@@ -4,7 +4,7 @@ use Rattle.bolt_format.specs.declared.sink.Sink.{Ghosts}
 use Rattle.bolt_tree.specs.{Listing.Member, Tree.tree_of}
 use Rattle.bolt_layout.specs.{Copies.IsOfOneTree, Copies.layout_of_listing, declared.Layout.Layout}
 use Rattle.bolt_bulk.specs.{Compacting.too_many, WholeListings.IsAgain}
-use Rattle.bolt_bulk.specs.Private.{Endings.Ends, Passes.FitLimits, Passes.limits_with}
+use Rattle.bolt_bulk.specs.Private.{Endings.EndsPass, Passes.FitLimits, Passes.limits_with}
 use Rattle.bolt_bulk.specs.{declared.fault.BulkFault.BulkFault, declared.limits.Limits.Limits, declared.page_setup.PageSetup.PageSetup}
 use Rattle.bolt_bulk.specs.declared.pass.Ended.{Ended}
 use Rattle.bolt_bulk.specs.{declared.fault.PlanFault.PlanFault, declared.fault.PlanFault.TheVariants.TooLarge}
@@ -27,7 +27,7 @@ abbrev pub PutsMembers : {S M W : Type 0} → Ghosts S → (old new : S) → (M 
     → Result Ended BulkFault → Type 0
 PutsMembers {S} {M} {W} sink old new reads listing members setup limits notes result =
     (which : Layout) (whole : W) → reads members whole → FitLimits which (tree_of (listing whole)) setup.page_size (limits_with limits)
-    → Ends (record { which = which; tree = tree_of (listing whole); notes = notes }) sink old new setup [] result
+    → EndsPass (record { which = which; tree = tree_of (listing whole); notes = notes }) sink old new setup [] result
 
 -- this holds of each layout of a listing that is of one tree, if it has fewer than 2^63 bytes
 abbrev pub ForFitting : (page_size sequence : ℕ) → (Layout → List Member → Type 0) → Type 0

@@ -4,17 +4,17 @@ use Rattle.std.specs.List.{AllByRecursion}
 use Rattle.bolt_format.specs.Elements.{BranchElement}
 use Rattle.bolt_layout.specs.Levels.{overflow_of}
 use Rattle.bolt_bulk.specs.{Private.FormatLimits.length_end, Private.BranchRuns.IsStanding, Private.BranchRuns.runs_above, Private.BranchRuns.runs_end_next}
-use Rattle.bolt_bulk.specs.Private.HeldItems.{AreHeld, held_views, inlined_in, page_size_of}
+use Rattle.bolt_bulk.specs.Private.HeldItems.{HoldsLeaves, held_views, inlined_in, page_size_of}
 use Rattle.bolt_bulk.specs.{Private.RunViews.LeafRunView, Private.RunViews.BucketRunsView, Private.RunViews.leaf_key, declared.leaf_run.LeafRun.LeafRun}
 use Rattle.bolt_bulk.specs.declared.bucket_runs.BucketRuns.{BucketRuns}
 
 -- the view of a run of items
-abbrev pub leaves_of : LeafRun → LeafRunView
-leaves_of run = record { elements = held_views run.inlined.items run.items.items; size = run.size }
+abbrev pub leaf_run_view : LeafRun → LeafRunView
+leaf_run_view run = record { elements = held_views run.inlined.items run.items.items; size = run.size }
 
 -- its size is that of its page, and its list of entries has only those of its own inline buckets
 pub record IsLeafRun (run : LeafRun) : Type 0 where
-  pub held : AreHeld run.inlined.items run.items.items
+  pub held : HoldsLeaves run.inlined.items run.items.items
   pub sized : run.size ≡ page_size_of run.inlined.items run.items.items
   pub small : run.size < length_end
   pub few : length run.items.items < 65535
@@ -27,7 +27,7 @@ pub record HasRoomFor (run : LeafRun) (size : ℕ) : Type 0 where
 
 -- what is open of a bucket, with the number of the next page
 abbrev pub bucket_runs : BucketRuns → ℕ → BucketRunsView
-bucket_runs bucket next = record { leaves = leaves_of bucket.leaves; uppers = runs_above bucket.uppers.runs.items; limits = bucket.uppers.limits; next = next }
+bucket_runs bucket next = record { leaves = leaf_run_view bucket.leaves; uppers = runs_above bucket.uppers.runs.items; limits = bucket.uppers.limits; next = next }
 
 pub record IsOpenBucket (bucket : BucketRuns) : Type 0 where
   pub leaves : IsLeafRun bucket.leaves

@@ -31,8 +31,8 @@ stays_open page_size upper size = has_room page_size 2 upper.run size || is_out 
 abbrev pub pushed_on : Upper → Laid BranchElement → Upper
 pushed_on upper q = record { run = upper.run ++ q ∷ []; allowed = upper.allowed; closed = upper.closed }
 
-abbrev pub kept : ℕ → Upper → ℕ → Upper
-kept page_size upper size = record { run = upper.run; allowed = if has_room page_size 2 upper.run size then upper.allowed else None; closed = upper.closed }
+abbrev pub kept_upper : ℕ → Upper → ℕ → Upper
+kept_upper page_size upper size = record { run = upper.run; allowed = if has_room page_size 2 upper.run size then upper.allowed else None; closed = upper.closed }
 
 abbrev pub begun_after : Upper → Upper
 begun_after upper = record { run = []; allowed = one_less upper.allowed; closed = suc upper.closed }
@@ -55,7 +55,7 @@ numbers_in uppers = numbers_of (put_in uppers)
 abbrev pub climb : ℕ → (new : Option ℕ) → List ℕ → Laid BranchElement → List Upper → List Upper
 climb page_size new key q [] = record { run = q ∷ []; allowed = new; closed = 0 } ∷ []
 climb page_size new key q (upper ∷ uppers) =
-    let stays = kept page_size (pushed_on upper q) (key_size key) ∷ uppers in
+    let stays = kept_upper page_size (pushed_on upper q) (key_size key) ∷ uppers in
     let closes = begun_after upper ∷ climb page_size new key (page_over branch_page_view page_size (upper.run ++ q ∷ [])) uppers in
     if stays_open page_size (pushed_on upper q) (key_size key) then stays else closes
 

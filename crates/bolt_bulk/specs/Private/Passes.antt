@@ -118,17 +118,17 @@ abbrev pub open_in : Open → List BucketFrame → List Known
 open_in state frames = state.known ∷ map (λ (frame : BucketFrame). frame.state.known) frames
 
 -- Where the pass is in the layout.
-pub record IsOn (which : Layout) (page_size : ℕ) (tree : Tree) (frames : List BucketFrame) (state : Open) (items : List (Laid LeafElement)) (runs : BucketRunsView) (put : List Placed) : Type 0 where
+pub record PassIsOn (which : Layout) (page_size : ℕ) (tree : Tree) (frames : List BucketFrame) (state : Open) (items : List (Laid LeafElement)) (runs : BucketRunsView) (put : List Placed) : Type 0 where
   pub under : IsPass which page_size frames state items (root_of which page_size tree)
   pub kept : AreOpenRuns runs state (base_in frames)
   pub put_is : put ≡ all_put frames state
 
 -- The pass has written these pages, and these entries of the innermost bucket are left.
-pub record IsAt (wanted : Wanted) (pass : Pass) (parents : List Parent) (left : Tree) (put : List Placed) : Type 0 where
+pub record PassIsAt (wanted : Wanted) (pass : Pass) (parents : List Parent) (left : Tree) (put : List Placed) : Type 0 where
   pub frames : List BucketFrame
   pub state : Open
   pub rest : Tree
-  pub on : IsOn wanted.which pass.setup.page_size wanted.tree frames state (items_of wanted.which pass.setup.page_size rest) (bucket_runs pass.bucket pass.next) put
+  pub on : PassIsOn wanted.which pass.setup.page_size wanted.tree frames state (items_of wanted.which pass.setup.page_size rest) (bucket_runs pass.bucket pass.next) put
   pub waits : AreWaiting (reverse pass.waiting.items) frames
   pub pends : IsPending pass.pending pass.entries.items (map parent_of frames) rest parents left
   pub held : pass.most ≡ saturated (held_so_far frames state)
@@ -163,8 +163,8 @@ abbrev pub pending_depth : Option PendingBucket → ℕ
 pending_depth None = 0
 pending_depth (Some pending) = 1
 
-abbrev pub depth_of : Pass → ℕ
-depth_of pass = suc (length pass.waiting.items) + pending_depth pass.pending
+abbrev pub pass_depth : Pass → ℕ
+pass_depth pass = suc (length pass.waiting.items) + pending_depth pass.pending
 
 -- a bucket with these entries has a root page
 abbrev pub HasRoot : Layout → (page_size : ℕ) → Tree → Type 0
@@ -194,11 +194,11 @@ IsNoDeeper depth (member ∷ members) = length member.0 ≤ depth
 pub record HasLeft (wanted : Wanted) (pass : Pass) (members : List Member) (put : List Placed) : Type 0 where
   pub parents : List Parent
   pub left : Tree
-  pub at : IsAt wanted pass parents left put
+  pub at : PassIsAt wanted pass parents left put
   pub members_are : left_in parents left ≡ members
 
 -- a pass goes on with the same setup, in at most this many buckets
 pub record GoesOn (before after : Pass) (depth : ℕ) : Type 0 where
   pub setup : after.setup ≡ before.setup
   pub ready : IsReady after
-  pub depth_is : depth_of after ≤ depth
+  pub depth_is : pass_depth after ≤ depth

@@ -3,17 +3,17 @@ use Rattle.std.specs.Prelude.{[]}
 use Rattle.bolt_check.specs.declared.fault.CheckFault.TheVariants as check
 use Rattle.bolt_recover.specs.Losses.{everything}
 use Rattle.bolt_format.specs.declared.sink.Sink.{Ghosts}
-use Rattle.bolt_commands.specs.Answers.{Answer, Ending, IsCheckAnswerAfter, check_refusal, lost_and_found, refused}
+use Rattle.bolt_commands.specs.Answers.{Answer, JobEnding, IsCheckAnswerAfter, check_refusal, lost_and_found_answer, refused}
 use Rattle.bolt_commands.specs.{Private.Printing.PrintsAnswer, declared.check_command.Checking.Checking, declared.failure.Failure.Failure}
 use Rattle.bolt_commands.specs.declared.failure.Failure.TheVariants as failure
 use Rattle.bolt_commands.specs.declared.file_faults.FileFaults.{FileFaults}
 use Rattle.bolt_job.specs.declared.choices.Extent.{Extent}
 
-abbrev pub ChecksTo : {S : Type 0} (sink : Ghosts S) (old new : S) → Extent → Checking → Ending → Type 0
+abbrev pub ChecksTo : {S : Type 0} (sink : Ghosts S) (old new : S) → Extent → Checking → JobEnding → Type 0
 ChecksTo sink old new extent c ending = PrintsAnswer sink old new (IsCheckAnswerAfter extent c.for_bbolt c.faults c.input.file.now c.choice) ending
 
 -- why nothing is recovered: if the root page is lost, everything is
 abbrev pub unopened : FileFaults → Failure → Answer
 unopened faults (failure.Metas fault) = check_refusal faults (check.Open fault)
-unopened faults (failure.File x) = lost_and_found faults (everything x) []
+unopened faults (failure.File x) = lost_and_found_answer faults (everything x) []
 unopened faults why = refused why

@@ -6,7 +6,7 @@ use Rattle.bolt_layout.specs.Copies.{layout_of_listing}
 use Rattle.bolt_recover.specs.{Losses.LostView, LostAndFound.all_lost, declared.lost_and_found.LostAndFound.LostAndFound}
 use Rattle.bolt_report.specs.FoundLines.{found_view}
 use Rattle.bolt_tree.specs.Listing.{Member}
-use Rattle.bolt_commands.specs.{Answers.Ending, Answers.IsReadTo, Answers.IsSalvaged, Answers.IsUnjoinedUnder, Answers.IsUnreadTo, Answers.Loads, Answers.MakesCopy, Answers.copy_page_size, CopyEnds.EndsCopy}
+use Rattle.bolt_commands.specs.{Answers.JobEnding, Answers.IsReadTo, Answers.IsSalvaged, Answers.IsUnjoinedUnder, Answers.IsUnreadTo, Answers.Loads, Answers.MakesCopy, Answers.copy_page_size, CopyEnds.EndsCopy}
 use Rattle.bolt_commands.specs.{CopyLayouts.layout_for, Failures.copied, GoodCopies.IsGoodCopy, Private.Endings.failing}
 use Rattle.bolt_commands.specs.Private.Opened.{opened_found, opened_lost, opened_meta}
 use Rattle.bolt_commands.specs.declared.{failure.Failure.Failure, opened.Opened.Opened}
@@ -14,11 +14,11 @@ use Rattle.bolt_job.specs.{declared.choices.CopyKind.CopyKind, declared.choices.
 use Rattle.bolt_job.specs.{CopyKinds.is_snapshot, declared.writing_commands.CompactJob.CompactJob, declared.writing_commands.LoadJob.LoadJob}
 
 module _ {O T : Type 0} (out : Ghosts O) (out_old out_new : O) (target : Ghosts T) (target_old target_new : T) where
-  abbrev pub CompactsTo : CompactJob → List ℕ → Ending → Type 0
+  abbrev pub CompactsTo : CompactJob → List ℕ → JobEnding → Type 0
   CompactsTo job file ending =
       MakesCopy out.taken out.failed out_old out_new target.taken target.failed target_old target_new file job.meta job.page_size (layout_for job.kind) (is_snapshot job.kind) job.extent ending
 
-  abbrev pub LoadsJob : LoadJob → List ℕ → Ending → Type 0
+  abbrev pub LoadsJob : LoadJob → List ℕ → JobEnding → Type 0
   LoadsJob job file ending =
       Loads out.taken out.failed out_old out_new target.taken target.failed target_old target_new file job.page_size.bytes job.sequence (layout_for job.kind) (is_snapshot job.kind) ending
 

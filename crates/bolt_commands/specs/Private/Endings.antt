@@ -3,14 +3,14 @@ use Rattle.std.specs.Prelude.{◌≡◌, ◌⊎◌, IfErr, Result, Ok, Err}
 use Rattle.bolt_format.specs.declared.sink.SinkFault.{SinkFault}
 use Rattle.bolt_text.specs.declared.fault.ReportFault.{ReportFault}
 use Rattle.bolt_text.specs.declared.fault.ReportFault.TheVariants as report
-use Rattle.bolt_commands.specs.{Answers.Ending, Failures.reported, declared.failure.Failure.Failure, declared.failure.Failure.TheVariants.Write}
+use Rattle.bolt_commands.specs.{Answers.JobEnding, Failures.reported, declared.failure.Failure.Failure, declared.failure.Failure.TheVariants.Write}
 
-abbrev pub end_of : {A : Type 0} → Result A ReportFault → (wanted : Ending) → Ending
-end_of (Ok x) wanted = wanted
-end_of (Err fault) wanted = Err (reported fault)
+abbrev pub ending_by : {A : Type 0} → Result A ReportFault → (wanted : JobEnding) → JobEnding
+ending_by (Ok x) wanted = wanted
+ending_by (Err fault) wanted = Err (reported fault)
 
 -- a text that needs no memory
-abbrev pub end_written : {A : Type 0} → Result A SinkFault → (wanted : Ending) → Ending
+abbrev pub end_written : {A : Type 0} → Result A SinkFault → (wanted : JobEnding) → JobEnding
 end_written (Ok x) wanted = wanted
 end_written (Err fault) wanted = Err Write
 

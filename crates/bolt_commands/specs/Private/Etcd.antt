@@ -5,7 +5,7 @@ use Rattle.bolt_format.specs.declared.meta.Meta.{Meta}
 use Rattle.bolt_text.specs.declared.fault.ReportFault.{ReportFault}
 use Rattle.bolt_tree.specs.{BucketViews.entries_of, Buckets.bucket_checked, Buckets.bucket_start, Entries.IsEntry, Entries.Root_page, Lookups.IsBucketAt}
 use Rattle.bolt_job.specs.declared.choices.MetaChoice.{MetaChoice}
-use Rattle.bolt_commands.specs.{Answers.Ending, Answers.IsReadUnder, Answers.others_ending, Failures.reported, Private.Opened.IsUnread}
+use Rattle.bolt_commands.specs.{Answers.JobEnding, Answers.IsReadUnder, Answers.others_ending, Failures.reported, Private.Opened.IsUnread}
 use Rattle.bolt_commands.specs.declared.{etcd_commands.Store.Store, failure.Failure.Failure}
 use Rattle.bolt_commands.specs.declared.failure.Failure.TheVariants as failure
 
@@ -24,6 +24,6 @@ IsUnreadStore file choice why =
     ⊎ IsUnread file choice why
 
 -- how a job ends that wrote revisions
-abbrev pub end_of_revisions : Result ℕ ReportFault → Ending
+abbrev pub end_of_revisions : Result ℕ ReportFault → JobEnding
 end_of_revisions (Ok others) = others_ending others
 end_of_revisions (Err fault) = Err (reported fault)

@@ -3,7 +3,7 @@ use Rattle.std.specs.Prelude.{◌≡◌, ◌≢◌, ◌⊎◌, List, [], ℕ}
 use Rattle.std.specs.List.{All}
 use Rattle.bolt_check.specs.{CheckedFiles.bytes_of, CheckedFiles.meta_of, declared.checked.Checked.Checked, declared.fault.CheckFault.CheckFault, declared.finding.Finding.Finding}
 use Rattle.bolt_format.specs.declared.meta.{Meta.Meta, MetaFault.MetaFault}
-use Rattle.bolt_recover.specs.{Found.AreFound, Found.numbers_of, Joined.LacksBucketKey, JoinedMembers.ForJoined, JoinedMembers.joined_file, JoinedMembers.joined_left}
+use Rattle.bolt_recover.specs.{Found.AreFound, Found.found_numbers, Joined.LacksBucketKey, JoinedMembers.ForJoined, JoinedMembers.joined_file, JoinedMembers.joined_left}
 use Rattle.bolt_recover.specs.{JoinedMembers.joined_meta, Losses.LostView, Losses.everything, Losses.parts, Lost.IsAllLost, LostAndFound.all_lost, Recovered.ForRecovered}
 use Rattle.bolt_recover.specs.{Recoveries.recovery_file, Recoveries.recovery_left, Recoveries.recovery_losses, Recoveries.recovery_meta, ShownFound.IsFoundView}
 use Rattle.bolt_recover.specs.{declared.found.Found.Found, declared.joined.Joined.Joined, declared.lost_and_found.LostAndFound.LostAndFound, declared.recovery.Recovery.Recovery}
@@ -17,7 +17,7 @@ use Rattle.bolt_commands.specs.declared.opened.Opened.{Opened}
 use Rattle.bolt_commands.specs.declared.opened.Opened.TheVariants as opened
 
 -- the bucket at a path of a file that is read under this choice
-pub record IsBucketOf (file : List ℕ) (choice : MetaChoice) (path : Path) (bucket : Bucket) : Type 0 where
+pub record IsOpenedBucket (file : List ℕ) (choice : MetaChoice) (path : Path) (bucket : Bucket) : Type 0 where
   pub bytes : bytes_of (bucket_checked bucket) ≡ file
   pub under : IsReadUnder file choice (meta_of (bucket_checked bucket))
   pub led : ∥ LeadsTo file (meta_of (bucket_checked bucket)) path (bucket_start bucket) ∥₁
@@ -36,7 +36,7 @@ pub record IsSearchOf (file : List ℕ) (choice : MetaChoice) (both : LostAndFou
   pub under : IsMetaOf file choice both.meta
   pub bytes : both.file.now ≡ file
   pub lost : IsAllLost file both.meta (all_lost both)
-  pub found : AreFound file both.meta (numbers_of both.found.items)
+  pub found : AreFound file both.meta (found_numbers both.found.items)
   pub views : All (IsFoundView file both.meta) both.found.items
 
 -- the members of both, of which none was returned yet

@@ -5,28 +5,28 @@ use Rattle.bolt_recover.specs.{Losses.LostView, LostAndFound.all_lost, declared.
 use Rattle.bolt_report.specs.FoundLines.{FoundView, found_view}
 use Rattle.bolt_text.specs.{ListForms.listing_lines, ReportEndings.report_ending, declared.fault.ReportFault.ReportFault}
 use Rattle.bolt_tree.specs.{Listing.Member, Listing.rest_from, ListingParts.has_bucket, ListingParts.part_below}
-use Rattle.bolt_commands.specs.Answers.{Answer, Does, Ending, IsReadTo, IsSalvaged, IsUnjoinedUnder, IsUnreadTo, part_text}
+use Rattle.bolt_commands.specs.Answers.{Answer, WritesAnswer, JobEnding, IsReadTo, IsSalvaged, IsUnjoinedUnder, IsUnreadTo, listing_part_text}
 use Rattle.bolt_commands.specs.{Failures.reported, Private.Endings.MayFail, Private.Endings.failing, Private.Opened.opened_lost}
 use Rattle.bolt_commands.specs.declared.{failure.Failure.Failure, opened.Opened.Opened}
-use Rattle.bolt_job.specs.{PlainWords.path_in, declared.bucket_commands.ListJob.ListJob}
+use Rattle.bolt_job.specs.{PlainWords.owned_path, declared.bucket_commands.ListJob.ListJob}
 
 -- standard output accepts the text of one of the answers that are wanted, and the job ends as it says
-pub record PrintsAnswer {S : Type 0} (sink : Ghosts S) (old new : S) (IsWanted : Answer → Type 0) (ending : Ending) : Type 0 where
+pub record PrintsAnswer {S : Type 0} (sink : Ghosts S) (old new : S) (IsWanted : Answer → Type 0) (ending : JobEnding) : Type 0 where
   pub answer : Answer
   pub is : IsWanted answer
-  pub does : Does sink.taken sink.failed old new answer ending
+  pub does : WritesAnswer sink.taken sink.failed old new answer ending
 
 -- ---- the texts of it
 
 -- the part of a listing, and of one that has the bucket; and whether it has it
 abbrev pub job_part : ListJob → List Member → List ℕ
-job_part job listing = part_text job.form (path_in job.path.items) (path_in job.from.items) listing
+job_part job listing = listing_part_text job.form (owned_path job.path.items) (owned_path job.from.items) listing
 
 abbrev pub sound_part : ListJob → List Member → List ℕ
-sound_part job listing = listing_lines job.form (rest_from (path_in job.from.items) (part_below (path_in job.path.items) listing))
+sound_part job listing = listing_lines job.form (rest_from (owned_path job.from.items) (part_below (owned_path job.path.items) listing))
 
 abbrev pub finds : ListJob → List Member → Bool
-finds job listing = has_bucket (path_in job.path.items) listing
+finds job listing = has_bucket (owned_path job.path.items) listing
 
 -- ---- a part of a listing
 

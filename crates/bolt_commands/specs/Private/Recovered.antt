@@ -3,17 +3,17 @@ use Rattle.std.specs.Prelude.{◌≡◌, Contains, IfSome, List, ℕ, Bool, Opti
 use Rattle.std.specs.Borrow.{Bor}
 use Rattle.std.specs.Option.{IfNone}
 use Rattle.bolt_tree.specs.{Entries.Value, Listing.Member, ListingParts.has_bucket, Paths.Path}
-use Rattle.bolt_job.specs.PlainWords.{path_in}
+use Rattle.bolt_job.specs.PlainWords.{owned_path}
 use Rattle.bolt_report.specs.MemberNames.{is_wanted}
-use Rattle.bolt_commands.specs.Answers.{Answer, Ending, IsNamesAnswer, IsRecoveredAnswer, lost_ending, no_bucket, no_key, parents_of}
+use Rattle.bolt_commands.specs.Answers.{Answer, JobEnding, IsNamesAnswer, IsRecoveredAnswer, lost_ending, no_bucket, no_key, parents_of}
 use Rattle.bolt_commands.specs.declared.{failure.Failure.Failure, recovered_commands.AtPath.AtPath, recovered_commands.RecoveredNames.RecoveredNames, shortfall.Shortfall.Shortfall}
 
 -- the names that are asked for of what is recovered
 abbrev pub IsNamesPrint : RecoveredNames → List ℕ → Answer → Type 0
-IsNamesPrint asked file = IsRecoveredAnswer file asked.meta (IsNamesAnswer asked.form (is_wanted asked.names) (path_in asked.path.now))
+IsNamesPrint asked file = IsRecoveredAnswer file asked.meta (IsNamesAnswer asked.form (is_wanted asked.names) (owned_path asked.path.now))
 
 -- how a job ends that put what is recovered of a bucket, if that was found
-abbrev pub bucket_ending : (found : Bool) → Option Shortfall → Ending
+abbrev pub bucket_ending : (found : Bool) → Option Shortfall → JobEnding
 bucket_ending found lost = if found then lost_ending lost else Err (no_bucket lost)
 
 -- what these members hold at a path

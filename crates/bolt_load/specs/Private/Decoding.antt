@@ -1,7 +1,7 @@
 -- The bytes that a text has in hexadecimal, one line after another.
 use Rattle.std.specs.Prelude.{◌≡◌, ◌<◌, ℕ, List, [], ◌∷◌, ◌++◌, All, IsSome, Option, Some, None, length, take, flat_map}
 use Rattle.bolt_tree.specs.{Entries.Bucket, Entries.Item, Entries.Value, Listing.Member, Paths.Path}
-use Rattle.bolt_text.specs.{LineMembers.line_member, LineMembers.members_in, Lines.Text, Lines.lines_of}
+use Rattle.bolt_text.specs.{LineMembers.line_member, LineMembers.members_of_lines, Lines.Text, Lines.lines_of}
 use Rattle.bolt_load.specs.LineFaults.{shape_fault}
 use Rattle.bolt_load.specs.declared.fault.LineFault.{LineFault}
 
@@ -19,7 +19,7 @@ abbrev pub listing_bytes : List Member → List ℕ
 listing_bytes listing = flat_map member_bytes listing
 
 -- Bytes were added at the end: these, if there are such.
-pub record Adds (found : Option (List ℕ)) (old new : List ℕ) : Type 0 where
+pub record AddsDecoded (found : Option (List ℕ)) (old new : List ℕ) : Type 0 where
   pub more : List ℕ
   pub added : new ≡ old ++ more
   pub are : (bytes : List ℕ) → found ≡ Some bytes → more ≡ bytes
@@ -27,7 +27,7 @@ pub record Adds (found : Option (List ℕ)) (old new : List ℕ) : Type 0 where
 -- each of these lines tells a member, and the bytes begin with those of all of them
 pub record AreDecoded (lines : List Text) (bytes : List ℕ) : Type 0 where
   pub tell : All (λ line. IsSome (line_member line)) lines
-  pub begin : take (length (listing_bytes (members_in lines))) bytes ≡ listing_bytes (members_in lines)
+  pub begin : take (length (listing_bytes (members_of_lines lines))) bytes ≡ listing_bytes (members_of_lines lines)
 
 -- a front of the bytes
 pub record BeginsWith (front bytes : List ℕ) : Type 0 where

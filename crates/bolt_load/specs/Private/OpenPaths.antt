@@ -9,9 +9,9 @@ use Rattle.bolt_load.specs.declared.fault.LineFault.TheVariants.{NoBucketAbove, 
 abbrev pub is_open : (last : Path) → (is_bucket : Bool) → (above : Path) → Bool
 is_open last is_bucket above = begins_with above last && (nat_lt (length above) (length last) || is_bucket)
 
-abbrev pub fault_by : (is_above is_below : Bool) → Option LineFault
-fault_by is_above is_below = if not is_above then Some PathNotRising else if not is_below then Some NoBucketAbove else None
+abbrev pub order_fault : (is_above is_below : Bool) → Option LineFault
+order_fault is_above is_below = if not is_above then Some PathNotRising else if not is_below then Some NoBucketAbove else None
 
 -- what is wrong with the place of a path after the last one
 abbrev pub fault_after : (last : Path) → (is_bucket : Bool) → Path → Option LineFault
-fault_after last is_bucket path = fault_by (is_lt (path_cmp last path)) (is_open last is_bucket (path_above path))
+fault_after last is_bucket path = order_fault (is_lt (path_cmp last path)) (is_open last is_bucket (path_above path))

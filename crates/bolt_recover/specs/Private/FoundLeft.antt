@@ -5,16 +5,16 @@ use Rattle.bolt_check.specs.Keys.{Key}
 use Rattle.bolt_format.specs.{Elements.LeafElement, ElementsLeft.leaves_left, TreePages.leaves_on}
 use Rattle.bolt_tree.specs.{Entries.Bucket, Listing.Member, Paths.Path, Paths.path_of, ShownEntries.item_view, Tree.end, Tree.listing_below, Walks.GivesNext}
 use Rattle.bolt_tree.specs.declared.entry.Item as shown
-use Rattle.bolt_recover.specs.{Joined.found_tree, Joined.inside_of, Joined.lost_and_found, Joined.tree_with}
+use Rattle.bolt_recover.specs.{Joined.found_tree, Joined.inside_of, Joined.lost_and_found, Joined.tree_of_elements}
 use Rattle.bolt_recover.specs.{declared.found.Found.Found, declared.found_members.FoundMembers.FoundMembers}
 
 -- found pages of the code with their elements
-abbrev pub pages_of : List Found → List (ℕ × List LeafElement)
-pages_of found = map (λ (f : Found). (f.number, leaves_on f.page)) found
+abbrev pub found_pages_of : List Found → List (ℕ × List LeafElement)
+found_pages_of found = map (λ (f : Found). (f.number, leaves_on f.page)) found
 
 -- the members below the bucket
 abbrev pub below_bucket : List Found → List Member
-below_bucket found = listing_below (lost_and_found ∷ []) (found_tree (pages_of found))
+below_bucket found = listing_below (lost_and_found ∷ []) (found_tree (found_pages_of found))
 
 -- the bucket and all members below it, if a page is found
 abbrev pub found_listing : List Found → List Member
@@ -22,16 +22,16 @@ found_listing [] = []
 found_listing (page ∷ found) = (lost_and_found ∷ [], Bucket 0) ∷ below_bucket (page ∷ found)
 
 -- the members of these elements of an inline bucket, of these ones of its page, and then of these pages
-abbrev pub members_left : (name key : Key) → (inner elements : List LeafElement) → List Found → List Member
-members_left name key inner elements found =
-    listing_below (lost_and_found ∷ name ∷ key ∷ []) (tree_with (λ e. end) inner)
-    ++ (listing_below (lost_and_found ∷ name ∷ []) (tree_with inside_of elements) ++ below_bucket found)
+abbrev pub found_members_left : (name key : Key) → (inner elements : List LeafElement) → List Found → List Member
+found_members_left name key inner elements found =
+    listing_below (lost_and_found ∷ name ∷ key ∷ []) (tree_of_elements (λ e. end) inner)
+    ++ (listing_below (lost_and_found ∷ name ∷ []) (tree_of_elements inside_of elements) ++ below_bucket found)
 
 -- the members that are left
 abbrev pub all_left : FoundMembers → List Member
 all_left m =
     (if m.has_bucket then (lost_and_found ∷ [], Bucket 0) ∷ [] else [])
-    ++ members_left m.name.now m.key.now (leaves_left m.inner) (leaves_left m.elements) (drop m.next m.found.now)
+    ++ found_members_left m.name.now m.key.now (leaves_left m.inner) (leaves_left m.elements) (drop m.next m.found.now)
 
 -- the same of each listing
 abbrev pub found_left : FoundMembers → List Member → List Member

@@ -46,8 +46,8 @@ abbrev pub IsGoodAt : List ℕ → Meta → TreePage → CodeSpot → Type 0
 IsGoodAt file meta page (spots.Page s) = (node_at file meta s.number ≡ Ok (shown_node page)) × (page_at file meta s.number ≡ Some (shown_page page)) × (s.depth ≤ 64)
 IsGoodAt file meta page (spots.Bucket s) = (is_leaf_page page ≡ true) × ((shown_page page).leaves ≡ shown_inline s.page)
 
-abbrev pub IsGoodContent : List ℕ → Meta → KeptPage → Type 0
-IsGoodContent file meta content = IsGoodAt file meta content.page content.spot
+abbrev pub IsGoodKeptPage : List ℕ → Meta → KeptPage → Type 0
+IsGoodKeptPage file meta content = IsGoodAt file meta content.page content.spot
 
 abbrev pub IsShallowAt : CodeSpot → Type 0
 IsShallowAt (spots.Page s) = s.depth ≤ 64
@@ -63,12 +63,12 @@ step_path path (Some e) = path ++ e.key ∷ []
 
 -- where element i of an open page leads, in whatever bucket that is
 abbrev pub ElementLeads : KeptPage → ℕ → Option CodeSpot → Type 0
-ElementLeads content i to = (file : List ℕ) (meta : Meta) (path : Path) → IsGoodContent file meta content
+ElementLeads content i to = (file : List ℕ) (meta : Meta) (path : Path) → IsGoodKeptPage file meta content
     → step_site file meta (content_site path content) i ≡ option_map (spot_site file meta (step_path path (slice_get (content_elements content) i))) to
 
 -- element n is a value, which leads nowhere
-abbrev pub IsValueAt : List LeafElement → ℕ → Type 0
-IsValueAt elements n = option_map (λ (e : LeafElement). e.is_bucket) (slice_get elements n) ≡ Some false
+abbrev pub IsValueElement : List LeafElement → ℕ → Type 0
+IsValueElement elements n = option_map (λ (e : LeafElement). e.is_bucket) (slice_get elements n) ≡ Some false
 
 -- the pages that are claimed once a spot is kept
 abbrev pub claims_with : Claims → Spot → ℕ → Bool
@@ -78,18 +78,18 @@ claims_with claims s = claimed_after (claims_nodes claims) (is_claimed claims) s
 pub record IsContent (file : List ℕ) (meta : Meta) (s : CodeSpot) (content : KeptPage) : Type 0 where
   pub spot : content_spot content ≡ spot_at s
   pub elements : content_elements content ≡ spot_elements file meta s
-  pub good : IsGoodContent file meta content
+  pub good : IsGoodKeptPage file meta content
 
 pub record IsGoodPage (file : List ℕ) (meta : Meta) (page : OpenPage) : Type 0 where
-  pub content : IsGoodContent file meta page.content
+  pub content : IsGoodKeptPage file meta page.content
   pub count : page.count ≡ content_size page.content
   pub fits : page.count < 65536
   pub taken : page.next ≤ page.count
 
 -- Good pages, each in a bucket whose path is as long as that of the one before or longer, from one length to another.
-abbrev pub AreOpen : List ℕ → Meta → (low : ℕ) → List OpenPage → (high : ℕ) → Type 0
-AreOpen file meta low [] high = low ≤ high
-AreOpen file meta low (page ∷ pages) high = (low ≤ page.path_len) × IsGoodPage file meta page × AreOpen file meta page.path_len pages high
+abbrev pub AreOpenPages : List ℕ → Meta → (low : ℕ) → List OpenPage → (high : ℕ) → Type 0
+AreOpenPages file meta low [] high = low ≤ high
+AreOpenPages file meta low (page ∷ pages) high = (low ≤ page.path_len) × IsGoodPage file meta page × AreOpenPages file meta page.path_len pages high
 
 abbrev pub ahead_path_len : Option NextVisit → ℕ → ℕ
 ahead_path_len None high = high
@@ -97,7 +97,7 @@ ahead_path_len (Some ahead) high = ahead.path_len
 
 -- Good pages, no longer in their buckets' paths than what is ahead, and that no longer than the path.
 pub record HasOpen (file : List ℕ) (meta : Meta) (long : ℕ) (ahead : Option NextVisit) (stack : List OpenPage) : Type 0 where
-  pub pages : AreOpen file meta 0 stack (ahead_path_len ahead long)
+  pub pages : AreOpenPages file meta 0 stack (ahead_path_len ahead long)
   pub within : ahead_path_len ahead long ≤ long
 
 -- the way to what an element of the last of these pages leads to
@@ -142,8 +142,8 @@ tally_of steps = record { losses = map loss_view steps.losses.items; visited = c
 abbrev pub outcome_left : Steps → Outcome
 outcome_left steps = after_events (claims_nodes steps.claims) (tally_of steps) (steps_left steps)
 
-abbrev pub IsPlaced : Steps → Type 0
-IsPlaced steps = HasOpen (claims_file steps.claims) (claims_meta steps.claims) (length (steps_path steps)) steps.ahead steps.open.items
+abbrev pub AreStepsPlaced : Steps → Type 0
+AreStepsPlaced steps = HasOpen (claims_file steps.claims) (claims_meta steps.claims) (length (steps_path steps)) steps.ahead steps.open.items
 
 -- the whole file is left, but that the root page is visited, if so many visits were made before
 pub record IsAllLeft (file : List ℕ) (meta : Meta) (begun : ℕ) (steps : Steps) : Type 0 where
@@ -161,11 +161,11 @@ steps_weight steps = length (steps_left steps) * 65537 + sum_by page_weight step
 pub record StaysOn (old new : Steps) : Type 0 where
   pub file : claims_file new.claims ≡ claims_file old.claims
   pub meta : claims_meta new.claims ≡ claims_meta old.claims
-  pub placed : IsPlaced new
+  pub placed : AreStepsPlaced new
   pub outcome : outcome_left new ≡ outcome_left old
 
 -- nothing was returned
-pub record GoesOn (old new : Steps) : Type 0 where
+pub record StepsOn (old new : Steps) : Type 0 where
   pub on : StaysOn old new
   pub path : steps_path new ≡ steps_path old
   pub members : members_left new ≡ members_left old
@@ -189,10 +189,10 @@ pub record Ends (old new : Steps) : Type 0 where
   pub none : members_left old ≡ []
   pub ended : steps_left new ≡ []
 
-abbrev pub Takes : Steps → Steps → Taken → Type 0
-Takes old new (Leaf leaf) = GivesHead old new (leaf_view leaf)
-Takes old new Nothing = GoesOn old new × (steps_weight new < steps_weight old)
-Takes old new End = Ends old new
+abbrev pub TakesStep : Steps → Steps → Taken → Type 0
+TakesStep old new (Leaf leaf) = GivesHead old new (leaf_view leaf)
+TakesStep old new Nothing = StepsOn old new × (steps_weight new < steps_weight old)
+TakesStep old new End = Ends old new
 
 -- a bucket that is returned has a bucket's value
 abbrev pub TakesBucket : Taken → Type 0
@@ -205,6 +205,6 @@ Advances old new (Some leaf) = GivesHead old new (leaf_view leaf)
 Advances old new None = Ends old new
 
 -- Steps over a file under this meta, begun after so many visits: in the end, all that comes of the file will have come of them.
-pub record IsOn (steps : Steps) (under : Meta) (begun : ℕ) : Type 0 where
+pub record StepsAreOn (steps : Steps) (under : Meta) (begun : ℕ) : Type 0 where
   pub meta : claims_meta steps.claims ≡ under
   pub comes : outcome_left steps ≡ outcome_of (node_at (claims_file steps.claims) under) begun (all_events (claims_file steps.claims) under)

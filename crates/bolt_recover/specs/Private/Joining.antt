@@ -6,7 +6,7 @@ use Rattle.std.specs.declared.cmp.Ordering.TheVariants.{Less}
 use Rattle.bolt_check.specs.Keys.{key_cmp}
 use Rattle.bolt_format.specs.declared.meta.Meta.{Meta}
 use Rattle.bolt_tree.specs.{Listing.Member, Paths.Path}
-use Rattle.bolt_recover.specs.{Found.AreFound, Found.numbers_of, Joined.LacksBucketKey, Joined.is_found_path, Joined.lost_and_found, Recovered.ForRecovered}
+use Rattle.bolt_recover.specs.{Found.AreFound, Found.found_numbers, Joined.LacksBucketKey, Joined.is_found_path, Joined.lost_and_found, Recovered.ForRecovered}
 use Rattle.bolt_recover.specs.ShownFound.{IsFoundView}
 use Rattle.bolt_recover.specs.declared.found.Found.{Found}
 
@@ -27,6 +27,6 @@ TellsBucketKey listing has = has ≡ holds_key listing
 -- their bucket.
 pub record AreJoinable (file : List ℕ) (meta : Meta) (found : List Found) : Type 0 where
   pub few : length file < 10 ^ 16 * meta.page_size
-  pub are_found : AreFound file meta (numbers_of found)
+  pub are_found : AreFound file meta (found_numbers found)
   pub views : All (IsFoundView file meta) found
   pub apart : found ≢ [] → ForRecovered file meta LacksBucketKey

@@ -6,11 +6,11 @@ use Rattle.bolt_recover.specs.{KeptMembers.kept_file, KeptMembers.kept_meta, Pri
 use Rattle.bolt_recover.specs.{declared.found.Found.Found, declared.found_members.FoundMembers.FoundMembers, declared.kept.Kept.Kept}
 
 -- the recovered listing, and that of what is found
-abbrev pub both_listings : List ℕ → Meta → List Found → List Member × List Member
-both_listings file meta found = (recovered_of file meta, found_listing found)
+abbrev pub recovered_and_found : List ℕ → Meta → List Found → List Member × List Member
+recovered_and_found file meta found = (recovered_of file meta, found_listing found)
 
 -- these are merged
 abbrev pub ReadsJoined : Merged Kept FoundMembers → List ℕ → Meta → List Found → Type 0
 ReadsJoined members file meta found =
     merged_reads (λ (kept : Kept) (listing : List Member). IsRecovered (kept_file kept) (kept_meta kept) listing)
-    (λ (members : FoundMembers) (listing : List Member). listing ≡ found_listing members.found.now) members (both_listings file meta found)
+    (λ (members : FoundMembers) (listing : List Member). listing ≡ found_listing members.found.now) members (recovered_and_found file meta found)

@@ -3,7 +3,7 @@ use Rattle.std.specs.Prelude.{◌≡◌, ℕ, List, [], map}
 use Rattle.std.specs.List.{All}
 use Rattle.bolt_format.specs.declared.meta.Meta.{Meta}
 use Rattle.bolt_check.specs.CheckedFiles.{bytes_of, meta_of}
-use Rattle.bolt_recover.specs.{Found.AreFound, Found.numbers_of, Losses.LostView, Losses.everything, Losses.parts, Lost.IsAllLost}
+use Rattle.bolt_recover.specs.{Found.AreFound, Found.found_numbers, Losses.LostView, Losses.everything, Losses.parts, Lost.IsAllLost}
 use Rattle.bolt_recover.specs.{Private.Joining.TellsBucketKey, Recovered.ForRecovered, ShownFound.IsFoundView, ShownLosses.loss_view}
 use Rattle.bolt_recover.specs.{declared.found.Found.Found, declared.lost_and_found.Trees.Trees}
 use Rattle.bolt_recover.specs.declared.lost_and_found.Trees.TheVariants.{Damaged, Rootless, Sound}
@@ -23,5 +23,5 @@ AreTreesOf file meta found (Rootless x) = Unit {0}
 pub record IsSearched (file : List ℕ) (meta : Meta) (trees : Trees) (found : List Found) : Type 0 where
   pub left : AreTreesOf file meta found trees
   pub lost : IsAllLost file meta (lost_of trees)
-  pub are_found : AreFound file meta (numbers_of found)
+  pub are_found : AreFound file meta (found_numbers found)
   pub views : All (IsFoundView file meta) found

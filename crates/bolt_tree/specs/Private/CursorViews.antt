@@ -20,8 +20,8 @@ innermost_views None = []
 innermost_views (Some cursor) = cursor_view cursor ∷ []
 
 -- all are cursors of this file
-abbrev pub AreOfFile : Checked → List WaitingCursor → List Position → Option Cursor → Type 0
-AreOfFile checked waiting positions innermost = AreKept checked (reverse waiting) positions × IsInnermost checked waiting innermost
+abbrev pub AreCursorsOfFile : Checked → List WaitingCursor → List Position → Option Cursor → Type 0
+AreCursorsOfFile checked waiting positions innermost = AreKept checked (reverse waiting) positions × IsInnermost checked waiting innermost
 
 -- a cursor of the bucket before the first call
 abbrev pub fresh_view : Bucket → CursorView

@@ -12,7 +12,7 @@ pub record CursorView : Type 0 where
   pub place : Place
 
 -- the positions are a stack of the bucket, on which a cursor may rest
-pub record IsKept (checked : Checked) (at : At) (is_past : Bool) (positions : List Position) : Type 0 where
+pub record IsKeptStack (checked : Checked) (at : At) (is_past : Bool) (positions : List Position) : Type 0 where
   pub stack : HasStack (bucket_in checked (start_at at)) (frames_of positions)
   pub rest : IsAtRest (frames_of positions)
   pub empty : is_past ≡ true → frames_of positions ≡ []
@@ -25,7 +25,7 @@ kept_view checked at is_past positions =
 abbrev pub AreKept : Checked → List WaitingCursor → List Position → Type 0
 AreKept checked [] positions = Unit {0}
 AreKept checked (w ∷ outer) positions =
-    (w.begin ≤ length positions) × IsKept checked w.at w.is_past (drop w.begin positions) × AreKept checked outer (take w.begin positions)
+    (w.begin ≤ length positions) × IsKeptStack checked w.at w.is_past (drop w.begin positions) × AreKept checked outer (take w.begin positions)
 
 abbrev pub kept_views : Checked → List WaitingCursor → List Position → List CursorView
 kept_views checked [] positions = []

@@ -4,7 +4,7 @@ use Rattle.bolt_format.specs.{Elements.LeafElement, declared.meta.Meta.Meta}
 use Rattle.bolt_check.specs.{Keys.Key, Keys.key_lt, OnWays.IsOnWay}
 use Rattle.bolt_tree.specs.{BucketViews.BucketView, Private.Contents.Content, Private.Contents.Contents, Private.Contents.Of_leaf, Private.Contents.content_at}
 use Rattle.bolt_tree.specs.{Entries.Inline_page, Entries.Root_page, Entries.Start, Openings.IsNear, Openings.IsNearFrom, Places.least_from}
-use Rattle.bolt_tree.specs.{Private.Stacks.Frame, Private.Stacks.address_on, Private.Stacks.passed_of, Private.Stacks.later_of, Private.Tours.elements_of}
+use Rattle.bolt_tree.specs.{Private.Stacks.Frame, Private.Stacks.address_on, Private.Stacks.passed_of, Private.Stacks.later_of, Private.Tours.tour_elements}
 
 -- every element of a list has a key below this one, or none has
 abbrev pub AreBelow : Bool → Key → List LeafElement → Type 0
@@ -12,8 +12,8 @@ AreBelow below key elements = (k : ℕ) (e : LeafElement) → slice_get elements
 
 -- A key stands between what a stack has passed and what comes later.
 pub record IsBetween (contents : Contents) (key : Key) (frames : List Frame) : Type 0 where
-  pub passed : AreBelow true key (elements_of (passed_of contents frames))
-  pub later : AreBelow false key (elements_of (later_of contents frames))
+  pub passed : AreBelow true key (tour_elements (passed_of contents frames))
+  pub later : AreBelow false key (tour_elements (later_of contents frames))
 
 -- from a page that shows this, at this address, the way to the near leaf goes on
 abbrev pub IsNearTo : List ℕ → Meta → Start → Key → List ℕ → Content → Type 0

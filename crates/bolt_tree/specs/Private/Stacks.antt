@@ -5,9 +5,9 @@
 use Rattle.std.specs.Prelude.{◌≡◌, ◌≤◌, ◌<◌, Bool, true, false, ℕ, suc, ◌+◌, ◌-◌, List, [], ◌∷◌, ◌++◌, drop, take, length, Some, slice_get}
 use Rattle.bolt_format.specs.Elements.{BranchElement, LeafElement}
 use Rattle.bolt_check.specs.OnWays.{IsOnWay}
-use Rattle.bolt_tree.specs.{BucketViews.BucketView, Private.BucketPages.IsSoundBucket, Private.BucketPages.contents_in, Private.BucketPages.pages_in}
+use Rattle.bolt_tree.specs.{BucketViews.BucketView, Private.BucketPages.IsSoundBucket, Private.BucketPages.contents_in, Private.BucketPages.tour_pages_in}
 use Rattle.bolt_tree.specs.Private.Contents.{Content, Contents, Of_branch, Of_leaf, content_length}
-use Rattle.bolt_tree.specs.Private.Tours.{TourPage, all_under, elements_of, tour}
+use Rattle.bolt_tree.specs.Private.Tours.{TourPage, all_under, tour_elements, tour}
 
 -- A page on the stack, and how many of its elements are taken.
 pub record Frame : Type 0 where
@@ -53,16 +53,16 @@ here_of (frame ∷ below) = here_under frame.content frame.taken
 
 -- the entries that lie ahead
 abbrev pub ahead_of : Contents → List Frame → List LeafElement
-ahead_of contents frames = here_of frames ++ elements_of (later_of contents frames)
+ahead_of contents frames = here_of frames ++ tour_elements (later_of contents frames)
 
 -- the pages passed before what is taken that are not on the stack
 abbrev pub before_under : Contents → ℕ → List ℕ → Content → ℕ → List TourPage
 before_under contents height address (Of_leaf elements) taken = []
 before_under contents height address (Of_branch elements) taken = under_at contents height address 0 (take taken elements)
 
-abbrev pub before_of : Contents → List Frame → List TourPage
-before_of contents [] = []
-before_of contents (frame ∷ below) = before_of contents below ++ before_under contents (length below) (address_on below) frame.content (frame.taken - 1)
+abbrev pub pages_before : Contents → List Frame → List TourPage
+pages_before contents [] = []
+pages_before contents (frame ∷ below) = pages_before contents below ++ before_under contents (length below) (address_on below) frame.content (frame.taken - 1)
 
 -- the entries of the page on top before the last one that is taken
 abbrev pub done_under : Content → ℕ → List LeafElement
@@ -75,7 +75,7 @@ done_of (frame ∷ below) = done_under frame.content frame.taken
 
 -- the entries that lie behind
 abbrev pub preceding_of : Contents → List Frame → List LeafElement
-preceding_of contents frames = elements_of (before_of contents frames) ++ done_of frames
+preceding_of contents frames = tour_elements (pages_before contents frames) ++ done_of frames
 
 -- a branch is the page of a way, so deep
 abbrev pub IsGoodContent : BucketView → ℕ → Content → Type 0
@@ -97,7 +97,7 @@ pub record IsOver (b : BucketView) (frame : Frame) (below : List Frame) : Type 0
   pub bound : frame.taken ≤ suc (content_length frame.content)
   pub fits : frame.taken ≤ 65536
   pub branch : IsBranchTop below
-  pub placed : pages_in b ≡ passed_of (contents_in b) below
+  pub placed : tour_pages_in b ≡ passed_of (contents_in b) below
       ++ (tour (contents_in b) (63 - length below) (address_on below) frame.content ++ later_of (contents_in b) below)
 
 abbrev pub IsStack : BucketView → List Frame → Type 0
@@ -111,7 +111,7 @@ HasStack b frames = ∥ IsSoundBucket b × IsStack b frames ∥₁
 -- the number of the entry that a stack is on
 abbrev pub index_of : Contents → List Frame → ℕ
 index_of contents [] = 0
-index_of contents (frame ∷ below) = length (elements_of (passed_of contents below)) + (frame.taken - 1)
+index_of contents (frame ∷ below) = length (tour_elements (passed_of contents below)) + (frame.taken - 1)
 
 -- a cursor rests on an entry of a leaf, or nowhere
 abbrev pub RestsOn : Content → ℕ → Type 0
@@ -123,13 +123,13 @@ IsAtRest [] = Unit {0}
 IsAtRest (frame ∷ below) = RestsOn frame.content frame.taken
 
 -- the leaf on top is on this entry
-abbrev pub StandsOn : Content → ℕ → LeafElement → Type 0
-StandsOn (Of_leaf elements) taken e = (1 ≤ taken) × (slice_get elements (taken - 1) ≡ Some e)
-StandsOn (Of_branch elements) taken e = ⊥
+abbrev pub LeafStandsOn : Content → ℕ → LeafElement → Type 0
+LeafStandsOn (Of_leaf elements) taken e = (1 ≤ taken) × (slice_get elements (taken - 1) ≡ Some e)
+LeafStandsOn (Of_branch elements) taken e = ⊥
 
 abbrev pub IsOn : List Frame → LeafElement → Type 0
 IsOn [] e = ⊥
-IsOn (frame ∷ below) e = StandsOn frame.content frame.taken e
+IsOn (frame ∷ below) e = LeafStandsOn frame.content frame.taken e
 
 -- a leaf is on top
 abbrev pub IsLeafContent : Content → Type 0

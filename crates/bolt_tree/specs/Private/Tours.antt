@@ -31,5 +31,5 @@ content_at_start contents (Inline_page elements) = Of_leaf elements
 abbrev pub pages_at : List ℕ → Meta → Start → List TourPage
 pages_at file meta start = tour (content_at file meta) 63 [] (content_at_start (content_at file meta) start)
 
-abbrev pub elements_of : List TourPage → List LeafElement
-elements_of visits = flat_map (λ (v : TourPage). v.entries) visits
+abbrev pub tour_elements : List TourPage → List LeafElement
+tour_elements visits = flat_map (λ (v : TourPage). v.entries) visits

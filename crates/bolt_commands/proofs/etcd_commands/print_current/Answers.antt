@@ -1,5 +1,5 @@
 use Rattle.std.proofs.Common.{refl}
-use Rattle.bolt_etcd.specs.RevisionLines.{named, revision_lines}
+use Rattle.bolt_etcd.specs.RevisionLines.{named_with, revision_lines}
 use Rattle.bolt_commands.specs.Answers.{IsAnswerAt, IsCurrentText, up_to}
 use Rattle.bolt_commands.proofs.{Doing.answer_as, Doing.answer_nothing}
 use Rattle.bolt_commands.proofs.EtcdAnswers.{answer_at, compacted_answer, counted_ended, current_keys, here, keys, known_of, own, unread_store}
@@ -22,7 +22,7 @@ returns g c =
     let of = c.in_ok-store.ensures.found in
     let (entries, at, are) = keys _ _ s of in
     let (current, is) = current_keys _ _ s of (up_to job.at) in
-    let text = revision_lines job.form job.values (named job.prefix.items current) in
+    let text = revision_lines job.form job.values (named_with job.prefix.items current) in
     let written = rw (c.new-lines.ensures.form, c.new-lines.ensures.values, c.as_slice-prefix.ensures.value) at (c.put_current.ensures.written entries are current (rw c.up_to.ensures is)) in
     let knows = known_of c.put_current.result _ c.put_current.ensures.others (λ m all. all entries are) in
     let put = counted_ended text entries c.put_current.result written knows c.put_current.ensures.fault in

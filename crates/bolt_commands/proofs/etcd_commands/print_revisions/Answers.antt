@@ -1,7 +1,7 @@
 use Rattle.std.proofs.Common.{◌≡◌, codes, refl}
 use Rattle.bolt_tree.specs.{BucketViews.entries_of, Entries.AreEntries}
 use Rattle.bolt_etcd.specs.{RevisionsLeft.pass_checked, RevisionsLeft.pass_start}
-use Rattle.bolt_etcd.specs.{RevisionLines.named, RevisionLines.revision_lines, Stores.revisions}
+use Rattle.bolt_etcd.specs.{RevisionLines.named_with, RevisionLines.revision_lines, Stores.revisions}
 use Rattle.bolt_commands.specs.Answers.{IsRevisionsText, OfKeys, entries_asked}
 use Rattle.bolt_commands.proofs.{Doing.answer_nothing, Vocabulary.Json}
 use Rattle.bolt_commands.proofs.EtcdAnswers.{counted_put, keys, keys_answer, known_of, unread_store}
@@ -19,7 +19,7 @@ returns g c =
     let pass = c.pass_from-pass.ensures in
     let are : AreEntries (entries_of (pass_checked c.pass_from-pass.result)) (pass_start c.pass_from-pass.result) entries = rw (pass.checked, pass.start) own in
     let asked = pass.asked entries are in
-    let text = revision_lines job.form job.values (named job.prefix.items (revisions (entries_asked job.from entries))) in
+    let text = revision_lines job.form job.values (named_with job.prefix.items (revisions (entries_asked job.from entries))) in
     let written = rw (asked, c.new-lines.ensures.form, c.new-lines.ensures.values, c.as_slice.ensures.value) at (c.put_pass.ensures.written entries are) in
     let knows = known_of c.put_pass.result _ c.put_pass.ensures.others (λ m all. rw (asked, pass.others) at (all entries are)) in
     let fault = rw c.new-lines.ensures.form at c.put_pass.ensures.fault in

@@ -6,8 +6,8 @@ use Rattle.bolt_commands.proofs.SoundNames.{gets_the_same, names_the_same}
 use Rattle.bolt_commands.proofs.SoundRecovery.{Below, copies_the_same, finds_alike, lists_the_same, names_one, recovers_alike}
 use Rattle.bolt_commands.proofs.SoundRepairs.{none_restored, none_unrestored}
 use Rattle.bolt_commands.specs.Answers.{IsRestored}
-use Rattle.bolt_job.specs.PlainWords.{path_in}
-use Rattle.bolt_report.specs.{KeyPrefixes.begins, MemberNames.begins_so, MemberNames.names_bucket}
+use Rattle.bolt_job.specs.PlainWords.{owned_path}
+use Rattle.bolt_report.specs.{KeyPrefixes.has_key_prefix, MemberNames.begins_so, MemberNames.names_bucket}
 use Rattle.bolt_commands.proofs.laws.recovering_sound_trees_reads_them.Goals as goal
 
 pub returns : goal.returns
@@ -28,9 +28,9 @@ returns g c =
           copies_the_same (recovers_alike below file meta trees wanted named shown shown_named hides alone) g.O.Sink.taken g.O.Sink.failed g.T.Sink.taken g.T.Sink.failed
           out_old out_new target_old target_new size layout snapshot ending same;
       keys = λ file meta trees wanted named shown shown_named hides alone job answer whole.
-          names_the_same below file meta trees wanted named shown shown_named hides alone answer job.form (begins_so job.prefix.items) (begins job.prefix.items) (λ e. refl) (path_in job.path.items) whole;
+          names_the_same below file meta trees wanted named shown shown_named hides alone answer job.form (begins_so job.prefix.items) (has_key_prefix job.prefix.items) (λ e. refl) (owned_path job.path.items) whole;
       buckets = λ file meta trees wanted named shown shown_named hides alone job answer whole.
-          names_the_same below file meta trees wanted named shown shown_named hides alone answer job.form names_bucket (λ e. e.is_bucket) bucket_items (path_in job.path.items) whole;
+          names_the_same below file meta trees wanted named shown shown_named hides alone answer job.form names_bucket (λ e. e.is_bucket) bucket_items (owned_path job.path.items) whole;
       get = λ file meta trees wanted named shown shown_named hides alone job answer. gets_the_same below file meta trees wanted named shown shown_named hides alone answer job;
       found_list = λ file meta trees choice shown few. lists_the_same (finds_alike below file meta trees choice shown few);
       found_compact = λ file meta trees choice shown few out_old out_new target_old target_new size layout snapshot ending same.

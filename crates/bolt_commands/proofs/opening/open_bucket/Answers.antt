@@ -1,12 +1,12 @@
 use Rattle.std.proofs.Common.{◌∙◌, ◌+◌, drop, refl, take}
-use Rattle.bolt_commands.proofs.{Vocabulary.bucket_start, Vocabulary.path_in, AtPaths.leads_further, AtPaths.leads_nowhere, AtPaths.parts_at, AtPaths.parts_more}
+use Rattle.bolt_commands.proofs.{Vocabulary.bucket_start, Vocabulary.owned_path, AtPaths.leads_further, AtPaths.leads_nowhere, AtPaths.parts_at, AtPaths.parts_more}
 use Rattle.bolt_commands.proofs.opening.open_bucket.Goals as goal
 
 pub returns-in_default-clause-refused : goal.returns-in_default-clause-refused
 returns-in_default-clause-refused c =
     let start = bucket_start c.loop-part.bucket in
-    let before = path_in (take c.loop-part.part-index c.args.path.now) in
-    let rest = path_in (drop (c.loop-part.part-index + 1) c.args.path.now) in
+    let before = owned_path (take c.loop-part.part-index c.args.path.now) in
+    let rest = owned_path (drop (c.loop-part.part-index + 1) c.args.path.now) in
     let key = c.part-item.result.items in
     let none = rw (c.loop-part.invariant.file, c.as_slice.ensures.value) at c.in_default.ensures.bucket in
     let parts = parts_at c.args.path.now c.loop-part.part-index c.part-item.result c.part-item.is c.loop-part-test.true in
@@ -15,7 +15,7 @@ returns-in_default-clause-refused c =
 pub loop-part-preserved : goal.loop-part-preserved
 loop-part-preserved c =
     let start = bucket_start c.loop-part.bucket in
-    let before = path_in (take c.loop-part.part-index c.args.path.now) in
+    let before = owned_path (take c.loop-part.part-index c.args.path.now) in
     let key = c.part-item.result.items in
     let found = rw (c.loop-part.invariant.file, c.as_slice.ensures.value) at c.in-Some.ensures.bucket in
     let parts = parts_more c.args.path.now c.loop-part.part-index c.part-item.result c.part-item.is c.loop-part-test.true in

@@ -1,5 +1,5 @@
 use Rattle.std.proofs.Common.{inl, inr, refl}
-use Rattle.bolt_commands.proofs.{Vocabulary.path_in, Doing.answer_nothing, Doing.answer_put, ReadFiles.own_trees, StatsAnswers.stats_missing}
+use Rattle.bolt_commands.proofs.{Vocabulary.owned_path, Doing.answer_nothing, Doing.answer_put, ReadFiles.own_trees, StatsAnswers.stats_missing}
 use Rattle.bolt_commands.proofs.printing_commands.print_stats.Goals as goal
 
 pub find_stats-requires : goal.find_stats-requires
@@ -12,7 +12,7 @@ pub returns-in_err-stats : goal.returns-in_err-stats
 returns-in_err-stats g c =
     let opened = c.in_ok-checked.ensures in
     let job = c.args.job.now in
-    let is = stats_missing c.args.input.file.now (path_in job.path.items) job.form _ _ (rw (opened.bytes, c.as_slice.ensures.value) at c.in_err-stats.ensures.missing) in
+    let is = stats_missing c.args.input.file.now (owned_path job.path.items) job.form _ _ (rw (opened.bytes, c.as_slice.ensures.value) at c.in_err-stats.ensures.missing) in
     answer_nothing _ _ (inl (_, opened.sound, is)) c.from_residual-in_err-stats.ensures.1
 
 pub returns : goal.returns

@@ -1,6 +1,6 @@
 -- All members are returned before the value is written.
 use Rattle.std.proofs.Common.{◌≡◌, ◌∙◌, Bool, Err, Ok, ap, inr, refl, true}
-use Rattle.bolt_commands.proofs.Vocabulary.{IsRecoveryOf, has_losses, has_recovered, parts, path_in, path_of, recovery_meta, shortfall}
+use Rattle.bolt_commands.proofs.Vocabulary.{IsRecoveryOf, has_losses, has_recovered, parts, owned_path, path_of, recovery_meta, shortfall}
 use Rattle.bolt_commands.proofs.{Doing.answer_nothing, Doing.answer_refused, Doing.ends_as, RecoveredAnswers.none_known, RecoveredAnswers.of_recovery, RecoveredAnswers.recovered_none, RecoveredAnswers.value_known, RecoveredAnswers.value_put}
 use Rattle.bolt_commands.specs.{Answers.IsRecoveredValue, Answers.no_value, Private.Recovered.HoldsNow}
 use Rattle.bolt_commands.proofs.recovered_commands.print_recovered_value.Goals as goal
@@ -21,8 +21,8 @@ returns-in_err-value g c =
     let of : IsRecoveryOf c.args.input.file.now c.args.job.now.meta r = record { bytes = opened.file; under = opened.meta; all = opened.all } in
     let (own, is) = has_recovered c.args.input.file.now (recovery_meta r) in
     let (losses, are) = has_losses c.args.input.file.now (recovery_meta r) in
-    let path = path_in c.args.job.now.path.items in
-    let same : path_of c.as_slice-2.result.now ≡ path = ap path_of c.as_slice-2.ensures.value ∙ c.in_ok-path.ensures.path ∙ ap path_in c.as_slice.ensures.value in
+    let path = owned_path c.args.job.now.path.items in
+    let same : path_of c.as_slice-2.result.now ≡ path = ap path_of c.as_slice-2.ensures.value ∙ c.in_ok-path.ensures.path ∙ ap owned_path c.as_slice.ensures.value in
     let holds : HoldsNow own path c.in_ok-at.at = rw (same, of.all own is) at (c.in_ok-at.ensures.held own (rw of.bytes is)) in
     let known = c.in_ok-at.ensures.end losses (rw of.bytes are) in
     let (none, why) = none_known own path c.in_ok-at.at holds (shortfall (parts losses) c.metas_fault-other.result) _ (rw (c.find-lost.ensures, c.losses.ensures.losses, known) at c.in_err-value.ensures) in
@@ -36,8 +36,8 @@ returns-in_err-put_value g c =
     let of : IsRecoveryOf c.args.input.file.now c.args.job.now.meta r = record { bytes = opened.file; under = opened.meta; all = opened.all } in
     let (own, is) = has_recovered c.args.input.file.now (recovery_meta r) in
     let (losses, are) = has_losses c.args.input.file.now (recovery_meta r) in
-    let path = path_in c.args.job.now.path.items in
-    let same : path_of c.as_slice-2.result.now ≡ path = ap path_of c.as_slice-2.ensures.value ∙ c.in_ok-path.ensures.path ∙ ap path_in c.as_slice.ensures.value in
+    let path = owned_path c.args.job.now.path.items in
+    let same : path_of c.as_slice-2.result.now ≡ path = ap path_of c.as_slice-2.ensures.value ∙ c.in_ok-path.ensures.path ∙ ap owned_path c.as_slice.ensures.value in
     let holds : HoldsNow own path c.in_ok-at.at = rw (same, of.all own is) at (c.in_ok-at.ensures.held own (rw of.bytes is)) in
     let known = c.in_ok-at.ensures.end losses (rw of.bytes are) in
     let held = value_known own path c.in_ok-at.at holds (shortfall (parts losses) c.metas_fault-other.result) _ (rw (c.find-lost.ensures, c.losses.ensures.losses, known) at c.in_ok-value.ensures) in
@@ -52,8 +52,8 @@ returns g c =
     let of : IsRecoveryOf c.args.input.file.now c.args.job.now.meta r = record { bytes = opened.file; under = opened.meta; all = opened.all } in
     let (own, is) = has_recovered c.args.input.file.now (recovery_meta r) in
     let (losses, are) = has_losses c.args.input.file.now (recovery_meta r) in
-    let path = path_in c.args.job.now.path.items in
-    let same : path_of c.as_slice-2.result.now ≡ path = ap path_of c.as_slice-2.ensures.value ∙ c.in_ok-path.ensures.path ∙ ap path_in c.as_slice.ensures.value in
+    let path = owned_path c.args.job.now.path.items in
+    let same : path_of c.as_slice-2.result.now ≡ path = ap path_of c.as_slice-2.ensures.value ∙ c.in_ok-path.ensures.path ∙ ap owned_path c.as_slice.ensures.value in
     let holds : HoldsNow own path c.in_ok-at.at = rw (same, of.all own is) at (c.in_ok-at.ensures.held own (rw of.bytes is)) in
     let known = c.in_ok-at.ensures.end losses (rw of.bytes are) in
     let held = value_known own path c.in_ok-at.at holds (shortfall (parts losses) c.metas_fault-other.result) _ (rw (c.find-lost.ensures, c.losses.ensures.losses, known) at c.in_ok-value.ensures) in

@@ -1,5 +1,5 @@
 use Rattle.std.proofs.Common.{◌≡◌, flat_map}
-use Rattle.bolt_etcd.specs.CheckLines.{fault_lines}
+use Rattle.bolt_etcd.specs.CheckLines.{name_fault_lines}
 use Rattle.bolt_etcd.specs.FaultsLeft.{ForGranted, faults_leases, faults_left, faults_number}
 use Rattle.bolt_etcd.proofs.ListedTexts.{Listed}
 use Rattle.bolt_etcd.proofs.check_texts.put_name_faults.Given as goal
@@ -8,7 +8,7 @@ use Rattle.bolt_etcd.proofs.check_texts.put_name_faults.Given as goal
 abbrev pub invariant-rest : goal.invariant-rest
 invariant-rest g l = record {
   leases : faults_leases l.pass ≡ faults_leases l.fn.pass;
-  listed : ForGranted (faults_leases l.fn.pass) (λ granted. Listed g.S.Sink l.initial.sink l.sink (flat_map fault_lines (faults_left l.fn.pass granted)) (flat_map fault_lines (faults_left l.pass granted)) l.number);
+  listed : ForGranted (faults_leases l.fn.pass) (λ granted. Listed g.S.Sink l.initial.sink l.sink (flat_map name_fault_lines (faults_left l.fn.pass granted)) (flat_map name_fault_lines (faults_left l.pass granted)) l.number);
 }
 
 abbrev pub decreases-rest : goal.decreases-rest

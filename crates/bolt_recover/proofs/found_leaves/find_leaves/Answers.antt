@@ -1,5 +1,5 @@
 use Rattle.std.proofs.Common.{◌≡◌, ◌∙◌, ◌⊎◌, ◌↔◌, ◌<◌, ◌+◌, ◌-◌, ◌++◌, ◌∷◌, inl, ℕ, true, List, [], ap, arith, subst, sym}
-use Rattle.bolt_recover.proofs.Words.{All, All-push, false_from_ne_true, false≢true, Found, FoundBelow, is_listed, is_taken, IsFoundPage, IsFoundView, leftovers_file, leftovers_length, leftovers_meta, map-append, numbers_of}
+use Rattle.bolt_recover.proofs.Words.{All, All-push, false_from_ne_true, false≢true, Found, FoundBelow, is_listed, is_taken, IsFoundPage, IsFoundView, leftovers_file, leftovers_length, leftovers_meta, map-append, found_numbers}
 use Rattle.bolt_recover.proofs.FoundLemmas.{found_next, found_not, found_up, taken_more, view_of}
 use Rattle.bolt_recover.proofs.found_leaves.find_leaves.Goals as goal
 use Rattle.bolt_recover.proofs.found_leaves.find_leaves.Goals.{in-Some, in_default}
@@ -12,7 +12,7 @@ loop-number-preserved c =
     let l = c.loop-number in
     let inv = l.invariant in
     let n = l.number in
-    let found = numbers_of l.found.items in
+    let found = found_numbers l.found.items in
     let old = is_taken l.leftovers in
     let new = is_taken c.take.new.self in
     let listed = is_listed l.leftovers in
@@ -25,7 +25,7 @@ loop-number-preserved c =
           let f : Found = w.new.result in
           let items : c.match-take.found.items ≡ l.found.items ++ f ∷ [] =
           ap (λ v. v.items) w.found-is ∙ w.push_reserved.ensures.items ∙ ap (λ (fs : List Found). fs ++ f ∷ []) c.in_ok-reserve.ensures.items in
-          let numbers : numbers_of c.match-take.found.items ≡ found ++ n ∷ [] = ap numbers_of items ∙ map-append (λ (x : Found). x.number) l.found.items (f ∷ []) ∙ ap (λ (m : ℕ). found ++ m ∷ []) w.new.ensures.number in
+          let numbers : found_numbers c.match-take.found.items ≡ found ++ n ∷ [] = ap found_numbers items ∙ map-append (λ (x : Found). x.number) l.found.items (f ∷ []) ∙ ap (λ (m : ℕ). found ++ m ∷ []) w.new.ensures.number in
           let view = view_of file meta (λ k. old k ≡ true) f (rw (w.new.ensures.number, w.new.ensures.page) some.page) (rw (w.new.ensures.number, w.new.ensures.page) some.node) (rw w.new.ensures.number some.leaf) in
           record {
             file = c.take.ensures.file ∙ inv.file;
@@ -41,7 +41,7 @@ loop-number-preserved c =
       | in_default w ↦
           let none = rw (inv.file, inv.meta) at w.in_default.ensures in
           let items : c.match-take.found.items ≡ l.found.items = ap (λ v. v.items) w.found-is ∙ c.in_ok-reserve.ensures.items in
-          let numbers : numbers_of c.match-take.found.items ≡ found = ap numbers_of items in
+          let numbers : found_numbers c.match-take.found.items ≡ found = ap found_numbers items in
           record {
             file = c.take.ensures.file ∙ inv.file;
             meta = c.take.ensures.meta ∙ inv.meta;
@@ -64,7 +64,7 @@ returns-clause-found c =
     let below = c.end-number-end.ensures.below in
     let at_end : c.loop-number.number ≡ end = (let over = c.loop-number-test.false in let auto_ = c.loop-number.auto.number-end in omega (arith, over, auto_)) in
     let up : end + (meta.high_water - end) ≡ meta.high_water = omega (arith, below) in
-    let found = numbers_of c.loop-number.found.items in
+    let found = found_numbers c.loop-number.found.items in
     subst (λ (n : ℕ). FoundBelow file meta kept n found) up
     (found_up file meta kept end found (meta.high_water - end) (subst (λ (n : ℕ). FoundBelow file meta kept n found) at_end c.loop-number.invariant.below)
     (λ n le lt next. c.end-number-end.ensures.past n next.leaf.passes.node le next.leaf.passes.page (omega (arith, lt, up))))

@@ -1,6 +1,6 @@
 -- The found pages leave room for their names, and the recovered listing for their bucket.
 use Rattle.std.proofs.Common.{◌∙◌, List, [], ◌∷◌, ap}
-use Rattle.bolt_recover.proofs.Words.{joined_file, joined_meta, Member, member_cmp, numbers_of, props, Rises, ∥∥₁_elim}
+use Rattle.bolt_recover.proofs.Words.{joined_file, joined_meta, Member, member_cmp, found_numbers, props, Rises, ∥∥₁_elim}
 use Rattle.bolt_recover.proofs.FoundAll.{one_found}
 use Rattle.bolt_recover.proofs.laws.joined_members_rise.Goals as goal
 
@@ -17,4 +17,4 @@ returns c = λ listing is.
     ∥∥₁_elim joined.pages (rises_prop listing) (λ are.
     c.joined_listing_rises.ensures file meta are.few
     (λ recovered found recovers pages some.
-    are.apart (λ none. some (one_found file meta found (numbers_of joined.found.now) pages are.are_found ∙ ap numbers_of none)) recovered recovers) listing is)
+    are.apart (λ none. some (one_found file meta found (found_numbers joined.found.now) pages are.are_found ∙ ap found_numbers none)) recovered recovers) listing is)

@@ -1,5 +1,5 @@
 use Rattle.std.proofs.Common.{◌≡◌, ◌∙◌, ◌+◌, ◌<◌, ◌++◌, ◌∷◌, [], ℕ, List, inl, inr, ap, arith, map, sym}
-use Rattle.bolt_stats.proofs.Words.{bytes_of, saturated, deepest_of, figure, greatest, inner_pages, inner_roots, meta_of, Node, numbers_of, one, own_figure, props, total_of, unread_page, ∥∥₁_elim, ∥∥₁_map, ∥∥₁_prop}
+use Rattle.bolt_stats.proofs.Words.{bytes_of, saturated, deepest_of, figure, greatest, inner_pages, inner_roots, meta_of, Node, unread_numbers, one, own_figure, props, total_of, unread_page, ∥∥₁_elim, ∥∥₁_map, ∥∥₁_prop}
 use Rattle.bolt_stats.proofs.{FigureLemmas.figure_add, ReadDepths.first_height, ReadDepths.numbers_opened, ReadDepths.read_deepest, ReadDepths.read_height}
 use Rattle.bolt_stats.proofs.ReadSums.{more_found, next_good, none_left, popped, read_good, read_sum, started, zero_figure}
 use Rattle.bolt_stats.proofs.bucket_stats.read_bucket.Goals as goal
@@ -20,7 +20,7 @@ pages-init c =
 
 pub read_page-requires : goal.read_page-requires
 read_page-requires c =
-    next_good (bytes_of c.args.checked.now) (meta_of c.args.checked.now) (numbers_of c.pop.new.self.items) c.pages.roots.items (numbers_of c.pages.pages.items) c.in-Some.open.number
+    next_good (bytes_of c.args.checked.now) (meta_of c.args.checked.now) (unread_numbers c.pop.new.self.items) c.pages.roots.items (unread_numbers c.pages.pages.items) c.in-Some.open.number
     (popped c.pages.pages.items c.pop.new.self.items c.in-Some.open c.in-Some.ensures.items) c.pages.invariant.good
 
 pub pages-preserved : goal.pages-preserved
@@ -28,9 +28,9 @@ pages-preserved c =
     let file : List ℕ = bytes_of c.args.checked.now in
     let meta = meta_of c.args.checked.now in
     let n : ℕ = c.in-Some.open.number in
-    let rest : List ℕ = numbers_of c.pop.new.self.items in
-    let before : List ℕ = numbers_of c.pages.pages.items in
-    let after : List ℕ = numbers_of c.read_page.new.pages.items in
+    let rest : List ℕ = unread_numbers c.pop.new.self.items in
+    let before : List ℕ = unread_numbers c.pages.pages.items in
+    let after : List ℕ = unread_numbers c.read_page.new.pages.items in
     let roots : List ℕ = c.pages.roots.items in
     let found : List ℕ = c.read_page.new.roots.items in
     let taken = popped c.pages.pages.items c.pop.new.self.items c.in-Some.open c.in-Some.ensures.items in
@@ -73,10 +73,10 @@ pages-smaller c =
     let meta = meta_of c.args.checked.now in
     let n : ℕ = c.in-Some.open.number in
     let taken = popped c.pages.pages.items c.pop.new.self.items c.in-Some.open c.in-Some.ensures.items in
-    let enough = next_good file meta (numbers_of c.pop.new.self.items) c.pages.roots.items (numbers_of c.pages.pages.items) n taken c.pages.invariant.good in
+    let enough = next_good file meta (unread_numbers c.pop.new.self.items) c.pages.roots.items (unread_numbers c.pages.pages.items) n taken c.pages.invariant.good in
     ∥∥₁_elim c.in_ok-read.ensures.kids (Prim.hlevel props) (λ (node, page, a, b, _, _). ∥∥₁_elim enough (Prim.hlevel props) (λ e.
     let after = numbers_opened c.pop.new.self.items c.read_page.new.pages.items (saturated (c.in-Some.open.depth + 1)) (inner_pages node) a in
-    let sum = read_sum file meta one (numbers_of c.pop.new.self.items) c.pages.roots.items (numbers_of c.read_page.new.pages.items) c.read_page.new.roots.items n node page e after b in
+    let sum = read_sum file meta one (unread_numbers c.pop.new.self.items) c.pages.roots.items (unread_numbers c.read_page.new.pages.items) c.read_page.new.roots.items n node page e after b in
     let more = more_found file meta one c.pages.roots.items c.read_page.new.roots.items (inner_roots node) b in
     let same = ap (total_of file meta one) taken in
     omega (arith, sum, more, same)))

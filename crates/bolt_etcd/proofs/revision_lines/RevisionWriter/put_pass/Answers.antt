@@ -1,7 +1,7 @@
 use Rattle.std.proofs.Common.{◌∙◌, List, ap, flat_map}
 use Rattle.bolt_format.proofs.{WroteFronts.front_more, WroteFronts.front_whole, WroteLemmas.Wrote-same}
 use Rattle.bolt_text.proofs.ReportLemmas.{front_fault}
-use Rattle.bolt_etcd.specs.{RevisionLines.named_line, Revisions.RevisionView, ShownRevisions.shown_revision, Stores.revisions}
+use Rattle.bolt_etcd.specs.{RevisionLines.prefix_line, Revisions.RevisionView, ShownRevisions.shown_revision, Stores.revisions}
 use Rattle.bolt_etcd.specs.RevisionsLeft.{CountsOthers, GivesFirst, ahead_of, pass_others}
 use Rattle.std.specs.Option.{option_map}
 use Rattle.bolt_etcd.proofs.{RevisionSteps.moved_to, RevisionTexts.named_lines, RevisionTexts.same_line}
@@ -9,7 +9,7 @@ use Rattle.bolt_etcd.proofs.revision_lines.RevisionWriter.put_pass.Goals as goal
 
 pub rest-preserved : goal.rest-preserved
 rest-preserved g c =
-    let line = named_line c.args.prefix.now c.args.self.now.items.form c.args.self.now.values in
+    let line = prefix_line c.args.prefix.now c.args.self.now.items.form c.args.self.now.values in
     let given = moved_to _ _ _ _ (λ entries. GivesFirst (ahead_of c.rest.pass entries) (ahead_of c.next.new.self entries) (option_map shown_revision c.next.result))
     c.rest.invariant.checked c.rest.invariant.start c.next.ensures.given in
     let counts = moved_to _ _ _ _ (λ entries. CountsOthers (ahead_of c.rest.pass entries) (ahead_of c.next.new.self entries) (pass_others c.rest.pass) (pass_others c.next.new.self))
@@ -28,7 +28,7 @@ rest-preserved g c =
 
 pub returns-in_err-put_named-clause-written : goal.returns-in_err-put_named-clause-written
 returns-in_err-put_named-clause-written g c = λ entries are.
-    let line = named_line c.args.prefix.now c.args.self.now.items.form c.args.self.now.values in
+    let line = prefix_line c.args.prefix.now c.args.self.now.items.form c.args.self.now.values in
     let given = moved_to _ _ _ _ (λ entries. GivesFirst (ahead_of c.rest.pass entries) (ahead_of c.next.new.self entries) (option_map shown_revision c.next.result))
     c.rest.invariant.checked c.rest.invariant.start c.next.ensures.given in
     Wrote-same (named_lines _ _ _ (revisions (ahead_of c.args.pass entries)))
@@ -39,7 +39,7 @@ returns-in_err-put_named-clause-written g c = λ entries are.
 
 pub returns-clause-written : goal.returns-clause-written
 returns-clause-written g c = λ entries are.
-    let line = named_line c.args.prefix.now c.args.self.now.items.form c.args.self.now.values in
+    let line = prefix_line c.args.prefix.now c.args.self.now.items.form c.args.self.now.values in
     let given = moved_to _ _ _ _ (λ entries. GivesFirst (ahead_of c.rest.pass entries) (ahead_of c.next.new.self entries) (option_map shown_revision c.next.result))
     c.rest.invariant.checked c.rest.invariant.start c.next.ensures.given in
     let (none, end) = rw c.in_default.is at (given entries are) in

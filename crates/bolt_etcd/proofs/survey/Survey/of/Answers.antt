@@ -1,7 +1,7 @@
 use Rattle.std.proofs.Common.{Bor, List, [], map, subst, sym, ◌++◌, ◌∷◌, None, ℕ}
 use Rattle.bolt_tree.specs.{Listing.Member, Paths.path_of, ShownEntries.item_view}
 use Rattle.bolt_etcd.specs.ShownRevisions.{entry_of}
-use Rattle.bolt_etcd.specs.Surveys.{IsSurvey, IsSurveyOf}
+use Rattle.bolt_etcd.specs.Surveys.{IsStoreSurvey, IsSurveyOf}
 use Rattle.bolt_etcd.proofs.Surveyed.{next_member, no_more, none_surveyed}
 use Rattle.bolt_etcd.proofs.survey.Survey.of.Goals as goal
 
@@ -14,7 +14,7 @@ members-init c =
       noted = λ listing is. (
         [],
         c.in_ok-kept.ensures.all listing is,
-        subst (λ (keys : List (Bor (List ℕ))). IsSurvey [] candidates None None (map now keys)) (sym c.new.ensures.items) (none_surveyed candidates),
+        subst (λ (keys : List (Bor (List ℕ))). IsStoreSurvey [] candidates None None (map now keys)) (sym c.new.ensures.items) (none_surveyed candidates),
       );
     }
 

@@ -1,12 +1,12 @@
 -- The member of the next line, whose bytes come next.
 use Rattle.std.proofs.Common.{arith, ap}
-use Rattle.bolt_load.proofs.Words.{hex_path_in, item_view, members_in, members_left, members_path, path_of, word_item}
+use Rattle.bolt_load.proofs.Words.{hex_path_in, item_view, members_of_lines, members_left, members_path, path_of, word_item}
 use Rattle.bolt_load.proofs.NextLines.{item_begins, no_members, no_words, path_begins, pushed_onto_none, rest_decoded}
 use Rattle.bolt_load.proofs.line_members.LineMembers.advance.Goals as goal
 
 pub returns-in_default-clause-given : goal.returns-in_default-clause-given
 unfolding members_left members_path
-returns-in_default-clause-given c = let none = no_members c.args.self.now.text_left.now c.in_default.ensures in (ap members_in none, ap members_in none, ap path_of c.clear.ensures.items)
+returns-in_default-clause-given c = let none = no_members c.args.self.now.text_left.now c.in_default.ensures in (ap members_of_lines none, ap members_of_lines none, ap path_of c.clear.ensures.items)
 
 pub returns-in_default-clause-lines : goal.returns-in_default-clause-lines
 unfolding members_left

@@ -1,6 +1,6 @@
 -- An element shows itself, and then what it holds.
 use Rattle.std.proofs.Common.{◌≡◌, ◌++◌, ◌∷◌, [], List, false, inl, inr, None, Option, Some, ap, append_assoc, refl}
-use Rattle.bolt_recover.proofs.Words.{cases_Bool, end, inside_of, IsTrue, item_of, leaf_view, LeafElement, listing_below, lost_and_found, Member, Path, Tree, tree_with}
+use Rattle.bolt_recover.proofs.Words.{cases_Bool, end, inside_of, IsTrue, item_of, leaf_view, LeafElement, listing_below, lost_and_found, Member, Path, Tree, tree_of_elements}
 use Rattle.bolt_recover.specs.Private.{FoundLeft.GivesBelow}
 use Rattle.bolt_format.specs.{ElementsLeft.leaves_left, declared.elements.Leaves.Leaves}
 use Rattle.bolt_recover.specs.declared.found_members.FoundMembers.{FoundMembers}
@@ -9,7 +9,7 @@ use Rattle.bolt_recover.proofs.found_members.FoundMembers.next_below.Goals as go
 
 first_member : (path : Path) (inside : LeafElement → Tree) (e : LeafElement) (elements : List LeafElement) (rest inner : List Member) → (e.is_bucket ≡ false → inner ≡ [])
     → (IsTrue e.is_bucket → inner ≡ listing_below (path ++ e.key ∷ []) (inside e))
-    → listing_below path (tree_with inside (e ∷ elements)) ++ rest ≡ (path ++ e.key ∷ [], item_of e) ∷ (inner ++ (listing_below path (tree_with inside elements) ++ rest))
+    → listing_below path (tree_of_elements inside (e ∷ elements)) ++ rest ≡ (path ++ e.key ∷ [], item_of e) ∷ (inner ++ (listing_below path (tree_of_elements inside elements) ++ rest))
 first_member path inside e elements rest inner none some = elim (cases_Bool e.is_bucket) [
   | inl is ↦ rw (some is, is, append_assoc) refl
   | inr is ↦ rw (none is, is) refl
@@ -32,7 +32,7 @@ returns-in-Some-next-clause-given c =
     let leaf = c.in-Some-next.leaf in
     let path : Path = lost_and_found ∷ self.name.now ∷ [] in
     rw (c.requires, c.in_default.ensures.steps.0, c.in-Some-next.ensures.steps.0, c.lost_and_found-in-Some-next.ensures, c.of-in-Some-next.ensures)
-    (first_member path inside_of (leaf_view leaf) _ _ (listing_below (path ++ leaf.key.now ∷ []) (tree_with (λ e. end) (leaves_left c.inner_of-self.result)))
+    (first_member path inside_of (leaf_view leaf) _ _ (listing_below (path ++ leaf.key.now ∷ []) (tree_of_elements (λ e. end) (leaves_left c.inner_of-self.result)))
     (λ is. rw (c.inner_of-self.ensures.value is) refl) (λ is. ap (listing_below (path ++ leaf.key.now ∷ [])) (c.inner_of-self.ensures.bucket is)))
 
 pub returns-clause-given : goal.returns-clause-given

@@ -1,12 +1,12 @@
 use Rattle.std.proofs.Common.{arith, subst, sym}
-use Rattle.bolt_recover.proofs.Words.{GoesOn}
+use Rattle.bolt_recover.proofs.Words.{StepsOn}
 use Rattle.bolt_recover.proofs.StepLemmas.{goes_in, goes_lost}
 use Rattle.bolt_recover.proofs.steps.Steps.enter.Goals as goal
 
 pub returns-in-Err-clause-on : goal.returns-in-Err-clause-on
 returns-in-Err-clause-on c =
     let visit = c.in-Err.ensures in
-    subst (GoesOn c.args.self.now) (sym c.lose.ensures.rest)
+    subst (StepsOn c.args.self.now) (sym c.lose.ensures.rest)
     (goes_lost c.args.self.now c.visit.new.claims c.reserve.new.self c.lose.new.self.losses c.lose.new.self.loss_path c.in-Some.ahead c.requires c.in-Some.is visit.file visit.meta visit.visited
     c.in-Err.finding visit.found visit.same c.reserve.ensures.items (rw c.reserve-2.ensures.items at c.lose.ensures.reported))
 

@@ -1,6 +1,6 @@
 -- What lies in the direction stays the same until an entry is taken, and each page that is opened is the next one there.
 use Rattle.std.proofs.Common.{◌≡◌, ◌∙◌, ◌+◌, ◌-◌, suc, length, List, ◌∷◌, ◌++◌, Option, None, Some, option_to_list, sym, ap, refl, arith}
-use Rattle.bolt_tree.proofs.Words.{BucketPages, Frame, HasStack, HasTrail, IsEntered, Of_branch, Position, branches_on, contents_in, entries_left, entries_to, frame_of, frames_of, leaf_view, opened_content, pages_bucket, pages_left, pages_to, taken_at, trail_on}
+use Rattle.bolt_tree.proofs.Words.{BucketPages, Frame, HasStack, HasTrail, IsEntered, Of_branch, Position, branches_on, contents_in, trail_entries_left, entries_to, frame_of, frames_of, leaf_view, opened_content, pages_bucket, pages_left, pages_to, taken_at, trail_on}
 use Rattle.bolt_tree.proofs.MoveLemmas.{opens, page_left, takes}
 use Rattle.bolt_tree.proofs.{PagerLemmas.counted_more, PagerLemmas.counted_zero, StackLemmas.popped, StackLemmas.retaken, StackLemmas.taken_bound}
 use Rattle.bolt_tree.proofs.StackLemmas.{taken_fits}
@@ -82,7 +82,7 @@ under c =
     rw c.in-Branch.is (child.0, child.1, edge c ∙ rw (c.go_under-child.ensures.frames, child.2) refl)
 
 -- the page that is opened is the next one that lies in the direction
-opened : (c : After-push-in-Branch) → (entries_left c.args.back (trail_on c.loop-top.self c.loop-top.stack.items) ≡ entries_left c.args.back (trail_on c.go_under-child.new.self c.push-in-Branch.new.self.items))
+opened : (c : After-push-in-Branch) → (trail_entries_left c.args.back (trail_on c.loop-top.self c.loop-top.stack.items) ≡ trail_entries_left c.args.back (trail_on c.go_under-child.new.self c.push-in-Branch.new.self.items))
     × (length (pages_left c.args.back (trail_on c.loop-top.self c.loop-top.stack.items)) ≡ suc (length (pages_left c.args.back (trail_on c.go_under-child.new.self c.push-in-Branch.new.self.items))))
     × (length (frames_of c.push-in-Branch.new.self.items) ≡ suc (suc (length (frames_of c.pop.new.self.items))))
 opened c = opens (pages_bucket c.loop-top.self) (pages_bucket c.go_under-child.new.self) (frames_of c.loop-top.stack.items) (frames_of c.pop.new.self.items) (frames_of c.push-in-Branch.new.self.items) (frame_of c.in-Some.top)

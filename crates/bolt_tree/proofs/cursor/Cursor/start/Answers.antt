@@ -1,6 +1,6 @@
 -- The root page is put on the stack at its edge, so that everything lies in the direction.
 use Rattle.std.proofs.Common.{◌≡◌, ◌∷◌, ◌++◌, ◌∙◌, ◌+◌, ◌-◌, ◌&&◌, ℕ, [], Bool, true, false, not, Option, length, List, ap, refl, arith}
-use Rattle.bolt_tree.proofs.Words.{Content, Finds, Frame, Leaf, LeafElement, MatchOption, Position, counted, frame_of, frames_of, pager_opened, pages_bucket, pages_in, pages_left, root_content, taken_at, trail_on}
+use Rattle.bolt_tree.proofs.Words.{Content, Finds, Frame, Leaf, LeafElement, MatchOption, Position, counted, frame_of, frames_of, pager_opened, pages_bucket, tour_pages_in, pages_left, root_content, taken_at, trail_on}
 use Rattle.bolt_tree.proofs.{MoveLemmas.at_edge, PagerLemmas.counted_more, StackLemmas.root_stack}
 use Rattle.bolt_tree.proofs.{RestingLemmas.resting_bucket, TrailLemmas.edge_room}
 use Rattle.std.specs.Option.{is_some}
@@ -36,7 +36,7 @@ returns c =
     let old = pager_opened was.pages.pager in
     let left = length (pages_left back (trail_on c.open_root-root.new.self c.push.new.self.items)) in
     let ahead = length (pages_left back (trail_on c.go-found.new.self c.go-found.new.stack.items)) in
-    let sum : 1 + (left - ahead) ≡ length (pages_in bucket) - ahead = omega (arith, all.1, done.less) in
+    let sum : 1 + (left - ahead) ≡ length (tour_pages_in bucket) - ahead = omega (arith, all.1, done.less) in
     record {
       moved = record { file = done.moved.file ∙ root.checked; at = done.moved.at ∙ root.at; stack = done.moved.stack };
       found = rw all.0 done.found;

@@ -1,6 +1,6 @@
 use Rattle.std.proofs.Common.{arith, ◌∙◌, List, ◌++◌, Option, Some, refl, sym, ap, subst}
 use Rattle.std.proofs.lemmas.Grind.{common_steps}
-use Rattle.bolt_tree.proofs.Words.{AreOfFile, Cursor, Position, cursor_view, fresh_view}
+use Rattle.bolt_tree.proofs.Words.{AreCursorsOfFile, Cursor, Position, cursor_view, fresh_view}
 use Rattle.bolt_tree.proofs.KeptLemmas.{first_one, innermost_file, opens_fresh, put_last, same_file, same_views, waits, waits_view}
 use Rattle.bolt_tree.proofs.open_buckets.OpenBuckets.open.Goals as goal
 
@@ -15,14 +15,14 @@ begin-requires c = grind (arith, common_steps, innermost_file)
 
 pub invariant_of-self-in-Break-branch-2 : goal.invariant_of-self-in-Break-branch-2
 invariant_of-self-in-Break-branch-2 c = record {
-  kept = subst (λ (o : Option Cursor). ∥ AreOfFile c.args.self.now.checked c.reserve-2.new.self.items c.args.self.now.positions.items o ∥₁) c.in-Some.is
+  kept = subst (λ (o : Option Cursor). ∥ AreCursorsOfFile c.args.self.now.checked c.reserve-2.new.self.items c.args.self.now.positions.items o ∥₁) c.in-Some.is
       (same_file c.args.self.now.checked c.args.self.now.waiting.items c.reserve-2.new.self.items c.args.self.now.positions.items c.args.self.now.positions.items c.args.self.now.innermost
       c.reserve-2.ensures.items refl c.args.self.now.kept);
 }
 
 pub invariant_of-self-in-Break-branch-3 : goal.invariant_of-self-in-Break-branch-3
 invariant_of-self-in-Break-branch-3 c = record {
-  kept = subst (λ (o : Option Cursor). ∥ AreOfFile c.args.self.now.checked c.reserve-2.new.self.items c.extend_from_slice.new.self.items o ∥₁) c.in-Some.is
+  kept = subst (λ (o : Option Cursor). ∥ AreCursorsOfFile c.args.self.now.checked c.reserve-2.new.self.items c.extend_from_slice.new.self.items o ∥₁) c.in-Some.is
       (same_file c.args.self.now.checked c.args.self.now.waiting.items c.reserve-2.new.self.items c.args.self.now.positions.items c.extend_from_slice.new.self.items c.args.self.now.innermost
       c.reserve-2.ensures.items c.in_err-extend_from_slice.ensures.items c.args.self.now.kept);
 }
