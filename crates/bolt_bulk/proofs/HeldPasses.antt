@@ -1,7 +1,8 @@
 -- How many items the waiting buckets hold, as a pass counts them.
 use Rattle.std.proofs.Common.{◌≡◌, ◌∙◌, ℕ, ◌+◌, List, [], ◌∷◌, ◌++◌, reverse, min, refl, ap, arith}
 use Rattle.std.proofs.lemmas.List.{reverse-append}
-use Rattle.bolt_bulk.specs.{Private.AreCounted, Private.saturated, Private.items_around, Private.items_in, declared.waiting_bucket.WaitingBucket.WaitingBucket}
+use Rattle.bolt_bulk.specs.{Private.AreCounted, Private.items_around, Private.items_in, declared.waiting_bucket.WaitingBucket.WaitingBucket}
+use Rattle.bolt_check.specs.Counts.{saturated}
 
 pub around_push : (others : List WaitingBucket) (w : WaitingBucket) → items_around (others ++ w ∷ []) ≡ items_around others + items_in w.bucket
 around_push [] w = omega arith

@@ -7,7 +7,8 @@ use Rattle.bolt_layout.specs.Openings.{row_ends_of, AreRight, AreFromEnds, leaf_
 use Rattle.bolt_layout.specs.{declared.Layout.Layout, declared.Layout.TheVariants.Plain}
 use Rattle.bolt_layout.proofs.{OpenedBuckets.items_below, OpenedBuckets.leaves_few, PlainRows.plain_right, PlainRows.plain_rows}
 use Rattle.bolt_layout.proofs.LimitsFromEnds.{root_from_ends, from_ends_are}
-use Rattle.bolt_bulk.specs.Private.{AreComing, AreComingAround, saturated, FitLimits, BucketFrame, HasRoot, limit_in, limits_with, Notes, onto, Wanted}
+use Rattle.bolt_bulk.specs.Private.{AreComing, AreComingAround, FitLimits, BucketFrame, HasRoot, limit_in, limits_with, Notes, onto, Wanted}
+use Rattle.bolt_check.specs.Counts.{saturated}
 use Rattle.bolt_bulk.specs.declared.limits.Limits.{Limits}
 
 module _ (which : Layout) (page_size : ℕ) where

@@ -7,7 +7,8 @@ use Rattle.bolt_layout.specs.{Laid.Laid, Laid.Placed, Laid.size_of, Levels.branc
 use Rattle.bolt_layout.specs.Limits.{AreRowEnds, limit_at, limits_from_ends}
 use Rattle.bolt_layout.specs.{declared.Layout.TheVariants.Plain, declared.Layout.TheVariants.Balanced, Cut.branch_cut, Layout.layout_mark}
 use Rattle.bolt_layout.specs.{Openings.limits_for, Openings.opened_in, Openings.row_ends_of, declared.Layout.Layout}
-use Rattle.bolt_bulk.specs.Private.{bucket_limit, Comes, IsOpen, Open, Upper, upper_end, AreComingAround, AreNumbered, AreUppers, bucket_runs, BucketEnds, saturated, FitLimits, BucketFrame, HasNoted, IsOn, IsTable, IsToCome, Known, limit_in, limits_with, Notes, run_end, runs_above, Wanted}
+use Rattle.bolt_bulk.specs.Private.{bucket_limit, Comes, IsOpen, Open, Upper, upper_end, AreComingAround, AreNumbered, AreUppers, bucket_runs, BucketEnds, FitLimits, BucketFrame, HasNoted, IsOn, IsTable, IsToCome, Known, limit_in, limits_with, Notes, run_end, runs_above, Wanted}
+use Rattle.bolt_check.specs.Counts.{saturated}
 use Rattle.bolt_bulk.specs.{declared.branch_run.BranchRun.BranchRun, declared.limits.BucketLimits.BucketLimits, declared.limits.Limits.Limits}
 use Rattle.bolt_bulk.specs.{declared.noted_limits.NotedLimits.NotedLimits, declared.bucket_runs.BucketRuns.BucketRuns}
 use Rattle.bolt_layout.proofs.{LastItem.last_append, BalancedRows.right_from_ends, BalancedRows.from_ends_right, OpenedBuckets.opened_few}

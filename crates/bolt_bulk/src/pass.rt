@@ -73,7 +73,8 @@ pub(crate) struct Pass<'a> {
 impl<'a> Pass<'a> {
     ghost use Rattle.bolt_format.specs.ElementLengths.{IsValueLength};
     ghost use Rattle.bolt_tree.specs.{Paths.path_of, ShownEntries.item_view};
-    ghost use Rattle.bolt_bulk.specs.Private.{BeginsAll, BeginsBucket, Counts, depth_of, EndsAll, EntersBucket, GoesOn, IsFitMember, IsReady, items_by, KeepsValue, LeavesBucket, LeavesTo, longest_key, OpensPending, saturated, TakesMember, TakesValue};
+    ghost use Rattle.bolt_bulk.specs.Private.{BeginsAll, BeginsBucket, Counts, depth_of, EndsAll, EntersBucket, GoesOn, IsFitMember, IsReady, items_by, KeepsValue, LeavesBucket, LeavesTo, longest_key, OpensPending, TakesMember, TakesValue};
+    ghost use Rattle.bolt_check.specs.Counts.{saturated};
 
     /// A pass before the first page. If `notes` is set, it notes the limits of the balanced
     /// layout's rows.

@@ -7,7 +7,8 @@ pub use Rattle.bolt_commands.specs.Answers.{status_of}
 pub use Rattle.bolt_commands.specs.Failures.{failure_line}
 pub use Rattle.bolt_format.specs.{Sinks.AppendsPrefix, declared.sink.Sink.Ghosts}
 pub use Rattle.bolt_job.specs.declared.refusal.Refusal.TheVariants.{Help, Version}
-pub use Rattle.bolt_job.specs.{CommandLine.Asks, Jobs.needs_metas_alone, Jobs.target_name, LineWords.Text, declared.choices.Extent.Extent, declared.job.Job.Job}
+pub use Rattle.bolt_job.specs.{CommandLine.Asks, Jobs.needs_metas_alone, Jobs.target_name, declared.choices.Extent.Extent, declared.job.Job.Job}
+pub use Rattle.bolt_text.specs.Lines.{Text}
 pub use Rattle.bolt_job.specs.{declared.choices.MetaChoice.MetaChoice, declared.choices.PageSize.PageSize, declared.refusal.Refusal.Refusal}
 pub use Rattle.bolt_layout.specs.{Copies.layout_of_listing, declared.Layout.Layout}
 pub use Rattle.bolt_text.specs.{LineMembers.text_members}

@@ -6,7 +6,7 @@ use Rattle.bolt_cli.specs.Runs.{IsRun}
 use Rattle.bolt_cli.specs.{declared.outside.CreateFault.CreateFault, declared.outside.OutputFault.TheVariants.ReaderLeft}
 use Rattle.bolt_job.specs.{CommandLine.Asks, Jobs.target_name, declared.job.Job.Job}
 use Rattle.bolt_format.specs.declared.sink.Sink.{Ghosts}
-use Rattle.bolt_job.specs.LineWords.{Text}
+use Rattle.bolt_text.specs.Lines.{Text}
 
 -- ---- kinds of deeds: what was asked for, and how it went
 

@@ -2,7 +2,8 @@
 use Rattle.std.specs.Prelude.{◌≡◌, ◌⊎◌, ℕ, List, [], ◌∷◌, ◌++◌, Option, Some, None, Ok}
 use Rattle.bolt_commands.specs.Answers.{DoesJob, JobEnding}
 use Rattle.bolt_format.specs.declared.sink.Sink.{Ghosts}
-use Rattle.bolt_job.specs.{CommandLine.Asks, CommandLine.IsRefusalOf, Jobs.target_name, LineWords.Text, declared.job.Job.Job, declared.refusal.Refusal.Refusal}
+use Rattle.bolt_job.specs.{CommandLine.Asks, CommandLine.IsRefusalOf, Jobs.target_name, declared.job.Job.Job, declared.refusal.Refusal.Refusal}
+use Rattle.bolt_text.specs.Lines.{Text}
 use Rattle.bolt_cli.specs.Deeds.{Deed, Closed, Read, ReadOn}
 use Rattle.bolt_cli.specs.Runs.{buffered_failures, buffered_of, buffered_text}
 

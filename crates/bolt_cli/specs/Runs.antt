@@ -7,7 +7,7 @@ use Rattle.bolt_job.specs.CommandLine.{Asks, IsRefusalOf}
 use Rattle.bolt_cli.specs.Deeds.{Deed, Does, Read, ReadFirst, ReadOn, Made, Ended, Opened, Closed, Dropped, Said, Lacked}
 use Rattle.bolt_cli.specs.Names.{shown_lines, shown_name}
 use Rattle.bolt_commands.specs.Failures.{failure_line}
-use Rattle.bolt_job.specs.LineWords.{Text}
+use Rattle.bolt_text.specs.Lines.{Text}
 use Rattle.bolt_job.specs.{Jobs.needs_metas_alone, Jobs.file_name, Jobs.target_name}
 use Rattle.bolt_cli.specs.Sources.{is_changed}
 use Rattle.bolt_commands.specs.declared.failure.Failure.TheVariants.{Memory, Write}

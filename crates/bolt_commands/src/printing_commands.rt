@@ -3,7 +3,8 @@
 ghost use Rattle.std.specs.Prelude.{◌≡◌, ◌⊎◌, IfErr, IfOk, false, true};
 ghost use Rattle.bolt_check.specs.{CheckedFiles.bytes_of, CheckedFiles.has_accounts, CheckedFiles.meta_of, RoledFiles.roles_checked, Sound.HasSoundTrees, CheckedFiles.in_checked};
 ghost use Rattle.bolt_format.specs.{Endings.ending, Wrote.Wrote};
-ghost use Rattle.bolt_report.specs.{KeyLines.ForBucket, PageTables.ForRoles};
+ghost use Rattle.bolt_report.specs.{PageTables.ForRoles};
+ghost use Rattle.bolt_tree.specs.EntriesLeft.{ForBucket};
 ghost use Rattle.bolt_tree.specs.{Buckets.bucket_checked, Entries.Value};
 ghost use Rattle.bolt_commands.specs.Answers.{HasNoMeta, HasStats, HoldsIn, HoldsNone, IsBucketsPrint, IsBucketsShown, IsGetPrint, IsInfoAnswer};
 ghost use Rattle.bolt_commands.specs.Answers.{IsKeysPrint, IsKeysShown, IsPageAnswer, IsValueShown, IsPagesAnswer, IsReadAnswer, IsShownMeta, IsStatsPrint, IsTotal, no_stats, pages_shown, LeadsNowhere};

@@ -7,7 +7,8 @@ use Rattle.bolt_check.specs.{CheckedFiles.bytes_of, CheckedFiles.meta_of, Counts
 use Rattle.bolt_format.specs.Elements.{LeafElement}
 use Rattle.bolt_tree.proofs.PagerLemmas.{counted_more}
 use Rattle.bolt_tree.specs.{Buckets.bucket_checked, Buckets.bucket_start, Entries.EntryView, Entries.Start, EntriesLeft.ForEntries, FileTrees.file_entries, declared.bucket.Bucket.Bucket}
-use Rattle.bolt_etcd.specs.{Others.other_of, Passes.ShowsFirst, Revisions.RevisionView, Revisions.revision_of, Stores.ForBucket, Stores.others, Stores.revisions}
+use Rattle.bolt_etcd.specs.{Others.other_of, Passes.ShowsFirst, Revisions.RevisionView, Revisions.revision_of, Stores.others, Stores.revisions}
+use Rattle.bolt_tree.specs.EntriesLeft.{ForBucket}
 use Rattle.bolt_etcd.specs.RevisionsLeft.{CountsOthers, ForPass, GivesFirst, OpensOne, ahead_of, begins_with_other, number_ahead, pass_checked, pass_entries, pass_others, pass_start}
 use Rattle.bolt_etcd.specs.declared.revisions.Revisions.{Revisions}
 use Rattle.bolt_etcd.proofs.Passing.{are_entries, counts_none, counts_one, fewer, gives, passes}

@@ -17,7 +17,8 @@ use Rattle.bolt_tree.specs.Order.{Rises}
 use Rattle.bolt_etcd.specs.Current.{place_cmp}
 use Rattle.bolt_etcd.specs.Compacted.{IsCompacted, compacted_by, compacted_in, is_value_under, value_under}
 use Rattle.bolt_etcd.specs.{CheckLines.name_fault_lines, FaultsLeft.ForGranted, FaultsLeft.faults_leases, FaultsLeft.faults_left, NameFaults.AreByName, NameFaults.NameFaultView, NameFaults.name_faults}
-use Rattle.bolt_etcd.specs.{Revisions.RevisionView, StoreBuckets.HasEntriesUnder, StoreBuckets.IsStore, StoreBuckets.StoreView, StoreBuckets.revisions_in, Stores.ForBucket, Stores.revisions}
+use Rattle.bolt_etcd.specs.{Revisions.RevisionView, StoreBuckets.HasEntriesUnder, StoreBuckets.IsStore, StoreBuckets.StoreView, StoreBuckets.revisions_in, Stores.revisions}
+use Rattle.bolt_tree.specs.EntriesLeft.{ForBucket}
 use Rattle.bolt_etcd.specs.StoreFaults.{bucket_line, missing_bucket_lines, bucket_names, entry_lines, granted_in, key_lines, line_without, name_lines, store_compacted, store_granted, store_lines}
 use Rattle.bolt_etcd.specs.declared.name_faults.NameFaults.{NameFaults}
 use Rattle.bolt_etcd.proofs.{Currents.revisions_rise, ListedTexts.concat_three, SortedOnce.by_name_once}

@@ -2,7 +2,8 @@
 use Rattle.std.specs.Prelude.{ℕ, List, Option, map}
 use Rattle.bolt_tree.specs.{Order.Rises, declared.bucket.Bucket.Bucket}
 use Rattle.bolt_etcd.specs.{Current.AreCurrent, Current.place_cmp, FaultsLeft.ForGranted, NameFaults.AreByName, Newest.until, Revisions.RevisionView}
-use Rattle.bolt_etcd.specs.{ShownRevisions.shown_revision, StoreFaults.name_lines, Stores.ForBucket, Stores.revisions, declared.revision.Revision.Revision}
+use Rattle.bolt_etcd.specs.{ShownRevisions.shown_revision, StoreFaults.name_lines, Stores.revisions, declared.revision.Revision.Revision}
+use Rattle.bolt_tree.specs.EntriesLeft.{ForBucket}
 
 -- this holds of the lines of these revisions, name by name, if they are in the order of their keys and these leases are there
 abbrev pub ForNameLines : List Revision → (compacted : Option ℕ) → (leases : Option Bucket) → (List (List ℕ) → Type 0) → Type 0

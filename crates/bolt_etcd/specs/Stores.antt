@@ -8,10 +8,6 @@ use Rattle.bolt_tree.specs.{Buckets.bucket_checked, Buckets.bucket_start, Entrie
 use Rattle.bolt_etcd.specs.{Others.other_of, Revisions.RevisionView, Revisions.revision_of, ShownRevisions.shown_revision}
 use Rattle.bolt_etcd.specs.declared.collected.Collected.{Collected}
 
--- this holds of a bucket's entries
-abbrev pub ForBucket : Bucket → (List LeafElement → Type 0) → Type 0
-ForBucket bucket P = ForEntries (bucket_checked bucket) (bucket_start bucket) P
-
 -- the revisions among entries
 abbrev pub revisions : List LeafElement → List RevisionView
 revisions entries = filter_map (λ e. revision_of (entry_view e)) entries

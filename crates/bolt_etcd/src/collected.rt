@@ -2,7 +2,8 @@
 ghost use Rattle.std.specs.Prelude.{◌≡◌, IfOk, length, map};
 ghost use Rattle.bolt_check.specs.Counts.{counted};
 ghost use Rattle.bolt_etcd.specs.{NameFaults.AreByName, NameFaults.by_name_cmp, Newest.is_until, Newest.until, ShownRevisions.shown_revision};
-ghost use Rattle.bolt_etcd.specs.{Stores.ForBucket, Stores.others, Stores.revisions};
+ghost use Rattle.bolt_etcd.specs.{Stores.others, Stores.revisions};
+ghost use Rattle.bolt_tree.specs.EntriesLeft.{ForBucket};
 
 use crate::revision::Revision;
 use crate::revisions::Revisions;

@@ -3,7 +3,8 @@ ghost use Rattle.std.specs.Prelude.{◌≡◌, IfOk, length, map};
 ghost use Rattle.bolt_check.specs.Counts.{counted};
 ghost use Rattle.bolt_tree.specs.Order.{Rises};
 ghost use Rattle.bolt_etcd.specs.{Current.AreCurrent, Current.name_cmp, Current.place_cmp};
-ghost use Rattle.bolt_etcd.specs.{ShownRevisions.shown_revision, Stores.ForBucket, Stores.others, Stores.revisions};
+ghost use Rattle.bolt_etcd.specs.{ShownRevisions.shown_revision, Stores.others, Stores.revisions};
+ghost use Rattle.bolt_tree.specs.EntriesLeft.{ForBucket};
 ghost use Rattle.bolt_etcd.specs.ForNames.{AreCurrentAt};
 
 use crate::collected::Collected;

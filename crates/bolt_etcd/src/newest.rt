@@ -2,7 +2,8 @@
 ghost use Rattle.std.specs.Prelude.{◌≡◌, length};
 ghost use Rattle.std.specs.Option.{option_map};
 ghost use Rattle.bolt_check.specs.Counts.{counted};
-ghost use Rattle.bolt_etcd.specs.{Newest.is_of, ShownRevisions.shown_revision, Stores.ForBucket, Stores.others, Stores.revisions};
+ghost use Rattle.bolt_etcd.specs.{Newest.is_of, ShownRevisions.shown_revision, Stores.others, Stores.revisions};
+ghost use Rattle.bolt_tree.specs.EntriesLeft.{ForBucket};
 
 use crate::revision::Revision;
 use crate::revisions::Revisions;

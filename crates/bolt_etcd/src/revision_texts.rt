@@ -5,7 +5,8 @@ ghost use Rattle.bolt_format.specs.Wrote.{Wrote};
 ghost use Rattle.bolt_text.specs.ReportEndings.{report_ending};
 ghost use Rattle.bolt_etcd.specs.RevisionLines.{revision_lines};
 ghost use Rattle.bolt_etcd.specs.RevisionsLeft.{pass_others, ForAhead};
-ghost use Rattle.bolt_etcd.specs.{ShownRevisions.shown_revision, Stores.ForBucket, Stores.others, Stores.revisions};
+ghost use Rattle.bolt_etcd.specs.{ShownRevisions.shown_revision, Stores.others, Stores.revisions};
+ghost use Rattle.bolt_tree.specs.EntriesLeft.{ForBucket};
 ghost use Rattle.bolt_etcd.specs.ForNames.{ForCurrent};
 
 use crate::current::Current;

@@ -9,7 +9,8 @@ ghost use Rattle.bolt_etcd.specs.{Numbered.numbered, Stores.others};
 ghost use Rattle.bolt_etcd.specs.StoreBuckets.{ForStore};
 ghost use Rattle.bolt_etcd.specs.StoreFaults.{bucket_line, missing_bucket_lines, entry_lines, line_without, missing_if, store_lines, other_lines};
 ghost use Rattle.bolt_etcd.specs.{FaultsLeft.ForGranted, ForNames.ForNameLines, NameFaults.name_faults, ShownRevisions.shown_revision};
-ghost use Rattle.bolt_etcd.specs.Stores.{ForBucket, ForFound, ForOthers};
+ghost use Rattle.bolt_etcd.specs.Stores.{ForFound, ForOthers};
+ghost use Rattle.bolt_tree.specs.EntriesLeft.{ForBucket};
 
 use crate::check_texts::{put_all_misplaced, put_all_missing, put_name_faults, put_others};
 use crate::collected::Collected;

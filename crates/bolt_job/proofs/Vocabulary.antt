@@ -3,7 +3,7 @@ pub use Rattle.bolt_check.specs.{Keys.Key}
 pub use Rattle.bolt_format.specs.Metas.{IsPageSize, page_sizes}
 pub use Rattle.bolt_job.specs.CommandLine.{Asks, ReadsAs, HasKindOf, IsCommand, IsRefusedBy, asked_by, asked_by_subcommand, bare_program}
 pub use Rattle.bolt_job.specs.CommandLine.{command_with, program, program_of, values_in}
-pub use Rattle.bolt_job.specs.LineWords.{Text}
+pub use Rattle.bolt_text.specs.Lines.{Text}
 pub use Rattle.bolt_job.specs.PathWords.{◌>>=◌, each_part, hex_path_of, or_bad_hex, part_of, parts_by}
 pub use Rattle.bolt_job.specs.Jobs.{asked_of}
 pub use Rattle.bolt_job.specs.PlainWords.{Asked, asked, assumed_of, assumed_when, first_word_of, is_page_size, page_size_asked, path_by, owned_path}

@@ -6,7 +6,7 @@ use Rattle.clap.specs.declared.error.ErrorKind.{ErrorKind}
 use Rattle.clap.specs.declared.error.ErrorKind.TheVariants as kind
 use Rattle.bolt_job.specs.{declared.job.Job.Job, declared.refusal.Refusal.Refusal}
 use Rattle.bolt_job.specs.declared.refusal.Refusal.TheVariants.{Memory, Help, Version, Usage, Word}
-use Rattle.bolt_job.specs.LineWords.{Text}
+use Rattle.bolt_text.specs.Lines.{Text}
 use Rattle.bolt_job.specs.{Jobs.asked_of, PlainWords.Asked, PlainWords.Values, PlainWords.asked, PlainWords.lines}
 
 -- ---- what the command line may hold

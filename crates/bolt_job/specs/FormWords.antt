@@ -7,7 +7,7 @@ use Rattle.bolt_text.specs.declared.forms.Form.{Form}
 use Rattle.bolt_text.specs.declared.forms.Form.TheVariants as form
 use Rattle.bolt_text.specs.declared.forms.ListForm.{ListForm}
 use Rattle.bolt_text.specs.declared.forms.ListForm.TheVariants as list_form
-use Rattle.bolt_job.specs.LineWords.{Text}
+use Rattle.bolt_text.specs.Lines.{Text}
 
 -- what can be printed of keys, of a listing, and of figures
 abbrev forms : List (Text × Form)

@@ -1,6 +1,6 @@
 -- A job: what it asks for, by that of its command; its files, and how much of FILE it needs (docs/COMMANDS.md).
 use Rattle.std.specs.Prelude.{Bool, true, false, Option, Some, None, string_bytes}
-use Rattle.bolt_job.specs.LineWords.{Text}
+use Rattle.bolt_text.specs.Lines.{Text}
 use Rattle.bolt_job.specs.PlainWords.{Asked, buckets_of, check_of, compact_of, etcd_check_of, etcd_get_of, etcd_keys_of, etcd_repair_of, etcd_revisions_of, get_of, info_of, keys_asked, list_of, load_of, page_of, pages_asked, stats_of}
 use Rattle.bolt_job.specs.declared.job.Job.{Job}
 use Rattle.bolt_job.specs.declared.job.Job.TheVariants as job

@@ -3,10 +3,6 @@ use Rattle.std.specs.Prelude.{ℕ, true, List, [], ◌∷◌, Some, codes}
 use Rattle.clap.specs.Words.{Rule}
 use Rattle.clap.specs.declared.builder.action.ArgAction.TheVariants.{Append, Set}
 
--- a word, by its bytes
-abbrev pub Text : Type 0
-Text = List ℕ
-
 -- it is one word, an operand or the value of an option
 abbrev pub valued : Rule → Rule
 valued rule = record rule { value_names = 1 }

@@ -9,7 +9,8 @@ use Rattle.bolt_text.specs.Numbers.{decimal_value, is_number, number_in}
 use Rattle.bolt_text.specs.{declared.forms.FigureForm.FigureForm, declared.forms.Form.Form, declared.forms.ListForm.ListForm}
 use Rattle.bolt_job.specs.FormWords.{figure_form_by, form_by, list_form_by}
 use Rattle.clap.specs.Words.{Rule, new_rule}
-use Rattle.bolt_job.specs.LineWords.{Text, alone, by_letter, by_name, needed, several, valued}
+use Rattle.bolt_job.specs.LineWords.{alone, by_letter, by_name, needed, several, valued}
+use Rattle.bolt_text.specs.Lines.{Text}
 use Rattle.bolt_job.specs.PathWords.{◌>>=◌, each_part, hex_path_by, part_of, parts_by, prefix_of}
 use Rattle.bolt_job.specs.declared.choices.BucketsShown.{BucketsShown}
 use Rattle.bolt_job.specs.declared.choices.BucketsShown.TheVariants.{Names, Recovered, Sizes}

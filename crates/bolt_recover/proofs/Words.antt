@@ -38,7 +38,8 @@ pub use Rattle.bolt_recover.specs.{PageKeys.last_digits, PageKeys.page_key, Page
 pub use Rattle.bolt_recover.specs.Sites.{Site, elements_at, follow_sites, leaves_of, next_site, site_at, site_on, root_site, step_site}
 pub use Rattle.bolt_recover.specs.Private.FoundLeft.{found_listing, found_pages_of}
 pub use Rattle.bolt_recover.specs.Private.Frames.{Advances, AreOpenPages, Ends, GivesHead, StepsOn, IsAllLeft, IsContent, IsGoodKeptPage, IsGoodPage, StepsAreOn, AreStepsPlaced}
-pub use Rattle.bolt_recover.specs.Private.Frames.{IsShallow, StaysOn, ahead_path_len, ahead_tasks, claims_nodes, claims_with, content_elements, content_site, content_size}
+pub use Rattle.bolt_recover.specs.Private.Frames.{IsShallow, StaysOn, ahead_path_len, ahead_tasks, claims_with, content_elements, content_site, content_size}
+pub use Rattle.bolt_check.specs.Claims.{claims_nodes}
 pub use Rattle.bolt_recover.specs.Private.Frames.{content_spot, members_left, open_tasks, page_tasks, page_weight, spot_site, step_path, steps_left}
 pub use Rattle.bolt_recover.specs.Private.Frames.{steps_path, steps_weight, tally_of, tasks_left, way_of}
 pub use Rattle.bolt_recover.specs.Private.Joining.{AreJoinable, first_cmp, holds_key}

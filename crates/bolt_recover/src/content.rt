@@ -4,7 +4,8 @@ ghost use Rattle.std.specs.Option.{option_map};
 ghost use Rattle.bolt_format.specs.{Elements.IsBucketValue, ElementPlaces.leaf_view};
 ghost use Rattle.bolt_check.specs.{Claims.claims_file, Claims.claims_meta, Claims.claims_visited, Claims.is_claimed, Counts.counted};
 ghost use Rattle.bolt_check.specs.{Findings.Passes, Findings.Tests, ShownSpots.spot_at};
-ghost use Rattle.bolt_recover.specs.Private.Frames.{IsContent, IsShallow, IsValueElement, ElementLeads, claims_nodes, claims_with, content_elements, content_size};
+ghost use Rattle.bolt_recover.specs.Private.Frames.{IsContent, IsShallow, IsValueElement, ElementLeads, claims_with, content_elements, content_size};
+ghost use Rattle.bolt_check.specs.Claims.{claims_nodes};
 ghost use Rattle.bolt_recover.specs.Private.Courses.{page_visit};
 
 use bolt_check::{Claims, Finding, Spot};

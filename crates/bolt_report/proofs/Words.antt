@@ -26,7 +26,7 @@ pub use Rattle.bolt_report.specs.PageMaps.{line_at, page_mark}
 unfoldable pub use Rattle.bolt_report.specs.PageMaps.{map_line}
 pub use Rattle.bolt_report.specs.PageTables.{ForRoles, past_line}
 pub use Rattle.bolt_report.specs.SizeLines.{AreSized, Sized, bytes_allocated, bytes_used, size_json, sizes_text}
-pub use Rattle.bolt_stats.specs.Figures.{saturated}
+pub use Rattle.bolt_check.specs.Counts.{saturated}
 pub use Rattle.bolt_stats.specs.StatsOf.{IsStatsOf}
 pub use Rattle.bolt_stats.specs.declared.figures.Stats.{Stats}
 pub use Rattle.bolt_text.specs.Forms.{digits_json, item_json, json_text, value_text}

@@ -6,8 +6,9 @@ use Rattle.json.specs.Json.{member, no_members, object}
 use Rattle.bolt_format.specs.{Elements.LeafElement, declared.meta.Meta.Meta}
 use Rattle.bolt_check.specs.CheckedFiles.{bytes_of, meta_of}
 use Rattle.bolt_tree.specs.{Buckets.bucket_checked, Entries.start_of, declared.bucket.Bucket.Bucket}
-use Rattle.bolt_stats.specs.Figures.{saturated}
-use Rattle.bolt_report.specs.{FigureForms.figures_then, KeyLines.ForBucket}
+use Rattle.bolt_check.specs.Counts.{saturated}
+use Rattle.bolt_report.specs.{FigureForms.figures_then}
+use Rattle.bolt_tree.specs.EntriesLeft.{ForBucket}
 use Rattle.bolt_text.specs.{Forms.is_json, Forms.json_in, Forms.json_text, Forms.value_text, Lines.line}
 use Rattle.bolt_stats.specs.{StatsOf.IsStatsOf, declared.figures.Stats.Stats}
 use Rattle.bolt_text.specs.declared.forms.Form.{Form}

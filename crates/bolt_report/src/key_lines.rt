@@ -3,7 +3,8 @@ ghost use Rattle.std.specs.Prelude.{◌≡◌, ◌⊎◌, IfErr, OnOk};
 ghost use Rattle.bolt_format.specs.{Elements.LeafElement, Wrote.Wrote};
 ghost use Rattle.bolt_tree.specs.{Entries.entry_view, ShownEntries.shown_entry};
 ghost use Rattle.bolt_tree.specs.Cursors.{cursor_bucket, cursor_checked, cursor_opened, cursor_start};
-ghost use Rattle.bolt_report.specs.KeyLines.{ForBucket, ForCursor, bucket_name, buckets_text, keys_text};
+ghost use Rattle.bolt_report.specs.KeyLines.{ForCursor, bucket_name, buckets_text, keys_text};
+ghost use Rattle.bolt_tree.specs.EntriesLeft.{ForBucket};
 ghost use Rattle.bolt_text.specs.ReportEndings.{HaltsShort, report_ending};
 ghost use Rattle.bolt_report.specs.KeyPrefixes.{OpensPrefix, with_prefix};
 

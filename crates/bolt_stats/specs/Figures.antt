@@ -34,10 +34,6 @@ figure leaf_overflow stats = stats.leaf_overflow
 figure leaf_allocated stats = stats.leaf_allocated
 figure leaf_used stats = stats.leaf_used
 
--- a figure above 2^64 - 1 saturates there
-abbrev pub saturated : ℕ → ℕ
-saturated n = min n (2 ^ 64 - 1)
-
 -- each figure of these is that number, or saturates
 abbrev pub HasFigures : Stats → (Figure → ℕ) → Type 0
 HasFigures stats number = (f : Figure) → figure f stats ≡ saturated (number f)

@@ -5,7 +5,8 @@ use Rattle.bolt_format.specs.{Elements.LeafElement, Pages.page_at, declared.meta
 use Rattle.bolt_check.specs.{CheckedFiles.bytes_of, CheckedFiles.meta_of, Nodes.node_at, Tours.IsTour}
 use Rattle.bolt_check.specs.Ways.{At_inline, At_page, Reach, Spot, reached}
 use Rattle.bolt_tree.specs.{Buckets.bucket_checked, Buckets.bucket_start, declared.bucket.Bucket.Bucket, Entries.Inline_page, Entries.Root_page, Entries.Start}
-use Rattle.bolt_stats.specs.{Depths.IsDepth, Figures.Figure, Figures.bucket_figure, Figures.saturated, Figures.figure, Figures.inline_figure, Figures.page_figure}
+use Rattle.bolt_stats.specs.{Depths.IsDepth, Figures.Figure, Figures.bucket_figure, Figures.figure, Figures.inline_figure, Figures.page_figure}
+use Rattle.bolt_check.specs.Counts.{saturated}
 use Rattle.bolt_stats.specs.declared.figures.Stats.{Stats}
 
 -- the figures of where a way leads; an inline bucket's are those of the page that holds it

@@ -2,7 +2,8 @@
 ghost use Rattle.std.specs.Prelude.{◌≡◌, ◌+◌, ◌*◌, IsTrue, length, sum_by};
 ghost use Rattle.bolt_format.specs.{Elements.IsBucketValue, ElementPlaces.leaf_view, TreePages.branches_on, TreePages.leaves_on, TreePages.shown_page};
 ghost use Rattle.bolt_format.specs.declared.tree_page.TreePage.TheVariants as tree;
-ghost use Rattle.bolt_stats.specs.Figures.{used_by_branches, branch_figure, saturated, element_figure, inline_figure, used_by_leaves, leaf_figure, HasFigures};
+ghost use Rattle.bolt_stats.specs.Figures.{used_by_branches, branch_figure, element_figure, inline_figure, used_by_leaves, leaf_figure, HasFigures};
+ghost use Rattle.bolt_check.specs.Counts.{saturated};
 
 use crate::figures::{Stats, add};
 use bolt_format::{BranchPage, ELEMENT_LEN, HEADER_LEN, Leaf, LeafPage, head, inline};

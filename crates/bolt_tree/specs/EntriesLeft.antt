@@ -3,11 +3,15 @@
 use Rattle.std.specs.Prelude.{List, [], drop, suc}
 use Rattle.bolt_format.specs.Elements.{LeafElement}
 use Rattle.bolt_check.specs.declared.checked.Checked.{Checked}
-use Rattle.bolt_tree.specs.{BucketViews.entries_of, Entries.AreEntries, Entries.Start, Places.Fresh, Places.On, Places.Past, Places.Place}
+use Rattle.bolt_tree.specs.{BucketViews.entries_of, Buckets.bucket_checked, Buckets.bucket_start, Entries.AreEntries, Entries.Start, Places.Fresh, Places.On, Places.Past, Places.Place, declared.bucket.Bucket.Bucket}
 
 -- this holds of the entries in order
 abbrev pub ForEntries : Checked → Start → (List LeafElement → Type 0) → Type 0
 ForEntries checked start P = (entries : List LeafElement) → AreEntries (entries_of checked) start entries → P entries
+
+-- this holds of a bucket's entries
+abbrev pub ForBucket : Bucket → (List LeafElement → Type 0) → Type 0
+ForBucket bucket P = ForEntries (bucket_checked bucket) (bucket_start bucket) P
 
 -- those after its place
 abbrev pub entries_left : List LeafElement → Place → List LeafElement

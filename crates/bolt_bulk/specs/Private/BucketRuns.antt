@@ -3,7 +3,7 @@ use Rattle.std.specs.Prelude.{◌≡◌, ℕ, ◌+◌, List, [], ◌∷◌}
 use Rattle.std.specs.List.{AllByRecursion}
 use Rattle.bolt_format.specs.Elements.{BranchElement, LeafElement}
 use Rattle.bolt_layout.specs.{Cut.run_size, Laid.Laid, Laid.elements_of, Laid.size_of}
-use Rattle.bolt_bulk.specs.Private.HeldCounts.{saturated}
+use Rattle.bolt_check.specs.Counts.{saturated}
 use Rattle.bolt_bulk.specs.Private.OpenRuns.{Open, Upper, key_size, next_number, numbers_in}
 use Rattle.bolt_bulk.specs.Private.RunViews.{RunView, BucketRunsView}
 

@@ -5,7 +5,8 @@ use Rattle.bolt_format.specs.{ElementLengths.IsValueLength, Sinks.AppendsProperP
 use Rattle.bolt_tree.specs.{Entries.Bucket, Entries.Item, Entries.Value, Listing.Member, Paths.Path}
 use Rattle.bolt_layout.specs.{Laid.Placed, Layout.layout_held, Layout.layout_mark, Layout.layout_pages, Layout.layout_root, Layout.placed_bytes}
 use Rattle.bolt_layout.specs.declared.Layout.TheVariants.{Balanced, Plain}
-use Rattle.bolt_bulk.specs.{Private.FormatLimits.longest_key, Private.HeldCounts.saturated}
+use Rattle.bolt_bulk.specs.{Private.FormatLimits.longest_key}
+use Rattle.bolt_check.specs.Counts.{saturated}
 use Rattle.bolt_bulk.specs.{Private.Passes.FitLimits, Private.Passes.Wanted, Private.Passes.limits_with, declared.page_setup.PageSetup.PageSetup}
 use Rattle.bolt_bulk.specs.declared.fault.BulkFault.{BulkFault}
 use Rattle.bolt_bulk.specs.declared.fault.BulkFault.TheVariants as fault

@@ -17,10 +17,6 @@ items_around (waiting ∷ others) = items_in waiting.bucket + items_around other
 abbrev pub items_by : Pass → ℕ
 items_by pass = items_around pass.waiting.items + items_in pass.bucket
 
--- the code's count, which saturates
-abbrev pub saturated : ℕ → ℕ
-saturated n = min n 18446744073709551615
-
 -- the code knows of each waiting bucket how many items the buckets around it hold; the outermost comes first, with `before` around it
 abbrev pub AreCounted : ℕ → List WaitingBucket → Type 0
 AreCounted before [] = Unit {0}

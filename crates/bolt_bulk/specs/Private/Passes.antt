@@ -8,7 +8,8 @@ use Rattle.bolt_layout.specs.{Layout.layout_mark, Layout.layout_pages, Layout.pl
 use Rattle.bolt_layout.specs.Openings.{AreRight, leaf_pages, limits_for, opened_by, opened_in, row_ends_of}
 use Rattle.bolt_layout.specs.declared.Layout.TheVariants.{Plain}
 use Rattle.bolt_bulk.specs.{declared.limits.Limits.Limits, Private.FormatLimits.longest_key, Private.Coming.IsPass, Private.RowLimits.limit_in}
-use Rattle.bolt_bulk.specs.{Private.HeldCounts.AreCounted, Private.HeldCounts.saturated, Private.HeldCounts.items_around, Private.HeldSoFar.held_so_far}
+use Rattle.bolt_bulk.specs.{Private.HeldCounts.AreCounted, Private.HeldCounts.items_around, Private.HeldSoFar.held_so_far}
+use Rattle.bolt_check.specs.Counts.{saturated}
 use Rattle.bolt_bulk.specs.{Private.Parents.Parent, Private.Parents.left_in, Private.OpenBuckets.IsOpenBucket, Private.OpenBuckets.bucket_runs}
 use Rattle.bolt_bulk.specs.Private.BucketRuns.{AreOpenRuns}
 use Rattle.bolt_bulk.specs.Private.OpenRuns.{BucketFrame, Known, Open, all_put, base_in}

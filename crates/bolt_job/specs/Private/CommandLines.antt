@@ -1,6 +1,7 @@
 -- What the functions of the command line promise.
 use Rattle.std.specs.Prelude.{◌≡◌, Option, None, Some, Ok, Err, codes}
-use Rattle.bolt_job.specs.{CommandLine.values_in, LineWords.Text, PlainWords.Values, PlainWords.assumed_of, PlainWords.meta_in}
+use Rattle.bolt_job.specs.{CommandLine.values_in, PlainWords.Values, PlainWords.assumed_of, PlainWords.meta_in}
+use Rattle.bolt_text.specs.Lines.{Text}
 use Rattle.bolt_job.specs.{declared.choices.AssumedMeta.AssumedMeta, declared.choices.MetaChoice.TheVariants.Assumed, declared.line.Line.Line}
 use Rattle.clap.specs.Words.{found_of, rows_of}
 

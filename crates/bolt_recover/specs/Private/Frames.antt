@@ -17,9 +17,6 @@ use Rattle.bolt_recover.specs.declared.content.OpenPage.{OpenPage}
 use Rattle.bolt_recover.specs.{declared.steps.NextVisit.NextVisit, declared.steps.Steps.Steps, declared.steps.Taken.Taken}
 use Rattle.bolt_recover.specs.declared.steps.Taken.TheVariants.{End, Leaf, Nothing}
 
-abbrev pub claims_nodes : Claims → Nodes
-claims_nodes claims = node_at (claims_file claims) (claims_meta claims)
-
 -- what a spot leads to
 abbrev pub spot_elements : List ℕ → Meta → CodeSpot → List LeafElement
 spot_elements file meta (spots.Page s) = leaves_of (page_at file meta s.number)

@@ -1,6 +1,7 @@
 use Rattle.std.proofs.Common.{◌≡◌, ◌<◌, ◌^◌, length}
 use Rattle.bolt_check.specs.Counts.{counted}
-use Rattle.bolt_etcd.specs.{Newest.until, RevisionsLeft.ahead_of, RevisionsLeft.number_ahead, Stores.ForBucket, Stores.revisions}
+use Rattle.bolt_etcd.specs.{Newest.until, RevisionsLeft.ahead_of, RevisionsLeft.number_ahead, Stores.revisions}
+use Rattle.bolt_tree.specs.EntriesLeft.{ForBucket}
 use Rattle.bolt_etcd.proofs.RevisionLoops.{Passed}
 use Rattle.bolt_etcd.proofs.collected.count.Given as goal
 

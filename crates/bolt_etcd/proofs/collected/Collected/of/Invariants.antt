@@ -1,5 +1,6 @@
 use Rattle.std.proofs.Common.{◌≡◌, ◌++◌, map}
-use Rattle.bolt_etcd.specs.{Newest.until, RevisionsLeft.ahead_of, RevisionsLeft.number_ahead, ShownRevisions.shown_revision, Stores.ForBucket, Stores.revisions}
+use Rattle.bolt_etcd.specs.{Newest.until, RevisionsLeft.ahead_of, RevisionsLeft.number_ahead, ShownRevisions.shown_revision, Stores.revisions}
+use Rattle.bolt_tree.specs.EntriesLeft.{ForBucket}
 use Rattle.bolt_etcd.proofs.RevisionLoops.{Passed}
 use Rattle.bolt_etcd.proofs.collected.Collected.of.Given as goal
 
