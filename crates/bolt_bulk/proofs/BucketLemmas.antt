@@ -6,7 +6,7 @@ use Rattle.std.proofs.lemmas.List.{length-map}
 use Rattle.bolt_format.specs.{Elements.BranchElement, Elements.LeafElement, declared.element.Leaf.Leaf}
 use Rattle.bolt_format.specs.{declared.sink.Sink.Ghosts}
 use Rattle.bolt_layout.specs.{Levels.overflow_of}
-use Rattle.bolt_bulk.specs.Private.{AreHeld, bucket_end_next, BucketRunsView, HasRoomFor, held_views, IsLeafRun, leaf_closed, leaf_key, leaf_page, leaves_have_room, leaves_of, runs_close_put, runs_end_next, runs_end_put, runs_next, runs_push, runs_put, runs_room, runs_room_put, Closes, Writes, element_size, MakesRoom, Pushes, TakesItem}
+use Rattle.bolt_bulk.specs.Private.{HoldsLeaves, bucket_end_next, BucketRunsView, HasRoomFor, held_views, IsLeafRun, leaf_closed, leaf_key, leaf_page, leaves_have_room, leaf_run_view, runs_close_put, runs_end_next, runs_end_put, runs_next, runs_push, runs_put, runs_room, runs_room_put, Closes, Writes, element_size, MakesRoom, Pushes, TakesItem}
 use Rattle.bolt_bulk.specs.{declared.bucket_runs.BucketRuns.BucketRuns, declared.fault.BulkFault.BulkFault, declared.held.Held.Held}
 use Rattle.bolt_bulk.specs.{declared.leaf_run.LeafRun.LeafRun, declared.page_setup.PageSetup.PageSetup, declared.page_writer.PageWriter.PageWriter}
 use Rattle.bolt_bulk.proofs.{ClimbLemmas.next_grows, ClimbLemmas.end_grows, HeldRuns.none_small, RunLemmas.few_or_fits}
@@ -16,15 +16,15 @@ use Rattle.std.proofs.lemmas.Result.{err_from_is_err_and, on_ok_weaker}
 use Rattle.std.specs.Prelude.{IfErr, IsErrAnd, OnOk}
 
 -- if a run has room on its page, an item can be added
-pub room_fits : (page_size size : ℕ) (run : LeafRun) → page_size ≤ 33554432 → IsLeafRun run → size < 4294967280 → leaves_have_room page_size (leaves_of run) size ≡ true → HasRoomFor run size
+pub room_fits : (page_size size : ℕ) (run : LeafRun) → page_size ≤ 33554432 → IsLeafRun run → size < 4294967280 → leaves_have_room page_size (leaf_run_view run) size ≡ true → HasRoomFor run size
 room_fits page_size size run high is small room = grind (arith, length-map, few_or_fits, ltb-true, none_small, leb-true)
 
-first_short : (inlined : List Leaf) (items : List Held) → AreHeld inlined items → length (leaf_key (held_views inlined items)) ≤ 1073741824
+first_short : (inlined : List Leaf) (items : List Held) → HoldsLeaves inlined items → length (leaf_key (held_views inlined items)) ≤ 1073741824
 first_short inlined [] all = omega arith
 first_short inlined (x ∷ items) all = all.0.0
 
 -- the key of a leaf's element is one of its items' keys
-pub closed_short : (inlined : List Leaf) (items : List Held) (size next : ℕ) (closed : BranchElement) → AreHeld inlined items
+pub closed_short : (inlined : List Leaf) (items : List Held) (size next : ℕ) (closed : BranchElement) → HoldsLeaves inlined items
     → closed ≡ leaf_closed (record { elements = held_views inlined items; size = size }) next → length closed.key ≤ 1073741824
 closed_short inlined items size next closed all same = omega (arith, ap (λ (e : BranchElement). length e.key) same, first_short inlined items all)
 

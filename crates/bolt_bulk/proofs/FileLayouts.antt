@@ -6,7 +6,7 @@ use Rattle.std.proofs.Props.{props}
 use Rattle.std.specs.List.{AllByRecursion}
 use Rattle.bolt_format.specs.Metas.{IsPageSize}
 use Rattle.bolt_tree.specs.{Listing.Member, Tree.Tree, Tree.listing_of, Tree.tree_of}
-use Rattle.bolt_bulk.specs.{Compacting.too_many, Private.IsFitMember}
+use Rattle.bolt_bulk.specs.{Compacting.too_many, Private.HasMemberLengths}
 use Rattle.bolt_layout.specs.{Copies.IsOfOneTree, Layout.layout_mark, declared.Layout.TheVariants.Balanced, declared.Layout.TheVariants.Plain}
 use Rattle.bolt_layout.specs.Items.{root_of}
 use Rattle.bolt_format.proofs.PageSizes.{size_bounds}
@@ -24,8 +24,8 @@ members_same a b known = ∥∥₁_elim known (hlevel props) (λ same. same)
 pub listing_is_back : (listing : List Member) → ∥ IsOfOneTree listing ∥₁ → listing_of (tree_of listing) ≡ listing
 listing_is_back listing one = members_same (listing_of (tree_of listing)) listing (∥∥₁_map one (λ is. is.lists))
 
-pub listing_fits : (listing : List Member) → ∥ IsOfOneTree listing ∥₁ → ∥ AllByRecursion IsFitMember listing ∥₁
-listing_fits listing one = ∥∥₁_map one (λ is. subst (AllByRecursion IsFitMember) is.lists (members_fit [] (tree_of listing) is.storable.lengths))
+pub listing_fits : (listing : List Member) → ∥ IsOfOneTree listing ∥₁ → ∥ AllByRecursion HasMemberLengths listing ∥₁
+listing_fits listing one = ∥∥₁_map one (λ is. subst (AllByRecursion HasMemberLengths) is.lists (members_fit [] (tree_of listing) is.storable.lengths))
 
 -- a high-water mark above the highest one is that of a layout that is too large,
 pub too_large : (page_size highest_mark mark bytes : ℕ) → 1 ≤ page_size → highest_mark ≡ 9223372036854775807 / page_size → highest_mark < mark → bytes ≡ mark * page_size → too_many ≤ bytes

@@ -4,7 +4,7 @@ use Rattle.std.proofs.lemmas.List.{at_drop_more}
 use Rattle.bolt_format.specs.{ElementPlaces.leaf_view, declared.element.Leaf.Leaf}
 use Rattle.bolt_bulk.specs.{declared.held.Held.Held}
 use Rattle.bolt_bulk.specs.declared.held.Stored.TheVariants as stored
-use Rattle.bolt_bulk.specs.Private.{AreHeld, held_views, IsHeld, stored_value}
+use Rattle.bolt_bulk.specs.Private.{HoldsLeaves, held_views, IsHeld, stored_value}
 use Rattle.bolt_layout.specs.PageBytes.{leaf_data}
 
 -- what stands for an entry or an item past the end
@@ -14,7 +14,7 @@ no_entry = record { key = record { ref_ptr = (0, 0); now = [] }; value = record 
 abbrev pub no_held : Held
 no_held = record { key = record { ref_ptr = (0, 0); now = [] }; stored = stored.Value (record { ref_ptr = (0, 0); now = [] }) }
 
-pub held_at : (inlined : List Leaf) (items : List Held) (i : ℕ) → i < length items → AreHeld inlined items → IsHeld inlined (get_or items i no_held)
+pub held_at : (inlined : List Leaf) (items : List Held) (i : ℕ) → i < length items → HoldsLeaves inlined items → IsHeld inlined (get_or items i no_held)
 held_at inlined (item ∷ items) (suc i) h all = held_at inlined items i (omega arith) all.1
 held_at inlined items i h all = grind arith
 

@@ -6,7 +6,7 @@ use Rattle.std.proofs.lemmas.List.{drop-append-le, length-append, length-drop, l
 use Rattle.std.specs.List.{AllByRecursion}
 use Rattle.bolt_format.specs.{ElementPlaces.leaf_view, Elements.LeafElement, declared.element.Leaf.Leaf}
 use Rattle.bolt_layout.specs.PageBytes.{inline_value, leaf_data}
-use Rattle.bolt_bulk.specs.Private.{AreHeld, entries_in, entries_size, HasRoomFor, held_view, held_views, inline_element, inline_size, inlined_by, inlined_in, IsHeld, IsInlined, IsOpenBucket, IsStored, page_size_of, stored_value, value_item}
+use Rattle.bolt_bulk.specs.Private.{HoldsLeaves, entries_in, entries_size, HasRoomFor, held_view, held_views, inline_element, inline_size, inlined_by, inlined_in, IsHeld, IsInlined, IsOpenBucket, IsStored, page_size_of, stored_value, value_item}
 use Rattle.bolt_bulk.specs.{declared.bucket_runs.BucketRuns.BucketRuns, declared.leaf_run.LeafRun.LeafRun, declared.held.Held.Held, declared.held.Stored.Stored}
 use Rattle.bolt_bulk.specs.declared.held.Stored.TheVariants as stored
 use Rattle.bolt_layout.proofs.{ListLemmas.all_append, SpanLemmas.length-leaf_bytes}
@@ -14,7 +14,7 @@ use Rattle.bolt_format.proofs.EncodedHeaders.{length-header_bytes, length-head_b
 
 -- what is known of a run of items
 pub record IsRun (inlined : List Leaf) (items : List Held) (size : ℕ) : Type 0 where
-  pub held : AreHeld inlined items
+  pub held : HoldsLeaves inlined items
   pub sized : size ≡ page_size_of inlined items
   pub small : size < 4294967296
   pub few : length items < 65535
@@ -56,11 +56,11 @@ stored_more inlined more x is = grind (arith, length-append, length-drop, drop-a
 view_more : (inlined more : List Leaf) (x : Held) → IsHeld inlined x → held_view (inlined ++ more) x ≡ held_view inlined x
 view_more inlined more x is = grind (arith, length-drop, drop-append-le, take-append-le)
 
-pub views_more : (inlined more : List Leaf) (items : List Held) → AreHeld inlined items → held_views (inlined ++ more) items ≡ held_views inlined items
+pub views_more : (inlined more : List Leaf) (items : List Held) → HoldsLeaves inlined items → held_views (inlined ++ more) items ≡ held_views inlined items
 views_more inlined more [] all = refl
 views_more inlined more (x ∷ items) all = grind (arith, view_more, views_more inlined more items all.1)
 
-pub held_more : (inlined more : List Leaf) (items : List Held) → AreHeld inlined items → AreHeld (inlined ++ more) items
+pub held_more : (inlined more : List Leaf) (items : List Held) → HoldsLeaves inlined items → HoldsLeaves (inlined ++ more) items
 held_more inlined more [] all = tt
 held_more inlined more (x ∷ items) all = ((all.0.0, stored_more inlined more x.stored all.0.1), held_more inlined more items all.1)
 
@@ -86,7 +86,7 @@ added_size : (inlined entries run : List Leaf) (first sequence key size : ℕ) �
 added_size inlined entries run first sequence key size behind at same = grind (arith, entries_at, length-inline_value)
 
 -- and these are the elements then.
-pub added_views : (inlined entries run : List Leaf) (first sequence : ℕ) (key : List ℕ) (items more : List Held) (x : Held) → run ≡ inlined ++ entries → first ≡ length inlined → AreHeld inlined items
+pub added_views : (inlined entries run : List Leaf) (first sequence : ℕ) (key : List ℕ) (items more : List Held) (x : Held) → run ≡ inlined ++ entries → first ≡ length inlined → HoldsLeaves inlined items
     → more ≡ items ++ x ∷ [] → held_view run x ≡ inline_element key sequence (entries_in run first (length entries))
     → held_views run more ≡ held_views inlined items ++ inline_element key sequence (map leaf_view entries) ∷ []
 added_views inlined entries run first sequence key items more x behind at all same view = grind (arith, views_more, entries_at, map-append)
@@ -96,7 +96,7 @@ pub values_view : (entries : List Leaf) → AllByRecursion (λ (entry : Leaf). e
 values_view [] all = refl
 values_view (x ∷ entries) all = grind (arith, values_view entries all.1)
 
-values_held : (entries : List Leaf) → AllByRecursion (λ (entry : Leaf). length entry.key.now ≤ 1073741824) entries → AreHeld [] (map value_item entries)
+values_held : (entries : List Leaf) → AllByRecursion (λ (entry : Leaf). length entry.key.now ≤ 1073741824) entries → HoldsLeaves [] (map value_item entries)
 values_held [] all = tt
 values_held (x ∷ entries) all = ((all.0, tt), values_held entries all.1)
 

@@ -5,7 +5,7 @@ use Rattle.std.specs.List.{AllByRecursion}
 use Rattle.bolt_format.specs.Elements.{BranchElement, LeafElement}
 use Rattle.bolt_layout.specs.{Laid.Laid, Laid.Placed, Laid.elements_of, Laid.first_key, Laid.numbers_of}
 use Rattle.bolt_layout.specs.Levels.{branch_page_view, overflow_of, page_over, leaf_page_view}
-use Rattle.bolt_bulk.specs.Private.{AreOpenRuns, AreUppers, bucket_end_next, bucket_limit, BucketRunsView, climb, climb_puts, close, close_puts, element_up, end_of, end_puts, IsKeyed, IsKeyedItem, IsUpper, kept, key_size, Known, leaf_closed, leaf_page, making_room, no_leaves, nothing_open, numbers_in, Open, own_page, pushed_on, pushing, put_in, room_puts, run_kept, run_key, run_page, run_push, run_stays, runs_climb, runs_close_put, runs_end, runs_end_next, runs_end_put, runs_next, runs_push, runs_put, runs_room, runs_room_put, runs_root, RunView, stays_open, Upper}
+use Rattle.bolt_bulk.specs.Private.{AreOpenRuns, AreUppers, bucket_end_next, bucket_limit, BucketRunsView, climb, climb_puts, close, close_puts, element_up, end_of, end_puts, IsKeyed, IsKeyedItem, IsUpper, kept_upper, key_size, Known, leaf_closed, leaf_page, making_room, no_leaves, nothing_open, numbers_in, Open, own_page, pushed_on, pushing, put_in, room_puts, run_kept, run_key, run_page, run_push, run_stays, runs_climb, runs_close_put, runs_end, runs_end_next, runs_end_put, runs_next, runs_push, runs_put, runs_room, runs_room_put, runs_root, RunView, stays_open, Upper}
 use Rattle.bolt_bulk.specs.declared.limits.BucketLimits.{BucketLimits}
 use Rattle.bolt_layout.proofs.{ListLemmas.all_append, OverRows.numbers-append, LaidItems.length-elements, BranchLemmas.same_branch}
 
@@ -20,7 +20,7 @@ run_grown kept_run upper n q e is keyed same = grind (arith, sum_by_push, elemen
 pub stays_same : (page_size : ℕ) (kept_run : RunView) (upper : Upper) (n size : ℕ) → IsUpper kept_run upper n → run_stays page_size kept_run size ≡ stays_open page_size upper size
 stays_same page_size kept_run upper n size is = grind (arith, length-elements)
 
-pub kept_same : (page_size : ℕ) (kept_run : RunView) (upper : Upper) (n size : ℕ) → IsUpper kept_run upper n → IsUpper (run_kept page_size kept_run size) (kept page_size upper size) n
+pub kept_same : (page_size : ℕ) (kept_run : RunView) (upper : Upper) (n size : ℕ) → IsUpper kept_run upper n → IsUpper (run_kept page_size kept_run size) (kept_upper page_size upper size) n
 kept_same page_size kept_run upper n size is = grind (arith, length-elements)
 
 pub key_same : (run : List (Laid BranchElement)) (n : ℕ) → AllByRecursion IsKeyed run → run_key (elements_of run n) ≡ first_key run
@@ -47,7 +47,7 @@ over_run page_size next b e q kept_run upper uppers is keyed same number =
     let pushed = run_grown kept_run upper m q e is keyed (same ∙ ap q.element place) in
     grind (arith, numbers-append, same_branch, key_same, placed_same)
 
--- the climb of the kept runs is that of the open ones
+-- the climb of the kept_upper runs is that of the open ones
 runs_climbed : (page_size : ℕ) (new : Option ℕ) (key : List ℕ) (e : BranchElement) (next b : ℕ) (q : Laid BranchElement) (kept_runs : List RunView) (uppers : List Upper) → AreUppers kept_runs uppers b → IsKeyed q
     → e ≡ q.element (b + numbers_in uppers) → next ≡ b + numbers_in uppers + q.numbers
     → AreUppers (runs_climb page_size new key e next kept_runs) (climb page_size new key q uppers) b × (runs_put page_size key e next kept_runs ≡ climb_puts page_size key q uppers b)

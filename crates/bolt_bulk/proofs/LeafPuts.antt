@@ -7,7 +7,7 @@ use Rattle.bolt_layout.specs.PageBytes.{inline_value, leaf_bytes, leaf_data, lea
 use Rattle.bolt_layout.proofs.LeafLemmas.{length-leaf_headers}
 use Rattle.bolt_format.proofs.EncodedHeaders.{length-header_bytes}
 use Rattle.bolt_format.specs.declared.header.Kind.TheVariants as kind
-use Rattle.bolt_bulk.specs.{Private.held_views, Private.leaf_page, Private.leaves_of, Private.page_size_of, declared.leaf_run.LeafRun.LeafRun}
+use Rattle.bolt_bulk.specs.{Private.held_views, Private.leaf_page, Private.leaf_run_view, Private.page_size_of, declared.leaf_run.LeafRun.LeafRun}
 use Rattle.bolt_bulk.proofs.{ElementPuts.ArePacked, FilledTexts.zeros, FilledTexts.filled_pieces}
 use Rattle.bolt_format.proofs.WroteLemmas.{Wrote-same}
 use Rattle.bolt_format.specs.{Endings.Ending, Wrote.Wrote, declared.sink.Sink.Ghosts}
@@ -31,7 +31,7 @@ leaf_packed view = record { none = λ before. refl; first = λ before x xs. grin
 pub leaf_run_wrote : {S : Type 0} {sink : Ghosts S} {old new : S} (page_size number : ℕ) (run : LeafRun) {end : Ending} → run.size ≡ page_size_of run.inlined.items run.items.items
     → Wrote sink old new (header_bytes number kind.Leaf (length run.items.items) (overflow_of page_size run.size)
     ++ (leaf_headers 0 (held_views run.inlined.items run.items.items) ++ (leaf_data (held_views run.inlined.items run.items.items) ++ zeros ((1 + overflow_of page_size run.size) * page_size - run.size)))) end
-    → Wrote sink old new (placed_bytes page_size (leaf_page page_size (leaves_of run) number ∷ [])) end
+    → Wrote sink old new (placed_bytes page_size (leaf_page page_size (leaf_run_view run) number ∷ [])) end
 unfolding page_bytes leaf_bytes
 leaf_run_wrote page_size number run sized wrote = grind (arith, length-map, length-header_bytes, length-leaf_headers, zeros, filled_pieces, append-nil)
 

@@ -7,7 +7,7 @@ use Rattle.bolt_format.specs.Elements.{BranchElement, LeafElement}
 use Rattle.bolt_layout.specs.{Cut.branch_cut, Cut.cut_from, Cut.joins, Laid.Laid, Laid.Placed, Laid.numbers_of, Laid.pages_of, Laid.size_of}
 use Rattle.bolt_layout.specs.Levels.{branch_page_view, leaf_page_view, page_over, root_over}
 use Rattle.bolt_layout.specs.{Limits.HaveRightLimits, Limits.cut_within, Limits.one_less, declared.Layout.Layout}
-use Rattle.bolt_bulk.specs.Private.{bucket_limit, climb, climb_puts, close, close_puts, Comes, end_of, has_room, IsOpen, IsSized, IsUnder, kept, key_size, Known, leaves_coming, next_number, nothing_open, numbers_in, Open, own_page, pages_put, pushed_on, pushing, put_in, stays_open, taking, Upper}
+use Rattle.bolt_bulk.specs.Private.{bucket_limit, climb, climb_puts, close, close_puts, Comes, end_of, has_room, BecomesRoot, IsSized, IsUnder, kept_upper, key_size, Known, leaves_coming, next_number, nothing_open, numbers_in, Open, own_page, pages_put, pushed_on, pushing, put_in, stays_open, taking, Upper}
 use Rattle.bolt_layout.proofs.Tops.{top_above}
 
 -- The code's test of room is that of the cut.
@@ -29,7 +29,7 @@ cut_step page_size least run next items = grind (arith, cut_joined, cut_begun)
 
 -- A run that stays open takes the next page,
 left_stays : (page_size : ℕ) (upper : Upper) (next : Laid BranchElement) (size : ℕ) (pages : List (Laid BranchElement)) → next.size ≡ size → stays_open page_size upper size ≡ true
-    → cut_within page_size size_of upper.allowed upper.run (next ∷ pages) ≡ cut_within page_size size_of (kept page_size upper size).allowed (upper.run ++ next ∷ []) pages
+    → cut_within page_size size_of upper.allowed upper.run (next ∷ pages) ≡ cut_within page_size size_of (kept_upper page_size upper size).allowed (upper.run ++ next ∷ []) pages
 left_stays page_size upper next size pages named stays = grind (arith, room_joins)
 
 -- and any other ends before it.
@@ -45,7 +45,7 @@ left_begins page_size left run (next ∷ pages) =
     let upper : Upper = record { run = run; allowed = left; closed = 0 } in
     elim (cases_Bool (stays_open page_size upper next.size)) [
       | inl t ↦
-          let (more, rest, e) = left_begins page_size (kept page_size upper next.size).allowed (run ++ next ∷ []) pages in
+          let (more, rest, e) = left_begins page_size (kept_upper page_size upper next.size).allowed (run ++ next ∷ []) pages in
           (next ∷ more, rest, left_stays page_size upper next next.size pages refl t ∙ (e ∙ ap (λ (r : List (Laid BranchElement)). r ∷ rest) (append_assoc run (next ∷ []) more)))
       | inr f ↦ (
         [],
@@ -159,7 +159,7 @@ close_put page_size q (upper ∷ uppers) b = grind (arith, over_put, close_put p
 -- One item.
 pub opens : (which : Layout) (page_size : ℕ) (known : Known) (items : List (Laid LeafElement)) → known.leaves ≡ leaves_coming page_size [] items
     → HaveRightLimits which page_size (bucket_limit known.limits) (leaves_coming page_size [] items)
-    → IsOpen which page_size (nothing_open known) items (root_over which page_size items)
+    → BecomesRoot which page_size (nothing_open known) items (root_over which page_size items)
 unfolding root_over
 opens which page_size known items leaves right = grind arith
 
@@ -176,8 +176,8 @@ leaves_first page_size first run (next ∷ items) =
       | inr begun ↦ (page_over leaf_page_view page_size (first ∷ run), M (cut_from page_size 1 size_of (next ∷ []) items), ap M begun.1, refl, refl)
     ]
 
-pub takes : (which : Layout) (page_size : ℕ) (state : Open) (item : Laid LeafElement) (items : List (Laid LeafElement)) (root : Laid BranchElement) → IsOpen which page_size state (item ∷ items) root
-    → IsOpen which page_size (taking page_size state item) items root
+pub takes : (which : Layout) (page_size : ℕ) (state : Open) (item : Laid LeafElement) (items : List (Laid LeafElement)) (root : Laid BranchElement) → BecomesRoot which page_size state (item ∷ items) root
+    → BecomesRoot which page_size (taking page_size state item) items root
 takes which page_size state item items root is =
     let same = room_joins page_size 1 state.run item item.size refl in
     let M : List (List (Laid LeafElement)) → List (Laid BranchElement) = λ runs. map (page_over leaf_page_view page_size) runs in
@@ -199,5 +199,5 @@ pub pushed_put : (state : Open) (item : Laid LeafElement) (b : ℕ) → pages_pu
 pushed_put state item b = grind (arith, pages-append, append-nil, append_assoc)
 
 -- The end.
-pub ends : (which : Layout) (page_size : ℕ) (state : Open) (root : Laid BranchElement) → IsOpen which page_size state [] root → end_of page_size state ≡ root
+pub ends : (which : Layout) (page_size : ℕ) (state : Open) (root : Laid BranchElement) → BecomesRoot which page_size state [] root → end_of page_size state ≡ root
 ends which page_size state root is = close_same which page_size (bucket_limit state.known.limits) (page_over leaf_page_view page_size state.run) state.uppers state.known.leaves root is.comes

@@ -14,7 +14,7 @@ use Rattle.bolt_layout.specs.Laid.{Placed}
 use Rattle.bolt_layout.specs.Layout.{first_page, layout_held, layout_mark, layout_pages, layout_root, placed_bytes}
 use Rattle.bolt_layout.specs.{Storable.HasLengths, Openings.leaf_pages, Openings.opened_in, declared.Layout.Layout}
 use Rattle.bolt_layout.specs.{declared.Layout.TheVariants.Balanced, declared.Layout.TheVariants.Plain, Items.items_of}
-use Rattle.bolt_bulk.specs.Private.{AreComingAround, AreOpenRuns, bucket_end_next, bucket_runs, BucketEnds, BucketRunsView, depth_of, Ends, FitLimits, BucketFrame, HasLeft, HasNoted, held_so_far, IsAt, IsFitMember, IsOn, Known, last_part, Parent, parent_of, limit_in, limits_by, limits_with, no_leaves, nothing_open, Open, open_in, runs_end, runs_end_put, Steps, Wanted}
+use Rattle.bolt_bulk.specs.Private.{AreComingAround, AreOpenRuns, bucket_end_next, bucket_runs, BucketEnds, BucketRunsView, pass_depth, EndsPass, FitLimits, BucketFrame, HasLeft, HasNoted, held_so_far, PassIsAt, HasMemberLengths, PassIsOn, Known, last_part, Parent, parent_of, limit_in, limits_by, limits_with, no_leaves, nothing_open, Open, open_in, runs_end, runs_end_put, Steps, Wanted}
 use Rattle.bolt_check.specs.Counts.{saturated}
 use Rattle.bolt_bulk.specs.{declared.page_setup.PageSetup.PageSetup, declared.fault.BulkFault.BulkFault, declared.pass.Ended.Ended, declared.pass.Pass.Pass}
 use Rattle.bolt_bulk.specs.{declared.noted_limits.NotedLimits.NotedLimits}
@@ -35,10 +35,10 @@ pub record HasNext (wanted : Wanted) (pass : Pass) (key : Key) (item : Item) (me
   pub parents : List Parent
   pub inside : Tree
   pub after : Tree
-  pub at : IsAt wanted pass parents (with_item key item inside after) put
+  pub at : PassIsAt wanted pass parents (with_item key item inside after) put
   pub members_are : left_after parents key item inside after ≡ members
 
-pub has_next : (wanted : Wanted) (pass : Pass) (path : Path) (key : Key) (item : Item) (members : List Member) (put : List Placed) → HasLeft wanted pass ((path, item) ∷ members) put → depth_of pass ≤ length path → last_part path ≡ key
+pub has_next : (wanted : Wanted) (pass : Pass) (path : Path) (key : Key) (item : Item) (members : List Member) (put : List Placed) → HasLeft wanted pass ((path, item) ∷ members) put → pass_depth pass ≤ length path → last_part path ≡ key
     → HasNext wanted pass key item members put
 has_next wanted pass path key item members put has deep last =
     let d = depth_parents wanted pass has.parents has.left put has.at in
@@ -50,13 +50,13 @@ has_next wanted pass path key item members put has deep last =
 one_part : (path : Path) (key : Key) → length key ≤ 1073741824 → (1 ≤ length (path ++ key ∷ [])) × (length (last_part (path ++ key ∷ [])) ≤ 1073741824)
 one_part path key short = grind (arith, length-append, last_pushed)
 
-pub members_fit : (path : Path) (tree : Tree) → HasLengths tree → AllByRecursion IsFitMember (listing_below path tree)
+pub members_fit : (path : Path) (tree : Tree) → HasLengths tree → AllByRecursion HasMemberLengths (listing_below path tree)
 members_fit path end lengths = tt
 members_fit path (with_value key value after) (key_fits, value_fits, others) =
     let (some, last) = one_part path key key_fits.1 in ((some, last, value_fits), members_fit path after others)
 members_fit path (with_bucket key sequence inside after) (key_fits, sequence_fits, inner, others) =
     let (some, last) = one_part path key key_fits.1 in
-    ((some, last, tt), all_append IsFitMember (listing_below (path ++ key ∷ []) inside) (listing_below path after) (members_fit (path ++ key ∷ []) inside inner) (members_fit path after others))
+    ((some, last, tt), all_append HasMemberLengths (listing_below (path ++ key ∷ []) inside) (listing_below path after) (members_fit (path ++ key ∷ []) inside inner) (members_fit path after others))
 
 -- ---- the beginning
 
@@ -99,7 +99,7 @@ no_frames : (frames : List BucketFrame) → [] ≡ map parent_of frames → fram
 no_frames [] e = refl
 no_frames (frame ∷ frames) e = absurd cc
 
-no_pending : (pass : Pass) → depth_of pass ≤ 1 → pass.pending ≡ None
+no_pending : (pass : Pass) → pass_depth pass ≤ 1 → pass.pending ≡ None
 no_pending pass h = grind arith
 
 pub record HasEnd (wanted : Wanted) (pass : Pass) (put : List Placed) : Type 0 where
@@ -110,23 +110,23 @@ pub record HasEnd (wanted : Wanted) (pass : Pass) (put : List Placed) : Type 0 w
   pub noted : (noted : NotedLimits) → BucketEnds pass.noted noted pass.bucket.uppers → wanted.notes ≡ true → wanted.which ≡ Plain
       → layout_mark wanted.which pass.setup.page_size wanted.tree ≤ 18446744073709551615 → FitLimits Balanced wanted.tree pass.setup.page_size (limits_with noted.limits)
 
-root_ended : (page_size : ℕ) (wanted : Wanted) (state : Open) (runs : BucketRunsView) (put : List Placed) → IsOn wanted.which page_size wanted.tree [] state [] runs put
+root_ended : (page_size : ℕ) (wanted : Wanted) (state : Open) (runs : BucketRunsView) (put : List Placed) → PassIsOn wanted.which page_size wanted.tree [] state [] runs put
     → (layout_pages wanted.which page_size wanted.tree ≡ put ++ runs_end_put page_size runs) × (runs_end page_size runs ≡ layout_root wanted.which page_size wanted.tree) × (bucket_end_next page_size runs ≡ layout_mark wanted.which page_size wanted.tree)
     × (held_so_far [] state ≡ layout_held wanted.which page_size wanted.tree)
 root_ended page_size wanted state runs put on =
     let ended = runs_ended page_size runs state first_page on.kept in
     grind (arith, ends, pass_ends, end_held)
 
-pub has_end : (wanted : Wanted) (pass : Pass) (put : List Placed) → HasLeft wanted pass [] put → depth_of pass ≤ 1 → HasEnd wanted pass put
+pub has_end : (wanted : Wanted) (pass : Pass) (put : List Placed) → HasLeft wanted pass [] put → pass_depth pass ≤ 1 → HasEnd wanted pass put
 has_end wanted pass put has shallow =
     let d = depth_parents wanted pass has.parents has.left put has.at in
     let none = no_parents has.parents (omega arith) in
     let left : has.left ≡ end = none_at_all has.parents has.left has.members_are in
-    let at = subst (λ (t : Tree). IsAt wanted pass [] t put) left (subst (λ (ls : List Parent). IsAt wanted pass ls has.left put) none has.at) in
+    let at = subst (λ (t : Tree). PassIsAt wanted pass [] t put) left (subst (λ (ls : List Parent). PassIsAt wanted pass ls has.left put) none has.at) in
     let (same, on, coming) = on_of at (no_pending pass shallow) in
     let frames = no_frames at.frames same in
     let (pages, root, mark, held) = root_ended pass.setup.page_size wanted at.state (bucket_runs pass.bucket pass.next) put
-    (subst (λ (fs : List BucketFrame). IsOn wanted.which pass.setup.page_size wanted.tree fs at.state [] (bucket_runs pass.bucket pass.next) put) frames on) in
+    (subst (λ (fs : List BucketFrame). PassIsOn wanted.which pass.setup.page_size wanted.tree fs at.state [] (bucket_runs pass.bucket pass.next) put) frames on) in
     record {
       pages = pages;
       root = root;
@@ -151,20 +151,20 @@ rest_some page_size [] some = absurd (omega arith)
 rest_some page_size (page ∷ pages) some = pages_some page_size page pages
 
 -- what the sink has accepted, in other words
-pub ends_to : {S : Type 0} {wanted : Wanted} {sink : Ghosts S} {setup : PageSetup} {old mid new : S} {put : List Placed} {result : Result Ended BulkFault} → mid ≡ new → Ends wanted sink old mid setup put result → Ends wanted sink old new setup put result
-ends_to {S} {wanted} {sink} {setup} {old} {put = put} {result = result} same ends = subst (λ (s : S). Ends wanted sink old s setup put result) same ends
+pub ends_to : {S : Type 0} {wanted : Wanted} {sink : Ghosts S} {setup : PageSetup} {old mid new : S} {put : List Placed} {result : Result Ended BulkFault} → mid ≡ new → EndsPass wanted sink old mid setup put result → EndsPass wanted sink old new setup put result
+ends_to {S} {wanted} {sink} {setup} {old} {put = put} {result = result} same ends = subst (λ (s : S). EndsPass wanted sink old s setup put result) same ends
 
 module _ {S : Type 0} {wanted : Wanted} {sink : Ghosts S} {setup : PageSetup} {old new : S} {put : List Placed} {At : List Placed → Type 0} {result : Result Ended BulkFault} where
   -- a step failed on the way
-  pub ends_early : {A : Type 0} {e : BulkFault} → IsErrAnd result (λ f. f ≡ e) → Steps {A = A} wanted sink old new setup put At (Err e) → Ends wanted sink old new setup put result
+  pub ends_early : {A : Type 0} {e : BulkFault} → IsErrAnd result (λ f. f ≡ e) → Steps {A = A} wanted sink old new setup put At (Err e) → EndsPass wanted sink old new setup put result
   ends_early same steps = let e = err_from_is_err_and result same in rw (e.1, e.2) (grind (arith, bytes-append, append_assoc, rest_some, some_more))
 
   -- after steps that went well
-  pub ends_after : {A : Type 0} {later : PageSetup} {mid : S} {x : A} → later ≡ setup → Steps wanted sink old mid setup put At (Ok x) → ((all : List Placed) → At all → Ends wanted sink mid new later all result)
-      → Ends wanted sink old new setup put result
+  pub ends_after : {A : Type 0} {later : PageSetup} {mid : S} {x : A} → later ≡ setup → Steps wanted sink old mid setup put At (Ok x) → ((all : List Placed) → At all → EndsPass wanted sink mid new later all result)
+      → EndsPass wanted sink old new setup put result
   ends_after {mid} later_is one two =
       let P : ℕ = setup.page_size in
-      let then = subst (λ (b : PageSetup). Ends wanted sink mid new b (put ++ one.more) result) later_is (two (put ++ one.more) one.at) in
+      let then = subst (λ (b : PageSetup). EndsPass wanted sink mid new b (put ++ one.more) result) later_is (two (put ++ one.more) one.at) in
       let bytes = sym (bytes-append P one.more then.others) in
       record {
         others = one.more ++ then.others;

@@ -5,7 +5,7 @@ use Rattle.std.specs.Prelude.{⊤}
 use Rattle.bolt_format.specs.{declared.sink.Sink.Ghosts}
 use Rattle.bolt_tree.specs.{Listing.Member, Tree.Tree, Tree.end}
 use Rattle.bolt_layout.specs.Laid.{Placed}
-use Rattle.bolt_bulk.specs.Private.{AreWaiting, depth_of, BucketFrame, HasLeft, IsAt, IsNoDeeper, left_in, Parent, Steps, Wanted}
+use Rattle.bolt_bulk.specs.Private.{AreWaiting, pass_depth, BucketFrame, HasLeft, PassIsAt, IsNoDeeper, left_in, Parent, Steps, Wanted}
 use Rattle.bolt_bulk.specs.{declared.pass.Pass.Pass, declared.waiting_bucket.WaitingBucket.WaitingBucket}
 use Rattle.bolt_bulk.proofs.{Members.none_at_all, Members.none_further, PassAt.steps_none}
 
@@ -14,7 +14,7 @@ waiting_frames : (waiting : List WaitingBucket) (frames : List BucketFrame) → 
 waiting_frames (w ∷ waiting) (frame ∷ frames) (runs, key, sequence, others) = let ih = waiting_frames waiting frames others in omega arith
 waiting_frames waiting frames are = grind arith
 
-pub depth_parents : (wanted : Wanted) (pass : Pass) (parents : List Parent) (left : Tree) (put : List Placed) → IsAt wanted pass parents left put → depth_of pass ≡ suc (length parents)
+pub depth_parents : (wanted : Wanted) (pass : Pass) (parents : List Parent) (left : Tree) (put : List Placed) → PassIsAt wanted pass parents left put → pass_depth pass ≡ suc (length parents)
 depth_parents wanted pass parents left put is = grind (arith, waiting_frames, length-reverse, length-map)
 
 pub left_same : {wanted : Wanted} {pass : Pass} {members others : List Member} {put : List Placed} → members ≡ others → HasLeft wanted pass members put → HasLeft wanted pass others put
@@ -36,16 +36,16 @@ some_parent (parent ∷ others) deep = (parent, others, refl)
 pub record HasEnded (wanted : Wanted) (pass : Pass) (members : List Member) (put : List Placed) : Type 0 where
   pub parent : Parent
   pub parents : List Parent
-  pub at : IsAt wanted pass (parent ∷ parents) end put
+  pub at : PassIsAt wanted pass (parent ∷ parents) end put
   pub members_are : left_in parents parent.after ≡ members
 
-pub has_ended : (depth : ℕ) (wanted : Wanted) (pass : Pass) (members : List Member) (put : List Placed) → HasLeft wanted pass members put → IsNoDeeper depth members → 1 ≤ depth → depth < depth_of pass
+pub has_ended : (depth : ℕ) (wanted : Wanted) (pass : Pass) (members : List Member) (put : List Placed) → HasLeft wanted pass members put → IsNoDeeper depth members → 1 ≤ depth → depth < pass_depth pass
     → HasEnded wanted pass members put
 has_ended depth wanted pass members put has shallow some deep =
     let d = depth_parents wanted pass has.parents has.left put has.at in
     grind (arith, no_more, some_parent)
 
 -- a bucket was left
-pub left_out : (wanted : Wanted) (pass : Pass) (parent : Parent) (parents : List Parent) (members : List Member) (put : List Placed) → left_in parents parent.after ≡ members → IsAt wanted pass parents parent.after put
+pub left_out : (wanted : Wanted) (pass : Pass) (parent : Parent) (parents : List Parent) (members : List Member) (put : List Placed) → left_in parents parent.after ≡ members → PassIsAt wanted pass parents parent.after put
     → HasLeft wanted pass members put
 left_out wanted pass parent parents members put is at = record { parents = parents; left = parent.after; at = at; members_are = is }

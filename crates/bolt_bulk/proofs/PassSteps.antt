@@ -10,7 +10,7 @@ use Rattle.bolt_tree.specs.Tree.{Tree, end}
 use Rattle.bolt_layout.specs.{Items.bucket_item, Items.items_of, Items.root_of, Items.leaf_item, Items.stored_bucket, Laid.Laid, Laid.Placed, Laid.size_of}
 use Rattle.bolt_layout.specs.{Levels.root_over, Limits.HaveRightLimits, Layout.first_page, Layout.layout_pages, Layout.layout_mark}
 use Rattle.bolt_layout.specs.{declared.Layout.Layout, Cut.run_size, PageBytes.inline_value, PageBytes.leaf_data}
-use Rattle.bolt_bulk.specs.Private.{all_put, base_in, bucket_limit, end_of, end_puts, BucketFrame, held_item, IsOpen, IsPass, Known, leaves_coming, making_room, nothing_open, Open, pushing, room_puts, taking, AreOpenRuns, bucket_end_next, BucketRunsView, entries_size, frames_put, HasRoot, IsOn, onto, root_element, runs_end, runs_end_put, runs_push, runs_room, runs_room_put, runs_taking, StandsBefore}
+use Rattle.bolt_bulk.specs.Private.{all_put, base_in, bucket_limit, end_of, end_puts, BucketFrame, held_item, BecomesRoot, IsPass, Known, leaves_coming, making_room, nothing_open, Open, pushing, room_puts, taking, AreOpenRuns, bucket_end_next, BucketRunsView, entries_size, frames_put, HasRoot, PassIsOn, onto, root_element, runs_end, runs_end_put, runs_push, runs_room, runs_room_put, runs_taking, StandsBefore}
 use Rattle.bolt_bulk.proofs.OpenRunLemmas.{ends, opens, pushed_put, takes, climb_put, close_put}
 use Rattle.bolt_bulk.proofs.Ontos.{IsValue, ends_inline, onto_items, value_items, values_elements, values_keyed, values_numbers, values_pages, values_size}
 use Rattle.bolt_bulk.proofs.{KeptRuns.runs_ended, KeptRuns.runs_have_room, KeptRuns.runs_pushed, PutBefore.pass_before}
@@ -58,7 +58,7 @@ pass_enters which page_size known frames state key sequence inner after whole le
       begun = λ none. refl;
       stack = (
         pass.root,
-        subst (λ (n : ℕ). IsOpen which page_size (pushing (making_room page_size state key n) item) (items_of which page_size after) pass.root) size (takes which page_size state item (items_of which page_size after) pass.root pass.current),
+        subst (λ (n : ℕ). BecomesRoot which page_size (pushing (making_room page_size state key n) item) (items_of which page_size after) pass.root) size (takes which page_size state item (items_of which page_size after) pass.root pass.current),
         pass.stack,
       );
     }
@@ -83,18 +83,18 @@ pass_ends which page_size tree state pass = grind (arith, ends, close_put, appen
 
 module _ {which : Layout} {page_size : ℕ} {tree : Tree} where
   -- what was written comes before the root page, and its numbers are below the high-water mark
-  pub on_before : {frames : List BucketFrame} {state : Open} {items : List (Laid LeafElement)} {runs : BucketRunsView} {put : List Placed} → IsOn which page_size tree frames state items runs put → StandsBefore put (layout_pages which page_size tree)
+  pub on_before : {frames : List BucketFrame} {state : Open} {items : List (Laid LeafElement)} {runs : BucketRunsView} {put : List Placed} → PassIsOn which page_size tree frames state items runs put → StandsBefore put (layout_pages which page_size tree)
   on_before {frames} {state} {items} on =
       let is = pass_before which page_size frames state items (root_of which page_size tree) on.under in
       record { rest = is.rest; parts = is.parts ∙ ap (λ (ps : List Placed). ps ++ is.rest) (sym on.put_is); some = is.some }
 
-  pub on_numbers : {frames : List BucketFrame} {state : Open} {items : List (Laid LeafElement)} {runs : BucketRunsView} {put : List Placed} → IsOn which page_size tree frames state items runs put → runs.next ≤ layout_mark which page_size tree
+  pub on_numbers : {frames : List BucketFrame} {state : Open} {items : List (Laid LeafElement)} {runs : BucketRunsView} {put : List Placed} → PassIsOn which page_size tree frames state items runs put → runs.next ≤ layout_mark which page_size tree
   on_numbers {frames} {state} {items} on = omega (arith, (pass_before which page_size frames state items (root_of which page_size tree) on.under).fewer, on.kept.next_is)
 
   -- an item without pages below it is taken
   pub on_takes : (frames : List BucketFrame) (state : Open) (key value : List ℕ) (flag : Bool) (items : List (Laid LeafElement)) (runs : BucketRunsView) (put : List Placed)
-      → IsOn which page_size tree frames state (leaf_item key value flag ∷ items) runs put
-      → IsOn which page_size tree frames (taking page_size state (leaf_item key value flag)) items (runs_taking page_size runs (record { key = key; value = value; is_bucket = flag }) (16 + (length key + length value)))
+      → PassIsOn which page_size tree frames state (leaf_item key value flag ∷ items) runs put
+      → PassIsOn which page_size tree frames (taking page_size state (leaf_item key value flag)) items (runs_taking page_size runs (record { key = key; value = value; is_bucket = flag }) (16 + (length key + length value)))
       (put ++ runs_room_put page_size runs key (16 + (length key + length value)))
   on_takes frames state key value flag items runs put on =
       let item : Laid LeafElement = leaf_item key value flag in
@@ -108,7 +108,7 @@ module _ {which : Layout} {page_size : ℕ} {tree : Tree} where
   -- a bucket with a root page is entered
   pub on_enters : (known : Known) (frames : List BucketFrame) (state : Open) (key : List ℕ) (sequence : ℕ) (inner : List (Laid LeafElement)) (after : Tree) (runs : BucketRunsView) (put : List Placed)
       → known.leaves ≡ leaves_coming page_size [] inner → HaveRightLimits which page_size (bucket_limit known.limits) (leaves_coming page_size [] inner)
-      → IsOn which page_size tree frames state (bucket_item key sequence (root_over which page_size inner) ∷ items_of which page_size after) runs put
+      → PassIsOn which page_size tree frames state (bucket_item key sequence (root_over which page_size inner) ∷ items_of which page_size after) runs put
       → IsPass which page_size (waiting page_size state key sequence after ∷ frames) (nothing_open known) inner (root_of which page_size tree)
       × AreOpenRuns (runs_room page_size runs key (32 + length key)) (making_room page_size state key (32 + length key)) (base_in frames)
       × (put ++ runs_room_put page_size runs key (32 + length key) ≡ all_put (waiting page_size state key sequence after ∷ frames) (nothing_open known))
@@ -120,9 +120,9 @@ module _ {which : Layout} {page_size : ℕ} {tree : Tree} where
       )
 
   -- it ends, and the bucket around it goes on
-  pub on_leaves : (frame : BucketFrame) (frames : List BucketFrame) (state : Open) (inner outer : BucketRunsView) (put : List Placed) (key : List ℕ) (sequence : ℕ) → IsOn which page_size tree (frame ∷ frames) state [] inner put
+  pub on_leaves : (frame : BucketFrame) (frames : List BucketFrame) (state : Open) (inner outer : BucketRunsView) (put : List Placed) (key : List ℕ) (sequence : ℕ) → PassIsOn which page_size tree (frame ∷ frames) state [] inner put
       → AreOpenRuns outer frame.state (base_in frames) → outer.next ≡ base_in (frame ∷ frames) → key ≡ frame.key → sequence ≡ frame.sequence
-      → IsOn which page_size tree frames (pushing frame.state (held_item frame (end_of page_size state))) (items_of which page_size frame.after)
+      → PassIsOn which page_size tree frames (pushing frame.state (held_item frame (end_of page_size state))) (items_of which page_size frame.after)
       (runs_push outer (root_element key (runs_end page_size inner) sequence) (32 + length key) (bucket_end_next page_size inner)) (put ++ runs_end_put page_size inner)
   on_leaves frame frames state inner outer put key sequence on waits base named numbered =
       let root : Laid BranchElement = end_of page_size state in

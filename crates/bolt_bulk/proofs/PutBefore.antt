@@ -7,7 +7,7 @@ use Rattle.bolt_format.specs.{Elements.BranchElement, Elements.LeafElement, Page
 use Rattle.bolt_layout.specs.{Cut.branch_cut, Cut.cut_from, Cut.join_last, Items.items_of, Laid.Laid, Laid.Placed, Laid.numbers_of, Laid.pages_of, Laid.size_of}
 use Rattle.bolt_layout.specs.{Levels.branch_page_view, Levels.leaf_page_view, Levels.next_level, Levels.page_over, Levels.top_in, Layout.first_page}
 use Rattle.bolt_layout.specs.{declared.Layout.Layout, declared.Layout.TheVariants.Plain, declared.Layout.TheVariants.Balanced}
-use Rattle.bolt_bulk.specs.Private.{all_put, base_in, bucket_limit, Comes, BucketFrame, frames_put, held_item, IsOpen, IsPass, IsStack, next_number, numbers_in, Open, pages_put, pushing, put_in, Upper}
+use Rattle.bolt_bulk.specs.Private.{all_put, base_in, bucket_limit, Comes, BucketFrame, frames_put, held_item, BecomesRoot, IsPass, BecomesWhole, next_number, numbers_in, Open, pages_put, pushing, put_in, Upper}
 use Rattle.bolt_layout.proofs.OverRows.{numbers-append}
 use Rattle.bolt_bulk.proofs.OpenRunLemmas.{cut_step, left_begins, pages-append, pages_push, pushed_put}
 
@@ -96,7 +96,7 @@ coming_begins which page_size limits (upper ∷ uppers) p pages all root is b =
     begins_same front count two
 
 -- What was written of an open bucket comes before its root page.
-pub put_before : (which : Layout) (page_size : ℕ) (state : Open) (items : List (Laid LeafElement)) (root : Laid BranchElement) (b : ℕ) → IsOpen which page_size state items root
+pub put_before : (which : Layout) (page_size : ℕ) (state : Open) (items : List (Laid LeafElement)) (root : Laid BranchElement) (b : ℕ) → BecomesRoot which page_size state items root
     → Begins 1 (pages_put state b) (numbers_in state.uppers + numbers_of state.run) (root.pages b) root.numbers
 put_before which page_size state items root b is =
     let (more, rest, e) = cut_begins page_size 1 state.run items in
@@ -107,7 +107,7 @@ put_before which page_size state items root b is =
     let two = begins_behind (pages_of (put_in state.uppers) b) (numbers_in state.uppers) (over_before leaf_page_view page_size state.run more m) in
     begins_by (omega arith) two one
 
-stack_before : (which : Layout) (page_size : ℕ) (frames : List BucketFrame) (root whole : Laid BranchElement) (front : List Placed) (few : ℕ) → IsStack which page_size frames root whole → Begins 1 front few (root.pages (base_in frames)) root.numbers
+stack_before : (which : Layout) (page_size : ℕ) (frames : List BucketFrame) (root whole : Laid BranchElement) (front : List Placed) (few : ℕ) → BecomesWhole which page_size frames root whole → Begins 1 front few (root.pages (base_in frames)) root.numbers
     → Begins 1 (frames_put frames ++ front) (base_in frames + few) (whole.pages first_page) (first_page + whole.numbers)
 stack_before which page_size [] root whole front few stack is = grind arith
 stack_before which page_size (frame ∷ frames) root whole front few stack is =

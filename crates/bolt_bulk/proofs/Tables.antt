@@ -7,7 +7,7 @@ use Rattle.bolt_layout.specs.{Laid.Laid, Laid.Placed, Laid.size_of, Levels.branc
 use Rattle.bolt_layout.specs.Limits.{AreRowEnds, limit_at, limits_from_ends}
 use Rattle.bolt_layout.specs.{declared.Layout.TheVariants.Plain, declared.Layout.TheVariants.Balanced, Cut.branch_cut, Layout.layout_mark}
 use Rattle.bolt_layout.specs.{Openings.limits_for, Openings.opened_in, Openings.row_ends_of, declared.Layout.Layout}
-use Rattle.bolt_bulk.specs.Private.{bucket_limit, Comes, IsOpen, Open, Upper, upper_end, AreComingAround, AreNumbered, AreUppers, bucket_runs, BucketEnds, FitLimits, BucketFrame, HasNoted, IsOn, IsTable, IsToCome, Known, limit_in, limits_with, Notes, run_end, runs_above, Wanted}
+use Rattle.bolt_bulk.specs.Private.{bucket_limit, Comes, BecomesRoot, Open, Upper, upper_end, AreComingAround, AreNumbered, AreUppers, bucket_runs, BucketEnds, FitLimits, BucketFrame, HasNoted, PassIsOn, IsTable, IsToCome, Known, limit_in, limits_with, Notes, run_end, runs_above, Wanted}
 use Rattle.bolt_check.specs.Counts.{saturated}
 use Rattle.bolt_bulk.specs.{declared.branch_run.BranchRun.BranchRun, declared.limits.BucketLimits.BucketLimits, declared.limits.Limits.Limits}
 use Rattle.bolt_bulk.specs.{declared.noted_limits.NotedLimits.NotedLimits, declared.bucket_runs.BucketRuns.BucketRuns}
@@ -22,7 +22,7 @@ uppers_end : (page_size : ℕ) (limits : ℕ → Option ℕ) (uppers : List Uppe
 uppers_end page_size limits [] q all root is = let one = ap (λ (pages : List (Laid BranchElement)). length pages) is.0 in omega arith
 uppers_end page_size limits (upper ∷ uppers) q all root (stands, is) = grind (arith, length-append, last_append, uppers_end page_size (λ k. limits (suc k)) uppers (page_over branch_page_view page_size (upper.run ++ q ∷ [])) _ root is)
 
-pub bucket_rows_end : (page_size : ℕ) (state : Open) (root : Laid BranchElement) → IsOpen Plain page_size state [] root → AreRowEnds page_size state.known.leaves (map upper_end state.uppers)
+pub bucket_rows_end : (page_size : ℕ) (state : Open) (root : Laid BranchElement) → BecomesRoot Plain page_size state [] root → AreRowEnds page_size state.known.leaves (map upper_end state.uppers)
 bucket_rows_end page_size state root is = uppers_end page_size (bucket_limit state.known.limits) state.uppers (page_over leaf_page_view page_size state.run) state.known.leaves root is.comes
 
 -- ---- a bucket is opened
@@ -77,7 +77,7 @@ numbered_below wanted page_size low high (known ∷ buckets) less (is, are) = gr
 
 pub noted_leaves : {wanted : Wanted} {page_size next opened : ℕ} {limits : ℕ → ℕ → Option ℕ} {old new : NotedLimits} {frames : List BucketFrame} {state : Open} {put : List Placed} (bucket : BucketRuns) (others : List Known)
     → HasNoted wanted page_size old opened (state.known ∷ others) → IsToCome wanted page_size limits opened end frames
-    → IsOn wanted.which page_size wanted.tree frames state [] (bucket_runs bucket next) put → BucketEnds old new bucket.uppers → HasNoted wanted page_size new opened others
+    → PassIsOn wanted.which page_size wanted.tree frames state [] (bucket_runs bucket next) put → BucketEnds old new bucket.uppers → HasNoted wanted page_size new opened others
 noted_leaves {wanted} {page_size} {next} {opened} {limits} {old} {new} {frames} {state} bucket others has come on ended =
     let (is, are) = has.numbered in
     let known : Known = state.known in
@@ -87,7 +87,7 @@ noted_leaves {wanted} {page_size} {next} {opened} {limits} {old} {new} {frames} 
       table = λ asked which fits.
           let table = has.table asked which fits in
           let number : bucket.uppers.limits.bucket ≡ known.number = (let c = is.number_is in let e = is.earlier in let l = ap (λ (l : BucketLimits). l.bucket) on.kept.limits_are in let most = opened_most wanted page_size limits (opened + 0) frames come.around in omega arith) in
-          let plain : IsOpen Plain page_size state [] on.under.root = subst (λ (w : Layout). IsOpen w page_size state [] on.under.root) which on.under.current in
+          let plain : BecomesRoot Plain page_size state [] on.under.root = subst (λ (w : Layout). BecomesRoot w page_size state [] on.under.root) which on.under.current in
           let runs : map run_end bucket.uppers.runs.items ≡ map upper_end state.uppers =
           run_ends page_size (bucket_limit known.limits) bucket.uppers.runs.items state.uppers (page_over leaf_page_view page_size state.run) known.leaves on.under.root _ on.kept.above plain.comes (let l = is.notes.few in omega arith) in
           let rows : map upper_end state.uppers ≡ row_ends_of page_size known.leaves = row_ends_are_one page_size known.leaves (map upper_end state.uppers) (bucket_rows_end page_size state on.under.root plain) in

@@ -2,7 +2,7 @@
 ghost use Rattle.std.specs.Prelude.{◌≡◌, ◌+◌, ◌<◌, ◌≤◌, true, false, ℕ, IfErr, IfOk, OnOk, length, map, vec_capacity, vec_len};
 ghost use Rattle.std.specs.List.{AllByRecursion};
 ghost use Rattle.bolt_format.specs.{ElementLengths.IsValueLength, ElementPlaces.leaf_view, declared.element.Leaf.Leaf};
-ghost use Rattle.bolt_bulk.specs.Private.{bucket_runs, ClosesBucket, EndsInner, entries_size, first_run, HasRoomFor, held_size, held_view, inline_element, inline_size, inlined_by, IsHeld, IsOpenBucket, IsSameWriter, items_in, leaves_have_room, leaves_of, length_end, longest_key, MakesRoom, no_leaves, pending_element, Pushes, TakesItem, value_element, value_item, values_run};
+ghost use Rattle.bolt_bulk.specs.Private.{bucket_runs, ClosesBucket, EndsInner, entries_size, first_run, HasRoomFor, held_size, held_view, inline_element, inline_size, inlined_by, IsHeld, IsOpenBucket, IsSameWriter, items_in, leaves_have_room, leaf_run_view, length_end, longest_key, MakesRoom, no_leaves, pending_element, Pushes, TakesItem, value_element, value_item, values_run};
 ghost use Rattle.bolt_check.specs.Counts.{saturated};
 ghost use Rattle.bolt_bulk.specs.declared.fault.BulkFault.TheVariants as fault;
 
@@ -107,7 +107,7 @@ impl<'a> BucketRuns<'a> {
             result }
         ensures open { OnOk result (IsOpenBucket self.new) }
         ensures room { OnOk result (leaves_have_room writer.old.setup.page_size
-            (leaves_of self.new.leaves) size ≡ true) }
+            (leaf_run_view self.new.leaves) size ≡ true) }
     {
         if self.leaves.has_room(writer.setup.page_size, size) {
             return Ok(());
@@ -266,7 +266,7 @@ impl<'a> BucketRuns<'a> {
         requires outer { IsOpenBucket self.old }
         requires inner { IsOpenBucket inner.old }
         requires key { length key.now ≤ longest_key }
-        requires room { leaves_have_room writer.old.setup.page_size (leaves_of self.old.leaves)
+        requires room { leaves_have_room writer.old.setup.page_size (leaf_run_view self.old.leaves)
             (32 + length key.now) ≡ true }
         ensures same { IsSameWriter writer.old writer.new }
         ensures ends { EndsInner S.Sink writer.old writer.new self.old key.now sequence inner.old

@@ -1,7 +1,7 @@
 //! The run of items of a bucket's leaf under way, and the leaf page that it becomes.
 ghost use Rattle.std.specs.Prelude.{◌≡◌, ◌+◌, ◌<◌, ◌≤◌, OnOk, ◌*◌, ◌++◌, length};
 ghost use Rattle.bolt_layout.specs.{PageBytes.leaf_data, PageBytes.leaf_headers};
-ghost use Rattle.bolt_bulk.specs.Private.{AreHeld, ClosesLeaf, held_views, IsHeld, IsLeafRun, IsSameWriter, leaf_page, leaves_have_room, leaves_of, length_end, no_leaves, stored_value, WritesPage, WritesText};
+ghost use Rattle.bolt_bulk.specs.Private.{HoldsLeaves, ClosesLeaf, held_views, IsHeld, IsLeafRun, IsSameWriter, leaf_page, leaves_have_room, leaf_run_view, length_end, no_leaves, stored_value, WritesPage, WritesText};
 
 use crate::fault::BulkFault;
 use crate::held::Held;
@@ -23,7 +23,7 @@ impl<'a> LeafRun<'a> {
     /// Whether an item of this size joins the run.
     pub(crate) fn has_room(&self, page_size: usize, size: usize) -> bool
         requires { self.now.size + size < 18446744073709551616 }
-        ensures { result ≡ leaves_have_room page_size (leaves_of self.now) size }
+        ensures { result ≡ leaves_have_room page_size (leaf_run_view self.now) size }
     {
         self.items.len() < 1 || (self.size + size <= page_size && self.items.len() < MAX_ITEMS)
     }
@@ -36,8 +36,8 @@ impl<'a> LeafRun<'a> {
     ) -> Result<Branch<'a>, BulkFault>
         requires run { IsLeafRun self.old }
         ensures same { IsSameWriter writer.old writer.new }
-        ensures closes { ClosesLeaf S.Sink writer.old writer.new (leaves_of self.old) result }
-        ensures leaves { OnOk result (leaves_of self.new ≡ no_leaves) }
+        ensures closes { ClosesLeaf S.Sink writer.old writer.new (leaf_run_view self.old) result }
+        ensures leaves { OnOk result (leaf_run_view self.new ≡ no_leaves) }
         ensures run { OnOk result (IsLeafRun self.new) }
     {
         let after = writer.number_after(self.size)?;
@@ -61,7 +61,7 @@ fn put_headers<S: Sink>(
     inlined: &[Leaf<'_>],
     sink: &mut S,
 ) -> Result<(), SinkFault>
-    requires held { AreHeld inlined.now items.now }
+    requires held { HoldsLeaves inlined.now items.now }
     requires size { 16 * length items.now + length (leaf_data (held_views inlined.now items.now))
         < length_end }
     ensures { WritesText S.Sink sink.old sink.new
@@ -91,7 +91,7 @@ fn put_data<S: Sink>(
     inlined: &[Leaf<'_>],
     sink: &mut S,
 ) -> Result<(), SinkFault>
-    requires { AreHeld inlined.now items.now }
+    requires { HoldsLeaves inlined.now items.now }
     ensures { WritesText S.Sink sink.old sink.new (leaf_data (held_views inlined.now items.now))
         result }
 {
@@ -110,7 +110,7 @@ fn put_leaf_page<S: Sink>(
     ensures same { IsSameWriter writer.old writer.new }
     ensures next { writer.new.next ≡ writer.old.next }
     ensures page { WritesPage S.Sink writer.old writer.new
-        (leaf_page writer.old.setup.page_size (leaves_of run.now) writer.old.next) result }
+        (leaf_page writer.old.setup.page_size (leaf_run_view run.now) writer.old.next) result }
 {
     if writer.sink.keeps_nothing() {
         return Ok(());

@@ -73,7 +73,7 @@ pub(crate) struct Pass<'a> {
 impl<'a> Pass<'a> {
     ghost use Rattle.bolt_format.specs.ElementLengths.{IsValueLength};
     ghost use Rattle.bolt_tree.specs.{Paths.path_of, ShownEntries.item_view};
-    ghost use Rattle.bolt_bulk.specs.Private.{BeginsAll, BeginsBucket, Counts, depth_of, EndsAll, EntersBucket, GoesOn, IsFitMember, IsReady, items_by, KeepsValue, LeavesBucket, LeavesTo, longest_key, OpensPending, TakesMember, TakesValue};
+    ghost use Rattle.bolt_bulk.specs.Private.{BeginsAll, BeginsBucket, Counts, pass_depth, EndsAll, EntersBucket, GoesOn, HasMemberLengths, IsReady, items_by, KeepsValue, LeavesBucket, LeavesTo, longest_key, OpensPending, TakesMember, TakesValue};
     ghost use Rattle.bolt_check.specs.Counts.{saturated};
 
     /// A pass before the first page. If `notes` is set, it notes the limits of the balanced
@@ -108,7 +108,7 @@ impl<'a> Pass<'a> {
 
     /// How many buckets are around the next entry.
     fn depth(&self) -> usize
-        ensures { result ≡ depth_of self.now }
+        ensures { result ≡ pass_depth self.now }
     {
         match self.pending {
             Some(_) => self.waiting.len() + 2,
@@ -137,7 +137,7 @@ impl<'a> Pass<'a> {
         sink: &mut S,
     ) -> Result<(), BulkFault>
         requires ready { IsReady self.old }
-        requires fit { IsFitMember (path_of path.now, item_view item) }
+        requires fit { HasMemberLengths (path_of path.now, item_view item) }
         ensures on { OnOk result (GoesOn self.old self.new (1 + length path.now)) }
         ensures steps { TakesMember S.Sink sink.old sink.new self.old self.new
             (path_of path.now, item_view item.entry) result }
@@ -163,7 +163,7 @@ impl<'a> Pass<'a> {
     fn count(&mut self)
         requires { IsReady self.old }
         ensures counts { Counts self.old self.new }
-        ensures on { GoesOn self.old self.new (depth_of self.old) }
+        ensures on { GoesOn self.old self.new (pass_depth self.old) }
     {
         self.most = self.most.max(self.held());
     }
@@ -178,7 +178,7 @@ impl<'a> Pass<'a> {
         requires ready { IsReady self.old }
         requires key { length key.now ≤ longest_key }
         requires value { IsValueLength (length value.now) }
-        ensures on { OnOk result (GoesOn self.old self.new (depth_of self.old)) }
+        ensures on { OnOk result (GoesOn self.old self.new (pass_depth self.old)) }
         ensures steps { TakesValue S.Sink sink.old sink.new self.old self.new key.now value.now
             result }
     {
@@ -207,7 +207,7 @@ impl<'a> Pass<'a> {
         requires size { size ≡ pending.size + (16 + (length key.now + length value.now)) }
         requires small { size ≤ self.old.setup.page_size / 4 }
         requires few { length self.old.entries.items < MAX_ITEMS }
-        ensures on { OnOk result (GoesOn self.old self.new (depth_of self.old)) }
+        ensures on { OnOk result (GoesOn self.old self.new (pass_depth self.old)) }
         ensures keeps { KeepsValue self.old self.new key.now value.now result }
         ensures fault { IfErr result (λ e. e ≡ BulkFault.Memory) }
     {
@@ -233,7 +233,7 @@ impl<'a> Pass<'a> {
         requires pending { self.old.pending ≡ None }
         requires key { length key.now ≤ longest_key }
         requires value { IsValueLength (length value.now) }
-        ensures on { OnOk result (GoesOn self.old self.new (depth_of self.old)) }
+        ensures on { OnOk result (GoesOn self.old self.new (pass_depth self.old)) }
         ensures steps { TakesValue S.Sink sink.old sink.new self.old self.new key.now value.now
             result }
     {
@@ -257,7 +257,7 @@ impl<'a> Pass<'a> {
     ) -> Result<(), BulkFault>
         requires ready { IsReady self.old }
         requires key { length key.now ≤ longest_key }
-        ensures on { OnOk result (GoesOn self.old self.new (depth_of self.old + 1)) }
+        ensures on { OnOk result (GoesOn self.old self.new (pass_depth self.old + 1)) }
         ensures steps { EntersBucket S.Sink sink.old sink.new self.old self.new key.now sequence
             result }
     {
@@ -271,7 +271,7 @@ impl<'a> Pass<'a> {
         requires ready { IsReady self.old }
         requires pending { self.old.pending ≡ None }
         requires key { length key.now ≤ longest_key }
-        ensures on { GoesOn self.old self.new (depth_of self.old + 1) }
+        ensures on { GoesOn self.old self.new (pass_depth self.old + 1) }
         ensures begins { BeginsBucket self.old self.new key.now sequence }
     {
         self.pending = Some(PendingBucket {
@@ -285,7 +285,7 @@ impl<'a> Pass<'a> {
     /// a root page. The bucket around it waits.
     fn open_pending<S: Sink>(&mut self, sink: &mut S) -> Result<(), BulkFault>
         requires { IsReady self.old }
-        ensures on { OnOk result (GoesOn self.old self.new (depth_of self.old)) }
+        ensures on { OnOk result (GoesOn self.old self.new (pass_depth self.old)) }
         ensures pending { OnOk result (self.new.pending ≡ None) }
         ensures steps { OpensPending S.Sink sink.old sink.new self.old self.new result }
     {
@@ -324,8 +324,8 @@ impl<'a> Pass<'a> {
     #[inline(never)]
     pub(crate) fn leave_bucket<S: Sink>(&mut self, sink: &mut S) -> Result<(), BulkFault>
         requires ready { IsReady self.old }
-        requires within { 1 < depth_of self.old }
-        ensures on { OnOk result (GoesOn self.old self.new (depth_of self.old - 1)) }
+        requires within { 1 < pass_depth self.old }
+        ensures on { OnOk result (GoesOn self.old self.new (pass_depth self.old - 1)) }
         ensures steps { LeavesBucket S.Sink sink.old sink.new self.old self.new result }
     {
         match self.pending {
@@ -342,7 +342,7 @@ impl<'a> Pass<'a> {
     ) -> Result<(), BulkFault>
         requires ready { IsReady self.old }
         requires pending { self.old.pending ≡ Some pending }
-        ensures on { OnOk result (GoesOn self.old self.new (depth_of self.old - 1)) }
+        ensures on { OnOk result (GoesOn self.old self.new (pass_depth self.old - 1)) }
         ensures steps { LeavesBucket S.Sink sink.old sink.new self.old self.new result }
     {
         let mut writer = PageWriter {
@@ -364,7 +364,7 @@ impl<'a> Pass<'a> {
         requires ready { IsReady self.old }
         requires pending { self.old.pending ≡ None }
         requires waiting { 0 < length self.old.waiting.items }
-        ensures on { OnOk result (GoesOn self.old self.new (depth_of self.old - 1)) }
+        ensures on { OnOk result (GoesOn self.old self.new (pass_depth self.old - 1)) }
         ensures steps { LeavesBucket S.Sink sink.old sink.new self.old self.new result }
     {
         self.noted.bucket_ends(&self.bucket.uppers)?;

@@ -2,7 +2,7 @@ use Rattle.std.proofs.Common.{◌≡◌, ◌↔◌, [], Ok}
 use Rattle.std.specs.List.{AllByRecursion}
 use Rattle.std.specs.Prelude.{⊤}
 use Rattle.bolt_tree.specs.{Tree.tree_of}
-use Rattle.bolt_bulk.specs.Private.{FitLimits, HasLeft, IsFitMember, IsReady, limits_with, Steps}
+use Rattle.bolt_bulk.specs.Private.{FitLimits, HasLeft, HasMemberLengths, IsReady, limits_with, Steps}
 use Rattle.bolt_layout.specs.declared.Layout.{Layout}
 use Rattle.bolt_bulk.proofs.members_copy.put_pages.Given as goal
 
@@ -13,7 +13,7 @@ invariant-members g l = record {
   end : (end : g.row.M.Denot) → g.M.Members.ends_as l.members end → g.M.Members.ends_as l.initial.members end;
   setup : l.pass.setup ≡ l.fn.setup;
   ready : IsReady l.pass;
-  fit : (whole : g.M.Members.Whole) → g.M.Members.reads l.initial.members whole → ∥ AllByRecursion IsFitMember (g.M.Members.left l.members whole) ∥₁;
+  fit : (whole : g.M.Members.Whole) → g.M.Members.reads l.initial.members whole → ∥ AllByRecursion HasMemberLengths (g.M.Members.left l.members whole) ∥₁;
   steps : (which : Layout) (whole : g.M.Members.Whole) → g.M.Members.reads l.initial.members whole → FitLimits which (tree_of (g.M.Members.listing whole)) l.fn.setup.page_size (limits_with l.limits)
       → Steps {A = ⊤} (record { which = which; tree = tree_of (g.M.Members.listing whole); notes = l.notes }) g.S.Sink l.initial.sink l.sink l.fn.setup []
       (HasLeft (record { which = which; tree = tree_of (g.M.Members.listing whole); notes = l.notes }) l.pass (g.M.Members.left l.members whole)) (Ok tt);

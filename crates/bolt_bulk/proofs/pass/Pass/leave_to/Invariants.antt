@@ -2,7 +2,7 @@ use Rattle.std.proofs.Common.{◌≡◌, List, Ok}
 use Rattle.std.specs.Prelude.{⊤}
 use Rattle.bolt_tree.specs.Listing.{Member}
 use Rattle.bolt_layout.specs.Laid.{Placed}
-use Rattle.bolt_bulk.specs.Private.{depth_of, HasLeft, IsNoDeeper, IsReady, Steps, Wanted}
+use Rattle.bolt_bulk.specs.Private.{pass_depth, HasLeft, IsNoDeeper, IsReady, Steps, Wanted}
 use Rattle.bolt_bulk.proofs.pass.Pass.leave_to.Given as goal
 
 -- the steps so far are one, and the same members are left
@@ -15,4 +15,4 @@ invariant-buckets g l = record {
 }
 
 abbrev pub decreases-buckets : goal.decreases-buckets
-decreases-buckets g l = depth_of l.self
+decreases-buckets g l = pass_depth l.self
