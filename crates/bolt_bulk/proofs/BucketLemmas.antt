@@ -7,11 +7,11 @@ use Rattle.bolt_format.specs.{Elements.BranchElement, Elements.LeafElement, decl
 use Rattle.bolt_format.specs.{declared.sink.Sink.Ghosts}
 use Rattle.bolt_layout.specs.{Levels.overflow_of}
 use Rattle.bolt_bulk.specs.Private.{HoldsLeaves, bucket_end_next, BucketRunsView, HasRoomFor, held_views, IsLeafRun, leaf_closed, leaf_key, leaf_page, leaves_have_room, leaf_run_view, runs_close_put, runs_end_next, runs_end_put, runs_next, runs_push, runs_put, runs_room, runs_room_put, Closes, Writes, element_size, MakesRoom, Pushes, TakesItem}
-use Rattle.bolt_bulk.specs.{declared.bucket_runs.BucketRuns.BucketRuns, declared.fault.BulkFault.BulkFault, declared.held.Held.Held}
+use Rattle.bolt_bulk.specs.{declared.bucket_runs.BucketRuns.BucketRuns, declared.bulk_fault.BulkFault.BulkFault, declared.held.Held.Held}
 use Rattle.bolt_bulk.specs.{declared.leaf_run.LeafRun.LeafRun, declared.page_setup.PageSetup.PageSetup, declared.page_writer.PageWriter.PageWriter}
 use Rattle.bolt_bulk.proofs.{ClimbLemmas.next_grows, ClimbLemmas.end_grows, HeldRuns.none_small, RunLemmas.few_or_fits}
 use Rattle.bolt_bulk.proofs.PutsLemmas.{closes_stop, writes_on, writes_stop, bytes-append, short_then}
-use Rattle.bolt_bulk.specs.declared.fault.BulkFault.TheVariants as fault
+use Rattle.bolt_bulk.specs.declared.bulk_fault.BulkFault.TheVariants as fault
 use Rattle.std.proofs.lemmas.Result.{err_from_is_err_and, on_ok_weaker}
 use Rattle.std.specs.Prelude.{IfErr, IsErrAnd, OnOk}
 

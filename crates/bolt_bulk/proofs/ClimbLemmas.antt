@@ -8,7 +8,7 @@ use Rattle.std.specs.{List.AllByRecursion, Prelude.⊤}
 use Rattle.bolt_format.specs.{ElementPlaces.branch_view, Elements.BranchElement, declared.element.Branch.Branch, Wrote.Wrote}
 use Rattle.bolt_format.specs.{Endings.whole, declared.sink.Sink.Ghosts}
 use Rattle.bolt_bulk.specs.Private.{element_up, IsStanding, key_size, no_run, one_closed, run_kept, run_page, run_push, run_stays, run_view, runs_above, runs_climb, runs_close_put, runs_end_next, runs_next, runs_put, runs_root, RunView, taking_next, taking_puts, taking_up, Closes, Writes}
-use Rattle.bolt_bulk.specs.{declared.branch_run.BranchRun.BranchRun, declared.fault.BulkFault.BulkFault, declared.page_setup.PageSetup.PageSetup}
+use Rattle.bolt_bulk.specs.{declared.branch_run.BranchRun.BranchRun, declared.bulk_fault.BulkFault.BulkFault, declared.page_setup.PageSetup.PageSetup}
 use Rattle.bolt_layout.specs.{Laid.Placed, Levels.overflow_of, Limits.one_less, Layout.placed_bytes}
 use Rattle.bolt_bulk.proofs.{PutsLemmas.bytes-append, PutsLemmas.short_stop, PutsLemmas.Wrote-stops}
 use Rattle.bolt_format.proofs.WroteFronts.{WroteFront, front_more, front_stop, front_whole}

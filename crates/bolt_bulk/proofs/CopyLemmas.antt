@@ -4,11 +4,11 @@ use Rattle.std.proofs.Common.{◌≡◌, ◌≢◌, ℕ, [], ◌≤◌, ◌<◌,
 use Rattle.std.proofs.KnownBytes.{Appends-trans}
 use Rattle.bolt_format.specs.Sinks.{AppendsProperPrefix}
 use Rattle.bolt_tree.specs.Tree.{Tree}
-use Rattle.bolt_bulk.specs.{Compacting.Copies, Compacting.too_many, Private.first_pages, Private.stopped_by, declared.fault.BulkFault.BulkFault}
+use Rattle.bolt_bulk.specs.{Compacting.Copies, Compacting.too_many, Private.first_pages, Private.stopped_by, declared.bulk_fault.BulkFault.BulkFault}
 use Rattle.bolt_layout.specs.{Laid.Placed, Layout.layout_mark, Layout.layout_of, Layout.layout_pages, Layout.layout_root, Layout.placed_bytes}
-use Rattle.bolt_bulk.specs.declared.fault.BulkFault.TheVariants as bulk
-use Rattle.bolt_bulk.specs.{BulkEndings.fault_ending, declared.fault.PlanFault.PlanFault}
-use Rattle.bolt_bulk.specs.declared.fault.PlanFault.TheVariants as planned
+use Rattle.bolt_bulk.specs.declared.bulk_fault.BulkFault.TheVariants as bulk
+use Rattle.bolt_bulk.specs.{BulkEndings.fault_ending, declared.bulk_fault.PlanFault.PlanFault}
+use Rattle.bolt_bulk.specs.declared.bulk_fault.PlanFault.TheVariants as planned
 use Rattle.bolt_layout.specs.declared.Layout.{Layout}
 use Rattle.bolt_bulk.proofs.PutsLemmas.{Wrote-failed, proper_none, proper_same}
 use Rattle.bolt_format.proofs.SinkLemmas.{AppendsProperPrefix-first, AppendsProperPrefix-second}

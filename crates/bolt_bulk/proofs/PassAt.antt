@@ -9,8 +9,8 @@ use Rattle.bolt_tree.specs.Tree.{Tree, end, with_bucket, with_value}
 use Rattle.bolt_layout.specs.{Items.items_of, Items.leaf_item, Items.root_of, Laid.Laid, Laid.Placed, Layout.placed_bytes, PageBytes.inline_value}
 use Rattle.bolt_bulk.specs.Private.{AreOpenRuns, AreWaiting, base_in, bucket_end_next, bucket_limit, bucket_runs, BucketEnds, BucketRunsView, Counts, end_of, BucketFrame, HasNoted, HasRoot, held_item, held_so_far, PassIsAt, PassIsOn, IsPass, IsPending, IsPendingSmall, IsToCome, items_around, items_in, Known, length_frames, length_open, Parent, parent_of, limit_in, limits_by, making_room, Notes, onto, Open, open_in, pushing, root_element, runs_end, runs_end_put, runs_push, runs_room, runs_room_put, pending_element, element_size, root_size, runs_taking, Writes, Steps, taking, value_element, Wanted}
 use Rattle.bolt_check.specs.Counts.{saturated}
-use Rattle.bolt_bulk.specs.{BulkEndings.bulk_ending, declared.page_setup.PageSetup.PageSetup, declared.fault.BulkFault.BulkFault}
-use Rattle.bolt_bulk.specs.declared.fault.BulkFault.TheVariants as fault
+use Rattle.bolt_bulk.specs.{BulkEndings.bulk_ending, declared.page_setup.PageSetup.PageSetup, declared.bulk_fault.BulkFault.BulkFault}
+use Rattle.bolt_bulk.specs.declared.bulk_fault.BulkFault.TheVariants as fault
 use Rattle.bolt_bulk.specs.{declared.bucket_runs.BucketRuns.BucketRuns, declared.pass.Pass.Pass, declared.pending_bucket.PendingBucket.PendingBucket}
 use Rattle.bolt_bulk.specs.{declared.waiting_bucket.WaitingBucket.WaitingBucket, declared.noted_limits.NotedLimits.NotedLimits}
 use Rattle.bolt_bulk.proofs.HeldPasses.{around_reverse}

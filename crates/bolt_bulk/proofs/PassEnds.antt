@@ -16,7 +16,7 @@ use Rattle.bolt_layout.specs.{Storable.HasLengths, Openings.leaf_pages, Openings
 use Rattle.bolt_layout.specs.{declared.Layout.TheVariants.Balanced, declared.Layout.TheVariants.Plain, Items.items_of}
 use Rattle.bolt_bulk.specs.Private.{AreComingAround, AreOpenRuns, bucket_end_next, bucket_runs, BucketEnds, BucketRunsView, pass_depth, EndsPass, FitLimits, BucketFrame, HasLeft, HasNoted, held_so_far, PassIsAt, HasMemberLengths, PassIsOn, Known, last_part, Parent, parent_of, limit_in, limits_by, limits_with, no_leaves, nothing_open, Open, open_in, runs_end, runs_end_put, Steps, Wanted}
 use Rattle.bolt_check.specs.Counts.{saturated}
-use Rattle.bolt_bulk.specs.{declared.page_setup.PageSetup.PageSetup, declared.fault.BulkFault.BulkFault, declared.pass.Ended.Ended, declared.pass.Pass.Pass}
+use Rattle.bolt_bulk.specs.{declared.page_setup.PageSetup.PageSetup, declared.bulk_fault.BulkFault.BulkFault, declared.pass.Ended.Ended, declared.pass.Pass.Pass}
 use Rattle.bolt_bulk.specs.{declared.noted_limits.NotedLimits.NotedLimits}
 use Rattle.bolt_bulk.proofs.{PassSteps.pass_begins, PassSteps.pass_ends, HeldSteps.end_held}
 use Rattle.bolt_bulk.proofs.Members.{all_left, left_after, next_entry, next_short, none_at_all, with_item}

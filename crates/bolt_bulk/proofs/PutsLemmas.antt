@@ -8,10 +8,10 @@ use Rattle.bolt_format.proofs.WroteLemmas.{Wrote-halt, Wrote-none, Wrote-return_
 use Rattle.bolt_format.proofs.EncodedHeaders.{length-header_bytes}
 use Rattle.bolt_format.specs.{Endings.whole, Endings.halted, Pages.PageView, Sinks.AppendsProperPrefix, Wrote.Wrote, declared.sink.Sink.Ghosts}
 use Rattle.bolt_layout.specs.{Laid.Placed, Layout.placed_bytes, PageBytes.page_bytes}
-use Rattle.bolt_bulk.specs.{BulkEndings.fault_ending, Private.Closes, Private.Writes, declared.fault.BulkFault.BulkFault, declared.page_setup.PageSetup.PageSetup}
+use Rattle.bolt_bulk.specs.{BulkEndings.fault_ending, Private.Closes, Private.Writes, declared.bulk_fault.BulkFault.BulkFault, declared.page_setup.PageSetup.PageSetup}
 use Rattle.std.proofs.lemmas.Result.{err_from_is_err_and}
 use Rattle.std.specs.Prelude.{IfErr, IsErrAnd}
-use Rattle.bolt_bulk.specs.declared.fault.BulkFault.TheVariants as fault
+use Rattle.bolt_bulk.specs.declared.bulk_fault.BulkFault.TheVariants as fault
 use Rattle.bolt_format.proofs.WroteFronts.{WroteFront}
 
 -- Nothing is a proper prefix of a text that has any bytes.

@@ -1,8 +1,8 @@
 -- How a call ends that may stop for reasons other than its sink.
 use Rattle.std.specs.Prelude.{Result, Ok, Err}
 use Rattle.bolt_format.specs.Endings.{Ending, whole, broken, halted}
-use Rattle.bolt_bulk.specs.declared.fault.BulkFault.{BulkFault}
-use Rattle.bolt_bulk.specs.declared.fault.BulkFault.TheVariants.{Memory, Sink, TooLarge}
+use Rattle.bolt_bulk.specs.declared.bulk_fault.BulkFault.{BulkFault}
+use Rattle.bolt_bulk.specs.declared.bulk_fault.BulkFault.TheVariants.{Memory, Sink, TooLarge}
 
 -- the fault is Sink exactly if the sink failed
 abbrev pub fault_ending : BulkFault → Ending

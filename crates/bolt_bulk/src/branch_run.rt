@@ -3,12 +3,12 @@ ghost use Rattle.std.specs.Prelude.{◌≡◌, ◌+◌, ◌<◌, ◌≤◌, true
 ghost use Rattle.bolt_format.specs.{ElementPlaces.branch_view};
 ghost use Rattle.bolt_layout.specs.{Limits.one_less, PageBytes.branch_data, PageBytes.branch_headers};
 ghost use Rattle.bolt_bulk.specs.Private.{ClosesRun, IsPushed, IsSameWriter, IsSizedRun, IsStanding, key_size, length_end, longest_key, no_run, one_closed, run_has_room, run_kept, run_page, run_push, run_stays, run_view, TakesPage, WritesPage, WritesText};
-ghost use Rattle.bolt_bulk.specs.declared.fault.BulkFault.TheVariants as fault;
+ghost use Rattle.bolt_bulk.specs.declared.bulk_fault.BulkFault.TheVariants as fault;
 
-use crate::fault::BulkFault;
+use crate::bulk_fault::BulkFault;
+use crate::page_pieces::{Headers, put, put_zeros};
 use crate::page_setup::MAX_ITEMS;
 use crate::page_writer::PageWriter;
-use crate::pieces::{Headers, put, put_zeros};
 use bolt_format::{Branch, ELEMENT_LEN, HEADER_LEN, Kind, Sink, SinkFault};
 use std::alloc::Global;
 

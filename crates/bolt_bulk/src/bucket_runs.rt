@@ -4,9 +4,9 @@ ghost use Rattle.std.specs.List.{AllByRecursion};
 ghost use Rattle.bolt_format.specs.{ElementLengths.IsValueLength, ElementPlaces.leaf_view, declared.element.Leaf.Leaf};
 ghost use Rattle.bolt_bulk.specs.Private.{bucket_runs, ClosesBucket, EndsInner, entries_size, first_run, HasRoomFor, held_size, held_view, inline_element, inline_size, inlined_by, IsHeld, IsOpenBucket, IsSameWriter, items_in, leaves_have_room, leaf_run_view, length_end, longest_key, MakesRoom, no_leaves, pending_element, Pushes, TakesItem, value_element, value_item, values_run};
 ghost use Rattle.bolt_check.specs.Counts.{saturated};
-ghost use Rattle.bolt_bulk.specs.declared.fault.BulkFault.TheVariants as fault;
+ghost use Rattle.bolt_bulk.specs.declared.bulk_fault.BulkFault.TheVariants as fault;
 
-use crate::fault::BulkFault;
+use crate::bulk_fault::BulkFault;
 use crate::held::{Held, Stored};
 use crate::leaf_run::LeafRun;
 use crate::limits::BucketLimits;

@@ -7,7 +7,7 @@ ghost use Rattle.bolt_bulk.specs.Compacting.{CopiesFile, Plans};
 ghost use Rattle.bolt_layout.specs.declared.Layout.TheVariants.{Plain};
 
 use crate::blueprint::Blueprint;
-use crate::fault::{BulkFault, PlanFault};
+use crate::bulk_fault::{BulkFault, PlanFault};
 use crate::laws::a_walk_is_whole;
 use crate::members_copy::{Done, Plan, compact_members, plan_members};
 use bolt_check::Checked;

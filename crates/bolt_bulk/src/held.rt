@@ -5,7 +5,7 @@ ghost use Rattle.bolt_bulk.specs.Private.{is_stored_bucket, IsStored, length_end
 ghost use Rattle.bolt_format.specs.{ElementPlaces.leaf_view};
 ghost use Rattle.bolt_layout.specs.PageBytes.{inline_value, leaf_data, leaf_headers};
 
-use crate::pieces::{Headers, put};
+use crate::page_pieces::{Headers, put};
 use bolt_format::{HEAD_LEN, Kind, Leaf, Sink, SinkFault, bucket_head, page_header};
 
 /// What is under a key in a copy.

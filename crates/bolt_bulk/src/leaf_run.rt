@@ -3,11 +3,11 @@ ghost use Rattle.std.specs.Prelude.{◌≡◌, ◌+◌, ◌<◌, ◌≤◌, OnOk
 ghost use Rattle.bolt_layout.specs.{PageBytes.leaf_data, PageBytes.leaf_headers};
 ghost use Rattle.bolt_bulk.specs.Private.{HoldsLeaves, ClosesLeaf, held_views, IsHeld, IsLeafRun, IsSameWriter, leaf_page, leaves_have_room, leaf_run_view, length_end, no_leaves, stored_value, WritesPage, WritesText};
 
-use crate::fault::BulkFault;
+use crate::bulk_fault::BulkFault;
 use crate::held::Held;
+use crate::page_pieces::{Headers, put, put_zeros};
 use crate::page_setup::MAX_ITEMS;
 use crate::page_writer::PageWriter;
-use crate::pieces::{Headers, put, put_zeros};
 use bolt_format::{Branch, HEADER_LEN, Kind, Leaf, Sink, SinkFault};
 
 /// An open run of items, the entries of the inline buckets among them, and the size of the page

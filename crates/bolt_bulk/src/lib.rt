@@ -9,23 +9,23 @@
 mod blueprint;
 mod branch_run;
 mod bucket_runs;
+mod bulk_fault;
 mod copy;
-mod fault;
 mod held;
 pub mod laws;
 mod leaf_run;
 mod limits;
 mod members_copy;
 mod noted_limits;
+mod page_pieces;
 mod page_setup;
 mod page_writer;
 mod pass;
 mod pending_bucket;
-mod pieces;
 mod upper_runs;
 mod waiting_bucket;
 
 pub use blueprint::Blueprint;
+pub use bulk_fault::{BulkFault, PlanFault};
 pub use copy::{compact, plan};
-pub use fault::{BulkFault, PlanFault};
 pub use members_copy::{Done, Plan, compact_members, plan_members};

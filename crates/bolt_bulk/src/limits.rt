@@ -2,10 +2,10 @@
 ghost use Rattle.std.specs.Prelude.{◌≡◌, ◌∷◌, ℕ, List, false, IfErr, None, OnOk, Some};
 ghost use Rattle.bolt_layout.specs.Limits.{limits_from_ends};
 ghost use Rattle.bolt_bulk.specs.Private.{bucket_limit, IsOtherRow, limit_in, NotesRows, run_end};
-ghost use Rattle.bolt_bulk.specs.declared.fault.BulkFault.TheVariants as fault;
+ghost use Rattle.bolt_bulk.specs.declared.bulk_fault.BulkFault.TheVariants as fault;
 
 use crate::branch_run::BranchRun;
-use crate::fault::BulkFault;
+use crate::bulk_fault::BulkFault;
 use std::alloc::Global;
 use std::collections::BTreeMap;
 

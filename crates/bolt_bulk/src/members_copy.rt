@@ -6,12 +6,12 @@ ghost use Rattle.bolt_bulk.specs.Private.{FindsLimits, first_pages, FitAll, Puts
 ghost use Rattle.bolt_layout.specs.{PageBytes.copy_meta, PageBytes.filled, declared.Layout.TheVariants.Balanced};
 
 use crate::blueprint::Blueprint;
-use crate::fault::{BulkFault, PlanFault};
+use crate::bulk_fault::{BulkFault, PlanFault};
 use crate::laws::a_listing_has_one_layout;
 use crate::limits::Limits;
+use crate::page_pieces::{put, put_zeros};
 use crate::page_setup::{PageSetup, noting_setup_of, setup_of};
 use crate::pass::{Ended, Pass};
-use crate::pieces::{put, put_zeros};
 use bolt_format::{Kind, Meta, Sink, SinkFault, meta_page, page_header};
 use bolt_layout::Layout;
 use bolt_tree::Members;

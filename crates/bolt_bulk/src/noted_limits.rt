@@ -1,9 +1,9 @@
 //! The limits of rows that a pass over the plain layout notes as buckets end.
 ghost use Rattle.std.specs.Prelude.{◌≡◌, ℕ, IfErr, None, OnOk};
 ghost use Rattle.bolt_bulk.specs.Private.{BucketEnds, limit_in};
-ghost use Rattle.bolt_bulk.specs.declared.fault.BulkFault.TheVariants as fault;
+ghost use Rattle.bolt_bulk.specs.declared.bulk_fault.BulkFault.TheVariants as fault;
 
-use crate::fault::BulkFault;
+use crate::bulk_fault::BulkFault;
 use crate::limits::Limits;
 use crate::upper_runs::UpperRuns;
 use std::alloc::Global;

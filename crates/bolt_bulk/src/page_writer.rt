@@ -2,11 +2,11 @@
 ghost use Rattle.std.specs.Prelude.{◌≡◌, ◌+◌, ◌-◌, ◌*◌, ◌<◌, ◌≤◌, IfErr, IfOk};
 ghost use Rattle.bolt_format.specs.{Encoded.header_bytes};
 ghost use Rattle.bolt_layout.specs.Levels.{overflow_of};
-ghost use Rattle.bolt_bulk.specs.declared.fault.BulkFault.TheVariants as fault;
+ghost use Rattle.bolt_bulk.specs.declared.bulk_fault.BulkFault.TheVariants as fault;
 
-use crate::fault::BulkFault;
+use crate::bulk_fault::BulkFault;
+use crate::page_pieces::put;
 use crate::page_setup::{PageSetup, overflow};
-use crate::pieces::put;
 use bolt_format::{Kind, Sink, SinkFault, page_header};
 
 /// Writes the pages of a copy to its sink, one after another.

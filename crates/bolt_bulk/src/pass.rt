@@ -22,7 +22,7 @@
 ghost use Rattle.std.specs.Prelude.{◌≡◌, ◌+◌, ◌-◌, ◌/◌, ◌<◌, ◌≤◌, Some, None, IfErr, OnOk, length};
 
 use crate::bucket_runs::BucketRuns;
-use crate::fault::BulkFault;
+use crate::bulk_fault::BulkFault;
 use crate::limits::{BucketLimits, Limits};
 use crate::noted_limits::NotedLimits;
 use crate::page_setup::{MAX_ITEMS, PageSetup};

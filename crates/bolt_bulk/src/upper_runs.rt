@@ -5,7 +5,7 @@ ghost use Rattle.bolt_format.specs.ElementPlaces.{branch_view};
 ghost use Rattle.bolt_bulk.specs.Private.{Climbs, ClosesAbove, IsSameWriter, IsStanding, longest_key, runs_above};
 
 use crate::branch_run::BranchRun;
-use crate::fault::BulkFault;
+use crate::bulk_fault::BulkFault;
 use crate::limits::BucketLimits;
 use crate::page_writer::PageWriter;
 use bolt_format::{Branch, Sink};

@@ -3,7 +3,7 @@ ghost use Rattle.std.specs.Prelude.{◌≤◌, IfOk, length};
 ghost use Rattle.bolt_bulk.specs.Private.{Enters, IsOpenBucket, IsSameWriter, IsWaiting, longest_key};
 
 use crate::bucket_runs::{BucketRuns, ROOT_ITEM_LEN};
-use crate::fault::BulkFault;
+use crate::bulk_fault::BulkFault;
 use crate::page_writer::PageWriter;
 use crate::pending_bucket::PendingBucket;
 use bolt_format::Sink;

@@ -3,8 +3,8 @@ use Rattle.std.proofs.Common.{◌≡◌, refl, ap, arith, ℕ, ◌↔◌, ◌≢
 use Rattle.bolt_check.proofs.Words.{AreAccountFindings, Finding, HasAccounts, HasRightAccounts, HasSoundTrees, IsClaimed, IsSound, IsUsed, Meta, PageUse, Slot}
 use Rattle.bolt_check.proofs.{AccountsAlong.account_findings_along, AccountsAlong.has_accounts_along, AccountsAlong.own_freelist, Lawful.sound_reports_nothing}
 use Rattle.bolt_format.specs.Metas.{IsActive}
-use Rattle.bolt_check.specs.{Private.SearchFaults.is_memory, ShownFindings.findings_in, Sound.IsRefusedFor, Sound.IsTested, declared.fault.CheckFault.CheckFault, declared.finding_list.Findings.Findings}
-use Rattle.bolt_check.specs.declared.fault.CheckFault.TheVariants.{Accounts, Memory, Open, Structure}
+use Rattle.bolt_check.specs.{Private.SearchFaults.is_memory, ShownFindings.findings_in, Sound.IsRefusedFor, Sound.IsTested, declared.check_fault.CheckFault.CheckFault, declared.finding_list.Findings.Findings}
+use Rattle.bolt_check.specs.declared.check_fault.CheckFault.TheVariants.{Accounts, Memory, Open, Structure}
 
 pub right_of : (file : List ℕ) (meta : Meta) (table : List PageUse) → ((n : ℕ) → IsClaimed table n ↔ IsUsed file meta n)
     → HasAccounts file meta (IsClaimed table) → HasRightAccounts file meta

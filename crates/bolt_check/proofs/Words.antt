@@ -14,16 +14,16 @@ pub use Rattle.bolt_check.specs.{Roles.HasRole, Roles.IsFirstPage, Shape.HasShap
 pub use Rattle.bolt_check.specs.ShownSpots.{bound_of, inline_keys, page_spot, shown_inner, spot_at}
 pub use Rattle.bolt_check.specs.{Sound.HasRightAccounts, Sound.HasSoundTrees, Sound.IsFirstFinding, Sound.IsSound, Sound.IsUsed, Lists.Has, Tours.IsTour}
 pub use Rattle.bolt_check.specs.Ways.{At_inline, At_page, Before, PageSpot, Reach, SpanAt, SpanHas, SpanOf, Spot, bucket_spot, child_spot, follow, root_spot, step, step_entry, step_on, upper_from}
-pub use Rattle.bolt_check.specs.{declared.checked.Checked.Checked, declared.fault.CheckFault.TheVariants.Structure, declared.finding.Finding.Finding}
+pub use Rattle.bolt_check.specs.{declared.checked.Checked.Checked, declared.check_fault.CheckFault.TheVariants.Structure, declared.finding.Finding.Finding}
 pub use Rattle.bolt_check.specs.declared.finding.TheConstants.Finding.{FREED_TWICE, FREE_RANGE, TWICE}
-pub use Rattle.bolt_check.specs.{declared.freelist.Freelist.Freelist, declared.role_table.Role.Role, declared.table.PageUse.PageUse}
+pub use Rattle.bolt_check.specs.{declared.listed_pages.Freelist.Freelist, declared.role_table.Role.Role, declared.table.PageUse.PageUse}
 pub use Rattle.bolt_check.specs.declared.table.PageUse.TheVariants.{Free, FreeTwice, Unused, UsedFree, UsedFreeTwice}
 pub use Rattle.bolt_format.specs.declared.tree_page.TreePage.{TreePage}
 unfoldable pub use Rattle.bolt_check.specs.{CheckedFiles.bytes_of, CheckedFiles.meta_of, Claims.claims_file, Nodes.node_at, Private.Freelists.listed_times}
 unfoldable pub use Rattle.bolt_check.specs.{Private.Pending.kids, RoledFiles.roles_checked, ShownNodes.shown_node}
 pub use Rattle.bolt_format.proofs.{FaultLemmas.first_of-none, PageFacts.span_within}
 pub use Rattle.bolt_format.specs.{ElementPlaces.leaf_view, Elements.BranchElement, Elements.LeafElement, Elements.head_root}
-pub use Rattle.bolt_format.specs.{Freelists.free_ids_of, Freelists.freelist_fault_of, Pages.PageView, Pages.page_overflow, Shown.shown, ShownIds.shown_ids}
+pub use Rattle.bolt_format.specs.{Freelists.free_ids_of, Freelists.freelist_fault_of, Pages.PageView, Pages.page_overflow, ShownGoodPages.shown, ShownIds.shown_ids}
 pub use Rattle.bolt_format.specs.{declared.header.Kind.Kind, declared.meta.Meta.Meta, declared.meta.Slot.Slot, declared.meta.TheConstants.NO_FREELIST}
 unfoldable pub use Rattle.bolt_format.specs.{Freelists.freelist_fault, Pages.page_at, Pages.page_fault}
 pub use Rattle.std.proofs.Math.Logic.{∥∥₁_elim, ∥∥₁_map}

@@ -1,7 +1,7 @@
 -- A spot of the code as the definitions have it: docs/SOUND.md, "Ways".
 use Rattle.std.specs.Prelude.{◌≡◌, ℕ, List, map, Option, Some, None}
 use Rattle.std.specs.Borrow.{Bor}
-use Rattle.bolt_format.specs.{ShownInline.shown_inline, Elements.LeafElement, Elements.inline_elements, declared.bucket.Inline.Inline}
+use Rattle.bolt_format.specs.{ShownInline.shown_inline, Elements.LeafElement, Elements.inline_elements, declared.bucket_value.Inline.Inline}
 use Rattle.bolt_check.specs.{Keys.Key, Nodes.InlinePage, Ways.At_inline, Ways.At_page, Ways.PageSpot, Ways.Spot, declared.spot.PageSpot.PageSpot as CodePageSpot}
 use Rattle.bolt_check.specs.{declared.spot.Spot.Spot as CodeSpot, declared.spot.Spot.TheVariants.Page, declared.spot.Spot.TheVariants.Bucket}
 

@@ -2,8 +2,8 @@
 use Rattle.std.specs.Prelude.{◌≢◌, ℕ, List, [], Bool, true, false, IsTrue}
 use Rattle.bolt_format.specs.{Metas.HasNoActive, Metas.HasNoneInSlot, Metas.IsActive, Metas.IsInSlot, declared.meta.Meta.Meta, declared.meta.Slot.Slot}
 use Rattle.bolt_check.specs.{Accounts.HasAccounts, Findings.IsClean, Findings.IsCovered, Findings.IsFirst, Findings.IsMetaPage, Nodes.node_at, OnWays.reach_of, Shape.HasShape}
-use Rattle.bolt_check.specs.{AccountFindings.AreAccountFindings, ShownFindings.findings_in, declared.fault.CheckFault.CheckFault}
-use Rattle.bolt_check.specs.declared.fault.CheckFault.TheVariants.{Accounts, Memory, Open, Structure}
+use Rattle.bolt_check.specs.{AccountFindings.AreAccountFindings, ShownFindings.findings_in, declared.check_fault.CheckFault.CheckFault}
+use Rattle.bolt_check.specs.declared.check_fault.CheckFault.TheVariants.{Accounts, Memory, Open, Structure}
 use Rattle.bolt_check.specs.declared.finding.Finding.{Finding}
 
 -- page n is a meta page, or in the span of a page that a way leads to

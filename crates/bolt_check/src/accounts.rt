@@ -6,8 +6,8 @@ ghost use Rattle.bolt_check.specs.Private.Freelists.{AreAllFindings, ClaimsFreel
 ghost use Rattle.bolt_check.specs.Private.Tables.{HasRoom, IsClaimed, use_at};
 
 use crate::finding::Finding;
-use crate::freelist::{Freelist, list_ids};
 use crate::freelist_findings::all_findings;
+use crate::listed_pages::{Freelist, list_ids};
 use crate::table::{PageUse, claim, first_claimed};
 use bolt_format::{FreeIds, Meta, free_ids, known};
 use std::alloc::{AllocError, Global};

@@ -3,7 +3,7 @@ ghost use Rattle.std.specs.Prelude.{◌≡◌, ◌<◌, ◌++◌, IfOk, OnOk};
 ghost use Rattle.bolt_format.specs.{Metas.IsActive, declared.meta.Meta.Meta, declared.meta.Slot.Slot};
 ghost use Rattle.bolt_check.specs.BboltFileFindings.{file_finding_if, file_findings, takes};
 
-use crate::fault::NoMemory;
+use crate::check_fault::NoMemory;
 use bolt_format::{Meta, Slot, bbolt_page_size, bbolt_slot, choose};
 use std::alloc::{AllocError, Global};
 

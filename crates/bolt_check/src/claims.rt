@@ -5,7 +5,7 @@ ghost use Rattle.bolt_check.specs.{Counts.counted, Findings.IsMetaPage, Findings
 ghost use Rattle.bolt_check.specs.{Private.Tables.HasRoom, ShownNodes.IsNodeAt, ShownNodes.IsPageAt, ShownSpots.page_spot, TableLengths.table_length};
 ghost use Rattle.bolt_check.specs.Ways.{AddsSpan, At_page};
 
-use crate::fault::NoMemory;
+use crate::check_fault::NoMemory;
 use crate::finding::Finding;
 use crate::spot::PageSpot;
 use crate::table::{PageUse, new_table, reset};

@@ -8,8 +8,8 @@ ghost use Rattle.bolt_check.specs.Private.Unread.{IsGoodDown, IsReadable, mark, 
 ghost use Rattle.bolt_check.specs.Ways.{At_page, root_spot};
 
 use crate::bbolt_pages::{find_at_page, find_in_bucket};
+use crate::check_fault::NoMemory;
 use crate::checked::Checked;
-use crate::fault::NoMemory;
 use crate::finding::Finding;
 use crate::leaf_depth::{first_leaf_depth, known_page};
 use crate::spot::{PageSpot, Spot};

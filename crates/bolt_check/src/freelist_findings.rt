@@ -4,7 +4,7 @@ ghost use Rattle.std.specs.Prelude.{◌≡◌, ◌≤◌, ◌<◌, ◌+◌, ◌+
 ghost use Rattle.bolt_check.specs.Private.Freelists.{AreAllFindings, AreFindingsBelow, HasFindingsTo, IsBeyondTo, IsPastTo, IsSettled, is_in_use, is_repeated, listed_times, meta_findings, page_findings, repeat_findings, interval_findings, use_findings};
 
 use crate::finding::Finding;
-use crate::freelist::Freelist;
+use crate::listed_pages::Freelist;
 use crate::table::PageUse;
 use std::alloc::{AllocError, Global};
 

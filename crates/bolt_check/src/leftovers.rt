@@ -9,7 +9,7 @@ ghost use Rattle.bolt_check.specs.Private.Tables.{HasRoom, IsClaimed, IsUnclaime
 ghost use Rattle.bolt_check.specs.{ShownNodes.IsNodeAt, ShownNodes.IsPageAt, Ways.AddsSpan, Ways.At_page, Ways.root_spot};
 
 use crate::claims::Claims;
-use crate::freelist::list_ids_within;
+use crate::listed_pages::list_ids_within;
 use crate::spot::PageSpot;
 use crate::table::{PageUse, is_listed};
 use crate::visit::{open, visit};

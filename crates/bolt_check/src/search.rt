@@ -7,7 +7,7 @@ ghost use Rattle.bolt_check.specs.{Private.RoleTables.ClaimsUsed, Private.RoleTa
 ghost use Rattle.bolt_check.specs.{Private.Tables.HasRoom, Private.Tables.unclaimed, TableLengths.table_length};
 ghost use Rattle.bolt_check.specs.{ShownNodes.shown_node, ShownSpots.page_spot, Ways.At_page, Ways.root_spot};
 
-use crate::fault::CheckFault;
+use crate::check_fault::CheckFault;
 use crate::spot::{PageSpot, Spot};
 use crate::table::{PageUse, new_table};
 use crate::visit::visit;

@@ -7,8 +7,8 @@ ghost use Rattle.bolt_check.specs.Private.RoleTables.{AreUses};
 ghost use Rattle.bolt_check.specs.Sound.{HasRightAccounts, HasSoundTrees, IsRefused, IsRefusedFor, IsSlotRefused, IsSound};
 
 use crate::accounts::test_accounts;
+use crate::check_fault::CheckFault;
 use crate::checked::Checked;
-use crate::fault::CheckFault;
 use crate::finding_list::Findings;
 use crate::role_table::Roles;
 use crate::search::search;

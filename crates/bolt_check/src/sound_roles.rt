@@ -2,8 +2,8 @@
 ghost use Rattle.std.specs.Prelude.{◌≡◌, IfOk, true};
 ghost use Rattle.bolt_check.specs.{CheckedFiles.has_accounts, Private.SearchFaults.is_memory, RoledFiles.roles_checked};
 
+use crate::check_fault::{CheckFault, NoMemory};
 use crate::checked::Checked;
-use crate::fault::{CheckFault, NoMemory};
 use crate::role_table::Roles;
 use crate::sound::test_file;
 use std::alloc::Global;

@@ -3,7 +3,7 @@ use Rattle.std.proofs.Common.{◌≡◌, ◌≢◌, ◌∙◌, ◌&&◌, ◌⊎�
 use Rattle.std.proofs.Common.{subst, sym, take}
 use Rattle.bolt_commands.proofs.Vocabulary.{Active, Answer, AnswersLost, AreLosses, CheckFault, Extent, FileFaults, First, HasBothMetas, HasSoundTrees, IsCheckAnswer, IsCheckAnswerAfter, IsActive, IsFoundAnswer, IsGoodCopy, IsLostAnswer, IsMetaOf, IsMetasFault, IsSnapshot, IsSound, LossView, Losses, Member, Meta, MetaFault, Site, RefusesFile, Slot, cases_lt, check_refusal, copy_of, done, found, hash_fault, hash_found, loss_at, losses_of, none_found, site_at, refused}
 use Rattle.bolt_commands.proofs.Vocabulary.{everything, has_losses, parts}
-use Rattle.bolt_check.specs.declared.fault.CheckFault.TheVariants as check
+use Rattle.bolt_check.specs.declared.check_fault.CheckFault.TheVariants as check
 use Rattle.bolt_etcd.specs.declared.snapshot.SnapshotFault.{SnapshotFault}
 use Rattle.bolt_etcd.proofs.SnapshotLemmas.{no_fault_iff}
 use Rattle.bolt_recover.specs.Surveys.{ForSurveys, LosesNothing, SurveyedWay}

@@ -1,7 +1,7 @@
 -- The answer of a job that may run out of memory on its way, whether its text was written whole or not.
 use Rattle.std.proofs.Common.{◌≡◌, ◌⊎◌, ℕ, IfErr, List, Ok, Err, Result, inl, inr, refl}
 use Rattle.bolt_commands.proofs.Vocabulary.{Answer, JobEnding, Ghosts, IsEndedOrCut, PrintsAnswer, ReportFault, Wrote, ending_by, report_ending, ⊤}
-use Rattle.bolt_text.specs.declared.fault.ReportFault.TheVariants as report
+use Rattle.bolt_text.specs.declared.report_fault.ReportFault.TheVariants as report
 use Rattle.bolt_commands.specs.declared.failure.Failure.TheVariants as failure
 use Rattle.bolt_text.specs.ReportEndings.{HaltsShort}
 use Rattle.bolt_commands.specs.Answers.{IsCutAnswer, IsCutShort}

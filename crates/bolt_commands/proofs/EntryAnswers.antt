@@ -5,7 +5,7 @@ use Rattle.bolt_commands.proofs.Vocabulary.{Meta, MetaChoice, Path, PrintsAnswer
 use Rattle.bolt_commands.proofs.Vocabulary.{report_ending, ⊤}
 use Rattle.bolt_report.specs.{SizeLines.AreSized, SizeLines.Sized, SizeLines.sizes_text}
 use Rattle.bolt_text.specs.{ReportEndings.HaltsShort, declared.forms.Form.Form}
-use Rattle.bolt_text.specs.declared.fault.ReportFault.TheVariants as report
+use Rattle.bolt_text.specs.declared.report_fault.ReportFault.TheVariants as report
 use Rattle.bolt_report.proofs.SizesExist.{named_sizes}
 use Rattle.bolt_commands.proofs.{AtPaths.at_path, CutTexts.allowed, CutTexts.short_put, Doing.answer_as, ReadFiles.own_trees, ReadFiles.read_trees}
 

@@ -5,7 +5,7 @@ use Rattle.bolt_etcd.proofs.{Currents.revisions_rise, Filtered.filter_rises, Sor
 use Rattle.bolt_etcd.specs.{Current.AreCurrent, Current.place_cmp, Newest.is_until, Newest.until, Revisions.RevisionView, Stores.revisions}
 use Rattle.bolt_etcd.specs.{StoreBuckets.HasEntriesUnder, StoreBuckets.IsStore, StoreBuckets.StoreView, StoreFaults.store_compacted, Stores.others}
 use Rattle.bolt_format.proofs.WroteLemmas.{Wrote-stop_halted}
-use Rattle.bolt_text.specs.declared.fault.ReportFault.TheVariants as report
+use Rattle.bolt_text.specs.declared.report_fault.ReportFault.TheVariants as report
 use Rattle.bolt_tree.proofs.BucketWays.{root_starts}
 use Rattle.bolt_tree.specs.BucketViews.{entries_of}
 use Rattle.bolt_commands.specs.Answers.{IsAnswerAt, IsCutAnswer, IsStoreAnswer, OfKeys, entries_ending, is_compacted, others_ending}

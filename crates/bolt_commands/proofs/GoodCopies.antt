@@ -3,7 +3,7 @@ use Rattle.std.proofs.Common.{◌≡◌, ◌∙◌, ◌+◌, ◌*◌, ◌-◌, �
 use Rattle.std.proofs.Common.{inl, inr, length, length-append, subst, sym, take}
 use Rattle.std.proofs.Math.Nat.{mul-mod_left, mul_assoc}
 use Rattle.bolt_commands.proofs.Vocabulary.{AllByRecursion, HasBothMetas, HasGoodCopies, IsAsked, IsActive, IsGoodCopy, IsListing, IsOfOneTree, IsPageSize, IsSnapshot, IsSound, IsSoundCopy, Layout, Member, Meta, One, RefusesFile, RefusesPrefixes, Slot, cases_lt, cut_hash_fault, eqb-true, finding, hash_fault, layout_of_listing, length-sha256, list_any, or_cases, page_size_count, page_sizes, range_with_len, sha256, snapshot_of, take-append-le, too_many}
-use Rattle.bolt_check.specs.declared.fault.CheckFault.TheVariants as check
+use Rattle.bolt_check.specs.declared.check_fault.CheckFault.TheVariants as check
 use Rattle.bolt_format.specs.{declared.page_fault.TheConstants.PageFault.CUT, declared.meta.MetaFault.TheVariants.Cut}
 use Rattle.bolt_layout.specs.{Layout.layout_mark, Layout.layout_meta, Layout.layout_of, Layout.layout_root, Storable.IsStorable}
 use Rattle.bolt_etcd.specs.Marks.{HasAllPages}

@@ -4,10 +4,10 @@ use Rattle.bolt_commands.proofs.Vocabulary.{Answer, JobEnding, First, HasSoundTr
 use Rattle.bolt_commands.proofs.ReadFiles.{read_trees}
 use Rattle.std.specs.Ordering.{is_lt}
 use Rattle.bolt_format.specs.Bytes.{IsBytes}
-use Rattle.bolt_load.specs.{ByteMembers.AreOfBytes, declared.fault.LineFault.LineFault}
+use Rattle.bolt_load.specs.{ByteMembers.AreOfBytes, declared.load_fault.LineFault.LineFault}
 use Rattle.bolt_text.specs.{Lines.Text}
-use Rattle.bolt_load.specs.declared.fault.LineFault.TheVariants.{CutOff}
-use Rattle.bolt_load.specs.declared.fault.LoadFault.TheVariants.{Line, Memory}
+use Rattle.bolt_load.specs.declared.load_fault.LineFault.TheVariants.{CutOff}
+use Rattle.bolt_load.specs.declared.load_fault.LoadFault.TheVariants.{Line, Memory}
 use Rattle.bolt_text.specs.{declared.forms.ListForm.TheVariants.Hex, ListLines.listing_text}
 
 pub record Below : Type 0 where

@@ -3,7 +3,7 @@ use Rattle.std.proofs.Common.{◌≡◌, ◌≢◌, ◌∷◌, ℕ, Bool, List, 
 use Rattle.bolt_commands.proofs.Vocabulary.{Answer, AnswersLost, Extent, Failure, FileFaults, First, FoundView, IsCheckAnswerAfter, IsFoundAnswer, IsLostAnswer, IsLostKnown, MayRunOut}
 use Rattle.bolt_commands.proofs.Vocabulary.{IsOpened, IsUnopened, Losses, LostView, MetaChoice, Opened, everything, false≢true, found_view, is_nothing, lost_and_found_answer, opened_found}
 use Rattle.bolt_commands.proofs.Vocabulary.{opened_lost, opened_meta, parts}
-use Rattle.bolt_check.specs.declared.fault.CheckFault.TheVariants as check
+use Rattle.bolt_check.specs.declared.check_fault.CheckFault.TheVariants as check
 use Rattle.bolt_commands.proofs.OpenedReads.{found_opened, opened_under}
 use Rattle.bolt_commands.specs.Private.Checks.{unopened}
 use Rattle.bolt_job.specs.declared.choices.Extent.TheVariants.{LostAndFound}

@@ -2,7 +2,7 @@
 use Rattle.std.proofs.Common.{◌≡◌, ◌≢◌, ◌↔◌, ℕ, List, Option, Some, None, Result, Ok, Err, inl, inr, refl}
 use Rattle.bolt_commands.proofs.Vocabulary.{Appends-nil, WritesAnswer, Ghosts, ReportFault, Wrote, ending_by, page_answer, report_ending}
 use Rattle.bolt_format.specs.declared.page_fault.PageFault.{PageFault}
-use Rattle.bolt_text.specs.declared.fault.ReportFault.TheVariants as report
+use Rattle.bolt_text.specs.declared.report_fault.ReportFault.TheVariants as report
 
 -- the page is reported as bad just if it has a fault
 abbrev NamesFault : {A : Type 0} → Result A ReportFault → Option PageFault → Type 0

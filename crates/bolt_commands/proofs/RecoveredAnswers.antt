@@ -3,7 +3,7 @@ use Rattle.std.proofs.Common.{◌≡◌, ◌⊎◌, ℕ, Bool, Err, IfErr, IfOk,
 use Rattle.std.specs.{Borrow.Bor, Option.IfNone, Prelude.IfSome}
 use Rattle.bolt_commands.proofs.Vocabulary.{AreLosses, Contains, JobEnding, Failure, ForLosses, Ghosts, IsErrAnd, IsRecovered, IsRecoveryOf, Json, IsMetasFault, LossView, Losses, MayFail, Member, MetaChoice, MetaFault, OnOk, Path, Shortfall, Slot}
 use Rattle.bolt_commands.proofs.Vocabulary.{PrintsAnswer, ReportFault, Rises, Value, Wrote, ending_by, has_bucket, has_losses, has_recovered, lost_ending, member_cmp, parts, owned_path, recovery_file, recovery_left, recovery_meta, report_ending, reported, shortfall, value_shown}
-use Rattle.bolt_check.specs.declared.fault.CheckFault.TheVariants as check
+use Rattle.bolt_check.specs.declared.check_fault.CheckFault.TheVariants as check
 use Rattle.bolt_commands.specs.Answers.{Answer, IsNamesAnswer, IsRecoveredAnswer, IsRecoveredValue, names_ending, no_bucket, no_key, no_value}
 use Rattle.bolt_commands.specs.Private.Recovered.{HoldsNow, bucket_ending, value_or_why}
 use Rattle.bolt_commands.specs.declared.{failure.Failure.TheVariants.Memory, recovered_commands.AtPath.AtPath}
@@ -13,7 +13,7 @@ use Rattle.bolt_job.specs.declared.bucket_commands.GetJob.{GetJob}
 use Rattle.bolt_recover.specs.declared.recovery.Recovery.{Recovery}
 use Rattle.bolt_report.specs.MemberNames.{WantedNames, names_text}
 use Rattle.bolt_text.specs.declared.forms.Form.{Form}
-use Rattle.bolt_text.specs.declared.fault.ReportFault.TheVariants as report
+use Rattle.bolt_text.specs.declared.report_fault.ReportFault.TheVariants as report
 
 -- memory may run out of any file before anything is written
 pub recovered_none : {S : Type 0} {sink : Ghosts S} {old : S} (file : List ℕ) (choice : MetaChoice) (IsWanted : List Member → Option Shortfall → Answer → Type 0) (result : JobEnding)

@@ -4,7 +4,7 @@ use Rattle.std.proofs.Common.{refl, subst, sym, rules}
 use Rattle.bolt_commands.proofs.Vocabulary.{Appends, AppendsProperPrefix, AppendsProperPrefix-first, BulkFault, EndsCopy, HashesSince, Holds256, IsErrAnd, IsOk}
 use Rattle.bolt_commands.proofs.Vocabulary.{Keeps, OnOk, Sha256, StopsShort, cases_lt, copied, copy_of, length-sha256, sha256, too_many}
 use Rattle.bolt_bulk.specs.Compacting.{Copies}
-use Rattle.bolt_bulk.specs.declared.fault.BulkFault.TheVariants as bulk
+use Rattle.bolt_bulk.specs.declared.bulk_fault.BulkFault.TheVariants as bulk
 use Rattle.bolt_bulk.specs.declared.members_copy.Done.{Done}
 use Rattle.bolt_commands.proofs.HashLemmas.{short_with_hash, whole_with_hash}
 

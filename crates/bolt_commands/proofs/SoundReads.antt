@@ -5,7 +5,7 @@ use Rattle.bolt_commands.proofs.Vocabulary.{HasRightAccounts, IsReadUnder, IsRef
 use Rattle.bolt_job.specs.MetaChoices.{HasNoMetaOf}
 use Rattle.bolt_check.proofs.{Judging.passes_fewer, Judging.passes_silent, Lawful.shape_passes, Lawful.sound_reports_nothing}
 use Rattle.bolt_check.specs.Ways.{At_page, reached, root_spot}
-use Rattle.bolt_check.specs.declared.fault.CheckFault.TheVariants as check
+use Rattle.bolt_check.specs.declared.check_fault.CheckFault.TheVariants as check
 use Rattle.bolt_recover.specs.Refusals.{KeepsRoot, LosesRoot}
 
 -- the choice names no other meta

@@ -1,10 +1,10 @@
 -- The words that the proofs of this crate cite, passed on from the modules that define them.
-pub use Rattle.bolt_bulk.specs.{Compacting.too_many, declared.fault.BulkFault.BulkFault}
+pub use Rattle.bolt_bulk.specs.{Compacting.too_many, declared.bulk_fault.BulkFault.BulkFault}
 pub use Rattle.bolt_check.specs.CheckedFiles.{bytes_of, meta_of}
 pub use Rattle.bolt_check.specs.Findings.{IsClaimedBefore, IsMetaPage, finding}
 pub use Rattle.bolt_check.specs.Nodes.{leaf_entry, node_at}
 pub use Rattle.bolt_check.specs.Sound.{HasRightAccounts, HasSoundTrees, IsFirstFinding, IsRefused, IsSound}
-pub use Rattle.bolt_check.specs.{Keys.Key, declared.checked.Checked.Checked, declared.fault.CheckFault.CheckFault, declared.finding.Finding.Finding}
+pub use Rattle.bolt_check.specs.{Keys.Key, declared.checked.Checked.Checked, declared.check_fault.CheckFault.CheckFault, declared.finding.Finding.Finding}
 pub use Rattle.bolt_commands.specs.Answers.{AddsEntry, Answer, AnswersLost, AreFoundPages, AreFoundTo, WritesAnswer, DoesJob, JobEnding, HasStats, HoldsIn, HoldsNone}
 pub use Rattle.bolt_commands.specs.Answers.{IsCheckAnswer, IsCheckAnswerAfter, IsEndedOrCut, IsEntriesAnswer, IsFileRefusal, IsFoundAnswer}
 pub use Rattle.bolt_commands.specs.Answers.{IsInfoAnswer, IsListPrint, IsListedAnswer, IsLostAnswer, MayRunOut, IsReadAnswer, IsReadUnder}
@@ -50,7 +50,7 @@ pub use Rattle.bolt_recover.specs.ShownLosses.{lost_view}
 pub use Rattle.bolt_recover.specs.{Joined.IsJoined, LostAndFound.all_lost, declared.found.Found.Found, declared.lost_and_found.LostAndFound.LostAndFound}
 pub use Rattle.bolt_report.specs.FoundLines.{FoundView, IsFoundLeaf, counted_lost_text, found_view}
 pub use Rattle.bolt_report.specs.KeyLines.{buckets_text, keys_text}
-pub use Rattle.bolt_text.specs.{declared.fault.ReportFault.ReportFault, ReportEndings.report_ending, ListForms.listing_lines}
+pub use Rattle.bolt_text.specs.{declared.report_fault.ReportFault.ReportFault, ReportEndings.report_ending, ListForms.listing_lines}
 pub use Rattle.bolt_stats.specs.{Figures.add_stats}
 pub use Rattle.bolt_text.specs.{declared.forms.ListForm.ListForm, declared.forms.Form.TheVariants.Json, declared.forms.FigureForm.FigureForm}
 pub use Rattle.bolt_stats.specs.{declared.figures.Stats.Stats}

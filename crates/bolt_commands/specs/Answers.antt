@@ -5,13 +5,13 @@ use Rattle.bolt_bulk.specs.Compacting.{too_many}
 use Rattle.bolt_layout.specs.Copies.{layout_of_listing}
 use Rattle.bolt_check.specs.{AccountFindings.AreAccountFindings, Roles.AreRoles, Sound.HasRightAccounts, Sound.HasSoundTrees, Sound.IsFirstFinding, Sound.IsUsed}
 use Rattle.bolt_check.specs.{BboltFileFindings.file_findings, BboltFindings.AreBboltFindings, Nodes.node_at, declared.bbolt_file.FileFinding.FileFinding}
-use Rattle.bolt_check.specs.declared.fault.CheckFault.{CheckFault}
-use Rattle.bolt_check.specs.declared.fault.CheckFault.TheVariants as check
+use Rattle.bolt_check.specs.declared.check_fault.CheckFault.{CheckFault}
+use Rattle.bolt_check.specs.declared.check_fault.CheckFault.TheVariants as check
 use Rattle.bolt_check.specs.{declared.finding.Finding.Finding, declared.role_table.Role.Role}
 use Rattle.bolt_format.specs.{Elements.LeafElement, Metas.HasNoActive, Metas.HasNoneInSlot, Metas.IsActive, Metas.IsInSlot, Pages.page_at}
 use Rattle.bolt_format.specs.{Sinks.AppendsPrefix, Sinks.AppendsProperPrefix, declared.page_fault.PageFault.PageFault, declared.meta.Meta.Meta}
 use Rattle.bolt_format.specs.{declared.meta.MetaFault.MetaFault, declared.meta.Slot.Slot}
-use Rattle.bolt_load.specs.{LineFaults.IsListingText, LineFaults.IsLoadFault, declared.fault.LoadFault.LoadFault}
+use Rattle.bolt_load.specs.{LineFaults.IsListingText, LineFaults.IsLoadFault, declared.load_fault.LoadFault.LoadFault}
 use Rattle.bolt_text.specs.{LineMembers.text_members}
 use Rattle.bolt_recover.specs.{Found.AreFound, JoinRefusals.IsJoinRefusal, Joined.IsJoined, Joined.LacksBucketKey}
 use Rattle.bolt_recover.specs.{Losses.AreLosses, Losses.LossView, Losses.LostView, Losses.everything, Losses.is_nothing, Losses.parts, Lost.IsAllLost, Sites.leaves_of}
@@ -49,13 +49,13 @@ use Rattle.bolt_commands.specs.declared.failure.Failure.{Failure}
 use Rattle.bolt_commands.specs.declared.failure.Failure.TheVariants as failure
 use Rattle.bolt_commands.specs.declared.file_faults.FileFaults.{FileFaults}
 use Rattle.bolt_check.specs.ShownFindings.{findings_in}
-use Rattle.bolt_load.specs.declared.fault.LineFault.TheVariants.{CutOff}
+use Rattle.bolt_load.specs.declared.load_fault.LineFault.TheVariants.{CutOff}
 use Rattle.bolt_etcd.specs.declared.snapshot.SnapshotFault.{SnapshotFault}
 use Rattle.bolt_etcd.specs.{Current.AreCurrent, Newest.newest, Newest.until, Newest.value_if, RevisionLines.named_with, RevisionLines.revision_lines, Revisions.RevisionView}
 use Rattle.bolt_etcd.specs.{StoreBuckets.IsStore, StoreBuckets.StoreView, StoreFaults.store_compacted, StoreFaults.store_lines, Stores.entries_from, Stores.others, Stores.revisions}
 use Rattle.bolt_check.specs.Counts.{counted}
 use Rattle.std.specs.{Int.to_be_bytes, Int.w64, List.concat}
-use Rattle.bolt_job.specs.declared.etcd_commands.{EtcdCheckJob.EtcdCheckJob, EtcdGetJob.EtcdGetJob, EtcdKeysJob.EtcdKeysJob, EtcdRevisionsJob.EtcdRevisionsJob}
+use Rattle.bolt_job.specs.declared.etcd_jobs.{EtcdCheckJob.EtcdCheckJob, EtcdGetJob.EtcdGetJob, EtcdKeysJob.EtcdKeysJob, EtcdRevisionsJob.EtcdRevisionsJob}
 use Rattle.bolt_job.specs.declared.bucket_commands.{BucketsJob.BucketsJob, GetJob.GetJob, KeysJob.KeysJob, ListJob.ListJob, StatsJob.StatsJob}
 use Rattle.bolt_job.specs.declared.job.Job.{Job}
 use Rattle.bolt_job.specs.declared.job.Job.TheVariants as job

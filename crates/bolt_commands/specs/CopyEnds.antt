@@ -1,7 +1,7 @@
 -- How the writing of a copy ends: docs/COMMANDS.md, "What a run writes".
 use Rattle.std.specs.Prelude.{◌≡◌, ◌<◌, ℕ, List, length, Bool, Option, Result, Ok, Err}
 use Rattle.std.specs.Io.KnownBytes.{Appends}
-use Rattle.bolt_bulk.specs.{Compacting.too_many, declared.fault.BulkFault.BulkFault}
+use Rattle.bolt_bulk.specs.{Compacting.too_many, declared.bulk_fault.BulkFault.BulkFault}
 use Rattle.bolt_commands.specs.{Answers.StopsShort, Failures.copied, SnapshotAnswers.copy_of}
 
 -- the target accepted the whole copy without a failure, and this is its length; its layout has fewer than 2^63 bytes

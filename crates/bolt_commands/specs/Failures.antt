@@ -1,20 +1,20 @@
 -- Why a job isn't done, and what is reported of it: docs/COMMANDS.md, "What a run writes".
 use Rattle.std.specs.Prelude.{◌≡◌, List, ◌++◌, ℕ, Some, codes, decimal, option_map, slice_get}
-use Rattle.bolt_bulk.specs.declared.fault.BulkFault.{BulkFault}
-use Rattle.bolt_bulk.specs.declared.fault.BulkFault.TheVariants as bulk
-use Rattle.bolt_check.specs.declared.fault.CheckFault.{CheckFault}
-use Rattle.bolt_check.specs.declared.fault.CheckFault.TheVariants as check
+use Rattle.bolt_bulk.specs.declared.bulk_fault.BulkFault.{BulkFault}
+use Rattle.bolt_bulk.specs.declared.bulk_fault.BulkFault.TheVariants as bulk
+use Rattle.bolt_check.specs.declared.check_fault.CheckFault.{CheckFault}
+use Rattle.bolt_check.specs.declared.check_fault.CheckFault.TheVariants as check
 use Rattle.bolt_check.specs.ShownFindings.{findings_in}
-use Rattle.bolt_load.specs.{FaultWords.line_fault_words, declared.fault.LoadFault.LoadFault}
-use Rattle.bolt_load.specs.declared.fault.LoadFault.TheVariants as load
+use Rattle.bolt_load.specs.{LoadFaultWords.line_fault_words, declared.load_fault.LoadFault.LoadFault}
+use Rattle.bolt_load.specs.declared.load_fault.LoadFault.TheVariants as load
 use Rattle.bolt_recover.specs.declared.joined.JoinFault.{JoinFault}
 use Rattle.bolt_recover.specs.declared.joined.JoinFault.TheVariants as join
 use Rattle.bolt_etcd.specs.declared.repair.RepairFault.{RepairFault}
 use Rattle.bolt_etcd.specs.declared.repair.RepairFault.TheVariants as repair
 use Rattle.bolt_report.specs.{FaultWords.finding_text, FaultWords.meta_fault_text, FaultWords.page_fault_text}
 use Rattle.bolt_etcd.specs.{SnapshotFaults.snapshot_fault_text}
-use Rattle.bolt_text.specs.declared.fault.ReportFault.{ReportFault}
-use Rattle.bolt_text.specs.declared.fault.ReportFault.TheVariants as report
+use Rattle.bolt_text.specs.declared.report_fault.ReportFault.{ReportFault}
+use Rattle.bolt_text.specs.declared.report_fault.ReportFault.TheVariants as report
 use Rattle.bolt_commands.specs.{Shortfalls.shortfall_text, declared.failure.Failure.Failure}
 use Rattle.bolt_commands.specs.declared.failure.Failure.TheVariants.{BucketMaybeLost, Compacted, Exists, File, Hash, KeyMaybeLost, Line, Lost, Memory, Metas, NoBucket, NoKey, NotABucket, Others, Page, TooLarge, TooManyPages, Write}
 

@@ -1,8 +1,8 @@
 -- What holds of a copy that is whole: docs/LAYOUT.md, "What holds of both layouts", and docs/COMMANDS.md, "Snapshots".
 use Rattle.std.specs.Prelude.{◌≡◌, ◌≢◌, ◌≤◌, ◌<◌, ◌-◌, ℕ, List, Bool, true, IsTrue, Some, length, take}
 use Rattle.bolt_bulk.specs.Compacting.{too_many}
-use Rattle.bolt_check.specs.{Sound.IsRefused, Sound.IsSound, declared.fault.CheckFault.CheckFault}
-use Rattle.bolt_check.specs.declared.fault.CheckFault.TheVariants as check
+use Rattle.bolt_check.specs.{Sound.IsRefused, Sound.IsSound, declared.check_fault.CheckFault.CheckFault}
+use Rattle.bolt_check.specs.declared.check_fault.CheckFault.TheVariants as check
 use Rattle.bolt_format.specs.{Metas.HasBothMetas, Metas.IsActive, Metas.IsPageSize, declared.meta.Meta.Meta, declared.meta.Slot.Slot}
 use Rattle.bolt_layout.specs.{Copies.layout_of_listing, declared.Layout.Layout}
 use Rattle.bolt_etcd.specs.SnapshotFaults.{IsSnapshot, cut_hash_fault}

@@ -7,7 +7,7 @@ ghost use Rattle.bolt_commands.specs.Answers.{AreFoundFor, AreOfFile, WritesAnsw
 ghost use Rattle.bolt_commands.specs.FileFaults.{is_fine};
 ghost use Rattle.bolt_report.specs.FoundLines.{IsFoundLeaf, found_view};
 ghost use Rattle.bolt_commands.specs.Private.{Checks.ChecksTo, Checks.unopened, Printing.PrintsAnswer};
-ghost use Rattle.bolt_check.specs.declared.fault.CheckFault.TheVariants as check;
+ghost use Rattle.bolt_check.specs.declared.check_fault.CheckFault.TheVariants as check;
 
 use crate::failure::{Failure, Outcome};
 use crate::file_faults::{FileFaults, put_file_faults};

@@ -2,7 +2,7 @@
 ghost use Rattle.std.specs.Prelude.{◌++◌, codes, decimal};
 ghost use Rattle.bolt_format.specs.{Endings.ending, Wrote.Wrote};
 ghost use Rattle.bolt_report.specs.FaultWords.{finding_text};
-ghost use Rattle.bolt_load.specs.FaultWords.{line_fault_words};
+ghost use Rattle.bolt_load.specs.LoadFaultWords.{line_fault_words};
 ghost use Rattle.bolt_commands.specs.{Failures.failure_line, Failures.failure_text, Shortfalls.shortfall_text};
 
 use crate::failure::Failure;

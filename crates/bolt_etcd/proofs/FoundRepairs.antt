@@ -13,7 +13,7 @@ use Rattle.bolt_recover.specs.{Found.found_numbers, Recovered.ForRecovered, Reco
 use Rattle.bolt_etcd.specs.declared.revision.Revision.{Revision}
 use Rattle.bolt_etcd.specs.ShownRevisions.{entry_of}
 use Rattle.bolt_etcd.specs.{Among.without, Candidates.AreCandidates, Candidates.found_elements, Compacted.compacted_by, FullRepairs.IsFullRepair}
-use Rattle.bolt_etcd.specs.{Repaired.IsRepair, Repaired.elements_on, Repaired.lacks_bucket, Superseded.ArePutBack, Surveys.IsStoreSurvey, Surveys.IsSurveyOf, Undisputed.AreKeys, Undisputed.AreUndisputed, declared.survey.Survey.Survey}
+use Rattle.bolt_etcd.specs.{Repaired.IsRepair, Repaired.elements_on, Repaired.lacks_bucket, Superseded.ArePutBack, StoreSurveys.IsStoreSurvey, StoreSurveys.IsSurveyOf, Undisputed.AreKeys, Undisputed.AreUndisputed, declared.survey.Survey.Survey}
 use Rattle.bolt_etcd.proofs.WholeRepairs.{back_least, full_repair, is_nil, repair}
 
 -- the elements of the pages of the code are those of the pages with their numbers

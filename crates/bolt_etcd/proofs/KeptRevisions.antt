@@ -4,7 +4,7 @@ use Rattle.std.specs.Cmp.Lexicographic.{same_text}
 use Rattle.std.specs.Str.{bytes_eq}
 use Rattle.bolt_check.specs.Keys.{Key}
 use Rattle.bolt_tree.specs.{Entries.EntryView, Entries.Item, InBuckets.entry_in, Paths.Path}
-use Rattle.bolt_etcd.specs.{Repairs.store_path, Revisions.RevisionView, Revisions.revision_of, Surveys.revision_at}
+use Rattle.bolt_etcd.specs.{Repairs.store_path, Revisions.RevisionView, Revisions.revision_of, StoreSurveys.revision_at}
 
 -- an entry of the bucket is a revision if the entry is
 pub revision_to : (e : EntryView) → revision_at (store_path ++ e.key ∷ []) e.item ≡ revision_of e

@@ -7,7 +7,7 @@ use Rattle.bolt_check.specs.Counts.{counted}
 use Rattle.bolt_format.proofs.{WroteFronts.WroteFront, WroteFronts.front_more, WroteFronts.front_none, WroteFronts.front_whole, WroteLemmas.Wrote-same}
 use Rattle.bolt_format.specs.{Endings.broken, Endings.ending, Endings.whole, Wrote.Wrote, declared.sink.Sink.Ghosts, declared.sink.SinkFault.SinkFault}
 use Rattle.bolt_text.proofs.ReportLemmas.{Wrote-fault, front_broken}
-use Rattle.bolt_text.specs.{ReportEndings.fault_ending, ReportEndings.report_ending, declared.fault.ReportFault.ReportFault}
+use Rattle.bolt_text.specs.{ReportEndings.fault_ending, ReportEndings.report_ending, declared.report_fault.ReportFault.ReportFault}
 use Rattle.bolt_tree.proofs.PagerLemmas.{counted_more}
 
 -- of all lines, those that are left are still to be written, and the others were counted

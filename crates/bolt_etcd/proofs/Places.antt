@@ -4,7 +4,7 @@ use Rattle.std.specs.Cmp.Lexicographic.{same_text}
 use Rattle.std.specs.Str.{bytes_eq}
 use Rattle.bolt_check.specs.Keys.{Key}
 use Rattle.bolt_tree.specs.{Entries.Item, Paths.Path, Paths.path_of}
-use Rattle.bolt_etcd.specs.{Repairs.store_path, Revisions.RevisionView, Surveys.LeadsToPlace, Surveys.revision_at}
+use Rattle.bolt_etcd.specs.{Repairs.store_path, Revisions.RevisionView, StoreSurveys.LeadsToPlace, StoreSurveys.revision_at}
 use Rattle.bolt_etcd.specs.declared.survey.Place.{Place}
 use Rattle.bolt_etcd.specs.declared.survey.Place.TheVariants.{Compaction, InStore, Other, Store}
 use Rattle.bolt_etcd.proofs.KeptRevisions.{revision_from}

@@ -15,7 +15,7 @@ use Rattle.bolt_etcd.specs.{Among.without, Candidates.AreCandidates, Candidates.
 use Rattle.bolt_etcd.specs.{FullRepairs.IsFullRepair, FullRepairs.LacksStoreValue, Newest.is_until, Repaired.IsRepaired, Repaired.elements_on, Repaired.lacks_bucket, Repaired.repaired_listing}
 use Rattle.bolt_etcd.specs.{Repairs.IsKept, Repairs.compaction_path, Repairs.store_path, Revisions.RevisionView, Revisions.name_of, Revisions.value_of}
 use Rattle.bolt_etcd.specs.{Superseded.ArePutBack, Superseded.IsNewestOf, Superseded.name_of_entry, Superseded.is_deletion, Superseded.is_old}
-use Rattle.bolt_etcd.specs.{Surveys.HasKeptKey, Surveys.IsStoreSurvey, Surveys.revision_at, Undisputed.AreKeys, Undisputed.AreUndisputed}
+use Rattle.bolt_etcd.specs.{StoreSurveys.HasKeptKey, StoreSurveys.IsStoreSurvey, StoreSurveys.revision_at, Undisputed.AreKeys, Undisputed.AreUndisputed}
 use Rattle.bolt_etcd.proofs.Decisions.{dec_as, dec_bool, dec_both, dec_each, dec_either, dec_equal, dec_if, dec_if_some, dec_key, dec_not_less, dec_path, dec_some}
 use Rattle.bolt_etcd.proofs.{Filtered.kept_from, KeptRevisions.revision_from, KeptRevisions.revision_to, KeysAmong.without_has, MappedLists.shows_from, MappedLists.shows_has}
 use Rattle.bolt_etcd.proofs.{NewestEntries.view_total, OneRepair.member_once, Rising.one_of, SortedChoice.sorted_choice, SortedChoice.sorted_elements, SortedExists.sorted_exists}

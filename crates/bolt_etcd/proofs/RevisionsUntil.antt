@@ -3,7 +3,7 @@ use Rattle.std.proofs.Common.{◌≡◌, ◌∙◌, ◌<◌, ◌≤◌, ℕ, Boo
 use Rattle.std.proofs.lemmas.Bool.{le-ltb, lt-ltb}
 use Rattle.std.proofs.lemmas.Option.{same_Some}
 use Rattle.bolt_tree.specs.Entries.{EntryView}
-use Rattle.bolt_etcd.specs.{Newest.is_until, RevisionKeys.revision_key, Revisions.RevisionView, Revisions.revision_of, Surveys.if_until}
+use Rattle.bolt_etcd.specs.{Newest.is_until, RevisionKeys.revision_key, Revisions.RevisionView, Revisions.revision_of, StoreSurveys.if_until}
 use Rattle.bolt_etcd.specs.declared.revision_key.RevisionKey.{RevisionKey}
 use Rattle.bolt_etcd.proofs.Currents.{key_is}
 

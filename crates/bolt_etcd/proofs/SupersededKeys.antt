@@ -7,7 +7,7 @@ use Rattle.std.specs.List.Sorted.{IsPermutation, IsSorted}
 use Rattle.bolt_check.specs.Keys.{Key, key_cmp}
 use Rattle.bolt_tree.proofs.Lists.{contains_cases, contains_head, contains_none, contains_tail}
 use Rattle.bolt_tree.specs.{Entries.EntryView, InBuckets.entry_in, Listing.Member}
-use Rattle.bolt_etcd.specs.{Newest.is_until, Repairs.store_path, Revisions.RevisionView, Surveys.revision_at, Surveys.revision_until}
+use Rattle.bolt_etcd.specs.{Newest.is_until, Repairs.store_path, Revisions.RevisionView, StoreSurveys.revision_at, StoreSurveys.revision_until}
 use Rattle.bolt_etcd.specs.Superseded.{AreSuperseded, IsSuperseded, IsSupersededBy}
 use Rattle.bolt_etcd.proofs.{KeptRevisions.revision_from, KeptRevisions.revision_to, RevisionsUntil.passes_until}
 

@@ -11,7 +11,7 @@ use Rattle.bolt_check.specs.Keys.{Key, key_cmp}
 use Rattle.bolt_tree.proofs.{Lists.contains_cases, Lists.contains_head, Lists.contains_none, Lists.contains_tail, Lists.irreflexive, PathOrder.path_total}
 use Rattle.bolt_tree.specs.{Entries.Bucket, Entries.EntryView, Entries.Item, Entries.Value, Listing.Member, Listing.member_cmp, Order.Rises, Paths.Path, Paths.path_cmp}
 use Rattle.bolt_etcd.proofs.Rising.{before_it}
-use Rattle.bolt_etcd.specs.{Candidates.HasKey, Repairs.compaction_path, Repairs.store_path, Surveys.HasKeptKey, Surveys.ComesAfter, Surveys.IsStoreSurvey}
+use Rattle.bolt_etcd.specs.{Candidates.HasKey, Repairs.compaction_path, Repairs.store_path, StoreSurveys.HasKeptKey, StoreSurveys.ComesAfter, StoreSurveys.IsStoreSurvey}
 
 -- one is among these or is the last
 last_cases : {A : Type 0} (xs : List A) (x y : A) → Contains (xs ++ x ∷ []) y → Contains xs y ⊎ (x ≡ y)

@@ -14,7 +14,7 @@ use Rattle.bolt_etcd.specs.{FullRepairs.AreCandidateKeys, FullRepairs.IsFullRepa
 use Rattle.bolt_etcd.specs.Repairs.{AreBack, GoesBack, IsAgreed, IsCandidate, IsCompactedAt, IsNewestUpTo, store_path}
 use Rattle.bolt_etcd.specs.{Revisions.RevisionView, Revisions.name_of, Revisions.revision_of}
 use Rattle.bolt_etcd.specs.{Superseded.ArePutBack, Superseded.IsNewestOf, Superseded.name_of_entry, Superseded.is_deletion, Superseded.is_key_deleted, Superseded.is_key_until, Superseded.is_old, Superseded.name_if}
-use Rattle.bolt_etcd.specs.{Surveys.IsStoreSurvey, Undisputed.AreKeys, Undisputed.AreUndisputed}
+use Rattle.bolt_etcd.specs.{StoreSurveys.IsStoreSurvey, Undisputed.AreKeys, Undisputed.AreUndisputed}
 use Rattle.bolt_etcd.proofs.{Currents.key_is, Currents.place_is, Filtered.kept_from, KeysAmong.without_has, MappedLists.shows_from, MappedLists.shows_has, Rising.fewer, Rising.rises_mapped, WholeOrder.in_place}
 
 -- ---- what an entry says if it is a revision

@@ -40,7 +40,7 @@ pub mod RevisionMarks
 pub mod RevisionObjects
 pub mod Revisions
 pub mod RevisionsLeft
-pub mod Shown
+pub mod ShownRecords
 pub mod ShownOthers
 pub mod ShownRevisions
 pub mod SnapshotFaults
@@ -49,7 +49,7 @@ pub mod StoreFaults
 pub mod Stores
 pub mod SumOrder
 pub mod Superseded
-pub mod Surveys
+pub mod StoreSurveys
 pub mod Taken
 pub mod Told
 pub mod ToldRevisions

@@ -2,7 +2,7 @@
 use Rattle.std.specs.Prelude.{false, [], Option, Some, None}
 use Rattle.bolt_check.specs.Keys.{Key}
 use Rattle.bolt_tree.specs.{Entries.EntryView, Entries.Value}
-use Rattle.bolt_etcd.specs.{Records.empty, Revisions.RevisionView, Revisions.revision_in, Shown.shown_record}
+use Rattle.bolt_etcd.specs.{Records.empty, Revisions.RevisionView, Revisions.revision_in, ShownRecords.shown_record}
 use Rattle.bolt_etcd.specs.declared.{revision.Decoded.Decoded, revision.Revision.Revision}
 
 -- under this key

@@ -1,6 +1,6 @@
 //! The record of a key: what etcd keeps of it at a revision.
 ghost use Rattle.std.specs.Prelude.{◌≡◌};
-ghost use Rattle.bolt_etcd.specs.{Records.record_of, Records.with, Returns.Returns, Revisions.without_value, Shown.shown_field, Shown.shown_record};
+ghost use Rattle.bolt_etcd.specs.{Records.record_of, Records.with, Returns.Returns, Revisions.without_value, ShownRecords.shown_field, ShownRecords.shown_record};
 
 use crate::wire::{Field, read_field};
 

@@ -5,7 +5,7 @@ ghost use Rattle.std.proofs.Props.{props};
 ghost use Rattle.bolt_format.specs.Bytes.{IsBytes};
 ghost use Rattle.bolt_check.specs.Keys.{key_cmp};
 ghost use Rattle.bolt_tree.specs.ShownEntries.{shown_entry};
-ghost use Rattle.bolt_etcd.specs.{Candidates.candidate_at, Candidates.value_bytes, NameOrder.name_sum, Returns.Returns, RevisionKeys.IsSpelled, Revisions.name_of, Revisions.revision_in, Revisions.revision_of, Shown.shown_record, Superseded.is_deletion};
+ghost use Rattle.bolt_etcd.specs.{Candidates.candidate_at, Candidates.value_bytes, NameOrder.name_sum, Returns.Returns, RevisionKeys.IsSpelled, Revisions.name_of, Revisions.revision_in, Revisions.revision_of, ShownRecords.shown_record, Superseded.is_deletion};
 
 use crate::name_tag::{MAINS, tag_of};
 use crate::record::Record;

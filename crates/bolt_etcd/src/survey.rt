@@ -4,7 +4,7 @@ ghost use Rattle.bolt_tree.specs.{Order.Rises, Paths.path_of};
 ghost use Rattle.bolt_tree.specs.ShownEntries.{item_view};
 ghost use Rattle.bolt_recover.specs.Recovered.{ForRecovered};
 ghost use Rattle.bolt_etcd.specs.{Candidates.whole_cmp, Returns.Returns, ShownRevisions.entry_of, ShownRevisions.shown_revision};
-ghost use Rattle.bolt_etcd.specs.Surveys.{LeadsToPlace, revision_until};
+ghost use Rattle.bolt_etcd.specs.StoreSurveys.{LeadsToPlace, revision_until};
 
 use crate::candidates::{add_key, has_candidate};
 use crate::revision::Revision;
@@ -49,7 +49,7 @@ pub(crate) struct Survey<'a> {
 }
 
 impl<'a> Survey<'a> {
-    ghost use Rattle.bolt_etcd.specs.Surveys.{IsSurveyOf, NotesMember};
+    ghost use Rattle.bolt_etcd.specs.StoreSurveys.{IsSurveyOf, NotesMember};
 
     /// Goes over all that is recovered of a file.
     pub fn of(

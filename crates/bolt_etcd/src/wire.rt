@@ -1,6 +1,6 @@
 //! The wire format of protocol buffers: a message is a list of fields, each a tag and a value.
 ghost use Rattle.std.specs.Prelude.{◌<◌, ◌≤◌, IfSome, length};
-ghost use Rattle.bolt_etcd.specs.{Records.bytes_in, Records.varint_in, Returns.Returns, Shown.before, Shown.shown_field, Shown.shown_value};
+ghost use Rattle.bolt_etcd.specs.{Records.bytes_in, Records.varint_in, Returns.Returns, ShownRecords.before, ShownRecords.shown_field, ShownRecords.shown_value};
 ghost use Rattle.bolt_etcd.specs.Wire.{field, first, value, varint};
 
 /// The greatest number of bytes in a varint.

@@ -12,7 +12,7 @@ pub mod Metas
 pub mod Pages
 pub mod Private
 pub mod ReadBack
-pub mod Shown
+pub mod ShownGoodPages
 pub mod ShownIds
 pub mod ShownInline
 pub mod Sinks

@@ -5,7 +5,7 @@
 ghost use Rattle.std.specs.Prelude.{◌≡◌, ◌≤◌, ◌++◌, drop, length};
 ghost use Rattle.bolt_format.specs.Encoded.{branch_header, head_bytes, header_bytes, leaf_header, meta_bytes, meta_record};
 
-use crate::bucket::HEAD_LEN;
+use crate::bucket_value::HEAD_LEN;
 use crate::bytes::fnv1a;
 use crate::element::{BUCKET_FLAGS, ELEMENT_LEN};
 use crate::header::{HEADER_LEN, Kind};

@@ -19,9 +19,9 @@ pub struct Page<'a> {
     ghost good: { content_fault kind count span.now ≡ None } by { Prim.hlevel props },
 }
 
-#[tactic(auto, unfolding(crate::specs::Shown::shown))]
+#[tactic(auto, unfolding(crate::specs::ShownGoodPages::shown))]
 impl<'a> Page<'a> {
-    ghost use Rattle.bolt_format.specs.Shown.{shown};
+    ghost use Rattle.bolt_format.specs.ShownGoodPages.{shown};
 
     /// The kind of the page.
     pub fn kind(&self) -> Kind

@@ -4,9 +4,9 @@
 #![tactic(auto)]
 
 mod bbolt_meta;
-mod bucket;
+mod bucket_value;
 mod bytes;
-mod content;
+mod content_tests;
 mod element;
 mod elements;
 mod encode;
@@ -23,7 +23,7 @@ mod sink;
 mod tree_page;
 
 pub use bbolt_meta::{bbolt_page_size, bbolt_slot};
-pub use bucket::{HEAD_LEN, Head, Inline};
+pub use bucket_value::{HEAD_LEN, Head, Inline};
 pub use bytes::fnv1a;
 pub use element::{Branch, ELEMENT_LEN, Leaf, MAX_KEY_LEN, MAX_VALUE_LEN};
 pub use elements::{Branches, Leaves};

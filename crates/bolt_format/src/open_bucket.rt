@@ -2,7 +2,7 @@
 ghost use Rattle.std.specs.Prelude.{◌≡◌};
 ghost use Rattle.bolt_format.specs.{Elements.IsBucketValue, Elements.head_root, Elements.head_sequence, Elements.inline_elements, Elements.inline_number, ShownInline.shown_inline, TreePages.leaf_overflow};
 
-use crate::bucket::{HEAD_LEN, Head, Inline};
+use crate::bucket_value::{HEAD_LEN, Head, Inline};
 use crate::bytes::u64_at;
 use crate::header::Header;
 use crate::tree_page::LeafPage;

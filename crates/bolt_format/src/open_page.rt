@@ -2,10 +2,10 @@
 //! is the fault.
 ghost use Rattle.std.specs.Prelude.{◌≡◌, ◌+◌, ◌*◌, ◌<◌, ◌^◌, IfErr, IfOk, IsSome, None, OnErr, OnOk, Some};
 ghost use Rattle.std.specs.Result.{result_err};
-ghost use Rattle.bolt_format.specs.{Pages.IsInFile, Pages.page_at, Pages.page_fault, Pages.span_fault, Shown.shown};
+ghost use Rattle.bolt_format.specs.{Pages.IsInFile, Pages.page_at, Pages.page_fault, Pages.span_fault, ShownGoodPages.shown};
 ghost use Rattle.bolt_format.specs.Private.Spans.{IsSpan, IsWithin};
 
-use crate::content::test_content;
+use crate::content_tests::test_content;
 use crate::good_page::Page;
 use crate::header::{Header, Kind};
 use crate::meta::Meta;
@@ -39,7 +39,7 @@ pub fn page<'a>(file: &'a [u8], meta: &Meta, id: u64) -> Result<Page<'a>, PageFa
 }
 
 /// Opens the same page, but tests nothing. The page is known to be good.
-#[tactic(auto, using(crate::proofs::GoodPages::good_fault, crate::proofs::GoodPages::good_content_at), unfolding(crate::specs::Pages::page_at, crate::specs::Shown::shown))]
+#[tactic(auto, using(crate::proofs::GoodPages::good_fault, crate::proofs::GoodPages::good_content_at), unfolding(crate::specs::Pages::page_at, crate::specs::ShownGoodPages::shown))]
 pub fn known<'a>(file: &'a [u8], meta: &Meta, id: u64) -> Page<'a>
     requires { IsSome (page_at file.now meta.now id) }
     ensures { page_at file.now meta.now id ≡ Some (shown result) }
@@ -53,7 +53,7 @@ pub fn known<'a>(file: &'a [u8], meta: &Meta, id: u64) -> Page<'a>
     }
 }
 
-#[tactic(auto, unfolding(crate::specs::Pages::page_at, crate::specs::Pages::page_fault, crate::specs::Shown::shown))]
+#[tactic(auto, unfolding(crate::specs::Pages::page_at, crate::specs::Pages::page_fault, crate::specs::ShownGoodPages::shown))]
 fn test_page<'a>(file: &'a [u8], meta: &Meta, id: u64) -> Result<Page<'a>, u8>
     ensures good { IfOk result (λ page. page_at file.now meta.now id ≡ Some (shown page)) }
     ensures within { IfOk result (λ page. IsInFile file.now meta.now id (shown page)) }

@@ -2,7 +2,7 @@ pub mod CommandLine
 pub mod CopyKinds
 pub mod FormWords
 pub mod Jobs
-pub mod LineWords
+pub mod WordRules
 pub mod MetaChoices
 pub mod PathWords
 pub mod PlainWords

@@ -3,8 +3,8 @@ use Rattle.std.specs.Prelude.{List, [], ◌∷◌, Option, Some, None, Result, O
 use Rattle.std.specs.Str.{bytes_eq}
 use Rattle.bolt_check.specs.Keys.{Key}
 use Rattle.bolt_tree.specs.Paths.{Path}
-use Rattle.bolt_text.specs.{HexPaths.hex_path_in, PartWords.part_by, declared.words.Parts.Parts}
-use Rattle.bolt_text.specs.declared.words.Parts.TheVariants as parts
+use Rattle.bolt_text.specs.{HexPaths.hex_path_in, PartWords.part_by, declared.part_words.Parts.Parts}
+use Rattle.bolt_text.specs.declared.part_words.Parts.TheVariants as parts
 use Rattle.bolt_text.specs.Lines.{Text}
 
 -- what comes next of what was read, or what is wrong with it

@@ -9,7 +9,7 @@ use Rattle.bolt_text.specs.Numbers.{decimal_value, is_number, number_in}
 use Rattle.bolt_text.specs.{declared.forms.FigureForm.FigureForm, declared.forms.Form.Form, declared.forms.ListForm.ListForm}
 use Rattle.bolt_job.specs.FormWords.{figure_form_by, form_by, list_form_by}
 use Rattle.clap.specs.Words.{Rule, new_rule}
-use Rattle.bolt_job.specs.LineWords.{alone, by_letter, by_name, needed, several, valued}
+use Rattle.bolt_job.specs.WordRules.{alone, by_letter, by_name, needed, several, valued}
 use Rattle.bolt_text.specs.Lines.{Text}
 use Rattle.bolt_job.specs.PathWords.{◌>>=◌, each_part, hex_path_by, part_of, parts_by, prefix_of}
 use Rattle.bolt_job.specs.declared.choices.BucketsShown.{BucketsShown}
@@ -21,7 +21,7 @@ use Rattle.bolt_job.specs.declared.choices.Extent.TheVariants as extent
 use Rattle.bolt_job.specs.declared.choices.MetaChoice.{MetaChoice}
 use Rattle.bolt_job.specs.declared.choices.MetaChoice.TheVariants as choice
 use Rattle.bolt_job.specs.declared.choices.PageSize.{PageSize}
-use Rattle.bolt_job.specs.declared.etcd_commands.{EtcdCheckJob.EtcdCheckJob, EtcdGetJob.EtcdGetJob, EtcdKeysJob.EtcdKeysJob, EtcdRepairJob.EtcdRepairJob, EtcdRevisionsJob.EtcdRevisionsJob}
+use Rattle.bolt_job.specs.declared.etcd_jobs.{EtcdCheckJob.EtcdCheckJob, EtcdGetJob.EtcdGetJob, EtcdKeysJob.EtcdKeysJob, EtcdRepairJob.EtcdRepairJob, EtcdRevisionsJob.EtcdRevisionsJob}
 use Rattle.bolt_job.specs.declared.page_commands.{CheckJob.CheckJob, InfoJob.InfoJob, PageJob.PageJob, PagesJob.PagesJob}
 use Rattle.bolt_job.specs.declared.bucket_commands.{BucketsJob.BucketsJob, GetJob.GetJob, KeysJob.KeysJob, ListJob.ListJob, StatsJob.StatsJob}
 use Rattle.bolt_job.specs.declared.writing_commands.{CompactJob.CompactJob, LoadJob.LoadJob}

@@ -1,7 +1,7 @@
 -- The lines of the commands as the code has them.
 use Rattle.std.specs.Prelude.{List, Option, Some, None, map}
 use Rattle.clap.specs.Words.{Rule, new_rule}
-use Rattle.bolt_job.specs.LineWords.{alone, by_letter, by_name, several, valued}
+use Rattle.bolt_job.specs.WordRules.{alone, by_letter, by_name, several, valued}
 use Rattle.bolt_text.specs.Lines.{Text}
 use Rattle.bolt_job.specs.{declared.command_line.Argument.Argument, declared.command_line.Flag.Flag, declared.command_line.Syntax.Syntax}
 use Rattle.bolt_job.specs.declared.command_line.Flag.TheVariants.{Both, Long, Operand, Operands, Short}

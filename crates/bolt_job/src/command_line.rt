@@ -1,6 +1,6 @@
 //! What a command is made of, and its description for `clap`.
 ghost use Rattle.std.specs.Prelude.{◌≡◌, false, IfOk, map};
-ghost use Rattle.bolt_job.specs.LineWords.{alone};
+ghost use Rattle.bolt_job.specs.WordRules.{alone};
 ghost use Rattle.bolt_job.specs.CommandLine.{IsCommand, bare_program, command_with, program_of};
 ghost use Rattle.bolt_job.specs.Syntaxes.{argument_rule, line_of};
 ghost use Rattle.clap.specs.Words.{new_app, rule_of};

@@ -4,18 +4,18 @@
 mod bucket_commands;
 mod choices;
 mod command_line;
-mod etcd_commands;
+mod etcd_jobs;
 mod job;
+mod job_words;
 mod line;
 mod page_commands;
 mod path_words;
 mod refusal;
-mod words;
 mod writing_commands;
 
 pub use bucket_commands::{BucketsJob, GetJob, KeysJob, ListJob, StatsJob};
 pub use choices::{AssumedMeta, BucketsShown, CopyKind, Extent, MetaChoice, PageSize};
-pub use etcd_commands::{EtcdCheckJob, EtcdGetJob, EtcdKeysJob, EtcdRepairJob, EtcdRevisionsJob};
+pub use etcd_jobs::{EtcdCheckJob, EtcdGetJob, EtcdKeysJob, EtcdRepairJob, EtcdRevisionsJob};
 pub use job::Job;
 pub use page_commands::{CheckJob, InfoJob, PageJob, PagesJob};
 pub use refusal::Refusal;

@@ -6,7 +6,7 @@ use Rattle.bolt_layout.proofs.Words.{AllByRecursion, At_page, cases_lt, chosen_o
 use Rattle.bolt_layout.proofs.PageRows.{IsInARow, IsPageFit, last_written, page_headed, row_last}
 use Rattle.bolt_layout.proofs.Soundness.{IsLaidOut, laid_out}
 use Rattle.bolt_format.specs.{Metas.IsInOne, Metas.IsInSlot, declared.page_fault.TheConstants.PageFault.CUT, declared.meta.Slot.Slot}
-use Rattle.bolt_check.specs.{Findings.PageTests, Findings.finding, Sound.IsFirstFinding, Sound.IsRefused, declared.fault.CheckFault.TheVariants.Structure}
+use Rattle.bolt_check.specs.{Findings.PageTests, Findings.finding, Sound.IsFirstFinding, Sound.IsRefused, declared.check_fault.CheckFault.TheVariants.Structure}
 use Rattle.bolt_layout.specs.Copies.{RefusesPrefixes}
 
 -- a part before the cut is there

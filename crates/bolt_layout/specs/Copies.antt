@@ -3,7 +3,7 @@ use Rattle.std.specs.Prelude.{◌≡◌, ◌≤◌, ◌<◌, ◌^◌, ℕ, true,
 use Rattle.bolt_format.specs.{Metas.HasBothMetas, Metas.IsActive, Metas.IsPageSize, declared.page_fault.TheConstants.PageFault.CUT}
 use Rattle.bolt_format.specs.{declared.meta.Meta.Meta, declared.meta.MetaFault.TheVariants.Cut, declared.meta.Slot.TheVariants.One}
 use Rattle.bolt_check.specs.{Accounts.IsFree, Accounts.IsInUse, Findings.finding, Sound.IsRefused, Sound.IsSound, Sound.IsUsed}
-use Rattle.bolt_check.specs.declared.fault.CheckFault.TheVariants.{Open, Structure}
+use Rattle.bolt_check.specs.declared.check_fault.CheckFault.TheVariants.{Open, Structure}
 use Rattle.bolt_tree.specs.{Listing.IsListing, Listing.Member, Tree.Tree, Tree.listing_of, Tree.tree_of}
 use Rattle.bolt_layout.specs.{Layout.layout_meta, Layout.layout_of, Storable.IsStorable, declared.Layout.Layout}
 

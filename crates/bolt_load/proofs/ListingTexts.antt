@@ -8,8 +8,8 @@ use Rattle.bolt_text.proofs.LineLemmas.{lines_cut, no_lines}
 use Rattle.bolt_load.proofs.{NextLines.members_first, PlacedLines.fault_is_of_place, StoredTexts.AreKeys, StoredTexts.FitsMember}
 use Rattle.bolt_load.proofs.WrittenLines.{line_back, line_is, line_shaped, member_words, words_without}
 use Rattle.bolt_load.specs.LineFaults.{is_whole}
-use Rattle.bolt_load.specs.declared.fault.LineFault.TheVariants.{CutOff}
-use Rattle.bolt_load.specs.declared.fault.LoadFault.TheVariants.{Line}
+use Rattle.bolt_load.specs.declared.load_fault.LineFault.TheVariants.{CutOff}
+use Rattle.bolt_load.specs.declared.load_fault.LoadFault.TheVariants.{Line}
 use Rattle.std.proofs.lemmas.{Bool.Decides.Decides-eqb, Slice.Eq.ends_is}
 use Rattle.bolt_tree.specs.Tree.{tree_of}
 use Rattle.bolt_check.proofs.Lists.{at_has, has_left, has_right}

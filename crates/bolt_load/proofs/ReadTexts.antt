@@ -4,7 +4,7 @@ use Rattle.std.proofs.lemmas.Grind.{common_steps}
 use Rattle.bolt_load.proofs.Words.{IfSome, IsFaultOfLines, IsLoadFault, LineFault, lines_of, StopsAt, Text}
 use Rattle.std.specs.Option.{IfNone}
 use Rattle.std.specs.Prelude.{IfErr, IsErrAnd, Result}
-use Rattle.bolt_load.specs.{declared.fault.LoadFault.LoadFault}
+use Rattle.bolt_load.specs.{declared.load_fault.LoadFault.LoadFault}
 
 module _ (text decoded : Text) where
   goes_on : (fault : Option LineFault) → IfNone fault (decoded ≡ text) → IfSome fault (StopsAt text decoded) → (more : List Text) × (lines_of text ≡ lines_of decoded ++ more)

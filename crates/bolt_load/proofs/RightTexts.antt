@@ -2,7 +2,7 @@
 use Rattle.std.proofs.Common.{arith, ◌≡◌, ◌∙◌, ℕ, List, [], ◌∷◌, ◌++◌, None, ap, sym, append_assoc, append-nil}
 use Rattle.std.proofs.lemmas.Grind.{common_steps}
 use Rattle.bolt_load.proofs.Words.{filter_map-append, IsListingText, IsLoadFault, line_fault, line_member, LineFault, Member, members_of_lines, RightAfter, Text}
-use Rattle.bolt_load.specs.declared.fault.LoadFault.TheVariants.{Line}
+use Rattle.bolt_load.specs.declared.load_fault.LoadFault.TheVariants.{Line}
 
 right_at : (before : List Member) (front : List Text) (line : Text) (rest : List Text) → RightAfter before (front ++ line ∷ rest) → line_fault (before ++ members_of_lines front) line ≡ None
 right_at before [] line rest right = ap (λ ms. line_fault ms line) (append-nil before) ∙ right.0

@@ -5,8 +5,8 @@ pub use Rattle.bolt_load.specs.LineFaults.{IsFaultOfLines, IsFirstFault, IsListi
 pub use Rattle.bolt_load.specs.Private.Decoding.{AddsDecoded, AreDecoded, BeginsWith, GivesLine, StopsAt, item_bytes, member_bytes, path_bytes}
 pub use Rattle.bolt_load.specs.Private.OpenPaths.{fault_after, order_fault, is_open}
 unfoldable pub use Rattle.bolt_load.specs.ShownMembers.{members_left, members_path}
-pub use Rattle.bolt_load.specs.declared.fault.LineFault.{LineFault}
-pub use Rattle.bolt_load.specs.declared.fault.LineFault.TheVariants.{KeyTooLong, NotALine, ValueTooLong}
+pub use Rattle.bolt_load.specs.declared.load_fault.LineFault.{LineFault}
+pub use Rattle.bolt_load.specs.declared.load_fault.LineFault.TheVariants.{KeyTooLong, NotALine, ValueTooLong}
 pub use Rattle.bolt_text.specs.Cuts.{IsCutAt, IsFirstLine, IsWithout}
 pub use Rattle.bolt_text.specs.HexPaths.{hex_bytes_in, part_in, parts_in}
 unfoldable pub use Rattle.bolt_text.specs.HexPaths.{hex_path_in}

@@ -1,5 +1,5 @@
 pub mod ByteMembers
-pub mod FaultWords
+pub mod LoadFaultWords
 pub mod LineFaults
 pub mod PlainTexts
 pub mod Private

@@ -6,9 +6,9 @@ use Rattle.std.specs.Ordering.{is_lt}
 use Rattle.bolt_check.specs.Keys.{Key}
 use Rattle.bolt_tree.specs.{Entries.Bucket, Entries.Item, Entries.Value, Listing.Member, ListingParts.has_bucket, Paths.Path, Paths.path_cmp}
 use Rattle.bolt_text.specs.{LineMembers.line_member, LineMembers.members_of_lines, Lines.Text, Lines.lines_of}
-use Rattle.bolt_load.specs.declared.fault.LineFault.{LineFault}
-use Rattle.bolt_load.specs.{declared.fault.LoadFault.LoadFault, declared.fault.LoadFault.TheVariants.Line, declared.fault.LoadFault.TheVariants.Memory}
-use Rattle.bolt_load.specs.declared.fault.LineFault.TheVariants.{CutOff, KeyTooLong, NoBucketAbove, NotALine, PathNotRising, ValueTooLong}
+use Rattle.bolt_load.specs.declared.load_fault.LineFault.{LineFault}
+use Rattle.bolt_load.specs.{declared.load_fault.LoadFault.LoadFault, declared.load_fault.LoadFault.TheVariants.Line, declared.load_fault.LoadFault.TheVariants.Memory}
+use Rattle.bolt_load.specs.declared.load_fault.LineFault.TheVariants.{CutOff, KeyTooLong, NoBucketAbove, NotALine, PathNotRising, ValueTooLong}
 
 -- more bytes than a key can have, or a value
 abbrev pub is_long_key : Key → Bool

@@ -10,7 +10,7 @@ ghost use Rattle.bolt_text.specs.LineWords.{word_item, words_member};
 ghost use Rattle.bolt_tree.specs.Entries as entries;
 ghost use Rattle.bolt_load.specs.LineFaults as faults;
 
-use crate::fault::LineFault;
+use crate::load_fault::LineFault;
 use bolt_format::{MAX_KEY_LEN, MAX_VALUE_LEN};
 use bolt_text::{ItemWord, LineWords, cut_at, decode_digits, first_line, words_of};
 use bolt_tree::NoMemory;

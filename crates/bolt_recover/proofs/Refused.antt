@@ -1,7 +1,7 @@
 -- Nothing is recovered under a meta that was looked for.
 use Rattle.std.proofs.Common.{ℕ, List}
-use Rattle.bolt_check.specs.declared.fault.CheckFault.{CheckFault}
-use Rattle.bolt_check.specs.declared.fault.CheckFault.TheVariants.{Accounts, Memory, Open, Structure}
+use Rattle.bolt_check.specs.declared.check_fault.CheckFault.{CheckFault}
+use Rattle.bolt_check.specs.declared.check_fault.CheckFault.TheVariants.{Accounts, Memory, Open, Structure}
 use Rattle.bolt_format.specs.{declared.meta.Meta.Meta, declared.meta.MetaFault.MetaFault}
 use Rattle.bolt_recover.specs.Refusals.{IsRefusedRoot, IsUnrecoverable}
 

@@ -22,13 +22,13 @@ pub use Rattle.bolt_check.specs.Sound.{HasSoundTrees}
 pub use Rattle.bolt_check.specs.Ways.{At_inline, At_page, Before, PageSpot, Reach, SpanAt, SpanHas, SpanOf, Spot, bucket_spot, bucket_spots, child_spot, follow}
 pub use Rattle.bolt_check.specs.Ways.{reached, root_spot, step, step_at, step_entry, step_from, step_on, upper_from}
 pub use Rattle.bolt_check.specs.declared.checked.Checked.{Checked}
-pub use Rattle.bolt_check.specs.declared.fault.CheckFault.TheVariants.{Structure}
+pub use Rattle.bolt_check.specs.declared.check_fault.CheckFault.TheVariants.{Structure}
 pub use Rattle.bolt_check.specs.declared.finding.Finding.{Finding}
 pub use Rattle.bolt_format.specs.{ElementPlaces.leaf_view, Elements.LeafElement, Elements.head_root, Elements.head_sequence, Elements.inline_elements}
 pub use Rattle.bolt_format.specs.Headers.{count_field, flags_field, kind_of}
 pub use Rattle.bolt_format.specs.Pages.{PageView, from_page, page_overflow, shown_as, shown_leaves, span_bytes}
 pub use Rattle.bolt_format.specs.{declared.header.Kind.Kind, declared.meta.Meta.Meta}
-unfoldable pub use Rattle.bolt_format.specs.{Pages.page_at, Pages.page_fault, Shown.shown}
+unfoldable pub use Rattle.bolt_format.specs.{Pages.page_at, Pages.page_fault, ShownGoodPages.shown}
 pub use Rattle.bolt_recover.specs.Found.{AreFound, FoundBelow, IsFoundNext, IsFoundPage, found_numbers}
 pub use Rattle.bolt_recover.specs.Joined.{HasBucketKey, IsElement, IsFoundMember, IsInnerMember, IsJoined, LacksBucketKey, LeavesRoom, found_tree, inside_of}
 pub use Rattle.bolt_recover.specs.Joined.{is_found_path, joined_listing, lost_and_found, put_bucket, tree_of_elements}
@@ -56,7 +56,7 @@ pub use Rattle.bolt_recover.specs.Refusals.{IsRefusedRoot, KeepsRoot, LosesRoot}
 pub use Rattle.bolt_recover.specs.{ShownFound.IsFoundView, ShownLosses.loss_view}
 pub use Rattle.bolt_recover.specs.Surveys.{Gives, IsClaimedIn, IsOpen, IsSurvey, LosesNothing, Surveys, SurveyedWay, way_kept, lost}
 pub use Rattle.bolt_format.specs.declared.tree_page.TreePage.{TreePage}
-pub use Rattle.bolt_recover.specs.{declared.content.KeptPage.KeptPage, declared.content.OpenPage.OpenPage}
+pub use Rattle.bolt_recover.specs.{declared.kept_page.KeptPage.KeptPage, declared.kept_page.OpenPage.OpenPage}
 pub use Rattle.bolt_recover.specs.{declared.found.Found.Found, declared.kept.Kept.Kept}
 pub use Rattle.bolt_recover.specs.declared.lost_and_found.Trees.TheVariants.{Damaged, Rootless, Sound}
 pub use Rattle.bolt_recover.specs.{declared.steps.NextVisit.NextVisit}

@@ -4,12 +4,12 @@
 #![tactic(auto)]
 
 mod bucket_key;
-mod content;
 mod found;
 mod found_leaves;
 mod found_members;
 mod joined;
 mod kept;
+mod kept_page;
 pub mod laws;
 mod losses;
 mod lost_and_found;

@@ -7,7 +7,7 @@ ghost use Rattle.bolt_format.specs.Elements.{IsBucketValue};
 ghost use Rattle.bolt_recover.specs.Private.Frames.{Advances, StepsOn, IsAllLeft, AreStepsPlaced, Skips, TakesStep, TakesBucket, loss_ahead, steps_path};
 ghost use Rattle.bolt_recover.specs.{Refusals.IsRefusedRoot, Refusals.KeepsRoot, ShownLosses.loss_view};
 
-use crate::content::{KeptPage, OpenPage};
+use crate::kept_page::{KeptPage, OpenPage};
 use crate::losses::Loss;
 use bolt_check::{CheckFault, Claims, Finding, NoMemory, PageSpot, Spot};
 use bolt_format::{Leaf, Meta};

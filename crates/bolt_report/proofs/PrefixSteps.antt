@@ -6,12 +6,12 @@ use Rattle.bolt_report.proofs.PrefixLemmas.{after_least, from_least, key_begins,
 use Rattle.std.specs.Option.{option_map}
 use Rattle.std.specs.Prelude.{⊤, IfErr, IsErrAnd}
 use Rattle.bolt_tree.specs.{BucketViews.AreSorted, BucketViews.BucketView, CursorBounds.OpensByNext, CursorBounds.OpensSeek}
-use Rattle.bolt_tree.specs.Openings.{IsGap, IsSeekCount, sum_to}
+use Rattle.bolt_tree.specs.OpeningCounts.{IsGap, IsSeekCount, sum_to}
 use Rattle.bolt_tree.specs.{Places.next_move, Places.nothing_at, Places.move_onto, Places.place_in, Places.seek_move, declared.cursor.Cursor.Cursor}
 use Rattle.bolt_tree.specs.declared.entry.Entry.{Entry}
 use Rattle.bolt_check.specs.Counts.{counted}
 use Rattle.bolt_tree.proofs.{AllEntries.sorted_at, CursorMoves.none_past, CursorMoves.not_below, Leaving.TheEntries, Leaving.the_one, PagerLemmas.counted_more}
-use Rattle.bolt_text.specs.{declared.forms.Form.TheVariants.Json, declared.fault.ReportFault.TheVariants.NoMemory, declared.fault.ReportFault.TheVariants.Sink}
+use Rattle.bolt_text.specs.{declared.forms.Form.TheVariants.Json, declared.report_fault.ReportFault.TheVariants.NoMemory, declared.report_fault.ReportFault.TheVariants.Sink}
 
 -- ---- the entries of a cursor's bucket
 

@@ -10,7 +10,7 @@ pub use Rattle.bolt_format.proofs.WroteLemmas.{Wrote-element, Wrote-element_retu
 pub use Rattle.bolt_format.specs.ElementPlaces.{branch_view, leaf_view}
 pub use Rattle.bolt_format.specs.Elements.{LeafElement}
 unfoldable pub use Rattle.bolt_format.specs.Pages.{page_at}
-unfoldable pub use Rattle.bolt_format.specs.Shown.{shown}
+unfoldable pub use Rattle.bolt_format.specs.ShownGoodPages.{shown}
 pub use Rattle.bolt_format.specs.ShownIds.{shown_ids}
 pub use Rattle.bolt_format.specs.declared.meta.Meta.{Meta}
 pub use Rattle.bolt_recover.specs.ShownLosses.{loss_view}
@@ -33,7 +33,7 @@ pub use Rattle.bolt_text.specs.Forms.{digits_json, item_json, json_text, value_t
 pub use Rattle.bolt_text.specs.JsonLines.{end_json, parts_json}
 pub use Rattle.bolt_text.specs.Lines.{line}
 pub use Rattle.bolt_text.specs.ListForms.{lines_form, list_line, listing_lines}
-pub use Rattle.bolt_text.specs.declared.fault.ReportFault.{ReportFault}
+pub use Rattle.bolt_text.specs.declared.report_fault.ReportFault.{ReportFault}
 pub use Rattle.bolt_text.specs.declared.forms.Form.{Form}
 pub use Rattle.bolt_text.specs.declared.forms.ListForm.{ListForm}
 pub use Rattle.bolt_tree.proofs.Leaving.{fewer_left, next_shows, next_stands, the_entries}

@@ -1,7 +1,7 @@
 //! A page as a text.
 ghost use Rattle.std.specs.Prelude.{◌≡◌, ◌≢◌, ◌↔◌, None, Err, IfOk, Some, ◌++◌, IsTrue, flat_map};
 ghost use Rattle.std.specs.Result.{result_err};
-ghost use Rattle.bolt_format.specs.{Endings.ending, Freelists.free_ids_at, Pages.page_at, Shown.shown, ShownIds.shown_ids, Wrote.Wrote};
+ghost use Rattle.bolt_format.specs.{Endings.ending, Freelists.free_ids_at, Pages.page_at, ShownGoodPages.shown, ShownIds.shown_ids, Wrote.Wrote};
 ghost use Rattle.bolt_format.specs.TreePages.{branches_on, leaves_on};
 ghost use Rattle.bolt_format.specs.{ElementPlaces.branch_view, ElementPlaces.leaf_view, Elements.IsBucketValue};
 ghost use Rattle.bolt_report.specs.PageLines.{head_lines, page_head, item_lines, items_on, kind_text, page_lines, branch_line, bucket_end, id_line, leaf_line, read_ids};

@@ -14,7 +14,7 @@ pub use Rattle.bolt_format.specs.ElementPlaces.{branch_view, leaf_view}
 pub use Rattle.bolt_format.specs.Elements.{BranchElement, LeafElement}
 unfoldable pub use Rattle.bolt_format.specs.Pages.{page_at}
 pub use Rattle.bolt_format.specs.ElementsLeft.{branches_left, leaves_left}
-unfoldable pub use Rattle.bolt_format.specs.Shown.{shown}
+unfoldable pub use Rattle.bolt_format.specs.ShownGoodPages.{shown}
 pub use Rattle.bolt_format.specs.TreePages.{branches_on, is_tree_kind, leaves_on, shown_page}
 pub use Rattle.bolt_format.specs.declared.meta.Meta.{Meta}
 pub use Rattle.bolt_stats.specs.Deepest.{deepest_from, deepest_of, depth_of, greatest, height_from, height_of, inline_depth, inner_inline, leaf_at, counted_depth, child_pages}

@@ -8,7 +8,7 @@ use Rattle.bolt_text.proofs.ReportLemmas.{ends_by}
 use Rattle.bolt_format.proofs.SinkLemmas.{AppendsProperPrefix-first, AppendsProperPrefix-second}
 use Rattle.bolt_format.specs.Endings.{Ending}
 use Rattle.bolt_text.specs.ReportEndings.{HaltsShort, fault_ending, report_ending}
-use Rattle.bolt_text.specs.declared.fault.ReportFault.TheVariants as fault
+use Rattle.bolt_text.specs.declared.report_fault.ReportFault.TheVariants as fault
 
 module _ {S : Type 0} {sink : Ghosts S} where
   -- the same text in other words

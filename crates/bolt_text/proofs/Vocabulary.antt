@@ -20,7 +20,7 @@ pub use Rattle.bolt_text.specs.Lines.{Text, line}
 unfoldable pub use Rattle.bolt_text.specs.Lines.{lines_of}
 pub use Rattle.bolt_text.specs.Numbers.{number_in}
 pub use Rattle.bolt_text.specs.Pieces.{later_parts, part_text, path_text, pieces_text, separator}
-pub use Rattle.bolt_text.specs.declared.fault.ReportFault.{ReportFault}
+pub use Rattle.bolt_text.specs.declared.report_fault.ReportFault.{ReportFault}
 pub use Rattle.bolt_tree.specs.Entries.{Item, Value}
 pub use Rattle.bolt_tree.specs.Listing.{Member}
 pub use Rattle.bolt_tree.specs.ListingParts.{begins_with}

@@ -2,8 +2,8 @@
 use Rattle.std.specs.Prelude.{Option, Some, codes, drop, take, if◌then◌else◌}
 use Rattle.std.specs.Str.{bytes_eq}
 use Rattle.bolt_check.specs.Keys.{Key}
-use Rattle.bolt_text.specs.{HexPaths.hex_bytes_in, Lines.Text, declared.words.Parts.Parts}
-use Rattle.bolt_text.specs.declared.words.Parts.TheVariants as parts
+use Rattle.bolt_text.specs.{HexPaths.hex_bytes_in, Lines.Text, declared.part_words.Parts.Parts}
+use Rattle.bolt_text.specs.declared.part_words.Parts.TheVariants as parts
 
 -- what follows `0x` is in hexadecimal, and any other word is text
 abbrev pub mixed_in : Text → Option Key

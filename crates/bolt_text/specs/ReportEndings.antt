@@ -1,8 +1,8 @@
 -- How a call ends that may stop for reasons other than its sink.
 use Rattle.std.specs.Prelude.{◌≡◌, List, ℕ, Result, Ok, Err}
 use Rattle.bolt_format.specs.{Endings.Ending, Endings.whole, Endings.broken, Endings.halted, Sinks.AppendsProperPrefix, declared.sink.Sink.Ghosts}
-use Rattle.bolt_text.specs.declared.fault.ReportFault.{ReportFault}
-use Rattle.bolt_text.specs.declared.fault.ReportFault.TheVariants.{NoMemory, Page, Sink}
+use Rattle.bolt_text.specs.declared.report_fault.ReportFault.{ReportFault}
+use Rattle.bolt_text.specs.declared.report_fault.ReportFault.TheVariants.{NoMemory, Page, Sink}
 
 -- the fault is Sink exactly if the sink failed
 abbrev pub fault_ending : ReportFault → Ending

@@ -5,13 +5,13 @@ ghost use Rattle.bolt_format.specs.{Endings.ending, Wrote.Wrote};
 ghost use Rattle.bolt_text.specs.Forms.{digits_json, is_text, item_text, json_text, mixed_text, value_text};
 ghost use Rattle.bolt_text.specs.{Pieces.piece_text, ReportEndings.HaltsShort, ReportEndings.report_ending};
 
-use crate::fault::ReportFault;
 use crate::forms::Form;
 use crate::gathered::put;
 use crate::hexadecimal::put_hex;
 use crate::json_text::JsonText;
 use crate::pieces::{Piece, put_pieces};
 use crate::readable::can_be_printed;
+use crate::report_fault::ReportFault;
 use bolt_format::{Sink, SinkFault};
 use std::alloc::Global;
 use std::str;

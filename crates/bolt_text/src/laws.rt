@@ -8,7 +8,7 @@ ghost use Rattle.bolt_text.specs.JsonReadings.{IsMemberOfBytes, digits_of, item_
 ghost use Rattle.bolt_text.specs.{ListForms.listing_lines, ListLines.listing_text, PartWords.part_by};
 ghost use Rattle.bolt_text.specs.declared.forms.Form.TheVariants as Form;
 ghost use Rattle.bolt_text.specs.declared.forms.ListForm.TheVariants as ListForm;
-ghost use Rattle.bolt_text.specs.declared.words.Parts.TheVariants as Parts;
+ghost use Rattle.bolt_text.specs.declared.part_words.Parts.TheVariants as Parts;
 
 /// A JSON line without its line feed is a JSON document: an object with the path, and the value or
 /// the sequence. A reader that looks up its members by their names finds all of it again, whatever its

@@ -3,7 +3,6 @@
 //! accepted a prefix of the text.
 #![tactic(auto)]
 
-mod fault;
 mod forms;
 mod gathered;
 mod hexadecimal;
@@ -12,20 +11,21 @@ mod json_text;
 pub mod laws;
 mod line_words;
 mod member_lines;
+mod part_words;
 mod path_order;
 mod path_pieces;
 mod pieces;
 mod readable;
-mod words;
+mod report_fault;
 
-pub use fault::ReportFault;
 pub use forms::{FigureForm, Form, ListForm};
 pub use gathered::put;
 pub use hexadecimal::decode_digits;
 pub use item_writer::{ItemWriter, item, printable, value};
 pub use line_words::{ItemWord, LineWords, cut_at, first_line, words_of};
 pub use member_lines::MemberLines;
+pub use part_words::{Parts, read_number};
 pub use path_order::{is_before, is_below};
 pub use path_pieces::PathForm;
 pub use pieces::{Piece, put_pieces};
-pub use words::{Parts, read_number};
+pub use report_fault::ReportFault;

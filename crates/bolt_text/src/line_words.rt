@@ -5,7 +5,7 @@ ghost use Rattle.bolt_text.specs.{Cuts.IsCutAt, Cuts.IsFirstLine, Cuts.IsWithout
 ghost use Rattle.bolt_text.specs.LineWords.{last_word, line_words, shown_word, shown_words, word_item, words_member};
 ghost use Rattle.bolt_text.specs.Numbers.{number_in};
 
-use crate::words::read_number;
+use crate::part_words::read_number;
 use memchr::memchr;
 
 /// The last word of a line: a value in hexadecimal, or the sequence of a bucket.

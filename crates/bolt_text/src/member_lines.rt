@@ -5,12 +5,12 @@ ghost use Rattle.bolt_text.specs.{ListForms.lines_form, ListForms.list_line, Rep
 ghost use Rattle.bolt_text.specs.ListLines.{member_line};
 ghost use Rattle.bolt_tree.specs.{Paths.path_of, ShownEntries.item_view};
 
-use crate::fault::ReportFault;
 use crate::forms::ListForm;
 use crate::gathered::put;
 use crate::json_text::JsonText;
 use crate::path_pieces::PathForm;
 use crate::pieces::{Piece, put_pieces};
+use crate::report_fault::ReportFault;
 use bolt_format::{Sink, SinkFault};
 use bolt_tree::Item;
 use std::alloc::Global;

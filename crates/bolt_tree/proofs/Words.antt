@@ -22,8 +22,8 @@ pub use Rattle.bolt_tree.specs.Entries.{AreEntries, EntryView, Inline_page, IsEn
 pub use Rattle.bolt_tree.specs.{Entries.item_of, Entries.start_of, FileListings.ForListing, FileListings.root_start}
 pub use Rattle.bolt_tree.specs.FileTrees.{file_entries, tree_with, tree_within}
 pub use Rattle.bolt_tree.specs.Listing.{IsListing, Lists, Member, member_cmp, rest_from}
-pub use Rattle.bolt_tree.specs.Openings.{GapsCoverAll, HasCount, IsAddress, IsAfter, IsGap, IsHome, IsNear, IsNearFrom, IsNearest, IsPagesUpTo, IsSeekCount}
-pub use Rattle.bolt_tree.specs.{Openings.IsSeekPage, Openings.IsUpTo, Openings.sum_to, Order.IsBelow, Order.Rises}
+pub use Rattle.bolt_tree.specs.OpeningCounts.{GapsCoverAll, HasCount, IsAddress, IsAfter, IsGap, IsHome, IsNear, IsNearFrom, IsNearest, IsPagesUpTo, IsSeekCount}
+pub use Rattle.bolt_tree.specs.{OpeningCounts.IsSeekPage, OpeningCounts.IsUpTo, OpeningCounts.sum_to, Order.IsBelow, Order.Rises}
 pub use Rattle.bolt_tree.specs.Paths.{HasEntries, Holds, Names, Path, path_cmp, path_of}
 pub use Rattle.bolt_tree.specs.Places.{Fresh, Move, Moves, On, Past, Place, ShowsMove, first_move, last_move, least_from, next_move, nothing_at, move_onto, place_in}
 pub use Rattle.bolt_tree.specs.Places.{prev_move, seek_move}

@@ -2,7 +2,7 @@
 use Rattle.std.specs.Prelude.{◌≡◌, ◌≤◌, ◌+◌, ◌*◌, ℕ, suc, List, length}
 use Rattle.bolt_format.specs.Elements.{LeafElement}
 use Rattle.bolt_check.specs.{Keys.Key, Counts.counted}
-use Rattle.bolt_tree.specs.{BucketViews.AreSorted, BucketViews.BucketView, Openings.IsGap, Openings.IsNear, Openings.IsSeekCount}
+use Rattle.bolt_tree.specs.{BucketViews.AreSorted, BucketViews.BucketView, OpeningCounts.IsGap, OpeningCounts.IsNear, OpeningCounts.IsSeekCount}
 use Rattle.bolt_tree.specs.Places.{Fresh, On, Past, Place}
 
 -- it opens the pages after that of the preceding entry, up to that of entry i or to the bucket's end

@@ -4,7 +4,7 @@ use Rattle.bolt_format.specs.{Elements.LeafElement, Pages.PageView, Pages.page_a
 use Rattle.bolt_format.specs.declared.header.Kind.TheVariants as kind
 use Rattle.bolt_check.specs.{Keys.Key, OnWays.IsOnWay, Sound.HasSoundTrees}
 use Rattle.bolt_tree.specs.Entries.{AreEntries, IsEntry, IsStart, Start}
-use Rattle.bolt_tree.specs.{Listing.IsListing, Listing.Member, Openings.IsGap, Openings.IsSeekCount, Places.least_from}
+use Rattle.bolt_tree.specs.{Listing.IsListing, Listing.Member, OpeningCounts.IsGap, OpeningCounts.IsSeekCount, Places.least_from}
 
 -- this holds of each bucket of a file with sound trees
 abbrev pub ForBuckets : (List ℕ → Meta → Start → Type 0) → Type 0

@@ -14,7 +14,7 @@ pub mod ListingParts
 pub mod Lookups
 pub mod Merges
 pub mod Merging
-pub mod Openings
+pub mod OpeningCounts
 pub mod Order
 pub mod Pagers
 pub mod Paths

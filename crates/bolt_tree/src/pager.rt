@@ -1,6 +1,6 @@
 //! Opens the pages of a file, and counts them.
 ghost use Rattle.std.specs.Prelude.{◌≡◌, ◌<◌, ◌^◌, Some};
-ghost use Rattle.bolt_format.specs.Shown.{shown};
+ghost use Rattle.bolt_format.specs.ShownGoodPages.{shown};
 
 use bolt_check::Checked;
 use bolt_format::{Page, TreePage, known};

@@ -8,8 +8,8 @@ use Rattle.bolt_layout.specs.declared.Layout.TheVariants.{Balanced, Plain}
 use Rattle.bolt_bulk.specs.{Private.FormatLimits.longest_key}
 use Rattle.bolt_check.specs.Counts.{saturated}
 use Rattle.bolt_bulk.specs.{Private.Passes.FitLimits, Private.Passes.Wanted, Private.Passes.limits_with, declared.page_setup.PageSetup.PageSetup}
-use Rattle.bolt_bulk.specs.declared.fault.BulkFault.{BulkFault}
-use Rattle.bolt_bulk.specs.declared.fault.BulkFault.TheVariants as fault
+use Rattle.bolt_bulk.specs.declared.bulk_fault.BulkFault.{BulkFault}
+use Rattle.bolt_bulk.specs.declared.bulk_fault.BulkFault.TheVariants as fault
 use Rattle.bolt_bulk.specs.{declared.pass.Ended.Ended, BulkEndings.bulk_ending}
 use Rattle.bolt_format.specs.{Wrote.Wrote, declared.sink.Sink.Ghosts}
 

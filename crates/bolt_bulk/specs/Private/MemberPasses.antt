@@ -5,9 +5,9 @@ use Rattle.bolt_tree.specs.{Listing.Member, Tree.tree_of}
 use Rattle.bolt_layout.specs.{Copies.IsOfOneTree, Copies.layout_of_listing, declared.Layout.Layout}
 use Rattle.bolt_bulk.specs.{Compacting.too_many, WholeListings.IsAgain}
 use Rattle.bolt_bulk.specs.Private.{Endings.EndsPass, Passes.FitLimits, Passes.limits_with}
-use Rattle.bolt_bulk.specs.{declared.fault.BulkFault.BulkFault, declared.limits.Limits.Limits, declared.page_setup.PageSetup.PageSetup}
+use Rattle.bolt_bulk.specs.{declared.bulk_fault.BulkFault.BulkFault, declared.limits.Limits.Limits, declared.page_setup.PageSetup.PageSetup}
 use Rattle.bolt_bulk.specs.declared.pass.Ended.{Ended}
-use Rattle.bolt_bulk.specs.{declared.fault.PlanFault.PlanFault, declared.fault.PlanFault.TheVariants.TooLarge}
+use Rattle.bolt_bulk.specs.{declared.bulk_fault.PlanFault.PlanFault, declared.bulk_fault.PlanFault.TheVariants.TooLarge}
 
 -- the limits are right for each tree that is listed
 abbrev pub FitAll : {M W : Type 0} → (M → W → Type 0) → (W → List Member) → M → Layout → (page_size : ℕ) → Limits → Type 0

@@ -5,7 +5,7 @@ use Rattle.bolt_tree.specs.{Listing.Member, Tree.Tree, Tree.end, Tree.listing_of
 use Rattle.bolt_layout.specs.Laid.{Placed}
 use Rattle.bolt_bulk.specs.{Private.Endings.EndsPass, Private.Parents.Parent}
 use Rattle.bolt_bulk.specs.Private.Passes.{FitLimits, HasLeft, HasRoot, PassIsAt, IsNoDeeper, limits_with, onto, Steps, Wanted}
-use Rattle.bolt_bulk.specs.{declared.fault.BulkFault.BulkFault, declared.limits.Limits.Limits, declared.pass.Ended.Ended, declared.pass.Pass.Pass}
+use Rattle.bolt_bulk.specs.{declared.bulk_fault.BulkFault.BulkFault, declared.limits.Limits.Limits, declared.pass.Ended.Ended, declared.pass.Pass.Pass}
 
 -- what a pass knows at its beginning, if these limits of rows are right
 abbrev pub BeginsAll : Limits → (notes : Bool) → (page_size : ℕ) → Pass → Type 0

@@ -14,8 +14,8 @@ use Rattle.bolt_bulk.specs.{Private.Parents.Parent, Private.Parents.left_in, Pri
 use Rattle.bolt_bulk.specs.Private.BucketRuns.{AreOpenRuns}
 use Rattle.bolt_bulk.specs.Private.OpenRuns.{BucketFrame, Known, Open, all_put, base_in}
 use Rattle.bolt_bulk.specs.{Private.RunViews.BucketRunsView, Private.TakenItems.entries_size, Private.WaitingBuckets.IsWaiting}
-use Rattle.bolt_bulk.specs.{declared.page_setup.PageSetup.PageSetup, declared.fault.BulkFault.BulkFault}
-use Rattle.bolt_bulk.specs.declared.fault.BulkFault.TheVariants as fault
+use Rattle.bolt_bulk.specs.{declared.page_setup.PageSetup.PageSetup, declared.bulk_fault.BulkFault.BulkFault}
+use Rattle.bolt_bulk.specs.declared.bulk_fault.BulkFault.TheVariants as fault
 use Rattle.bolt_bulk.specs.{declared.pass.Pass.Pass, declared.pending_bucket.PendingBucket.PendingBucket, declared.waiting_bucket.WaitingBucket.WaitingBucket}
 use Rattle.bolt_bulk.specs.{declared.noted_limits.NotedLimits.NotedLimits, BulkEndings.bulk_ending}
 use Rattle.bolt_layout.specs.declared.Layout.{Layout}

@@ -9,7 +9,7 @@ use Rattle.bolt_bulk.specs.Private.{PagesWritten.Closes, PagesWritten.Writes, Ro
 use Rattle.bolt_bulk.specs.Private.RunViews.{BucketRunsView, LeafRunView, RunView, leaf_page, run_page, runs_climb, runs_close_put, runs_end, runs_end_put}
 use Rattle.bolt_bulk.specs.Private.RunViews.{runs_next, runs_push, runs_put, runs_room, runs_room_put, runs_root}
 use Rattle.bolt_bulk.specs.Private.TakenItems.{element_size, root_element, root_size, runs_taking}
-use Rattle.bolt_bulk.specs.{declared.branch_run.BranchRun.BranchRun, declared.bucket_runs.BucketRuns.BucketRuns, declared.fault.BulkFault.BulkFault}
+use Rattle.bolt_bulk.specs.{declared.branch_run.BranchRun.BranchRun, declared.bucket_runs.BucketRuns.BucketRuns, declared.bulk_fault.BulkFault.BulkFault}
 use Rattle.bolt_bulk.specs.{Private.Writers.next_after, declared.page_writer.PageWriter.PageWriter}
 use Rattle.bolt_bulk.specs.{declared.upper_runs.UpperRuns.UpperRuns, declared.pending_bucket.PendingBucket.PendingBucket}
 use Rattle.bolt_bulk.specs.declared.waiting_bucket.WaitingBucket.{WaitingBucket}

@@ -6,7 +6,7 @@ use Rattle.bolt_check.specs.{Accounts.IsInFreelist, Accounts.IsInUse, Accounts.t
 use Rattle.bolt_check.specs.{Private.Tables.IsClaimed, Private.Tables.is_used, Private.Tables.use_at, Private.Tables.times_of, Private.Uses.IsNoted}
 use Rattle.bolt_check.specs.{AccountFindings.IsAccountFinding, AccountFindings.IsBefore, AccountFindings.IsLost, declared.finding.Finding.Finding}
 use Rattle.bolt_check.specs.declared.finding.TheConstants.Finding.{FREED_TWICE, FREE_RANGE, REACHED_FREED, UNREACHABLE}
-use Rattle.bolt_check.specs.{declared.freelist.Freelist.Freelist, declared.table.PageUse.PageUse}
+use Rattle.bolt_check.specs.{declared.listed_pages.Freelist.Freelist, declared.table.PageUse.PageUse}
 use Rattle.bolt_check.specs.declared.table.PageUse.TheVariants.{Used, Free, FreeTwice, UsedFree, UsedFreeTwice}
 
 -- nothing is listed yet

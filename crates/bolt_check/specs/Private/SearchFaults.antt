@@ -1,8 +1,8 @@
 -- Why the search stops.
 use Rattle.std.specs.Prelude.{ℕ, Bool, true, false, List}
 use Rattle.bolt_check.specs.{Findings.IsFirst, Nodes.Nodes, Private.Pending.pending_reach, Private.Tables.IsClaimed, Ways.Reach}
-use Rattle.bolt_check.specs.{declared.fault.CheckFault.CheckFault, declared.spot.Spot.Spot as CodeSpot, declared.table.PageUse.PageUse}
-use Rattle.bolt_check.specs.declared.fault.CheckFault.TheVariants.{Accounts, Memory, Open, Structure}
+use Rattle.bolt_check.specs.{declared.check_fault.CheckFault.CheckFault, declared.spot.Spot.Spot as CodeSpot, declared.table.PageUse.PageUse}
+use Rattle.bolt_check.specs.declared.check_fault.CheckFault.TheVariants.{Accounts, Memory, Open, Structure}
 
 -- at the first finding, or because memory ran out
 abbrev pub IsSearchFault : Nodes → Reach → (ℕ → Type 0) → CheckFault → Type 0

@@ -1,6 +1,6 @@
 -- What `check` prints of a file of which is known what else is wrong with it.
 use Rattle.std.specs.Prelude.{[]}
-use Rattle.bolt_check.specs.declared.fault.CheckFault.TheVariants as check
+use Rattle.bolt_check.specs.declared.check_fault.CheckFault.TheVariants as check
 use Rattle.bolt_recover.specs.Losses.{everything}
 use Rattle.bolt_format.specs.declared.sink.Sink.{Ghosts}
 use Rattle.bolt_commands.specs.Answers.{Answer, JobEnding, IsCheckAnswerAfter, check_refusal, lost_and_found_answer, refused}

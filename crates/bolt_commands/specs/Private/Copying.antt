@@ -1,6 +1,6 @@
 -- What the functions of a command that writes a copy promise of its job.
 use Rattle.std.specs.Prelude.{◌≡◌, ◌⊎◌, ℕ, List, Bool, Option, Result, Err, OnOk, map}
-use Rattle.bolt_bulk.specs.{declared.blueprint.Blueprint.Blueprint, declared.fault.BulkFault.BulkFault}
+use Rattle.bolt_bulk.specs.{declared.blueprint.Blueprint.Blueprint, declared.bulk_fault.BulkFault.BulkFault}
 use Rattle.bolt_format.specs.{declared.meta.Meta.Meta, declared.sink.Sink.Ghosts}
 use Rattle.bolt_layout.specs.Copies.{layout_of_listing}
 use Rattle.bolt_recover.specs.{Losses.LostView, LostAndFound.all_lost, declared.lost_and_found.LostAndFound.LostAndFound}

@@ -1,8 +1,8 @@
 -- How a job ends that put a text: as it is to, or with the fault.
 use Rattle.std.specs.Prelude.{◌≡◌, ◌⊎◌, IfErr, Result, Ok, Err}
 use Rattle.bolt_format.specs.declared.sink.SinkFault.{SinkFault}
-use Rattle.bolt_text.specs.declared.fault.ReportFault.{ReportFault}
-use Rattle.bolt_text.specs.declared.fault.ReportFault.TheVariants as report
+use Rattle.bolt_text.specs.declared.report_fault.ReportFault.{ReportFault}
+use Rattle.bolt_text.specs.declared.report_fault.ReportFault.TheVariants as report
 use Rattle.bolt_commands.specs.{Answers.JobEnding, Failures.reported, declared.failure.Failure.Failure, declared.failure.Failure.TheVariants.Write}
 
 abbrev pub ending_by : {A : Type 0} → Result A ReportFault → (wanted : JobEnding) → JobEnding

@@ -2,7 +2,7 @@
 use Rattle.std.specs.Prelude.{◌≡◌, ◌⊎◌, ℕ, List, None, Some, Ok, Err, Result, codes}
 use Rattle.bolt_check.specs.CheckedFiles.{bytes_of, meta_of}
 use Rattle.bolt_format.specs.declared.meta.Meta.{Meta}
-use Rattle.bolt_text.specs.declared.fault.ReportFault.{ReportFault}
+use Rattle.bolt_text.specs.declared.report_fault.ReportFault.{ReportFault}
 use Rattle.bolt_tree.specs.{BucketViews.entries_of, Buckets.bucket_checked, Buckets.bucket_start, Entries.IsEntry, Entries.Root_page, Lookups.IsBucketAt}
 use Rattle.bolt_job.specs.declared.choices.MetaChoice.{MetaChoice}
 use Rattle.bolt_commands.specs.{Answers.JobEnding, Answers.IsReadUnder, Answers.others_ending, Failures.reported, Private.Opened.IsUnread}

@@ -3,7 +3,7 @@ use Rattle.std.specs.Prelude.{◌≡◌, ◌⊎◌, ℕ, List, Bool, IfOk, OnOk,
 use Rattle.bolt_format.specs.{Wrote.Wrote, declared.meta.Meta.Meta, declared.sink.Sink.Ghosts}
 use Rattle.bolt_recover.specs.{Losses.LostView, LostAndFound.all_lost, declared.lost_and_found.LostAndFound.LostAndFound}
 use Rattle.bolt_report.specs.FoundLines.{FoundView, found_view}
-use Rattle.bolt_text.specs.{ListForms.listing_lines, ReportEndings.report_ending, declared.fault.ReportFault.ReportFault}
+use Rattle.bolt_text.specs.{ListForms.listing_lines, ReportEndings.report_ending, declared.report_fault.ReportFault.ReportFault}
 use Rattle.bolt_tree.specs.{Listing.Member, Listing.rest_from, ListingParts.has_bucket, ListingParts.part_below}
 use Rattle.bolt_commands.specs.Answers.{Answer, WritesAnswer, JobEnding, IsReadTo, IsSalvaged, IsUnjoinedUnder, IsUnreadTo, listing_part_text}
 use Rattle.bolt_commands.specs.{Failures.reported, Private.Endings.MayFail, Private.Endings.failing, Private.Opened.opened_lost}

@@ -2,7 +2,7 @@
 use Rattle.std.specs.Prelude.{◌≡◌, ◌⊎◌, ℕ, List, Bool, Result, Err}
 use Rattle.bolt_bulk.specs.{WholeListings.IsWholeListing, declared.blueprint.Blueprint.Blueprint}
 use Rattle.bolt_format.specs.declared.sink.Sink.{Ghosts}
-use Rattle.bolt_job.specs.declared.etcd_commands.EtcdRepairJob.{EtcdRepairJob}
+use Rattle.bolt_job.specs.declared.etcd_jobs.EtcdRepairJob.{EtcdRepairJob}
 use Rattle.bolt_recover.specs.ShownLosses.{lost_view}
 use Rattle.bolt_etcd.specs.{Repaired.IsRepaired, RepairedMembers.repair_file, RepairedMembers.repair_meta, RepairedMembers.repaired_file, RepairedMembers.repaired_left, RepairedMembers.repaired_meta, declared.repair.Repair.Repair, declared.repaired.Repaired.Repaired}
 use Rattle.bolt_tree.specs.Listing.{Member}

@@ -12,8 +12,8 @@ use Rattle.bolt_check.specs.declared.spot.Spot.TheVariants as spots
 use Rattle.bolt_tree.specs.{Entries.item_of, Listing.Member, Paths.Path, Paths.path_of}
 use Rattle.bolt_recover.specs.{Losses.LossView, Losses.loss_on, Sites.Site, Sites.leaves_of, Sites.step_site}
 use Rattle.bolt_recover.specs.Private.Courses.{Event, Outcome, Task, To_visit, Way, after_events, all_events, claimed_after, events, further, members_of, outcome_of, tasks_from}
-use Rattle.bolt_recover.specs.{ShownLosses.loss_view, declared.content.KeptPage.KeptPage}
-use Rattle.bolt_recover.specs.declared.content.OpenPage.{OpenPage}
+use Rattle.bolt_recover.specs.{ShownLosses.loss_view, declared.kept_page.KeptPage.KeptPage}
+use Rattle.bolt_recover.specs.declared.kept_page.OpenPage.{OpenPage}
 use Rattle.bolt_recover.specs.{declared.steps.NextVisit.NextVisit, declared.steps.Steps.Steps, declared.steps.Taken.Taken}
 use Rattle.bolt_recover.specs.declared.steps.Taken.TheVariants.{End, Leaf, Nothing}
 

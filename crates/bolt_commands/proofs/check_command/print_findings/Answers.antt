@@ -1,6 +1,6 @@
 -- Memory ran out for what bbolt fails on.
 use Rattle.std.proofs.Common.{inr, refl}
-use Rattle.bolt_check.specs.declared.fault.CheckFault.TheVariants as check
+use Rattle.bolt_check.specs.declared.check_fault.CheckFault.TheVariants as check
 use Rattle.bolt_commands.proofs.Doing.{answer_nothing}
 use Rattle.bolt_commands.proofs.check_command.print_findings.Goals as goal
 

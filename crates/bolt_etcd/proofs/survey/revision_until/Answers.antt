@@ -2,7 +2,7 @@
 use Rattle.std.proofs.Common.{◌∙◌, Bor, ap, refl, rules, subst, sym}
 use Rattle.bolt_check.specs.Keys.{Key}
 use Rattle.bolt_tree.specs.{Entries.EntryView, Entries.Item, Paths.Path, ShownEntries.item_view}
-use Rattle.bolt_etcd.specs.{Returns.Returns, Revisions.revision_of, ShownRevisions.shown_revision, Surveys.if_until, Surveys.revision_at}
+use Rattle.bolt_etcd.specs.{Returns.Returns, Revisions.revision_of, ShownRevisions.shown_revision, StoreSurveys.if_until, StoreSurveys.revision_at}
 use Rattle.bolt_etcd.proofs.{KeptRevisions.revision_to, Places.no_revision, RevisionsUntil.by_earlier, RevisionsUntil.by_later, RevisionsUntil.by_no_key}
 use Rattle.bolt_etcd.proofs.survey.revision_until.Goals as goal
 

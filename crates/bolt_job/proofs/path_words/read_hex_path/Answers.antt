@@ -1,6 +1,6 @@
 use Rattle.std.proofs.Common.{◌≡◌, ◌∙◌, ◌==◌, Bool, List, inr, refl, ap, length, sym}
 use Rattle.bolt_job.proofs.Vocabulary.{Bor, Text, each_part, list_any, list_any-map, part_of}
-use Rattle.bolt_text.specs.declared.words.Parts.TheVariants as parts
+use Rattle.bolt_text.specs.declared.part_words.Parts.TheVariants as parts
 use Rattle.bolt_job.proofs.{CommandLineLemmas.gives_same, PathReading.path_cut, PathReading.texts}
 use Rattle.bolt_job.proofs.path_words.read_hex_path.Goals as goal
 

@@ -3,7 +3,7 @@ use Rattle.std.proofs.Common.{◌≡◌, ◌↔◌, Err, None, Ok, Option, Resul
 use Rattle.std.specs.Result.{IsErrAnd}
 use Rattle.bolt_format.specs.declared.page_fault.PageFault.{PageFault}
 use Rattle.bolt_report.proofs.Words.{ReportFault}
-use Rattle.bolt_text.specs.declared.fault.ReportFault.TheVariants as fault
+use Rattle.bolt_text.specs.declared.report_fault.ReportFault.TheVariants as fault
 use Rattle.bolt_report.proofs.page_lines.page_text.Goals as goal
 
 shown : {A : Type 0} {found : Option PageFault} (result : Result A ReportFault) → None ≡ found → IsErrAnd result (λ r. r ≡ fault.Sink)

@@ -1,5 +1,5 @@
 use Rattle.std.proofs.Common.{◌∙◌, sym}
-use Rattle.bolt_format.specs.{ElementPlaces.leaf_view, Shown.shown}
+use Rattle.bolt_format.specs.{ElementPlaces.leaf_view, ShownGoodPages.shown}
 use Rattle.test_calls.proofs.pagers.bucket_cursor.Goals as goal
 
 pub open-root-requires : goal.open-root-requires

@@ -1,5 +1,5 @@
 use Rattle.std.proofs.Common.{◌∙◌, sym}
-use Rattle.bolt_format.specs.{ElementPlaces.branch_view, Shown.shown}
+use Rattle.bolt_format.specs.{ElementPlaces.branch_view, ShownGoodPages.shown}
 use Rattle.test_calls.proofs.pagers.opened_pages.Goals as goal
 
 pub open-root-requires : goal.open-root-requires

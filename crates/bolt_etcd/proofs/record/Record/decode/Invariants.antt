@@ -1,5 +1,5 @@
 use Rattle.std.proofs.Common.{length}
-use Rattle.bolt_etcd.specs.Shown.{shown_record}
+use Rattle.bolt_etcd.specs.ShownRecords.{shown_record}
 use Rattle.bolt_etcd.proofs.Fields.{Goes}
 use Rattle.bolt_etcd.proofs.record.Record.decode.Given as goal
 

@@ -1,7 +1,7 @@
 use Rattle.std.proofs.Common.{Bor, List, [], map, subst, sym, ◌++◌, ◌∷◌, None, ℕ}
 use Rattle.bolt_tree.specs.{Listing.Member, Paths.path_of, ShownEntries.item_view}
 use Rattle.bolt_etcd.specs.ShownRevisions.{entry_of}
-use Rattle.bolt_etcd.specs.Surveys.{IsStoreSurvey, IsSurveyOf}
+use Rattle.bolt_etcd.specs.StoreSurveys.{IsStoreSurvey, IsSurveyOf}
 use Rattle.bolt_etcd.proofs.Surveyed.{next_member, no_more, none_surveyed}
 use Rattle.bolt_etcd.proofs.survey.Survey.of.Goals as goal
 

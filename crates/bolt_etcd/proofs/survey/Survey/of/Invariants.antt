@@ -2,7 +2,7 @@ use Rattle.std.proofs.Common.{List, map, ◌++◌, ◌≡◌}
 use Rattle.bolt_tree.specs.{Listing.Member}
 use Rattle.bolt_recover.specs.{KeptMembers.kept_file, KeptMembers.kept_left, KeptMembers.kept_meta, KeptMembers.kept_work, Recovered.ForRecovered, Recovered.IsRecovered}
 use Rattle.bolt_etcd.specs.ShownRevisions.{entry_of}
-use Rattle.bolt_etcd.specs.Surveys.{IsSurveyOf}
+use Rattle.bolt_etcd.specs.StoreSurveys.{IsSurveyOf}
 use Rattle.bolt_etcd.proofs.survey.Survey.of.Given as goal
 
 -- the members so far, which the survey is of, and those that are left are all

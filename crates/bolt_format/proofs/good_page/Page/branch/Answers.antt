@@ -1,5 +1,5 @@
 use Rattle.std.proofs.Common.{ap, sym, ◌∙◌, Some, slice_get}
-use Rattle.bolt_format.specs.{Elements.branch_element, Elements.branch_elements, Pages.shown_branches, Shown.shown}
+use Rattle.bolt_format.specs.{Elements.branch_element, Elements.branch_elements, Pages.shown_branches, ShownGoodPages.shown}
 use Rattle.bolt_format.specs.declared.header.Kind.TheVariants as kind
 use Rattle.bolt_format.proofs.GoodPages.{good_branch, good_content, slice_get-made}
 use Rattle.bolt_format.proofs.good_page.Page.branch.Goals as goal

@@ -1,4 +1,4 @@
-use Rattle.bolt_format.specs.Shown.{shown}
+use Rattle.bolt_format.specs.ShownGoodPages.{shown}
 use Rattle.bolt_format.proofs.PageLaws.{length-shown_branches, length-shown_leaves}
 use Rattle.bolt_format.proofs.good_page.Page.count.Goals as goal
 
