@@ -17,7 +17,7 @@ pub use bucket_commands::{BucketsJob, GetJob, KeysJob, ListJob, StatsJob};
 pub use choices::{AssumedMeta, BucketsShown, CopyKind, Extent, MetaChoice, PageSize};
 pub use etcd_jobs::{EtcdCheckJob, EtcdGetJob, EtcdKeysJob, EtcdRepairJob, EtcdRevisionsJob};
 pub use job::Job;
+pub use job_words::read_words;
 pub use page_commands::{CheckJob, InfoJob, PageJob, PagesJob};
 pub use refusal::Refusal;
-pub use words::read_words;
 pub use writing_commands::{CompactJob, LoadJob};
