@@ -27,7 +27,7 @@ pub fn plan(alloc: Global, checked: Checked<'_>, page_size: u64) -> Result<Plan,
     ensures { ForListing checked.entry
         (λ listing. Plans Plain page_size (meta_of checked.entry).root_sequence listing result) }
 {
-    let blueprint = blueprint_of(&checked, Layout::Plain, page_size);
+    let blueprint = sound_blueprint(&checked, Layout::Plain, page_size);
     let mut walk = Walk::new(alloc, checked);
     a_walk_is_whole(&walk);
     plan_members(alloc, &mut walk, &blueprint)
@@ -62,14 +62,14 @@ fn compact_as<S: Sink>(
     requires { IsPageSize page_size }
     ensures { CopiesFile S.taken S.failed sink.old sink.new checked.entry layout page_size result }
 {
-    let blueprint = blueprint_of(&checked, layout, page_size);
+    let blueprint = sound_blueprint(&checked, layout, page_size);
     let mut walk = Walk::new(alloc, checked);
     a_walk_is_whole(&walk);
     compact_members(alloc, &mut walk, &blueprint, sink)
 }
 
 /// What the copy of a checked file looks like.
-fn blueprint_of(checked: &Checked<'_>, layout: Layout, page_size: u64) -> Blueprint
+fn sound_blueprint(checked: &Checked<'_>, layout: Layout, page_size: u64) -> Blueprint
     requires { IsPageSize page_size }
     ensures layout { result.layout ≡ layout }
     ensures page_size { result.page_size ≡ page_size }

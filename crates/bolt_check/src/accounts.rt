@@ -37,16 +37,16 @@ pub(crate) fn test_accounts(
     let ids = match free_ids(file, meta) {
         Ok(Some(ids)) => ids,
         Ok(None) => return Ok(Vec::new(alloc)),
-        Err(fault) => return alone(alloc, Finding::from(fault)),
+        Err(fault) => return one_finding(alloc, Finding::from(fault)),
     };
     match claim_freelist(file, meta, table) {
-        Some(page) => alone(alloc, Finding::of_page(Finding::TWICE, page)),
+        Some(page) => one_finding(alloc, Finding::of_page(Finding::TWICE, page)),
         None => test_ids(alloc, ids, meta.high_water, table),
     }
 }
 
 /// A list of one finding.
-fn alone(alloc: Global, finding: Finding) -> Result<Vec<Finding>, AllocError>
+fn one_finding(alloc: Global, finding: Finding) -> Result<Vec<Finding>, AllocError>
     ensures { IfOk result (λ reported. reported.items ≡ finding ∷ []) }
 {
     let mut findings = Vec::new(alloc);

@@ -34,13 +34,13 @@ pub fn bbolt_file_findings(alloc: Global, file: &[u8]) -> Result<Vec<FileFinding
 {
     let mut findings = Vec::new(alloc);
     if let Ok((slot, meta)) = choose(file) {
-        find_in_file(file, slot, &meta, &mut findings)?;
+        find_under(file, slot, &meta, &mut findings)?;
     }
     Ok(findings)
 }
 
 /// Adds what is found under the meta of this slot.
-fn find_in_file(
+fn find_under(
     file: &[u8],
     slot: Slot,
     meta: &Meta,
@@ -51,9 +51,9 @@ fn find_in_file(
         ≡ findings.old.items ++ file_findings file.now slot meta.now) }
 {
     let is_taken = takes(file, slot, meta.page_size);
-    add_if(!is_taken, FileFinding::NotTaken(slot), findings)?;
+    add_file_finding_if(!is_taken, FileFinding::NotTaken(slot), findings)?;
     let is_large = meta.txid >= LARGE_TXID;
-    add_if(is_large, FileFinding::LargeTxid(slot), findings)?;
+    add_file_finding_if(is_large, FileFinding::LargeTxid(slot), findings)?;
     let whole = file.len() as u64 / u64::from(meta.page_size);
     if whole < meta.high_water {
         findings.push(FileFinding::PastEnd(whole, meta.high_water - 1))?;
@@ -69,7 +69,7 @@ fn takes(file: &[u8], slot: Slot, page_size: u32) -> bool
 }
 
 /// Adds a finding, if there is one.
-fn add_if(
+fn add_file_finding_if(
     is_found: bool,
     finding: FileFinding,
     findings: &mut Vec<FileFinding>,

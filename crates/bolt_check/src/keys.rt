@@ -8,7 +8,7 @@ use crate::finding::Finding;
 use bolt_format::Inline;
 
 /// Whether a key is below another, in byte order.
-fn is_below(key: &[u8], other: &[u8]) -> bool
+fn is_lesser_key(key: &[u8], other: &[u8]) -> bool
     ensures { result ≡ key_lt key.now other.now }
 {
     key.cmp(other).is_lt()
@@ -25,17 +25,17 @@ pub(crate) fn test_key(
         (bound_of upper.entry) key.now }
 {
     if let Some(bound) = before {
-        if !is_below(bound, key) {
+        if !is_lesser_key(bound, key) {
             return Err(Finding::ORDER);
         }
     }
     if let Some(bound) = lower {
-        if is_below(key, bound) {
+        if is_lesser_key(key, bound) {
             return Err(Finding::BELOW_PARENT);
         }
     }
     if let Some(bound) = upper {
-        if !is_below(key, bound) {
+        if !is_lesser_key(key, bound) {
             return Err(Finding::ABOVE_NEXT);
         }
     }

@@ -57,12 +57,12 @@ pub(crate) fn reset(table: &mut [PageUse])
     ensures { (n : ℕ) → use_at table.new n ≡ first_use n }
 {
     for n in 0..table.len() {
-        table[n] = first_use(n);
+        table[n] = use_at_first(n);
     }
 }
 
 /// What a page is used for from the start.
-fn first_use(n: usize) -> PageUse
+fn use_at_first(n: usize) -> PageUse
     ensures { result ≡ first_use n }
 {
     if n < 2 {

@@ -50,7 +50,7 @@ pub(crate) fn visit<'a>(
         return Err(Finding::of_page(Finding::TWICE, n as u64));
     }
     test_node(&node, spot)?;
-    claim(table, from, last, first_use(&node));
+    claim(table, from, last, use_of_first_page(&node));
     Ok(node)
 }
 
@@ -74,7 +74,7 @@ pub(crate) fn open<'a>(file: &'a [u8], meta: &Meta, id: u64) -> Result<TreePage<
 
 /// The use of the first page of a node.
 #[tactic(auto, unfolding(crate::specs::ShownNodes::shown_node))]
-fn first_use(node: &TreePage<'_>) -> PageUse
+fn use_of_first_page(node: &TreePage<'_>) -> PageUse
     ensures { result ≡ use_of (shown_node node.now).is_leaf }
 {
     match node {

@@ -5,7 +5,7 @@ ghost use Rattle.bolt_commands.specs.Answers.{status_of};
 ghost use Rattle.bolt_cli.specs.{Deeds.Does, Deeds.joined, Gathered.GathersPiece, Names.shown_name};
 ghost use Rattle.bolt_cli.specs.Runs.{DoesBuffered, Ends, Fails, FailsGathered, FailsLacking, HoldsUnless, IsBufferedLine, IsReported, RefusesUsage, error_line};
 
-use crate::names::{add, add_lines, add_name};
+use crate::names::{put_escaped_lines, put_escaped_name, put_plain};
 use crate::outside::Outside;
 use bolt_format::{MemSink, Sink};
 use std::alloc::Global;
@@ -61,9 +61,9 @@ pub(crate) fn fail_naming<O: Outside>(
         (FailsGathered (words.now ++ (shown_name name.now ++ codes "\n"))) }
 {
     let mut line = MemSink::new(alloc);
-    add(words, &mut line);
-    add_name(name, &mut line);
-    add(b"\n", &mut line);
+    put_plain(words, &mut line);
+    put_escaped_name(name, &mut line);
+    put_plain(b"\n", &mut line);
     fail_gathered(outside, &line)
 }
 
@@ -88,7 +88,7 @@ pub(crate) fn refuse_usage<O: Outside>(outside: &mut O, alloc: Global, text: &st
     ensures { Does O.done outside.old outside.new result (RefusesUsage text.now) }
 {
     let mut shown = MemSink::new(alloc);
-    add_lines(text, &mut shown);
+    put_escaped_lines(text, &mut shown);
     if shown.failures() > 0 {
         return fail_lacking(outside, &shown);
     }

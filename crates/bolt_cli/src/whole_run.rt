@@ -109,7 +109,7 @@ fn read_file<O: Outside>(outside: &mut O, alloc: Global, job: &Job, left: u32) -
                 drop(source);
                 return read_file(outside, alloc, job, left - 1);
             }
-            do_job(outside, alloc, job, &source)
+            do_with_source(outside, alloc, job, &source)
         }
         Err(fault) => report_unread(outside, alloc, fault, job.file()),
     }
@@ -126,7 +126,7 @@ fn report_unread<O: Outside>(outside: &mut O, alloc: Global, fault: ReadFault, n
 }
 
 /// Does a job on what was read.
-fn do_job<O: Outside>(outside: &mut O, alloc: Global, job: &Job, source: &Source) -> u8
+fn do_with_source<O: Outside>(outside: &mut O, alloc: Global, job: &Job, source: &Source) -> u8
     ensures { Does O.done outside.old outside.new result
         (Goes O.Target.Sink O.Output.Sink
         (target_name job.now) source.now job.now) }

@@ -18,7 +18,7 @@ use bolt_check::{
 use bolt_format::{MetaFault, Sink};
 use bolt_job::{CheckJob, Extent, MetaChoice};
 use bolt_recover::{Found, Lost};
-use bolt_report::{bbolt_findings_text, counted_lost_text, findings_text};
+use bolt_report::{put_bbolt_findings, put_counted_lost, put_findings};
 use std::alloc::Global;
 use std::slice;
 
@@ -45,7 +45,7 @@ struct ForBbolt {
 
 /// Writes `OK` if nothing is wrong with the file. Otherwise it writes what is wrong apart from its
 /// pages, and then the findings, or each loss, or also each page that is found.
-pub(crate) fn print_check<O: Sink>(input: Input<'_>, job: &CheckJob, out: &mut O) -> Outcome
+pub(crate) fn do_check<O: Sink>(input: Input<'_>, job: &CheckJob, out: &mut O) -> Outcome
     ensures { PrintsAnswer O.Sink out.old out.new
         (IsCheckAnswer job.now.extent job.now.snapshot job.now.for_bbolt input.entry.file.now job.now.meta) result }
 {
@@ -56,14 +56,14 @@ pub(crate) fn print_check<O: Sink>(input: Input<'_>, job: &CheckJob, out: &mut O
         for_bbolt: job.for_bbolt,
     };
     match job.extent {
-        Extent::First => print_findings(checking, out),
-        _ => print_lost(checking, job.extent, out),
+        Extent::First => check_sound(checking, out),
+        _ => check_lost(checking, job.extent, out),
     }
 }
 
 /// Writes `OK` if the file is sound and bbolt can write into it, if that is asked; otherwise the
 /// first finding of its trees, those of its accounts, or what bbolt fails on.
-fn print_findings<O: Sink>(checking: Checking<'_>, out: &mut O) -> Outcome
+fn check_sound<O: Sink>(checking: Checking<'_>, out: &mut O) -> Outcome
     ensures { ChecksTo O.Sink out.old out.new Extent.First checking.entry result }
 {
     match checking.input.check(checking.choice) {
@@ -77,7 +77,7 @@ fn print_findings<O: Sink>(checking: Checking<'_>, out: &mut O) -> Outcome
 
 /// Writes each loss and, if they are looked for, each page that is found; if nothing is lost, `OK` or
 /// the findings.
-fn print_lost<O: Sink>(checking: Checking<'_>, extent: Extent, out: &mut O) -> Outcome
+fn check_lost<O: Sink>(checking: Checking<'_>, extent: Extent, out: &mut O) -> Outcome
     requires { extent ≢ Extent.First }
     ensures { ChecksTo O.Sink out.old out.new extent checking.entry result }
 {
@@ -88,9 +88,9 @@ fn print_lost<O: Sink>(checking: Checking<'_>, extent: Extent, out: &mut O) -> O
     opened.find_lost()?;
     let lost = opened.lost();
     if lost.is_nothing() {
-        return print_findings(checking, out);
+        return check_sound(checking, out);
     }
-    put_lost(lost, opened.found(), checking.faults, out)
+    put_lost_after(lost, opened.found(), checking.faults, out)
 }
 
 /// What bbolt fails on when it writes into a sound file, if that is looked for and nothing else is
@@ -133,11 +133,11 @@ fn put_all<O: Sink>(found: &ForBbolt, faults: FileFaults, out: &mut O) -> Outcom
         (all_found faults found.now.of_file.items found.now.on_ways.items) result }
 {
     if !found.of_file.is_empty() || !found.on_ways.is_empty() {
-        bbolt_findings_text(found.of_file.as_slice(), found.on_ways.as_slice(), out)?;
+        put_bbolt_findings(found.of_file.as_slice(), found.on_ways.as_slice(), out)?;
         return Ok(1);
     }
     if !faults.is_fine() {
-        return put_findings(&[], faults, out);
+        return put_findings_after(&[], faults, out);
     }
     out.put(b"OK\n")?;
     Ok(0)
@@ -149,7 +149,7 @@ fn put_unopened<O: Sink>(failure: Failure, faults: FileFaults, out: &mut O) -> O
 {
     match failure {
         Failure::Metas(fault) => put_unread(fault, faults, out),
-        Failure::File(finding) => put_lost(Lost::Everything(finding), &[], faults, out),
+        Failure::File(finding) => put_lost_after(Lost::Everything(finding), &[], faults, out),
         _ => Err(failure),
     }
 }
@@ -160,8 +160,8 @@ pub(crate) fn put_refusal<O: Sink>(fault: &CheckFault, faults: FileFaults, out: 
 {
     match fault {
         CheckFault::Open(fault) => put_unread(*fault, faults, out),
-        CheckFault::Structure(finding) => put_findings(slice::from_ref(finding), faults, out),
-        CheckFault::Accounts(findings) => put_findings(findings.as_slice(), faults, out),
+        CheckFault::Structure(finding) => put_findings_after(slice::from_ref(finding), faults, out),
+        CheckFault::Accounts(findings) => put_findings_after(findings.as_slice(), faults, out),
         CheckFault::Memory => Err(Failure::Memory),
     }
 }
@@ -175,17 +175,17 @@ fn put_unread<O: Sink>(fault: MetaFault, faults: FileFaults, out: &mut O) -> Out
     Err(Failure::Metas(fault))
 }
 
-fn put_findings<O: Sink>(findings: &[Finding], faults: FileFaults, out: &mut O) -> Outcome
+fn put_findings_after<O: Sink>(findings: &[Finding], faults: FileFaults, out: &mut O) -> Outcome
     ensures { WritesAnswer O.taken O.failed out.old out.new (found faults findings.now) result }
 {
     let earlier = put_file_faults(faults, out)?;
-    findings_text(findings, earlier, out)?;
+    put_findings(findings, earlier, out)?;
     Ok(1)
 }
 
 /// Writes what is lost, and each page that is found, after what is wrong with the file apart from its
 /// pages.
-fn put_lost<O: Sink>(
+fn put_lost_after<O: Sink>(
     lost: Lost<'_>,
     found: &[Found<'_>],
     faults: FileFaults,
@@ -196,6 +196,6 @@ fn put_lost<O: Sink>(
         (lost_and_found_answer faults (lost_view lost.entry) (map found_view found.now)) result }
 {
     let earlier = put_file_faults(faults, out)?;
-    counted_lost_text(lost, found, earlier, out)?;
+    put_counted_lost(lost, found, earlier, out)?;
     Ok(1)
 }

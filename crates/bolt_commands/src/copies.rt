@@ -21,7 +21,7 @@ use bolt_etcd::HASH_LEN;
 use bolt_format::{Sink, SinkFault};
 use bolt_job::CopyKind;
 use bolt_recover::{Found, Lost};
-use bolt_report::lost_text;
+use bolt_report::put_lost;
 use bolt_text::{Piece, put_pieces};
 use sha2::{Digest, Sha256};
 use std::alloc::Global;
@@ -181,17 +181,21 @@ pub(crate) fn end_copy<O: Sink>(copy: u64, report: &CopyReport<'_, '_>, out: &mu
     requires { All IsFoundLeaf report.now.found.now }
     ensures { WritesAnswer O.taken O.failed out.old out.new (report_answer report.now copy) result }
 {
-    put_report(report, copy, out)?;
+    put_copy_report(report, copy, out)?;
     Ok(status_of(report.faults, report.lost))
 }
 
 #[tactic(auto, using(bolt_format::proofs::WroteLemmas::wrote))]
-fn put_report<O: Sink>(report: &CopyReport<'_, '_>, copy: u64, out: &mut O) -> Result<(), SinkFault>
+fn put_copy_report<O: Sink>(
+    report: &CopyReport<'_, '_>,
+    copy: u64,
+    out: &mut O,
+) -> Result<(), SinkFault>
     requires { All IsFoundLeaf report.now.found.now }
     ensures { Wrote O.Sink out.old out.new (report_text report.now copy) (ending result) }
 {
     put_file_faults(report.faults, out)?;
-    lost_text(report.lost, report.found, out)?;
+    put_lost(report.lost, report.found, out)?;
     put_lengths(report.source, copy, out)
 }
 

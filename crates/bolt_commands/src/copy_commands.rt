@@ -21,7 +21,7 @@ use bolt_recover::{Lost, LostAndFound};
 use bolt_tree::Walk;
 
 /// Writes the compact copy that is asked for to `target`, and then what is reported of it to `out`.
-pub(crate) fn write_copy<O: Sink, T: Sink>(
+pub(crate) fn do_compact<O: Sink, T: Sink>(
     input: Input<'_>,
     job: &CompactJob,
     out: &mut O,
@@ -119,7 +119,7 @@ pub(crate) fn blueprint_of(kind: CopyKind, size: Option<PageSize>, meta: &Meta) 
 
 /// Writes a database of the listing that the lines of a file tell to `target`, and then the lengths
 /// of both to `out`.
-pub(crate) fn write_loaded<O: Sink, T: Sink>(
+pub(crate) fn do_load<O: Sink, T: Sink>(
     input: Input<'_>,
     job: &LoadJob,
     out: &mut O,

@@ -2,7 +2,6 @@
 ghost use Rattle.std.specs.Prelude.{◌≡◌, IfErr, IfOk, OnOk, false, true};
 ghost use Rattle.bolt_etcd.specs.StoreBuckets.{ForStore};
 ghost use Rattle.bolt_format.specs.{Endings.ending, Wrote.Wrote};
-ghost use Rattle.bolt_report.specs.FaultWords.{count_line};
 ghost use Rattle.bolt_etcd.specs.RevisionsLeft.{ForPass, ahead_of, pass_checked, pass_others, pass_start};
 ghost use Rattle.bolt_tree.specs.Buckets.{bucket_checked, bucket_start};
 ghost use Rattle.bolt_etcd.specs.StoreFaults.{store_compacted};
@@ -18,7 +17,8 @@ use crate::value_text::put_value;
 use bolt_etcd::{Newest, RevisionWriter, Revisions, put_store_faults, store_compacted};
 use bolt_format::{Sink, SinkFault};
 use bolt_job::{EtcdCheckJob, EtcdGetJob, EtcdKeysJob, EtcdRevisionsJob, MetaChoice};
-use bolt_text::{Piece, ReportFault, put, put_pieces};
+use bolt_report::put_error_count;
+use bolt_text::{ReportFault, put};
 use bolt_tree::Bucket;
 
 /// What etcd keeps in a file.
@@ -31,7 +31,7 @@ struct Store<'f> {
 }
 
 /// Writes the revisions of names that begin with a prefix, from a transaction on.
-pub(crate) fn print_revisions<O: Sink>(
+pub(crate) fn do_etcd_revisions<O: Sink>(
     input: Input<'_>,
     job: &EtcdRevisionsJob,
     out: &mut O,
@@ -60,7 +60,7 @@ fn pass_from<'a>(keys: &Bucket<'a>, from: Option<u64>) -> Revisions<'a>
 }
 
 /// Writes the keys that there were at a transaction.
-pub(crate) fn print_current<O: Sink>(input: Input<'_>, job: &EtcdKeysJob, out: &mut O) -> Outcome
+pub(crate) fn do_etcd_keys<O: Sink>(input: Input<'_>, job: &EtcdKeysJob, out: &mut O) -> Outcome
     ensures { PrintsAnswer O.Sink out.old out.new
         (IsEtcdKeysPrint job.now input.entry.file.now) result }
 {
@@ -72,7 +72,7 @@ pub(crate) fn print_current<O: Sink>(input: Input<'_>, job: &EtcdKeysJob, out: &
 }
 
 /// Writes what a key held at a transaction.
-pub(crate) fn print_held<O: Sink>(input: Input<'_>, job: &EtcdGetJob, out: &mut O) -> Outcome
+pub(crate) fn do_etcd_get<O: Sink>(input: Input<'_>, job: &EtcdGetJob, out: &mut O) -> Outcome
     ensures { PrintsAnswer O.Sink out.old out.new
         (IsEtcdGetPrint job.now input.entry.file.now) result }
 {
@@ -89,11 +89,7 @@ pub(crate) fn print_held<O: Sink>(input: Input<'_>, job: &EtcdGetJob, out: &mut 
 }
 
 /// Writes `OK`, or what is wrong with a file, or with what etcd keeps in it.
-pub(crate) fn print_store_check<O: Sink>(
-    input: Input<'_>,
-    job: &EtcdCheckJob,
-    out: &mut O,
-) -> Outcome
+pub(crate) fn do_etcd_check<O: Sink>(input: Input<'_>, job: &EtcdCheckJob, out: &mut O) -> Outcome
     ensures { PrintsAnswer O.Sink out.old out.new
         (IsEtcdCheckPrint job.now input.entry.file.now) result }
 {
@@ -103,7 +99,7 @@ pub(crate) fn print_store_check<O: Sink>(
     };
     let errors = put_store_faults(input.alloc, &Bucket::root(checked), out)?;
     put_end(errors, out)?;
-    Ok(status_of(errors))
+    Ok(status_after(errors))
 }
 
 /// What etcd keeps in a file, which is checked first.
@@ -164,7 +160,7 @@ fn end_others(others: u64) -> Outcome
 }
 
 /// The status if so many errors were found.
-fn status_of(errors: u64) -> u8
+fn status_after(errors: u64) -> u8
     ensures { result ≡ errors_status errors }
 {
     match errors {
@@ -180,16 +176,6 @@ fn put_end<O: Sink>(errors: u64, out: &mut O) -> Result<(), SinkFault>
     if errors == 0 {
         put(b"OK\n", out)
     } else {
-        put_count(errors, out)
+        put_error_count(errors, out)
     }
-}
-
-/// Writes how many errors were found.
-fn put_count<O: Sink>(errors: u64, out: &mut O) -> Result<(), SinkFault>
-    ensures { Wrote O.Sink out.old out.new (count_line errors) (ending result) }
-{
-    put_pieces(
-        &[Piece::Number(errors), Piece::Bytes(b" errors found\n")],
-        out,
-    )
 }

@@ -8,10 +8,10 @@ ghost use Rattle.bolt_commands.specs.{Failures.failure_line, Failures.failure_te
 use crate::failure::Failure;
 use crate::shortfall::{Shortfall, put_shortfall};
 use bolt_check::Finding;
-use bolt_etcd::snapshot_fault_text;
+use bolt_etcd::put_snapshot_fault;
 use bolt_format::{Sink, SinkFault};
 use bolt_load::LineFault;
-use bolt_report::{finding_text, meta_fault_text, page_fault_text};
+use bolt_report::{finding_text, put_meta_fault, put_page_fault};
 use bolt_text::{Piece, put, put_pieces};
 
 /// Writes the line of a failure: `error: ` and its text.
@@ -19,29 +19,29 @@ pub(crate) fn put_failure<E: Sink>(failure: &Failure, err: &mut E) -> Result<(),
     ensures { Wrote E.Sink err.old err.new (failure_line failure.now) (ending result) }
 {
     put(b"error: ", err)?;
-    put_text(failure, err)
+    put_failure_text(failure, err)
 }
 
-fn put_text<E: Sink>(failure: &Failure, err: &mut E) -> Result<(), SinkFault>
+fn put_failure_text<E: Sink>(failure: &Failure, err: &mut E) -> Result<(), SinkFault>
     ensures { Wrote E.Sink err.old err.new (failure_text failure.now) (ending result) }
 {
     match failure {
-        Failure::Metas(fault) => meta_fault_text(*fault, err),
+        Failure::Metas(fault) => put_meta_fault(*fault, err),
         Failure::File(finding) => put_file_refused(finding, err),
-        Failure::Page(fault) => page_fault_text(fault, err),
+        Failure::Page(fault) => put_page_fault(fault, err),
         Failure::NoBucket => put(b"bucket not found\n", err),
         Failure::NoKey => put(b"key not found\n", err),
-        Failure::BucketMaybeLost(lost) => put_missing(b"bucket not found; ", *lost, err),
-        Failure::KeyMaybeLost(lost) => put_missing(b"key not found; ", *lost, err),
+        Failure::BucketMaybeLost(lost) => put_missing_file(b"bucket not found; ", *lost, err),
+        Failure::KeyMaybeLost(lost) => put_missing_file(b"key not found; ", *lost, err),
         Failure::Memory => put(b"out of memory\n", err),
         Failure::TooLarge => put(b"layout too large\n", err),
         Failure::TooManyPages => put(b"too many pages\n", err),
-        Failure::Hash(fault) => snapshot_fault_text(*fault, err),
+        Failure::Hash(fault) => put_snapshot_fault(*fault, err),
         Failure::NotABucket => put(b"key is not a bucket\n", err),
         Failure::Exists => put(b"lost+found exists\n", err),
         Failure::Write => put(b"write failed\n", err),
         Failure::Lost(lost) => put_shortfall(*lost, err),
-        Failure::Others(count) => put_number(b"not revisions: ", *count, err),
+        Failure::Others(count) => put_numbered(b"not revisions: ", *count, err),
         Failure::Compacted => put(b"revision compacted\n", err),
         Failure::Line(line, fault) => put_line_fault(*line, *fault, err),
     }
@@ -56,7 +56,7 @@ fn put_file_refused<E: Sink>(finding: &Finding, err: &mut E) -> Result<(), SinkF
 }
 
 /// Writes what isn't there, and why it may be missing.
-fn put_missing<E: Sink>(words: &[u8], lost: Shortfall, err: &mut E) -> Result<(), SinkFault>
+fn put_missing_file<E: Sink>(words: &[u8], lost: Shortfall, err: &mut E) -> Result<(), SinkFault>
     ensures { Wrote E.Sink err.old err.new (words.now ++ shortfall_text lost) (ending result) }
 {
     put(words, err)?;
@@ -64,7 +64,7 @@ fn put_missing<E: Sink>(words: &[u8], lost: Shortfall, err: &mut E) -> Result<()
 }
 
 /// Writes a number after a text.
-fn put_number<E: Sink>(text: &[u8], number: u64, err: &mut E) -> Result<(), SinkFault>
+fn put_numbered<E: Sink>(text: &[u8], number: u64, err: &mut E) -> Result<(), SinkFault>
     ensures { Wrote E.Sink err.old err.new (text.now ++ (decimal number ++ codes "\n"))
         (ending result) }
 {

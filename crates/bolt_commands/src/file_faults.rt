@@ -5,10 +5,10 @@ ghost use Rattle.bolt_commands.specs.FileFaults.{AreCopyFaults, AreFileFaults, I
 ghost use Rattle.bolt_commands.specs.SnapshotAnswers.{bad_hash, hash_found};
 ghost use Rattle.bolt_job.specs.CopyKinds.{is_snapshot};
 
-use bolt_etcd::{SnapshotFault, snapshot_fault, snapshot_fault_text};
+use bolt_etcd::{SnapshotFault, put_snapshot_fault, snapshot_fault};
 use bolt_format::{MetaFault, Sink, SinkFault, Slot, choose, slot_meta};
 use bolt_job::{CheckJob, CopyKind, Extent, MetaChoice};
-use bolt_report::slot_fault_text;
+use bolt_report::put_slot_fault;
 
 /// What is wrong with a file apart from its pages.
 #[derive(Clone, Copy)]
@@ -132,7 +132,7 @@ fn put_hash_line<O: Sink>(hash: Option<SnapshotFault>, out: &mut O) -> Result<()
     ensures { Wrote O.Sink out.old out.new (hash_lines hash) (ending result) }
 {
     match hash {
-        Some(fault) => snapshot_fault_text(fault, out),
+        Some(fault) => put_snapshot_fault(fault, out),
         None => Ok(()),
     }
 }
@@ -141,7 +141,7 @@ fn put_other_line<O: Sink>(other: Option<(Slot, MetaFault)>, out: &mut O) -> Res
     ensures { Wrote O.Sink out.old out.new (other_meta_lines other) (ending result) }
 {
     match other {
-        Some((slot, fault)) => slot_fault_text(slot, fault, out),
+        Some((slot, fault)) => put_slot_fault(slot, fault, out),
         None => Ok(()),
     }
 }

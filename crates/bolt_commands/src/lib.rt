@@ -23,17 +23,15 @@ mod repair_command;
 mod shortfall;
 mod value_text;
 
-use crate::check_command::print_check;
-use crate::copy_commands::{write_copy, write_loaded};
-use crate::etcd_commands::{print_current, print_held, print_revisions, print_store_check};
+use crate::check_command::do_check;
+use crate::copy_commands::{do_compact, do_load};
+use crate::etcd_commands::{do_etcd_check, do_etcd_get, do_etcd_keys, do_etcd_revisions};
 use crate::failure::Outcome;
 use crate::failure_line::put_failure;
-use crate::list_command::print_list;
+use crate::list_command::do_list;
 use crate::opening::Input;
-use crate::printing_commands::{
-    print_buckets, print_info, print_keys, print_page, print_pages, print_stats, print_value,
-};
-use crate::repair_command::write_repaired;
+use crate::printing_commands::{do_buckets, do_get, do_info, do_keys, do_page, do_pages, do_stats};
+use crate::repair_command::do_etcd_repair;
 use bolt_format::Sink;
 use bolt_job::Job;
 pub use failure::Failure;
@@ -83,21 +81,21 @@ fn do_job<O: Sink, T: Sink>(input: Input<'_>, job: &Job, out: &mut O, target: &m
     ensures { DoesJob O.taken O.failed out.old out.new T.taken T.failed target.old target.new input.entry.file.now job.now result }
 {
     match job {
-        Job::Info(job) => print_info(input, job, out),
-        Job::Page(job) => print_page(input, job, out),
-        Job::Pages(job) => print_pages(input, job, out),
-        Job::Check(job) => print_check(input, job, out),
-        Job::Buckets(job) => print_buckets(input, job, out),
-        Job::Stats(job) => print_stats(input, job, out),
-        Job::Keys(job) => print_keys(input, job, out),
-        Job::Get(job) => print_value(input, job, out),
-        Job::List(job) => print_list(input, job, out),
-        Job::Compact(job) => write_copy(input, job, out, target),
-        Job::Load(job) => write_loaded(input, job, out, target),
-        Job::EtcdRevisions(job) => print_revisions(input, job, out),
-        Job::EtcdKeys(job) => print_current(input, job, out),
-        Job::EtcdGet(job) => print_held(input, job, out),
-        Job::EtcdCheck(job) => print_store_check(input, job, out),
-        Job::EtcdRepair(job) => write_repaired(input, job, out, target),
+        Job::Info(job) => do_info(input, job, out),
+        Job::Page(job) => do_page(input, job, out),
+        Job::Pages(job) => do_pages(input, job, out),
+        Job::Check(job) => do_check(input, job, out),
+        Job::Buckets(job) => do_buckets(input, job, out),
+        Job::Stats(job) => do_stats(input, job, out),
+        Job::Keys(job) => do_keys(input, job, out),
+        Job::Get(job) => do_get(input, job, out),
+        Job::List(job) => do_list(input, job, out),
+        Job::Compact(job) => do_compact(input, job, out, target),
+        Job::Load(job) => do_load(input, job, out, target),
+        Job::EtcdRevisions(job) => do_etcd_revisions(input, job, out),
+        Job::EtcdKeys(job) => do_etcd_keys(input, job, out),
+        Job::EtcdGet(job) => do_etcd_get(input, job, out),
+        Job::EtcdCheck(job) => do_etcd_check(input, job, out),
+        Job::EtcdRepair(job) => do_etcd_repair(input, job, out, target),
     }
 }

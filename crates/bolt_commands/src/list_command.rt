@@ -21,20 +21,20 @@ use bolt_recover::LostAndFound;
 use bolt_recover::laws::{
     each_file_has_a_joined_listing, each_file_has_found_pages, joined_members_rise,
 };
-use bolt_report::{ReportFault, list_members_part, list_part};
+use bolt_report::{ReportFault, list_members_part, put_list_part};
 use bolt_tree::Members;
 use std::alloc::Global;
 
 /// Writes a part of the listing: that of a sound file, of what is recovered of a damaged one, or of that
 /// joined with what is found of it.
-pub(crate) fn print_list<O: Sink>(input: Input<'_>, job: &ListJob, out: &mut O) -> Outcome
+pub(crate) fn do_list<O: Sink>(input: Input<'_>, job: &ListJob, out: &mut O) -> Outcome
     ensures { PrintsAnswer O.Sink out.old out.new
         (IsListPrint job.now input.entry.file.now) result }
 {
     each_file_has_found_pages();
     let mut opened = input.open(job.meta, job.extent)?;
     let other = metas_fault(job.extent, input.file, job.meta);
-    if put_part(input, job, &mut opened, out)? {
+    if put_listed_part(input, job, &mut opened, out)? {
         end_listing(Shortfall::find(opened.lost(), other))
     } else {
         Err(Failure::NoBucket)
@@ -52,7 +52,7 @@ pub(crate) fn end_listing(lost: Option<Shortfall>) -> Outcome
 }
 
 /// Writes the part that is wanted, and returns whether the listing has the bucket.
-fn put_part<O: Sink>(
+fn put_listed_part<O: Sink>(
     input: Input<'_>,
     job: &ListJob,
     opened: &mut Opened<'_>,
@@ -114,7 +114,7 @@ fn put_whole_part<O: Sink>(
 {
     let path = slices(alloc, job.path.as_slice())?;
     let from = slices(alloc, job.from.as_slice())?;
-    list_part(
+    put_list_part(
         alloc,
         checked,
         path.as_slice(),

@@ -15,20 +15,20 @@ ghost use Rattle.bolt_commands.specs.declared.failure.Failure.TheVariants.{Memor
 
 use crate::failure::{Failure, Outcome, ended, written};
 use crate::opening::{Input, open_bucket};
-use crate::recovered_commands::{RecoveredNames, print_recovered_names, print_recovered_value};
+use crate::recovered_commands::{RecoveredNames, get_recovered, name_recovered};
 use crate::value_text::put_value;
 use bolt_check::{Checked, NoMemory, Roles, check_roles};
 use bolt_format::{Meta, MetaFault, Sink, SinkFault, Slot, choose, slot_meta};
 use bolt_job::{BucketsJob, BucketsShown, GetJob, InfoJob, KeysJob, PageJob, PagesJob, StatsJob};
 use bolt_report::{
-    Names, Stats, add, buckets, info, keys_with_prefix, page_map, page_text, pages_table, sizes,
-    stats, stats_text,
+    Names, Stats, add, buckets, info, page_text, put_keys_with_prefix, put_page_map,
+    put_page_table, put_sizes, stats, stats_text,
 };
 use bolt_tree::Bucket;
 use std::alloc::Global;
 
 /// Writes the figures of the meta in a slot or, without one, of the active meta.
-pub(crate) fn print_info<O: Sink>(input: Input<'_>, job: &InfoJob, out: &mut O) -> Outcome
+pub(crate) fn do_info<O: Sink>(input: Input<'_>, job: &InfoJob, out: &mut O) -> Outcome
     ensures { PrintsAnswer O.Sink out.old out.new
         (IsInfoAnswer input.entry.file.now job.now.slot job.now.form) result }
 {
@@ -47,7 +47,7 @@ fn find_meta(file: &[u8], slot: Option<Slot>) -> Result<(Slot, Meta), MetaFault>
 }
 
 /// Writes the text of a page.
-pub(crate) fn print_page<O: Sink>(input: Input<'_>, job: &PageJob, out: &mut O) -> Outcome
+pub(crate) fn do_page<O: Sink>(input: Input<'_>, job: &PageJob, out: &mut O) -> Outcome
     ensures { PrintsAnswer O.Sink out.old out.new
         (IsPageAnswer input.entry.file.now job.now.meta job.now.id) result }
 {
@@ -56,36 +56,36 @@ pub(crate) fn print_page<O: Sink>(input: Input<'_>, job: &PageJob, out: &mut O) 
 }
 
 /// Writes the table of all pages or, if it is asked for, a map of them.
-pub(crate) fn print_pages<O: Sink>(input: Input<'_>, job: &PagesJob, out: &mut O) -> Outcome
+pub(crate) fn do_pages<O: Sink>(input: Input<'_>, job: &PagesJob, out: &mut O) -> Outcome
     ensures { PrintsAnswer O.Sink out.old out.new
         (IsReadAnswer input.entry.file.now Active
         (IsPagesAnswer input.entry.file.now job.now.map)) result }
 {
     let roles = check_roles(input.alloc, input.file)?;
-    written(put_pages(&roles, job.map, out))
+    written(put_pages_asked(&roles, job.map, out))
 }
 
-fn put_pages<O: Sink>(roles: &Roles<'_>, map: bool, out: &mut O) -> Result<(), SinkFault>
+fn put_pages_asked<O: Sink>(roles: &Roles<'_>, map: bool, out: &mut O) -> Result<(), SinkFault>
     requires { has_accounts (roles_checked roles.now) ≡ true }
     ensures { ForRoles (roles_checked roles.now) (λ own.
         Wrote O.Sink out.old out.new (in_checked (pages_shown map) (roles_checked roles.now) own)
         (ending result)) }
 {
     if map {
-        page_map(roles, out)
+        put_page_map(roles, out)
     } else {
-        pages_table(roles, out)
+        put_page_table(roles, out)
     }
 }
 
 /// Writes the names of the buckets in the bucket at a path, or also their sizes.
-pub(crate) fn print_buckets<O: Sink>(input: Input<'_>, job: &BucketsJob, out: &mut O) -> Outcome
+pub(crate) fn do_buckets<O: Sink>(input: Input<'_>, job: &BucketsJob, out: &mut O) -> Outcome
     ensures { PrintsAnswer O.Sink out.old out.new
         (IsBucketsPrint job.now input.entry.file.now) result }
 {
     match job.shown {
         BucketsShown::Names => put_bucket_names(input, job, out),
-        BucketsShown::Sizes => put_sizes(input, job, out),
+        BucketsShown::Sizes => put_sizes_asked(input, job, out),
         BucketsShown::Recovered => {
             let asked = RecoveredNames {
                 meta: job.meta,
@@ -93,7 +93,7 @@ pub(crate) fn print_buckets<O: Sink>(input: Input<'_>, job: &BucketsJob, out: &m
                 names: Names::Buckets,
                 form: job.form,
             };
-            print_recovered_names(input, asked, out)
+            name_recovered(input, asked, out)
         }
     }
 }
@@ -108,16 +108,16 @@ fn put_bucket_names<O: Sink>(input: Input<'_>, job: &BucketsJob, out: &mut O) ->
 }
 
 /// Writes their sizes and names.
-fn put_sizes<O: Sink>(input: Input<'_>, job: &BucketsJob, out: &mut O) -> Outcome
+fn put_sizes_asked<O: Sink>(input: Input<'_>, job: &BucketsJob, out: &mut O) -> Outcome
     ensures { PrintsAnswer O.Sink out.old out.new
         (IsBucketsShown shown.Sizes input.entry.file.now job.now.meta job.now) result }
 {
     let bucket = input.bucket(job.meta, job.path.as_slice())?;
-    ended(sizes(input.alloc, &bucket, job.form, out))
+    ended(put_sizes(input.alloc, &bucket, job.form, out))
 }
 
 /// Writes the keys of the bucket at a path that begin with a prefix.
-pub(crate) fn print_keys<O: Sink>(input: Input<'_>, job: &KeysJob, out: &mut O) -> Outcome
+pub(crate) fn do_keys<O: Sink>(input: Input<'_>, job: &KeysJob, out: &mut O) -> Outcome
     ensures { PrintsAnswer O.Sink out.old out.new
         (IsKeysPrint job.now input.entry.file.now) result }
 {
@@ -128,36 +128,36 @@ pub(crate) fn print_keys<O: Sink>(input: Input<'_>, job: &KeysJob, out: &mut O) 
             names: Names::BeginningWith(job.prefix.as_slice()),
             form: job.form,
         };
-        print_recovered_names(input, asked, out)
+        name_recovered(input, asked, out)
     } else {
-        put_keys(input, job, out)
+        put_keys_asked(input, job, out)
     }
 }
 
 /// Writes the keys of the bucket at a path of a sound file that begin with a prefix.
-fn put_keys<O: Sink>(input: Input<'_>, job: &KeysJob, out: &mut O) -> Outcome
+fn put_keys_asked<O: Sink>(input: Input<'_>, job: &KeysJob, out: &mut O) -> Outcome
     ensures { PrintsAnswer O.Sink out.old out.new
         (IsKeysShown false input.entry.file.now job.now.meta job.now) result }
 {
     let bucket = input.bucket(job.meta, job.path.as_slice())?;
     let mut cursor = bucket.cursor();
     let prefix = job.prefix.as_slice();
-    ended(keys_with_prefix(input.alloc, &mut cursor, prefix, job.form, out))
+    ended(put_keys_with_prefix(input.alloc, &mut cursor, prefix, job.form, out))
 }
 
 /// Writes the value at a path, and a line feed unless none is wanted.
-pub(crate) fn print_value<O: Sink>(input: Input<'_>, job: &GetJob, out: &mut O) -> Outcome
+pub(crate) fn do_get<O: Sink>(input: Input<'_>, job: &GetJob, out: &mut O) -> Outcome
     ensures { PrintsAnswer O.Sink out.old out.new (IsGetPrint job.now input.entry.file.now) result }
 {
     if job.recover {
-        print_recovered_value(input, job, out)
+        get_recovered(input, job, out)
     } else {
-        print_sound_value(input, job, out)
+        get_sound(input, job, out)
     }
 }
 
 /// Writes the value at a path of a sound file.
-fn print_sound_value<O: Sink>(input: Input<'_>, job: &GetJob, out: &mut O) -> Outcome
+fn get_sound<O: Sink>(input: Input<'_>, job: &GetJob, out: &mut O) -> Outcome
     ensures { PrintsAnswer O.Sink out.old out.new
         (IsValueShown false input.entry.file.now job.now.meta job.now) result }
 {
@@ -186,7 +186,7 @@ fn find_value<'a>(checked: Checked<'a>, path: &[Vec<u8>]) -> Result<&'a [u8], Fa
 
 /// Writes the figures of the bucket at a path with all in it. At the empty path they are those of
 /// the root's buckets, added up.
-pub(crate) fn print_stats<O: Sink>(input: Input<'_>, job: &StatsJob, out: &mut O) -> Outcome
+pub(crate) fn do_stats<O: Sink>(input: Input<'_>, job: &StatsJob, out: &mut O) -> Outcome
     ensures { PrintsAnswer O.Sink out.old out.new
         (IsStatsPrint job.now input.entry.file.now) result }
 {

@@ -31,7 +31,7 @@ pub(crate) struct RecoveredNames<'j> {
 }
 
 /// Writes names of entries of the bucket at a path, as they are recovered.
-pub(crate) fn print_recovered_names<O: Sink>(
+pub(crate) fn name_recovered<O: Sink>(
     input: Input<'_>,
     asked: RecoveredNames<'_>,
     out: &mut O,
@@ -85,7 +85,7 @@ fn no_key(lost: Option<Shortfall>) -> Failure
 }
 
 /// Writes the value at a path, as it is recovered, and a line feed unless none is wanted.
-pub(crate) fn print_recovered_value<O: Sink>(input: Input<'_>, job: &GetJob, out: &mut O) -> Outcome
+pub(crate) fn get_recovered<O: Sink>(input: Input<'_>, job: &GetJob, out: &mut O) -> Outcome
     ensures { PrintsAnswer O.Sink out.old out.new
         (IsRecoveredAnswer input.entry.file.now job.now.meta (IsRecoveredValue job.now)) result }
 {

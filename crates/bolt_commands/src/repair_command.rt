@@ -19,13 +19,13 @@ use bolt_format::{Sink, SinkFault};
 use bolt_job::{CopyKind, EtcdRepairJob, Extent};
 use bolt_layout::laws::a_fit_listing_is_of_one_tree;
 use bolt_recover::Lost;
-use bolt_report::lost_text;
+use bolt_report::put_lost;
 use bolt_text::{Piece, put_pieces};
 use std::alloc::Global;
 
 /// Writes the copy of a damaged file to `target` in which the revisions that are found are back, and
 /// then what is lost, how many are back and the lengths of both files to `out`.
-pub(crate) fn write_repaired<O: Sink, T: Sink>(
+pub(crate) fn do_etcd_repair<O: Sink, T: Sink>(
     input: Input<'_>,
     job: &EtcdRepairJob,
     out: &mut O,
@@ -107,16 +107,20 @@ struct RepairReport<'l> {
 fn end_repair<O: Sink>(copy: u64, report: &RepairReport<'_>, out: &mut O) -> Outcome
     ensures { WritesAnswer O.taken O.failed out.old out.new (repaired_answer report.now copy) result }
 {
-    put_report(report, copy, out)?;
+    put_repair_report(report, copy, out)?;
     Ok(status_of(report.faults, report.lost))
 }
 
 #[tactic(auto, using(bolt_format::proofs::WroteLemmas::wrote))]
-fn put_report<O: Sink>(report: &RepairReport<'_>, copy: u64, out: &mut O) -> Result<(), SinkFault>
+fn put_repair_report<O: Sink>(
+    report: &RepairReport<'_>,
+    copy: u64,
+    out: &mut O,
+) -> Result<(), SinkFault>
     ensures { Wrote O.Sink out.old out.new (repaired_text report.now copy) (ending result) }
 {
     put_file_faults(report.faults, out)?;
-    lost_text(report.lost, &[], out)?;
+    put_lost(report.lost, &[], out)?;
     put_counts(report.back, report.left_out, out)?;
     put_lengths(report.source, copy, out)
 }

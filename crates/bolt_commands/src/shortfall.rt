@@ -7,7 +7,7 @@ ghost use Rattle.bolt_commands.specs.Shortfalls.{shortfall, shortfall_text};
 
 use bolt_format::{MetaFault, Sink, SinkFault, Slot};
 use bolt_recover::Lost;
-use bolt_report::{lost_count, slot_fault_text};
+use bolt_report::{lost_count, put_slot_fault};
 use bolt_text::{Piece, put_pieces};
 
 /// What the output of a recovery lacks, or may lack (docs/RECOVERY.md, "The other meta").
@@ -44,13 +44,13 @@ pub(crate) fn put_shortfall<E: Sink>(shortfall: Shortfall, err: &mut E) -> Resul
             &[Piece::Field(b"pages lost: ", pages), Piece::Bytes(b"\n")],
             err,
         ),
-        Shortfall::State(slot, fault) => slot_fault_text(slot, fault, err),
+        Shortfall::State(slot, fault) => put_slot_fault(slot, fault, err),
         Shortfall::PagesAndState(pages, slot, fault) => {
             put_pieces(
                 &[Piece::Field(b"pages lost: ", pages), Piece::Bytes(b"; ")],
                 err,
             )?;
-            slot_fault_text(slot, fault, err)
+            put_slot_fault(slot, fault, err)
         }
     }
 }

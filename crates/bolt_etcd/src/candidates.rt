@@ -38,7 +38,7 @@ fn collect<'a>(alloc: Global, found: &[Found<'a>]) -> Result<Vec<Revision<'a>>, 
     ensures { IfOk result (λ all.
         map entry_of all.items ≡ candidates_in (found_elements found.now)) }
 {
-    let mut candidates = Vec::with_capacity(alloc, count(found))?;
+    let mut candidates = Vec::with_capacity(alloc, count_candidates(found))?;
     'rest: for page in found {
         add_page(&mut candidates, page.page.elements())?;
     }
@@ -70,7 +70,7 @@ fn candidate_at<'a>(leaf: &Leaf<'a>) -> Option<Revision<'a>>
 }
 
 /// The number of elements on all pages that are under revision keys, as candidates are.
-fn count(found: &[Found<'_>]) -> usize
+fn count_candidates(found: &[Found<'_>]) -> usize
     ensures { result ≡ counted 0 (length (under_revision_keys (found_elements found.now))) }
 {
     let mut n = 0_usize;
@@ -133,7 +133,7 @@ pub(crate) fn has_candidate(candidates: &[Revision<'_>], at: &mut usize, key: &[
     ensures { (result ≡ true) ↔ HasKey (map entry_of candidates.now) key.now }
 {
     let mut i = start(candidates, *at, key);
-    while i < candidates.len() && is_below(&candidates[i], key) {
+    while i < candidates.len() && is_under_lesser_key(&candidates[i], key) {
         i += 1;
     }
     *at = i;
@@ -145,14 +145,14 @@ fn start(candidates: &[Revision<'_>], at: usize, key: &[u8]) -> usize
     requires { Rises whole_cmp (map entry_of candidates.now) }
     ensures { HaveLesserKeys key.now candidates.now result }
 {
-    if 0 < at && at <= candidates.len() && is_below(&candidates[at - 1], key) {
+    if 0 < at && at <= candidates.len() && is_under_lesser_key(&candidates[at - 1], key) {
         at
     } else {
         0
     }
 }
 
-fn is_below(candidate: &Revision<'_>, key: &[u8]) -> bool
+fn is_under_lesser_key(candidate: &Revision<'_>, key: &[u8]) -> bool
     ensures { result ≡ is_lt (key_cmp (entry_of candidate.now).key key.now) }
 {
     candidate.place().cmp(key).is_lt()

@@ -91,13 +91,13 @@ pub(crate) fn put_name_faults<S: Sink>(
     let mut number = 0_u64;
     'rest: while let Some(fault) = pass.next() {
         put_name_fault(&fault, sink)?;
-        number = number.saturating_add(number_of(&fault));
+        number = number.saturating_add(number_of_lines(&fault));
     }
     Ok(number)
 }
 
 /// How many lines are written of it.
-fn number_of(fault: &NameFault<'_>) -> u64
+fn number_of_lines(fault: &NameFault<'_>) -> u64
     ensures { result ≡ length (name_fault_lines (shown_name_fault fault.now)) }
 {
     u64::from(fault.one_before) + u64::from(fault.lease)

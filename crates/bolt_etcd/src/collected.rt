@@ -33,7 +33,7 @@ impl<'a> Collected<'a> {
         ensures others { IfOk result (λ all.
             ForBucket bucket.now (λ entries. all.others ≡ counted 0 (length (others entries)))) }
     {
-        let mut collected = Vec::with_capacity(alloc, count(bucket, up_to))?;
+        let mut collected = Vec::with_capacity(alloc, count_until(bucket, up_to))?;
         let mut revisions = Revisions::of(bucket);
         'rest: while let Some(revision) = revisions.next() {
             if is_until(&revision, up_to) && collected.push(revision).is_err() {
@@ -57,7 +57,7 @@ impl<'a> Collected<'a> {
 }
 
 /// The number of revisions of a bucket of no later transaction than `up_to`.
-fn count(bucket: &Bucket<'_>, up_to: u64) -> usize
+fn count_until(bucket: &Bucket<'_>, up_to: u64) -> usize
     ensures { ForBucket bucket.now (λ entries.
         result ≡ counted 0 (length (until up_to (revisions entries)))) }
 {

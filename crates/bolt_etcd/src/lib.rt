@@ -54,7 +54,7 @@ pub use crate::revision_key::RevisionKey;
 pub use crate::revision_lines::RevisionWriter;
 pub use crate::revisions::Revisions;
 pub use crate::snapshot::{
-    HASH_LEN, SnapshotFault, hashed_blocks_are_a_snapshot, snapshot_fault, snapshot_fault_text,
+    HASH_LEN, SnapshotFault, hashed_blocks_are_a_snapshot, put_snapshot_fault, snapshot_fault,
     trailing_bytes_change_nothing,
 };
 pub use crate::store_faults::put_store_faults;

@@ -55,7 +55,7 @@ pub fn snapshot_fault(file: &[u8]) -> Option<SnapshotFault>
 /// # Errors
 ///
 /// `SinkFault` if the sink failed. It has then accepted a prefix of the text.
-pub fn snapshot_fault_text<S: Sink>(fault: SnapshotFault, sink: &mut S) -> Result<(), SinkFault>
+pub fn put_snapshot_fault<S: Sink>(fault: SnapshotFault, sink: &mut S) -> Result<(), SinkFault>
     ensures { Wrote S.Sink sink.old sink.new (snapshot_fault_text fault) (ending result) }
 {
     put(snapshot_fault_line(fault), sink)

@@ -57,7 +57,7 @@ fn arg_of<'a>(alloc: Global, argument: &'a Argument) -> Arg<'a>
         .help(argument.help);
     let arg = match argument.value {
         Some(name) => arg.value_name(name),
-        None => alone(arg),
+        None => without_value(arg),
     };
     match argument.flag {
         Flag::Operand => arg,
@@ -69,7 +69,7 @@ fn arg_of<'a>(alloc: Global, argument: &'a Argument) -> Arg<'a>
 }
 
 /// An option without a value. If it is given, it counts as one word.
-fn alone<'a>(arg: Arg<'a>) -> Arg<'a>
+fn without_value<'a>(arg: Arg<'a>) -> Arg<'a>
     ensures rule { rule_of result ≡ alone (rule_of arg.entry) }
     ensures local { result.global ≡ arg.entry.global }
 {

@@ -19,7 +19,7 @@ use crate::etcd_jobs::{
 use crate::line::Line;
 use crate::page_commands::{
     CHECK, CheckJob, INFO, InfoJob, PAGE, PAGES, PageJob, PagesJob, read_check, read_info,
-    read_page, read_pages,
+    read_page_job, read_pages,
 };
 use crate::refusal::Refusal;
 use crate::writing_commands::{COMPACT, CompactJob, LOAD, LoadJob, read_compact, read_load};
@@ -126,7 +126,7 @@ pub(crate) fn read_command(name: &str, line: &Line<'_, '_>) -> Result<Job, Refus
 {
     match name {
         "info" => Ok(Job::Info(read_info(line)?)),
-        "page" => Ok(Job::Page(read_page(line)?)),
+        "page" => Ok(Job::Page(read_page_job(line)?)),
         "pages" => Ok(Job::Pages(read_pages(line)?)),
         "check" => Ok(Job::Check(read_check(line)?)),
         "buckets" => Ok(Job::Buckets(read_buckets(line)?)),

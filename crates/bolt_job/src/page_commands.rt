@@ -139,7 +139,7 @@ pub(crate) static PAGE: Syntax = Syntax {
     note: None,
 };
 
-pub(crate) fn read_page(line: &Line<'_, '_>) -> Result<PageJob, Refusal>
+pub(crate) fn read_page_job(line: &Line<'_, '_>) -> Result<PageJob, Refusal>
     ensures { ReadsAs page_of (asks_page (values_of line.now)) result }
 {
     Ok(PageJob {

@@ -27,7 +27,7 @@ pub(crate) struct Decoded<'a> {
 }
 
 /// Adds the bytes of a word in hexadecimal. Returns whether it is one.
-fn add_bytes(digits: &[u8], bytes: &mut Vec<u8>) -> Result<bool, NoMemory>
+fn decode_bytes(digits: &[u8], bytes: &mut Vec<u8>) -> Result<bool, NoMemory>
     ensures good { IfOk result (λ good. good ≡ is_some (hex_bytes_in digits.now)) }
     ensures added { OnOk result (AddsDecoded (hex_bytes_in digits.now) bytes.old.items bytes.new.items) }
 {
@@ -40,18 +40,18 @@ fn add_bytes(digits: &[u8], bytes: &mut Vec<u8>) -> Result<bool, NoMemory>
 }
 
 /// Adds the bytes of a part of a path. Returns whether it is one.
-fn add_part(word: &[u8], bytes: &mut Vec<u8>) -> Result<bool, NoMemory>
+fn decode_part(word: &[u8], bytes: &mut Vec<u8>) -> Result<bool, NoMemory>
     ensures good { IfOk result (λ good. good ≡ is_some (part_in word.now)) }
     ensures added { OnOk result (AddsDecoded (part_in word.now) bytes.old.items bytes.new.items) }
 {
     if word.is_empty() {
         return Ok(false);
     }
-    add_bytes(word, bytes)
+    decode_bytes(word, bytes)
 }
 
 /// Adds the bytes of a path in hexadecimal. Returns whether it is one.
-fn add_path(word: &[u8], bytes: &mut Vec<u8>) -> Result<bool, NoMemory>
+fn decode_path(word: &[u8], bytes: &mut Vec<u8>) -> Result<bool, NoMemory>
     ensures good { IfOk result (λ good.
         good ≡ is_some (option_map path_bytes (hex_path_in word.now))) }
     ensures added { OnOk result
@@ -59,26 +59,26 @@ fn add_path(word: &[u8], bytes: &mut Vec<u8>) -> Result<bool, NoMemory>
 {
     let mut rest = word;
     while let Some((part, after)) = cut_at(b'/', rest) {
-        if !add_part(part, bytes)? {
+        if !decode_part(part, bytes)? {
             return Ok(false);
         }
         rest = after;
     }
-    add_part(rest, bytes)
+    decode_part(rest, bytes)
 }
 
 /// Adds the bytes of a line. Returns whether all of its hexadecimal is.
-fn add_words(words: &LineWords<'_>, bytes: &mut Vec<u8>) -> Result<bool, NoMemory>
+fn decode_words(words: &LineWords<'_>, bytes: &mut Vec<u8>) -> Result<bool, NoMemory>
     ensures good { IfOk result (λ good.
         good ≡ is_some (option_map member_bytes (words_member words.now))) }
     ensures added { OnOk result
         (AddsDecoded (option_map member_bytes (words_member words.now)) bytes.old.items bytes.new.items) }
 {
-    if !add_path(words.path, bytes)? {
+    if !decode_path(words.path, bytes)? {
         return Ok(false);
     }
     match words.item {
-        ItemWord::Digits(digits) => add_bytes(digits, bytes),
+        ItemWord::Digits(digits) => decode_bytes(digits, bytes),
         ItemWord::Sequence(_) => Ok(true),
     }
 }
@@ -116,7 +116,7 @@ fn add_line(line: &[u8], bytes: &mut Vec<u8>) -> Result<Option<LineFault>, NoMem
     let Some(words) = words_of(line) else {
         return Ok(Some(LineFault::NotALine));
     };
-    if !add_words(&words, bytes)? {
+    if !decode_words(&words, bytes)? {
         return Ok(Some(LineFault::NotALine));
     }
     if has_long_key(words.path) {

@@ -17,7 +17,7 @@ pub struct Found<'a> {
 }
 
 /// The last sixteen decimal digits of a number.
-fn digits_of(number: u64) -> [u8; 16]
+fn page_digits(number: u64) -> [u8; 16]
     ensures { result ≡ page_key number }
 {
     let mut digits = [b'0'; 16];
@@ -37,7 +37,7 @@ impl<'a> Found<'a> {
     {
         Found {
             number,
-            name: digits_of(number),
+            name: page_digits(number),
             page,
         }
     }

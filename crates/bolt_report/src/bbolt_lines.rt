@@ -4,7 +4,7 @@ ghost use Rattle.bolt_format.specs.{Endings.ending, Wrote.Wrote};
 ghost use Rattle.bolt_report.specs.BboltLines.{bbolt_findings_text, file_finding_text, meta_sentence};
 ghost use Rattle.bolt_text.specs.Lines.{line};
 
-use crate::fault_lines::{put_count, put_findings, put_of_pages};
+use crate::fault_lines::{put_each_finding, put_error_count, put_of_pages};
 use crate::metas::slot_number;
 use bolt_check::{FileFinding, Finding};
 use bolt_format::{Sink, SinkFault, Slot};
@@ -16,7 +16,7 @@ use bolt_text::{Piece, put_pieces};
 /// # Errors
 ///
 /// `SinkFault` if the sink failed. It has then accepted a prefix of the text.
-pub fn bbolt_findings_text<S: Sink>(
+pub fn put_bbolt_findings<S: Sink>(
     of_file: &[FileFinding],
     on_ways: &[Finding],
     sink: &mut S,
@@ -25,8 +25,8 @@ pub fn bbolt_findings_text<S: Sink>(
         (ending result) }
 {
     put_file_findings(of_file, sink)?;
-    put_findings(on_ways, sink)?;
-    put_count(of_file.len() as u64 + on_ways.len() as u64, sink)
+    put_each_finding(on_ways, sink)?;
+    put_error_count(of_file.len() as u64 + on_ways.len() as u64, sink)
 }
 
 #[tactic(auto, using(bolt_text::proofs::ReportLemmas::elements))]
@@ -35,13 +35,13 @@ fn put_file_findings<S: Sink>(findings: &[FileFinding], sink: &mut S) -> Result<
         (ending result) }
 {
     for finding in findings {
-        file_finding_text(*finding, sink)?;
+        put_file_finding(*finding, sink)?;
     }
     Ok(())
 }
 
 /// Writes the line of a finding of the file as a whole.
-fn file_finding_text<S: Sink>(finding: FileFinding, sink: &mut S) -> Result<(), SinkFault>
+fn put_file_finding<S: Sink>(finding: FileFinding, sink: &mut S) -> Result<(), SinkFault>
     ensures { Wrote S.Sink sink.old sink.new (file_finding_text finding) (ending result) }
 {
     match finding {

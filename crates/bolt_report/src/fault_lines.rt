@@ -12,7 +12,7 @@ use bolt_text::{Piece, put, put_pieces};
 /// # Errors
 ///
 /// `SinkFault` if the sink failed. It has then accepted a prefix of the text.
-pub fn meta_fault_text<S: Sink>(fault: MetaFault, sink: &mut S) -> Result<(), SinkFault>
+pub fn put_meta_fault<S: Sink>(fault: MetaFault, sink: &mut S) -> Result<(), SinkFault>
     ensures { Wrote S.Sink sink.old sink.new (meta_fault_text fault) (ending result) }
 {
     put(meta_fault_line(fault), sink)
@@ -23,7 +23,7 @@ pub fn meta_fault_text<S: Sink>(fault: MetaFault, sink: &mut S) -> Result<(), Si
 /// # Errors
 ///
 /// `SinkFault` if the sink failed. It has then accepted a prefix of the text.
-pub fn page_fault_text<S: Sink>(fault: &PageFault, sink: &mut S) -> Result<(), SinkFault>
+pub fn put_page_fault<S: Sink>(fault: &PageFault, sink: &mut S) -> Result<(), SinkFault>
     ensures { Wrote S.Sink sink.old sink.new (page_fault_text fault.now) (ending result) }
 {
     put_pieces(
@@ -54,7 +54,7 @@ pub fn finding_text<S: Sink>(finding: &Finding, sink: &mut S) -> Result<(), Sink
 /// # Errors
 ///
 /// `SinkFault` if the sink failed. It has then accepted a prefix of the text.
-pub fn findings_text<S: Sink>(
+pub fn put_findings<S: Sink>(
     findings: &[Finding],
     earlier: u64,
     sink: &mut S,
@@ -62,12 +62,12 @@ pub fn findings_text<S: Sink>(
     requires { earlier ≤ 2 }
     ensures { Wrote S.Sink sink.old sink.new (findings_text earlier findings.now) (ending result) }
 {
-    put_findings(findings, sink)?;
-    put_count(earlier + findings.len() as u64, sink)
+    put_each_finding(findings, sink)?;
+    put_error_count(earlier + findings.len() as u64, sink)
 }
 
 #[tactic(auto, using(bolt_text::proofs::ReportLemmas::elements))]
-pub(crate) fn put_findings<S: Sink>(findings: &[Finding], sink: &mut S) -> Result<(), SinkFault>
+pub(crate) fn put_each_finding<S: Sink>(findings: &[Finding], sink: &mut S) -> Result<(), SinkFault>
     ensures { Wrote S.Sink sink.old sink.new (flat_map finding_text findings.now) (ending result) }
 {
     for finding in findings {
@@ -76,8 +76,12 @@ pub(crate) fn put_findings<S: Sink>(findings: &[Finding], sink: &mut S) -> Resul
     Ok(())
 }
 
-/// Writes the line with the number of errors.
-pub(crate) fn put_count<S: Sink>(count: u64, sink: &mut S) -> Result<(), SinkFault>
+/// Writes the line with the number of errors, such as `2 errors found`.
+///
+/// # Errors
+///
+/// `SinkFault` if the sink failed. It has then accepted a prefix of the line.
+pub fn put_error_count<S: Sink>(count: u64, sink: &mut S) -> Result<(), SinkFault>
     ensures { Wrote S.Sink sink.old sink.new (count_line count) (ending result) }
 {
     put_pieces(

@@ -33,7 +33,7 @@ pub fn keys<S: Sink>(
     ensures fault { IfErr result (λ fault. (fault ≡ ReportFault.Sink)
         ⊎ ((fault ≡ ReportFault.NoMemory) × (form ≡ Form.Json))) }
 {
-    keys_with_prefix(alloc, &mut bucket.cursor(), &[], form, sink)
+    put_keys_with_prefix(alloc, &mut bucket.cursor(), &[], form, sink)
 }
 
 /// Writes the keys of those entries of a bucket that are buckets. The lines and the errors are as
@@ -90,7 +90,7 @@ fn put_bucket<S: Sink>(
 /// `Sink` if the sink failed; `NoMemory` if memory ran out for a text in the form `Json`, and the sink
 /// had not failed. The sink has then accepted a prefix of the text, and not the whole if memory ran
 /// out. There is no other error, and no other form needs memory.
-pub fn keys_with_prefix<S: Sink>(
+pub fn put_keys_with_prefix<S: Sink>(
     alloc: Global,
     cursor: &mut Cursor<'_>,
     prefix: &[u8],

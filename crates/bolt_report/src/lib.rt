@@ -17,17 +17,19 @@ mod part_lines;
 mod size_lines;
 mod stats_lines;
 
-pub use bbolt_lines::bbolt_findings_text;
+pub use bbolt_lines::put_bbolt_findings;
 pub use bolt_stats::{Stats, add, stats};
 pub use bolt_text::{FigureForm, Form, ListForm, MemberLines, ReportFault, item, value};
-pub use fault_lines::{finding_text, findings_text, meta_fault_text, page_fault_text};
-pub use key_lines::{buckets, keys, keys_with_prefix};
-pub use loss_lines::{counted_lost_text, lost_count, lost_text};
-pub use maps::page_map;
-pub use metas::{info, slot_fault_text};
+pub use fault_lines::{
+    finding_text, put_error_count, put_findings, put_meta_fault, put_page_fault,
+};
+pub use key_lines::{buckets, keys, put_keys_with_prefix};
+pub use loss_lines::{lost_count, put_counted_lost, put_lost};
+pub use maps::put_page_map;
+pub use metas::{info, put_slot_fault};
 pub use name_lines::{Names, NamesIn, list_members_names};
 pub use page_lines::page_text;
-pub use page_table::{pages, pages_table};
-pub use part_lines::{is_bucket_at, list, list_members_part, list_part};
-pub use size_lines::sizes;
+pub use page_table::{pages, put_page_table};
+pub use part_lines::{is_bucket_at, list, list_members_part, put_list_part};
+pub use size_lines::put_sizes;
 pub use stats_lines::stats_text;

@@ -8,13 +8,13 @@ ghost use Rattle.bolt_text.specs.Lines.{line};
 ghost use Rattle.bolt_report.specs.LossLines.{bounds_line, bucket_words, loss_text, losses_text, lost_count, lost_lines};
 ghost use Rattle.bolt_report.specs.FoundLines.{IsFoundLeaf, bucket_count, counted_lost_text, found_line, found_text, found_view, lost_text};
 
-use crate::fault_lines::{put_count, put_sentence};
+use crate::fault_lines::{put_error_count, put_sentence};
 use bolt_format::{LeafPage, Sink, SinkFault};
 use bolt_recover::{Found, Loss, Lost};
 use bolt_text::{Piece, put, put_pieces};
 
 /// Writes the line of each loss, or the one that says that everything is lost.
-fn put_lost<S: Sink>(lost: Lost<'_>, sink: &mut S) -> Result<(), SinkFault>
+fn put_lost_lines<S: Sink>(lost: Lost<'_>, sink: &mut S) -> Result<(), SinkFault>
     ensures { Wrote S.Sink sink.old sink.new (lost_lines (lost_view lost.entry)) (ending result) }
 {
     match lost {
@@ -102,16 +102,12 @@ fn put_bounds<'a, S: Sink>(
 ///
 /// `SinkFault` if the sink failed. It has then accepted a prefix of the text.
 #[tactic(auto, using(bolt_format::proofs::WroteLemmas::wrote))]
-pub fn lost_text<S: Sink>(
-    lost: Lost<'_>,
-    found: &[Found<'_>],
-    sink: &mut S,
-) -> Result<(), SinkFault>
+pub fn put_lost<S: Sink>(lost: Lost<'_>, found: &[Found<'_>], sink: &mut S) -> Result<(), SinkFault>
     requires { All IsFoundLeaf found.now }
     ensures { Wrote S.Sink sink.old sink.new
         (lost_text (lost_view lost.entry) (map found_view found.now)) (ending result) }
 {
-    put_lost(lost, sink)?;
+    put_lost_lines(lost, sink)?;
     put_all_found(found, sink)
 }
 
@@ -122,7 +118,7 @@ pub fn lost_text<S: Sink>(
 /// # Errors
 ///
 /// `SinkFault` if the sink failed. It has then accepted a prefix of the text.
-pub fn counted_lost_text<S: Sink>(
+pub fn put_counted_lost<S: Sink>(
     lost: Lost<'_>,
     found: &[Found<'_>],
     earlier: u64,
@@ -134,8 +130,8 @@ pub fn counted_lost_text<S: Sink>(
         (counted_lost_text earlier (lost_view lost.entry) (map found_view found.now))
         (ending result) }
 {
-    lost_text(lost, found, sink)?;
-    put_count(earlier + lost_count(lost), sink)
+    put_lost(lost, found, sink)?;
+    put_error_count(earlier + lost_count(lost), sink)
 }
 
 #[tactic(auto, using(bolt_text::proofs::ReportLemmas::elements))]

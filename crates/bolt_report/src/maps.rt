@@ -21,7 +21,7 @@ const LINE_PAGES: u64 = 64;
 /// # Errors
 ///
 /// `SinkFault` if the sink failed. It has then accepted a prefix of the text.
-pub fn page_map<S: Sink>(table: &Roles<'_>, sink: &mut S) -> Result<(), SinkFault>
+pub fn put_page_map<S: Sink>(table: &Roles<'_>, sink: &mut S) -> Result<(), SinkFault>
     requires { has_accounts (roles_checked table.now) ≡ true }
     ensures { ForRoles (roles_checked table.now) (λ roles.
         Wrote S.Sink sink.old sink.new (map_of (roles_checked table.now) roles) (ending result)) }

@@ -72,7 +72,7 @@ fn put_json<S: Sink>(slot: Slot, meta: &Meta, sink: &mut S) -> Result<(), SinkFa
 /// # Errors
 ///
 /// `SinkFault` if the sink failed. It has then accepted a prefix of the text.
-pub fn slot_fault_text<S: Sink>(slot: Slot, fault: MetaFault, sink: &mut S) -> Result<(), SinkFault>
+pub fn put_slot_fault<S: Sink>(slot: Slot, fault: MetaFault, sink: &mut S) -> Result<(), SinkFault>
     ensures { Wrote S.Sink sink.old sink.new (slot_fault_text slot fault) (ending result) }
 {
     put_pieces(

@@ -25,7 +25,7 @@ pub fn pages<S: Sink>(alloc: Global, checked: Checked<'_>, sink: &mut S) -> Resu
         ⊎ (fault ≡ ReportFault.NoMemory)) }
 {
     let table = roles(alloc, checked)?;
-    pages_table(&table, sink)?;
+    put_page_table(&table, sink)?;
     Ok(())
 }
 
@@ -36,7 +36,7 @@ pub fn pages<S: Sink>(alloc: Global, checked: Checked<'_>, sink: &mut S) -> Resu
 /// # Errors
 ///
 /// `SinkFault` if the sink failed. It has then accepted a prefix of the text.
-pub fn pages_table<S: Sink>(table: &Roles<'_>, sink: &mut S) -> Result<(), SinkFault>
+pub fn put_page_table<S: Sink>(table: &Roles<'_>, sink: &mut S) -> Result<(), SinkFault>
     requires { has_accounts (roles_checked table.now) ≡ true }
     ensures { ForRoles (roles_checked table.now) (λ roles.
         Wrote S.Sink sink.old sink.new (table_text (roles_checked table.now) roles)

@@ -35,7 +35,7 @@ pub fn list<S: Sink>(
     ensures fault { IfErr result (λ fault. (fault ≡ ReportFault.Sink)
         ⊎ (fault ≡ ReportFault.NoMemory)) }
 {
-    list_part(alloc, checked, &[], from, ListForm::Hex, sink)
+    put_list_part(alloc, checked, &[], from, ListForm::Hex, sink)
 }
 
 /// Writes a line in a form for each path of a file that begins with `below` and doesn't come before
@@ -49,7 +49,7 @@ pub fn list<S: Sink>(
 /// `Sink` if the sink failed; `NoMemory` if memory ran out for the walk or for a line in the form
 /// `Json`, and the sink had not failed. The sink has then accepted a prefix of the text: if memory ran
 /// out, maybe all of it, since the walk goes on after the last line. There is no other error.
-pub fn list_part<S: Sink>(
+pub fn put_list_part<S: Sink>(
     alloc: Global,
     checked: Checked<'_>,
     below: &[&[u8]],
@@ -136,7 +136,7 @@ fn put_bucket_part<'a, M: Members<'a>, S: Sink>(
     let mut found = below.is_empty();
     'part: while let Some(item) = members.next()? {
         found |= is_bucket_at(members.path(), &item, below);
-        if found && is_wanted(members.path(), below, from) {
+        if found && is_in_part(members.path(), below, from) {
             lines.put(members.path(), &item, sink)?;
         }
     }
@@ -151,7 +151,7 @@ fn later_of<'p, 'a>(one: &'p [&'a [u8]], other: &'p [&'a [u8]]) -> &'p [&'a [u8]
 }
 
 /// Whether a path begins with another and doesn't come before a third.
-fn is_wanted(path: &[&[u8]], below: &[&[u8]], from: &[&[u8]]) -> bool
+fn is_in_part(path: &[&[u8]], below: &[&[u8]], from: &[&[u8]]) -> bool
     ensures { result ≡ (begins_with (path_of below.now) (path_of path.now)
         && not (is_lt (path_cmp (path_of path.now) (path_of from.now)))) }
 {

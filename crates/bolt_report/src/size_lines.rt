@@ -23,7 +23,7 @@ use std::alloc::Global;
 /// `Sink` if the sink failed; `NoMemory` if memory ran out for the figures of a bucket or for a
 /// name in the form `Json`, and the sink had not failed. The sink has then accepted a prefix of the
 /// text, and not the whole if memory ran out. There is no other error.
-pub fn sizes<S: Sink>(
+pub fn put_sizes<S: Sink>(
     alloc: Global,
     bucket: &Bucket<'_>,
     form: Form,

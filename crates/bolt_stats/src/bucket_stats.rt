@@ -127,7 +127,7 @@ fn read_bucket(
         depth: 1,
     })?;
     'pages: while let Some(open) = pages.pop() {
-        let read = read_page(checked, open, pages, roots)?;
+        let read = read_unread_page(checked, open, pages, roots)?;
         whole.stats = add(whole.stats, read.stats);
         whole.height = whole.height.max(read.height);
         whole.inline_depth = whole.inline_depth.max(read.inline_depth);
@@ -136,7 +136,7 @@ fn read_bucket(
 }
 
 /// Reads a page: opens the children of a branch, and finds the buckets of a leaf.
-fn read_page(
+fn read_unread_page(
     checked: &Checked<'_>,
     next: UnreadPage,
     pages: &mut Vec<UnreadPage>,

@@ -4,7 +4,7 @@ ghost use Rattle.hex.specs.Hex.{encode_lower};
 ghost use Rattle.bolt_format.specs.{Endings.ending, Wrote.Wrote};
 ghost use Rattle.bolt_text.specs.{Gathers.Gathers, Pieces.hex_string};
 
-use crate::hexadecimal::{put_hex, write_digits};
+use crate::hexadecimal::{few_digits, put_hex};
 use arrayvec::ArrayVec;
 use bolt_format::{Sink, SinkFault};
 
@@ -18,7 +18,7 @@ const SHORT_LEN: usize = 64;
 pub(crate) type Gathered = ArrayVec<u8, GATHERED_LEN>;
 
 /// Adds a JSON string of bytes in hexadecimal. Digits need no escapes.
-pub(crate) fn add_hex_string<S: Sink>(
+pub(crate) fn put_hex_string<S: Sink>(
     bytes: &[u8],
     gathered: &mut Gathered,
     sink: &mut S,
@@ -26,13 +26,13 @@ pub(crate) fn add_hex_string<S: Sink>(
     ensures { Gathers S.Sink sink.old sink.new gathered.old.items gathered.new.items
         (hex_string bytes.now) (ending result) }
 {
-    add_bytes(b"\"", gathered, sink)?;
-    add_hex(bytes, gathered, sink)?;
-    add_bytes(b"\"", gathered, sink)
+    put_bytes(b"\"", gathered, sink)?;
+    put_hex_digits(bytes, gathered, sink)?;
+    put_bytes(b"\"", gathered, sink)
 }
 
 /// Adds bytes in hexadecimal; long ones are written part by part, and not gathered.
-pub(crate) fn add_hex<S: Sink>(
+pub(crate) fn put_hex_digits<S: Sink>(
     bytes: &[u8],
     gathered: &mut Gathered,
     sink: &mut S,
@@ -42,7 +42,7 @@ pub(crate) fn add_hex<S: Sink>(
 {
     if bytes.len() <= SHORT_LEN {
         let mut digits = [0; 2 * SHORT_LEN];
-        add_bytes(write_digits(bytes, &mut digits), gathered, sink)
+        put_bytes(few_digits(bytes, &mut digits), gathered, sink)
     } else {
         put_gathered(gathered, sink)?;
         put_hex(bytes, sink)
@@ -51,7 +51,7 @@ pub(crate) fn add_hex<S: Sink>(
 
 /// Adds bytes to what is gathered, or writes what is gathered first.
 #[inline(always)]
-pub(crate) fn add_bytes<S: Sink>(
+pub(crate) fn put_bytes<S: Sink>(
     bytes: &[u8],
     gathered: &mut Gathered,
     sink: &mut S,
@@ -61,11 +61,11 @@ pub(crate) fn add_bytes<S: Sink>(
 {
     match gathered.try_extend_from_slice(bytes) {
         Ok(()) => Ok(()),
-        Err(_) => add_after_put(bytes, gathered, sink),
+        Err(_) => put_after_gathered(bytes, gathered, sink),
     }
 }
 
-fn add_after_put<S: Sink>(
+fn put_after_gathered<S: Sink>(
     bytes: &[u8],
     gathered: &mut Gathered,
     sink: &mut S,

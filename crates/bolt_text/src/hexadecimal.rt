@@ -57,11 +57,11 @@ fn put_hex_part<S: Sink>(part: &[u8], buffer: &mut [u8], sink: &mut S) -> Result
     requires { 2 * length part.now ≤ length buffer.old }
     ensures { Wrote S.Sink sink.old sink.new (encode_lower part.now) (ending result) }
 {
-    sink.put(write_digits(part, buffer))
+    sink.put(few_digits(part, buffer))
 }
 
 /// The digits of a few bytes, written to the front of a buffer.
-pub(crate) fn write_digits<'a>(bytes: &[u8], buffer: &'a mut [u8]) -> &'a [u8]
+pub(crate) fn few_digits<'a>(bytes: &[u8], buffer: &'a mut [u8]) -> &'a [u8]
     requires { 2 * length bytes.now ≤ length buffer.old }
     ensures { result.now ≡ encode_lower bytes.now }
 {
@@ -79,7 +79,7 @@ pub(crate) fn encode_digits(bytes: &[u8], digits: &mut [u8])
     ensures { digits.new ≡ encode_lower bytes.now }
 {
     for i in 0..bytes.len() {
-        let pair = digits_of(bytes[i]);
+        let pair = byte_digits(bytes[i]);
         digits[2 * i] = pair[0];
         digits[2 * i + 1] = pair[1];
     }
@@ -87,7 +87,7 @@ pub(crate) fn encode_digits(bytes: &[u8], digits: &mut [u8])
 
 /// The two digits of a byte, both computed in one number: its halves are the values of the digits, and those above 9
 /// become letters, which come 39 characters after where the digits would go on.
-fn digits_of(byte: u8) -> [u8; 2]
+fn byte_digits(byte: u8) -> [u8; 2]
     ensures { result
         ≡ slice_index lower_digits (byte / 16) ∷ slice_index lower_digits (byte % 16) ∷ [] }
 {

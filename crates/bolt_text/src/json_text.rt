@@ -72,12 +72,16 @@ fn write_item(writer: &mut Writer, bytes: &[u8], digits: &mut Vec<u8>) -> Result
 {
     match str::from_utf8(bytes) {
         Ok(text) => writer.string(text),
-        Err(_) => write_digits(writer, bytes, digits),
+        Err(_) => put_digits_object(writer, bytes, digits),
     }
 }
 
 /// Writes an object with the hexadecimal digits of a key or a value.
-fn write_digits(writer: &mut Writer, bytes: &[u8], digits: &mut Vec<u8>) -> Result<(), AllocError>
+fn put_digits_object(
+    writer: &mut Writer,
+    bytes: &[u8],
+    digits: &mut Vec<u8>,
+) -> Result<(), AllocError>
     ensures before { writer.new.before ≡ writer.old.before }
     ensures tokens { OnOk result
         (writer.new.tokens ≡ writer.old.tokens ++ digits_tokens bytes.now) }

@@ -6,7 +6,7 @@ ghost use Rattle.bolt_text.specs.Gathers.{Gathers};
 ghost use Rattle.bolt_text.specs.NamedPaths.{named_path, text_after};
 ghost use Rattle.bolt_text.specs.Pieces.{later_parts, part_text, path_text, separator};
 
-use crate::gathered::{Gathered, add_bytes, add_hex, add_hex_string};
+use crate::gathered::{Gathered, put_bytes, put_hex_digits, put_hex_string};
 use crate::readable::is_readable;
 use bolt_format::{Sink, SinkFault};
 
@@ -22,7 +22,7 @@ pub enum PathForm {
 }
 
 /// Adds a path in hexadecimal, and its text if it can be read.
-pub(crate) fn add_named_path<S: Sink>(
+pub(crate) fn put_named_path<S: Sink>(
     parts: &[&[u8]],
     gathered: &mut Gathered,
     sink: &mut S,
@@ -30,12 +30,12 @@ pub(crate) fn add_named_path<S: Sink>(
     ensures { Gathers S.Sink sink.old sink.new gathered.old.items gathered.new.items
         (named_path (path_of parts.now)) (ending result) }
 {
-    add_path(parts, PathForm::Slashes, gathered, sink)?;
-    add_text_after(parts, gathered, sink)
+    put_path(parts, PathForm::Slashes, gathered, sink)?;
+    put_text_after(parts, gathered, sink)
 }
 
 /// Adds the parts of a path in brackets, if it can be read.
-fn add_text_after<S: Sink>(
+fn put_text_after<S: Sink>(
     parts: &[&[u8]],
     gathered: &mut Gathered,
     sink: &mut S,
@@ -46,13 +46,13 @@ fn add_text_after<S: Sink>(
     if !is_readable(parts) {
         return Ok(());
     }
-    add_bytes(b" (", gathered, sink)?;
-    add_path(parts, PathForm::Plain, gathered, sink)?;
-    add_bytes(b")", gathered, sink)
+    put_bytes(b" (", gathered, sink)?;
+    put_path(parts, PathForm::Plain, gathered, sink)?;
+    put_bytes(b")", gathered, sink)
 }
 
 /// Adds the parts of a path in a form.
-pub(crate) fn add_path<S: Sink>(
+pub(crate) fn put_path<S: Sink>(
     parts: &[&[u8]],
     form: PathForm,
     gathered: &mut Gathered,
@@ -64,12 +64,12 @@ pub(crate) fn add_path<S: Sink>(
     let Some((first, rest)) = parts.split_first() else {
         return Ok(());
     };
-    add_part(first, form, gathered, sink)?;
-    add_later_parts(rest, form, gathered, sink)
+    put_path_part(first, form, gathered, sink)?;
+    put_parts_after(rest, form, gathered, sink)
 }
 
 /// Adds a separator and then the part, for each of these parts.
-fn add_later_parts<S: Sink>(
+fn put_parts_after<S: Sink>(
     parts: &[&[u8]],
     form: PathForm,
     gathered: &mut Gathered,
@@ -79,12 +79,12 @@ fn add_later_parts<S: Sink>(
         (later_parts form parts.now) (ending result) }
 {
     for part in parts {
-        add_later_part(part, form, gathered, sink)?;
+        put_part_after(part, form, gathered, sink)?;
     }
     Ok(())
 }
 
-fn add_later_part<S: Sink>(
+fn put_part_after<S: Sink>(
     part: &[u8],
     form: PathForm,
     gathered: &mut Gathered,
@@ -93,8 +93,8 @@ fn add_later_part<S: Sink>(
     ensures { Gathers S.Sink sink.old sink.new gathered.old.items gathered.new.items
         (separator form ∷ part_text form part.now) (ending result) }
 {
-    add_bytes(&[separator(form)], gathered, sink)?;
-    add_part(part, form, gathered, sink)
+    put_bytes(&[separator(form)], gathered, sink)?;
+    put_path_part(part, form, gathered, sink)
 }
 
 fn separator(form: PathForm) -> u8
@@ -106,7 +106,7 @@ fn separator(form: PathForm) -> u8
     }
 }
 
-fn add_part<S: Sink>(
+fn put_path_part<S: Sink>(
     part: &[u8],
     form: PathForm,
     gathered: &mut Gathered,
@@ -116,8 +116,8 @@ fn add_part<S: Sink>(
         (part_text form part.now) (ending result) }
 {
     match form {
-        PathForm::Slashes => add_hex(part, gathered, sink),
-        PathForm::Strings => add_hex_string(part, gathered, sink),
-        PathForm::Plain => add_bytes(part, gathered, sink),
+        PathForm::Slashes => put_hex_digits(part, gathered, sink),
+        PathForm::Strings => put_hex_string(part, gathered, sink),
+        PathForm::Plain => put_bytes(part, gathered, sink),
     }
 }

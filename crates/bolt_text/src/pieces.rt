@@ -5,9 +5,9 @@ ghost use Rattle.bolt_format.specs.{Endings.ending, Wrote.Wrote};
 ghost use Rattle.bolt_text.specs.{Gathers.Gathers, Lines.column, Lines.figure_line};
 ghost use Rattle.bolt_text.specs.Pieces.{piece_text, pieces_text};
 
-use crate::gathered::{Gathered, add_bytes, add_hex, add_hex_string, put};
+use crate::gathered::{Gathered, put, put_bytes, put_hex_digits, put_hex_string};
 use crate::hexadecimal::{NUMBER_LEN, number_digits};
-use crate::path_pieces::{PathForm, add_named_path, add_path};
+use crate::path_pieces::{PathForm, put_named_path, put_path};
 use bolt_format::{Sink, SinkFault};
 use itoa::Buffer;
 
@@ -46,13 +46,13 @@ pub fn put_pieces<S: Sink>(pieces: &[Piece<'_>], sink: &mut S) -> Result<(), Sin
 {
     let mut gathered = Gathered::new();
     for piece in pieces {
-        add_piece(piece, &mut gathered, sink)?;
+        put_piece(piece, &mut gathered, sink)?;
     }
     put(gathered.as_slice(), sink)
 }
 
 /// Adds a piece to what is gathered.
-fn add_piece<S: Sink>(
+fn put_piece<S: Sink>(
     piece: &Piece<'_>,
     gathered: &mut Gathered,
     sink: &mut S,
@@ -61,36 +61,36 @@ fn add_piece<S: Sink>(
         (piece_text piece.now) (ending result) }
 {
     match piece {
-        Piece::Bytes(bytes) => add_bytes(bytes, gathered, sink),
-        Piece::Number(n) => add_number(*n, gathered, sink),
-        Piece::HexNumber(n) => add_hex_number(*n, gathered, sink),
-        Piece::Hex(bytes) => add_hex(bytes, gathered, sink),
-        Piece::HexString(bytes) => add_hex_string(bytes, gathered, sink),
-        Piece::JoinedPath(parts, form) => add_path(parts, *form, gathered, sink),
-        Piece::NamedPath(parts) => add_named_path(parts, gathered, sink),
-        Piece::NamedKey(key) => add_named_path(&[key], gathered, sink),
-        Piece::Field(name, n) => add_field(name, *n, gathered, sink),
-        Piece::Figure(name, n) => add_figure(name, *n, gathered, sink),
-        Piece::Column(text, width) => add_column(text, *width, gathered, sink),
-        Piece::NumberColumn(n, width) => add_number_column(*n, *width, gathered, sink),
+        Piece::Bytes(bytes) => put_bytes(bytes, gathered, sink),
+        Piece::Number(n) => put_number(*n, gathered, sink),
+        Piece::HexNumber(n) => put_hex_number(*n, gathered, sink),
+        Piece::Hex(bytes) => put_hex_digits(bytes, gathered, sink),
+        Piece::HexString(bytes) => put_hex_string(bytes, gathered, sink),
+        Piece::JoinedPath(parts, form) => put_path(parts, *form, gathered, sink),
+        Piece::NamedPath(parts) => put_named_path(parts, gathered, sink),
+        Piece::NamedKey(key) => put_named_path(&[key], gathered, sink),
+        Piece::Field(name, n) => put_field(name, *n, gathered, sink),
+        Piece::Figure(name, n) => put_figure(name, *n, gathered, sink),
+        Piece::Column(text, width) => put_column(text, *width, gathered, sink),
+        Piece::NumberColumn(n, width) => put_number_column(*n, *width, gathered, sink),
     }
 }
 
-fn add_number<S: Sink>(n: u64, gathered: &mut Gathered, sink: &mut S) -> Result<(), SinkFault>
+fn put_number<S: Sink>(n: u64, gathered: &mut Gathered, sink: &mut S) -> Result<(), SinkFault>
     ensures { Gathers S.Sink sink.old sink.new gathered.old.items gathered.new.items (decimal n)
         (ending result) }
 {
-    add_bytes(Buffer::new().format(n).as_bytes(), gathered, sink)
+    put_bytes(Buffer::new().format(n).as_bytes(), gathered, sink)
 }
 
-fn add_hex_number<S: Sink>(n: u64, gathered: &mut Gathered, sink: &mut S) -> Result<(), SinkFault>
+fn put_hex_number<S: Sink>(n: u64, gathered: &mut Gathered, sink: &mut S) -> Result<(), SinkFault>
     ensures { Gathers S.Sink sink.old sink.new gathered.old.items gathered.new.items
         (digits 16 false n) (ending result) }
 {
-    add_bytes(number_digits(n, &mut [0; NUMBER_LEN]), gathered, sink)
+    put_bytes(number_digits(n, &mut [0; NUMBER_LEN]), gathered, sink)
 }
 
-fn add_field<S: Sink>(
+fn put_field<S: Sink>(
     name: &[u8],
     n: u64,
     gathered: &mut Gathered,
@@ -99,11 +99,11 @@ fn add_field<S: Sink>(
     ensures { Gathers S.Sink sink.old sink.new gathered.old.items gathered.new.items
         (name.now ++ decimal n) (ending result) }
 {
-    add_bytes(name, gathered, sink)?;
-    add_number(n, gathered, sink)
+    put_bytes(name, gathered, sink)?;
+    put_number(n, gathered, sink)
 }
 
-fn add_figure<S: Sink>(
+fn put_figure<S: Sink>(
     name: &[u8],
     n: u64,
     gathered: &mut Gathered,
@@ -112,13 +112,13 @@ fn add_figure<S: Sink>(
     ensures { Gathers S.Sink sink.old sink.new gathered.old.items gathered.new.items
         (figure_line name.now n) (ending result) }
 {
-    add_bytes(name, gathered, sink)?;
-    add_bytes(b" ", gathered, sink)?;
-    add_number(n, gathered, sink)?;
-    add_bytes(b"\n", gathered, sink)
+    put_bytes(name, gathered, sink)?;
+    put_bytes(b" ", gathered, sink)?;
+    put_number(n, gathered, sink)?;
+    put_bytes(b"\n", gathered, sink)
 }
 
-fn add_column<S: Sink>(
+fn put_column<S: Sink>(
     text: &[u8],
     width: usize,
     gathered: &mut Gathered,
@@ -127,11 +127,11 @@ fn add_column<S: Sink>(
     ensures { Gathers S.Sink sink.old sink.new gathered.old.items gathered.new.items
         (column width text.now) (ending result) }
 {
-    add_bytes(text, gathered, sink)?;
-    add_spaces(width.saturating_sub(text.len()), gathered, sink)
+    put_bytes(text, gathered, sink)?;
+    put_spaces(width.saturating_sub(text.len()), gathered, sink)
 }
 
-fn add_number_column<S: Sink>(
+fn put_number_column<S: Sink>(
     n: u64,
     width: usize,
     gathered: &mut Gathered,
@@ -140,15 +140,15 @@ fn add_number_column<S: Sink>(
     ensures { Gathers S.Sink sink.old sink.new gathered.old.items gathered.new.items
         (column width (decimal n)) (ending result) }
 {
-    add_column(Buffer::new().format(n).as_bytes(), width, gathered, sink)
+    put_column(Buffer::new().format(n).as_bytes(), width, gathered, sink)
 }
 
-fn add_spaces<S: Sink>(count: usize, gathered: &mut Gathered, sink: &mut S) -> Result<(), SinkFault>
+fn put_spaces<S: Sink>(count: usize, gathered: &mut Gathered, sink: &mut S) -> Result<(), SinkFault>
     ensures { Gathers S.Sink sink.old sink.new gathered.old.items gathered.new.items
         (replicate count 0x20) (ending result) }
 {
     for _i in 0..count {
-        add_bytes(b" ", gathered, sink)?;
+        put_bytes(b" ", gathered, sink)?;
     }
     Ok(())
 }

@@ -15,7 +15,7 @@ pub(crate) struct KeyPlace {
 
 /// Whether a key comes before the place that is searched for: it is below `sought` or, if
 /// `or_equal` is set, equal to it.
-fn is_before(key: &[u8], sought: &[u8], or_equal: bool) -> bool
+fn stands_before(key: &[u8], sought: &[u8], or_equal: bool) -> bool
     ensures { result ≡ stands_before or_equal key.now sought.now }
 {
     if or_equal {
@@ -40,7 +40,7 @@ pub(crate) fn keys_before(page: &TreePage<'_>, sought: &[u8], or_equal: bool) ->
     while from < to {
         let middle = from + (to - from) / 2;
         compared += 1;
-        if is_before(page.key(middle), sought, or_equal) {
+        if stands_before(page.key(middle), sought, or_equal) {
             from = middle + 1;
         } else {
             to = middle;

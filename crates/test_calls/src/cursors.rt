@@ -3,7 +3,7 @@
 use crate::fault::{Fault, require};
 use crate::words::{Text, bytes_of};
 use bolt_format::{MemSink, Sink};
-use bolt_report::{Form, keys_with_prefix};
+use bolt_report::{Form, put_keys_with_prefix};
 use bolt_tree::{Bucket, Cursor, Entry};
 use std::alloc::Global;
 
@@ -89,7 +89,7 @@ pub fn run_prefixes(
     for word in prefixes {
         let before = cursor.opened();
         let prefix = bytes_of(alloc, word.as_str())?;
-        keys_with_prefix(
+        put_keys_with_prefix(
             alloc,
             &mut cursor,
             prefix.as_slice(),

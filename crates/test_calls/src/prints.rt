@@ -5,7 +5,7 @@ use crate::fault::Fault;
 use crate::words::{Input, bytes_of, keys_of, slices_of};
 use bolt_check::Checked;
 use bolt_format::Sink;
-use bolt_report::{Form, ListForm, buckets, keys_with_prefix, list_part, value};
+use bolt_report::{Form, ListForm, buckets, put_keys_with_prefix, put_list_part, value};
 use bolt_tree::Bucket;
 use std::alloc::Global;
 
@@ -25,8 +25,8 @@ pub fn put_call<S: Sink>(
     let path = path.as_slice();
     let form = form.as_str();
     Ok(match call.as_str() {
-        "list" => list_part(alloc, checked, &[], path, list_form_of(form), sink)?,
-        "part" => list_part(alloc, checked, path, &[], list_form_of(form), sink)?,
+        "list" => put_list_part(alloc, checked, &[], path, list_form_of(form), sink)?,
+        "part" => put_list_part(alloc, checked, path, &[], list_form_of(form), sink)?,
         call => {
             let bucket = bucket_at(checked, path)?;
             put_of_bucket((call, form_of(form)), alloc, &bucket, words, sink)?
@@ -47,7 +47,7 @@ fn put_of_bucket<S: Sink>(
         ("keys", [prefix]) => {
             let prefix = bytes_of(alloc, prefix.as_str())?;
             let mut cursor = bucket.cursor();
-            keys_with_prefix(alloc, &mut cursor, prefix.as_slice(), form, sink)?;
+            put_keys_with_prefix(alloc, &mut cursor, prefix.as_slice(), form, sink)?;
         }
         ("buckets", _) => buckets(alloc, bucket, form, sink)?,
         ("value", [key]) => {

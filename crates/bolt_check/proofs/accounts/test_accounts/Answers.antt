@@ -8,16 +8,16 @@ pub returns-in-Err-clause-reported : goal.returns-in-Err-clause-reported
 returns-in-Err-clause-reported c =
     let file = c.args.file.now in
     let meta = c.args.meta.now in
-    IfOk-weaker c.alone.result (λ reported. reported.items ≡ c.from.result ∷ []) (λ reported. reported.items ≢ [] → AreAccountFindings file meta (IsClaimed c.args.table.now) reported.items)
-    (λ reported e some. rw (e, c.from.ensures, c.in-Err.ensures.fault.1) (reported_fault file meta (IsClaimed c.args.table.now) c.in-Err.fault.number c.in-Err.ensures.fault.0)) c.alone.ensures
+    IfOk-weaker c.one_finding.result (λ reported. reported.items ≡ c.from.result ∷ []) (λ reported. reported.items ≢ [] → AreAccountFindings file meta (IsClaimed c.args.table.now) reported.items)
+    (λ reported e some. rw (e, c.from.ensures, c.in-Err.ensures.fault.1) (reported_fault file meta (IsClaimed c.args.table.now) c.in-Err.fault.number c.in-Err.ensures.fault.0)) c.one_finding.ensures
 
 pub returns-in-Some-clause-reported : goal.returns-in-Some-clause-reported
 returns-in-Some-clause-reported c =
     let file = c.args.file.now in
     let meta = c.args.meta.now in
     let shared = c.in-Some.ensures.shared in
-    IfOk-weaker c.alone-in-Some.result (λ reported. reported.items ≡ c.of_page.result ∷ []) (λ reported. reported.items ≢ [] → AreAccountFindings file meta (IsClaimed c.args.table.now) reported.items)
-    (λ reported e some. rw (e, c.of_page.ensures) (reported_shared file meta (IsClaimed c.args.table.now) c.in-Some.page shared.0 shared.1 shared.2)) c.alone-in-Some.ensures
+    IfOk-weaker c.one_finding-in-Some.result (λ reported. reported.items ≡ c.of_page.result ∷ []) (λ reported. reported.items ≢ [] → AreAccountFindings file meta (IsClaimed c.args.table.now) reported.items)
+    (λ reported e some. rw (e, c.of_page.ensures) (reported_shared file meta (IsClaimed c.args.table.now) c.in-Some.page shared.0 shared.1 shared.2)) c.one_finding-in-Some.ensures
 
 -- what is reported of the ids is reported of the accounts
 accounts_of : (file : List ℕ) (meta : Meta) (old mid new : List PageUse) (ids : List ℕ) (r : Result (Vec Finding Global) AllocError)

@@ -8,4 +8,4 @@ some_errors zero some = absurd (some refl)
 some_errors (suc n) some = refl
 
 pub returns-else-errors-eq0 : goal.returns-else-errors-eq0
-returns-else-errors-eq0 g c = rw (some_errors c.args.errors c.if-errors-eq0.false) c.put_count.ensures
+returns-else-errors-eq0 g c = rw (some_errors c.args.errors c.if-errors-eq0.false) c.put_error_count.ensures

@@ -5,4 +5,4 @@ pub returns-in_err-put : goal.returns-in_err-put
 returns-in_err-put g c = Wrote-return _ _ c.in_err-put.ensures c.from_residual.ensures.0
 
 pub returns : goal.returns
-returns g c = Wrote-then c.in_ok-put.ensures c.put_text.ensures
+returns g c = Wrote-then c.in_ok-put.ensures c.put_failure_text.ensures

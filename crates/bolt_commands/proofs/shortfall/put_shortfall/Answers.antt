@@ -10,4 +10,4 @@ returns-in_err-put_pieces-in-PagesAndState g c =
 
 pub returns-in_ok-put_pieces-in-PagesAndState : goal.returns-in_ok-put_pieces-in-PagesAndState
 returns-in_ok-put_pieces-in-PagesAndState g c =
-    rw c.in-PagesAndState.is (Wrote-then c.in_ok-put_pieces-in-PagesAndState.ensures c.slot_fault_text-in-PagesAndState.ensures)
+    rw c.in-PagesAndState.is (Wrote-then c.in_ok-put_pieces-in-PagesAndState.ensures c.put_slot_fault-in-PagesAndState.ensures)

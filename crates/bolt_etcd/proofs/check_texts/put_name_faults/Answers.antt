@@ -30,5 +30,5 @@ rest-preserved g c =
           (λ granted. Listed g.S.Sink c.args.sink.now c.put_name_fault.new.sink (flat_map name_fault_lines (faults_left c.args.pass granted)) (flat_map name_fault_lines (faults_left c.next.new.self granted)) c.saturating_add-number.result)
           c.rest.invariant.listed given (λ granted listed first.
           listed_more listed (name_fault_lines (shown_name_fault c.in-Some.fault)) (flat_map name_fault_lines (faults_left c.next.new.self granted)) _ (ap (flat_map name_fault_lines) first) c.in_ok-put_name_fault.ensures
-          (c.saturating_add-number.ensures ∙ ap (counted c.rest.number) c.number_of.ensures));
+          (c.saturating_add-number.ensures ∙ ap (counted c.rest.number) c.number_of_lines.ensures));
     }

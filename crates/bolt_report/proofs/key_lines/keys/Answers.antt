@@ -6,10 +6,10 @@ use Rattle.bolt_report.proofs.key_lines.keys.Goals as goal
 
 pub returns-clause-written : goal.returns-clause-written
 returns-clause-written g c = λ entries are.
-    let own = rw (c.cursor.ensures.checked, c.cursor.ensures.start) at c.keys_with_prefix.ensures.written in
+    let own = rw (c.cursor.ensures.checked, c.cursor.ensures.start) at c.put_keys_with_prefix.ensures.written in
     Wrote-same (ap (keys_text c.args.form) (with_none entries)) (own entries are)
 
 pub returns-clause-short : goal.returns-clause-short
 returns-clause-short g c = λ entries are.
-    let own = rw (c.cursor.ensures.checked, c.cursor.ensures.start) at c.keys_with_prefix.ensures.short in
+    let own = rw (c.cursor.ensures.checked, c.cursor.ensures.start) at c.put_keys_with_prefix.ensures.short in
     short_same (ap (keys_text c.args.form) (with_none entries)) (own entries are)

@@ -7,4 +7,4 @@ use Rattle.bolt_report.proofs.part_lines.list.Goals as goal
 
 pub returns-clause-written : goal.returns-clause-written
 returns-clause-written g c = λ listing lists.
-    Wrote-same (ap (λ (members : List Member). rest_text c.args.from.now members) (part_of_root listing)) (c.list_part.ensures.written listing lists)
+    Wrote-same (ap (λ (members : List Member). rest_text c.args.from.now members) (part_of_root listing)) (c.put_list_part.ensures.written listing lists)

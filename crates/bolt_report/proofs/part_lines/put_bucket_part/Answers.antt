@@ -5,7 +5,7 @@ use Rattle.bolt_report.proofs.ListPartTexts.{iff_then, before_bucket, has_next, 
 use Rattle.bolt_text.proofs.ReportLemmas.{front_fault}
 use Rattle.bolt_format.proofs.WroteFronts.{front_same}
 use Rattle.bolt_report.proofs.part_lines.put_bucket_part.Goals as goal
-use Rattle.bolt_report.proofs.part_lines.put_bucket_part.Goals.{else-found-via-then-found+else-is_wanted, else-found-via-else-found}
+use Rattle.bolt_report.proofs.part_lines.put_bucket_part.Goals.{else-found-via-then-found+else-is_in_part, else-found-via-else-found}
 
 pub part-init : goal.part-init
 part-init g c =
@@ -25,14 +25,14 @@ part-init g c =
       };
     }
 
-pub part-preserved-then-is_wanted : goal.part-preserved-then-is_wanted
-part-preserved-then-is_wanted g c =
+pub part-preserved-then-is_in_part : goal.part-preserved-then-is_in_part
+part-preserved-then-is_in_part g c =
     let below = path_of c.args.below.now in
     let from = path_of c.args.from.now in
     let m : Member = (g.M.Members.last_path c.next.new.self, item_view c.in-Some.item) in
     let now = c.part.found || c.is_bucket_at-found.result in
     let is : now ≡ (c.part.found || is_bucket_at below m) = ap (λ (b : Bool). c.part.found || b) (rw c.path.ensures at c.is_bucket_at-found.ensures) in
-    let both = sym (rw c.path-then-found.ensures at c.is_wanted.ensures) ∙ c.if-is_wanted.true in
+    let both = sym (rw c.path-then-found.ensures at c.is_in_part.ensures) ∙ c.if-is_in_part.true in
     let first : (whole : g.M.Members.Whole) → g.M.Members.reads c.args.members.now whole → g.M.Members.left c.part.members whole ≡ m ∷ g.M.Members.left c.next.new.self whole =
     λ whole lists. (rw c.in-Some.is at c.in_ok-item.ensures.given) whole ((c.part.invariant.same whole).1 lists) in
     record {
@@ -43,7 +43,7 @@ part-preserved-then-is_wanted g c =
       rises = λ whole lists up. (rw (first whole lists) at (c.part.invariant.rises whole lists up)).1;
       put = λ whole lists up.
           front_more (rw (first whole lists) at (c.part.invariant.put whole lists up))
-          (Wrote-same (ap (λ (f : ListForm). list_line f m) c.part.invariant.form) (rw c.path-then-is_wanted.ensures at c.in_ok-put.ensures.written))
+          (Wrote-same (ap (λ (f : ListForm). list_line f m) c.part.invariant.form) (rw c.path-then-is_in_part.ensures at c.in_ok-put.ensures.written))
           (with_wanted below c.part.found now m _ is from (lines_form c.args.lines.now) c.if-found.true both);
     }
 
@@ -53,10 +53,10 @@ returns-in_err-put-clause-written g c = λ whole lists up.
     let m : Member = (g.M.Members.last_path c.next.new.self, item_view c.in-Some.item) in
     let now = c.part.found || c.is_bucket_at-found.result in
     let is : now ≡ (c.part.found || is_bucket_at below m) = ap (λ (b : Bool). c.part.found || b) (rw c.path.ensures at c.is_bucket_at-found.ensures) in
-    let both = sym (rw c.path-then-found.ensures at c.is_wanted.ensures) ∙ c.if-is_wanted.true in
+    let both = sym (rw c.path-then-found.ensures at c.is_in_part.ensures) ∙ c.if-is_in_part.true in
     let first = (rw c.in-Some.is at c.in_ok-item.ensures.given) whole ((c.part.invariant.same whole).1 lists) in
     front_fault _ _ _ (rw first at (c.part.invariant.put whole lists up))
-    (Wrote-same (ap (λ (f : ListForm). list_line f m) c.part.invariant.form) (rw c.path-then-is_wanted.ensures at c.in_err-put.ensures.written))
+    (Wrote-same (ap (λ (f : ListForm). list_line f m) c.part.invariant.form) (rw c.path-then-is_in_part.ensures at c.in_err-put.ensures.written))
     (with_wanted below c.part.found now m _ is (path_of c.args.from.now) (lines_form c.args.lines.now) c.if-found.true both) c.from_residual-in_err-put.ensures.1
 
 pub part-preserved : goal.part-preserved
@@ -70,8 +70,8 @@ part-preserved g c =
     λ whole lists. (rw c.in-Some.is at c.in_ok-item.ensures.given) whole ((c.part.invariant.same whole).1 lists) in
     let passed : (ms : List Member) → Rises member_cmp (m ∷ ms) → rest_from from (left_part below c.part.found (m ∷ ms)) ≡ rest_from from (left_part below now ms) =
     λ ms up. elim c.else-found.branch [
-      | else-found-via-then-found+else-is_wanted w ↦
-          over_unwanted below c.part.found now m ms is from w.if-found.true (sym (rw w.path-then-found.ensures at w.is_wanted.ensures) ∙ w.if-is_wanted.false)
+      | else-found-via-then-found+else-is_in_part w ↦
+          over_unwanted below c.part.found now m ms is from w.if-found.true (sym (rw w.path-then-found.ensures at w.is_in_part.ensures) ∙ w.if-is_in_part.false)
       | else-found-via-else-found w ↦ ap (rest_from from) (before_bucket below c.part.found now m ms is w.if-found.false up)
     ] in
     record {

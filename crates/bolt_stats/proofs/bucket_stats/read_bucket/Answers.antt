@@ -30,15 +30,15 @@ pages-preserved c =
     let n : ℕ = c.in-Some.open.number in
     let rest : List ℕ = unread_numbers c.pop.new.self.items in
     let before : List ℕ = unread_numbers c.pages.pages.items in
-    let after : List ℕ = unread_numbers c.read_page.new.pages.items in
+    let after : List ℕ = unread_numbers c.read_unread_page.new.pages.items in
     let roots : List ℕ = c.pages.roots.items in
-    let found : List ℕ = c.read_page.new.roots.items in
+    let found : List ℕ = c.read_unread_page.new.roots.items in
     let taken = popped c.pages.pages.items c.pop.new.self.items c.in-Some.open c.in-Some.ensures.items in
     let good = rw taken at c.pages.invariant.good in
     let enough = next_good file meta rest roots before n taken c.pages.invariant.good in
     let kids = c.in_ok-read.ensures.kids in
-    let opened : (node : Node) → c.read_page.new.pages.items ≡ c.pop.new.self.items ++ map (unread_page (saturated (c.in-Some.open.depth + 1))) (inner_pages node) → after ≡ rest ++ inner_pages node
-    = λ node a. numbers_opened c.pop.new.self.items c.read_page.new.pages.items (saturated (c.in-Some.open.depth + 1)) (inner_pages node) a in
+    let opened : (node : Node) → c.read_unread_page.new.pages.items ≡ c.pop.new.self.items ++ map (unread_page (saturated (c.in-Some.open.depth + 1))) (inner_pages node) → after ≡ rest ++ inner_pages node
+    = λ node a. numbers_opened c.pop.new.self.items c.read_unread_page.new.pages.items (saturated (c.in-Some.open.depth + 1)) (inner_pages node) a in
     let sums : (own : ℕ → ℕ) → own n + (total_of file meta own after + total_of file meta own found) ≡ total_of file meta own before + total_of file meta own roots
     = λ own. ∥∥₁_elim kids (Prim.hlevel props) (λ (node, page, a, b, _, _). ∥∥₁_elim enough (Prim.hlevel props) (λ e.
     read_sum file meta own rest roots after found n node page e (opened node a) b ∙ ap (λ (l : List ℕ). total_of file meta own l + total_of file meta own roots) (sym taken))) in
@@ -59,7 +59,7 @@ pages-preserved c =
           let whole = c.pages.invariant.stats f in
           omega (arith, added, own, sum, whole);
       height = ∥∥₁_elim kids (Prim.hlevel props) (λ (node, page, a, b, high, _). ∥∥₁_elim enough (Prim.hlevel props) (λ e.
-          let same = read_height file meta c.pop.new.self.items c.pages.pages.items c.read_page.new.pages.items c.in-Some.open node c.in_ok-read.read.height page e c.in-Some.ensures.items a high in
+          let same = read_height file meta c.pop.new.self.items c.pages.pages.items c.read_unread_page.new.pages.items c.in-Some.open node c.in_ok-read.read.height page e c.in-Some.ensures.items a high in
           omega (arith, same, c.pages.invariant.height)));
       deepest = ∥∥₁_elim kids (Prim.hlevel props) (λ (node, page, a, b, _, deep). ∥∥₁_elim enough (Prim.hlevel props) (λ e.
           let same = read_deepest file meta rest roots after found n node c.in_ok-read.read.inline_depth page e (opened node a) b deep in
@@ -75,9 +75,9 @@ pages-smaller c =
     let taken = popped c.pages.pages.items c.pop.new.self.items c.in-Some.open c.in-Some.ensures.items in
     let enough = next_good file meta (unread_numbers c.pop.new.self.items) c.pages.roots.items (unread_numbers c.pages.pages.items) n taken c.pages.invariant.good in
     ∥∥₁_elim c.in_ok-read.ensures.kids (Prim.hlevel props) (λ (node, page, a, b, _, _). ∥∥₁_elim enough (Prim.hlevel props) (λ e.
-    let after = numbers_opened c.pop.new.self.items c.read_page.new.pages.items (saturated (c.in-Some.open.depth + 1)) (inner_pages node) a in
-    let sum = read_sum file meta one (unread_numbers c.pop.new.self.items) c.pages.roots.items (unread_numbers c.read_page.new.pages.items) c.read_page.new.roots.items n node page e after b in
-    let more = more_found file meta one c.pages.roots.items c.read_page.new.roots.items (inner_roots node) b in
+    let after = numbers_opened c.pop.new.self.items c.read_unread_page.new.pages.items (saturated (c.in-Some.open.depth + 1)) (inner_pages node) a in
+    let sum = read_sum file meta one (unread_numbers c.pop.new.self.items) c.pages.roots.items (unread_numbers c.read_unread_page.new.pages.items) c.read_unread_page.new.roots.items n node page e after b in
+    let more = more_found file meta one c.pages.roots.items c.read_unread_page.new.roots.items (inner_roots node) b in
     let same = ap (total_of file meta one) taken in
     omega (arith, sum, more, same)))
 

@@ -7,4 +7,4 @@ returns-in-Ok-clause-tokens c =
     rw (text_tokens c.args.bytes.now c.in-Ok.text.now utf8 same) c.string.ensures.ok
 
 pub returns-in-Err-clause-tokens : goal.returns-in-Err-clause-tokens
-returns-in-Err-clause-tokens c = rw (digits_tokens c.args.bytes.now c.in-Err.ensures.cases.0) c.write_digits.ensures.tokens
+returns-in-Err-clause-tokens c = rw (digits_tokens c.args.bytes.now c.in-Err.ensures.cases.0) c.put_digits_object.ensures.tokens

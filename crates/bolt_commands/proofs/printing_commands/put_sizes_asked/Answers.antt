@@ -1,0 +1,13 @@
+use Rattle.std.proofs.Common.{inl, inr, refl}
+use Rattle.bolt_commands.proofs.{Doing.answer_none, EntryAnswers.sizes_put}
+use Rattle.bolt_commands.proofs.printing_commands.put_sizes_asked.Goals as goal
+
+pub returns-in_err-bucket : goal.returns-in_err-bucket
+returns-in_err-bucket g c =
+    answer_none _ _ (rw c.as_slice.ensures.value at c.in_err-bucket.ensures.refused)
+    (λ meta under nowhere. inl (meta, under, inr (nowhere, refl))) inr c.from_residual.ensures.1
+
+pub returns : goal.returns
+returns g c =
+    let of = rw c.as_slice.ensures.value at c.in_ok-bucket.ensures.found in
+    rw c.ended.ensures (sizes_put of c.sizes.result c.args.job.now.form c.sizes.ensures.written c.sizes.ensures.short c.sizes.ensures.fault)

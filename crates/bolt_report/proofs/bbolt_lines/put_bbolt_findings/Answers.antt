@@ -1,0 +1,12 @@
+use Rattle.bolt_report.proofs.Words.{Wrote-return, Wrote-then}
+use Rattle.bolt_report.proofs.bbolt_lines.put_bbolt_findings.Goals as goal
+
+pub returns-in_err-put_file_findings : goal.returns-in_err-put_file_findings
+returns-in_err-put_file_findings g c = Wrote-return _ _ c.in_err-put_file_findings.ensures c.from_residual.ensures.0
+
+pub returns-in_err-put_each_finding : goal.returns-in_err-put_each_finding
+returns-in_err-put_each_finding g c =
+    Wrote-then c.in_ok-put_file_findings.ensures (Wrote-return _ _ c.in_err-put_each_finding.ensures c.from_residual-in_err-put_each_finding.ensures.0)
+
+pub returns : goal.returns
+returns g c = Wrote-then c.in_ok-put_file_findings.ensures (Wrote-then c.in_ok-put_each_finding.ensures c.put_error_count.ensures)

@@ -1,6 +1,0 @@
-use Rattle.std.proofs.Common.{◌∙◌}
-use Rattle.bolt_text.proofs.HexStrings.{pair_is}
-use Rattle.bolt_text.proofs.hexadecimal.digits_of.Goals as goal
-
-pub returns : goal.returns
-returns c = c.to_le_bytes.ensures ∙ pair_is c.args.byte c.ranges.byte.fits

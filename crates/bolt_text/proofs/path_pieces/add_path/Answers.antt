@@ -1,9 +1,0 @@
-use Rattle.bolt_text.proofs.GatherLemmas.{Gathers-return, Gathers-same, Gathers-then, path_parts}
-use Rattle.bolt_text.proofs.path_pieces.add_path.Goals as goal
-
-pub returns : goal.returns
-returns g c = rw c.in-Some.ensures.cases.0 (Gathers-same (path_parts c.args.form c.in-Some.first.now c.in-Some.rest.now) (Gathers-then c.in_ok-add_part.ensures c.add_later_parts.ensures))
-
-pub returns-in_err-add_part : goal.returns-in_err-add_part
-returns-in_err-add_part g c =
-    rw c.in-Some.ensures.cases.0 (Gathers-same (path_parts c.args.form c.in-Some.first.now c.in-Some.rest.now) (Gathers-return _ _ c.in_err-add_part.ensures c.from_residual.ensures.0))
