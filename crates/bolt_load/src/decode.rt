@@ -19,7 +19,7 @@ use std::alloc::Global;
 /// The lines of a text before the first that is no line of a listing or has a part that is too long,
 /// and bytes that begin with what these lines have in hexadecimal.
 #[derive(Drop)]
-pub(crate) struct Decoded<'a> {
+pub(crate) struct DecodedLines<'a> {
     pub text: &'a [u8],
     pub bytes: Vec<u8>,
     /// The fault of the line after these, if there is one.
@@ -129,7 +129,7 @@ fn add_line(line: &[u8], bytes: &mut Vec<u8>) -> Result<Option<LineFault>, NoMem
 }
 
 /// Decodes the lines of a text up to the first that is wrong in itself.
-pub(crate) fn decode(alloc: Global, text: &[u8]) -> Result<Decoded<'_>, NoMemory>
+pub(crate) fn decode(alloc: Global, text: &[u8]) -> Result<DecodedLines<'_>, NoMemory>
     ensures decoded { IfOk result (λ decoded.
         AreDecoded (lines_of decoded.text.now) decoded.bytes.items) }
     ensures shaped { IfOk result (λ decoded.
@@ -143,7 +143,7 @@ pub(crate) fn decode(alloc: Global, text: &[u8]) -> Result<Decoded<'_>, NoMemory
     while let Some((line, after)) = first_line(rest) {
         let fault = add_line(line, &mut bytes)?;
         if fault.is_some() {
-            return Ok(Decoded {
+            return Ok(DecodedLines {
                 text: &text[..text.len() - rest.len()],
                 bytes,
                 fault,
@@ -151,7 +151,7 @@ pub(crate) fn decode(alloc: Global, text: &[u8]) -> Result<Decoded<'_>, NoMemory
         }
         rest = after;
     }
-    Ok(Decoded {
+    Ok(DecodedLines {
         text,
         bytes,
         fault: None,

@@ -3,7 +3,7 @@ ghost use Rattle.std.specs.Option.{IfNone};
 ghost use Rattle.std.specs.Prelude.{◌≤◌, ◌≡◌, ◌↔◌, IfOk, OnErr};
 ghost use Rattle.bolt_tree.specs.Aheads.{ahead_ends, ahead_left, ahead_work, head_of};
 ghost use Rattle.bolt_tree.specs.declared.ahead.Ahead.{Ahead};
-ghost use Rattle.bolt_tree.specs.declared.ahead.Head.TheVariants as heads;
+ghost use Rattle.bolt_tree.specs.declared.ahead.FirstMember.TheVariants as firsts;
 
 use crate::entry::Item;
 use crate::members::Members;
@@ -11,10 +11,10 @@ use bolt_check::NoMemory;
 
 /// What is known of the first member that is left.
 #[derive(Clone, Copy)]
-pub(crate) enum Head<'a> {
+pub(crate) enum FirstMember<'a> {
     Unread,
     /// It was read, and its path is that of the members.
-    Held(Item<'a>),
+    Read(Item<'a>),
     /// There is none.
     Ended,
 }
@@ -23,7 +23,7 @@ pub(crate) enum Head<'a> {
 #[derive(Drop)]
 pub(crate) struct Ahead<'a, M> {
     pub members: M,
-    pub head: Head<'a>,
+    pub head: FirstMember<'a>,
 }
 
 impl<'a, M: Members<'a>> Ahead<'a, M> {
@@ -41,19 +41,19 @@ impl<'a, M: Members<'a>> Ahead<'a, M> {
         ensures same_end { (end : Ahead M)
             → ahead_ends M.ends_as self.new end → ahead_ends M.ends_as self.old end }
         ensures ended { IfOk result (λ item. IfNone item (ahead_ends M.ends_as self.new self.new)) }
-        ensures unread { OnErr result (self.old.head ≡ heads.Unread) }
-        ensures same { OnErr result (self.new.head ≡ heads.Unread) }
+        ensures unread { OnErr result (self.old.head ≡ firsts.Unread) }
+        ensures same { OnErr result (self.new.head ≡ firsts.Unread) }
         ensures same_path { OnErr result
             (M.last_path self.new.members ≡ M.last_path self.old.members) }
     {
         match self.head {
-            Head::Held(item) => Ok(Some(item)),
-            Head::Ended => Ok(None),
-            Head::Unread => {
+            FirstMember::Read(item) => Ok(Some(item)),
+            FirstMember::Ended => Ok(None),
+            FirstMember::Unread => {
                 let item = self.members.next()?;
                 self.head = match item {
-                    Some(item) => Head::Held(item),
-                    None => Head::Ended,
+                    Some(item) => FirstMember::Read(item),
+                    None => FirstMember::Ended,
                 };
                 Ok(item)
             }
@@ -64,11 +64,11 @@ impl<'a, M: Members<'a>> Ahead<'a, M> {
 impl<'a, M> Ahead<'a, M> {
     pub fn new(members: M) -> Ahead<'a, M>
         ensures members { result.members ≡ members }
-        ensures unread { result.head ≡ heads.Unread }
+        ensures unread { result.head ≡ firsts.Unread }
     {
         Ahead {
             members,
-            head: Head::Unread,
+            head: FirstMember::Unread,
         }
     }
 }

@@ -3,10 +3,10 @@
 ghost use Rattle.std.specs.Prelude.{◌≡◌, ◌≢◌, []};
 ghost use Rattle.std.specs.Ordering.{is_lt};
 ghost use Rattle.bolt_tree.specs.{Merges.merge, Paths.path_cmp};
-ghost use Rattle.bolt_tree.specs.declared.ahead.Head.TheVariants as heads;
+ghost use Rattle.bolt_tree.specs.declared.ahead.FirstMember.TheVariants as firsts;
 ghost use Rattle.bolt_tree.specs.declared.merged.Last.TheVariants as lasts;
 
-use crate::ahead::{Ahead, Head};
+use crate::ahead::{Ahead, FirstMember};
 use crate::entry::Item;
 use crate::members::Members;
 use bolt_check::NoMemory;
@@ -29,7 +29,7 @@ pub struct Merged<'a, A, B> {
     second: Ahead<'a, B>,
     last: Last,
     /// So reading ahead can't fail once it has moved the path of the last member.
-    ghost read: { last ≡ lasts.First → second.head ≢ heads.Unread },
+    ghost read: { last ≡ lasts.First → second.head ≢ firsts.Unread },
 }
 
 impl<'a, A: Members<'a>, B: Members<'a>> Merged<'a, A, B> {
@@ -86,12 +86,12 @@ impl<'a, A: Members<'a>, B: Members<'a>> Members<'a> for Merged<'a, A, B> {
         let second = self.second.peek()?;
         if second.is_some() && (first.is_none() || self.second_is_before()) {
             self.last = Last::Second;
-            self.second.head = Head::Unread;
+            self.second.head = FirstMember::Unread;
             return Ok(second);
         }
         if first.is_some() {
             self.last = Last::First;
-            self.first.head = Head::Unread;
+            self.first.head = FirstMember::Unread;
             return Ok(first);
         }
         self.last = Last::Nothing;
@@ -109,8 +109,8 @@ impl<'a, A: Members<'a>, B: Members<'a>> Members<'a> for Merged<'a, A, B> {
 
     fn restart(&mut self, alloc: Global) -> Result<(), NoMemory> {
         self.last = Last::Nothing;
-        self.first.head = Head::Unread;
-        self.second.head = Head::Unread;
+        self.first.head = FirstMember::Unread;
+        self.second.head = FirstMember::Unread;
         self.first.members.restart(alloc)?;
         self.second.members.restart(alloc)
     }
