@@ -3,9 +3,9 @@ ghost use Rattle.std.specs.Prelude.{◌≡◌, ◌/◌, ◌%◌, ◌^◌, Some, 
 ghost use Rattle.std.specs.Option.{option_map};
 ghost use Rattle.std.proofs.Props.{props};
 ghost use Rattle.bolt_format.specs.Bytes.{IsBytes};
-ghost use Rattle.bolt_check.specs.Keys.{key_cmp};
+ghost use Rattle.bolt_check.specs.Keys.{key_cmp, Key};
 ghost use Rattle.bolt_tree.specs.ShownEntries.{shown_entry};
-ghost use Rattle.bolt_etcd.specs.{Candidates.candidate_at, Candidates.value_bytes, NameOrder.name_sum, Returns.Returns, RevisionKeys.IsSpelled, Revisions.name_of, Revisions.revision_in, Revisions.revision_of, ShownRecords.shown_record, Superseded.is_deletion};
+ghost use Rattle.bolt_etcd.specs.{Candidates.candidate_at, Candidates.value_bytes, NameOrder.name_sum, Returns.Returns, RevisionKeys.IsSpelled, Revisions.name_of, Revisions.revision_in, Revisions.revision_of, ShownRecords.shown_record, Superseded.is_deletion, Misplaced.is_misplaced, ShownRevisions.shown_decoded, ShownRevisions.shown_revision, Follows.creates, Follows.follows, Follows.is_next_of};
 
 use crate::name_tag::{MAINS, tag_of};
 use crate::record::Record;
@@ -194,5 +194,70 @@ impl<'a> Decoded<'a> {
             content.forget_value();
         }
         Some(Decoded { key, content })
+    }
+}
+
+impl<'a> Revision<'a> {
+    /// Whether its record says that another transaction wrote it. A deletion's doesn't say.
+    #[tactic(auto, unfolding(crate::specs::Misplaced::is_misplaced))]
+    pub fn is_misplaced(&self) -> bool
+        ensures { result ≡ is_misplaced (shown_revision self.now) }
+    {
+        self.decode().is_misplaced()
+    }
+}
+
+impl<'a> Decoded<'a> {
+    /// Whether its record says that another transaction wrote it. A deletion's doesn't say.
+    #[tactic(auto, unfolding(crate::specs::Misplaced::is_misplaced))]
+    pub(crate) fn is_misplaced(&self) -> bool
+        ensures { (place : Key) → result ≡ is_misplaced (shown_decoded place self.now) }
+    {
+        !self.key.deleted && self.content.modified != self.key.main
+    }
+}
+
+impl<'a> Revision<'a> {
+    /// Whether it can be the first revision of its name: it creates the key.
+    #[tactic(auto, unfolding(crate::specs::Follows::follows))]
+    pub fn creates(&self) -> bool
+        ensures { result ≡ follows None (shown_revision self.now) }
+    {
+        self.decode().creates()
+    }
+
+    /// Whether it can be the revision after `before`, which is one of the same name. After a put
+    /// that is a deletion, or the next version of the same key; after a deletion, what creates the
+    /// key.
+    #[tactic(auto, unfolding(crate::specs::Follows::follows))]
+    pub fn follows(&self, before: &Revision<'_>) -> bool
+        ensures { result ≡ follows (Some (shown_revision before.now)) (shown_revision self.now) }
+    {
+        let (before, this) = (before.decode(), self.decode());
+        if before.key.deleted {
+            return this.creates();
+        }
+        this.key.deleted || this.is_next_of(&before)
+    }
+}
+
+impl<'a> Decoded<'a> {
+    /// Whether it creates its key.
+    fn creates(&self) -> bool
+        ensures { (place : Key) → result ≡ creates (shown_decoded place self.now) }
+    {
+        let content = &self.content;
+        !self.key.deleted && content.version == 1 && content.created == self.key.main
+    }
+
+    /// Whether it has the next version of the same key.
+    fn is_next_of(&self, before: &Decoded<'_>) -> bool
+        ensures { (place other : Key)
+            → result ≡ is_next_of (shown_decoded other before.now) (shown_decoded place self.now) }
+    {
+        let (content, before) = (&self.content, &before.content);
+        content.version > before.version
+            && content.version - before.version == 1
+            && content.created == before.created
     }
 }

@@ -1,14 +1,14 @@
 //! The revisions of a bucket, one after another.
 ghost use Rattle.std.specs.Prelude.{◌≡◌, ◌<◌, ℕ, IfSome, None, false};
-ghost use Rattle.std.specs.Int.{to_be_bytes, w64};
-ghost use Rattle.std.specs.Option.{option_map};
-ghost use Rattle.bolt_tree.specs.{BucketViews.bucket_in, CursorBounds.OpensGap, CursorBounds.OpensSeek};
-ghost use Rattle.bolt_tree.specs.{Buckets.bucket_checked, Buckets.bucket_start, ShownEntries.shown_entry};
-ghost use Rattle.bolt_etcd.specs.{ShownRevisions.shown_revision, Stores.entries_from};
+ghost use Rattle.std.specs.{Int.to_be_bytes, Int.w64, Option.option_map};
+ghost use Rattle.bolt_tree.specs.{BucketViews.bucket_in, CursorBounds.OpensGap, CursorBounds.OpensSeek, Buckets.bucket_checked, Buckets.bucket_start, ShownEntries.shown_entry};
+ghost use Rattle.bolt_etcd.specs.{ShownRevisions.shown_revision, Stores.entries_from, Numbered.numbered_of, RevisionKeys.IsSpelled, ShownOthers.shown_other};
 
-use crate::other::others_in;
+use crate::other::{Other, others_in};
+use crate::record::Record;
 use crate::revision::Revision;
-use bolt_tree::{Bucket, Cursor, Entry};
+use crate::revision_key::RevisionKey;
+use bolt_tree::{Bucket, Cursor, Entry, Item};
 
 /// A pass over the revisions of a bucket, in the order of their keys. It keeps nothing of those that
 /// it has returned, and needs no memory.
@@ -116,4 +116,62 @@ impl<'a> Revisions<'a> {
             None => self.cursor.next(),
         }
     }
+}
+
+impl<'a> Revisions<'a> {
+    ghost use Rattle.bolt_etcd.specs.{Numbered.GivesNumber, Others.GivesOther};
+    ghost use Rattle.bolt_etcd.specs.RevisionsLeft.{ForPass, ahead_of, number_ahead, pass_checked, pass_others, pass_start};
+
+    /// Returns the next entry that isn't a revision, or `None` if there is none. Revisions and marks
+    /// are passed over, and nothing is counted.
+    pub fn next_other(&mut self) -> Option<Other<'a>>
+        ensures checked { pass_checked self.new ≡ pass_checked self.old }
+        ensures start { pass_start self.new ≡ pass_start self.old }
+        ensures others { pass_others self.new ≡ pass_others self.old }
+        ensures given { ForPass self.old (λ entries.
+            GivesOther (ahead_of self.old entries) (ahead_of self.new entries)
+            (option_map shown_other result)) }
+        ensures fewer { IfSome result (λ _. number_ahead self.new < number_ahead self.old) }
+    {
+        'rest: while let Some(entry) = self.advance() {
+            let other = Other::of(&entry);
+            if other.is_some() {
+                return other;
+            }
+        }
+        None
+    }
+
+    /// Returns the key of the next revision or mark, or `None` if there is none. Others are passed
+    /// over, and nothing is counted.
+    pub(crate) fn next_number(&mut self) -> Option<RevisionKey>
+        ensures checked { pass_checked self.new ≡ pass_checked self.old }
+        ensures start { pass_start self.new ≡ pass_start self.old }
+        ensures given { ForPass self.old (λ entries.
+            GivesNumber (ahead_of self.old entries) (ahead_of self.new entries) result) }
+        ensures numbers { IfSome result IsSpelled }
+        ensures fewer { IfSome result (λ _. number_ahead self.new < number_ahead self.old) }
+    {
+        'rest: while let Some(entry) = self.advance() {
+            let key = number_of(&entry);
+            if key.is_some() {
+                return key;
+            }
+        }
+        None
+    }
+}
+
+/// The key of an entry that is a revision or a mark.
+#[tactic(auto, unfolding(crate::specs::Numbered::numbered_of))]
+fn number_of(entry: &Entry<'_>) -> Option<RevisionKey>
+    ensures key { result ≡ option_map (λ r. r.key) (numbered_of (shown_entry entry.now)) }
+    ensures numbers { IfSome result IsSpelled }
+{
+    let Item::Value(value) = entry.item else {
+        return None;
+    };
+    let key = RevisionKey::read(entry.key)?;
+    Record::decode(value)?;
+    Some(key)
 }
