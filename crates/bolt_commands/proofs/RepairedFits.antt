@@ -10,7 +10,7 @@ use Rattle.bolt_layout.proofs.FileTrees.{good_fits, good_shown}
 use Rattle.bolt_recover.proofs.MembersInBuckets.{shows_entry}
 use Rattle.bolt_recover.specs.Sites.{leaves_of}
 use Rattle.bolt_bulk.proofs.JoinedFits.{bucket_fits, recovered_fits}
-use Rattle.bolt_etcd.specs.{Repaired.IsRepair, Repaired.elements_on, Repaired.repaired_listing, Repairs.store_path}
+use Rattle.bolt_repair.specs.{Repaired.IsRepair, Repaired.elements_on, Repaired.repaired_listing, Repairs.store_path}
 
 abbrev Fits : Member → Type 0
 Fits m = IsFitMember m.0 m.1

@@ -10,7 +10,7 @@ use Rattle.bolt_commands.proofs.{ReadFiles.no_accounts, ReadFiles.read_meta, Sou
 use Rattle.bolt_job.specs.declared.choices.Extent.TheVariants.{LostAndFound}
 use Rattle.bolt_recover.specs.{Found.AreFound, JoinRefusals.IsJoinRefusal, Lost.IsAllLost, declared.joined.JoinFault.JoinFault}
 use Rattle.bolt_recover.specs.declared.joined.JoinFault.TheVariants as join
-use Rattle.bolt_etcd.specs.Repaired.{IsRepaired}
+use Rattle.bolt_repair.specs.Repaired.{IsRepaired}
 
 -- what the laws of the crates below say
 pub record Below : Type 0 where

@@ -7,9 +7,9 @@ use Rattle.bolt_format.specs.Elements.{LeafElement}
 use Rattle.bolt_recover.specs.Found.{AreFound}
 use Rattle.bolt_tree.specs.{Entries.EntryView, Entries.Value}
 use Rattle.bolt_tree.proofs.Lists.{contains_head, contains_none}
-use Rattle.bolt_etcd.specs.{FullRepairs.AreCandidateKeys, FullRepairs.IsLeftOut, RepairRefusals.IsRepairRefusal, Repaired.elements_on, Repairs.store_path}
-use Rattle.bolt_etcd.specs.declared.repair.RepairFault.{RepairFault}
-use Rattle.bolt_etcd.specs.declared.repair.RepairFault.TheVariants as repair
+use Rattle.bolt_repair.specs.{FullRepairs.AreCandidateKeys, FullRepairs.IsLeftOut, RepairRefusals.IsRepairRefusal, Repaired.elements_on, Repairs.store_path}
+use Rattle.bolt_repair.specs.declared.repair.RepairFault.{RepairFault}
+use Rattle.bolt_repair.specs.declared.repair.RepairFault.TheVariants as repair
 use Rattle.bolt_commands.specs.{Alike.IsUnrepairable, Answers.IsRestored, Answers.IsUnrestored, Failures.unrepaired}
 use Rattle.bolt_commands.specs.declared.failure.Failure.TheVariants as failure
 use Rattle.bolt_commands.proofs.{SoundReads.has_meta, SoundReads.keeps_not_loses, SoundRecovery.Below, SoundRecovery.names_one, SoundRecovery.no_loss, SoundRecovery.no_losses}

@@ -3,7 +3,7 @@ use Rattle.std.specs.Prelude.{◌≡◌, ◌≢◌, ◌↔◌, ◌⊎◌, ◌*�
 use Rattle.bolt_check.specs.Sound.{HasSoundTrees}
 use Rattle.bolt_format.specs.{Metas.HasBothMetas, declared.meta.Meta.Meta, declared.sink.Sink.Ghosts}
 use Rattle.bolt_layout.specs.{Copies.layout_of_listing, declared.Layout.Layout, declared.Layout.TheVariants.Balanced}
-use Rattle.bolt_etcd.specs.Repairs.{store_path}
+use Rattle.bolt_repair.specs.Repairs.{store_path}
 use Rattle.bolt_recover.specs.Losses.{parts}
 use Rattle.bolt_text.specs.declared.forms.ListForm.{ListForm}
 use Rattle.bolt_tree.specs.{Entries.Value, Listing.IsListing, Listing.Member, Paths.Path}

@@ -18,8 +18,8 @@ use Rattle.bolt_recover.specs.{Losses.AreLosses, Losses.LossView, Losses.LostVie
 use Rattle.bolt_recover.specs.Recovered.{ForRecovered, IsRecovered}
 use Rattle.bolt_recover.specs.Refusals.{IsUnrecoverable, KeepsRoot}
 use Rattle.bolt_recover.specs.declared.joined.JoinFault.{JoinFault}
-use Rattle.bolt_etcd.specs.{FullRepairs.IsFullRepair, RepairRefusals.IsRepairRefusal, Repaired.repaired_listing}
-use Rattle.bolt_etcd.specs.declared.repair.RepairFault.{RepairFault}
+use Rattle.bolt_repair.specs.{FullRepairs.IsFullRepair, RepairRefusals.IsRepairRefusal, Repaired.repaired_listing}
+use Rattle.bolt_repair.specs.declared.repair.RepairFault.{RepairFault}
 use Rattle.bolt_report.specs.{BboltLines.bbolt_findings_text, FaultWords.count_line, FaultWords.findings_text, FoundLines.FoundView, FoundLines.counted_lost_text, FoundLines.lost_text}
 use Rattle.bolt_report.specs.{StatsLines.stats_text, KeyLines.buckets_text, KeyLines.keys_text}
 use Rattle.bolt_report.specs.MemberNames.{WantedNames, begins_so, names_bucket, names_text}
@@ -51,7 +51,8 @@ use Rattle.bolt_commands.specs.declared.file_faults.FileFaults.{FileFaults}
 use Rattle.bolt_check.specs.ShownFindings.{findings_in}
 use Rattle.bolt_load.specs.declared.load_fault.LineFault.TheVariants.{CutOff}
 use Rattle.bolt_etcd.specs.declared.snapshot.SnapshotFault.{SnapshotFault}
-use Rattle.bolt_etcd.specs.{Current.AreCurrent, Newest.newest, Newest.until, Newest.value_if, RevisionLines.named_with, RevisionLines.revision_lines, Revisions.RevisionView}
+use Rattle.bolt_etcd.specs.{Current.AreCurrent, Newest.newest, Newest.until, Newest.value_if, Revisions.RevisionView}
+use Rattle.bolt_report.specs.{RevisionLines.named_with, RevisionLines.revision_lines}
 use Rattle.bolt_etcd.specs.{StoreBuckets.IsStore, StoreBuckets.StoreView, StoreFaults.store_compacted, StoreFaults.store_lines, Stores.entries_from, Stores.others, Stores.revisions}
 use Rattle.bolt_check.specs.Counts.{counted}
 use Rattle.std.specs.{Int.to_be_bytes, Int.w64, List.concat}

@@ -9,8 +9,8 @@ use Rattle.bolt_load.specs.{LoadFaultWords.line_fault_words, declared.load_fault
 use Rattle.bolt_load.specs.declared.load_fault.LoadFault.TheVariants as load
 use Rattle.bolt_recover.specs.declared.joined.JoinFault.{JoinFault}
 use Rattle.bolt_recover.specs.declared.joined.JoinFault.TheVariants as join
-use Rattle.bolt_etcd.specs.declared.repair.RepairFault.{RepairFault}
-use Rattle.bolt_etcd.specs.declared.repair.RepairFault.TheVariants as repair
+use Rattle.bolt_repair.specs.declared.repair.RepairFault.{RepairFault}
+use Rattle.bolt_repair.specs.declared.repair.RepairFault.TheVariants as repair
 use Rattle.bolt_report.specs.{FaultWords.finding_text, FaultWords.meta_fault_text, FaultWords.page_fault_text}
 use Rattle.bolt_etcd.specs.{SnapshotFaults.snapshot_fault_text}
 use Rattle.bolt_text.specs.declared.report_fault.ReportFault.{ReportFault}

@@ -8,16 +8,16 @@ ghost use Rattle.bolt_load.specs.{ShownMembers.members_left, ShownMembers.member
 ghost use Rattle.bolt_text.specs.{LineMembers.text_members};
 ghost use Rattle.bolt_recover.specs.{Joined.IsJoined, JoinedMembers.joined_file, JoinedMembers.joined_left, JoinedMembers.joined_meta, Recovered.IsRecovered};
 ghost use Rattle.bolt_recover.specs.Recoveries.{ForLosses, recovery_file, recovery_left, recovery_losses, recovery_meta};
-ghost use Rattle.bolt_etcd.specs.{Repaired.IsRepaired, RepairedMembers.repaired_file, RepairedMembers.repaired_left, RepairedMembers.repaired_meta};
+ghost use Rattle.bolt_repair.specs.{Repaired.IsRepaired, RepairedMembers.repaired_file, RepairedMembers.repaired_left, RepairedMembers.repaired_meta};
 ghost use Rattle.bolt_tree.specs.{Listing.IsListing, Listing.Member, Walks.left_of, Walks.walk_checked};
 ghost use Rattle.bolt_commands.specs.{Private.Copying.ForLayout, GoodCopies.HasGoodCopies};
 
 use crate::laws::whole_copies_are_good;
 use bolt_bulk::{Blueprint, BulkFault, Done, compact_members};
-use bolt_etcd::Repaired;
 use bolt_format::Sink;
 use bolt_load::LineMembers;
 use bolt_recover::{Joined, Recovery};
+use bolt_repair::Repaired;
 use bolt_tree::Walk;
 use std::alloc::Global;
 

@@ -14,10 +14,10 @@ use crate::failure::{Failure, Outcome};
 use crate::file_faults::FileFaults;
 use crate::opening::Input;
 use crate::value_text::put_value;
-use bolt_etcd::{Newest, RevisionWriter, Revisions, put_store_faults, store_compacted};
+use bolt_etcd::{Newest, Revisions, put_store_faults, store_compacted};
 use bolt_format::{Sink, SinkFault};
 use bolt_job::{EtcdCheckJob, EtcdGetJob, EtcdKeysJob, EtcdRevisionsJob, MetaChoice};
-use bolt_report::put_error_count;
+use bolt_report::{RevisionWriter, put_error_count};
 use bolt_text::{ReportFault, put};
 use bolt_tree::Bucket;
 

@@ -7,10 +7,11 @@ ghost use Rattle.bolt_commands.specs.Private.Endings.{ending_by, end_written};
 use crate::shortfall::Shortfall;
 use bolt_bulk::BulkFault;
 use bolt_check::{CheckFault, Finding, NoMemory};
-use bolt_etcd::{RepairFault, SnapshotFault};
+use bolt_etcd::SnapshotFault;
 use bolt_format::{MetaFault, PageFault, SinkFault};
 use bolt_load::{LineFault, LoadFault};
 use bolt_recover::JoinFault;
+use bolt_repair::RepairFault;
 use bolt_report::ReportFault;
 use std::alloc::AllocFailed;
 

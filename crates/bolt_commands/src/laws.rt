@@ -14,7 +14,6 @@ ghost use Rattle.bolt_job.specs.declared.choices.MetaChoice.{MetaChoice};
 ghost use Rattle.bolt_text.specs.declared.forms.ListForm.TheVariants as form;
 ghost use Rattle.bolt_job.specs.declared.choices.Extent.TheVariants as extent;
 
-use bolt_etcd::laws::sound_trees_are_not_repaired;
 use bolt_etcd::{hashed_blocks_are_a_snapshot, trailing_bytes_change_nothing};
 use bolt_format::Sink;
 use bolt_format::laws::{active_meta_is_one, metas_lie_in_a_prefix, slot_meta_is_one};
@@ -28,6 +27,7 @@ use bolt_recover::laws::{
     each_file_has_found_pages, nothing_lost_finds_nothing, sound_trees_lose_nothing,
     sound_trees_recover_their_listing, sound_trees_recover_what_they_list,
 };
+use bolt_repair::laws::sound_trees_are_not_repaired;
 use bolt_text::laws::hex_lines_are_the_listing_text;
 use bolt_tree::laws::{all_is_below_the_root, sound_trees_have_a_listing};
 

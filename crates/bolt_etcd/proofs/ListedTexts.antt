@@ -1,5 +1,6 @@
 -- Lines are written, and they are counted.
-use Rattle.std.proofs.Common.{◌≡◌, ◌∙◌, ◌<◌, ◌++◌, ◌^◌, ℕ, List, [], ◌∷◌, append-nil, length, length-append, refl, sym, ap, arith}
+use Rattle.std.proofs.Common.{◌≡◌, ◌∙◌, ◌<◌, ◌+◌, ◌++◌, ◌^◌, ℕ, List, [], ◌∷◌, append-nil, drop, flat_map, get_or, length, length-append, map, refl, sym, ap, arith}
+use Rattle.std.proofs.lemmas.List.{drop_more}
 use Rattle.std.proofs.lemmas.List.Folds.{concat-append}
 use Rattle.std.specs.{List.concat, Result.IsErrAnd}
 use Rattle.std.specs.Prelude.{IsErr, Result}
@@ -9,6 +10,7 @@ use Rattle.bolt_format.specs.{Endings.broken, Endings.ending, Endings.whole, Wro
 use Rattle.bolt_text.proofs.ReportLemmas.{Wrote-fault, front_broken}
 use Rattle.bolt_text.specs.{ReportEndings.fault_ending, ReportEndings.report_ending, declared.report_fault.ReportFault.ReportFault}
 use Rattle.bolt_tree.proofs.PagerLemmas.{counted_more}
+use Rattle.bolt_etcd.specs.{ShownRevisions.shown_revision, declared.revision.Revision.Revision}
 
 -- of all lines, those that are left are still to be written, and the others were counted
 pub record Listed {S : Type 0} (sink : Ghosts S) (old new : S) (all left : List (List ℕ)) (n : ℕ) : Type 0 where
@@ -78,3 +80,18 @@ counted_three a b c x y z m n is also last sum more =
     let inner = length-append b c in
     let outer = length-append a (b ++ c) in
     omega (arith, two, last, more, long, inner, outer)
+
+-- ---- a list of texts
+
+-- of those from number i on, the first and then the others
+pub shown_at : (xs : List Revision) (i : ℕ) (x : Revision) → i < length xs → x ≡ get_or xs i x → map shown_revision (drop i xs) ≡ shown_revision x ∷ map shown_revision (drop (i + 1) xs)
+shown_at xs i x within is = ap (map shown_revision) (drop_more xs i x within ∙ ap (λ (y : Revision). y ∷ drop (i + 1) xs) (sym is))
+
+pub lines_from : {X Y Z : Type 0} (line : Y → List Z) (view : X → Y) (xs : List X) (i : ℕ) (d : X) → i < length xs
+    → flat_map line (map view (drop i xs)) ≡ line (view (get_or xs i d)) ++ flat_map line (map view (drop (i + 1) xs))
+lines_from {X} line view xs i d within = ap (λ (l : List X). flat_map line (map view l)) (drop_more xs i d within)
+
+pub lines_at : {X Y Z : Type 0} (line : Y → List Z) (view : X → Y) (xs : List X) (i : ℕ) (x : X) → i < length xs → x ≡ get_or xs i x
+    → flat_map line (map view (drop i xs)) ≡ line (view x) ++ flat_map line (map view (drop (i + 1) xs))
+lines_at {X} line view xs i x within is =
+    lines_from line view xs i x within ∙ ap (λ (y : X). line (view y) ++ flat_map line (map view (drop (i + 1) xs))) (sym is)

@@ -1,6 +1,6 @@
 -- What a revision of the code shows is what its key and its value say.
-use Rattle.std.proofs.Common.{◌≡◌, ◌∙◌, ◌≤◌, ◌+◌, ◌++◌, inl, inr, leb, ℕ, Bool, true, false, List, [], ◌∷◌, length, Option, Some, None, nat_cmp, nat_lt, not, refl, sym, ap, arith, if◌then◌else◌}
-use Rattle.std.proofs.lemmas.Bool.{cases_lt, le-leb, le-ltb, lt-leb, lt-ltb}
+use Rattle.std.proofs.Common.{◌≡◌, ◌∙◌, ◌≤◌, ◌+◌, ◌++◌, ℕ, Bool, true, false, List, [], ◌∷◌, length, Option, Some, None, nat_cmp, nat_lt, refl, sym, ap, arith, if◌then◌else◌}
+use Rattle.std.proofs.lemmas.Bool.{le-ltb, lt-ltb}
 use Rattle.std.proofs.lemmas.List.{length-append}
 use Rattle.std.specs.Option.{option_map}
 use Rattle.std.specs.Ordering.{ordering_then}
@@ -14,7 +14,7 @@ use Rattle.bolt_etcd.specs.declared.revision_key.RevisionKey.{RevisionKey}
 use Rattle.bolt_etcd.specs.declared.revision.Revision.{Revision}
 use Rattle.bolt_etcd.specs.{Revisions.RevisionView, Revisions.name_of, Revisions.record_under, Revisions.revision_in, Revisions.revision_of}
 use Rattle.bolt_etcd.specs.ShownRevisions.{entry_of, or_nothing, shown_revision}
-use Rattle.bolt_etcd.specs.Superseded.{name_of_entry, is_deletion, is_key_deleted, is_key_until, is_old, name_if}
+use Rattle.bolt_etcd.specs.{NameOrder.name_if, NameOrder.name_of_entry, ShownRevisions.is_deletion, ShownRevisions.is_key_deleted}
 use Rattle.bolt_etcd.proofs.{Currents.bind_some, KeyNumbers.spellings_cmp, Keys.read_spelled}
 
 some_of : (o : Option RevisionView) (name : List ℕ) → option_map name_of o ≡ Some name → (o ≡ Some (or_nothing o)) × (name_of (or_nothing o) ≡ name)
@@ -53,15 +53,6 @@ has_place r = (stored r).place
 
 pub named : (r : Revision) → name_of_entry (entry_of r) ≡ name_of (shown_revision r)
 named r = ap name_if (is_revision r)
-
-old : (compacted : ℕ) (r : Revision) → is_old compacted (entry_of r) ≡ not (nat_lt compacted (shown_revision r).key.main)
-old compacted r = ap (is_key_until compacted) (has_key r)
-
-up_to : (a b : ℕ) → leb a b ≡ not (nat_lt b a)
-up_to a b = elim (cases_lt b a) [ inl lt ↦ lt-leb a b lt ∙ sym (ap not (lt-ltb b a lt)) | inr le ↦ le-leb a b le ∙ sym (ap not (le-ltb b a le)) ]
-
-pub by_main_old : (compacted main : ℕ) (r : Revision) → main ≡ (shown_revision r).key.main → leb main compacted ≡ is_old compacted (entry_of r)
-by_main_old compacted main r is = up_to main compacted ∙ ap (λ (n : ℕ). not (nat_lt compacted n)) is ∙ sym (old compacted r)
 
 pub deleted : (r : Revision) → is_deletion (entry_of r) ≡ (shown_revision r).key.deleted
 deleted r = ap is_key_deleted (has_key r)

@@ -8,7 +8,8 @@ use Rattle.std.specs.Ordering.{is_lt, ordering_then}
 use Rattle.std.specs.declared.cmp.Ordering.{Ordering}
 use Rattle.std.specs.declared.cmp.Ordering.TheVariants.{Equal}
 use Rattle.bolt_check.specs.Keys.{key_cmp}
-use Rattle.bolt_etcd.specs.{NameOrder.name_sum, NameOrder.sums_cmp, Revisions.RevisionView, Revisions.name_of, ShownRevisions.entry_of, ShownRevisions.shown_revision, Superseded.entry_name_cmp}
+use Rattle.bolt_etcd.specs.{NameOrder.name_sum, NameOrder.sums_cmp, Revisions.RevisionView, Revisions.name_of, ShownRevisions.entry_of, ShownRevisions.shown_revision}
+use Rattle.bolt_etcd.specs.NameOrder.{entry_name_cmp}
 use Rattle.bolt_etcd.specs.SumOrder.{AreSortedBy, by_sum_cmp, newest_by_sum_cmp}
 use Rattle.bolt_etcd.specs.declared.revision.Revision.{Revision}
 use Rattle.bolt_etcd.proofs.{MappedLists.sorted_mapped, NameOrders.sums_tie, NameOrders.sums_total, NewestOfNames.newest_ranks, SortedOnce.named_total, StoredRevisions.decided, StoredRevisions.named}

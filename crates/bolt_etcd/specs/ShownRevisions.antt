@@ -1,9 +1,9 @@
 -- What a revision of the code shows, without where its bytes lie in memory.
-use Rattle.std.specs.Prelude.{false, [], Option, Some, None}
+use Rattle.std.specs.Prelude.{ℕ, Bool, false, List, [], Option, Some, None}
 use Rattle.bolt_check.specs.Keys.{Key}
-use Rattle.bolt_tree.specs.{Entries.EntryView, Entries.Value}
-use Rattle.bolt_etcd.specs.{Records.empty, Revisions.RevisionView, Revisions.revision_in, ShownRecords.shown_record}
-use Rattle.bolt_etcd.specs.declared.{revision.Decoded.Decoded, revision.Revision.Revision}
+use Rattle.bolt_tree.specs.{Entries.Bucket, Entries.EntryView, Entries.Item, Entries.Value}
+use Rattle.bolt_etcd.specs.{Records.empty, RevisionKeys.revision_key, Revisions.RevisionView, Revisions.revision_in, ShownRecords.shown_record}
+use Rattle.bolt_etcd.specs.declared.{revision.Decoded.Decoded, revision.Revision.Revision, revision_key.RevisionKey.RevisionKey}
 
 -- under this key
 abbrev pub shown_decoded : Key → Decoded → RevisionView
@@ -21,3 +21,20 @@ shown_revision r = or_nothing (revision_in r.key.now r.value.now)
 -- the entry that it is
 abbrev pub entry_of : Revision → EntryView
 entry_of r = record { key = r.key.now; item = Value r.value.now }
+
+-- ---- what an entry says, without its record
+
+abbrev pub bytes_of_item : Item → List ℕ
+bytes_of_item (Value value) = value
+bytes_of_item (Bucket sequence) = []
+
+abbrev pub value_bytes : EntryView → List ℕ
+value_bytes e = bytes_of_item e.item
+
+-- its key says that it is a deletion
+abbrev pub is_key_deleted : Option RevisionKey → Bool
+is_key_deleted None = false
+is_key_deleted (Some key) = key.deleted
+
+abbrev pub is_deletion : EntryView → Bool
+is_deletion e = is_key_deleted (revision_key e.key)

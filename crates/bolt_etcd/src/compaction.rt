@@ -21,7 +21,7 @@ pub fn compacted(meta: &Bucket<'_>) -> u64
 
 /// The number of the transaction up to which a store was compacted, by the value under
 /// `scheduledCompactRev` in its bucket `meta`, if there is one. It is 0 if that doesn't say.
-pub(crate) fn compacted_by(value: Option<&[u8]>) -> u64
+pub fn compacted_by(value: Option<&[u8]>) -> u64
     ensures { result ≡ compacted_by (option_map (λ value. value.now) value.entry) }
 {
     match value {

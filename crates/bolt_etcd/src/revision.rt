@@ -1,11 +1,12 @@
 //! A revision of a key, as the bucket `key` keeps it.
-ghost use Rattle.std.specs.Prelude.{◌≡◌, ◌/◌, ◌%◌, ◌^◌, Some, None};
+ghost use Rattle.std.specs.Prelude.{◌≡◌, ◌/◌, ◌%◌, ◌^◌, IfSome, Some, None};
 ghost use Rattle.std.specs.Option.{option_map};
-ghost use Rattle.std.proofs.Props.{props};
 ghost use Rattle.bolt_format.specs.Bytes.{IsBytes};
 ghost use Rattle.bolt_check.specs.Keys.{key_cmp, Key};
 ghost use Rattle.bolt_tree.specs.ShownEntries.{shown_entry};
-ghost use Rattle.bolt_etcd.specs.{Candidates.candidate_at, Candidates.value_bytes, NameOrder.name_sum, Returns.Returns, RevisionKeys.IsSpelled, Revisions.name_of, Revisions.revision_in, Revisions.revision_of, ShownRecords.shown_record, Superseded.is_deletion, Misplaced.is_misplaced, ShownRevisions.shown_decoded, ShownRevisions.shown_revision, Follows.creates, Follows.follows, Follows.is_next_of};
+ghost use Rattle.bolt_etcd.specs.{NameOrder.name_sum, Returns.Returns, RevisionKeys.IsSpelled, Revisions.name_of, Revisions.revision_in, Revisions.revision_of, Misplaced.is_misplaced, ShownRevisions.shown_decoded, ShownRevisions.shown_revision, Follows.creates, Follows.follows, Follows.is_next_of};
+ghost use Rattle.bolt_etcd.specs.ShownRevisions.{is_deletion};
+ghost use Rattle.bolt_etcd.specs.ShownRevisions.{value_bytes};
 
 use crate::name_tag::{MAINS, tag_of};
 use crate::record::Record;
@@ -61,27 +62,13 @@ impl<'a> Revision<'a> {
     /// bucket or a mark, or its key isn't a revision key, or its value isn't a record. A mark has
     /// the key of a revision that isn't a deletion, and a value without bytes. Needs no memory.
     pub fn of(entry: &Entry<'a>) -> Option<Revision<'a>>
-        ensures { Returns shown_revision result (revision_of (shown_entry entry.now)) }
+        ensures revision { Returns shown_revision result (revision_of (shown_entry entry.now)) }
+        ensures entry { IfSome result (λ revision. entry_of revision ≡ shown_entry entry.now) }
     {
         let Item::Value(value) = entry.item else {
             return None;
         };
         let decoded = Decoded::of(entry.key, value)?;
-        Some(Revision::new(entry.key, value, decoded.content.name, decoded.key.main))
-    }
-
-    /// The entry as a candidate: a revision with a record of its own transaction. Returns `None` if
-    /// it isn't one.
-    pub(crate) fn candidate(entry: &Entry<'a>) -> Option<Revision<'a>>
-        ensures { option_map entry_of result ≡ candidate_at (shown_entry entry.now) }
-    {
-        let Item::Value(value) = entry.item else {
-            return None;
-        };
-        let decoded = Decoded::of(entry.key, value)?;
-        if decoded.is_misplaced() {
-            return None;
-        }
         Some(Revision::new(entry.key, value, decoded.content.name, decoded.key.main))
     }
 
@@ -122,7 +109,7 @@ impl<'a> Revision<'a> {
     }
 
     /// Its key as it is stored. Revisions are ordered by it.
-    pub(crate) fn place(&self) -> &'a [u8]
+    pub fn place(&self) -> &'a [u8]
         ensures revision { result.now ≡ (shown_revision self.now).place }
         ensures entry { result.now ≡ (entry_of self.now).key }
     {
@@ -130,7 +117,7 @@ impl<'a> Revision<'a> {
     }
 
     /// The entry that it is.
-    pub(crate) fn entry(&self) -> Entry<'a>
+    pub fn entry(&self) -> Entry<'a>
         ensures { shown_entry result ≡ entry_of self.now }
     {
         Entry {
@@ -140,28 +127,28 @@ impl<'a> Revision<'a> {
     }
 
     /// Its value as it is stored.
-    pub(crate) fn value(&self) -> &'a [u8]
+    pub fn value(&self) -> &'a [u8]
         ensures { result.now ≡ value_bytes (entry_of self.now) }
     {
         self.value
     }
 
     /// The number of its transaction.
-    pub(crate) fn main(&self) -> u64
+    pub fn main(&self) -> u64
         ensures { result ≡ (shown_revision self.now).key.main }
     {
         BigEndian::read_u64(self.key)
     }
 
     /// Whether it is a deletion.
-    pub(crate) fn is_deletion(&self) -> bool
+    pub fn is_deletion(&self) -> bool
         ensures { result ≡ is_deletion (entry_of self.now) }
     {
         self.key.len() > LEN
     }
 
     /// Compares two by their keys, of which the transactions mostly tell.
-    pub(crate) fn cmp_place(&self, other: &Revision<'_>) -> Ordering
+    pub fn cmp_place(&self, other: &Revision<'_>) -> Ordering
         ensures { result ≡ key_cmp (entry_of self.now).key (entry_of other.now).key }
     {
         match self.main().cmp(&other.main()) {

@@ -7,6 +7,8 @@ mod PageFaults
 mod PageTableLemmas
 mod PrefixLemmas
 mod PrefixSteps
+pub mod RevisionDocuments
+pub mod RevisionTexts
 pub mod SizeLemmas
 pub mod SizesExist
 mod Words

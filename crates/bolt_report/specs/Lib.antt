@@ -14,5 +14,8 @@ pub mod PageMaps
 pub mod PageTables
 pub mod PageTexts
 pub mod PartLines
+pub mod RevisionLines
+pub mod RevisionObjects
 pub mod SizeLines
 pub mod StatsLines
+pub mod WriterLines

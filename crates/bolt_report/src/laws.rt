@@ -1,4 +1,4 @@
-//! What the definitions of sizes imply, and that figures and sizes as JSON are read back.
+//! What the definitions of sizes imply, and that figures, sizes and revisions as JSON are read back.
 ghost use Rattle.std.specs.Prelude.{◌≡◌, ℕ, List, Some, map, option_and_then};
 ghost use Rattle.json.specs.Json.{document};
 ghost use Rattle.bolt_format.specs.{Elements.LeafElement, declared.meta.Meta.Meta};
@@ -9,6 +9,14 @@ ghost use Rattle.bolt_text.specs.JsonReadings.{digits_of, item_in_json};
 ghost use Rattle.bolt_report.specs.SizeLines.{AreSized, Sized};
 ghost use Rattle.bolt_check.specs.Ones.{AtMostOne};
 ghost use Rattle.bolt_tree.specs.Laws.{ForSorted};
+ghost use Rattle.std.specs.Prelude.{◌≡◌, ℕ, Bool, List, Some, map};
+ghost use Rattle.bolt_format.specs.{Elements.LeafElement};
+ghost use Rattle.bolt_etcd.specs.{Revisions.RevisionView};
+ghost use Rattle.bolt_check.specs.{Ones.AtMostOne};
+ghost use Rattle.bolt_format.specs.declared.meta.Meta.{Meta};
+ghost use Rattle.bolt_report.specs.{RevisionLines.revision_line, RevisionObjects.ReadsRevisionsBack, RevisionObjects.revision_json};
+ghost use Rattle.bolt_text.specs.{Forms.digits_json, Forms.item_json, Forms.json_text, JsonReadings.digits_of, JsonReadings.item_in_json, Lines.line};
+ghost use Rattle.bolt_text.specs.declared.forms.Form.TheVariants as Form;
 
 /// The buckets among the entries of a bucket have at most one list of sizes.
 #[tactic(auto, using(crate::proofs::SizesExist::one_sizes))]
@@ -39,4 +47,17 @@ pub fn json_figures_read_back()
 pub fn json_sizes_read_back()
     ensures item { ReadsSizesBack item_in_json item_json }
     ensures hex_item { ReadsSizesBack digits_of digits_json }
+{}
+
+/// The line of a revision as JSON is, without its line feed, a JSON document, with its value or
+/// without. A reader that looks up its members by their names finds its numbers, its name and its
+/// value.
+#[tactic(auto, using(crate::proofs::RevisionDocuments::read_back))]
+pub fn json_revisions_read_back()
+    ensures text { (values : Bool) (r : RevisionView) → revision_line Form.Json values r
+        ≡ line (json_text (revision_json item_json values r)) }
+    ensures hex_text { (values : Bool) (r : RevisionView) → revision_line Form.JsonHex values r
+        ≡ line (json_text (revision_json digits_json values r)) }
+    ensures item { ReadsRevisionsBack item_in_json item_json }
+    ensures hex_item { ReadsRevisionsBack digits_of digits_json }
 {}

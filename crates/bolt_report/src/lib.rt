@@ -14,6 +14,7 @@ mod name_lines;
 mod page_lines;
 mod page_table;
 mod part_lines;
+mod revision_lines;
 mod size_lines;
 mod stats_lines;
 
@@ -31,5 +32,6 @@ pub use name_lines::{Names, NamesIn, list_members_names};
 pub use page_lines::page_text;
 pub use page_table::{pages, put_page_table};
 pub use part_lines::{is_bucket_at, list, list_members_part, put_list_part};
+pub use revision_lines::RevisionWriter;
 pub use size_lines::put_sizes;
 pub use stats_lines::stats_text;

@@ -4,6 +4,7 @@ use Rattle.bolt_format.specs.{Elements.BranchElement, Elements.LeafElement, Elem
 use Rattle.bolt_format.specs.declared.header.Kind.{Kind}
 use Rattle.bolt_format.specs.declared.header.Kind.TheVariants as kind
 use Rattle.bolt_stats.specs.declared.figures.Stats.{Stats}
+use Rattle.bolt_check.specs.Counts.{saturated}
 
 -- which figure; depth is none of them, as it is no sum
 pub data Figure : Type 0 where

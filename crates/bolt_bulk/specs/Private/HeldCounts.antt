@@ -3,6 +3,7 @@
 use Rattle.std.specs.Prelude.{◌≡◌, ℕ, ◌+◌, List, [], ◌∷◌, length, max, min, sum_by}
 use Rattle.bolt_bulk.specs.{declared.branch_run.BranchRun.BranchRun, declared.bucket_runs.BucketRuns.BucketRuns, declared.pass.Pass.Pass}
 use Rattle.bolt_bulk.specs.declared.waiting_bucket.WaitingBucket.{WaitingBucket}
+use Rattle.bolt_check.specs.Counts.{saturated}
 
 abbrev pub items_above : List BranchRun → ℕ
 items_above uppers = sum_by (λ run. length run.elements.items) uppers

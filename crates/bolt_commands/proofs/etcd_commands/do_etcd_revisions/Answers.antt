@@ -1,7 +1,8 @@
 use Rattle.std.proofs.Common.{◌≡◌, codes, refl}
 use Rattle.bolt_tree.specs.{BucketViews.entries_of, Entries.AreEntries}
 use Rattle.bolt_etcd.specs.{RevisionsLeft.pass_checked, RevisionsLeft.pass_start}
-use Rattle.bolt_etcd.specs.{RevisionLines.named_with, RevisionLines.revision_lines, Stores.revisions}
+use Rattle.bolt_report.specs.{RevisionLines.named_with, RevisionLines.revision_lines}
+use Rattle.bolt_etcd.specs.{Stores.revisions}
 use Rattle.bolt_commands.specs.Answers.{IsRevisionsText, OfKeys, entries_asked}
 use Rattle.bolt_commands.proofs.{Doing.answer_nothing, Vocabulary.Json}
 use Rattle.bolt_commands.proofs.EtcdAnswers.{counted_put, keys, keys_answer, known_of, unread_store}

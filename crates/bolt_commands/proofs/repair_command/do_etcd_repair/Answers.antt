@@ -4,8 +4,8 @@ use Rattle.std.proofs.lemmas.List.{length-map}
 use Rattle.bolt_commands.proofs.{Doing.ends_as}
 use Rattle.bolt_commands.proofs.RepairAnswers.{is_repaired, repair_done, repair_failed, unsearched_unrestored}
 use Rattle.bolt_commands.proofs.Vocabulary.{∥∥₁_map}
-use Rattle.bolt_etcd.specs.{FullRepairs.IsFullRepair, RepairedMembers.repair_file, RepairedMembers.repair_meta, RepairedMerges.repair_back, RepairedMerges.repair_is_made}
-use Rattle.bolt_etcd.specs.declared.repair.RepairFault.TheVariants.{Memory}
+use Rattle.bolt_repair.specs.{FullRepairs.IsFullRepair, RepairedMembers.repair_file, RepairedMembers.repair_meta, RepairedMerges.repair_back, RepairedMerges.repair_is_made}
+use Rattle.bolt_repair.specs.declared.repair.RepairFault.TheVariants.{Memory}
 use Rattle.bolt_commands.proofs.repair_command.do_etcd_repair.Goals as goal
 
 pub returns-in_err-both : goal.returns-in_err-both

@@ -5,7 +5,7 @@ use Rattle.std.specs.List.{Contains}
 use Rattle.bolt_format.specs.{Bytes.IsBytes, declared.meta.Meta.Meta}
 use Rattle.bolt_layout.specs.Storable.{IsFitListing}
 use Rattle.bolt_tree.specs.{Listing.Member, Listing.member_cmp, Order.Rises, Tree.Tree, Tree.listing_of}
-use Rattle.bolt_etcd.specs.{Repaired.IsRepaired, Repaired.repaired_listing, RepairedMembers.repaired_file, RepairedMembers.repaired_meta, RepairedMerges.repair_back}
+use Rattle.bolt_repair.specs.{Repaired.IsRepaired, Repaired.repaired_listing, RepairedMembers.repaired_file, RepairedMembers.repaired_meta, RepairedMerges.repair_back}
 use Rattle.bolt_commands.proofs.RepairedFits.{listing_fits}
 use Rattle.bolt_commands.proofs.repair_command.repaired_members_are_whole.Goals as goal
 

@@ -3,7 +3,8 @@ use Rattle.std.specs.Borrow.{Bor}
 use Rattle.bolt_check.specs.Counts.{counted}
 use Rattle.bolt_check.specs.Keys.{Key}
 use Rattle.bolt_etcd.specs.StoreFaults.{missing_bucket_lines, line_without}
-use Rattle.bolt_etcd.proofs.{ListedTexts.listed_faults, ListedTexts.listed_more, RevisionTexts.lines_from}
+use Rattle.bolt_etcd.proofs.{ListedTexts.listed_faults, ListedTexts.listed_more}
+use Rattle.bolt_etcd.proofs.ListedTexts.{lines_from}
 use Rattle.bolt_etcd.proofs.store_faults.put_missing_buckets.Goals as goal
 
 none : Bor Key

@@ -19,21 +19,21 @@ pub rest-preserved : goal.rest-preserved
 unfolding pass_others
 rest-preserved c = record {
   goes = goes_on c.args.self.now c.rest.self c.advance.new.self _ c.rest.invariant.goes c.advance.ensures.first (shown_entry c.in-Some.entry) c.saturating_add-self.result
-      (ap (option_map shown_entry) c.in-Some.is) c.in_default-of.ensures c.advance.ensures.checked c.advance.ensures.start
+      (ap (option_map shown_entry) c.in-Some.is) c.in_default-of.ensures.revision c.advance.ensures.checked c.advance.ensures.start
       (c.saturating_add-self.ensures ∙ ap₂ counted c.advance.ensures.others c.others_in.ensures);
   opens = inr (other_first c.args.self.now c.rest.self c.advance.new.self _ c.rest.invariant.goes c.advance.ensures.first c.rest.invariant.opens (shown_entry c.in-Some.entry)
-      (ap (option_map shown_entry) c.in-Some.is) c.in_default-of.ensures);
+      (ap (option_map shown_entry) c.in-Some.is) c.in_default-of.ensures.revision);
 }
 
 pub returns-in-Some-of-clause-given : goal.returns-in-Some-of-clause-given
 returns-in-Some-of-clause-given c =
     some_given c.args.self.now c.rest.self c.advance.new.self _ c.rest.invariant.goes c.advance.ensures.first (shown_entry c.in-Some.entry) (shown_revision c.in-Some-of.revision)
-    (ap (option_map shown_entry) c.in-Some.is) c.in-Some-of.ensures
+    (ap (option_map shown_entry) c.in-Some.is) c.in-Some-of.ensures.revision
 
 pub returns-in-Some-of-clause-counts : goal.returns-in-Some-of-clause-counts
 returns-in-Some-of-clause-counts c =
     some_counts c.args.self.now c.rest.self c.advance.new.self _ c.rest.invariant.goes c.advance.ensures.first (shown_entry c.in-Some.entry) (shown_revision c.in-Some-of.revision)
-    (ap (option_map shown_entry) c.in-Some.is) c.in-Some-of.ensures c.advance.ensures.others
+    (ap (option_map shown_entry) c.in-Some.is) c.in-Some-of.ensures.revision c.advance.ensures.others
 
 pub returns-clause-given : goal.returns-clause-given
 returns-clause-given c =

@@ -1,5 +1,0 @@
-use Rattle.bolt_etcd.proofs.RepairLaws.{one_of_a_name}
-use Rattle.bolt_etcd.proofs.laws.at_most_one_of_a_name_goes_back.Goals as goal
-
-pub returns : goal.returns
-returns c = one_of_a_name

@@ -1,5 +1,0 @@
-use Rattle.bolt_etcd.proofs.OneRepair.{one_repaired}
-use Rattle.bolt_etcd.proofs.laws.repaired_listing_is_one.Goals as goal
-
-pub returns : goal.returns
-returns c = λ file meta. one_repaired file meta (c.found_pages_are_one.ensures file meta)

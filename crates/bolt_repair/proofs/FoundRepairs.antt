@@ -1,0 +1,90 @@
+-- The repair of a file that was searched.
+use Rattle.std.proofs.Common.{◌≡◌, ◌∙◌, ◌-◌, ◌≤◌, ◌&&◌, ◌==◌, ◌++◌, ℕ, Bool, true, false, List, [], ◌∷◌, Some, arith, length, map, not, refl, sym, ap, ap₂, subst}
+use Rattle.std.proofs.Math.Logic.{∥∥₁_elim, ∥∥₁_map}
+use Rattle.std.proofs.Props.{props}
+use Rattle.std.proofs.lemmas.{Bool.eqb-true, Bool.ne_eqb, List.Elements.All-head, List.Elements.All-tail, List.length-map}
+use Rattle.std.specs.{Borrow.Bor, List.All, Option.option_map}
+use Rattle.bolt_format.specs.{Elements.LeafElement, Pages.page_at, TreePages.leaves_on, declared.meta.Meta.Meta}
+use Rattle.bolt_check.specs.{Keys.Key, declared.finding.Finding.Finding}
+use Rattle.bolt_tree.specs.{Listing.Member, ShownEntries.item_view}
+use Rattle.bolt_recover.proofs.Existing.{has_recovered}
+use Rattle.bolt_recover.specs.{Losses.everything, Lost.IsAllLost, LostAndFound.all_lost}
+use Rattle.bolt_recover.specs.{Found.found_numbers, Recovered.ForRecovered, Recovered.IsRecovered, Refusals.LosesRoot, ShownFound.IsFoundView, Sites.leaves_of, declared.found.Found.Found, declared.lost_and_found.LostAndFound.LostAndFound}
+use Rattle.bolt_etcd.specs.declared.revision.Revision.{Revision}
+use Rattle.bolt_etcd.specs.ShownRevisions.{entry_of}
+use Rattle.bolt_etcd.specs.{Among.without, Compacted.compacted_by}
+use Rattle.bolt_repair.specs.{Candidates.AreCandidates, Candidates.found_elements, FullRepairs.IsFullRepair}
+use Rattle.bolt_repair.specs.{Repaired.IsRepair, Repaired.elements_on, Repaired.lacks_bucket, Superseded.ArePutBack, StoreSurveys.IsStoreSurvey, StoreSurveys.IsSurveyOf, Undisputed.AreKeys, Undisputed.AreUndisputed, declared.survey.Survey.Survey}
+use Rattle.bolt_repair.proofs.WholeRepairs.{back_least, full_repair, is_nil, repair}
+
+-- the elements of the pages of the code are those of the pages with their numbers
+elements_found : (file : List ℕ) (meta : Meta) (found : List Found) → All (IsFoundView file meta) found → elements_on file meta (found_numbers found) ≡ found_elements found
+elements_found file meta [] views = refl
+elements_found file meta (f ∷ found) views =
+    let here : leaves_of (page_at file meta f.number) ≡ leaves_on f.page = ap leaves_of (All-head (IsFoundView file meta) f found views).page in
+    ap₂ (λ (a b : List LeafElement). a ++ b) here (elements_found file meta found (All-tail (IsFoundView file meta) f found views))
+
+pub loses_root : (both : LostAndFound) (x : Finding) → all_lost both ≡ everything x → ∥ LosesRoot both.file.now both.meta x ∥₁
+unfolding all_lost
+loses_root both x is = ∥∥₁_map both.searched (λ searched. subst (IsAllLost both.file.now both.meta) is searched.lost)
+
+nil_mapped : (es : List Revision) → (length es == 0) ≡ is_nil (map entry_of es)
+nil_mapped [] = refl
+nil_mapped (e ∷ es) = ne_eqb (length (e ∷ es)) 0 (λ same. omega (arith, same))
+
+pub none_left : (es : List Revision) (empty : Bool) (len : ℕ) → empty ≡ (len == 0) → len ≡ length es → empty ≡ true → map entry_of es ≡ []
+none_left [] empty len is long is_true = refl
+none_left (e ∷ es) empty len is long is_true = absurd (let none = eqb-true len 0 (sym is ∙ is_true) in omega (arith, none, long))
+
+-- the bucket is made, or it isn't, since it is there
+module _ (es : List Revision) (made lacks : Bool) where
+  pub made_if : (empty : Bool) (len : ℕ) → made ≡ not empty → empty ≡ (len == 0) → len ≡ length es → lacks ≡ true → made ≡ (lacks && not (is_nil (map entry_of es)))
+  made_if empty len is so long is_true =
+      is ∙ ap not (so ∙ ap (λ (n : ℕ). n == 0) long ∙ nil_mapped es) ∙ sym (ap (λ (b : Bool). b && not (is_nil (map entry_of es))) is_true)
+
+  pub not_made : made ≡ lacks → lacks ≡ false → made ≡ (lacks && not (is_nil (map entry_of es)))
+  not_made is is_false = is ∙ is_false ∙ sym (ap (λ (b : Bool). b && not (is_nil (map entry_of es))) is_false)
+
+abbrev now : Bor Key → Key
+now key = key.now
+
+module _ (both : LostAndFound) (pages : List Found) (on : pages ≡ both.found.items) (all listed left back : List Revision) (same : listed ≡ all) (survey : Survey)
+    (compacted : ℕ) (at : compacted ≡ compacted_by (option_map now survey.compaction)) (candidates : AreCandidates (found_elements pages) (map entry_of all))
+    (surveys : ForRecovered both.file.now both.meta (λ recovered. IsSurveyOf recovered (map entry_of listed) survey))
+    (agree : AreUndisputed (without (map now survey.met.items) (map entry_of all)) (map entry_of left))
+    (put : ForRecovered both.file.now both.meta (λ recovered. ArePutBack compacted recovered (map entry_of left) (map entry_of back))) where
+  abbrev recovered : List Member
+  recovered = (has_recovered both.file.now both.meta).0
+
+  is_recovered : IsRecovered both.file.now both.meta recovered
+  is_recovered = (has_recovered both.file.now both.meta).1
+
+  on_all : AreCandidates (found_elements both.found.items) (map entry_of all)
+  on_all = subst (λ (ps : List Found). AreCandidates (found_elements ps) (map entry_of all)) on candidates
+
+  on_pages : All (IsFoundView both.file.now both.meta) both.found.items → AreCandidates (elements_on both.file.now both.meta (found_numbers both.found.items)) (map entry_of all)
+  on_pages views = subst (λ (es : List LeafElement). AreCandidates es (map entry_of all)) (sym (elements_found both.file.now both.meta both.found.items views)) on_all
+
+  surveyed : IsStoreSurvey recovered (map entry_of all) (option_map item_view survey.store) (option_map now survey.compaction) (map now survey.met.items)
+  surveyed = subst (λ (es : List Revision). IsSurveyOf recovered (map entry_of es) survey) same (surveys recovered is_recovered)
+
+  put_back : ArePutBack (compacted_by (option_map now survey.compaction)) recovered (map entry_of left) (map entry_of back)
+  put_back = subst (λ (n : ℕ). ArePutBack n recovered (map entry_of left) (map entry_of back)) at (put recovered is_recovered)
+
+  pub searched_least : (keys : List Key) → AreKeys (without (map now survey.met.items) (map entry_of all)) keys → length back ≤ length keys
+  searched_least keys are = ∥∥₁_elim both.searched (hlevel props) (λ searched.
+      let long = length-map back entry_of in
+      let few = back_least both.file.now both.meta (found_numbers both.found.items) searched.are_found (map entry_of all) (map entry_of left) (map entry_of back) (map now survey.met.items) _ _ (on_pages searched.views) agree recovered is_recovered surveyed put_back keys are in
+      omega (arith, long, few))
+
+  module _ (lacks : Bool) (is_lacking : lacks_bucket (option_map item_view survey.store) ≡ Some lacks) (is_made : Bool) (made : is_made ≡ (lacks && not (is_nil (map entry_of back)))) where
+    pub searched_repair : ∥ IsRepair both.file.now both.meta (map entry_of back) is_made ∥₁
+    searched_repair = ∥∥₁_map both.searched (λ searched.
+        repair both.file.now both.meta (found_numbers both.found.items) searched.are_found (map entry_of all) (map entry_of left) (map entry_of back) (map now survey.met.items) _ _ (on_pages searched.views) agree recovered is_recovered surveyed put_back
+        lacks is_lacking is_made made)
+
+    pub searched_full : (keys : List Key) → AreKeys (without (map now survey.met.items) (map entry_of all)) keys → (left_out : ℕ) → left_out ≡ length keys - length back
+        → ∥ IsFullRepair both.file.now both.meta (map entry_of back) is_made left_out ∥₁
+    searched_full keys are left_out number = ∥∥₁_map both.searched (λ searched.
+        full_repair both.file.now both.meta (found_numbers both.found.items) searched.are_found (map entry_of all) (map entry_of left) (map entry_of back) (map now survey.met.items) _ _ (on_pages searched.views) agree recovered is_recovered surveyed put_back
+        lacks is_lacking is_made made keys are left_out (let long = length-map back entry_of in omega (arith, long, number)))

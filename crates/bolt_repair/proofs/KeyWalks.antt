@@ -1,0 +1,101 @@
+-- Candidates by rising key, beside one key.
+use Rattle.std.proofs.Common.{◌≡◌, ◌∙◌, ◌<◌, ◌≤◌, ◌+◌, ◌-◌, ◌↔◌, inl, inr, ℕ, zero, suc, Bool, true, false, List, [], ◌∷◌, length, map, slice_index_or, refl, sym, ap, subst, arith}
+use Rattle.std.proofs.lemmas.Bool.{cases_lt}
+use Rattle.std.proofs.lemmas.Slice.Eq.{bytes_eq-Decides}
+use Rattle.std.specs.List.{Contains}
+use Rattle.std.specs.Ordering.{is_lt, ordering_reverse}
+use Rattle.std.specs.Str.{bytes_eq}
+use Rattle.std.specs.declared.cmp.Ordering.{Ordering}
+use Rattle.std.specs.declared.cmp.Ordering.TheVariants.{Equal, Greater, Less}
+use Rattle.bolt_check.specs.Keys.{Key, key_cmp}
+use Rattle.bolt_tree.proofs.{Lists.irreflexive, PathOrder.key_exact, PathOrder.key_same, PathOrder.key_total}
+use Rattle.bolt_tree.specs.{Entries.EntryView, Order.Rises}
+use Rattle.bolt_repair.specs.{Candidates.HasKey, Candidates.whole_cmp, Keyed.HaveLesserKeys}
+use Rattle.bolt_etcd.specs.{ShownRevisions.entry_of}
+use Rattle.bolt_etcd.specs.declared.revision.Revision.{Revision}
+use Rattle.bolt_repair.proofs.{Alones.entries_climb, Alones.entry_below, Alones.neither, OldOnes.has_at}
+use Rattle.bolt_etcd.proofs.{MappedLists.Climbs, MappedLists.shows_from, MappedLists.shows_has}
+
+less_is : (o : Ordering) → is_lt o ≡ true → o ≡ Less
+less_is Less e = refl
+less_is Equal e = cc
+less_is Greater e = cc
+
+-- what isn't above one that is below a key is below the key
+at_most : (a b key : Key) (o : Ordering) → key_cmp a b ≡ o → is_lt (ordering_reverse o) ≡ false → key_cmp b key ≡ Less → key_cmp a key ≡ Less
+at_most a b key Less is not_above less = key_total.trans a b key is less
+at_most a b key Equal is not_above less = subst (λ (k : Key). key_cmp k key ≡ Less) (sym (key_exact a b is)) less
+at_most a b key Greater is not_above less = cc
+
+-- what stands at a place that is there
+same_default : {X : Type 0} (xs : List X) (i : ℕ) (a b : X) → i < length xs → slice_index_or xs i a ≡ slice_index_or xs i b
+same_default [] i a b lt = absurd (omega arith)
+same_default (x ∷ xs) zero a b lt = refl
+same_default (x ∷ xs) (suc i) a b lt = same_default xs i a b (omega arith)
+
+-- no later one is below
+climbs_at : (xs : List Revision) → Climbs entry_below (map entry_of xs) → (j k : ℕ) (d : Revision) → j ≤ k → k < length xs
+    → entry_below (entry_of (slice_index_or xs k d)) (entry_of (slice_index_or xs j d)) ≡ false
+climbs_at [] up j k d le lt = absurd (omega arith)
+climbs_at (x ∷ xs) up zero zero d le lt = ap is_lt (key_same x.key.now)
+climbs_at (x ∷ xs) up zero (suc k) d le lt = up.0 (entry_of (slice_index_or xs k d)) (shows_has entry_of xs (slice_index_or xs k d) (has_at xs k d (omega arith)))
+climbs_at (x ∷ xs) up (suc j) zero d le lt = absurd (omega arith)
+climbs_at (x ∷ xs) up (suc j) (suc k) d le lt = climbs_at xs up.1 j k d (omega arith) (omega arith)
+
+module _ (key : Key) (xs : List Revision) (rises : Rises whole_cmp (map entry_of xs)) where
+  climbs : Climbs entry_below (map entry_of xs)
+  climbs = entries_climb (map entry_of xs) rises
+
+  not_above : (j k : ℕ) (d : Revision) → j ≤ k → k < length xs → is_lt (ordering_reverse (key_cmp (slice_index_or xs j d).key.now (slice_index_or xs k d).key.now)) ≡ false
+  not_above j k d le lt = ap is_lt (sym (key_total.antisymm (slice_index_or xs k d).key.now (slice_index_or xs j d).key.now)) ∙ climbs_at xs climbs j k d le lt
+
+  -- if the one before a place is below, all before it are
+  pub below_all : (n : ℕ) (r : Revision) → 0 < n → n ≤ length xs → r ≡ slice_index_or xs (n - 1) r → is_lt (key_cmp r.key.now key) ≡ true → HaveLesserKeys key xs n
+  below_all n r some within at less = (
+    within,
+    λ k d lt.
+        let last : slice_index_or xs (n - 1) r ≡ slice_index_or xs (n - 1) d = same_default xs (n - 1) r d (omega arith) in
+        let before = less_is (key_cmp r.key.now key) less in
+        at_most (slice_index_or xs k d).key.now (slice_index_or xs (n - 1) d).key.now key _ refl (not_above k (n - 1) d (omega arith) (omega arith))
+        (subst (λ (x : Revision). key_cmp x.key.now key ≡ Less) (at ∙ last) before),
+  )
+
+  pub none_below : HaveLesserKeys key xs 0
+  none_below = (omega arith, λ k d lt. absurd (omega arith))
+
+  pub one_more : (i : ℕ) (r : Revision) → HaveLesserKeys key xs i → i < length xs → r ≡ slice_index_or xs i r → is_lt (key_cmp r.key.now key) ≡ true → HaveLesserKeys key xs (i + 1)
+  one_more i r below lt at less = below_all (i + 1) r (omega arith) (omega arith) (let same : i + 1 - 1 ≡ i = omega arith in rw same at) less
+
+  -- none has the key, if all are below
+  pub past_all : (i : ℕ) → HaveLesserKeys key xs i → length xs ≤ i → HasKey (map entry_of xs) key → ⊥
+  past_all i below all (e, has, at) =
+      let (x, (k, lt, is), shows) = shows_from entry_of xs e has in
+      let less = below.1 k x (omega arith) in
+      let same : slice_index_or xs k x ≡ x = is in
+      let wrong : key_cmp key key ≡ Less = subst (λ (y : Key). key_cmp y key ≡ Less) (ap (λ (y : Revision). y.key.now) same ∙ ap (λ (v : EntryView). v.key) shows ∙ at) less in
+      irreflexive key_total key wrong
+
+  -- else the next one has it, or none
+  module _ (i : ℕ) (r : Revision) (below : HaveLesserKeys key xs i) (lt : i < length xs) (at : r ≡ slice_index_or xs i r) (not_less : is_lt (key_cmp r.key.now key) ≡ false) where
+    next_only : HasKey (map entry_of xs) key → r.key.now ≡ key
+    next_only (e, has, same) =
+        let (x, (k, within, is), shows) = shows_from entry_of xs e has in
+        let key_is : x.key.now ≡ key = ap (λ (v : EntryView). v.key) shows ∙ same in
+        let here : slice_index_or xs k x ≡ x = is in
+        elim (cases_lt k i) [
+          | inl before ↦
+              let less = subst (λ (y : Revision). key_cmp y.key.now key ≡ Less) here (below.1 k x before) in
+              absurd (irreflexive key_total key (subst (λ (l : Key). key_cmp l key ≡ Less) key_is less))
+          | inr after ↦
+              let mine : slice_index_or xs i x ≡ r = same_default xs i x r lt ∙ sym at in
+              let above = not_above i k x after within in
+              let turned = subst (λ (y : Revision). is_lt (ordering_reverse (key_cmp y.key.now (slice_index_or xs k x).key.now)) ≡ false) mine above in
+              let beside = subst (λ (l : Key). is_lt (ordering_reverse (key_cmp r.key.now l)) ≡ false) (ap (λ (y : Revision). y.key.now) here ∙ key_is) turned in
+              key_exact r.key.now key (neither (key_cmp r.key.now key) not_less beside)
+        ]
+
+    pub found : (b : Bool) → b ≡ bytes_eq r.key.now key → (b ≡ true) ↔ HasKey (map entry_of xs) key
+    found b is = (
+      λ e. (entry_of r, shows_has entry_of xs r (subst (Contains xs) (sym at) (has_at xs i r lt)), (bytes_eq-Decides r.key.now key).0 (sym is ∙ e)),
+      λ has. is ∙ (bytes_eq-Decides r.key.now key).1 (next_only has),
+    )

@@ -1,0 +1,50 @@
+-- Which elements of found pages are candidates, as far as the recovered listing isn't looked at.
+use Rattle.std.specs.Prelude.{◌&&◌, ◌≡◌, ◌↔◌, ℕ, Bool, false, List, [], filter, flat_map, map, not, Option, Some, None, if◌then◌else◌}
+use Rattle.std.specs.List.{Contains}
+use Rattle.std.specs.{Option.is_some, Ordering.ordering_then, Str.bytes_eq}
+use Rattle.std.specs.declared.cmp.Ordering.{Ordering}
+use Rattle.bolt_format.specs.{Elements.LeafElement, TreePages.leaves_on}
+use Rattle.bolt_check.specs.Keys.{Key, key_cmp}
+use Rattle.bolt_recover.specs.declared.found.Found.{Found}
+use Rattle.bolt_tree.specs.{Entries.Bucket, Entries.EntryView, Entries.Item, Entries.Value, Entries.entry_view, Order.Rises}
+use Rattle.bolt_etcd.specs.{Misplaced.is_misplaced, RevisionKeys.revision_key, Revisions.RevisionView, Revisions.revision_of}
+use Rattle.bolt_etcd.specs.ShownRevisions.{value_bytes}
+
+abbrev pub is_in_place : Option RevisionView → Bool
+is_in_place None = false
+is_in_place (Some r) = not (is_misplaced r)
+
+-- a revision with a record of its own transaction
+abbrev pub is_candidate : EntryView → Bool
+is_candidate e = is_in_place (revision_of e)
+
+-- the entry, if it is one
+abbrev pub candidate_at : EntryView → Option EntryView
+candidate_at e = if is_candidate e then Some e else None
+
+-- the elements whose keys are revision keys
+abbrev pub under_revision_keys : List LeafElement → List LeafElement
+under_revision_keys elements = filter (λ (element : LeafElement). is_some (revision_key element.key)) elements
+
+abbrev pub candidates_in : List LeafElement → List EntryView
+candidates_in elements = filter is_candidate (map entry_view elements)
+
+-- the elements of found pages of the code
+abbrev pub found_elements : List Found → List LeafElement
+found_elements found = flat_map (λ (f : Found). leaves_on f.page) found
+
+-- by key, and of one key by value
+abbrev pub whole_cmp : EntryView → EntryView → Ordering
+whole_cmp a b = ordering_then (key_cmp a.key b.key) (key_cmp (value_bytes a) (value_bytes b))
+
+abbrev pub is_same_entry : EntryView → EntryView → Bool
+is_same_entry a b = bytes_eq a.key b.key && bytes_eq (value_bytes a) (value_bytes b)
+
+-- the candidates among these elements, by key and value, each once
+pub record AreCandidates (elements : List LeafElement) (es : List EntryView) : Type 0 where
+  pub rises : Rises whole_cmp es
+  pub exact : (e : EntryView) → Contains es e ↔ Contains (candidates_in elements) e
+
+-- an entry has this key
+abbrev pub HasKey : List EntryView → Key → Type 0
+HasKey es key = (e : EntryView) × Contains es e × (e.key ≡ key)

@@ -1,0 +1,13 @@
+pub mod Candidates
+pub mod FullRepairs
+pub mod Keyed
+pub mod LostRevisions
+pub mod PutBackMembers
+pub mod RepairRefusals
+pub mod Repaired
+pub mod RepairedMembers
+pub mod RepairedMerges
+pub mod Repairs
+pub mod StoreSurveys
+pub mod Superseded
+pub mod Undisputed

@@ -1,0 +1,15 @@
+//! What goes back into the bucket `key` of a damaged file of etcd: which of the revisions on found
+//! pages, and the listing that is made of them and of what is recovered.
+#![tactic(auto)]
+
+mod candidates;
+pub mod laws;
+mod put_back;
+mod repair;
+mod repaired;
+mod superseded;
+mod survey;
+mod undisputed;
+
+pub use crate::repair::{Repair, RepairFault};
+pub use crate::repaired::Repaired;

@@ -1,0 +1,180 @@
+//! What goes back into the bucket `key` of a damaged file, and the search for it.
+ghost use Rattle.std.specs.Prelude.{◌≡◌, ◌≢◌, [], IfErr, IfOk, OnOk, map, not};
+ghost use Rattle.std.specs.{Option.option_map, List.Sorted.IsSorted};
+ghost use Rattle.bolt_check.specs.{declared.finding.Finding.Finding, Keys.key_cmp};
+ghost use Rattle.bolt_recover.specs.{LostAndFound.all_lost, Losses.everything};
+ghost use Rattle.bolt_repair.specs.{Repaired.IsRepair, RepairRefusals.IsRepairRefusal, Candidates.whole_cmp, Repaired.lacks_bucket, Superseded.ArePutBackIn, Undisputed.AreUndisputed, Undisputed.HaveKeys, Superseded.CompactsFirstIn, Superseded.IsPartedAt};
+ghost use Rattle.bolt_tree.specs.{InBuckets.view_cmp, Order.Rises, ShownEntries.item_view};
+ghost use Rattle.bolt_etcd.specs.{ShownRevisions.entry_of, Among.among, Among.without};
+ghost use Rattle.bolt_repair.specs.declared.repair.RepairFault.TheVariants as faults;
+
+use crate::candidates::{candidates_of, has_key};
+use crate::superseded::{keep_newest, old_among, sort_by_key, stays, superseded_keys};
+use crate::survey::Survey;
+use crate::undisputed::keep_undisputed;
+use bolt_check::{Finding, NoMemory};
+use bolt_etcd::{Revision, compacted_by};
+use bolt_recover::{Lost, LostAndFound};
+use bolt_tree::Item;
+use std::alloc::Global;
+
+/// What goes back into the bucket `key` of a file that was searched (docs/RECOVERY.md, "The repaired
+/// listing").
+#[derive(Drop)]
+pub struct Repair<'a> {
+    pub(crate) both: &'a LostAndFound<'a>,
+    /// The revisions that go back, by rising key.
+    pub back: Vec<Revision<'a>>,
+    /// The number of keys of candidates that don't go back.
+    pub left_out: u64,
+    /// Whether the bucket is made for them.
+    pub(crate) is_made: bool,
+    ghost goes_back: { ∥ IsRepair both.now.file.now both.now.meta (map entry_of back.items) is_made ∥₁ },
+}
+
+/// Why a file isn't repaired.
+#[derive(Clone, Copy, Debug, PartialEq, Eq)]
+pub enum RepairFault {
+    /// The root page is lost, with this finding, and nothing goes back.
+    Root(Finding),
+    /// The recovered root bucket has a value `key`.
+    NotABucket,
+    /// Memory ran out.
+    Memory,
+}
+
+impl From<NoMemory> for RepairFault {
+    ghost from_gives = { λ _ fault. fault ≡ faults.Memory };
+
+    fn from(_fault: NoMemory) -> Self {
+        RepairFault::Memory
+    }
+}
+
+impl<'a> Repair<'a> {
+    ghost use Rattle.bolt_repair.specs.{RepairedMembers.IsWholeRepair, RepairedMembers.repair_file, RepairedMembers.repair_meta, RepairedMerges.repair_back};
+
+    /// Finds what goes back. Goes over what is recovered once, and once more if a compaction may have
+    /// removed some of the candidates.
+    ///
+    /// # Errors
+    ///
+    /// `Root` if the root page is lost and nothing goes back; `NotABucket` if the recovered root bucket
+    /// has a value `key`; `Memory` if memory runs out.
+    pub fn find(alloc: Global, both: &'a LostAndFound<'_>) -> Result<Repair<'a>, RepairFault>
+        ensures file { IfOk result (λ repair. repair_file repair ≡ both.now.file.now) }
+        ensures meta { IfOk result (λ repair. repair_meta repair ≡ both.now.meta) }
+        ensures back { IfOk result (λ repair. IsWholeRepair repair) }
+        ensures some { IfOk result (λ repair.
+            (x : Finding) → all_lost both.now ≡ everything x → repair_back repair ≢ []) }
+        ensures refused { IfErr result (IsRepairRefusal both.now.file.now both.now.meta) }
+    {
+        let mut back = candidates_of(alloc, both.found.as_slice())?;
+        let survey = Survey::of(alloc, both, back.as_slice())?;
+        let Some(is_lacking) = lacks_bucket(survey.store) else {
+            return Err(RepairFault::NotABucket);
+        };
+        let compacted = compacted_by(survey.compaction);
+        let keys = keep_agreed(&mut back, survey.met);
+        keep_what_goes_back(alloc, both, &mut back, compacted)?;
+        if let Lost::Everything(finding) = both.lost()
+            && back.is_empty()
+        {
+            return Err(RepairFault::Root(finding));
+        }
+        Ok(Repair {
+            both,
+            left_out: (keys - back.len()) as u64,
+            is_made: is_lacking && !back.is_empty(),
+            back,
+        })
+    }
+}
+
+/// Whether nothing is under the bucket's name. Returns `None` if a value is.
+fn lacks_bucket(under: Option<Item<'_>>) -> Option<bool>
+    ensures { result ≡ lacks_bucket (option_map item_view under.entry) }
+{
+    match under {
+        None => Some(true),
+        Some(Item::Bucket { .. }) => Some(false),
+        Some(Item::Value(_)) => None,
+    }
+}
+
+/// Keeps the candidates that are agreed: the recovered bucket doesn't have their keys (those that it
+/// has are met), and no other candidate has the key with another value. They stand by rising key.
+/// Returns the number of keys of candidates that aren't met.
+fn keep_agreed(candidates: &mut Vec<Revision<'_>>, met: Vec<&[u8]>) -> usize
+    requires rises { Rises whole_cmp (map entry_of candidates.old.items) }
+    requires sorted { IsSorted key_cmp (map (λ key. key.now) met.items) }
+    ensures agreed { AreUndisputed (without (map (λ key. key.now) met.entry.items)
+        (map entry_of candidates.old.items)) (map entry_of candidates.new.items) }
+    ensures keys { HaveKeys (without (map (λ key. key.now) met.entry.items)
+        (map entry_of candidates.old.items)) result }
+{
+    remove_keys(candidates, met.as_slice());
+    keep_undisputed(candidates)
+}
+
+/// Keeps of the agreed candidates those that go back: those after the last compaction, and what
+/// that keeps of the others.
+fn keep_what_goes_back<'a>(
+    alloc: Global,
+    both: &LostAndFound<'a>,
+    agreed: &mut Vec<Revision<'a>>,
+    compacted: u64,
+) -> Result<(), NoMemory>
+    requires { Rises view_cmp (map entry_of agreed.old.items) }
+    ensures { OnOk result (ArePutBackIn both.now.file.now both.now.meta compacted
+        (map entry_of agreed.old.items) (map entry_of agreed.new.items)) }
+{
+    let old = old_among(agreed.as_slice(), compacted);
+    if old == 0 {
+        return Ok(());
+    }
+    let left = compact_first(alloc, both, agreed, old, compacted)?;
+    sort_by_key(agreed.as_mut_slice(), left);
+    Ok(())
+}
+
+/// Of the first ones, which are old, keeps those that the last compaction keeps: the newest of each
+/// name, if it isn't a deletion and no kept revision comes after it. They stand in the order of names
+/// then. All others stay as they are. Returns the number of those that are left.
+fn compact_first<'a>(
+    alloc: Global,
+    both: &LostAndFound<'a>,
+    agreed: &mut Vec<Revision<'a>>,
+    old: usize,
+    compacted: u64,
+) -> Result<usize, NoMemory>
+    requires rises { Rises view_cmp (map entry_of agreed.old.items) }
+    requires parted { IsPartedAt compacted (map entry_of agreed.old.items) old }
+    ensures { IfOk result (λ left. CompactsFirstIn both.now.file.now both.now.meta compacted old
+        left (map entry_of agreed.old.items) (map entry_of agreed.new.items)) }
+{
+    let later = agreed.len() - old;
+    keep_newest(agreed, old, compacted);
+    let (newest, _) = agreed.as_slice().split_at(agreed.len() - later);
+    let superseded = superseded_keys(alloc, both, newest, compacted)?;
+    remove_keys(agreed, superseded.as_slice());
+    agreed.retain(|revision| stays(revision, compacted));
+    Ok(agreed.len() - later)
+}
+
+/// Removes those that have one of these keys, which are sorted.
+fn remove_keys(revisions: &mut Vec<Revision<'_>>, keys: &[&[u8]])
+    requires { IsSorted key_cmp (map (λ key. key.now) keys.now) }
+    ensures { map entry_of revisions.new.items
+        ≡ without (map (λ key. key.now) keys.now) (map entry_of revisions.old.items) }
+{
+    revisions.retain(|revision| lacks_key(keys, revision));
+}
+
+/// Whether its key isn't among these, which are sorted.
+fn lacks_key(keys: &[&[u8]], revision: &Revision<'_>) -> bool
+    requires { IsSorted key_cmp (map (λ key. key.now) keys.now) }
+    ensures { result ≡ not (among (map (λ key. key.now) keys.now) (entry_of revision.now).key) }
+{
+    !has_key(keys, revision.place())
+}

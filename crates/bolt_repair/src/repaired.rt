@@ -1,0 +1,87 @@
+//! The members of the repaired listing: those that are recovered, merged with what goes back.
+ghost use Rattle.std.specs.Prelude.{◌≡◌, [], IfOk, List};
+ghost use Rattle.bolt_repair.specs.{RepairedMerges.ReadsRepaired, Repaired.IsRepaired};
+ghost use Rattle.bolt_tree.specs.Listing.{Member};
+
+use crate::put_back::PutBack;
+use crate::repair::Repair;
+use bolt_check::NoMemory;
+use bolt_recover::Kept;
+use bolt_recover::laws::{found_pages_are_one, the_recovered_listing_is_recovered};
+use bolt_tree::{Item, Members, Merged};
+use std::alloc::Global;
+
+/// The members of the repaired listing of a file, in the order of paths (docs/RECOVERY.md, "The
+/// repaired listing"): those that are recovered, and in the bucket `key` what goes back. A member
+/// costs constant work, and no memory beyond that of the recovery.
+#[derive(Drop)]
+pub struct Repaired<'a> {
+    members: Merged<'a, Kept<'a>, PutBack<'a>>,
+    repair: &'a Repair<'a>,
+    ghost reads: { ∥ ReadsRepaired members repair.now ∥₁ },
+}
+
+#[tactic(auto, unfolding(crate::specs::RepairedMembers::repaired_file, crate::specs::RepairedMembers::repaired_left, crate::specs::RepairedMembers::repaired_meta, crate::specs::RepairedMembers::repaired_path))]
+impl<'a> Repaired<'a> {
+    ghost use Rattle.bolt_repair.specs.Repaired.{ForRepaired};
+    ghost use Rattle.bolt_repair.specs.RepairedMembers.{repair_file, repair_meta, repaired_file, repaired_left, repaired_meta, repaired_path};
+
+    /// The members of the repaired listing of the file that was searched. It needs what `Kept::of`
+    /// needs, and room for one path.
+    ///
+    /// # Errors
+    ///
+    /// `NoMemory` if memory runs out.
+    pub fn new(alloc: Global, repair: &'a Repair<'a>) -> Result<Repaired<'a>, NoMemory>
+        ensures file { IfOk result (λ repaired. repaired_file repaired ≡ repair_file repair.now) }
+        ensures meta { IfOk result (λ repaired. repaired_meta repaired ≡ repair_meta repair.now) }
+        ensures all { IfOk result (λ repaired.
+            ForRepaired (repair_file repair.now) (repair_meta repair.now) (λ listing.
+            repaired_left repaired listing ≡ listing)) }
+        ensures path { IfOk result (λ repaired. repaired_path repaired ≡ []) }
+    {
+        found_pages_are_one();
+        the_recovered_listing_is_recovered();
+        let kept = Kept::of(alloc, repair.both)?;
+        let back = PutBack::new(alloc, &[b"key"], repair.is_made, repair.back.as_slice())?;
+        Ok(Repaired {
+            members: Merged::new(kept, back),
+            repair,
+        })
+    }
+}
+
+#[tactic(auto, unfolding(crate::specs::RepairedMembers::repaired_file, crate::specs::RepairedMembers::repaired_left, crate::specs::RepairedMembers::repaired_meta, crate::specs::RepairedMembers::repaired_path, crate::specs::RepairedMembers::repaired_work))]
+impl<'a> Members<'a> for Repaired<'a> {
+    ghost use Rattle.bolt_repair.specs.RepairedMembers.{repaired_file, repaired_left, repaired_meta, repaired_path, repaired_work};
+
+    ghost Whole = { List Member };
+
+    ghost reads = { λ repaired listing. IsRepaired (repaired_file repaired) (repaired_meta repaired) listing };
+
+    ghost listing = { λ listing. listing };
+
+    ghost left = { λ repaired listing. repaired_left repaired listing };
+
+    ghost work_left = { λ repaired. repaired_work repaired };
+
+    ghost last_path = { λ repaired. repaired_path repaired };
+
+    ghost ends_as = { λ repaired end. Unit {0} };
+
+    #[inline(always)]
+    fn next(&mut self) -> Result<Option<Item<'a>>, NoMemory> {
+        self.members.next()
+    }
+
+    #[inline(always)]
+    fn path(&self) -> &[&'a [u8]] {
+        self.members.path()
+    }
+
+    fn restart(&mut self, alloc: Global) -> Result<(), NoMemory> {
+        found_pages_are_one();
+        the_recovered_listing_is_recovered();
+        self.members.restart(alloc)
+    }
+}

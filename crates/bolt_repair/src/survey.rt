@@ -1,0 +1,134 @@
+//! What the recovered listing says of a store.
+ghost use Rattle.std.specs.Prelude.{IfOk, OnOk, map};
+ghost use Rattle.bolt_tree.specs.{Order.Rises, Paths.path_of, ShownEntries.item_view};
+ghost use Rattle.bolt_recover.specs.Recovered.{ForRecovered};
+ghost use Rattle.bolt_repair.specs.{Candidates.whole_cmp, StoreSurveys.LeadsToPlace, StoreSurveys.revision_until};
+ghost use Rattle.bolt_etcd.specs.{Returns.Returns, ShownRevisions.entry_of, ShownRevisions.shown_revision};
+
+use crate::candidates::{add_key, has_candidate};
+use bolt_etcd::{Revision, RevisionKey};
+use bolt_recover::{Kept, LostAndFound};
+use bolt_tree::{Entry, Item, Members, NoMemory};
+use std::alloc::Global;
+
+/// The bucket of the revisions.
+const STORE: &[u8] = b"key";
+
+/// The bucket in which the last compaction is noted.
+const META: &[u8] = b"meta";
+
+/// The key under which it is noted.
+const SCHEDULED: &[u8] = b"scheduledCompactRev";
+
+/// Where a path leads.
+#[derive(Clone, Copy)]
+enum Place<'a> {
+    /// To the bucket `key` itself, or what is there in its place.
+    Store,
+    /// To an entry of the bucket `key`, with this key.
+    InStore(&'a [u8]),
+    /// To what notes the last compaction.
+    Compaction,
+    /// Elsewhere.
+    Other,
+}
+
+/// What the recovered listing says of a store.
+#[derive(Drop)]
+pub(crate) struct Survey<'a> {
+    /// What is under `key` in the root bucket.
+    pub store: Option<Item<'a>>,
+    /// The value that notes the last compaction.
+    pub compaction: Option<&'a [u8]>,
+    /// The keys in the bucket `key` that candidates have too, by rising key.
+    pub met: Vec<&'a [u8]>,
+    /// Where the last key was looked up among the candidates.
+    at: usize,
+}
+
+impl<'a> Survey<'a> {
+    ghost use Rattle.bolt_repair.specs.StoreSurveys.{IsSurveyOf, NotesMember};
+
+    /// Goes over all that is recovered of a file.
+    pub fn of(
+        alloc: Global,
+        both: &LostAndFound<'a>,
+        candidates: &[Revision<'a>],
+    ) -> Result<Survey<'a>, NoMemory>
+        requires { Rises whole_cmp (map entry_of candidates.now) }
+        ensures { IfOk result (λ survey.
+            ForRecovered both.now.file.now both.now.meta (λ recovered.
+            IsSurveyOf recovered (map entry_of candidates.now) survey)) }
+    {
+        let mut survey = Survey {
+            store: None,
+            compaction: None,
+            met: Vec::new(alloc),
+            at: 0,
+        };
+        let mut kept = Kept::of(alloc, both)?;
+        'members: while let Some(item) = kept.next()? {
+            survey.note(kept.path(), item, candidates)?;
+        }
+        Ok(survey)
+    }
+
+    /// Notes a member, which comes after all that are noted.
+    fn note(
+        &mut self,
+        path: &[&'a [u8]],
+        item: Item<'a>,
+        candidates: &[Revision<'a>],
+    ) -> Result<(), NoMemory>
+        requires { Rises whole_cmp (map entry_of candidates.now) }
+        ensures { OnOk result (NotesMember (map entry_of candidates.now)
+            (path_of path.now, item_view item.entry) self.old self.new) }
+    {
+        match place_of(path) {
+            Place::Store => self.store = Some(item),
+            Place::InStore(key) => {
+                if has_candidate(candidates, &mut self.at, key) {
+                    add_key(&mut self.met, key)?;
+                }
+            }
+            Place::Compaction => {
+                if let Item::Value(value) = item {
+                    self.compaction = Some(value);
+                }
+            }
+            Place::Other => {}
+        }
+        Ok(())
+    }
+}
+
+/// Where a path leads.
+fn place_of<'a>(path: &[&'a [u8]]) -> Place<'a>
+    ensures { LeadsToPlace (path_of path.now) result }
+{
+    match path {
+        [bucket] if *bucket == STORE => Place::Store,
+        [bucket, key] if *bucket == STORE => Place::InStore(key),
+        [bucket, key] if *bucket == META && *key == SCHEDULED => Place::Compaction,
+        _ => Place::Other,
+    }
+}
+
+/// The revision in the bucket `key` that a member is, if it is one of no later transaction. The
+/// record of a later one isn't decoded.
+pub(crate) fn revision_until<'a>(
+    path: &[&'a [u8]],
+    item: Item<'a>,
+    up_to: u64,
+) -> Option<Revision<'a>>
+    ensures { Returns shown_revision result
+        (revision_until up_to (path_of path.now) (item_view item.entry)) }
+{
+    let Place::InStore(key) = place_of(path) else {
+        return None;
+    };
+    if RevisionKey::read(key)?.main > up_to {
+        return None;
+    }
+    Revision::of(&Entry { key, item })
+}
