@@ -8,4 +8,4 @@ pub returns-in-Sizes : goal.returns-in-Sizes
 returns-in-Sizes g c = rw c.in-Sizes.is c.put_sizes.ensures
 
 pub returns-in-Recovered : goal.returns-in-Recovered
-returns-in-Recovered g c = rw c.in-Recovered.is (rw c.as_slice.ensures.value at c.print_recovered_names.ensures)
+returns-in-Recovered g c = rw c.in-Recovered.is (rw c.as_slice.ensures.value at c.name_recovered.ensures)

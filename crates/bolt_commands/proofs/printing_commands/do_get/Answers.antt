@@ -2,7 +2,7 @@
 use Rattle.bolt_commands.proofs.printing_commands.do_get.Goals as goal
 
 pub returns-then-job : goal.returns-then-job
-returns-then-job g c = rw c.if-job.true c.print_recovered_value.ensures
+returns-then-job g c = rw c.if-job.true c.get_recovered.ensures
 
 pub returns-else-job : goal.returns-else-job
-returns-else-job g c = rw c.if-job.false c.print_sound_value.ensures
+returns-else-job g c = rw c.if-job.false c.get_sound.ensures

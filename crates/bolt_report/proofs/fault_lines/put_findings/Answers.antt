@@ -5,4 +5,4 @@ pub returns-in_err-put_each_finding : goal.returns-in_err-put_each_finding
 returns-in_err-put_each_finding g c = Wrote-return _ _ c.in_err-put_each_finding.ensures c.from_residual.ensures.0
 
 pub returns : goal.returns
-returns g c = Wrote-then c.in_ok-put_each_finding.ensures c.put_count.ensures
+returns g c = Wrote-then c.in_ok-put_each_finding.ensures c.put_error_count.ensures

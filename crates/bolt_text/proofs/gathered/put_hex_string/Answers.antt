@@ -14,4 +14,4 @@ returns-in_err-put_hex_digits g c =
 pub returns : goal.returns
 returns g c =
     rw (plain_digits c.args.bytes.now (λ i. (c.type_inv.bytes i).fits))
-    (Gathers-then c.in_ok-put_bytes.ensures (Gathers-then c.in_ok-put_hex_digits.ensures c.add_bytes-2.ensures))
+    (Gathers-then c.in_ok-put_bytes.ensures (Gathers-then c.in_ok-put_hex_digits.ensures c.put_bytes-2.ensures))

@@ -8,4 +8,4 @@ returns-in_err-put_path g c = Gathers-return _ _ c.in_err-put_path.ensures c.fro
 
 pub returns : goal.returns
 unfolding named_path
-returns g c = Gathers-then c.in_ok-put_path.ensures c.add_text_after.ensures
+returns g c = Gathers-then c.in_ok-put_path.ensures c.put_text_after.ensures

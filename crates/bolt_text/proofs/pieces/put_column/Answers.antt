@@ -8,4 +8,4 @@ returns-in_err-put_bytes g c = Gathers-return _ _ c.in_err-put_bytes.ensures c.f
 
 pub returns : goal.returns
 unfolding column
-returns g c = Gathers-then c.in_ok-put_bytes.ensures (rw c.saturating_sub.ensures at c.add_spaces.ensures)
+returns g c = Gathers-then c.in_ok-put_bytes.ensures (rw c.saturating_sub.ensures at c.put_spaces.ensures)
