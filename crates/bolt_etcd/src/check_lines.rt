@@ -1,5 +1,5 @@
 //! Writes what is wrong with a store, line by line (docs/COMMANDS.md, "What etcd-check prints").
-ghost use Rattle.std.specs.Prelude.{[]};
+ghost use Rattle.std.specs.Prelude.{[], if◌then◌else◌};
 ghost use Rattle.std.specs.List.{concat};
 ghost use Rattle.bolt_format.specs.{Endings.ending, Wrote.Wrote};
 ghost use Rattle.bolt_etcd.specs.CheckLines.{name_fault_lines, lease_line, misplaced_line, missing_line, one_before_line, other_line};

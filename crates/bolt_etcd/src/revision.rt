@@ -1,12 +1,11 @@
 //! A revision of a key, as the bucket `key` keeps it.
 ghost use Rattle.std.specs.Prelude.{◌≡◌, ◌/◌, ◌%◌, ◌^◌, IfSome, Some, None};
 ghost use Rattle.std.specs.Option.{option_map};
+ghost use Rattle.std.proofs.Props.{props};
 ghost use Rattle.bolt_format.specs.Bytes.{IsBytes};
 ghost use Rattle.bolt_check.specs.Keys.{key_cmp, Key};
 ghost use Rattle.bolt_tree.specs.ShownEntries.{shown_entry};
-ghost use Rattle.bolt_etcd.specs.{NameOrder.name_sum, Returns.Returns, RevisionKeys.IsSpelled, Revisions.name_of, Revisions.revision_in, Revisions.revision_of, Misplaced.is_misplaced, ShownRevisions.shown_decoded, ShownRevisions.shown_revision, Follows.creates, Follows.follows, Follows.is_next_of};
-ghost use Rattle.bolt_etcd.specs.ShownRevisions.{is_deletion};
-ghost use Rattle.bolt_etcd.specs.ShownRevisions.{value_bytes};
+ghost use Rattle.bolt_etcd.specs.{NameOrder.name_sum, Returns.Returns, RevisionKeys.IsSpelled, Revisions.name_of, Revisions.revision_in, Revisions.revision_of, Misplaced.is_misplaced, Follows.creates, Follows.follows, Follows.is_next_of};
 
 use crate::name_tag::{MAINS, tag_of};
 use crate::record::Record;
@@ -41,7 +40,7 @@ pub struct Decoded<'a> {
 
 #[tactic(auto, unfolding(crate::specs::ShownRevisions::shown_revision, crate::specs::Revisions::revision_of))]
 impl<'a> Revision<'a> {
-    ghost use Rattle.bolt_etcd.specs.ShownRevisions.{entry_of, shown_decoded, shown_revision};
+    ghost use Rattle.bolt_etcd.specs.ShownRevisions.{entry_of, is_deletion, shown_decoded, shown_revision, value_bytes};
 
     /// The revision of a transaction that is under a key, with its value and its name.
     fn new(key: &'a [u8], value: &'a [u8], name: &'a [u8], main: u64) -> Revision<'a>
@@ -165,26 +164,9 @@ impl<'a> Revision<'a> {
     }
 }
 
-impl<'a> Decoded<'a> {
-    ghost use Rattle.bolt_etcd.specs.ShownRevisions.{shown_decoded};
-
-    /// Decodes the revision under a key with a value, if it is one.
-    fn of(key: &'a [u8], value: &'a [u8]) -> Option<Decoded<'a>>
-        ensures { Returns (shown_decoded key.now) result (revision_in key.now value.now) }
-    {
-        let key = RevisionKey::read(key)?;
-        if !key.deleted && value.is_empty() {
-            return None;
-        }
-        let mut content = Record::decode(value)?;
-        if key.deleted {
-            content.forget_value();
-        }
-        Some(Decoded { key, content })
-    }
-}
-
 impl<'a> Revision<'a> {
+    ghost use Rattle.bolt_etcd.specs.ShownRevisions.{shown_revision};
+
     /// Whether its record says that another transaction wrote it. A deletion's doesn't say.
     #[tactic(auto, unfolding(crate::specs::Misplaced::is_misplaced))]
     pub fn is_misplaced(&self) -> bool
@@ -192,19 +174,7 @@ impl<'a> Revision<'a> {
     {
         self.decode().is_misplaced()
     }
-}
 
-impl<'a> Decoded<'a> {
-    /// Whether its record says that another transaction wrote it. A deletion's doesn't say.
-    #[tactic(auto, unfolding(crate::specs::Misplaced::is_misplaced))]
-    pub(crate) fn is_misplaced(&self) -> bool
-        ensures { (place : Key) → result ≡ is_misplaced (shown_decoded place self.now) }
-    {
-        !self.key.deleted && self.content.modified != self.key.main
-    }
-}
-
-impl<'a> Revision<'a> {
     /// Whether it can be the first revision of its name: it creates the key.
     #[tactic(auto, unfolding(crate::specs::Follows::follows))]
     pub fn creates(&self) -> bool
@@ -229,6 +199,31 @@ impl<'a> Revision<'a> {
 }
 
 impl<'a> Decoded<'a> {
+    ghost use Rattle.bolt_etcd.specs.ShownRevisions.{shown_decoded};
+
+    /// Decodes the revision under a key with a value, if it is one.
+    fn of(key: &'a [u8], value: &'a [u8]) -> Option<Decoded<'a>>
+        ensures { Returns (shown_decoded key.now) result (revision_in key.now value.now) }
+    {
+        let key = RevisionKey::read(key)?;
+        if !key.deleted && value.is_empty() {
+            return None;
+        }
+        let mut content = Record::decode(value)?;
+        if key.deleted {
+            content.forget_value();
+        }
+        Some(Decoded { key, content })
+    }
+
+    /// Whether its record says that another transaction wrote it. A deletion's doesn't say.
+    #[tactic(auto, unfolding(crate::specs::Misplaced::is_misplaced))]
+    pub(crate) fn is_misplaced(&self) -> bool
+        ensures { (place : Key) → result ≡ is_misplaced (shown_decoded place self.now) }
+    {
+        !self.key.deleted && self.content.modified != self.key.main
+    }
+
     /// Whether it creates its key.
     fn creates(&self) -> bool
         ensures { (place : Key) → result ≡ creates (shown_decoded place self.now) }
