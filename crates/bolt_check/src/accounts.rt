@@ -7,7 +7,7 @@ ghost use Rattle.bolt_check.specs.Private.Tables.{HasRoom, IsClaimed, use_at};
 
 use crate::finding::Finding;
 use crate::freelist_findings::all_findings;
-use crate::listed_pages::{Freelist, list_ids};
+use crate::listed_pages::{Freelist, ids_from, list_ids};
 use crate::table::{PageUse, claim, first_claimed};
 use bolt_format::{FreeIds, Meta, free_ids, known};
 use std::alloc::{AllocError, Global};
@@ -91,7 +91,8 @@ fn test_ids(
     ensures kept { OnOk result ((n : ℕ) → times_in (shown_ids ids.entry) n ≡ 0
         → use_at table.new n ≡ use_at table.old n) }
 {
-    let mut past = list_ids(alloc, ids, table)?;
+    list_ids(ids, table);
+    let mut past = ids_from(alloc, ids, table.len() as u64)?;
     past.sort_unstable();
     let freelist = Freelist {
         table,

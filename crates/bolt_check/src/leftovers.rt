@@ -9,7 +9,7 @@ ghost use Rattle.bolt_check.specs.Private.Tables.{HasRoom, IsClaimed, IsUnclaime
 ghost use Rattle.bolt_check.specs.{ShownNodes.IsNodeAt, ShownNodes.IsPageAt, Ways.AddsSpan, Ways.At_page, Ways.root_spot};
 
 use crate::claims::Claims;
-use crate::listed_pages::list_ids_within;
+use crate::listed_pages::list_ids;
 use crate::spot::PageSpot;
 use crate::table::{PageUse, is_listed};
 use crate::visit::{open, visit};
@@ -91,7 +91,7 @@ fn list_free(file: &[u8], meta: &Meta, table: &mut [PageUse])
         → 1 ≤ times_of (use_at table.new n) }
 {
     match free_ids(file, meta) {
-        Ok(Some(ids)) => list_ids_within(ids, table),
+        Ok(Some(ids)) => list_ids(ids, table),
         Ok(None) | Err(_) => {}
     }
 }

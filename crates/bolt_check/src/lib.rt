@@ -23,7 +23,6 @@ mod search;
 mod sound;
 mod sound_roles;
 mod spot;
-mod step;
 mod table;
 mod visit;
 

@@ -1,5 +1,5 @@
 //! What the freelist lists: the table of pages, and the ids after it.
-ghost use Rattle.std.specs.Prelude.{◌≡◌, ◌≢◌, ◌<◌, ◌+◌, ◌++◌, ◌∷◌, ℕ, [], IfOk, OnOk, filter, if◌then◌else◌, length, min, nat_le};
+ghost use Rattle.std.specs.Prelude.{◌≡◌, ◌≢◌, ◌<◌, ◌+◌, ℕ, IfOk, filter, length, min, nat_le};
 ghost use Rattle.bolt_format.specs.ShownIds.{shown_ids};
 ghost use Rattle.bolt_check.specs.{Accounts.times_in, Private.Tables.is_used, Private.Tables.times_of, Private.Tables.use_at};
 ghost use Rattle.bolt_check.specs.Private.Freelists.{IsUnlisted, KeepsUsed, ListsId, ListsIds};
@@ -31,50 +31,12 @@ fn listed(page_use: PageUse) -> PageUse
     }
 }
 
-/// Lists one id in the table or, if it is past the table, after the others.
-#[tactic(auto, using(crate::proofs::TableLemmas::used_kept))]
-fn list_id(id: u64, table: &mut [PageUse], past: &mut Vec<u64>) -> Result<(), AllocError>
-    ensures used { OnOk result (KeepsUsed table.old table.new) }
-    ensures times { OnOk result (ListsId id table.old table.new) }
-    ensures kept { OnOk result ((n : ℕ) → n ≢ id → use_at table.new n ≡ use_at table.old n) }
-    ensures past { OnOk result (past.new.items
-        ≡ past.old.items ++ (if nat_le (length table.old) id then id ∷ [] else [])) }
-{
-    if table.len() as u64 <= id {
-        past.push(id)?;
-        return Ok(());
-    }
-    let n = id as usize;
-    table[n] = listed(table[n]);
-    Ok(())
-}
-
-/// Lists the ids in the table, and returns those past it in their order.
-pub(crate) fn list_ids(
-    alloc: Global,
-    ids: FreeIds<'_>,
-    table: &mut [PageUse],
-) -> Result<Vec<u64>, AllocError>
-    requires { IsUnlisted table.old }
-    ensures used { OnOk result (KeepsUsed table.old table.new) }
-    ensures times { OnOk result (ListsIds (shown_ids ids.entry) table.old table.new) }
-    ensures kept { OnOk result ((n : ℕ) → times_in (shown_ids ids.entry) n ≡ 0
-        → use_at table.new n ≡ use_at table.old n) }
-    ensures past { IfOk result (λ past. past.items
-        ≡ filter (λ id. nat_le (length table.old) id) (shown_ids ids.entry)) }
-{
-    let mut past = Vec::new(alloc);
-    for i in 0..ids.len() {
-        list_id(ids.get(i), table, &mut past)?;
-    }
-    Ok(past)
-}
-
 /// Lists one id in the table, if it isn't past it.
 #[tactic(auto, using(crate::proofs::TableLemmas::used_kept))]
-fn list_within(id: u64, table: &mut [PageUse])
+fn list_id(id: u64, table: &mut [PageUse])
     ensures used { KeepsUsed table.old table.new }
     ensures times { ListsId id table.old table.new }
+    ensures kept { (n : ℕ) → n ≢ id → use_at table.new n ≡ use_at table.old n }
 {
     if table.len() as u64 <= id {
         return;
@@ -83,14 +45,30 @@ fn list_within(id: u64, table: &mut [PageUse])
     table[n] = listed(table[n]);
 }
 
-/// Lists the ids in the table. Those past it are ignored, so it needs no memory.
-#[tactic(auto, using(crate::proofs::ListedIds::times_more))]
-pub(crate) fn list_ids_within(ids: FreeIds<'_>, table: &mut [PageUse])
+/// Lists the ids in the table. Those past it are ignored. Needs no memory.
+pub(crate) fn list_ids(ids: FreeIds<'_>, table: &mut [PageUse])
     requires { IsUnlisted table.old }
     ensures used { KeepsUsed table.old table.new }
     ensures times { ListsIds (shown_ids ids.entry) table.old table.new }
+    ensures kept { (n : ℕ) → times_in (shown_ids ids.entry) n ≡ 0
+        → use_at table.new n ≡ use_at table.old n }
 {
     for i in 0..ids.len() {
-        list_within(ids.get(i), table);
+        list_id(ids.get(i), table);
     }
+}
+
+/// The ids that aren't below a number, in their order.
+pub(crate) fn ids_from(alloc: Global, ids: FreeIds<'_>, first: u64) -> Result<Vec<u64>, AllocError>
+    ensures { IfOk result (λ past. past.items
+        ≡ filter (λ id. nat_le first id) (shown_ids ids.entry)) }
+{
+    let mut past = Vec::new(alloc);
+    for i in 0..ids.len() {
+        let id = ids.get(i);
+        if first <= id {
+            past.push(id)?;
+        }
+    }
+    Ok(past)
 }

@@ -1,11 +1,11 @@
-use Rattle.std.proofs.Common.{◌≡◌, ◌∙◌, ◌<◌, length, nat_le, arith}
-use Rattle.bolt_check.proofs.{Words.shown_ids, Words.times_of, Words.use_at, ListedIds.past_more, ListedIds.times_before, ListedIds.times_more}
+use Rattle.std.proofs.Common.{◌≡◌, ◌∙◌, ◌<◌, length, arith}
+use Rattle.bolt_check.proofs.{Words.shown_ids, Words.times_of, Words.use_at, ListedIds.times_before, ListedIds.times_more}
 use Rattle.std.proofs.lemmas.List.{take_all}
 use Rattle.bolt_check.proofs.listed_pages.list_ids.Goals as goal
 
 pub loop-i-preserved : goal.loop-i-preserved
 loop-i-preserved c =
-    let now = c.in_ok-list_id.ensures in
+    let now = c.list_id.ensures in
     let long : length c.loop-i.table ≡ length c.args.table.now = omega arith in
     let inside : c.loop-i.i < length (shown_ids c.args.ids) = omega arith in
     record {
@@ -14,7 +14,6 @@ loop-i-preserved c =
           ∙ times_more (shown_ids c.args.ids) c.loop-i.i c.get.result n (times_of (use_at c.loop-i.table n)) inside c.get.ensures (c.loop-i.invariant.times n h);
       kept = λ n none. let before = times_before (shown_ids c.args.ids) c.loop-i.i c.get.result n inside c.get.ensures none in
           now.kept n before.1 ∙ c.loop-i.invariant.kept n before.0;
-      past = (rw long at now.past) ∙ past_more (λ id. nat_le (length c.args.table.now) id) (shown_ids c.args.ids) c.loop-i.i c.get.result c.loop-i.past.items inside c.get.ensures c.loop-i.invariant.past;
     }
 
 pub returns-clause-times : goal.returns-clause-times
@@ -22,6 +21,3 @@ returns-clause-times c = λ n h. rw (take_all c.loop-i.i (shown_ids c.args.ids) 
 
 pub returns-clause-kept : goal.returns-clause-kept
 returns-clause-kept c = λ n none. c.loop-i.invariant.kept n (rw (take_all c.loop-i.i (shown_ids c.args.ids) (omega arith)) none)
-
-pub returns-clause-past : goal.returns-clause-past
-returns-clause-past c = rw (take_all c.loop-i.i (shown_ids c.args.ids) (omega arith)) at c.loop-i.invariant.past
