@@ -18,8 +18,8 @@ pages-init c =
       deepest = rw (now, c.requires.roots) (omega arith);
     }
 
-pub read_page-requires : goal.read_unread_page-requires
-read_page-requires c =
+pub read_unread_page-requires : goal.read_unread_page-requires
+read_unread_page-requires c =
     next_good (bytes_of c.args.checked.now) (meta_of c.args.checked.now) (unread_numbers c.pop.new.self.items) c.pages.roots.items (unread_numbers c.pages.pages.items) c.in-Some.open.number
     (popped c.pages.pages.items c.pop.new.self.items c.in-Some.open c.in-Some.ensures.items) c.pages.invariant.good
 
