@@ -2,7 +2,7 @@
 pub use Rattle.bolt_cli.specs.Deeds.{Adds, Closed, Deed, Dropped, Ended, Lacked, Made, Opened, Read, ReadFirst, ReadOn, Said}
 pub use Rattle.bolt_cli.specs.Runs.{Choose, Closes, WritesOut, Ends, Fails, FailsGathered, FailsLacking, FailsUnended, Goes, HoldsUnless, IsBufferedLine, IsReported, IsRun, PrintsText, PrintsBuffered, DoesAsked, Reads, ReadsMetas, ReadsRest, Refuses, Shows, error_line}
 pub use Rattle.bolt_cli.specs.Runs.{buffered_failures, buffered_of, buffered_text}
-pub use Rattle.bolt_commands.specs.Answers.{Answer, CopiesUnless, WritesAnswer, DoesJob, JobEnding, MakesCopy, WritesCopy, WritesRestored, copy_page_size, copy_report, repair_report, Reports, done, hash_refusal, lengths_line}
+pub use Rattle.bolt_commands.specs.{Answers.Answer, Answers.JobEnding, Answers.Reports, Answers.WritesAnswer, Answers.done, CopyAnswers.copy_page_size, CopyAnswers.copy_report, CopyAnswers.hash_refusal, CopyAnswers.lengths_line, JobAnswers.CopiesUnless, JobAnswers.DoesJob, JobAnswers.MakesCopy, JobAnswers.WritesCopy, JobAnswers.WritesRestored, RepairAnswers.repair_report}
 pub use Rattle.bolt_commands.specs.Answers.{status_of}
 pub use Rattle.bolt_commands.specs.Failures.{failure_line}
 pub use Rattle.bolt_format.specs.{Sinks.AppendsPrefix, declared.sink.Sink.Ghosts}

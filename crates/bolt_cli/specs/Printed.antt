@@ -1,6 +1,6 @@
 -- What is printed: what the job answers for the bytes of FILE that were read.
 use Rattle.std.specs.Prelude.{◌≡◌, ◌⊎◌, ℕ, List, [], ◌∷◌, ◌++◌, Option, Some, None, Ok}
-use Rattle.bolt_commands.specs.Answers.{DoesJob, JobEnding}
+use Rattle.bolt_commands.specs.{Answers.JobEnding, JobAnswers.DoesJob}
 use Rattle.bolt_format.specs.declared.sink.Sink.{Ghosts}
 use Rattle.bolt_job.specs.{CommandLine.Asks, CommandLine.IsRefusalOf, Jobs.target_name, declared.job.Job.Job, declared.refusal.Refusal.Refusal}
 use Rattle.bolt_text.specs.Lines.{Text}

@@ -2,7 +2,7 @@
 use Rattle.std.specs.Prelude.{◌≡◌, ◌<◌, ◌+◌, ◌⊎◌, ℕ, zero, suc, List, [], ◌∷◌, ◌++◌, Bool, true, false, Option, Some, None, Result, Ok, Err, codes, string_bytes}
 use Rattle.std.specs.Io.KnownBytes.{Appends, IsAtEnd}
 use Rattle.bolt_format.specs.{Metas.IsMetasEnd, Sinks.AppendsPrefix, declared.sink.Sink.Ghosts}
-use Rattle.bolt_commands.specs.Answers.{DoesJob, JobEnding, status_of}
+use Rattle.bolt_commands.specs.{Answers.JobEnding, Answers.status_of, JobAnswers.DoesJob}
 use Rattle.bolt_job.specs.CommandLine.{Asks, IsRefusalOf}
 use Rattle.bolt_cli.specs.Deeds.{Deed, Does, Read, ReadFirst, ReadOn, Made, Ended, Opened, Closed, Dropped, Said, Lacked}
 use Rattle.bolt_cli.specs.Names.{shown_lines, shown_name}

@@ -11,7 +11,7 @@ use Rattle.bolt_job.specs.declared.choices.Extent.TheVariants.{LostAndFound}
 use Rattle.bolt_commands.specs.declared.failure.Failure.TheVariants as failure
 use Rattle.bolt_commands.proofs.{OtherMetas.no_other, ReadFiles.read_active, ReadFiles.refused_active}
 use Rattle.bolt_commands.proofs.SoundReads.{NamesOne, keeps_not_loses, unread}
-use Rattle.bolt_commands.specs.{Answers.AreFoundFor, Answers.all_found, FileFaults.is_fine}
+use Rattle.bolt_commands.specs.{CheckAnswers.AreFoundFor, CheckAnswers.all_found, FileFaults.is_fine}
 use Rattle.bolt_check.specs.{declared.bbolt_file.FileFinding.FileFinding, declared.finding.Finding.Finding}
 
 -- what the laws of the crates below say

@@ -8,7 +8,7 @@ use Rattle.bolt_format.proofs.WroteLemmas.{Wrote-stop_halted}
 use Rattle.bolt_text.specs.declared.report_fault.ReportFault.TheVariants as report
 use Rattle.bolt_tree.proofs.BucketWays.{root_starts}
 use Rattle.bolt_tree.specs.BucketViews.{entries_of}
-use Rattle.bolt_commands.specs.Answers.{IsAnswerAt, IsCutAnswer, IsStoreAnswer, OfKeys, entries_ending, is_compacted, others_ending}
+use Rattle.bolt_commands.specs.{Answers.IsCutAnswer, EtcdAnswers.IsAnswerAt, EtcdAnswers.IsStoreAnswer, EtcdAnswers.OfKeys, EtcdAnswers.entries_ending, EtcdAnswers.is_compacted, EtcdAnswers.others_ending}
 use Rattle.bolt_commands.specs.Private.Etcd.{IsStoreRead, IsUnreadStore, end_of_revisions}
 use Rattle.bolt_commands.specs.declared.etcd_commands.Store.{Store}
 use Rattle.bolt_commands.specs.declared.failure.Failure.TheVariants as failure

@@ -4,7 +4,7 @@ use Rattle.std.specs.{Borrow.Bor, Option.IfNone, Prelude.IfSome}
 use Rattle.bolt_commands.proofs.Vocabulary.{AreLosses, Contains, JobEnding, Failure, ForLosses, Ghosts, IsErrAnd, IsRecovered, IsRecoveryOf, Json, IsMetasFault, LossView, Losses, MayFail, Member, MetaChoice, MetaFault, OnOk, Path, Shortfall, Slot}
 use Rattle.bolt_commands.proofs.Vocabulary.{PrintsAnswer, ReportFault, Rises, Value, Wrote, ending_by, has_bucket, has_losses, has_recovered, lost_ending, member_cmp, parts, owned_path, recovery_file, recovery_left, recovery_meta, report_ending, reported, shortfall, value_shown}
 use Rattle.bolt_check.specs.declared.check_fault.CheckFault.TheVariants as check
-use Rattle.bolt_commands.specs.Answers.{Answer, IsNamesAnswer, IsRecoveredAnswer, IsRecoveredValue, names_ending, no_bucket, no_key, no_value}
+use Rattle.bolt_commands.specs.{Answers.Answer, KeyAnswers.IsNamesAnswer, KeyAnswers.IsRecoveredAnswer, KeyAnswers.IsRecoveredValue, KeyAnswers.names_ending, KeyAnswers.no_bucket, KeyAnswers.no_key, KeyAnswers.no_value}
 use Rattle.bolt_commands.specs.Private.Recovered.{HoldsNow, bucket_ending, value_or_why}
 use Rattle.bolt_commands.specs.declared.{failure.Failure.TheVariants.Memory, recovered_commands.AtPath.AtPath}
 use Rattle.bolt_commands.proofs.{CutTexts.ended_put, CutTexts.short_put, Doing.answer_as, Doing.answer_nothing, OpenedReads.recovered_read}

@@ -10,7 +10,7 @@ use Rattle.bolt_layout.specs.declared.Layout.TheVariants.{Balanced}
 use Rattle.bolt_recover.specs.Lost.{IsAllLost}
 use Rattle.bolt_repair.specs.{FullRepairs.IsFullRepair, RepairedMerges.repair_back, RepairedMerges.repair_is_made, Repaired.IsRepaired, Repaired.repaired_listing, declared.repair.Repair.Repair}
 use Rattle.bolt_repair.specs.declared.repair.RepairFault.TheVariants.{Memory}
-use Rattle.bolt_commands.specs.{Answers.IsRestored, Answers.IsUnrestored, Answers.WritesRestored, Answers.repair_report, Private.Opened.IsUnsearched}
+use Rattle.bolt_commands.specs.{JobAnswers.WritesRestored, Private.Opened.IsUnsearched, RepairAnswers.IsRestored, RepairAnswers.IsUnrestored, RepairAnswers.repair_report}
 
 -- a file that isn't searched isn't repaired
 pub unsearched_unrestored : (file : List ℕ) (choice : MetaChoice) (why : Failure) → IsUnsearched file choice why → IsUnrestored file choice why

@@ -1,7 +1,7 @@
 -- With sound trees, `keys`, `buckets` and `get` print with `--recover` what they print without it.
 use Rattle.std.proofs.Common.{◌≡◌, ◌≢◌, ◌∙◌, ◌↔◌, ◌⊎◌, ◌-◌, arith, ℕ, Bool, true, false, List, [], ◌∷◌, Err, None, Option, ap, filter, inl, inr, length, refl, subst, take}
 use Rattle.bolt_commands.proofs.Vocabulary.{Active, Answer, CheckFault, Contains, Failure, HasSoundTrees, HoldsIn, HoldsNone, Holds, IsEntriesAnswer, IsEntry, IsFailureOf, IsListing, IsMetaOf, IsReadAnswer, Key, LeadsTo, LeafElement, Member, Meta, MetaChoice, Names, Path, Root_page, Shortfall, Start, Value, has_bucket, has_listing, item_of, keys_text, parents_of, owned_path, props, refused, start_of, ∥∥₁_elim}
-use Rattle.bolt_commands.specs.Answers.{IsGetAnswer, IsNamesAnswer, IsRecoveredAnswer, IsRecoveredValue, no_value}
+use Rattle.bolt_commands.specs.KeyAnswers.{IsGetAnswer, IsNamesAnswer, IsRecoveredAnswer, IsRecoveredValue, no_value}
 use Rattle.bolt_check.specs.declared.check_fault.CheckFault.TheVariants as check
 use Rattle.bolt_commands.specs.declared.failure.Failure.TheVariants as failure
 use Rattle.bolt_commands.proofs.{EntryNames.names_are_keys, ListedBuckets.has_named, ListedBuckets.named_has, ListedBuckets.none_named, ReadFiles.read_meta}

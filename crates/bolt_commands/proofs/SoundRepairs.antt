@@ -10,7 +10,7 @@ use Rattle.bolt_tree.proofs.Lists.{contains_head, contains_none}
 use Rattle.bolt_repair.specs.{FullRepairs.AreCandidateKeys, FullRepairs.IsLeftOut, RepairRefusals.IsRepairRefusal, Repaired.elements_on, Repairs.store_path}
 use Rattle.bolt_repair.specs.declared.repair.RepairFault.{RepairFault}
 use Rattle.bolt_repair.specs.declared.repair.RepairFault.TheVariants as repair
-use Rattle.bolt_commands.specs.{Alike.IsUnrepairable, Answers.IsRestored, Answers.IsUnrestored, Failures.unrepaired}
+use Rattle.bolt_commands.specs.{Alike.IsUnrepairable, Failures.unrepaired, RepairAnswers.IsRestored, RepairAnswers.IsUnrestored}
 use Rattle.bolt_commands.specs.declared.failure.Failure.TheVariants as failure
 use Rattle.bolt_commands.proofs.{SoundReads.has_meta, SoundReads.keeps_not_loses, SoundRecovery.Below, SoundRecovery.names_one, SoundRecovery.no_loss, SoundRecovery.no_losses}
 

@@ -5,13 +5,13 @@ pub use Rattle.bolt_check.specs.Findings.{IsClaimedBefore, IsMetaPage, finding}
 pub use Rattle.bolt_check.specs.Nodes.{leaf_entry, node_at}
 pub use Rattle.bolt_check.specs.Sound.{HasRightAccounts, HasSoundTrees, IsFirstFinding, IsRefused, IsSound}
 pub use Rattle.bolt_check.specs.{Keys.Key, declared.checked.Checked.Checked, declared.check_fault.CheckFault.CheckFault, declared.finding.Finding.Finding}
-pub use Rattle.bolt_commands.specs.Answers.{AddsEntry, Answer, AnswersLost, AreFoundPages, AreFoundTo, WritesAnswer, DoesJob, JobEnding, HasStats, HoldsIn, HoldsNone}
-pub use Rattle.bolt_commands.specs.Answers.{IsCheckAnswer, IsCheckAnswerAfter, IsEndedOrCut, IsEntriesAnswer, IsFileRefusal, IsFoundAnswer}
-pub use Rattle.bolt_commands.specs.Answers.{IsInfoAnswer, IsListPrint, IsListedAnswer, IsLostAnswer, MayRunOut, IsReadAnswer, IsReadUnder}
-pub use Rattle.bolt_commands.specs.Answers.{IsReadTo, IsRecoveredUnder, IsRefusedUnder, IsSalvaged, IsSizesAnswer, IsStatsAnswer}
-pub use Rattle.bolt_commands.specs.Answers.{IsTotal, IsUnreadTo, IsUnrecoverableUnder, LeadsTo, Loads, LoadsListing, MakesCopy, StopsShort, WritesCopy, counts_accounts}
-pub use Rattle.bolt_commands.specs.Answers.{check_refusal, copy_page_size, copy_report, done, found, found_page, hash_refusal, lost_and_found_answer, lost_ending}
-pub use Rattle.bolt_commands.specs.Answers.{no_stats, none_found, page_answer, parents_of, part_ending, listing_part_text, refused, value_shown}
+pub use Rattle.bolt_commands.specs.{Answers.Answer, Answers.JobEnding, Answers.WritesAnswer, CheckAnswers.AnswersLost, FilesRead.AreFoundPages, FilesRead.AreFoundTo, FilesRead.HoldsIn, JobAnswers.DoesJob, KeyAnswers.HoldsNone, StatsAnswers.AddsEntry, StatsAnswers.HasStats}
+pub use Rattle.bolt_commands.specs.{Answers.IsEndedOrCut, CheckAnswers.IsCheckAnswer, CheckAnswers.IsCheckAnswerAfter, CheckAnswers.IsFoundAnswer, FilesRead.IsFileRefusal, KeyAnswers.IsEntriesAnswer}
+pub use Rattle.bolt_commands.specs.{CheckAnswers.IsLostAnswer, CheckAnswers.MayRunOut, FilesRead.IsReadAnswer, FilesRead.IsReadUnder, ListAnswers.IsListPrint, ListAnswers.IsListedAnswer, PageAnswers.IsInfoAnswer}
+pub use Rattle.bolt_commands.specs.{FilesRead.IsReadTo, FilesRead.IsRecoveredUnder, FilesRead.IsRefusedUnder, FilesRead.IsSalvaged, KeyAnswers.IsSizesAnswer, StatsAnswers.IsStatsAnswer}
+pub use Rattle.bolt_commands.specs.{CopyAnswers.StopsShort, FilesRead.IsUnreadTo, FilesRead.IsUnrecoverableUnder, FilesRead.LeadsTo, FilesRead.counts_accounts, JobAnswers.Loads, JobAnswers.LoadsListing, JobAnswers.MakesCopy, JobAnswers.WritesCopy, StatsAnswers.IsTotal}
+pub use Rattle.bolt_commands.specs.{Answers.done, CheckAnswers.check_refusal, CheckAnswers.found, CheckAnswers.lost_and_found_answer, CopyAnswers.copy_page_size, CopyAnswers.copy_report, CopyAnswers.hash_refusal, FilesRead.found_page, FilesRead.lost_ending}
+pub use Rattle.bolt_commands.specs.{Answers.refused, CheckAnswers.none_found, FilesRead.parents_of, KeyAnswers.value_shown, ListAnswers.listing_part_text, ListAnswers.part_ending, PageAnswers.page_answer, StatsAnswers.no_stats}
 pub use Rattle.bolt_commands.specs.Failures.{IsFailureOf, copied, reported, unjoined}
 pub use Rattle.bolt_commands.specs.FileFaults.{AreCopyFaults, IsMetasFault, IsOtherFault, errors_in, other_meta_lines}
 pub use Rattle.bolt_commands.specs.{Shortfalls.shortfall, declared.shortfall.Shortfall.Shortfall}

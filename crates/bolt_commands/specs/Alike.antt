@@ -7,7 +7,7 @@ use Rattle.bolt_repair.specs.Repairs.{store_path}
 use Rattle.bolt_recover.specs.Losses.{parts}
 use Rattle.bolt_text.specs.declared.forms.ListForm.{ListForm}
 use Rattle.bolt_tree.specs.{Entries.Value, Listing.IsListing, Listing.Member, Paths.Path}
-use Rattle.bolt_commands.specs.Answers.{Answer, DoesJob, JobEnding, HoldsIn, IsBucketsShown, IsKeysShown, IsListedAnswer, IsValueShown, MakesCopy, MakesRepair, WritesCopy, WritesNone, copy_page_size, hash_refusal, repair_report}
+use Rattle.bolt_commands.specs.{Answers.Answer, Answers.JobEnding, CopyAnswers.copy_page_size, CopyAnswers.hash_refusal, FilesRead.HoldsIn, JobAnswers.DoesJob, JobAnswers.MakesCopy, JobAnswers.MakesRepair, JobAnswers.WritesCopy, JobAnswers.WritesNone, KeyAnswers.IsBucketsShown, KeyAnswers.IsKeysShown, KeyAnswers.IsValueShown, ListAnswers.IsListedAnswer, RepairAnswers.repair_report}
 use Rattle.bolt_commands.specs.{FileFaults.AreCopyFaults, SnapshotAnswers.bad_hash, declared.file_faults.FileFaults.FileFaults, declared.failure.Failure.Failure, declared.failure.Failure.TheVariants.Memory, declared.failure.Failure.TheVariants.NotABucket}
 use Rattle.bolt_job.specs.MetaChoices.{IsMetaOf}
 use Rattle.bolt_job.specs.declared.bucket_commands.{BucketsJob.BucketsJob, GetJob.GetJob, KeysJob.KeysJob}

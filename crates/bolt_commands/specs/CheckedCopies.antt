@@ -3,7 +3,7 @@ use Rattle.std.specs.Prelude.{◌≡◌, ◌≢◌, ◌<◌, ◌⊎◌, ℕ, Boo
 use Rattle.bolt_format.specs.declared.sink.Sink.{Ghosts}
 use Rattle.bolt_layout.specs.declared.Layout.{Layout}
 use Rattle.bolt_tree.specs.Listing.{Member}
-use Rattle.bolt_commands.specs.Answers.{Answer, JobEnding, IsCheckAnswer, Loads, LoadsListing, done, refused}
+use Rattle.bolt_commands.specs.{Answers.Answer, Answers.JobEnding, Answers.done, Answers.refused, CheckAnswers.IsCheckAnswer, JobAnswers.Loads, JobAnswers.LoadsListing}
 use Rattle.bolt_commands.specs.declared.failure.Failure.TheVariants.{Memory}
 use Rattle.bolt_job.specs.declared.choices.Extent.{Extent}
 use Rattle.bolt_job.specs.declared.choices.MetaChoice.TheVariants.{Active}

@@ -2,7 +2,7 @@
 use Rattle.std.specs.Prelude.{◌≡◌, ◌<◌, ℕ, List, length, Bool, Option, Result, Ok, Err}
 use Rattle.std.specs.Io.KnownBytes.{Appends}
 use Rattle.bolt_bulk.specs.{Compacting.too_many, declared.bulk_fault.BulkFault.BulkFault}
-use Rattle.bolt_commands.specs.{Answers.StopsShort, Failures.copied, SnapshotAnswers.copy_of}
+use Rattle.bolt_commands.specs.{CopyAnswers.StopsShort, Failures.copied, SnapshotAnswers.copy_of}
 
 -- the target accepted the whole copy without a failure, and this is its length; its layout has fewer than 2^63 bytes
 pub record IsWholeCopy {T : Type 0} (taken : T → Option (List ℕ)) (failed : T → ℕ) (old new : T) (layout copy : List ℕ) (count : ℕ) : Type 0 where

@@ -3,7 +3,7 @@ ghost use Rattle.std.specs.Prelude.{◌≢◌, ◌&&◌, IfOk, map};
 ghost use Rattle.std.specs.List.{All};
 ghost use Rattle.bolt_check.specs.CheckedFiles.{in_checked};
 ghost use Rattle.bolt_recover.specs.ShownLosses.{lost_view};
-ghost use Rattle.bolt_commands.specs.Answers.{AreFoundFor, AreOfFile, WritesAnswer, IsCheckAnswer, all_found, check_refusal, found, lost_and_found_answer};
+ghost use Rattle.bolt_commands.specs.{Answers.WritesAnswer, CheckAnswers.AreFoundFor, CheckAnswers.AreOfFile, CheckAnswers.IsCheckAnswer, CheckAnswers.all_found, CheckAnswers.check_refusal, CheckAnswers.found, CheckAnswers.lost_and_found_answer};
 ghost use Rattle.bolt_commands.specs.FileFaults.{is_fine};
 ghost use Rattle.bolt_report.specs.FoundLines.{IsFoundLeaf, found_view};
 ghost use Rattle.bolt_commands.specs.Private.{Checks.ChecksTo, Checks.unopened, Printing.PrintsAnswer};

@@ -8,7 +8,7 @@ ghost use Rattle.bolt_bulk.specs.{Compacting.Copies, WholeListings.IsWholeListin
 ghost use Rattle.bolt_format.specs.{Endings.ending, Wrote.Wrote};
 ghost use Rattle.bolt_recover.specs.ShownLosses.{lost_view};
 ghost use Rattle.bolt_report.specs.FoundLines.{IsFoundLeaf};
-ghost use Rattle.bolt_commands.specs.{Answers.WritesAnswer, Answers.copy_status, Answers.lengths_line};
+ghost use Rattle.bolt_commands.specs.{Answers.WritesAnswer, CopyAnswers.copy_status, CopyAnswers.lengths_line};
 ghost use Rattle.bolt_commands.specs.{CopyEnds.EndsCopy, Hashes.HashesSince, Private.Copying.CopiesTo, Private.Copying.ForLayout};
 ghost use Rattle.bolt_commands.specs.Private.Reports.{report_answer, report_text};
 ghost use Rattle.bolt_job.specs.CopyKinds.{is_snapshot};

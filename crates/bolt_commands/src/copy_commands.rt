@@ -3,7 +3,7 @@ ghost use Rattle.std.specs.Prelude.{◌≡◌};
 ghost use Rattle.bolt_format.specs.Metas.{IsPageSize};
 ghost use Rattle.bolt_commands.specs.Private.{Copying.CompactsTo, Copying.CopiesJoined, Copying.CopiesRead, Copying.IsAskedBlueprint, Copying.LoadsJob};
 ghost use Rattle.bolt_commands.specs.Private.Opened.{IsOpened, IsSearchOf, opened_found};
-ghost use Rattle.bolt_commands.specs.{Answers.hash_refusal};
+ghost use Rattle.bolt_commands.specs.CopyAnswers.{hash_refusal};
 
 use crate::copies::{CopyReport, copy_members, end_copy};
 use crate::failure::{Failure, Outcome};

@@ -5,7 +5,7 @@ ghost use Rattle.bolt_format.specs.{Endings.ending, Wrote.Wrote};
 ghost use Rattle.bolt_etcd.specs.RevisionsLeft.{ForPass, ahead_of, pass_checked, pass_others, pass_start};
 ghost use Rattle.bolt_tree.specs.Buckets.{bucket_checked, bucket_start};
 ghost use Rattle.bolt_etcd.specs.StoreFaults.{store_compacted};
-ghost use Rattle.bolt_commands.specs.Answers.{IsEtcdCheckPrint, IsEtcdGetPrint, IsEtcdKeysPrint, IsEtcdRevisionsPrint, entries_asked, errors_end, errors_status, is_compacted, others_ending, up_to};
+ghost use Rattle.bolt_commands.specs.EtcdAnswers.{IsEtcdCheckPrint, IsEtcdGetPrint, IsEtcdKeysPrint, IsEtcdRevisionsPrint, entries_asked, errors_end, errors_status, is_compacted, others_ending, up_to};
 ghost use Rattle.bolt_commands.specs.Private.{Etcd.IsStoreRead, Etcd.IsUnreadStore, Endings.ending_by, Etcd.end_of_revisions, Printing.PrintsAnswer};
 ghost use Rattle.bolt_commands.specs.declared.failure.Failure.TheVariants.{Compacted};
 

@@ -6,7 +6,7 @@ ghost use Rattle.hex.specs.Hex.{IsBytes};
 ghost use Rattle.bolt_tree.specs.{Listing.IsListing, Listing.Member};
 ghost use Rattle.bolt_commands.specs.Alike.{BucketsAlike, CopiesAlike, DoesAlike, GetsAlike, KeysAlike, ListsAlike};
 ghost use Rattle.bolt_commands.specs.Alike.{ForSoundTrees, OfSoundTrees, RepairsNothing, UnderSoundTrees};
-ghost use Rattle.bolt_commands.specs.Answers.{Answer, IsListedAnswer, IsReadUnder};
+ghost use Rattle.bolt_commands.specs.{Answers.Answer, FilesRead.IsReadUnder, ListAnswers.IsListedAnswer};
 ghost use Rattle.bolt_commands.specs.{CheckedCopies.FailsCutOff, CheckedCopies.LoadsAs, CheckedCopies.PassesCheck};
 ghost use Rattle.bolt_commands.specs.GoodCopies.{ForGoodCopies, HasGoodCopies};
 ghost use Rattle.bolt_job.specs.{Jobs.needs_metas_alone, declared.job.Job.Job};

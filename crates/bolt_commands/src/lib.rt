@@ -2,7 +2,7 @@
 #![tactic(auto)]
 
 ghost use Rattle.std.specs.Prelude.{◌≡◌, Result};
-ghost use Rattle.bolt_commands.specs.{Answers.Accepts, Answers.DoesJob, Answers.JobEnding, Answers.Reports, Answers.status_of, Failures.failure_line};
+ghost use Rattle.bolt_commands.specs.{Answers.Accepts, Answers.JobEnding, Answers.Reports, Answers.status_of, Failures.failure_line, JobAnswers.DoesJob};
 
 mod check_command;
 mod copies;

@@ -5,7 +5,7 @@ ghost use Rattle.bolt_report.specs.MembersLeft.{ForLeft, ForRising};
 ghost use Rattle.bolt_text.specs.ReportEndings.{report_ending};
 ghost use Rattle.bolt_tree.specs.{FileListings.ForListing, Paths.path_of};
 ghost use Rattle.bolt_job.specs.PlainWords.{owned_path};
-ghost use Rattle.bolt_commands.specs.Answers.{IsListPrint, lost_ending};
+ghost use Rattle.bolt_commands.specs.{FilesRead.lost_ending, ListAnswers.IsListPrint};
 ghost use Rattle.bolt_commands.specs.Private.{Endings.MayFail, Opened.IsOpened, Opened.IsSearchOf, Printing.PrintsAnswer, Printing.PutsJoined, Printing.PutsListing};
 ghost use Rattle.bolt_commands.specs.Private.Printing.{PutsPart, finds, job_part, sound_part};
 

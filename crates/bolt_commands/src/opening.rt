@@ -1,7 +1,7 @@
 //! Opens what a command reads: a file under the meta that is chosen, what is left of a damaged one, what is lost and found of it, or a bucket by its path.
 ghost use Rattle.std.specs.Prelude.{◌≡◌, IfErr, IfOk};
 ghost use Rattle.bolt_check.specs.CheckedFiles.{bytes_of, meta_of, in_checked};
-ghost use Rattle.bolt_commands.specs.Answers.{IsReadUnder, IsRecoveredUnder, IsRefusedUnder, IsUnjoinedUnder, IsUnrecoverableUnder, LeadsTo, LeadsNowhere};
+ghost use Rattle.bolt_commands.specs.FilesRead.{IsReadUnder, IsRecoveredUnder, IsRefusedUnder, IsUnjoinedUnder, IsUnrecoverableUnder, LeadsNowhere, LeadsTo};
 ghost use Rattle.bolt_job.specs.PlainWords.{owned_path};
 ghost use Rattle.bolt_commands.specs.Private.Opened.{HasNoBucket, IsOpenedBucket, IsJoinedOf, IsOpened, IsSearchOf, IsUnopened, IsUnread, IsUnsearched};
 ghost use Rattle.bolt_commands.specs.declared.failure.Failure.TheVariants.{NoBucket};

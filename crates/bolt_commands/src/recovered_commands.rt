@@ -3,7 +3,7 @@ ghost use Rattle.std.specs.Prelude.{◌≡◌, ℕ, IfOk, IfSome, List, OnOk};
 ghost use Rattle.std.specs.Option.{IfNone};
 ghost use Rattle.bolt_report.specs.MembersLeft.{ForLeft};
 ghost use Rattle.bolt_tree.specs.{Entries.Value, Listing.Member, Paths.path_of, ShownEntries.item_view};
-ghost use Rattle.bolt_commands.specs.Answers.{IsRecoveredAnswer, IsRecoveredValue, no_bucket, no_key, parents_of};
+ghost use Rattle.bolt_commands.specs.{FilesRead.parents_of, KeyAnswers.IsRecoveredAnswer, KeyAnswers.IsRecoveredValue, KeyAnswers.no_bucket, KeyAnswers.no_key};
 ghost use Rattle.bolt_commands.specs.Private.Printing.{PrintsAnswer};
 ghost use Rattle.bolt_commands.specs.Private.Recovered.{HoldsNow, IsNamesPrint, bucket_ending, value_or_why};
 

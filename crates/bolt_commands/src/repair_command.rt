@@ -2,7 +2,7 @@
 ghost use Rattle.std.specs.Prelude.{◌≡◌};
 ghost use Rattle.bolt_format.specs.{Endings.ending, Wrote.Wrote};
 ghost use Rattle.bolt_layout.specs.declared.Layout.TheVariants.{Balanced};
-ghost use Rattle.bolt_commands.specs.{Answers.counts_line, CopyLayouts.layout_for, Private.Repairing.CopiesRepaired, Private.Repairing.RepairsTo, Private.Repairing.repaired_answer, Private.Repairing.repaired_text};
+ghost use Rattle.bolt_commands.specs.{CopyLayouts.layout_for, Private.Repairing.CopiesRepaired, Private.Repairing.RepairsTo, Private.Repairing.repaired_answer, Private.Repairing.repaired_text, RepairAnswers.counts_line};
 ghost use Rattle.bolt_commands.specs.{Answers.WritesAnswer, Private.Repairing.IsWholeRepaired};
 ghost use Rattle.bolt_repair.specs.{Repaired.ForRepaired, RepairedMembers.repaired_file, RepairedMembers.repaired_left, RepairedMembers.repaired_meta};
 ghost use Rattle.bolt_job.specs.CopyKinds.{is_snapshot};

@@ -2,7 +2,7 @@
 ghost use Rattle.std.specs.Prelude.{◌≡◌, ◌⊎◌, IfErr};
 ghost use Rattle.bolt_format.specs.Wrote.{Wrote};
 ghost use Rattle.bolt_text.specs.ReportEndings.{HaltsShort, report_ending};
-ghost use Rattle.bolt_commands.specs.Answers.{value_shown};
+ghost use Rattle.bolt_commands.specs.KeyAnswers.{value_shown};
 
 use bolt_format::Sink;
 use bolt_report::{Form, ReportFault, item, value};

@@ -6,7 +6,7 @@ use Rattle.bolt_layout.specs.Copies.{layout_of_listing}
 use Rattle.bolt_recover.specs.{Losses.LostView, LostAndFound.all_lost, declared.lost_and_found.LostAndFound.LostAndFound}
 use Rattle.bolt_report.specs.FoundLines.{found_view}
 use Rattle.bolt_tree.specs.Listing.{Member}
-use Rattle.bolt_commands.specs.{Answers.JobEnding, Answers.IsReadTo, Answers.IsSalvaged, Answers.IsUnjoinedUnder, Answers.IsUnreadTo, Answers.Loads, Answers.MakesCopy, Answers.copy_page_size, CopyEnds.EndsCopy}
+use Rattle.bolt_commands.specs.{Answers.JobEnding, CopyAnswers.copy_page_size, CopyEnds.EndsCopy, FilesRead.IsReadTo, FilesRead.IsSalvaged, FilesRead.IsUnjoinedUnder, FilesRead.IsUnreadTo, JobAnswers.Loads, JobAnswers.MakesCopy}
 use Rattle.bolt_commands.specs.{CopyLayouts.layout_for, Failures.copied, GoodCopies.IsGoodCopy, Private.Endings.failing}
 use Rattle.bolt_commands.specs.Private.Opened.{opened_found, opened_lost, opened_meta}
 use Rattle.bolt_commands.specs.declared.{failure.Failure.Failure, opened.Opened.Opened}

@@ -8,7 +8,7 @@ use Rattle.bolt_recover.specs.{JoinedMembers.joined_meta, Losses.LostView, Losse
 use Rattle.bolt_recover.specs.{Recoveries.recovery_file, Recoveries.recovery_left, Recoveries.recovery_losses, Recoveries.recovery_meta, ShownFound.IsFoundView}
 use Rattle.bolt_recover.specs.{declared.found.Found.Found, declared.joined.Joined.Joined, declared.lost_and_found.LostAndFound.LostAndFound, declared.recovery.Recovery.Recovery}
 use Rattle.bolt_tree.specs.{Buckets.bucket_checked, Buckets.bucket_start, Paths.Path, declared.bucket.Bucket.Bucket}
-use Rattle.bolt_commands.specs.Answers.{IsFileRefusal, IsReadUnder, IsRecoveredUnder, IsRefusedUnder, IsUnreadTo, LeadsNowhere, LeadsTo, refused}
+use Rattle.bolt_commands.specs.{Answers.refused, FilesRead.IsFileRefusal, FilesRead.IsReadUnder, FilesRead.IsRecoveredUnder, FilesRead.IsRefusedUnder, FilesRead.IsUnreadTo, FilesRead.LeadsNowhere, FilesRead.LeadsTo}
 use Rattle.bolt_job.specs.{MetaChoices.HasNoMetaOf, MetaChoices.IsMetaOf, declared.choices.Extent.Extent, declared.choices.MetaChoice.MetaChoice}
 use Rattle.bolt_job.specs.declared.choices.Extent.TheVariants.{First, LostAndFound as Joins, Losses}
 use Rattle.bolt_commands.specs.declared.failure.Failure.{Failure}

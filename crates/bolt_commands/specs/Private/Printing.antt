@@ -5,7 +5,7 @@ use Rattle.bolt_recover.specs.{Losses.LostView, LostAndFound.all_lost, declared.
 use Rattle.bolt_report.specs.FoundLines.{FoundView, found_view}
 use Rattle.bolt_text.specs.{ListForms.listing_lines, ReportEndings.report_ending, declared.report_fault.ReportFault.ReportFault}
 use Rattle.bolt_tree.specs.{Listing.Member, Listing.rest_from, ListingParts.has_bucket, ListingParts.part_below}
-use Rattle.bolt_commands.specs.Answers.{Answer, WritesAnswer, JobEnding, IsReadTo, IsSalvaged, IsUnjoinedUnder, IsUnreadTo, listing_part_text}
+use Rattle.bolt_commands.specs.{Answers.Answer, Answers.JobEnding, Answers.WritesAnswer, FilesRead.IsReadTo, FilesRead.IsSalvaged, FilesRead.IsUnjoinedUnder, FilesRead.IsUnreadTo, ListAnswers.listing_part_text}
 use Rattle.bolt_commands.specs.{Failures.reported, Private.Endings.MayFail, Private.Endings.failing, Private.Opened.opened_lost}
 use Rattle.bolt_commands.specs.declared.{failure.Failure.Failure, opened.Opened.Opened}
 use Rattle.bolt_job.specs.{PlainWords.owned_path, declared.bucket_commands.ListJob.ListJob}

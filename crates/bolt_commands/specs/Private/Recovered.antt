@@ -5,7 +5,7 @@ use Rattle.std.specs.Option.{IfNone}
 use Rattle.bolt_tree.specs.{Entries.Value, Listing.Member, ListingParts.has_bucket, Paths.Path}
 use Rattle.bolt_job.specs.PlainWords.{owned_path}
 use Rattle.bolt_report.specs.MemberNames.{is_wanted}
-use Rattle.bolt_commands.specs.Answers.{Answer, JobEnding, IsNamesAnswer, IsRecoveredAnswer, lost_ending, no_bucket, no_key, parents_of}
+use Rattle.bolt_commands.specs.{Answers.Answer, Answers.JobEnding, FilesRead.lost_ending, FilesRead.parents_of, KeyAnswers.IsNamesAnswer, KeyAnswers.IsRecoveredAnswer, KeyAnswers.no_bucket, KeyAnswers.no_key}
 use Rattle.bolt_commands.specs.declared.{failure.Failure.Failure, recovered_commands.AtPath.AtPath, recovered_commands.RecoveredNames.RecoveredNames, shortfall.Shortfall.Shortfall}
 
 -- the names that are asked for of what is recovered

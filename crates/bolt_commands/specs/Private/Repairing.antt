@@ -6,7 +6,7 @@ use Rattle.bolt_job.specs.declared.etcd_jobs.EtcdRepairJob.{EtcdRepairJob}
 use Rattle.bolt_recover.specs.ShownLosses.{lost_view}
 use Rattle.bolt_repair.specs.{Repaired.IsRepaired, RepairedMembers.repair_file, RepairedMembers.repair_meta, RepairedMembers.repaired_file, RepairedMembers.repaired_left, RepairedMembers.repaired_meta, declared.repair.Repair.Repair, declared.repaired.Repaired.Repaired}
 use Rattle.bolt_tree.specs.Listing.{Member}
-use Rattle.bolt_commands.specs.Answers.{Answer, JobEnding, MakesRepair, repair_report}
+use Rattle.bolt_commands.specs.{Answers.Answer, Answers.JobEnding, JobAnswers.MakesRepair, RepairAnswers.repair_report}
 use Rattle.bolt_commands.specs.Private.Copying.{CopiesListing, blueprint_layout}
 use Rattle.bolt_commands.specs.declared.{failure.Failure.Failure, repair_command.RepairReport.RepairReport}
 use Rattle.bolt_commands.specs.declared.failure.Failure.TheVariants.{Memory}

@@ -2,7 +2,7 @@
 use Rattle.std.specs.Prelude.{ℕ, List, map}
 use Rattle.bolt_recover.specs.ShownLosses.{lost_view}
 use Rattle.bolt_report.specs.FoundLines.{found_view}
-use Rattle.bolt_commands.specs.{Answers.Answer, Answers.copy_report, declared.copies.CopyReport.CopyReport}
+use Rattle.bolt_commands.specs.{Answers.Answer, CopyAnswers.copy_report, declared.copies.CopyReport.CopyReport}
 
 -- what is written of a report, if the copy has this length
 abbrev pub report_answer : CopyReport → (copy : ℕ) → Answer

@@ -1,6 +1,6 @@
 -- The database is whole and then reported, or it isn't whole, or a line isn't right.
 use Rattle.std.proofs.Common.{◌∙◌, ap, inl, inr, length, refl, sym}
-use Rattle.bolt_commands.specs.Answers.{done, lengths_line}
+use Rattle.bolt_commands.specs.{Answers.done, CopyAnswers.lengths_line}
 use Rattle.bolt_commands.proofs.{Vocabulary.text_members, CopyAnswers.copy_stopped, CopyAnswers.copy_written, Doing.ends_as, LoadAnswers.whole_members}
 use Rattle.bolt_commands.proofs.copy_commands.do_load.Goals as goal
 

@@ -3,7 +3,7 @@ use Rattle.std.specs.List.{concat}
 use Rattle.bolt_check.specs.Counts.{counted}
 use Rattle.bolt_etcd.specs.{StoreBuckets.IsStore, StoreFaults.store_lines}
 use Rattle.bolt_tree.specs.BucketViews.{entries_of}
-use Rattle.bolt_commands.specs.Answers.{errors_end, errors_status}
+use Rattle.bolt_commands.specs.EtcdAnswers.{errors_end, errors_status}
 use Rattle.bolt_commands.specs.declared.failure.Failure.TheVariants.{Write}
 use Rattle.bolt_commands.proofs.Vocabulary.{Wrote-then, bucket_checked, bucket_start, meta_of}
 use Rattle.bolt_commands.proofs.{Doing.answer_as, Doing.answer_put, Doing.ends_as, EtcdAnswers.first_cut, EtcdAnswers.has_store, ReadFiles.read_trees}

@@ -1,6 +1,6 @@
 use Rattle.std.proofs.Common.{◌≡◌, ◌∙◌, Err, ap, option_map, refl, sym}
 use Rattle.bolt_etcd.specs.Newest.{value_if}
-use Rattle.bolt_commands.specs.Answers.{IsAnswerAt, IsHeldText, entries_ending, value_shown}
+use Rattle.bolt_commands.specs.{EtcdAnswers.IsAnswerAt, EtcdAnswers.IsHeldText, EtcdAnswers.entries_ending, KeyAnswers.value_shown}
 use Rattle.bolt_commands.specs.declared.failure.Failure.TheVariants.{NoKey}
 use Rattle.bolt_commands.proofs.{CutTexts.short_put, Doing.answer_as, Doing.answer_nothing, Vocabulary.Json}
 use Rattle.bolt_commands.proofs.EtcdAnswers.{answer_at, compacted_answer, here, keys, own, unread_store}

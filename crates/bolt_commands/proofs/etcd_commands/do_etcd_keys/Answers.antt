@@ -1,6 +1,6 @@
 use Rattle.std.proofs.Common.{refl}
 use Rattle.bolt_report.specs.RevisionLines.{named_with, revision_lines}
-use Rattle.bolt_commands.specs.Answers.{IsAnswerAt, IsCurrentText, up_to}
+use Rattle.bolt_commands.specs.EtcdAnswers.{IsAnswerAt, IsCurrentText, up_to}
 use Rattle.bolt_commands.proofs.{Doing.answer_as, Doing.answer_nothing}
 use Rattle.bolt_commands.proofs.EtcdAnswers.{answer_at, compacted_answer, counted_ended, current_keys, here, keys, known_of, own, unread_store}
 use Rattle.bolt_commands.proofs.etcd_commands.do_etcd_keys.Goals as goal

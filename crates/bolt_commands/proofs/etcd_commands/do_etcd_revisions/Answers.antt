@@ -3,7 +3,7 @@ use Rattle.bolt_tree.specs.{BucketViews.entries_of, Entries.AreEntries}
 use Rattle.bolt_etcd.specs.{RevisionsLeft.pass_checked, RevisionsLeft.pass_start}
 use Rattle.bolt_report.specs.{RevisionLines.named_with, RevisionLines.revision_lines}
 use Rattle.bolt_etcd.specs.{Stores.revisions}
-use Rattle.bolt_commands.specs.Answers.{IsRevisionsText, OfKeys, entries_asked}
+use Rattle.bolt_commands.specs.EtcdAnswers.{IsRevisionsText, OfKeys, entries_asked}
 use Rattle.bolt_commands.proofs.{Doing.answer_nothing, Vocabulary.Json}
 use Rattle.bolt_commands.proofs.EtcdAnswers.{counted_put, keys, keys_answer, known_of, unread_store}
 use Rattle.bolt_commands.proofs.etcd_commands.do_etcd_revisions.Goals as goal

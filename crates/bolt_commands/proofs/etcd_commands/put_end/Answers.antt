@@ -1,6 +1,6 @@
 use Rattle.std.proofs.Common.{◌≡◌, ◌≢◌, ℕ, refl, suc, zero}
 use Rattle.bolt_report.specs.FaultWords.{count_line}
-use Rattle.bolt_commands.specs.Answers.{errors_end}
+use Rattle.bolt_commands.specs.EtcdAnswers.{errors_end}
 use Rattle.bolt_commands.proofs.etcd_commands.put_end.Goals as goal
 
 some_errors : (n : ℕ) → n ≢ 0 → errors_end n ≡ count_line n

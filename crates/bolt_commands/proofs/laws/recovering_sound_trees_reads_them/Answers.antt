@@ -5,7 +5,7 @@ use Rattle.bolt_commands.proofs.EntryNames.{bucket_items}
 use Rattle.bolt_commands.proofs.SoundNames.{gets_the_same, names_the_same}
 use Rattle.bolt_commands.proofs.SoundRecovery.{Below, copies_the_same, finds_alike, lists_the_same, names_one, recovers_alike}
 use Rattle.bolt_commands.proofs.SoundRepairs.{none_restored, none_unrestored}
-use Rattle.bolt_commands.specs.Answers.{IsRestored}
+use Rattle.bolt_commands.specs.RepairAnswers.{IsRestored}
 use Rattle.bolt_job.specs.PlainWords.{owned_path}
 use Rattle.bolt_report.specs.{KeyPrefixes.has_key_prefix, MemberNames.begins_so, MemberNames.names_bucket}
 use Rattle.bolt_commands.proofs.laws.recovering_sound_trees_reads_them.Goals as goal

@@ -2,7 +2,7 @@
 use Rattle.std.proofs.Common.{◌≡◌, ◌∙◌, Bool, Err, Ok, ap, inr, refl, true}
 use Rattle.bolt_commands.proofs.Vocabulary.{IsRecoveryOf, has_losses, has_recovered, parts, owned_path, path_of, recovery_meta, shortfall}
 use Rattle.bolt_commands.proofs.{Doing.answer_nothing, Doing.answer_refused, Doing.ends_as, RecoveredAnswers.none_known, RecoveredAnswers.of_recovery, RecoveredAnswers.recovered_none, RecoveredAnswers.value_known, RecoveredAnswers.value_put}
-use Rattle.bolt_commands.specs.{Answers.IsRecoveredValue, Answers.no_value, Private.Recovered.HoldsNow}
+use Rattle.bolt_commands.specs.{KeyAnswers.IsRecoveredValue, KeyAnswers.no_value, Private.Recovered.HoldsNow}
 use Rattle.bolt_commands.proofs.recovered_commands.get_recovered.Goals as goal
 
 pub returns-in_err-recovery : goal.returns-in_err-recovery

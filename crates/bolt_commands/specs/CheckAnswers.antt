@@ -1,0 +1,90 @@
+-- What `check` answers: docs/COMMANDS.md, "Checks".
+use Rattle.std.specs.Prelude.{◌≡◌, ◌-◌, ◌⊎◌, ◌&&◌, ℕ, List, [], ◌∷◌, ◌++◌, Bool, true, false, codes, Ok, Err, if◌then◌else◌}
+use Rattle.bolt_check.specs.{BboltFileFindings.file_findings, BboltFindings.AreBboltFindings, Nodes.node_at, declared.bbolt_file.FileFinding.FileFinding}
+use Rattle.bolt_check.specs.declared.check_fault.CheckFault.{CheckFault}
+use Rattle.bolt_check.specs.declared.check_fault.CheckFault.TheVariants as check
+use Rattle.bolt_check.specs.declared.finding.Finding.{Finding}
+use Rattle.bolt_format.specs.Metas.{IsActive}
+use Rattle.bolt_format.specs.declared.meta.Meta.{Meta}
+use Rattle.bolt_format.specs.{declared.meta.MetaFault.MetaFault, declared.meta.Slot.Slot}
+use Rattle.bolt_recover.specs.{Losses.LostView, Losses.parts, Lost.IsAllLost}
+use Rattle.bolt_report.specs.{BboltLines.bbolt_findings_text, FaultWords.findings_text, FoundLines.FoundView, FoundLines.counted_lost_text}
+use Rattle.bolt_commands.specs.FileFaults.{AreFileFaults, errors_in, fault_lines, is_fine}
+use Rattle.bolt_job.specs.MetaChoices.{HasNoMetaOf, IsMetaOf}
+use Rattle.bolt_job.specs.declared.choices.Extent.{Extent}
+use Rattle.bolt_job.specs.declared.choices.Extent.TheVariants.{First, LostAndFound}
+use Rattle.bolt_commands.specs.declared.failure.Failure.TheVariants as failure
+use Rattle.bolt_commands.specs.declared.file_faults.FileFaults.{FileFaults}
+use Rattle.bolt_check.specs.ShownFindings.{findings_in}
+use Rattle.bolt_job.specs.declared.choices.MetaChoice.{MetaChoice}
+use Rattle.bolt_job.specs.declared.choices.MetaChoice.TheVariants.{Active, Assumed, InSlot}
+use Rattle.bolt_commands.specs.{Answers.Answer, Answers.done, Answers.refused, FilesRead.AreFoundTo, FilesRead.IsReadUnder, FilesRead.IsRefusedUnder}
+
+-- what was found goes to standard output; what is wrong with the file apart from its pages comes first, and each of that is an error too
+abbrev pub found : FileFaults → List Finding → Answer
+found faults findings = record { out = fault_lines faults ++ findings_text (errors_in faults) findings; ending = Ok 1 }
+
+-- nothing else is wrong
+abbrev pub none_found : FileFaults → Answer
+none_found faults = if is_fine faults then done (codes "OK\n") else found faults []
+
+-- or what bbolt fails on
+abbrev pub all_found : FileFaults → List FileFinding → List Finding → Answer
+all_found faults [] [] = none_found faults
+all_found faults of_file on_ways = record { out = bbolt_findings_text of_file on_ways; ending = Ok 1 }
+
+abbrev pub check_refusal : FileFaults → CheckFault → Answer
+check_refusal faults (check.Open fault) = record { out = fault_lines faults; ending = Err (failure.Metas fault) }
+check_refusal faults (check.Structure x) = found faults (x ∷ [])
+check_refusal faults (check.Accounts findings) = found faults (findings_in findings)
+check_refusal faults check.Memory = refused failure.Memory
+
+-- what bbolt fails on in the file as a whole is looked for under its active meta alone
+abbrev pub AreOfFile : MetaChoice → List ℕ → List FileFinding → Type 0
+AreOfFile Active file of_file = (slot : Slot) (meta : Meta) → IsActive file slot meta → of_file ≡ file_findings file slot meta
+AreOfFile (InSlot slot) file of_file = of_file ≡ []
+AreOfFile (Assumed assumed) file of_file = of_file ≡ []
+
+-- what is found of a sound file: what bbolt fails on, in the file as a whole and on its ways, if that is looked for, and otherwise nothing
+abbrev pub AreFoundFor : (for_bbolt : Bool) → List ℕ → MetaChoice → Meta → List FileFinding → List Finding → Type 0
+AreFoundFor true file choice meta of_file on_ways = AreOfFile choice file of_file × ∥ AreBboltFindings (node_at file meta) meta.root on_ways ∥₁
+AreFoundFor false file choice meta of_file on_ways = (of_file ≡ []) × (on_ways ≡ [])
+
+-- it is looked for if nothing else is wrong
+abbrev pub IsFoundAnswer : (for_bbolt : Bool) → FileFaults → List ℕ → MetaChoice → Answer → Type 0
+IsFoundAnswer for_bbolt faults file choice answer =
+    ((meta : Meta) × (of_file : List FileFinding) × (on_ways : List Finding) × IsReadUnder file choice meta
+    × AreFoundFor (for_bbolt && is_fine faults) file choice meta of_file on_ways × (answer ≡ all_found faults of_file on_ways))
+    ⊎ ((fault : CheckFault) × IsRefusedUnder file choice fault × (answer ≡ check_refusal faults fault))
+
+-- each loss and each page that is found; what is wrong with the file apart from its pages comes first
+abbrev pub lost_and_found_answer : FileFaults → LostView → List FoundView → Answer
+lost_and_found_answer faults lost found = record { out = fault_lines faults ++ counted_lost_text (errors_in faults) lost found; ending = Ok 1 }
+
+-- if nothing is lost, what `check` writes
+abbrev pub AnswersLost : (for_bbolt : Bool) → FileFaults → List ℕ → MetaChoice → LostView → List FoundView → Answer → Type 0
+AnswersLost for_bbolt faults file choice (parts []) found answer = IsFoundAnswer for_bbolt faults file choice answer
+AnswersLost for_bbolt faults file choice lost found answer = answer ≡ lost_and_found_answer faults lost found
+
+-- memory may run out; where pages are looked for, only of a file that has the meta
+abbrev pub MayRunOut : Extent → List ℕ → MetaChoice → Type 0
+MayRunOut LostAndFound file choice = (meta : Meta) × IsMetaOf file choice meta
+MayRunOut extent file choice = Unit {0}
+
+-- all that is lost and found under the meta that is chosen; or there is none; or memory ran out
+abbrev pub IsLostAnswer : Extent → (for_bbolt : Bool) → FileFaults → List ℕ → MetaChoice → Answer → Type 0
+IsLostAnswer extent for_bbolt faults file choice answer =
+    ((meta : Meta) × (lost : LostView) × (found : List FoundView) × IsMetaOf file choice meta × IsAllLost file meta lost × AreFoundTo extent file meta found
+    × AnswersLost for_bbolt faults file choice lost found answer)
+    ⊎ ((fault : MetaFault) × HasNoMetaOf file choice fault × (answer ≡ check_refusal faults (check.Open fault)))
+    ⊎ (MayRunOut extent file choice × (answer ≡ refused failure.Memory))
+
+-- `check` to any extent of a file of which is known what else is wrong with it
+abbrev pub IsCheckAnswerAfter : Extent → (for_bbolt : Bool) → FileFaults → List ℕ → MetaChoice → Answer → Type 0
+IsCheckAnswerAfter First for_bbolt faults file choice answer = IsFoundAnswer for_bbolt faults file choice answer
+IsCheckAnswerAfter extent for_bbolt faults file choice answer = IsLostAnswer extent for_bbolt faults file choice answer
+
+-- the same of any file, and of a snapshot
+abbrev pub IsCheckAnswer : Extent → (snapshot for_bbolt : Bool) → List ℕ → MetaChoice → Answer → Type 0
+IsCheckAnswer extent snapshot for_bbolt file choice answer =
+    (faults : FileFaults) × AreFileFaults extent snapshot file choice faults × IsCheckAnswerAfter extent for_bbolt faults file choice answer

@@ -1,0 +1,112 @@
+-- What the commands answer that read what etcd keeps: docs/COMMANDS.md, "What etcd keeps".
+use Rattle.std.specs.Prelude.{◌≡◌, ◌-◌, ◌^◌, ◌⊎◌, ℕ, zero, suc, nat_lt, List, ◌++◌, Bool, true, false, codes, length, Option, Some, None, Ok, Err}
+use Rattle.bolt_check.specs.declared.check_fault.CheckFault.{CheckFault}
+use Rattle.bolt_format.specs.Elements.{LeafElement}
+use Rattle.bolt_format.specs.declared.meta.Meta.{Meta}
+use Rattle.bolt_report.specs.FaultWords.{count_line}
+use Rattle.bolt_tree.specs.Entries.{IsEntry, Root_page}
+use Rattle.bolt_commands.specs.FileFaults.{no_faults}
+use Rattle.bolt_commands.specs.declared.failure.Failure.TheVariants as failure
+use Rattle.bolt_etcd.specs.{Current.AreCurrent, Newest.newest, Newest.until, Newest.value_if, Revisions.RevisionView}
+use Rattle.bolt_report.specs.RevisionLines.{named_with, revision_lines}
+use Rattle.bolt_etcd.specs.{StoreBuckets.IsStore, StoreBuckets.StoreView, StoreFaults.store_compacted, StoreFaults.store_lines, Stores.entries_from, Stores.others, Stores.revisions}
+use Rattle.bolt_check.specs.Counts.{counted}
+use Rattle.std.specs.{Int.to_be_bytes, Int.w64, List.concat}
+use Rattle.bolt_job.specs.declared.etcd_jobs.{EtcdCheckJob.EtcdCheckJob, EtcdGetJob.EtcdGetJob, EtcdKeysJob.EtcdKeysJob, EtcdRevisionsJob.EtcdRevisionsJob}
+use Rattle.bolt_job.specs.declared.job.Job.TheVariants as job
+use Rattle.bolt_commands.specs.{Answers.Answer, Answers.IsEndedOrCut, Answers.IsShownAndEnded, Answers.IsShownOrCut, Answers.JobEnding, Answers.refused, CheckAnswers.check_refusal, FilesRead.IsReadAnswer, FilesRead.IsReadUnder, FilesRead.IsRefusedUnder, KeyAnswers.value_shown}
+
+-- what is under the root bucket
+abbrev pub IsStoreOf : List ℕ → Meta → StoreView → Type 0
+IsStoreOf file meta store = IsStore (IsEntry file meta) (Root_page meta.root) store
+
+-- an answer of the entries of the bucket `key`, which may be missing
+abbrev pub OfKeys : Option (List LeafElement) → (List LeafElement → Answer → Type 0) → Answer → Type 0
+OfKeys None IsWanted answer = answer ≡ refused failure.NoBucket
+OfKeys (Some entries) IsWanted answer = IsWanted entries answer
+
+-- entries that aren't revisions are counted on standard error: they may have been newer
+abbrev pub others_ending : ℕ → JobEnding
+others_ending zero = Ok 0
+others_ending (suc n) = Err (failure.Others (suc n))
+
+abbrev pub entries_ending : List LeafElement → JobEnding
+entries_ending entries = others_ending (counted 0 (length (others entries)))
+
+-- from a transaction on, if one is named_with: the entries whose keys aren't below its number in eight bytes
+abbrev pub entries_asked : Option ℕ → List LeafElement → List LeafElement
+entries_asked None entries = entries
+entries_asked (Some main) entries = entries_from (to_be_bytes w64 main) entries
+
+-- of the revisions of no later transaction, if one is named_with; no number is above 2^64 - 1
+abbrev pub up_to : Option ℕ → ℕ
+up_to None = 2 ^ 64 - 1
+up_to (Some main) = main
+
+-- whether the transaction that is named_with was compacted away
+abbrev pub is_compacted : Option ℕ → Option ℕ → Bool
+is_compacted (Some main) (Some compacted) = nat_lt main compacted
+is_compacted _ _ = false
+
+abbrev pub UnlessCompacted : Bool → (Answer → Type 0) → Answer → Type 0
+UnlessCompacted true IsWanted answer = answer ≡ refused failure.Compacted
+UnlessCompacted false IsWanted answer = IsWanted answer
+
+-- an answer of the entries of the bucket `key` at a transaction
+abbrev pub IsAnswerAt : Option ℕ → StoreView → (List LeafElement → Answer → Type 0) → Answer → Type 0
+IsAnswerAt at store IsWanted answer = OfKeys (store.bucket (codes "key")) (λ entries. UnlessCompacted (is_compacted at (store_compacted store)) (IsWanted entries)) answer
+
+-- the lines of the revisions whose names begin with a prefix
+abbrev pub IsRevisionsText : EtcdRevisionsJob → List LeafElement → Answer → Type 0
+IsRevisionsText job entries answer =
+    let asked = entries_asked job.from entries in
+    IsShownOrCut job.form (revision_lines job.form job.values (named_with job.prefix.items (revisions asked))) (entries_ending asked) answer
+
+-- the lines of the keys that there are at a transaction
+abbrev pub IsCurrentText : EtcdKeysJob → List LeafElement → Answer → Type 0
+IsCurrentText job entries answer =
+    (current : List RevisionView) × AreCurrent (until (up_to job.at) (revisions entries)) current
+    × IsEndedOrCut (revision_lines job.form job.values (named_with job.prefix.items current)) (entries_ending entries) answer
+
+-- a value, if there is one
+abbrev pub IsValueText : EtcdGetJob → JobEnding → Option (List ℕ) → Answer → Type 0
+IsValueText job ending None answer = answer ≡ refused failure.NoKey
+IsValueText job ending (Some value) answer = IsShownAndEnded job.form (value_shown job.form job.no_newline value) ending answer
+
+-- what a key held at a transaction
+abbrev pub IsHeldText : EtcdGetJob → List LeafElement → Answer → Type 0
+IsHeldText job entries answer = IsValueText job (entries_ending entries) (value_if (newest job.name.items (until (up_to job.at) (revisions entries)))) answer
+
+-- after the lines of so many errors, and the status
+abbrev pub errors_end : ℕ → List ℕ
+errors_end zero = codes "OK\n"
+errors_end (suc n) = count_line (suc n)
+
+abbrev pub errors_status : ℕ → ℕ
+errors_status zero = 0
+errors_status (suc n) = 1
+
+-- what is wrong with a store, line by line
+abbrev pub IsStoreText : StoreView → Answer → Type 0
+IsStoreText store answer =
+    let errors = counted 0 (length (store_lines store)) in
+    IsEndedOrCut (concat (store_lines store) ++ errors_end errors) (Ok (errors_status errors)) answer
+
+-- the file isn't refused, and this is an answer of its store
+abbrev pub IsStoreAnswer : List ℕ → (StoreView → Answer → Type 0) → Meta → Answer → Type 0
+IsStoreAnswer file IsWanted meta answer = (store : StoreView) × IsStoreOf file meta store × IsWanted store answer
+
+abbrev pub IsEtcdRevisionsPrint : EtcdRevisionsJob → List ℕ → Answer → Type 0
+IsEtcdRevisionsPrint job file answer = IsReadAnswer file job.meta (IsStoreAnswer file (λ store. OfKeys (store.bucket (codes "key")) (IsRevisionsText job))) answer
+
+abbrev pub IsEtcdKeysPrint : EtcdKeysJob → List ℕ → Answer → Type 0
+IsEtcdKeysPrint job file answer = IsReadAnswer file job.meta (IsStoreAnswer file (λ store. IsAnswerAt job.at store (IsCurrentText job))) answer
+
+abbrev pub IsEtcdGetPrint : EtcdGetJob → List ℕ → Answer → Type 0
+IsEtcdGetPrint job file answer = IsReadAnswer file job.meta (IsStoreAnswer file (λ store. IsAnswerAt job.at store (IsHeldText job))) answer
+
+-- what `check` finds, or what is wrong with the store
+abbrev pub IsEtcdCheckPrint : EtcdCheckJob → List ℕ → Answer → Type 0
+IsEtcdCheckPrint job file answer =
+    ((meta : Meta) × IsReadUnder file job.meta meta × IsStoreAnswer file IsStoreText meta answer)
+    ⊎ ((fault : CheckFault) × IsRefusedUnder file job.meta fault × (answer ≡ check_refusal no_faults fault))

@@ -1,0 +1,37 @@
+-- What `list` answers: docs/COMMANDS.md, "What is printed".
+use Rattle.std.specs.Prelude.{◌≡◌, ◌-◌, ◌⊎◌, ℕ, List, Option, Err, if◌then◌else◌}
+use Rattle.bolt_format.specs.declared.meta.Meta.{Meta}
+use Rattle.bolt_recover.specs.Losses.{LostView}
+use Rattle.bolt_report.specs.FoundLines.{FoundView}
+use Rattle.bolt_text.specs.ListForms.{listing_lines}
+use Rattle.bolt_text.specs.declared.forms.ListForm.{ListForm}
+use Rattle.bolt_tree.specs.{Listing.Member, Listing.rest_from, ListingParts.bucket_part, ListingParts.has_bucket}
+use Rattle.bolt_tree.specs.Paths.{Path}
+use Rattle.bolt_commands.specs.declared.shortfall.Shortfall.{Shortfall}
+use Rattle.bolt_job.specs.declared.choices.Extent.{Extent}
+use Rattle.bolt_commands.specs.declared.failure.Failure.{Failure}
+use Rattle.bolt_commands.specs.declared.failure.Failure.TheVariants as failure
+use Rattle.bolt_job.specs.declared.bucket_commands.ListJob.{ListJob}
+use Rattle.bolt_job.specs.declared.job.Job.TheVariants as job
+use Rattle.bolt_job.specs.declared.choices.MetaChoice.{MetaChoice}
+use Rattle.bolt_job.specs.PlainWords.{owned_path}
+use Rattle.bolt_commands.specs.{Answers.Answer, Answers.IsEndedOrCut, Answers.JobEnding, Answers.refused, FilesRead.IsLackingTo, FilesRead.IsReadTo, FilesRead.IsUnreadTo, FilesRead.lost_ending}
+
+-- a line for each member of a listing at and below the bucket at a path that doesn't come before another path
+abbrev pub listing_part_text : ListForm → (path from : Path) → List Member → List ℕ
+listing_part_text form path from listing = listing_lines form (rest_from from (bucket_part path listing))
+
+-- if the listing doesn't have that bucket, this is reported
+abbrev pub part_ending : Path → List Member → JobEnding → JobEnding
+part_ending path listing ending = if has_bucket path listing then ending else Err failure.NoBucket
+
+-- a part of the listing, and then what is lacking; or memory ran out, which may be after the last line; or why it isn't read
+abbrev pub IsListedAnswer : Extent → List ℕ → MetaChoice → ListForm → (path from : Path) → Answer → Type 0
+IsListedAnswer extent file choice form path from answer =
+    ((meta : Meta) × (listing : List Member) × (lost : LostView) × (found : List FoundView) × IsReadTo extent file choice meta listing lost found
+    × (lacking : Option Shortfall) × IsLackingTo extent file choice lost lacking
+    × IsEndedOrCut (listing_part_text form path from listing) (part_ending path listing (lost_ending lacking)) answer)
+    ⊎ ((why : Failure) × IsUnreadTo extent file choice why × (answer ≡ refused why))
+
+abbrev pub IsListPrint : ListJob → List ℕ → Answer → Type 0
+IsListPrint job file answer = IsListedAnswer job.extent file job.meta job.form (owned_path job.path.items) (owned_path job.from.items) answer
