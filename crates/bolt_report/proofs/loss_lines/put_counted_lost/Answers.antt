@@ -2,7 +2,7 @@
 use Rattle.std.proofs.Common.{◌≡◌, ◌+◌, ◌++◌, List, ℕ, append_assoc, map}
 use Rattle.bolt_recover.specs.{Losses.LostView, ShownLosses.lost_view}
 use Rattle.bolt_report.proofs.Words.{found_view, Wrote-return, Wrote-same, Wrote-then}
-use Rattle.bolt_report.specs.{FaultWords.count_line, FoundLines.FoundView, FoundLines.counted_lost_text, FoundLines.found_text, FoundLines.put_lost, LossLines.lost_count, LossLines.lost_lines}
+use Rattle.bolt_report.specs.{FaultWords.count_line, FoundLines.FoundView, FoundLines.counted_lost_text, FoundLines.found_text, FoundLines.lost_text, LossLines.lost_count, LossLines.lost_lines}
 use Rattle.bolt_report.proofs.loss_lines.put_counted_lost.Goals as goal
 
 counted : (earlier : ℕ) (lost : LostView) (found : List FoundView) → lost_text lost found ++ count_line (earlier + lost_count lost) ≡ counted_lost_text earlier lost found
