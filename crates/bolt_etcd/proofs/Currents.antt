@@ -24,7 +24,7 @@ use Rattle.bolt_etcd.specs.{Current.AreCurrent, Current.AreNewest, Current.HaveO
 use Rattle.bolt_etcd.specs.{RevisionKeys.revision_key, ShownRevisions.shown_revision, Stores.revisions, Wire.◌>>=◌}
 use Rattle.bolt_etcd.specs.{NameOrder.sums_cmp, SumOrder.AreNewestBySum}
 use Rattle.bolt_etcd.specs.declared.revision.Revision.{Revision}
-use Rattle.bolt_etcd.proofs.{Filtered.filter_mapped, Filtered.kept_from, MappedLists.dedup_mapped, MappedLists.sorted_mapped}
+use Rattle.bolt_etcd.proofs.{Filtered.filter_mapped, Filtered.kept_from, MappedLists.dedup_mapped, MappedLists.gives_from, MappedLists.sorted_mapped}
 use Rattle.bolt_etcd.proofs.NewestOfNames.{IsGreatest, greatest_kept, kept_greatest, last_from, last_greatest, names_rise, text_ties}
 use Rattle.bolt_etcd.proofs.{Rising.one_of, NameOrders.sums_tie, NameOrders.sums_total, SortedOnce.rises_from, SortedOnce.sorted_in}
 
@@ -65,18 +65,8 @@ key_is e r is =
     let (content, _, made) = bind_some (record_under k value) _ r later in
     read ∙ ap Some (ap (λ (x : RevisionView). x.key) (same_Some _ r made))
 
-from_step : (o : Option RevisionView) (e : LeafElement) (es : List LeafElement) (r : RevisionView) → revision_of (entry_view e) ≡ o
-    → (Contains (revisions es) r → (f : LeafElement) × Contains es f × (revision_of (entry_view f) ≡ Some r)) → Contains (cons_option o (revisions es)) r
-    → (f : LeafElement) × Contains (e ∷ es) f × (revision_of (entry_view f) ≡ Some r)
-from_step None e es r is later has = let (f, there, found) = later has in (f, contains_tail e f es there, found)
-from_step (Some s) e es r is later has = elim (contains_cases s r (revisions es) has) [
-  | inl same ↦ (e, contains_head e es, is ∙ ap Some same)
-  | inr more ↦ (let (f, there, found) = later more in (f, contains_tail e f es there, found))
-]
-
 pub from_entry : (es : List LeafElement) (r : RevisionView) → Contains (revisions es) r → (f : LeafElement) × Contains es f × (revision_of (entry_view f) ≡ Some r)
-from_entry [] r has = absurd (contains_none r has)
-from_entry (e ∷ es) r has = from_step (revision_of (entry_view e)) e es r refl (from_entry es r) has
+from_entry es r has = gives_from (λ (e : LeafElement). revision_of (entry_view e)) es r has
 
 rise_step : (o : Option RevisionView) (e : LeafElement) (es : List LeafElement) → revision_of (entry_view e) ≡ o → Rises entry_cmp (e ∷ es) → Rises place_cmp (revisions es)
     → Rises place_cmp (cons_option o (revisions es))

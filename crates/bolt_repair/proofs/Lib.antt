@@ -4,6 +4,7 @@ pub mod FoundRepairs
 pub mod KeySearches
 pub mod KeyWalks
 pub mod KeysAmong
+pub mod NewestUntil
 pub mod OneRepair
 pub mod Places
 pub mod RepairExists

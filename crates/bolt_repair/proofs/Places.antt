@@ -1,14 +1,9 @@
 -- Where a path leads, as far as a store is concerned.
-use Rattle.std.proofs.Common.{◌≡◌, ◌∙◌, ◌<◌, ◌≤◌, Bor, true, List, [], ◌∷◌, ◌++◌, length, Option, Some, None, refl, ap, slice_index_or, arith}
+use Rattle.std.proofs.Common.{◌≡◌, ◌∙◌, ◌<◌, ◌≤◌, Bor, true, List, [], ◌∷◌, length, ap, slice_index_or, arith}
 use Rattle.std.specs.Cmp.Lexicographic.{same_text}
 use Rattle.std.specs.Str.{bytes_eq}
 use Rattle.bolt_check.specs.Keys.{Key}
-use Rattle.bolt_tree.specs.{Entries.Item, Paths.Path, Paths.path_of}
-use Rattle.bolt_repair.specs.{Repairs.store_path, StoreSurveys.LeadsToPlace, StoreSurveys.revision_at}
-use Rattle.bolt_etcd.specs.{Revisions.RevisionView}
-use Rattle.bolt_repair.specs.declared.survey.Place.{Place}
-use Rattle.bolt_repair.specs.declared.survey.Place.TheVariants.{Compaction, InStore, Other, Store}
-use Rattle.bolt_repair.proofs.KeptRevisions.{revision_from}
+use Rattle.bolt_tree.specs.Paths.{path_of}
 
 pub one_key : (parts : List (Bor Key)) (d : Bor Key) (a : Key) → 1 ≤ length parts → length parts < 2 → true ≡ bytes_eq (slice_index_or parts 0 d).now a → path_of parts ≡ a ∷ []
 one_key [] d a least below is = absurd (omega arith)

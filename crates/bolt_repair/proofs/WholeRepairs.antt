@@ -156,13 +156,16 @@ module _ (recovered : List Member) (found : List LeafElement) (all : List EntryV
           newest_to n = record {
             has = old_from r (inr (e, has, is)) n.until;
             there = n.there;
-            last = λ other there names. elim (old_cases other there) [
-              | (inl mine, until) ↦ n.kept other ((are_kept other).0 mine) names (until_at compacted other until)
-              | (inr (x, also, reads), until) ↦
-                  let (s, agrees) = agreed_from x also in
-                  let same = same_revision x x s other refl agrees.candidate.is_revision reads in
-                  n.agreed x other (subst (IsAgreed recovered found x) same agrees) names (until_at compacted other until)
-            ];
+            last = λ other there names.
+                let (of, until) = old_cases other there in
+                let low = until_at compacted other until in
+                elim of [
+                  | inl mine ↦ n.kept other ((are_kept other).0 mine) names low
+                  | inr (x, also, reads) ↦
+                      let (s, agrees) = agreed_from x also in
+                      let same = same_revision x x s other refl agrees.candidate.is_revision reads in
+                      n.agreed x other (subst (IsAgreed recovered found x) same agrees) names low
+                ];
           }
 
       module _ (back : List EntryView) (put : ArePutBack compacted revisions agreed back) where

@@ -126,7 +126,8 @@ fn keep_what_goes_back<'a>(
         (map entry_of agreed.old.items) (map entry_of agreed.new.items)) }
 {
     let newest = newest_until(kept, agreed.as_slice(), compacted)?;
-    agreed.retain(|revision| goes_back(revision, newest.as_slice(), compacted));
+    let newest = newest.as_slice();
+    agreed.retain(|revision| goes_back(revision, newest, compacted));
     Ok(())
 }
 

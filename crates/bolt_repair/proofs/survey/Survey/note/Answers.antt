@@ -12,11 +12,11 @@ pub returns-in_ok-add_key-in-InStore : goal.returns-in_ok-add_key-in-InStore
 returns-in_ok-add_key-in-InStore c = λ before after s.
     let now = λ (k : Bor (List ℕ)). k.now in
     let more = ap (map now) c.in_ok-add_key-in-InStore.ensures ∙ map-append now c.args.self.now.met.items (c.in-InStore.key ∷ []) in
-    key_noted before _ _ after _ _ _ _ _ s c.in-InStore.key.now c.in-InStore.ensures _ c.in_ok-keep_revision.ensures _ more (c.has_candidate.ensures.0 c.if-has_candidate.true)
+    key_noted before _ _ after _ _ _ _ _ s c.in-InStore.key.now c.in-InStore.ensures _ c.in_ok-keep_revision-in-InStore.ensures _ more (c.has_candidate.ensures.0 c.if-has_candidate.true)
 
 pub returns-else-has_candidate : goal.returns-else-has_candidate
 returns-else-has_candidate c = λ before after s.
-    key_not_wanted before _ _ after _ _ _ _ _ s c.in-InStore.key.now c.in-InStore.ensures _ c.in_ok-keep_revision.ensures (λ has. false≢true (sym c.if-has_candidate.false ∙ c.has_candidate.ensures.1 has))
+    key_not_wanted before _ _ after _ _ _ _ _ s c.in-InStore.key.now c.in-InStore.ensures _ c.in_ok-keep_revision-in-InStore.ensures (λ has. false≢true (sym c.if-has_candidate.false ∙ c.has_candidate.ensures.1 has))
 
 pub returns-in-Value : goal.returns-in-Value
 returns-in-Value c = λ before after s. compaction_noted before _ _ after _ _ _ _ _ s c.in-Value.value.now (ap item_view c.in-Value.is) c.in-Compaction.ensures
