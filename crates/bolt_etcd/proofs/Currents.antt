@@ -1,5 +1,5 @@
 -- The keys that there are are the newest revisions that aren't deletions.
-use Rattle.std.proofs.Common.{◌≡◌, ◌∙◌, ◌++◌, ◌↔◌, inl, inr, ℕ, Bool, false, List, [], ◌∷◌, filter, map, not, Option, Some, None, Result, Ok, Err, refl, sym, ap, subst, if◌then◌else◌}
+use Rattle.std.proofs.Common.{◌≡◌, ◌≢◌, ◌∙◌, ◌++◌, ◌↔◌, inl, inr, ℕ, Bool, false, List, [], ◌∷◌, filter, map, not, Option, Some, None, Result, Ok, Err, refl, sym, ap, subst, if◌then◌else◌}
 use Rattle.std.proofs.lemmas.Bool.{not-true}
 use Rattle.std.proofs.lemmas.Cmp.{nat_list_cmp_total, on_total}
 use Rattle.std.proofs.lemmas.List.{append_assoc, map-append}
@@ -14,18 +14,19 @@ use Rattle.std.specs.Ordering.{eq_by_cmp, is_eq, is_lt, ordering_then}
 use Rattle.std.specs.Result.{is_err, is_ok}
 use Rattle.std.specs.Str.{bytes_eq}
 use Rattle.std.specs.declared.cmp.Ordering.{Ordering}
-use Rattle.std.specs.declared.cmp.Ordering.TheVariants.{Less}
+use Rattle.std.proofs.lemmas.Slice.Eq.{bytes_eq-Decides}
+use Rattle.std.specs.declared.cmp.Ordering.TheVariants.{Equal, Greater, Less}
 use Rattle.bolt_format.specs.Elements.{LeafElement}
 use Rattle.bolt_tree.proofs.{Filters.kept, Lists.contains_cases, Lists.contains_head, Lists.contains_none, Lists.contains_tail}
 use Rattle.bolt_tree.specs.{Entries.EntryView, Entries.entry_cmp, Entries.entry_view, Order.Rises}
 use Rattle.bolt_check.specs.Keys.{key_cmp}
-use Rattle.bolt_etcd.specs.{Current.AreCurrent, Current.IsCurrent, Current.is_there, Current.name_cmp, Current.newest_first_cmp, Current.place_cmp, Newest.newest, Revisions.RevisionView, Revisions.name_of, Revisions.record_under, Revisions.revision_in, Revisions.revision_of, Revisions.value_of}
+use Rattle.bolt_etcd.specs.{Current.AreCurrent, Current.AreNewest, Current.HaveOwnPlaces, Current.IsCurrent, Current.IsNewest, Current.is_there, Current.name_cmp, Current.name_sum_cmp, Current.place_cmp, Newest.is_named, Newest.newest, Revisions.RevisionView, Revisions.name_of, Revisions.record_under, Revisions.revision_in, Revisions.revision_of, Revisions.value_of}
 use Rattle.bolt_etcd.specs.{RevisionKeys.revision_key, ShownRevisions.shown_revision, Stores.revisions, Wire.◌>>=◌}
 use Rattle.bolt_etcd.specs.{NameOrder.sums_cmp, SumOrder.AreNewestBySum}
 use Rattle.bolt_etcd.specs.declared.revision.Revision.{Revision}
-use Rattle.bolt_etcd.proofs.{Filtered.filter_mapped, Filtered.kept_from, MappedLists.dedup_mapped, MappedLists.sorted_mapped}
-use Rattle.bolt_etcd.proofs.NewestOfNames.{kept_last, last_kept, names_rise, text_ties}
-use Rattle.bolt_etcd.proofs.{NameOrders.sums_tie, NameOrders.sums_total, SortedOnce.rises_from, SortedOnce.sorted_in}
+use Rattle.bolt_etcd.proofs.{Filtered.filter_mapped, Filtered.kept_from, MappedLists.dedup_mapped, MappedLists.gives_from, MappedLists.sorted_mapped}
+use Rattle.bolt_etcd.proofs.NewestOfNames.{IsGreatest, greatest_kept, kept_greatest, last_from, last_greatest, names_rise, text_ties}
+use Rattle.bolt_etcd.proofs.{Rising.one_of, NameOrders.sums_tie, NameOrders.sums_total, SortedOnce.rises_from, SortedOnce.sorted_in}
 
 -- ---- one more is pushed
 
@@ -64,18 +65,8 @@ key_is e r is =
     let (content, _, made) = bind_some (record_under k value) _ r later in
     read ∙ ap Some (ap (λ (x : RevisionView). x.key) (same_Some _ r made))
 
-from_step : (o : Option RevisionView) (e : LeafElement) (es : List LeafElement) (r : RevisionView) → revision_of (entry_view e) ≡ o
-    → (Contains (revisions es) r → (f : LeafElement) × Contains es f × (revision_of (entry_view f) ≡ Some r)) → Contains (cons_option o (revisions es)) r
-    → (f : LeafElement) × Contains (e ∷ es) f × (revision_of (entry_view f) ≡ Some r)
-from_step None e es r is later has = let (f, there, found) = later has in (f, contains_tail e f es there, found)
-from_step (Some s) e es r is later has = elim (contains_cases s r (revisions es) has) [
-  | inl same ↦ (e, contains_head e es, is ∙ ap Some same)
-  | inr more ↦ (let (f, there, found) = later more in (f, contains_tail e f es there, found))
-]
-
 pub from_entry : (es : List LeafElement) (r : RevisionView) → Contains (revisions es) r → (f : LeafElement) × Contains es f × (revision_of (entry_view f) ≡ Some r)
-from_entry [] r has = absurd (contains_none r has)
-from_entry (e ∷ es) r has = from_step (revision_of (entry_view e)) e es r refl (from_entry es r) has
+from_entry es r has = gives_from (λ (e : LeafElement). revision_of (entry_view e)) es r has
 
 rise_step : (o : Option RevisionView) (e : LeafElement) (es : List LeafElement) → revision_of (entry_view e) ≡ o → Rises entry_cmp (e ∷ es) → Rises place_cmp (revisions es)
     → Rises place_cmp (cons_option o (revisions es))
@@ -111,56 +102,73 @@ code_name_ranks = ranks_by names_total shown_revision
 abbrev pub code_is_there : Revision → Bool
 code_is_there r = is_there (shown_revision r)
 
--- of revisions sorted by names in an order of them, the newest first, the first of each name that isn't a deletion
-module _ (cmp : List ℕ → List ℕ → Ordering) (total : IsTotalOrder cmp) (ties : (a b : List ℕ) → bytes_eq a b ≡ is_eq (cmp a b)) (rs sorted : List RevisionView)
-    (rises : Rises place_cmp rs) (moved : IsPermutation rs sorted) (up : IsSortedBy (λ a b. is_lt (ordering_then (cmp (name_of a) (name_of b)) (place_cmp b a))) sorted) where
-  abbrev by : RevisionView → RevisionView → Ordering
-  by a b = cmp (name_of a) (name_of b)
+-- ---- the newest of each name
 
-  abbrev first_there : List RevisionView
-  first_there = filter is_there (dedup view_same_name sorted)
+not_less : (o : Ordering) → o ≢ Less → is_lt o ≡ false
+not_less Less differs = absurd (differs refl)
+not_less Equal differs = refl
+not_less Greater differs = refl
 
-  first_rise : Rises by first_there
-  first_rise = rises_from (on_total name_of total) _ (IsStrictlySortedBy-filter by is_there _ (names_rise name_of (λ r. r.place) cmp total ties sorted up))
+module _ (rs : List RevisionView) where
+  abbrev Greatest : RevisionView → Type 0
+  Greatest r = IsGreatest name_of (λ (x : RevisionView). x.place) sums_cmp sums_total sums_tie (is_named (name_of r)) rs r
 
-  first_exact : (r : RevisionView) → Contains first_there r ↔ IsCurrent rs r
-  unfolding newest
-  first_exact r = (
-    λ has.
-        let (kept_one, live) = kept_from is_there _ r has in
-        (kept_last name_of (λ r. r.place) cmp total ties _ _ rises moved up r kept_one, not-true r.key.deleted live),
-    λ (last, live).
-        kept is_there _ r (last_kept name_of (λ r. r.place) cmp total ties _ _ rises moved up r last) (ap not live),
-  )
+  greatest_newest : (r : RevisionView) → Greatest r → r.key.deleted ≡ false → IsNewest rs r
+  greatest_newest r g live = record {
+    has = g.has;
+    there = live;
+    last = λ other has names less. let no = g.greatest other has ((bytes_eq-Decides (name_of other) (name_of r)).1 names) in cc;
+  }
 
-  differ : (a b : RevisionView) → by a b ≡ Less → eq_by_cmp name_cmp a b ≡ false
-  differ a b less = sym (text_ties (name_of a) (name_of b)) ∙ ties (name_of a) (name_of b) ∙ ap is_eq less
+  newest_greatest : (r : RevisionView) → IsNewest rs r → Greatest r
+  newest_greatest r n = record {
+    has = n.has;
+    passes = (bytes_eq-Decides (name_of r) (name_of r)).1 refl;
+    greatest = λ other has names. not_less (place_cmp r other) (n.last other has ((bytes_eq-Decides (name_of other) (name_of r)).0 names));
+  }
 
-  -- and these by name
-  pub sorted_are_current : (current : List RevisionView) → IsPermutation first_there current → IsSorted name_cmp current → AreCurrent rs current
-  sorted_are_current current same by_name = record {
-    rises = sorted_in names_total by first_there current (λ a b has also less. differ a b less) first_rise same by_name;
+  -- of revisions sorted by names, the newest first, the first of each name that isn't a deletion
+  pub first_are_newest : (sorted : List RevisionView) → AreNewestBySum rs sorted → HaveOwnPlaces rs → AreNewest rs (filter is_there (dedup view_same_name sorted))
+  first_are_newest sorted are own = record {
+    rises = rises_from (on_total name_of sums_total) _ (IsStrictlySortedBy-filter name_sum_cmp is_there _ (names_rise name_of (λ r. r.place) sums_cmp sums_total sums_tie sorted are.rises));
     exact = λ r. (
-      λ has. (first_exact r).0 (Contains-permutation current first_there r (IsPermutation-sym first_there current same) has),
-      λ is. Contains-permutation first_there current r same ((first_exact r).1 is),
+      λ has.
+          let (first, live) = kept_from is_there _ r has in
+          greatest_newest r (kept_greatest name_of (λ r. r.place) sums_cmp sums_total sums_tie rs sorted own are.same are.rises r first) (not-true r.key.deleted live),
+      λ n. kept is_there _ r (greatest_kept name_of (λ r. r.place) sums_cmp sums_total sums_tie rs sorted own are.same are.rises r (newest_greatest r n)) (ap not n.there),
     );
   }
 
-pub first_are_current : (rs sorted : List RevisionView) → Rises place_cmp rs → IsPermutation rs sorted → IsSortedBy (λ a b. is_lt (newest_first_cmp a b)) sorted
-    → AreCurrent rs (filter is_there (dedup view_same_name sorted))
-first_are_current rs sorted rises moved up = record {
-  rises = first_rise key_cmp nat_list_cmp_total text_ties rs sorted rises moved up;
-  exact = first_exact key_cmp nat_list_cmp_total text_ties rs sorted rises moved up;
-}
+  -- ---- of revisions in the order of their keys these are the current ones
 
-module _ (old sorted left there new : List Revision) (are : AreNewestBySum (map shown_revision old) (map shown_revision sorted))
-    (once : left ≡ dedup code_same_name sorted) (live : there ≡ filter code_is_there left) (moved : IsPermutation there new) (by_name : IsSortedBy code_by_name new)
-    (rises : Rises place_cmp (map shown_revision old)) where
-  shown : map shown_revision there ≡ filter is_there (dedup view_same_name (map shown_revision sorted))
-  shown = ap (map shown_revision) live ∙ filter_mapped shown_revision is_there left ∙ ap (filter is_there) (ap (map shown_revision) once ∙ dedup_mapped shown_revision view_same_name sorted)
+  module _ (rises : Rises place_cmp rs) where
+    pub own_places : HaveOwnPlaces rs
+    own_places a b has also same = one_of nat_list_cmp_total (λ (r : RevisionView). r.place) rs a b rises has also same
 
-  pub are_current : AreCurrent (map shown_revision old) (map shown_revision new)
-  are_current =
-      sorted_are_current sums_cmp sums_total sums_tie (map shown_revision old) (map shown_revision sorted) rises are.same are.rises (map shown_revision new)
-      (subst (λ (rs : List RevisionView). IsPermutation rs (map shown_revision new)) shown (IsPermutation-map shown_revision there new moved))
-      (sorted_mapped shown_revision (λ a b. is_lt (name_cmp a b)) new by_name)
+    current_newest : (r : RevisionView) → IsCurrent rs r ↔ IsNewest rs r
+    unfolding newest
+    current_newest r = (
+      λ (last, live). greatest_newest r (last_greatest name_of (λ r. r.place) sums_cmp sums_total sums_tie (is_named (name_of r)) rs r rises last) live,
+      λ n. (last_from name_of (λ r. r.place) sums_cmp sums_total sums_tie (is_named (name_of r)) rs r rises (newest_greatest r n), n.there),
+    )
+
+    differ : (a b : RevisionView) → name_sum_cmp a b ≡ Less → eq_by_cmp name_cmp a b ≡ false
+    differ a b less = sym (text_ties (name_of a) (name_of b)) ∙ sums_tie (name_of a) (name_of b) ∙ ap is_eq less
+
+    pub sorted_are_current : (found current : List RevisionView) → AreNewest rs found → IsPermutation found current → IsSorted name_cmp current → AreCurrent rs current
+    sorted_are_current found current are same by_name = record {
+      rises = sorted_in names_total name_sum_cmp found current (λ a b has also less. differ a b less) are.rises same by_name;
+      exact = λ r. (
+        λ has. (current_newest r).1 ((are.exact r).0 (Contains-permutation current found r (IsPermutation-sym found current same) has)),
+        λ is. Contains-permutation found current r same ((are.exact r).1 ((current_newest r).0 is)),
+      );
+    }
+
+-- ---- of the code
+
+pub kept_newest : (old sorted left there : List Revision) → AreNewestBySum (map shown_revision old) (map shown_revision sorted) → left ≡ dedup code_same_name sorted
+    → there ≡ filter code_is_there left → HaveOwnPlaces (map shown_revision old) → AreNewest (map shown_revision old) (map shown_revision there)
+kept_newest old sorted left there are once live own =
+    let shown =
+    ap (map shown_revision) live ∙ filter_mapped shown_revision is_there left ∙ ap (filter is_there) (ap (map shown_revision) once ∙ dedup_mapped shown_revision view_same_name sorted) in
+    subst (AreNewest (map shown_revision old)) (sym shown) (first_are_newest (map shown_revision old) (map shown_revision sorted) are own)

@@ -1,7 +1,7 @@
 -- Lists by what their elements show: sorted, and with neighbors merged.
-use Rattle.std.proofs.Common.{◌≡◌, ◌∙◌, ◌<◌, ◌+◌, inl, inr, zero, suc, Bool, true, false, List, [], ◌∷◌, cond, length, map, refl, slice_index_or, sym, ap, arith, subst}
+use Rattle.std.proofs.Common.{◌≡◌, ◌∙◌, ◌<◌, ◌+◌, inl, inr, zero, suc, Bool, true, false, List, [], ◌∷◌, cond, length, map, Option, Some, None, refl, slice_index_or, sym, ap, arith, subst}
 use Rattle.std.proofs.lemmas.List.{get_or-map, length-map}
-use Rattle.std.specs.List.{Contains, dedup, dedup_from}
+use Rattle.std.specs.List.{Contains, cons_option, dedup, dedup_from, filter_map}
 use Rattle.std.specs.List.Sorted.{IsSortedBy}
 use Rattle.bolt_tree.proofs.Lists.{contains_cases, contains_head, contains_none, contains_tail}
 
@@ -52,6 +52,32 @@ module _ {X Y : Type 0} (f : X → Y) where
     pub dedup_mapped : (xs : List X) → map f (dedup shown_same xs) ≡ dedup same (map f xs)
     dedup_mapped [] = refl
     dedup_mapped (x ∷ xs) = dedup_from_mapped x xs
+
+-- ---- what elements give, of those that give something
+
+module _ {X Y : Type 0} (h : X → Option Y) where
+  from_step : (o : Option Y) (x : X) (xs : List X) (y : Y) → h x ≡ o → (Contains (filter_map h xs) y → (z : X) × Contains xs z × (h z ≡ Some y)) → Contains (cons_option o (filter_map h xs)) y
+      → (z : X) × Contains (x ∷ xs) z × (h z ≡ Some y)
+  from_step None x xs y is later has = let (z, there, found) = later has in (z, contains_tail x z xs there, found)
+  from_step (Some w) x xs y is later has = elim (contains_cases w y (filter_map h xs) has) [
+    | inl same ↦ (x, contains_head x xs, is ∙ ap Some same)
+    | inr more ↦ (let (z, there, found) = later more in (z, contains_tail x z xs there, found))
+  ]
+
+  pub gives_from : (xs : List X) (y : Y) → Contains (filter_map h xs) y → (x : X) × Contains xs x × (h x ≡ Some y)
+  gives_from [] y has = absurd (contains_none y has)
+  gives_from (x ∷ xs) y has = from_step (h x) x xs y refl (gives_from xs y) has
+
+  has_step : (o : Option Y) (xs : List X) (y : Y) → Contains (filter_map h xs) y → Contains (cons_option o (filter_map h xs)) y
+  has_step None xs y has = has
+  has_step (Some w) xs y has = contains_tail w y (filter_map h xs) has
+
+  pub gives_has : (xs : List X) (x : X) (y : Y) → Contains xs x → h x ≡ Some y → Contains (filter_map h xs) y
+  gives_has [] x y has is = absurd (contains_none x has)
+  gives_has (z ∷ xs) x y has is = elim (contains_cases z x xs has) [
+    | inl same ↦ subst (λ (o : Option Y). Contains (cons_option o (filter_map h xs)) y) (sym (ap h same ∙ is)) (contains_head y (filter_map h xs))
+    | inr more ↦ has_step (h z) xs y (gives_has xs x y more is)
+  ]
 
 -- ---- no element of a list is below one before it
 

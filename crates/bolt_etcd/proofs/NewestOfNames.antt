@@ -15,8 +15,9 @@ use Rattle.std.specs.Str.{bytes_eq}
 use Rattle.std.specs.declared.cmp.Ordering.{Ordering}
 use Rattle.std.specs.declared.cmp.Ordering.TheVariants.{Equal, Greater, Less}
 use Rattle.bolt_check.specs.Keys.{key_cmp}
-use Rattle.bolt_tree.proofs.Lists.{contains_cases, contains_head, contains_none, contains_tail}
+use Rattle.bolt_tree.proofs.{Lists.contains_cases, Lists.contains_head, Lists.contains_none, Lists.contains_tail, PathOrder.key_exact}
 use Rattle.bolt_tree.specs.Order.{Rises}
+use Rattle.bolt_etcd.proofs.Rising.{one_of}
 
 never_none : {X : Type 0} (x : X) (xs : List X) → last_or (Some x) xs ≡ None → ⊥
 never_none x [] e = cc
@@ -30,6 +31,11 @@ first_less : (a b : Ordering) → is_lt (ordering_then a b) ≡ false → is_lt 
 first_less Less b e = e
 first_less Equal b e = refl
 first_less Greater b e = refl
+
+neither : (o : Ordering) → is_lt o ≡ false → is_lt (ordering_reverse o) ≡ false → o ≡ Equal
+neither Less up down = cc
+neither Equal up down = refl
+neither Greater up down = cc
 
 pub text_ties : (a b : List ℕ) → bytes_eq a b ≡ is_eq (key_cmp a b)
 text_ties a b = sym (is_eq-slice_cmp a b)
@@ -125,25 +131,15 @@ module _ {X : Type 0} (name key : X → List ℕ) (cmp : List ℕ → List ℕ �
   last_there p o [] x has passes e = contains_none x has
   last_there p o (z ∷ zs) x has passes e = some_last p o z zs x (p z) refl passes (contains_cases z x zs has) (λ o' has' e'. last_there p o' zs x has' passes e') e
 
-  -- in a list that rises, two that aren't one after the other are one
-  pub one_of : (xs : List X) (a b : X) → Rises by_key xs → Contains xs a → Contains xs b → is_lt (by_key a b) ≡ false → is_lt (by_key b a) ≡ false → a ≡ b
-  one_of [] a b rises has other up down = absurd (contains_none a has)
-  one_of (z ∷ zs) a b rises has other up down = elim (contains_cases z a zs has) [
-    | inl first ↦ elim (contains_cases z b zs other) [
-      | inl second ↦ sym first ∙ second
-      | inr more ↦ (let less : by_key a b ≡ Less = subst (λ (w : X). by_key w b ≡ Less) first (rises.0 b more) in let test = ap is_lt less in cc)
-    ]
-    | inr more ↦ elim (contains_cases z b zs other) [
-      | inl second ↦ (let less : by_key b a ≡ Less = subst (λ (w : X). by_key w a ≡ Less) second (rises.0 a more) in let test = ap is_lt less in cc)
-      | inr others ↦ one_of zs a b rises.1 more others up down
-    ]
-  ]
+  -- two of which neither comes before the other have one key
+  same_key : (a b : X) → is_lt (by_key a b) ≡ false → is_lt (by_key b a) ≡ false → key a ≡ key b
+  same_key a b up down = key_exact (key a) (key b) (neither (by_key a b) up (ap is_lt (sym (keys_total.antisymm b a)) ∙ down))
 
   last_by : (p : X → Bool) (xs : List X) (x : X) (o : Option X) → Rises by_key xs → IsGreatest p xs x → last_or None (filter p xs) ≡ o → last_or None (filter p xs) ≡ Some x
   last_by p xs x None rises g e = absurd (last_there p None xs x g.has g.passes e)
   last_by p xs x (Some w) rises g e =
       let h = last_greatest p xs w rises e in
-      e ∙ ap Some (one_of xs w x rises h.has g.has (h.greatest x g.has g.passes) (g.greatest w h.has h.passes))
+      e ∙ ap Some (one_of nat_list_cmp_total key xs w x rises h.has g.has (same_key w x (h.greatest x g.has g.passes) (g.greatest w h.has h.passes)))
 
   pub last_from : (p : X → Bool) (xs : List X) (x : X) → Rises by_key xs → IsGreatest p xs x → last_or None (filter p xs) ≡ Some x
   last_from p xs x rises g = last_by p xs x (last_or None (filter p xs)) rises g refl
@@ -247,7 +243,7 @@ module _ {X : Type 0} (name key : X → List ℕ) (cmp : List ℕ → List ℕ �
   abbrev pub is_named : X → X → Bool
   is_named x y = same_name y x
 
-  module _ (xs ys : List X) (rises : Rises by_key xs) (moved : IsPermutation xs ys) (up : IsSortedBy (λ a b. is_lt (newest_first a b)) ys) where
+  module _ (xs ys : List X) (once : (a b : X) → Contains xs a → Contains xs b → key a ≡ key b → a ≡ b) (moved : IsPermutation xs ys) (up : IsSortedBy (λ a b. is_lt (newest_first a b)) ys) where
     pub kept_greatest : (x : X) → Contains (dedup same_name ys) x → IsGreatest (is_named x) xs x
     kept_greatest x has = record {
       has = Contains-permutation ys xs x (IsPermutation-sym xs ys moved) (Contains-from_dedup same_name ys x has);
@@ -257,16 +253,10 @@ module _ {X : Type 0} (name key : X → List ℕ) (cmp : List ℕ → List ℕ �
           by_keys x y named (kept_first ys x up has y (Contains-permutation xs ys y moved other) named);
     }
 
-    pub kept_last : (x : X) → Contains (dedup same_name ys) x → last_or None (filter (is_named x) xs) ≡ Some x
-    kept_last x has = last_from (is_named x) xs x rises (kept_greatest x has)
-
     pub greatest_kept : (x : X) → IsGreatest (is_named x) xs x → Contains (dedup same_name ys) x
     greatest_kept x g =
         let (k, w, lt, at, same) = Any-dedup names_equal ys x (Contains-permutation xs ys x moved g.has) in
         let kept : Contains (dedup same_name ys) w = (k, lt, at) in
         let h = kept_greatest w kept in
         let named = same_text (name x) (name w) (sym same) in
-        subst (Contains (dedup same_name ys)) (one_of xs w x rises h.has g.has (h.greatest x g.has same) (g.greatest w h.has (subst (λ (n : List ℕ). bytes_eq n (name x) ≡ true) named g.passes))) kept
-
-    pub last_kept : (x : X) → last_or None (filter (is_named x) xs) ≡ Some x → Contains (dedup same_name ys) x
-    last_kept x e = greatest_kept x (last_greatest (is_named x) xs x rises e)
+        subst (Contains (dedup same_name ys)) (once w x h.has g.has (same_key w x (h.greatest x g.has same) (g.greatest w h.has (subst (λ (n : List ℕ). bytes_eq n (name x) ≡ true) named g.passes)))) kept

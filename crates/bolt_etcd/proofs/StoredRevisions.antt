@@ -14,7 +14,7 @@ use Rattle.bolt_etcd.specs.declared.revision_key.RevisionKey.{RevisionKey}
 use Rattle.bolt_etcd.specs.declared.revision.Revision.{Revision}
 use Rattle.bolt_etcd.specs.{Revisions.RevisionView, Revisions.name_of, Revisions.record_under, Revisions.revision_in, Revisions.revision_of}
 use Rattle.bolt_etcd.specs.ShownRevisions.{entry_of, or_nothing, shown_revision}
-use Rattle.bolt_etcd.specs.{NameOrder.name_if, NameOrder.name_of_entry, ShownRevisions.is_deletion, ShownRevisions.is_key_deleted}
+use Rattle.bolt_etcd.specs.ShownRevisions.{is_deletion, is_key_deleted}
 use Rattle.bolt_etcd.proofs.{Currents.bind_some, KeyNumbers.spellings_cmp, Keys.read_spelled}
 
 some_of : (o : Option RevisionView) (name : List ℕ) → option_map name_of o ≡ Some name → (o ≡ Some (or_nothing o)) × (name_of (or_nothing o) ≡ name)
@@ -50,9 +50,6 @@ pub has_place : (r : Revision) → (shown_revision r).place ≡ r.key.now
 has_place r = (stored r).place
 
 -- ---- as an entry
-
-pub named : (r : Revision) → name_of_entry (entry_of r) ≡ name_of (shown_revision r)
-named r = ap name_if (is_revision r)
 
 pub deleted : (r : Revision) → is_deletion (entry_of r) ≡ (shown_revision r).key.deleted
 deleted r = ap is_key_deleted (has_key r)

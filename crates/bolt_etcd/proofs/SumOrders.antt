@@ -8,11 +8,10 @@ use Rattle.std.specs.Ordering.{is_lt, ordering_then}
 use Rattle.std.specs.declared.cmp.Ordering.{Ordering}
 use Rattle.std.specs.declared.cmp.Ordering.TheVariants.{Equal}
 use Rattle.bolt_check.specs.Keys.{key_cmp}
-use Rattle.bolt_etcd.specs.{NameOrder.name_sum, NameOrder.sums_cmp, Revisions.RevisionView, Revisions.name_of, ShownRevisions.entry_of, ShownRevisions.shown_revision}
-use Rattle.bolt_etcd.specs.NameOrder.{entry_name_cmp}
+use Rattle.bolt_etcd.specs.{NameOrder.name_sum, NameOrder.sums_cmp, Revisions.RevisionView, Revisions.name_of, ShownRevisions.shown_revision}
 use Rattle.bolt_etcd.specs.SumOrder.{AreSortedBy, by_sum_cmp, newest_by_sum_cmp}
 use Rattle.bolt_etcd.specs.declared.revision.Revision.{Revision}
-use Rattle.bolt_etcd.proofs.{MappedLists.sorted_mapped, NameOrders.sums_tie, NameOrders.sums_total, NewestOfNames.newest_ranks, SortedOnce.named_total, StoredRevisions.decided, StoredRevisions.named}
+use Rattle.bolt_etcd.proofs.{MappedLists.sorted_mapped, NameOrders.sums_tie, NameOrders.sums_total, NewestOfNames.newest_ranks, SortedOnce.named_total, StoredRevisions.decided}
 
 -- ---- sums decide, or else names
 
@@ -22,9 +21,6 @@ module _ (a b : Revision) where
 
   abbrev name_b : List ℕ
   name_b = name_of (shown_revision b)
-
-  pub as_entries : (o : Ordering) → o ≡ sums_cmp name_a name_b → o ≡ entry_name_cmp (entry_of a) (entry_of b)
-  as_entries o is = is ∙ sym (ap₂ sums_cmp (named a) (named b))
 
   pub by_sums : (o : Ordering) → o ≡ nat_cmp (name_sum name_a) (name_sum name_b) → (o ≡ Equal → ⊥) → o ≡ sums_cmp name_a name_b
   by_sums o is differ = is ∙ sym (decided _ _ (λ e. differ (is ∙ e)))

@@ -1,11 +1,11 @@
 -- Which keys there are, and what each is: the newest revision of each name, if that isn't a deletion.
-use Rattle.std.specs.Prelude.{◌≡◌, ◌↔◌, Bool, false, List, Some, not}
+use Rattle.std.specs.Prelude.{◌≡◌, ◌≢◌, ◌↔◌, Bool, false, List, Some, not}
 use Rattle.std.specs.List.{Contains}
-use Rattle.std.specs.Ordering.{ordering_then}
 use Rattle.std.specs.declared.cmp.Ordering.{Ordering}
+use Rattle.std.specs.declared.cmp.Ordering.TheVariants.{Less}
 use Rattle.bolt_check.specs.Keys.{key_cmp}
 use Rattle.bolt_tree.specs.Order.{Rises}
-use Rattle.bolt_etcd.specs.{Newest.newest, Revisions.RevisionView, Revisions.name_of}
+use Rattle.bolt_etcd.specs.{NameOrder.sums_cmp, Newest.newest, Revisions.RevisionView, Revisions.name_of}
 
 abbrev pub name_cmp : RevisionView → RevisionView → Ordering
 name_cmp a b = key_cmp (name_of a) (name_of b)
@@ -22,9 +22,24 @@ pub record AreCurrent (rs current : List RevisionView) : Type 0 where
   pub rises : Rises name_cmp current
   pub exact : (r : RevisionView) → Contains current r ↔ IsCurrent rs r
 
--- by name, and of one name the later ones first
-abbrev pub newest_first_cmp : RevisionView → RevisionView → Ordering
-newest_first_cmp a b = ordering_then (name_cmp a b) (place_cmp b a)
+-- no two of these are under one key
+abbrev pub HaveOwnPlaces : List RevisionView → Type 0
+HaveOwnPlaces rs = (a b : RevisionView) → Contains rs a → Contains rs b → a.place ≡ b.place → a ≡ b
+
+-- r isn't a deletion, and none of its name is later
+pub record IsNewest (rs : List RevisionView) (r : RevisionView) : Type 0 where
+  pub has : Contains rs r
+  pub there : r.key.deleted ≡ false
+  pub last : (other : RevisionView) → Contains rs other → name_of other ≡ name_of r → place_cmp r other ≢ Less
+
+-- by the sums of names, and of one sum by name
+abbrev pub name_sum_cmp : RevisionView → RevisionView → Ordering
+name_sum_cmp a b = sums_cmp (name_of a) (name_of b)
+
+-- exactly these, by the sums of their names
+pub record AreNewest (rs found : List RevisionView) : Type 0 where
+  pub rises : Rises name_sum_cmp found
+  pub exact : (r : RevisionView) → Contains found r ↔ IsNewest rs r
 
 abbrev pub is_there : RevisionView → Bool
 is_there r = not r.key.deleted

@@ -1,8 +1,8 @@
 //! Which keys there are at a revision, and what each is.
 ghost use Rattle.std.specs.Prelude.{◌≡◌, IfOk, length, map};
 ghost use Rattle.bolt_check.specs.Counts.{counted};
-ghost use Rattle.bolt_tree.specs.Order.{Rises};
-ghost use Rattle.bolt_etcd.specs.{Current.AreCurrent, Current.name_cmp, Current.place_cmp};
+ghost use Rattle.std.specs.List.Sorted.{IsPermutation, IsSorted};
+ghost use Rattle.bolt_etcd.specs.Current.{AreNewest, HaveOwnPlaces, name_cmp};
 ghost use Rattle.bolt_etcd.specs.{ShownRevisions.shown_revision, Stores.others, Stores.revisions};
 ghost use Rattle.bolt_tree.specs.EntriesLeft.{ForBucket};
 ghost use Rattle.bolt_etcd.specs.ForNames.{AreCurrentAt};
@@ -43,19 +43,28 @@ impl<'a> Current<'a> {
             others,
         } = Collected::of(alloc, bucket, up_to)?;
         keep_newest(&mut revisions);
+        sort_by_name(&mut revisions);
         Ok(Current { revisions, others })
     }
 }
 
-/// Keeps the newest revision of each name, if it isn't a deletion, by rising name. All are sorted by sums,
-/// and only those that are kept by name.
-fn keep_newest(revisions: &mut Vec<Revision<'_>>)
+/// Keeps the newest revision of each name, if it isn't a deletion, by the sums of names. They may stand in
+/// any order, but no two under one key. Needs no memory.
+pub fn keep_newest(revisions: &mut Vec<Revision<'_>>)
     ensures { let found = map shown_revision revisions.old.items in
-        Rises place_cmp found → AreCurrent found (map shown_revision revisions.new.items) }
+        HaveOwnPlaces found → AreNewest found (map shown_revision revisions.new.items) }
 {
     sort_newest_by_sum(revisions);
     revisions.dedup_by(|older, newest| older.name() == newest.name());
     revisions.retain(|newest| !newest.key().deleted);
+}
+
+/// Sorts revisions by name.
+fn sort_by_name(revisions: &mut Vec<Revision<'_>>)
+    ensures same { IsPermutation (map shown_revision revisions.old.items)
+        (map shown_revision revisions.new.items) }
+    ensures sorted { IsSorted name_cmp (map shown_revision revisions.new.items) }
+{
     sort_roughly(revisions);
     revisions.sort_unstable_by(by_name);
 }

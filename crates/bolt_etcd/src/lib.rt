@@ -28,10 +28,9 @@ mod wire;
 
 pub use crate::collected::Collected;
 pub use crate::compaction::{compacted, compacted_by, store_compacted};
-pub use crate::current::Current;
+pub use crate::current::{Current, keep_newest};
 pub use crate::missing::{Missing, MissingNumbers};
 pub use crate::name_faults::{NameFault, NameFaults};
-pub use crate::name_order::cmp_by_sums;
 pub use crate::newest::Newest;
 pub use crate::other::Other;
 pub use crate::record::Record;

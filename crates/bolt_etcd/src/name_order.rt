@@ -2,18 +2,15 @@
 //! name, so it is quicker to sort by sums than by names.
 ghost use Rattle.std.specs.Prelude.{◌≡◌, map};
 ghost use Rattle.std.specs.List.Sorted.{IsPermutation};
-ghost use Rattle.bolt_etcd.specs.{NameOrder.sums_cmp, Revisions.name_of, ShownRevisions.entry_of, ShownRevisions.shown_revision};
+ghost use Rattle.bolt_etcd.specs.{Current.name_sum_cmp, ShownRevisions.shown_revision};
 ghost use Rattle.bolt_etcd.specs.SumOrder.{AreBySum, AreNewestBySum, by_sum_cmp, newest_by_sum_cmp};
-ghost use Rattle.bolt_etcd.specs.NameOrder.{entry_name_cmp};
 
 use crate::revision::Revision;
 use std::cmp::Ordering;
 
 /// By the sums of names, and of one sum by name.
-pub fn cmp_by_sums(a: &Revision<'_>, b: &Revision<'_>) -> Ordering
-    ensures revisions { result
-        ≡ sums_cmp (name_of (shown_revision a.now)) (name_of (shown_revision b.now)) }
-    ensures entries { result ≡ entry_name_cmp (entry_of a.now) (entry_of b.now) }
+fn cmp_by_sums(a: &Revision<'_>, b: &Revision<'_>) -> Ordering
+    ensures { result ≡ name_sum_cmp (shown_revision a.now) (shown_revision b.now) }
 {
     match a.sum().cmp(&b.sum()) {
         Ordering::Equal => a.name().cmp(b.name()),

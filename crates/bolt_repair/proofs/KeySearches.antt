@@ -9,32 +9,31 @@ use Rattle.std.specs.Result.{is_ok}
 use Rattle.std.specs.declared.cmp.Ordering.TheVariants.{Equal, Greater, Less}
 use Rattle.std.proofs.lemmas.List.Sorted.{searchable_from_sorted}
 use Rattle.std.proofs.lemmas.Cmp.{tied_itself}
-use Rattle.std.specs.Cmp.{IsTotalOrder}
-use Rattle.std.specs.declared.cmp.Ordering.{Ordering}
-use Rattle.bolt_check.specs.Keys.{Key}
+use Rattle.bolt_check.specs.Keys.{Key, key_cmp}
+use Rattle.bolt_tree.proofs.PathOrder.{key_exact, key_total}
 use Rattle.bolt_etcd.proofs.MappedLists.{shows_from}
 
 two_ways : (i k : ℕ) → (k < i) ⊎ (i ≤ k)
 two_ways i k = grind arith
 
-module _ {X : Type 0} (f : X → Key) (key : Key) (cmp : Key → Key → Ordering) (total : IsTotalOrder cmp) (exact : (a b : Key) → cmp a b ≡ Equal → a ≡ b) where
-  found_here : (xs : List X) (i : ℕ) → i < length xs → HoldsAt (λ x. cmp (f x) key ≡ Equal) xs i → Contains (map f xs) key
+module _ {X : Type 0} (f : X → Key) (key : Key) where
+  found_here : (xs : List X) (i : ℕ) → i < length xs → HoldsAt (λ x. key_cmp (f x) key ≡ Equal) xs i → Contains (map f xs) key
   found_here [] i below holds = absurd (omega arith)
   found_here (x ∷ xs) i below holds =
       let long = length-map (x ∷ xs) f in
-      Contains-from_at (map f (x ∷ xs)) key (i, omega (arith, long), λ d. get_or-map f (x ∷ xs) i x d below ∙ exact _ key (holds x))
+      Contains-from_at (map f (x ∷ xs)) key (i, omega (arith, long), λ d. get_or-map f (x ∷ xs) i x d below ∙ key_exact _ key (holds x))
 
-  pub not_found : (xs : List X) (i : ℕ) → IsPartitionPoint (λ x. cmp (f x) key ≡ Less) (λ x. cmp (f x) key ≡ Greater) xs i → Contains (map f xs) key → ⊥
+  not_found : (xs : List X) (i : ℕ) → IsPartitionPoint (λ x. key_cmp (f x) key ≡ Less) (λ x. key_cmp (f x) key ≡ Greater) xs i → Contains (map f xs) key → ⊥
   not_found xs i parts has =
       let (x, (k, below, at), is) = shows_from f xs key has in
-      let tied : cmp (f (slice_index_or xs k x)) key ≡ Equal = ap (λ (y : X). cmp (f y) key) at ∙ ap (λ (l : Key). cmp l key) is ∙ tied_itself total key in
+      let tied : key_cmp (f (slice_index_or xs k x)) key ≡ Equal = ap (λ (y : X). key_cmp (f y) key) at ∙ ap (λ (l : Key). key_cmp l key) is ∙ tied_itself key_total key in
       elim (two_ways i k) [
         | inl before ↦ (let less = parts.0 k x (omega arith) before in let wrong : Less ≡ Equal = sym less ∙ tied in cc)
         | inr after ↦ (let greater = parts.1 k x after below in let wrong : Greater ≡ Equal = sym greater ∙ tied in cc)
       ]
 
-  pub found_key : (xs : List X) (r : Result ℕ ℕ) (b : Bool) → IsSortedBy (λ a c. is_lt (cmp (f a) (f c))) xs → IsSearchInRange r (length xs)
-      → IsBinarySearchResult (λ x. cmp (f x) key) xs r → b ≡ is_ok r → (b ≡ true) ↔ Contains (map f xs) key
+  pub found_key : (xs : List X) (r : Result ℕ ℕ) (b : Bool) → IsSortedBy (λ a c. is_lt (key_cmp (f a) (f c))) xs → IsSearchInRange r (length xs)
+      → IsBinarySearchResult (λ x. key_cmp (f x) key) xs r → b ≡ is_ok r → (b ≡ true) ↔ Contains (map f xs) key
   found_key xs (Ok i) b up within found is = (λ _. found_here xs i within found, λ _. is)
   found_key xs (Err i) b up within found is =
-      (λ e. absurd (let wrong : true ≡ false = sym e ∙ is in cc), λ has. absurd (not_found xs i (found (searchable_from_sorted total f xs key up)) has))
+      (λ e. absurd (let wrong : true ≡ false = sym e ∙ is in cc), λ has. absurd (not_found xs i (found (searchable_from_sorted key_total f xs key up)) has))

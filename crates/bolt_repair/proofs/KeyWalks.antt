@@ -13,7 +13,7 @@ use Rattle.bolt_tree.specs.{Entries.EntryView, Order.Rises}
 use Rattle.bolt_repair.specs.{Candidates.HasKey, Candidates.whole_cmp, Keyed.HaveLesserKeys}
 use Rattle.bolt_etcd.specs.{ShownRevisions.entry_of}
 use Rattle.bolt_etcd.specs.declared.revision.Revision.{Revision}
-use Rattle.bolt_repair.proofs.{Alones.entries_climb, Alones.entry_below, Alones.neither, OldOnes.has_at}
+use Rattle.bolt_repair.proofs.{Alones.entries_climb, Alones.entry_below, Alones.neither}
 use Rattle.bolt_etcd.proofs.{MappedLists.Climbs, MappedLists.shows_from, MappedLists.shows_has}
 
 less_is : (o : Ordering) → is_lt o ≡ true → o ≡ Less
@@ -38,7 +38,7 @@ climbs_at : (xs : List Revision) → Climbs entry_below (map entry_of xs) → (j
     → entry_below (entry_of (slice_index_or xs k d)) (entry_of (slice_index_or xs j d)) ≡ false
 climbs_at [] up j k d le lt = absurd (omega arith)
 climbs_at (x ∷ xs) up zero zero d le lt = ap is_lt (key_same x.key.now)
-climbs_at (x ∷ xs) up zero (suc k) d le lt = up.0 (entry_of (slice_index_or xs k d)) (shows_has entry_of xs (slice_index_or xs k d) (has_at xs k d (omega arith)))
+climbs_at (x ∷ xs) up zero (suc k) d le lt = up.0 (entry_of (slice_index_or xs k d)) (shows_has entry_of xs (slice_index_or xs k d) (k, omega arith, same_default xs k _ d (omega arith)))
 climbs_at (x ∷ xs) up (suc j) zero d le lt = absurd (omega arith)
 climbs_at (x ∷ xs) up (suc j) (suc k) d le lt = climbs_at xs up.1 j k d (omega arith) (omega arith)
 
@@ -59,9 +59,6 @@ module _ (key : Key) (xs : List Revision) (rises : Rises whole_cmp (map entry_of
         at_most (slice_index_or xs k d).key.now (slice_index_or xs (n - 1) d).key.now key _ refl (not_above k (n - 1) d (omega arith) (omega arith))
         (subst (λ (x : Revision). key_cmp x.key.now key ≡ Less) (at ∙ last) before),
   )
-
-  pub none_below : HaveLesserKeys key xs 0
-  none_below = (omega arith, λ k d lt. absurd (omega arith))
 
   pub one_more : (i : ℕ) (r : Revision) → HaveLesserKeys key xs i → i < length xs → r ≡ slice_index_or xs i r → is_lt (key_cmp r.key.now key) ≡ true → HaveLesserKeys key xs (i + 1)
   one_more i r below lt at less = below_all (i + 1) r (omega arith) (omega arith) (let same : i + 1 - 1 ≡ i = omega arith in rw same at) less
@@ -96,6 +93,6 @@ module _ (key : Key) (xs : List Revision) (rises : Rises whole_cmp (map entry_of
 
     pub found : (b : Bool) → b ≡ bytes_eq r.key.now key → (b ≡ true) ↔ HasKey (map entry_of xs) key
     found b is = (
-      λ e. (entry_of r, shows_has entry_of xs r (subst (Contains xs) (sym at) (has_at xs i r lt)), (bytes_eq-Decides r.key.now key).0 (sym is ∙ e)),
+      λ e. (entry_of r, shows_has entry_of xs r (i, lt, sym at), (bytes_eq-Decides r.key.now key).0 (sym is ∙ e)),
       λ has. is ∙ (bytes_eq-Decides r.key.now key).1 (next_only has),
     )

@@ -12,14 +12,14 @@ use Rattle.bolt_etcd.proofs.{Filtered.kept_from}
 
 -- ---- whether a key is among these, as a test
 
-among_has : (keys : List Key) (key : Key) → among keys key ≡ true → Contains keys key
+pub among_has : (keys : List Key) (key : Key) → among keys key ≡ true → Contains keys key
 among_has [] key e = absurd (cc)
 among_has (k ∷ keys) key e = elim (or_cases (bytes_eq k key) (among keys key) e) [
   | inl here ↦ subst (Contains (k ∷ keys)) ((bytes_eq-Decides k key).0 here) (contains_head k keys)
   | inr later ↦ contains_tail k key keys (among_has keys key later)
 ]
 
-among_true : (keys : List Key) (key : Key) → Contains keys key → among keys key ≡ true
+pub among_true : (keys : List Key) (key : Key) → Contains keys key → among keys key ≡ true
 among_true [] key has = absurd (contains_none key has)
 among_true (k ∷ keys) key has = elim (contains_cases k key keys has) [
   | inl same ↦ or_left (bytes_eq k key) (among keys key) ((bytes_eq-Decides k key).1 same)

@@ -1,9 +1,10 @@
 -- There is one repaired listing.
 use Rattle.std.proofs.Common.{◌≡◌, ◌∙◌, inl, inr, ℕ, Bool, true, false, List, [], ◌∷◌, refl, subst, sym, ap}
-use Rattle.std.specs.List.{Contains}
+use Rattle.std.proofs.lemmas.Cmp.{on_total}
+use Rattle.std.specs.{Cmp.IsTotalOrder, List.Contains}
 use Rattle.bolt_format.specs.{Elements.LeafElement, declared.meta.Meta.Meta}
-use Rattle.bolt_tree.specs.{Entries.Bucket, Entries.EntryView, Entries.Value, Listing.Member, Listing.member_cmp, Order.Rises, Paths.Path}
-use Rattle.bolt_tree.proofs.{Lists.contains_cases, Lists.contains_none, Lists.irreflexive, Lists.rises_once, PathOrder.path_total}
+use Rattle.bolt_tree.specs.{Entries.Bucket, Entries.EntryView, Entries.Value, InBuckets.view_cmp, Listing.Member, Listing.member_cmp, Order.Rises, Paths.Path}
+use Rattle.bolt_tree.proofs.{Lists.contains_cases, Lists.contains_none, Lists.irreflexive, Lists.rises_once, PathOrder.key_total, PathOrder.path_total}
 use Rattle.bolt_tree.specs.{Entries.Item, Paths.path_cmp}
 use Rattle.std.specs.declared.cmp.Ordering.TheVariants.{Less}
 use Rattle.bolt_recover.proofs.Existing.{one_recovered}
@@ -11,7 +12,9 @@ use Rattle.bolt_check.specs.Ones.{AtMostOne}
 use Rattle.bolt_recover.specs.{Found.AreFound, Recovered.IsRecovered}
 use Rattle.bolt_etcd.specs.{Compacted.compacted_by, Revisions.value_of}
 use Rattle.bolt_repair.specs.{Repaired.IsRepair, Repaired.IsRepaired, Repaired.MakesStore, Repaired.elements_on, Repaired.repaired_listing, Repairs.AreBack, Repairs.IsCompactedAt, Repairs.compaction_path}
-use Rattle.bolt_repair.proofs.NewestEntries.{view_total}
+
+pub view_total : IsTotalOrder view_cmp
+view_total = on_total (λ (e : EntryView). e.key) key_total
 
 one_back : (compacted : ℕ) (recovered : List Member) (found : List LeafElement) (a b : List EntryView) → AreBack compacted recovered found a → AreBack compacted recovered found b → a ≡ b
 one_back compacted recovered found a b h k = rises_once view_total a b h.rises k.rises (λ e has. (k.exact e).1 ((h.exact e).0 has)) (λ e has. (h.exact e).1 ((k.exact e).0 has))

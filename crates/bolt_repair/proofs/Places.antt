@@ -1,14 +1,9 @@
 -- Where a path leads, as far as a store is concerned.
-use Rattle.std.proofs.Common.{◌≡◌, ◌∙◌, ◌<◌, ◌≤◌, Bor, true, List, [], ◌∷◌, ◌++◌, length, Option, Some, None, refl, ap, slice_index_or, arith}
+use Rattle.std.proofs.Common.{◌≡◌, ◌∙◌, ◌<◌, ◌≤◌, Bor, true, List, [], ◌∷◌, length, ap, slice_index_or, arith}
 use Rattle.std.specs.Cmp.Lexicographic.{same_text}
 use Rattle.std.specs.Str.{bytes_eq}
 use Rattle.bolt_check.specs.Keys.{Key}
-use Rattle.bolt_tree.specs.{Entries.Item, Paths.Path, Paths.path_of}
-use Rattle.bolt_repair.specs.{Repairs.store_path, StoreSurveys.LeadsToPlace, StoreSurveys.revision_at}
-use Rattle.bolt_etcd.specs.{Revisions.RevisionView}
-use Rattle.bolt_repair.specs.declared.survey.Place.{Place}
-use Rattle.bolt_repair.specs.declared.survey.Place.TheVariants.{Compaction, InStore, Other, Store}
-use Rattle.bolt_repair.proofs.KeptRevisions.{revision_from}
+use Rattle.bolt_tree.specs.Paths.{path_of}
 
 pub one_key : (parts : List (Bor Key)) (d : Bor Key) (a : Key) → 1 ≤ length parts → length parts < 2 → true ≡ bytes_eq (slice_index_or parts 0 d).now a → path_of parts ≡ a ∷ []
 one_key [] d a least below is = absurd (omega arith)
@@ -25,15 +20,3 @@ first_key (k ∷ l ∷ m ∷ parts) d e a least below is = absurd (omega arith)
 pub both_keys : (parts : List (Bor Key)) (d e : Bor Key) (a b : Key) → 2 ≤ length parts → length parts < 3 → true ≡ bytes_eq (slice_index_or parts 0 d).now a
     → true ≡ bytes_eq (slice_index_or parts 1 e).now b → path_of parts ≡ a ∷ b ∷ []
 both_keys parts d e a b least below is also = first_key parts d e a least below is ∙ ap (λ (key : Key). a ∷ key ∷ []) (same_text (slice_index_or parts 1 e).now b also)
-
-none_there : (path : Path) (item : Item) (o : Option RevisionView) → revision_at path item ≡ o → ((key : Key) → path ≡ store_path ++ key ∷ [] → ⊥) → o ≡ None
-none_there path item None is other = refl
-none_there path item (Some r) is other = let (e, same, _) = revision_from path item r is in absurd (other e.key (ap (λ m. m.0) same))
-
--- no revision, if it isn't in the bucket `key`
-pub no_revision : (path : Path) (place : Place) (item : Item) → LeadsToPlace path place → ((key : Bor Key) → place ≡ InStore key → ⊥) → revision_at path item ≡ None
-unfolding revision_at
-no_revision path Store item at other = ap (λ (p : Path). revision_at p item) at
-no_revision path (InStore key) item at other = absurd (other key refl)
-no_revision path Compaction item at other = ap (λ (p : Path). revision_at p item) at
-no_revision path Other item at other = none_there path item (revision_at path item) refl at.1

@@ -1,31 +1,25 @@
 -- Each file has a repaired listing, if the recovered listing has no value under the name of the bucket: whether an entry goes back can be decided.
-use Rattle.std.proofs.Common.{◌≡◌, ◌∙◌, ◌≢◌, ◌↔◌, ◌⊎◌, ◌&&◌, ◌-◌, ◌++◌, ℕ, Bool, true, false, List, [], ◌∷◌, Option, Some, None, ap, length, map, not, refl, subst, sym}
+use Rattle.std.proofs.Common.{◌≡◌, ◌∙◌, ◌↔◌, ◌&&◌, ◌-◌, ◌++◌, ℕ, Bool, true, false, List, [], ◌∷◌, Option, Some, None, ap, codes, filter, length, map, not, refl, subst, sym}
 use Rattle.std.proofs.lemmas.Cmp.{tied_itself}
 use Rattle.std.proofs.lemmas.List.MinMax.{ranks_by}
-use Rattle.std.proofs.lemmas.Option.{same_Some}
-use Rattle.std.specs.List.{Contains, dedup}
+use Rattle.std.proofs.lemmas.List.{append-nil}
+use Rattle.std.specs.{List.Contains, List.dedup, Option.option_to_list}
 use Rattle.std.specs.Ordering.{is_lt}
-use Rattle.std.specs.declared.cmp.Ordering.TheVariants.{Equal, Less}
+use Rattle.std.specs.declared.cmp.Ordering.TheVariants.{Equal}
 use Rattle.bolt_format.specs.{Elements.LeafElement, declared.meta.Meta.Meta}
-use Rattle.bolt_check.specs.Keys.{Key, key_cmp}
+use Rattle.bolt_check.specs.Keys.{Key}
 use Rattle.bolt_recover.specs.{Found.AreFound, Recovered.IsRecovered}
 use Rattle.bolt_tree.proofs.PathOrder.{key_exact, key_total}
-use Rattle.bolt_tree.specs.{Entries.Bucket, Entries.EntryView, Entries.Item, Entries.Value, Entries.entry_view, InBuckets.entry_in, InBuckets.view_cmp, Listing.Member, Listing.member_cmp, Order.Rises, Paths.Path}
+use Rattle.bolt_tree.specs.{Entries.Bucket, Entries.EntryView, Entries.Item, Entries.Value, Entries.entry_view, Listing.Member, Listing.member_cmp, Order.Rises, Paths.Path}
 use Rattle.bolt_etcd.specs.{Among.without, Compacted.compacted_by}
 use Rattle.bolt_repair.specs.{Candidates.AreCandidates, Candidates.HasKey, Candidates.candidates_in, Candidates.is_candidate, Candidates.is_same_entry, Candidates.whole_cmp}
 use Rattle.bolt_repair.specs.{FullRepairs.IsFullRepair, FullRepairs.LacksStoreValue, Repaired.IsRepaired, Repaired.elements_on, Repaired.lacks_bucket, Repaired.repaired_listing}
-use Rattle.bolt_etcd.specs.{Newest.is_until}
-use Rattle.bolt_repair.specs.{Repairs.IsKept, Repairs.compaction_path, Repairs.store_path}
-use Rattle.bolt_etcd.specs.{Revisions.RevisionView, Revisions.name_of, Revisions.value_of}
-use Rattle.bolt_repair.specs.{Superseded.ArePutBack, Superseded.IsNewestOf, Superseded.is_old}
-use Rattle.bolt_etcd.specs.NameOrder.{name_of_entry}
-use Rattle.bolt_etcd.specs.ShownRevisions.{is_deletion}
-use Rattle.bolt_repair.specs.{StoreSurveys.HasKeptKey, StoreSurveys.IsStoreSurvey, StoreSurveys.revision_at, Undisputed.AreKeys, Undisputed.AreUndisputed}
-use Rattle.bolt_etcd.proofs.Decisions.{dec_as, dec_bool, dec_both, dec_each, dec_either, dec_equal, dec_if, dec_if_some, dec_key, dec_not_less, dec_path, dec_some}
-use Rattle.bolt_etcd.proofs.{Filtered.kept_from, MappedLists.shows_from, MappedLists.shows_has}
-use Rattle.bolt_repair.proofs.{KeptRevisions.revision_from, KeptRevisions.revision_to, KeysAmong.without_has}
-use Rattle.bolt_repair.proofs.{NewestEntries.view_total, OneRepair.member_once, SortedChoice.sorted_choice, SortedChoice.sorted_elements}
-use Rattle.bolt_etcd.proofs.{Rising.one_of, SortedExists.sorted_exists}
+use Rattle.bolt_etcd.specs.Revisions.{RevisionView, revision_of}
+use Rattle.bolt_repair.specs.{Repairs.compaction_path, Repairs.store_path, StoreSurveys.ComesAfter, StoreSurveys.IsStoreSurvey, Undisputed.AreKeys, Undisputed.AreUndisputed, WhatGoesBack.ArePutBack, WhatGoesBack.goes_back, WhatGoesBack.old_revisions}
+use Rattle.bolt_etcd.proofs.Decisions.{dec_each, dec_equal, dec_if, dec_key, dec_path, dec_some}
+use Rattle.bolt_etcd.proofs.{Filtered.kept_from, MappedLists.shows_from, MappedLists.shows_has, SortedExists.newest_exists, SortedExists.sorted_exists}
+use Rattle.bolt_repair.proofs.{KeysAmong.without_has, OneRepair.view_total, SortedChoice.sorted_choice, SortedChoice.sorted_elements}
+use Rattle.bolt_repair.proofs.Surveyed.{bucket_there, compaction_noted, key_not_wanted, key_noted, next_member, none_surveyed, nothing_there, store_noted}
 use Rattle.bolt_repair.proofs.{WholeOrder.merged_are_candidates, WholeOrder.same_whole, WholeOrder.whole_total, WholeRepairs.full_repair, WholeRepairs.is_nil}
 
 -- ---- candidates, and keys
@@ -74,89 +68,75 @@ module _ (es : List EntryView) (are : (e : EntryView) → Contains es e → is_c
         },
       )
 
--- ---- those that go back
+-- ---- what the recovered listing says of a store, member by member
 
-module _ (compacted : ℕ) (recovered : List Member) (agreed : List EntryView) where
-  abbrev IsNoLater : EntryView → RevisionView → Type 0
-  IsNoLater e r = name_of r ≡ name_of_entry e → is_until compacted r ≡ true → key_cmp e.key r.place ≢ Less
+module _ (candidates : List EntryView) where
+  abbrev Surveyed : List Member → Type 0
+  Surveyed ms = (under : Option Item) × (noted : Option (List ℕ)) × (revisions : List RevisionView) × (met : List Key) × IsStoreSurvey ms candidates under noted revisions met
 
-  abbrev IsNoLaterEntry : EntryView → EntryView → Type 0
-  IsNoLaterEntry e other = name_of_entry other ≡ name_of_entry e → is_old compacted other ≡ true → key_cmp e.key other.key ≢ Less
+  dec_has_key : (key : Key) → Dec (HasKey candidates key)
+  dec_has_key key = dec_some (λ (e : EntryView). e.key ≡ key) (λ e. dec_key e.key key) candidates
 
-  dec_of_kept : (e : EntryView) → Dec ((r : RevisionView) → IsKept recovered r → IsNoLater e r)
-  dec_of_kept e =
-      let each = λ (r : RevisionView). dec_if (dec_key (name_of r) (name_of_entry e)) (dec_if (dec_bool (is_until compacted r) true) (dec_not_less (key_cmp e.key r.place))) in
-      dec_as (dec_each (λ (m : Member). (r : RevisionView) → revision_at m.0 m.1 ≡ Some r → IsNoLater e r) (λ m. dec_if_some (IsNoLater e) each (revision_at m.0 m.1)) recovered)
-      (λ all r (x, has, is). all (entry_in store_path x) has r (revision_to x ∙ is))
-      (λ of_kept m has r is. let (x, at, reads) = revision_from m.0 m.1 r is in of_kept r (x, subst (Contains recovered) at has, reads))
+  module _ (before : List Member) (path : Path) (item : Item) (after : ComesAfter before (path, item)) where
+    abbrev Next : Type 0
+    Next = Surveyed (before ++ (path, item) ∷ [])
 
-  dec_of_agreed : (e : EntryView) → Dec ((other : EntryView) → Contains agreed other → IsNoLaterEntry e other)
-  dec_of_agreed e =
-      dec_each (IsNoLaterEntry e)
-      (λ other. dec_if (dec_key (name_of_entry other) (name_of_entry e)) (dec_if (dec_bool (is_old compacted other) true) (dec_not_less (key_cmp e.key other.key)))) agreed
+    elsewhere : Surveyed before → (path ≡ store_path → ⊥) → ((key : Key) → path ≡ store_path ++ key ∷ [] → ⊥) → (path ≡ compaction_path → ⊥) → Next
+    elsewhere (under, noted, revisions, met, s) no_bucket no_entry no_compaction =
+        (under, noted, revisions, met, nothing_there before path item after candidates under noted revisions met s no_bucket no_entry no_compaction)
 
-  abbrev Goes : EntryView → Type 0
-  Goes e = (is_old compacted e ≡ false) ⊎ IsNewestOf compacted recovered agreed e
+    at_store : Surveyed before → path ≡ store_path → Next
+    at_store (under, noted, revisions, met, s) at = (Some item, noted, revisions, met, store_noted before path item after candidates under noted revisions met s at)
 
-  dec_goes : (e : EntryView) → Dec (Goes e)
-  dec_goes e =
-      dec_either (dec_bool (is_old compacted e) false)
-      (dec_as (dec_both (dec_bool (is_deletion e) false) (dec_both (dec_of_kept e) (dec_of_agreed e)))
-      (λ (there, others). record { there = there; of_kept = others.0; of_agreed = others.1 }) (λ is. (is.there, (is.of_kept, is.of_agreed))))
+    at_compaction : Surveyed before → path ≡ compaction_path → (i : Item) → item ≡ i → Next
+    at_compaction (under, noted, revisions, met, s) at (Value value) is = (under, Some value, revisions, met, compaction_noted before path item after candidates under noted revisions met s value is at)
+    at_compaction (under, noted, revisions, met, s) at (Bucket sequence) is = (under, noted, revisions, met, bucket_there before path item after candidates under noted revisions met s sequence is at)
 
-  put_back_exists : Rises view_cmp agreed → (back : List EntryView) × ArePutBack compacted recovered agreed back
-  put_back_exists rises =
-      let (back, up, those) = sorted_choice view_total Goes dec_goes agreed
-      (λ x y has _ also _ tied. one_of key_total (λ (e : EntryView). e.key) agreed x y rises has also (key_exact x.key y.key tied)) in
-      (back, record { rises = up; exact = those })
+    at_entry : Surveyed before → (key : Key) → path ≡ store_path ++ key ∷ [] → Dec (HasKey candidates key) → Next
+    at_entry (under, noted, revisions, met, s) key at (yes has) = (
+      under,
+      noted,
+      revisions ++ option_to_list (revision_of (record { key = key; item = item })),
+      met ++ key ∷ [],
+      key_noted before path item after candidates under noted revisions met s key at _ (λ e some. refl) _ refl has,
+    )
+    at_entry (under, noted, revisions, met, s) key at (no never) = (
+      under,
+      noted,
+      revisions ++ option_to_list (revision_of (record { key = key; item = item })),
+      met,
+      key_not_wanted before path item after candidates under noted revisions met s key at _ (λ e some. refl) never,
+    )
 
--- ---- what the recovered listing says of a store
+  by_bucket : (before : List Member) (bucket : Key) (item : Item) → ComesAfter before (bucket ∷ [], item) → Surveyed before → Dec (bucket ≡ codes "key") → Surveyed (before ++ (bucket ∷ [], item) ∷ [])
+  by_bucket before bucket item after s (yes same) = at_store before (bucket ∷ []) item after s (ap (λ (k : Key). k ∷ []) same)
+  by_bucket before bucket item after s (no never) = elsewhere before (bucket ∷ []) item after s (λ e. never cc) (λ key e. cc) (λ e. cc)
 
-abbrev value_in : Option Item → Option (List ℕ)
-value_in None = None
-value_in (Some item) = value_of item
+  by_entry : (before : List Member) (bucket key : Key) (item : Item) → ComesAfter before (bucket ∷ key ∷ [], item) → Surveyed before → Dec (bucket ≡ codes "key")
+      → Dec ((bucket ∷ key ∷ []) ≡ compaction_path) → Surveyed (before ++ (bucket ∷ key ∷ [], item) ∷ [])
+  by_entry before bucket key item after s (yes same) compaction = at_entry before (bucket ∷ key ∷ []) item after s key (ap (λ (k : Key). k ∷ key ∷ []) same) (dec_has_key key)
+  by_entry before bucket key item after s (no never) (yes at) = at_compaction before (bucket ∷ key ∷ []) item after s at item refl
+  by_entry before bucket key item after s (no never) (no other) = elsewhere before (bucket ∷ key ∷ []) item after s (λ e. cc) (λ k e. never cc) other
 
-value_is : (o : Option Item) (value : List ℕ) → (o ≡ Some (Value value)) ↔ (value_in o ≡ Some value)
-value_is None value = (λ e. cc, λ e. cc)
-value_is (Some (Value v)) value = (λ e. cc, λ e. cc)
-value_is (Some (Bucket sequence)) value = (λ e. cc, λ e. cc)
+  step : (before : List Member) (path : Path) (item : Item) → ComesAfter before (path, item) → Surveyed before → Surveyed (before ++ (path, item) ∷ [])
+  step before [] item after s = elsewhere before [] item after s (λ e. cc) (λ key e. cc) (λ e. cc)
+  step before (bucket ∷ []) item after s = by_bucket before bucket item after s (dec_key bucket (codes "key"))
+  step before (bucket ∷ key ∷ []) item after s = by_entry before bucket key item after s (dec_key bucket (codes "key")) (dec_path (bucket ∷ key ∷ []) compaction_path)
+  step before (bucket ∷ key ∷ more ∷ path) item after s = elsewhere before (bucket ∷ key ∷ more ∷ path) item after s (λ e. cc) (λ k e. cc) (λ e. cc)
 
-module _ (recovered : List Member) (rises : Rises member_cmp recovered) where
-  abbrev IsUnder : Path → Option Item → Type 0
-  IsUnder path o = (item : Item) → Contains recovered (path, item) ↔ (o ≡ Some item)
+  survey_on : (left before : List Member) → Rises member_cmp (before ++ left) → Surveyed before → Surveyed (before ++ left)
+  survey_on [] before rises s = subst Surveyed (sym (append-nil before)) s
+  survey_on (m ∷ left) before rises s =
+      let (after, next) = next_member (before ++ m ∷ left) before (m ∷ left) left m.0 m.0 m.1 rises refl refl refl in
+      subst Surveyed next (survey_on left (before ++ m ∷ []) (subst (Rises member_cmp) (sym next) rises) (step before m.0 m.1 after s))
 
-  under_by : (path : Path) → Dec ((m : Member) × Contains recovered m × (m.0 ≡ path)) → (o : Option Item) × IsUnder path o
-  under_by path (yes (m, has, at)) =
-      let here : Contains recovered (path, m.1) = subst (λ (p : Path). Contains recovered (p, m.1)) at has in
-      (Some m.1, λ item. (λ also. ap Some (member_once recovered rises path m.1 item here also), λ e. subst (λ (i : Item). Contains recovered (path, i)) (same_Some m.1 item e) here))
-  under_by path (no never) = (None, λ item. (λ has. absurd (never ((path, item), has, refl)), λ e. cc))
+  survey_exists : (recovered : List Member) → Rises member_cmp recovered → Surveyed recovered
+  survey_exists recovered rises = survey_on recovered [] rises (None, None, [], [], none_surveyed candidates)
 
-  under : (path : Path) → (o : Option Item) × IsUnder path o
-  under path = under_by path (dec_some (λ (m : Member). m.0 ≡ path) (λ m. dec_path m.0 path) recovered)
-
-  kept_by : (key : Key) (o : Option Item) → IsUnder (store_path ++ key ∷ []) o → Dec (HasKeptKey recovered key)
-  kept_by key None is = no (λ (item, has). let none = (is item).0 has in cc)
-  kept_by key (Some item) is = yes (item, (is item).1 refl)
-
-  dec_kept_key : (key : Key) → Dec (HasKeptKey recovered key)
-  dec_kept_key key = let (o, is) = under (store_path ++ key ∷ []) in kept_by key o is
-
-  survey_exists : (candidates : List EntryView) → (met : List Key) × IsStoreSurvey recovered candidates (under store_path).0 (value_in (under compaction_path).0) met
-  survey_exists candidates =
-      let (met, up, those) = sorted_choice key_total (HasKeptKey recovered) dec_kept_key (keys_of candidates) (λ x y has _ also _ tied. key_exact x y tied) in
-      let noted = (under compaction_path).0 in
-      let is = (under compaction_path).1 in (
-        met,
-        record {
-          store = (under store_path).1;
-          compaction = λ value. (λ has. (value_is noted value).0 ((is (Value value)).0 has), λ e. (is (Value value)).1 ((value_is noted value).1 e));
-          rises = up;
-          met = λ key. (
-            λ has. let (there, kept_one) = (those key).0 has in ((has_key candidates key).0 there, kept_one),
-            λ (has, kept_one). (those key).1 ((has_key candidates key).1 has, kept_one),
-          );
-        },
-      )
+put_back_exists : (compacted : ℕ) (kept : List RevisionView) (agreed : List EntryView) → (back : List EntryView) × ArePutBack compacted kept agreed back
+put_back_exists compacted kept agreed =
+    let (newest, are) = newest_exists (old_revisions compacted kept agreed) in
+    (filter (goes_back compacted newest) agreed, record { newest = newest; are = λ own. (are own).exact; is = refl })
 
 lacks_or_has : (o : Option Item) → ((value : List ℕ) → o ≡ Some (Value value) → ⊥) → (lacks : Bool) × (lacks_bucket o ≡ Some lacks)
 lacks_or_has None never = (true, refl)
@@ -170,19 +150,17 @@ module _ (file : List ℕ) (meta : Meta) (found : List ℕ) (are_found : AreFoun
   pub has_full_repair : (back : List EntryView) × (is_made : Bool) × (left_out : ℕ) × IsFullRepair file meta back is_made left_out
   has_full_repair =
       let (all, candidates) = candidates_exist (elements_on file meta found) in
-      let (met, survey) = survey_exists recovered recovers.rises all in
+      let (under, noted, revisions, met, survey) = survey_exists all recovered recovers.rises in
       let left = without met all in
       let (keys, are_keys) = keys_exist left in
       let (agreed, agree) = undisputed_exist left (λ e has.
       (kept_from is_candidate (map entry_view (elements_on file meta found)) e ((candidates.exact e).0 ((without_has met all e).0 has).0)).1) in
-      let noted = value_in (under recovered recovers.rises compaction_path).0 in
-      let (back, put) = put_back_exists (compacted_by noted) recovered agreed agree.rises in
-      let store = under recovered recovers.rises store_path in
-      let (lacks, is_lacking) = lacks_or_has store.0 (λ value e. lacks_value value ((store.1 (Value value)).1 e)) in (
+      let (back, put) = put_back_exists (compacted_by noted) revisions agreed in
+      let (lacks, is_lacking) = lacks_or_has under (λ value e. lacks_value value ((survey.store (Value value)).1 e)) in (
         back,
         lacks && not (is_nil back),
         length keys - length back,
-        full_repair file meta found are_found all agreed back met store.0 noted candidates agree recovered recovers survey put lacks is_lacking _ refl keys are_keys _ refl,
+        full_repair file meta found are_found all agreed back met under noted revisions candidates agree recovered recovers survey put lacks is_lacking _ refl keys are_keys _ refl,
       )
 
   pub has_repaired : (listing : List Member) × IsRepaired file meta listing

@@ -54,9 +54,6 @@ module _ (listing recovered : List Member) (found : List LeafElement) (compacted
   candidate_listed : (e : EntryView) (r : RevisionView) → IsCandidate recovered found e r → Contains listing (entry_in store_path e)
   candidate_listed e r is = subst (λ (v : EntryView). Contains listing (entry_in store_path v)) is.shows (element_listed is.element is.is_found)
 
-  candidate_lost : (e : EntryView) (r : RevisionView) → IsCandidate recovered found e r → Contains recovered (entry_in store_path e) → ⊥
-  candidate_lost e r is has = is.is_lost e.item has
-
   one_entry : (a b : EntryView) → Contains listing (entry_in store_path a) → Contains listing (entry_in store_path b) → a.key ≡ b.key → a ≡ b
   one_entry a b h k same =
       same_entry a b same (member_once listing rises (store_path ++ b.key ∷ []) a.item b.item (subst (λ (key : Key). Contains listing (store_path ++ key ∷ [], a.item)) same h) k)

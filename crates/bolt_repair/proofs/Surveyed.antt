@@ -1,17 +1,18 @@
 -- What one member more says of a store.
 use Rattle.std.proofs.Common.{◌≡◌, ◌↔◌, ◌∙◌, ◌⊎◌, inl, inr, ℕ, List, [], ◌∷◌, ◌++◌, Option, Some, None, refl, sym, ap, subst, length, arith}
 use Rattle.std.proofs.lemmas.List.{append-nil, append_assoc}
-use Rattle.std.proofs.lemmas.List.Elements.{Contains-append_cases, Contains-append_left, Contains-push}
+use Rattle.std.proofs.lemmas.List.Elements.{Contains-append_cases, Contains-append_left, Contains-append_right, Contains-push}
 use Rattle.std.proofs.lemmas.Option.{same_Some}
-use Rattle.std.specs.List.{Contains}
+use Rattle.std.specs.{List.Contains, Option.option_to_list}
 use Rattle.std.specs.declared.cmp.Ordering.{Ordering}
 use Rattle.std.specs.Ordering.{ordering_then}
 use Rattle.std.specs.declared.cmp.Ordering.TheVariants.{Equal, Greater, Less}
 use Rattle.bolt_check.specs.Keys.{Key, key_cmp}
 use Rattle.bolt_tree.proofs.{Lists.contains_cases, Lists.contains_head, Lists.contains_none, Lists.contains_tail, Lists.irreflexive, PathOrder.path_total}
-use Rattle.bolt_tree.specs.{Entries.Bucket, Entries.EntryView, Entries.Item, Entries.Value, Listing.Member, Listing.member_cmp, Order.Rises, Paths.Path, Paths.path_cmp}
+use Rattle.bolt_tree.specs.{Entries.Bucket, Entries.EntryView, Entries.Item, Entries.Value, InBuckets.entry_in, Listing.Member, Listing.member_cmp, Order.Rises, Paths.Path, Paths.path_cmp}
+use Rattle.bolt_etcd.specs.Revisions.{RevisionView, revision_of}
 use Rattle.bolt_etcd.proofs.Rising.{before_it}
-use Rattle.bolt_repair.specs.{Candidates.HasKey, Repairs.compaction_path, Repairs.store_path, StoreSurveys.HasKeptKey, StoreSurveys.ComesAfter, StoreSurveys.IsStoreSurvey}
+use Rattle.bolt_repair.specs.{Candidates.HasKey, Repairs.IsKept, Repairs.compaction_path, Repairs.store_path, StoreSurveys.ComesAfter, StoreSurveys.HasKeptKey, StoreSurveys.IsStoreSurvey, StoreSurveys.KeepsRevision}
 
 -- one is among these or is the last
 last_cases : {A : Type 0} (xs : List A) (x y : A) → Contains (xs ++ x ∷ []) y → Contains xs y ⊎ (x ≡ y)
@@ -19,6 +20,10 @@ last_cases xs x y has = elim (Contains-append_cases xs (x ∷ []) y has) [
   | inl before ↦ inl before
   | inr last ↦ (elim (contains_cases x y [] last) [ inl is ↦ inr is | inr none ↦ absurd (contains_none y none) ])
 ]
+
+only : {A : Type 0} (o : Option A) (x : A) → Contains (option_to_list o) x → o ≡ Some x
+only None x has = absurd (contains_none x has)
+only (Some y) x has = elim (contains_cases y x [] has) [ inl is ↦ ap Some is | inr none ↦ absurd (contains_none x none) ]
 
 pub rises_push : {A : Type 0} (cmp : A → A → Ordering) (xs : List A) (x : A) → Rises cmp xs → ((y : A) → Contains xs y → cmp y x ≡ Less) → Rises cmp (xs ++ x ∷ [])
 rises_push {A = A} cmp [] x rises below = (λ y has. absurd (contains_none y has), tt)
@@ -66,7 +71,7 @@ then_less Greater e = cc
 -- ---- a survey of these members, and of one more
 
 module _ (before : List Member) (path : Path) (item : Item) (after : ComesAfter before (path, item)) (candidates : List EntryView)
-    (under : Option Item) (noted : Option (List ℕ)) (keys : List Key) (s : IsStoreSurvey before candidates under noted keys) where
+    (under : Option Item) (noted : Option (List ℕ)) (revisions : List RevisionView) (keys : List Key) (s : IsStoreSurvey before candidates under noted revisions keys) where
   abbrev now : List Member
   now = before ++ (path, item) ∷ []
 
@@ -93,7 +98,14 @@ module _ (before : List Member) (path : Path) (item : Item) (after : ComesAfter 
     ],
   )
 
-  pub store_noted : path ≡ store_path → IsStoreSurvey now candidates (Some item) noted keys
+  -- nor does it add a revision
+  kept_same : ((key : Key) → path ≡ store_path ++ key ∷ [] → ⊥) → (e : EntryView) → Contains candidates e → (r : RevisionView) → Contains revisions r ↔ IsKept now r
+  kept_same other e some r = (
+    λ has. (let (x, there, is) = (s.kept e some r).0 has in (x, Contains-append_left before ((path, item) ∷ []) _ there, is)),
+    λ (x, there, is). (s.kept e some r).1 (x, (elsewhere before (path, item) (store_path ++ x.key ∷ []) x.item (other x.key)).0 there, is),
+  )
+
+  pub store_noted : path ≡ store_path → IsStoreSurvey now candidates (Some item) noted revisions keys
   store_noted at = record {
     store = λ i. (
       λ has. elim (last_cases before (path, item) (store_path, i) has) [
@@ -103,12 +115,13 @@ module _ (before : List Member) (path : Path) (item : Item) (after : ComesAfter 
       λ e. subst (Contains now) (ap (λ (p : Path). (p, item)) at ∙ ap (λ (j : Item). (store_path, j)) (same_Some item i e)) last,
     );
     compaction = compaction_same (λ e. bucket_not_compaction (sym at ∙ e));
+    kept = kept_same (λ key e. not_in key (sym at ∙ e));
     rises = s.rises;
     met = met_same (λ key e _. not_in key (sym at ∙ e));
   }
 
   module _ (value : List ℕ) (is_value : item ≡ Value value) where
-    pub compaction_noted : path ≡ compaction_path → IsStoreSurvey now candidates under (Some value) keys
+    pub compaction_noted : path ≡ compaction_path → IsStoreSurvey now candidates under (Some value) revisions keys
     compaction_noted at = record {
       store = store_same (λ e. bucket_not_compaction (sym e ∙ at));
       compaction = λ v. (
@@ -118,13 +131,14 @@ module _ (before : List Member) (path : Path) (item : Item) (after : ComesAfter 
         ],
         λ e. subst (Contains now) (ap (λ (p : Path). (p, item)) at ∙ ap (λ (j : Item). (compaction_path, j)) (is_value ∙ ap Value (same_Some value v e))) last,
       );
+      kept = kept_same (λ key e. not_compaction key (sym e ∙ at));
       rises = s.rises;
       met = met_same (λ key e _. not_compaction key (sym e ∙ at));
     }
 
   -- a bucket notes no compaction
   module _ (sequence : ℕ) (is_bucket : item ≡ Bucket sequence) where
-    pub bucket_there : path ≡ compaction_path → IsStoreSurvey now candidates under noted keys
+    pub bucket_there : path ≡ compaction_path → IsStoreSurvey now candidates under noted revisions keys
     bucket_there at = record {
       store = store_same (λ e. bucket_not_compaction (sym e ∙ at));
       compaction = λ v. (
@@ -134,6 +148,7 @@ module _ (before : List Member) (path : Path) (item : Item) (after : ComesAfter 
         ],
         λ e. Contains-append_left before ((path, item) ∷ []) _ ((s.compaction v).1 e),
       );
+      kept = kept_same (λ key e. not_compaction key (sym e ∙ at));
       rises = s.rises;
       met = met_same (λ key e _. not_compaction key (sym e ∙ at));
     }
@@ -150,51 +165,79 @@ module _ (before : List Member) (path : Path) (item : Item) (after : ComesAfter 
         let (_, (i, kept)) = (s.met k).0 has in
         then_less (key_cmp k key) (subst (λ (p : Path). path_cmp (store_path ++ k ∷ []) p ≡ Less) at (after _ kept))
 
-    more_keys : HasKey candidates key → IsStoreSurvey now candidates under noted (keys ++ key ∷ [])
-    more_keys wanted = record {
-      store = store_same not_store;
-      compaction = compaction_same nothing_noted;
-      rises = rises_push key_cmp keys key s.rises met_below;
-      met = λ k. (
-        λ has. elim (last_cases keys key k has) [
-          | inl there ↦ (let (want, (i, kept)) = (s.met k).0 there in (want, (i, Contains-append_left before ((path, item) ∷ []) _ kept)))
-          | inr is ↦ (
-            subst (HasKey candidates) is wanted,
-            (item, subst (Contains now) (ap (λ (p : Path). (p, item)) (at ∙ ap (λ (l : Key). store_path ++ l ∷ []) is)) last),
-          )
-        ],
-        λ (want, (i, kept)). elim (last_cases before (path, item) _ kept) [
-          | inl there ↦ Contains-append_left keys (key ∷ []) k ((s.met k).1 (want, (i, there)))
-          | inr is ↦ subst (Contains (keys ++ key ∷ [])) (same_last key k (sym at ∙ ap (λ (m : Member). m.0) is)) (Contains-push keys key)
-        ],
-      );
-    }
+    -- the entry, which is this revision or none
+    abbrev entry : EntryView
+    entry = record { key = key; item = item }
 
-    pub key_noted : (more : List Key) → more ≡ keys ++ key ∷ [] → HasKey candidates key → IsStoreSurvey now candidates under noted more
-    key_noted more is wanted = subst (λ (l : List Key). IsStoreSurvey now candidates under noted l) (sym is) (more_keys wanted)
+    last_entry : (x : EntryView) → (path, item) ≡ entry_in store_path x → entry ≡ x
+    last_entry x is =
+        ap (λ (k : Key). record { key = k; item = item }) (same_last key x.key (sym at ∙ ap (λ (m : Member). m.0) is)) ∙ ap (λ (m : Member). record { key = x.key; item = m.1 }) is
 
-    pub key_not_wanted : (HasKey candidates key → ⊥) → IsStoreSurvey now candidates under noted keys
-    key_not_wanted unwanted = record {
-      store = store_same not_store;
-      compaction = compaction_same nothing_noted;
-      rises = s.rises;
-      met = met_same (λ k e want. unwanted (subst (HasKey candidates) (same_last k key (sym e ∙ at)) want));
-    }
+    kept_with : (o : Option RevisionView) → revision_of entry ≡ o → (e : EntryView) → Contains candidates e → (r : RevisionView) → Contains (revisions ++ option_to_list o) r ↔ IsKept now r
+    kept_with o is e some r = (
+      λ has. elim (Contains-append_cases revisions (option_to_list o) r has) [
+        | inl there ↦ (let (x, before_it, reads) = (s.kept e some r).0 there in (x, Contains-append_left before ((path, item) ∷ []) _ before_it, reads))
+        | inr new ↦ (entry, subst (λ (p : Path). Contains now (p, item)) at last, is ∙ only o r new)
+      ],
+      λ (x, has, reads). elim (last_cases before (path, item) _ has) [
+        | inl there ↦ Contains-append_left revisions (option_to_list o) r ((s.kept e some r).1 (x, there, reads))
+        | inr new ↦ Contains-append_right revisions (option_to_list o) r (subst (λ (p : Option RevisionView). Contains (option_to_list p) r) (sym (ap revision_of (last_entry x new) ∙ reads) ∙ is) (contains_head r []))
+      ],
+    )
 
-  pub nothing_there : (path ≡ store_path → ⊥) → ((key : Key) → path ≡ store_path ++ key ∷ [] → ⊥) → (path ≡ compaction_path → ⊥) → IsStoreSurvey now candidates under noted keys
+    module _ (more : List RevisionView) (keeps : KeepsRevision candidates entry revisions more) where
+      kept_more : (e : EntryView) → Contains candidates e → (r : RevisionView) → Contains more r ↔ IsKept now r
+      kept_more e some r = subst (λ (rs : List RevisionView). Contains rs r ↔ IsKept now r) (sym (keeps e some)) (kept_with (revision_of entry) refl e some r)
+
+      more_keys : HasKey candidates key → IsStoreSurvey now candidates under noted more (keys ++ key ∷ [])
+      more_keys wanted = record {
+        store = store_same not_store;
+        compaction = compaction_same nothing_noted;
+        kept = kept_more;
+        rises = rises_push key_cmp keys key s.rises met_below;
+        met = λ k. (
+          λ has. elim (last_cases keys key k has) [
+            | inl there ↦ (let (want, (i, kept)) = (s.met k).0 there in (want, (i, Contains-append_left before ((path, item) ∷ []) _ kept)))
+            | inr is ↦ (
+              subst (HasKey candidates) is wanted,
+              (item, subst (Contains now) (ap (λ (p : Path). (p, item)) (at ∙ ap (λ (l : Key). store_path ++ l ∷ []) is)) last),
+            )
+          ],
+          λ (want, (i, kept)). elim (last_cases before (path, item) _ kept) [
+            | inl there ↦ Contains-append_left keys (key ∷ []) k ((s.met k).1 (want, (i, there)))
+            | inr is ↦ subst (Contains (keys ++ key ∷ [])) (same_last key k (sym at ∙ ap (λ (m : Member). m.0) is)) (Contains-push keys key)
+          ],
+        );
+      }
+
+      pub key_noted : (all : List Key) → all ≡ keys ++ key ∷ [] → HasKey candidates key → IsStoreSurvey now candidates under noted more all
+      key_noted all is wanted = subst (λ (l : List Key). IsStoreSurvey now candidates under noted more l) (sym is) (more_keys wanted)
+
+      pub key_not_wanted : (HasKey candidates key → ⊥) → IsStoreSurvey now candidates under noted more keys
+      key_not_wanted unwanted = record {
+        store = store_same not_store;
+        compaction = compaction_same nothing_noted;
+        kept = kept_more;
+        rises = s.rises;
+        met = met_same (λ k e want. unwanted (subst (HasKey candidates) (same_last k key (sym e ∙ at)) want));
+      }
+
+  pub nothing_there : (path ≡ store_path → ⊥) → ((key : Key) → path ≡ store_path ++ key ∷ [] → ⊥) → (path ≡ compaction_path → ⊥) → IsStoreSurvey now candidates under noted revisions keys
   nothing_there no_bucket no_entry no_compaction = record {
     store = store_same no_bucket;
     compaction = compaction_same no_compaction;
+    kept = kept_same no_entry;
     rises = s.rises;
     met = met_same (λ key e _. no_entry key e);
   }
 
 -- ---- of no member
 
-pub none_surveyed : (candidates : List EntryView) → IsStoreSurvey [] candidates None None []
+pub none_surveyed : (candidates : List EntryView) → IsStoreSurvey [] candidates None None [] []
 none_surveyed candidates = record {
   store = λ i. (λ has. absurd (contains_none _ has), λ e. cc);
   compaction = λ v. (λ has. absurd (contains_none _ has), λ e. cc);
+  kept = λ e some r. (λ has. absurd (contains_none r has), λ (x, has, reads). absurd (contains_none _ has));
   rises = tt;
   met = λ key. (λ has. absurd (contains_none _ has), λ (_, (i, kept)). absurd (contains_none _ kept));
 }

@@ -62,7 +62,7 @@ revision_value e r is = let (value, some, _) = bind_some (value_of e.item) (revi
 pub candidate_value : (e : EntryView) → is_candidate e ≡ true → (value : List ℕ) × (e.item ≡ Value value)
 candidate_value e passes = let (r, is, _) = in_place (revision_of e) passes in revision_value e r is
 
-same_view : (x y : EntryView) → x.key ≡ y.key → x.item ≡ y.item → x ≡ y
+pub same_view : (x y : EntryView) → x.key ≡ y.key → x.item ≡ y.item → x ≡ y
 same_view x y key item = ap (λ (k : Key). record x { key = k }) key ∙ ap (λ (i : Item). record y { item = i }) item
 
 same_values : (x y : EntryView) (v w : List ℕ) → x.item ≡ Value v → y.item ≡ Value w → x.key ≡ y.key → value_bytes x ≡ value_bytes y → x ≡ y

@@ -1,46 +1,24 @@
 -- From what is found and what the recovered listing says of a store: what goes back, and how many keys are left out.
-use Rattle.std.proofs.Common.{◌≡◌, ◌∙◌, ◌⊎◌, ◌<◌, ◌≤◌, ◌&&◌, ◌-◌, inl, inr, ℕ, Bool, true, false, List, [], ◌∷◌, Option, Some, None, arith, length, map, nat_lt, not, refl, sym, ap, subst}
-use Rattle.std.proofs.lemmas.Bool.{cases_Bool, le-ltb, lt-ltb, ltb-false, ltb-true, not-false, not-true}
+use Rattle.std.proofs.Common.{◌≡◌, ◌↔◌, ◌∙◌, ◌⊎◌, ◌<◌, ◌≤◌, ◌&&◌, ◌-◌, ◌++◌, inl, inr, ℕ, Bool, true, false, List, [], ◌∷◌, Option, Some, None, arith, length, map, nat_lt, not, refl, sym, ap, subst}
+use Rattle.std.proofs.lemmas.Bool.{le-ltb, lt-ltb, ltb-false, ltb-true, not-false, not-true, or_cases, or_left, or_right}
 use Rattle.std.proofs.lemmas.List.{length-map}
-use Rattle.std.specs.List.{Contains}
+use Rattle.std.proofs.lemmas.{List.Elements.Contains-append_cases, List.Elements.Contains-append_left, List.Elements.Contains-append_right, Option.same_Some}
+use Rattle.std.specs.List.{Contains, filter_map}
 use Rattle.std.specs.declared.cmp.Ordering.TheVariants.{Less}
 use Rattle.bolt_format.specs.{Elements.LeafElement, declared.meta.Meta.Meta}
 use Rattle.bolt_check.specs.Keys.{Key, key_cmp}
 use Rattle.bolt_recover.specs.{Found.AreFound, Recovered.IsRecovered}
 use Rattle.bolt_tree.proofs.{Filters.kept, PathOrder.key_total}
-use Rattle.bolt_tree.specs.{Entries.Bucket, Entries.EntryView, Entries.Item, Entries.Value, Entries.entry_view, Listing.Member}
+use Rattle.bolt_tree.specs.{Entries.Bucket, Entries.EntryView, Entries.Item, Entries.Value, Entries.entry_view, InBuckets.view_cmp, Listing.Member, Listing.member_cmp, Order.Rises}
 use Rattle.bolt_etcd.specs.{Among.without, Compacted.compacted_by}
 use Rattle.bolt_repair.specs.{Candidates.AreCandidates, Candidates.is_candidate, Candidates.is_in_place}
 use Rattle.bolt_repair.specs.{FullRepairs.AreCandidateKeys, FullRepairs.IsFullRepair, Repaired.IsRepair, Repaired.MakesStore, Repaired.elements_on, Repaired.lacks_bucket}
-use Rattle.bolt_etcd.specs.{Newest.is_until}
-use Rattle.bolt_repair.specs.Repairs.{AreBack, GoesBack, IsAgreed, IsCandidate, IsCompactedAt, IsNewestUpTo, store_path}
+use Rattle.bolt_etcd.specs.{Among.among, Current.HaveOwnPlaces, Current.IsNewest, Newest.is_until}
+use Rattle.bolt_repair.specs.Repairs.{AreBack, GoesBack, IsAgreed, IsCandidate, IsCompactedAt, IsKept, IsNewestUpTo, store_path}
 use Rattle.bolt_etcd.specs.{Revisions.RevisionView, Revisions.name_of, Revisions.revision_of}
-use Rattle.bolt_repair.specs.{Superseded.ArePutBack, Superseded.IsNewestOf, Superseded.is_key_until, Superseded.is_old}
-use Rattle.bolt_etcd.specs.NameOrder.{name_of_entry}
-use Rattle.bolt_etcd.specs.NameOrder.{name_if}
-use Rattle.bolt_etcd.specs.ShownRevisions.{is_key_deleted}
-use Rattle.bolt_etcd.specs.ShownRevisions.{is_deletion}
-use Rattle.bolt_repair.specs.{StoreSurveys.IsStoreSurvey, Undisputed.AreKeys, Undisputed.AreUndisputed}
-use Rattle.bolt_etcd.proofs.{Currents.key_is, Currents.place_is, Filtered.kept_from, MappedLists.shows_from, MappedLists.shows_has, Rising.fewer, Rising.rises_mapped}
-use Rattle.bolt_repair.proofs.{KeysAmong.without_has, WholeOrder.in_place}
-
--- ---- what an entry says if it is a revision
-
-module _ (compacted : ℕ) (e : EntryView) (r : RevisionView) (is : revision_of e ≡ Some r) where
-  named : name_of_entry e ≡ name_of r
-  named = ap name_if is
-
-  old_is : is_old compacted e ≡ is_until compacted r
-  old_is = ap (is_key_until compacted) (key_is e r is)
-
-  deleted_is : is_deletion e ≡ r.key.deleted
-  deleted_is = ap is_key_deleted (key_is e r is)
-
-  after : is_old compacted e ≡ false → compacted < r.key.main
-  after new = ltb-true compacted r.key.main (not-false (nat_lt compacted r.key.main) (sym old_is ∙ new))
-
-  not_old : compacted < r.key.main → is_old compacted e ≡ false
-  not_old above = old_is ∙ ap not (lt-ltb compacted r.key.main above)
+use Rattle.bolt_repair.specs.{StoreSurveys.IsStoreSurvey, Undisputed.AreKeys, Undisputed.AreUndisputed, WhatGoesBack.ArePutBack, WhatGoesBack.goes_back, WhatGoesBack.is_old, WhatGoesBack.old_revisions}
+use Rattle.bolt_etcd.proofs.{Currents.place_is, Filtered.filter_rises, Filtered.kept_from, MappedLists.gives_from, MappedLists.gives_has, MappedLists.shows_from, MappedLists.shows_has, Rising.fewer, Rising.rises_mapped}
+use Rattle.bolt_repair.proofs.{KeysAmong.among_has, KeysAmong.among_true, KeysAmong.without_has, OneRepair.member_once, WholeOrder.in_place, WholeOrder.same_view}
 
 until_at : (compacted : ℕ) (r : RevisionView) → is_until compacted r ≡ true → r.key.main ≤ compacted
 until_at compacted r until = ltb-false compacted r.key.main (not-true (nat_lt compacted r.key.main) until)
@@ -59,8 +37,8 @@ value_under (Some (Value value)) none = (value, refl)
 
 -- ---- from elements
 
-module _ (recovered : List Member) (found : List LeafElement) (all : List EntryView) (met : List Key) (under : Option Item) (noted : Option (List ℕ))
-    (are : AreCandidates found all) (survey : IsStoreSurvey recovered all under noted met) where
+module _ (recovered : List Member) (found : List LeafElement) (all : List EntryView) (met : List Key) (under : Option Item) (noted : Option (List ℕ)) (revisions : List RevisionView)
+    (are : AreCandidates found all) (survey : IsStoreSurvey recovered all under noted revisions met) where
   -- ---- candidates
 
   candidate_from : (e : EntryView) → Contains (without met all) e → (r : RevisionView) × IsCandidate recovered found e r
@@ -107,58 +85,130 @@ module _ (recovered : List Member) (found : List LeafElement) (all : List EntryV
     agreed_to : (e : EntryView) (r : RevisionView) → IsAgreed recovered found e r → Contains agreed e
     agreed_to e r is = (agree.exact e).1 (candidate_to e r is.candidate, λ other unmet same. let (s, c) = candidate_from other unmet in is.undisputed other s c same)
 
-    module _ (compacted : ℕ) where
-      abbrev Goes : EntryView → Type 0
-      Goes e = (is_old compacted e ≡ false) ⊎ IsNewestOf compacted recovered agreed e
+    in_all : (e : EntryView) → Contains agreed e → Contains all e
+    in_all e has = ((without_has met all e).0 ((agree.exact e).0 has).0).0
 
-      newest_from : (e : EntryView) (r : RevisionView) → revision_of e ≡ Some r → is_old compacted e ≡ true → IsNewestOf compacted recovered agreed e → IsNewestUpTo compacted recovered found r
-      newest_from e r is old n = record {
-        there = sym (deleted_is compacted e r is) ∙ n.there;
-        until = until_at compacted r (sym (old_is compacted e r is) ∙ old);
-        kept = λ other has names low less.
-            n.of_kept other has (names ∙ sym (named compacted e r is)) (at_until compacted other low) (subst (λ (k : Key). key_cmp k other.place ≡ Less) (place_is e r is) less);
-        agreed = λ x other has names low less.
-            let read = has.candidate.is_revision in
-            n.of_agreed x (agreed_to x other has) (named compacted x other read ∙ names ∙ sym (named compacted e r is)) (old_is compacted x other read ∙ at_until compacted other low)
-            (subst (λ (k : Key). key_cmp k x.key ≡ Less) (place_is e r is) (subst (λ (k : Key). key_cmp r.place k ≡ Less) (place_is x other read) less));
-      }
+    same_revision : (a b : EntryView) (r s : RevisionView) → a ≡ b → revision_of a ≡ Some r → revision_of b ≡ Some s → r ≡ s
+    same_revision a b r s same is also = same_Some r s (sym is ∙ ap revision_of same ∙ also)
 
-      newest_to : (e : EntryView) (r : RevisionView) → revision_of e ≡ Some r → IsNewestUpTo compacted recovered found r → IsNewestOf compacted recovered agreed e
-      newest_to e r is n = record {
-        there = deleted_is compacted e r is ∙ n.there;
-        of_kept = λ other has names until less.
-            n.kept other has (names ∙ named compacted e r is) (until_at compacted other until) (subst (λ (k : Key). key_cmp k other.place ≡ Less) (sym (place_is e r is)) less);
-        of_agreed = λ x has names old less.
-            let (other, also) = agreed_from x has in
-            let read = also.candidate.is_revision in
-            n.agreed x other also (sym (named compacted x other read) ∙ names ∙ named compacted e r is) (until_at compacted other (sym (old_is compacted x other read) ∙ old))
-            (subst (λ (k : Key). key_cmp k other.place ≡ Less) (sym (place_is e r is)) (subst (λ (k : Key). key_cmp e.key k ≡ Less) (sym (place_is x other read)) less));
-      }
+    same_keys : (a b : EntryView) (r s : RevisionView) → revision_of a ≡ Some r → revision_of b ≡ Some s → r.place ≡ s.place → a.key ≡ b.key
+    same_keys a b r s is also same = sym (place_is a r is) ∙ same ∙ place_is b s also
 
-      goes_from : (e : EntryView) → Contains agreed e → Goes e → GoesBack compacted recovered found e
-      goes_from e has go =
-          let (r, is) = agreed_from e has in
-          let read = is.candidate.is_revision in (
-            r,
-            is,
-            elim (cases_Bool (is_old compacted e)) [
-              | inl old ↦ elim go [ inl new ↦ absurd (cc) | inr n ↦ inr (newest_from e r read old n) ]
-              | inr new ↦ inl (after compacted e r read new)
-            ],
-          )
+    -- ---- of the old ones no two are under one key
 
-      goes_to : (e : EntryView) → GoesBack compacted recovered found e → Contains agreed e × Goes e
-      goes_to e (r, is, why) =
-          let read = is.candidate.is_revision in
-          (agreed_to e r is, elim why [ inl above ↦ inl (not_old compacted e r read above) | inr n ↦ inr (newest_to e r read n) ])
+    module _ (rises : Rises member_cmp recovered) (compacted : ℕ) where
+      abbrev old : List RevisionView
+      old = old_revisions compacted revisions agreed
 
-      module _ (back : List EntryView) (put : ArePutBack compacted recovered agreed back) where
+      abbrev IsOf : RevisionView → Type 0
+      IsOf r = Contains revisions r ⊎ ((e : EntryView) × Contains agreed e × (revision_of e ≡ Some r))
+
+      old_cases : (r : RevisionView) → Contains old r → IsOf r × (is_until compacted r ≡ true)
+      old_cases r has =
+          let (there, until) = kept_from (is_until compacted) (revisions ++ filter_map revision_of agreed) r has in
+          (elim (Contains-append_cases revisions (filter_map revision_of agreed) r there) [ inl mine ↦ inl mine | inr other ↦ inr (gives_from revision_of agreed r other) ], until)
+
+      old_from : (r : RevisionView) → IsOf r → r.key.main ≤ compacted → Contains old r
+      old_from r (inl has) low = kept (is_until compacted) _ r (Contains-append_left revisions (filter_map revision_of agreed) r has) (at_until compacted r low)
+      old_from r (inr (e, has, is)) low =
+          kept (is_until compacted) _ r (Contains-append_right revisions (filter_map revision_of agreed) r (gives_has revision_of agreed e r has is)) (at_until compacted r low)
+
+      lost : (e : EntryView) (r s : RevisionView) → Contains agreed e → revision_of e ≡ Some r → IsKept recovered s → s.place ≡ r.place → ⊥
+      lost e r s has is (x, there, also) same =
+          let (_, agrees) = agreed_from e has in
+          agrees.candidate.is_lost x.item (subst (λ (k : Key). Contains recovered (store_path ++ k ∷ [], x.item)) (same_keys x e s r also is same) there)
+
+      one_kept : (a b : RevisionView) → IsKept recovered a → IsKept recovered b → a.place ≡ b.place → a ≡ b
+      one_kept a b (x, has, is) (y, there, also) same =
+          let keys = same_keys x y a b is also same in
+          let items = member_once recovered rises (store_path ++ y.key ∷ []) x.item y.item (subst (λ (k : Key). Contains recovered (store_path ++ k ∷ [], x.item)) keys has) there in
+          same_revision x y a b (same_view x y keys items) is also
+
+      module _ (e : EntryView) (has : Contains agreed e) where
+        are_kept : (r : RevisionView) → Contains revisions r ↔ IsKept recovered r
+        are_kept = survey.kept e (in_all e has)
+
+        one_of_key : (x : EntryView) (r s : RevisionView) → Contains agreed x → revision_of x ≡ Some r → IsOf s → s.place ≡ r.place → s ≡ r
+        one_of_key x r s there is (inl mine) same = absurd (lost x r s there is ((are_kept s).0 mine) same)
+        one_of_key x r s there is (inr (y, also, reads)) same =
+            same_revision y x s r (((agree.exact x).0 there).1 y ((agree.exact y).0 also).0 (same_keys y x s r reads is same)) reads is
+
+        one_old : (a b : RevisionView) → IsOf a → IsOf b → a.place ≡ b.place → a ≡ b
+        one_old a b (inl mine) (inl other) same = one_kept a b ((are_kept a).0 mine) ((are_kept b).0 other) same
+        one_old a b (inr (x, there, is)) of_b same = sym (one_of_key x a b there is of_b (sym same))
+        one_old a b (inl mine) (inr (x, there, is)) same = one_of_key x b a there is (inl mine) same
+
+        own_places : HaveOwnPlaces old
+        own_places a b first second same = one_old a b (old_cases a first).0 (old_cases b second).0 same
+
+        -- ---- the newest of them
+
+        module _ (r : RevisionView) (is : revision_of e ≡ Some r) where
+          newest_from : IsNewest old r → IsNewestUpTo compacted recovered found r
+          newest_from n = record {
+            there = n.there;
+            until = until_at compacted r (old_cases r n.has).1;
+            kept = λ other kept_one names low. n.last other (old_from other (inl ((are_kept other).1 kept_one)) low) names;
+            agreed = λ x other agrees names low. n.last other (old_from other (inr (x, agreed_to x other agrees, agrees.candidate.is_revision)) low) names;
+          }
+
+          newest_to : IsNewestUpTo compacted recovered found r → IsNewest old r
+          newest_to n = record {
+            has = old_from r (inr (e, has, is)) n.until;
+            there = n.there;
+            last = λ other there names.
+                let (of, until) = old_cases other there in
+                let low = until_at compacted other until in
+                elim of [
+                  | inl mine ↦ n.kept other ((are_kept other).0 mine) names low
+                  | inr (x, also, reads) ↦
+                      let (s, agrees) = agreed_from x also in
+                      let same = same_revision x x s other refl agrees.candidate.is_revision reads in
+                      n.agreed x other (subst (IsAgreed recovered found x) same agrees) names low
+                ];
+          }
+
+      module _ (back : List EntryView) (put : ArePutBack compacted revisions agreed back) where
+        abbrev places : List Key
+        places = map (λ (r : RevisionView). r.place) put.newest
+
+        goes_from : (e : EntryView) → Contains agreed e → goes_back compacted put.newest e ≡ true → GoesBack compacted recovered found e
+        goes_from e has goes =
+            let (r, is) = agreed_from e has in
+            let read = is.candidate.is_revision in (
+              r,
+              is,
+              elim (or_cases (not (is_old compacted (revision_of e))) (among places e.key) goes) [
+                | inl new ↦ inl (ltb-true compacted r.key.main (not-false (nat_lt compacted r.key.main) (sym (ap (is_old compacted) read) ∙ not-true (is_old compacted (revision_of e)) new)))
+                | inr one ↦
+                    let (s, there, at) = shows_from (λ (x : RevisionView). x.place) put.newest e.key (among_has places e.key one) in
+                    let n = (put.are (own_places e has) s).0 there in
+                    let same = one_of_key e has e r s has read (old_cases s n.has).0 (at ∙ sym (place_is e r read)) in
+                    inr (newest_from e has r read (subst (IsNewest old) same n))
+              ],
+            )
+
+        goes_to : (e : EntryView) → GoesBack compacted recovered found e → Contains agreed e × (goes_back compacted put.newest e ≡ true)
+        goes_to e (r, is, why) =
+            let has = agreed_to e r is in
+            let read = is.candidate.is_revision in (
+              has,
+              elim why [
+                | inl above ↦ or_left (not (is_old compacted (revision_of e))) (among places e.key) (ap (λ (o : Option RevisionView). not (is_old compacted o)) read ∙ ap (λ (b : Bool). not (not b)) (lt-ltb compacted r.key.main above))
+                | inr n ↦ or_right (not (is_old compacted (revision_of e))) (among places e.key)
+                    (among_true places e.key (subst (Contains places) (place_is e r read) (shows_has (λ (x : RevisionView). x.place) put.newest r ((put.are (own_places e has) r).1 (newest_to e has r read n)))))
+              ],
+            )
+
+        back_from : (e : EntryView) → Contains back e → Contains agreed e × (goes_back compacted put.newest e ≡ true)
+        back_from e has = kept_from (goes_back compacted put.newest) agreed e (subst (λ (es : List EntryView). Contains es e) put.is has)
+
         pub are_back : AreBack compacted recovered found back
         are_back = record {
-          rises = put.rises;
+          rises = subst (Rises view_cmp) (sym put.is) (filter_rises view_cmp (goes_back compacted put.newest) agreed agree.rises);
           exact = λ e. (
-            λ has. let (there, go) = (put.exact e).0 has in goes_from e there go,
-            λ is. (put.exact e).1 (goes_to e is),
+            λ has. let (there, goes) = back_from e has in goes_from e there goes,
+            λ is. let (there, goes) = goes_to e is in subst (λ (es : List EntryView). Contains es e) (sym put.is) (kept (goes_back compacted put.newest) agreed e there goes),
           );
         }
 
@@ -166,9 +216,9 @@ module _ (recovered : List Member) (found : List LeafElement) (all : List EntryV
         pub back_fewer : (keys : List Key) → AreKeys (without met all) keys → length back ≤ length keys
         back_fewer keys is =
             let long = length-map back (λ (e : EntryView). e.key) in
-            let few = fewer key_total keys (map (λ (e : EntryView). e.key) back) (rises_mapped (λ (e : EntryView). e.key) key_cmp back put.rises) is.rises (λ key has.
+            let few = fewer key_total keys (map (λ (e : EntryView). e.key) back) (rises_mapped (λ (e : EntryView). e.key) key_cmp back are_back.rises) is.rises (λ key has.
             let (e, there, at) = shows_from (λ (e : EntryView). e.key) back key has in
-            (is.exact key).1 (e, ((agree.exact e).0 ((put.exact e).0 there).0).0, at)) in
+            (is.exact key).1 (e, ((agree.exact e).0 (back_from e there).0).0, at)) in
             omega (arith, long, few)
 
   -- ---- the bucket and the compaction
@@ -199,14 +249,14 @@ module _ (recovered : List Member) (found : List LeafElement) (all : List EntryV
 
 -- ---- the repair of a file
 
-module _ (file : List ℕ) (meta : Meta) (found : List ℕ) (are_found : AreFound file meta found) (all agreed back : List EntryView) (met : List Key) (under : Option Item) (noted : Option (List ℕ))
+module _ (file : List ℕ) (meta : Meta) (found : List ℕ) (are_found : AreFound file meta found) (all agreed back : List EntryView) (met : List Key) (under : Option Item) (noted : Option (List ℕ)) (revisions : List RevisionView)
     (candidates : AreCandidates (elements_on file meta found) all) (agree : AreUndisputed (without met all) agreed) (recovered : List Member) (recovers : IsRecovered file meta recovered)
-    (survey : IsStoreSurvey recovered all under noted met) (put : ArePutBack (compacted_by noted) recovered agreed back) where
+    (survey : IsStoreSurvey recovered all under noted revisions met) (put : ArePutBack (compacted_by noted) revisions agreed back) where
   abbrev elements : List LeafElement
   elements = elements_on file meta found
 
   pub back_least : (keys : List Key) → AreKeys (without met all) keys → length back ≤ length keys
-  back_least keys are = back_fewer recovered elements all met under noted candidates survey agreed agree (compacted_by noted) back put keys are
+  back_least keys are = back_fewer recovered elements all met under noted revisions candidates survey agreed agree recovers.rises (compacted_by noted) back put keys are
 
   module _ (lacks : Bool) (is_lacking : lacks_bucket under ≡ Some lacks) (is_made : Bool) (made : is_made ≡ (lacks && not (is_nil back))) where
     pub repair : IsRepair file meta back is_made
@@ -216,9 +266,9 @@ module _ (file : List ℕ) (meta : Meta) (found : List ℕ) (are_found : AreFoun
       found = found;
       are_found = are_found;
       compacted = compacted_by noted;
-      is_compacted = compacted_at recovered elements all met under noted candidates survey;
-      are_back = are_back recovered elements all met under noted candidates survey agreed agree (compacted_by noted) back put;
-      makes = subst (MakesStore recovered back) (sym made) (makes recovered elements all met under noted candidates survey lacks is_lacking back);
+      is_compacted = compacted_at recovered elements all met under noted revisions candidates survey;
+      are_back = are_back recovered elements all met under noted revisions candidates survey agreed agree recovers.rises (compacted_by noted) back put;
+      makes = subst (MakesStore recovered back) (sym made) (makes recovered elements all met under noted revisions candidates survey lacks is_lacking back);
     }
 
     pub full_repair : (keys : List Key) → AreKeys (without met all) keys → (left_out : ℕ) → left_out ≡ length keys - length back → IsFullRepair file meta back is_made left_out
@@ -227,6 +277,6 @@ module _ (file : List ℕ) (meta : Meta) (found : List ℕ) (are_found : AreFoun
         let few = back_least keys are in
         record {
           repair = repair;
-          left = (keys, candidate_keys recovered elements all met under noted candidates survey keys are, omega (arith, few, number));
-          bucket = no_value recovered elements all met under noted candidates survey lacks is_lacking;
+          left = (keys, candidate_keys recovered elements all met under noted revisions candidates survey keys are, omega (arith, few, number));
+          bucket = no_value recovered elements all met under noted revisions candidates survey lacks is_lacking;
         }

@@ -9,5 +9,5 @@ pub mod RepairedMembers
 pub mod RepairedMerges
 pub mod Repairs
 pub mod StoreSurveys
-pub mod Superseded
 pub mod Undisputed
+pub mod WhatGoesBack

@@ -7,7 +7,6 @@ pub mod laws;
 mod put_back;
 mod repair;
 mod repaired;
-mod superseded;
 mod survey;
 mod undisputed;
 

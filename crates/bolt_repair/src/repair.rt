@@ -1,19 +1,18 @@
 //! What goes back into the bucket `key` of a damaged file, and the search for it.
-ghost use Rattle.std.specs.Prelude.{◌≡◌, ◌≢◌, [], IfErr, IfOk, OnOk, map, not};
-ghost use Rattle.std.specs.{Option.option_map, List.Sorted.IsSorted};
+ghost use Rattle.std.specs.Prelude.{◌≡◌, ◌≢◌, ◌↔◌, [], IfErr, IfOk, OnOk, map, not, true};
+ghost use Rattle.std.specs.{List.Contains, List.Sorted.IsSorted, Option.option_map};
 ghost use Rattle.bolt_check.specs.{declared.finding.Finding.Finding, Keys.key_cmp};
 ghost use Rattle.bolt_recover.specs.{LostAndFound.all_lost, Losses.everything};
-ghost use Rattle.bolt_repair.specs.{Repaired.IsRepair, RepairRefusals.IsRepairRefusal, Candidates.whole_cmp, Repaired.lacks_bucket, Superseded.ArePutBackIn, Undisputed.AreUndisputed, Undisputed.HaveKeys, Superseded.CompactsFirstIn, Superseded.IsPartedAt};
-ghost use Rattle.bolt_tree.specs.{InBuckets.view_cmp, Order.Rises, ShownEntries.item_view};
-ghost use Rattle.bolt_etcd.specs.{ShownRevisions.entry_of, Among.among, Among.without};
+ghost use Rattle.bolt_repair.specs.{Repaired.IsRepair, RepairRefusals.IsRepairRefusal, Candidates.whole_cmp, Repaired.lacks_bucket, Undisputed.AreUndisputed, Undisputed.HaveKeys, WhatGoesBack.ArePutBack, WhatGoesBack.AreTheNewest, WhatGoesBack.goes_back, WhatGoesBack.old_revisions};
+ghost use Rattle.bolt_tree.specs.{Order.Rises, ShownEntries.item_view};
+ghost use Rattle.bolt_etcd.specs.{Among.among, Among.without, Newest.is_until, ShownRevisions.entry_of, ShownRevisions.shown_revision};
 ghost use Rattle.bolt_repair.specs.declared.repair.RepairFault.TheVariants as faults;
 
 use crate::candidates::{candidates_of, has_key};
-use crate::superseded::{keep_newest, old_among, sort_by_key, stays, superseded_keys};
 use crate::survey::Survey;
 use crate::undisputed::keep_undisputed;
 use bolt_check::{Finding, NoMemory};
-use bolt_etcd::{Revision, compacted_by};
+use bolt_etcd::{Revision, compacted_by, keep_newest};
 use bolt_recover::{Lost, LostAndFound};
 use bolt_tree::Item;
 use std::alloc::Global;
@@ -54,8 +53,7 @@ impl From<NoMemory> for RepairFault {
 impl<'a> Repair<'a> {
     ghost use Rattle.bolt_repair.specs.{RepairedMembers.IsWholeRepair, RepairedMembers.repair_file, RepairedMembers.repair_meta, RepairedMerges.repair_back};
 
-    /// Finds what goes back. Goes over what is recovered once, and once more if a compaction may have
-    /// removed some of the candidates.
+    /// Finds what goes back. Goes over what is recovered once.
     ///
     /// # Errors
     ///
@@ -76,7 +74,7 @@ impl<'a> Repair<'a> {
         };
         let compacted = compacted_by(survey.compaction);
         let keys = keep_agreed(&mut back, survey.met);
-        keep_what_goes_back(alloc, both, &mut back, compacted)?;
+        keep_what_goes_back(survey.kept, &mut back, compacted)?;
         if let Lost::Everything(finding) = both.lost()
             && back.is_empty()
         {
@@ -117,49 +115,66 @@ fn keep_agreed(candidates: &mut Vec<Revision<'_>>, met: Vec<&[u8]>) -> usize
     keep_undisputed(candidates)
 }
 
-/// Keeps of the agreed candidates those that go back: those after the last compaction, and what
-/// that keeps of the others.
+/// Keeps of the agreed candidates those that go back: those after the last compaction, and what that
+/// keeps of the others and of those that are kept.
 fn keep_what_goes_back<'a>(
-    alloc: Global,
-    both: &LostAndFound<'a>,
+    kept: Vec<Revision<'a>>,
     agreed: &mut Vec<Revision<'a>>,
     compacted: u64,
 ) -> Result<(), NoMemory>
-    requires { Rises view_cmp (map entry_of agreed.old.items) }
-    ensures { OnOk result (ArePutBackIn both.now.file.now both.now.meta compacted
+    ensures { OnOk result (ArePutBack compacted (map shown_revision kept.entry.items)
         (map entry_of agreed.old.items) (map entry_of agreed.new.items)) }
 {
-    let old = old_among(agreed.as_slice(), compacted);
-    if old == 0 {
-        return Ok(());
-    }
-    let left = compact_first(alloc, both, agreed, old, compacted)?;
-    sort_by_key(agreed.as_mut_slice(), left);
+    let newest = newest_until(kept, agreed.as_slice(), compacted)?;
+    let newest = newest.as_slice();
+    agreed.retain(|revision| goes_back(revision, newest, compacted));
     Ok(())
 }
 
-/// Of the first ones, which are old, keeps those that the last compaction keeps: the newest of each
-/// name, if it isn't a deletion and no kept revision comes after it. They stand in the order of names
-/// then. All others stay as they are. Returns the number of those that are left.
-fn compact_first<'a>(
-    alloc: Global,
-    both: &LostAndFound<'a>,
-    agreed: &mut Vec<Revision<'a>>,
-    old: usize,
+/// The newest revision of each name up to the last compaction, if it isn't a deletion, of those that
+/// are kept and those that are agreed. They stand by rising key.
+fn newest_until<'a>(
+    kept: Vec<Revision<'a>>,
+    agreed: &[Revision<'a>],
     compacted: u64,
-) -> Result<usize, NoMemory>
-    requires rises { Rises view_cmp (map entry_of agreed.old.items) }
-    requires parted { IsPartedAt compacted (map entry_of agreed.old.items) old }
-    ensures { IfOk result (λ left. CompactsFirstIn both.now.file.now both.now.meta compacted old
-        left (map entry_of agreed.old.items) (map entry_of agreed.new.items)) }
+) -> Result<Vec<Revision<'a>>, NoMemory>
+    ensures newest { IfOk result (λ newest. AreTheNewest
+        (old_revisions compacted (map shown_revision kept.entry.items) (map entry_of agreed.now))
+        (map shown_revision newest.items)) }
+    ensures sorted { IfOk result (λ newest. IsSorted key_cmp (map (λ r. (entry_of r).key) newest.items)) }
 {
-    let later = agreed.len() - old;
-    keep_newest(agreed, old, compacted);
-    let (newest, _) = agreed.as_slice().split_at(agreed.len() - later);
-    let superseded = superseded_keys(alloc, both, newest, compacted)?;
-    remove_keys(agreed, superseded.as_slice());
-    agreed.retain(|revision| stays(revision, compacted));
-    Ok(agreed.len() - later)
+    let mut newest = kept;
+    newest.extend_from_slice(agreed)?;
+    newest.retain(|revision| is_old(revision, compacted));
+    keep_newest(&mut newest);
+    newest.sort_unstable_by(|a, b| a.cmp_place(b));
+    Ok(newest)
+}
+
+/// Whether the last compaction may have removed it.
+fn is_old(revision: &Revision<'_>, compacted: u64) -> bool
+    ensures { result ≡ is_until compacted (shown_revision revision.now) }
+{
+    revision.main() <= compacted
+}
+
+/// Whether it isn't old, or it is one of the newest ones, which are sorted by key.
+fn goes_back(revision: &Revision<'_>, newest: &[Revision<'_>], compacted: u64) -> bool
+    requires { IsSorted key_cmp (map (λ r. (entry_of r).key) newest.now) }
+    ensures { result ≡ goes_back compacted (map shown_revision newest.now) (entry_of revision.now) }
+{
+    !is_old(revision, compacted) || has_place(newest, revision)
+}
+
+/// Whether one of these, which are sorted by key, has its key.
+fn has_place(revisions: &[Revision<'_>], revision: &Revision<'_>) -> bool
+    requires { IsSorted key_cmp (map (λ r. (entry_of r).key) revisions.now) }
+    ensures { (result ≡ true)
+        ↔ Contains (map (λ r. (entry_of r).key) revisions.now) (entry_of revision.now).key }
+{
+    revisions
+        .binary_search_by(|other| other.cmp_place(revision))
+        .is_ok()
 }
 
 /// Removes those that have one of these keys, which are sorted.

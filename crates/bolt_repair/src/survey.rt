@@ -1,15 +1,15 @@
 //! What the recovered listing says of a store.
 ghost use Rattle.std.specs.Prelude.{IfOk, OnOk, map};
-ghost use Rattle.bolt_tree.specs.{Order.Rises, Paths.path_of, ShownEntries.item_view};
+ghost use Rattle.bolt_tree.specs.{Order.Rises, Paths.path_of, ShownEntries.item_view, ShownEntries.shown_entry};
 ghost use Rattle.bolt_recover.specs.Recovered.{ForRecovered};
-ghost use Rattle.bolt_repair.specs.{Candidates.whole_cmp, StoreSurveys.LeadsToPlace, StoreSurveys.revision_until};
-ghost use Rattle.bolt_etcd.specs.{Returns.Returns, ShownRevisions.entry_of, ShownRevisions.shown_revision};
+ghost use Rattle.bolt_repair.specs.{Candidates.whole_cmp, StoreSurveys.KeepsRevision, StoreSurveys.LeadsToPlace};
+ghost use Rattle.bolt_etcd.specs.{ShownRevisions.entry_of, ShownRevisions.shown_revision};
 
 use crate::candidates::{add_key, has_candidate};
-use bolt_etcd::{Revision, RevisionKey};
+use bolt_etcd::Revision;
 use bolt_recover::{Kept, LostAndFound};
 use bolt_tree::{Entry, Item, Members, NoMemory};
-use std::alloc::Global;
+use std::alloc::{AllocError, Global};
 
 /// The bucket of the revisions.
 const STORE: &[u8] = b"key";
@@ -40,6 +40,8 @@ pub(crate) struct Survey<'a> {
     pub store: Option<Item<'a>>,
     /// The value that notes the last compaction.
     pub compaction: Option<&'a [u8]>,
+    /// The revisions in the bucket `key`, if there are candidates.
+    pub kept: Vec<Revision<'a>>,
     /// The keys in the bucket `key` that candidates have too, by rising key.
     pub met: Vec<&'a [u8]>,
     /// Where the last key was looked up among the candidates.
@@ -63,6 +65,7 @@ impl<'a> Survey<'a> {
         let mut survey = Survey {
             store: None,
             compaction: None,
+            kept: Vec::new(alloc),
             met: Vec::new(alloc),
             at: 0,
         };
@@ -87,6 +90,7 @@ impl<'a> Survey<'a> {
         match place_of(path) {
             Place::Store => self.store = Some(item),
             Place::InStore(key) => {
+                keep_revision(&mut self.kept, candidates, &Entry { key, item })?;
                 if has_candidate(candidates, &mut self.at, key) {
                     add_key(&mut self.met, key)?;
                 }
@@ -114,21 +118,20 @@ fn place_of<'a>(path: &[&'a [u8]]) -> Place<'a>
     }
 }
 
-/// The revision in the bucket `key` that a member is, if it is one of no later transaction. The
-/// record of a later one isn't decoded.
-pub(crate) fn revision_until<'a>(
-    path: &[&'a [u8]],
-    item: Item<'a>,
-    up_to: u64,
-) -> Option<Revision<'a>>
-    ensures { Returns shown_revision result
-        (revision_until up_to (path_of path.now) (item_view item.entry)) }
+/// Keeps an entry of the bucket `key` if it is a revision, and there are candidates.
+fn keep_revision<'a>(
+    revisions: &mut Vec<Revision<'a>>,
+    candidates: &[Revision<'_>],
+    entry: &Entry<'a>,
+) -> Result<(), AllocError>
+    ensures { OnOk result (KeepsRevision (map entry_of candidates.now) (shown_entry entry.now)
+        (map shown_revision revisions.old.items) (map shown_revision revisions.new.items)) }
 {
-    let Place::InStore(key) = place_of(path) else {
-        return None;
-    };
-    if RevisionKey::read(key)?.main > up_to {
-        return None;
+    if candidates.is_empty() {
+        return Ok(());
     }
-    Revision::of(&Entry { key, item })
+    if let Some(revision) = Revision::of(entry) {
+        revisions.push(revision)?;
+    }
+    Ok(())
 }

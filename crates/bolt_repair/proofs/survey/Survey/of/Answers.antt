@@ -1,6 +1,6 @@
 use Rattle.std.proofs.Common.{Bor, List, [], map, subst, sym, ◌++◌, ◌∷◌, None, ℕ}
 use Rattle.bolt_tree.specs.{Listing.Member, Paths.path_of, ShownEntries.item_view}
-use Rattle.bolt_etcd.specs.ShownRevisions.{entry_of}
+use Rattle.bolt_etcd.specs.{ShownRevisions.entry_of, ShownRevisions.shown_revision, declared.revision.Revision.Revision}
 use Rattle.bolt_repair.specs.StoreSurveys.{IsStoreSurvey, IsSurveyOf}
 use Rattle.bolt_repair.proofs.Surveyed.{next_member, no_more, none_surveyed}
 use Rattle.bolt_repair.proofs.survey.Survey.of.Goals as goal
@@ -14,7 +14,8 @@ members-init c =
       noted = λ listing is. (
         [],
         c.in_ok-kept.ensures.all listing is,
-        subst (λ (keys : List (Bor (List ℕ))). IsStoreSurvey [] candidates None None (map now keys)) (sym c.new.ensures.items) (none_surveyed candidates),
+        subst (λ (keys : List (Bor (List ℕ))). IsStoreSurvey [] candidates None None (map shown_revision c.new.result.items) (map now keys)) (sym c.new-2.ensures.items)
+            (subst (λ (rs : List Revision). IsStoreSurvey [] candidates None None (map shown_revision rs) []) (sym c.new.ensures.items) (none_surveyed candidates)),
       );
     }
 

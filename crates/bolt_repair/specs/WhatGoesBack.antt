@@ -1,0 +1,28 @@
+-- What goes back of the agreed candidates: docs/RECOVERY.md, "The repaired listing".
+use Rattle.std.specs.Prelude.{◌≡◌, ◌↔◌, ◌||◌, ◌++◌, ℕ, Bool, false, List, Option, Some, None, filter, map, not}
+use Rattle.std.specs.List.{Contains, filter_map}
+use Rattle.bolt_tree.specs.Entries.{EntryView}
+use Rattle.bolt_etcd.specs.{Among.among, Current.HaveOwnPlaces, Current.IsNewest, Newest.is_until, Newest.until, Revisions.RevisionView, Revisions.revision_of}
+
+-- a compaction at this transaction may have removed it
+abbrev pub is_old : ℕ → Option RevisionView → Bool
+is_old compacted None = false
+is_old compacted (Some r) = is_until compacted r
+
+-- the old ones of those that are kept and those that are agreed
+abbrev pub old_revisions : ℕ → (kept : List RevisionView) → (agreed : List EntryView) → List RevisionView
+old_revisions compacted kept agreed = until compacted (kept ++ filter_map revision_of agreed)
+
+-- exactly the newest of each name, if it isn't a deletion
+abbrev pub AreTheNewest : (old newest : List RevisionView) → Type 0
+AreTheNewest old newest = HaveOwnPlaces old → (r : RevisionView) → Contains newest r ↔ IsNewest old r
+
+-- it isn't old, or it is one of these
+abbrev pub goes_back : ℕ → (newest : List RevisionView) → EntryView → Bool
+goes_back compacted newest e = not (is_old compacted (revision_of e)) || among (map (λ r. r.place) newest) e.key
+
+-- Of the agreed ones these go back: those that aren't old, and the newest of each name among the old ones.
+pub record ArePutBack (compacted : ℕ) (kept : List RevisionView) (agreed back : List EntryView) : Type 0 where
+  pub newest : List RevisionView
+  pub are : AreTheNewest (old_revisions compacted kept agreed) newest
+  pub is : back ≡ filter (goes_back compacted newest) agreed
