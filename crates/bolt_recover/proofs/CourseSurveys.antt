@@ -1,6 +1,6 @@
 -- What a course visits is a survey, and what it returns are the elements at the way_kept ways.
 use Rattle.std.proofs.Common.{◌≡◌, ◌∙◌, ◌⊎◌, ◌↔◌, ◌≤◌, ◌<◌, inl, inr, ℕ, ◌+◌, Bool, true, ◌||◌, ◌&&◌, List, [], ◌∷◌, ◌++◌, nat_le, Option, Some, None, Result, Ok, Err, refl, sym, ap, subst, arith, append_assoc, cond}
-use Rattle.bolt_recover.proofs.Words.{after_event, after_events, all_events, and_parts, append-nil, At_inline, At_page, claimed_after, claims_of, Contains, contains_at, contains_cases, contains_head, contains_none, contains_tail, counted, Each, Event, false≢true, Finding, further, Given, Gives, Has, has_left, has_right, has_split, in_span, is_at_page, IsClaimedIn, IsKeptPage, IsMetaPage, IsOpen, IsRecoveredMember, IsSurvey, Item, item_of, way_kept, LeafElement, loss_at, losses_of, lost_at, members_of, Meta, meta_pages, nat_tests, Node, node_at, Nodes, or_cases, or_left, or_right, Outcome, outcome_of, page_visit, page_ways, Path, Reach, reached, root_site, root_tasks, same_Some, Site, site_at, site_size, span_of, SpanAt, SpanHas, SpanOf, Spot, step_site, sum_by-cons, SurveyedWay, Task, tasks_after, To_give, To_visit, Visited, visits_of, Way, Has, RisesBy, Before}
+use Rattle.bolt_recover.proofs.Words.{after_event, after_events, all_events, and_parts, append-nil, At_inline, At_page, claimed_after, claims_of, Contains, contains_at, contains_cases, contains_head, contains_none, contains_tail, counted, Each, Event, false≢true, Finding, further, Given, Gives, Has, has_left, has_right, has_split, in_span, is_at_page, IsClaimedIn, IsKeptPage, IsMetaPage, IsOpen, IsRecoveredMember, IsSurvey, Item, item_of, way_kept, LeafElement, loss_at, losses_of, members_of, Meta, meta_pages, nat_tests, Node, node_at, Nodes, or_cases, or_left, or_right, Outcome, outcome_of, page_ways, Path, Reach, reached, root_site, root_tasks, same_Some, Site, site_at, site_size, span_of, SpanAt, SpanHas, SpanOf, Spot, step_site, sum_by-cons, SurveyedWay, Task, tasks_after, To_give, To_visit, Visited, visits_of, Way, Has, RisesBy, Before}
 use Rattle.bolt_recover.proofs.{Courses.Course, Courses.Course.done, Courses.Course.give, Courses.Course.visit, Courses.course, CourseOrder.rises_course}
 use Rattle.bolt_recover.proofs.SiteFacts.{leads_within, site_further, site_is, size_enough, slice_of, spot_is, step_spot}
 use Rattle.bolt_recover.proofs.SurveyIsOne.{Suffix, earlier, gives_same, next_suffix, ways}
@@ -47,14 +47,6 @@ module _ (file : List ℕ) (meta : Meta) where
   )
   by_visit w p (Some x) n at = (λ is. absurd (false≢true is), λ (v, (same, span)). absurd (let f : None ≡ Some x = ap (λ (z : SurveyedWay). z.found) same in cc))
 
-  loss_first : (o : Option Site) (p : Site) (f : Option Finding) → o ≡ Some p → lost_at p f ≡ loss_at o f
-  loss_first o p None e = rw e refl
-  loss_first o p (Some x) e = rw e refl
-
-  page_first : (o : Option Spot) (s : Spot) → o ≡ Some s → page_visit s ≡ cond (is_at_page o) 1 0
-  page_first o (At_page s) e = rw e refl
-  page_first o (At_inline host inner) e = rw e refl
-
   -- what comes of events is what the survey of their visits says
   pub record Tallied (o : Outcome) (events : List Event) : Type 0 where
     pub losses : (after_events nodes o events).losses ≡ o.losses ++ losses_of file meta (visits_of events)
@@ -66,12 +58,12 @@ module _ (file : List ℕ) (meta : Meta) where
   tallied o (Visited w p found ∷ events) placed =
       let at = placed w p found (inl refl) in
       let rest = tallied (after_event nodes o (Visited w p found)) events (λ v q f h. placed v q f (inr h)) in
-      let here = page_first (reach w) p.spot (spot_is file meta w p at) in
+      let here = ap {B = ℕ} (λ (o : Option Spot). cond (is_at_page o) 1 0) (spot_is file meta w p at) in
       let all = sum_by-cons (λ (u : SurveyedWay). cond (is_at_page (reach u.way)) 1 0) (record { way = w; found = found }) (visits_of events) in
       let pages = rest.pages in
       record {
-        losses = rest.losses ∙ append_assoc o.losses (lost_at p found) (losses_of file meta (visits_of events))
-            ∙ ap (λ ls. o.losses ++ (ls ++ losses_of file meta (visits_of events))) (loss_first (site_at file meta w) p found at);
+        losses = rest.losses ∙ append_assoc o.losses (loss_at (Some p) found) (losses_of file meta (visits_of events))
+            ∙ ap (λ ls. o.losses ++ (ls ++ losses_of file meta (visits_of events))) (ap (λ (q : Option Site). loss_at q found) (sym at));
         pages = omega (arith, here, all, pages);
       }
 

@@ -2,11 +2,8 @@
 use Rattle.std.proofs.Common.{◌≡◌, ◌≢◌, ◌∙◌, inl, inr, ℕ, zero, suc, ◌<◌, ◌≤◌, Bool, true, false, ◌||◌, List, [], ◌∷◌, ◌++◌, length, Option, Some, None, Result, Ok, refl, sym, ap, subst, arith}
 use Rattle.bolt_recover.proofs.Words.{InlinePage, At_inline, At_page, claimed_after, Event, events, false_from_ne_true, false≢true, Finding, Given, give_all, Gives, in_span, Key, LeafElement, Meta, nat_tests, Node, node_at, node_below, Nodes, none-some, or_parts, PageSpot, Path, run_all, run_on, run_to, Site, site_tasks, Spot, step_from, Task, tasks_after, test, To_give, To_visit, Visited, Way, Among}
 use Rattle.bolt_recover.proofs.{SiteFacts.step_spot, SurveyIsOne.gives_one, TaskLists.after_at, Tested.test_finds}
+use Rattle.std.proofs.Math.Bool.{or-false}
 use Rattle.bolt_check.proofs.TourExists.{has_number, numbers, shorter, still, without}
-
-pub or_none : (b : Bool) → (b || false) ≡ b
-or_none true = refl
-or_none false = refl
 
 module _ (file : List ℕ) (meta : Meta) where
   -- from these claims these tasks come to these events
@@ -57,9 +54,9 @@ module _ (file : List ℕ) (meta : Meta) where
     course_on : (left : List ℕ) (claimed : ℕ → Bool) (tasks : List Task) (later : List Event) (way : Way) (p : Site) (found : Option Finding) (s : Spot) → length left ≤ k → Covers claimed left
         → p.spot ≡ s → Gives nodes (λ n. claimed n ≡ true) s found → Course claimed tasks later
         → Course (claimed_after nodes claimed s found) (tasks_after file meta way p found ++ tasks) (run_on file meta deeper later tasks claimed way p found s)
-    course_on left claimed tasks later way p (Some x) s le covers is gives course = subst (λ (f : ℕ → Bool). Course f tasks later) (λ i n. sym (or_none (claimed n)) i) course
+    course_on left claimed tasks later way p (Some x) s le covers is gives course = subst (λ (f : ℕ → Bool). Course f tasks later) (λ i n. sym (or-false (claimed n)) i) course
     course_on left claimed tasks later way p None (At_inline host inner) le covers is gives course =
-        subst (λ (f : ℕ → Bool). Course f (site_tasks file meta way p ++ tasks) (give_all (site_tasks file meta way p) later)) (λ i n. sym (or_none (claimed n)) i)
+        subst (λ (f : ℕ → Bool). Course f (site_tasks file meta way p ++ tasks) (give_all (site_tasks file meta way p) later)) (λ i n. sym (or-false (claimed n)) i)
         (course_gives claimed (site_tasks file meta way p) tasks later (λ v t. inline_gives way v p t host inner is) course)
     course_on left claimed tasks later way p None (At_page s) le covers is gives course =
         let free = false_from_ne_true (claimed s.number) (gives.free s.number (omega arith, omega arith)) in

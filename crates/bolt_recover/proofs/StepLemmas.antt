@@ -1,6 +1,6 @@
 -- What the steps of a recovering walk leave to be done.
 use Rattle.std.proofs.Common.{◌≡◌, ◌∙◌, ◌≤◌, ◌<◌, ℕ, suc, ◌+◌, ◌-◌, Bool, true, ◌↔◌, List, [], ◌∷◌, ◌++◌, length, map, take, Option, Some, None, slice_get, drop, refl, sym, ap, arith, append_assoc, sum_by, Vec, Global, Bor}
-use Rattle.bolt_recover.proofs.Words.{after_event, after_events, ahead_path_len, ahead_tasks, all_events, append-nil, AreOpenPages, At_page, both_ways, claimed_after, claims_file, claims_meta, claims_nodes, claims_visited, claims_with, Event, loss_of, Passes, Tests, KeptPage, content_elements, content_site, content_size, content_spot, counted, Ends, entry_tasks, events, Finding, further, Given, Gives, gives_at, GivesHead, StepsOn, is_claimed, IsAllLeft, IsContent, IsGoodKeptPage, IsGoodPage, IsMetaPage, AreStepsPlaced, IsShallow, LeafElement, length_entries, length-map, length-take-le, loss_view, lost_at, map-append, members_of, Meta, meta_pages, nat_tests, NextVisit, node_at, Nodes, open_tasks, OpenPage, option_map, Outcome, outcome_of, page_tasks, page_visit, page_weight, Path, path_of, root_spot, Site, site_size, site_tasks, spot_at, spot_site, steps_left, steps_path, steps_weight, TreePage, sum_by-append, take-append-drop, take-append-le, tally_of, Task, tasks_after, tasks_from, tasks_left, Visited, visits_at, Way, way_of, step_site}
+use Rattle.bolt_recover.proofs.Words.{after_event, after_events, ahead_path_len, ahead_tasks, all_events, append-nil, AreOpenPages, At_page, both_ways, claimed_after, claims_file, claims_meta, claims_nodes, claims_visited, claims_with, Event, loss_of, Passes, Tests, KeptPage, content_elements, content_site, content_size, content_spot, counted, Ends, entry_tasks, events, Finding, further, Given, Gives, gives_at, GivesHead, StepsOn, is_claimed, IsAllLeft, IsContent, IsGoodKeptPage, IsGoodPage, IsMetaPage, AreStepsPlaced, IsShallow, LeafElement, length_entries, length-map, length-take-le, loss_view, loss_at, map-append, members_of, Meta, meta_pages, nat_tests, NextVisit, node_at, Nodes, open_tasks, OpenPage, option_map, Outcome, outcome_of, page_tasks, page_visit, page_weight, Path, path_of, root_spot, Site, site_size, site_tasks, spot_at, spot_site, steps_left, steps_path, steps_weight, TreePage, sum_by-append, take-append-drop, take-append-le, tally_of, Task, tasks_after, tasks_from, tasks_left, Visited, visits_at, Way, way_of, step_site}
 use Rattle.bolt_format.specs.TreePages.{leaves_on, page_keys, shown_page}
 use Rattle.bolt_check.specs.ShownNodes.{is_leaf_page}
 use Rattle.bolt_format.specs.declared.tree_page.TreePage.TheVariants.{Branch, Leaf}
@@ -8,7 +8,8 @@ use Rattle.bolt_recover.specs.Private.Frames.{IsGoodAt, IsShallowAt}
 use Rattle.bolt_check.specs.{declared.claims.Claims.Claims, declared.spot.Spot.Spot}
 use Rattle.bolt_recover.specs.{declared.losses.Loss.Loss, declared.steps.Steps.Steps}
 use Rattle.bolt_check.specs.declared.spot.Spot.TheVariants as spots
-use Rattle.bolt_recover.proofs.Courses.{events_give, events_none, events_visit, or_none}
+use Rattle.bolt_recover.proofs.Courses.{events_give, events_none, events_visit}
+use Rattle.std.proofs.Math.Bool.{or-false}
 use Rattle.bolt_recover.proofs.SurveyIsOne.{gives_same}
 
 module _ (file : List ℕ) (meta : Meta) where
@@ -101,7 +102,7 @@ module _ (s : Steps) (claims : Claims) (stack : Vec OpenPage Global) (losses : V
 
   goes_visiting : (found : Option Finding) → Finds found → ((n : ℕ) → is_claimed claims n ≡ claimed_after (claims_nodes s.claims) (is_claimed s.claims) (spot_at ahead.spot) found n)
       → open_tasks (claims_file s.claims) (claims_meta s.claims) (steps_path s) [] stack.items [] ≡ tasks_after (claims_file s.claims) (claims_meta s.claims) (way_of s.open.items) site found ++ rest
-      → map loss_view losses.items ≡ map loss_view s.losses.items ++ lost_at site found
+      → map loss_view losses.items ≡ map loss_view s.losses.items ++ loss_at (Some site) found
       → AreOpenPages (claims_file s.claims) (claims_meta s.claims) 0 stack.items (length (steps_path s)) → sum_by page_weight stack.items ≤ 65537 + sum_by page_weight s.open.items → StepsOn s visited
   goes_visiting found gives after tasks lost placed weight =
       let event = Visited (way_of s.open.items) site found in
@@ -134,7 +135,7 @@ module _ (s : Steps) (claims : Claims) (stack : Vec OpenPage Global) (losses : V
       let are = rw is at has.pages in
       let within = rw is at has.within in
       let weight = ap (sum_by page_weight) stays in
-      goes_visiting (Some x) tests (λ n. same n ∙ sym (or_none (is_claimed s.claims n))) (rw stays refl) lost
+      goes_visiting (Some x) tests (λ n. same n ∙ sym (or-false (is_claimed s.claims n))) (rw stays refl) lost
       (rw stays (are_open_up (claims_file s.claims) (claims_meta s.claims) 0 s.open.items ahead.path_len (length (steps_path s)) are within)) (omega (arith, weight))
 
   -- it is open

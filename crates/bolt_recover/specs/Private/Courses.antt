@@ -1,9 +1,9 @@
 -- What is still to be done, and all that comes of it: what is visited, and what is returned.
-use Rattle.std.specs.Prelude.{ℕ, zero, suc, ◌+◌, Bool, false, ◌||◌, ◌&&◌, List, [], ◌∷◌, ◌++◌, length, Option, Some, None, Result, Ok, Err, nat_le, nat_lt, slice_get}
+use Rattle.std.specs.Prelude.{ℕ, zero, suc, ◌+◌, Bool, false, ◌||◌, ◌&&◌, List, [], ◌∷◌, ◌++◌, length, Option, Some, None, Result, Ok, Err, nat_le, nat_lt, slice_get, if◌then◌else◌}
 use Rattle.bolt_format.specs.{Elements.LeafElement, declared.meta.Meta.Meta}
 use Rattle.bolt_check.specs.{Counts.counted, Nodes.Node, Nodes.Nodes, Nodes.node_at, Ways.At_inline, Ways.At_page, Ways.Spot, declared.finding.Finding.Finding}
 use Rattle.bolt_tree.specs.{Entries.item_of, Listing.Member, Paths.Path}
-use Rattle.bolt_recover.specs.{Losses.LossView, Losses.loss_of, Private.Tests.test, Sites.Site, Sites.root_site, Sites.step_site}
+use Rattle.bolt_recover.specs.{Losses.LossView, Losses.loss_at, PageWays.is_at_page, Private.Tests.test, Sites.Site, Sites.root_site, Sites.step_site}
 use Rattle.bolt_recover.specs.Surveys.{SurveyedWay}
 
 abbrev pub Way : Type 0
@@ -58,19 +58,14 @@ pub record Outcome : Type 0 where
   pub visited : ℕ
   pub claimed : ℕ → Bool
 
-abbrev pub lost_at : Site → Option Finding → List LossView
-lost_at p None = []
-lost_at p (Some x) = loss_of p x ∷ []
-
 -- how many visits are of pages
 abbrev pub page_visit : Spot → ℕ
-page_visit (At_page s) = 1
-page_visit (At_inline host inner) = 0
+page_visit s = if is_at_page (Some s) then 1 else 0
 
 abbrev pub after_event : Nodes → Outcome → Event → Outcome
 after_event nodes o (Given path e) = o
 after_event nodes o (Visited way p found) = record {
-  losses = o.losses ++ lost_at p found;
+  losses = o.losses ++ loss_at (Some p) found;
   visited = counted o.visited (page_visit p.spot);
   claimed = claimed_after nodes o.claimed p.spot found;
 }
