@@ -1,9 +1,10 @@
 -- What a course visits is a survey, and what it returns are the elements at the way_kept ways.
-use Rattle.std.proofs.Common.{◌≡◌, ◌∙◌, ◌⊎◌, ◌↔◌, ◌≤◌, ◌<◌, inl, inr, ℕ, ◌+◌, Bool, true, ◌||◌, ◌&&◌, List, [], ◌∷◌, ◌++◌, nat_le, Option, Some, None, Result, Ok, Err, refl, sym, ap, subst, arith, append_assoc, cond}
+use Rattle.std.proofs.Common.{◌≡◌, ◌∙◌, ◌⊎◌, ◌↔◌, ◌≤◌, ◌<◌, inl, inr, ℕ, ◌+◌, Bool, true, ◌||◌, ◌&&◌, List, [], ◌∷◌, ◌++◌, nat_le, Option, Some, None, Result, Ok, Err, refl, sym, ap, subst, subst₂, arith, append_assoc, cond}
 use Rattle.bolt_recover.proofs.Words.{after_event, after_events, all_events, and_parts, append-nil, At_inline, At_page, claimed_after, claims_of, Contains, contains_at, contains_cases, contains_head, contains_none, contains_tail, counted, Each, Event, false≢true, Finding, further, Given, Gives, Has, has_left, has_right, has_split, in_span, is_at_page, IsClaimedIn, IsKeptPage, IsMetaPage, IsOpen, IsRecoveredMember, IsSurvey, Item, item_of, way_kept, LeafElement, loss_at, losses_of, members_of, Meta, meta_pages, nat_tests, Node, node_at, Nodes, or_cases, or_left, or_right, Outcome, outcome_of, page_ways, Path, Reach, reached, root_site, root_tasks, same_Some, Site, site_at, site_size, span_of, SpanAt, SpanHas, SpanOf, Spot, step_site, sum_by-cons, SurveyedWay, Task, tasks_after, To_give, To_visit, Visited, visits_of, Way, Has, RisesBy, Before}
 use Rattle.bolt_recover.proofs.{Courses.Course, Courses.Course.done, Courses.Course.give, Courses.Course.visit, Courses.course, CourseOrder.rises_course}
 use Rattle.bolt_recover.proofs.SiteFacts.{leads_within, site_further, site_is, size_enough, slice_of, spot_is, step_spot}
-use Rattle.bolt_recover.proofs.SurveyIsOne.{Suffix, earlier, gives_same, next_suffix, ways}
+use Rattle.bolt_recover.proofs.SurveyIsOne.{Earlier, gives_same, in_front, rise, ways}
+use Rattle.bolt_check.proofs.Lists.{rises_across}
 use Rattle.bolt_recover.proofs.MembersInBuckets.{well_at}
 use Rattle.bolt_recover.proofs.TaskLists.{IsAt, after_at, at_from}
 
@@ -109,29 +110,31 @@ module _ (file : List ℕ) (meta : Meta) (survey : List SurveyedWay) where
     kids : (x : Event) → Has events x → Each (Done events) (tasks_of x)
 
   -- the claims in front are those that test 18 looks at
-  claimed_here : (InFront : SurveyedWay → Type 0) (x : SurveyedWay) (rest : List SurveyedWay) (claimed : ℕ → Bool) → Suffix survey InFront (x ∷ rest) → AreClaims InFront claimed
-      → (n : ℕ) → IsClaimedIn (nodes file meta) (reach file meta) survey x.way n → claimed n ≡ true
-  claimed_here InFront x rest claimed at claims n (inl is) = (claims n).1 (inl is)
-  claimed_here InFront x rest claimed at claims n (inr (v, (has, lt, span))) = (claims n).1 (inr (v, (earlier survey InFront x rest at (way_kept v) has lt, span)))
+  module _ (front : List SurveyedWay) (x : SurveyedWay) (rest : List SurveyedWay) (all : front ++ x ∷ rest ≡ survey) (rises : RisesBy Earlier survey) where
+    in_rest : (v : SurveyedWay) → Has survey v → Earlier v x → Has front v
+    in_rest v has = in_front front x rest (subst (RisesBy Earlier) (sym all) rises) v (subst (λ (s : List SurveyedWay). Has s v) (sym all) has)
 
-  claimed_there : (InFront : SurveyedWay → Type 0) (x : SurveyedWay) (rest : List SurveyedWay) (claimed : ℕ → Bool) → Suffix survey InFront (x ∷ rest) → AreClaims InFront claimed
-      → (n : ℕ) → claimed n ≡ true → IsClaimedIn (nodes file meta) (reach file meta) survey x.way n
-  claimed_there InFront x rest claimed at claims n is =
-      elim ((claims n).0 is) [
-        | inl meta_page ↦ inl meta_page
-        | inr (v, (front, span)) ↦ inr (v, (at.front (way_kept v) front, at.after (way_kept v) x front (inl refl), span))
-      ]
+    in_all : (v : SurveyedWay) → Has front v → Has survey v × Earlier v x
+    in_all v has = (subst (λ (s : List SurveyedWay). Has s v) all (has_left front (x ∷ rest) v has), rises_across Earlier front (x ∷ rest) (subst (RisesBy Earlier) (sym all) rises) v x has (inl refl))
+
+    claimed_here : (claimed : ℕ → Bool) → AreClaims (Has front) claimed → (n : ℕ) → IsClaimedIn (nodes file meta) (reach file meta) survey x.way n → claimed n ≡ true
+    claimed_here claimed claims n (inl low) = (claims n).1 (inl low)
+    claimed_here claimed claims n (inr (v, (has, lt, span))) = (claims n).1 (inr (v, (in_rest (way_kept v) has lt, span)))
+
+    claimed_there : (claimed : ℕ → Bool) → AreClaims (Has front) claimed → (n : ℕ) → claimed n ≡ true → IsClaimedIn (nodes file meta) (reach file meta) survey x.way n
+    claimed_there claimed claims n is = elim ((claims n).0 is) [ inl low ↦ inl low | inr (v, (before, span)) ↦ let (has, lt) = in_all (way_kept v) before in inr (v, (has, lt, span)) ]
 
   -- the claims after a visit
-  claims_after : (InFront : SurveyedWay → Type 0) (w : Way) (p : Site) (found : Option Finding) (claimed : ℕ → Bool) → site_at file meta w ≡ Some p → AreClaims InFront claimed
-      → AreClaims (λ v. InFront v ⊎ (v ≡ record { way = w; found = found })) (claimed_after (nodes file meta) claimed p.spot found)
-  claims_after InFront w p found claimed at claims n =
+  claims_after : (front : List SurveyedWay) (w : Way) (p : Site) (found : Option Finding) (claimed : ℕ → Bool) → site_at file meta w ≡ Some p → AreClaims (Has front) claimed
+      → AreClaims (Has (front ++ record { way = w; found = found } ∷ [])) (claimed_after (nodes file meta) claimed p.spot found)
+  claims_after front w p found claimed at claims n =
+      let this : List SurveyedWay = record { way = w; found = found } ∷ [] in
       either_or (claimed n) (span_of (nodes file meta) p.spot found n) _ _ _ (claims n) (by_visit file meta w p found n at)
-      (λ is. elim is [ inl meta_page ↦ inl meta_page | inr (v, (front, span)) ↦ inr (v, (inl front, span)) ])
-      (λ (v, (same, span)). inr (v, (inr same, span)))
+      (λ is. elim is [ inl low ↦ inl low | inr (v, (before, span)) ↦ inr (v, (has_left front this (way_kept v) before, span)) ])
+      (λ (v, (same, span)). inr (v, (has_right front this (way_kept v) (inl (sym same)), span)))
       (λ is. elim is [
-        | inl meta_page ↦ inl (inl meta_page)
-        | inr (v, (front, span)) ↦ elim front [ inl before ↦ inl (inr (v, (before, span))) | inr same ↦ inr (v, (same, span)) ]
+        | inl low ↦ inl (inl low)
+        | inr (v, (has, span)) ↦ elim (has_split front this (way_kept v) has) [ inl before ↦ inl (inr (v, (before, span))) | inr last ↦ elim last [ inl same ↦ inr (v, (sym same, span)) | inr none ↦ absurd none ] ]
       ])
 
   comes_more : (claimed after : ℕ → Bool) (x : Event) (task : Task) (first tasks : List Task) (events : List Event) → ((o : Outcome) → o.claimed ≡ claimed → (after_event (nodes file meta) o x).claimed ≡ after)
@@ -147,32 +150,29 @@ module _ (file : List ℕ) (meta : Meta) (survey : List SurveyedWay) where
   }
 
   comes_course : (claimed : ℕ → Bool) (tasks : List Task) (events : List Event) → Course file meta claimed tasks events
-      → (InFront : SurveyedWay → Type 0) → Suffix survey InFront (visits_of events) → AreClaims InFront claimed → Each IsTask tasks → Comes claimed tasks events
-  comes_course claimed tasks events done InFront at claims are = record {
-    claims = λ o same n. (
-      λ is. elim ((claims n).0 (ap (λ (f : ℕ → Bool). f n) (sym same) ∙ is)) [ inl low ↦ inl low | inr (v, (front, span)) ↦ inr (v, (at.front (way_kept v) front, span)) ],
-      λ is. ap (λ (f : ℕ → Bool). f n) same ∙ (claims n).1 (elim is [ inl low ↦ inl low | inr (v, (has, span)) ↦ elim (at.split (way_kept v) has) [ inl front ↦ inr (v, (front, span)) | inr none ↦ absurd none ] ]),
-    );
+      → (front : List SurveyedWay) → front ++ visits_of events ≡ survey → RisesBy Earlier survey → AreClaims (Has front) claimed → Each IsTask tasks → Comes claimed tasks events
+  comes_course claimed tasks events done front all rises claims are = record {
+    claims = λ o same. subst₂ (λ (visits : List SurveyedWay) (f : ℕ → Bool). AreClaims (Has visits) f) (sym (append-nil front) ∙ all) (sym same) claims;
     only = λ x h. absurd h;
     led = λ t h. absurd h;
     kids = λ x h. absurd h;
   }
-  comes_course claimed tasks events (give {path = path} {e = e} {tasks = more} {events = rest} course) InFront at claims are =
+  comes_course claimed tasks events (give {path = path} {e = e} {tasks = more} {events = rest} course) front all rises claims are =
       comes_more claimed claimed (Given path e) (To_give path e) [] more rest (λ o same. same) (are (To_give path e) (inl refl)) (inl refl) refl
-      (comes_course claimed more rest course InFront at claims (λ task h. are task (inr h)))
-  comes_course claimed tasks events (visit {way = w} {p = p} {found = found} {tasks = more} {events = rest} gives course) InFront at claims are =
+      (comes_course claimed more rest course front all rises claims (λ task h. are task (inr h)))
+  comes_course claimed tasks events (visit {way = w} {p = p} {found = found} {tasks = more} {events = rest} gives course) front all rises claims are =
       let this : SurveyedWay = record { way = w; found = found } in
       let (opened, there) = are (To_visit w p) (inl refl) in
       let first = tasks_after file meta w p found in
+      let inside : Has survey this = subst (λ (s : List SurveyedWay). Has s this) all (has_right front (this ∷ visits_of rest) this (inl refl)) in
       let here = gives_same (nodes file meta) (λ n. claimed n ≡ true) (IsClaimedIn (nodes file meta) (reach file meta) survey w) p.spot found
-      (claimed_there InFront this (visits_of rest) claimed at claims) (claimed_here InFront this (visits_of rest) claimed at claims) gives in
+      (claimed_there front this (visits_of rest) all rises claimed claims) (claimed_here front this (visits_of rest) all rises claimed claims) gives in
       comes_more claimed _ (Visited w p found) (To_visit w p) first more rest (λ o same. ap (λ (f : ℕ → Bool). claimed_after (nodes file meta) f p.spot found) same) (opened, there, here) (found, inl refl) refl
-      (comes_course _ (first ++ more) rest course (λ v. InFront v ⊎ (v ≡ this))
-      (next_suffix (nodes file meta) (reach file meta) survey InFront this this (visits_of rest) refl at) (claims_after InFront w p found claimed there claims)
+      (comes_course _ (first ++ more) rest course (front ++ this ∷ []) (append_assoc front (this ∷ []) (visits_of rest) ∙ all) rises (claims_after front w p found claimed there claims)
       (λ task h. elim (has_split first more task h) [
         | inl child ↦
             let (none, i, is) = after_at file meta w p found task child in
-            child_is w p i task (subst (λ (f : Option Finding). Has survey (record { way = w; found = f })) none (at.inside this (inl refl))) there is
+            child_is w p i task (subst (λ (f : Option Finding). Has survey (record { way = w; found = f })) none inside) there is
         | inr later ↦ are task (inr later)
       ]))
 
@@ -212,13 +212,12 @@ module _ (file : List ℕ) (meta : Meta) where
   abbrev pub survey_of : List SurveyedWay
   survey_of = visits_of (all_events file meta)
 
-  rise : RisesBy Before (ways survey_of)
-  rise = (rises_course file meta meta_pages (root_tasks file meta) (all_events file meta) (course file meta (root_tasks file meta) meta_pages) (λ b h. absurd h, tt)).0
+  rises : RisesBy Before (ways survey_of)
+  rises = (rises_course file meta meta_pages (root_tasks file meta) (all_events file meta) (course file meta (root_tasks file meta) meta_pages) (λ b h. absurd h, tt)).0
 
   comes : Comes file meta survey_of meta_pages (root_tasks file meta) (all_events file meta)
   comes =
-      comes_course file meta survey_of meta_pages (root_tasks file meta) (all_events file meta) (course file meta (root_tasks file meta) meta_pages) (λ v. ⊥)
-      (record { split = λ v has. inr has; inside = λ v has. has; front = λ v front. absurd front; after = λ v w front has. absurd front; rises = rise })
+      comes_course file meta survey_of meta_pages (root_tasks file meta) (all_events file meta) (course file meta (root_tasks file meta) meta_pages) [] refl (rise survey_of rises)
       (λ n. (λ is. inl (grind (arith, nat_tests)), λ is. elim is [ inl low ↦ grind (arith, nat_tests) | inr (v, (front, span)) ↦ absurd front ]))
       (λ task h. elim h [ inl same ↦ subst (IsTask file meta survey_of) same (inl refl, refl) | inr none ↦ absurd none ])
 
@@ -239,7 +238,7 @@ module _ (file : List ℕ) (meta : Meta) where
 
   pub surveyed : IsSurvey file meta survey_of
   surveyed = record {
-    rises = rise;
+    rises = rises;
     only = λ u has. let (p, there, at, gives) = site_of u has in ((comes.only (Visited u.way p u.found) there).0, (p.spot, spot_is file meta u.way p at, gives));
     all = λ way s opened leads. elim opened [
       | inl none ↦
