@@ -1,23 +1,17 @@
 -- What a course visits is a survey, and what it returns are the elements at the way_kept ways.
 use Rattle.std.proofs.Common.{◌≡◌, ◌∙◌, ◌⊎◌, ◌↔◌, ◌≤◌, ◌<◌, inl, inr, ℕ, ◌+◌, Bool, true, ◌||◌, ◌&&◌, List, [], ◌∷◌, ◌++◌, nat_le, Option, Some, None, Result, Ok, Err, refl, sym, ap, subst, subst₂, arith, append_assoc, cond}
-use Rattle.bolt_recover.proofs.Words.{after_event, after_events, all_events, and_parts, append-nil, At_inline, At_page, claimed_after, claims_of, Contains, contains_at, contains_cases, contains_head, contains_none, contains_tail, counted, Each, Event, false≢true, Finding, further, Given, Gives, Has, has_left, has_right, has_split, in_span, is_at_page, IsClaimedIn, IsKeptPage, IsMetaPage, IsOpen, IsRecoveredMember, IsSurvey, Item, item_of, way_kept, LeafElement, loss_at, losses_of, members_of, Meta, meta_pages, nat_tests, Node, node_at, Nodes, or_cases, or_left, or_right, Outcome, outcome_of, page_ways, Path, Reach, reached, root_site, root_tasks, same_Some, Site, site_at, site_size, span_of, SpanAt, SpanHas, SpanOf, Spot, step_site, sum_by-cons, SurveyedWay, Task, tasks_after, To_give, To_visit, Visited, visits_of, Way, Has, RisesBy, Before}
+use Rattle.bolt_recover.proofs.Words.{after_event, after_events, all_events, and_parts, append-nil, At_inline, At_page, claimed_after, claims_of, Contains, contains_at, contains_from_has, counted, Each, Event, false≢true, Finding, further, Given, Gives, Has, has_from_contains, has_left, has_right, has_split, in_span, is_at_page, IsClaimedIn, IsKeptPage, IsMetaPage, IsOpen, IsRecoveredMember, IsSurvey, Item, item_of, way_kept, LeafElement, loss_at, losses_of, members_at, members_of, Meta, meta_pages, nat_tests, Node, node_at, Nodes, or_cases, or_left, or_right, Outcome, outcome_of, page_ways, Path, Reach, reached, root_site, root_tasks, same_Some, Site, site_at, site_size, span_of, SpanAt, SpanHas, SpanOf, Spot, step_site, sum_by-cons, SurveyedWay, Task, tasks_after, To_give, To_visit, Visited, visit_at, visits_of, Way, Has, RisesBy, Before}
 use Rattle.bolt_recover.proofs.{Courses.Course, Courses.Course.done, Courses.Course.give, Courses.Course.visit, Courses.course, CourseOrder.rises_course}
 use Rattle.bolt_recover.proofs.SiteFacts.{leads_within, site_further, site_is, size_enough, slice_of, spot_is, step_spot}
 use Rattle.bolt_recover.proofs.SurveyIsOne.{Earlier, gives_same, in_front, rise, ways}
-use Rattle.bolt_check.proofs.Lists.{rises_across}
+use Rattle.bolt_check.proofs.Lists.{flat_has, has_flat, rises_across}
 use Rattle.bolt_recover.proofs.MembersInBuckets.{well_at}
 use Rattle.bolt_recover.proofs.TaskLists.{IsAt, after_at, at_from}
 
 -- the claims of a spot are its span
 span_in : (r : Result Node ℕ) (number n : ℕ) → (in_span r number n ≡ true) ↔ SpanOf r number n
 span_in (Err fault) number n = (λ e. absurd (false≢true e), λ h. absurd h)
-span_in (Ok node) number n = (λ e. let both = and_parts (nat_le number n) (nat_le n (number + node.overflow)) e in (from number n both.0, from n (number + node.overflow) both.1), λ h. to number n (number + node.overflow) h.0 h.1)
-  where
-    from : (a b : ℕ) → nat_le a b ≡ true → a ≤ b
-    from a b e = grind (arith, nat_tests)
-
-    to : (a b c : ℕ) → a ≤ b → b ≤ c → (nat_le a b && nat_le b c) ≡ true
-    to a b c h k = grind (arith, nat_tests)
+span_in (Ok node) number n = (λ e. grind (arith, nat_tests, and_parts), λ h. grind (arith, nat_tests))
 
 pub claims_in : (nodes : Nodes) (s : Spot) (n : ℕ) → (claims_of nodes s n ≡ true) ↔ SpanAt nodes s n
 claims_in nodes (At_page s) n = span_in (nodes s.number) s.number n
@@ -178,34 +172,26 @@ module _ (file : List ℕ) (meta : Meta) (survey : List SurveyedWay) where
 
 -- visits and members among events
 visit_in : (events : List Event) (u : SurveyedWay) → Has (visits_of events) u → (p : Site) × Has events (Visited u.way p u.found)
-visit_in [] u h = absurd h
-visit_in (Given path e ∷ events) u h = let (p, at) = visit_in events u h in (p, inr at)
-visit_in (Visited w p found ∷ events) u (inl same) = (p, inl (ap (λ (v : SurveyedWay). Visited v.way p v.found) same))
-visit_in (Visited w p found ∷ events) u (inr h) = let (q, at) = visit_in events u h in (q, inr at)
+visit_in events u h = let (x, has, at) = flat_has visit_at events u h in by x has at
+  where
+    by : (x : Event) → Has events x → Has (visit_at x) u → (p : Site) × Has events (Visited u.way p u.found)
+    by (Given path e) has at = absurd at
+    by (Visited w p found) has (inl same) = (p, subst (λ (v : SurveyedWay). Has events (Visited v.way p v.found)) same has)
+    by (Visited w p found) has (inr none) = absurd none
 
 in_visits : (events : List Event) (w : Way) (p : Site) (found : Option Finding) → Has events (Visited w p found) → Has (visits_of events) (record { way = w; found = found })
-in_visits [] w p found h = absurd h
-in_visits (Given path e ∷ events) w p found (inl same) = absurd (cc)
-in_visits (Given path e ∷ events) w p found (inr h) = in_visits events w p found h
-in_visits (Visited v q f ∷ events) w p found (inl same) = let way : v ≡ w = cc in let is : f ≡ found = cc in inl (λ i. record { way = way i; found = is i })
-in_visits (Visited v q f ∷ events) w p found (inr h) = inr (in_visits events w p found h)
+in_visits events w p found h = has_flat visit_at events (Visited w p found) _ h (inl refl)
 
 member_in : (events : List Event) (path : Path) (item : Item) → Contains (members_of events) (path, item) → (e : LeafElement) × Has events (Given path e) × (item ≡ item_of e)
-member_in [] path item h = absurd (contains_none (path, item) h)
-member_in (Visited w p found ∷ events) path item h = let (e, at, is) = member_in events path item h in (e, inr at, is)
-member_in (Given q x ∷ events) path item h = elim (contains_cases (q, item_of x) (path, item) (members_of events) h) [
-  | inl same ↦ (x, inl (ap (λ (m : Path × Item). Given m.0 x) same), sym (ap (λ (m : Path × Item). m.1) same))
-  | inr later ↦ let (e, at, is) = member_in events path item later in (e, inr at, is)
-]
+member_in events path item h = let (x, has, at) = flat_has members_at events (path, item) (has_from_contains _ _ h) in by x has at
+  where
+    by : (x : Event) → Has events x → Has (members_at x) (path, item) → (e : LeafElement) × Has events (Given path e) × (item ≡ item_of e)
+    by (Visited w p found) has at = absurd at
+    by (Given q e) has (inl same) = (e, subst (λ (m : Path × Item). Has events (Given m.0 e)) same has, sym (ap (λ (m : Path × Item). m.1) same))
+    by (Given q e) has (inr none) = absurd none
 
 in_members : (events : List Event) (path : Path) (e : LeafElement) → Has events (Given path e) → Contains (members_of events) (path, item_of e)
-in_members [] path e h = absurd h
-in_members (Visited w p found ∷ events) path e (inl same) = absurd (cc)
-in_members (Visited w p found ∷ events) path e (inr h) = in_members events path e h
-in_members (Given q x ∷ events) path e (inl same) =
-    let named : q ≡ path = cc in let is : x ≡ e = cc in
-    subst (λ (m : Path × Item). Contains ((q, item_of x) ∷ members_of events) m) (λ i. (named i, item_of (is i))) (contains_head (q, item_of x) (members_of events))
-in_members (Given q x ∷ events) path e (inr h) = contains_tail (q, item_of x) (path, item_of e) (members_of events) (in_members events path e h)
+in_members events path e h = contains_from_has _ _ (has_flat members_at events (Given path e) _ h (inl refl))
 
 -- all that comes of a file
 module _ (file : List ℕ) (meta : Meta) where

@@ -11,14 +11,7 @@ module _ (file : List ℕ) (meta : Meta) where
   module _ (w : Way) (p : Site) where
     by_entry : (i : ℕ) (o : Option LeafElement) (q : Option Site) (task : Task) → slice_get p.elements i ≡ o → step_site file meta p i ≡ q
         → Has (gives_at file meta p.path o ++ visits_at file meta (further w i) q) task → IsAt w p i task
-    by_entry i None None task get next h = absurd h
-    by_entry i (Some e) None task get next (inl same) = subst (IsAt w p i) same (get, refl)
-    by_entry i (Some e) None task get next (inr h) = absurd h
-    by_entry i None (Some t) task get next (inl same) = subst (IsAt w p i) same (refl, next)
-    by_entry i None (Some t) task get next (inr h) = absurd h
-    by_entry i (Some e) (Some t) task get next (inl same) = subst (IsAt w p i) same (get, refl)
-    by_entry i (Some e) (Some t) task get next (inr (inl same)) = subst (IsAt w p i) same (refl, next)
-    by_entry i (Some e) (Some t) task get next (inr (inr h)) = absurd h
+    by_entry i o q task get next h = grind arith
 
     pub entry_at : (i : ℕ) (task : Task) → Has (entry_tasks file meta w p i) task → IsAt w p i task
     entry_at i task h = by_entry i (slice_get p.elements i) (step_site file meta p i) task refl refl h

@@ -45,9 +45,9 @@ pub use Rattle.bolt_recover.specs.Private.Frames.{steps_path, steps_weight, tall
 pub use Rattle.bolt_recover.specs.Private.Joining.{AreJoinable, first_cmp, holds_key}
 pub use Rattle.bolt_recover.specs.KeptMembers.{kept_file, kept_left, kept_meta}
 pub use Rattle.bolt_recover.specs.Private.Courses.{Event, Given, Outcome, Task, To_give, To_visit, Visited, Way, after_event, after_events, all_events}
-pub use Rattle.bolt_recover.specs.Private.Courses.{claimed_after, claims_of, entry_count, entry_tasks, further, give_all, gives_at, in_span, members_of}
+pub use Rattle.bolt_recover.specs.Private.Courses.{claimed_after, claims_of, entry_count, entry_tasks, further, give_all, gives_at, in_span, members_at, members_of}
 pub use Rattle.bolt_recover.specs.Private.Courses.{meta_pages, outcome_of, page_visit, root_tasks, run_all, run_on, run_to, site_size, site_tasks, span_of, tasks_after}
-pub use Rattle.bolt_recover.specs.Private.Courses.{recovered_of, tasks_from, visits_at, visits_of}
+pub use Rattle.bolt_recover.specs.Private.Courses.{recovered_of, tasks_from, visit_at, visits_at, visits_of}
 unfoldable pub use Rattle.bolt_recover.specs.Private.Courses.{events}
 pub use Rattle.bolt_recover.specs.Private.Tests.{first_claimed, test, test_node}
 pub use Rattle.bolt_recover.specs.Private.TreesLeft.{AreTreesOf, IsSearched, lost_of}
