@@ -1,5 +1,5 @@
 -- A course visits ways in their order.
-use Rattle.std.proofs.Common.{◌≡◌, ◌∙◌, ◌<◌, inl, inr, ℕ, zero, suc, Bool, List, [], ◌∷◌, ◌++◌, Option, Some, None, slice_get, arith, refl, sym, ap, subst, append_assoc}
+use Rattle.std.proofs.Common.{◌≡◌, ◌∙◌, ◌<◌, inl, inr, ℕ, zero, suc, Bool, List, [], ◌∷◌, ◌++◌, Option, slice_get, arith, refl, sym, ap, subst, append_assoc}
 use Rattle.bolt_recover.proofs.Words.{append-nil, Before, Each, entry_tasks, Event, Finding, further, gives_at, LeafElement, Path, step_site, tasks_from, visits_at, Has, has_split, Meta, rises_append, RisesBy, Site, SurveyedWay, Task, tasks_after, To_give, To_visit, visits_of, Way, Has}
 use Rattle.bolt_tree.proofs.TourLemmas.{before_sides, before_under}
 use Rattle.bolt_recover.proofs.Courses.{Course, Course.done, Course.give, Course.visit}
@@ -22,10 +22,7 @@ module _ (file : List ℕ) (meta : Meta) where
   across w p i j (To_visit v t) (To_visit u q) lt h k = λ rest more. rw (h.0, k.0, append_assoc w (i ∷ []) rest, append_assoc w (j ∷ []) more) (before_sides w rest more i j lt)
 
   entry_rises : (path : Path) (o : Option LeafElement) (v : Way) (q : Option Site) → RisesBy Ahead (gives_at file meta path o ++ visits_at file meta v q)
-  entry_rises path None v None = tt
-  entry_rises path (Some e) v None = (λ b h. absurd h, tt)
-  entry_rises path None v (Some t) = (λ b h. absurd h, tt)
-  entry_rises path (Some e) v (Some t) = (λ b h. tt, (λ b h. absurd h, tt))
+  entry_rises path o v q = grind arith
 
   from_rises : (w : Way) (p : Site) (i k : ℕ) → RisesBy Ahead (tasks_from file meta w p i k)
   from_rises w p i zero = tt
@@ -34,8 +31,7 @@ module _ (file : List ℕ) (meta : Meta) where
       (λ a b ha hb. let (j, le, at) = from_at file meta w p (suc i) k b hb in across w p i j a b (omega (arith, le)) (entry_at file meta w p i a ha) at)
 
   after_rises : (w : Way) (p : Site) (found : Option Finding) → RisesBy Ahead (tasks_after file meta w p found)
-  after_rises w p None = from_rises w p 0 _
-  after_rises w p (Some x) = tt
+  after_rises w p found = grind (arith, from_rises)
 
   child_ahead : (w : Way) (p : Site) (j : ℕ) (a b : Task) → IsAt file meta w p j a → Ahead (To_visit w p) b → Ahead a b
   child_ahead w p j (To_give path e) b at before = tt

@@ -1,6 +1,6 @@
 -- What a course visits is a survey, and what it returns are the elements at the way_kept ways.
-use Rattle.std.proofs.Common.{◌≡◌, ◌∙◌, ◌⊎◌, ◌↔◌, ◌≤◌, ◌<◌, inl, inr, ℕ, ◌+◌, Bool, true, ◌||◌, ◌&&◌, List, [], ◌∷◌, ◌++◌, nat_le, Option, Some, None, Result, Ok, Err, refl, sym, ap, subst, subst₂, arith, append_assoc, cond}
-use Rattle.bolt_recover.proofs.Words.{after_event, after_events, all_events, and_parts, append-nil, At_inline, At_page, claimed_after, claims_of, Contains, contains_at, contains_from_has, counted, Each, Event, false≢true, Finding, further, Given, Gives, Has, has_from_contains, has_left, has_right, has_split, in_span, is_at_page, IsClaimedIn, IsKeptPage, IsMetaPage, IsOpen, IsRecoveredMember, IsSurvey, Item, item_of, way_kept, LeafElement, loss_at, losses_of, members_at, members_of, Meta, meta_pages, nat_tests, Node, node_at, Nodes, or_cases, or_left, or_right, Outcome, outcome_of, page_ways, Path, Reach, reached, root_site, root_tasks, same_Some, Site, site_at, site_size, span_of, SpanAt, SpanHas, SpanOf, Spot, step_site, sum_by-cons, SurveyedWay, Task, tasks_after, To_give, To_visit, Visited, visit_at, visits_of, Way, Has, RisesBy, Before}
+use Rattle.std.proofs.Common.{◌≡◌, ◌∙◌, ◌⊎◌, ◌↔◌, ◌<◌, inl, inr, ℕ, Bool, true, ◌||◌, List, [], ◌∷◌, ◌++◌, Option, Some, None, Result, refl, sym, ap, subst, subst₂, arith, append_assoc, cond}
+use Rattle.bolt_recover.proofs.Words.{after_event, after_events, all_events, and_parts, append-nil, claimed_after, claims_of, Contains, contains_at, contains_from_has, counted, Each, Event, false≢true, Finding, further, Given, Gives, Has, has_from_contains, has_left, has_right, has_split, in_span, is_at_page, IsClaimedIn, IsKeptPage, IsMetaPage, IsOpen, IsRecoveredMember, IsSurvey, Item, item_of, way_kept, LeafElement, loss_at, losses_of, members_at, members_of, Meta, meta_pages, nat_tests, Node, node_at, Nodes, or_cases, or_left, or_right, Outcome, outcome_of, page_ways, Path, Reach, reached, root_site, root_tasks, same_Some, Site, site_at, site_size, span_of, SpanAt, SpanHas, SpanOf, Spot, step_site, sum_by-cons, SurveyedWay, Task, tasks_after, To_give, To_visit, Visited, visit_at, visits_of, Way, Has, RisesBy, Before}
 use Rattle.bolt_recover.proofs.{Courses.Course, Courses.Course.done, Courses.Course.give, Courses.Course.visit, Courses.course, CourseOrder.rises_course}
 use Rattle.bolt_recover.proofs.SiteFacts.{leads_within, site_further, site_is, size_enough, slice_of, spot_is, step_spot}
 use Rattle.bolt_recover.proofs.SurveyIsOne.{Earlier, gives_same, in_front, rise, ways}
@@ -10,19 +10,14 @@ use Rattle.bolt_recover.proofs.TaskLists.{IsAt, after_at, at_from}
 
 -- the claims of a spot are its span
 span_in : (r : Result Node ℕ) (number n : ℕ) → (in_span r number n ≡ true) ↔ SpanOf r number n
-span_in (Err fault) number n = (λ e. absurd (false≢true e), λ h. absurd h)
-span_in (Ok node) number n = (λ e. grind (arith, nat_tests, and_parts), λ h. grind (arith, nat_tests))
+span_in r number n = grind (arith, false≢true, nat_tests, and_parts)
 
 pub claims_in : (nodes : Nodes) (s : Spot) (n : ℕ) → (claims_of nodes s n ≡ true) ↔ SpanAt nodes s n
-claims_in nodes (At_page s) n = span_in (nodes s.number) s.number n
-claims_in nodes (At_inline host inner) n = (λ e. absurd (false≢true e), λ h. absurd h)
+claims_in nodes s n = grind (arith, span_in, false≢true)
 
 -- either of two facts that are told
 pub either_or : (a b : Bool) (A B C : Type 0) → (a ≡ true) ↔ A → (b ≡ true) ↔ B → (A → C) → (B → C) → (C → A ⊎ B) → ((a || b) ≡ true) ↔ C
-either_or a b A B C of_a of_b from_a from_b to = (
-  λ is. elim (or_cases a b is) [ inl h ↦ from_a (of_a.0 h) | inr h ↦ from_b (of_b.0 h) ],
-  λ c. elim (to c) [ inl h ↦ or_left a b (of_a.1 h) | inr h ↦ or_right a b (of_b.1 h) ],
-)
+either_or a b A B C of_a of_b from_a from_b to = grind (arith, or_cases, or_left, or_right)
 
 module _ (file : List ℕ) (meta : Meta) where
   abbrev pub nodes : Nodes
@@ -80,8 +75,7 @@ module _ (file : List ℕ) (meta : Meta) (survey : List SurveyedWay) where
   IsEvent (Visited w p found) = IsOpen survey w × (site_at file meta w ≡ Some p) × Gives (nodes file meta) (IsClaimedIn (nodes file meta) (reach file meta) survey w) p.spot found
 
   child_is : (w : Way) (p : Site) (i : ℕ) (task : Task) → Has survey (way_kept w) → site_at file meta w ≡ Some p → IsAt file meta w p i task → IsTask task
-  child_is w p i (To_give path e) has at (get, named) = (w, p, has, at, contains_at p.elements i e get, named)
-  child_is w p i (To_visit v t) has at (is, next) = (inr (w, i, is, has), ap (site_at file meta) is ∙ site_further file meta w i p at ∙ next)
+  child_is w p i task has at h = grind (arith, contains_at, site_further)
 
   -- a task is done
   abbrev Done : List Event → Task → Type 0
@@ -89,8 +83,7 @@ module _ (file : List ℕ) (meta : Meta) (survey : List SurveyedWay) where
   Done events (To_visit w p) = (found : Option Finding) × Has events (Visited w p found)
 
   done_later : (x : Event) (events : List Event) (task : Task) → Done events task → Done (x ∷ events) task
-  done_later x events (To_give path e) h = inr h
-  done_later x events (To_visit w p) (found, h) = (found, inr h)
+  done_later x events task h = grind arith
 
   abbrev tasks_of : Event → List Task
   tasks_of (Given path e) = []
@@ -112,8 +105,7 @@ module _ (file : List ℕ) (meta : Meta) (survey : List SurveyedWay) where
     in_all v has = (subst (λ (s : List SurveyedWay). Has s v) all (has_left front (x ∷ rest) v has), rises_across Earlier front (x ∷ rest) (subst (RisesBy Earlier) (sym all) rises) v x has (inl refl))
 
     claimed_here : (claimed : ℕ → Bool) → AreClaims (Has front) claimed → (n : ℕ) → IsClaimedIn (nodes file meta) (reach file meta) survey x.way n → claimed n ≡ true
-    claimed_here claimed claims n (inl low) = (claims n).1 (inl low)
-    claimed_here claimed claims n (inr (v, (has, lt, span))) = (claims n).1 (inr (v, (in_rest (way_kept v) has lt, span)))
+    claimed_here claimed claims n h = grind (arith, in_rest)
 
     claimed_there : (claimed : ℕ → Bool) → AreClaims (Has front) claimed → (n : ℕ) → claimed n ≡ true → IsClaimedIn (nodes file meta) (reach file meta) survey x.way n
     claimed_there claimed claims n is = elim ((claims n).0 is) [ inl low ↦ inl low | inr (v, (before, span)) ↦ let (has, lt) = in_all (way_kept v) before in inr (v, (has, lt, span)) ]
@@ -133,15 +125,7 @@ module _ (file : List ℕ) (meta : Meta) (survey : List SurveyedWay) where
 
   comes_more : (claimed after : ℕ → Bool) (x : Event) (task : Task) (first tasks : List Task) (events : List Event) → ((o : Outcome) → o.claimed ≡ claimed → (after_event (nodes file meta) o x).claimed ≡ after)
       → IsEvent x → Done (x ∷ events) task → tasks_of x ≡ first → Comes after (first ++ tasks) events → Comes claimed (task ∷ tasks) (x ∷ events)
-  comes_more claimed after x task first tasks events next is ends own later = record {
-    claims = λ o same. later.claims (after_event (nodes file meta) o x) (next o same);
-    only = λ y h. elim h [ inl same ↦ subst IsEvent same is | inr more ↦ later.only y more ];
-    led = λ t h. elim h [ inl same ↦ subst (Done (x ∷ events)) same ends | inr more ↦ done_later x events t (later.led t (has_right first tasks t more)) ];
-    kids = λ y h t child. done_later x events t (elim h [
-      | inl same ↦ later.led t (has_left first tasks t (subst (λ (ts : List Task). Has ts t) (ap tasks_of (sym same) ∙ own) child))
-      | inr more ↦ later.kids y more t child
-    ]);
-  }
+  comes_more claimed after x task first tasks events next is ends own later = grind (arith, done_later, has_right, has_left)
 
   comes_course : (claimed : ℕ → Bool) (tasks : List Task) (events : List Event) → Course file meta claimed tasks events
       → (front : List SurveyedWay) → front ++ visits_of events ≡ survey → RisesBy Earlier survey → AreClaims (Has front) claimed → Each IsTask tasks → Comes claimed tasks events
@@ -213,10 +197,7 @@ module _ (file : List ℕ) (meta : Meta) where
   -- a site that is visited, and what there is to do at a way_kept one
   site_of : (u : SurveyedWay) → Has survey_of u → (p : Site) × Has (all_events file meta) (Visited u.way p u.found) × (site_at file meta u.way ≡ Some p)
       × Gives (nodes file meta) (IsClaimedIn (nodes file meta) (reach file meta) survey_of u.way) p.spot u.found
-  site_of u has =
-      let (p, there) = visit_in (all_events file meta) u has in
-      let (opened, at, gives) = comes.only (Visited u.way p u.found) there in
-      (p, there, at, gives)
+  site_of u has = grind (arith, visit_in, comes)
 
   done_at : (w : Way) (p : Site) (i : ℕ) (task : Task) → Has (all_events file meta) (Visited w p None) → i < site_size (nodes file meta) p.spot p.elements → IsAt file meta w p i task
       → Done file meta survey_of (all_events file meta) task

@@ -1,6 +1,6 @@
 -- There is at most one survey: if all that stands before a way is the same in two of them, so is what is open, claimed and found there.
-use Rattle.std.proofs.Common.{◌≡◌, ◌∙◌, ℕ, ◌⊎◌, inl, inr, List, [], ◌∷◌, ◌++◌, map, Option, Some, None, refl, sym, ap, subst}
-use Rattle.bolt_recover.proofs.Words.{Before, before_irreflexive, before_strict, before_trans, Finding, Gives, Has, has_split, Each, IsClaimedIn, IsOpen, IsSurvey, way_kept, Meta, node_at, Nodes, passes_fewer, passes_silent, Reach, reached, Spot, Surveys, tests_same, SurveyedWay, RisesBy}
+use Rattle.std.proofs.Common.{◌≡◌, ℕ, inl, inr, List, [], ◌∷◌, ◌++◌, map, Option, refl, subst, arith}
+use Rattle.bolt_recover.proofs.Words.{Before, before_irreflexive, before_strict, before_trans, Finding, Gives, Has, has_split, Each, IsClaimedIn, IsOpen, IsSurvey, Meta, node_at, Nodes, passes_fewer, passes_silent, Reach, reached, Spot, Surveys, tests_same, SurveyedWay, RisesBy}
 use Rattle.bolt_check.proofs.{Lists.has_map, Lists.one_list, Lists.rises_right, Single.tests_one}
 use Rattle.bolt_tree.proofs.TourLemmas.{before_under}
 
@@ -16,8 +16,7 @@ rise (x ∷ visits) rises = (λ v has. rises.0 v.way (has_map (λ (z : SurveyedW
 
 -- what is earlier than a visit stands in front of it
 none_earlier : (x : SurveyedWay) (rest : List SurveyedWay) → RisesBy Earlier (x ∷ rest) → (v : SurveyedWay) → Has (x ∷ rest) v → Earlier v x → ⊥
-none_earlier x rest rises v (inl same) lt = before_irreflexive x.way (subst (λ (z : SurveyedWay). Earlier z x) (sym same) lt)
-none_earlier x rest rises v (inr later) lt = before_strict v.way x.way lt (rises.0 v later)
+none_earlier x rest rises v h lt = grind (arith, before_irreflexive, before_strict)
 
 pub in_front : (front : List SurveyedWay) (x : SurveyedWay) (rest : List SurveyedWay) → RisesBy Earlier (front ++ x ∷ rest) → (v : SurveyedWay) → Has (front ++ x ∷ rest) v → Earlier v x → Has front v
 in_front front x rest rises v has lt = elim (has_split front (x ∷ rest) v has) [ inl before ↦ before | inr on ↦ absurd (none_earlier x rest (rises_right Earlier front (x ∷ rest) rises) v on lt) ]
@@ -32,14 +31,10 @@ along Q (y ∷ visits) rises step =
     λ x has. elim has [ inl same ↦ subst Q same first | inr more ↦ later x more ]
 
 pub gives_same : (nodes : Nodes) (a b : ℕ → Type 0) (s : Spot) (f : Option Finding) → ((n : ℕ) → a n → b n) → ((n : ℕ) → b n → a n) → Gives nodes a s f → Gives nodes b s f
-gives_same nodes a b s None to from h = passes_fewer nodes a b s from h
-gives_same nodes a b s (Some x) to from h = tests_same nodes a b s x to from h
+gives_same nodes a b s f to from h = grind (arith, passes_fewer, tests_same)
 
 pub gives_one : (nodes : Nodes) (a : ℕ → Type 0) (s : Spot) (f g : Option Finding) → Gives nodes a s f → Gives nodes a s g → f ≡ g
-gives_one nodes a s None None h k = refl
-gives_one nodes a s None (Some y) h k = absurd (passes_silent nodes a s y h k)
-gives_one nodes a s (Some x) None h k = absurd (passes_silent nodes a s x k h)
-gives_one nodes a s (Some x) (Some y) h k = ap Some (tests_one nodes a s x y h k)
+gives_one nodes a s f g h k = grind (arith, passes_silent, tests_one)
 
 module _ (nodes : Nodes) (reach : Reach) where
   -- all of one survey before a way is in the other
@@ -47,12 +42,10 @@ module _ (nodes : Nodes) (reach : Reach) where
   Keeps a b way = (v : SurveyedWay) → Has a v → Before v.way way → Has b v
 
   open_in : (a b : List SurveyedWay) (way : List ℕ) → Keeps a b way → IsOpen a way → IsOpen b way
-  open_in a b way to (inl none) = inl none
-  open_in a b way to (inr (parent, i, is, has)) = inr (parent, i, is, to (way_kept parent) has (subst (Before parent) (sym is) (before_under parent [] i)))
+  open_in a b way to h = grind (arith, before_under)
 
   claimed_in : (a b : List SurveyedWay) (way : List ℕ) → Keeps a b way → (n : ℕ) → IsClaimedIn nodes reach a way n → IsClaimedIn nodes reach b way n
-  claimed_in a b way to n (inl low) = inl low
-  claimed_in a b way to n (inr (v, (has, lt, span))) = inr (v, (to (way_kept v) has lt, lt, span))
+  claimed_in a b way to n h = grind arith
 
   in_other : (a b : List SurveyedWay) → Surveys nodes reach a → Surveys nodes reach b → (x : SurveyedWay) → Has a x → Keeps a b x.way → Keeps b a x.way → Has b x
   in_other a b of_a of_b x has to from =

@@ -1,6 +1,6 @@
 -- What the tests of a spot find: the function gives what the definition asks for.
-use Rattle.std.proofs.Common.{◌≡◌, ℕ, zero, suc, ◌+◌, ◌<◌, ◌≤◌, inl, inr, List, Bool, true, false, nat_lt, Option, Some, None, Result, Ok, Err, if◌then◌else◌, refl, sym, ap, subst, arith, ◌∙◌}
-use Rattle.bolt_recover.proofs.Words.{InlinePage, At_inline, At_page, cases_lt, early, early_finding, false≢true, Finding, finding, first_claimed, Gives, inline_finding, IsInSpan, Key, late, Node, node_finding, Nodes, open_finding, option_map, option_or, PageSpot, Spot, test, test_node, twice}
+use Rattle.std.proofs.Common.{◌≡◌, ℕ, zero, suc, ◌+◌, ◌<◌, ◌≤◌, inl, inr, Bool, true, false, Option, Some, None, Result, Ok, if◌then◌else◌, refl, sym, ap, arith, ◌∙◌}
+use Rattle.bolt_recover.proofs.Words.{InlinePage, At_inline, At_page, cases_lt, early_finding, false≢true, Finding, finding, first_claimed, Gives, inline_finding, IsInSpan, late, Node, node_finding, Nodes, open_finding, option_map, option_or, PageSpot, Spot, test, test_node, twice}
 use Rattle.bolt_check.specs.declared.finding.TheConstants.Finding.{TWICE}
 
 -- the lowest claimed page among some, if there is one
@@ -22,9 +22,7 @@ first_is claimed n (suc count) = by (first_claimed claimed n count) (claimed (n 
 
 -- a page that can be opened is a node
 early_ok : (b : Bool) (x : Finding) (r : Result Node ℕ) (number : ℕ) → (if b then Some x else open_finding r number) ≡ None → (node : Node) × (r ≡ Ok node)
-early_ok true x r number e = absurd (cc)
-early_ok false x (Ok node) number e = (node, refl)
-early_ok false x (Err fault) number e = absurd (cc)
+early_ok b x r number e = grind arith
 
 module _ (nodes : Nodes) (claimed : ℕ → Bool) where
   abbrev Finds : Spot → Option Finding → Type 0
@@ -43,16 +41,10 @@ module _ (nodes : Nodes) (claimed : ℕ → Bool) where
       late_finds s node (node_finding node s) refl is page (λ n inside h. none n inside.0 (let last = inside.1 in omega (arith, last)) h)
 
   page_finds : (s : PageSpot) (o : Option Finding) → early_finding nodes s ≡ o → Finds (At_page s) (option_or o (test_node claimed s (nodes s.number)))
-  page_finds s (Some x) is = early is
-  page_finds s None is =
-      let (node, page) = early_ok (nat_lt 64 s.depth) _ (nodes s.number) s.number is in
-      subst (λ (r : Result Node ℕ). Finds (At_page s) (test_node claimed s r)) (sym page)
-      (node_finds s node (first_claimed claimed s.number (suc node.overflow)) (first_is claimed s.number (suc node.overflow)) is page)
+  page_finds s o is = grind (arith, early_ok, node_finds, first_is)
 
   inline_finds : (host : ℕ) (inner : InlinePage) (o : Option Finding) → inline_finding host inner.keys ≡ o → Finds (At_inline host inner) o
-  inline_finds host inner None is = is
-  inline_finds host inner (Some x) is = is
+  inline_finds host inner o is = grind arith
 
   pub test_finds : (s : Spot) → Finds s (test nodes claimed s)
-  test_finds (At_page s) = page_finds s (early_finding nodes s) refl
-  test_finds (At_inline host inner) = inline_finds host inner (inline_finding host inner.keys) refl
+  test_finds s = grind (arith, page_finds, inline_finds)
