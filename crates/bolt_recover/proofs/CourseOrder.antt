@@ -17,9 +17,8 @@ Under tasks u = (v : Way) × (p : Site) × (rest : Way) × Has tasks (To_visit v
 
 module _ (file : List ℕ) (meta : Meta) where
   across : (w : Way) (p : Site) (i j : ℕ) (a b : Task) → i < j → IsAt file meta w p i a → IsAt file meta w p j b → Ahead a b
-  across w p i j (To_give path e) b lt h k = tt
-  across w p i j (To_visit v t) (To_give path e) lt h k = tt
   across w p i j (To_visit v t) (To_visit u q) lt h k = λ rest more. rw (h.0, k.0, append_assoc w (i ∷ []) rest, append_assoc w (j ∷ []) more) (before_sides w rest more i j lt)
+  across w p i j a b lt h k = grind arith
 
   entry_rises : (path : Path) (o : Option LeafElement) (v : Way) (q : Option Site) → RisesBy Ahead (gives_at file meta path o ++ visits_at file meta v q)
   entry_rises path o v q = grind arith
@@ -34,9 +33,8 @@ module _ (file : List ℕ) (meta : Meta) where
   after_rises w p found = grind (arith, from_rises)
 
   child_ahead : (w : Way) (p : Site) (j : ℕ) (a b : Task) → IsAt file meta w p j a → Ahead (To_visit w p) b → Ahead a b
-  child_ahead w p j (To_give path e) b at before = tt
-  child_ahead w p j (To_visit v t) (To_give path e) at before = tt
   child_ahead w p j (To_visit v t) (To_visit u q) at before = λ rest more. subst (λ (z : Way). Before z (u ++ more)) (sym (append_assoc w (j ∷ []) rest) ∙ ap (λ (z : Way). z ++ rest) (sym at.0)) (before (j ∷ rest) more)
+  child_ahead w p j a b at before = grind arith
 
   before_all : (w : Way) (visits : List SurveyedWay) → ((u : SurveyedWay) → Has visits u → Before w u.way) → Each (Before w) (ways visits)
   before_all w [] h = λ u has. absurd has

@@ -1,6 +1,6 @@
 -- The course of tasks: they come to one list of events, that of the function.
 use Rattle.std.proofs.Common.{◌≡◌, ◌∙◌, inl, inr, ℕ, zero, suc, ◌<◌, ◌≤◌, Bool, true, false, List, [], ◌∷◌, ◌++◌, length, Option, Some, None, Ok, refl, sym, ap, subst, arith}
-use Rattle.bolt_recover.proofs.Words.{InlinePage, At_inline, At_page, claimed_after, Event, events, false_from_ne_true, false≢true, Finding, Given, give_all, Gives, in_span, LeafElement, Meta, nat_tests, Node, node_at, node_below, Nodes, none-some, or_parts, PageSpot, Path, run_all, run_on, run_to, Site, site_tasks, Spot, step_from, Task, tasks_after, test, To_give, To_visit, Visited, Way, Among}
+use Rattle.bolt_recover.proofs.Words.{InlinePage, At_inline, At_page, claimed_after, Event, events, false_from_ne_true, false≢true, Finding, Given, give_all, Gives, LeafElement, Meta, Node, node_at, node_below, Nodes, none-some, or_parts, PageSpot, Path, run_all, run_on, run_to, Site, site_tasks, Spot, step_from, Task, tasks_after, test, To_give, To_visit, Visited, Way, Among}
 use Rattle.bolt_recover.proofs.{SiteFacts.step_spot, SurveyIsOne.gives_one, TaskLists.after_at, Tested.test_finds}
 use Rattle.std.proofs.Math.Bool.{or-false}
 use Rattle.bolt_check.proofs.TourExists.{has_number, numbers, shorter, still, without}
@@ -25,12 +25,9 @@ module _ (file : List ℕ) (meta : Meta) where
   abbrev Covers : (ℕ → Bool) → List ℕ → Type 0
   Covers claimed left = (n : ℕ) → n < meta.high_water → claimed n ≡ false → Among left n
 
-  own_span : (number : ℕ) (node : Node) → in_span (Ok node) number number ≡ true
-  own_span number node = grind (arith, nat_tests)
-
   covers_less : (claimed : ℕ → Bool) (left : List ℕ) (s : PageSpot) (node : Node) (has : Among left s.number) → nodes s.number ≡ Ok node → Covers claimed left
       → Covers (claimed_after nodes claimed (At_page s) None) (without s.number left has)
-  covers_less claimed left s node has page covers n below free = grind (arith, or_parts, false≢true, own_span, still)
+  covers_less claimed left s node has page covers n below free = grind (arith, or_parts, false≢true, still)
 
   -- the elements at an inline page
   course_gives : (claimed : ℕ → Bool) (first tasks : List Task) (later : List Event) → ((way : Way) (p : Site) → Among first (To_visit way p) → ⊥) → Course claimed tasks later

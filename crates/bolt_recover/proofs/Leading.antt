@@ -17,11 +17,8 @@ site_of : (file : List ℕ) (meta : Meta) (path : Path) (o : Option LeafElement)
     → ((s : Spot) → r ≡ Some s → o ≡ None → (host : ℕ) (inner : InlinePage) → spot_at s ≡ At_inline host inner → ⊥)
     → IfSome r (λ (s : Spot). (e : LeafElement) → o ≡ Some e → IsInner e.value s)
     → site_on file meta path o (option_map spot_at r) ≡ option_map (spot_site file meta (step_path path o)) r
-site_of file meta path o None not inner = refl
-site_of file meta path None (Some (spots.Page s)) not inner = refl
-site_of file meta path None (Some (spots.Bucket s)) not inner = absurd (not (spots.Bucket s) refl refl _ _ refl)
-site_of file meta path (Some e) (Some (spots.Page s)) not inner = refl
 site_of file meta path (Some e) (Some (spots.Bucket s)) not inner = rw (inner e refl) refl
+site_of file meta path o r not inner = grind arith
 
 pub leads_to : (file : List ℕ) (meta : Meta) (path : Path) (page : TreePage) (s : CodePageSpot) (i : ℕ) (r : Option Spot)
     → node_at file meta s.number ≡ Ok (shown_node page) → i < length (page_keys page)

@@ -1,6 +1,6 @@
 -- The keys of a site that is kept: they rise between its bounds, its elements have them, and each child has its bounds from them.
 use Rattle.std.proofs.Common.{◌≡◌, ◌∙◌, ◌⊎◌, ℕ, suc, Bool, true, List, [], ◌∷◌, ◌++◌, Option, Some, None, slice_get, if◌then◌else◌, refl, ap, arith}
-use Rattle.bolt_recover.proofs.Words.{At_inline, At_page, Entry, Finding, finding_none, finding_of, is_below, is_from, Key, key_at, key_each, key_rise, keys_of, keys_order_fault, KeysRise, LeafElement, lower_of, Meta, Node, node_at, none-some, option_map, PageSpot, Passes, Path, Site, slice_get-map, Spot, step_site, upper_from, upper_of}
+use Rattle.bolt_recover.proofs.Words.{At_inline, At_page, Finding, finding_none, finding_of, is_below, is_from, Key, key_at, key_each, key_rise, keys_of, keys_order_fault, KeysRise, LeafElement, lower_of, Meta, Node, node_at, none-some, option_map, PageSpot, Passes, Path, Site, slice_get-map, Spot, step_site, upper_of}
 use Rattle.bolt_recover.proofs.SiteSteps.{IsBranchPage, IsLeafPage, IsTidy, IsTidyAt, keys_in, on_page}
 
 -- a bucket of a leaf has a path of its own, and a child of a branch has the keys from its element to the next
@@ -29,16 +29,9 @@ no_late b x o page e = grind (arith, finding_none)
 key_of_element : (elements : List LeafElement) (i : ℕ) (e : LeafElement) → slice_get elements i ≡ Some e → slice_get (keys_in elements) i ≡ Some e.key
 key_of_element elements i e at = slice_get-map (λ (x : LeafElement). x.key) elements i ∙ ap (option_map (λ (x : LeafElement). x.key)) at
 
--- in a branch
-upper_next : (next : Option Entry) (upper : Option Key) (k : Key) → option_map (λ (e : Entry). e.key) next ≡ Some k → upper_from next upper ≡ Some k
-upper_next next upper k e = grind arith
-
-upper_same : (next : Option Entry) (upper : Option Key) → option_map (λ (e : Entry). e.key) next ≡ None → upper_from next upper ≡ upper
-upper_same next upper e = grind arith
-
 on_page_kids : (file : List ℕ) (meta : Meta) (p : Site) (s : PageSpot) (node : Node) (i : ℕ) (t : Site) → p.spot ≡ At_page s → IsLeafPage file meta p s node ⊎ IsBranchPage file meta p s node
     → step_site file meta p i ≡ Some t → IsInside p t i ⊎ IsChild p t i (keys_of node.entries)
-on_page_kids file meta p s node i t spot h is = grind (arith, slice_get-map, key_at, upper_next, upper_same)
+on_page_kids file meta p s node i t spot h is = grind (arith, slice_get-map, key_at)
 
 own_key : (file : List ℕ) (meta : Meta) (p : Site) (s : PageSpot) (node : Node) (i : ℕ) (e : LeafElement) → IsLeafPage file meta p s node ⊎ IsBranchPage file meta p s node
     → slice_get p.elements i ≡ Some e → slice_get (keys_of node.entries) i ≡ Some e.key

@@ -1,6 +1,6 @@
 -- Where the entries of a page lead: the buckets on a leaf, and the children of a branch.
-use Rattle.std.proofs.Common.{◌≡◌, ◌∙◌, ◌⊎◌, ℕ, suc, true, false, List, [], ◌∷◌, ◌++◌, map, Option, Some, None, Result, Ok, slice_get, refl, sym, ap, subst, arith}
-use Rattle.bolt_recover.proofs.Words.{At_inline, At_page, bucket_spot, bucket_spots, cases_Bool, child_spot, cond_both, elements_at, Entry, Key, Kind, leaf_entry, LeafElement, leaves_of, Meta, Node, node_at, node_seen, option_map, page_at, PageSpot, Path, Site, site_on, root_site, same_Some, shown_as, slice_get-map, Spot, step_at, step_entry, step_from, step_site, upper_from}
+use Rattle.std.proofs.Common.{◌≡◌, ◌∙◌, ◌⊎◌, ℕ, suc, true, false, List, [], ◌∷◌, ◌++◌, map, Option, Some, Result, Ok, slice_get, refl, sym, ap, subst, arith}
+use Rattle.bolt_recover.proofs.Words.{At_inline, At_page, bucket_spot, child_spot, elements_at, Entry, Key, leaf_entry, LeafElement, leaves_of, Meta, Node, node_at, page_at, PageSpot, Path, Site, site_on, root_site, slice_get-map, Spot, step_at, step_entry, step_from, step_site, upper_from}
 
 abbrev pub keys_in : List LeafElement → List Key
 keys_in elements = map (λ (e : LeafElement). e.key) elements
@@ -20,21 +20,11 @@ HasForm node leaves = ((node.is_leaf ≡ true) × (node.entries ≡ map leaf_ent
 abbrev node_ok : Node → Result Node ℕ
 node_ok node = Ok node
 
-node_is : (a b : Node) → node_ok a ≡ node_ok b → a ≡ b
-node_is a b e = cc
-
-form_of : (fault : Option ℕ) (k : Option Kind) (count overflow : ℕ) (bytes : List ℕ) (other : Option ℕ) (node : Node)
-    → node_seen (shown_as fault k count overflow bytes) other ≡ Ok node → HasForm node (leaves_of (shown_as fault k count overflow bytes))
-form_of fault k count overflow bytes other node is = grind (arith, node_is)
-
 pub page_form : (file : List ℕ) (meta : Meta) (n : ℕ) (node : Node) → node_at file meta n ≡ Ok node → HasForm node (leaves_of (page_at file meta n))
 unfolding node_at page_at
-page_form file meta n node is = grind (arith, form_of)
+page_form file meta n node is = grind arith
 
 module _ (file : List ℕ) (meta : Meta) where
-  no_spot : (path : Path) (o : Option LeafElement) (t : Site) → site_on file meta path o None ≡ Some t → ⊥
-  no_spot path o t e = cc
-
   -- where a bucket on a leaf leads, and a child of a branch
   abbrev pub bucket_site : Path → PageSpot → LeafElement → Site
   bucket_site path s e = record { spot = bucket_spot s.number (leaf_entry e); path = path ++ e.key ∷ []; elements = elements_at file meta (bucket_spot s.number (leaf_entry e)) e.value }
@@ -54,20 +44,10 @@ module _ (file : List ℕ) (meta : Meta) where
     pub to : (i : ℕ) (x : Entry) → slice_get node.entries i ≡ Some x → step_site file meta p i ≡ Some (child_site p.path s x (slice_get node.entries (suc i)))
     pub from : (i : ℕ) (t : Site) → step_site file meta p i ≡ Some t → (x : Entry) × (slice_get node.entries i ≡ Some x) × (t ≡ child_site p.path s x (slice_get node.entries (suc i)))
 
-  leaf_to : (path : Path) (s : PageSpot) (e : LeafElement) (next : Option Entry) → e.is_bucket ≡ true → site_on file meta path (Some e) (step_entry true s (Some (leaf_entry e)) next) ≡ Some (bucket_site path s e)
-  leaf_to path s e next bucket = let here : bucket_spots s.number (leaf_entry e) ≡ Some (bucket_spot s.number (leaf_entry e)) = rw bucket refl in ap (site_on file meta path (Some e)) here
-
-  leaf_from : (path : Path) (s : PageSpot) (o : Option LeafElement) (next : Option Entry) (t : Site) → site_on file meta path o (step_entry true s (option_map leaf_entry o) next) ≡ Some t
-      → (e : LeafElement) × (o ≡ Some e) × (e.is_bucket ≡ true) × (t ≡ bucket_site path s e)
-  leaf_from path s o next t is = grind (arith, no_spot, cases_Bool, same_Some, leaf_to)
-
-  branch_from : (path : Path) (s : PageSpot) (o next : Option Entry) (t : Site) → site_on file meta path None (step_entry false s o next) ≡ Some t → (x : Entry) × (o ≡ Some x) × (t ≡ child_site path s x next)
-  branch_from path s o next t is = grind (arith, no_spot, same_Some)
-
   by_form : (p : Site) (s : PageSpot) (node : Node) → HasForm node p.elements
       → ((i : ℕ) → step_site file meta p i ≡ site_on file meta p.path (slice_get p.elements i) (step_entry node.is_leaf s (slice_get node.entries i) (slice_get node.entries (suc i))))
       → IsLeafPage p s node ⊎ IsBranchPage p s node
-  by_form p s node h step = grind (arith, slice_get-map, leaf_to, leaf_from, branch_from)
+  by_form p s node h step = grind (arith, slice_get-map)
 
   pub on_page : (p : Site) (s : PageSpot) (node : Node) → IsTidy file meta p → p.spot ≡ At_page s → node_at file meta s.number ≡ Ok node → IsLeafPage p s node ⊎ IsBranchPage p s node
   on_page p s node tidy at page = by_form p s node (subst (HasForm node) (sym (subst (IsTidyAt file meta p.elements) at tidy)) (page_form file meta s.number node page)) (λ i.
@@ -83,17 +63,13 @@ module _ (file : List ℕ) (meta : Meta) where
     pub form : IsLeafPage p s node ⊎ IsBranchPage p s node
 
   by_spot : (p t : Site) (i : ℕ) (spot : Spot) → IsTidy file meta p → p.spot ≡ spot → step_site file meta p i ≡ Some t → LeadsFrom p
-  by_spot p t i spot tidy at is = grind (arith, no_spot, on_page)
+  by_spot p t i spot tidy at is = grind (arith, on_page)
 
   pub leads_from : (p t : Site) (i : ℕ) → IsTidy file meta p → step_site file meta p i ≡ Some t → LeadsFrom p
   leads_from p t i tidy is = by_spot p t i p.spot tidy refl is
 
-  -- tidy sites lead to tidy sites
-  tidy_bucket : (path : Path) (s : PageSpot) (e : LeafElement) → IsTidy file meta (bucket_site path s e)
-  tidy_bucket path s e = grind (arith, cond_both)
-
   pub tidy_step : (p t : Site) (i : ℕ) → IsTidy file meta p → step_site file meta p i ≡ Some t → IsTidy file meta t
-  tidy_step p t i tidy is = grind (arith, leads_from, tidy_bucket)
+  tidy_step p t i tidy is = grind (arith, leads_from)
 
   pub tidy_root : IsTidy file meta (root_site file meta)
   tidy_root = refl

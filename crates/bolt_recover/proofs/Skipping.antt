@@ -31,10 +31,9 @@ drops_on a b c first then = record {
 module _ (file : List ℕ) (meta : Meta) (claimed : ℕ → Bool) (way : Way) (p : Site) (rest : List Task) where
   entry_drops : (further : Way) (o : Option LeafElement) (q : Option Site) (more : List Task) → option_map (λ (e : LeafElement). e.is_bucket) o ≡ Some false → q ≡ None
       → Drops (events file meta ((gives_at file meta p.path o ++ visits_at file meta further q) ++ more ++ rest) claimed) (events file meta (more ++ rest) claimed)
-  entry_drops further None q more value none = absurd (cc)
-  entry_drops further (Some e) (Some t) more value none = absurd (cc)
   entry_drops further (Some e) None more value none =
       rw (events_give file meta claimed (p.path ++ e.key ∷ []) e (more ++ rest)) (record { dropped = (p.path ++ e.key ∷ [], item_of e) ∷ []; members = refl; same = λ nodes o. refl })
+  entry_drops further o q more value none = grind arith
 
   -- from i to j
   values_drop : (k i j a b : ℕ) → i + k ≡ j → a ≡ k + b → ((n : ℕ) → i ≤ n → n < j → IsValueElement p.elements n × (step_site file meta p n ≡ None))

@@ -1,6 +1,6 @@
 -- What the steps of a recovering walk leave to be done.
 use Rattle.std.proofs.Common.{◌≡◌, ◌∙◌, ◌≤◌, ◌<◌, ℕ, suc, ◌+◌, ◌-◌, Bool, true, ◌↔◌, List, [], ◌∷◌, ◌++◌, length, map, take, Option, Some, None, slice_get, drop, refl, sym, ap, arith, append_assoc, sum_by, Vec, Global, Bor}
-use Rattle.bolt_recover.proofs.Words.{after_event, after_events, ahead_path_len, ahead_tasks, all_events, append-nil, AreOpenPages, At_page, both_ways, claimed_after, claims_file, claims_meta, claims_nodes, claims_visited, claims_with, Event, loss_of, Passes, Tests, KeptPage, content_elements, content_site, content_size, content_spot, counted, Ends, events, Finding, further, Gives, gives_at, GivesHead, StepsOn, is_claimed, IsAllLeft, IsContent, IsGoodKeptPage, IsGoodPage, IsMetaPage, AreStepsPlaced, IsShallow, LeafElement, length_entries, length-map, length-take-le, loss_view, loss_at, map-append, members_of, Meta, meta_pages, nat_tests, NextVisit, node_at, Nodes, open_tasks, OpenPage, option_map, Outcome, outcome_of, page_tasks, page_visit, page_weight, Path, path_of, root_spot, Site, site_size, site_tasks, spot_at, spot_site, steps_left, steps_path, steps_weight, TreePage, sum_by-append, take-append-drop, take-append-le, tally_of, Task, tasks_after, tasks_from, tasks_left, Visited, visits_at, Way, way_of, step_site}
+use Rattle.bolt_recover.proofs.Words.{after_event, after_events, ahead_tasks, all_events, append-nil, AreOpenPages, At_page, both_ways, claimed_after, claims_file, claims_meta, claims_nodes, claims_visited, claims_with, Event, loss_of, Passes, Tests, KeptPage, content_elements, content_site, content_size, content_spot, counted, Ends, events, Finding, further, Gives, gives_at, GivesHead, StepsOn, is_claimed, IsAllLeft, IsContent, IsGoodKeptPage, IsGoodPage, IsMetaPage, AreStepsPlaced, IsShallow, LeafElement, length_entries, length-map, length-take-le, loss_view, loss_at, map-append, members_of, Meta, meta_pages, nat_tests, NextVisit, node_at, Nodes, open_tasks, OpenPage, option_map, Outcome, outcome_of, page_tasks, page_visit, page_weight, Path, path_of, root_spot, Site, site_size, site_tasks, spot_at, spot_site, steps_left, steps_path, steps_weight, TreePage, sum_by-append, take-append-drop, take-append-le, tally_of, Task, tasks_after, tasks_from, tasks_left, Visited, visits_at, Way, way_of, step_site}
 use Rattle.bolt_format.specs.TreePages.{page_keys, shown_page}
 use Rattle.bolt_check.specs.ShownNodes.{is_leaf_page}
 use Rattle.bolt_recover.specs.Private.Frames.{IsGoodAt, IsShallowAt}
@@ -210,12 +210,8 @@ module _ (s : Steps) (front : List OpenPage) (top : OpenPage) (has : AreStepsPla
           ≡ gives_at file_of meta_of here.path (slice_get here.elements top.next) ++ tasks_left file_of meta_of (path_of path.items) ahead stack.items
       tasks_moved = grind (arith, in_front, tasks_top, visits_ahead, rest_is, way_moved)
 
-      ahead_within : (r : Option Spot) (high : ℕ) → path_len ≤ high
-          → let o : Option NextVisit = option_map (λ (spot : Spot). record { spot = spot; path_len = path_len }) r in (path_len ≤ ahead_path_len o high) × (ahead_path_len o high ≤ high)
-      ahead_within r high le = grind arith
-
       placed_on : AreStepsPlaced on
-      placed_on = grind (arith, ahead_within, are_open_push, inner, in_front)
+      placed_on = grind (arith, are_open_push, inner, in_front)
 
       -- an element of a branch
       pub took_branch : slice_get (content_elements top.content) top.next ≡ None → path.items ≡ s.path.items → StepsOn s on × (steps_weight on < steps_weight s)
