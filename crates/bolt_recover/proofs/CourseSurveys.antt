@@ -8,6 +8,7 @@ use Rattle.bolt_check.proofs.Lists.{flat_has, has_flat, rises_across}
 use Rattle.bolt_recover.proofs.MembersInBuckets.{well_at}
 use Rattle.bolt_recover.proofs.TaskLists.{IsAt, after_at, at_from}
 
+-- the claims of a spot are its span
 pub claims_in : (nodes : Nodes) (s : Spot) (n : ℕ) → (claims_of nodes s n ≡ true) ↔ SpanAt nodes s n
 claims_in nodes s n = grind (arith, false≢true)
 

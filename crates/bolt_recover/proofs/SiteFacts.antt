@@ -1,6 +1,6 @@
 -- Sites along ways: the spot there, the next one, and the elements.
-use Rattle.std.proofs.Common.{◌≡◌, ◌∙◌, ℕ, ◌<◌, ◌≤◌, Bool, List, [], ◌∷◌, ◌++◌, length, Option, Some, Result, Ok, slice_get, refl, sym, ap, arith}
-use Rattle.bolt_recover.proofs.Words.{Contains, Entry, entry_count, follow, follow_sites, has_at, has_from_contains, LeafElement, leaves_of, length-map, Meta, next_site, Node, node_at, Nodes, option_map, page_at, PageSpot, Passes, Path, Site, site_at, site_on, site_size, reached, root_site, slice_get_within, Spot, step, step_at, step_entry, step_from, step_site}
+use Rattle.std.proofs.Common.{◌≡◌, ◌∙◌, ℕ, ◌<◌, ◌≤◌, List, [], ◌∷◌, ◌++◌, length, Option, Some, slice_get, refl, sym, ap, arith}
+use Rattle.bolt_recover.proofs.Words.{Contains, follow, follow_sites, has_at, has_from_contains, LeafElement, length-map, Meta, next_site, node_at, Nodes, option_map, Passes, Path, Site, site_at, site_on, site_size, reached, root_site, slice_get_within, Spot, step, step_from, step_site}
 use Rattle.bolt_recover.proofs.SiteSteps.{IsTidyAt, page_form}
 
 abbrev spot_in : Option Site → Option Spot
@@ -38,23 +38,12 @@ follow_next file meta here (j ∷ way) i = follow_next file meta (next_site file
 pub site_further : (file : List ℕ) (meta : Meta) (way : List ℕ) (i : ℕ) (p : Site) → site_at file meta way ≡ Some p → site_at file meta (way ++ i ∷ []) ≡ step_site file meta p i
 site_further file meta way i p is = follow_next file meta (Some (root_site file meta)) way i ∙ ap (λ (o : Option Site). next_site file meta o i) is
 
--- a page that is a node shows no more leaf elements than it has entries
-page_leaves : (file : List ℕ) (meta : Meta) (n : ℕ) (node : Node) → node_at file meta n ≡ Ok node → length (leaves_of (page_at file meta n)) ≤ length node.entries
-page_leaves file meta n node is = grind (arith, page_form, length-map)
-
 pub size_enough : (file : List ℕ) (meta : Meta) (before : ℕ → Type 0) (s : Spot) (elements : List LeafElement) → IsTidyAt file meta elements s → Passes (node_at file meta) before s
     → length elements ≤ site_size (node_at file meta) s elements
-size_enough file meta before s elements tidy passes = grind (arith, page_leaves)
-
--- an entry that leads somewhere is there
-entry_within : (is_leaf : Bool) (s : PageSpot) (entries : List Entry) (i : ℕ) (o next : Option Entry) (t : Spot) → slice_get entries i ≡ o → step_entry is_leaf s o next ≡ Some t → i < length entries
-entry_within is_leaf s entries i o next t at e = grind (arith, slice_get_within)
-
-step_within : (r : Result Node ℕ) (s : PageSpot) (i : ℕ) (t : Spot) → step_at r s i ≡ Some t → i < entry_count r
-step_within r s i t e = grind (arith, entry_within)
+size_enough file meta before s elements tidy passes = grind (arith, page_form, length-map)
 
 pub leads_within : (nodes : Nodes) (s : Spot) (elements : List LeafElement) (i : ℕ) (t : Spot) → step_from nodes s i ≡ Some t → i < site_size nodes s elements
-leads_within nodes s elements i t e = grind (arith, step_within)
+leads_within nodes s elements i t e = grind (arith, slice_get_within)
 
 -- a step to a site is a step of its spot
 pub step_spot : (file : List ℕ) (meta : Meta) (p t : Site) (i : ℕ) → step_site file meta p i ≡ Some t → step_from (node_at file meta) p.spot i ≡ Some t.spot

@@ -68,6 +68,7 @@ module _ (file : List ℕ) (meta : Meta) where
   pub leads_from : (p t : Site) (i : ℕ) → IsTidy file meta p → step_site file meta p i ≡ Some t → LeadsFrom p
   leads_from p t i tidy is = by_spot p t i p.spot tidy refl is
 
+  -- tidy sites lead to tidy sites
   pub tidy_step : (p t : Site) (i : ℕ) → IsTidy file meta p → step_site file meta p i ≡ Some t → IsTidy file meta t
   tidy_step p t i tidy is = grind (arith, leads_from)
 

@@ -1,8 +1,7 @@
 -- What the steps of a recovering walk leave to be done.
 use Rattle.std.proofs.Common.{◌≡◌, ◌∙◌, ◌≤◌, ◌<◌, ℕ, suc, ◌+◌, ◌-◌, Bool, true, ◌↔◌, List, [], ◌∷◌, ◌++◌, length, map, take, Option, Some, None, slice_get, drop, refl, sym, ap, arith, append_assoc, sum_by, Vec, Global, Bor}
-use Rattle.bolt_recover.proofs.Words.{after_event, after_events, ahead_tasks, all_events, append-nil, AreOpenPages, At_page, both_ways, claimed_after, claims_file, claims_meta, claims_nodes, claims_visited, claims_with, Event, loss_of, Passes, Tests, KeptPage, content_elements, content_site, content_size, content_spot, counted, Ends, events, Finding, further, Gives, gives_at, GivesHead, StepsOn, is_claimed, IsAllLeft, IsContent, IsGoodKeptPage, IsGoodPage, IsMetaPage, AreStepsPlaced, IsShallow, LeafElement, length_entries, length-map, length-take-le, loss_view, loss_at, map-append, members_of, Meta, meta_pages, nat_tests, NextVisit, node_at, Nodes, open_tasks, OpenPage, option_map, Outcome, outcome_of, page_tasks, page_visit, page_weight, Path, path_of, root_spot, Site, site_size, site_tasks, spot_at, spot_site, steps_left, steps_path, steps_weight, TreePage, sum_by-append, take-append-drop, take-append-le, tally_of, Task, tasks_after, tasks_from, tasks_left, Visited, visits_at, Way, way_of, step_site}
+use Rattle.bolt_recover.proofs.Words.{after_event, after_events, ahead_tasks, all_events, append-nil, AreOpenPages, At_page, both_ways, claimed_after, claims_file, claims_meta, claims_nodes, claims_visited, claims_with, Event, loss_of, Passes, Tests, KeptPage, content_elements, content_site, content_size, content_spot, counted, Ends, events, Finding, further, Gives, GivesHead, StepsOn, is_claimed, IsAllLeft, IsContent, IsGoodKeptPage, IsGoodPage, IsMetaPage, AreStepsPlaced, IsShallow, LeafElement, length_entries, length-map, length-take-le, loss_view, loss_at, map-append, members_of, Meta, meta_pages, nat_tests, NextVisit, node_at, Nodes, open_tasks, OpenPage, option_map, Outcome, outcome_of, page_tasks, page_visit, page_weight, Path, path_of, root_spot, Site, site_size, site_tasks, spot_at, spot_site, steps_left, steps_path, steps_weight, TreePage, sum_by-append, take-append-drop, take-append-le, tally_of, Task, tasks_after, tasks_from, tasks_left, Visited, Way, way_of, step_site}
 use Rattle.bolt_format.specs.TreePages.{page_keys, shown_page}
-use Rattle.bolt_check.specs.ShownNodes.{is_leaf_page}
 use Rattle.bolt_recover.specs.Private.Frames.{IsGoodAt, IsShallowAt}
 use Rattle.bolt_check.specs.{declared.claims.Claims.Claims, declared.spot.Spot.Spot}
 use Rattle.bolt_recover.specs.{declared.losses.Loss.Loss, declared.steps.Steps.Steps}
@@ -56,12 +55,8 @@ module _ (file : List ℕ) (meta : Meta) where
       (same page.path_len (low_high page.path_len pages high are.2))
       ∙ same_open page.path_len high pages next a b (page_tasks file meta b way page ++ rest) are.2 same
 
-  -- an opened page as the site that it was visited as
-  inline_size : (page : TreePage) → is_leaf_page page ≡ true → length (page_keys page) ≡ length (shown_page page).leaves
-  inline_size page is = grind (arith, length-map)
-
   size_at : (page : TreePage) (s : Spot) → IsGoodAt file meta page s → length (page_keys page) ≡ site_size (node_at file meta) (spot_at s) (shown_page page).leaves
-  size_at page s good = grind (arith, length_entries, inline_size)
+  size_at page s good = grind (arith, length_entries, length-map)
 
   size_is : (content : KeptPage) → IsGoodKeptPage file meta content → content_size content ≡ site_size (node_at file meta) (content_spot content) (content_elements content)
   size_is content good = size_at content.page content.spot good
@@ -171,17 +166,12 @@ module _ (s : Steps) (front : List OpenPage) (top : OpenPage) (has : AreStepsPla
     abbrev on : Steps
     on = record s { ahead = ahead; «open» = stack; path = path }
 
-    -- where the same is left to be done, the same comes of it
-    goes_by : tasks_left file_of meta_of (steps_path s) s.ahead s.open.items ≡ tasks_left file_of meta_of (path_of path.items) ahead stack.items → path_of path.items ≡ steps_path s
-        → AreStepsPlaced on → sum_by page_weight stack.items < sum_by page_weight s.open.items → StepsOn s on × (steps_weight on < steps_weight s)
-    goes_by tasks same placed weight = grind arith
-
     weight_of : sum_by page_weight s.open.items ≡ sum_by page_weight front + page_weight top
     weight_of = let sum = ap (sum_by page_weight) pages ∙ sum_by-append page_weight front (top ∷ []) in omega (arith, sum)
 
     -- it had no more elements
     pub took_last : top.next ≡ top.count → ahead ≡ None → stack.items ≡ front → path.items ≡ s.path.items → StepsOn s on × (steps_weight on < steps_weight s)
-    took_last over none left same = grind (arith, weight_of, goes_by, tasks_top, are_open_up, inner)
+    took_last over none left same = grind (arith, weight_of, tasks_top, are_open_up, inner)
 
     -- its next element is done
     module _ (more : top.next ≡ top.count → ⊥) (r : Option Spot) (path_len : ℕ) (of : ahead ≡ option_map (λ (spot : Spot). record { spot = spot; path_len = path_len }) r) (put : stack.items ≡ front ++ moved ∷ [])
@@ -190,36 +180,16 @@ module _ (s : Steps) (front : List OpenPage) (top : OpenPage) (has : AreStepsPla
       in_front : top.next + 1 ≤ top.count
       in_front = let taken = inner.good.taken in omega (arith, taken, more)
 
-      lighter : sum_by page_weight stack.items < sum_by page_weight s.open.items
-      lighter = grind (arith, in_front, weight_of, sum_by-append)
-
-      way_moved : way_of (front ++ moved ∷ []) ≡ further (way_of front) top.next
-      way_moved = grind (arith, map-append)
-
-      visits_ahead : (r : Option Spot) (way : Way) (tasks : List Task) → visits_at file_of meta_of way (option_map (spot_site file_of meta_of (take path_len (path_of path.items))) r) ++ tasks
-          ≡ ahead_tasks file_of meta_of (path_of path.items) way (option_map (λ (spot : Spot). record { spot = spot; path_len = path_len }) r) tasks
-      visits_ahead r way tasks = grind arith
-
       abbrev rest_tasks : List Task
       rest_tasks = tasks_from file_of meta_of (way_of front) here (suc top.next) (top.count - (top.next + 1)) ++ open_tasks file_of meta_of (steps_path s) [] front []
 
-      rest_is : rest_tasks ≡ open_tasks file_of meta_of (path_of path.items) [] stack.items []
-      rest_is = grind (arith, same_open, inner, open_last)
-
-      tasks_moved : tasks_left file_of meta_of (steps_path s) s.ahead s.open.items
-          ≡ gives_at file_of meta_of here.path (slice_get here.elements top.next) ++ tasks_left file_of meta_of (path_of path.items) ahead stack.items
-      tasks_moved = grind (arith, in_front, tasks_top, visits_ahead, rest_is, way_moved)
-
-      placed_on : AreStepsPlaced on
-      placed_on = grind (arith, are_open_push, inner, in_front)
-
       -- an element of a branch
       pub took_branch : slice_get (content_elements top.content) top.next ≡ None → path.items ≡ s.path.items → StepsOn s on × (steps_weight on < steps_weight s)
-      took_branch none same = grind (arith, goes_by, tasks_moved, placed_on, lighter)
+      took_branch none same = grind (arith, in_front, tasks_top, same_open, inner, open_last, map-append, are_open_push, weight_of, sum_by-append)
 
       -- an element of a leaf
       pub took_leaf : (e : LeafElement) → slice_get (content_elements top.content) top.next ≡ Some e → path_of path.items ≡ take top.path_len (steps_path s) ++ e.key ∷ [] → GivesHead s on e
-      took_leaf e some deeper = grind (arith, tasks_moved, events_give, placed_on)
+      took_leaf e some deeper = grind (arith, in_front, tasks_top, same_open, inner, open_last, map-append, events_give, are_open_push)
 
 -- the element to be taken next is there
 pub next_below : (file : List ℕ) (meta : Meta) (page : OpenPage) → IsGoodPage file meta page → (page.next ≡ page.count → ⊥) → page.next < content_size page.content

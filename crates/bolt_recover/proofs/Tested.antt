@@ -1,6 +1,6 @@
 -- What the tests of a spot find: the function gives what the definition asks for.
-use Rattle.std.proofs.Common.{◌≡◌, ℕ, zero, suc, ◌+◌, ◌<◌, ◌≤◌, inl, inr, Bool, true, false, Option, Some, None, Result, Ok, if◌then◌else◌, refl, sym, ap, arith, ◌∙◌}
-use Rattle.bolt_recover.proofs.Words.{InlinePage, At_inline, At_page, cases_lt, early_finding, false≢true, Finding, finding, first_claimed, Gives, inline_finding, IsInSpan, late, Node, node_finding, Nodes, open_finding, option_map, option_or, PageSpot, Spot, test, test_node, twice}
+use Rattle.std.proofs.Common.{◌≡◌, ℕ, zero, suc, ◌+◌, ◌<◌, ◌≤◌, inl, inr, Bool, true, false, Option, Some, None, Ok, if◌then◌else◌, refl, sym, ap, arith, ◌∙◌}
+use Rattle.bolt_recover.proofs.Words.{At_page, cases_lt, early_finding, false≢true, Finding, finding, first_claimed, Gives, IsInSpan, late, Node, node_finding, Nodes, option_map, option_or, PageSpot, Spot, test, twice}
 use Rattle.bolt_check.specs.declared.finding.TheConstants.Finding.{TWICE}
 
 -- the lowest claimed page among some, if there is one
@@ -20,10 +20,6 @@ first_is claimed n (suc count) = by (first_claimed claimed n count) (claimed (n 
       | inr upper ↦ (let same : m ≡ n + count = omega (arith, high, upper) in false≢true (sym is ∙ ap claimed (sym same) ∙ was))
     ]
 
--- a page that can be opened is a node
-early_ok : (b : Bool) (x : Finding) (r : Result Node ℕ) (number : ℕ) → (if b then Some x else open_finding r number) ≡ None → (node : Node) × (r ≡ Ok node)
-early_ok b x r number e = grind arith
-
 module _ (nodes : Nodes) (claimed : ℕ → Bool) where
   abbrev Finds : Spot → Option Finding → Type 0
   Finds s found = Gives nodes (λ n. claimed n ≡ true) s found
@@ -40,11 +36,5 @@ module _ (nodes : Nodes) (claimed : ℕ → Bool) where
   node_finds s node None none is page =
       late_finds s node (node_finding node s) refl is page (λ n inside h. none n inside.0 (let last = inside.1 in omega (arith, last)) h)
 
-  page_finds : (s : PageSpot) (o : Option Finding) → early_finding nodes s ≡ o → Finds (At_page s) (option_or o (test_node claimed s (nodes s.number)))
-  page_finds s o is = grind (arith, early_ok, node_finds, first_is)
-
-  inline_finds : (host : ℕ) (inner : InlinePage) (o : Option Finding) → inline_finding host inner.keys ≡ o → Finds (At_inline host inner) o
-  inline_finds host inner o is = grind arith
-
   pub test_finds : (s : Spot) → Finds s (test nodes claimed s)
-  test_finds s = grind (arith, page_finds, inline_finds)
+  test_finds s = grind (arith, node_finds, first_is)
