@@ -1,24 +1,15 @@
 -- A course visits ways in their order.
-use Rattle.std.proofs.Common.{◌≡◌, ◌∙◌, ◌<◌, inl, inr, ℕ, zero, suc, Bool, List, [], ◌∷◌, ◌++◌, Option, Some, None, slice_get, arith, refl, sym, ap, subst, append_assoc}
+use Rattle.std.proofs.Common.{◌≡◌, ◌∙◌, ◌<◌, inl, inr, ℕ, zero, suc, Bool, List, [], ◌∷◌, ◌++◌, Option, slice_get, arith, refl, sym, ap, subst, append_assoc}
 use Rattle.bolt_recover.proofs.Words.{append-nil, Before, Each, entry_tasks, Event, Finding, further, gives_at, LeafElement, Path, step_site, tasks_from, visits_at, Has, has_split, Meta, rises_append, RisesBy, Site, SurveyedWay, Task, tasks_after, To_give, To_visit, visits_of, Way, Has}
+use Rattle.bolt_tree.proofs.TourLemmas.{before_sides, before_under}
 use Rattle.bolt_recover.proofs.Courses.{Course, Course.done, Course.give, Course.visit}
-use Rattle.bolt_recover.proofs.{SurveyIsOne.parent_before, SurveyIsOne.ways, TaskLists.IsAt, TaskLists.after_at, TaskLists.entry_at, TaskLists.from_at}
+use Rattle.bolt_recover.proofs.{SurveyIsOne.ways, TaskLists.IsAt, TaskLists.after_at, TaskLists.entry_at, TaskLists.from_at}
 
-siblings : (w : Way) (i j : ℕ) (rest : Way) → i < j → Before ((w ++ i ∷ []) ++ rest) (w ++ j ∷ [])
-siblings [] i j rest lt = inl lt
-siblings (k ∷ w) i j rest lt = inr (refl, siblings w i j rest lt)
-
-longer : (v w rest : Way) → Before v w → Before v (w ++ rest)
-longer v [] rest h = absurd h
-longer [] (j ∷ w) rest h = tt
-longer (i ∷ v) (j ∷ w) rest (inl h) = inl h
-longer (i ∷ v) (j ∷ w) rest (inr h) = inr (h.0, longer v w rest h.1)
-
--- a way to be visited, and all below it, comes before one to be visited later
+-- a way to be visited, and all below it, comes before one to be visited later, and all below that
 abbrev pub Ahead : Task → Task → Type 0
 Ahead (To_give path e) b = Unit {0}
 Ahead (To_visit v p) (To_give path e) = Unit {0}
-Ahead (To_visit v p) (To_visit u q) = (rest : Way) → Before (v ++ rest) u
+Ahead (To_visit v p) (To_visit u q) = (rest more : Way) → Before (v ++ rest) (u ++ more)
 
 -- a way at or below one that is to be visited
 abbrev Under : List Task → Way → Type 0
@@ -26,15 +17,11 @@ Under tasks u = (v : Way) × (p : Site) × (rest : Way) × Has tasks (To_visit v
 
 module _ (file : List ℕ) (meta : Meta) where
   across : (w : Way) (p : Site) (i j : ℕ) (a b : Task) → i < j → IsAt file meta w p i a → IsAt file meta w p j b → Ahead a b
-  across w p i j (To_give path e) b lt h k = tt
-  across w p i j (To_visit v t) (To_give path e) lt h k = tt
-  across w p i j (To_visit v t) (To_visit u q) lt h k = λ rest. rw (h.0, k.0) (siblings w i j rest lt)
+  across w p i j (To_visit v t) (To_visit u q) lt h k = λ rest more. rw (h.0, k.0, append_assoc w (i ∷ []) rest, append_assoc w (j ∷ []) more) (before_sides w rest more i j lt)
+  across w p i j a b lt h k = grind arith
 
   entry_rises : (path : Path) (o : Option LeafElement) (v : Way) (q : Option Site) → RisesBy Ahead (gives_at file meta path o ++ visits_at file meta v q)
-  entry_rises path None v None = tt
-  entry_rises path (Some e) v None = (λ b h. absurd h, tt)
-  entry_rises path None v (Some t) = (λ b h. absurd h, tt)
-  entry_rises path (Some e) v (Some t) = (λ b h. tt, (λ b h. absurd h, tt))
+  entry_rises path o v q = grind arith
 
   from_rises : (w : Way) (p : Site) (i k : ℕ) → RisesBy Ahead (tasks_from file meta w p i k)
   from_rises w p i zero = tt
@@ -43,13 +30,11 @@ module _ (file : List ℕ) (meta : Meta) where
       (λ a b ha hb. let (j, le, at) = from_at file meta w p (suc i) k b hb in across w p i j a b (omega (arith, le)) (entry_at file meta w p i a ha) at)
 
   after_rises : (w : Way) (p : Site) (found : Option Finding) → RisesBy Ahead (tasks_after file meta w p found)
-  after_rises w p None = from_rises w p 0 _
-  after_rises w p (Some x) = tt
+  after_rises w p found = grind (arith, from_rises)
 
   child_ahead : (w : Way) (p : Site) (j : ℕ) (a b : Task) → IsAt file meta w p j a → Ahead (To_visit w p) b → Ahead a b
-  child_ahead w p j (To_give path e) b at before = tt
-  child_ahead w p j (To_visit v t) (To_give path e) at before = tt
-  child_ahead w p j (To_visit v t) (To_visit u q) at before = λ rest. subst (λ (z : Way). Before z u) (sym (append_assoc w (j ∷ []) rest) ∙ ap (λ (z : Way). z ++ rest) (sym at.0)) (before (j ∷ rest))
+  child_ahead w p j (To_visit v t) (To_visit u q) at before = λ rest more. subst (λ (z : Way). Before z (u ++ more)) (sym (append_assoc w (j ∷ []) rest) ∙ ap (λ (z : Way). z ++ rest) (sym at.0)) (before (j ∷ rest) more)
+  child_ahead w p j a b at before = grind arith
 
   before_all : (w : Way) (visits : List SurveyedWay) → ((u : SurveyedWay) → Has visits u → Before w u.way) → Each (Before w) (ways visits)
   before_all w [] h = λ u has. absurd has
@@ -63,9 +48,9 @@ module _ (file : List ℕ) (meta : Meta) where
         | inl child ↦
             let (none, j, at) = after_at file meta w p found (To_visit v q) child in
             let long : u ≡ w ++ j ∷ rest = same ∙ ap (λ (z : Way). z ++ rest) at.0 ∙ append_assoc w (j ∷ []) rest in
-            (subst (λ (z : Way). Before w z) (sym (same ∙ ap (λ (z : Way). z ++ rest) at.0)) (longer w (w ++ j ∷ []) rest (parent_before w j)), (w, p, j ∷ rest, inl refl, long))
+            (subst (Before w) (sym long) (before_under w rest j), (w, p, j ∷ rest, inl refl, long))
         | inr later ↦
-            (subst (λ (z : Way). Before w z) (sym same) (longer w v rest (subst (λ (z : Way). Before z v) (append-nil w) (before (To_visit v q) later []))), (v, q, rest, inr later, same))
+            (subst (Before w) (sym same) (subst (λ (z : Way). Before z (v ++ rest)) (append-nil w) (before (To_visit v q) later [] rest)), (v, q, rest, inr later, same))
       ]
 
   abbrev Rise : List Task → List Event → Type 0

@@ -1,33 +1,20 @@
 -- What a course visits is a survey, and what it returns are the elements at the way_kept ways.
-use Rattle.std.proofs.Common.{◌≡◌, ◌∙◌, ◌⊎◌, ◌↔◌, ◌≤◌, ◌<◌, inl, inr, ℕ, ◌+◌, Bool, true, ◌||◌, ◌&&◌, List, [], ◌∷◌, ◌++◌, nat_le, Option, Some, None, Result, Ok, Err, refl, sym, ap, subst, arith, append_assoc, cond}
-use Rattle.bolt_recover.proofs.Words.{after_event, after_events, all_events, and_parts, append-nil, At_inline, At_page, claimed_after, claims_of, Contains, contains_at, contains_cases, contains_head, contains_none, contains_tail, counted, Each, Event, false≢true, Finding, further, Given, Gives, Has, has_left, has_right, has_split, in_span, is_at_page, IsClaimedIn, IsKeptPage, IsMetaPage, IsOpen, IsRecoveredMember, IsSurvey, Item, item_of, way_kept, LeafElement, loss_at, losses_of, lost_at, members_of, Meta, meta_pages, nat_tests, Node, node_at, Nodes, or_cases, or_left, or_right, Outcome, outcome_of, page_visit, page_ways, Path, Reach, reached, root_site, root_tasks, same_Some, Site, site_at, site_size, span_of, SpanAt, SpanHas, SpanOf, Spot, step_site, sum_by-cons, SurveyedWay, Task, tasks_after, To_give, To_visit, Visited, visits_of, Way, Has, RisesBy, Before}
+use Rattle.std.proofs.Common.{◌≡◌, ◌∙◌, ◌⊎◌, ◌↔◌, ◌<◌, inl, inr, ℕ, Bool, true, ◌||◌, List, [], ◌∷◌, ◌++◌, Option, Some, None, refl, sym, ap, subst, subst₂, arith, append_assoc, cond}
+use Rattle.bolt_recover.proofs.Words.{after_event, after_events, all_events, append-nil, claimed_after, claims_of, Contains, contains_at, contains_from_has, counted, Each, Event, false≢true, Finding, further, Given, Gives, Has, has_from_contains, has_left, has_right, has_split, is_at_page, IsClaimedIn, IsKeptPage, IsMetaPage, IsOpen, IsRecoveredMember, IsSurvey, Item, item_of, way_kept, LeafElement, loss_at, losses_of, members_at, members_of, Meta, meta_pages, nat_tests, node_at, Nodes, or_cases, or_left, or_right, Outcome, outcome_of, page_ways, Path, Reach, reached, root_site, root_tasks, same_Some, Site, site_at, site_size, span_of, SpanAt, SpanHas, Spot, step_site, sum_by-cons, SurveyedWay, Task, tasks_after, To_give, To_visit, Visited, visit_at, visits_of, Way, Has, RisesBy, Before}
 use Rattle.bolt_recover.proofs.{Courses.Course, Courses.Course.done, Courses.Course.give, Courses.Course.visit, Courses.course, CourseOrder.rises_course}
 use Rattle.bolt_recover.proofs.SiteFacts.{leads_within, site_further, site_is, size_enough, slice_of, spot_is, step_spot}
-use Rattle.bolt_recover.proofs.SurveyIsOne.{Suffix, earlier, gives_same, next_suffix, ways}
+use Rattle.bolt_recover.proofs.SurveyIsOne.{Earlier, gives_same, in_front, rise, ways}
+use Rattle.bolt_check.proofs.Lists.{flat_has, has_flat, rises_across}
 use Rattle.bolt_recover.proofs.MembersInBuckets.{well_at}
 use Rattle.bolt_recover.proofs.TaskLists.{IsAt, after_at, at_from}
 
 -- the claims of a spot are its span
-span_in : (r : Result Node ℕ) (number n : ℕ) → (in_span r number n ≡ true) ↔ SpanOf r number n
-span_in (Err fault) number n = (λ e. absurd (false≢true e), λ h. absurd h)
-span_in (Ok node) number n = (λ e. let both = and_parts (nat_le number n) (nat_le n (number + node.overflow)) e in (from number n both.0, from n (number + node.overflow) both.1), λ h. to number n (number + node.overflow) h.0 h.1)
-  where
-    from : (a b : ℕ) → nat_le a b ≡ true → a ≤ b
-    from a b e = grind (arith, nat_tests)
-
-    to : (a b c : ℕ) → a ≤ b → b ≤ c → (nat_le a b && nat_le b c) ≡ true
-    to a b c h k = grind (arith, nat_tests)
-
 pub claims_in : (nodes : Nodes) (s : Spot) (n : ℕ) → (claims_of nodes s n ≡ true) ↔ SpanAt nodes s n
-claims_in nodes (At_page s) n = span_in (nodes s.number) s.number n
-claims_in nodes (At_inline host inner) n = (λ e. absurd (false≢true e), λ h. absurd h)
+claims_in nodes s n = grind (arith, false≢true)
 
 -- either of two facts that are told
 pub either_or : (a b : Bool) (A B C : Type 0) → (a ≡ true) ↔ A → (b ≡ true) ↔ B → (A → C) → (B → C) → (C → A ⊎ B) → ((a || b) ≡ true) ↔ C
-either_or a b A B C of_a of_b from_a from_b to = (
-  λ is. elim (or_cases a b is) [ inl h ↦ from_a (of_a.0 h) | inr h ↦ from_b (of_b.0 h) ],
-  λ c. elim (to c) [ inl h ↦ or_left a b (of_a.1 h) | inr h ↦ or_right a b (of_b.1 h) ],
-)
+either_or a b A B C of_a of_b from_a from_b to = grind (arith, or_cases, or_left, or_right)
 
 module _ (file : List ℕ) (meta : Meta) where
   abbrev pub nodes : Nodes
@@ -47,14 +34,6 @@ module _ (file : List ℕ) (meta : Meta) where
   )
   by_visit w p (Some x) n at = (λ is. absurd (false≢true is), λ (v, (same, span)). absurd (let f : None ≡ Some x = ap (λ (z : SurveyedWay). z.found) same in cc))
 
-  loss_first : (o : Option Site) (p : Site) (f : Option Finding) → o ≡ Some p → lost_at p f ≡ loss_at o f
-  loss_first o p None e = rw e refl
-  loss_first o p (Some x) e = rw e refl
-
-  page_first : (o : Option Spot) (s : Spot) → o ≡ Some s → page_visit s ≡ cond (is_at_page o) 1 0
-  page_first o (At_page s) e = rw e refl
-  page_first o (At_inline host inner) e = rw e refl
-
   -- what comes of events is what the survey of their visits says
   pub record Tallied (o : Outcome) (events : List Event) : Type 0 where
     pub losses : (after_events nodes o events).losses ≡ o.losses ++ losses_of file meta (visits_of events)
@@ -66,12 +45,12 @@ module _ (file : List ℕ) (meta : Meta) where
   tallied o (Visited w p found ∷ events) placed =
       let at = placed w p found (inl refl) in
       let rest = tallied (after_event nodes o (Visited w p found)) events (λ v q f h. placed v q f (inr h)) in
-      let here = page_first (reach w) p.spot (spot_is file meta w p at) in
+      let here = ap {B = ℕ} (λ (o : Option Spot). cond (is_at_page o) 1 0) (spot_is file meta w p at) in
       let all = sum_by-cons (λ (u : SurveyedWay). cond (is_at_page (reach u.way)) 1 0) (record { way = w; found = found }) (visits_of events) in
       let pages = rest.pages in
       record {
-        losses = rest.losses ∙ append_assoc o.losses (lost_at p found) (losses_of file meta (visits_of events))
-            ∙ ap (λ ls. o.losses ++ (ls ++ losses_of file meta (visits_of events))) (loss_first (site_at file meta w) p found at);
+        losses = rest.losses ∙ append_assoc o.losses (loss_at (Some p) found) (losses_of file meta (visits_of events))
+            ∙ ap (λ ls. o.losses ++ (ls ++ losses_of file meta (visits_of events))) (ap (λ (q : Option Site). loss_at q found) (sym at));
         pages = omega (arith, here, all, pages);
       }
 
@@ -93,8 +72,7 @@ module _ (file : List ℕ) (meta : Meta) (survey : List SurveyedWay) where
   IsEvent (Visited w p found) = IsOpen survey w × (site_at file meta w ≡ Some p) × Gives (nodes file meta) (IsClaimedIn (nodes file meta) (reach file meta) survey w) p.spot found
 
   child_is : (w : Way) (p : Site) (i : ℕ) (task : Task) → Has survey (way_kept w) → site_at file meta w ≡ Some p → IsAt file meta w p i task → IsTask task
-  child_is w p i (To_give path e) has at (get, named) = (w, p, has, at, contains_at p.elements i e get, named)
-  child_is w p i (To_visit v t) has at (is, next) = (inr (w, i, is, has), ap (site_at file meta) is ∙ site_further file meta w i p at ∙ next)
+  child_is w p i task has at h = grind (arith, contains_at, site_further)
 
   -- a task is done
   abbrev Done : List Event → Task → Type 0
@@ -102,8 +80,7 @@ module _ (file : List ℕ) (meta : Meta) (survey : List SurveyedWay) where
   Done events (To_visit w p) = (found : Option Finding) × Has events (Visited w p found)
 
   done_later : (x : Event) (events : List Event) (task : Task) → Done events task → Done (x ∷ events) task
-  done_later x events (To_give path e) h = inr h
-  done_later x events (To_visit w p) (found, h) = (found, inr h)
+  done_later x events task h = grind arith
 
   abbrev tasks_of : Event → List Task
   tasks_of (Given path e) = []
@@ -117,116 +94,97 @@ module _ (file : List ℕ) (meta : Meta) (survey : List SurveyedWay) where
     kids : (x : Event) → Has events x → Each (Done events) (tasks_of x)
 
   -- the claims in front are those that test 18 looks at
-  claimed_here : (InFront : SurveyedWay → Type 0) (x : SurveyedWay) (rest : List SurveyedWay) (claimed : ℕ → Bool) → Suffix survey InFront (x ∷ rest) → AreClaims InFront claimed
-      → (n : ℕ) → IsClaimedIn (nodes file meta) (reach file meta) survey x.way n → claimed n ≡ true
-  claimed_here InFront x rest claimed at claims n (inl is) = (claims n).1 (inl is)
-  claimed_here InFront x rest claimed at claims n (inr (v, (has, lt, span))) = (claims n).1 (inr (v, (earlier survey InFront x rest at (way_kept v) has lt, span)))
+  module _ (front : List SurveyedWay) (x : SurveyedWay) (rest : List SurveyedWay) (all : front ++ x ∷ rest ≡ survey) (rises : RisesBy Earlier survey) where
+    in_rest : (v : SurveyedWay) → Has survey v → Earlier v x → Has front v
+    in_rest v has = in_front front x rest (subst (RisesBy Earlier) (sym all) rises) v (subst (λ (s : List SurveyedWay). Has s v) (sym all) has)
 
-  claimed_there : (InFront : SurveyedWay → Type 0) (x : SurveyedWay) (rest : List SurveyedWay) (claimed : ℕ → Bool) → Suffix survey InFront (x ∷ rest) → AreClaims InFront claimed
-      → (n : ℕ) → claimed n ≡ true → IsClaimedIn (nodes file meta) (reach file meta) survey x.way n
-  claimed_there InFront x rest claimed at claims n is =
-      elim ((claims n).0 is) [
-        | inl meta_page ↦ inl meta_page
-        | inr (v, (front, span)) ↦ inr (v, (at.front (way_kept v) front, at.after (way_kept v) x front (inl refl), span))
-      ]
+    in_all : (v : SurveyedWay) → Has front v → Has survey v × Earlier v x
+    in_all v has = (subst (λ (s : List SurveyedWay). Has s v) all (has_left front (x ∷ rest) v has), rises_across Earlier front (x ∷ rest) (subst (RisesBy Earlier) (sym all) rises) v x has (inl refl))
+
+    claimed_here : (claimed : ℕ → Bool) → AreClaims (Has front) claimed → (n : ℕ) → IsClaimedIn (nodes file meta) (reach file meta) survey x.way n → claimed n ≡ true
+    claimed_here claimed claims n h = grind (arith, in_rest)
+
+    claimed_there : (claimed : ℕ → Bool) → AreClaims (Has front) claimed → (n : ℕ) → claimed n ≡ true → IsClaimedIn (nodes file meta) (reach file meta) survey x.way n
+    claimed_there claimed claims n is = elim ((claims n).0 is) [ inl low ↦ inl low | inr (v, (before, span)) ↦ let (has, lt) = in_all (way_kept v) before in inr (v, (has, lt, span)) ]
 
   -- the claims after a visit
-  claims_after : (InFront : SurveyedWay → Type 0) (w : Way) (p : Site) (found : Option Finding) (claimed : ℕ → Bool) → site_at file meta w ≡ Some p → AreClaims InFront claimed
-      → AreClaims (λ v. InFront v ⊎ (v ≡ record { way = w; found = found })) (claimed_after (nodes file meta) claimed p.spot found)
-  claims_after InFront w p found claimed at claims n =
+  claims_after : (front : List SurveyedWay) (w : Way) (p : Site) (found : Option Finding) (claimed : ℕ → Bool) → site_at file meta w ≡ Some p → AreClaims (Has front) claimed
+      → AreClaims (Has (front ++ record { way = w; found = found } ∷ [])) (claimed_after (nodes file meta) claimed p.spot found)
+  claims_after front w p found claimed at claims n =
+      let this : List SurveyedWay = record { way = w; found = found } ∷ [] in
       either_or (claimed n) (span_of (nodes file meta) p.spot found n) _ _ _ (claims n) (by_visit file meta w p found n at)
-      (λ is. elim is [ inl meta_page ↦ inl meta_page | inr (v, (front, span)) ↦ inr (v, (inl front, span)) ])
-      (λ (v, (same, span)). inr (v, (inr same, span)))
+      (λ is. elim is [ inl low ↦ inl low | inr (v, (before, span)) ↦ inr (v, (has_left front this (way_kept v) before, span)) ])
+      (λ (v, (same, span)). inr (v, (has_right front this (way_kept v) (inl (sym same)), span)))
       (λ is. elim is [
-        | inl meta_page ↦ inl (inl meta_page)
-        | inr (v, (front, span)) ↦ elim front [ inl before ↦ inl (inr (v, (before, span))) | inr same ↦ inr (v, (same, span)) ]
+        | inl low ↦ inl (inl low)
+        | inr (v, (has, span)) ↦ elim (has_split front this (way_kept v) has) [ inl before ↦ inl (inr (v, (before, span))) | inr last ↦ elim last [ inl same ↦ inr (v, (sym same, span)) | inr none ↦ absurd none ] ]
       ])
 
   comes_more : (claimed after : ℕ → Bool) (x : Event) (task : Task) (first tasks : List Task) (events : List Event) → ((o : Outcome) → o.claimed ≡ claimed → (after_event (nodes file meta) o x).claimed ≡ after)
       → IsEvent x → Done (x ∷ events) task → tasks_of x ≡ first → Comes after (first ++ tasks) events → Comes claimed (task ∷ tasks) (x ∷ events)
-  comes_more claimed after x task first tasks events next is ends own later = record {
-    claims = λ o same. later.claims (after_event (nodes file meta) o x) (next o same);
-    only = λ y h. elim h [ inl same ↦ subst IsEvent same is | inr more ↦ later.only y more ];
-    led = λ t h. elim h [ inl same ↦ subst (Done (x ∷ events)) same ends | inr more ↦ done_later x events t (later.led t (has_right first tasks t more)) ];
-    kids = λ y h t child. done_later x events t (elim h [
-      | inl same ↦ later.led t (has_left first tasks t (subst (λ (ts : List Task). Has ts t) (ap tasks_of (sym same) ∙ own) child))
-      | inr more ↦ later.kids y more t child
-    ]);
-  }
+  comes_more claimed after x task first tasks events next is ends own later = grind (arith, done_later, has_right, has_left)
 
   comes_course : (claimed : ℕ → Bool) (tasks : List Task) (events : List Event) → Course file meta claimed tasks events
-      → (InFront : SurveyedWay → Type 0) → Suffix survey InFront (visits_of events) → AreClaims InFront claimed → Each IsTask tasks → Comes claimed tasks events
-  comes_course claimed tasks events done InFront at claims are = record {
-    claims = λ o same n. (
-      λ is. elim ((claims n).0 (ap (λ (f : ℕ → Bool). f n) (sym same) ∙ is)) [ inl low ↦ inl low | inr (v, (front, span)) ↦ inr (v, (at.front (way_kept v) front, span)) ],
-      λ is. ap (λ (f : ℕ → Bool). f n) same ∙ (claims n).1 (elim is [ inl low ↦ inl low | inr (v, (has, span)) ↦ elim (at.split (way_kept v) has) [ inl front ↦ inr (v, (front, span)) | inr none ↦ absurd none ] ]),
-    );
+      → (front : List SurveyedWay) → front ++ visits_of events ≡ survey → RisesBy Earlier survey → AreClaims (Has front) claimed → Each IsTask tasks → Comes claimed tasks events
+  comes_course claimed tasks events done front all rises claims are = record {
+    claims = λ o same. subst₂ (λ (visits : List SurveyedWay) (f : ℕ → Bool). AreClaims (Has visits) f) (sym (append-nil front) ∙ all) (sym same) claims;
     only = λ x h. absurd h;
     led = λ t h. absurd h;
     kids = λ x h. absurd h;
   }
-  comes_course claimed tasks events (give {path = path} {e = e} {tasks = more} {events = rest} course) InFront at claims are =
+  comes_course claimed tasks events (give {path = path} {e = e} {tasks = more} {events = rest} course) front all rises claims are =
       comes_more claimed claimed (Given path e) (To_give path e) [] more rest (λ o same. same) (are (To_give path e) (inl refl)) (inl refl) refl
-      (comes_course claimed more rest course InFront at claims (λ task h. are task (inr h)))
-  comes_course claimed tasks events (visit {way = w} {p = p} {found = found} {tasks = more} {events = rest} gives course) InFront at claims are =
+      (comes_course claimed more rest course front all rises claims (λ task h. are task (inr h)))
+  comes_course claimed tasks events (visit {way = w} {p = p} {found = found} {tasks = more} {events = rest} gives course) front all rises claims are =
       let this : SurveyedWay = record { way = w; found = found } in
       let (opened, there) = are (To_visit w p) (inl refl) in
       let first = tasks_after file meta w p found in
+      let inside : Has survey this = subst (λ (s : List SurveyedWay). Has s this) all (has_right front (this ∷ visits_of rest) this (inl refl)) in
       let here = gives_same (nodes file meta) (λ n. claimed n ≡ true) (IsClaimedIn (nodes file meta) (reach file meta) survey w) p.spot found
-      (claimed_there InFront this (visits_of rest) claimed at claims) (claimed_here InFront this (visits_of rest) claimed at claims) gives in
+      (claimed_there front this (visits_of rest) all rises claimed claims) (claimed_here front this (visits_of rest) all rises claimed claims) gives in
       comes_more claimed _ (Visited w p found) (To_visit w p) first more rest (λ o same. ap (λ (f : ℕ → Bool). claimed_after (nodes file meta) f p.spot found) same) (opened, there, here) (found, inl refl) refl
-      (comes_course _ (first ++ more) rest course (λ v. InFront v ⊎ (v ≡ this))
-      (next_suffix (nodes file meta) (reach file meta) survey InFront this this (visits_of rest) refl at) (claims_after InFront w p found claimed there claims)
+      (comes_course _ (first ++ more) rest course (front ++ this ∷ []) (append_assoc front (this ∷ []) (visits_of rest) ∙ all) rises (claims_after front w p found claimed there claims)
       (λ task h. elim (has_split first more task h) [
         | inl child ↦
             let (none, i, is) = after_at file meta w p found task child in
-            child_is w p i task (subst (λ (f : Option Finding). Has survey (record { way = w; found = f })) none (at.inside this (inl refl))) there is
+            child_is w p i task (subst (λ (f : Option Finding). Has survey (record { way = w; found = f })) none inside) there is
         | inr later ↦ are task (inr later)
       ]))
 
 -- visits and members among events
 visit_in : (events : List Event) (u : SurveyedWay) → Has (visits_of events) u → (p : Site) × Has events (Visited u.way p u.found)
-visit_in [] u h = absurd h
-visit_in (Given path e ∷ events) u h = let (p, at) = visit_in events u h in (p, inr at)
-visit_in (Visited w p found ∷ events) u (inl same) = (p, inl (ap (λ (v : SurveyedWay). Visited v.way p v.found) same))
-visit_in (Visited w p found ∷ events) u (inr h) = let (q, at) = visit_in events u h in (q, inr at)
+visit_in events u h = let (x, has, at) = flat_has visit_at events u h in by x has at
+  where
+    by : (x : Event) → Has events x → Has (visit_at x) u → (p : Site) × Has events (Visited u.way p u.found)
+    by (Given path e) has at = absurd at
+    by (Visited w p found) has (inl same) = (p, subst (λ (v : SurveyedWay). Has events (Visited v.way p v.found)) same has)
+    by (Visited w p found) has (inr none) = absurd none
 
 in_visits : (events : List Event) (w : Way) (p : Site) (found : Option Finding) → Has events (Visited w p found) → Has (visits_of events) (record { way = w; found = found })
-in_visits [] w p found h = absurd h
-in_visits (Given path e ∷ events) w p found (inl same) = absurd (cc)
-in_visits (Given path e ∷ events) w p found (inr h) = in_visits events w p found h
-in_visits (Visited v q f ∷ events) w p found (inl same) = let way : v ≡ w = cc in let is : f ≡ found = cc in inl (λ i. record { way = way i; found = is i })
-in_visits (Visited v q f ∷ events) w p found (inr h) = inr (in_visits events w p found h)
+in_visits events w p found h = has_flat visit_at events (Visited w p found) _ h (inl refl)
 
 member_in : (events : List Event) (path : Path) (item : Item) → Contains (members_of events) (path, item) → (e : LeafElement) × Has events (Given path e) × (item ≡ item_of e)
-member_in [] path item h = absurd (contains_none (path, item) h)
-member_in (Visited w p found ∷ events) path item h = let (e, at, is) = member_in events path item h in (e, inr at, is)
-member_in (Given q x ∷ events) path item h = elim (contains_cases (q, item_of x) (path, item) (members_of events) h) [
-  | inl same ↦ (x, inl (ap (λ (m : Path × Item). Given m.0 x) same), sym (ap (λ (m : Path × Item). m.1) same))
-  | inr later ↦ let (e, at, is) = member_in events path item later in (e, inr at, is)
-]
+member_in events path item h = let (x, has, at) = flat_has members_at events (path, item) (has_from_contains _ _ h) in by x has at
+  where
+    by : (x : Event) → Has events x → Has (members_at x) (path, item) → (e : LeafElement) × Has events (Given path e) × (item ≡ item_of e)
+    by (Visited w p found) has at = absurd at
+    by (Given q e) has (inl same) = (e, subst (λ (m : Path × Item). Has events (Given m.0 e)) same has, sym (ap (λ (m : Path × Item). m.1) same))
+    by (Given q e) has (inr none) = absurd none
 
 in_members : (events : List Event) (path : Path) (e : LeafElement) → Has events (Given path e) → Contains (members_of events) (path, item_of e)
-in_members [] path e h = absurd h
-in_members (Visited w p found ∷ events) path e (inl same) = absurd (cc)
-in_members (Visited w p found ∷ events) path e (inr h) = in_members events path e h
-in_members (Given q x ∷ events) path e (inl same) =
-    let named : q ≡ path = cc in let is : x ≡ e = cc in
-    subst (λ (m : Path × Item). Contains ((q, item_of x) ∷ members_of events) m) (λ i. (named i, item_of (is i))) (contains_head (q, item_of x) (members_of events))
-in_members (Given q x ∷ events) path e (inr h) = contains_tail (q, item_of x) (path, item_of e) (members_of events) (in_members events path e h)
+in_members events path e h = contains_from_has _ _ (has_flat members_at events (Given path e) _ h (inl refl))
 
 -- all that comes of a file
 module _ (file : List ℕ) (meta : Meta) where
   abbrev pub survey_of : List SurveyedWay
   survey_of = visits_of (all_events file meta)
 
-  rise : RisesBy Before (ways survey_of)
-  rise = (rises_course file meta meta_pages (root_tasks file meta) (all_events file meta) (course file meta (root_tasks file meta) meta_pages) (λ b h. absurd h, tt)).0
+  rises : RisesBy Before (ways survey_of)
+  rises = (rises_course file meta meta_pages (root_tasks file meta) (all_events file meta) (course file meta (root_tasks file meta) meta_pages) (λ b h. absurd h, tt)).0
 
   comes : Comes file meta survey_of meta_pages (root_tasks file meta) (all_events file meta)
   comes =
-      comes_course file meta survey_of meta_pages (root_tasks file meta) (all_events file meta) (course file meta (root_tasks file meta) meta_pages) (λ v. ⊥)
-      (record { split = λ v has. inr has; inside = λ v has. has; front = λ v front. absurd front; after = λ v w front has. absurd front; rises = rise })
+      comes_course file meta survey_of meta_pages (root_tasks file meta) (all_events file meta) (course file meta (root_tasks file meta) meta_pages) [] refl (rise survey_of rises)
       (λ n. (λ is. inl (grind (arith, nat_tests)), λ is. elim is [ inl low ↦ grind (arith, nat_tests) | inr (v, (front, span)) ↦ absurd front ]))
       (λ task h. elim h [ inl same ↦ subst (IsTask file meta survey_of) same (inl refl, refl) | inr none ↦ absurd none ])
 
@@ -236,10 +194,7 @@ module _ (file : List ℕ) (meta : Meta) where
   -- a site that is visited, and what there is to do at a way_kept one
   site_of : (u : SurveyedWay) → Has survey_of u → (p : Site) × Has (all_events file meta) (Visited u.way p u.found) × (site_at file meta u.way ≡ Some p)
       × Gives (nodes file meta) (IsClaimedIn (nodes file meta) (reach file meta) survey_of u.way) p.spot u.found
-  site_of u has =
-      let (p, there) = visit_in (all_events file meta) u has in
-      let (opened, at, gives) = comes.only (Visited u.way p u.found) there in
-      (p, there, at, gives)
+  site_of u has = grind (arith, visit_in, comes)
 
   done_at : (w : Way) (p : Site) (i : ℕ) (task : Task) → Has (all_events file meta) (Visited w p None) → i < site_size (nodes file meta) p.spot p.elements → IsAt file meta w p i task
       → Done file meta survey_of (all_events file meta) task
@@ -247,7 +202,7 @@ module _ (file : List ℕ) (meta : Meta) where
 
   pub surveyed : IsSurvey file meta survey_of
   surveyed = record {
-    rises = rise;
+    rises = rises;
     only = λ u has. let (p, there, at, gives) = site_of u has in ((comes.only (Visited u.way p u.found) there).0, (p.spot, spot_is file meta u.way p at, gives));
     all = λ way s opened leads. elim opened [
       | inl none ↦

@@ -64,14 +64,7 @@ module _ (file : List ℕ) (meta : Meta) (w : Way) (p : Site) (keys : List Key) 
   own_next i k (j, own, le, at, over, below) = (j, own, omega (arith, le), at, over, below)
 
   no_entry : (i : ℕ) (rest : List Task) (members : List Member) → HasTree (suc i) rest members → HasTree i rest members
-  no_entry i rest members after = record {
-    tree = after.tree;
-    later = after.later;
-    same = after.same;
-    ordered = after.ordered;
-    own = λ k h. own_next i k (after.own k h);
-    pieces = after.pieces;
-  }
+  no_entry i rest members after = grind (arith, own_next)
 
   -- an element, before what the later ones come to
   module _ (i : ℕ) (e : LeafElement) (get : slice_get p.elements i ≡ Some e) where

@@ -1,12 +1,9 @@
 -- The course of tasks: they come to one list of events, that of the function.
-use Rattle.std.proofs.Common.{◌≡◌, ◌≢◌, ◌∙◌, inl, inr, ℕ, zero, suc, ◌<◌, ◌≤◌, Bool, true, false, ◌||◌, List, [], ◌∷◌, ◌++◌, length, Option, Some, None, Result, Ok, refl, sym, ap, subst, arith}
-use Rattle.bolt_recover.proofs.Words.{InlinePage, At_inline, At_page, claimed_after, Event, events, false_from_ne_true, false≢true, Finding, Given, give_all, Gives, in_span, Key, LeafElement, Meta, nat_tests, Node, node_at, node_below, Nodes, none-some, or_parts, PageSpot, Path, run_all, run_on, run_to, Site, site_tasks, Spot, step_from, Task, tasks_after, test, To_give, To_visit, Visited, Way, Among}
+use Rattle.std.proofs.Common.{◌≡◌, ◌∙◌, inl, inr, ℕ, zero, suc, ◌<◌, ◌≤◌, Bool, true, false, List, [], ◌∷◌, ◌++◌, length, Option, Some, None, Ok, refl, sym, ap, subst, arith}
+use Rattle.bolt_recover.proofs.Words.{InlinePage, At_inline, At_page, claimed_after, Event, events, false_from_ne_true, false≢true, Finding, Given, give_all, Gives, LeafElement, Meta, Node, node_at, node_below, Nodes, none-some, or_parts, PageSpot, Path, run_all, run_on, run_to, Site, site_tasks, Spot, step_from, Task, tasks_after, test, To_give, To_visit, Visited, Way, Among}
 use Rattle.bolt_recover.proofs.{SiteFacts.step_spot, SurveyIsOne.gives_one, TaskLists.after_at, Tested.test_finds}
+use Rattle.std.proofs.Math.Bool.{or-false}
 use Rattle.bolt_check.proofs.TourExists.{has_number, numbers, shorter, still, without}
-
-pub or_none : (b : Bool) → (b || false) ≡ b
-or_none true = refl
-or_none false = refl
 
 module _ (file : List ℕ) (meta : Meta) where
   -- from these claims these tasks come to these events
@@ -28,15 +25,9 @@ module _ (file : List ℕ) (meta : Meta) where
   abbrev Covers : (ℕ → Bool) → List ℕ → Type 0
   Covers claimed left = (n : ℕ) → n < meta.high_water → claimed n ≡ false → Among left n
 
-  own_span : (number : ℕ) (node : Node) → in_span (Ok node) number number ≡ true
-  own_span number node = grind (arith, nat_tests)
-
   covers_less : (claimed : ℕ → Bool) (left : List ℕ) (s : PageSpot) (node : Node) (has : Among left s.number) → nodes s.number ≡ Ok node → Covers claimed left
       → Covers (claimed_after nodes claimed (At_page s) None) (without s.number left has)
-  covers_less claimed left s node has page covers n below free =
-      let both = or_parts (claimed n) (in_span (nodes s.number) s.number n) free in
-      let other : n ≢ s.number = λ same. false≢true (sym both.1 ∙ ap (in_span (nodes s.number) s.number) same ∙ ap (λ (r : Result Node ℕ). in_span r s.number s.number) page ∙ own_span s.number node) in
-      still s.number n left has other (covers n below both.0)
+  covers_less claimed left s node has page covers n below free = grind (arith, or_parts, false≢true, still)
 
   -- the elements at an inline page
   course_gives : (claimed : ℕ → Bool) (first tasks : List Task) (later : List Event) → ((way : Way) (p : Site) → Among first (To_visit way p) → ⊥) → Course claimed tasks later
@@ -57,9 +48,9 @@ module _ (file : List ℕ) (meta : Meta) where
     course_on : (left : List ℕ) (claimed : ℕ → Bool) (tasks : List Task) (later : List Event) (way : Way) (p : Site) (found : Option Finding) (s : Spot) → length left ≤ k → Covers claimed left
         → p.spot ≡ s → Gives nodes (λ n. claimed n ≡ true) s found → Course claimed tasks later
         → Course (claimed_after nodes claimed s found) (tasks_after file meta way p found ++ tasks) (run_on file meta deeper later tasks claimed way p found s)
-    course_on left claimed tasks later way p (Some x) s le covers is gives course = subst (λ (f : ℕ → Bool). Course f tasks later) (λ i n. sym (or_none (claimed n)) i) course
+    course_on left claimed tasks later way p (Some x) s le covers is gives course = subst (λ (f : ℕ → Bool). Course f tasks later) (λ i n. sym (or-false (claimed n)) i) course
     course_on left claimed tasks later way p None (At_inline host inner) le covers is gives course =
-        subst (λ (f : ℕ → Bool). Course f (site_tasks file meta way p ++ tasks) (give_all (site_tasks file meta way p) later)) (λ i n. sym (or_none (claimed n)) i)
+        subst (λ (f : ℕ → Bool). Course f (site_tasks file meta way p ++ tasks) (give_all (site_tasks file meta way p) later)) (λ i n. sym (or-false (claimed n)) i)
         (course_gives claimed (site_tasks file meta way p) tasks later (λ v t. inline_gives way v p t host inner is) course)
     course_on left claimed tasks later way p None (At_page s) le covers is gives course =
         let free = false_from_ne_true (claimed s.number) (gives.free s.number (omega arith, omega arith)) in

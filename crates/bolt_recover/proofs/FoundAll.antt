@@ -22,21 +22,11 @@ lost_or_none (v ∷ survey) = first v survey v.found refl (lost_or_none survey)
 module _ (file : List ℕ) (meta : Meta) where
   -- if nothing is lost, nothing is found; otherwise what is found next to the way_kept pages
   pub are_none : (survey : List SurveyedWay) → IsSurvey file meta survey → LosesNothing survey → AreFound file meta []
-  are_none survey is none = record {
-    survey = survey;
-    surveys = is;
-    none = λ same. refl;
-    some = λ way x has. absurd (let f : Some x ≡ None = none (lost way x) has in cc);
-  }
+  are_none survey is none = grind arith
 
   pub are_some : (found : List ℕ) (survey : List SurveyedWay) (way : List ℕ) (x : Finding) → IsSurvey file meta survey → Has survey (lost way x)
       → FoundBelow file meta (IsKeptPage file meta survey) meta.high_water found → AreFound file meta found
-  are_some found survey way x is has below = record {
-    survey = survey;
-    surveys = is;
-    none = λ none. absurd (let f : Some x ≡ None = none (lost way x) has in cc);
-    some = λ other y gone. below;
-  }
+  are_some found survey way x is has below = grind arith
 
   pub found_damaged : (claimed taken : ℕ → Bool) (found : List ℕ) → AreKeptPages file meta claimed → ((n : ℕ) → taken n ≡ claimed n) → (HasSoundTrees file meta → ⊥)
       → FoundBelow file meta (λ n. taken n ≡ true) meta.high_water found → AreFound file meta found
@@ -128,8 +118,7 @@ module _ (file : List ℕ) (meta : Meta) (x : Finding) (loses : LosesRoot file m
       ∙ ap (λ (es : List Event). Visited [] (root_site file meta) (Some x) ∷ es) (events_none file meta _)
 
   not_kept : (way : List ℕ) → Has alone (way_kept way) → ⊥
-  not_kept way (inl same) = let f : None ≡ Some x = ap (λ (v : SurveyedWay). v.found) (sym same) in cc
-  not_kept way (inr has) = has
+  not_kept way h = grind arith
 
   pub found_rootless : (taken : ℕ → Bool) (found : List ℕ) → ((n : ℕ) → (taken n ≡ true) ↔ IsMetaPage n)
       → FoundBelow file meta (λ n. taken n ≡ true) meta.high_water found → AreFound file meta found

@@ -13,16 +13,14 @@ decided_by : {P : Type 0} (b : Bool) → (b ≡ true) ↔ P → Decided P
 decided_by b is = elim (cases_Bool b) [ inl yes_ ↦ inl (is.0 yes_) | inr none ↦ inr (λ p. false≢true (sym none ∙ is.1 p)) ]
 
 decided_as : {P Q : Type 0} → (P → Q) → (Q → P) → Decided P → Decided Q
-decided_as to from (inl p) = inl (to p)
-decided_as to from (inr never) = inr (λ q. never (from q))
+decided_as to from h = grind arith
 
 both_decided : {P Q : Type 0} → Decided P → (P → Decided Q) → Decided (P × Q)
 both_decided (inl p) q = decided_as (λ h. (p, h)) (λ h. h.1) (q p)
 both_decided (inr never) q = inr (λ h. never h.0)
 
 not_decided : {P : Type 0} → Decided P → Decided (P → ⊥)
-not_decided (inl p) = inr (λ never. never p)
-not_decided (inr never) = inl never
+not_decided h = grind arith
 
 empty_or_not : (entries : List Entry) → Decided (entries ≢ [])
 empty_or_not [] = inr (λ some. some refl)

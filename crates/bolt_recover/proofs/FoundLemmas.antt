@@ -1,6 +1,6 @@
 -- Found pages, one number after another.
-use Rattle.std.proofs.Common.{◌≡◌, ◌∙◌, ◌≤◌, ◌<◌, ◌⊎◌, ◌↔◌, inl, inr, ℕ, zero, suc, ◌+◌, Bool, true, false, List, [], ◌∷◌, ◌++◌, Some, Ok, ◌≢◌, refl, sym, ap, subst, arith}
-use Rattle.bolt_recover.proofs.Words.{At_page, cases_lt, cases_order, Contains, Contains-append_left, Contains-append_right, Contains-push_cases, contains_head, contains_none, false_from_ne_true, false≢true, Found, FoundBelow, IsFoundNext, IsFoundPage, IsFoundView, IsListedFree, IsLoneLeaf, Meta, Node, node_at, Nodes, page_at, root_spot, shown_node, SpanAt}
+use Rattle.std.proofs.Common.{◌≡◌, ◌∙◌, ◌≤◌, ◌<◌, ◌⊎◌, ◌↔◌, inl, inr, ℕ, zero, suc, ◌+◌, Bool, true, false, List, [], ◌∷◌, ◌++◌, Some, Ok, refl, sym, ap, subst, arith}
+use Rattle.bolt_recover.proofs.Words.{At_page, cases_lt, cases_order, Contains, Contains-append_left, Contains-append_right, Contains-push_cases, contains_head, contains_none, false_from_ne_true, false≢true, Found, FoundBelow, IsFoundNext, IsFoundPage, IsFoundView, IsListedFree, IsLoneLeaf, Meta, node_at, Nodes, page_at, root_spot, shown_node, SpanAt}
 use Rattle.bolt_format.specs.{TreePages.leaves_on, TreePages.shown_page, declared.tree_page.LeafPage.LeafPage, declared.tree_page.TreePage.TheVariants.Leaf}
 use Rattle.bolt_check.proofs.LeafLemmas.{lone_free, lone_same, lone_span}
 
@@ -15,10 +15,7 @@ module _ (file : List ℕ) (meta : Meta) where
   -- a page of the code that is an intact leaf
   pub view_of : (before : ℕ → Type 0) (f : Found) → page_at file meta f.number ≡ Some (shown_page (Leaf f.page)) → node_at file meta f.number ≡ Ok (shown_node (Leaf f.page))
       → IsLoneLeaf nodes before f.number → IsFoundView file meta f
-  view_of before f page node lone =
-      let both : Ok lone.passes.node ≡ Ok (shown_node (Leaf f.page)) = sym lone.passes.page ∙ node in
-      let same : lone.passes.node ≡ shown_node (Leaf f.page) = cc in
-      record { page = page; node = node; some = λ none. subst (λ (x : Node). x.entries ≢ []) same lone.some (no_entries f.page none) }
+  view_of before f page node lone = grind (arith, no_entries)
 
   -- the pages of one found page more
   page_more : (found : List ℕ) (n k : ℕ) → IsFoundPage file meta (found ++ n ∷ []) k → IsFoundPage file meta found k ⊎ SpanAt nodes (At_page (root_spot n)) k
@@ -78,9 +75,7 @@ module _ (file : List ℕ) (meta : Meta) where
       }
 
       pub found_next : IsLoneLeaf nodes (λ k. taken k ≡ true) n → listed n ≡ false → FoundBelow file meta kept (n + 1) (found ++ n ∷ [])
-      found_next lone none =
-          let more : suc n ≡ n + 1 = omega arith in
-          subst (λ (m : ℕ). FoundBelow file meta kept m (found ++ n ∷ [])) more (found, below, inl (next_of lone none, refl))
+      found_next lone none = grind (arith, next_of)
 
       pub found_not : (IsLoneLeaf nodes (λ k. taken k ≡ true) n → listed n ≡ false → ⊥) → FoundBelow file meta kept (n + 1) found
       found_not none =

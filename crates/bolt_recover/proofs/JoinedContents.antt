@@ -1,5 +1,5 @@
 -- The members of a joined listing are recovered or found.
-use Rattle.std.proofs.Common.{◌≡◌, ◌⊎◌, inl, inr, ℕ, Bool, true, false, IsTrue, is_none, List, [], ◌∷◌, ◌++◌, None, map, ◌==◌, if◌then◌else◌, refl, sym, subst}
+use Rattle.std.proofs.Common.{◌≡◌, ◌⊎◌, inl, inr, ℕ, Bool, true, false, IsTrue, is_none, List, [], ◌∷◌, ◌++◌, None, map, ◌==◌, if◌then◌else◌, refl, sym, subst, arith}
 use Rattle.bolt_recover.proofs.Words.{AreFound, Bucket, Contains, Contains-append_cases, contains_cases, contains_head, contains_none, contains_tail, end, eqb-true, found_tree, head_root, head_sequence, inline_elements, inside_of, IsElement, IsFoundMember, IsInnerMember, IsJoined, IsRecovered, item_of, joined_listing, keys_order_fault, LeafElement, leaves_of, listing_below, lost_and_found, Member, Meta, page_at, page_key, Path, Tree, tree_of_elements, Value, with_bucket, with_value}
 use Rattle.bolt_recover.proofs.JoinedLemmas.{joined_of, put_of, put_or_there, put_recovered, with_elements}
 
@@ -35,8 +35,7 @@ inside_by : (path : Path) (e : LeafElement) (m : Member) (a b : Bool) → (head_
 inside_by path e m true true root rise has =
     let (i, (there, here)) = element_of (λ x. end) path (inline_elements e.value) m (rw (root, rise) at has) in
     (eqb-true (head_root e.value) 0 root, (i, (there, elim here [ inl same ↦ same | inr nothing ↦ absurd (contains_none m nothing.1) ])))
-inside_by path e m true false root rise has = absurd (contains_none m (rw (root, rise) at has))
-inside_by path e m false b root rise has = absurd (contains_none m (rw root at has))
+inside_by path e m a b root rise has = grind (arith, contains_none)
 
 on_page : (path : Path) (elements : List LeafElement) (m : Member) → Contains (listing_below path (tree_of_elements inside_of elements)) m → IsElement elements path m ⊎ IsInnerMember elements path m
 on_page path elements m has =

@@ -1,7 +1,7 @@
 -- The joined listing is the recovered one with the bucket of what is found put in.
-use Rattle.std.proofs.Common.{◌≡◌, ◌∙◌, ◌⊎◌, inl, inr, ℕ, Bool, true, false, not, List, [], ◌∷◌, ◌++◌, filter, map, refl, sym, ap, subst, ◌≢◌}
+use Rattle.std.proofs.Common.{◌≡◌, ◌∙◌, ◌⊎◌, inl, inr, ℕ, Bool, true, false, not, List, [], ◌∷◌, ◌++◌, filter, map, refl, sym, ap, subst, ◌≢◌, arith}
 use Rattle.bolt_format.specs.TreePages.{leaves_on}
-use Rattle.bolt_recover.proofs.Words.{append-nil, AreFound, Bucket, cases_Bool, Contains, Contains-append_cases, contains_cases, contains_head, contains_tail, end, Equal, filter-append, filter_all, filter_none, first_cmp, found_tree, Greater, is_eq, is_found_path, is_lt, IsJoined, IsRecovered, joined_listing, key_cmp, key_lt, key_total, LacksBucketKey, LeafElement, leaves_of, Less, less_of, listing_below, listing_of, lost_and_found, Member, member_cmp, member_total, Meta, Ordering, page_at, Path, path_cmp, put_bucket, Rises, Tree, tree_of, Value, with_bucket, with_value, All, All-head, All-tail, AreJoinable, Found, found_listing, IsFoundView, found_numbers, found_pages_of, recovered_of}
+use Rattle.bolt_recover.proofs.Words.{append-nil, AreFound, Bucket, cases_Bool, Contains, Contains-append_cases, contains_cases, contains_head, contains_tail, end, filter-append, filter_all, filter_none, first_cmp, found_tree, Greater, is_found_path, is_lt, IsJoined, IsRecovered, joined_listing, key_lt, key_total, LacksBucketKey, LeafElement, leaves_of, Less, less_of, listing_below, listing_of, lost_and_found, Member, member_cmp, member_total, Meta, page_at, Path, path_cmp, put_bucket, Rises, Tree, tree_of, Value, with_bucket, with_value, All, All-head, All-tail, AreJoinable, Found, found_listing, IsFoundView, found_numbers, found_pages_of, recovered_of}
 use Rattle.bolt_recover.proofs.{Existing.has_recovered, Existing.one_recovered, Existing.recovers, FoundAll.one_found, FoundExists.has_found}
 use Rattle.bolt_recover.proofs.{CourseTrees.all_tree, TreeOrder.Ordered, TreeOrder.ordered_rises, TreeOrder.rises_both, TreeOrder.under}
 use Rattle.bolt_tree.proofs.{MergeLemmas.merge_none, PathOrder.flip_less, PathOrder.path_total, ReadBack.tree_back}
@@ -70,17 +70,10 @@ put_goes put (x ∷ listing) none all = elim (cases_Bool (is_lt (first_cmp x.0))
 
 -- the bucket stands in the order of paths
 first_before : (path rest : Path) → is_lt (first_cmp path) ≡ true → path_cmp path (lost_and_found ∷ rest) ≡ Less
-first_before [] rest less = refl
-first_before (key ∷ path) rest less = rw (less_of (key_cmp key lost_and_found) less) refl
+first_before path rest less = grind (arith, less_of)
 
 first_after : (path rest : Path) → is_lt (first_cmp path) ≡ false → not (is_found_path path) ≡ true → path_cmp (lost_and_found ∷ rest) path ≡ Less
-first_after [] rest over other = absurd (let f : true ≡ false = over in cc)
-first_after (key ∷ path) rest over other = by (key_cmp key lost_and_found) refl over other
-  where
-    by : (o : Ordering) → key_cmp key lost_and_found ≡ o → is_lt o ≡ false → not (is_eq o) ≡ true → path_cmp (lost_and_found ∷ rest) (key ∷ path) ≡ Less
-    by Less is over2 other2 = absurd (let f : true ≡ false = over2 in cc)
-    by Equal is over2 other2 = absurd (let f : false ≡ true = other2 in cc)
-    by Greater is over2 other2 = let less : key_cmp lost_and_found key ≡ Less = key_total.antisymm lost_and_found key ∙ rw is refl in rw less refl
+first_after path rest over other = grind (arith, key_total)
 
 put_between : (inside : Tree) (listing : List Member) → Ordered inside → Rises member_cmp listing → LacksBucketKey listing → Rises member_cmp (put_members (put_of inside) listing)
 put_between inside [] own rise lacks = subst (Rises member_cmp) (sym (append-nil (put_of inside))) (put_rises inside own)

@@ -35,9 +35,8 @@ module _ (file : List ℕ) (meta : Meta) where
 
   -- the keys of an intact leaf rise
   key_get : (elements : List LeafElement) (i : ℕ) (key : Key) → slice_get (keys_in elements) i ≡ Some key → (e : LeafElement) × (slice_get elements i ≡ Some e) × (e.key ≡ key)
-  key_get [] i key e = absurd (none-some key e)
-  key_get (x ∷ elements) zero key e = (x, refl, same_Some x.key key e)
   key_get (x ∷ elements) (suc i) key e = key_get elements i key e
+  key_get elements i key e = grind (arith, none-some, same_Some)
 
   leaf_ordered : (kept : ℕ → Type 0) (n : ℕ) → IsLoneLeaf (node_at file meta) kept n → Ordered (tree_of_elements inside_of (leaves_of (page_at file meta n)))
   leaf_ordered kept n lone =

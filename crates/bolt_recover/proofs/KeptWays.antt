@@ -1,7 +1,7 @@
 -- Ways of a survey that loses none of some ways: those that lead somewhere are way_kept, and the tests find nothing at them, whatever ways come before. So
 -- trees that lose nothing are sound, sound trees lose nothing, and the first loss is the first finding.
-use Rattle.std.proofs.Common.{◌≡◌, ◌∙◌, ℕ, inl, inr, List, [], ◌∷◌, ◌++◌, Option, Some, None, refl, sym, subst, append_assoc}
-use Rattle.bolt_recover.proofs.Words.{append-nil, At_page, Before, before_trans, Finding, follow, follow_append, Gives, Has, HasSoundTrees, IsClaimedBefore, IsClaimedIn, IsFirst, IsMetaPage, IsSurvey, way_kept, LosesNothing, Meta, node_at, Nodes, Passes, passes_fewer, passes_silent, Reach, reached, root_spot, shape_of, shape_passes, span_spot, Spot, Surveys, SurveyedWay, tests_same}
+use Rattle.std.proofs.Common.{◌≡◌, ◌∙◌, ℕ, inl, inr, List, [], ◌∷◌, ◌++◌, Option, Some, None, refl, sym, subst, append_assoc, arith}
+use Rattle.bolt_recover.proofs.Words.{append-nil, At_page, Before, before_trans, Finding, follow, follow_append, Has, HasSoundTrees, IsClaimedBefore, IsClaimedIn, IsFirst, IsMetaPage, IsSurvey, way_kept, LosesNothing, Meta, node_at, Nodes, Passes, passes_fewer, passes_silent, Reach, reached, root_spot, shape_of, shape_passes, span_spot, Spot, Surveys, SurveyedWay, tests_same}
 use Rattle.bolt_recover.proofs.SurveyIsOne.{gives_one}
 use Rattle.bolt_check.proofs.Forest.{follow_some}
 
@@ -28,20 +28,14 @@ module _ (nodes : Nodes) (root : Option Spot) (survey : List SurveyedWay) (surve
 
   module _ (way : List ℕ) (within : (u : List ℕ) → Before u way → P u) where
     claimed_in : (n : ℕ) → IsClaimedBefore nodes (follow nodes root) IsMetaPage way n → IsClaimedIn nodes (follow nodes root) survey way n
-    claimed_in n (inl is) = inl is
-    claimed_in n (inr (u, (lt, span))) = let p = span_spot nodes (follow nodes root u) n span in inr (u, (kept_way u p.0 p.1.0 (within u lt), lt, span))
+    claimed_in n h = grind (arith, span_spot, kept_way)
 
     kept_passes : (s : Spot) → follow nodes root way ≡ Some s → P way → Passes nodes (IsClaimedBefore nodes (follow nodes root) IsMetaPage way) s
-    kept_passes s led is =
-        let (t, at, gives) = (surveys.only (way_kept way) (kept_way way s led is)).1 in
-        let same : t ≡ s = cc in
-        passes_fewer nodes (IsClaimedIn nodes (follow nodes root) survey way) (IsClaimedBefore nodes (follow nodes root) IsMetaPage way) s claimed_in
-        (subst (λ (z : Spot). Gives nodes (IsClaimedIn nodes (follow nodes root) survey way) z None) same gives)
+    kept_passes s led is = grind (arith, kept_way, passes_fewer, claimed_in)
 
 claimed_before : (nodes : Nodes) (reach : Reach) (survey : List SurveyedWay) (way : List ℕ) (n : ℕ)
     → IsClaimedIn nodes reach survey way n → IsClaimedBefore nodes reach IsMetaPage way n
-claimed_before nodes reach survey way n (inl h) = inl h
-claimed_before nodes reach survey way n (inr (v, (has, lt, span))) = inr (v, (lt, span))
+claimed_before nodes reach survey way n h = grind arith
 
 pub none_lost : (file : List ℕ) (meta : Meta) (survey : List SurveyedWay) → HasSoundTrees file meta → IsSurvey file meta survey → LosesNothing survey
 none_lost file meta survey trees surveys v has =

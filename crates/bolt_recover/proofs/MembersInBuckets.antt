@@ -1,24 +1,12 @@
 -- What a path holds, and what is at ways: a path holds each element at a way under it and, if all ways are kept, nothing else.
-use Rattle.std.proofs.Common.{◌≡◌, ◌∙◌, inl, inr, ℕ, suc, Bool, false, eqb, List, [], ◌∷◌, ◌++◌, Option, Some, None, Result, slice_get, refl, sym, ap, subst}
-use Rattle.bolt_recover.proofs.Words.{At_inline, At_page, cases_Bool, child_at, child_in, child_of, Contains, contains_at, contains_none, count_field, Entry, flags_field, follow_sites, from_page, head_root, Holds, Inline_page, IsEntry, IsRecoveredMember, Item, Kind, kind_of, leads, LeafElement, leaves_of, Meta, Names, next_site, Node, node_at, Nodes, page_at, page_fault, page_overflow, PageSpot, PageView, Path, Site, site_at, Root_page, root_site, same_Some, shown_as, ShowsEntry, span_bytes, Spot, Start, start_of, step_site, SurveyedWay}
+use Rattle.std.proofs.Common.{◌≡◌, ◌∙◌, inl, inr, ℕ, suc, Bool, false, eqb, List, [], ◌∷◌, ◌++◌, Option, Some, Result, slice_get, refl, sym, ap, subst, arith}
+use Rattle.bolt_recover.proofs.Words.{At_inline, At_page, cases_Bool, child_at, child_in, child_of, Contains, contains_at, Entry, follow_sites, head_root, Holds, Inline_page, IsEntry, IsRecoveredMember, Item, leads, LeafElement, leaves_of, Meta, Names, next_site, Node, node_at, Nodes, page_at, PageSpot, Path, Site, site_at, Root_page, root_site, same_Some, ShowsEntry, Spot, Start, start_of, step_site, SurveyedWay}
 use Rattle.bolt_tree.proofs.Named.{held_here, names_push}
-use Rattle.bolt_format.specs.declared.header.Kind.TheVariants as kind
 use Rattle.bolt_recover.proofs.SiteSteps.{IsTidy, IsTidyAt, bucket_site, child_site, leads_from, tidy_root, tidy_step}
-
--- a page with leaf elements is a leaf that shows them
-by_kind : (fault : Option ℕ) (k : Option Kind) (count overflow : ℕ) (bytes : List ℕ) (e : LeafElement) → Contains (leaves_of (shown_as fault k count overflow bytes)) e
-    → (view : PageView) × (shown_as fault k count overflow bytes ≡ Some view) × (view.kind ≡ kind.Leaf) × Contains view.leaves e
-by_kind (Some fault) k count overflow bytes e has = absurd (contains_none e has)
-by_kind None None count overflow bytes e has = absurd (contains_none e has)
-by_kind None (Some kind.Branch) count overflow bytes e has = absurd (contains_none e has)
-by_kind None (Some kind.Leaf) count overflow bytes e has = (_, refl, refl, has)
-by_kind None (Some kind.Meta) count overflow bytes e has = absurd (contains_none e has)
-by_kind None (Some kind.Freelist) count overflow bytes e has = absurd (contains_none e has)
 
 pub shows_entry : (file : List ℕ) (meta : Meta) (n : ℕ) (e : LeafElement) → Contains (leaves_of (page_at file meta n)) e → ShowsEntry file meta n e
 unfolding page_at
-shows_entry file meta n e has =
-    by_kind (page_fault file meta n) (kind_of (flags_field (from_page file meta n))) (count_field (from_page file meta n)) (page_overflow file meta n) (span_bytes file meta n) e has
+shows_entry file meta n e has = grind arith
 
 leads_further : (nodes : Nodes) (here : Option ℕ) (address : List ℕ) (i : ℕ) → leads nodes here (address ++ i ∷ []) ≡ child_at nodes (leads nodes here address) i
 leads_further nodes here [] i = refl
@@ -36,10 +24,7 @@ module _ (file : List ℕ) (meta : Meta) where
   OfStart (Inline_page own) (At_inline host inner) elements = own ≡ elements
 
   entry_at : (from : Start) (spot : Spot) (elements : List LeafElement) (e : LeafElement) → OfStart from spot elements → IsTidyAt file meta elements spot → Contains elements e → IsEntry file meta from e
-  entry_at (Root_page r) (At_page s) elements e (address, lead) tidy has = (address, s.number, lead, shows_entry file meta s.number e (subst (λ (xs : List LeafElement). Contains xs e) tidy has))
-  entry_at (Root_page r) (At_inline host inner) elements e of tidy has = absurd of
-  entry_at (Inline_page own) (At_page s) elements e of tidy has = absurd of
-  entry_at (Inline_page own) (At_inline host inner) elements e of tidy has = subst (λ (xs : List LeafElement). Contains xs e) (sym of) has
+  entry_at from spot elements e h tidy has = grind (arith, shows_entry)
 
   -- a site lies in the bucket that its path names
   abbrev IsNamed : Site → Type 0
@@ -74,9 +59,7 @@ module _ (file : List ℕ) (meta : Meta) where
   IsWell p = IsNamed p × IsTidy file meta p
 
   well_next : (here : Option Site) (i : ℕ) (t : Site) → ((q : Site) → here ≡ Some q → IsWell q) → next_site file meta here i ≡ Some t → IsWell t
-  well_next None i t well is = absurd (cc)
-  well_next (Some q) i t well is =
-      let ((from, names, of), tidy) = well q refl in (named_step from q t i names of tidy is, tidy_step file meta q t i tidy is)
+  well_next here i t well is = grind (arith, named_step, tidy_step)
 
   well_follow : (here : Option Site) (way : List ℕ) (p : Site) → ((q : Site) → here ≡ Some q → IsWell q) → follow_sites file meta here way ≡ Some p → IsWell p
   well_follow here [] p well is = well p is
@@ -88,7 +71,4 @@ module _ (file : List ℕ) (meta : Meta) where
 
   -- a path holds each recovered member
   pub path_holds : (survey : List SurveyedWay) (path : Path) (item : Item) → IsRecoveredMember file meta survey path item → Holds (IsEntry file meta) (Root_page meta.root) path item
-  path_holds survey path item is =
-      let ((from, names, of), tidy) = well_at is.way is.site is.leads in
-      let here = held_here (IsEntry file meta) (Root_page meta.root) is.site.path from is.element names (entry_at from is.site.spot is.site.elements is.element of tidy is.has) in
-      subst (λ (m : Path). Holds (IsEntry file meta) (Root_page meta.root) m item) (sym is.named) (subst (λ (x : Item). Holds (IsEntry file meta) (Root_page meta.root) (is.site.path ++ is.element.key ∷ []) x) (sym is.is) here)
+  path_holds survey path item is = grind (arith, well_at, held_here, entry_at)

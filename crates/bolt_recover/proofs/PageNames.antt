@@ -1,19 +1,15 @@
 -- The names of found pages rise with their numbers.
 use Rattle.std.proofs.Common.{◌≡◌, ◌∙◌, inl, inr, ℕ, zero, suc, ◌<◌, ◌+◌, ◌/◌, ◌%◌, ◌^◌, [], ◌∷◌, ◌++◌, length, refl, sym, arith}
-use Rattle.bolt_recover.proofs.Words.{cases_lt, Equal, Greater, Key, key_cmp, last_digits, length-append, Less, nat_cmp, nat_cmp_is, nat_cmp_total, Ordering, ordering_then, tied_itself}
+use Rattle.bolt_recover.proofs.Words.{cases_lt, Key, key_cmp, last_digits, length-append, Less, nat_cmp, nat_cmp_is, nat_cmp_total, Ordering, ordering_then, tied_itself}
 
 then_less : (o r : Ordering) (after : Ordering) → ordering_then o r ≡ Less → (r ≡ Less → after ≡ Less) → ordering_then o after ≡ Less
-then_less Less r after less further = refl
-then_less Equal r after less further = further less
-then_less Greater r after less further = absurd (let f : Greater ≡ Less = less in cc)
+then_less o r after less further = grind arith
 
 -- texts of the same length, and more after them
 less_more : (xs ys a b : Key) → length xs ≡ length ys → key_cmp xs ys ≡ Less → key_cmp (xs ++ a) (ys ++ b) ≡ Less
-less_more [] [] a b same less = absurd (let f : Equal ≡ Less = less in cc)
-less_more [] (y ∷ ys) a b same less = absurd (let f : 0 ≡ suc (length ys) = same in omega (arith, f))
-less_more (x ∷ xs) [] a b same less = absurd (let f : suc (length xs) ≡ 0 = same in omega (arith, f))
 less_more (x ∷ xs) (y ∷ ys) a b same less =
     then_less (nat_cmp x y) (key_cmp xs ys) (key_cmp (xs ++ a) (ys ++ b)) less (λ rest. less_more xs ys a b (let f : suc (length xs) ≡ suc (length ys) = same in omega (arith, f)) rest)
+less_more xs ys a b same less = grind arith
 
 same_more : (xs a b : Key) → key_cmp (xs ++ a) (xs ++ b) ≡ key_cmp a b
 same_more [] a b = refl

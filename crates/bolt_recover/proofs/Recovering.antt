@@ -1,6 +1,6 @@
 -- A recovery between its calls: what comes of it in the end is all that comes of its file.
-use Rattle.std.proofs.Common.{◌≡◌, ◌∙◌, ◌≤◌, ℕ, true, ◌↔◌, List, [], ◌∷◌, ◌++◌, length, map, take, Option, Some, None, Result, Ok, Err, IfOk, OnErr, refl, sym, ap, subst, arith, append_assoc, Vec, Global}
-use Rattle.bolt_recover.proofs.Words.{Advances, after_event, after_events, all_events, append-nil, AreFirst, AreKeptPages, AreLosses, AreOpenPages, ArePageWays, claims_file, claims_meta, claims_nodes, claims_visited, TreePage, counted, Ends, Event, Given, StepsOn, is_claimed, IsAllLeft, IsGoodPage, IsKeptPage, StepsAreOn, AreStepsPlaced, IsRecovered, loss_view, losses_of, LossView, lost_at, Member, members_left, Meta, node_at, Nodes, OpenPage, Outcome, outcome_of, page_ways, props, reached, StaysOn, steps_left, SurveyedWay, take-append-le, take_all, tally_of, Visited}
+use Rattle.std.proofs.Common.{◌≡◌, ◌∙◌, ◌≤◌, ℕ, true, ◌↔◌, List, [], ◌∷◌, ◌++◌, length, map, take, Option, Some, Result, IfOk, OnErr, refl, sym, ap, subst, arith, append_assoc, Vec, Global}
+use Rattle.bolt_recover.proofs.Words.{Advances, after_event, after_events, all_events, append-nil, AreFirst, AreKeptPages, AreLosses, AreOpenPages, ArePageWays, claims_file, claims_meta, claims_nodes, claims_visited, TreePage, counted, Ends, Event, Given, StepsOn, is_claimed, IsAllLeft, IsGoodPage, IsKeptPage, StepsAreOn, AreStepsPlaced, IsRecovered, loss_view, losses_of, LossView, loss_at, Member, members_left, Meta, node_at, Nodes, OpenPage, Outcome, outcome_of, page_ways, props, reached, StaysOn, steps_left, SurveyedWay, take-append-le, take_all, tally_of, Visited}
 use Rattle.bolt_recover.proofs.{Existing.one_recovered, Existing.recovers, CourseSurveys.all_claimed, CourseSurveys.survey_of, CourseSurveys.surveyed, CourseSurveys.tally, SurveyIsOne.same_survey}
 use Rattle.bolt_format.specs.declared.element.Leaf.{Leaf}
 use Rattle.bolt_check.specs.declared.spot.Spot.{Spot}
@@ -48,7 +48,7 @@ grows nodes o [] = ([], sym (append-nil o.losses))
 grows nodes o (Given path e ∷ events) = grows nodes o events
 grows nodes o (Visited way p found ∷ events) =
     let (rest, same) = grows nodes (after_event nodes o (Visited way p found)) events in
-    (lost_at p found ++ rest, same ∙ append_assoc o.losses (lost_at p found) rest)
+    (loss_at (Some p) found ++ rest, same ∙ append_assoc o.losses (loss_at (Some p) found) rest)
 
 -- at the start all is left
 pub left_all : (file : List ℕ) (meta : Meta) (begun : ℕ) (s : Steps) (listing : List Member) → IsAllLeft file meta begun s → IsRecovered file meta listing → members_left s ≡ listing
@@ -62,9 +62,7 @@ pub on_reserved : (s : Steps) (meta : Meta) (begun : ℕ) (stack : Vec OpenPage 
 on_reserved s meta begun stack same on = record { meta = on.meta; comes = rw same on.comes }
 
 pub stays_advanced : {E : Type 0} (old new : Steps) (result : Result (Option Leaf) E) → IfOk result (Advances old new) → OnErr result (StepsOn old new) → StaysOn old new
-stays_advanced old new (Ok (Some leaf)) given same = given.on
-stays_advanced old new (Ok None) given same = given.on
-stays_advanced old new (Err e) given same = same.on
+stays_advanced old new result given same = grind arith
 
 module _ {s : Steps} {meta : Meta} {begun : ℕ} (on : StepsAreOn s meta begun) where
   pub on_further : {new : Steps} → StaysOn s new → StepsAreOn new meta begun

@@ -1,19 +1,16 @@
 -- Sites along ways: the spot there, the next one, and the elements.
-use Rattle.std.proofs.Common.{◌≡◌, ◌∙◌, inl, inr, ℕ, suc, ◌<◌, ◌≤◌, Bool, List, [], ◌∷◌, ◌++◌, length, Option, Some, None, Result, Ok, Err, slice_get, refl, sym, ap, arith}
-use Rattle.bolt_recover.proofs.Words.{At_inline, At_page, Contains, Entry, entry_count, follow, follow_sites, has_at, has_from_contains, leaf_entry, LeafElement, leaves_of, length-map, Meta, next_site, Node, node_at, Nodes, option_map, page_at, PageSpot, Passes, Path, Site, site_at, site_on, site_size, reached, root_site, slice_get_within, Spot, step, step_at, step_entry, step_from, step_site}
+use Rattle.std.proofs.Common.{◌≡◌, ◌∙◌, ℕ, ◌<◌, ◌≤◌, List, [], ◌∷◌, ◌++◌, length, Option, Some, slice_get, refl, sym, ap, arith}
+use Rattle.bolt_recover.proofs.Words.{Contains, follow, follow_sites, has_at, has_from_contains, LeafElement, length-map, Meta, next_site, node_at, Nodes, option_map, Passes, Path, Site, site_at, site_on, site_size, reached, root_site, slice_get_within, Spot, step, step_from, step_site}
 use Rattle.bolt_recover.proofs.SiteSteps.{IsTidyAt, page_form}
 
 abbrev spot_in : Option Site → Option Spot
 spot_in o = option_map (λ (p : Site). p.spot) o
 
 spot_on : (file : List ℕ) (meta : Meta) (path : Path) (e : Option LeafElement) (s : Option Spot) → spot_in (site_on file meta path e s) ≡ s
-spot_on file meta path e None = refl
-spot_on file meta path None (Some s) = refl
-spot_on file meta path (Some e) (Some s) = refl
+spot_on file meta path e s = grind arith
 
 spot_next : (file : List ℕ) (meta : Meta) (here : Option Site) (i : ℕ) → spot_in (next_site file meta here i) ≡ step (node_at file meta) (spot_in here) i
-spot_next file meta None i = refl
-spot_next file meta (Some p) i = spot_on file meta p.path (slice_get p.elements i) (step_from (node_at file meta) p.spot i)
+spot_next file meta here i = grind (arith, spot_on)
 
 spot_follow : (file : List ℕ) (meta : Meta) (here : Option Site) (way : List ℕ) → spot_in (follow_sites file meta here way) ≡ follow (node_at file meta) (spot_in here) way
 spot_follow file meta here [] = refl
@@ -25,8 +22,7 @@ pub spot_is : (file : List ℕ) (meta : Meta) (way : List ℕ) (p : Site) → si
 spot_is file meta way p is = sym (spot_follow file meta (Some (root_site file meta)) way) ∙ ap spot_in is
 
 site_of : (o : Option Site) (s : Spot) → spot_in o ≡ Some s → (p : Site) × (o ≡ Some p) × (p.spot ≡ s)
-site_of None s e = absurd (cc)
-site_of (Some p) s e = (p, refl, let same : Some p.spot ≡ Some s = e in cc)
+site_of o s e = grind arith
 
 -- and each way that leads somewhere has a site
 pub site_is : (file : List ℕ) (meta : Meta) (way : List ℕ) (s : Spot) → reached (node_at file meta) meta.root way ≡ Some s
@@ -42,34 +38,12 @@ follow_next file meta here (j ∷ way) i = follow_next file meta (next_site file
 pub site_further : (file : List ℕ) (meta : Meta) (way : List ℕ) (i : ℕ) (p : Site) → site_at file meta way ≡ Some p → site_at file meta (way ++ i ∷ []) ≡ step_site file meta p i
 site_further file meta way i p is = follow_next file meta (Some (root_site file meta)) way i ∙ ap (λ (o : Option Site). next_site file meta o i) is
 
--- a page that is a node shows no more leaf elements than it has entries
-page_leaves : (file : List ℕ) (meta : Meta) (n : ℕ) (node : Node) → node_at file meta n ≡ Ok node → length (leaves_of (page_at file meta n)) ≤ length node.entries
-page_leaves file meta n node is = elim (page_form file meta n node is) [
-  | inl (leaf, entries) ↦ (let long = ap length entries ∙ length-map (leaves_of (page_at file meta n)) leaf_entry in omega (arith, long))
-  | inr (branch, none) ↦ (let short = ap length none in omega (arith, short))
-]
-
 pub size_enough : (file : List ℕ) (meta : Meta) (before : ℕ → Type 0) (s : Spot) (elements : List LeafElement) → IsTidyAt file meta elements s → Passes (node_at file meta) before s
     → length elements ≤ site_size (node_at file meta) s elements
-size_enough file meta before (At_page s) elements tidy passes =
-    let long = ap length tidy in
-    let few = page_leaves file meta s.number passes.node passes.page in
-    let size = ap entry_count passes.page in
-    omega (arith, long, few, size)
-size_enough file meta before (At_inline host inner) elements tidy passes = omega arith
-
--- an entry that leads somewhere is there
-entry_within : (is_leaf : Bool) (s : PageSpot) (entries : List Entry) (i : ℕ) (o next : Option Entry) (t : Spot) → slice_get entries i ≡ o → step_entry is_leaf s o next ≡ Some t → i < length entries
-entry_within is_leaf s entries i None next t at e = absurd (cc)
-entry_within is_leaf s entries i (Some x) next t at e = slice_get_within entries i x at
-
-step_within : (r : Result Node ℕ) (s : PageSpot) (i : ℕ) (t : Spot) → step_at r s i ≡ Some t → i < entry_count r
-step_within (Err fault) s i t e = absurd (cc)
-step_within (Ok node) s i t e = entry_within node.is_leaf s node.entries i (slice_get node.entries i) (slice_get node.entries (suc i)) t refl e
+size_enough file meta before s elements tidy passes = grind (arith, page_form, length-map)
 
 pub leads_within : (nodes : Nodes) (s : Spot) (elements : List LeafElement) (i : ℕ) (t : Spot) → step_from nodes s i ≡ Some t → i < site_size nodes s elements
-leads_within nodes (At_page s) elements i t e = step_within (nodes s.number) s i t e
-leads_within nodes (At_inline host inner) elements i t e = absurd (cc)
+leads_within nodes s elements i t e = grind (arith, slice_get_within)
 
 -- a step to a site is a step of its spot
 pub step_spot : (file : List ℕ) (meta : Meta) (p t : Site) (i : ℕ) → step_site file meta p i ≡ Some t → step_from (node_at file meta) p.spot i ≡ Some t.spot

@@ -1,6 +1,6 @@
 -- The keys of a site that is kept: they rise between its bounds, its elements have them, and each child has its bounds from them.
-use Rattle.std.proofs.Common.{◌≡◌, ◌∙◌, ◌⊎◌, inl, inr, ℕ, suc, Bool, true, false, List, [], ◌∷◌, ◌++◌, Option, Some, None, slice_get, if◌then◌else◌, refl, sym, ap}
-use Rattle.bolt_recover.proofs.Words.{At_inline, At_page, Entry, Finding, finding_none, finding_of, is_below, is_from, Key, key_at, key_each, key_rise, keys_of, keys_order_fault, KeysRise, leaf_entry, LeafElement, lower_of, Meta, Node, node_at, none-some, option_map, PageSpot, Passes, Path, Site, slice_get-map, Spot, step_site, upper_from, upper_of}
+use Rattle.std.proofs.Common.{◌≡◌, ◌∙◌, ◌⊎◌, ℕ, suc, Bool, true, List, [], ◌∷◌, ◌++◌, Option, Some, None, slice_get, if◌then◌else◌, refl, ap, arith}
+use Rattle.bolt_recover.proofs.Words.{At_inline, At_page, Finding, finding_none, finding_of, is_below, is_from, Key, key_at, key_each, key_rise, keys_of, keys_order_fault, KeysRise, LeafElement, lower_of, Meta, Node, node_at, none-some, option_map, PageSpot, Passes, Path, Site, slice_get-map, Spot, step_site, upper_of}
 use Rattle.bolt_recover.proofs.SiteSteps.{IsBranchPage, IsLeafPage, IsTidy, IsTidyAt, keys_in, on_page}
 
 -- a bucket of a leaf has a path of its own, and a child of a branch has the keys from its element to the next
@@ -24,42 +24,18 @@ pub record Keyed (file : List ℕ) (meta : Meta) (p : Site) (keys : List Key) : 
   pub kids : (i : ℕ) (t : Site) → step_site file meta p i ≡ Some t → IsInside p t i ⊎ IsChild p t i keys
 
 no_late : (b : Bool) (x : Finding) (o : Option ℕ) (page : ℕ) → (if b then Some x else finding_of o page) ≡ None → o ≡ None
-no_late true x o page e = absurd (cc)
-no_late false x o page e = finding_none o page e
+no_late b x o page e = grind (arith, finding_none)
 
 key_of_element : (elements : List LeafElement) (i : ℕ) (e : LeafElement) → slice_get elements i ≡ Some e → slice_get (keys_in elements) i ≡ Some e.key
 key_of_element elements i e at = slice_get-map (λ (x : LeafElement). x.key) elements i ∙ ap (option_map (λ (x : LeafElement). x.key)) at
 
--- in a branch
-upper_next : (next : Option Entry) (upper : Option Key) (k : Key) → option_map (λ (e : Entry). e.key) next ≡ Some k → upper_from next upper ≡ Some k
-upper_next None upper k e = absurd (cc)
-upper_next (Some x) upper k e = e
-
-upper_same : (next : Option Entry) (upper : Option Key) → option_map (λ (e : Entry). e.key) next ≡ None → upper_from next upper ≡ upper
-upper_same None upper e = refl
-upper_same (Some x) upper e = absurd (cc)
-
 on_page_kids : (file : List ℕ) (meta : Meta) (p : Site) (s : PageSpot) (node : Node) (i : ℕ) (t : Site) → p.spot ≡ At_page s → IsLeafPage file meta p s node ⊎ IsBranchPage file meta p s node
     → step_site file meta p i ≡ Some t → IsInside p t i ⊎ IsChild p t i (keys_of node.entries)
-on_page_kids file meta p s node i t spot (inl leaf) is = let (e, get, bucket, same) = leaf.from i t is in inl (e, get, ap (λ (q : Site). q.path) same, bucket)
-on_page_kids file meta p s node i t spot (inr branch) is =
-    let (x, get, same) = branch.from i t is in
-    let next = slice_get-map (λ (e : Entry). e.key) node.entries (suc i) in
-    inr (record {
-      path = ap (λ (q : Site). q.path) same;
-      none = ap (λ (xs : List LeafElement). slice_get xs i) branch.none;
-      key = x.key;
-      at = key_at node.entries i x get;
-      lower = ap (λ (q : Site). lower_of q.spot) same;
-      next = λ k e. ap (λ (q : Site). upper_of q.spot) same ∙ upper_next (slice_get node.entries (suc i)) s.upper k (sym next ∙ e);
-      last = λ e. ap (λ (q : Site). upper_of q.spot) same ∙ upper_same (slice_get node.entries (suc i)) s.upper (sym next ∙ e) ∙ ap upper_of (sym spot);
-    })
+on_page_kids file meta p s node i t spot h is = grind (arith, slice_get-map, key_at)
 
 own_key : (file : List ℕ) (meta : Meta) (p : Site) (s : PageSpot) (node : Node) (i : ℕ) (e : LeafElement) → IsLeafPage file meta p s node ⊎ IsBranchPage file meta p s node
     → slice_get p.elements i ≡ Some e → slice_get (keys_of node.entries) i ≡ Some e.key
-own_key file meta p s node i e (inl leaf) at =
-    key_at node.entries i (leaf_entry e) (ap (λ (es : List Entry). slice_get es i) leaf.entries ∙ slice_get-map leaf_entry p.elements i ∙ ap (option_map leaf_entry) at)
-own_key file meta p s node i e (inr branch) at = absurd (none-some e (ap (λ (xs : List LeafElement). slice_get xs i) (sym branch.none) ∙ at))
+own_key file meta p s node i e h at = grind (arith, key_at, slice_get-map, none-some)
 
 keyed_at : (file : List ℕ) (meta : Meta) (before : ℕ → Type 0) (spot : Spot) (path : Path) (elements : List LeafElement) → IsTidyAt file meta elements spot → Passes (node_at file meta) before spot
     → (keys : List Key) × Keyed file meta (record { spot = spot; path = path; elements = elements }) keys

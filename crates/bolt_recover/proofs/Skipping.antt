@@ -1,29 +1,19 @@
 -- Values of an open page that are skipped: the same comes of the rest.
-use Rattle.std.proofs.Common.{◌≡◌, ◌∙◌, ◌≤◌, ◌<◌, ℕ, zero, suc, ◌+◌, ◌-◌, Bool, true, false, List, [], ◌∷◌, ◌++◌, Option, Some, None, slice_get, take, refl, sym, ap, arith, append_assoc, Vec, Global}
-use Rattle.bolt_recover.proofs.Words.{after_events, claims_file, claims_meta, claims_nodes, content_elements, content_site, Entry, Event, events, further, gives_at, is_claimed, AreStepsPlaced, item_of, leaf_entry, LeafElement, Member, members_of, Meta, Nodes, open_tasks, OpenPage, option_map, Outcome, page_spot, Path, shown_node, Site, slice_get-map, step_entry, step_on, step_site, steps_left, steps_path, tally_of, Task, tasks_from, TreePage, visits_at, Way, way_of}
-use Rattle.bolt_format.specs.TreePages.{leaves_on, shown_page}
-use Rattle.bolt_format.specs.declared.tree_page.TreePage.TheVariants.{Branch, Leaf}
+use Rattle.std.proofs.Common.{◌≡◌, ◌∙◌, ◌≤◌, ◌<◌, ℕ, zero, suc, ◌+◌, ◌-◌, Bool, false, List, [], ◌∷◌, ◌++◌, Option, Some, None, slice_get, take, refl, sym, ap, arith, append_assoc, Vec, Global}
+use Rattle.bolt_recover.proofs.Words.{after_events, claims_file, claims_meta, content_elements, content_site, Event, events, further, gives_at, is_claimed, AreStepsPlaced, item_of, LeafElement, Member, members_of, Meta, Nodes, open_tasks, OpenPage, option_map, Outcome, page_spot, Path, shown_node, Site, slice_get-map, step_on, step_site, steps_left, steps_path, Task, tasks_from, TreePage, visits_at, Way, way_of}
+use Rattle.bolt_format.specs.TreePages.{shown_page}
 use Rattle.bolt_check.specs.{declared.spot.PageSpot.PageSpot, declared.spot.Spot.Spot}
-use Rattle.bolt_check.specs.declared.spot.Spot.TheVariants as spots
 use Rattle.bolt_recover.specs.{Private.Frames.IsGoodAt, Private.Frames.IsValueElement, Private.Frames.Skips, declared.steps.Steps.Steps}
 use Rattle.bolt_recover.proofs.{Courses.events_give, StepLemmas.are_open_push, StepLemmas.inner, StepLemmas.open_last, StepLemmas.tasks_top}
 
 -- ---- Values lead nowhere.
 nowhere : (page : TreePage) (s : PageSpot) (n : ℕ) → IsValueElement (shown_page page).leaves n → step_on (shown_node page) (page_spot s) n ≡ None
 unfolding shown_node
-nowhere (Branch page) s n value = absurd (cc)
-nowhere (Leaf page) s n value =
-    ap (λ (x : Option Entry). step_entry true (page_spot s) x (slice_get (shown_node (Leaf page)).entries (suc n))) (slice_get-map leaf_entry (leaves_on page) n) ∙ by (slice_get (leaves_on page) n) value
-  where
-    by : (o : Option LeafElement) → option_map (λ (e : LeafElement). e.is_bucket) o ≡ Some false
-        → step_entry true (page_spot s) (option_map leaf_entry o) (slice_get (shown_node (Leaf page)).entries (suc n)) ≡ None
-    by None value = refl
-    by (Some e) value = let plain : e.is_bucket ≡ false = cc in rw plain refl
+nowhere page s n value = grind (arith, slice_get-map)
 
 value_at : (file : List ℕ) (meta : Meta) (path : Path) (page : TreePage) (s : Spot) (n : ℕ) → IsGoodAt file meta page s → IsValueElement (shown_page page).leaves n
     → step_site file meta (content_site path (record { spot = s; page = page })) n ≡ None
-value_at file meta path page (spots.Page s) n good value = rw (good.0, nowhere page s n value) refl
-value_at file meta path page (spots.Bucket s) n good value = refl
+value_at file meta path page s n good value = grind (arith, nowhere)
 
 -- ---- They add nothing to what comes of the rest.
 record Drops (old new : List Event) : Type 0 where
@@ -41,10 +31,9 @@ drops_on a b c first then = record {
 module _ (file : List ℕ) (meta : Meta) (claimed : ℕ → Bool) (way : Way) (p : Site) (rest : List Task) where
   entry_drops : (further : Way) (o : Option LeafElement) (q : Option Site) (more : List Task) → option_map (λ (e : LeafElement). e.is_bucket) o ≡ Some false → q ≡ None
       → Drops (events file meta ((gives_at file meta p.path o ++ visits_at file meta further q) ++ more ++ rest) claimed) (events file meta (more ++ rest) claimed)
-  entry_drops further None q more value none = absurd (cc)
-  entry_drops further (Some e) (Some t) more value none = absurd (cc)
   entry_drops further (Some e) None more value none =
       rw (events_give file meta claimed (p.path ++ e.key ∷ []) e (more ++ rest)) (record { dropped = (p.path ++ e.key ∷ [], item_of e) ∷ []; members = refl; same = λ nodes o. refl })
+  entry_drops further o q more value none = grind arith
 
   -- from i to j
   values_drop : (k i j a b : ℕ) → i + k ≡ j → a ≡ k + b → ((n : ℕ) → i ≤ n → n < j → IsValueElement p.elements n × (step_site file meta p n ≡ None))
@@ -63,14 +52,7 @@ module _ (file : List ℕ) (meta : Meta) (claimed : ℕ → Bool) (way : Way) (p
 -- ---- The innermost page goes on.
 skips : (s : Steps) (stack : Vec OpenPage Global) (old new : List Event) → let on : Steps = record s { «open» = stack } in
     AreStepsPlaced on → steps_left s ≡ old → steps_left on ≡ new → Drops old new → Skips s on
-skips s stack old new placed before after drops =
-    let on : Steps = record s { «open» = stack } in
-    let outcome : List Event → Outcome = after_events (claims_nodes s.claims) (tally_of s) in
-    record {
-      on = record { file = refl; meta = refl; placed = placed; outcome = ap outcome after ∙ sym (drops.same (claims_nodes s.claims) (tally_of s)) ∙ sym (ap outcome before) };
-      dropped = drops.dropped;
-      left = ap members_of before ∙ drops.members ∙ ap (λ (es : List Event). drops.dropped ++ members_of es) (sym after);
-    }
+skips s stack old new placed before after drops = grind arith
 
 pub skipped : (s : Steps) (front : List OpenPage) (top : OpenPage) (stack : Vec OpenPage Global) (next : ℕ) → AreStepsPlaced s → s.ahead ≡ None → s.open.items ≡ front ++ top ∷ []
     → top.next ≤ next → next ≤ top.count → ((n : ℕ) → top.next ≤ n → n < next → IsValueElement (content_elements top.content) n)

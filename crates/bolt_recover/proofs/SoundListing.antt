@@ -1,5 +1,5 @@
 -- If nothing is lost, each way is way_kept, and what a path holds is an element at a way.
-use Rattle.std.proofs.Common.{◌≡◌, ◌∙◌, ◌⊎◌, inl, inr, ℕ, suc, Bool, true, false, IsTrue, eqb, eqb-true, List, [], ◌∷◌, ◌++◌, Option, Some, None, Result, Ok, Err, slice_get, refl, sym, ap, subst, append_assoc}
+use Rattle.std.proofs.Common.{◌≡◌, ◌∙◌, ◌⊎◌, inl, inr, ℕ, suc, Bool, true, false, IsTrue, eqb-true, List, [], ◌∷◌, ◌++◌, Option, Some, None, Result, Ok, Err, slice_get, refl, sym, ap, subst, append_assoc, arith}
 use Rattle.bolt_recover.proofs.Words.{At_inline, At_page, cases_Bool, child_in, child_of, child_spot, Contains, contains_at, Entry, Has, HasSoundTrees, head_root, Holds, inline_elements, Inline_page, IsEntry, IsListing, IsRecovered, IsRecoveredMember, Item, item_of, way_kept, Key, leads, leads_none, leaf_node, LeafElement, leaves_of, Member, Meta, Node, node_at, Nodes, none-some, page_at, PageSpot, Path, Site, site_at, reached, Root_page, root_site, root_spot, same_Some, ShowsEntry, Spot, Start, start_of, step_site, upper_from, SurveyedWay}
 use Rattle.bolt_recover.proofs.SiteFacts.{site_further, slice_of, spot_is}
 use Rattle.bolt_recover.proofs.MembersInBuckets.{path_holds, shows_entry, well_at}
@@ -95,10 +95,7 @@ module _ (file : List ℕ) (meta : Meta) where
 
   -- a bucket among the entries begins one step further
   bucket_starts : (path : Path) (s : PageSpot) (e : LeafElement) (n : ℕ) → e.is_bucket ≡ true → ShowsEntry file meta n e → AtStart (start_of e.value) (bucket_site file meta path s e)
-  bucket_starts path s e n bucket shows = elim (cases_Bool (eqb (head_root e.value) 0)) [
-    | inl zero ↦ rw zero (refl, (n, e, shows, bucket, eqb-true (head_root e.value) 0 zero, refl))
-    | inr more ↦ rw more refl
-  ]
+  bucket_starts path s e n bucket shows = grind (arith, cases_Bool, eqb-true)
 
   bucket_step : (p : Site) (spot : Spot) (i : ℕ) (e : LeafElement) → IsTidy file meta p → p.spot ≡ spot → slice_get p.elements i ≡ Some e → e.is_bucket ≡ true → IsOnPage spot
       → (t : Site) × (step_site file meta p i ≡ Some t) × AtStart (start_of e.value) t × (t.path ≡ p.path ++ e.key ∷ [])
@@ -114,16 +111,7 @@ module _ (file : List ℕ) (meta : Meta) where
 
   module _ (survey : List SurveyedWay) (all : (way : List ℕ) (s : Spot) → reached nodes meta.root way ≡ Some s → Has survey (way_kept way)) where
     member_there : (path full : Path) (e : LeafElement) (item : Item) → IsThere path e → full ≡ path ++ e.key ∷ [] → item ≡ item_of e → IsRecoveredMember file meta survey full item
-    member_there path full e item there named is = record {
-      way = there.way;
-      site = there.site;
-      element = e;
-      keeps = all there.way there.site.spot (spot_is file meta there.way there.site there.at);
-      leads = there.at;
-      has = there.has;
-      named = named ∙ ap (λ (q : Path). q ++ e.key ∷ []) (sym there.same);
-      is = is;
-    }
+    member_there path full e item there named is = grind (arith, spot_is)
 
     not_value : (b : Bool) → b ≡ true → b ≡ false → ⊥
     not_value b e f = cc

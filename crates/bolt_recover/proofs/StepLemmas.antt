@@ -1,14 +1,13 @@
 -- What the steps of a recovering walk leave to be done.
 use Rattle.std.proofs.Common.{◌≡◌, ◌∙◌, ◌≤◌, ◌<◌, ℕ, suc, ◌+◌, ◌-◌, Bool, true, ◌↔◌, List, [], ◌∷◌, ◌++◌, length, map, take, Option, Some, None, slice_get, drop, refl, sym, ap, arith, append_assoc, sum_by, Vec, Global, Bor}
-use Rattle.bolt_recover.proofs.Words.{after_event, after_events, ahead_path_len, ahead_tasks, all_events, append-nil, AreOpenPages, At_page, both_ways, claimed_after, claims_file, claims_meta, claims_nodes, claims_visited, claims_with, Event, loss_of, Passes, Tests, KeptPage, content_elements, content_site, content_size, content_spot, counted, Ends, entry_tasks, events, Finding, further, Given, Gives, gives_at, GivesHead, StepsOn, is_claimed, IsAllLeft, IsContent, IsGoodKeptPage, IsGoodPage, IsMetaPage, AreStepsPlaced, IsShallow, LeafElement, length_entries, length-map, length-take-le, loss_view, lost_at, map-append, members_of, Meta, meta_pages, nat_tests, NextVisit, node_at, Nodes, open_tasks, OpenPage, option_map, Outcome, outcome_of, page_tasks, page_visit, page_weight, Path, path_of, root_spot, Site, site_size, site_tasks, spot_at, spot_site, steps_left, steps_path, steps_weight, TreePage, sum_by-append, take-append-drop, take-append-le, tally_of, Task, tasks_after, tasks_from, tasks_left, Visited, visits_at, Way, way_of, step_site}
-use Rattle.bolt_format.specs.TreePages.{leaves_on, page_keys, shown_page}
-use Rattle.bolt_check.specs.ShownNodes.{is_leaf_page}
-use Rattle.bolt_format.specs.declared.tree_page.TreePage.TheVariants.{Branch, Leaf}
+use Rattle.bolt_recover.proofs.Words.{after_event, after_events, ahead_tasks, all_events, append-nil, AreOpenPages, At_page, both_ways, claimed_after, claims_file, claims_meta, claims_nodes, claims_visited, claims_with, Event, loss_of, Passes, Tests, KeptPage, content_elements, content_site, content_size, content_spot, counted, Ends, events, Finding, further, Gives, GivesHead, StepsOn, is_claimed, IsAllLeft, IsContent, IsGoodKeptPage, IsGoodPage, IsMetaPage, AreStepsPlaced, IsShallow, LeafElement, length_entries, length-map, length-take-le, loss_view, loss_at, map-append, members_of, Meta, meta_pages, nat_tests, NextVisit, node_at, Nodes, open_tasks, OpenPage, option_map, Outcome, outcome_of, page_tasks, page_visit, page_weight, Path, path_of, root_spot, Site, site_size, site_tasks, spot_at, spot_site, steps_left, steps_path, steps_weight, TreePage, sum_by-append, take-append-drop, take-append-le, tally_of, Task, tasks_after, tasks_from, tasks_left, Visited, Way, way_of, step_site}
+use Rattle.bolt_format.specs.TreePages.{page_keys, shown_page}
 use Rattle.bolt_recover.specs.Private.Frames.{IsGoodAt, IsShallowAt}
 use Rattle.bolt_check.specs.{declared.claims.Claims.Claims, declared.spot.Spot.Spot}
 use Rattle.bolt_recover.specs.{declared.losses.Loss.Loss, declared.steps.Steps.Steps}
 use Rattle.bolt_check.specs.declared.spot.Spot.TheVariants as spots
-use Rattle.bolt_recover.proofs.Courses.{events_give, events_none, events_visit, or_none}
+use Rattle.bolt_recover.proofs.Courses.{events_give, events_none, events_visit}
+use Rattle.std.proofs.Math.Bool.{or-false}
 use Rattle.bolt_recover.proofs.SurveyIsOne.{gives_same}
 
 module _ (file : List ℕ) (meta : Meta) where
@@ -56,14 +55,8 @@ module _ (file : List ℕ) (meta : Meta) where
       (same page.path_len (low_high page.path_len pages high are.2))
       ∙ same_open page.path_len high pages next a b (page_tasks file meta b way page ++ rest) are.2 same
 
-  -- an opened page as the site that it was visited as
-  inline_size : (page : TreePage) → is_leaf_page page ≡ true → length (page_keys page) ≡ length (shown_page page).leaves
-  inline_size (Branch page) is = absurd (cc)
-  inline_size (Leaf page) is = length-map (leaves_on page) (λ (e : LeafElement). e.key)
-
   size_at : (page : TreePage) (s : Spot) → IsGoodAt file meta page s → length (page_keys page) ≡ site_size (node_at file meta) (spot_at s) (shown_page page).leaves
-  size_at page (spots.Page s) good = rw good.0 (sym (length_entries page))
-  size_at page (spots.Bucket s) good = inline_size page good.0
+  size_at page s good = grind (arith, length_entries, length-map)
 
   size_is : (content : KeptPage) → IsGoodKeptPage file meta content → content_size content ≡ site_size (node_at file meta) (content_spot content) (content_elements content)
   size_is content good = size_at content.page content.spot good
@@ -71,11 +64,7 @@ module _ (file : List ℕ) (meta : Meta) where
   opened : (path : Path) (pages : List OpenPage) (s : Spot) (content : KeptPage) (path_len count : ℕ) → IsContent file meta s content → count ≡ content_size content
       → open_tasks file meta path [] (pages ++ record { content = content; path_len = path_len; count = count; next = 0 } ∷ []) []
       ≡ site_tasks file meta (way_of pages) (spot_site file meta (take path_len path) s) ++ open_tasks file meta path [] pages []
-  opened path pages s content path_len count is long =
-      let none : count - 0 ≡ count = omega arith in
-      let site : content_site (take path_len path) content ≡ spot_site file meta (take path_len path) s = λ i. record { spot = is.spot i; path = take path_len path; elements = is.elements i } in
-      open_last path [] pages _ [] ∙ ap (λ (ts : List Task). ts ++ open_tasks file meta path [] pages [])
-      (rw (none, long, size_is content is.good) (ap (λ (p : Site). site_tasks file meta (way_of pages) p) site))
+  opened path pages s content path_len count is long = grind (arith, open_last, size_is)
 
 pub take_below : (m n : ℕ) (path rest : Path) → m ≤ length path → n ≤ m → take n (take m path ++ rest) ≡ take n path
 take_below m n path rest long le =
@@ -101,7 +90,7 @@ module _ (s : Steps) (claims : Claims) (stack : Vec OpenPage Global) (losses : V
 
   goes_visiting : (found : Option Finding) → Finds found → ((n : ℕ) → is_claimed claims n ≡ claimed_after (claims_nodes s.claims) (is_claimed s.claims) (spot_at ahead.spot) found n)
       → open_tasks (claims_file s.claims) (claims_meta s.claims) (steps_path s) [] stack.items [] ≡ tasks_after (claims_file s.claims) (claims_meta s.claims) (way_of s.open.items) site found ++ rest
-      → map loss_view losses.items ≡ map loss_view s.losses.items ++ lost_at site found
+      → map loss_view losses.items ≡ map loss_view s.losses.items ++ loss_at (Some site) found
       → AreOpenPages (claims_file s.claims) (claims_meta s.claims) 0 stack.items (length (steps_path s)) → sum_by page_weight stack.items ≤ 65537 + sum_by page_weight s.open.items → StepsOn s visited
   goes_visiting found gives after tasks lost placed weight =
       let event = Visited (way_of s.open.items) site found in
@@ -134,7 +123,7 @@ module _ (s : Steps) (claims : Claims) (stack : Vec OpenPage Global) (losses : V
       let are = rw is at has.pages in
       let within = rw is at has.within in
       let weight = ap (sum_by page_weight) stays in
-      goes_visiting (Some x) tests (λ n. same n ∙ sym (or_none (is_claimed s.claims n))) (rw stays refl) lost
+      goes_visiting (Some x) tests (λ n. same n ∙ sym (or-false (is_claimed s.claims n))) (rw stays refl) lost
       (rw stays (are_open_up (claims_file s.claims) (claims_meta s.claims) 0 s.open.items ahead.path_len (length (steps_path s)) are within)) (omega (arith, weight))
 
   -- it is open
@@ -177,32 +166,12 @@ module _ (s : Steps) (front : List OpenPage) (top : OpenPage) (has : AreStepsPla
     abbrev on : Steps
     on = record s { ahead = ahead; «open» = stack; path = path }
 
-    -- where the same is left to be done, the same comes of it
-    goes_by : tasks_left file_of meta_of (steps_path s) s.ahead s.open.items ≡ tasks_left file_of meta_of (path_of path.items) ahead stack.items → path_of path.items ≡ steps_path s
-        → AreStepsPlaced on → sum_by page_weight stack.items < sum_by page_weight s.open.items → StepsOn s on × (steps_weight on < steps_weight s)
-    goes_by tasks same placed weight =
-        let left : steps_left on ≡ steps_left s = ap (λ (ts : List Task). events file_of meta_of ts (is_claimed s.claims)) (sym tasks) in
-        let long = ap length left in (
-          record {
-            on = record { file = refl; meta = refl; placed = placed; outcome = ap (after_events (claims_nodes s.claims) (tally_of s)) left };
-            path = same;
-            members = ap members_of left;
-            less = omega (arith, long, weight);
-          },
-          omega (arith, long, weight),
-        )
-
     weight_of : sum_by page_weight s.open.items ≡ sum_by page_weight front + page_weight top
     weight_of = let sum = ap (sum_by page_weight) pages ∙ sum_by-append page_weight front (top ∷ []) in omega (arith, sum)
 
     -- it had no more elements
     pub took_last : top.next ≡ top.count → ahead ≡ None → stack.items ≡ front → path.items ≡ s.path.items → StepsOn s on × (steps_weight on < steps_weight s)
-    took_last over none left same =
-        let nothing : top.count - top.next ≡ 0 = omega (arith, over) in
-        let weight = ap (sum_by page_weight) left in
-        let sum = weight_of in
-        goes_by (tasks_top ∙ rw (nothing, none, left, same) refl) (ap path_of same)
-        (rw (none, left, same) (record { pages = are_open_up file_of meta_of 0 front top.path_len (length (steps_path s)) inner.below inner.within; within = omega arith })) (omega (arith, weight, sum))
+    took_last over none left same = grind (arith, weight_of, tasks_top, are_open_up, inner)
 
     -- its next element is done
     module _ (more : top.next ≡ top.count → ⊥) (r : Option Spot) (path_len : ℕ) (of : ahead ≡ option_map (λ (spot : Spot). record { spot = spot; path_len = path_len }) r) (put : stack.items ≡ front ++ moved ∷ [])
@@ -211,85 +180,23 @@ module _ (s : Steps) (front : List OpenPage) (top : OpenPage) (has : AreStepsPla
       in_front : top.next + 1 ≤ top.count
       in_front = let taken = inner.good.taken in omega (arith, taken, more)
 
-      lighter : sum_by page_weight stack.items < sum_by page_weight s.open.items
-      lighter =
-          let lt = in_front in let old = weight_of in let new = ap (sum_by page_weight) put ∙ sum_by-append page_weight front (moved ∷ []) in
-          omega (arith, lt, old, new)
-
-      way_moved : way_of (front ++ moved ∷ []) ≡ further (way_of front) top.next
-      way_moved =
-          let one : top.next + 1 - 1 ≡ top.next = omega arith in
-          map-append (λ (page : OpenPage). page.next - 1) front (moved ∷ []) ∙ ap (λ (n : ℕ). further (way_of front) n) one
-
-      visits_ahead : (r : Option Spot) (way : Way) (tasks : List Task) → visits_at file_of meta_of way (option_map (spot_site file_of meta_of (take path_len (path_of path.items))) r) ++ tasks
-          ≡ ahead_tasks file_of meta_of (path_of path.items) way (option_map (λ (spot : Spot). record { spot = spot; path_len = path_len }) r) tasks
-      visits_ahead None way tasks = refl
-      visits_ahead (Some spot) way tasks = refl
-
       abbrev rest_tasks : List Task
       rest_tasks = tasks_from file_of meta_of (way_of front) here (suc top.next) (top.count - (top.next + 1)) ++ open_tasks file_of meta_of (steps_path s) [] front []
 
-      rest_is : rest_tasks ≡ open_tasks file_of meta_of (path_of path.items) [] stack.items []
-      rest_is =
-          let one : suc top.next ≡ top.next + 1 = omega arith in
-          ap (λ (i : ℕ). tasks_from file_of meta_of (way_of front) here i (top.count - (top.next + 1)) ++ open_tasks file_of meta_of (steps_path s) [] front []) one
-          ∙ ap (λ (p : Path). tasks_from file_of meta_of (way_of front) (content_site p top.content) (top.next + 1) (top.count - (top.next + 1)) ++ open_tasks file_of meta_of (steps_path s) [] front []) (sym (takes top.path_len (omega arith)))
-          ∙ ap (λ (ts : List Task). page_tasks file_of meta_of (path_of path.items) (way_of front) moved ++ ts)
-          (same_open file_of meta_of 0 top.path_len front [] (steps_path s) (path_of path.items) [] inner.below (λ n le. sym (takes n le)))
-          ∙ sym (open_last file_of meta_of (path_of path.items) [] front moved [])
-          ∙ ap (λ (ps : List OpenPage). open_tasks file_of meta_of (path_of path.items) [] ps []) (sym put)
-
-      tasks_moved : tasks_left file_of meta_of (steps_path s) s.ahead s.open.items
-          ≡ gives_at file_of meta_of here.path (slice_get here.elements top.next) ++ tasks_left file_of meta_of (path_of path.items) ahead stack.items
-      tasks_moved =
-          let lt = in_front in
-          let count : top.count - top.next ≡ suc (top.count - (top.next + 1)) = omega (arith, lt) in
-          let gives = gives_at file_of meta_of here.path (slice_get here.elements top.next) in
-          tasks_top
-          ∙ ap (λ (n : ℕ). tasks_from file_of meta_of (way_of front) here top.next n ++ open_tasks file_of meta_of (steps_path s) [] front []) count
-          ∙ append_assoc (entry_tasks file_of meta_of (way_of front) here top.next) _ _
-          ∙ append_assoc gives (visits_at file_of meta_of (further (way_of front) top.next) (step_site file_of meta_of here top.next)) rest_tasks
-          ∙ ap (λ (ts : List Task). gives ++ ts) (ap (λ (o : Option Site). visits_at file_of meta_of (further (way_of front) top.next) o ++ rest_tasks) leads
-          ∙ visits_ahead r (further (way_of front) top.next) rest_tasks ∙ rw (of, rest_is, put, way_moved) refl)
-
-      ahead_within : (r : Option Spot) (high : ℕ) → path_len ≤ high
-          → let o : Option NextVisit = option_map (λ (spot : Spot). record { spot = spot; path_len = path_len }) r in (path_len ≤ ahead_path_len o high) × (ahead_path_len o high ≤ high)
-      ahead_within None high le = (le, omega arith)
-      ahead_within (Some spot) high le = (omega arith, le)
-
-      placed_on : AreStepsPlaced on
-      placed_on =
-          let (up, within) = ahead_within r (length (path_of path.items)) high in
-          rw (of, put) (record {
-            pages = are_open_push file_of meta_of 0 front moved _ inner.below (record { content = inner.good.content; count = inner.good.count; fits = inner.good.fits; taken = in_front }) (omega (arith, low, up));
-            within = within;
-          })
-
       -- an element of a branch
       pub took_branch : slice_get (content_elements top.content) top.next ≡ None → path.items ≡ s.path.items → StepsOn s on × (steps_weight on < steps_weight s)
-      took_branch none same =
-          goes_by (tasks_moved ∙ ap (λ (o : Option LeafElement). gives_at file_of meta_of here.path o ++ tasks_left file_of meta_of (path_of path.items) ahead stack.items) none) (ap path_of same) placed_on lighter
+      took_branch none same = grind (arith, in_front, tasks_top, same_open, inner, open_last, map-append, are_open_push, weight_of, sum_by-append)
 
       -- an element of a leaf
       pub took_leaf : (e : LeafElement) → slice_get (content_elements top.content) top.next ≡ Some e → path_of path.items ≡ take top.path_len (steps_path s) ++ e.key ∷ [] → GivesHead s on e
-      took_leaf e some deeper =
-          let left : steps_left s ≡ Given (path_of path.items) e ∷ steps_left on =
-          ap (λ (ts : List Task). events file_of meta_of ts (is_claimed s.claims))
-          (tasks_moved ∙ ap (λ (o : Option LeafElement). gives_at file_of meta_of here.path o ++ tasks_left file_of meta_of (path_of path.items) ahead stack.items) some)
-          ∙ events_give file_of meta_of (is_claimed s.claims) (here.path ++ e.key ∷ []) e _
-          ∙ ap (λ (p : Path). Given p e ∷ steps_left on) (sym deeper) in
-          record {
-            on = record { file = refl; meta = refl; placed = placed_on; outcome = sym (ap (after_events (claims_nodes s.claims) (tally_of s)) left) };
-            head = ap members_of left;
-          }
+      took_leaf e some deeper = grind (arith, in_front, tasks_top, same_open, inner, open_last, map-append, events_give, are_open_push)
 
 -- the element to be taken next is there
 pub next_below : (file : List ℕ) (meta : Meta) (page : OpenPage) → IsGoodPage file meta page → (page.next ≡ page.count → ⊥) → page.next < content_size page.content
 next_below file meta page good more = let count = good.count in let taken = good.taken in omega (arith, count, taken, more)
 
 shallow_at : (file : List ℕ) (meta : Meta) (page : TreePage) (s : Spot) → IsGoodAt file meta page s → IsShallowAt s
-shallow_at file meta page (spots.Page s) good = good.2
-shallow_at file meta page (spots.Bucket s) good = tt
+shallow_at file meta page s good = grind arith
 
 pub is_shallow : (file : List ℕ) (meta : Meta) (content : KeptPage) → IsGoodKeptPage file meta content → IsShallow content
 is_shallow file meta content good = shallow_at file meta content.page content.spot good
@@ -297,18 +204,7 @@ is_shallow file meta content good = shallow_at file meta content.page content.sp
 -- nothing was open
 pub took_nothing : (s : Steps) (stack : Vec OpenPage Global) (path : Vec (Bor (List ℕ)) Global) → s.ahead ≡ None → s.open.items ≡ [] → stack.items ≡ [] → path.items ≡ []
     → Ends s (record s { «open» = stack; path = path })
-took_nothing s stack path is none left over =
-    let file = claims_file s.claims in
-    let meta = claims_meta s.claims in
-    let nothing = events_none file meta (is_claimed s.claims) in
-    let old : steps_left s ≡ [] = rw (is, none) nothing in
-    let new : events file meta (tasks_left file meta (path_of path.items) s.ahead stack.items) (is_claimed s.claims) ≡ [] = rw (is, left) nothing in
-    record {
-      on = record { file = refl; meta = refl; placed = rw (is, left, over) (record { pages = omega arith; within = omega arith }); outcome = ap (after_events (claims_nodes s.claims) (tally_of s)) (new ∙ sym old) };
-      path = ap path_of over;
-      none = ap members_of old;
-      ended = new;
-    }
+took_nothing s stack path is none left over = grind (arith, events_none)
 
 -- the meta pages alone are claimed
 of_metas : (claimed : ℕ → Bool) → ((n : ℕ) → (claimed n ≡ true) ↔ IsMetaPage n) → (n : ℕ) → claimed n ≡ meta_pages n
@@ -316,8 +212,7 @@ of_metas claimed metas n = both_ways (claimed n) (meta_pages n) (λ h. let is = 
 
 pub root_gives : (claims : Claims) (found : Option Finding) → ((n : ℕ) → (is_claimed claims n ≡ true) ↔ IsMetaPage n)
     → Gives (claims_nodes claims) (λ n. is_claimed claims n ≡ true) (At_page (root_spot (claims_meta claims).root)) found → Gives (claims_nodes claims) IsMetaPage (At_page (root_spot (claims_meta claims).root)) found
-root_gives claims found metas h =
-    gives_same (claims_nodes claims) (λ n. is_claimed claims n ≡ true) IsMetaPage (At_page (root_spot (claims_meta claims).root)) found (λ n. (metas n).0) (λ n. (metas n).1) h
+root_gives claims found metas h = grind (arith, gives_same)
 
 -- the root page alone was ahead, and is open
 abbrev pub root_visit : Meta → NextVisit

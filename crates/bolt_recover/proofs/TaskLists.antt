@@ -1,6 +1,6 @@
 -- What there is to do at a site, entry by entry.
-use Rattle.std.proofs.Common.{◌≡◌, ◌≤◌, ◌<◌, inl, inr, ℕ, zero, suc, ◌+◌, List, [], ◌∷◌, ◌++◌, Option, Some, None, slice_get, refl, sym, ap, subst, arith}
-use Rattle.bolt_recover.proofs.Words.{cases_lt, entry_tasks, Finding, further, gives_at, has_left, has_right, has_split, LeafElement, Meta, Path, Site, step_site, Task, tasks_after, tasks_from, To_give, To_visit, visits_at, Way, Has}
+use Rattle.std.proofs.Common.{◌≡◌, ◌≤◌, ◌<◌, inl, inr, ℕ, zero, suc, ◌+◌, List, [], ◌∷◌, ◌++◌, Option, Some, None, slice_get, refl, subst, arith}
+use Rattle.bolt_recover.proofs.Words.{cases_lt, entry_tasks, Finding, further, gives_at, has_left, has_right, has_split, LeafElement, Meta, Site, step_site, Task, tasks_after, tasks_from, To_give, To_visit, visits_at, Way, Has}
 
 module _ (file : List ℕ) (meta : Meta) where
   -- this is to be done at entry i of a site
@@ -11,23 +11,13 @@ module _ (file : List ℕ) (meta : Meta) where
   module _ (w : Way) (p : Site) where
     by_entry : (i : ℕ) (o : Option LeafElement) (q : Option Site) (task : Task) → slice_get p.elements i ≡ o → step_site file meta p i ≡ q
         → Has (gives_at file meta p.path o ++ visits_at file meta (further w i) q) task → IsAt w p i task
-    by_entry i None None task get next h = absurd h
-    by_entry i (Some e) None task get next (inl same) = subst (IsAt w p i) same (get, refl)
-    by_entry i (Some e) None task get next (inr h) = absurd h
-    by_entry i None (Some t) task get next (inl same) = subst (IsAt w p i) same (refl, next)
-    by_entry i None (Some t) task get next (inr h) = absurd h
-    by_entry i (Some e) (Some t) task get next (inl same) = subst (IsAt w p i) same (get, refl)
-    by_entry i (Some e) (Some t) task get next (inr (inl same)) = subst (IsAt w p i) same (refl, next)
-    by_entry i (Some e) (Some t) task get next (inr (inr h)) = absurd h
+    by_entry i o q task get next h = grind arith
 
     pub entry_at : (i : ℕ) (task : Task) → Has (entry_tasks file meta w p i) task → IsAt w p i task
     entry_at i task h = by_entry i (slice_get p.elements i) (step_site file meta p i) task refl refl h
 
     at_entry : (i : ℕ) (task : Task) → IsAt w p i task → Has (entry_tasks file meta w p i) task
-    at_entry i (To_give path e) (get, named) = rw get (inl (ap (λ (q : Path). To_give q e) (sym named)))
-    at_entry i (To_visit v t) (is, next) =
-        has_right (gives_at file meta p.path (slice_get p.elements i)) (visits_at file meta (further w i) (step_site file meta p i)) (To_visit v t)
-        (rw next (inl (ap (λ (u : Way). To_visit u t) (sym is))))
+    at_entry i task h = grind (arith, has_right)
 
     pub from_at : (i k : ℕ) (task : Task) → Has (tasks_from file meta w p i k) task → (j : ℕ) × (i ≤ j) × IsAt w p j task
     from_at i zero task h = absurd h
@@ -49,5 +39,4 @@ module _ (file : List ℕ) (meta : Meta) where
 
     -- after a visit there is something to be done only if the site is kept
     pub after_at : (found : Option Finding) (task : Task) → Has (tasks_after file meta w p found) task → (found ≡ None) × (j : ℕ) × IsAt w p j task
-    after_at None task h = let (j, le, at) = from_at 0 _ task h in (refl, j, at)
-    after_at (Some x) task h = absurd h
+    after_at found task h = grind (arith, from_at)

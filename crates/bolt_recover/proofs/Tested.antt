@@ -1,6 +1,6 @@
 -- What the tests of a spot find: the function gives what the definition asks for.
-use Rattle.std.proofs.Common.{◌≡◌, ℕ, zero, suc, ◌+◌, ◌<◌, ◌≤◌, inl, inr, List, Bool, true, false, nat_lt, Option, Some, None, Result, Ok, Err, if◌then◌else◌, refl, sym, ap, subst, arith, ◌∙◌}
-use Rattle.bolt_recover.proofs.Words.{InlinePage, At_inline, At_page, cases_lt, early, early_finding, false≢true, Finding, finding, first_claimed, first_or, Gives, inline_finding, IsInSpan, Key, late, Node, node_finding, Nodes, open_finding, option_map, or_else, PageSpot, Spot, test, test_node, twice}
+use Rattle.std.proofs.Common.{◌≡◌, ℕ, zero, suc, ◌+◌, ◌<◌, ◌≤◌, inl, inr, Bool, true, false, Option, Some, None, Ok, if◌then◌else◌, refl, sym, ap, arith, ◌∙◌}
+use Rattle.bolt_recover.proofs.Words.{At_page, cases_lt, early_finding, false≢true, Finding, finding, first_claimed, Gives, IsInSpan, late, Node, node_finding, Nodes, option_map, option_or, PageSpot, Spot, test, twice}
 use Rattle.bolt_check.specs.declared.finding.TheConstants.Finding.{TWICE}
 
 -- the lowest claimed page among some, if there is one
@@ -12,19 +12,13 @@ pub first_is : (claimed : ℕ → Bool) (n count : ℕ) → IsFirst claimed n co
 first_is claimed n zero = λ m low high was. omega arith
 first_is claimed n (suc count) = by (first_claimed claimed n count) (claimed (n + count)) refl (first_is claimed n count)
   where
-    by : (o : Option ℕ) (b : Bool) → claimed (n + count) ≡ b → IsFirst claimed n count o → IsFirst claimed n (suc count) (first_or o b (n + count))
+    by : (o : Option ℕ) (b : Bool) → claimed (n + count) ≡ b → IsFirst claimed n count o → IsFirst claimed n (suc count) (option_or o (if b then Some (n + count) else None))
     by (Some m) b is (low, high, was, first) = (low, omega (arith, high), was, first)
     by None true is none = (omega arith, omega arith, is, none)
     by None false is none = λ m low high was. elim (cases_lt m (n + count)) [
       | inl lower ↦ none m low lower was
       | inr upper ↦ (let same : m ≡ n + count = omega (arith, high, upper) in false≢true (sym is ∙ ap claimed (sym same) ∙ was))
     ]
-
--- a page that can be opened is a node
-early_ok : (b : Bool) (x : Finding) (r : Result Node ℕ) (number : ℕ) → (if b then Some x else open_finding r number) ≡ None → (node : Node) × (r ≡ Ok node)
-early_ok true x r number e = absurd (cc)
-early_ok false x (Ok node) number e = (node, refl)
-early_ok false x (Err fault) number e = absurd (cc)
 
 module _ (nodes : Nodes) (claimed : ℕ → Bool) where
   abbrev Finds : Spot → Option Finding → Type 0
@@ -36,23 +30,11 @@ module _ (nodes : Nodes) (claimed : ℕ → Bool) where
   late_finds s node (Some x) content is page free = late node is page free content
 
   node_finds : (s : PageSpot) (node : Node) (o : Option ℕ) → IsFirst claimed s.number (suc node.overflow) o → early_finding nodes s ≡ None → nodes s.number ≡ Ok node
-      → Finds (At_page s) (or_else (option_map (finding TWICE) o) (node_finding node s))
+      → Finds (At_page s) (option_or (option_map (finding TWICE) o) (node_finding node s))
   node_finds s node (Some n) (low, high, was, first) is page =
       twice node is page (record { in_span = (low, omega (arith, high)); was = was; lowest = λ k inside lt h. first k inside.0 lt h }) refl
   node_finds s node None none is page =
       late_finds s node (node_finding node s) refl is page (λ n inside h. none n inside.0 (let last = inside.1 in omega (arith, last)) h)
 
-  page_finds : (s : PageSpot) (o : Option Finding) → early_finding nodes s ≡ o → Finds (At_page s) (or_else o (test_node claimed s (nodes s.number)))
-  page_finds s (Some x) is = early is
-  page_finds s None is =
-      let (node, page) = early_ok (nat_lt 64 s.depth) _ (nodes s.number) s.number is in
-      subst (λ (r : Result Node ℕ). Finds (At_page s) (test_node claimed s r)) (sym page)
-      (node_finds s node (first_claimed claimed s.number (suc node.overflow)) (first_is claimed s.number (suc node.overflow)) is page)
-
-  inline_finds : (host : ℕ) (inner : InlinePage) (o : Option Finding) → inline_finding host inner.keys ≡ o → Finds (At_inline host inner) o
-  inline_finds host inner None is = is
-  inline_finds host inner (Some x) is = is
-
   pub test_finds : (s : Spot) → Finds s (test nodes claimed s)
-  test_finds (At_page s) = page_finds s (early_finding nodes s) refl
-  test_finds (At_inline host inner) = inline_finds host inner (inline_finding host inner.keys) refl
+  test_finds s = grind (arith, node_finds, first_is)

@@ -1,6 +1,7 @@
 -- Trees whose keys rise, and what they list.
-use Rattle.std.proofs.Common.{◌≡◌, ◌∙◌, ◌⊎◌, inl, inr, ℕ, zero, suc, Bool, true, false, List, [], ◌∷◌, ◌++◌, Option, Some, None, map, slice_get, ◌==◌, refl, sym, ap, subst, arith, append_assoc}
-use Rattle.bolt_recover.proofs.Words.{before_longer, Bucket, cases_Bool, cond_both, Contains, Contains-append_cases, contains_cases, contains_head, contains_none, contains_tail, end, head_root, head_sequence, inline_elements, inside_of, Key, key_cmp, key_lt, key_rise, keys_order_fault, KeysRise, LeafElement, Less, less_of, listing_below, Member, member_cmp, Path, path_cmp, Rises, same_front, Tree, tree_of_elements, Value, with_bucket, with_value}
+use Rattle.std.proofs.Common.{◌≡◌, ◌∙◌, ◌⊎◌, inl, inr, ℕ, zero, suc, true, List, [], ◌∷◌, ◌++◌, Some, slice_get, refl, sym, ap, subst, arith, append_assoc}
+use Rattle.bolt_recover.proofs.Words.{before_longer, Bucket, cases_Bool, cond_both, Contains, Contains-append_cases, contains_cases, contains_head, contains_none, contains_tail, end, head_sequence, inside_of, Key, key_cmp, key_lt, key_rise, KeysRise, LeafElement, Less, less_of, listing_below, Member, member_cmp, Path, path_cmp, Rises, same_front, Tree, tree_of_elements, Value, with_bucket, with_value}
+use Rattle.bolt_recover.proofs.SiteSteps.{keys_in}
 
 -- a key of the outermost bucket
 abbrev pub HasKey : Tree → Key → Type 0
@@ -69,9 +70,6 @@ ordered_rises (with_bucket key sequence inside after) front (first, own, later) 
     )
 
 -- elements whose keys rise
-abbrev keys_in : List LeafElement → List Key
-keys_in elements = map (λ (e : LeafElement). e.key) elements
-
 has_element : (inside : LeafElement → Tree) (elements : List LeafElement) (k : Key) → HasKey (tree_of_elements inside elements) k → (j : ℕ) × (slice_get (keys_in elements) j ≡ Some k)
 has_element inside [] k has = absurd has
 has_element inside (e ∷ elements) k has =
@@ -89,9 +87,4 @@ elements_ordered inside (e ∷ elements) own rise =
     (λ is. (first, own e, later)) (λ is. (first, later))
 
 pub inside_ordered : (e : LeafElement) → Ordered (inside_of e)
-inside_ordered e = by (head_root e.value == 0) (keys_order_fault None None None (keys_in (inline_elements e.value))) refl refl
-  where
-    by : (b : Bool) (fault : Option ℕ) → (head_root e.value == 0) ≡ b → keys_order_fault None None None (keys_in (inline_elements e.value)) ≡ fault → Ordered (inside_of e)
-    by true None root rise = rw (root, rise) (elements_ordered (λ x. end) (inline_elements e.value) (λ x. tt) (key_rise None None None (keys_in (inline_elements e.value)) rise))
-    by true (Some fault) root rise = rw (root, rise) tt
-    by false fault root rise = rw root tt
+inside_ordered e = grind (arith, keys_in, elements_ordered, key_rise)

@@ -5,7 +5,7 @@ pub use Rattle.bolt_check.proofs.KeyLaws.{below_less, from_more, less_of, lt_not
 pub use Rattle.bolt_check.proofs.{KeyOrder.key_each, KeyOrder.key_rise, Lawful.shape_passes, Lawful.sound_reports_nothing}
 pub use Rattle.bolt_check.proofs.{MarkLemmas.node_below, MarkLemmas.node_within, NodeLemmas.length_entries, Shaping.finding_none, Shaping.shape_of}
 pub use Rattle.bolt_check.proofs.{Visited.passed_on, WayFacts.follow_append, WayFacts.key_at, WayFacts.leads_none, WayFacts.leaf_node}
-pub use Rattle.bolt_check.proofs.WayOrder.{before_irreflexive, before_strict, before_total, before_trans}
+pub use Rattle.bolt_check.proofs.WayOrder.{before_irreflexive, before_strict, before_trans}
 unfoldable pub use Rattle.bolt_check.specs.CheckedFiles.{bytes_of, meta_of}
 unfoldable pub use Rattle.bolt_check.specs.Claims.{claims_file, claims_meta, claims_visited, is_claimed}
 unfoldable pub use Rattle.bolt_check.specs.Leftovers.{is_listed, is_taken, leftovers_file, leftovers_length, leftovers_meta}
@@ -45,11 +45,11 @@ pub use Rattle.bolt_recover.specs.Private.Frames.{steps_path, steps_weight, tall
 pub use Rattle.bolt_recover.specs.Private.Joining.{AreJoinable, first_cmp, holds_key}
 pub use Rattle.bolt_recover.specs.KeptMembers.{kept_file, kept_left, kept_meta}
 pub use Rattle.bolt_recover.specs.Private.Courses.{Event, Given, Outcome, Task, To_give, To_visit, Visited, Way, after_event, after_events, all_events}
-pub use Rattle.bolt_recover.specs.Private.Courses.{claimed_after, claims_of, entry_count, entry_tasks, further, give_all, gives_at, in_span, lost_at, members_of}
+pub use Rattle.bolt_recover.specs.Private.Courses.{claimed_after, claims_of, entry_count, entry_tasks, further, give_all, gives_at, in_span, members_at, members_of}
 pub use Rattle.bolt_recover.specs.Private.Courses.{meta_pages, outcome_of, page_visit, root_tasks, run_all, run_on, run_to, site_size, site_tasks, span_of, tasks_after}
-pub use Rattle.bolt_recover.specs.Private.Courses.{recovered_of, tasks_from, visits_at, visits_of}
+pub use Rattle.bolt_recover.specs.Private.Courses.{recovered_of, tasks_from, visit_at, visits_at, visits_of}
 unfoldable pub use Rattle.bolt_recover.specs.Private.Courses.{events}
-pub use Rattle.bolt_recover.specs.Private.Tests.{first_claimed, first_or, or_else, test, test_node}
+pub use Rattle.bolt_recover.specs.Private.Tests.{first_claimed, test, test_node}
 pub use Rattle.bolt_recover.specs.Private.TreesLeft.{AreTreesOf, IsSearched, lost_of}
 pub use Rattle.bolt_recover.specs.{Recovered.ForRecovered, Recovered.IsRecovered, Recovered.IsRecoveredMember, Recoveries.AreFirst, Recoveries.ForLosses}
 pub use Rattle.bolt_recover.specs.Refusals.{IsRefusedRoot, KeepsRoot, LosesRoot}
@@ -92,7 +92,7 @@ pub use Rattle.std.proofs.lemmas.Result.{IfOk-weaker, on_err_weaker, on_ok_weake
 pub use Rattle.std.proofs.lemmas.Option.{none-some, same_Some, slice_get-map, slice_get_cases, slice_get_within}
 pub use Rattle.std.specs.Cmp.{both_ways, nat_cmp_is}
 pub use Rattle.std.specs.List.{All, Contains, count_by}
-pub use Rattle.std.specs.Option.{option_map, option_to_list}
+pub use Rattle.std.specs.Option.{option_map, option_or, option_to_list}
 pub use Rattle.std.specs.Ordering.{is_eq, is_lt, nat_cmp, ordering_then}
 pub use Rattle.std.specs.Prelude.{IsTrue}
 pub use Rattle.std.specs.declared.cmp.Ordering.{Ordering}

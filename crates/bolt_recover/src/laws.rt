@@ -63,6 +63,7 @@ pub fn losses_are_one()
 {}
 
 /// Sound trees lose nothing.
+#[tactic(auto, using(crate::proofs::KeptWays::none_lost))]
 pub fn sound_trees_lose_nothing()
     ensures { ForSurveys (λ file meta survey. HasSoundTrees file meta → LosesNothing survey) }
 {}

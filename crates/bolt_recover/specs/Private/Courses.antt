@@ -1,9 +1,10 @@
 -- What is still to be done, and all that comes of it: what is visited, and what is returned.
-use Rattle.std.specs.Prelude.{ℕ, zero, suc, ◌+◌, Bool, false, ◌||◌, ◌&&◌, List, [], ◌∷◌, ◌++◌, length, Option, Some, None, Result, Ok, Err, nat_le, nat_lt, slice_get}
+use Rattle.std.specs.Prelude.{ℕ, zero, suc, ◌+◌, Bool, false, ◌||◌, ◌&&◌, List, [], ◌∷◌, ◌++◌, length, Option, Some, None, Result, Ok, Err, nat_le, nat_lt, slice_get, if◌then◌else◌}
+use Rattle.std.specs.List.{flat_map}
 use Rattle.bolt_format.specs.{Elements.LeafElement, declared.meta.Meta.Meta}
 use Rattle.bolt_check.specs.{Counts.counted, Nodes.Node, Nodes.Nodes, Nodes.node_at, Ways.At_inline, Ways.At_page, Ways.Spot, declared.finding.Finding.Finding}
 use Rattle.bolt_tree.specs.{Entries.item_of, Listing.Member, Paths.Path}
-use Rattle.bolt_recover.specs.{Losses.LossView, Losses.loss_of, Private.Tests.test, Sites.Site, Sites.root_site, Sites.step_site}
+use Rattle.bolt_recover.specs.{Losses.LossView, Losses.loss_at, PageWays.is_at_page, Private.Tests.test, Sites.Site, Sites.root_site, Sites.step_site}
 use Rattle.bolt_recover.specs.Surveys.{SurveyedWay}
 
 abbrev pub Way : Type 0
@@ -58,19 +59,14 @@ pub record Outcome : Type 0 where
   pub visited : ℕ
   pub claimed : ℕ → Bool
 
-abbrev pub lost_at : Site → Option Finding → List LossView
-lost_at p None = []
-lost_at p (Some x) = loss_of p x ∷ []
-
 -- how many visits are of pages
 abbrev pub page_visit : Spot → ℕ
-page_visit (At_page s) = 1
-page_visit (At_inline host inner) = 0
+page_visit s = if is_at_page (Some s) then 1 else 0
 
 abbrev pub after_event : Nodes → Outcome → Event → Outcome
 after_event nodes o (Given path e) = o
 after_event nodes o (Visited way p found) = record {
-  losses = o.losses ++ lost_at p found;
+  losses = o.losses ++ loss_at (Some p) found;
   visited = counted o.visited (page_visit p.spot);
   claimed = claimed_after nodes o.claimed p.spot found;
 }
@@ -84,16 +80,20 @@ abbrev pub outcome_of : Nodes → ℕ → List Event → Outcome
 outcome_of nodes begun events = after_events nodes (record { losses = []; visited = begun; claimed = meta_pages }) events
 
 -- the members that are returned
+abbrev pub members_at : Event → List Member
+members_at (Visited way p found) = []
+members_at (Given path e) = (path, item_of e) ∷ []
+
 abbrev pub members_of : List Event → List Member
-members_of [] = []
-members_of (Visited way p found ∷ events) = members_of events
-members_of (Given path e ∷ events) = (path, item_of e) ∷ members_of events
+members_of events = flat_map members_at events
 
 -- the ways that are visited
+abbrev pub visit_at : Event → List SurveyedWay
+visit_at (Visited way p found) = record { way = way; found = found } ∷ []
+visit_at (Given path e) = []
+
 abbrev pub visits_of : List Event → List SurveyedWay
-visits_of [] = []
-visits_of (Visited way p found ∷ events) = record { way = way; found = found } ∷ visits_of events
-visits_of (Given path e ∷ events) = visits_of events
+visits_of events = flat_map visit_at events
 
 -- the elements among tasks are returned, and then comes this
 abbrev pub give_all : List Task → List Event → List Event

@@ -5,7 +5,7 @@ use Rattle.bolt_format.specs.{ElementPlaces.leaf_view, Elements.IsBucketValue, E
 use Rattle.bolt_format.specs.declared.element.Leaf as element
 use Rattle.bolt_format.specs.{Pages.page_at, ShownInline.shown_inline, TreePages.page_keys, TreePages.shown_page, declared.meta.Meta.Meta}
 use Rattle.bolt_format.specs.declared.tree_page.TreePage.{TreePage}
-use Rattle.bolt_check.specs.{Claims.claims_file, Claims.claims_meta, Claims.claims_nodes, Claims.claims_visited, Claims.is_claimed, Nodes.Nodes, Nodes.node_at}
+use Rattle.bolt_check.specs.{Claims.claims_file, Claims.claims_meta, Claims.claims_nodes, Claims.claims_visited, Claims.is_claimed, Nodes.node_at}
 use Rattle.bolt_check.specs.{ShownNodes.is_leaf_page, ShownNodes.shown_node, ShownSpots.spot_at, Ways.Spot}
 use Rattle.bolt_check.specs.{declared.claims.Claims.Claims, declared.finding.Finding.Finding, declared.spot.Spot.Spot as CodeSpot}
 use Rattle.bolt_check.specs.declared.spot.Spot.TheVariants as spots
