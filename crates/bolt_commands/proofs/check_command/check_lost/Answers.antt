@@ -24,8 +24,8 @@ returns-then-is_nothing g c =
     opened_answer checking.for_bbolt checking.faults checking.input.file.now checking.choice c.args.extent c.requires c.in-Ok.opened c.find_lost.new.self c.in-Ok.ensures.opened c.in_ok-find_lost.ensures.lost answer
     (none_lost checking.for_bbolt checking.faults checking.input.file.now checking.choice _ _ none answer found))
 
-pub put_lost-requires : goal.put_lost-requires
-put_lost-requires g c = rw (c.found.ensures ∙ c.in_ok-find_lost.ensures.found) (found_leaves _ _ _ c.in-Ok.opened c.in-Ok.ensures.opened)
+pub put_lost_after-requires : goal.put_lost_after-requires
+put_lost_after-requires g c = rw (c.found.ensures ∙ c.in_ok-find_lost.ensures.found) (found_leaves _ _ _ c.in-Ok.opened c.in-Ok.ensures.opened)
 
 pub returns : goal.returns
 returns g c =
