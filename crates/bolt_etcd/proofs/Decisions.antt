@@ -46,21 +46,10 @@ dec_if (no never) q = yes (λ p. absurd (never p))
 
 -- ---- whether two are the same
 
-pub dec_bool : (a b : Bool) → Dec (a ≡ b)
-dec_bool true true = yes refl
-dec_bool false false = yes refl
-dec_bool true false = no (λ e. cc)
-dec_bool false true = no (λ e. cc)
-
 pub dec_equal : (o : Ordering) → Dec (o ≡ Equal)
 dec_equal Less = no (λ e. cc)
 dec_equal Equal = yes refl
 dec_equal Greater = no (λ e. cc)
-
-pub dec_not_less : (o : Ordering) → Dec (o ≢ Less)
-dec_not_less Less = no (λ differs. differs refl)
-dec_not_less Equal = yes (λ e. cc)
-dec_not_less Greater = yes (λ e. cc)
 
 -- by an order that tells them apart
 dec_tied : {A : Type 0} {cmp : A → A → Ordering} → IsTotalOrder cmp → ((a b : A) → cmp a b ≡ Equal → a ≡ b) → (a b : A) → Dec (a ≡ b)
@@ -88,7 +77,3 @@ module _ {A : Type 0} (P : A → Type 0) (dec : (x : A) → Dec (P x)) where
       dec_as (dec_either (dec x) (dec_some xs))
       (λ either. elim either [ inl here ↦ (x, contains_head x xs, here) | inr (y, has, is) ↦ (y, contains_tail x y xs has, is) ])
       (λ (y, has, is). elim (contains_cases x y xs has) [ inl same ↦ inl (subst P (sym same) is) | inr more ↦ inr (y, more, is) ])
-
-  pub dec_if_some : (o : Option A) → Dec ((x : A) → o ≡ Some x → P x)
-  dec_if_some None = yes (λ x e. cc)
-  dec_if_some (Some y) = dec_as (dec y) (λ is x e. subst P (same_Some y x e) is) (λ all. all y refl)

@@ -41,33 +41,6 @@ one_of {cmp = cmp} total key xs a b rises has also same = elim (rising_cases (λ
   | inr (inr less) ↦ absurd (irreflexive total (key b) (subst (λ k. cmp (key b) k ≡ Less) same less))
 ]
 
--- ---- one list after the other
-
-module _ {A : Type 0} (cmp : A → A → Ordering) where
-  pub first_rises : (xs ys : List A) → Rises cmp (xs ++ ys) → Rises cmp xs
-  first_rises [] ys rises = tt
-  first_rises (x ∷ xs) ys rises = (λ y has. rises.0 y (Contains-append_left xs ys y has), first_rises xs ys rises.1)
-
-  pub second_rises : (xs ys : List A) → Rises cmp (xs ++ ys) → Rises cmp ys
-  second_rises [] ys rises = rises
-  second_rises (x ∷ xs) ys rises = second_rises xs ys rises.1
-
-  pub first_below : (xs ys : List A) (x y : A) → Rises cmp (xs ++ ys) → Contains xs x → Contains ys y → cmp x y ≡ Less
-  first_below [] ys x y rises has also = absurd (contains_none x has)
-  first_below (z ∷ xs) ys x y rises has also = elim (contains_cases z x xs has) [
-    | inl is ↦ subst (λ w. cmp w y ≡ Less) is (rises.0 y (Contains-append_right xs ys y also))
-    | inr more ↦ first_below xs ys x y rises.1 more also
-  ]
-
-  pub both_rise : (xs ys : List A) → Rises cmp xs → Rises cmp ys → ((x y : A) → Contains xs x → Contains ys y → cmp x y ≡ Less) → Rises cmp (xs ++ ys)
-  both_rise [] ys rises also below = also
-  both_rise (x ∷ xs) ys rises also below = (
-    λ y has. elim (Contains-append_cases xs ys y has) [ inl first ↦ rises.0 y first | inr second ↦ below x y (contains_head x xs) second ],
-    both_rise xs ys rises.1 also (λ a b has other. below a b (contains_tail x a xs has) other),
-  )
-
--- ----
-
 pub rises_mapped : {A B : Type 0} (f : A → B) (cmp : B → B → Ordering) (xs : List A) → Rises (λ a b. cmp (f a) (f b)) xs → Rises cmp (map f xs)
 rises_mapped f cmp [] rises = tt
 rises_mapped f cmp (x ∷ xs) rises = (λ y has. let (a, there, is) = shows_from f xs y has in subst (λ z. cmp (f x) z ≡ Less) is (rises.0 a there), rises_mapped f cmp xs rises.1)

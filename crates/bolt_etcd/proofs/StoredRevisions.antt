@@ -14,7 +14,6 @@ use Rattle.bolt_etcd.specs.declared.revision_key.RevisionKey.{RevisionKey}
 use Rattle.bolt_etcd.specs.declared.revision.Revision.{Revision}
 use Rattle.bolt_etcd.specs.{Revisions.RevisionView, Revisions.name_of, Revisions.record_under, Revisions.revision_in, Revisions.revision_of}
 use Rattle.bolt_etcd.specs.ShownRevisions.{entry_of, or_nothing, shown_revision}
-use Rattle.bolt_etcd.specs.ShownRevisions.{is_deletion, is_key_deleted}
 use Rattle.bolt_etcd.proofs.{Currents.bind_some, KeyNumbers.spellings_cmp, Keys.read_spelled}
 
 some_of : (o : Option RevisionView) (name : List ℕ) → option_map name_of o ≡ Some name → (o ≡ Some (or_nothing o)) × (name_of (or_nothing o) ≡ name)
@@ -49,11 +48,6 @@ has_key r = (stored r).key
 pub has_place : (r : Revision) → (shown_revision r).place ≡ r.key.now
 has_place r = (stored r).place
 
--- ---- as an entry
-
-pub deleted : (r : Revision) → is_deletion (entry_of r) ≡ (shown_revision r).key.deleted
-deleted r = ap is_key_deleted (has_key r)
-
 -- ---- its key is spelled
 
 is_spelled : (r : Revision) → (r.key.now ≡ spelling (shown_revision r).key) × IsSpelled (shown_revision r).key
@@ -79,13 +73,6 @@ long r = ap length (is_spelled r).0 ∙ spelled_length (shown_revision r).key
 
 pub enough : (r : Revision) → 8 ≤ length r.key.now
 enough r = omega (arith, long r)
-
-ends : (n : ℕ) (deleted : Bool) → n ≡ 17 + length (end_of deleted) → nat_lt 17 n ≡ deleted
-ends n true is = lt-ltb 17 n (omega (arith, is))
-ends n false is = le-ltb 17 n (omega (arith, is))
-
-pub longer : (r : Revision) → nat_lt 17 (length r.key.now) ≡ (shown_revision r).key.deleted
-longer r = ends (length r.key.now) (shown_revision r).key.deleted (long r)
 
 -- where the transactions differ, they tell
 pub by_numbers : (a b : Revision) → key_cmp a.key.now b.key.now ≡ numbers_cmp (shown_revision a).key (shown_revision b).key

@@ -30,11 +30,3 @@ bytes_of_item (Bucket sequence) = []
 
 abbrev pub value_bytes : EntryView → List ℕ
 value_bytes e = bytes_of_item e.item
-
--- its key says that it is a deletion
-abbrev pub is_key_deleted : Option RevisionKey → Bool
-is_key_deleted None = false
-is_key_deleted (Some key) = key.deleted
-
-abbrev pub is_deletion : EntryView → Bool
-is_deletion e = is_key_deleted (revision_key e.key)

@@ -9,7 +9,7 @@ ghost use Rattle.bolt_etcd.specs.{NameOrder.name_sum, Returns.Returns, RevisionK
 
 use crate::name_tag::{MAINS, tag_of};
 use crate::record::Record;
-use crate::revision_key::{LEN, RevisionKey};
+use crate::revision_key::RevisionKey;
 use bolt_tree::{Entry, Item};
 use byteorder::{BigEndian, ByteOrder};
 use std::cmp::Ordering;
@@ -40,7 +40,7 @@ pub struct Decoded<'a> {
 
 #[tactic(auto, unfolding(crate::specs::ShownRevisions::shown_revision, crate::specs::Revisions::revision_of))]
 impl<'a> Revision<'a> {
-    ghost use Rattle.bolt_etcd.specs.ShownRevisions.{entry_of, is_deletion, shown_decoded, shown_revision, value_bytes};
+    ghost use Rattle.bolt_etcd.specs.ShownRevisions.{entry_of, shown_decoded, shown_revision, value_bytes};
 
     /// The revision of a transaction that is under a key, with its value and its name.
     fn new(key: &'a [u8], value: &'a [u8], name: &'a [u8], main: u64) -> Revision<'a>
@@ -137,13 +137,6 @@ impl<'a> Revision<'a> {
         ensures { result ≡ (shown_revision self.now).key.main }
     {
         BigEndian::read_u64(self.key)
-    }
-
-    /// Whether it is a deletion.
-    pub fn is_deletion(&self) -> bool
-        ensures { result ≡ is_deletion (entry_of self.now) }
-    {
-        self.key.len() > LEN
     }
 
     /// Compares two by their keys, of which the transactions mostly tell.

@@ -2,13 +2,15 @@
 use Rattle.std.proofs.Common.{◌≡◌, ◌∙◌, ◌↔◌, ◌||◌, ◌++◌, ℕ, Bool, true, false, List, [], ◌∷◌, ap, ap₂, filter, map, not, refl, subst, sym}
 use Rattle.std.proofs.lemmas.List.{map-append}
 use Rattle.std.proofs.lemmas.List.Sorted.{Contains-permutation, IsPermutation-map, IsPermutation-sym}
-use Rattle.std.specs.Option.{option_to_list}
-use Rattle.std.specs.List.{Contains, cons_option, filter_map}
+use Rattle.std.proofs.lemmas.List.Elements.{All-contains}
+use Rattle.std.specs.List.{All, Contains, cons_option, filter_map}
 use Rattle.std.specs.List.Sorted.{IsPermutation}
 use Rattle.bolt_check.specs.Keys.{Key}
 use Rattle.bolt_etcd.specs.{Among.among, Current.AreNewest, Current.HaveOwnPlaces, Current.IsNewest, Newest.is_until, Newest.until, Revisions.RevisionView, Revisions.revision_of}
 use Rattle.bolt_etcd.specs.{ShownRevisions.entry_of, ShownRevisions.shown_revision, declared.revision.Revision.Revision}
-use Rattle.bolt_etcd.proofs.{Filtered.filter_mapped, StoredRevisions.has_place, StoredRevisions.is_revision}
+use Rattle.bolt_tree.proofs.Filters.{filter_all}
+use Rattle.bolt_tree.specs.Entries.{EntryView}
+use Rattle.bolt_etcd.proofs.{Filtered.filter_mapped, MappedLists.shows_from, StoredRevisions.has_place, StoredRevisions.is_revision}
 use Rattle.bolt_repair.specs.WhatGoesBack.{AreTheNewest, goes_back, is_old, old_revisions}
 use Rattle.bolt_repair.proofs.KeysAmong.{among_is}
 
@@ -37,6 +39,14 @@ module _ (compacted : ℕ) (newest : List Revision) (r : Revision) (old : Bool) 
       among_is (map key_of newest) (key_of r) one has
       ∙ ap (λ (ks : List Key). among ks (key_of r)) (sym (places newest))
       ∙ ap (λ (b : Bool). b || among (map (λ (s : RevisionView). s.place) (map shown_revision newest)) (key_of r)) (sym known ∙ ap not old_is)
+
+-- if none is old, all go back
+pub all_go_back : (compacted : ℕ) (newest : List RevisionView) (agreed : List Revision) → All (λ r. is_until compacted (shown_revision r) ≡ false) agreed
+    → map entry_of agreed ≡ filter (goes_back compacted newest) (map entry_of agreed)
+all_go_back compacted newest agreed none = sym (filter_all (goes_back compacted newest) (map entry_of agreed) (λ e has.
+    let (r, there, is) = shows_from entry_of agreed e has in
+    let new = ap (is_old compacted) (is_revision r) ∙ All-contains (λ (s : Revision). is_until compacted (shown_revision s) ≡ false) agreed r none there in
+    subst (λ (x : EntryView). goes_back compacted newest x ≡ true) is (ap (λ (b : Bool). not b || among (map (λ (s : RevisionView). s.place) newest) (key_of r)) new)))
 
 -- ---- the newest ones
 

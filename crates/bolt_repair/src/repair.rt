@@ -1,6 +1,6 @@
 //! What goes back into the bucket `key` of a damaged file, and the search for it.
-ghost use Rattle.std.specs.Prelude.{◌≡◌, ◌≢◌, ◌↔◌, [], IfErr, IfOk, OnOk, map, not, true};
-ghost use Rattle.std.specs.{List.Contains, List.Sorted.IsSorted, Option.option_map};
+ghost use Rattle.std.specs.Prelude.{◌≡◌, ◌≢◌, ◌↔◌, [], All, IfErr, IfOk, OnOk, false, map, not, true};
+ghost use Rattle.std.specs.{Bool.OnFalse, List.Contains, List.Sorted.IsSorted, Option.option_map};
 ghost use Rattle.bolt_check.specs.{declared.finding.Finding.Finding, Keys.key_cmp};
 ghost use Rattle.bolt_recover.specs.{LostAndFound.all_lost, Losses.everything};
 ghost use Rattle.bolt_repair.specs.{Repaired.IsRepair, RepairRefusals.IsRepairRefusal, Candidates.whole_cmp, Repaired.lacks_bucket, Undisputed.AreUndisputed, Undisputed.HaveKeys, WhatGoesBack.ArePutBack, WhatGoesBack.AreTheNewest, WhatGoesBack.goes_back, WhatGoesBack.old_revisions};
@@ -125,10 +125,26 @@ fn keep_what_goes_back<'a>(
     ensures { OnOk result (ArePutBack compacted (map shown_revision kept.entry.items)
         (map entry_of agreed.old.items) (map entry_of agreed.new.items)) }
 {
+    if !has_old(agreed.as_slice(), compacted) {
+        return Ok(());
+    }
     let newest = newest_until(kept, agreed.as_slice(), compacted)?;
     let newest = newest.as_slice();
     agreed.retain(|revision| goes_back(revision, newest, compacted));
     Ok(())
+}
+
+/// Whether the last compaction may have removed one of these.
+fn has_old(revisions: &[Revision<'_>], compacted: u64) -> bool
+    ensures { OnFalse result
+        (All (λ r. is_until compacted (shown_revision r) ≡ false) revisions.now) }
+{
+    for revision in revisions {
+        if is_old(revision, compacted) {
+            return true;
+        }
+    }
+    false
 }
 
 /// The newest revision of each name up to the last compaction, if it isn't a deletion, of those that
