@@ -17,7 +17,7 @@ first_member path inside e elements rest inner none some = elim (cases_Bool e.is
 
 next_page : (b new : FoundMembers) (inner elements : Leaves) (given : Option CodeItem) → (leaves_left b.inner ≡ []) × (leaves_left inner ≡ []) → (leaves_left b.elements ≡ []) × (leaves_left elements ≡ [])
     → GivesBelow (record b { inner = inner; elements = elements }) new given → GivesBelow b new given
-next_page b new inner elements given no_inner no_more gives = grind (arith, inner)
+next_page b new inner elements given no_inner no_more gives = grind arith
 
 pub returns-in-Some-clause-given : goal.returns-in-Some-clause-given
 returns-in-Some-clause-given c = grind (arith, first_member, c.requires, c.in-Some.ensures.steps.0, c.lost_and_found.ensures, c.of.ensures)
