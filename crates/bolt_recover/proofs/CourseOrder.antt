@@ -1,6 +1,6 @@
 -- A course visits ways in their order.
 use Rattle.std.proofs.Common.{◌≡◌, ◌∙◌, ◌<◌, inl, inr, ℕ, zero, suc, Bool, List, [], ◌∷◌, ◌++◌, Option, slice_get, arith, refl, sym, ap, subst, append_assoc}
-use Rattle.bolt_recover.proofs.Words.{append-nil, Before, Each, entry_tasks, Event, Finding, further, gives_at, LeafElement, Path, step_site, tasks_from, visits_at, Has, has_split, Meta, rises_append, RisesBy, Site, SurveyedWay, Task, tasks_after, To_give, To_visit, visits_of, Way, Has}
+use Rattle.bolt_recover.proofs.Words.{append-nil, Before, Each, entry_tasks, Event, Finding, further, gives_at, LeafElement, Path, step_site, tasks_from, visits_at, Has, has_split, map_has, Meta, rises_append, RisesBy, Site, SurveyedWay, Task, tasks_after, To_give, To_visit, visits_of, Way, Has}
 use Rattle.bolt_tree.proofs.TourLemmas.{before_sides, before_under}
 use Rattle.bolt_recover.proofs.Courses.{Course, Course.done, Course.give, Course.visit}
 use Rattle.bolt_recover.proofs.{SurveyIsOne.ways, TaskLists.IsAt, TaskLists.after_at, TaskLists.entry_at, TaskLists.from_at}
@@ -37,8 +37,7 @@ module _ (file : List ℕ) (meta : Meta) where
   child_ahead w p j a b at before = grind arith
 
   before_all : (w : Way) (visits : List SurveyedWay) → ((u : SurveyedWay) → Has visits u → Before w u.way) → Each (Before w) (ways visits)
-  before_all w [] h = λ u has. absurd has
-  before_all w (x ∷ visits) h = λ u has. elim has [ inl e ↦ subst (Before w) e (h x (inl refl)) | inr later ↦ before_all w visits (λ v inside. h v (inr inside)) u later ]
+  before_all w visits h = λ u has. let (v, there, is) = map_has (λ (z : SurveyedWay). z.way) visits u has in subst (Before w) is (h v there)
 
   -- all below what is to be visited next, and all below what comes after it
   below : (w u : Way) (p : Site) (found : Option Finding) (tasks : List Task) → ((b : Task) → Has tasks b → Ahead (To_visit w p) b) → Under (tasks_after file meta w p found ++ tasks) u

@@ -21,19 +21,16 @@ both_list path (with_bucket key sequence inside rest) b =
 
 both_has : (a b : Tree) (k : Key) → HasKey (both a b) k → HasKey a k ⊎ HasKey b k
 both_has end b k h = inr h
-both_has (with_value key value rest) b k (inl same) = inl (inl same)
-both_has (with_value key value rest) b k (inr h) = elim (both_has rest b k h) [ inl own ↦ inl (inr own) | inr later ↦ inr later ]
-both_has (with_bucket key sequence inside rest) b k (inl same) = inl (inl same)
-both_has (with_bucket key sequence inside rest) b k (inr h) = elim (both_has rest b k h) [ inl own ↦ inl (inr own) | inr later ↦ inr later ]
+both_has (with_value key value rest) b k h = let later = both_has rest in grind (arith, later)
+both_has (with_bucket key sequence inside rest) b k h = let later = both_has rest in grind (arith, later)
 
 both_first : (key : Key) (a b : Tree) → IsFirst key a → IsFirst key b → IsFirst key (both a b)
 both_first key a b own later k h = elim (both_has a b k h) [ inl x ↦ own k x | inr y ↦ later k y ]
 
 both_ordered : (a b : Tree) → Ordered a → Ordered b → ((j k : Key) → HasKey a j → HasKey b k → key_lt j k ≡ true) → Ordered (both a b)
 both_ordered end b own later less = later
-both_ordered (with_value key value rest) b (first, own) later less = (both_first key rest b first (λ k h. less key k (inl refl) h), both_ordered rest b own later (λ j k h. less j k (inr h)))
-both_ordered (with_bucket key sequence inside rest) b (first, deep, own) later less =
-    (both_first key rest b first (λ k h. less key k (inl refl) h), deep, both_ordered rest b own later (λ j k h. less j k (inr h)))
+both_ordered (with_value key value rest) b own after less = let later = both_ordered rest in grind (arith, both_first, later)
+both_ordered (with_bucket key sequence inside rest) b own after less = let later = both_ordered rest in grind (arith, both_first, later)
 
 -- the keys of a tree lie within the bounds of a site
 abbrev IsWithin : Spot → Tree → Type 0

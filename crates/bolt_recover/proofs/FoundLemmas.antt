@@ -1,5 +1,5 @@
 -- Found pages, one number after another.
-use Rattle.std.proofs.Common.{◌≡◌, ◌∙◌, ◌≤◌, ◌<◌, ◌⊎◌, ◌↔◌, inl, inr, ℕ, zero, suc, ◌+◌, Bool, true, false, List, [], ◌∷◌, ◌++◌, Some, Ok, refl, sym, ap, subst, arith}
+use Rattle.std.proofs.Common.{◌≡◌, ◌∙◌, ◌≤◌, ◌<◌, ◌⊎◌, ◌↔◌, inl, inr, ℕ, zero, suc, ◌+◌, Bool, true, false, List, [], ◌∷◌, ◌++◌, Some, Ok, refl, sym, subst, arith}
 use Rattle.bolt_recover.proofs.Words.{At_page, cases_lt, cases_order, Contains, Contains-append_left, Contains-append_right, Contains-push_cases, contains_head, contains_none, false_from_ne_true, false≢true, Found, FoundBelow, IsFoundNext, IsFoundPage, IsFoundView, IsListedFree, IsLoneLeaf, Meta, node_at, Nodes, page_at, root_spot, shown_node, SpanAt}
 use Rattle.bolt_format.specs.{TreePages.leaves_on, TreePages.shown_page, declared.tree_page.LeafPage.LeafPage, declared.tree_page.TreePage.TheVariants.Leaf}
 use Rattle.bolt_check.proofs.LeafLemmas.{lone_free, lone_same, lone_span}
@@ -48,10 +48,7 @@ module _ (file : List ℕ) (meta : Meta) where
     -- there is one list
     pub found_one : (n : ℕ) (a b : List ℕ) → FoundBelow file meta kept n a → FoundBelow file meta kept n b → a ≡ b
     found_one zero a b h k = h ∙ sym k
-    found_one (suc n) a b (x, below, inl (next, is)) (y, other, inl (also, of)) = is ∙ ap (λ (xs : List ℕ). xs ++ n ∷ []) (found_one n x y below other) ∙ sym of
-    found_one (suc n) a b (x, below, inl (next, is)) (y, other, inr (none, of)) = absurd (none (subst (λ (xs : List ℕ). IsFoundNext file meta kept xs n) (found_one n x y below other) next))
-    found_one (suc n) a b (x, below, inr (none, is)) (y, other, inl (next, of)) = absurd (none (subst (λ (xs : List ℕ). IsFoundNext file meta kept xs n) (sym (found_one n x y below other)) next))
-    found_one (suc n) a b (x, below, inr (none, is)) (y, other, inr (also, of)) = is ∙ found_one n x y below other ∙ sym of
+    found_one (suc n) a b h k = let later = found_one n in grind (arith, later)
 
     -- past the last page that can be found, none is
     pub found_up : (end : ℕ) (found : List ℕ) (d : ℕ) → FoundBelow file meta kept end found → ((n : ℕ) → end ≤ n → n < end + d → IsFoundNext file meta kept found n → ⊥)

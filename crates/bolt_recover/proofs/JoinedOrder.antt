@@ -11,8 +11,7 @@ Page = ℕ × List LeafElement
 
 has_page : (pages : List Page) (k : Key) → HasKey (found_tree pages) k → (p : Page) × Has pages p × (page_key p.0 ≡ k)
 has_page [] k has = absurd has
-has_page (p ∷ pages) k (inl same) = (p, inl refl, same)
-has_page (p ∷ pages) k (inr later) = let (q, there, is) = has_page pages k later in (q, inr there, is)
+has_page (p ∷ pages) k h = let later = has_page pages in grind (arith, later)
 
 pages_ordered : (pages : List Page) → RisesBy (λ p q. p.0 < q.0) pages → Each (λ p. (p.0 < 10 ^ 16) × Ordered (tree_of_elements inside_of p.1)) pages → Ordered (found_tree pages)
 pages_ordered [] rise good = tt

@@ -59,8 +59,7 @@ module _ (file : List ℕ) (meta : Meta) (survey : List SurveyedWay) (surveys : 
 begin_before : (front rest way : List ℕ) → Before (front ++ rest) way → Before front way
 begin_before front rest [] h = h
 begin_before [] rest (j ∷ way) h = tt
-begin_before (i ∷ front) rest (j ∷ way) (inl h) = inl h
-begin_before (i ∷ front) rest (j ∷ way) (inr h) = inr (h.0, begin_before front rest way h.1)
+begin_before (i ∷ front) rest h k = let later = begin_before front in grind (arith, later)
 
 module _ (nodes : Nodes) (root : Option Spot) (survey : List SurveyedWay) (surveys : Surveys nodes (follow nodes root) survey) (way : List ℕ)
     (none : (u : SurveyedWay) → Has survey u → Before u.way way → u.found ≡ None) where

@@ -34,11 +34,7 @@ module _ (file : List ℕ) (meta : Meta) where
   pub loss_there : (survey : List SurveyedWay) (way : List ℕ) (x : Finding) (p : Site) → Has survey (lost way x) → site_at file meta way ≡ Some p
       → Contains (losses_of file meta survey) (loss_of p x)
   loss_there [] way x p has at = absurd has
-  loss_there (v ∷ survey) way x p (inl same) at =
-      at_front (site_at file meta v.way) v.found p x (losses_of file meta survey)
-      (ap (λ (u : SurveyedWay). site_at file meta u.way) same ∙ at) (ap (λ (u : SurveyedWay). u.found) same)
-  loss_there (v ∷ survey) way x p (inr later) at =
-      Contains-append_right (loss_at (site_at file meta v.way) v.found) (losses_of file meta survey) (loss_of p x) (loss_there survey way x p later at)
+  loss_there (v ∷ survey) way x p h at = let later = loss_there survey in grind (arith, at_front, Contains-append_right, later)
 
   pub way_there : (survey : List SurveyedWay) (l : LossView) → Contains (losses_of file meta survey) l
       → (way : List ℕ) × (x : Finding) × (p : Site) × Has survey (lost way x) × (site_at file meta way ≡ Some p) × (l ≡ loss_of p x)

@@ -1,5 +1,5 @@
 -- The names of found pages rise with their numbers.
-use Rattle.std.proofs.Common.{◌≡◌, ◌∙◌, inl, inr, ℕ, zero, suc, ◌<◌, ◌+◌, ◌/◌, ◌%◌, ◌^◌, [], ◌∷◌, ◌++◌, length, refl, sym, arith}
+use Rattle.std.proofs.Common.{◌≡◌, ◌∙◌, ℕ, zero, suc, ◌<◌, ◌+◌, ◌/◌, ◌%◌, ◌^◌, [], ◌∷◌, ◌++◌, length, refl, sym, arith}
 use Rattle.bolt_recover.proofs.Words.{cases_lt, Key, key_cmp, last_digits, length-append, Less, nat_cmp, nat_cmp_is, nat_cmp_total, Ordering, ordering_then, tied_itself}
 
 then_less : (o r : Ordering) (after : Ordering) → ordering_then o r ≡ Less → (r ≡ Less → after ≡ Less) → ordering_then o after ≡ Less
@@ -24,11 +24,4 @@ one_digit a b less = let cmp : nat_cmp (48 + a) (48 + b) ≡ Less = sym (nat_cmp
 
 pub digits_rise : (count n m : ℕ) → n < m → m < 10 ^ count → key_cmp (last_digits count n) (last_digits count m) ≡ Less
 digits_rise zero n m less within = absurd (omega (arith, less, within))
-digits_rise (suc count) n m less within = elim (cases_lt (n / 10) (m / 10)) [
-  | inl lt ↦
-      less_more (last_digits count (n / 10)) (last_digits count (m / 10)) ((48 + n % 10) ∷ []) ((48 + m % 10) ∷ []) (digits_long count (n / 10) ∙ sym (digits_long count (m / 10)))
-      (digits_rise count (n / 10) (m / 10) lt (omega (arith, within)))
-  | inr ge ↦
-      let same : n / 10 ≡ m / 10 = omega (arith, less, ge) in
-      rw same (same_more (last_digits count (m / 10)) ((48 + n % 10) ∷ []) ((48 + m % 10) ∷ []) ∙ one_digit (n % 10) (m % 10) (omega (arith, less, same)))
-]
+digits_rise (suc count) n m less within = let later = digits_rise count in grind (arith, cases_lt, less_more, digits_long, same_more, one_digit, later)

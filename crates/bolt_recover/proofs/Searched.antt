@@ -1,6 +1,6 @@
 -- What is known of a file that was searched.
-use Rattle.std.proofs.Common.{◌≡◌, ◌≢◌, ◌∙◌, ◌<◌, ◌*◌, ◌^◌, inl, inr, not, true, false, List, [], ◌∷◌, ap, length, subst, sym}
-use Rattle.bolt_recover.proofs.Words.{all_lost, AreJoinable, AreTreesOf, bytes_of, Checked, Contains, contains_cases, contains_head, contains_none, contains_tail, Damaged, everything, Finding, ForRecovered, Found, HasBucketKey, holds_key, is_found_path, IsSearched, LacksBucketKey, LosesRoot, LossView, lost_of, Member, meta_of, or_cases, or_parts, parts, props, Rootless, Sound, ∥∥₁_elim, ∥∥₁_map}
+use Rattle.std.proofs.Common.{◌≡◌, ◌≢◌, ◌∙◌, ◌<◌, ◌*◌, ◌^◌, true, false, List, [], ◌∷◌, ap, length, subst, sym, arith}
+use Rattle.bolt_recover.proofs.Words.{all_lost, AreJoinable, AreTreesOf, bytes_of, Checked, Contains, contains_cases, contains_head, contains_none, contains_tail, Damaged, everything, Finding, ForRecovered, Found, HasBucketKey, holds_key, IsSearched, LacksBucketKey, LosesRoot, LossView, lost_of, Member, meta_of, or_cases, or_parts, parts, props, Rootless, Sound, ∥∥₁_elim, ∥∥₁_map}
 use Rattle.bolt_recover.proofs.{FoundAll.nothing_recovered}
 use Rattle.bolt_recover.specs.{Lost.IsAllLost, declared.losses.Damage.Damage, declared.lost_and_found.LostAndFound.LostAndFound}
 use Rattle.bolt_recover.specs.declared.lost_and_found.Trees.{Trees}
@@ -8,16 +8,11 @@ use Rattle.bolt_recover.specs.declared.lost_and_found.Trees.{Trees}
 -- what is told of the key
 key_held : (listing : List Member) → holds_key listing ≡ true → HasBucketKey listing
 key_held [] e = absurd (cc)
-key_held (m ∷ listing) e = elim (or_cases (is_found_path m.0) (holds_key listing) e) [
-  | inl here ↦ (m, (contains_head m listing, here))
-  | inr later ↦ let (o, (has, is)) = key_held listing later in (o, (contains_tail m o listing has, is))
-]
+key_held (m ∷ listing) e = let later = key_held listing in grind (arith, or_cases, contains_head, contains_tail, later)
 
 key_lacks : (listing : List Member) → holds_key listing ≡ false → LacksBucketKey listing
 key_lacks [] e m has = absurd (contains_none m has)
-key_lacks (m ∷ listing) e o has =
-    let both = or_parts (is_found_path m.0) (holds_key listing) e in
-    elim (contains_cases m o listing has) [ inl same ↦ subst (λ (x : Member). not (is_found_path x.0) ≡ true) same (ap not both.0) | inr later ↦ key_lacks listing both.1 o later ]
+key_lacks (m ∷ listing) e o has = let later = key_lacks listing in grind (arith, contains_none, or_parts, contains_cases, later)
 
 parts_some : (losses : List LossView) (x : Finding) → parts losses ≡ everything x → ⊥
 parts_some losses x is = cc

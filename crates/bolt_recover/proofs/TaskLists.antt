@@ -1,5 +1,5 @@
 -- What there is to do at a site, entry by entry.
-use Rattle.std.proofs.Common.{◌≡◌, ◌≤◌, ◌<◌, inl, inr, ℕ, zero, suc, ◌+◌, List, [], ◌∷◌, ◌++◌, Option, Some, None, slice_get, refl, subst, arith}
+use Rattle.std.proofs.Common.{◌≡◌, ◌≤◌, ◌<◌, inl, inr, ℕ, zero, suc, ◌+◌, List, [], ◌∷◌, ◌++◌, Option, Some, None, slice_get, refl, arith}
 use Rattle.bolt_recover.proofs.Words.{cases_lt, entry_tasks, Finding, further, gives_at, has_left, has_right, has_split, LeafElement, Meta, Site, step_site, Task, tasks_after, tasks_from, To_give, To_visit, visits_at, Way, Has}
 
 module _ (file : List ℕ) (meta : Meta) where
@@ -29,13 +29,7 @@ module _ (file : List ℕ) (meta : Meta) where
 
     pub at_from : (i k j : ℕ) (task : Task) → i ≤ j → j < i + k → IsAt w p j task → Has (tasks_from file meta w p i k) task
     at_from i zero j task le lt at = absurd (omega (arith, le, lt))
-    at_from i (suc k) j task le lt at =
-        elim (cases_lt i j) [
-          | inl more ↦ has_right (entry_tasks file meta w p i) (tasks_from file meta w p (suc i) k) task (at_from (suc i) k j task (omega (arith, more)) (omega (arith, lt)) at)
-          | inr here ↦
-              let same : j ≡ i = omega (arith, le, here) in
-              has_left (entry_tasks file meta w p i) (tasks_from file meta w p (suc i) k) task (at_entry i task (subst (λ (n : ℕ). IsAt w p n task) same at))
-        ]
+    at_from i (suc k) j task le lt at = let later = at_from (suc i) k in grind (arith, cases_lt, has_right, has_left, at_entry, later)
 
     -- after a visit there is something to be done only if the site is kept
     pub after_at : (found : Option Finding) (task : Task) → Has (tasks_after file meta w p found) task → (found ≡ None) × (j : ℕ) × IsAt w p j task

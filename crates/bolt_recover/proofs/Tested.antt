@@ -1,5 +1,5 @@
 -- What the tests of a spot find: the function gives what the definition asks for.
-use Rattle.std.proofs.Common.{◌≡◌, ℕ, zero, suc, ◌+◌, ◌<◌, ◌≤◌, inl, inr, Bool, true, false, Option, Some, None, Ok, if◌then◌else◌, refl, sym, ap, arith, ◌∙◌}
+use Rattle.std.proofs.Common.{◌≡◌, ℕ, zero, suc, ◌+◌, ◌<◌, ◌≤◌, Bool, true, Option, Some, None, Ok, refl, arith}
 use Rattle.bolt_recover.proofs.Words.{At_page, cases_lt, early_finding, false≢true, Finding, finding, first_claimed, Gives, IsInSpan, late, Node, node_finding, Nodes, option_map, option_or, PageSpot, Spot, test, twice}
 use Rattle.bolt_check.specs.declared.finding.TheConstants.Finding.{TWICE}
 
@@ -10,15 +10,7 @@ IsFirst claimed n count (Some m) = (n ≤ m) × (m < n + count) × (claimed m �
 
 pub first_is : (claimed : ℕ → Bool) (n count : ℕ) → IsFirst claimed n count (first_claimed claimed n count)
 first_is claimed n zero = λ m low high was. omega arith
-first_is claimed n (suc count) = by (first_claimed claimed n count) (claimed (n + count)) refl (first_is claimed n count)
-  where
-    by : (o : Option ℕ) (b : Bool) → claimed (n + count) ≡ b → IsFirst claimed n count o → IsFirst claimed n (suc count) (option_or o (if b then Some (n + count) else None))
-    by (Some m) b is (low, high, was, first) = (low, omega (arith, high), was, first)
-    by None true is none = (omega arith, omega arith, is, none)
-    by None false is none = λ m low high was. elim (cases_lt m (n + count)) [
-      | inl lower ↦ none m low lower was
-      | inr upper ↦ (let same : m ≡ n + count = omega (arith, high, upper) in false≢true (sym is ∙ ap claimed (sym same) ∙ was))
-    ]
+first_is claimed n (suc count) = let later = first_is claimed n count in grind (arith, cases_lt, false≢true, later)
 
 module _ (nodes : Nodes) (claimed : ℕ → Bool) where
   abbrev Finds : Spot → Option Finding → Type 0

@@ -11,24 +11,22 @@ unfoldable pub use Rattle.bolt_check.specs.Claims.{claims_file, claims_meta, cla
 unfoldable pub use Rattle.bolt_check.specs.Leftovers.{is_listed, is_taken, leftovers_file, leftovers_length, leftovers_meta}
 unfoldable pub use Rattle.bolt_check.specs.{Nodes.node_at, ShownNodes.shown_node}
 pub use Rattle.bolt_check.specs.Counts.{counted}
-pub use Rattle.bolt_check.specs.Findings.{IsClaimedBefore, IsFirst, IsMetaPage, Passes, Tests, early, early_finding, finding, finding_of, inline_finding}
-pub use Rattle.bolt_check.specs.Findings.{keys_of, late, node_finding, open_finding, twice}
+pub use Rattle.bolt_check.specs.Findings.{IsClaimedBefore, IsFirst, IsMetaPage, Passes, Tests, early_finding, finding, finding_of}
+pub use Rattle.bolt_check.specs.Findings.{keys_of, late, node_finding, twice}
 pub use Rattle.bolt_check.specs.Keys.{Key, KeysRise, is_below, is_from, key_cmp, key_lt, keys_order_fault}
 pub use Rattle.bolt_check.specs.Lists.{Has}
 pub use Rattle.bolt_check.specs.LoneLeaves.{IsListedFree, IsLoneLeaf}
-pub use Rattle.bolt_check.specs.Nodes.{Entry, InlinePage, IsInSpan, Node, Nodes, leaf_entry, node_seen}
+pub use Rattle.bolt_check.specs.Nodes.{Entry, InlinePage, IsInSpan, Node, Nodes, leaf_entry}
 pub use Rattle.bolt_check.specs.{Shape.child_at, Shape.child_in, Shape.child_of, Shape.leads, ShownSpots.page_spot, ShownSpots.spot_at}
 pub use Rattle.bolt_check.specs.Sound.{HasSoundTrees}
-pub use Rattle.bolt_check.specs.Ways.{At_inline, At_page, Before, PageSpot, Reach, SpanAt, SpanHas, SpanOf, Spot, bucket_spot, bucket_spots, child_spot, follow}
+pub use Rattle.bolt_check.specs.Ways.{At_inline, At_page, Before, PageSpot, Reach, SpanAt, SpanHas, Spot, bucket_spot, child_spot, follow}
 pub use Rattle.bolt_check.specs.Ways.{reached, root_spot, step, step_at, step_entry, step_from, step_on, upper_from}
 pub use Rattle.bolt_check.specs.declared.checked.Checked.{Checked}
 pub use Rattle.bolt_check.specs.declared.check_fault.CheckFault.TheVariants.{Structure}
 pub use Rattle.bolt_check.specs.declared.finding.Finding.{Finding}
 pub use Rattle.bolt_format.specs.{ElementPlaces.leaf_view, Elements.LeafElement, Elements.head_root, Elements.head_sequence, Elements.inline_elements}
-pub use Rattle.bolt_format.specs.Headers.{count_field, flags_field, kind_of}
-pub use Rattle.bolt_format.specs.Pages.{PageView, from_page, page_overflow, shown_as, shown_leaves, span_bytes}
-pub use Rattle.bolt_format.specs.{declared.header.Kind.Kind, declared.meta.Meta.Meta}
-unfoldable pub use Rattle.bolt_format.specs.{Pages.page_at, Pages.page_fault, ShownGoodPages.shown}
+pub use Rattle.bolt_format.specs.{declared.meta.Meta.Meta}
+unfoldable pub use Rattle.bolt_format.specs.{Pages.page_at}
 pub use Rattle.bolt_recover.specs.Found.{AreFound, FoundBelow, IsFoundNext, IsFoundPage, found_numbers}
 pub use Rattle.bolt_recover.specs.Joined.{HasBucketKey, IsElement, IsFoundMember, IsInnerMember, IsJoined, LacksBucketKey, LeavesRoom, found_tree, inside_of}
 pub use Rattle.bolt_recover.specs.Joined.{is_found_path, joined_listing, lost_and_found, put_bucket, tree_of_elements}
@@ -38,18 +36,17 @@ pub use Rattle.bolt_recover.specs.{PageKeys.last_digits, PageKeys.page_key, Page
 pub use Rattle.bolt_recover.specs.Sites.{Site, elements_at, follow_sites, leaves_of, next_site, site_at, site_on, root_site, step_site}
 pub use Rattle.bolt_recover.specs.Private.FoundLeft.{found_listing, found_pages_of}
 pub use Rattle.bolt_recover.specs.Private.Frames.{Advances, AreOpenPages, Ends, GivesHead, StepsOn, IsAllLeft, IsContent, IsGoodKeptPage, IsGoodPage, StepsAreOn, AreStepsPlaced}
-pub use Rattle.bolt_recover.specs.Private.Frames.{IsShallow, StaysOn, ahead_path_len, ahead_tasks, claims_with, content_elements, content_site, content_size}
+pub use Rattle.bolt_recover.specs.Private.Frames.{IsShallow, StaysOn, ahead_tasks, claims_with, content_elements, content_site, content_size}
 pub use Rattle.bolt_check.specs.Claims.{claims_nodes}
 pub use Rattle.bolt_recover.specs.Private.Frames.{content_spot, members_left, open_tasks, page_tasks, page_weight, spot_site, step_path, steps_left}
 pub use Rattle.bolt_recover.specs.Private.Frames.{steps_path, steps_weight, tally_of, tasks_left, way_of}
 pub use Rattle.bolt_recover.specs.Private.Joining.{AreJoinable, first_cmp, holds_key}
-pub use Rattle.bolt_recover.specs.KeptMembers.{kept_file, kept_left, kept_meta}
 pub use Rattle.bolt_recover.specs.Private.Courses.{Event, Given, Outcome, Task, To_give, To_visit, Visited, Way, after_event, after_events, all_events}
-pub use Rattle.bolt_recover.specs.Private.Courses.{claimed_after, claims_of, entry_count, entry_tasks, further, give_all, gives_at, in_span, members_at, members_of}
+pub use Rattle.bolt_recover.specs.Private.Courses.{claimed_after, claims_of, entry_tasks, further, give_all, gives_at, members_at, members_of}
 pub use Rattle.bolt_recover.specs.Private.Courses.{meta_pages, outcome_of, page_visit, root_tasks, run_all, run_on, run_to, site_size, site_tasks, span_of, tasks_after}
 pub use Rattle.bolt_recover.specs.Private.Courses.{recovered_of, tasks_from, visit_at, visits_at, visits_of}
 unfoldable pub use Rattle.bolt_recover.specs.Private.Courses.{events}
-pub use Rattle.bolt_recover.specs.Private.Tests.{first_claimed, test, test_node}
+pub use Rattle.bolt_recover.specs.Private.Tests.{first_claimed, test}
 pub use Rattle.bolt_recover.specs.Private.TreesLeft.{AreTreesOf, IsSearched, lost_of}
 pub use Rattle.bolt_recover.specs.{Recovered.ForRecovered, Recovered.IsRecovered, Recovered.IsRecoveredMember, Recoveries.AreFirst, Recoveries.ForLosses}
 pub use Rattle.bolt_recover.specs.Refusals.{IsRefusedRoot, KeepsRoot, LosesRoot}
@@ -57,13 +54,13 @@ pub use Rattle.bolt_recover.specs.{ShownFound.IsFoundView, ShownLosses.loss_view
 pub use Rattle.bolt_recover.specs.Surveys.{Gives, IsClaimedIn, IsOpen, IsSurvey, LosesNothing, Surveys, SurveyedWay, way_kept, lost}
 pub use Rattle.bolt_format.specs.declared.tree_page.TreePage.{TreePage}
 pub use Rattle.bolt_recover.specs.{declared.kept_page.KeptPage.KeptPage, declared.kept_page.OpenPage.OpenPage}
-pub use Rattle.bolt_recover.specs.{declared.found.Found.Found, declared.kept.Kept.Kept}
+pub use Rattle.bolt_recover.specs.{declared.found.Found.Found}
 pub use Rattle.bolt_recover.specs.declared.lost_and_found.Trees.TheVariants.{Damaged, Rootless, Sound}
 pub use Rattle.bolt_recover.specs.{declared.steps.NextVisit.NextVisit}
 unfoldable pub use Rattle.bolt_recover.specs.JoinedMembers.{joined_file, joined_left, joined_meta, joined_path}
 unfoldable pub use Rattle.bolt_recover.specs.LostAndFound.{all_lost}
 unfoldable pub use Rattle.bolt_recover.specs.Recoveries.{recovery_begun, recovery_claimed, recovery_file, recovery_left, recovery_losses, recovery_meta}
-unfoldable pub use Rattle.bolt_recover.specs.Recoveries.{recovery_path, recovery_visited, recovery_work}
+unfoldable pub use Rattle.bolt_recover.specs.Recoveries.{recovery_visited, recovery_work}
 pub use Rattle.bolt_tree.proofs.{EntryOrder.contains_at, Filters.filter_all, Filters.filter_none}
 pub use Rattle.bolt_check.proofs.Lists.{Each, RisesBy, contains_from_has, get_before, has_at, has_from_contains, has_left, has_right, has_split, map_has}
 pub use Rattle.bolt_check.proofs.Lists.{rises_append, rises_map, Has as Among}
@@ -76,14 +73,14 @@ pub use Rattle.bolt_tree.specs.{Paths.Holds, Paths.Names, Paths.Path, Paths.path
 pub use Rattle.bolt_tree.specs.{Tree.Tree, Tree.end, Tree.listing_below, Tree.listing_of, Tree.tree_of, Tree.with_bucket, Tree.with_value, Walks.GivesNext}
 unfoldable pub use Rattle.bolt_tree.specs.Walks.{left_of, walk_checked}
 pub use Rattle.std.proofs.Math.Logic.{∥∥₁_elim, ∥∥₁_map}
-pub use Rattle.std.proofs.Math.Nat.{div-lt_iff_lt-mul, le-div_iff_mul-le, lt_of_mul-lt-mul_right}
+pub use Rattle.std.proofs.Math.Nat.{lt_of_mul-lt-mul_right}
 pub use Rattle.std.proofs.Props.{props}
-pub use Rattle.std.proofs.lemmas.Bool.{and_parts, cases_Bool, cases_lt, cases_order, cond_both, eqb-true, false_from_ne_true, false≢true, not-true, or_cases, or_left}
+pub use Rattle.std.proofs.lemmas.Bool.{cases_Bool, cases_lt, cases_order, cond_both, eqb-true, false_from_ne_true, false≢true, not-true, or_cases, or_left}
 pub use Rattle.std.proofs.lemmas.Bool.{or_parts, or_right}
 pub use Rattle.std.proofs.lemmas.Bool.Decides.{nat_tests}
 pub use Rattle.std.proofs.lemmas.Cmp.{nat_cmp_total, tied_itself}
 pub use Rattle.std.proofs.lemmas.Grind.{common_steps, merely}
-pub use Rattle.std.proofs.lemmas.List.{append-nil, drop_all, length-append, length-map, length-take-le, map-append, nil_from_length, take-append-drop}
+pub use Rattle.std.proofs.lemmas.List.{append-nil, length-append, length-map, length-take-le, map-append, nil_from_length, take-append-drop}
 pub use Rattle.std.proofs.lemmas.List.{take-append-le, take-map, take_all}
 pub use Rattle.std.proofs.lemmas.List.Elements.{All-head, All-nil, All-push, All-tail, Contains-append_cases}
 pub use Rattle.std.proofs.lemmas.List.Elements.{Contains-append_left, Contains-append_right, Contains-push_cases, filter-append}
@@ -93,7 +90,7 @@ pub use Rattle.std.proofs.lemmas.Option.{none-some, same_Some, slice_get-map, sl
 pub use Rattle.std.specs.Cmp.{both_ways, nat_cmp_is}
 pub use Rattle.std.specs.List.{All, Contains, count_by}
 pub use Rattle.std.specs.Option.{option_map, option_or, option_to_list}
-pub use Rattle.std.specs.Ordering.{is_eq, is_lt, nat_cmp, ordering_then}
+pub use Rattle.std.specs.Ordering.{is_lt, nat_cmp, ordering_then}
 pub use Rattle.std.specs.Prelude.{IsTrue}
 pub use Rattle.std.specs.declared.cmp.Ordering.{Ordering}
-pub use Rattle.std.specs.declared.cmp.Ordering.TheVariants.{Equal, Greater, Less}
+pub use Rattle.std.specs.declared.cmp.Ordering.TheVariants.{Greater, Less}

@@ -1,6 +1,6 @@
 -- By what is left of the trees.
 use Rattle.std.proofs.Common.{◌≡◌, ◌∙◌, [], List, arith, ap, length, sym, ℕ}
-use Rattle.bolt_recover.proofs.Words.{common_steps, Found, length-map, lost_of, found_numbers}
+use Rattle.bolt_recover.proofs.Words.{common_steps, Found, length-map, lost_of}
 use Rattle.bolt_recover.proofs.Searched.{has_key, lacks_all, lacks_key, not_everything, of_sound, root_lost}
 use Rattle.bolt_recover.proofs.joined.test_join.Goals as goal
 use Rattle.bolt_recover.proofs.joined.test_join.Goals.{else-some-via-else-some, else-some-via-then-some+else-damage}
@@ -14,9 +14,7 @@ returns-then-damage-clause-refused c = (
 )
 
 pub returns-then-not-some-clause-refused : goal.returns-then-not-some-clause-refused
-returns-then-not-some-clause-refused c =
-    let none : c.args.both.now.found.items ≡ [] = grind (arith, common_steps, c.is_empty-some.ensures, c.if-not-some.true) in
-    (ap found_numbers none, root_lost c.args.both.now c.in-Rootless.finding c.in-Rootless.is)
+returns-then-not-some-clause-refused c = grind (arith, common_steps, root_lost, c.is_empty-some.ensures, c.if-not-some.true, c.in-Rootless.is)
 
 pub returns-in-Sound-clause-apart : goal.returns-in-Sound-clause-apart
 returns-in-Sound-clause-apart c = λ some. absurd (some (of_sound c.args.both.now c.in-Sound.field-0 c.in-Sound.is).2)

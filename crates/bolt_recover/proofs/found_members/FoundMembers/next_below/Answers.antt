@@ -1,5 +1,5 @@
 -- An element shows itself, and then what it holds.
-use Rattle.std.proofs.Common.{◌≡◌, ◌++◌, ◌∷◌, [], List, false, inl, inr, None, Option, Some, ap, append_assoc, refl}
+use Rattle.std.proofs.Common.{◌≡◌, ◌++◌, ◌∷◌, [], List, false, inl, inr, Option, ap, append_assoc, refl, arith}
 use Rattle.bolt_recover.proofs.Words.{cases_Bool, end, inside_of, IsTrue, item_of, leaf_view, LeafElement, listing_below, lost_and_found, Member, Path, Tree, tree_of_elements}
 use Rattle.bolt_recover.specs.Private.{FoundLeft.GivesBelow}
 use Rattle.bolt_format.specs.{ElementsLeft.leaves_left, declared.elements.Leaves.Leaves}
@@ -17,14 +17,10 @@ first_member path inside e elements rest inner none some = elim (cases_Bool e.is
 
 next_page : (b new : FoundMembers) (inner elements : Leaves) (given : Option CodeItem) → (leaves_left b.inner ≡ []) × (leaves_left inner ≡ []) → (leaves_left b.elements ≡ []) × (leaves_left elements ≡ [])
     → GivesBelow (record b { inner = inner; elements = elements }) new given → GivesBelow b new given
-next_page b new inner elements None no_inner no_more gives = rw (no_inner.0, no_more.0) (rw (no_inner.1, no_more.1) at gives)
-next_page b new inner elements (Some item) no_inner no_more gives = rw (no_inner.0, no_more.0) (rw (no_inner.1, no_more.1) at gives)
+next_page b new inner elements given no_inner no_more gives = grind arith
 
 pub returns-in-Some-clause-given : goal.returns-in-Some-clause-given
-returns-in-Some-clause-given c =
-    let self = c.args.self.now in
-    rw (c.requires, c.in-Some.ensures.steps.0, c.lost_and_found.ensures, c.of.ensures)
-    (first_member (lost_and_found ∷ self.name.now ∷ self.key.now ∷ []) (λ e. end) (leaf_view c.in-Some.leaf) _ _ [] (λ _. refl) (λ _. refl))
+returns-in-Some-clause-given c = grind (arith, first_member, c.requires, c.in-Some.ensures.steps.0, c.lost_and_found.ensures, c.of.ensures)
 
 pub returns-in-Some-next-clause-given : goal.returns-in-Some-next-clause-given
 returns-in-Some-next-clause-given c =
@@ -36,5 +32,4 @@ returns-in-Some-next-clause-given c =
     (λ is. rw (c.inner_of-self.ensures.value is) refl) (λ is. ap (listing_below (path ++ leaf.key.now ∷ [])) (c.inner_of-self.ensures.bucket is)))
 
 pub returns-clause-given : goal.returns-clause-given
-returns-clause-given c =
-    next_page c.args.self.now c.next_page.new.self c.next.new.self c.next-2.new.self _ c.in_default.ensures.steps c.in_default-next.ensures.steps c.next_page.ensures.given
+returns-clause-given c = grind (arith, next_page, c.in_default.ensures.steps, c.in_default-next.ensures.steps, c.next_page.ensures.given)

@@ -1,11 +1,9 @@
-use Rattle.std.proofs.Common.{arith, refl}
+use Rattle.std.proofs.Common.{arith}
 use Rattle.std.proofs.lemmas.List.{drop_all, drop_more}
 use Rattle.bolt_recover.proofs.found_members.FoundMembers.next_page.Goals as goal
 
 pub returns-in_default-clause-given : goal.returns-in_default-clause-given
-returns-in_default-clause-given c =
-    let self = c.args.self.now in
-    rw (c.requires.bucket, c.requires.inner, c.requires.elements, drop_all self.next self.found.now (omega (arith, c.in_default.ensures.lookup))) (refl, refl, refl)
+returns-in_default-clause-given c = grind (arith, drop_all, c.requires.bucket, c.requires.inner, c.requires.elements, c.in_default.ensures.lookup)
 
 pub returns-clause-given : goal.returns-clause-given
 returns-clause-given c =

@@ -1,5 +1,5 @@
 -- What is found is merged with what is kept of the same file.
-use Rattle.std.proofs.Common.{◌∙◌, ap, ap₂, sym}
+use Rattle.std.proofs.Common.{◌∙◌, ap, ap₂, sym, arith}
 use Rattle.bolt_recover.proofs.{Existing.recovers, JoinedLemmas.merged_joined, Searched.joinable}
 use Rattle.bolt_recover.proofs.Words.{found_listing, joined_left, props, ∥∥₁_elim}
 use Rattle.bolt_tree.specs.Merges.{merge}
@@ -12,9 +12,7 @@ invariant_of-result-clause-reads c =
     ∣ c.new-2.ensures.reads _ _ (rw (kept.file, kept.meta) (recovers both.file.now both.meta)) (ap found_listing (sym c.new.ensures.found)) ∣₁
 
 pub invariant_of-result-clause-pages : goal.invariant_of-result-clause-pages
-invariant_of-result-clause-pages c =
-    let test = c.in_ok-test_join.ensures in
-    joinable c.args.both.now c.as_slice-found.result.now c.as_slice-found.ensures.value test.few test.apart
+invariant_of-result-clause-pages c = grind (arith, joinable, c.in_ok-test_join.ensures, c.as_slice-found.ensures.value)
 
 pub returns-clause-all : goal.returns-clause-all
 unfolding joined_left

@@ -1,15 +1,13 @@
 -- A recovery searches the file, or the root page is lost.
-use Rattle.std.proofs.Common.{List, subst₂, ℕ}
-use Rattle.bolt_recover.proofs.Words.{Damaged, IsSearched, merely, Meta}
+use Rattle.std.proofs.Common.{arith}
+use Rattle.bolt_recover.proofs.Words.{merely}
 use Rattle.bolt_recover.proofs.lost_and_found.LostAndFound.of_damaged.Goals as goal
 
 pub invariant_of-result-clause-bytes : goal.invariant_of-result-clause-bytes
 invariant_of-result-clause-bytes c = λ i. (c.type_inv.file i).fits
 
 pub invariant_of-result-clause-searched : goal.invariant_of-result-clause-searched
-invariant_of-result-clause-searched c =
-    let part = c.in_ok-damage-in-Ok in
-    merely (subst₂ (λ (f : List ℕ) (m : Meta). IsSearched f m (Damaged part.damage) part.found.items) c.in-Ok.ensures.file c.in-Ok.ensures.meta part.ensures)
+invariant_of-result-clause-searched c = grind (arith, merely, c.in-Ok.ensures.file, c.in-Ok.ensures.meta)
 
 pub found_without_root-requires-clause-lost : goal.found_without_root-requires-clause-lost
 found_without_root-requires-clause-lost c = (c.in-Err-Structure.finding, rw c.in-Err-Structure.field-0-is at c.in-Err-Structure.ensures.refused)

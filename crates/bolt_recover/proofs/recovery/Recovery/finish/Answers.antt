@@ -1,5 +1,5 @@
 -- What was given is dropped too, and then the values after it; after the last member nothing is left.
-use Rattle.std.proofs.Common.{◌∙◌, List, [], ◌∷◌, ◌++◌, Result, Ok, Err, OnErr, ap, append_assoc, refl, sym}
+use Rattle.std.proofs.Common.{◌∙◌, List, [], ◌∷◌, ◌++◌, Result, OnErr, ap, append_assoc, refl, sym, arith}
 use Rattle.bolt_recover.proofs.Words.{Member, recovery_file, recovery_left, recovery_meta}
 use Rattle.bolt_recover.proofs.Existing.{recovers}
 use Rattle.bolt_recover.specs.Recoveries.{DropsFirst, LeavesRest}
@@ -9,8 +9,7 @@ drops_on : (a b c : List Member) → DropsFirst a b → DropsFirst b c → Drops
 drops_on a b c (first, whole) (then, rest) = (first ++ then, whole ∙ ap (λ (ms : List Member). first ++ ms) rest ∙ sym (append_assoc first then c))
 
 on_error : {T E : Type 0} (result : Result T E) (P : Type 0) → P → OnErr result P
-on_error (Ok x) P p = tt
-on_error (Err e) P p = p
+on_error result P p = grind arith
 
 pub loop-self-init : goal.loop-self-init
 loop-self-init c = record { file = refl; meta = refl; begun = refl; rest = λ listing recovered. ([], refl) }

@@ -1,5 +1,5 @@
-use Rattle.std.proofs.Common.{List, ap, arith, length, subst, sym, ℕ}
-use Rattle.bolt_recover.proofs.Words.{KeepsRoot, length-append, members_left, merely, recovery_file, recovery_left, recovery_meta, recovery_work, ∥∥₁_elim}
+use Rattle.std.proofs.Common.{List, arith, subst, sym, ℕ}
+use Rattle.bolt_recover.proofs.Words.{KeepsRoot, length-append, merely, recovery_file, recovery_left, recovery_meta, recovery_work, ∥∥₁_elim}
 use Rattle.bolt_recover.proofs.Recovering.{on_further, placed_prop}
 use Rattle.bolt_recover.proofs.recovery.Recovery.skip_values.Goals as goal
 
@@ -23,7 +23,4 @@ returns-clause-dropped c = λ listing recovered. (c.skip_values.ensures.dropped,
 
 pub returns-clause-fewer : goal.returns-clause-fewer
 unfolding recovery_work
-returns-clause-fewer c =
-    let all = ap length c.skip_values.ensures.left in
-    let parts = length-append c.skip_values.ensures.dropped (members_left c.skip_values.new.self) in
-    omega (arith, all, parts)
+returns-clause-fewer c = grind (arith, length-append, c.skip_values.ensures.left, c.skip_values.ensures.dropped)
