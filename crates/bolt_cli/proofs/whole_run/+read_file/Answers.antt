@@ -10,7 +10,7 @@ returns-then-is_changed g t c =
 pub returns-else-is_changed : goal.returns-else-is_changed
 returns-else-is_changed g t c =
     let left : c.args.left ≡ suc (c.args.left - 1) = omega (arith, c.if-left-eq0.false) in
-    DoesDeeds-after _ c.in-Ok.ensures c.do_job.ensures (λ deeds goes. rw left (c.file.ensures, rw (sym c.if-is_changed.ensures) goes))
+    DoesDeeds-after _ c.in-Ok.ensures c.do_with_source.ensures (λ deeds goes. rw left (c.file.ensures, rw (sym c.if-is_changed.ensures) goes))
 
 pub returns-in-Err : goal.returns-in-Err
 returns-in-Err g t c =
