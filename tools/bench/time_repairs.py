@@ -6,7 +6,7 @@
 Each DAMAGED is STORE without some branches, so that all that it lost is found. Its repair is timed
 beside `compact --lost-and-found` of the same file, in turn. The figures are the least of five, since
 some runs take less than 0.1 s, and the disk may add as much. The status is 1 if a repair isn't, byte for
-byte, the copy of STORE for bbolt, or takes longer than 1.6 times as long as what is beside it.
+byte, the copy of STORE for bbolt, or takes longer than twice as long as what is beside it.
 """
 
 import filecmp
@@ -16,7 +16,7 @@ import sys
 from time_found import compared, lost_and_found
 from time_recovery import ROUNDS, Copy
 
-LIMIT = 1.6
+LIMIT = 2.0
 
 
 def main():

@@ -1,9 +1,9 @@
 -- What a revision of the code shows, without where its bytes lie in memory.
-use Rattle.std.specs.Prelude.{ℕ, Bool, false, List, [], Option, Some, None}
+use Rattle.std.specs.Prelude.{ℕ, false, List, [], Option, Some, None}
 use Rattle.bolt_check.specs.Keys.{Key}
 use Rattle.bolt_tree.specs.{Entries.Bucket, Entries.EntryView, Entries.Item, Entries.Value}
-use Rattle.bolt_etcd.specs.{Records.empty, RevisionKeys.revision_key, Revisions.RevisionView, Revisions.revision_in, ShownRecords.shown_record}
-use Rattle.bolt_etcd.specs.declared.{revision.Decoded.Decoded, revision.Revision.Revision, revision_key.RevisionKey.RevisionKey}
+use Rattle.bolt_etcd.specs.{Records.empty, Revisions.RevisionView, Revisions.revision_in, ShownRecords.shown_record}
+use Rattle.bolt_etcd.specs.declared.{revision.Decoded.Decoded, revision.Revision.Revision}
 
 -- under this key
 abbrev pub shown_decoded : Key → Decoded → RevisionView

@@ -4,7 +4,7 @@ use Rattle.std.specs.List.{filter_map}
 use Rattle.std.specs.Option.{is_some}
 use Rattle.bolt_format.specs.Elements.{LeafElement}
 use Rattle.bolt_check.specs.{Counts.counted, Keys.Key}
-use Rattle.bolt_tree.specs.{Buckets.bucket_checked, Buckets.bucket_start, Entries.entry_view, EntriesLeft.ForEntries, Places.least_from, declared.bucket.Bucket.Bucket}
+use Rattle.bolt_tree.specs.{Entries.entry_view, Places.least_from, declared.bucket.Bucket.Bucket}
 use Rattle.bolt_etcd.specs.{Others.other_of, Revisions.RevisionView, Revisions.revision_of, ShownRevisions.shown_revision}
 use Rattle.bolt_etcd.specs.declared.collected.Collected.{Collected}
 use Rattle.bolt_tree.specs.EntriesLeft.{ForBucket}

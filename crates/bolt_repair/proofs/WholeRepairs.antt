@@ -1,10 +1,9 @@
 -- From what is found and what the recovered listing says of a store: what goes back, and how many keys are left out.
-use Rattle.std.proofs.Common.{◌≡◌, ◌↔◌, ◌∙◌, ◌⊎◌, ◌<◌, ◌≤◌, ◌&&◌, ◌-◌, ◌++◌, inl, inr, ℕ, Bool, true, false, List, [], ◌∷◌, Option, Some, None, arith, length, map, nat_lt, not, refl, sym, ap, subst}
+use Rattle.std.proofs.Common.{◌≡◌, ◌↔◌, ◌∙◌, ◌⊎◌, ◌≤◌, ◌&&◌, ◌-◌, ◌++◌, inl, inr, ℕ, Bool, true, false, List, [], ◌∷◌, Option, Some, None, arith, length, map, nat_lt, not, refl, sym, ap, subst}
 use Rattle.std.proofs.lemmas.Bool.{le-ltb, lt-ltb, ltb-false, ltb-true, not-false, not-true, or_cases, or_left, or_right}
 use Rattle.std.proofs.lemmas.List.{length-map}
 use Rattle.std.proofs.lemmas.{List.Elements.Contains-append_cases, List.Elements.Contains-append_left, List.Elements.Contains-append_right, Option.same_Some}
 use Rattle.std.specs.List.{Contains, filter_map}
-use Rattle.std.specs.declared.cmp.Ordering.TheVariants.{Less}
 use Rattle.bolt_format.specs.{Elements.LeafElement, declared.meta.Meta.Meta}
 use Rattle.bolt_check.specs.Keys.{Key, key_cmp}
 use Rattle.bolt_recover.specs.{Found.AreFound, Recovered.IsRecovered}
@@ -15,7 +14,7 @@ use Rattle.bolt_repair.specs.{Candidates.AreCandidates, Candidates.is_candidate,
 use Rattle.bolt_repair.specs.{FullRepairs.AreCandidateKeys, FullRepairs.IsFullRepair, Repaired.IsRepair, Repaired.MakesStore, Repaired.elements_on, Repaired.lacks_bucket}
 use Rattle.bolt_etcd.specs.{Among.among, Current.HaveOwnPlaces, Current.IsNewest, Newest.is_until}
 use Rattle.bolt_repair.specs.Repairs.{AreBack, GoesBack, IsAgreed, IsCandidate, IsCompactedAt, IsKept, IsNewestUpTo, store_path}
-use Rattle.bolt_etcd.specs.{Revisions.RevisionView, Revisions.name_of, Revisions.revision_of}
+use Rattle.bolt_etcd.specs.{Revisions.RevisionView, Revisions.revision_of}
 use Rattle.bolt_repair.specs.{StoreSurveys.IsStoreSurvey, Undisputed.AreKeys, Undisputed.AreUndisputed, WhatGoesBack.ArePutBack, WhatGoesBack.goes_back, WhatGoesBack.is_old, WhatGoesBack.old_revisions}
 use Rattle.bolt_etcd.proofs.{Currents.place_is, Filtered.filter_rises, Filtered.kept_from, MappedLists.gives_from, MappedLists.gives_has, MappedLists.shows_from, MappedLists.shows_has, Rising.fewer, Rising.rises_mapped}
 use Rattle.bolt_repair.proofs.{KeysAmong.among_has, KeysAmong.among_true, KeysAmong.without_has, OneRepair.member_once, WholeOrder.in_place, WholeOrder.same_view}

@@ -53,7 +53,8 @@ impl From<NoMemory> for RepairFault {
 impl<'a> Repair<'a> {
     ghost use Rattle.bolt_repair.specs.{RepairedMembers.IsWholeRepair, RepairedMembers.repair_file, RepairedMembers.repair_meta, RepairedMerges.repair_back};
 
-    /// Finds what goes back. Goes over what is recovered once.
+    /// Finds what goes back. Goes over what is recovered once. If there are candidates, it needs at most 168
+    /// bytes for each of them and for each recovered revision.
     ///
     /// # Errors
     ///
