@@ -21,8 +21,6 @@ mod revisions;
 mod snapshot;
 mod store_faults;
 #[cfg(test)]
-mod store_tests;
-#[cfg(test)]
 mod tests;
 mod wire;
 

@@ -17,6 +17,8 @@ mod part_lines;
 mod revision_lines;
 mod size_lines;
 mod stats_lines;
+#[cfg(test)]
+mod store_tests;
 
 pub use bbolt_lines::put_bbolt_findings;
 pub use bolt_stats::{Stats, add, stats};

@@ -1,7 +1,8 @@
-//! The lines of a small store, in a database of three pages of 1,024 bytes.
+//! What is printed of a small store, in a database of three pages of 1,024 bytes.
 
-use crate::{Newest, RevisionWriter, Revisions, put_store_faults};
+use crate::RevisionWriter;
 use bolt_check::check;
+use bolt_etcd::{Newest, Revisions, put_store_faults};
 use bolt_format::MemSink;
 use bolt_text::Form;
 use bolt_tree::Bucket;
