@@ -10,8 +10,9 @@ loop-i-preserved c =
     let inside : c.loop-i.i < length (shown_ids c.args.ids) = omega arith in
     let more = past_more (λ id. nat_le c.args.first id) (shown_ids c.args.ids) c.loop-i.i c.get-id.result c.loop-i.past.items inside c.get-id.ensures c.loop-i.invariant in
     elim c.if-first-id.branch [
-      then-first-id+in_ok-push w ↦ ap (λ (v : Vec ℕ Global). v.items) w.past-is ∙ w.in_ok-push.ensures.items ∙ rw (le-leb c.args.first c.get-id.result w.if-first-id.true) at more
-    | else-first-id w ↦ ap (λ (v : Vec ℕ Global). v.items) w.past-is ∙ sym (append-nil c.loop-i.past.items) ∙ rw (lt-leb c.args.first c.get-id.result w.if-first-id.false) at more ]
+      | then-first-id+in_ok-push w ↦ ap (λ (v : Vec ℕ Global). v.items) w.past-is ∙ w.in_ok-push.ensures.items ∙ rw (le-leb c.args.first c.get-id.result w.if-first-id.true) at more
+      | else-first-id w ↦ ap (λ (v : Vec ℕ Global). v.items) w.past-is ∙ sym (append-nil c.loop-i.past.items) ∙ rw (lt-leb c.args.first c.get-id.result w.if-first-id.false) at more
+    ]
 
 pub returns : goal.returns
 returns c = rw (take_all c.loop-i.i (shown_ids c.args.ids) (omega arith)) at c.loop-i.invariant
