@@ -2,7 +2,7 @@
 ghost use Rattle.std.specs.Prelude.{◌≡◌, ◌≤◌, IfOk, List, OnOk, length, ◌↔◌, None};
 ghost use Rattle.bolt_tree.specs.Listing.{Member};
 ghost use Rattle.bolt_bulk.specs.{Compacting.CopiesEach, Compacting.PlansEach, WholeListings.IsAgain, WholeListings.IsWholeListing};
-ghost use Rattle.bolt_bulk.specs.Private.{FindsLimits, first_pages, FitAll, PutsMembers, WritesText};
+ghost use Rattle.bolt_bulk.specs.Private.{FindsLimits, first_pages, FitAll, FitOne, PassesOver, PutsMembers, WritesText};
 ghost use Rattle.bolt_layout.specs.{PageBytes.copy_meta, PageBytes.filled, declared.Layout.TheVariants.Balanced};
 
 use crate::blueprint::Blueprint;
@@ -53,15 +53,8 @@ fn balanced_limits<'a, M: Members<'a>>(
     a_listing_has_one_layout(blueprint.page_size, blueprint.sequence);
     let none = Limits::none(alloc);
     let setup = noting_setup_of(alloc, blueprint.page_size);
-    match put_pages(setup, &none, true, members, &mut NoSink) {
-        Ok(ended) => {
-            members.restart(alloc)?;
-            Ok(ended.noted)
-        }
-        Err(BulkFault::TooLarge) => Err(PlanFault::TooLarge),
-        Err(BulkFault::Memory) => Err(PlanFault::Memory),
-        Err(BulkFault::Sink) => unreachable!(),
-    }
+    let ended = pass_over(setup, &none, true, members)?;
+    Ok(ended.noted)
 }
 
 /// The limits of rows that yield the layout.
@@ -96,18 +89,11 @@ fn plan_within<'a, M: Members<'a>>(
 {
     a_listing_has_one_layout(blueprint.page_size, blueprint.sequence);
     let setup = setup_of(alloc, blueprint.page_size);
-    match put_pages(setup, limits, false, members, &mut NoSink) {
-        Ok(ended) => {
-            members.restart(alloc)?;
-            Ok(Plan {
-                root: ended.root,
-                high_water: ended.high_water,
-            })
-        }
-        Err(BulkFault::TooLarge) => Err(PlanFault::TooLarge),
-        Err(BulkFault::Memory) => Err(PlanFault::Memory),
-        Err(BulkFault::Sink) => unreachable!(),
-    }
+    let ended = pass_over(setup, limits, false, members)?;
+    Ok(Plan {
+        root: ended.root,
+        high_water: ended.high_water,
+    })
 }
 
 /// Returns where a copy of all members of a listing that is of one tree will have its root page and its
@@ -204,6 +190,30 @@ fn put_first_pages<S: Sink>(
     put_filled(&meta_page(1, &meta(blueprint, plan, 1)), page_size, sink)?;
     let freelist = page_header(FREELIST, Kind::Freelist, 0, 0);
     put_filled(&freelist, page_size, sink)
+}
+
+/// Passes over all members as `put_pages` does, but writes nothing. The members begin again.
+fn pass_over<'a, M: Members<'a>>(
+    setup: PageSetup,
+    limits: &Limits,
+    notes: bool,
+    members: &mut M,
+) -> Result<Ended, PlanFault>
+    requires room { 3 ≤ setup.highest_mark }
+    requires whole { IsWholeListing M.reads M.listing M.left members.old }
+    requires fit { FitOne M.reads M.listing members.old setup.page_size limits.now }
+    ensures ends { PassesOver M.reads M.listing members.old setup limits.now notes result }
+    ensures again { OnOk result (IsAgain M.reads M.listing M.left M.ends_as members.old members.new) }
+{
+    match put_pages(setup, limits, notes, members, &mut NoSink) {
+        Ok(ended) => {
+            members.restart(setup.alloc)?;
+            Ok(ended)
+        }
+        Err(BulkFault::TooLarge) => Err(PlanFault::TooLarge),
+        Err(BulkFault::Memory) => Err(PlanFault::Memory),
+        Err(BulkFault::Sink) => unreachable!(),
+    }
 }
 
 /// Writes the pages of all members, in the layout whose rows have these limits. If `notes` is set

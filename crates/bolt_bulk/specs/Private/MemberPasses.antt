@@ -4,7 +4,7 @@ use Rattle.bolt_format.specs.declared.sink.Sink.{Ghosts}
 use Rattle.bolt_tree.specs.{Listing.Member, Tree.tree_of}
 use Rattle.bolt_layout.specs.{Copies.IsOfOneTree, Copies.layout_of_listing, declared.Layout.Layout}
 use Rattle.bolt_bulk.specs.{Compacting.too_many, WholeListings.IsAgain}
-use Rattle.bolt_bulk.specs.Private.{Endings.EndsPass, Passes.FitLimits, Passes.limits_with}
+use Rattle.bolt_bulk.specs.Private.{Endings.EndsPass, Endings.ReturnsEnded, Passes.FitLimits, Passes.limits_with, Stops.stops_as_planned}
 use Rattle.bolt_bulk.specs.{declared.bulk_fault.BulkFault.BulkFault, declared.limits.Limits.Limits, declared.page_setup.PageSetup.PageSetup}
 use Rattle.bolt_bulk.specs.declared.pass.Ended.{Ended}
 use Rattle.bolt_bulk.specs.{declared.bulk_fault.PlanFault.PlanFault, declared.bulk_fault.PlanFault.TheVariants.TooLarge}
@@ -13,6 +13,10 @@ use Rattle.bolt_bulk.specs.{declared.bulk_fault.PlanFault.PlanFault, declared.bu
 abbrev pub FitAll : {M W : Type 0} → (M → W → Type 0) → (W → List Member) → M → Layout → (page_size : ℕ) → Limits → Type 0
 FitAll {M} {W} reads listing members which page_size limits =
     (whole : W) → reads members whole → FitLimits which (tree_of (listing whole)) page_size (limits_with limits)
+
+-- for one of the layouts
+abbrev pub FitOne : {M W : Type 0} → (M → W → Type 0) → (W → List Member) → M → (page_size : ℕ) → Limits → Type 0
+FitOne reads listing members page_size limits = (which : Layout) × FitAll reads listing members which page_size limits
 
 -- Such limits are found, and the members begin again. TooLarge is returned only if the layout has 2^63 bytes or more.
 pub record FindsLimits {M W : Type 0} (reads : M → W → Type 0) (listing : W → List Member) (left : M → W → List Member) (ends_as : M → M → Type 0) (old new : M)
@@ -28,6 +32,12 @@ abbrev pub PutsMembers : {S M W : Type 0} → Ghosts S → (old new : S) → (M 
 PutsMembers {S} {M} {W} sink old new reads listing members setup limits notes result =
     (which : Layout) (whole : W) → reads members whole → FitLimits which (tree_of (listing whole)) setup.page_size (limits_with limits)
     → EndsPass (record { which = which; tree = tree_of (listing whole); notes = notes }) sink old new setup [] result
+
+-- a pass that writes nothing, and so doesn't fail to
+abbrev pub PassesOver : {M W : Type 0} → (M → W → Type 0) → (W → List Member) → M → PageSetup → Limits → (notes : Bool) → Result Ended PlanFault → Type 0
+PassesOver {M} {W} reads listing members setup limits notes result =
+    (which : Layout) (whole : W) → reads members whole → FitLimits which (tree_of (listing whole)) setup.page_size (limits_with limits)
+    → ReturnsEnded (record { which = which; tree = tree_of (listing whole); notes = notes }) setup (stops_as_planned result)
 
 -- this holds of each layout of a listing that is of one tree, if it has fewer than 2^63 bytes
 abbrev pub ForFitting : (page_size sequence : ℕ) → (Layout → List Member → Type 0) → Type 0
