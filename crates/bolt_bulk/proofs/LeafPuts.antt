@@ -1,47 +1,85 @@
 -- A leaf page, and an inline value, written piece by piece, whatever the code keeps of their elements: `view` is the element that it keeps.
-use Rattle.std.proofs.Common.{◌≡◌, ℕ, ◌+◌, ◌-◌, ◌*◌, List, [], ◌∷◌, ◌++◌, length, map, refl, sym, arith, append_assoc}
+use Rattle.std.proofs.Common.{◌≡◌, ℕ, ◌+◌, ◌-◌, ◌*◌, List, [], ◌∷◌, ◌++◌, length, map, refl, arith, append_assoc}
 use Rattle.std.proofs.lemmas.List.{append-nil, length-append, length-map}
-use Rattle.bolt_format.specs.{Elements.LeafElement, Encoded.header_bytes, Encoded.leaf_header, Encoded.head_bytes}
+use Rattle.std.specs.List.{AllByRecursion}
+use Rattle.bolt_format.specs.{ElementPlaces.leaf_view, Elements.LeafElement, Encoded.header_bytes, Encoded.leaf_header, Encoded.head_bytes, declared.element.Leaf.Leaf}
 use Rattle.bolt_layout.specs.{Layout.placed_bytes, Levels.overflow_of}
 use Rattle.bolt_layout.specs.PageBytes.{inline_value, leaf_bytes, leaf_data, leaf_headers, page_bytes}
 use Rattle.bolt_layout.proofs.LeafLemmas.{length-leaf_headers}
 use Rattle.bolt_format.proofs.EncodedHeaders.{length-header_bytes}
 use Rattle.bolt_format.specs.declared.header.Kind.TheVariants as kind
-use Rattle.bolt_bulk.specs.{Private.held_views, Private.leaf_page, Private.leaf_run_view, Private.page_size_of, declared.leaf_run.LeafRun.LeafRun}
-use Rattle.bolt_bulk.proofs.{ElementPuts.ArePacked, FilledTexts.zeros, FilledTexts.filled_pieces}
-use Rattle.bolt_format.proofs.WroteLemmas.{Wrote-same}
+use Rattle.bolt_bulk.specs.Private.{data_of, data_size, heads_from, held_view, held_views, leaf_page, leaf_run_view, page_size_of, stored_length}
+use Rattle.bolt_bulk.specs.{declared.held.Held.Held, declared.leaf_run.LeafRun.LeafRun}
+use Rattle.bolt_bulk.proofs.FilledTexts.{zeros, filled_pieces}
 use Rattle.bolt_format.specs.{Endings.Ending, Wrote.Wrote, declared.sink.Sink.Ghosts}
 
-abbrev pub head_of : {X : Type 0} → (X → LeafElement) → ℕ → X → List ℕ
-head_of view pos x = leaf_header (view x).is_bucket pos (length (view x).key) (length (view x).value)
+module _ {X : Type 0} (view : X → LeafElement) where
+  abbrev pub head_by : ℕ → ℕ → ℕ → X → List ℕ
+  head_by pos key value x = leaf_header (view x).is_bucket pos key value
 
-abbrev pub datum_of : {X : Type 0} → (X → LeafElement) → X → List ℕ
-datum_of view x = (view x).key ++ (view x).value
+  abbrev pub key_by : X → List ℕ
+  key_by x = (view x).key
 
-abbrev pub heads_by : {X : Type 0} → (X → LeafElement) → ℕ → List X → List ℕ
-heads_by view before xs = leaf_headers before (map view xs)
+  abbrev pub value_by : X → List ℕ
+  value_by x = (view x).value
 
-abbrev pub data_by : {X : Type 0} → (X → LeafElement) → List X → List ℕ
-data_by view xs = leaf_data (map view xs)
+  leaf_datas : (xs : List X) → data_of key_by value_by xs ≡ leaf_data (map view xs)
+  leaf_datas [] = refl
+  leaf_datas (x ∷ xs) = grind (arith, leaf_datas xs)
 
-pub leaf_packed : {X : Type 0} (view : X → LeafElement) → ArePacked (heads_by view) (data_by view) (head_of view) (datum_of view)
-leaf_packed view = record { none = λ before. refl; first = λ before x xs. grind (arith, length-map, length-append); more = λ x xs. sym (append_assoc (view x).key (view x).value (leaf_data (map view xs))) }
+  module _ (value_length : X → ℕ) where
+    -- the lengths are those of the values
+    abbrev pub AreLong : List X → Type 0
+    AreLong xs = AllByRecursion (λ (x : X). value_length x ≡ length (view x).value) xs
+
+    leaf_heads : (before : ℕ) (xs : List X) → AreLong xs → heads_from head_by key_by value_length before xs ≡ leaf_headers before (map view xs)
+    leaf_heads before [] long = refl
+    leaf_heads before (x ∷ xs) long = grind (arith, length-map, leaf_heads (before + (length (view x).key + value_length x)) xs long.1)
+
+    pub leaf_size : (xs : List X) → AreLong xs → data_size key_by value_length xs ≡ length (leaf_data (map view xs))
+    leaf_size [] long = refl
+    leaf_size (x ∷ xs) long = grind (arith, leaf_size xs long.1, length-append)
+
+    -- all that is written of them
+    abbrev pub elements_text : List X → List ℕ
+    elements_text xs = heads_from head_by key_by value_length 0 xs ++ data_of key_by value_by xs
+
+    pub leaf_elements : (xs : List X) → AreLong xs → elements_text xs ≡ leaf_bytes (map view xs)
+    unfolding leaf_bytes
+    leaf_elements xs long = let heads = leaf_heads 0 xs long in let datas = leaf_datas xs in rw (heads, datas) refl
+
+abbrev pub entry_length : Leaf → ℕ
+entry_length x = length x.value.now
+
+abbrev pub held_length : Held → ℕ
+held_length x = stored_length x.stored
+
+pub entries_long : (xs : List Leaf) → AreLong leaf_view entry_length xs
+entries_long [] = tt
+entries_long (x ∷ xs) = (refl, entries_long xs)
+
+pub entries_size : (xs : List Leaf) → data_size (key_by leaf_view) entry_length xs ≡ length (leaf_data (map leaf_view xs))
+entries_size xs = leaf_size leaf_view entry_length xs (entries_long xs)
 
 -- The page over a run, in the pieces that are written.
-pub leaf_run_wrote : {S : Type 0} {sink : Ghosts S} {old new : S} (page_size number : ℕ) (run : LeafRun) {end : Ending} → run.size ≡ page_size_of run.inlined.items run.items.items
+run_pieces : {S : Type 0} {sink : Ghosts S} {old new : S} (page_size number : ℕ) (run : LeafRun) {end : Ending} → run.size ≡ page_size_of run.inlined.items run.items.items
     → Wrote sink old new (header_bytes number kind.Leaf (length run.items.items) (overflow_of page_size run.size)
-    ++ (leaf_headers 0 (held_views run.inlined.items run.items.items) ++ (leaf_data (held_views run.inlined.items run.items.items) ++ zeros ((1 + overflow_of page_size run.size) * page_size - run.size)))) end
+    ++ (leaf_bytes (held_views run.inlined.items run.items.items) ++ zeros ((1 + overflow_of page_size run.size) * page_size - run.size))) end
     → Wrote sink old new (placed_bytes page_size (leaf_page page_size (leaf_run_view run) number ∷ [])) end
 unfolding page_bytes leaf_bytes
-leaf_run_wrote page_size number run sized wrote = grind (arith, length-map, length-header_bytes, length-leaf_headers, zeros, filled_pieces, append-nil)
+run_pieces page_size number run sized wrote = grind (arith, length-map, length-header_bytes, length-leaf_headers, zeros, filled_pieces, append-nil, append_assoc)
 
--- The pieces of an inline value.
-inline_pieces : {X : Type 0} (view : X → LeafElement) (sequence : ℕ) (xs : List X)
-    → head_bytes 0 sequence ++ (header_bytes 0 kind.Leaf (length xs) 0 ++ (leaf_headers 0 (map view xs) ++ leaf_data (map view xs))) ≡ inline_value sequence (map view xs)
-unfolding inline_value leaf_bytes
-inline_pieces view sequence xs = grind (arith, length-map)
+module _ {S : Type 0} {sink : Ghosts S} {old new : S} {end : Ending} where
+  pub leaf_run_wrote : (page_size number : ℕ) (run : LeafRun) → run.size ≡ page_size_of run.inlined.items run.items.items
+      → AreLong (held_view run.inlined.items) held_length run.items.items
+      → Wrote sink old new (header_bytes number kind.Leaf (length run.items.items) (overflow_of page_size run.size)
+      ++ (elements_text (held_view run.inlined.items) held_length run.items.items ++ zeros ((1 + overflow_of page_size run.size) * page_size - run.size))) end
+      → Wrote sink old new (placed_bytes page_size (leaf_page page_size (leaf_run_view run) number ∷ [])) end
+  leaf_run_wrote page_size number run sized long wrote =
+      run_pieces page_size number run sized (rw (leaf_elements (held_view run.inlined.items) held_length run.items.items long) at wrote)
 
-pub inline_wrote : {S X : Type 0} {sink : Ghosts S} {old new : S} (view : X → LeafElement) (sequence : ℕ) (xs : List X) {end : Ending}
-    → Wrote sink old new (head_bytes 0 sequence ++ (header_bytes 0 kind.Leaf (length xs) 0 ++ (leaf_headers 0 (map view xs) ++ leaf_data (map view xs)))) end
-    → Wrote sink old new (inline_value sequence (map view xs)) end
-inline_wrote view sequence xs a = Wrote-same (inline_pieces view sequence xs) a
+  -- The pieces of an inline value.
+  pub inline_wrote : (sequence : ℕ) (xs : List Leaf) → Wrote sink old new (head_bytes 0 sequence ++ (header_bytes 0 kind.Leaf (length xs) 0 ++ elements_text leaf_view entry_length xs)) end
+      → Wrote sink old new (inline_value sequence (map leaf_view xs)) end
+  unfolding inline_value
+  inline_wrote sequence xs wrote = let all = leaf_elements leaf_view entry_length xs (entries_long xs) in grind (arith, length-map)

@@ -2,6 +2,7 @@
 pub mod BranchRuns
 pub mod BucketRuns
 pub mod Coming
+pub mod Elements
 pub mod Endings
 pub mod FirstPages
 pub mod FormatLimits
@@ -26,6 +27,7 @@ pub mod Writers
 pub use BranchRuns.*
 pub use BucketRuns.*
 pub use Coming.*
+pub use Elements.*
 pub use Endings.*
 pub use FirstPages.*
 pub use FormatLimits.*

@@ -1,12 +1,13 @@
 //! An open run of pages above a bucket's leaves, and the branch page that it becomes.
-ghost use Rattle.std.specs.Prelude.{◌≡◌, ◌+◌, ◌<◌, ◌≤◌, true, false, IfErr, OnOk, length, ◌*◌, map};
+ghost use Rattle.std.specs.Prelude.{◌≡◌, ◌+◌, ◌<◌, ◌≤◌, true, false, IfErr, OnOk, length};
 ghost use Rattle.bolt_format.specs.{ElementPlaces.branch_view};
-ghost use Rattle.bolt_layout.specs.{Limits.one_less, PageBytes.branch_data, PageBytes.branch_headers};
-ghost use Rattle.bolt_bulk.specs.Private.{ClosesRun, IsPushed, IsSameWriter, IsSizedRun, IsStanding, key_size, length_end, longest_key, no_run, one_closed, run_has_room, run_kept, run_page, run_push, run_stays, run_view, TakesPage, WritesPage, WritesText};
+ghost use Rattle.bolt_layout.specs.Limits.{one_less};
+ghost use Rattle.bolt_bulk.specs.Private.{ClosesRun, IsPushed, IsSameWriter, IsSizedRun, IsStanding, key_size, length_end, longest_key, no_run, one_closed, run_has_room, run_kept, run_page, run_push, run_stays, run_view, TakesPage, WritesPage};
 ghost use Rattle.bolt_bulk.specs.declared.bulk_fault.BulkFault.TheVariants as fault;
 
 use crate::bulk_fault::BulkFault;
-use crate::page_pieces::{Headers, put, put_zeros};
+use crate::page_elements::put_elements;
+use crate::page_pieces::put_zeros;
 use crate::page_setup::MAX_ITEMS;
 use crate::page_writer::PageWriter;
 use bolt_format::{Branch, ELEMENT_LEN, HEADER_LEN, Kind, Sink, SinkFault};
@@ -146,31 +147,6 @@ impl<'a> BranchRun<'a> {
     }
 }
 
-/// Writes the headers of elements. All keys are packed after the last header.
-fn put_headers<S: Sink>(branches: &[Branch<'_>], sink: &mut S) -> Result<(), SinkFault>
-    requires { 16 * length branches.now + length (branch_data (map branch_view branches.now))
-        < length_end }
-    ensures { WritesText S.Sink sink.old sink.new (branch_headers 0 (map branch_view branches.now))
-        result }
-{
-    let mut headers = Headers::new(branches.len());
-    for branch in branches {
-        headers.put_branch(branch.key.len(), branch.child, sink)?;
-    }
-    headers.put_rest(sink)
-}
-
-/// Writes the keys of elements.
-fn put_keys<S: Sink>(branches: &[Branch<'_>], sink: &mut S) -> Result<(), SinkFault>
-    ensures { WritesText S.Sink sink.old sink.new (branch_data (map branch_view branches.now))
-        result }
-{
-    for branch in branches {
-        put(branch.key, sink)?;
-    }
-    Ok(())
-}
-
 /// Writes the branch page over a run.
 fn put_branch_page<S: Sink>(
     run: &BranchRun<'_>,
@@ -189,7 +165,6 @@ fn put_branch_page<S: Sink>(
     }
     let branches = run.elements.as_slice();
     let zeros = writer.put_header(Kind::Branch, branches.len(), run.size)?;
-    put_headers(branches, writer.sink)?;
-    put_keys(branches, writer.sink)?;
+    put_elements(branches, &[], writer.sink)?;
     put_zeros(zeros, writer.sink)
 }

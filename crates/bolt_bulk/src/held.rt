@@ -1,12 +1,15 @@
 //! An item of an open run of a leaf: a key with a value, with an inline bucket, which is packed
 //! anew, or with the root page of a bucket.
-ghost use Rattle.std.specs.Prelude.{◌≡◌, List, length, ◌+◌, ◌*◌, ◌<◌, ◌++◌, map};
-ghost use Rattle.bolt_bulk.specs.Private.{is_stored_bucket, IsStored, length_end, stored_value, WritesText};
-ghost use Rattle.bolt_format.specs.{ElementPlaces.leaf_view};
-ghost use Rattle.bolt_layout.specs.PageBytes.{inline_value, leaf_data, leaf_headers};
+ghost use Rattle.std.specs.Prelude.{◌≡◌, length, ◌+◌, ◌*◌, ◌<◌, map};
+ghost use Rattle.bolt_bulk.specs.Private.{is_stored_bucket, IsHeld, IsStored, length_end, stored_length, stored_value, WritesText};
+ghost use Rattle.bolt_format.specs.{ElementPlaces.leaf_view, Encoded.leaf_header};
+ghost use Rattle.bolt_layout.specs.PageBytes.{inline_value, leaf_data};
 
-use crate::page_pieces::{Headers, put};
-use bolt_format::{HEAD_LEN, Kind, Leaf, Sink, SinkFault, bucket_head, page_header};
+use crate::page_elements::{Element, put_elements};
+use crate::page_pieces::put;
+use bolt_format::{
+    ELEMENT_LEN, HEAD_LEN, Kind, Leaf, Sink, SinkFault, bucket_head, leaf_header, page_header,
+};
 
 /// What is under a key in a copy.
 #[derive(Clone, Copy)]
@@ -38,8 +41,7 @@ pub(crate) struct Held<'a> {
 impl<'a> Stored<'a> {
     /// How many bytes the value has.
     pub(crate) fn len(&self) -> usize
-        ensures { (inlined : List Leaf) → IsStored inlined self.now → result
-            ≡ length (stored_value inlined self.now) }
+        ensures { result ≡ stored_length self.now }
     {
         match *self {
             Stored::Value(value) => value.len(),
@@ -76,37 +78,35 @@ impl<'a> Stored<'a> {
     }
 }
 
-/// Writes the headers of entries. All their data is packed after the last header.
-fn put_headers<S: Sink>(entries: &[Leaf<'_>], sink: &mut S) -> Result<(), SinkFault>
-    requires { 16 * length entries.now + length (leaf_data (map leaf_view entries.now))
-        < length_end }
-    ensures { WritesText S.Sink sink.old sink.new (leaf_headers 0 (map leaf_view entries.now))
-        result }
-{
-    let mut headers = Headers::new(entries.len());
-    for entry in entries {
-        headers.put_leaf(entry.is_bucket, entry.key.len(), entry.value.len(), sink)?;
-    }
-    headers.put_rest(sink)
-}
+impl Element for Held<'_> {
+    ghost head = { λ pos key value held. leaf_header (is_stored_bucket held.stored) pos key value };
 
-/// Writes the key and the value of an entry.
-fn put_entry<S: Sink>(entry: &Leaf<'_>, sink: &mut S) -> Result<(), SinkFault>
-    ensures { WritesText S.Sink sink.old sink.new (entry.now.key.now ++ entry.now.value.now)
-        result }
-{
-    put(entry.key, sink)?;
-    put(entry.value, sink)
-}
+    ghost key = { λ held. held.key.now };
 
-/// Writes the data of entries.
-fn put_data<S: Sink>(entries: &[Leaf<'_>], sink: &mut S) -> Result<(), SinkFault>
-    ensures { WritesText S.Sink sink.old sink.new (leaf_data (map leaf_view entries.now)) result }
-{
-    for entry in entries {
-        put_entry(entry, sink)?;
+    ghost value_length = { λ held. stored_length held.stored };
+
+    ghost is_held = { λ inlined held. IsHeld inlined held };
+
+    ghost value = { λ inlined held. stored_value inlined held.stored };
+
+    #[inline(always)]
+    fn header(&self, pos: u32, key_len: u32, value_len: u32) -> [u8; ELEMENT_LEN] {
+        leaf_header(self.stored.is_bucket(), pos, key_len, value_len)
     }
-    Ok(())
+
+    #[inline(always)]
+    fn key(&self) -> &[u8] {
+        self.key
+    }
+
+    #[inline(always)]
+    fn value_len(&self) -> usize {
+        self.stored.len()
+    }
+
+    fn put_value<S: Sink>(&self, inlined: &[Leaf<'_>], sink: &mut S) -> Result<(), SinkFault> {
+        self.stored.put(inlined, sink)
+    }
 }
 
 /// Writes the value of an inline bucket, packed anew.
@@ -124,6 +124,5 @@ fn put_inline_value<S: Sink>(
     put(&bucket_head(0, sequence), sink)?;
     let header = page_header(0, Kind::Leaf, entries.len() as u16, 0);
     put(&header, sink)?;
-    put_headers(entries, sink)?;
-    put_data(entries, sink)
+    put_elements(entries, &[], sink)
 }

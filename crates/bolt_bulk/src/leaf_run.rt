@@ -1,11 +1,11 @@
 //! The run of items of a bucket's leaf under way, and the leaf page that it becomes.
-ghost use Rattle.std.specs.Prelude.{◌≡◌, ◌+◌, ◌<◌, ◌≤◌, OnOk, ◌*◌, ◌++◌, length};
-ghost use Rattle.bolt_layout.specs.{PageBytes.leaf_data, PageBytes.leaf_headers};
-ghost use Rattle.bolt_bulk.specs.Private.{HoldsLeaves, ClosesLeaf, held_views, IsHeld, IsLeafRun, IsSameWriter, leaf_page, leaves_have_room, leaf_run_view, length_end, no_leaves, stored_value, WritesPage, WritesText};
+ghost use Rattle.std.specs.Prelude.{◌≡◌, ◌+◌, ◌<◌, OnOk};
+ghost use Rattle.bolt_bulk.specs.Private.{ClosesLeaf, IsLeafRun, IsSameWriter, leaf_page, leaves_have_room, leaf_run_view, no_leaves, WritesPage};
 
 use crate::bulk_fault::BulkFault;
 use crate::held::Held;
-use crate::page_pieces::{Headers, put, put_zeros};
+use crate::page_elements::put_elements;
+use crate::page_pieces::put_zeros;
 use crate::page_setup::MAX_ITEMS;
 use crate::page_writer::PageWriter;
 use bolt_format::{Branch, HEADER_LEN, Kind, Leaf, Sink, SinkFault};
@@ -55,52 +55,6 @@ impl<'a> LeafRun<'a> {
     }
 }
 
-/// Writes the headers of items. All their data is packed after the last header.
-fn put_headers<S: Sink>(
-    items: &[Held<'_>],
-    inlined: &[Leaf<'_>],
-    sink: &mut S,
-) -> Result<(), SinkFault>
-    requires held { HoldsLeaves inlined.now items.now }
-    requires size { 16 * length items.now + length (leaf_data (held_views inlined.now items.now))
-        < length_end }
-    ensures { WritesText S.Sink sink.old sink.new
-        (leaf_headers 0 (held_views inlined.now items.now)) result }
-{
-    let mut headers = Headers::new(items.len());
-    for held in items {
-        let value = held.stored.len();
-        headers.put_leaf(held.stored.is_bucket(), held.key.len(), value, sink)?;
-    }
-    headers.put_rest(sink)
-}
-
-/// Writes the key and the value of an item.
-fn put_item<S: Sink>(held: &Held<'_>, inlined: &[Leaf<'_>], sink: &mut S) -> Result<(), SinkFault>
-    requires { IsHeld inlined.now held.now }
-    ensures { WritesText S.Sink sink.old sink.new
-        (held.now.key.now ++ stored_value inlined.now held.now.stored) result }
-{
-    put(held.key, sink)?;
-    held.stored.put(inlined, sink)
-}
-
-/// Writes the data of items.
-fn put_data<S: Sink>(
-    items: &[Held<'_>],
-    inlined: &[Leaf<'_>],
-    sink: &mut S,
-) -> Result<(), SinkFault>
-    requires { HoldsLeaves inlined.now items.now }
-    ensures { WritesText S.Sink sink.old sink.new (leaf_data (held_views inlined.now items.now))
-        result }
-{
-    for held in items {
-        put_item(held, inlined, sink)?;
-    }
-    Ok(())
-}
-
 /// Writes the leaf page over a run.
 fn put_leaf_page<S: Sink>(
     run: &LeafRun<'_>,
@@ -116,9 +70,7 @@ fn put_leaf_page<S: Sink>(
         return Ok(());
     }
     let items = run.items.as_slice();
-    let inlined = run.inlined.as_slice();
     let zeros = writer.put_header(Kind::Leaf, items.len(), run.size)?;
-    put_headers(items, inlined, writer.sink)?;
-    put_data(items, inlined, writer.sink)?;
+    put_elements(items, run.inlined.as_slice(), writer.sink)?;
     put_zeros(zeros, writer.sink)
 }

@@ -17,6 +17,7 @@ mod leaf_run;
 mod limits;
 mod members_copy;
 mod noted_limits;
+mod page_elements;
 mod page_pieces;
 mod page_setup;
 mod page_writer;

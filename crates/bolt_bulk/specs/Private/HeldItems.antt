@@ -16,6 +16,11 @@ stored_value inlined (stored.Value value) = value.now
 stored_value inlined (stored.Root page sequence) = head_bytes page sequence
 stored_value inlined (stored.Inline sequence first count size) = inline_value sequence (entries_in inlined first count)
 
+abbrev pub stored_length : Stored → ℕ
+stored_length (stored.Value value) = length value.now
+stored_length (stored.Root page sequence) = 16
+stored_length (stored.Inline sequence first count size) = size
+
 abbrev pub is_stored_bucket : Stored → Bool
 is_stored_bucket (stored.Value value) = false
 is_stored_bucket (stored.Root page sequence) = true

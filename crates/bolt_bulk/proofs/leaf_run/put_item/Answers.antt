@@ -1,8 +1,0 @@
-use Rattle.bolt_format.proofs.WroteLemmas.{Wrote-return_cut, Wrote-then}
-use Rattle.bolt_bulk.proofs.leaf_run.put_item.Goals as goal
-
-pub returns-in_err-put : goal.returns-in_err-put
-returns-in_err-put g c = Wrote-return_cut _ _ c.in_err-put.ensures c.from_residual.ensures.0
-
-pub returns : goal.returns
-returns g c = Wrote-then c.in_ok-put.ensures c.put-2.ensures
