@@ -8,7 +8,7 @@ ghost use Rattle.bolt_repair.specs.{Repaired.ForRepaired, RepairedMembers.repair
 ghost use Rattle.bolt_job.specs.CopyKinds.{is_snapshot};
 
 use crate::copies::{copy_members, put_lengths, status_of};
-use crate::copy_commands::blueprint_of;
+use crate::copy_layout::blueprint_of;
 use crate::failure::{Failure, Outcome};
 use crate::file_faults::{FileFaults, put_file_faults};
 use crate::opening::Input;

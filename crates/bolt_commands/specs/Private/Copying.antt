@@ -32,9 +32,13 @@ pub record IsAskedBlueprint (kind : CopyKind) (size : Option PageSize) (meta : M
 abbrev pub blueprint_layout : Blueprint → List Member → List ℕ
 blueprint_layout blueprint listing = layout_of_listing blueprint.layout blueprint.page_size listing blueprint.sequence
 
--- this holds of the listing of a source and of its layout by this blueprint
-abbrev pub ForLayout : {C : Type 0} → (lists : C → List Member → Type 0) → C → Blueprint → (List Member → List ℕ → Type 0) → Type 0
-ForLayout lists source blueprint P = (listing : List Member) → lists source listing → P listing (blueprint_layout blueprint listing)
+-- this holds of each listing that the members have, and of its layout by this blueprint
+abbrev pub ForLayout : {M W : Type 0} → (M → W → Type 0) → (W → List Member) → M → Blueprint → (List Member → List ℕ → Type 0) → Type 0
+ForLayout {W} reads listing members blueprint P = (whole : W) → reads members whole → P (listing whole) (blueprint_layout blueprint (listing whole))
+
+-- this is the layout of one of them
+abbrev pub IsLayoutOf : {M W : Type 0} → (M → W → Type 0) → (W → List Member) → M → Blueprint → List ℕ → Type 0
+IsLayoutOf {W} reads listing members blueprint layout = (whole : W) × reads members whole × (layout ≡ blueprint_layout blueprint (listing whole))
 
 -- the target accepted the whole copy of the listing with this layout, and it is good; or it stopped short, and the fault says why
 pub record CopiesTo {T : Type 0} (target : Ghosts T) (old new : T) (layout : List ℕ) (listing : List Member) (snapshot : Bool) (result : Result ℕ BulkFault) : Type 0 where

@@ -1,6 +1,6 @@
 -- The hash goes on with what the target accepts.
 use Rattle.bolt_commands.proofs.HashLemmas.{since_put}
-use Rattle.bolt_commands.proofs.copies.HashingSink.put.Goals as goal
+use Rattle.bolt_commands.proofs.hashed_copy.HashingSink.put.Goals as goal
 
 pub invariant_of-self : goal.invariant_of-self
 invariant_of-self g c = record {

@@ -1,11 +1,11 @@
-//! The commands that write a copy: `compact` and `load`.
+//! The command `compact`: a copy of what a file holds, or of what is left of a damaged one.
 ghost use Rattle.std.specs.Prelude.{◌≡◌};
-ghost use Rattle.bolt_format.specs.Metas.{IsPageSize};
-ghost use Rattle.bolt_commands.specs.Private.{Copying.CompactsTo, Copying.CopiesJoined, Copying.CopiesRead, Copying.IsAskedBlueprint, Copying.LoadsJob};
+ghost use Rattle.bolt_commands.specs.Private.Copying.{CompactsTo, CopiesJoined, CopiesRead};
 ghost use Rattle.bolt_commands.specs.Private.Opened.{IsOpened, IsSearchOf, opened_found};
 ghost use Rattle.bolt_commands.specs.CopyAnswers.{hash_refusal};
 
 use crate::copies::{CopyReport, copy_members, end_copy};
+use crate::copy_layout::blueprint_of;
 use crate::failure::{Failure, Outcome};
 use crate::file_faults::FileFaults;
 use crate::opened::Opened;
@@ -13,11 +13,10 @@ use crate::opening::{Input, join};
 use bolt_bulk::Blueprint;
 use bolt_bulk::laws::{a_recovery_is_whole, a_walk_is_whole, joined_members_are_whole};
 use bolt_etcd::SnapshotFault;
-use bolt_format::{Meta, Sink};
-use bolt_job::{CompactJob, CopyKind, Extent, LoadJob, PageSize};
-use bolt_load::{ListingText, a_text_is_of_one_tree};
+use bolt_format::Sink;
+use bolt_job::{CompactJob, Extent};
+use bolt_recover::LostAndFound;
 use bolt_recover::laws::{each_file_has_a_joined_listing, each_file_has_found_pages};
-use bolt_recover::{Lost, LostAndFound};
 use bolt_tree::Walk;
 
 /// Writes the compact copy that is asked for to `target`, and then what is reported of it to `out`.
@@ -99,49 +98,4 @@ fn copy_joined<T: Sink>(
     joined_members_are_whole(&joined);
     let copied = copy_members(input.alloc, &mut joined, blueprint, job.kind, target)?;
     Ok(copied)
-}
-
-/// What the copy of a file with this meta looks like, at this page size if one is asked for.
-pub(crate) fn blueprint_of(kind: CopyKind, size: Option<PageSize>, meta: &Meta) -> Blueprint
-    requires { IsPageSize meta.now.page_size }
-    ensures { IsAskedBlueprint kind size meta.now result }
-{
-    let page_size = match size {
-        Some(size) => size.bytes,
-        None => u64::from(meta.page_size),
-    };
-    Blueprint {
-        layout: crate::copy_layout::layout(kind),
-        page_size,
-        sequence: meta.root_sequence,
-    }
-}
-
-/// Writes a database of the listing that the lines of a file tell to `target`, and then the lengths
-/// of both to `out`.
-pub(crate) fn do_load<O: Sink, T: Sink>(
-    input: Input<'_>,
-    job: &LoadJob,
-    out: &mut O,
-    target: &mut T,
-) -> Outcome
-    ensures { LoadsJob O.Sink out.old out.new T.Sink target.old target.new job.now input.entry.file.now result }
-{
-    let listing = ListingText::read(input.alloc, input.file)?;
-    let mut members = listing.members(input.alloc);
-    a_text_is_of_one_tree();
-    let layout = crate::copy_layout::layout(job.kind);
-    let blueprint = Blueprint {
-        layout,
-        page_size: job.page_size.bytes,
-        sequence: job.sequence,
-    };
-    let copy = copy_members(input.alloc, &mut members, &blueprint, job.kind, target)?;
-    let report = CopyReport {
-        faults: FileFaults::none(),
-        lost: Lost::Parts(&[]),
-        found: &[],
-        source: input.file.len() as u64,
-    };
-    end_copy(copy, &report, out)
 }

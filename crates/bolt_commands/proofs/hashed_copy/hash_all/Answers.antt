@@ -1,9 +1,9 @@
 -- The target has accepted what the hashing sink has.
-use Rattle.bolt_commands.proofs.copies.hash_all.Goals as goal
+use Rattle.bolt_commands.proofs.hashed_copy.hash_all.Goals as goal
 
 pub returns-clause-copied : goal.returns-clause-copied
-returns-clause-copied g c = λ listing is.
-    let a = c.copy-result.ensures.copied listing is in
+returns-clause-copied g c = λ layout is.
+    let a = c.copy-result.ensures.copied layout is in
     record {
       all = a.all;
       bytes = a.bytes;

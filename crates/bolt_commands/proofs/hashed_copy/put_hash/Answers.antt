@@ -1,7 +1,7 @@
 -- The layout isn't whole; or it is, and its hash isn't; or both are.
 use Rattle.std.proofs.Common.{arith, true}
 use Rattle.bolt_commands.proofs.SnapshotCopies.{hash_stops, hash_whole, layout_stops}
-use Rattle.bolt_commands.proofs.copies.put_hash.Goals as goal
+use Rattle.bolt_commands.proofs.hashed_copy.put_hash.Goals as goal
 
 pub returns-in_err-done-clause-copied : goal.returns-in_err-done-clause-copied
 returns-in_err-done-clause-copied g c = λ begun layout copies since.

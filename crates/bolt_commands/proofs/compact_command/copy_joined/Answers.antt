@@ -1,7 +1,7 @@
 -- The copy is made of the joined listing; or there is none.
 use Rattle.std.proofs.Common.{Err, Ok, inl, refl}
 use Rattle.bolt_commands.proofs.{Doing.ends_as, FoundAnswers.salvaged}
-use Rattle.bolt_commands.proofs.copy_commands.copy_joined.Goals as goal
+use Rattle.bolt_commands.proofs.compact_command.copy_joined.Goals as goal
 
 pub joined_members_are_whole-requires : goal.joined_members_are_whole-requires
 joined_members_are_whole-requires g c = let joins = c.in_ok-joined.ensures.joined in rw (joins.file, joins.meta) joins.all

@@ -2,7 +2,7 @@
 use Rattle.std.proofs.Common.{◌∙◌, inr, refl, sym}
 use Rattle.bolt_commands.proofs.{CopyAnswers.compact_done, CopyAnswers.compact_failed, CopyAnswers.compact_refused, Doing.ends_as}
 use Rattle.bolt_commands.proofs.{OpenedReads.found_leaves, OpenedReads.unopened_unread}
-use Rattle.bolt_commands.proofs.copy_commands.do_compact.Goals as goal
+use Rattle.bolt_commands.proofs.compact_command.do_compact.Goals as goal
 
 pub returns-in_err-opened : goal.returns-in_err-opened
 returns-in_err-opened g c =

@@ -4,7 +4,7 @@ use Rattle.bolt_commands.proofs.Vocabulary.{has_listing, has_losses, has_recover
 use Rattle.bolt_commands.proofs.{CopyAnswers.copy_read, Doing.ends_as, Doing.on_any, ReadFiles.read_trees}
 use Rattle.bolt_commands.proofs.OpenedReads.{recovered_read, searched_read, sound_read}
 use Rattle.bolt_commands.specs.declared.opened.Opened.TheVariants.{Recovered, Searched, Sound}
-use Rattle.bolt_commands.proofs.copy_commands.copy_opened.Goals as goal
+use Rattle.bolt_commands.proofs.compact_command.copy_opened.Goals as goal
 
 pub a_walk_is_whole-requires : goal.a_walk_is_whole-requires
 a_walk_is_whole-requires g c = rw c.new-walk.ensures.checked c.new-walk.ensures.all
@@ -35,7 +35,7 @@ returns-in_err-copied-in-Recovered-clause-read g c =
     let (own, is) = has_recovered c.args.input.file.now (recovery_meta recovery) in
     let (lost, are) = has_losses c.args.input.file.now (recovery_meta recovery) in
     let copy = c.in_err-copied-in-Recovered.ensures.copied own (rw to.1.bytes is) in
-    rw c.in-Recovered.is (copy_read c.args.job.now _ (Recovered recovery) (Recovered c.copy_members-in-Recovered.new.source) _ (recovered_read recovery to is are) asked _ copy tt _ (ends_as _ _ c.from_residual-in_err-copied-in-Recovered.ensures.1))
+    rw c.in-Recovered.is (copy_read c.args.job.now _ (Recovered recovery) (Recovered c.copy_members-in-Recovered.new.members) _ (recovered_read recovery to is are) asked _ copy tt _ (ends_as _ _ c.from_residual-in_err-copied-in-Recovered.ensures.1))
 
 pub returns-in_ok-copied-in-Recovered-clause-read : goal.returns-in_ok-copied-in-Recovered-clause-read
 returns-in_ok-copied-in-Recovered-clause-read g c =
@@ -46,7 +46,7 @@ returns-in_ok-copied-in-Recovered-clause-read g c =
     let (lost, are) = has_losses c.args.input.file.now (recovery_meta recovery) in
     let copy = c.in_ok-copied-in-Recovered.ensures.copied own (rw to.1.bytes is) in
     let known = ap parts (c.in_ok-copied-in-Recovered.ensures.end lost (rw to.1.bytes are)) in
-    rw c.in-Recovered.is (copy_read c.args.job.now _ (Recovered recovery) (Recovered c.copy_members-in-Recovered.new.source) _ (recovered_read recovery to is are) asked _ copy known _ refl)
+    rw c.in-Recovered.is (copy_read c.args.job.now _ (Recovered recovery) (Recovered c.copy_members-in-Recovered.new.members) _ (recovered_read recovery to is are) asked _ copy known _ refl)
 
 pub returns-in-Searched-clause-read : goal.returns-in-Searched-clause-read
 returns-in-Searched-clause-read g c =
