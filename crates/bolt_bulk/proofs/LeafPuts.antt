@@ -1,16 +1,11 @@
--- A leaf page, and an inline value, written piece by piece, whatever the code keeps of their elements: `view` is the element that it keeps.
-use Rattle.std.proofs.Common.{◌≡◌, ℕ, ◌+◌, ◌-◌, ◌*◌, List, [], ◌∷◌, ◌++◌, length, map, refl, arith, append_assoc}
-use Rattle.std.proofs.lemmas.List.{append-nil, length-append, length-map}
+-- The elements of a leaf, whatever the code keeps of them: `view` is the element that it keeps. And an inline value, written piece by piece.
+use Rattle.std.proofs.Common.{◌≡◌, ℕ, ◌+◌, List, [], ◌∷◌, ◌++◌, length, map, refl, arith}
+use Rattle.std.proofs.lemmas.List.{length-append, length-map}
 use Rattle.std.specs.List.{AllByRecursion}
 use Rattle.bolt_format.specs.{ElementPlaces.leaf_view, Elements.LeafElement, Encoded.header_bytes, Encoded.leaf_header, Encoded.head_bytes, declared.element.Leaf.Leaf}
-use Rattle.bolt_layout.specs.{Layout.placed_bytes, Levels.overflow_of}
-use Rattle.bolt_layout.specs.PageBytes.{inline_value, leaf_bytes, leaf_data, leaf_headers, page_bytes}
-use Rattle.bolt_layout.proofs.LeafLemmas.{length-leaf_headers}
-use Rattle.bolt_format.proofs.EncodedHeaders.{length-header_bytes}
+use Rattle.bolt_layout.specs.PageBytes.{inline_value, leaf_bytes, leaf_data, leaf_headers}
 use Rattle.bolt_format.specs.declared.header.Kind.TheVariants as kind
-use Rattle.bolt_bulk.specs.Private.{data_of, data_size, heads_from, held_view, held_views, leaf_page, leaf_run_view, page_size_of, stored_length}
-use Rattle.bolt_bulk.specs.{declared.held.Held.Held, declared.leaf_run.LeafRun.LeafRun}
-use Rattle.bolt_bulk.proofs.FilledTexts.{zeros, filled_pieces}
+use Rattle.bolt_bulk.specs.Private.{data_of, data_size, heads_from}
 use Rattle.bolt_format.specs.{Endings.Ending, Wrote.Wrote, declared.sink.Sink.Ghosts}
 
 module _ {X : Type 0} (view : X → LeafElement) where
@@ -51,35 +46,16 @@ module _ {X : Type 0} (view : X → LeafElement) where
 abbrev pub entry_length : Leaf → ℕ
 entry_length x = length x.value.now
 
-abbrev pub held_length : Held → ℕ
-held_length x = stored_length x.stored
-
-pub entries_long : (xs : List Leaf) → AreLong leaf_view entry_length xs
+entries_long : (xs : List Leaf) → AreLong leaf_view entry_length xs
 entries_long [] = tt
 entries_long (x ∷ xs) = (refl, entries_long xs)
 
 pub entries_size : (xs : List Leaf) → data_size (key_by leaf_view) entry_length xs ≡ length (leaf_data (map leaf_view xs))
 entries_size xs = leaf_size leaf_view entry_length xs (entries_long xs)
 
--- The page over a run, in the pieces that are written.
-run_pieces : {S : Type 0} {sink : Ghosts S} {old new : S} (page_size number : ℕ) (run : LeafRun) {end : Ending} → run.size ≡ page_size_of run.inlined.items run.items.items
-    → Wrote sink old new (header_bytes number kind.Leaf (length run.items.items) (overflow_of page_size run.size)
-    ++ (leaf_bytes (held_views run.inlined.items run.items.items) ++ zeros ((1 + overflow_of page_size run.size) * page_size - run.size))) end
-    → Wrote sink old new (placed_bytes page_size (leaf_page page_size (leaf_run_view run) number ∷ [])) end
-unfolding page_bytes leaf_bytes
-run_pieces page_size number run sized wrote = grind (arith, length-map, length-header_bytes, length-leaf_headers, zeros, filled_pieces, append-nil, append_assoc)
-
-module _ {S : Type 0} {sink : Ghosts S} {old new : S} {end : Ending} where
-  pub leaf_run_wrote : (page_size number : ℕ) (run : LeafRun) → run.size ≡ page_size_of run.inlined.items run.items.items
-      → AreLong (held_view run.inlined.items) held_length run.items.items
-      → Wrote sink old new (header_bytes number kind.Leaf (length run.items.items) (overflow_of page_size run.size)
-      ++ (elements_text (held_view run.inlined.items) held_length run.items.items ++ zeros ((1 + overflow_of page_size run.size) * page_size - run.size))) end
-      → Wrote sink old new (placed_bytes page_size (leaf_page page_size (leaf_run_view run) number ∷ [])) end
-  leaf_run_wrote page_size number run sized long wrote =
-      run_pieces page_size number run sized (rw (leaf_elements (held_view run.inlined.items) held_length run.items.items long) at wrote)
-
-  -- The pieces of an inline value.
-  pub inline_wrote : (sequence : ℕ) (xs : List Leaf) → Wrote sink old new (head_bytes 0 sequence ++ (header_bytes 0 kind.Leaf (length xs) 0 ++ elements_text leaf_view entry_length xs)) end
-      → Wrote sink old new (inline_value sequence (map leaf_view xs)) end
-  unfolding inline_value
-  inline_wrote sequence xs wrote = let all = leaf_elements leaf_view entry_length xs (entries_long xs) in grind (arith, length-map)
+-- The pieces of an inline value.
+pub inline_wrote : {S : Type 0} {sink : Ghosts S} {old new : S} {end : Ending} (sequence : ℕ) (xs : List Leaf)
+    → Wrote sink old new (head_bytes 0 sequence ++ (header_bytes 0 kind.Leaf (length xs) 0 ++ elements_text leaf_view entry_length xs)) end
+    → Wrote sink old new (inline_value sequence (map leaf_view xs)) end
+unfolding inline_value
+inline_wrote sequence xs wrote = let all = leaf_elements leaf_view entry_length xs (entries_long xs) in grind (arith, length-map)
