@@ -144,7 +144,7 @@ fn put_hash<T: Sink>(copied: Copied, hash: Sha256, target: &mut T) -> Result<u64
 }
 
 /// What a hash began with, for proofs alone.
-pub(crate) trait Origin {
+trait Origin {
     /// Which borrow of the target it is.
     ghost name: { GName };
 
@@ -161,7 +161,7 @@ impl Origin for Brand {
 /// Hands on each byte to the target, and hashes it. The hash is right as long as the target hasn't
 /// failed.
 #[derive(Drop)]
-pub(crate) struct Hashing<'a, T: Sink, K: Origin> {
+struct Hashing<'a, T: Sink, K: Origin> {
     pub target: &'a mut T,
     pub hash: Sha256,
     pub of: PhantomData<K>,
