@@ -10,7 +10,7 @@ use Rattle.bolt_tree.proofs.BucketWays.{root_starts}
 use Rattle.bolt_tree.specs.BucketViews.{entries_of}
 use Rattle.bolt_commands.specs.{Answers.IsCutAnswer, EtcdAnswers.IsAnswerAt, EtcdAnswers.IsStoreAnswer, EtcdAnswers.OfKeys, EtcdAnswers.entries_ending, EtcdAnswers.is_compacted, EtcdAnswers.others_ending}
 use Rattle.bolt_commands.specs.Private.Etcd.{IsStoreRead, IsUnreadStore, end_of_revisions}
-use Rattle.bolt_commands.specs.declared.etcd_commands.Store.{Store}
+use Rattle.bolt_commands.specs.declared.etcd_store.Store.{Store}
 use Rattle.bolt_commands.specs.declared.failure.Failure.TheVariants as failure
 use Rattle.bolt_commands.proofs.Vocabulary.{Answer, AreEntries, Checked, JobEnding, Failure, Ghosts, HasSoundTrees, IsBucketAt, IsEndedOrCut, IsEntry, IsErrAnd, IsReadAnswer, LeafElement, MayFail, Meta, MetaChoice}
 use Rattle.bolt_commands.proofs.Vocabulary.{PrintsAnswer, ReportFault, Root_page, Start, Wrote, Wrote-stop, bucket_checked, bucket_start, ending_by, meta_of, refused, report_ending, reported}

@@ -1,6 +1,6 @@
 -- What `list` prints of a file is loaded as the listing of the file.
 use Rattle.std.proofs.Common.{◌≡◌, ◌∙◌, ◌<◌, ℕ, Bool, List, [], ◌∷◌, Option, Ok, ap, arith, false, inl, inr, length, refl, subst, sym}
-use Rattle.bolt_commands.proofs.Vocabulary.{Answer, JobEnding, First, HasSoundTrees, IsEndedOrCut, IsListedAnswer, IsListing, IsListingText, IsLoadFault, IsOfOneTree, IsReadUnder, Layout, Loads, LoadsListing, Member, Meta, MetaChoice, Path, Rises, filter_all, listing_lines, member_cmp, not, part_below, listing_part_text, path_cmp, rest_from, text_members}
+use Rattle.bolt_commands.proofs.Vocabulary.{Answer, JobEnding, Sound, HasSoundTrees, IsEndedOrCut, IsListedAnswer, IsListing, IsListingText, IsLoadFault, IsOfOneTree, IsReadUnder, Layout, Loads, LoadsListing, Member, Meta, MetaChoice, Path, Rises, filter_all, listing_lines, member_cmp, not, part_below, listing_part_text, path_cmp, rest_from, text_members}
 use Rattle.bolt_commands.proofs.ReadFiles.{read_trees}
 use Rattle.std.specs.Ordering.{is_lt}
 use Rattle.bolt_format.specs.Bytes.{IsBytes}
@@ -63,7 +63,7 @@ module _ (below : Below) where
     told_of (member ∷ listing) one rises own =
         told member listing (listing_text (member ∷ listing)) (below.right (member ∷ listing) (omega arith) one rises own) (below.read_back (member ∷ listing) one rises own)
 
-    pub listed_loads : (file : List ℕ) (choice : MetaChoice) (answer : Answer) → IsBytes file → IsListedAnswer First file choice Hex [] [] answer → answer.ending ≡ Ok 0
+    pub listed_loads : (file : List ℕ) (choice : MetaChoice) (answer : Answer) → IsBytes file → IsListedAnswer Sound file choice Hex [] [] answer → answer.ending ≡ Ok 0
         → (meta : Meta) × (listing : List Member) × IsReadUnder file choice meta × IsListing file meta listing × Told listing answer.out
     listed_loads file choice answer bytes (inl (meta, listing, lost, found, (under, lists, none, unfound), lacking, why, ended)) good =
         let one = below.one_tree file meta listing bytes (read_trees file choice meta under) lists in

@@ -6,7 +6,7 @@ use Rattle.bolt_commands.proofs.Vocabulary.{PrintsAnswer, ReportFault, Rises, Va
 use Rattle.bolt_check.specs.declared.check_fault.CheckFault.TheVariants as check
 use Rattle.bolt_commands.specs.{Answers.Answer, KeyAnswers.IsNamesAnswer, KeyAnswers.IsRecoveredAnswer, KeyAnswers.IsRecoveredValue, KeyAnswers.names_ending, KeyAnswers.no_bucket, KeyAnswers.no_key, KeyAnswers.no_value}
 use Rattle.bolt_commands.specs.Private.Recovered.{HoldsNow, bucket_ending, value_or_why}
-use Rattle.bolt_commands.specs.declared.{failure.Failure.TheVariants.Memory, recovered_commands.AtPath.AtPath}
+use Rattle.bolt_commands.specs.declared.{failure.Failure.TheVariants.Memory, commands.get_command.AtPath.AtPath}
 use Rattle.bolt_commands.proofs.{CutTexts.ended_put, CutTexts.short_put, Doing.answer_as, Doing.answer_nothing, OpenedReads.recovered_read}
 use Rattle.bolt_text.specs.ReportEndings.{HaltsShort}
 use Rattle.bolt_job.specs.declared.bucket_commands.GetJob.{GetJob}

@@ -32,7 +32,7 @@ pub use Rattle.bolt_format.specs.{declared.meta.Slot.Slot, declared.sink.Sink.Gh
 pub use Rattle.bolt_job.specs.CopyKinds.{is_snapshot}
 pub use Rattle.bolt_commands.specs.CopyLayouts.{layout_for}
 pub use Rattle.bolt_job.specs.MetaChoices.{IsMetaOf, assumed_for}
-pub use Rattle.bolt_job.specs.declared.choices.Extent.TheVariants.{First, Losses}
+pub use Rattle.bolt_job.specs.declared.choices.Extent.TheVariants.{Losses, Sound}
 pub use Rattle.bolt_job.specs.declared.choices.MetaChoice.TheVariants.{Active, Assumed, InSlot}
 pub use Rattle.bolt_job.specs.{PlainWords.owned_path, declared.choices.Extent.Extent, declared.job.Job.Job, declared.choices.MetaChoice.MetaChoice}
 pub use Rattle.bolt_job.specs.{declared.bucket_commands.ListJob.ListJob, declared.choices.PageSize.PageSize}

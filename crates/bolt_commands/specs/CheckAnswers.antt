@@ -12,7 +12,7 @@ use Rattle.bolt_report.specs.{BboltLines.bbolt_findings_text, FaultWords.finding
 use Rattle.bolt_commands.specs.FileFaults.{AreFileFaults, errors_in, fault_lines, is_fine}
 use Rattle.bolt_job.specs.MetaChoices.{HasNoMetaOf, IsMetaOf}
 use Rattle.bolt_job.specs.declared.choices.Extent.{Extent}
-use Rattle.bolt_job.specs.declared.choices.Extent.TheVariants.{First, LostAndFound}
+use Rattle.bolt_job.specs.declared.choices.Extent.TheVariants.{LostAndFound, Sound}
 use Rattle.bolt_commands.specs.declared.failure.Failure.TheVariants as failure
 use Rattle.bolt_commands.specs.declared.file_faults.FileFaults.{FileFaults}
 use Rattle.bolt_check.specs.ShownFindings.{findings_in}
@@ -81,7 +81,7 @@ IsLostAnswer extent for_bbolt faults file choice answer =
 
 -- `check` to any extent of a file of which is known what else is wrong with it
 abbrev pub IsCheckAnswerAfter : Extent → (for_bbolt : Bool) → FileFaults → List ℕ → MetaChoice → Answer → Type 0
-IsCheckAnswerAfter First for_bbolt faults file choice answer = IsFoundAnswer for_bbolt faults file choice answer
+IsCheckAnswerAfter Sound for_bbolt faults file choice answer = IsFoundAnswer for_bbolt faults file choice answer
 IsCheckAnswerAfter extent for_bbolt faults file choice answer = IsLostAnswer extent for_bbolt faults file choice answer
 
 -- the same of any file, and of a snapshot

@@ -7,7 +7,7 @@ use Rattle.bolt_recover.specs.Losses.{LostView, is_nothing}
 use Rattle.bolt_report.specs.FoundLines.{FoundView, lost_text}
 use Rattle.bolt_commands.specs.FileFaults.{fault_lines, is_fine}
 use Rattle.bolt_job.specs.declared.choices.Extent.{Extent}
-use Rattle.bolt_job.specs.declared.choices.Extent.TheVariants.{First}
+use Rattle.bolt_job.specs.declared.choices.Extent.TheVariants.{Sound}
 use Rattle.bolt_commands.specs.declared.failure.Failure.{Failure}
 use Rattle.bolt_commands.specs.declared.failure.Failure.TheVariants as failure
 use Rattle.bolt_commands.specs.declared.file_faults.FileFaults.{FileFaults}
@@ -44,7 +44,7 @@ copy_status faults lost = if is_fine faults && is_nothing lost then 0 else 1
 
 -- why a file isn't copied whose hash is wrong; what is left of a damaged one is copied all the same
 abbrev pub hash_refusal : Extent → Option SnapshotFault → Option SnapshotFault
-hash_refusal First hash = hash
+hash_refusal Sound hash = hash
 hash_refusal _ hash = None
 
 -- what is reported of a copy: what is wrong with its file apart from the pages, each loss, each found page, and the lengths of the file and of

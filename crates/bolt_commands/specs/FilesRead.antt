@@ -21,7 +21,7 @@ use Rattle.bolt_commands.specs.FileFaults.{IsMetasFault}
 use Rattle.bolt_job.specs.MetaChoices.{HasNoMetaOf, IsMetaOf}
 use Rattle.bolt_commands.specs.{Shortfalls.shortfall, declared.shortfall.Shortfall.Shortfall}
 use Rattle.bolt_job.specs.declared.choices.Extent.{Extent}
-use Rattle.bolt_job.specs.declared.choices.Extent.TheVariants.{First, LostAndFound, Losses}
+use Rattle.bolt_job.specs.declared.choices.Extent.TheVariants.{Losses, LostAndFound, Sound}
 use Rattle.bolt_commands.specs.declared.failure.Failure.{Failure}
 use Rattle.bolt_commands.specs.declared.failure.Failure.TheVariants as failure
 use Rattle.bolt_check.specs.ShownFindings.{findings_in}
@@ -116,14 +116,14 @@ IsUnjoinedUnder file choice why =
 -- under the meta that is chosen the listing of a sound file, the recovered or the joined one; what is lost of the file, and the pages that are
 -- found of it
 abbrev pub IsReadTo : Extent → List ℕ → MetaChoice → Meta → List Member → LostView → List FoundView → Type 0
-IsReadTo First file choice meta listing lost found = IsReadUnder file choice meta × IsListing file meta listing × (lost ≡ parts []) × (found ≡ [])
+IsReadTo Sound file choice meta listing lost found = IsReadUnder file choice meta × IsListing file meta listing × (lost ≡ parts []) × (found ≡ [])
 IsReadTo Losses file choice meta listing lost found =
     IsRecoveredUnder file choice meta × IsRecovered file meta listing × ((losses : List LossView) × AreLosses file meta losses × (lost ≡ parts losses)) × (found ≡ [])
 IsReadTo LostAndFound file choice meta listing lost found = IsMetaOf file choice meta × IsSalvaged file meta listing lost found
 
 -- why it isn't read
 abbrev pub IsUnreadTo : Extent → List ℕ → MetaChoice → Failure → Type 0
-IsUnreadTo First file choice why = (fault : CheckFault) × IsRefusedUnder file choice fault × IsFailureOf fault why
+IsUnreadTo Sound file choice why = (fault : CheckFault) × IsRefusedUnder file choice fault × IsFailureOf fault why
 IsUnreadTo Losses file choice why = (fault : CheckFault) × IsUnrecoverableUnder file choice fault × IsFailureOf fault why
 IsUnreadTo LostAndFound file choice why = IsUnjoinedUnder file choice why
 

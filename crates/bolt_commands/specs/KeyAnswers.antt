@@ -90,11 +90,11 @@ IsRecoveredValue job listing lost answer =
     ((value : List ℕ) × Contains listing (path, Value value) × IsShownAndEnded job.form (value_shown job.form job.no_newline value) (lost_ending lost) answer)
     ⊎ (((value : List ℕ) → Contains listing (path, Value value) → ⊥) × (answer ≡ refused (no_value path listing lost)))
 
--- the names of the buckets, their sizes, or the names of those that are recovered, of a file under a meta
+-- the names of the buckets, or of those that are recovered, or their sizes, of a file under a meta
 abbrev pub IsBucketsShown : BucketsShown → List ℕ → MetaChoice → BucketsJob → Answer → Type 0
-IsBucketsShown shown.Names file choice job answer = IsReadAnswer file choice (IsEntriesAnswer file (owned_path job.path.items) job.form (buckets_text job.form)) answer
+IsBucketsShown (shown.Names false) file choice job answer = IsReadAnswer file choice (IsEntriesAnswer file (owned_path job.path.items) job.form (buckets_text job.form)) answer
+IsBucketsShown (shown.Names true) file choice job answer = IsRecoveredAnswer file choice (IsNamesAnswer job.form names_bucket (owned_path job.path.items)) answer
 IsBucketsShown shown.Sizes file choice job answer = IsReadAnswer file choice (IsSizesAnswer file (owned_path job.path.items) job.form) answer
-IsBucketsShown shown.Recovered file choice job answer = IsRecoveredAnswer file choice (IsNamesAnswer job.form names_bucket (owned_path job.path.items)) answer
 
 abbrev pub IsBucketsPrint : BucketsJob → List ℕ → Answer → Type 0
 IsBucketsPrint job file answer = IsBucketsShown job.shown file job.meta job answer

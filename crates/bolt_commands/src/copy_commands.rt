@@ -50,7 +50,7 @@ fn hash_refusal(extent: Extent, hash: Option<SnapshotFault>) -> Option<SnapshotF
     ensures { result ≡ hash_refusal extent hash }
 {
     match extent {
-        Extent::First => hash,
+        Extent::Sound => hash,
         _ => None,
     }
 }

@@ -2,7 +2,7 @@
 ghost use Rattle.std.specs.Prelude.{◌≡◌, Ok};
 ghost use Rattle.bolt_commands.specs.Failures.{IsFailureOf, copied, reported, unjoined, unloaded, unrepaired};
 ghost use Rattle.bolt_commands.specs.declared.failure.Failure.TheVariants as failure;
-ghost use Rattle.bolt_commands.specs.Private.Endings.{ending_by, end_written};
+ghost use Rattle.bolt_commands.specs.{FilesRead.lost_ending, Private.Endings.end_written, Private.Endings.ending_by};
 
 use crate::shortfall::Shortfall;
 use bolt_bulk::BulkFault;
@@ -75,6 +75,16 @@ pub(crate) fn written(put: Result<(), SinkFault>) -> Outcome
 {
     put?;
     Ok(0)
+}
+
+/// How a job ends that put what is wanted of a listing, if that lacks this.
+pub(crate) fn end_listing(lost: Option<Shortfall>) -> Outcome
+    ensures { result ≡ lost_ending lost }
+{
+    match lost {
+        None => Ok(0),
+        Some(lost) => Err(Failure::Lost(lost)),
+    }
 }
 
 impl<T: Drop> From<AllocFailed<T>> for Failure {

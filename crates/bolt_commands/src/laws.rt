@@ -69,7 +69,7 @@ pub fn good_copies_pass_the_check()
 /// file holds nothing, `load` refuses the empty text as cut off.
 pub fn loading_a_listing_copies_it<O: Sink, T: Sink>()
     ensures { (file : List ℕ) (choice : MetaChoice) (answer : Answer) → IsBytes file
-        → IsListedAnswer extent.First file choice form.Hex [] [] answer → answer.ending ≡ Ok 0
+        → IsListedAnswer extent.Sound file choice form.Hex [] [] answer → answer.ending ≡ Ok 0
         → (meta : Meta) × (listing : List Member) × IsReadUnder file choice meta
         × IsListing file meta listing × LoadsAs O.Sink T.Sink answer.out listing }
 {
@@ -88,8 +88,8 @@ pub fn loading_a_listing_copies_it<O: Sink, T: Sink>()
 /// exactly what they do with `--recover`. `etcd-repair` writes what `compact` writes for bbolt, and puts
 /// nothing back.
 pub fn recovering_sound_trees_reads_them<O: Sink, T: Sink>()
-    ensures list { UnderSoundTrees (ListsAlike extent.Losses extent.First) }
-    ensures compact { UnderSoundTrees (CopiesAlike O.Sink T.Sink extent.Losses extent.First) }
+    ensures list { UnderSoundTrees (ListsAlike extent.Losses extent.Sound) }
+    ensures compact { UnderSoundTrees (CopiesAlike O.Sink T.Sink extent.Losses extent.Sound) }
     ensures keys { UnderSoundTrees KeysAlike }
     ensures buckets { UnderSoundTrees BucketsAlike }
     ensures get { UnderSoundTrees GetsAlike }

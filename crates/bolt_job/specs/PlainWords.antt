@@ -13,7 +13,7 @@ use Rattle.bolt_job.specs.WordRules.{alone, by_letter, by_name, needed, several,
 use Rattle.bolt_text.specs.Lines.{Text}
 use Rattle.bolt_job.specs.PathWords.{◌>>=◌, each_part, hex_path_by, part_of, parts_by, prefix_of}
 use Rattle.bolt_job.specs.declared.choices.BucketsShown.{BucketsShown}
-use Rattle.bolt_job.specs.declared.choices.BucketsShown.TheVariants.{Names, Recovered, Sizes}
+use Rattle.bolt_job.specs.declared.choices.BucketsShown.TheVariants.{Names, Sizes}
 use Rattle.bolt_job.specs.declared.choices.CopyKind.{CopyKind}
 use Rattle.bolt_job.specs.declared.choices.CopyKind.TheVariants as kind
 use Rattle.bolt_job.specs.declared.choices.Extent.{Extent}
@@ -208,11 +208,11 @@ copy_kind_by None None = kind.Plain
 abbrev kind_in : Values → CopyKind
 kind_in values = copy_kind_by (given values (codes "for-bbolt")) (given values (codes "etcd-snapshot"))
 
--- how far a command goes, by the words of `--all` or `--recover` and of `--lost-and-found` if they are given
+-- how much is read of a damaged file, by the words of `--all` or `--recover` and of `--lost-and-found` if they are given
 abbrev pub extent_by : (losses lost_and_found : Option Text) → Extent
 extent_by losses (Some word) = extent.LostAndFound
 extent_by (Some word) None = extent.Losses
-extent_by None None = extent.First
+extent_by None None = extent.Sound
 
 abbrev extent_in : (losses : Text) → Values → Extent
 extent_in losses values = extent_by (given values losses) (given values (codes "lost-and-found"))
@@ -265,12 +265,11 @@ prefix_by values = parts_by (given values (codes "parts")) >>= λ how. prefix_of
 abbrev pub name_by : Values → Result Key Text
 name_by values = parts_by (given values (codes "parts")) >>= λ how. text_by (codes "NAME") values >>= λ word. part_of how word
 
--- what is printed of buckets, by the words of `--sizes` and `--recover`, of which only one may be given
-abbrev pub shown_by : (sizes recover : Option Text) → Result BucketsShown Text
-shown_by None None = Ok Names
-shown_by (Some word) None = Ok Sizes
-shown_by None (Some word) = Ok Recovered
-shown_by (Some word) (Some other) = Err (codes "bad sizes: not with --recover")
+-- what is printed of buckets, by whether `--sizes` and `--recover` are given, of which only one may be
+abbrev pub shown_by : (sizes recover : Bool) → Result BucketsShown Text
+shown_by false recover = Ok (Names recover)
+shown_by true false = Ok Sizes
+shown_by true true = Err (codes "bad sizes: not with --recover")
 
 abbrev recover_in : Values → Bool
 recover_in values = is_given (given values (codes "recover"))
@@ -296,7 +295,7 @@ asks_check values =
 
 abbrev pub asks_buckets : Values → Result Asked Text
 asks_buckets values =
-    meta_by values >>= λ meta. form_by (given values (codes "form")) >>= λ form. shown_by (given values (codes "sizes")) (given values (codes "recover")) >>= λ shown.
+    meta_by values >>= λ meta. form_by (given values (codes "form")) >>= λ form. shown_by (is_given (given values (codes "sizes"))) (recover_in values) >>= λ shown.
     path_by values >>= λ path. file_by values >>= λ file. Ok (buckets file meta path form shown)
 
 abbrev pub asks_keys : Values → Result Asked Text

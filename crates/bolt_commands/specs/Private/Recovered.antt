@@ -6,7 +6,7 @@ use Rattle.bolt_tree.specs.{Entries.Value, Listing.Member, ListingParts.has_buck
 use Rattle.bolt_job.specs.PlainWords.{owned_path}
 use Rattle.bolt_report.specs.MemberNames.{is_wanted}
 use Rattle.bolt_commands.specs.{Answers.Answer, Answers.JobEnding, FilesRead.lost_ending, FilesRead.parents_of, KeyAnswers.IsNamesAnswer, KeyAnswers.IsRecoveredAnswer, KeyAnswers.no_bucket, KeyAnswers.no_key}
-use Rattle.bolt_commands.specs.declared.{failure.Failure.Failure, recovered_commands.AtPath.AtPath, recovered_commands.RecoveredNames.RecoveredNames, shortfall.Shortfall.Shortfall}
+use Rattle.bolt_commands.specs.declared.{failure.Failure.Failure, commands.get_command.AtPath.AtPath, recovered_names.RecoveredNames.RecoveredNames, shortfall.Shortfall.Shortfall}
 
 -- the names that are asked for of what is recovered
 abbrev pub IsNamesPrint : RecoveredNames → List ℕ → Answer → Type 0
