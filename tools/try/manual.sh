@@ -14,5 +14,5 @@ PYTHONPATH=tests:tools/format python3 -B tools/usage/check_lists.py "$program"
 set +x
 echo "check_links.py on all documents, and on the sources that refer to them" >&2
 python3 -B tools/usage/check_links.py README.md docs/*.md crates/*/README.md \
-	Makefile tools/*/*.sh crates/*/src/*.rt crates/*/specs/*.antt crates/*/specs/*/*.antt crates/*/proofs/*.antt
+	Makefile tools/*/*.sh crates/*/src/*.rt crates/*/src/*/*.rt crates/*/specs/*.antt crates/*/specs/*/*.antt crates/*/proofs/*.antt
 python3 -B tools/usage/check_links.py tools/usage/broken_links.md | cmp - tools/usage/broken_links.found

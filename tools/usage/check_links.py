@@ -25,12 +25,12 @@ from functools import cache
 
 LINK = re.compile(r"\[[^\]]*\]\(([^)\s]+)\)")
 NAMED = re.compile(r"(?<![\w/.(-])((?:docs|crates|tools|examples|completions)/[\w./*-]*[\w*])")
-MODULE = re.compile(r"(?<![\w/])((?:specs|proofs)/[A-Z][\w/]*|src/\w+\.rt)")
+MODULE = re.compile(r"(?<![\w/])((?:specs|proofs)/[A-Z][\w/]*|src/[\w/]+\.rt)")
 DOCUMENT = re.compile(r"docs/\w+\.md\b")
 QUOTED = re.compile(r"(docs/\w+\.md)\)?,? \(?\"([^\"]+)\"(?: and \"([^\"]+)\")?")
 CODE = re.compile(r"`([^`\n]+)`")
 PROGRAM_NAME = re.compile(r"(?:\w+::)?(?:[A-Z][a-z]+(?:[A-Z][a-z]*)+|[a-z]+(?:_[a-z]+)+)(?:::\w+)?|[A-Z]\w+::\w+")
-SOURCES = ("crates/*/src/*.rt", "crates/*/specs/**/*.antt", "crates/*/proofs/**/*.antt", "tests/*.py", "tools/*/*.py", "tools/*/*.c")
+SOURCES = ("crates/*/src/**/*.rt", "crates/*/specs/**/*.antt", "crates/*/proofs/**/*.antt", "tests/*.py", "tools/*/*.py", "tools/*/*.c")
 # The mark of a comment that goes on in the next line.
 MARK = re.compile(r"\n[ \t]*(?:///|//!|//|--|#)?[ \t]*")
 

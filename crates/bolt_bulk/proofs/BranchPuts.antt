@@ -1,14 +1,12 @@
 -- A branch page, written piece by piece.
 use Rattle.std.proofs.Common.{◌≡◌, ℕ, ◌+◌, ◌-◌, ◌*◌, List, [], ◌∷◌, ◌++◌, length, map, refl, arith, append_assoc}
 use Rattle.std.proofs.lemmas.List.{append-nil, length-append, length-map}
-use Rattle.bolt_format.specs.{ElementPlaces.branch_view, declared.element.Branch.Branch, Encoded.branch_header, Encoded.header_bytes}
-use Rattle.bolt_layout.specs.{Layout.placed_bytes, Levels.overflow_of}
-use Rattle.bolt_layout.specs.PageBytes.{branch_bytes, branch_data, branch_headers, page_bytes}
-use Rattle.bolt_layout.proofs.BranchLemmas.{length-branch_headers}
-use Rattle.bolt_format.proofs.EncodedHeaders.{length-header_bytes}
+use Rattle.bolt_format.specs.{ElementPlaces.branch_view, declared.element.Branch.Branch, Encoded.branch_header, Encoded.header_bytes, Endings.Ending, Wrote.Wrote, declared.sink.Sink.Ghosts}
+use Rattle.bolt_layout.specs.{Layout.placed_bytes, Levels.overflow_of, PageBytes.branch_bytes, PageBytes.branch_data, PageBytes.branch_headers, PageBytes.page_bytes}
+use Rattle.bolt_layout.proofs.Exports.{length-branch_headers}
+use Rattle.bolt_format.proofs.Exports.{length-header_bytes}
 use Rattle.bolt_format.specs.declared.header.Kind.TheVariants as kind
 use Rattle.bolt_bulk.specs.{Private.IsSizedRun, Private.data_of, Private.data_size, Private.heads_from, Private.run_page, Private.run_view, declared.branch_run.BranchRun.BranchRun}
-use Rattle.bolt_format.specs.{Endings.Ending, Wrote.Wrote, declared.sink.Sink.Ghosts}
 use Rattle.bolt_bulk.proofs.FilledTexts.{zeros, filled_pieces}
 
 abbrev pub head_of : ℕ → ℕ → ℕ → Branch → List ℕ

@@ -1,17 +1,15 @@
 -- A bucket's open runs, one after another: the climb over them, and the end of the bucket, at which each closes.
 use Rattle.std.proofs.lemmas.Grind.{common_steps}
-use Rattle.std.proofs.Common.{◌≡◌, ◌∙◌, ℕ, suc, ◌+◌, ◌<◌, ◌≤◌, true, false, List, [], ◌∷◌, ◌++◌, length, map, take, drop, get_or, set, if◌then◌else◌, add-one, Option, Some, None, Ok, Err, option_map, refl, sym, ap, arith, append_assoc}
 use Rattle.std.proofs.lemmas.List.{length-map, drop_all, drop_more, drop-set-lt, set_split, take_all, take_more_set}
-use Rattle.std.proofs.Math.ListN.{get_or-map}
-use Rattle.std.proofs.lemmas.Option.{none-some, same_Some}
+use Rattle.std.proofs.{Math.ListN.get_or-map, lemmas.Option.none-some, lemmas.Option.same_Some}
+use Rattle.std.proofs.Common.{◌≡◌, ◌∙◌, ℕ, suc, ◌+◌, ◌<◌, ◌≤◌, true, false, List, [], ◌∷◌, ◌++◌, length, map, take, drop, get_or, set, if◌then◌else◌, add-one, Option, Some, None, Ok, Err, option_map, refl, sym, ap, arith, append_assoc}
 use Rattle.std.specs.{List.AllByRecursion, Prelude.⊤}
-use Rattle.bolt_format.specs.{ElementPlaces.branch_view, Elements.BranchElement, declared.element.Branch.Branch, Wrote.Wrote}
-use Rattle.bolt_format.specs.{Endings.whole, declared.sink.Sink.Ghosts}
+use Rattle.bolt_format.specs.{ElementPlaces.branch_view, Elements.BranchElement, declared.element.Branch.Branch, Wrote.Wrote, Endings.whole, declared.sink.Sink.Ghosts}
 use Rattle.bolt_bulk.specs.Private.{element_up, IsStanding, key_size, no_run, one_closed, run_kept, run_page, run_push, run_stays, run_view, runs_above, runs_climb, runs_close_put, runs_end_next, runs_next, runs_put, runs_root, RunView, taking_next, taking_puts, taking_up, Closes, Writes}
 use Rattle.bolt_bulk.specs.{declared.branch_run.BranchRun.BranchRun, declared.bulk_fault.BulkFault.BulkFault, declared.page_setup.PageSetup.PageSetup}
 use Rattle.bolt_layout.specs.{Laid.Placed, Levels.overflow_of, Limits.one_less, Layout.placed_bytes}
-use Rattle.bolt_bulk.proofs.{PutsLemmas.bytes-append, PutsLemmas.short_stop, PutsLemmas.Wrote-stops}
-use Rattle.bolt_format.proofs.WroteFronts.{WroteFront, front_more, front_stop, front_whole}
+use Rattle.bolt_bulk.proofs.PutsLemmas.{bytes-append, short_stop, Wrote-stops}
+use Rattle.bolt_format.proofs.Exports.{WroteFront, front_more, front_stop, front_whole}
 
 -- The whole climb, from an element, a number and runs; and the climb that is left, from the runs from number i on.
 pub record Climbing {S : Type 0} (setup : PageSetup) (new : Option ℕ) (key : List ℕ) (e0 : BranchElement) (n0 : ℕ) (runs0 : List RunView) (sink : Ghosts S) (old later : S)

@@ -1,18 +1,15 @@
 -- The first pages and those of all buckets are the layout, and so a copy is written whole, or stops short.
-use Rattle.std.proofs.lemmas.Grind.{common_steps}
+use Rattle.std.proofs.{lemmas.Grind.common_steps, KnownBytes.Appends-trans}
 use Rattle.std.proofs.Common.{◌≡◌, ◌≢◌, ℕ, [], ◌≤◌, ◌<◌, List, ◌++◌, length, Ok, Err, arith, append_assoc}
-use Rattle.std.proofs.KnownBytes.{Appends-trans}
-use Rattle.bolt_format.specs.Sinks.{AppendsProperPrefix}
+use Rattle.bolt_format.specs.{Sinks.AppendsProperPrefix, Wrote.Wrote, Endings.whole, Endings.cut, declared.sink.Sink.Ghosts}
 use Rattle.bolt_tree.specs.Tree.{Tree}
-use Rattle.bolt_bulk.specs.{Compacting.Copies, Compacting.too_many, Private.first_pages, Private.stopped_by, declared.bulk_fault.BulkFault.BulkFault}
-use Rattle.bolt_layout.specs.{Laid.Placed, Layout.layout_mark, Layout.layout_of, Layout.layout_pages, Layout.layout_root, Layout.placed_bytes}
+use Rattle.bolt_bulk.specs.{Compacting.Copies, Compacting.too_many, Private.first_pages, Private.stopped_by, declared.bulk_fault.BulkFault.BulkFault, BulkEndings.fault_ending}
+use Rattle.bolt_bulk.specs.declared.bulk_fault.PlanFault.{PlanFault}
+use Rattle.bolt_layout.specs.{Laid.Placed, Layout.layout_mark, Layout.layout_of, Layout.layout_pages, Layout.layout_root, Layout.placed_bytes, declared.Layout.Layout}
 use Rattle.bolt_bulk.specs.declared.bulk_fault.BulkFault.TheVariants as bulk
-use Rattle.bolt_bulk.specs.{BulkEndings.fault_ending, declared.bulk_fault.PlanFault.PlanFault}
 use Rattle.bolt_bulk.specs.declared.bulk_fault.PlanFault.TheVariants as planned
-use Rattle.bolt_layout.specs.declared.Layout.{Layout}
 use Rattle.bolt_bulk.proofs.PutsLemmas.{Wrote-failed, proper_none, proper_same}
-use Rattle.bolt_format.proofs.SinkLemmas.{AppendsProperPrefix-first, AppendsProperPrefix-second}
-use Rattle.bolt_format.specs.{Wrote.Wrote, Endings.whole, Endings.cut, declared.sink.Sink.Ghosts}
+use Rattle.bolt_format.proofs.Exports.{AppendsProperPrefix-first, AppendsProperPrefix-second}
 
 pub layout_parts : (which : Layout) (page_size : ℕ) (tree : Tree) (sequence root mark : ℕ) → root ≡ layout_root which page_size tree → mark ≡ layout_mark which page_size tree
     → layout_of which page_size tree sequence ≡ first_pages page_size root sequence mark ++ placed_bytes page_size (layout_pages which page_size tree)

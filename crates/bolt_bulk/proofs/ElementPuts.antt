@@ -4,8 +4,7 @@ use Rattle.std.proofs.lemmas.List.{drop_all, drop_more, length-drop}
 use Rattle.std.specs.List.{AllByRecursion}
 use Rattle.std.specs.Prelude.{IsErr}
 use Rattle.bolt_bulk.specs.Private.{Buffers, data_of, data_size, heads_from}
-use Rattle.bolt_format.proofs.WroteFronts.{WroteFront, front_more, front_return}
-use Rattle.bolt_format.proofs.WroteLemmas.{Wrote-same, Wrote-then}
+use Rattle.bolt_format.proofs.Exports.{WroteFront, front_more, front_return, Wrote-same, Wrote-then}
 use Rattle.bolt_format.specs.{Wrote.Wrote, Endings.Ending, Endings.page_ending, declared.sink.Sink.Ghosts}
 
 -- the next element of those that are left

@@ -1,17 +1,14 @@
 -- What the laws say of the layout of a checked file. That its trees are sound is known without a witness, and so is what follows from it.
 use Rattle.std.proofs.Common.{◌≡◌, ◌≢◌, ◌<◌, ◌≤◌, ◌+◌, ◌*◌, ◌/◌, ℕ, List, [], length, refl, subst, arith}
-use Rattle.std.proofs.Math.Logic.{∥∥₁_elim, ∥∥₁_map}
-use Rattle.std.proofs.Math.Nat.{div-lt_iff_lt-mul, div-mul-le_self, mul-le-mul_right}
-use Rattle.std.proofs.Props.{props}
+use Rattle.std.proofs.{Math.Logic.∥∥₁_elim, Math.Logic.∥∥₁_map, Math.Nat.div-lt_iff_lt-mul, Math.Nat.div-mul-le_self, Math.Nat.mul-le-mul_right, Props.props}
 use Rattle.std.specs.List.{AllByRecursion}
 use Rattle.bolt_format.specs.Metas.{IsPageSize}
 use Rattle.bolt_tree.specs.{Listing.Member, Tree.Tree, Tree.listing_of, Tree.tree_of}
 use Rattle.bolt_bulk.specs.{Compacting.too_many, Private.HasMemberLengths}
-use Rattle.bolt_layout.specs.{Copies.IsOfOneTree, Layout.layout_mark, declared.Layout.TheVariants.Balanced, declared.Layout.TheVariants.Plain}
-use Rattle.bolt_layout.specs.Items.{root_of}
-use Rattle.bolt_format.proofs.PageSizes.{size_bounds}
+use Rattle.bolt_layout.specs.{Copies.IsOfOneTree, Layout.layout_mark, declared.Layout.TheVariants.Balanced, declared.Layout.TheVariants.Plain, Items.root_of}
+use Rattle.bolt_format.proofs.Exports.{size_bounds}
 use Rattle.bolt_bulk.proofs.PassEnds.{members_fit}
-use Rattle.bolt_layout.proofs.NotMuchLarger.{plain_not_much_larger}
+use Rattle.bolt_layout.proofs.Exports.{plain_not_much_larger}
 
 -- it has a byte
 pub some_bytes : (bytes : List ℕ) (mark page_size : ℕ) → length bytes ≡ (3 + mark) * page_size → IsPageSize page_size → bytes ≢ []

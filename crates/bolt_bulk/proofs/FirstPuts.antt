@@ -1,9 +1,8 @@
 -- The pages that precede those of the buckets, written one after another.
 use Rattle.std.proofs.Common.{ℕ, List, ◌++◌}
 use Rattle.bolt_layout.specs.PageBytes.{copy_meta, filled, freelist_page, meta_page}
-use Rattle.bolt_format.specs.Encoded.{header_bytes, meta_bytes}
+use Rattle.bolt_format.specs.{Encoded.header_bytes, Encoded.meta_bytes, Endings.Ending, Wrote.Wrote, declared.sink.Sink.Ghosts}
 use Rattle.bolt_format.specs.declared.header.Kind.TheVariants as kind
-use Rattle.bolt_format.specs.{Endings.Ending, Wrote.Wrote, declared.sink.Sink.Ghosts}
 use Rattle.bolt_bulk.specs.Private.{first_pages}
 
 -- a meta page, and the freelist page

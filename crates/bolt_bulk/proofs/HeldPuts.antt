@@ -1,16 +1,14 @@
 -- A leaf page, written piece by piece.
 use Rattle.std.proofs.Common.{◌≡◌, ℕ, ◌+◌, ◌-◌, ◌*◌, List, [], ◌∷◌, ◌++◌, length, arith, refl, append_assoc}
 use Rattle.std.proofs.lemmas.List.{append-nil, length-drop, length-map, length-take-le}
-use Rattle.bolt_format.specs.{declared.element.Leaf.Leaf, Encoded.header_bytes}
+use Rattle.bolt_format.specs.{declared.element.Leaf.Leaf, Encoded.header_bytes, Endings.Ending, Wrote.Wrote, declared.sink.Sink.Ghosts}
 use Rattle.bolt_format.specs.declared.header.Kind.TheVariants as kind
-use Rattle.bolt_format.specs.{Endings.Ending, Wrote.Wrote, declared.sink.Sink.Ghosts}
-use Rattle.bolt_format.proofs.EncodedHeaders.{length-head_bytes, length-header_bytes}
-use Rattle.bolt_layout.specs.{Layout.placed_bytes, Levels.overflow_of}
-use Rattle.bolt_layout.specs.PageBytes.{leaf_bytes, leaf_data, page_bytes}
-use Rattle.bolt_layout.proofs.LeafLemmas.{length-leaf_headers}
+use Rattle.bolt_format.proofs.Exports.{length-head_bytes, length-header_bytes}
+use Rattle.bolt_layout.specs.{Layout.placed_bytes, Levels.overflow_of, PageBytes.leaf_bytes, PageBytes.leaf_data, PageBytes.page_bytes}
+use Rattle.bolt_layout.proofs.Exports.{length-leaf_headers}
 use Rattle.bolt_bulk.specs.{declared.held.Held.Held, declared.held.Stored.Stored, declared.leaf_run.LeafRun.LeafRun}
-use Rattle.bolt_bulk.specs.declared.held.Stored.TheVariants as stored
 use Rattle.bolt_bulk.specs.Private.{data_size, HoldsLeaves, held_view, held_views, IsLeafRun, IsStored, leaf_page, leaf_run_view, page_size_of, stored_length, stored_value}
+use Rattle.bolt_bulk.specs.declared.held.Stored.TheVariants as stored
 use Rattle.bolt_bulk.proofs.{FilledTexts.zeros, FilledTexts.filled_pieces, HeldRuns.length-inline_value}
 use Rattle.bolt_bulk.proofs.LeafPuts.{AreLong, elements_text, key_by, leaf_elements, leaf_size}
 

@@ -1,16 +1,15 @@
 -- A run of items that takes one more, and the entries of the inline buckets among them.
-use Rattle.std.proofs.lemmas.Grind.{common_steps}
-use Rattle.std.proofs.Common.{Bor, ◌∙◌, Global, Vec, subst, ◌≡◌, ℕ, ◌+◌, ◌<◌, ◌≤◌, false, List, [], ◌∷◌, ◌++◌, length, map, refl, sym, ap, arith}
-use Rattle.std.proofs.Math.Seq.{drop-append_seam, take-length}
+use Rattle.std.proofs.{lemmas.Grind.common_steps, Math.Seq.drop-append_seam, Math.Seq.take-length}
 use Rattle.std.proofs.lemmas.List.{drop-append-le, length-append, length-drop, length-map, take-append-le, map-append}
+use Rattle.std.proofs.Common.{Bor, ◌∙◌, Global, Vec, subst, ◌≡◌, ℕ, ◌+◌, ◌<◌, ◌≤◌, false, List, [], ◌∷◌, ◌++◌, length, map, refl, sym, ap, arith}
 use Rattle.std.specs.List.{AllByRecursion}
 use Rattle.bolt_format.specs.{ElementPlaces.leaf_view, Elements.LeafElement, declared.element.Leaf.Leaf}
 use Rattle.bolt_layout.specs.PageBytes.{inline_value, leaf_data}
 use Rattle.bolt_bulk.specs.Private.{HoldsLeaves, entries_in, entries_size, HasRoomFor, held_view, held_views, inline_element, inline_size, inlined_by, inlined_in, IsHeld, IsInlined, IsOpenBucket, IsStored, page_size_of, stored_value, value_item}
 use Rattle.bolt_bulk.specs.{declared.bucket_runs.BucketRuns.BucketRuns, declared.leaf_run.LeafRun.LeafRun, declared.held.Held.Held, declared.held.Stored.Stored}
 use Rattle.bolt_bulk.specs.declared.held.Stored.TheVariants as stored
-use Rattle.bolt_layout.proofs.{ListLemmas.all_append, SpanLemmas.length-leaf_bytes}
-use Rattle.bolt_format.proofs.EncodedHeaders.{length-header_bytes, length-head_bytes}
+use Rattle.bolt_layout.proofs.Exports.{all_append, length-leaf_bytes}
+use Rattle.bolt_format.proofs.Exports.{length-header_bytes, length-head_bytes}
 
 -- what is known of a run of items
 pub record IsRun (inlined : List Leaf) (items : List Held) (size : ℕ) : Type 0 where

@@ -1,15 +1,13 @@
 -- The most that a pass has held so far changes only when an item joins a leaf: then the items that are held now count.
 use Rattle.std.proofs.Common.{◌≡◌, ◌∙◌, ℕ, ◌+◌, ◌≤◌, Option, List, [], ◌∷◌, ◌++◌, length, max, refl, ap, arith}
-use Rattle.std.proofs.lemmas.List.{length-append, length-map}
-use Rattle.std.proofs.lemmas.List.Sums.{sum_by-cons}
+use Rattle.std.proofs.{lemmas.List.length-append, lemmas.List.length-map, lemmas.List.Sums.sum_by-cons}
 use Rattle.bolt_format.specs.{ElementPlaces.branch_view, Elements.BranchElement, Elements.LeafElement}
 use Rattle.bolt_layout.specs.Laid.{Laid, elements_of, held_in}
 use Rattle.bolt_layout.specs.Levels as parents
 use Rattle.bolt_bulk.specs.Private.{AreOpenRuns, AreUppers, AreWaiting, bucket_runs, climb, close, end_of, BucketFrame, held_frames, held_item, held_on, held_open, held_over, held_so_far, items_above, items_around, items_in, Known, length_frames, length_open, length_over, making_room, Open, pushing, run_view, runs_above, taking, Upper}
+use Rattle.bolt_bulk.specs.{declared.branch_run.BranchRun.BranchRun, declared.bucket_runs.BucketRuns.BucketRuns, declared.waiting_bucket.WaitingBucket.WaitingBucket}
 use Rattle.bolt_check.specs.Counts.{saturated}
-use Rattle.bolt_bulk.specs.{declared.branch_run.BranchRun.BranchRun, declared.bucket_runs.BucketRuns.BucketRuns}
-use Rattle.bolt_bulk.specs.declared.waiting_bucket.WaitingBucket.{WaitingBucket}
-use Rattle.bolt_layout.proofs.LaidItems.{length-elements}
+use Rattle.bolt_layout.proofs.Exports.{length-elements}
 
 -- ---- runs
 

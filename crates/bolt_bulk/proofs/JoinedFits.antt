@@ -7,9 +7,9 @@ use Rattle.bolt_check.specs.Keys.{Key}
 use Rattle.bolt_tree.specs.{Entries.Bucket, Entries.Item, Listing.Member, Paths.Path}
 use Rattle.bolt_layout.specs.{Copies.IsOfOneTree, Storable.IsFitListing, Storable.IsFitMember}
 use Rattle.bolt_bulk.specs.WholeListings.{IsWholeListing}
-use Rattle.bolt_layout.proofs.FileTrees.{good_fits, good_inner, good_shown, held_fits}
+use Rattle.bolt_layout.proofs.Exports.{good_fits, good_inner, good_shown, held_fits}
 use Rattle.bolt_recover.specs.{Joined.IsFoundMember, Joined.IsJoined, Joined.lost_and_found, PageKeys.page_key, Recovered.IsRecovered}
-use Rattle.bolt_recover.proofs.{MembersInBuckets.path_holds, MembersInBuckets.shows_entry, JoinedContents.joined_contents, PageNames.digits_long}
+use Rattle.bolt_recover.proofs.Exports.{path_holds, shows_entry, joined_contents, digits_long}
 
 -- Members of a listing that fits are whole, if all are left.
 pub whole_if_fit : {M : Type 0} {lists : M → List Member → Type 0} {left : M → List Member → List Member} {members : M} → (listing : List Member) × lists members listing

@@ -3,6 +3,7 @@ mod BucketLemmas
 mod ClimbLemmas
 mod CopyLemmas
 mod ElementPuts
+pub mod Exports
 mod FileLayouts
 mod FilledTexts
 mod FirstPuts
@@ -10,7 +11,7 @@ mod HeldPasses
 mod HeldPuts
 mod HeldRuns
 mod HeldSteps
-pub mod JoinedFits
+mod JoinedFits
 mod KeptRuns
 mod LeafPuts
 mod LimitLemmas

@@ -1,11 +1,7 @@
 -- The limits of rows: those of other rows stay, and those of a bucket are noted row by row.
-use Rattle.std.proofs.lemmas.Grind.{common_steps}
+use Rattle.std.proofs.{lemmas.Grind.common_steps, lemmas.Bool.cases_lt, lemmas.List.drop_all, lemmas.Map.Lookups.exact_unsigned}
 use Rattle.std.proofs.Common.{◌≡◌, ◌∙◌, ◌<◌, ◌≤◌, ◌+◌, ◌-◌, ℕ, suc, Bool, false, Option, Some, None, List, [], ◌∷◌, length, drop, refl, sym, ap, inl, inr, arith}
-use Rattle.std.proofs.lemmas.Bool.{cases_lt}
-use Rattle.std.proofs.lemmas.List.{drop_all}
-use Rattle.std.proofs.lemmas.Map.Lookups.{exact_unsigned}
-use Rattle.std.specs.BTreeMap.{BTreeMap, Updates, get}
-use Rattle.std.specs.Ordering.{is_eq}
+use Rattle.std.specs.{BTreeMap.BTreeMap, BTreeMap.Updates, BTreeMap.get, Ordering.is_eq}
 use Rattle.bolt_layout.specs.Limits.{limit_at, limits_from_ends}
 use Rattle.bolt_bulk.specs.{Private.IsOtherRow, Private.limit_in, Private.row_cmp, declared.limits.Limits.Limits}
 

@@ -1,15 +1,11 @@
 -- Entries that are values, in front of a tree: what they are as items, and whether a bucket with them is inline.
-use Rattle.std.proofs.lemmas.Grind.{common_steps}
+use Rattle.std.proofs.{lemmas.Grind.common_steps, lemmas.Bool.le-leb, lemmas.Bool.lt-leb, lemmas.List.length-append, lemmas.List.Sums.sum_by-cons}
 use Rattle.std.proofs.Common.{◌≡◌, ℕ, ◌+◌, ◌/◌, ◌≤◌, ◌<◌, ◌⊎◌, ◌&&◌, Bool, true, false, List, [], ◌∷◌, ◌++◌, length, refl, sym, ap, arith}
-use Rattle.std.proofs.lemmas.Bool.{le-leb, lt-leb}
-use Rattle.std.proofs.lemmas.List.{length-append}
-use Rattle.std.proofs.lemmas.List.Sums.{sum_by-cons}
 use Rattle.std.specs.List.{AllByRecursion}
 use Rattle.bolt_format.specs.Elements.{LeafElement}
 use Rattle.bolt_tree.specs.Tree.{Tree, end, with_bucket, with_value}
 use Rattle.bolt_layout.specs.{Cut.run_size, Items.holds_bucket, Items.is_inline, Items.items_of, Items.leaf_item}
-use Rattle.bolt_layout.specs.{Laid.Laid, Laid.elements_of, Laid.held_in, Laid.numbers_of, Laid.pages_of, Laid.size_of}
-use Rattle.bolt_layout.specs.declared.Layout.{Layout}
+use Rattle.bolt_layout.specs.{Laid.Laid, Laid.elements_of, Laid.held_in, Laid.numbers_of, Laid.pages_of, Laid.size_of, declared.Layout.Layout}
 use Rattle.bolt_bulk.specs.Private.{entries_size, IsKeyedItem, onto}
 
 abbrev pub IsValue : LeafElement → Type 0

@@ -1,14 +1,11 @@
 -- What a forward pass over a bucket's items writes is the pages over them.
 use Rattle.std.proofs.Common.{◌≡◌, ◌∙◌, ◌⊎◌, ℕ, suc, ◌+◌, true, false, Option, List, [], ◌∷◌, ◌++◌, length, map, refl, sym, ap, subst, inl, inr, arith, append_assoc}
-use Rattle.std.proofs.lemmas.Bool.{cases_Bool, or_parts}
-use Rattle.std.proofs.lemmas.List.{append-nil, length-append}
-use Rattle.std.proofs.lemmas.List.Sums.{sum_by_push}
+use Rattle.std.proofs.{lemmas.Bool.cases_Bool, lemmas.Bool.or_parts, lemmas.List.append-nil, lemmas.List.length-append, lemmas.List.Sums.sum_by_push}
 use Rattle.bolt_format.specs.Elements.{BranchElement, LeafElement}
 use Rattle.bolt_layout.specs.{Cut.branch_cut, Cut.cut_from, Cut.joins, Laid.Laid, Laid.Placed, Laid.numbers_of, Laid.pages_of, Laid.size_of}
-use Rattle.bolt_layout.specs.Levels.{branch_page_view, leaf_page_view, page_over, root_over}
-use Rattle.bolt_layout.specs.{Limits.HaveRightLimits, Limits.cut_within, Limits.one_less, declared.Layout.Layout}
+use Rattle.bolt_layout.specs.{Levels.branch_page_view, Levels.leaf_page_view, Levels.page_over, Levels.root_over, Limits.HaveRightLimits, Limits.cut_within, Limits.one_less, declared.Layout.Layout}
 use Rattle.bolt_bulk.specs.Private.{bucket_limit, climb, climb_puts, close, close_puts, Comes, end_of, has_room, BecomesRoot, IsSized, IsUnder, kept_upper, key_size, Known, leaves_coming, next_number, nothing_open, numbers_in, Open, own_page, pages_put, pushed_on, pushing, put_in, stays_open, taking, Upper}
-use Rattle.bolt_layout.proofs.Tops.{top_above}
+use Rattle.bolt_layout.proofs.Exports.{top_above}
 
 -- The code's test of room is that of the cut.
 pub room_joins : {E : Type 0} (page_size least : ℕ) (run : List (Laid E)) (next : Laid E) (size : ℕ) → next.size ≡ size → has_room page_size least run size ≡ joins page_size least size_of run next

@@ -5,8 +5,7 @@ use Rattle.bolt_tree.specs.Tree.{Tree, end, with_bucket, with_value}
 use Rattle.bolt_layout.specs.{Items.is_inline, Items.items_of, Items.root_of, Laid.numbers_of, Layout.layout_mark, Limits.limit_at, Limits.limits_from_ends}
 use Rattle.bolt_layout.specs.Openings.{row_ends_of, AreRight, AreFromEnds, leaf_pages, limits_for, opened_by, opened_in}
 use Rattle.bolt_layout.specs.{declared.Layout.Layout, declared.Layout.TheVariants.Plain}
-use Rattle.bolt_layout.proofs.{OpenedBuckets.items_below, OpenedBuckets.leaves_few, PlainRows.plain_right, PlainRows.plain_rows}
-use Rattle.bolt_layout.proofs.LimitsFromEnds.{root_from_ends, from_ends_are}
+use Rattle.bolt_layout.proofs.Exports.{items_below, leaves_few, plain_right, plain_rows, root_from_ends, from_ends_are}
 use Rattle.bolt_bulk.specs.Private.{AreComing, AreComingAround, FitLimits, BucketFrame, HasRoot, limit_in, limits_with, Notes, onto, Wanted}
 use Rattle.bolt_check.specs.Counts.{saturated}
 use Rattle.bolt_bulk.specs.declared.limits.Limits.{Limits}

@@ -1,29 +1,24 @@
 -- The steps of a pass, over what the code keeps of it.
-use Rattle.std.proofs.lemmas.Result.{IfErr-weaker, on_ok_weaker}
+use Rattle.std.proofs.{lemmas.Result.IfErr-weaker, lemmas.Result.on_ok_weaker, lemmas.List.append-nil, lemmas.List.length-map, lemmas.List.reverse-append}
 use Rattle.std.proofs.Common.{Bool, ◌≡◌, ◌∙◌, ℕ, suc, ◌+◌, ◌<◌, true, false, List, [], ◌∷◌, ◌++◌, length, map, max, min, reverse, Option, Some, None, Result, Ok, Err, Vec, Global, refl, sym, ap, subst, arith, append_assoc}
-use Rattle.std.proofs.lemmas.List.{append-nil, length-map, reverse-append}
 use Rattle.std.specs.Prelude.{⊤, IfErr, IsErrAnd, OnOk}
 use Rattle.std.specs.List.{AllByRecursion}
-use Rattle.bolt_format.specs.{ElementPlaces.leaf_view, Elements.LeafElement, declared.element.Leaf.Leaf}
+use Rattle.bolt_format.specs.{ElementPlaces.leaf_view, Elements.LeafElement, declared.element.Leaf.Leaf, Wrote.Wrote, declared.sink.Sink.Ghosts}
 use Rattle.bolt_tree.specs.Tree.{Tree, end, with_bucket, with_value}
-use Rattle.bolt_layout.specs.{Items.items_of, Items.leaf_item, Items.root_of, Laid.Laid, Laid.Placed, Layout.placed_bytes, PageBytes.inline_value}
+use Rattle.bolt_layout.specs.{Items.items_of, Items.leaf_item, Items.root_of, Laid.Laid, Laid.Placed, Layout.placed_bytes, PageBytes.inline_value, Limits.HaveRightLimits}
+use Rattle.bolt_layout.specs.Openings.{leaf_pages, opened_by}
 use Rattle.bolt_bulk.specs.Private.{AreOpenRuns, AreWaiting, base_in, bucket_end_next, bucket_limit, bucket_runs, BucketEnds, BucketRunsView, Counts, end_of, BucketFrame, HasNoted, HasRoot, held_item, held_so_far, PassIsAt, PassIsOn, IsPass, IsPending, IsPendingSmall, IsToCome, items_around, items_in, Known, length_frames, length_open, Parent, parent_of, limit_in, limits_by, making_room, Notes, onto, Open, open_in, pushing, root_element, runs_end, runs_end_put, runs_push, runs_room, runs_room_put, pending_element, element_size, root_size, runs_taking, Writes, Steps, taking, value_element, Wanted}
+use Rattle.bolt_bulk.specs.{BulkEndings.bulk_ending, declared.page_setup.PageSetup.PageSetup, declared.bulk_fault.BulkFault.BulkFault, declared.bucket_runs.BucketRuns.BucketRuns}
+use Rattle.bolt_bulk.specs.{declared.pass.Pass.Pass, declared.pending_bucket.PendingBucket.PendingBucket, declared.waiting_bucket.WaitingBucket.WaitingBucket}
+use Rattle.bolt_bulk.specs.declared.noted_limits.NotedLimits.{NotedLimits}
 use Rattle.bolt_check.specs.Counts.{saturated}
-use Rattle.bolt_bulk.specs.{BulkEndings.bulk_ending, declared.page_setup.PageSetup.PageSetup, declared.bulk_fault.BulkFault.BulkFault}
 use Rattle.bolt_bulk.specs.declared.bulk_fault.BulkFault.TheVariants as fault
-use Rattle.bolt_bulk.specs.{declared.bucket_runs.BucketRuns.BucketRuns, declared.pass.Pass.Pass, declared.pending_bucket.PendingBucket.PendingBucket}
-use Rattle.bolt_bulk.specs.{declared.waiting_bucket.WaitingBucket.WaitingBucket, declared.noted_limits.NotedLimits.NotedLimits}
-use Rattle.bolt_bulk.proofs.HeldPasses.{around_reverse}
-use Rattle.bolt_bulk.proofs.HeldSteps.{around_length, enters_held, items_length, leaves_held, takes_held}
-use Rattle.bolt_bulk.proofs.Ontos.{IsValue, ends_inline, onto_items, value_items, values_held}
-use Rattle.bolt_bulk.proofs.Tables.{noted_enters, noted_leaves}
-use Rattle.bolt_bulk.proofs.Openings.{around_at, coming_at, coming_onto, opened_inline, opened_onto, opened_rooted}
-use Rattle.bolt_bulk.proofs.PassReady.{small_of}
+use Rattle.bolt_bulk.proofs.{HeldPasses.around_reverse, HeldSteps.around_length, HeldSteps.enters_held, HeldSteps.items_length, HeldSteps.leaves_held, HeldSteps.takes_held}
+use Rattle.bolt_bulk.proofs.{Ontos.IsValue, Ontos.ends_inline, Ontos.onto_items, Ontos.value_items, Ontos.values_held, Tables.noted_enters, Tables.noted_leaves}
+use Rattle.bolt_bulk.proofs.{Openings.around_at, Openings.coming_at, Openings.coming_onto, Openings.opened_inline, Openings.opened_onto, Openings.opened_rooted, PassReady.small_of}
 use Rattle.bolt_bulk.proofs.PassSteps.{inline_item, on_before, on_enters, on_leaves, on_numbers, on_takes, open_values, pass_takes_all, root_item, values_put, values_runs, waiting}
 use Rattle.bolt_bulk.proofs.PutsLemmas.{bytes-append, Wrote-gave_up}
-use Rattle.bolt_layout.specs.{Limits.HaveRightLimits, Openings.leaf_pages, Openings.opened_by}
-use Rattle.bolt_format.proofs.WroteLemmas.{Wrote-halt, Wrote-none}
-use Rattle.bolt_format.specs.{Wrote.Wrote, declared.sink.Sink.Ghosts}
+use Rattle.bolt_format.proofs.Exports.{Wrote-halt, Wrote-none}
 
 -- ---- results
 

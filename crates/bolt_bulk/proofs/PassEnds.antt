@@ -1,29 +1,22 @@
 -- The next member of a listing in a pass, the beginning of a pass, and its end.
-use Rattle.std.proofs.lemmas.Grind.{common_steps}
-use Rattle.bolt_layout.proofs.ListLemmas.{all_append}
+use Rattle.std.proofs.{lemmas.Grind.common_steps, lemmas.Result.err_from_is_err_and, lemmas.List.length-append}
+use Rattle.bolt_layout.proofs.Exports.{all_append}
 use Rattle.std.specs.Prelude.{IsErrAnd}
 use Rattle.std.specs.List.{AllByRecursion}
-use Rattle.std.proofs.lemmas.Result.{err_from_is_err_and}
 use Rattle.std.proofs.Common.{◌≡◌, ◌≢◌, ◌∙◌, ℕ, suc, true, ◌+◌, ◌≤◌, List, [], ◌∷◌, ◌++◌, length, map, None, Result, Ok, Err, OnErr, refl, sym, ap, subst, arith, append_assoc}
-use Rattle.std.proofs.lemmas.List.{length-append}
-use Rattle.bolt_check.specs.Keys.{Key}
+use Rattle.bolt_check.specs.{Keys.Key, Counts.saturated}
 use Rattle.bolt_format.specs.{Sinks.AppendsProperPrefix, declared.sink.Sink.Ghosts}
-use Rattle.bolt_tree.specs.{Entries.Item, Listing.Member, Paths.Path}
-use Rattle.bolt_tree.specs.Tree.{Tree, end, listing_below, listing_of, with_bucket, with_value}
-use Rattle.bolt_layout.specs.Laid.{Placed}
-use Rattle.bolt_layout.specs.Layout.{first_page, layout_held, layout_mark, layout_pages, layout_root, placed_bytes}
-use Rattle.bolt_layout.specs.{Storable.HasLengths, Openings.leaf_pages, Openings.opened_in, declared.Layout.Layout}
-use Rattle.bolt_layout.specs.{declared.Layout.TheVariants.Balanced, declared.Layout.TheVariants.Plain, Items.items_of}
+use Rattle.bolt_tree.specs.{Entries.Item, Listing.Member, Paths.Path, Tree.Tree, Tree.end, Tree.listing_below, Tree.listing_of, Tree.with_bucket, Tree.with_value}
+use Rattle.bolt_layout.specs.{Laid.Placed, Layout.first_page, Layout.layout_held, Layout.layout_mark, Layout.layout_pages, Layout.layout_root, Layout.placed_bytes, Storable.HasLengths}
+use Rattle.bolt_layout.specs.{Openings.leaf_pages, Openings.opened_in, declared.Layout.Layout, declared.Layout.TheVariants.Balanced, declared.Layout.TheVariants.Plain, Items.items_of}
 use Rattle.bolt_bulk.specs.Private.{AreComingAround, AreOpenRuns, bucket_end_next, bucket_runs, BucketEnds, BucketRunsView, pass_depth, EndsPass, FitLimits, BucketFrame, HasLeft, HasNoted, held_so_far, PassIsAt, HasMemberLengths, PassIsOn, Known, last_part, Parent, parent_of, limit_in, limits_by, limits_with, no_leaves, nothing_open, Open, open_in, runs_end, runs_end_put, Steps, Wanted}
-use Rattle.bolt_check.specs.Counts.{saturated}
 use Rattle.bolt_bulk.specs.{declared.page_setup.PageSetup.PageSetup, declared.bulk_fault.BulkFault.BulkFault, declared.pass.Ended.Ended, declared.pass.Pass.Pass}
-use Rattle.bolt_bulk.specs.{declared.noted_limits.NotedLimits.NotedLimits}
+use Rattle.bolt_bulk.specs.declared.noted_limits.NotedLimits.{NotedLimits}
 use Rattle.bolt_bulk.proofs.{PassSteps.pass_begins, PassSteps.pass_ends, HeldSteps.end_held}
-use Rattle.bolt_bulk.proofs.Members.{all_left, left_after, next_entry, next_short, none_at_all, with_item}
-use Rattle.bolt_bulk.proofs.{KeptRuns.nothing_runs, KeptRuns.runs_ended, OpenRunLemmas.ends, Openings.all_coming, Openings.root_notes, PassAt.on_of}
-use Rattle.bolt_bulk.proofs.{PassLeft.depth_parents, Tables.none_noted, Tables.noted_leaves, Tables.opened_most, Tables.table_fits}
-use Rattle.bolt_bulk.proofs.PutsLemmas.{bytes-append, pages_some, short_then}
-use Rattle.bolt_format.proofs.WroteLemmas.{Wrote-same, Wrote-then}
+use Rattle.bolt_bulk.proofs.{Members.all_left, Members.left_after, Members.next_entry, Members.next_short, Members.none_at_all, Members.with_item, KeptRuns.nothing_runs, KeptRuns.runs_ended}
+use Rattle.bolt_bulk.proofs.{OpenRunLemmas.ends, Openings.all_coming, Openings.root_notes, PassAt.on_of, PassLeft.depth_parents}
+use Rattle.bolt_bulk.proofs.{Tables.none_noted, Tables.noted_leaves, Tables.opened_most, Tables.table_fits, PutsLemmas.bytes-append, PutsLemmas.pages_some, PutsLemmas.short_then}
+use Rattle.bolt_format.proofs.Exports.{Wrote-same, Wrote-then}
 
 -- ---- the next member
 

@@ -7,7 +7,7 @@ use Rattle.bolt_tree.specs.Tree.{Tree, with_value}
 use Rattle.bolt_layout.specs.declared.Layout.{Layout}
 use Rattle.bolt_bulk.specs.{Private.HasRoot, Private.IsPendingSmall, Private.IsSmall, Private.onto, declared.pending_bucket.PendingBucket.PendingBucket}
 use Rattle.bolt_bulk.proofs.{Ontos.value_too_large, HeldRuns.data_push}
-use Rattle.bolt_layout.proofs.ListLemmas.{all_append}
+use Rattle.bolt_layout.proofs.Exports.{all_append}
 
 -- the bucket that may be inline
 pub small_of : (page_size : ℕ) (pending : Option PendingBucket) (p : PendingBucket) (entries : List Leaf) → pending ≡ Some p → IsPendingSmall page_size pending entries → IsSmall page_size p entries

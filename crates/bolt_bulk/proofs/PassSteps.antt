@@ -1,15 +1,11 @@
 -- A forward pass over a tree, with a frame for each waiting bucket: in the end they become the root page, and the pages that were written are
 -- those of the layout. Its steps, over the open runs and what the code keeps of them.
-use Rattle.std.proofs.lemmas.Grind.{common_steps}
+use Rattle.std.proofs.{lemmas.Grind.common_steps, lemmas.List.append-nil, lemmas.List.length-append, lemmas.Bool.le-leb, lemmas.Bool.lt-ltb, lemmas.List.Sums.sum_by_push}
 use Rattle.std.proofs.Common.{◌≡◌, ℕ, ◌+◌, List, [], ◌∷◌, ◌++◌, length, refl, append_assoc, arith, subst, ◌∙◌, ◌/◌, ◌≤◌, ◌<◌, Bool, true, false, sym, ap}
-use Rattle.std.proofs.lemmas.List.{append-nil, length-append}
-use Rattle.std.proofs.lemmas.Bool.{le-leb, lt-ltb}
-use Rattle.std.proofs.lemmas.List.Sums.{sum_by_push}
 use Rattle.bolt_format.specs.Elements.{BranchElement, LeafElement}
 use Rattle.bolt_tree.specs.Tree.{Tree, end}
-use Rattle.bolt_layout.specs.{Items.bucket_item, Items.items_of, Items.root_of, Items.leaf_item, Items.stored_bucket, Laid.Laid, Laid.Placed, Laid.size_of}
-use Rattle.bolt_layout.specs.{Levels.root_over, Limits.HaveRightLimits, Layout.first_page, Layout.layout_pages, Layout.layout_mark}
-use Rattle.bolt_layout.specs.{declared.Layout.Layout, Cut.run_size, PageBytes.inline_value, PageBytes.leaf_data}
+use Rattle.bolt_layout.specs.{Items.bucket_item, Items.items_of, Items.root_of, Items.leaf_item, Items.stored_bucket, Laid.Laid, Laid.Placed, Laid.size_of, Levels.root_over, Limits.HaveRightLimits}
+use Rattle.bolt_layout.specs.{Layout.first_page, Layout.layout_pages, Layout.layout_mark, declared.Layout.Layout, Cut.run_size, PageBytes.inline_value, PageBytes.leaf_data}
 use Rattle.bolt_bulk.specs.Private.{all_put, base_in, bucket_limit, end_of, end_puts, BucketFrame, held_item, BecomesRoot, IsPass, Known, leaves_coming, making_room, nothing_open, Open, pushing, room_puts, taking, AreOpenRuns, bucket_end_next, BucketRunsView, entries_size, frames_put, HasRoot, PassIsOn, onto, root_element, runs_end, runs_end_put, runs_push, runs_room, runs_room_put, runs_taking, StandsBefore}
 use Rattle.bolt_bulk.proofs.OpenRunLemmas.{ends, opens, pushed_put, takes, climb_put, close_put}
 use Rattle.bolt_bulk.proofs.Ontos.{IsValue, ends_inline, onto_items, value_items, values_elements, values_keyed, values_numbers, values_pages, values_size}

@@ -1,14 +1,13 @@
 -- Whatever is still to come, the pages that a forward pass has written are a prefix of the layout's, which has at least one more page; and
 -- their numbers are among the layout's.
 use Rattle.std.proofs.Common.{◌≡◌, ◌∙◌, ◌≤◌, ℕ, suc, ◌+◌, nat_lt, Option, List, [], ◌∷◌, ◌++◌, length, map, refl, sym, ap, subst, inl, inr, arith, append_assoc}
-use Rattle.std.proofs.lemmas.Bool.{cases_Bool}
-use Rattle.std.proofs.lemmas.List.{append-nil, length-append}
+use Rattle.std.proofs.{lemmas.Bool.cases_Bool, lemmas.List.append-nil, lemmas.List.length-append}
 use Rattle.bolt_format.specs.{Elements.BranchElement, Elements.LeafElement, Pages.PageView}
 use Rattle.bolt_layout.specs.{Cut.branch_cut, Cut.cut_from, Cut.join_last, Items.items_of, Laid.Laid, Laid.Placed, Laid.numbers_of, Laid.pages_of, Laid.size_of}
-use Rattle.bolt_layout.specs.{Levels.branch_page_view, Levels.leaf_page_view, Levels.next_level, Levels.page_over, Levels.top_in, Layout.first_page}
-use Rattle.bolt_layout.specs.{declared.Layout.Layout, declared.Layout.TheVariants.Plain, declared.Layout.TheVariants.Balanced}
+use Rattle.bolt_layout.specs.{Levels.branch_page_view, Levels.leaf_page_view, Levels.next_level, Levels.page_over, Levels.top_in, Layout.first_page, declared.Layout.Layout}
+use Rattle.bolt_layout.specs.declared.Layout.TheVariants.{Plain, Balanced}
 use Rattle.bolt_bulk.specs.Private.{all_put, base_in, bucket_limit, Comes, BucketFrame, frames_put, held_item, BecomesRoot, IsPass, BecomesWhole, next_number, numbers_in, Open, pages_put, pushing, put_in, Upper}
-use Rattle.bolt_layout.proofs.OverRows.{numbers-append}
+use Rattle.bolt_layout.proofs.Exports.{numbers-append}
 use Rattle.bolt_bulk.proofs.OpenRunLemmas.{cut_step, left_begins, pages-append, pages_push, pushed_put}
 
 -- Pages with so many numbers begin the pages of what is laid out, with these numbers, and at least so many pages follow.

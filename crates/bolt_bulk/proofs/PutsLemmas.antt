@@ -1,18 +1,12 @@
 -- What a call that writes pages leaves on its sink, if it can also fail because memory runs out or the layout is too large.
-use Rattle.std.proofs.lemmas.Grind.{common_steps}
+use Rattle.std.proofs.{lemmas.Grind.common_steps, KnownBytes.Appends-nil, lemmas.List.length-append, lemmas.Result.err_from_is_err_and}
 use Rattle.std.proofs.Common.{◌≡◌, ◌≢◌, ℕ, ◌<◌, ◌≤◌, List, [], ◌∷◌, ◌++◌, length, OnErr, Option, Result, Ok, Err, refl, sym, ap, subst, arith, append_assoc}
-use Rattle.std.proofs.KnownBytes.{Appends-nil}
-use Rattle.std.proofs.lemmas.List.{length-append}
-use Rattle.bolt_format.proofs.SinkLemmas.{AppendsPrefix-whole, AppendsProperPrefix-first, AppendsProperPrefix-second, more_some}
-use Rattle.bolt_format.proofs.WroteLemmas.{Wrote-halt, Wrote-none, Wrote-return_cut, Wrote-stop, Wrote-stop_cut, Wrote-stop_halted, Wrote-then, Wrote-unkept}
-use Rattle.bolt_format.proofs.EncodedHeaders.{length-header_bytes}
+use Rattle.bolt_format.proofs.Exports.{AppendsPrefix-whole, AppendsProperPrefix-first, AppendsProperPrefix-second, more_some, Wrote-halt, Wrote-none, Wrote-return_cut, Wrote-stop, Wrote-stop_cut, Wrote-stop_halted, Wrote-then, Wrote-unkept, length-header_bytes, WroteFront}
 use Rattle.bolt_format.specs.{Endings.whole, Endings.halted, Pages.PageView, Sinks.AppendsProperPrefix, Wrote.Wrote, declared.sink.Sink.Ghosts}
 use Rattle.bolt_layout.specs.{Laid.Placed, Layout.placed_bytes, PageBytes.page_bytes}
 use Rattle.bolt_bulk.specs.{BulkEndings.fault_ending, Private.Closes, Private.Writes, declared.bulk_fault.BulkFault.BulkFault, declared.page_setup.PageSetup.PageSetup}
-use Rattle.std.proofs.lemmas.Result.{err_from_is_err_and}
 use Rattle.std.specs.Prelude.{IfErr, IsErrAnd}
 use Rattle.bolt_bulk.specs.declared.bulk_fault.BulkFault.TheVariants as fault
-use Rattle.bolt_format.proofs.WroteFronts.{WroteFront}
 
 -- Nothing is a proper prefix of a text that has any bytes.
 pub proper_none : (old : Option (List ℕ)) (text : List ℕ) → text ≢ [] → AppendsProperPrefix old old text

@@ -1,11 +1,10 @@
 -- A run of pages that takes one more, and closes if the next one doesn't join it.
 use Rattle.std.proofs.Common.{div-add-mod', add-mul, ◌≡◌, ◌∙◌, ◌⊎◌, ℕ, ◌+◌, ◌*◌, ◌<◌, ◌≤◌, ◌||◌, ◌&&◌, Bool, true, List, [], ◌∷◌, ◌++◌, length, ap, arith}
-use Rattle.std.proofs.lemmas.Bool.{leb-true, ltb-true}
-use Rattle.std.proofs.lemmas.List.{length-append, append-nil}
+use Rattle.std.proofs.{lemmas.Bool.leb-true, lemmas.Bool.ltb-true, lemmas.List.length-append, lemmas.List.append-nil}
 use Rattle.bolt_format.specs.Elements.{BranchElement}
 use Rattle.bolt_layout.specs.{Levels.overflow_of, PageBytes.branch_data}
 use Rattle.bolt_bulk.specs.Private.{IsPushed, IsSizedRun, IsStanding, run_kept, run_push, run_stays, RunView}
-use Rattle.bolt_layout.proofs.PageRows.{overflow_room, overflow_small}
+use Rattle.bolt_layout.proofs.Exports.{overflow_room, overflow_small}
 
 overflow_most : (page_size size : ℕ) → (1 + overflow_of page_size size) * page_size ≤ size + page_size
 unfolding overflow_of

@@ -1,18 +1,15 @@
 -- The numbers of the open buckets, what their open runs say of each row at their end, and the limits that were noted of those that have ended.
 use Rattle.std.proofs.Common.{ℕ, suc, Option, List, [], ◌∷◌, ◌++◌, length, map, ap, arith, ◌≡◌, ◌∙◌, ◌+◌, ◌<◌, ◌≤◌, false, None, sym, subst}
-use Rattle.std.proofs.lemmas.List.{length-append, length-map}
-use Rattle.std.proofs.lemmas.Bool.{cases_lt}
+use Rattle.std.proofs.{lemmas.List.length-append, lemmas.List.length-map, lemmas.Bool.cases_lt}
 use Rattle.bolt_format.specs.Elements.{BranchElement}
-use Rattle.bolt_layout.specs.{Laid.Laid, Laid.Placed, Laid.size_of, Levels.branch_page_view, Levels.leaf_page_view, Levels.page_over}
-use Rattle.bolt_layout.specs.Limits.{AreRowEnds, limit_at, limits_from_ends}
+use Rattle.bolt_layout.specs.{Laid.Laid, Laid.Placed, Laid.size_of, Levels.branch_page_view, Levels.leaf_page_view, Levels.page_over, Limits.AreRowEnds, Limits.limit_at, Limits.limits_from_ends}
 use Rattle.bolt_layout.specs.{declared.Layout.TheVariants.Plain, declared.Layout.TheVariants.Balanced, Cut.branch_cut, Layout.layout_mark}
 use Rattle.bolt_layout.specs.{Openings.limits_for, Openings.opened_in, Openings.row_ends_of, declared.Layout.Layout}
 use Rattle.bolt_bulk.specs.Private.{bucket_limit, Comes, BecomesRoot, Open, Upper, upper_end, AreComingAround, AreNumbered, AreUppers, bucket_runs, BucketEnds, FitLimits, BucketFrame, HasNoted, PassIsOn, IsTable, IsToCome, Known, limit_in, limits_with, Notes, run_end, runs_above, Wanted}
+use Rattle.bolt_bulk.specs.{declared.branch_run.BranchRun.BranchRun, declared.limits.BucketLimits.BucketLimits, declared.limits.Limits.Limits, declared.noted_limits.NotedLimits.NotedLimits}
+use Rattle.bolt_bulk.specs.declared.bucket_runs.BucketRuns.{BucketRuns}
 use Rattle.bolt_check.specs.Counts.{saturated}
-use Rattle.bolt_bulk.specs.{declared.branch_run.BranchRun.BranchRun, declared.limits.BucketLimits.BucketLimits, declared.limits.Limits.Limits}
-use Rattle.bolt_bulk.specs.{declared.noted_limits.NotedLimits.NotedLimits, declared.bucket_runs.BucketRuns.BucketRuns}
-use Rattle.bolt_layout.proofs.{LastItem.last_append, BalancedRows.right_from_ends, BalancedRows.from_ends_right, OpenedBuckets.opened_few}
-use Rattle.bolt_layout.proofs.{LimitsFromEnds.from_ends_by, RowEnds.row_ends_are_one, Tops.shorter}
+use Rattle.bolt_layout.proofs.Exports.{last_append, right_from_ends, from_ends_right, opened_few, from_ends_by, row_ends_are_one, shorter}
 use Rattle.std.specs.List.{AllByRecursion}
 use Rattle.bolt_tree.specs.Tree.{Tree, end}
 use Rattle.bolt_bulk.proofs.HeldSteps.{run_length}

@@ -1,7 +1,6 @@
 -- A pass goes along members: those that are left to both are the same.
 use Rattle.std.proofs.Common.{◌≡◌, ◌≤◌, List, ◌∷◌, length, subst, arith}
-use Rattle.std.proofs.Math.Logic.{∥∥₁_elim, ∥∥₁_map}
-use Rattle.std.proofs.Props.{props}
+use Rattle.std.proofs.{Math.Logic.∥∥₁_elim, Math.Logic.∥∥₁_map, Props.props}
 use Rattle.std.specs.List.{AllByRecursion}
 use Rattle.bolt_tree.specs.{Entries.Bucket, Entries.Item, Entries.Value, Listing.Member, Paths.Path}
 use Rattle.bolt_bulk.specs.{Private.HasItemLength, Private.HasMemberLengths, Private.last_part, WholeListings.IsAgain, WholeListings.IsWholeListing}

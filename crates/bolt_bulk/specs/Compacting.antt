@@ -5,14 +5,10 @@ use Rattle.std.specs.Io.KnownBytes.{Appends, Keeps}
 use Rattle.bolt_format.specs.Sinks.{AppendsProperPrefix}
 use Rattle.bolt_check.specs.{CheckedFiles.bytes_of, CheckedFiles.meta_of, declared.checked.Checked.Checked}
 use Rattle.bolt_tree.specs.{Listing.IsListing, Listing.Member, Tree.tree_of}
-use Rattle.bolt_layout.specs.{Copies.IsSoundCopy, Copies.RefusesPrefixes, Copies.layout_of_listing, Held.most_held}
-use Rattle.bolt_layout.specs.{Layout.layout_held, Layout.layout_mark, Layout.layout_root}
-use Rattle.bolt_bulk.specs.declared.bulk_fault.BulkFault.{BulkFault}
+use Rattle.bolt_layout.specs.{Copies.IsSoundCopy, Copies.RefusesPrefixes, Copies.layout_of_listing, Held.most_held, Layout.layout_held, Layout.layout_mark, Layout.layout_root, declared.Layout.Layout}
+use Rattle.bolt_bulk.specs.{declared.bulk_fault.BulkFault.BulkFault, declared.bulk_fault.PlanFault.PlanFault, declared.members_copy.Done.Done, declared.members_copy.Plan.Plan}
 use Rattle.bolt_bulk.specs.declared.bulk_fault.BulkFault.TheVariants as bulk
-use Rattle.bolt_bulk.specs.declared.bulk_fault.PlanFault.{PlanFault}
 use Rattle.bolt_bulk.specs.declared.bulk_fault.PlanFault.TheVariants as planned
-use Rattle.bolt_bulk.specs.{declared.members_copy.Done.Done, declared.members_copy.Plan.Plan}
-use Rattle.bolt_layout.specs.declared.Layout.{Layout}
 
 -- a layout has fewer bytes than this
 abbrev pub too_many : ℕ

@@ -1,7 +1,6 @@
 -- Findings reported page by page.
 use Rattle.std.proofs.Common.{◌≡◌, ℕ, suc, ◌-◌, ◌<◌, ◌≤◌, inl, inr, List, [], ◌∷◌, ◌++◌, refl, arith, length-append, All, AllPairs, Contains}
-use Rattle.std.proofs.lemmas.List.{get_or_append_left}
-use Rattle.std.proofs.Math.Seq.{get_or-append_right}
+use Rattle.std.proofs.{lemmas.List.get_or_append_left, Math.Seq.get_or-append_right}
 use Rattle.std.proofs.lemmas.List.Elements.{All-append, Contains-append_left, Contains-append_right}
 use Rattle.bolt_check.proofs.Words.{All-weaker, AreFindingsBelow, cases_lt, cases_order, Finding, freed_twice, IsAccountFinding, IsBefore, IsLost, IsLostInterval, le-ltb, lt-ltb, out_of_range, reached_freed, interval_findings, unreachable}
 use Rattle.bolt_check.specs.declared.finding.TheConstants.Finding.{UNREACHABLE}

@@ -3,7 +3,7 @@ use Rattle.std.proofs.Common.{◌≡◌, ◌+◌, ◌&&◌, ◌||◌, ℕ, Bool,
 use Rattle.std.specs.List.{list_any}
 use Rattle.bolt_check.proofs.Words.{Entry, Node}
 use Rattle.bolt_check.specs.BboltFindings.{has_large_value, has_value, is_large_value, is_value}
-use Rattle.bolt_format.proofs.ListLemmas.{drop_next}
+use Rattle.bolt_format.proofs.Exports.{drop_next}
 
 module _ {X : Type 0} (p : X → Bool) (xs : List X) (i : ℕ) (x : X) (at : slice_get xs i ≡ Some x) where
   -- the next element isn't one

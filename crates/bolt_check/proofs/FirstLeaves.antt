@@ -1,11 +1,8 @@
 -- The depth of the first leaf below a page, by the elements of the page.
 use Rattle.std.proofs.Common.{◌≡◌, ◌∙◌, ℕ, suc, false, inl, List, [], ◌∷◌, Option, Some, Ok, ap, length, map, refl, slice_get}
-use Rattle.bolt_check.proofs.Words.{branch_entry, BranchElement, Has, Nodes, none-some, shown_node}
-use Rattle.bolt_check.proofs.TourSums.{enough_kids}
-use Rattle.bolt_check.specs.BboltFindings.{above_first, first_child, first_leaf_depth, node_depth}
-use Rattle.bolt_check.specs.{Private.Unread.IsGoodDown, Subtrees.kid_pages}
-use Rattle.bolt_format.specs.TreePages.{branches_on}
-use Rattle.bolt_format.specs.{declared.tree_page.BranchPage.BranchPage, declared.tree_page.LeafPage.LeafPage}
+use Rattle.bolt_check.proofs.{Words.branch_entry, Words.BranchElement, Words.Has, Words.Nodes, Words.none-some, Words.shown_node, TourSums.enough_kids}
+use Rattle.bolt_check.specs.{BboltFindings.above_first, BboltFindings.first_child, BboltFindings.first_leaf_depth, BboltFindings.node_depth, Private.Unread.IsGoodDown, Subtrees.kid_pages}
+use Rattle.bolt_format.specs.{TreePages.branches_on, declared.tree_page.BranchPage.BranchPage, declared.tree_page.LeafPage.LeafPage}
 use Rattle.bolt_format.specs.declared.tree_page.TreePage.TheVariants.{Branch, Leaf}
 
 -- ---- the first element of a branch

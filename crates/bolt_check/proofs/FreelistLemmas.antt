@@ -1,8 +1,7 @@
 -- The span of a freelist whose page is good.
 use Rattle.std.proofs.Common.{arith, ◌≡◌, ◌≢◌, ◌∙◌, ◌==◌, ℕ, ◌+◌, ◌*◌, ◌<◌, ◌≤◌, List, Some, None, length, refl, sym}
 use Rattle.bolt_check.proofs.Words.{cond-false, first_of-none, freelist_fault, freelist_fault_of, Meta, ne_eqb, NO_FREELIST, page_at, page_fault, page_overflow, span_within}
-use Rattle.bolt_format.specs.{Headers.count_field, Headers.flags_field, Headers.kind_of}
-use Rattle.bolt_format.specs.Pages.{from_page, span_bytes, span_fault, view_of}
+use Rattle.bolt_format.specs.{Headers.count_field, Headers.flags_field, Headers.kind_of, Pages.from_page, Pages.span_bytes, Pages.span_fault, Pages.view_of}
 use Rattle.bolt_format.specs.declared.header.Kind.TheVariants as kind
 
 module _ (file : List ℕ) (meta : Meta) (written : meta.freelist ≢ NO_FREELIST) (good : freelist_fault_of file meta ≡ None) where

@@ -1,10 +1,8 @@
 -- The findings on what the freelist lists and lacks, page by page.
-use Rattle.std.proofs.lemmas.List.{get_or_past}
+use Rattle.std.proofs.{lemmas.List.get_or_past, lemmas.Bool.and_from, lemmas.Bool.and_parts, lemmas.Bool.cases_Bool, lemmas.Bool.eqb-true}
 use Rattle.std.proofs.Common.{rules, ◌≡◌, ◌∙◌, ℕ, suc, ◌+◌, ◌<◌, ◌≤◌, max, inl, inr, List, [], ◌∷◌, ◌++◌, length, get_or, refl, sym, ap, subst, arith, append-nil, add-one, nat_lt, ◌==◌}
-use Rattle.std.proofs.lemmas.Bool.{and_from, and_parts, cases_Bool, eqb-true}
 use Rattle.bolt_check.proofs.Words.{AreAllFindings, AreFindingsBelow, both_ways, cases_lt, cond-false, cond-true, eq-eqb, false≢true, Finding, finding, FREE_RANGE, FREED_TWICE, HasFindingsTo, is_in_use, is_used, IsAccountFinding, IsBeyondTo, IsInRange, IsLost, IsPastTo, IsLostInterval, IsSettled, listed_times, Freelist, lt-ltb, ltb-true, page_findings, PageUse, interval_findings, times_in, times_of, Unused, use_at}
-use Rattle.bolt_check.proofs.CountLemmas.{place_of, times_none, times_once, times_some, times_twice}
-use Rattle.bolt_check.proofs.TableLemmas.{past_metas, first_unlisted}
+use Rattle.bolt_check.proofs.{CountLemmas.place_of, CountLemmas.times_none, CountLemmas.times_once, CountLemmas.times_some, CountLemmas.times_twice, TableLemmas.past_metas, TableLemmas.first_unlisted}
 use Rattle.bolt_check.proofs.PageLemmas.{twice, range, not_lost_listed, on_own_page, reports_page, reports_range, reports_twice, reports_well}
 use Rattle.bolt_check.proofs.AccountFindingLemmas.{Reports, reported_append, reports_none, reports_interval}
 use Rattle.bolt_check.specs.Private.Freelists.{is_repeated, repeat_findings}

@@ -1,15 +1,8 @@
 -- Byte order, and the bounds of keys.
 use Rattle.std.proofs.Common.{arith, ◌≡◌, Bool, true, false, not, Option, Some, None, refl, ap}
-use Rattle.std.proofs.lemmas.Cmp.{nat_list_cmp_total}
-use Rattle.std.proofs.lemmas.List.MinMax.{ranks_by}
-use Rattle.std.specs.Cmp.{IsStrictWeakOrder}
-use Rattle.std.specs.Ordering.{is_lt}
-use Rattle.std.specs.declared.cmp.Ordering.{Ordering}
-use Rattle.std.specs.declared.cmp.Ordering.TheVariants.{Less}
+use Rattle.std.proofs.{lemmas.Cmp.nat_list_cmp_total, lemmas.List.MinMax.ranks_by}
+use Rattle.std.specs.{Cmp.IsStrictWeakOrder, Ordering.is_lt, declared.cmp.Ordering.Ordering, declared.cmp.Ordering.TheVariants.Less}
 use Rattle.bolt_check.proofs.Words.{both_ways, is_above, is_below, is_from, Key, key_lt, not-true}
-
-pub less_of : (o : Ordering) → is_lt o ≡ true → o ≡ Less
-less_of o e = grind arith
 
 order : IsStrictWeakOrder key_lt
 order = ranks_by nat_list_cmp_total (λ (key : Key). key)

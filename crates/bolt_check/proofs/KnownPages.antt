@@ -2,10 +2,8 @@
 use Rattle.std.proofs.Common.{◌≡◌, ◌∙◌, ℕ, List, Option, None, Some, true, false, refl, sym}
 use Rattle.std.specs.Option.{IfNone}
 use Rattle.std.specs.Prelude.{IfSome, IsSome}
-use Rattle.bolt_format.specs.TreePages.{is_tree_kind, shown_page}
-use Rattle.bolt_format.specs.declared.header.Kind.{Kind}
-use Rattle.bolt_check.proofs.Words.{Meta, node_at, page_at, PageView, TreePage}
-use Rattle.bolt_check.proofs.{TourSums.enough_node, TreePages.node_is}
+use Rattle.bolt_format.specs.{TreePages.is_tree_kind, TreePages.shown_page, declared.header.Kind.Kind}
+use Rattle.bolt_check.proofs.{Words.Meta, Words.node_at, Words.page_at, Words.PageView, Words.TreePage, TourSums.enough_node, TreePages.node_is}
 use Rattle.bolt_check.specs.Subtrees.{Enough}
 use Rattle.bolt_format.specs.declared.header.Kind.TheVariants as kind
 

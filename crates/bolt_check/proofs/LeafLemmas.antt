@@ -3,11 +3,10 @@ use Rattle.std.proofs.Common.{◌≡◌, ◌≢◌, ◌∙◌, ◌==◌, ◌<◌
 use Rattle.std.specs.Option.{IfNone}
 use Rattle.std.specs.Prelude.{IsTrue, nat_lt}
 use Rattle.bolt_check.proofs.Words.{At_page, Entry, HasRoom, ltb-true, Meta, nat_tests, Node, node_at, Nodes, PagePasses, PageUse, root_spot, SpanAt, leaf_entry, shown_node}
-use Rattle.bolt_format.specs.TreePages.{leaves_on}
-use Rattle.bolt_format.specs.{declared.tree_page.BranchPage.BranchPage, declared.tree_page.LeafPage.LeafPage}
+use Rattle.bolt_check.proofs.MarkLemmas.{node_within}
+use Rattle.bolt_format.specs.{TreePages.leaves_on, declared.tree_page.BranchPage.BranchPage, declared.tree_page.LeafPage.LeafPage}
 use Rattle.bolt_format.specs.declared.tree_page.TreePage.TheVariants.{Branch, Leaf}
 use Rattle.std.proofs.lemmas.List.{length-map, nil_from_length}
-use Rattle.bolt_check.proofs.MarkLemmas.{node_within}
 use Rattle.bolt_check.specs.{LoneLeaves.IsLoneLeaf, Private.LeafTests.IsFilledLeaf}
 
 -- a filled leaf at which the tests find nothing

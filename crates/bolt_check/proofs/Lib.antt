@@ -1,49 +1,51 @@
-pub mod AccountFindingLemmas
-pub mod AccountFindingsOnce
-pub mod AccountLemmas
-pub mod AccountsAlong
-pub mod Agreeing
-pub mod AnyLemmas
-pub mod CheckedLemmas
-pub mod ClaimLemmas
-pub mod CountLemmas
-pub mod FirstLeaves
-pub mod Forest
-pub mod FreelistLemmas
-pub mod FreelistSteps
-pub mod Judging
-pub mod KeyLaws
-pub mod KeyOrder
-pub mod KnownPages
-pub mod Lawful
-pub mod LeafDepths
-pub mod LeafLemmas
-pub mod ListedIds
-pub mod Lists
-pub mod MarkLemmas
-pub mod NodeLemmas
-pub mod PageLemmas
-pub mod Pendings
-pub mod RoleExists
-pub mod RoleFacts
-pub mod RoleLemmas
-pub mod RoleOnce
-pub mod SettledLemmas
-pub mod Shaping
-pub mod Single
-pub mod SoundLemmas
-pub mod Spans
-pub mod TableLemmas
-pub mod TourExists
-pub mod TourLemmas
-pub mod TourSums
-pub mod TreePages
-pub mod UnreadSteps
-pub mod UnreadWays
-pub mod UsesClaimed
-pub mod VisitLemmas
-pub mod Visited
-pub mod Visiting
-pub mod WayFacts
-pub mod WayOrder
+mod AccountFindingLemmas
+mod AccountFindingsOnce
+mod AccountLemmas
+mod AccountsAlong
+mod Agreeing
+mod AnyLemmas
+mod CheckedLemmas
+mod ClaimLemmas
+mod CountLemmas
+pub mod Exports
+mod FirstLeaves
+mod Forest
+mod FreelistLemmas
+mod FreelistSteps
+mod Judging
+mod KeyLaws
+mod KeyOrder
+mod KnownPages
+mod Lawful
+mod LeafDepths
+mod LeafLemmas
+mod ListedIds
+mod Lists
+mod MarkLemmas
+mod NodeLemmas
+mod Orderings
+mod PageLemmas
+mod Pendings
+mod RoleExists
+mod RoleFacts
+mod RoleLemmas
+mod RoleOnce
+mod SettledLemmas
+mod Shaping
+mod Single
+mod SoundLemmas
+mod Spans
+mod TableLemmas
+mod TourExists
+mod TourLemmas
+mod TourSums
+mod TreePages
+mod UnreadSteps
+mod UnreadWays
+mod UsesClaimed
+mod VisitLemmas
+mod Visited
+mod Visiting
+mod WayFacts
+mod WayOrder
 mod Words

@@ -1,8 +1,6 @@
 -- Ids listed one after another.
 use Rattle.std.proofs.Common.{rules, ◌≡◌, ◌≢◌, ◌∙◌, ◌==◌, ℕ, ◌+◌, ◌<◌, Bool, List, [], ◌∷◌, ◌++◌, Some, slice_get, length, get_or, cond, take, filter, min, sym, ap, arith}
-use Rattle.std.proofs.lemmas.List.Elements.{filter_more}
-use Rattle.std.proofs.lemmas.List.Sums.{sum_by_more}
-use Rattle.std.proofs.lemmas.Option.{slice_get-get_or}
+use Rattle.std.proofs.{lemmas.List.Elements.filter_more, lemmas.List.Sums.sum_by_more, lemmas.Option.slice_get-get_or}
 use Rattle.bolt_check.proofs.Words.{eq-eqb, times_in}
 
 -- the id at place i

@@ -2,7 +2,7 @@
 use Rattle.std.proofs.Common.{◌≡◌, ℕ, ◌+◌, ◌*◌, ◌<◌, ◌≤◌, List, Some, Ok, length, refl, inl, inr, arith, []}
 use Rattle.bolt_check.proofs.Words.{At_page, cases_lt, HasRoom, IsClean, IsMetaPage, IsSome, Meta, Node, node_at, page_at, page_overflow, PageUse, PageView, root_spot, span_within}
 use Rattle.bolt_check.specs.Ways.{reached}
-use Rattle.bolt_format.proofs.PageFacts.{span_passes}
+use Rattle.bolt_format.proofs.Exports.{span_passes}
 
 pub page_overflows : (file : List ℕ) (meta : Meta) (id : ℕ) (view : PageView) → page_at file meta id ≡ Some view → view.overflow ≡ page_overflow file meta id
 unfolding page_at

@@ -1,16 +1,13 @@
 -- The entries of a page as a node.
 use Rattle.std.proofs.Common.{◌≡◌, ◌∙◌, ℕ, suc, ◌+◌, ◌≤◌, false, List, Option, None, Some, Ok, Err, refl, length, ap, arith, slice_get, sym}
-use Rattle.std.proofs.lemmas.List.{length-map}
-use Rattle.std.proofs.lemmas.Option.{slice_get_past}
-use Rattle.std.proofs.lemmas.Simd.{map-map}
+use Rattle.std.proofs.{lemmas.List.length-map, lemmas.Option.slice_get_past, lemmas.Simd.map-map}
 use Rattle.bolt_check.proofs.Words.{At_page, branch_entry, BranchElement, Entry, Key, keys_of, Kind, Meta, node_at, node_of, node_seen, page_at, page_fault, PageView, leaf_entry, LeafElement, PageSpot, shown_node, slice_get-map, step_on, TreePage, upper_from}
-use Rattle.bolt_format.specs.TreePages.{branches_on, is_tree_kind, leaves_on, page_keys, shown_page}
-use Rattle.bolt_format.specs.declared.page_fault.TheConstants.PageFault.{PAGE_KIND}
-use Rattle.bolt_format.specs.declared.header.Kind.TheVariants as kind
 use Rattle.bolt_check.proofs.TreePages.{node_is}
+use Rattle.bolt_format.specs.{TreePages.branches_on, TreePages.is_tree_kind, TreePages.leaves_on, TreePages.page_keys, TreePages.shown_page, declared.page_fault.TheConstants.PageFault.PAGE_KIND}
 use Rattle.bolt_format.specs.{declared.tree_page.BranchPage.BranchPage, declared.tree_page.LeafPage.LeafPage}
 use Rattle.bolt_format.specs.declared.tree_page.TreePage.TheVariants.{Branch, Leaf}
-use Rattle.bolt_check.specs.{Ways.bucket_spots}
+use Rattle.bolt_format.specs.declared.header.Kind.TheVariants as kind
+use Rattle.bolt_check.specs.Ways.{bucket_spots}
 
 -- the node of a page of the file that is a branch or a leaf
 pub node_shown : (file : List ℕ) (meta : Meta) (id : ℕ) (view : PageView) (page : TreePage) → page_at file meta id ≡ Some view → shown_page page ≡ view

@@ -2,8 +2,7 @@
 use Rattle.std.proofs.Common.{rules, ◌≡◌, ℕ, suc, ◌+◌, ◌<◌, ◌≤◌, Bool, List, [], ◌∷◌, ◌++◌, Some, None, length, map, drop, slice_get, refl, ap, arith}
 use Rattle.std.proofs.lemmas.List.{reverse-append, drop_all}
 use Rattle.bolt_check.proofs.Words.{Entry, kids, Node, PageSpot, places, somes, Spot, spot_at, spots_of, step_entry, step_on}
-use Rattle.bolt_check.specs.Private.Unread.{unread_at, unread_of}
-use Rattle.bolt_check.specs.{declared.for_bbolt.UnreadSpot.UnreadSpot, declared.spot.Spot.Spot as CodeSpot}
+use Rattle.bolt_check.specs.{Private.Unread.unread_at, Private.Unread.unread_of, declared.for_bbolt.UnreadSpot.UnreadSpot, declared.spot.Spot.Spot as CodeSpot}
 
 pub places_drop : (is_leaf : Bool) (s : PageSpot) (entries : List Entry) (i : ℕ) → i < length entries
     → places is_leaf s (drop i entries) ≡ step_entry is_leaf s (slice_get entries i) (slice_get entries (suc i)) ∷ places is_leaf s (drop (suc i) entries)

@@ -1,11 +1,8 @@
 -- A table in which the ids are listed, with the ids past it sorted, is a freelist of them.
 use Rattle.std.proofs.Common.{◌≡◌, ◌∙◌, ◌==◌, ℕ, ◌<◌, ◌≤◌, Bool, true, List, All, length, Vec, Global, Result, IfOk, cond, not, filter, min, IsPermutation, inl, inr, refl, sym, ap, subst, arith, nat_le}
-use Rattle.std.proofs.lemmas.Bool.{le-leb, leb-true}
-use Rattle.std.proofs.lemmas.List.Elements.{filter_passes}
-use Rattle.std.proofs.lemmas.List.Sorted.{All-permutation, IsNonDecreasingBy-from_sort, sum_by-IsPermutation}
-use Rattle.std.proofs.lemmas.List.Filters.{sum_by-filter_both}
-use Rattle.std.specs.List.Sorted.{IsNonDecreasing, IsSorted}
-use Rattle.std.specs.Ordering.{nat_cmp}
+use Rattle.std.proofs.{lemmas.Bool.le-leb, lemmas.Bool.leb-true, lemmas.List.Elements.filter_passes}
+use Rattle.std.proofs.{lemmas.List.Sorted.All-permutation, lemmas.List.Sorted.IsNonDecreasingBy-from_sort, lemmas.List.Sorted.sum_by-IsPermutation, lemmas.List.Filters.sum_by-filter_both}
+use Rattle.std.specs.{List.Sorted.IsNonDecreasing, List.Sorted.IsSorted, Ordering.nat_cmp}
 use Rattle.bolt_check.proofs.Words.{All-weaker, AllocError, AreAllFindings, both_ways, cases_lt, Finding, IfOk-weaker, is_in_use, is_used, IsClaimed, IsSettled, listed_times, Freelist, not-true, PageUse, times_in, times_of, use_at}
 use Rattle.bolt_check.proofs.{CountLemmas.times_none, FreelistSteps.times_past, FreelistSteps.times_table, AccountLemmas.reported_along}
 

@@ -3,8 +3,7 @@ use Rattle.std.proofs.Common.{◌≡◌, ◌≢◌, ℕ, suc, ◌≤◌, inl, in
 use Rattle.bolt_check.proofs.Words.{At_inline, At_page, cases_lt, child_at, child_spot, early_finding, Entry, follow, HasShape, is_below, is_from, IsClaimedBefore, IsClean, IsMetaPage, Key, key_lt, keys_of, keys_order_fault, leads, Node, node_finding, Nodes, not-true, PagePasses, PageSpot, Passes, Reach, SpanAt, SpanHas, Spot, step, upper_from}
 use Rattle.bolt_check.proofs.{WayOrder.before_total, KeyLaws.below_less, KeyLaws.from_more, KeyOrder.key_each, KeyOrder.key_rise}
 use Rattle.bolt_check.proofs.WayFacts.{follow_append, is_child, key_at, leads_some, step_child}
-use Rattle.bolt_check.specs.{Ways.reached}
-use Rattle.bolt_check.specs.Findings.{finding_of}
+use Rattle.bolt_check.specs.{Ways.reached, Findings.finding_of}
 
 -- the content's tests report nothing
 pub finding_none : (o : Option ℕ) (page : ℕ) → finding_of o page ≡ None → o ≡ None

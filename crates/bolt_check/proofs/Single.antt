@@ -1,7 +1,6 @@
 -- There is at most one first finding.
 use Rattle.std.proofs.Common.{arith, ◌≡◌, ℕ, List}
-use Rattle.bolt_check.proofs.Words.{Finding, IsFirstFinding, Meta, Nodes, Spot, Tests}
-use Rattle.bolt_check.proofs.WayOrder.{before_total}
+use Rattle.bolt_check.proofs.{Words.Finding, Words.IsFirstFinding, Words.Meta, Words.Nodes, Words.Spot, Words.Tests, WayOrder.before_total}
 
 pub tests_one : (nodes : Nodes) (before : ℕ → Type 0) (s : Spot) (x y : Finding) → Tests nodes before s x → Tests nodes before s y → x ≡ y
 tests_one nodes before s x y h k = grind arith

@@ -1,8 +1,6 @@
 -- Claiming lowers the count of what is unclaimed, and listing an id claims nothing.
-use Rattle.std.proofs.lemmas.Grind.{common_steps}
+use Rattle.std.proofs.{lemmas.Grind.common_steps, lemmas.List.get_or_past, lemmas.List.set_past, lemmas.List.Sums.sum_by-set}
 use Rattle.std.proofs.Common.{◌≡◌, ◌↔◌, ◌∙◌, ℕ, ◌<◌, ◌≤◌, List, length, min, set, arith, cond, not, true, inl, inr, ap, get_or, get_or-set_other, get_or-set_same, refl, sym}
-use Rattle.std.proofs.lemmas.List.{get_or_past, set_past}
-use Rattle.std.proofs.lemmas.List.Sums.{sum_by-set}
 use Rattle.bolt_check.proofs.Words.{cases_eq, cases_lt, first_use, get_or_default, is_used, IsUnclaimed, le-ltb, lt-ltb, PageUse, times_of, unclaimed, Unused, use_at}
 use Rattle.bolt_check.specs.declared.table.PageUse.TheVariants.{Used}
 

@@ -1,7 +1,6 @@
 -- Tours: there is at most one, and a visit puts a way before those of what is left.
 use Rattle.std.proofs.Common.{arith, ◌≡◌, ℕ, inl, inr, List, [], ◌∷◌, map, Option, Some, None, refl, sym, subst}
-use Rattle.bolt_check.proofs.{Words.Before, Words.Has, Words.IsTour, Words.none-some, Words.Reach, Words.Spot, Visiting.Visits}
-use Rattle.bolt_check.proofs.{Lists.has_map, Lists.map_has, Lists.one_list, WayOrder.before_strict}
+use Rattle.bolt_check.proofs.{Words.Before, Words.Has, Words.IsTour, Words.none-some, Words.Reach, Words.Spot, Visiting.Visits, Lists.has_map, Lists.map_has, Lists.one_list, WayOrder.before_strict}
 use Rattle.bolt_check.specs.Lists.{RisesBy}
 
 abbrev pub Ways : Type 0

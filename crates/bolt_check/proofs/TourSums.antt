@@ -1,10 +1,8 @@
 -- A sum over the tour of a bucket, page by page: a page's own, and those of the pages that it leads to.
-use Rattle.std.proofs.lemmas.Grind.{common_steps}
-use Rattle.std.proofs.lemmas.List.Sums.{sum_by-append}
+use Rattle.std.proofs.{lemmas.Grind.common_steps, lemmas.List.Sums.sum_by-append}
 use Rattle.std.proofs.Common.{◌≡◌, ◌∙◌, ◌==◌, ℕ, zero, suc, ◌+◌, ◌≤◌, inl, inr, Bool, true, false, List, [], ◌∷◌, ◌++◌, Option, Some, None, Result, Ok, cond, length, map, sum_by, refl, sym, ap, subst, arith}
 use Rattle.bolt_check.proofs.Words.{InlinePage, At_inline, At_page, Entry, forest, Has, HasSoundTrees, IsSome, IsTour, Meta, Node, node_at, Nodes, page_at, PageSpot, places, Reach, root_spot, somes, Spot, sum_by-cons}
-use Rattle.bolt_check.proofs.Forest.{forest_empty, inline_visits, page_visits, root_visits, tail}
-use Rattle.bolt_check.proofs.{Lists.has_left, Lists.has_right, MarkLemmas.node_shown}
+use Rattle.bolt_check.proofs.{Forest.forest_empty, Forest.inline_visits, Forest.page_visits, Forest.root_visits, Forest.tail, Lists.has_left, Lists.has_right, MarkLemmas.node_shown}
 use Rattle.bolt_check.proofs.TourExists.{Fits, bucket_fits, fits_page, fits_visited, numbers, shorter, without}
 use Rattle.bolt_check.proofs.{TourLemmas.Ways, TourLemmas.tour_map, TourLemmas.tour_step, Visiting.Visits}
 use Rattle.bolt_check.specs.{Subtrees.Enough, Subtrees.kid_pages, Subtrees.kids_at, Subtrees.root_page, Subtrees.weight, Ways.reached}
@@ -154,7 +152,7 @@ module _ (nodes : Nodes) where
         let one = sum_by-cons (weight nodes own n) root [] in
         (all root (inl refl), (map tail tour, tour_map v tour is refl, omega (arith, moved, sum, one)))
 
-length-numbers : (k : ℕ) → length (numbers k) ≡ k
+pub length-numbers : (k : ℕ) → length (numbers k) ≡ k
 length-numbers zero = refl
 length-numbers (suc k) = let h = length-numbers k in omega (arith, h)
 

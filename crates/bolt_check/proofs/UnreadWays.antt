@@ -4,8 +4,7 @@ use Rattle.std.proofs.Common.{◌≡◌, ◌∙◌, ℕ, zero, suc, ◌&&◌, �
 use Rattle.std.specs.Prelude.{is_some}
 use Rattle.bolt_check.proofs.Words.{InlinePage, At_inline, At_page, Entry, Finding, follow, forest, Has, IsTour, kids, Node, Nodes, option_map, PageSpot, places, Reach, root_spot, somes, Spot, step, step_entry}
 use Rattle.bolt_check.proofs.Forest.{flat, follow_none, forest_empty, inline_visits, kids_step, lift, nothing_is, page_visits, root_visits, tail, up, way_of, where_is}
-use Rattle.bolt_check.proofs.{TourLemmas.Ways, TourLemmas.tour_map, TourLemmas.tour_step, Visiting.Visits, WayFacts.leads_none}
-use Rattle.bolt_check.proofs.LeafDepths.{leaves_along, leaves_same}
+use Rattle.bolt_check.proofs.{TourLemmas.Ways, TourLemmas.tour_map, TourLemmas.tour_step, Visiting.Visits, WayFacts.leads_none, LeafDepths.leaves_along, LeafDepths.leaves_same}
 use Rattle.bolt_check.specs.BboltFindings.{AreBboltFindings, is_in_root, leaves_at, spot_findings, way_findings}
 use Rattle.bolt_check.specs.{Shape.child_at, Shape.child_of, Shape.leads, Ways.reached}
 use Rattle.bolt_check.specs.Private.Unread.{Unread, mark, own_findings, page_leaves, unread_kids}

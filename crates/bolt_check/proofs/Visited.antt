@@ -3,8 +3,7 @@ use Rattle.std.proofs.Common.{◌≡◌, ℕ, ◌-◌, ◌↔◌, inl, List, [],
 use Rattle.std.proofs.lemmas.List.{take_at}
 use Rattle.std.specs.Prelude.{IfErr, IsErrAnd}
 use Rattle.bolt_check.proofs.Words.{InlinePage, At_inline, At_page, Carries, Finding, forest, inline_finding, IsClaimed, IsClean, IsCovered, IsFirst, IsMetaPage, IsMetaUse, IsNoted, IsSearchFault, kids, Node, Nodes, PagePasses, PageSpot, PageUse, Reach, root_spot, Spot, spot_at, spots_of}
-use Rattle.bolt_check.proofs.{Forest.clean_end, Forest.covered_end, Forest.inline_visits, Forest.page_visits, Forest.root_visits, Pendings.spots_push}
-use Rattle.bolt_check.proofs.Visiting.{carries}
+use Rattle.bolt_check.proofs.{Forest.clean_end, Forest.covered_end, Forest.inline_visits, Forest.page_visits, Forest.root_visits, Pendings.spots_push, Visiting.carries}
 use Rattle.bolt_check.specs.{Private.Pending.ClaimsSpan, Ways.reached, declared.check_fault.CheckFault.CheckFault, declared.spot.Spot.Spot as CodeSpot}
 
 -- the beginning of the search: the root alone, and the metas claimed

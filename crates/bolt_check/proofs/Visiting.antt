@@ -1,8 +1,7 @@
 -- A search for findings goes on from what a visited spot leads to.
 use Rattle.std.proofs.Common.{arith, ◌≡◌, ℕ, ◌⊎◌, inl, inr, List, Option, Some, None}
 use Rattle.bolt_check.proofs.Words.{Before, Carries, HasUse, IsClaimedBefore, IsCovered, Nodes, PageUse, Passes, Reach, SpanHas, Spot, Tests}
-use Rattle.bolt_check.proofs.WayOrder.{before_irreflexive, before_strict, before_total}
-use Rattle.bolt_check.proofs.Judging.{tests_same, passes_fewer, passes_silent, span_spot}
+use Rattle.bolt_check.proofs.{WayOrder.before_irreflexive, WayOrder.before_strict, WayOrder.before_total, Judging.tests_same, Judging.passes_fewer, Judging.passes_silent, Judging.span_spot}
 use Rattle.bolt_check.specs.Private.Carries.{Takes}
 
 -- the ways of `old` are `first`, if o is a spot, and after it and in the same order those of `new`

@@ -45,10 +45,10 @@ leads_follow nodes s (i ∷ address) n e =
     (t, ap (λ (o : Option Spot). follow nodes o address) (step_child nodes s i node p page branch found) ∙ way, is)
 
 -- a good leaf page as a node
-pub leaf_node : (file : List ℕ) (meta : Meta) (n : ℕ) (view : PageView) → page_at file meta n ≡ Some view → view.kind ≡ kind.Leaf
+pub leaf_node_at : (file : List ℕ) (meta : Meta) (n : ℕ) (view : PageView) → page_at file meta n ≡ Some view → view.kind ≡ kind.Leaf
     → node_at file meta n ≡ Ok (record { is_leaf = true; overflow = view.overflow; entries = map leaf_entry view.leaves })
 unfolding node_at
-leaf_node file meta n view e k = ap (λ (o : Option PageView). node_seen o (page_fault file meta n)) e ∙ ap (λ (x : Kind). node_of x view) k
+leaf_node_at file meta n view e k = ap (λ (o : Option PageView). node_seen o (page_fault file meta n)) e ∙ ap (λ (x : Kind). node_of x view) k
 
 -- a page lies in its own span
 pub in_own_span : (nodes : Nodes) (s : PageSpot) (node : Node) → nodes s.number ≡ Ok node → SpanHas nodes (Some (At_page s)) s.number

@@ -21,7 +21,7 @@ pub use Rattle.bolt_check.specs.declared.table.PageUse.TheVariants.{Free, FreeTw
 pub use Rattle.bolt_format.specs.declared.tree_page.TreePage.{TreePage}
 unfoldable pub use Rattle.bolt_check.specs.{CheckedFiles.bytes_of, CheckedFiles.meta_of, Claims.claims_file, Nodes.node_at, Private.Freelists.listed_times}
 unfoldable pub use Rattle.bolt_check.specs.{Private.Pending.kids, RoledFiles.roles_checked, ShownNodes.shown_node}
-pub use Rattle.bolt_format.proofs.{FaultLemmas.first_of-none, PageFacts.span_within}
+pub use Rattle.bolt_format.proofs.Exports.{first_of-none, span_within}
 pub use Rattle.bolt_format.specs.{ElementPlaces.leaf_view, Elements.BranchElement, Elements.LeafElement, Elements.head_root}
 pub use Rattle.bolt_format.specs.{Freelists.free_ids_of, Freelists.freelist_fault_of, Pages.PageView, Pages.page_overflow, ShownGoodPages.shown, ShownIds.shown_ids}
 pub use Rattle.bolt_format.specs.{declared.header.Kind.Kind, declared.meta.Meta.Meta, declared.meta.Slot.Slot, declared.meta.TheConstants.NO_FREELIST}

@@ -1,8 +1,7 @@
 -- Does the freelist have exactly the free pages? docs/SOUND.md, "Accounts". Throughout, `used` says of a page that it is a meta page or in
 -- the span of a page that a way leads to.
 use Rattle.std.specs.Prelude.{◌≡◌, ◌≢◌, ◌≤◌, ◌<◌, ◌==◌, ◌⊎◌, ◌+◌, ℕ, List, Some, None, count_by}
-use Rattle.bolt_format.specs.{Freelists.free_ids_of, Freelists.freelist_fault_of, Pages.page_overflow, declared.meta.Meta.Meta}
-use Rattle.bolt_format.specs.declared.meta.TheConstants.{NO_FREELIST}
+use Rattle.bolt_format.specs.{Freelists.free_ids_of, Freelists.freelist_fault_of, Pages.page_overflow, declared.meta.Meta.Meta, declared.meta.TheConstants.NO_FREELIST}
 
 -- page n lies in the span of the freelist, which is a good page whose ids fit
 pub record IsInFreelist (file : List ℕ) (meta : Meta) (n : ℕ) : Type 0 where

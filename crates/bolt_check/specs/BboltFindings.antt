@@ -2,8 +2,7 @@
 use Rattle.std.specs.Prelude.{◌≡◌, ◌==◌, ◌&&◌, ◌++◌, ◌+◌, ◌-◌, ℕ, zero, suc, Bool, true, false, List, [], ◌∷◌, Option, Some, None, Result, Ok, Err, flat_map, if◌then◌else◌, is_some, length, nat_lt, not, take}
 use Rattle.std.specs.{List.list_any, Str.bytes_eq}
 use Rattle.bolt_check.specs.{Findings.finding, Findings.keys_of, Keys.Key, Nodes.Entry, Nodes.InlinePage, Nodes.Node, Nodes.Nodes, Shape.leads, Tours.IsTour}
-use Rattle.bolt_check.specs.Ways.{At_inline, At_page, PageSpot, Spot, reached}
-use Rattle.bolt_check.specs.declared.finding.Finding.{Finding}
+use Rattle.bolt_check.specs.{Ways.At_inline, Ways.At_page, Ways.PageSpot, Ways.Spot, Ways.reached, declared.finding.Finding.Finding}
 use Rattle.bolt_check.specs.declared.finding.TheConstants.Finding.{FIRST_KEY, INLINE_NUMBER, LARGE_KEY, LEAF_DEPTH, ONE_CHILD, ROOT_VALUE}
 
 -- bbolt writes no value under a longer key

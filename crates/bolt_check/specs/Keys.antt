@@ -1,8 +1,6 @@
 -- Keys in byte order, and their tests: docs/SOUND.md, "Keys".
 use Rattle.std.specs.Prelude.{◌≡◌, ◌<◌, IsTrue, ℕ, Bool, true, not, List, [], ◌∷◌, Option, Some, None, if◌then◌else◌, slice_get}
-use Rattle.std.specs.Ordering.{nat_cmp, is_lt}
-use Rattle.std.specs.Cmp.Lexicographic.{slice_cmp}
-use Rattle.std.specs.declared.cmp.Ordering.{Ordering}
+use Rattle.std.specs.{Ordering.nat_cmp, Ordering.is_lt, Cmp.Lexicographic.slice_cmp, declared.cmp.Ordering.Ordering}
 use Rattle.bolt_format.specs.Elements.{first_of}
 use Rattle.bolt_check.specs.declared.finding.TheConstants.Finding.{ORDER, BELOW_PARENT, ABOVE_NEXT}
 

@@ -1,8 +1,7 @@
 -- What the leftovers of a file show.
 use Rattle.std.specs.Prelude.{◌≡◌, ◌==◌, ℕ, Bool, true, List, length, not}
 use Rattle.bolt_format.specs.declared.meta.Meta.{Meta}
-use Rattle.bolt_check.specs.{Nodes.Nodes, Nodes.node_at, Private.Tables.is_used, Private.Tables.times_of, Private.Tables.use_at}
-use Rattle.bolt_check.specs.declared.leftovers.Leftovers.{Leftovers}
+use Rattle.bolt_check.specs.{Nodes.Nodes, Nodes.node_at, Private.Tables.is_used, Private.Tables.times_of, Private.Tables.use_at, declared.leftovers.Leftovers.Leftovers}
 
 -- the file, and the meta that it is read under
 unfoldable pub leftovers_file : Leftovers → List ℕ

@@ -1,6 +1,5 @@
 pub mod AccountFindings
 pub mod Accounts
-pub mod Assumed
 pub mod BboltFileFindings
 pub mod BboltFindings
 pub mod CheckedFiles

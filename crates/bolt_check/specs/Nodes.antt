@@ -1,9 +1,8 @@
 -- What the rules of soundness see of a page: a branch or a leaf with its entries, or why it is none. docs/SOUND.md, "Structure".
 use Rattle.std.specs.Prelude.{◌≤◌, ℕ, ◌+◌, Bool, true, false, List, [], map, Option, Some, None, Result, Ok, Err}
-use Rattle.bolt_format.specs.Elements.{BranchElement, LeafElement, head_root, inline_elements, inline_number}
-use Rattle.bolt_format.specs.{Pages.PageView, Pages.page_at, Pages.page_fault, declared.meta.Meta.Meta, declared.header.Kind.Kind}
+use Rattle.bolt_format.specs.{Elements.BranchElement, Elements.LeafElement, Elements.head_root, Elements.inline_elements, Elements.inline_number, Pages.PageView, Pages.page_at, Pages.page_fault}
+use Rattle.bolt_format.specs.{declared.meta.Meta.Meta, declared.header.Kind.Kind, declared.page_fault.TheConstants.PageFault.PAGE_KIND}
 use Rattle.bolt_format.specs.declared.header.Kind.TheVariants as kind
-use Rattle.bolt_format.specs.declared.page_fault.TheConstants.PageFault.{PAGE_KIND}
 
 -- The page of an inline bucket: the page number in its header, and its keys.
 pub record InlinePage : Type 0 where

@@ -161,7 +161,7 @@ fn is_leaf_elsewhere(page: &TreePage<'_>, depth: u8, leaves: u8) -> bool
 }
 
 /// Whether a key of an inline page is too large.
-#[tactic(auto, using(bolt_format::proofs::ListLemmas::drop_next, std::proofs::lemmas::List::drop_all))]
+#[tactic(auto, using(bolt_format::proofs::Exports::drop_next, std::proofs::lemmas::List::drop_all))]
 fn has_large_key(page: &Inline<'_>) -> bool
     ensures { result ≡ list_any is_too_large (inline_keys page.now) }
 {

@@ -51,7 +51,7 @@ pub(crate) fn inline_key<'a>(page: &Inline<'a>, i: u16) -> &'a [u8]
 }
 
 /// Tests that the keys of an inline bucket rise.
-#[tactic(auto, using(bolt_format::proofs::ListLemmas::drop_next, std::proofs::lemmas::List::drop_all))]
+#[tactic(auto, using(bolt_format::proofs::Exports::drop_next, std::proofs::lemmas::List::drop_all))]
 pub(crate) fn test_inline_keys(page: &Inline<'_>) -> Result<(), u8>
     ensures { result_err result ≡ keys_order_fault None None None (inline_keys page.now) }
 {

@@ -3,7 +3,6 @@
 #![tactic(auto)]
 
 mod accounts;
-mod assumed;
 mod bbolt_file;
 mod bbolt_pages;
 mod check_fault;
@@ -26,7 +25,6 @@ mod spot;
 mod table;
 mod visit;
 
-pub use assumed::assumed_meta;
 pub use bbolt_file::{FileFinding, bbolt_file_findings};
 pub use check_fault::{CheckFault, NoMemory};
 pub use checked::Checked;

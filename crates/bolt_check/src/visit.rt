@@ -110,7 +110,7 @@ fn test_node(node: &TreePage<'_>, spot: &PageSpot<'_>) -> Result<(), Finding>
 }
 
 /// Tests the keys of a page, one after another, against each other and their bounds.
-#[tactic(auto, using(bolt_format::proofs::ListLemmas::drop_next, std::proofs::lemmas::List::drop_all))]
+#[tactic(auto, using(bolt_format::proofs::Exports::drop_next, std::proofs::lemmas::List::drop_all))]
 fn test_keys(node: &TreePage<'_>, lower: Option<&[u8]>, upper: Option<&[u8]>) -> Result<(), u8>
     ensures { result_err result
         ≡ keys_order_fault None (bound_of lower.entry) (bound_of upper.entry) (page_keys node.now) }

@@ -119,28 +119,28 @@ module _ {T O : Type 0} where
   unread out name fault (Lacked failures line ∷ []) code is = let some = not_0 code is in search rules
   unread out name fault deeds code is = absurd is
 
-  unopened_file : (out : Option Text) (name : List ℕ) (limit : ℕ) (fault : _) (deeds : List (Deed T O)) (code : ℕ) → IsSaid deeds code 1
-      → Asked out (ReadFirst name limit (Err fault) ∷ deeds) code
-  unopened_file out name limit fault (Said text ∷ []) code is = let some = not_0 code is in search rules
-  unopened_file out name limit fault (Lacked failures line ∷ []) code is = let some = not_0 code is in search rules
-  unopened_file out name limit fault deeds code is = absurd is
+  unopened_file : (out : Option Text) (name : List ℕ) (count : ℕ) (fault : _) (deeds : List (Deed T O)) (code : ℕ) → IsSaid deeds code 1
+      → Asked out (ReadFirst name count (Err fault) ∷ deeds) code
+  unopened_file out name count fault (Said text ∷ []) code is = let some = not_0 code is in search rules
+  unopened_file out name count fault (Lacked failures line ∷ []) code is = let some = not_0 code is in search rules
+  unopened_file out name count fault deeds code is = absurd is
 
-  unread_rest : (out : Option Text) (first : List ℕ) (limit : ℕ) (fault : _) (deeds : List (Deed T O)) (code : ℕ) → IsSaid deeds code 1
-      → Going out (ReadOn first limit (Err fault) ∷ deeds) code
-  unread_rest out first limit fault (Said text ∷ []) code is = let some = not_0 code is in search rules
-  unread_rest out first limit fault (Lacked failures line ∷ []) code is = let some = not_0 code is in search rules
-  unread_rest out first limit fault deeds code is = absurd is
+  unread_rest : (out : Option Text) (first : List ℕ) (count : ℕ) (fault : _) (deeds : List (Deed T O)) (code : ℕ) → IsSaid deeds code 1
+      → Going out (ReadOn first count (Err fault) ∷ deeds) code
+  unread_rest out first count fault (Said text ∷ []) code is = let some = not_0 code is in search rules
+  unread_rest out first count fault (Lacked failures line ∷ []) code is = let some = not_0 code is in search rules
+  unread_rest out first count fault deeds code is = absurd is
 
   read : (out : Option Text) (name : List ℕ) (source : Source) (deeds : List (Deed T O)) (code : ℕ) → Going out deeds code → Asked out (Read name (Ok source) ∷ deeds) code
   read out name source deeds code going = let is = going.ordered in let makes = going.makes in search rules
 
-  read_first : (out : Option Text) (name : List ℕ) (limit : ℕ) (first : List ℕ) (deeds : List (Deed T O)) (code : ℕ) → Going out deeds code
-      → Asked out (ReadFirst name limit (Ok first) ∷ deeds) code
-  read_first out name limit first deeds code going = let is = going.ordered in let makes = going.makes in search rules
+  read_first : (out : Option Text) (name : List ℕ) (count : ℕ) (first : List ℕ) (deeds : List (Deed T O)) (code : ℕ) → Going out deeds code
+      → Asked out (ReadFirst name count (Ok first) ∷ deeds) code
+  read_first out name count first deeds code going = let is = going.ordered in let makes = going.makes in search rules
 
-  read_on : (out : Option Text) (first : List ℕ) (limit : ℕ) (bytes : List ℕ) (deeds : List (Deed T O)) (code : ℕ) → Going out deeds code
-      → Going out (ReadOn first limit (Ok bytes) ∷ deeds) code
-  read_on out first limit bytes deeds code going = let is = going.ordered in let makes = going.makes in search rules
+  read_on : (out : Option Text) (first : List ℕ) (count : ℕ) (bytes : List ℕ) (deeds : List (Deed T O)) (code : ℕ) → Going out deeds code
+      → Going out (ReadOn first count (Ok bytes) ∷ deeds) code
+  read_on out first count bytes deeds code going = let is = going.ordered in let makes = going.makes in search rules
 
   -- no OUT is made
   going : (out : Option Text) (deeds : List (Deed T O)) (code : ℕ) → Prints deeds code → Going out deeds code
@@ -173,13 +173,13 @@ module _ {T O : Type 0} (output_taken : O → Option (List ℕ)) (output_failed 
 
   module _ (out : Option Text) (job : Job) where
     reads_rest : (first : List ℕ) (deeds : List (Deed T O)) (code : ℕ) → ReadsRest output_taken output_failed job first deeds code → Going out deeds code
-    reads_rest first (ReadOn begun limit (Ok bytes) ∷ deeds) code (is, end, are) = read_on out begun limit bytes deeds code (going out deeds code (shows bytes job deeds code are))
-    reads_rest first (ReadOn begun limit (Err fault) ∷ deeds) code (is, end, fails) = unread_rest out begun limit fault deeds code (FailsGathered-said _ deeds code fails)
+    reads_rest first (ReadOn begun count (Ok bytes) ∷ deeds) code (is, end, are) = read_on out begun count bytes deeds code (going out deeds code (shows bytes job deeds code are))
+    reads_rest first (ReadOn begun count (Err fault) ∷ deeds) code (is, end, fails) = unread_rest out begun count fault deeds code (FailsGathered-said _ deeds code fails)
     reads_rest first deeds code are = absurd are
 
     reads_metas : (deeds : List (Deed T O)) (code : ℕ) → ReadsMetas output_taken output_failed job deeds code → Asked out deeds code
-    reads_metas (ReadFirst name limit (Ok first) ∷ deeds) code (is, at_most, are) = read_first out name limit first deeds code (reads_rest first deeds code are)
-    reads_metas (ReadFirst name limit (Err fault) ∷ deeds) code (is, at_most, fails) = unopened_file out name limit fault deeds code (FailsGathered-said _ deeds code fails)
+    reads_metas (ReadFirst name count (Ok first) ∷ deeds) code (is, at_most, are) = read_first out name count first deeds code (reads_rest first deeds code are)
+    reads_metas (ReadFirst name count (Err fault) ∷ deeds) code (is, at_most, fails) = unopened_file out name count fault deeds code (FailsGathered-said _ deeds code fails)
     reads_metas deeds code are = absurd are
 
   prints_buffered : (failures : ℕ) (text : List ℕ) (ending : JobEnding) (deeds : List (Deed T O)) (code : ℕ)

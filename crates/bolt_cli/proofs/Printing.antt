@@ -133,8 +133,8 @@ module _ {T O : Type 0} where
   last_none : (deeds : List (Deed T O)) → HasNone is_read deeds → last_read deeds ≡ None
   last_none [] none = refl
   last_none (Read name result ∷ deeds) none = absurd (cc)
-  last_none (ReadFirst name limit result ∷ deeds) none = absurd (cc)
-  last_none (ReadOn first limit result ∷ deeds) none = absurd (cc)
+  last_none (ReadFirst name count result ∷ deeds) none = absurd (cc)
+  last_none (ReadOn first count result ∷ deeds) none = absurd (cc)
   last_none (deed ∷ deeds) none = rw (last_none deeds none) refl
 
 module _ {T O : Type 0} (target : Ghosts T) (output : Ghosts O) (all : ShowsAll target output) where
@@ -164,14 +164,14 @@ module _ {T O : Type 0} (target : Ghosts T) (output : Ghosts O) (all : ShowsAll 
 
   metas : (job : Job) → target_name job ≡ None → (deeds : List (Deed T O)) (code : ℕ) → ReadsMetas output.taken output.failed job deeds code
       → ForClosed (HasLast (target_name job) job deeds) deeds
-  metas job none (ReadFirst name limit (Ok first) ∷ ReadOn begun more (Ok bytes) ∷ deeds) code (same, most, (again, end, are)) =
-      let last : last_read {T = T} {O = O} (ReadFirst name limit (Ok first) ∷ ReadOn begun more (Ok bytes) ∷ deeds) ≡ Some bytes =
+  metas job none (ReadFirst name count (Ok first) ∷ ReadOn begun more (Ok bytes) ∷ deeds) code (same, most, (again, end, are)) =
+      let last : last_read {T = T} {O = O} (ReadFirst name count (Ok first) ∷ ReadOn begun more (Ok bytes) ∷ deeds) ≡ Some bytes =
       rw (last_none deeds (ordering.shows output.taken output.failed bytes job deeds code are).none_read) refl in
-      subst (λ (out : Option Text). ForClosed (HasLast out job (ReadFirst name limit (Ok first) ∷ ReadOn begun more (Ok bytes) ∷ deeds)) deeds) (sym none)
+      subst (λ (out : Option Text). ForClosed (HasLast out job (ReadFirst name count (Ok first) ∷ ReadOn begun more (Ok bytes) ∷ deeds)) deeds) (sym none)
       (closed_as _ _ (λ printed answer. (bytes, last, answer)) deeds (shows target output all bytes job deeds code are))
-  metas job none (ReadFirst name limit (Ok first) ∷ ReadOn begun more (Err fault) ∷ deeds) code (same, most, (again, end, is)) = fails_gathered _ _ deeds code is
-  metas job none (ReadFirst name limit (Ok first) ∷ deeds) code (same, most, are) = absurd are
-  metas job none (ReadFirst name limit (Err fault) ∷ deeds) code (same, most, is) = fails_gathered _ _ deeds code is
+  metas job none (ReadFirst name count (Ok first) ∷ ReadOn begun more (Err fault) ∷ deeds) code (same, most, (again, end, is)) = fails_gathered _ _ deeds code is
+  metas job none (ReadFirst name count (Ok first) ∷ deeds) code (same, most, are) = absurd are
+  metas job none (ReadFirst name count (Err fault) ∷ deeds) code (same, most, is) = fails_gathered _ _ deeds code is
   metas job none deeds code are = absurd are
 
   asked : (job : Job) (deeds : List (Deed T O)) (code : ℕ) → DoesAsked target output job deeds code → ForClosed (HasLast (target_name job) job deeds) deeds

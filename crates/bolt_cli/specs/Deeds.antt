@@ -8,9 +8,9 @@ pub data Deed (T O : Type 0) : Type 0 where
   -- the whole of FILE is read
   Read : (name : List ℕ) → Result Source ReadFault → Deed T O
   -- at most so many bytes of FILE are read, from its start on
-  ReadFirst : (name : List ℕ) (limit : ℕ) → Result (List ℕ) ReadFault → Deed T O
+  ReadFirst : (name : List ℕ) (count : ℕ) → Result (List ℕ) ReadFault → Deed T O
   -- at most so many more are read after those; the answer has both
-  ReadOn : (first : List ℕ) (limit : ℕ) → Result (List ℕ) ReadFault → Deed T O
+  ReadOn : (first : List ℕ) (count : ℕ) → Result (List ℕ) ReadFault → Deed T O
   -- OUT is made with these permission bits, and lent
   Made : (name : List ℕ) (permissions : ℕ) → Result T CreateFault → Deed T O
   -- OUT comes back, and is ended

@@ -1,8 +1,6 @@
 -- Names of files, as standard error has them: docs/COMMANDS.md, "Faults".
 use Rattle.std.specs.Prelude.{◌==◌, ◌&&◌, ℕ, List, [], ◌∷◌, Bool, false, true, flat_map, not, if◌then◌else◌}
-use Rattle.std.specs.Char.{encode_utf8, is_control}
-use Rattle.std.specs.Char.Escape.{escape_default}
-use Rattle.std.specs.Str.{chars}
+use Rattle.std.specs.{Char.encode_utf8, Char.is_control, Char.Escape.escape_default, Str.chars}
 
 -- A control character is escaped, and any other is as it is. A line feed stays if the text has lines.
 abbrev pub shown_char : (has_lines : Bool) → ℕ → List ℕ

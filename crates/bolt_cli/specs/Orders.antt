@@ -1,8 +1,7 @@
 -- The order of the deeds of a run, whatever its words and its job are: a definition for each sentence.
 use Rattle.std.specs.Prelude.{◌≡◌, ◌≤◌, ℕ, List, [], ◌∷◌, ◌++◌, Bool, true, false, IsTrue, not, ◌&&◌, Some, Result, Ok, Err, length}
 use Rattle.std.specs.List.{filter, list_any}
-use Rattle.bolt_cli.specs.Deeds.{Deed, Read, ReadFirst, ReadOn, Made, Ended, Opened, Closed, Dropped, Said, Lacked}
-use Rattle.bolt_cli.specs.Runs.{IsRun}
+use Rattle.bolt_cli.specs.{Deeds.Deed, Deeds.Read, Deeds.ReadFirst, Deeds.ReadOn, Deeds.Made, Deeds.Ended, Deeds.Opened, Deeds.Closed, Deeds.Dropped, Deeds.Said, Deeds.Lacked, Runs.IsRun}
 use Rattle.bolt_cli.specs.{declared.outside.CreateFault.CreateFault, declared.outside.OutputFault.TheVariants.ReaderLeft}
 use Rattle.bolt_job.specs.{CommandLine.Asks, Jobs.target_name, declared.job.Job.Job}
 use Rattle.bolt_format.specs.declared.sink.Sink.{Ghosts}
@@ -13,8 +12,8 @@ use Rattle.bolt_text.specs.Lines.{Text}
 module _ {T O : Type 0} where
   abbrev pub is_read : Deed T O → Bool
   is_read (Read name result) = true
-  is_read (ReadFirst name limit result) = true
-  is_read (ReadOn first limit result) = true
+  is_read (ReadFirst name count result) = true
+  is_read (ReadOn first count result) = true
   is_read deed = false
 
   abbrev pub is_made : Deed T O → Bool
@@ -42,8 +41,8 @@ module _ {T O : Type 0} where
   -- FILE was read
   abbrev pub was_read : Deed T O → Bool
   was_read (Read name (Ok source)) = true
-  was_read (ReadFirst name limit (Ok first)) = true
-  was_read (ReadOn first limit (Ok bytes)) = true
+  was_read (ReadFirst name count (Ok first)) = true
+  was_read (ReadOn first count (Ok bytes)) = true
   was_read deed = false
 
   -- there is an OUT now
@@ -69,8 +68,8 @@ module _ {T O : Type 0} where
 
   abbrev pub has_failed : Deed T O → Bool
   has_failed (Read name (Err fault)) = true
-  has_failed (ReadFirst name limit (Err fault)) = true
-  has_failed (ReadOn first limit (Err fault)) = true
+  has_failed (ReadFirst name count (Err fault)) = true
+  has_failed (ReadOn first count (Err fault)) = true
   has_failed (Made name permissions (Err fault)) = true
   has_failed (Ended target (Err fault)) = true
   has_failed (Opened (Err fault)) = true

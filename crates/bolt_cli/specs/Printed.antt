@@ -4,8 +4,7 @@ use Rattle.bolt_commands.specs.{Answers.JobEnding, JobAnswers.DoesJob}
 use Rattle.bolt_format.specs.declared.sink.Sink.{Ghosts}
 use Rattle.bolt_job.specs.{CommandLine.Asks, CommandLine.IsRefusalOf, Jobs.target_name, declared.job.Job.Job, declared.refusal.Refusal.Refusal}
 use Rattle.bolt_text.specs.Lines.{Text}
-use Rattle.bolt_cli.specs.Deeds.{Deed, Closed, Read, ReadOn}
-use Rattle.bolt_cli.specs.Runs.{buffered_failures, buffered_of, buffered_text}
+use Rattle.bolt_cli.specs.{Deeds.Deed, Deeds.Closed, Deeds.Read, Deeds.ReadOn, Runs.buffered_failures, Runs.buffered_of, Runs.buffered_text}
 
 -- the bytes of FILE, as they were read last
 abbrev pub or_before : Option (List ℕ) → Option (List ℕ) → Option (List ℕ)
@@ -15,7 +14,7 @@ or_before None earlier = earlier
 module _ {T O : Type 0} where
   abbrev pub bytes_read : Deed T O → Option (List ℕ)
   bytes_read (Read name (Ok source)) = Some source.bytes.items
-  bytes_read (ReadOn first limit (Ok bytes)) = Some bytes
+  bytes_read (ReadOn first count (Ok bytes)) = Some bytes
   bytes_read deed = None
 
   abbrev pub last_read : List (Deed T O) → Option (List ℕ)

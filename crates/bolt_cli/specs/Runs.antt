@@ -2,24 +2,17 @@
 use Rattle.std.specs.Prelude.{◌≡◌, ◌<◌, ◌+◌, ◌⊎◌, ℕ, zero, suc, List, [], ◌∷◌, ◌++◌, Bool, true, false, Option, Some, None, Result, Ok, Err, codes, string_bytes}
 use Rattle.std.specs.Io.KnownBytes.{Appends, IsAtEnd}
 use Rattle.bolt_format.specs.{Metas.IsMetasEnd, Sinks.AppendsPrefix, declared.sink.Sink.Ghosts}
-use Rattle.bolt_commands.specs.{Answers.JobEnding, Answers.status_of, JobAnswers.DoesJob}
-use Rattle.bolt_job.specs.CommandLine.{Asks, IsRefusalOf}
-use Rattle.bolt_cli.specs.Deeds.{Deed, Does, Read, ReadFirst, ReadOn, Made, Ended, Opened, Closed, Dropped, Said, Lacked}
-use Rattle.bolt_cli.specs.Names.{shown_lines, shown_name}
-use Rattle.bolt_commands.specs.Failures.{failure_line}
-use Rattle.bolt_text.specs.Lines.{Text}
-use Rattle.bolt_job.specs.{Jobs.needs_metas_alone, Jobs.file_name, Jobs.target_name}
-use Rattle.bolt_cli.specs.Sources.{is_changed}
+use Rattle.bolt_commands.specs.{Answers.JobEnding, Answers.status_of, JobAnswers.DoesJob, Failures.failure_line}
 use Rattle.bolt_commands.specs.declared.failure.Failure.TheVariants.{Memory, Write}
-use Rattle.bolt_job.specs.declared.job.Job.{Job}
-use Rattle.bolt_job.specs.declared.refusal.Refusal.{Refusal}
+use Rattle.bolt_job.specs.{CommandLine.Asks, CommandLine.IsRefusalOf, Jobs.needs_metas_alone, Jobs.file_name, Jobs.target_name, declared.job.Job.Job, declared.refusal.Refusal.Refusal}
+use Rattle.bolt_cli.specs.Deeds.{Deed, Does, Read, ReadFirst, ReadOn, Made, Ended, Opened, Closed, Dropped, Said, Lacked}
+use Rattle.bolt_cli.specs.{Names.shown_lines, Names.shown_name, Sources.is_changed, declared.outside.CreateFault.CreateFault, declared.outside.ReadFault.ReadFault, declared.outside.EndFault.EndFault}
+use Rattle.bolt_cli.specs.{declared.outside.OutputFault.OutputFault, declared.outside.OutputFault.TheVariants.ReaderLeft, declared.outside.OutputFault.TheVariants.Failed}
+use Rattle.bolt_cli.specs.declared.outside.Source.{Source}
+use Rattle.bolt_text.specs.Lines.{Text}
 use Rattle.bolt_job.specs.declared.refusal.Refusal.TheVariants as refusal
-use Rattle.bolt_cli.specs.declared.outside.CreateFault.{CreateFault}
 use Rattle.bolt_cli.specs.declared.outside.CreateFault.TheVariants as create
-use Rattle.bolt_cli.specs.declared.outside.ReadFault.{ReadFault}
 use Rattle.bolt_cli.specs.declared.outside.ReadFault.TheVariants as read
-use Rattle.bolt_cli.specs.{declared.outside.EndFault.EndFault, declared.outside.OutputFault.OutputFault}
-use Rattle.bolt_cli.specs.{declared.outside.OutputFault.TheVariants.ReaderLeft, declared.outside.OutputFault.TheVariants.Failed, declared.outside.Source.Source}
 
 -- ---- lines for standard error
 
@@ -153,16 +146,16 @@ module _ {T O : Type 0} (output_taken : O → Option (List ℕ)) (output_failed 
 
   -- of FILE, the bytes that its metas need are read, which its first 80 tell; they are taken as they are, changed or not
   abbrev pub ReadsRest : Job → List ℕ → List (Deed T O) → ℕ → Type 0
-  ReadsRest job first (ReadOn begun limit (Ok bytes) ∷ deeds) code =
-      (begun ≡ first) × IsMetasEnd first (80 + limit) × Shows bytes job deeds code
-  ReadsRest job first (ReadOn begun limit (Err fault) ∷ deeds) code =
-      (begun ≡ first) × IsMetasEnd first (80 + limit) × FailsGathered (unread_line (file_name job) fault) deeds code
+  ReadsRest job first (ReadOn begun count (Ok bytes) ∷ deeds) code =
+      (begun ≡ first) × IsMetasEnd first (80 + count) × Shows bytes job deeds code
+  ReadsRest job first (ReadOn begun count (Err fault) ∷ deeds) code =
+      (begun ≡ first) × IsMetasEnd first (80 + count) × FailsGathered (unread_line (file_name job) fault) deeds code
   ReadsRest job first deeds code = ⊥
 
   abbrev pub ReadsMetas : Job → List (Deed T O) → ℕ → Type 0
-  ReadsMetas job (ReadFirst name limit (Ok first) ∷ deeds) code = (name ≡ file_name job) × (limit ≡ 80) × ReadsRest job first deeds code
-  ReadsMetas job (ReadFirst name limit (Err fault) ∷ deeds) code =
-      (name ≡ file_name job) × (limit ≡ 80) × FailsGathered (unread_line (file_name job) fault) deeds code
+  ReadsMetas job (ReadFirst name count (Ok first) ∷ deeds) code = (name ≡ file_name job) × (count ≡ 80) × ReadsRest job first deeds code
+  ReadsMetas job (ReadFirst name count (Err fault) ∷ deeds) code =
+      (name ≡ file_name job) × (count ≡ 80) × FailsGathered (unread_line (file_name job) fault) deeds code
   ReadsMetas job deeds code = ⊥
 
 module _ {T O : Type 0} (target : Ghosts T) (output : Ghosts O) where

@@ -29,22 +29,22 @@ pub trait Outside {
     fn read(&mut self, name: &str) -> Result<Source, ReadFault>
         ensures { Adds (done self.old) (done self.new) (Read name.now result ∷ []) };
 
-    /// Opens FILE, and reads its first bytes, at most `limit`: fewer only if FILE has no more.
-    fn read_first(&mut self, name: &str, limit: u64) -> Result<(Vec<u8>, Self::File), ReadFault>
+    /// Opens FILE, and reads its first bytes, at most `count`: fewer only if FILE has no more.
+    fn read_first(&mut self, name: &str, count: u64) -> Result<(Vec<u8>, Self::File), ReadFault>
         ensures { Adds (done self.old) (done self.new)
-            (ReadFirst name.now limit
+            (ReadFirst name.now count
             (result_map_both (λ opened. opened.0.items) (λ fault. fault) result) ∷ []) };
 
-    /// Reads the bytes of FILE that follow the first ones, at most `limit`: fewer only if FILE has no
+    /// Reads the bytes of FILE that follow the first ones, at most `count`: fewer only if FILE has no
     /// more. Returns them after the first ones, and closes FILE.
     fn read_on(
         &mut self,
         file: Self::File,
         first: Vec<u8>,
-        limit: u64,
+        count: u64,
     ) -> Result<Vec<u8>, ReadFault>
         ensures { Adds (done self.old) (done self.new)
-            (ReadOn first.items limit
+            (ReadOn first.items count
             (result_map_both (λ bytes. bytes.items) (λ fault. fault) result) ∷ []) };
 
     /// Makes OUT with these permission bits, unless there is a file of that name. After `Memory` OUT may

@@ -86,8 +86,8 @@ fn read_rest<O: Outside>(
     ensures { Does O.done outside.old outside.new result
         (ReadsRest O.Output.taken O.Output.failed job.now first.items) }
 {
-    let limit = metas_end(first.as_slice()) - META_LEN as u64;
-    match outside.read_on(file, first, limit) {
+    let count = metas_end(first.as_slice()) - META_LEN as u64;
+    match outside.read_on(file, first, count) {
         Ok(bytes) => show(outside, alloc, job, bytes.as_slice()),
         Err(fault) => report_unread(outside, alloc, fault, job.file()),
     }

@@ -2,10 +2,9 @@
 use Rattle.std.proofs.Common.{◌≡◌, ◌∙◌, ◌⊎◌, ◌++◌, ◌-◌, ◌+◌, List, [], ◌∷◌, ℕ, Some, None, Result, Ok, Err, IfErr, Vec, drop, get_or, inl, inr, length, take}
 use Rattle.std.proofs.Common.{refl, sym, ap, subst, rules, arith, ◌<◌}
 use Rattle.bolt_commands.proofs.Vocabulary.{AreEntries, Bucket, Checked, Failure, ForEntries, HasSoundTrees, HoldsIn, HoldsNone, IsBucketAt, IsErrAnd, IsValueAt, Item, Key, LeadsTo, LeafElement, Path, Start, Value, bucket_checked, bucket_start, bytes_of, drop_more, entries_of, held_down, held_up, length-append, map-append, meta_of, names_push, parents_of, owned_path, props, root_start, start_of, take-append-drop, take-append_seam, ∥∥₁_elim, ∥∥₁_map}
-use Rattle.bolt_tree.proofs.AllEntries.{all_entries, checked_entries}
+use Rattle.bolt_tree.proofs.Exports.{all_entries, checked_entries, held_once, held_or_none, item_known, named_once, named_or_none, names_no_further, start_known}
 use Rattle.bolt_commands.specs.declared.failure.Failure.TheVariants as failure
-use Rattle.bolt_job.proofs.CommandLineLemmas.{made_more}
-use Rattle.bolt_tree.proofs.PathEntries.{held_once, held_or_none, item_known, named_once, named_or_none, names_no_further, start_known}
+use Rattle.bolt_job.proofs.Exports.{made_more}
 
 module _ (checked : Checked) where
   abbrev Entry : Start → LeafElement → Type 0

@@ -1,13 +1,11 @@
 -- The copy of a listing, and what is then reported of it.
 use Rattle.std.proofs.Common.{◌≡◌, ◌∙◌, ℕ, List, Bool, Option, None, Some, Result, Ok, Err, inl, inr, length, map, refl, subst}
-use Rattle.bolt_commands.proofs.Vocabulary.{Answer, AreCopyFaults, BulkFault, CopiesTo, WritesAnswer, JobEnding, EndsCopy, Failure, FileFaults, Ghosts, Member, WritesCopy, copied, copy_page_size}
-use Rattle.bolt_commands.proofs.Vocabulary.{CompactsTo, CopiesListing, CopiesRead, IsOpened, IsReadTo, copy_report, hash_refusal, LostView, OnOk, Opened, found_view, is_snapshot, opened_found, opened_lost, opened_meta}
-use Rattle.bolt_commands.proofs.Vocabulary.{HasGoodCopies, IsAskedBlueprint, Meta, layout_for, layout_of_listing, blueprint_layout, failing, ∥∥₁_map}
-use Rattle.bolt_commands.proofs.{OpenedReads.refused_read}
+use Rattle.bolt_commands.proofs.Vocabulary.{Answer, AreCopyFaults, BulkFault, CopiesTo, WritesAnswer, JobEnding, EndsCopy, Failure, FileFaults, Ghosts, Member, WritesCopy, copied, copy_page_size, CompactsTo, CopiesListing, CopiesRead, IsOpened, IsReadTo, copy_report, hash_refusal, LostView, OnOk, Opened, found_view, is_snapshot, opened_found, opened_lost, opened_meta, HasGoodCopies, IsAskedBlueprint, Meta, layout_for, layout_of_listing, blueprint_layout, failing, ∥∥₁_map}
+use Rattle.bolt_commands.proofs.OpenedReads.{refused_read}
 use Rattle.bolt_commands.specs.declared.failure.Failure.TheVariants.{Hash}
 use Rattle.bolt_etcd.specs.declared.snapshot.SnapshotFault.{SnapshotFault}
 use Rattle.bolt_bulk.specs.declared.blueprint.Blueprint.{Blueprint}
-use Rattle.bolt_job.specs.declared.{choices.CopyKind.CopyKind, choices.PageSize.PageSize, writing_commands.CompactJob.CompactJob}
+use Rattle.bolt_job.specs.{declared.choices.CopyKind.CopyKind, declared.choices.PageSize.PageSize, declared.writing_commands.CompactJob.CompactJob}
 
 -- a copy that is whole is good
 pub copy_good : {T : Type 0} {target : Ghosts T} {old new : T} (listing : List Member) (blueprint : Blueprint) (snapshot : Bool) (result : Result ℕ BulkFault)

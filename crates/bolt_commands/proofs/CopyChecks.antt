@@ -1,16 +1,14 @@
 -- What `check` answers to a good copy, and to its proper prefixes.
 use Rattle.std.proofs.Common.{◌≡◌, ◌≢◌, ◌∙◌, ◌&&◌, ◌⊎◌, ◌∷◌, ◌<◌, ℕ, List, [], Bool, true, false, IsTrue, Option, None, Some, Ok, ap, ap₂, codes, inl, inr, length, refl}
 use Rattle.std.proofs.Common.{subst, sym, take}
-use Rattle.bolt_commands.proofs.Vocabulary.{Active, Answer, AnswersLost, AreLosses, CheckFault, Extent, FileFaults, First, HasBothMetas, HasSoundTrees, IsCheckAnswer, IsCheckAnswerAfter, IsActive, IsFoundAnswer, IsGoodCopy, IsLostAnswer, IsMetaOf, IsMetasFault, IsSnapshot, IsSound, LossView, Losses, Member, Meta, MetaFault, Site, RefusesFile, Slot, cases_lt, check_refusal, copy_of, done, found, hash_fault, hash_found, loss_at, losses_of, none_found, site_at, refused}
-use Rattle.bolt_commands.proofs.Vocabulary.{everything, has_losses, parts}
+use Rattle.bolt_commands.proofs.Vocabulary.{Active, Answer, AnswersLost, AreLosses, CheckFault, Extent, FileFaults, Sound, HasBothMetas, HasSoundTrees, IsCheckAnswer, IsCheckAnswerAfter, IsActive, IsFoundAnswer, IsGoodCopy, IsLostAnswer, IsMetaOf, IsMetasFault, IsSnapshot, IsSound, LossView, Losses, Member, Meta, MetaFault, Site, RefusesFile, Slot, cases_lt, check_refusal, copy_of, done, found, hash_fault, hash_found, loss_at, losses_of, none_found, site_at, refused, everything, has_losses, parts}
+use Rattle.bolt_commands.proofs.{OtherMetas.no_other, ReadFiles.read_active, ReadFiles.refused_active, SoundReads.NamesOne, SoundReads.keeps_not_loses, SoundReads.unread}
 use Rattle.bolt_check.specs.declared.check_fault.CheckFault.TheVariants as check
 use Rattle.bolt_etcd.specs.declared.snapshot.SnapshotFault.{SnapshotFault}
-use Rattle.bolt_etcd.proofs.SnapshotLemmas.{no_fault_iff}
+use Rattle.bolt_etcd.proofs.Exports.{no_fault_iff}
 use Rattle.bolt_recover.specs.Surveys.{ForSurveys, LosesNothing, SurveyedWay}
 use Rattle.bolt_job.specs.declared.choices.Extent.TheVariants.{LostAndFound}
 use Rattle.bolt_commands.specs.declared.failure.Failure.TheVariants as failure
-use Rattle.bolt_commands.proofs.{OtherMetas.no_other, ReadFiles.read_active, ReadFiles.refused_active}
-use Rattle.bolt_commands.proofs.SoundReads.{NamesOne, keeps_not_loses, unread}
 use Rattle.bolt_commands.specs.{CheckAnswers.AreFoundFor, CheckAnswers.all_found, FileFaults.is_fine}
 use Rattle.bolt_check.specs.{declared.bbolt_file.FileFinding.FileFinding, declared.finding.Finding.Finding}
 
@@ -43,7 +41,7 @@ no_hash_fault false file hash = refl
 no_hash_fault true file hash = (no_fault_iff file (hash_fault file) refl).1 (hash refl)
 
 no_other_fault : (extent : Extent) (file : List ℕ) → HasBothMetas file → (other : Option (Slot × MetaFault)) → IsMetasFault extent file Active other → other ≡ None
-no_other_fault First file both other is = is
+no_other_fault Sound file both other is = is
 no_other_fault extent file both other is = no_other file both other is
 
 wrong_hash : (faults : FileFaults) (fault : SnapshotFault) → faults.hash ≡ Some fault → (of_file : List FileFinding) (on_ways : List Finding) → (all_found faults of_file on_ways).ending ≡ Ok 1
@@ -95,7 +93,7 @@ module _ (laws : Laws) (for_bbolt : Bool) (faults : FileFaults) (file : List ℕ
   fine_lost extent (inr (inr (may, said))) = inr said
 
   fine : (extent : Extent) → IsCheckAnswerAfter extent for_bbolt faults file Active answer → IsFine answer
-  fine First is = fine_found is
+  fine Sound is = fine_found is
   fine Losses is = fine_lost Losses is
   fine LostAndFound is = fine_lost LostAndFound is
 
@@ -135,7 +133,7 @@ module _ (laws : Laws) (for_bbolt : Bool) (faults : FileFaults) (file : List ℕ
   fails_lost extent why (inr (inr (may, said))) = ends_so said (λ same. cc)
 
   fails_after : (extent : Extent) → RefusesFile file ⊎ ((fault : SnapshotFault) × (faults.hash ≡ Some fault)) → IsCheckAnswerAfter extent for_bbolt faults file Active answer → answer.ending ≢ Ok 0
-  fails_after First why is = fails_found why is
+  fails_after Sound why is = fails_found why is
   fails_after Losses why is = fails_lost Losses why is
   fails_after LostAndFound why is = fails_lost LostAndFound why is
 

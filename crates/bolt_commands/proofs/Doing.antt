@@ -1,7 +1,6 @@
 -- What jobs do with their text, and how they end.
 use Rattle.std.proofs.Common.{◌≡◌, ℕ, List, Result, Ok, Err, inl, inr, ap, refl}
-use Rattle.bolt_commands.proofs.Vocabulary.{Answer, Appends-nil, CheckFault, JobEnding, Failure, Ghosts, HasNoBucket, IsErrAnd, IsFailureOf, IsReadUnder, IsUnread}
-use Rattle.bolt_commands.proofs.Vocabulary.{LeadsTo, Meta, MetaChoice, OnOk, Path, PrintsAnswer, SinkFault, Start, Wrote, end_written, ending, refused}
+use Rattle.bolt_commands.proofs.Vocabulary.{Answer, Appends-nil, CheckFault, JobEnding, Failure, Ghosts, HasNoBucket, IsErrAnd, IsFailureOf, IsReadUnder, IsUnread, LeadsTo, Meta, MetaChoice, OnOk, Path, PrintsAnswer, SinkFault, Start, Wrote, end_written, ending, refused}
 use Rattle.bolt_commands.specs.declared.failure.Failure.TheVariants.{NoBucket}
 
 -- how a job ends that isn't done

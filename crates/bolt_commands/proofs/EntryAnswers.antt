@@ -1,13 +1,11 @@
 -- What is answered of the entries of the bucket at a path, or of their sizes.
 use Rattle.std.proofs.Common.{◌⊎◌, ◌≡◌, ℕ, IfErr, List, Ok, Result, inl, inr, refl}
-use Rattle.bolt_commands.proofs.Vocabulary.{AreEntries, Bucket, ForEntries, Ghosts, IsOpenedBucket, IsEntriesAnswer, IsEntry, IsReadAnswer, IsSizesAnswer, Json, LeadsTo, LeafElement}
-use Rattle.bolt_commands.proofs.Vocabulary.{Meta, MetaChoice, Path, PrintsAnswer, ReportFault, Start, Wrote, bucket_checked, bucket_start, bytes_of, ending_by, meta_of}
-use Rattle.bolt_commands.proofs.Vocabulary.{report_ending, ⊤}
-use Rattle.bolt_report.specs.{SizeLines.AreSized, SizeLines.Sized, SizeLines.sizes_text}
+use Rattle.bolt_commands.proofs.Vocabulary.{AreEntries, Bucket, ForEntries, Ghosts, IsOpenedBucket, IsEntriesAnswer, IsEntry, IsReadAnswer, IsSizesAnswer, Json, LeadsTo, LeafElement, Meta, MetaChoice, Path, PrintsAnswer, ReportFault, Start, Wrote, bucket_checked, bucket_start, bytes_of, ending_by, meta_of, report_ending, ⊤}
+use Rattle.bolt_commands.proofs.{AtPaths.at_path, CutTexts.allowed, CutTexts.short_put, Doing.answer_as, ReadFiles.own_trees, ReadFiles.read_trees}
+use Rattle.bolt_report.specs.SizeLines.{AreSized, Sized, sizes_text}
 use Rattle.bolt_text.specs.{ReportEndings.HaltsShort, declared.forms.Form.Form}
 use Rattle.bolt_text.specs.declared.report_fault.ReportFault.TheVariants as report
-use Rattle.bolt_report.proofs.SizesExist.{named_sizes}
-use Rattle.bolt_commands.proofs.{AtPaths.at_path, CutTexts.allowed, CutTexts.short_put, Doing.answer_as, ReadFiles.own_trees, ReadFiles.read_trees}
+use Rattle.bolt_report.proofs.Exports.{named_sizes}
 
 module _ {file : List ℕ} {choice : MetaChoice} {path : Path} {bucket : Bucket} (of : IsOpenedBucket file choice path bucket) where
   abbrev meta : Meta

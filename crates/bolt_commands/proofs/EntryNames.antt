@@ -3,19 +3,15 @@
 -- are the same.
 use Rattle.std.proofs.Common.{◌≡◌, ◌∙◌, ◌++◌, Bool, true, false, List, [], ◌∷◌, None, Option, Some, ap, arith, filter, flat_map, inl, inr, map, refl, rules, subst, sym, ℕ}
 use Rattle.std.specs.Prelude.{if◌then◌else◌}
-use Rattle.std.specs.declared.cmp.Ordering.{Ordering}
-use Rattle.std.specs.declared.cmp.Ordering.TheVariants.{Equal, Less}
-use Rattle.std.specs.Cmp.{IsTotalOrder}
-use Rattle.std.specs.Ordering.{ordering_then}
+use Rattle.std.specs.{declared.cmp.Ordering.Ordering, declared.cmp.Ordering.TheVariants.Equal, declared.cmp.Ordering.TheVariants.Less, Cmp.IsTotalOrder, Ordering.ordering_then}
 use Rattle.std.proofs.lemmas.Cmp.{on_total}
-use Rattle.bolt_check.proofs.Lists.{contains_from_has, has_from_contains, has_map, map_has}
+use Rattle.bolt_check.proofs.Exports.{contains_from_has, has_from_contains, has_map, map_has, first_decides}
 use Rattle.bolt_check.specs.Keys.{key_cmp}
 use Rattle.bolt_commands.proofs.Vocabulary.{AreEntries, Contains, HasSoundTrees, IsEntry, IsListing, Item, Key, LeadsTo, LeafElement, Member, Meta, Path, Rises, Root_page, Start, bytes_eq, bytes_eq-Decides, held_down, is_bucket, item_of, keys_text, member_cmp}
 use Rattle.bolt_commands.proofs.ListedBuckets.{has_named}
 use Rattle.bolt_report.specs.MemberNames.{WantedNames, entry_name, key_in, member_name, names_text}
 use Rattle.bolt_text.specs.{Forms.value_text, declared.forms.Form.Form}
-use Rattle.bolt_tree.proofs.{AllEntries.all_entries, Lists.contains_cases, Lists.contains_head, Lists.contains_none, Lists.contains_tail, Lists.rises_once}
-use Rattle.bolt_tree.proofs.{Named.held_here, PathOrder.key_total, PathOrder.same_front}
+use Rattle.bolt_tree.proofs.Exports.{all_entries, contains_cases, contains_head, contains_none, contains_tail, rises_once, held_here, key_total, same_front}
 use Rattle.bolt_tree.specs.{Entries.entry_cmp, Order.IsBelow}
 
 abbrev Named : Type 0
@@ -64,9 +60,6 @@ named_in : Path → List Member → List Named
 named_in bucket [] = []
 named_in bucket (m ∷ ms) = pick m.1 (key_in bucket m.0) (named_in bucket ms)
 
-less_first : (o : Ordering) → ordering_then o Equal ≡ Less → o ≡ Less
-less_first o e = grind arith
-
 module _ (bucket : Path) where
   abbrev there : Named → Member
   there n = (bucket ++ n.0 ∷ [], n.1)
@@ -105,7 +98,7 @@ module _ (bucket : Path) where
       → key_cmp key n.0 ≡ Less
   below_named m ms key path below n has =
       let before = below (there n) (named_there ms n has) in
-      less_first (key_cmp key n.0) (sym (same_front bucket (key ∷ []) (n.0 ∷ [])) ∙ rw path at before)
+      first_decides (key_cmp key n.0) (sym (same_front bucket (key ∷ []) (n.0 ∷ [])) ∙ rw path at before)
 
   pick_rises : (m : Member) (ms : List Member) (found : Option Key) → key_in bucket m.0 ≡ found → IsBelow member_cmp m ms → Rises named_cmp (named_in bucket ms)
       → Rises named_cmp (pick m.1 found (named_in bucket ms))

@@ -1,19 +1,18 @@
 -- What is printed of what etcd keeps.
 use Rattle.std.proofs.Common.{◌≡◌, ◌⊎◌, ◌++◌, ℕ, true, false, IfErr, IfOk, List, None, Option, Some, Result, Ok, Err, codes, inl, inr, length, refl, subst, sym}
 use Rattle.bolt_check.specs.Counts.{counted}
-use Rattle.bolt_etcd.proofs.{Currents.revisions_rise, Filtered.filter_rises, SortedExists.current_is_one, StoreExists.one_store, StoreLemmas.fits, StoreLemmas.fits_some}
-use Rattle.bolt_etcd.specs.{Current.AreCurrent, Current.place_cmp, Newest.is_until, Newest.until, Revisions.RevisionView, Stores.revisions}
-use Rattle.bolt_etcd.specs.{StoreBuckets.HasEntriesUnder, StoreBuckets.IsStore, StoreBuckets.StoreView, StoreFaults.store_compacted, Stores.others}
-use Rattle.bolt_format.proofs.WroteLemmas.{Wrote-stop_halted}
+use Rattle.bolt_etcd.proofs.Exports.{revisions_rise, current_is_one, one_store, fits, fits_some}
+use Rattle.bolt_tree.proofs.Exports.{filter_rises, root_starts}
+use Rattle.bolt_etcd.specs.{Current.AreCurrent, Current.stored_key_cmp, Newest.is_until, Newest.until, Revisions.RevisionView, Stores.revisions, Stores.others}
+use Rattle.bolt_etcd.specs.{StoreBuckets.HasEntriesUnder, StoreBuckets.IsStore, StoreBuckets.StoreView, StoreFaults.store_compacted}
+use Rattle.bolt_format.proofs.Exports.{Wrote-stop_halted}
 use Rattle.bolt_text.specs.declared.report_fault.ReportFault.TheVariants as report
-use Rattle.bolt_tree.proofs.BucketWays.{root_starts}
 use Rattle.bolt_tree.specs.BucketViews.{entries_of}
-use Rattle.bolt_commands.specs.{Answers.IsCutAnswer, EtcdAnswers.IsAnswerAt, EtcdAnswers.IsStoreAnswer, EtcdAnswers.OfKeys, EtcdAnswers.entries_ending, EtcdAnswers.is_compacted, EtcdAnswers.others_ending}
-use Rattle.bolt_commands.specs.Private.Etcd.{IsStoreRead, IsUnreadStore, end_of_revisions}
-use Rattle.bolt_commands.specs.declared.etcd_commands.Store.{Store}
+use Rattle.bolt_commands.specs.Answers.{IsCutAnswer}
+use Rattle.bolt_commands.specs.EtcdAnswers.{IsAnswerAt, IsStoreAnswer, OfKeys, entries_ending, is_compacted, others_ending}
+use Rattle.bolt_commands.specs.{Private.Etcd.IsStoreRead, Private.Etcd.IsUnreadStore, Private.Etcd.end_of_revisions, declared.etcd_store.Store.Store}
 use Rattle.bolt_commands.specs.declared.failure.Failure.TheVariants as failure
-use Rattle.bolt_commands.proofs.Vocabulary.{Answer, AreEntries, Checked, JobEnding, Failure, Ghosts, HasSoundTrees, IsBucketAt, IsEndedOrCut, IsEntry, IsErrAnd, IsReadAnswer, LeafElement, MayFail, Meta, MetaChoice}
-use Rattle.bolt_commands.proofs.Vocabulary.{PrintsAnswer, ReportFault, Root_page, Start, Wrote, Wrote-stop, bucket_checked, bucket_start, ending_by, meta_of, refused, report_ending, reported}
+use Rattle.bolt_commands.proofs.Vocabulary.{Answer, AreEntries, Checked, JobEnding, Failure, Ghosts, HasSoundTrees, IsBucketAt, IsEndedOrCut, IsEntry, IsErrAnd, IsReadAnswer, LeafElement, MayFail, Meta, MetaChoice, PrintsAnswer, ReportFault, Root_page, Start, Wrote, Wrote-stop, bucket_checked, bucket_start, ending_by, meta_of, refused, report_ending, reported}
 use Rattle.bolt_commands.proofs.{CutTexts.ended_put, CutTexts.text_put, Doing.answer_as, Doing.answer_nothing, ReadFiles.read_trees}
 
 -- ---- the store of a file that is read
@@ -73,7 +72,7 @@ module _ (file : List ℕ) (choice : MetaChoice) (s : Store) (of : IsStoreRead f
   -- the keys that there are at a transaction
   pub current_keys : (up_to : ℕ) → (current : List RevisionView) × AreCurrent (until up_to (revisions keys.0)) current
   current_keys up_to =
-      let rises = filter_rises place_cmp (is_until up_to) (revisions keys.0) (revisions_rise keys.0 keys.2.rises) in
+      let rises = filter_rises stored_key_cmp (is_until up_to) (revisions keys.0) (revisions_rise keys.0 keys.2.rises) in
       let (current, are, once) = current_is_one (until up_to (revisions keys.0)) rises in (current, are)
 
 -- ---- texts, and how the job then ends

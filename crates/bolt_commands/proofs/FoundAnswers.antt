@@ -1,8 +1,7 @@
 -- The pages that are found, and the joined listing.
 use Rattle.std.proofs.Common.{◌≡◌, ℕ, List, [], ◌∷◌, Option, ap, ap₂, map, refl, sym}
 use Rattle.std.proofs.lemmas.List.Elements.{All-head, All-tail}
-use Rattle.bolt_commands.proofs.Vocabulary.{All, AreFoundPages, Found, FoundView, IsFoundLeaf, IsJoined, IsJoinedOf, IsSalvaged, IsSearchOf, LostAndFound, Member, Meta, MetaChoice}
-use Rattle.bolt_commands.proofs.Vocabulary.{all_lost, found_page, found_view, leaves_of}
+use Rattle.bolt_commands.proofs.Vocabulary.{All, AreFoundPages, Found, FoundView, IsFoundLeaf, IsJoined, IsJoinedOf, IsSalvaged, IsSearchOf, LostAndFound, Member, Meta, MetaChoice, all_lost, found_page, found_view, leaves_of}
 use Rattle.bolt_format.specs.Pages.{PageView}
 use Rattle.bolt_recover.specs.{Found.AreFound, Found.found_numbers, ShownFound.IsFoundView, declared.joined.Joined.Joined}
 

@@ -1,8 +1,7 @@
 -- The hash of what a target has accepted.
 use Rattle.std.proofs.Common.{◌≡◌, ◌≢◌, ◌<◌, ◌∙◌, ◌⊎◌, ℕ, zero, suc, List, [], ◌++◌, Option, None, Some, Result, Ok, Err, ap, append_assoc, arith, drop, inl}
 use Rattle.std.proofs.Common.{inr, length, refl, subst, sym}
-use Rattle.bolt_commands.proofs.Vocabulary.{Appends, Appends-kept, Appends-trans, AppendsProperPrefix, AppendsProperPrefix-second, HashesSince, Holds256, Keeps}
-use Rattle.bolt_commands.proofs.Vocabulary.{OnErr, OnOk, Sha256, cases_lt, drop-append_seam, length-sha256, props, sha256, ∥∥₁_elim, ∥∥₁_map}
+use Rattle.bolt_commands.proofs.Vocabulary.{Appends, Appends-kept, Appends-trans, AppendsProperPrefix, AppendsProperPrefix-second, HashesSince, Holds256, Keeps, OnErr, OnOk, Sha256, cases_lt, drop-append_seam, length-sha256, props, sha256, ∥∥₁_elim, ∥∥₁_map}
 
 -- a hash goes on with what the target accepts
 since_more : (start old new : Option (List ℕ)) (hash next : Sha256) (bytes : List ℕ) → ((m : List ℕ) → Holds256 hash m → Holds256 next (m ++ bytes))

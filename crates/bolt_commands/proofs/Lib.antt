@@ -13,7 +13,6 @@ pub mod ListAnswers
 pub mod ListedBuckets
 pub mod ListedLoads
 pub mod LoadAnswers
-pub mod LookUps
 pub mod LostAnswers
 pub mod NeededBytes
 pub mod OpenedReads

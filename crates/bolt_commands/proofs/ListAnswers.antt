@@ -1,11 +1,9 @@
 -- What `list` puts, and how it then ends.
 use Rattle.std.proofs.Common.{◌≡◌, ◌∙◌, Bool, true, false, IfOk, List, Option, Result, Ok, Err, ap, if◌then◌else◌, inl, inr, refl, subst, sym, ℕ}
 use Rattle.std.proofs.lemmas.Result.{on_ok_weaker}
-use Rattle.bolt_commands.proofs.Vocabulary.{JobEnding, Failure, Ghosts, IsEndedOrCut, IsListPrint, IsMetasFault, ListJob, LostView, MayFail, Member, MetaFault, OnOk, Opened, PrintsAnswer, PutsListing}
-use Rattle.bolt_commands.proofs.Vocabulary.{PutsPart, ReportFault, Rises, Shortfall, Slot, Wrote, Wrote-none, failing, finds, job_part, lost_ending, member_cmp, opened_lost}
-use Rattle.bolt_commands.proofs.Vocabulary.{part_ending, owned_path, report_ending, reported, shortfall, sound_part}
-use Rattle.bolt_commands.specs.declared.failure.Failure.TheVariants.{NoBucket}
+use Rattle.bolt_commands.proofs.Vocabulary.{JobEnding, Failure, Ghosts, IsEndedOrCut, IsListPrint, IsMetasFault, ListJob, LostView, MayFail, Member, MetaFault, OnOk, Opened, PrintsAnswer, PutsListing, PutsPart, ReportFault, Rises, Shortfall, Slot, Wrote, Wrote-none, failing, finds, job_part, lost_ending, member_cmp, opened_lost, part_ending, owned_path, report_ending, reported, shortfall, sound_part}
 use Rattle.bolt_commands.proofs.{CutTexts.ended_put, Doing.answer_as, Doing.answer_nothing}
+use Rattle.bolt_commands.specs.declared.failure.Failure.TheVariants.{NoBucket}
 
 -- ---- the part of a sound file, with the bucket or without it
 

@@ -3,7 +3,8 @@ use Rattle.std.proofs.Common.{arith, length, ◌==◌, ◌≡◌, ◌∙◌, ◌
 use Rattle.std.proofs.lemmas.Bool.Decides.{nat_tests}
 use Rattle.bolt_commands.proofs.Vocabulary.{Contains, Holds, IsEntry, IsListing, Item, Key, LeadsTo, LeafElement, Member, Meta, Names, Path, Root_page, Start, Value, and_parts, bytes_eq, bytes_eq-Decides, cases_Bool, has_bucket, head_sequence, is_bucket, is_bucket_at, item_of, list_any, or_cases, or_left, or_right, pointwise, slice_eq-Decides, start_of}
 use Rattle.bolt_tree.specs.Entries.{Bucket}
-use Rattle.bolt_tree.proofs.Lists.{contains_cases, contains_head, contains_none, contains_tail}
+use Rattle.bolt_tree.proofs.Exports.{contains_cases, contains_head, contains_none, contains_tail}
+use Rattle.bolt_load.proofs.Exports.{path_itself}
 
 -- ---- lists
 
@@ -44,9 +45,6 @@ module _ (Entry : Start → LeafElement → Type 0) where
 
 -- ---- members
 
-same_path : (path : Path) → pointwise bytes_eq path path ≡ true
-same_path path = (slice_eq-Decides bytes_eq-Decides path path (pointwise bytes_eq path path) refl).1 refl
-
 bucket_in : (item : Item) → is_bucket item ≡ true → (sequence : ℕ) × (item ≡ Bucket sequence)
 bucket_in (Value value) t = absurd (cc)
 bucket_in (Bucket sequence) t = (sequence, refl)
@@ -63,7 +61,7 @@ module _ (file : List ℕ) (meta : Meta) (listing : List Member) (is : IsListing
   has_named (key ∷ path) bucket leads =
       let (sequence, held) = held_of (IsEntry file meta) key path (Root_page meta.root) bucket leads in
       by_members key path ∙ any_of (is_bucket_at (key ∷ path)) listing (key ∷ path, Bucket sequence) ((is.exact (key ∷ path) (Bucket sequence)).1 held)
-      (ap (λ (b : Bool). b && true) (same_path (key ∷ path)))
+      (ap (λ (b : Bool). b && true) (path_itself (key ∷ path)))
 
   pub named_has : (path : Path) → has_bucket path listing ≡ true → (bucket : Start) × LeadsTo file meta path bucket
   named_has [] has = (Root_page meta.root, refl)

@@ -1,14 +1,13 @@
 -- What `list` prints of a file is loaded as the listing of the file.
 use Rattle.std.proofs.Common.{◌≡◌, ◌∙◌, ◌<◌, ℕ, Bool, List, [], ◌∷◌, Option, Ok, ap, arith, false, inl, inr, length, refl, subst, sym}
-use Rattle.bolt_commands.proofs.Vocabulary.{Answer, JobEnding, First, HasSoundTrees, IsEndedOrCut, IsListedAnswer, IsListing, IsListingText, IsLoadFault, IsOfOneTree, IsReadUnder, Layout, Loads, LoadsListing, Member, Meta, MetaChoice, Path, Rises, filter_all, listing_lines, member_cmp, not, part_below, listing_part_text, path_cmp, rest_from, text_members}
+use Rattle.bolt_commands.proofs.Vocabulary.{Answer, JobEnding, Sound, HasSoundTrees, IsEndedOrCut, IsListedAnswer, IsListing, IsListingText, IsLoadFault, IsOfOneTree, IsReadUnder, Layout, Loads, LoadsListing, Member, Meta, MetaChoice, Path, Rises, filter_all, listing_lines, member_cmp, not, part_below, listing_part_text, path_cmp, rest_from, text_members}
 use Rattle.bolt_commands.proofs.ReadFiles.{read_trees}
 use Rattle.std.specs.Ordering.{is_lt}
 use Rattle.bolt_format.specs.Bytes.{IsBytes}
-use Rattle.bolt_load.specs.{ByteMembers.AreOfBytes, declared.load_fault.LineFault.LineFault}
-use Rattle.bolt_text.specs.{Lines.Text}
-use Rattle.bolt_load.specs.declared.load_fault.LineFault.TheVariants.{CutOff}
+use Rattle.bolt_load.specs.{ByteMembers.AreOfBytes, declared.load_fault.LineFault.LineFault, declared.load_fault.LineFault.TheVariants.CutOff}
 use Rattle.bolt_load.specs.declared.load_fault.LoadFault.TheVariants.{Line, Memory}
-use Rattle.bolt_text.specs.{declared.forms.ListForm.TheVariants.Hex, ListLines.listing_text}
+use Rattle.bolt_text.specs.{Lines.Text, declared.forms.ListForm.TheVariants.Hex, ListLines.listing_text}
+use Rattle.bolt_tree.proofs.Exports.{after_end}
 
 pub record Below : Type 0 where
   pub below_root : (listing : List Member) → part_below [] listing ≡ listing
@@ -21,14 +20,9 @@ pub record Below : Type 0 where
   pub no_listing : IsListingText (listing_text []) → ⊥
   pub no_fault : (text : Text) (number : ℕ) (fault : LineFault) → IsListingText text → IsLoadFault text (Line number fault) → ⊥
 
--- no path comes before the empty one
-none_before : (path : Path) → is_lt (path_cmp path []) ≡ false
-none_before [] = refl
-none_before (part ∷ path) = refl
-
 module _ (below : Below) where
   rest_all : (listing : List Member) → rest_from [] listing ≡ listing
-  rest_all listing = filter_all (λ m. not (is_lt (path_cmp m.0 []))) listing (λ m has. ap not (none_before m.0))
+  rest_all listing = filter_all (λ m. not (is_lt (path_cmp m.0 []))) listing (λ m has. ap not (after_end m.0))
 
   whole_text : (listing : List Member) → listing_part_text Hex [] [] listing ≡ listing_text listing
   whole_text listing = ap (λ part. listing_lines Hex (rest_from [] part)) (below.below_root listing) ∙ ap (listing_lines Hex) (rest_all listing) ∙ below.hex_lines listing
@@ -63,7 +57,7 @@ module _ (below : Below) where
     told_of (member ∷ listing) one rises own =
         told member listing (listing_text (member ∷ listing)) (below.right (member ∷ listing) (omega arith) one rises own) (below.read_back (member ∷ listing) one rises own)
 
-    pub listed_loads : (file : List ℕ) (choice : MetaChoice) (answer : Answer) → IsBytes file → IsListedAnswer First file choice Hex [] [] answer → answer.ending ≡ Ok 0
+    pub listed_loads : (file : List ℕ) (choice : MetaChoice) (answer : Answer) → IsBytes file → IsListedAnswer Sound file choice Hex [] [] answer → answer.ending ≡ Ok 0
         → (meta : Meta) × (listing : List Member) × IsReadUnder file choice meta × IsListing file meta listing × Told listing answer.out
     listed_loads file choice answer bytes (inl (meta, listing, lost, found, (under, lists, none, unfound), lacking, why, ended)) good =
         let one = below.one_tree file meta listing bytes (read_trees file choice meta under) lists in

@@ -1,14 +1,11 @@
 -- What is read of what was opened.
 use Rattle.std.proofs.Common.{◌≡◌, ℕ, List, [], Option, Some, inl, inr, map, refl}
 use Rattle.std.proofs.lemmas.List.Elements.{All-nil}
-use Rattle.bolt_commands.proofs.Vocabulary.{AreFoundTo, AreLosses, Checked, Extent, Failure, IsListing, IsMetaOf, IsOpened, IsReadTo, IsRecovered, IsSalvaged, IsUnopened, IsUnreadTo, LossView, LostAndFound, Member, MetaChoice}
-use Rattle.bolt_commands.proofs.Vocabulary.{All, FoundView, IsFoundLeaf, LostView, Meta, Opened, all_lost, found_view, has_listing, hash_refusal, meta_of, opened_found, opened_meta, parts, recovery_meta}
+use Rattle.bolt_commands.proofs.Vocabulary.{AreFoundTo, AreLosses, Checked, Extent, Failure, IsListing, IsMetaOf, IsOpened, IsReadTo, IsRecovered, IsSalvaged, IsUnopened, IsUnreadTo, LossView, LostAndFound, Member, MetaChoice, All, FoundView, IsFoundLeaf, LostView, Meta, Opened, all_lost, found_view, has_listing, hash_refusal, meta_of, opened_found, opened_meta, parts, recovery_meta}
 use Rattle.bolt_commands.proofs.{FoundAnswers.are_leaves, FoundAnswers.are_pages, ReadFiles.read_trees}
 use Rattle.bolt_etcd.specs.declared.snapshot.SnapshotFault.{SnapshotFault}
-use Rattle.bolt_job.specs.declared.choices.Extent.TheVariants.{First, LostAndFound as Joins, Losses}
-use Rattle.bolt_recover.specs.Found.{AreFound}
-use Rattle.bolt_recover.specs.declared.joined.JoinFault.TheVariants.{Memory}
-use Rattle.bolt_recover.specs.declared.recovery.Recovery.{Recovery}
+use Rattle.bolt_job.specs.declared.choices.Extent.TheVariants.{Losses, LostAndFound as Joins, Sound}
+use Rattle.bolt_recover.specs.{Found.AreFound, declared.joined.JoinFault.TheVariants.Memory, declared.recovery.Recovery.Recovery}
 use Rattle.bolt_commands.specs.declared.opened.Opened.TheVariants as opened
 
 module _ {extent : Extent} {file : List ℕ} {choice : MetaChoice} {listing : List Member} where
@@ -57,7 +54,7 @@ found_leaves extent file choice (opened.Searched both) to = are_leaves file both
 -- a file that isn't opened isn't read; each has found pages
 pub unopened_unread : ((file : List ℕ) (meta : Meta) → (found : List ℕ) × AreFound file meta found) → (extent : Extent) (file : List ℕ) (choice : MetaChoice) (why : Failure)
     → IsUnopened extent file choice why → IsUnreadTo extent file choice why
-unopened_unread finds First file choice why is = is
+unopened_unread finds Sound file choice why is = is
 unopened_unread finds Losses file choice why is = is
 unopened_unread finds Joins file choice why (inl none) = inr none
 unopened_unread finds Joins file choice why (inr (meta, under, is)) = let (found, are) = finds file meta in inl (meta, under, (found, Memory, are, tt, is))

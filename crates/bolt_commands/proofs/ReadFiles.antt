@@ -1,9 +1,8 @@
 -- What is known of a file that is read, under whatever meta.
 use Rattle.std.proofs.Common.{◌≡◌, ◌<◌, arith, ℕ, List, Result, Ok, Err, IsTrue, ap, inl, inr, refl, subst, sym, true}
-use Rattle.bolt_commands.proofs.Vocabulary.{Active, Assumed, CheckFault, Checked, Failure, HasSoundTrees, InSlot, IsErrAnd, IsFailureOf, IsInSlot, IsMeta, IsMetaOf, IsPageSize, IsReadUnder, Meta, MetaChoice, One, Slot, Zero, bytes_of, meta_of}
-use Rattle.bolt_commands.proofs.Vocabulary.{HasRightAccounts, IsActive, IsRefused, IsRefusedUnder, IsFirstFinding, IsSound, counts_accounts}
+use Rattle.bolt_commands.proofs.Vocabulary.{Active, Assumed, CheckFault, Checked, Failure, HasSoundTrees, InSlot, IsErrAnd, IsFailureOf, IsInSlot, IsMeta, IsMetaOf, IsPageSize, IsReadUnder, Meta, MetaChoice, One, Slot, Zero, bytes_of, meta_of, HasRightAccounts, IsActive, IsRefused, IsRefusedUnder, IsFirstFinding, IsSound, counts_accounts}
 use Rattle.bolt_check.specs.declared.check_fault.CheckFault.TheVariants as check
-use Rattle.bolt_format.proofs.PageSizes.{size_bounds}
+use Rattle.bolt_format.proofs.Exports.{size_bounds}
 
 pub read_trees : (file : List ℕ) (choice : MetaChoice) (meta : Meta) → IsReadUnder file choice meta → HasSoundTrees file meta
 read_trees file choice meta under = under.1

@@ -1,18 +1,17 @@
 -- What is answered of what is recovered of a bucket or at a path.
 use Rattle.std.proofs.Common.{◌≡◌, ◌⊎◌, ℕ, Bool, Err, IfErr, IfOk, List, None, Ok, Option, Result, Some, inl, inr, refl, subst, if◌then◌else◌}
 use Rattle.std.specs.{Borrow.Bor, Option.IfNone, Prelude.IfSome}
-use Rattle.bolt_commands.proofs.Vocabulary.{AreLosses, Contains, JobEnding, Failure, ForLosses, Ghosts, IsErrAnd, IsRecovered, IsRecoveryOf, Json, IsMetasFault, LossView, Losses, MayFail, Member, MetaChoice, MetaFault, OnOk, Path, Shortfall, Slot}
-use Rattle.bolt_commands.proofs.Vocabulary.{PrintsAnswer, ReportFault, Rises, Value, Wrote, ending_by, has_bucket, has_losses, has_recovered, lost_ending, member_cmp, parts, owned_path, recovery_file, recovery_left, recovery_meta, report_ending, reported, shortfall, value_shown}
-use Rattle.bolt_check.specs.declared.check_fault.CheckFault.TheVariants as check
-use Rattle.bolt_commands.specs.{Answers.Answer, KeyAnswers.IsNamesAnswer, KeyAnswers.IsRecoveredAnswer, KeyAnswers.IsRecoveredValue, KeyAnswers.names_ending, KeyAnswers.no_bucket, KeyAnswers.no_key, KeyAnswers.no_value}
-use Rattle.bolt_commands.specs.Private.Recovered.{HoldsNow, bucket_ending, value_or_why}
-use Rattle.bolt_commands.specs.declared.{failure.Failure.TheVariants.Memory, recovered_commands.AtPath.AtPath}
+use Rattle.bolt_commands.proofs.Vocabulary.{AreLosses, Contains, JobEnding, Failure, ForLosses, Ghosts, IsErrAnd, IsRecovered, IsRecoveryOf, Json, IsMetasFault, LossView, Losses, MayFail, Member, MetaChoice, MetaFault, OnOk, Path, Shortfall, Slot, PrintsAnswer, ReportFault, Rises, Value, Wrote, ending_by, has_bucket, has_losses, has_recovered, lost_ending, member_cmp, parts, owned_path, recovery_file, recovery_left, recovery_meta, report_ending, reported, shortfall, value_shown}
 use Rattle.bolt_commands.proofs.{CutTexts.ended_put, CutTexts.short_put, Doing.answer_as, Doing.answer_nothing, OpenedReads.recovered_read}
-use Rattle.bolt_text.specs.ReportEndings.{HaltsShort}
+use Rattle.bolt_check.specs.declared.check_fault.CheckFault.TheVariants as check
+use Rattle.bolt_commands.specs.Answers.{Answer}
+use Rattle.bolt_commands.specs.KeyAnswers.{IsNamesAnswer, IsRecoveredAnswer, IsRecoveredValue, names_ending, no_bucket, no_key, no_value}
+use Rattle.bolt_report.specs.{HeldAtPaths.HoldsNow, declared.at_path.AtPath.AtPath}
+use Rattle.bolt_commands.specs.{Private.Recovered.bucket_ending, Private.Recovered.value_or_why, declared.failure.Failure.TheVariants.Memory}
+use Rattle.bolt_text.specs.{ReportEndings.HaltsShort, declared.forms.Form.Form}
 use Rattle.bolt_job.specs.declared.bucket_commands.GetJob.{GetJob}
 use Rattle.bolt_recover.specs.declared.recovery.Recovery.{Recovery}
 use Rattle.bolt_report.specs.MemberNames.{WantedNames, names_text}
-use Rattle.bolt_text.specs.declared.forms.Form.{Form}
 use Rattle.bolt_text.specs.declared.report_fault.ReportFault.TheVariants as report
 
 -- memory may run out of any file before anything is written

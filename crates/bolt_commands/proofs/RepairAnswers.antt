@@ -1,11 +1,9 @@
 -- The copy of the repaired listing, and what is then reported of it.
 use Rattle.std.proofs.Common.{◌≡◌, ◌≢◌, ℕ, List, [], Bool, Option, Result, Err, Ok, inl, inr, length, refl, subst, sym}
-use Rattle.bolt_commands.proofs.Vocabulary.{CopiesListing, WritesAnswer, JobEnding, Failure, Finding, Ghosts, IsAskedBlueprint, IsSearchOf, LostAndFound, Member, Meta, MetaChoice, PageSize}
-use Rattle.bolt_commands.proofs.Vocabulary.{AreCopyFaults, FileFaults, all_lost, blueprint_layout, copy_page_size, everything, is_snapshot, layout_for, layout_of_listing}
-use Rattle.bolt_commands.proofs.{CopyAnswers.copy_asked, CopyAnswers.listing_done, CopyAnswers.listing_failed}
+use Rattle.bolt_commands.proofs.Vocabulary.{CopiesListing, WritesAnswer, JobEnding, Failure, Finding, Ghosts, IsAskedBlueprint, IsSearchOf, LostAndFound, Member, Meta, MetaChoice, PageSize, AreCopyFaults, FileFaults, all_lost, blueprint_layout, copy_page_size, everything, is_snapshot, layout_for, layout_of_listing}
+use Rattle.bolt_commands.proofs.CopyAnswers.{copy_asked, listing_done, listing_failed}
 use Rattle.bolt_bulk.specs.declared.blueprint.Blueprint.{Blueprint}
-use Rattle.bolt_job.specs.{MetaChoices.IsMetaOf, declared.choices.CopyKind.CopyKind}
-use Rattle.bolt_job.specs.declared.choices.Extent.TheVariants.{LostAndFound as Joins}
+use Rattle.bolt_job.specs.{MetaChoices.IsMetaOf, declared.choices.CopyKind.CopyKind, declared.choices.Extent.TheVariants.LostAndFound as Joins}
 use Rattle.bolt_layout.specs.declared.Layout.TheVariants.{Balanced}
 use Rattle.bolt_recover.specs.Lost.{IsAllLost}
 use Rattle.bolt_repair.specs.{FullRepairs.IsFullRepair, RepairedMerges.repair_back, RepairedMerges.repair_is_made, Repaired.IsRepaired, Repaired.repaired_listing, declared.repair.Repair.Repair}

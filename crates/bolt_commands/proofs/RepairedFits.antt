@@ -4,12 +4,12 @@ use Rattle.std.specs.List.{Contains}
 use Rattle.std.proofs.lemmas.List.Elements.{Contains-append_cases}
 use Rattle.bolt_format.specs.{Bytes.IsBytes, Elements.LeafElement, declared.meta.Meta.Meta, Pages.page_at}
 use Rattle.bolt_tree.specs.{Entries.Bucket, Entries.EntryView, Entries.Item, InBuckets.entry_in, InBuckets.members_in, Listing.Member, Paths.Path}
-use Rattle.bolt_tree.proofs.{InBucketLemmas.entry_of, Lists.contains_cases, Lists.contains_none, MergeLemmas.merge_members}
+use Rattle.bolt_tree.proofs.Exports.{entry_of, contains_cases, contains_none, merge_members}
 use Rattle.bolt_layout.specs.Storable.{IsFitMember}
-use Rattle.bolt_layout.proofs.FileTrees.{good_fits, good_shown}
-use Rattle.bolt_recover.proofs.MembersInBuckets.{shows_entry}
+use Rattle.bolt_layout.proofs.Exports.{good_fits, good_shown}
+use Rattle.bolt_recover.proofs.Exports.{shows_entry}
 use Rattle.bolt_recover.specs.Sites.{leaves_of}
-use Rattle.bolt_bulk.proofs.JoinedFits.{bucket_fits, recovered_fits}
+use Rattle.bolt_bulk.proofs.Exports.{bucket_fits, recovered_fits}
 use Rattle.bolt_repair.specs.{Repaired.IsRepair, Repaired.elements_on, Repaired.repaired_listing, Repairs.store_path}
 
 abbrev Fits : Member → Type 0

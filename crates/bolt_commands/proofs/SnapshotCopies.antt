@@ -1,12 +1,10 @@
 -- A copy, and in a snapshot its hash: what the target accepted of both.
 use Rattle.std.proofs.Common.{◌≡◌, ◌≢◌, ◌∙◌, ◌+◌, ◌<◌, ℕ, List, [], Bool, true, false, arith, length, length-append, Option, Result, Ok, Err, ap, inl, inr}
 use Rattle.std.proofs.Common.{refl, subst, sym, rules}
-use Rattle.bolt_commands.proofs.Vocabulary.{Appends, AppendsProperPrefix, AppendsProperPrefix-first, BulkFault, EndsCopy, HashesSince, Holds256, IsErrAnd, IsOk}
-use Rattle.bolt_commands.proofs.Vocabulary.{Keeps, OnOk, Sha256, StopsShort, cases_lt, copied, copy_of, length-sha256, sha256, too_many}
-use Rattle.bolt_bulk.specs.Compacting.{Copies}
-use Rattle.bolt_bulk.specs.declared.bulk_fault.BulkFault.TheVariants as bulk
-use Rattle.bolt_bulk.specs.declared.members_copy.Done.{Done}
+use Rattle.bolt_commands.proofs.Vocabulary.{Appends, AppendsProperPrefix, AppendsProperPrefix-first, BulkFault, EndsCopy, HashesSince, Holds256, IsErrAnd, IsOk, Keeps, OnOk, Sha256, StopsShort, cases_lt, copied, copy_of, length-sha256, sha256, too_many}
 use Rattle.bolt_commands.proofs.HashLemmas.{short_with_hash, whole_with_hash}
+use Rattle.bolt_bulk.specs.{Compacting.Copies, declared.members_copy.Done.Done}
+use Rattle.bolt_bulk.specs.declared.bulk_fault.BulkFault.TheVariants as bulk
 
 -- a proper prefix of the layout is one of the copy
 proper_copy : (snapshot : Bool) (old new : Option (List ℕ)) (layout : List ℕ) → AppendsProperPrefix old new layout → AppendsProperPrefix old new (copy_of snapshot layout)

@@ -1,19 +1,17 @@
 -- With sound trees, `keys`, `buckets` and `get` print with `--recover` what they print without it.
 use Rattle.std.proofs.Common.{◌≡◌, ◌≢◌, ◌∙◌, ◌↔◌, ◌⊎◌, ◌-◌, arith, ℕ, Bool, true, false, List, [], ◌∷◌, Err, None, Option, ap, filter, inl, inr, length, refl, subst, take}
 use Rattle.bolt_commands.proofs.Vocabulary.{Active, Answer, CheckFault, Contains, Failure, HasSoundTrees, HoldsIn, HoldsNone, Holds, IsEntriesAnswer, IsEntry, IsFailureOf, IsListing, IsMetaOf, IsReadAnswer, Key, LeadsTo, LeafElement, Member, Meta, MetaChoice, Names, Path, Root_page, Shortfall, Start, Value, has_bucket, has_listing, item_of, keys_text, parents_of, owned_path, props, refused, start_of, ∥∥₁_elim}
-use Rattle.bolt_commands.specs.KeyAnswers.{IsGetAnswer, IsNamesAnswer, IsRecoveredAnswer, IsRecoveredValue, no_value}
+use Rattle.bolt_commands.proofs.{EntryNames.names_are_keys, ListedBuckets.has_named, ListedBuckets.named_has, ListedBuckets.none_named, ReadFiles.read_meta}
+use Rattle.bolt_commands.proofs.{SoundReads.keeps_root, SoundReads.unread, SoundReads.unrecovered, OtherMetas.no_hidden, OtherMetas.none_hidden}
+use Rattle.bolt_commands.proofs.SoundRecovery.{Below, names_one, no_losses, recovers_alike, under}
+use Rattle.bolt_commands.specs.{KeyAnswers.IsGetAnswer, KeyAnswers.IsNamesAnswer, KeyAnswers.IsRecoveredAnswer, KeyAnswers.IsRecoveredValue, KeyAnswers.no_value, Alike.HidesNoState}
 use Rattle.bolt_check.specs.declared.check_fault.CheckFault.TheVariants as check
 use Rattle.bolt_commands.specs.declared.failure.Failure.TheVariants as failure
-use Rattle.bolt_commands.proofs.{EntryNames.names_are_keys, ListedBuckets.has_named, ListedBuckets.named_has, ListedBuckets.none_named, ReadFiles.read_meta}
-use Rattle.bolt_commands.proofs.{SoundReads.keeps_root, SoundReads.unread, SoundReads.unrecovered}
-use Rattle.bolt_commands.proofs.OtherMetas.{no_hidden, none_hidden}
-use Rattle.bolt_commands.proofs.SoundRecovery.{Below, names_one, no_losses, recovers_alike, under}
-use Rattle.bolt_commands.specs.Alike.{HidesNoState}
 use Rattle.bolt_job.specs.declared.bucket_commands.GetJob.{GetJob}
 use Rattle.bolt_recover.specs.Losses.{parts}
 use Rattle.bolt_report.specs.MemberNames.{WantedNames}
 use Rattle.bolt_text.specs.declared.forms.Form.{Form}
-use Rattle.bolt_tree.proofs.AllEntries.{all_entries}
+use Rattle.bolt_tree.proofs.Exports.{all_entries}
 
 memory_fails : (fault : CheckFault) (why : Failure) → fault ≡ check.Memory → IsFailureOf fault why → why ≡ failure.Memory
 memory_fails fault why same of = subst (λ (f : CheckFault). IsFailureOf f why) same of

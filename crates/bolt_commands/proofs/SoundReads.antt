@@ -1,9 +1,8 @@
 -- Where the trees are sound for the one meta that a choice names, only memory can be wanting.
 use Rattle.std.proofs.Common.{◌≡◌, ℕ, List, [], inl, refl, subst, sym}
-use Rattle.bolt_commands.proofs.Vocabulary.{Active, Assumed, CheckFault, Finding, HasSoundTrees, InSlot, IsClaimedBefore, IsFirstFinding, IsMetaOf, IsMetaPage}
-use Rattle.bolt_commands.proofs.Vocabulary.{HasRightAccounts, IsReadUnder, IsRefusedUnder, IsUnrecoverableUnder, Meta, MetaChoice, MetaFault, node_at}
+use Rattle.bolt_commands.proofs.Vocabulary.{Active, Assumed, CheckFault, Finding, HasSoundTrees, InSlot, IsClaimedBefore, IsFirstFinding, IsMetaOf, IsMetaPage, HasRightAccounts, IsReadUnder, IsRefusedUnder, IsUnrecoverableUnder, Meta, MetaChoice, MetaFault, node_at}
 use Rattle.bolt_job.specs.MetaChoices.{HasNoMetaOf}
-use Rattle.bolt_check.proofs.{Judging.passes_fewer, Judging.passes_silent, Lawful.shape_passes, Lawful.sound_reports_nothing}
+use Rattle.bolt_check.proofs.Exports.{passes_fewer, passes_silent, shape_passes, sound_reports_nothing}
 use Rattle.bolt_check.specs.Ways.{At_page, reached, root_spot}
 use Rattle.bolt_check.specs.declared.check_fault.CheckFault.TheVariants as check
 use Rattle.bolt_recover.specs.Refusals.{KeepsRoot, LosesRoot}

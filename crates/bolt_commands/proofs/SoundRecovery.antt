@@ -1,7 +1,7 @@
 -- With sound trees, `--recover` does what is done without it under the same meta, if the accounts don't count there, and `--lost-and-found`
 -- does what `--recover` does.
 use Rattle.std.proofs.Common.{◌≡◌, ◌≢◌, ◌↔◌, ◌*◌, ◌<◌, ◌^◌, ℕ, Bool, List, [], Option, ap, arith, inl, inr, length, refl, rules, subst, sym, ◌∙◌}
-use Rattle.bolt_commands.proofs.Vocabulary.{Active, Answer, AreLosses, Assumed, CheckFault, JobEnding, Extent, Failure, First, FoundView, HasSoundTrees, InSlot, IsActive, IsFailureOf, IsInSlot, IsListedAnswer, IsListing, IsMetaOf, IsMetasFault, IsReadTo, IsReadUnder, IsRecovered, IsSalvaged, IsUnreadTo, Layout, ListForm, LossView, Losses, LostView, MakesCopy, Member, Meta, MetaChoice, MetaFault, PageSize, Path, Slot, bad_hash, everything, has_losses, hash_refusal, parts, props, unjoined, ∥∥₁_elim}
+use Rattle.bolt_commands.proofs.Vocabulary.{Active, Answer, AreLosses, Assumed, CheckFault, JobEnding, Extent, Failure, Sound, FoundView, HasSoundTrees, InSlot, IsActive, IsFailureOf, IsInSlot, IsListedAnswer, IsListing, IsMetaOf, IsMetasFault, IsReadTo, IsReadUnder, IsRecovered, IsSalvaged, IsUnreadTo, Layout, ListForm, LossView, Losses, LostView, MakesCopy, Member, Meta, MetaChoice, MetaFault, PageSize, Path, Slot, bad_hash, everything, has_losses, hash_refusal, parts, props, unjoined, ∥∥₁_elim}
 use Rattle.bolt_check.specs.declared.check_fault.CheckFault.TheVariants as check
 use Rattle.bolt_commands.specs.declared.failure.Failure.TheVariants as failure
 use Rattle.bolt_commands.proofs.OtherMetas.{found_metas, metas_found, no_hidden, none_hidden}
@@ -86,7 +86,7 @@ module _ (b : Below) (file : List ℕ) (meta : Meta) (trees : HasSoundTrees file
     pub under : IsReadUnder file named meta
     under = (shown_named, trees, no_accounts file named meta alone)
 
-    recovered_there : Reads file meta Losses First wanted named
+    recovered_there : Reads file meta Losses Sound wanted named
     recovered_there = record {
       read = λ other listing lost found ((is, keeps), recovered, (losses, are, told), none).
           (let same = names_one b file wanted meta shown other is in
@@ -97,7 +97,7 @@ module _ (b : Below) (file : List ℕ) (meta : Meta) (trees : HasSoundTrees file
       metas = none_hidden file wanted hides;
     }
 
-    recovered_back : Reads file meta First Losses named wanted
+    recovered_back : Reads file meta Sound Losses named wanted
     recovered_back = record {
       read = λ other listing lost found (read, lists, told, none).
           (let same = names_one b file named meta shown_named other (read_meta file named other read) in
@@ -108,7 +108,7 @@ module _ (b : Below) (file : List ℕ) (meta : Meta) (trees : HasSoundTrees file
       metas = λ other none. rw none (no_hidden file wanted meta shown hides);
     }
 
-    pub recovers_alike : ReadsAlike file meta Losses First wanted named
+    pub recovers_alike : ReadsAlike file meta Losses Sound wanted named
     recovers_alike = record { there = recovered_there; back = recovered_back }
 
   -- ---- if nothing is lost, nothing is found
@@ -128,7 +128,7 @@ module _ (b : Below) (file : List ℕ) (meta : Meta) (trees : HasSoundTrees file
 
     unsalvaged : (found : List ℕ) (fault : JoinFault) (why : Failure) → AreFound file meta found → IsJoinRefusal file meta found fault → why ≡ unjoined fault
         → why ≡ failure.Memory
-    unsalvaged found (join.Root x) why are (none, loses) same = absurd (∥∥₁_elim loses (hlevel props) (keeps_not_loses file meta trees meta x refl))
+    unsalvaged found (join.Rootless x) why are (none, loses) same = absurd (∥∥₁_elim loses (hlevel props) (keeps_not_loses file meta trees meta x refl))
     unsalvaged found join.Exists why are (some, has) same = absurd (some (b.none_found file meta found no_losses are))
     unsalvaged found join.TooLarge why are large same = absurd (omega (arith, few, large))
     unsalvaged found join.Memory why are is same = same

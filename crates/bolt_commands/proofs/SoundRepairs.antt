@@ -1,18 +1,17 @@
 -- With sound trees nothing goes back, and what is copied is their listing.
 use Rattle.std.proofs.Common.{◌≡◌, ◌∙◌, ◌+◌, ℕ, List, [], ◌∷◌, ap, arith, inl, inr, length, refl, subst, sym}
 use Rattle.bolt_commands.proofs.Vocabulary.{Failure, HasSoundTrees, IsListing, IsMetaOf, LostView, Member, Meta, MetaChoice, parts, props, ∥∥₁_elim}
+use Rattle.bolt_commands.proofs.{SoundReads.has_meta, SoundReads.keeps_not_loses, SoundRecovery.Below, SoundRecovery.names_one, SoundRecovery.no_loss, SoundRecovery.no_losses}
 use Rattle.std.specs.List.{Contains}
 use Rattle.bolt_check.specs.Keys.{Key}
 use Rattle.bolt_format.specs.Elements.{LeafElement}
 use Rattle.bolt_recover.specs.Found.{AreFound}
-use Rattle.bolt_tree.specs.{Entries.EntryView, Entries.Value}
-use Rattle.bolt_tree.proofs.Lists.{contains_head, contains_none}
-use Rattle.bolt_repair.specs.{FullRepairs.AreCandidateKeys, FullRepairs.IsLeftOut, RepairRefusals.IsRepairRefusal, Repaired.elements_on, Repairs.store_path}
-use Rattle.bolt_repair.specs.declared.repair.RepairFault.{RepairFault}
+use Rattle.bolt_tree.specs.Entries.{EntryView, Value}
+use Rattle.bolt_tree.proofs.Exports.{contains_head, contains_none}
+use Rattle.bolt_repair.specs.{FullRepairs.AreCandidateKeys, FullRepairs.IsLeftOut, RepairRefusals.IsRepairRefusal, Repaired.elements_on, Repairs.store_path, declared.repair.RepairFault.RepairFault}
 use Rattle.bolt_repair.specs.declared.repair.RepairFault.TheVariants as repair
 use Rattle.bolt_commands.specs.{Alike.IsUnrepairable, Failures.unrepaired, RepairAnswers.IsRestored, RepairAnswers.IsUnrestored}
 use Rattle.bolt_commands.specs.declared.failure.Failure.TheVariants as failure
-use Rattle.bolt_commands.proofs.{SoundReads.has_meta, SoundReads.keeps_not_loses, SoundRecovery.Below, SoundRecovery.names_one, SoundRecovery.no_loss, SoundRecovery.no_losses}
 
 -- ---- nothing is a candidate if nothing is found
 
@@ -43,7 +42,7 @@ module _ (b : Below) (file : List ℕ) (meta : Meta) (trees : HasSoundTrees file
       )
 
   unrepairable : (fault : RepairFault) (why : Failure) → IsRepairRefusal file meta fault → why ≡ unrepaired fault → IsUnrepairable file meta why
-  unrepairable (repair.Root x) why (loses, none) same = absurd (∥∥₁_elim loses (hlevel props) (keeps_not_loses file meta trees meta x refl))
+  unrepairable (repair.Rootless x) why (loses, none) same = absurd (∥∥₁_elim loses (hlevel props) (keeps_not_loses file meta trees meta x refl))
   unrepairable repair.NotABucket why (value, has) same =
       let (listing, lists) = b.has_listing file meta trees in
       inl (same, (value, (lists.exact store_path (Value value)).0 (has listing (b.recovered file meta listing trees lists))))

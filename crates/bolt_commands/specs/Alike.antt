@@ -11,7 +11,7 @@ use Rattle.bolt_commands.specs.{Answers.Answer, Answers.JobEnding, CopyAnswers.c
 use Rattle.bolt_commands.specs.{FileFaults.AreCopyFaults, SnapshotAnswers.bad_hash, declared.file_faults.FileFaults.FileFaults, declared.failure.Failure.Failure, declared.failure.Failure.TheVariants.Memory, declared.failure.Failure.TheVariants.NotABucket}
 use Rattle.bolt_job.specs.MetaChoices.{IsMetaOf}
 use Rattle.bolt_job.specs.declared.bucket_commands.{BucketsJob.BucketsJob, GetJob.GetJob, KeysJob.KeysJob}
-use Rattle.bolt_job.specs.declared.choices.BucketsShown.TheVariants.{Names, Recovered}
+use Rattle.bolt_job.specs.declared.choices.BucketsShown.TheVariants.{Names}
 use Rattle.bolt_job.specs.{declared.job.Job.Job, declared.choices.Extent.TheVariants.LostAndFound}
 use Rattle.bolt_job.specs.{declared.choices.Extent.Extent, declared.choices.MetaChoice.MetaChoice, declared.choices.PageSize.PageSize}
 use Rattle.bolt_job.specs.declared.choices.MetaChoice.TheVariants.{Active}
@@ -63,7 +63,7 @@ KeysAlike file wanted named = (job : KeysJob) (answer : Answer) → answer.endin
 
 abbrev pub BucketsAlike : List ℕ → (wanted named : MetaChoice) → Type 0
 BucketsAlike file wanted named = (job : BucketsJob) (answer : Answer) → answer.ending ≢ Err Memory
-    → IsBucketsShown Recovered file wanted job answer ↔ IsBucketsShown Names file named job answer
+    → IsBucketsShown (Names true) file wanted job answer ↔ IsBucketsShown (Names false) file named job answer
 
 abbrev pub GetsAlike : List ℕ → (wanted named : MetaChoice) → Type 0
 GetsAlike file wanted named = (job : GetJob) (answer : Answer) → IsValueShown true file wanted job answer ↔ IsValueShown false file named job answer

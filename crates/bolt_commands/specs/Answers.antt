@@ -2,10 +2,8 @@
 use Rattle.std.specs.Prelude.{◌≡◌, ◌≢◌, ◌<◌, ◌-◌, ◌⊎◌, ℕ, List, [], ◌++◌, Option, Result, Ok, Err}
 use Rattle.std.specs.Io.KnownBytes.{Appends}
 use Rattle.bolt_format.specs.Sinks.{AppendsPrefix}
-use Rattle.bolt_text.specs.declared.forms.Form.{Form}
-use Rattle.bolt_text.specs.declared.forms.Form.TheVariants.{Json}
-use Rattle.bolt_commands.specs.Failures.{failure_line}
-use Rattle.bolt_commands.specs.declared.failure.Failure.{Failure}
+use Rattle.bolt_text.specs.{declared.forms.Form.Form, declared.forms.Form.TheVariants.Json}
+use Rattle.bolt_commands.specs.{Failures.failure_line, declared.failure.Failure.Failure}
 use Rattle.bolt_commands.specs.declared.failure.Failure.TheVariants as failure
 
 -- How a job ends: with a status, or with a failure that is reported.

@@ -1,24 +1,17 @@
 -- What `check` answers: docs/COMMANDS.md, "What a run writes".
 use Rattle.std.specs.Prelude.{◌≡◌, ◌-◌, ◌⊎◌, ◌&&◌, ℕ, List, [], ◌∷◌, ◌++◌, Bool, true, false, codes, Ok, Err, if◌then◌else◌}
-use Rattle.bolt_check.specs.{BboltFileFindings.file_findings, BboltFindings.AreBboltFindings, Nodes.node_at, declared.bbolt_file.FileFinding.FileFinding}
-use Rattle.bolt_check.specs.declared.check_fault.CheckFault.{CheckFault}
+use Rattle.bolt_check.specs.{BboltFileFindings.file_findings, BboltFindings.AreBboltFindings, Nodes.node_at, declared.bbolt_file.FileFinding.FileFinding, declared.check_fault.CheckFault.CheckFault}
+use Rattle.bolt_check.specs.{declared.finding.Finding.Finding, ShownFindings.findings_in}
 use Rattle.bolt_check.specs.declared.check_fault.CheckFault.TheVariants as check
-use Rattle.bolt_check.specs.declared.finding.Finding.{Finding}
-use Rattle.bolt_format.specs.Metas.{IsActive}
-use Rattle.bolt_format.specs.declared.meta.Meta.{Meta}
-use Rattle.bolt_format.specs.{declared.meta.MetaFault.MetaFault, declared.meta.Slot.Slot}
+use Rattle.bolt_format.specs.{Metas.IsActive, declared.meta.Meta.Meta, declared.meta.MetaFault.MetaFault, declared.meta.Slot.Slot}
 use Rattle.bolt_recover.specs.{Losses.LostView, Losses.parts, Lost.IsAllLost}
 use Rattle.bolt_report.specs.{BboltLines.bbolt_findings_text, FaultWords.findings_text, FoundLines.FoundView, FoundLines.counted_lost_text}
-use Rattle.bolt_commands.specs.FileFaults.{AreFileFaults, errors_in, fault_lines, is_fine}
-use Rattle.bolt_job.specs.MetaChoices.{HasNoMetaOf, IsMetaOf}
-use Rattle.bolt_job.specs.declared.choices.Extent.{Extent}
-use Rattle.bolt_job.specs.declared.choices.Extent.TheVariants.{First, LostAndFound}
-use Rattle.bolt_commands.specs.declared.failure.Failure.TheVariants as failure
-use Rattle.bolt_commands.specs.declared.file_faults.FileFaults.{FileFaults}
-use Rattle.bolt_check.specs.ShownFindings.{findings_in}
+use Rattle.bolt_commands.specs.{FileFaults.AreFileFaults, FileFaults.errors_in, FileFaults.fault_lines, FileFaults.is_fine, declared.file_faults.FileFaults.FileFaults}
+use Rattle.bolt_commands.specs.{Answers.Answer, Answers.done, Answers.refused, FilesRead.AreFoundTo, FilesRead.IsReadUnder, FilesRead.IsRefusedUnder}
+use Rattle.bolt_job.specs.{MetaChoices.HasNoMetaOf, MetaChoices.IsMetaOf, declared.choices.Extent.Extent, declared.choices.Extent.TheVariants.LostAndFound, declared.choices.Extent.TheVariants.Sound}
 use Rattle.bolt_job.specs.declared.choices.MetaChoice.{MetaChoice}
 use Rattle.bolt_job.specs.declared.choices.MetaChoice.TheVariants.{Active, Assumed, InSlot}
-use Rattle.bolt_commands.specs.{Answers.Answer, Answers.done, Answers.refused, FilesRead.AreFoundTo, FilesRead.IsReadUnder, FilesRead.IsRefusedUnder}
+use Rattle.bolt_commands.specs.declared.failure.Failure.TheVariants as failure
 
 -- what was found goes to standard output; what is wrong with the file apart from its pages comes first, and each of that is an error too
 abbrev pub found : FileFaults → List Finding → Answer
@@ -81,7 +74,7 @@ IsLostAnswer extent for_bbolt faults file choice answer =
 
 -- `check` to any extent of a file of which is known what else is wrong with it
 abbrev pub IsCheckAnswerAfter : Extent → (for_bbolt : Bool) → FileFaults → List ℕ → MetaChoice → Answer → Type 0
-IsCheckAnswerAfter First for_bbolt faults file choice answer = IsFoundAnswer for_bbolt faults file choice answer
+IsCheckAnswerAfter Sound for_bbolt faults file choice answer = IsFoundAnswer for_bbolt faults file choice answer
 IsCheckAnswerAfter extent for_bbolt faults file choice answer = IsLostAnswer extent for_bbolt faults file choice answer
 
 -- the same of any file, and of a snapshot

@@ -5,8 +5,7 @@ use Rattle.bolt_layout.specs.declared.Layout.{Layout}
 use Rattle.bolt_tree.specs.Listing.{Member}
 use Rattle.bolt_commands.specs.{Answers.Answer, Answers.JobEnding, Answers.done, Answers.refused, CheckAnswers.IsCheckAnswer, JobAnswers.Loads, JobAnswers.LoadsListing}
 use Rattle.bolt_commands.specs.declared.failure.Failure.TheVariants.{Memory}
-use Rattle.bolt_job.specs.declared.choices.Extent.{Extent}
-use Rattle.bolt_job.specs.declared.choices.MetaChoice.TheVariants.{Active}
+use Rattle.bolt_job.specs.{declared.choices.Extent.Extent, declared.choices.MetaChoice.TheVariants.Active}
 
 -- to any extent, that it is sound, unless memory runs out
 abbrev pub PassesCheck : (snapshot : Bool) → List ℕ → Type 0

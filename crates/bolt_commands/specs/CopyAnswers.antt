@@ -5,15 +5,10 @@ use Rattle.bolt_bulk.specs.Compacting.{too_many}
 use Rattle.bolt_format.specs.{Sinks.AppendsProperPrefix, declared.meta.Meta.Meta}
 use Rattle.bolt_recover.specs.Losses.{LostView, is_nothing}
 use Rattle.bolt_report.specs.FoundLines.{FoundView, lost_text}
-use Rattle.bolt_commands.specs.FileFaults.{fault_lines, is_fine}
-use Rattle.bolt_job.specs.declared.choices.Extent.{Extent}
-use Rattle.bolt_job.specs.declared.choices.Extent.TheVariants.{First}
-use Rattle.bolt_commands.specs.declared.failure.Failure.{Failure}
+use Rattle.bolt_commands.specs.{FileFaults.fault_lines, FileFaults.is_fine, declared.failure.Failure.Failure, declared.file_faults.FileFaults.FileFaults, Answers.Answer}
+use Rattle.bolt_job.specs.{declared.choices.Extent.Extent, declared.choices.Extent.TheVariants.Sound, declared.choices.PageSize.PageSize}
 use Rattle.bolt_commands.specs.declared.failure.Failure.TheVariants as failure
-use Rattle.bolt_commands.specs.declared.file_faults.FileFaults.{FileFaults}
 use Rattle.bolt_etcd.specs.declared.snapshot.SnapshotFault.{SnapshotFault}
-use Rattle.bolt_job.specs.declared.choices.PageSize.{PageSize}
-use Rattle.bolt_commands.specs.{Answers.Answer}
 
 -- the line with the lengths of the file and of its copy
 abbrev pub lengths_line : (source copy : ℕ) → List ℕ
@@ -44,7 +39,7 @@ copy_status faults lost = if is_fine faults && is_nothing lost then 0 else 1
 
 -- why a file isn't copied whose hash is wrong; what is left of a damaged one is copied all the same
 abbrev pub hash_refusal : Extent → Option SnapshotFault → Option SnapshotFault
-hash_refusal First hash = hash
+hash_refusal Sound hash = hash
 hash_refusal _ hash = None
 
 -- what is reported of a copy: what is wrong with its file apart from the pages, each loss, each found page, and the lengths of the file and of

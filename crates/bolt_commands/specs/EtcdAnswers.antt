@@ -1,20 +1,18 @@
 -- What the commands answer that read what etcd keeps: docs/COMMANDS.md, "What etcd keeps".
 use Rattle.std.specs.Prelude.{◌≡◌, ◌-◌, ◌^◌, ◌⊎◌, ℕ, zero, suc, nat_lt, List, ◌++◌, Bool, true, false, codes, length, Option, Some, None, Ok, Err}
-use Rattle.bolt_check.specs.declared.check_fault.CheckFault.{CheckFault}
-use Rattle.bolt_format.specs.Elements.{LeafElement}
-use Rattle.bolt_format.specs.declared.meta.Meta.{Meta}
-use Rattle.bolt_report.specs.FaultWords.{count_line}
+use Rattle.bolt_check.specs.{declared.check_fault.CheckFault.CheckFault, Counts.counted}
+use Rattle.bolt_format.specs.{Elements.LeafElement, declared.meta.Meta.Meta}
+use Rattle.bolt_report.specs.{FaultWords.count_line, RevisionLines.named_with, RevisionLines.revision_lines}
 use Rattle.bolt_tree.specs.Entries.{IsEntry, Root_page}
-use Rattle.bolt_commands.specs.FileFaults.{no_faults}
+use Rattle.bolt_commands.specs.{FileFaults.no_faults, Answers.Answer, Answers.IsEndedOrCut, Answers.IsShownAndEnded, Answers.IsShownOrCut, Answers.JobEnding, Answers.refused}
+use Rattle.bolt_commands.specs.{CheckAnswers.check_refusal, FilesRead.IsReadAnswer, FilesRead.IsReadUnder, FilesRead.IsRefusedUnder, KeyAnswers.value_shown}
 use Rattle.bolt_commands.specs.declared.failure.Failure.TheVariants as failure
-use Rattle.bolt_etcd.specs.{Current.AreCurrent, Newest.newest, Newest.until, Newest.value_if, Revisions.RevisionView}
-use Rattle.bolt_report.specs.RevisionLines.{named_with, revision_lines}
-use Rattle.bolt_etcd.specs.{StoreBuckets.IsStore, StoreBuckets.StoreView, StoreFaults.store_compacted, StoreFaults.store_lines, Stores.entries_from, Stores.others, Stores.revisions}
-use Rattle.bolt_check.specs.Counts.{counted}
+use Rattle.bolt_etcd.specs.{Current.AreCurrent, Newest.newest, Newest.until, Newest.value_if, Revisions.RevisionView, StoreBuckets.IsStore, StoreBuckets.StoreView}
+use Rattle.bolt_etcd.specs.{StoreFaults.store_compacted, StoreFaults.store_lines, Stores.entries_from, Stores.others, Stores.revisions}
 use Rattle.std.specs.{Int.to_be_bytes, Int.w64, List.concat}
-use Rattle.bolt_job.specs.declared.etcd_jobs.{EtcdCheckJob.EtcdCheckJob, EtcdGetJob.EtcdGetJob, EtcdKeysJob.EtcdKeysJob, EtcdRevisionsJob.EtcdRevisionsJob}
+use Rattle.bolt_job.specs.{declared.etcd_jobs.EtcdCheckJob.EtcdCheckJob, declared.etcd_jobs.EtcdGetJob.EtcdGetJob, declared.etcd_jobs.EtcdKeysJob.EtcdKeysJob}
+use Rattle.bolt_job.specs.declared.etcd_jobs.EtcdRevisionsJob.{EtcdRevisionsJob}
 use Rattle.bolt_job.specs.declared.job.Job.TheVariants as job
-use Rattle.bolt_commands.specs.{Answers.Answer, Answers.IsEndedOrCut, Answers.IsShownAndEnded, Answers.IsShownOrCut, Answers.JobEnding, Answers.refused, CheckAnswers.check_refusal, FilesRead.IsReadAnswer, FilesRead.IsReadUnder, FilesRead.IsRefusedUnder, KeyAnswers.value_shown}
 
 -- what is under the root bucket
 abbrev pub IsStoreOf : List ℕ → Meta → StoreView → Type 0

@@ -2,17 +2,16 @@
 use Rattle.std.specs.Prelude.{◌≡◌, List, ◌++◌, ℕ, Some, codes, decimal, option_map, slice_get}
 use Rattle.bolt_bulk.specs.declared.bulk_fault.BulkFault.{BulkFault}
 use Rattle.bolt_bulk.specs.declared.bulk_fault.BulkFault.TheVariants as bulk
-use Rattle.bolt_check.specs.declared.check_fault.CheckFault.{CheckFault}
+use Rattle.bolt_check.specs.{declared.check_fault.CheckFault.CheckFault, ShownFindings.findings_in}
 use Rattle.bolt_check.specs.declared.check_fault.CheckFault.TheVariants as check
-use Rattle.bolt_check.specs.ShownFindings.{findings_in}
 use Rattle.bolt_load.specs.{LoadFaultWords.line_fault_words, declared.load_fault.LoadFault.LoadFault}
 use Rattle.bolt_load.specs.declared.load_fault.LoadFault.TheVariants as load
 use Rattle.bolt_recover.specs.declared.joined.JoinFault.{JoinFault}
 use Rattle.bolt_recover.specs.declared.joined.JoinFault.TheVariants as join
 use Rattle.bolt_repair.specs.declared.repair.RepairFault.{RepairFault}
 use Rattle.bolt_repair.specs.declared.repair.RepairFault.TheVariants as repair
-use Rattle.bolt_report.specs.{FaultWords.finding_text, FaultWords.meta_fault_text, FaultWords.page_fault_text}
-use Rattle.bolt_etcd.specs.{SnapshotFaults.snapshot_fault_text}
+use Rattle.bolt_report.specs.FaultWords.{finding_text, meta_fault_text, page_fault_text}
+use Rattle.bolt_etcd.specs.SnapshotFaults.{snapshot_fault_text}
 use Rattle.bolt_text.specs.declared.report_fault.ReportFault.{ReportFault}
 use Rattle.bolt_text.specs.declared.report_fault.ReportFault.TheVariants as report
 use Rattle.bolt_commands.specs.{Shortfalls.shortfall_text, declared.failure.Failure.Failure}
@@ -61,14 +60,14 @@ unloaded (load.Line number fault) = Line number fault
 
 -- the failure if there is no joined listing
 abbrev pub unjoined : JoinFault → Failure
-unjoined (join.Root x) = File x
+unjoined (join.Rootless x) = File x
 unjoined join.Exists = Exists
 unjoined join.TooLarge = TooManyPages
 unjoined join.Memory = Memory
 
 -- the failure if there is no repaired listing
 abbrev pub unrepaired : RepairFault → Failure
-unrepaired (repair.Root x) = File x
+unrepaired (repair.Rootless x) = File x
 unrepaired repair.NotABucket = NotABucket
 unrepaired repair.Memory = Memory
 

@@ -1,14 +1,10 @@
 -- What is wrong with a file apart from its pages: docs/COMMANDS.md, "Snapshots" and "Both metas".
 use Rattle.std.specs.Prelude.{◌≡◌, ◌⊎◌, ◌&&◌, ◌++◌, ◌+◌, ℕ, List, [], Bool, Option, None, Some, is_none}
-use Rattle.bolt_format.specs.{Metas.HasSlotFault, Metas.IsActive, Metas.IsInSlot, Metas.other_slot, declared.meta.Meta.Meta, declared.meta.MetaFault.MetaFault}
-use Rattle.bolt_format.specs.declared.meta.Slot.{Slot}
-use Rattle.bolt_report.specs.{MetaLines.slot_fault_text}
-use Rattle.bolt_etcd.specs.{SnapshotFaults.snapshot_fault_text}
-use Rattle.bolt_etcd.specs.declared.snapshot.SnapshotFault.{SnapshotFault}
-use Rattle.bolt_commands.specs.SnapshotAnswers.{bad_hash, hash_found}
-use Rattle.bolt_job.specs.declared.choices.Extent.{Extent}
-use Rattle.bolt_job.specs.declared.choices.Extent.TheVariants.{First, LostAndFound, Losses}
-use Rattle.bolt_commands.specs.declared.file_faults.FileFaults.{FileFaults}
+use Rattle.bolt_format.specs.{Metas.HasSlotFault, Metas.IsActive, Metas.IsInSlot, Metas.other_slot, declared.meta.Meta.Meta, declared.meta.MetaFault.MetaFault, declared.meta.Slot.Slot}
+use Rattle.bolt_report.specs.MetaLines.{slot_fault_text}
+use Rattle.bolt_etcd.specs.{SnapshotFaults.snapshot_fault_text, declared.snapshot.SnapshotFault.SnapshotFault}
+use Rattle.bolt_commands.specs.{SnapshotAnswers.bad_hash, SnapshotAnswers.hash_found, declared.file_faults.FileFaults.FileFaults}
+use Rattle.bolt_job.specs.{declared.choices.Extent.Extent, declared.choices.Extent.TheVariants.Losses, declared.choices.Extent.TheVariants.LostAndFound, declared.choices.Extent.TheVariants.Sound}
 use Rattle.bolt_job.specs.declared.choices.MetaChoice.{MetaChoice}
 use Rattle.bolt_job.specs.declared.choices.MetaChoice.TheVariants.{Active, Assumed, InSlot}
 
@@ -27,7 +23,7 @@ IsOtherFault file other =
 
 -- Both metas are looked at if all of a file is asked for, under its active meta.
 abbrev pub IsMetasFault : Extent → List ℕ → MetaChoice → Option (Slot × MetaFault) → Type 0
-IsMetasFault First file choice other = other ≡ None
+IsMetasFault Sound file choice other = other ≡ None
 IsMetasFault Losses file Active other = IsOtherFault file other
 IsMetasFault Losses file (InSlot slot) other = other ≡ None
 IsMetasFault Losses file (Assumed assumed) other = other ≡ None

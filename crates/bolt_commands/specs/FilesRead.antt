@@ -1,34 +1,21 @@
 -- What a command reads of a file: a sound one, what is recovered of a damaged one, or that with what is found; and why it reads none.
 use Rattle.std.specs.Prelude.{◌≡◌, ◌≢◌, ◌-◌, ◌⊎◌, ℕ, List, [], Bool, true, false, IsTrue, length, map, take, Option, Some, None, Ok, Err}
-use Rattle.bolt_check.specs.{AccountFindings.AreAccountFindings, Sound.HasRightAccounts, Sound.HasSoundTrees, Sound.IsFirstFinding, Sound.IsUsed}
-use Rattle.bolt_check.specs.declared.check_fault.CheckFault.{CheckFault}
+use Rattle.bolt_check.specs.{AccountFindings.AreAccountFindings, Sound.HasRightAccounts, Sound.HasSoundTrees, Sound.IsFirstFinding, Sound.IsUsed, declared.check_fault.CheckFault.CheckFault}
+use Rattle.bolt_check.specs.{declared.finding.Finding.Finding, ShownFindings.findings_in}
 use Rattle.bolt_check.specs.declared.check_fault.CheckFault.TheVariants as check
-use Rattle.bolt_check.specs.declared.finding.Finding.{Finding}
-use Rattle.bolt_format.specs.Pages.{page_at}
-use Rattle.bolt_format.specs.declared.meta.Meta.{Meta}
-use Rattle.bolt_format.specs.{declared.meta.MetaFault.MetaFault, declared.meta.Slot.Slot}
-use Rattle.bolt_recover.specs.{Found.AreFound, JoinRefusals.IsJoinRefusal, Joined.IsJoined, Joined.LacksBucketKey}
-use Rattle.bolt_recover.specs.{Losses.AreLosses, Losses.LossView, Losses.LostView, Losses.everything, Losses.parts, Lost.IsAllLost, Sites.leaves_of}
-use Rattle.bolt_recover.specs.Recovered.{ForRecovered, IsRecovered}
-use Rattle.bolt_recover.specs.Refusals.{IsUnrecoverable, KeepsRoot}
-use Rattle.bolt_recover.specs.declared.joined.JoinFault.{JoinFault}
+use Rattle.bolt_format.specs.{Pages.page_at, declared.meta.Meta.Meta, declared.meta.MetaFault.MetaFault, declared.meta.Slot.Slot}
+use Rattle.bolt_recover.specs.{Found.AreFound, JoinRefusals.IsJoinRefusal, Joined.IsJoined, Joined.LacksBucketKey, Losses.AreLosses, Losses.LossView, Losses.LostView, Losses.everything, Losses.parts}
+use Rattle.bolt_recover.specs.{Lost.IsAllLost, Sites.leaves_of, Recovered.ForRecovered, Recovered.IsRecovered, Refusals.IsUnrecoverable, Refusals.KeepsRoot, declared.joined.JoinFault.JoinFault}
 use Rattle.bolt_report.specs.FoundLines.{FoundView}
-use Rattle.bolt_tree.specs.Entries.{IsEntry, Item, Root_page, Start}
-use Rattle.bolt_tree.specs.Listing.{IsListing, Member}
-use Rattle.bolt_tree.specs.Paths.{Holds, Names, Path}
-use Rattle.bolt_commands.specs.Failures.{IsFailureOf, unjoined}
-use Rattle.bolt_commands.specs.FileFaults.{IsMetasFault}
-use Rattle.bolt_job.specs.MetaChoices.{HasNoMetaOf, IsMetaOf}
-use Rattle.bolt_commands.specs.{Shortfalls.shortfall, declared.shortfall.Shortfall.Shortfall}
-use Rattle.bolt_job.specs.declared.choices.Extent.{Extent}
-use Rattle.bolt_job.specs.declared.choices.Extent.TheVariants.{First, LostAndFound, Losses}
-use Rattle.bolt_commands.specs.declared.failure.Failure.{Failure}
-use Rattle.bolt_commands.specs.declared.failure.Failure.TheVariants as failure
-use Rattle.bolt_check.specs.ShownFindings.{findings_in}
-use Rattle.bolt_etcd.specs.Newest.{newest}
+use Rattle.bolt_tree.specs.{Entries.IsEntry, Entries.Item, Entries.Root_page, Entries.Start, Listing.IsListing, Listing.Member, Paths.Holds, Paths.Names, Paths.Path}
+use Rattle.bolt_commands.specs.{Failures.IsFailureOf, Failures.unjoined, FileFaults.IsMetasFault, Shortfalls.shortfall, declared.shortfall.Shortfall.Shortfall, declared.failure.Failure.Failure}
+use Rattle.bolt_commands.specs.Answers.{Answer, JobEnding, refused}
+use Rattle.bolt_job.specs.{MetaChoices.HasNoMetaOf, MetaChoices.IsMetaOf, declared.choices.Extent.Extent}
+use Rattle.bolt_job.specs.declared.choices.Extent.TheVariants.{Losses, LostAndFound, Sound}
 use Rattle.bolt_job.specs.declared.choices.MetaChoice.{MetaChoice}
 use Rattle.bolt_job.specs.declared.choices.MetaChoice.TheVariants.{Active, Assumed, InSlot}
-use Rattle.bolt_commands.specs.{Answers.Answer, Answers.JobEnding, Answers.refused}
+use Rattle.bolt_commands.specs.declared.failure.Failure.TheVariants as failure
+use Rattle.bolt_etcd.specs.Newest.{newest}
 
 -- a path leads from the root bucket to this one; and what it holds
 abbrev pub LeadsTo : List ℕ → Meta → Path → Start → Type 0
@@ -40,10 +27,6 @@ LeadsNowhere file meta path = (bucket : Start) → LeadsTo file meta path bucket
 
 abbrev pub HoldsIn : List ℕ → Meta → Path → Item → Type 0
 HoldsIn file meta path item = Holds (IsEntry file meta) (Root_page meta.root) path item
-
--- all parts but the last
-abbrev pub parents_of : Path → Path
-parents_of path = take (length path - 1) path
 
 -- only the first finding is reported
 abbrev pub IsFileRefusal : CheckFault → Answer → Type 0
@@ -116,14 +99,14 @@ IsUnjoinedUnder file choice why =
 -- under the meta that is chosen the listing of a sound file, the recovered or the joined one; what is lost of the file, and the pages that are
 -- found of it
 abbrev pub IsReadTo : Extent → List ℕ → MetaChoice → Meta → List Member → LostView → List FoundView → Type 0
-IsReadTo First file choice meta listing lost found = IsReadUnder file choice meta × IsListing file meta listing × (lost ≡ parts []) × (found ≡ [])
+IsReadTo Sound file choice meta listing lost found = IsReadUnder file choice meta × IsListing file meta listing × (lost ≡ parts []) × (found ≡ [])
 IsReadTo Losses file choice meta listing lost found =
     IsRecoveredUnder file choice meta × IsRecovered file meta listing × ((losses : List LossView) × AreLosses file meta losses × (lost ≡ parts losses)) × (found ≡ [])
 IsReadTo LostAndFound file choice meta listing lost found = IsMetaOf file choice meta × IsSalvaged file meta listing lost found
 
 -- why it isn't read
 abbrev pub IsUnreadTo : Extent → List ℕ → MetaChoice → Failure → Type 0
-IsUnreadTo First file choice why = (fault : CheckFault) × IsRefusedUnder file choice fault × IsFailureOf fault why
+IsUnreadTo Sound file choice why = (fault : CheckFault) × IsRefusedUnder file choice fault × IsFailureOf fault why
 IsUnreadTo Losses file choice why = (fault : CheckFault) × IsUnrecoverableUnder file choice fault × IsFailureOf fault why
 IsUnreadTo LostAndFound file choice why = IsUnjoinedUnder file choice why
 

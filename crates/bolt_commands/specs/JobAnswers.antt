@@ -2,35 +2,26 @@
 use Rattle.std.specs.Prelude.{◌≡◌, ◌<◌, ◌-◌, ◌^◌, ◌⊎◌, ℕ, List, [], ◌∷◌, Bool, length, map, Option, Some, None, Err}
 use Rattle.std.specs.Io.KnownBytes.{Appends}
 use Rattle.bolt_bulk.specs.Compacting.{too_many}
-use Rattle.bolt_layout.specs.Copies.{layout_of_listing}
+use Rattle.bolt_layout.specs.{Copies.layout_of_listing, declared.Layout.Layout, declared.Layout.TheVariants.Balanced}
 use Rattle.bolt_format.specs.declared.meta.Meta.{Meta}
-use Rattle.bolt_load.specs.{LineFaults.IsListingText, LineFaults.IsLoadFault, declared.load_fault.LoadFault.LoadFault}
+use Rattle.bolt_load.specs.{LineFaults.IsListingText, LineFaults.IsLoadFault, declared.load_fault.LoadFault.LoadFault, declared.load_fault.LineFault.TheVariants.CutOff}
 use Rattle.bolt_text.specs.LineMembers.{text_members}
 use Rattle.bolt_recover.specs.Losses.{LostView}
 use Rattle.bolt_report.specs.FoundLines.{FoundView}
 use Rattle.bolt_stats.specs.declared.figures.Stats.{Stats}
 use Rattle.bolt_tree.specs.Listing.{Member}
-use Rattle.bolt_job.specs.CopyKinds.{is_snapshot}
-use Rattle.bolt_commands.specs.CopyLayouts.{layout_for}
-use Rattle.bolt_commands.specs.Failures.{unloaded}
-use Rattle.bolt_commands.specs.{FileFaults.AreCopyFaults, GoodCopies.IsGoodCopy}
-use Rattle.bolt_commands.specs.SnapshotAnswers.{copy_of}
-use Rattle.bolt_job.specs.declared.choices.Extent.{Extent}
-use Rattle.bolt_job.specs.declared.choices.Extent.TheVariants.{LostAndFound}
-use Rattle.bolt_commands.specs.declared.failure.Failure.{Failure}
+use Rattle.bolt_job.specs.{CopyKinds.is_snapshot, declared.choices.Extent.Extent, declared.choices.Extent.TheVariants.LostAndFound, declared.job.Job.Job, declared.choices.MetaChoice.MetaChoice}
+use Rattle.bolt_job.specs.{declared.choices.MetaChoice.TheVariants.Active, declared.choices.PageSize.PageSize}
+use Rattle.bolt_commands.specs.{CopyLayouts.layout_for, Failures.unloaded, FileFaults.AreCopyFaults, GoodCopies.IsGoodCopy, SnapshotAnswers.copy_of, declared.failure.Failure.Failure}
+use Rattle.bolt_commands.specs.{declared.file_faults.FileFaults.FileFaults, Answers.Answer, Answers.JobEnding, Answers.WritesAnswer, Answers.done, CheckAnswers.IsCheckAnswer}
+use Rattle.bolt_commands.specs.CopyAnswers.{StopsShort, copy_page_size, copy_report, hash_refusal, lengths_line}
+use Rattle.bolt_commands.specs.EtcdAnswers.{IsEtcdCheckPrint, IsEtcdGetPrint, IsEtcdKeysPrint, IsEtcdRevisionsPrint}
+use Rattle.bolt_commands.specs.{FilesRead.IsReadAnswer, FilesRead.IsReadTo, FilesRead.IsUnreadTo, KeyAnswers.IsBucketsPrint, KeyAnswers.IsGetPrint, KeyAnswers.IsKeysPrint, ListAnswers.IsListPrint}
+use Rattle.bolt_commands.specs.{PageAnswers.IsInfoAnswer, PageAnswers.IsPageAnswer, PageAnswers.IsPagesAnswer, RepairAnswers.IsRestored, RepairAnswers.IsUnrestored, RepairAnswers.repair_report}
+use Rattle.bolt_commands.specs.StatsAnswers.{IsStatsPrint}
 use Rattle.bolt_commands.specs.declared.failure.Failure.TheVariants as failure
-use Rattle.bolt_commands.specs.declared.file_faults.FileFaults.{FileFaults}
-use Rattle.bolt_load.specs.declared.load_fault.LineFault.TheVariants.{CutOff}
-use Rattle.bolt_etcd.specs.declared.snapshot.SnapshotFault.{SnapshotFault}
-use Rattle.bolt_etcd.specs.Newest.{newest}
-use Rattle.bolt_etcd.specs.Stores.{revisions}
-use Rattle.bolt_job.specs.declared.job.Job.{Job}
+use Rattle.bolt_etcd.specs.{declared.snapshot.SnapshotFault.SnapshotFault, Newest.newest, Stores.revisions}
 use Rattle.bolt_job.specs.declared.job.Job.TheVariants as job
-use Rattle.bolt_job.specs.declared.choices.MetaChoice.{MetaChoice}
-use Rattle.bolt_job.specs.declared.choices.MetaChoice.TheVariants.{Active}
-use Rattle.bolt_job.specs.declared.choices.PageSize.{PageSize}
-use Rattle.bolt_layout.specs.{declared.Layout.Layout, declared.Layout.TheVariants.Balanced}
-use Rattle.bolt_commands.specs.{Answers.Answer, Answers.JobEnding, Answers.WritesAnswer, Answers.done, CheckAnswers.IsCheckAnswer, CopyAnswers.StopsShort, CopyAnswers.copy_page_size, CopyAnswers.copy_report, CopyAnswers.hash_refusal, CopyAnswers.lengths_line, EtcdAnswers.IsEtcdCheckPrint, EtcdAnswers.IsEtcdGetPrint, EtcdAnswers.IsEtcdKeysPrint, EtcdAnswers.IsEtcdRevisionsPrint, FilesRead.IsReadAnswer, FilesRead.IsReadTo, FilesRead.IsUnreadTo, KeyAnswers.IsBucketsPrint, KeyAnswers.IsGetPrint, KeyAnswers.IsKeysPrint, ListAnswers.IsListPrint, PageAnswers.IsInfoAnswer, PageAnswers.IsPageAnswer, PageAnswers.IsPagesAnswer, RepairAnswers.IsRestored, RepairAnswers.IsUnrestored, RepairAnswers.repair_report, StatsAnswers.IsStatsPrint}
 
 -- standard output and the target, each from its state `old` to `new`
 module _ {O T : Type 0} (out_taken : O → Option (List ℕ)) (out_failed : O → ℕ) (out_old out_new : O)

@@ -1,28 +1,20 @@
 -- What `buckets`, `keys` and `get` answer: docs/COMMANDS.md, "What is printed".
 use Rattle.std.specs.Prelude.{◌≡◌, ◌-◌, ◌⊎◌, Contains, ℕ, List, [], Bool, true, false, Option, Some, None, Err, if◌then◌else◌}
-use Rattle.bolt_format.specs.Elements.{LeafElement}
-use Rattle.bolt_format.specs.declared.meta.Meta.{Meta}
+use Rattle.bolt_format.specs.{Elements.LeafElement, declared.meta.Meta.Meta}
 use Rattle.bolt_recover.specs.Losses.{LostView, parts}
-use Rattle.bolt_report.specs.KeyLines.{buckets_text, keys_text}
-use Rattle.bolt_report.specs.MemberNames.{WantedNames, begins_so, names_bucket, names_text}
-use Rattle.bolt_text.specs.Forms.{value_text, item_text}
-use Rattle.bolt_report.specs.KeyPrefixes.{with_prefix}
+use Rattle.bolt_report.specs.{KeyLines.buckets_text, KeyLines.keys_text, MemberNames.WantedNames, MemberNames.begins_so, MemberNames.names_bucket, MemberNames.names_text, KeyPrefixes.with_prefix}
 use Rattle.bolt_report.specs.SizeLines.{AreSized, Sized, sizes_text}
-use Rattle.bolt_text.specs.declared.forms.Form.{Form}
-use Rattle.bolt_tree.specs.Entries.{AreEntries, IsEntry, Start, Value}
-use Rattle.bolt_tree.specs.{Listing.Member, ListingParts.has_bucket}
-use Rattle.bolt_tree.specs.Paths.{Names, Path}
-use Rattle.bolt_commands.specs.declared.shortfall.Shortfall.{Shortfall}
-use Rattle.bolt_job.specs.declared.choices.BucketsShown.{BucketsShown}
+use Rattle.bolt_text.specs.{Forms.value_text, Forms.item_text, declared.forms.Form.Form}
+use Rattle.bolt_tree.specs.{Entries.AreEntries, Entries.IsEntry, Entries.Start, Entries.Value, Listing.Member, ListingParts.has_bucket, Paths.Names, Paths.Path}
+use Rattle.bolt_commands.specs.{declared.shortfall.Shortfall.Shortfall, declared.failure.Failure.Failure}
+use Rattle.bolt_commands.specs.Answers.{Answer, IsEndedOrCut, IsShownAndEnded, IsShownText, IsWholeOrShort, JobEnding, refused}
+use Rattle.bolt_commands.specs.FilesRead.{HoldsIn, IsLackingTo, IsReadAnswer, IsReadTo, IsUnreadTo, LeadsNowhere, LeadsTo, lost_ending}
+use Rattle.bolt_report.specs.HeldAtPaths.{parents_of}
+use Rattle.bolt_job.specs.{declared.choices.BucketsShown.BucketsShown, declared.choices.Extent.TheVariants.Losses, declared.bucket_commands.BucketsJob.BucketsJob}
+use Rattle.bolt_job.specs.{declared.bucket_commands.GetJob.GetJob, declared.bucket_commands.KeysJob.KeysJob, declared.choices.MetaChoice.MetaChoice, PlainWords.owned_path}
 use Rattle.bolt_job.specs.declared.choices.BucketsShown.TheVariants as shown
-use Rattle.bolt_job.specs.declared.choices.Extent.TheVariants.{Losses}
-use Rattle.bolt_commands.specs.declared.failure.Failure.{Failure}
 use Rattle.bolt_commands.specs.declared.failure.Failure.TheVariants as failure
-use Rattle.bolt_job.specs.declared.bucket_commands.{BucketsJob.BucketsJob, GetJob.GetJob, KeysJob.KeysJob}
 use Rattle.bolt_job.specs.declared.job.Job.TheVariants as job
-use Rattle.bolt_job.specs.declared.choices.MetaChoice.{MetaChoice}
-use Rattle.bolt_job.specs.PlainWords.{owned_path}
-use Rattle.bolt_commands.specs.{Answers.Answer, Answers.IsEndedOrCut, Answers.IsShownAndEnded, Answers.IsShownText, Answers.IsWholeOrShort, Answers.JobEnding, Answers.refused, FilesRead.HoldsIn, FilesRead.IsLackingTo, FilesRead.IsReadAnswer, FilesRead.IsReadTo, FilesRead.IsUnreadTo, FilesRead.LeadsNowhere, FilesRead.LeadsTo, FilesRead.lost_ending, FilesRead.parents_of}
 
 -- a text of the entries of the bucket that the path leads to; or it leads to none
 abbrev pub IsEntriesAnswer : List ℕ → Path → Form → (List LeafElement → List ℕ) → Meta → Answer → Type 0
@@ -90,11 +82,11 @@ IsRecoveredValue job listing lost answer =
     ((value : List ℕ) × Contains listing (path, Value value) × IsShownAndEnded job.form (value_shown job.form job.no_newline value) (lost_ending lost) answer)
     ⊎ (((value : List ℕ) → Contains listing (path, Value value) → ⊥) × (answer ≡ refused (no_value path listing lost)))
 
--- the names of the buckets, their sizes, or the names of those that are recovered, of a file under a meta
+-- the names of the buckets, or of those that are recovered, or their sizes, of a file under a meta
 abbrev pub IsBucketsShown : BucketsShown → List ℕ → MetaChoice → BucketsJob → Answer → Type 0
-IsBucketsShown shown.Names file choice job answer = IsReadAnswer file choice (IsEntriesAnswer file (owned_path job.path.items) job.form (buckets_text job.form)) answer
+IsBucketsShown (shown.Names false) file choice job answer = IsReadAnswer file choice (IsEntriesAnswer file (owned_path job.path.items) job.form (buckets_text job.form)) answer
+IsBucketsShown (shown.Names true) file choice job answer = IsRecoveredAnswer file choice (IsNamesAnswer job.form names_bucket (owned_path job.path.items)) answer
 IsBucketsShown shown.Sizes file choice job answer = IsReadAnswer file choice (IsSizesAnswer file (owned_path job.path.items) job.form) answer
-IsBucketsShown shown.Recovered file choice job answer = IsRecoveredAnswer file choice (IsNamesAnswer job.form names_bucket (owned_path job.path.items)) answer
 
 abbrev pub IsBucketsPrint : BucketsJob → List ℕ → Answer → Type 0
 IsBucketsPrint job file answer = IsBucketsShown job.shown file job.meta job answer

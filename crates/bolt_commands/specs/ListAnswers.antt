@@ -3,19 +3,13 @@ use Rattle.std.specs.Prelude.{◌≡◌, ◌-◌, ◌⊎◌, ℕ, List, Option, 
 use Rattle.bolt_format.specs.declared.meta.Meta.{Meta}
 use Rattle.bolt_recover.specs.Losses.{LostView}
 use Rattle.bolt_report.specs.FoundLines.{FoundView}
-use Rattle.bolt_text.specs.ListForms.{listing_lines}
-use Rattle.bolt_text.specs.declared.forms.ListForm.{ListForm}
-use Rattle.bolt_tree.specs.{Listing.Member, Listing.rest_from, ListingParts.bucket_part, ListingParts.has_bucket}
-use Rattle.bolt_tree.specs.Paths.{Path}
-use Rattle.bolt_commands.specs.declared.shortfall.Shortfall.{Shortfall}
-use Rattle.bolt_job.specs.declared.choices.Extent.{Extent}
-use Rattle.bolt_commands.specs.declared.failure.Failure.{Failure}
+use Rattle.bolt_text.specs.{ListForms.listing_lines, declared.forms.ListForm.ListForm}
+use Rattle.bolt_tree.specs.{Listing.Member, Listing.rest_from, ListingParts.bucket_part, ListingParts.has_bucket, Paths.Path}
+use Rattle.bolt_commands.specs.{declared.shortfall.Shortfall.Shortfall, declared.failure.Failure.Failure, Answers.Answer, Answers.IsEndedOrCut, Answers.JobEnding, Answers.refused}
+use Rattle.bolt_commands.specs.FilesRead.{IsLackingTo, IsReadTo, IsUnreadTo, lost_ending}
+use Rattle.bolt_job.specs.{declared.choices.Extent.Extent, declared.bucket_commands.ListJob.ListJob, declared.choices.MetaChoice.MetaChoice, PlainWords.owned_path}
 use Rattle.bolt_commands.specs.declared.failure.Failure.TheVariants as failure
-use Rattle.bolt_job.specs.declared.bucket_commands.ListJob.{ListJob}
 use Rattle.bolt_job.specs.declared.job.Job.TheVariants as job
-use Rattle.bolt_job.specs.declared.choices.MetaChoice.{MetaChoice}
-use Rattle.bolt_job.specs.PlainWords.{owned_path}
-use Rattle.bolt_commands.specs.{Answers.Answer, Answers.IsEndedOrCut, Answers.JobEnding, Answers.refused, FilesRead.IsLackingTo, FilesRead.IsReadTo, FilesRead.IsUnreadTo, FilesRead.lost_ending}
 
 -- a line for each member of a listing at and below the bucket at a path that doesn't come before another path
 abbrev pub listing_part_text : ListForm → (path from : Path) → List Member → List ℕ

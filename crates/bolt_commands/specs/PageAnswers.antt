@@ -1,17 +1,12 @@
 -- What `info`, `page` and `pages` answer: docs/COMMANDS.md, "What is printed".
 use Rattle.std.specs.Prelude.{◌≡◌, ◌-◌, ◌⊎◌, ℕ, List, Bool, true, false, map, Option, Some, None}
-use Rattle.bolt_check.specs.Roles.{AreRoles}
-use Rattle.bolt_check.specs.declared.role_table.Role.{Role}
-use Rattle.bolt_format.specs.Metas.{HasNoActive, HasNoneInSlot, IsActive, IsInSlot}
-use Rattle.bolt_format.specs.{declared.page_fault.PageFault.PageFault, declared.meta.Meta.Meta}
+use Rattle.bolt_check.specs.{Roles.AreRoles, declared.role_table.Role.Role}
+use Rattle.bolt_format.specs.{Metas.HasNoActive, Metas.HasNoneInSlot, Metas.IsActive, Metas.IsInSlot, declared.page_fault.PageFault.PageFault, declared.meta.Meta.Meta}
 use Rattle.bolt_format.specs.{declared.meta.MetaFault.MetaFault, declared.meta.Slot.Slot}
-use Rattle.bolt_report.specs.{MetaLines.info_text, PageMaps.map_text, PageTables.pages_text}
-use Rattle.bolt_report.specs.PageTexts.{page_text, page_text_fault}
+use Rattle.bolt_report.specs.{MetaLines.info_text, PageMaps.map_text, PageTables.pages_text, PageTexts.page_text, PageTexts.page_text_fault, RevisionLines.named_with}
 use Rattle.bolt_text.specs.declared.forms.FigureForm.{FigureForm}
-use Rattle.bolt_job.specs.MetaChoices.{HasNoMetaOf, IsMetaOf}
+use Rattle.bolt_job.specs.{MetaChoices.HasNoMetaOf, MetaChoices.IsMetaOf, declared.choices.MetaChoice.MetaChoice}
 use Rattle.bolt_commands.specs.declared.failure.Failure.TheVariants as failure
-use Rattle.bolt_report.specs.RevisionLines.{named_with}
-use Rattle.bolt_job.specs.declared.choices.MetaChoice.{MetaChoice}
 use Rattle.bolt_commands.specs.Answers.{Answer, done, refused}
 
 abbrev pub page_answer : Option PageFault → List ℕ → Answer

@@ -1,23 +1,16 @@
 -- What `etcd-repair` answers: docs/COMMANDS.md, "What etcd keeps".
 use Rattle.std.specs.Prelude.{◌≡◌, ◌≢◌, ◌-◌, ◌⊎◌, ℕ, List, [], ◌++◌, Bool, codes, decimal, length, Ok}
 use Rattle.bolt_check.specs.declared.finding.Finding.{Finding}
-use Rattle.bolt_format.specs.declared.meta.Meta.{Meta}
-use Rattle.bolt_format.specs.declared.meta.MetaFault.{MetaFault}
+use Rattle.bolt_format.specs.{declared.meta.Meta.Meta, declared.meta.MetaFault.MetaFault}
 use Rattle.bolt_recover.specs.{Losses.LostView, Losses.everything, Lost.IsAllLost}
-use Rattle.bolt_repair.specs.{FullRepairs.IsFullRepair, RepairRefusals.IsRepairRefusal, Repaired.repaired_listing}
-use Rattle.bolt_repair.specs.declared.repair.RepairFault.{RepairFault}
+use Rattle.bolt_repair.specs.{FullRepairs.IsFullRepair, RepairRefusals.IsRepairRefusal, Repaired.repaired_listing, declared.repair.RepairFault.RepairFault}
 use Rattle.bolt_report.specs.FoundLines.{lost_text}
-use Rattle.bolt_tree.specs.Entries.{EntryView}
-use Rattle.bolt_tree.specs.Listing.{Member}
-use Rattle.bolt_commands.specs.Failures.{unrepaired}
-use Rattle.bolt_commands.specs.FileFaults.{fault_lines}
-use Rattle.bolt_job.specs.MetaChoices.{HasNoMetaOf, IsMetaOf}
-use Rattle.bolt_commands.specs.declared.failure.Failure.{Failure}
+use Rattle.bolt_tree.specs.{Entries.EntryView, Listing.Member}
+use Rattle.bolt_commands.specs.{Failures.unrepaired, FileFaults.fault_lines, declared.failure.Failure.Failure, declared.file_faults.FileFaults.FileFaults, Answers.Answer}
+use Rattle.bolt_commands.specs.CopyAnswers.{copy_status, lengths_line}
+use Rattle.bolt_job.specs.{MetaChoices.HasNoMetaOf, MetaChoices.IsMetaOf, declared.choices.MetaChoice.MetaChoice}
 use Rattle.bolt_commands.specs.declared.failure.Failure.TheVariants as failure
-use Rattle.bolt_commands.specs.declared.file_faults.FileFaults.{FileFaults}
 use Rattle.bolt_etcd.specs.Stores.{revisions}
-use Rattle.bolt_job.specs.declared.choices.MetaChoice.{MetaChoice}
-use Rattle.bolt_commands.specs.{Answers.Answer, CopyAnswers.copy_status, CopyAnswers.lengths_line}
 
 -- The repaired listing of a file under the meta that is chosen, what is lost of it, how many revisions go back, and how many stay out. If everything is lost, some go back.
 pub record IsRestored (file : List ℕ) (choice : MetaChoice) (meta : Meta) (listing : List Member) (lost : LostView) (back left_out : ℕ) : Type 0 where

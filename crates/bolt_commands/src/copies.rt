@@ -1,30 +1,56 @@
-//! Copies on a target, and what is reported of them: what is lost and found of the file, and the
-//! lengths of both.
+//! Copies: what they look like, how they come to a target, and what is reported of them: what is lost and
+//! found of the file, and the lengths of both.
 ghost use Rattle.std.specs.Prelude.{◌≡◌, List, OnOk};
 ghost use Rattle.std.specs.List.{All};
 ghost use Rattle.bolt_bulk.specs.WholeListings.{IsWholeListing};
-ghost use Rattle.bolt_format.specs.{Endings.ending, Wrote.Wrote};
+ghost use Rattle.bolt_format.specs.{Endings.ending, Metas.IsPageSize, Wrote.Wrote};
 ghost use Rattle.bolt_job.specs.CopyKinds.{is_snapshot};
 ghost use Rattle.bolt_layout.specs.Copies.{IsOfOneTree};
 ghost use Rattle.bolt_recover.specs.ShownLosses.{lost_view};
 ghost use Rattle.bolt_report.specs.FoundLines.{IsFoundLeaf};
 ghost use Rattle.bolt_tree.specs.Listing.{Member};
-ghost use Rattle.bolt_commands.specs.{Answers.WritesAnswer, CopyAnswers.copy_status, CopyAnswers.lengths_line, GoodCopies.HasGoodCopies};
-ghost use Rattle.bolt_commands.specs.Private.{Copying.CopiesTo, Copying.ForLayout, Reports.report_answer, Reports.report_text};
+ghost use Rattle.bolt_commands.specs.{Answers.WritesAnswer, CopyAnswers.copy_status, CopyAnswers.lengths_line, CopyLayouts.layout_for, GoodCopies.HasGoodCopies, Private.Copying.CopiesTo, Private.Copying.ForLayout, Private.Copying.IsAskedBlueprint, Private.Reports.report_answer, Private.Reports.report_text};
 
 use crate::failure::Outcome;
 use crate::file_faults::{FileFaults, put_file_faults};
 use crate::hashed_copy::{MembersSource, copy_hashed};
 use crate::laws::whole_copies_are_good;
 use bolt_bulk::{Blueprint, BulkFault, compact_members};
-use bolt_format::{Sink, SinkFault};
-use bolt_job::CopyKind;
+use bolt_format::{Meta, Sink, SinkFault};
+use bolt_job::{CopyKind, PageSize};
+use bolt_layout::Layout;
 use bolt_recover::{Found, Lost};
 use bolt_report::put_lost;
 use bolt_text::{Piece, put_pieces};
 use bolt_tree::Members;
 use std::alloc::Global;
 use std::marker::PhantomData;
+
+/// The layout of a copy of this kind.
+pub(crate) fn layout(kind: CopyKind) -> Layout
+    ensures { result ≡ layout_for kind }
+{
+    match kind {
+        CopyKind::Plain => Layout::Plain,
+        CopyKind::ForBbolt | CopyKind::EtcdSnapshot => Layout::Balanced,
+    }
+}
+
+/// What the copy of a file with this meta looks like, at this page size if one is asked for.
+pub(crate) fn blueprint_of(kind: CopyKind, size: Option<PageSize>, meta: &Meta) -> Blueprint
+    requires { IsPageSize meta.now.page_size }
+    ensures { IsAskedBlueprint kind size meta.now result }
+{
+    let page_size = match size {
+        Some(size) => size.bytes,
+        None => u64::from(meta.page_size),
+    };
+    Blueprint {
+        layout: layout(kind),
+        page_size,
+        sequence: meta.root_sequence,
+    }
+}
 
 /// Writes the copy of all members of a listing that is of one tree, which is a good copy, and returns
 /// its length.
@@ -89,7 +115,7 @@ pub(crate) fn end_copy<O: Sink>(copy: u64, report: &CopyReport<'_, '_>, out: &mu
     Ok(status_of(report.faults, report.lost))
 }
 
-#[tactic(auto, using(bolt_format::proofs::WroteLemmas::wrote))]
+#[tactic(auto, using(bolt_format::proofs::Exports::wrote))]
 fn put_copy_report<O: Sink>(
     report: &CopyReport<'_, '_>,
     copy: u64,
@@ -111,7 +137,7 @@ pub(crate) fn status_of(faults: FileFaults, lost: Lost<'_>) -> u8
 }
 
 /// Writes the lengths of the file and of its copy.
-#[tactic(auto, using(bolt_format::proofs::WroteLemmas::wrote))]
+#[tactic(auto, using(bolt_format::proofs::Exports::wrote))]
 pub(crate) fn put_lengths<O: Sink>(source: u64, copy: u64, out: &mut O) -> Result<(), SinkFault>
     ensures { Wrote O.Sink out.old out.new (lengths_line source copy) (ending result) }
 {

@@ -1,8 +1,7 @@
 //! Why a job isn't done, and how it ends.
 ghost use Rattle.std.specs.Prelude.{◌≡◌, Ok};
-ghost use Rattle.bolt_commands.specs.Failures.{IsFailureOf, copied, reported, unjoined, unloaded, unrepaired};
+ghost use Rattle.bolt_commands.specs.{Failures.IsFailureOf, Failures.copied, Failures.reported, Failures.unjoined, Failures.unloaded, Failures.unrepaired, FilesRead.lost_ending, Private.Endings.end_written, Private.Endings.ending_by};
 ghost use Rattle.bolt_commands.specs.declared.failure.Failure.TheVariants as failure;
-ghost use Rattle.bolt_commands.specs.Private.Endings.{ending_by, end_written};
 
 use crate::shortfall::Shortfall;
 use bolt_bulk::BulkFault;
@@ -77,6 +76,16 @@ pub(crate) fn written(put: Result<(), SinkFault>) -> Outcome
     Ok(0)
 }
 
+/// How a job ends that put what is wanted of a listing, if that lacks this.
+pub(crate) fn end_listing(lost: Option<Shortfall>) -> Outcome
+    ensures { result ≡ lost_ending lost }
+{
+    match lost {
+        None => Ok(0),
+        Some(lost) => Err(Failure::Lost(lost)),
+    }
+}
+
 impl<T: Drop> From<AllocFailed<T>> for Failure {
     ghost from_gives = { λ _ result. result ≡ failure.Memory };
 
@@ -120,7 +129,7 @@ impl From<JoinFault> for Failure {
 
     fn from(fault: JoinFault) -> Failure {
         match fault {
-            JoinFault::Root(finding) => Failure::File(finding),
+            JoinFault::Rootless(finding) => Failure::File(finding),
             JoinFault::Exists => Failure::Exists,
             JoinFault::TooLarge => Failure::TooManyPages,
             JoinFault::Memory => Failure::Memory,
@@ -133,7 +142,7 @@ impl From<RepairFault> for Failure {
 
     fn from(fault: RepairFault) -> Failure {
         match fault {
-            RepairFault::Root(finding) => Failure::File(finding),
+            RepairFault::Rootless(finding) => Failure::File(finding),
             RepairFault::NotABucket => Failure::NotABucket,
             RepairFault::Memory => Failure::Memory,
         }

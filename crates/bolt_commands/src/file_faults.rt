@@ -1,7 +1,7 @@
 //! What is wrong with a file apart from its pages.
 ghost use Rattle.std.specs.Prelude.{◌≡◌, ◌≤◌, IfOk};
 ghost use Rattle.bolt_format.specs.{Endings.ending, Wrote.Wrote};
-ghost use Rattle.bolt_commands.specs.FileFaults.{AreCopyFaults, AreFileFaults, IsMetasFault, IsOtherFault, errors_of, errors_in, fault_lines, hash_lines, is_fine, no_faults, other_meta_lines};
+ghost use Rattle.bolt_commands.specs.FileFaults.{AreCopyFaults, AreFileFaults, IsMetasFault, IsOtherFault, errors_in, fault_lines, hash_lines, is_fine, no_faults, other_meta_lines};
 ghost use Rattle.bolt_commands.specs.SnapshotAnswers.{bad_hash, hash_found};
 ghost use Rattle.bolt_job.specs.CopyKinds.{is_snapshot};
 

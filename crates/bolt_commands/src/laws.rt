@@ -3,14 +3,10 @@ ghost use Rattle.std.specs.Prelude.{◌≡◌, ◌<◌, ◌^◌, ℕ, true, List
 ghost use Rattle.bolt_format.specs.{Metas.ForMetasPrefix, declared.meta.Meta.Meta};
 ghost use Rattle.bolt_layout.specs.Copies.{IsOfOneTree};
 ghost use Rattle.hex.specs.Hex.{IsBytes};
-ghost use Rattle.bolt_tree.specs.{Listing.IsListing, Listing.Member};
-ghost use Rattle.bolt_commands.specs.Alike.{BucketsAlike, CopiesAlike, DoesAlike, GetsAlike, KeysAlike, ListsAlike};
-ghost use Rattle.bolt_commands.specs.Alike.{ForSoundTrees, OfSoundTrees, RepairsNothing, UnderSoundTrees};
-ghost use Rattle.bolt_commands.specs.{Answers.Answer, FilesRead.IsReadUnder, ListAnswers.IsListedAnswer};
-ghost use Rattle.bolt_commands.specs.{CheckedCopies.FailsCutOff, CheckedCopies.LoadsAs, CheckedCopies.PassesCheck};
-ghost use Rattle.bolt_commands.specs.GoodCopies.{ForGoodCopies, HasGoodCopies};
-ghost use Rattle.bolt_job.specs.{Jobs.needs_metas_alone, declared.job.Job.Job};
-ghost use Rattle.bolt_job.specs.declared.choices.MetaChoice.{MetaChoice};
+ghost use Rattle.bolt_tree.specs.Listing.{IsListing, Member};
+ghost use Rattle.bolt_commands.specs.{Alike.BucketsAlike, Alike.CopiesAlike, Alike.DoesAlike, Alike.GetsAlike, Alike.KeysAlike, Alike.ListsAlike, Alike.ForSoundTrees, Alike.OfSoundTrees, Alike.RepairsNothing, Alike.UnderSoundTrees, Answers.Answer, FilesRead.IsReadUnder, ListAnswers.IsListedAnswer};
+ghost use Rattle.bolt_commands.specs.{CheckedCopies.FailsCutOff, CheckedCopies.LoadsAs, CheckedCopies.PassesCheck, GoodCopies.ForGoodCopies, GoodCopies.HasGoodCopies};
+ghost use Rattle.bolt_job.specs.{Jobs.needs_metas_alone, declared.job.Job.Job, declared.choices.MetaChoice.MetaChoice};
 ghost use Rattle.bolt_text.specs.declared.forms.ListForm.TheVariants as form;
 ghost use Rattle.bolt_job.specs.declared.choices.Extent.TheVariants as extent;
 
@@ -69,7 +65,7 @@ pub fn good_copies_pass_the_check()
 /// file holds nothing, `load` refuses the empty text as cut off.
 pub fn loading_a_listing_copies_it<O: Sink, T: Sink>()
     ensures { (file : List ℕ) (choice : MetaChoice) (answer : Answer) → IsBytes file
-        → IsListedAnswer extent.First file choice form.Hex [] [] answer → answer.ending ≡ Ok 0
+        → IsListedAnswer extent.Sound file choice form.Hex [] [] answer → answer.ending ≡ Ok 0
         → (meta : Meta) × (listing : List Member) × IsReadUnder file choice meta
         × IsListing file meta listing × LoadsAs O.Sink T.Sink answer.out listing }
 {
@@ -88,8 +84,8 @@ pub fn loading_a_listing_copies_it<O: Sink, T: Sink>()
 /// exactly what they do with `--recover`. `etcd-repair` writes what `compact` writes for bbolt, and puts
 /// nothing back.
 pub fn recovering_sound_trees_reads_them<O: Sink, T: Sink>()
-    ensures list { UnderSoundTrees (ListsAlike extent.Losses extent.First) }
-    ensures compact { UnderSoundTrees (CopiesAlike O.Sink T.Sink extent.Losses extent.First) }
+    ensures list { UnderSoundTrees (ListsAlike extent.Losses extent.Sound) }
+    ensures compact { UnderSoundTrees (CopiesAlike O.Sink T.Sink extent.Losses extent.Sound) }
     ensures keys { UnderSoundTrees KeysAlike }
     ensures buckets { UnderSoundTrees BucketsAlike }
     ensures get { UnderSoundTrees GetsAlike }

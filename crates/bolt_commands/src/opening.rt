@@ -30,7 +30,7 @@ impl<'f> Input<'f> {
         ensures refused { IfErr result (IsUnopened extent self.entry.file.now choice) }
     {
         Ok(match extent {
-            Extent::First => Opened::Sound(self.check(choice)?),
+            Extent::Sound => Opened::Sound(self.check(choice)?),
             Extent::Losses => Opened::Recovered(self.recover(choice)?),
             Extent::LostAndFound => Opened::Searched(self.search(choice)?),
         })

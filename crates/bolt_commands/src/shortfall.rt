@@ -2,7 +2,6 @@
 ghost use Rattle.std.specs.Prelude.{◌≡◌};
 ghost use Rattle.bolt_format.specs.{Endings.ending, Wrote.Wrote};
 ghost use Rattle.bolt_recover.specs.ShownLosses.{lost_view};
-ghost use Rattle.bolt_report.specs.MetaLines.{slot_fault_text};
 ghost use Rattle.bolt_commands.specs.Shortfalls.{shortfall, shortfall_text};
 
 use bolt_format::{MetaFault, Sink, SinkFault, Slot};

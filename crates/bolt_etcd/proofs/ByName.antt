@@ -1,19 +1,14 @@
--- All revisions of a bucket, sorted by name and then by their places.
+-- All revisions of a bucket, sorted by name and then by their stored keys.
 use Rattle.std.proofs.Common.{◌≡◌, ◌<◌, ◌-◌, ◌^◌, Bool, List, map, not, Some, ap, subst, arith}
-use Rattle.std.proofs.lemmas.Bool.{le-ltb}
-use Rattle.std.proofs.lemmas.List.MinMax.{ranks_by}
-use Rattle.std.proofs.lemmas.List.Sorted.{IsPermutation-map}
-use Rattle.std.proofs.lemmas.Option.{same_Some}
-use Rattle.std.specs.Cmp.{IsStrictWeakOrder}
-use Rattle.std.specs.List.Sorted.{IsPermutation, IsSortedBy}
-use Rattle.std.specs.Ordering.{is_lt}
+use Rattle.std.proofs.{lemmas.Bool.le-ltb, lemmas.List.MinMax.ranks_by, lemmas.List.Sorted.IsPermutation-map, lemmas.Option.same_Some}
+use Rattle.std.specs.{Cmp.IsStrictWeakOrder, List.Sorted.IsPermutation, List.Sorted.IsSortedBy, Ordering.is_lt}
 use Rattle.bolt_format.specs.Elements.{LeafElement}
-use Rattle.bolt_tree.proofs.Filters.{filter_all}
+use Rattle.bolt_tree.proofs.Exports.{filter_all, sorted_mapped}
 use Rattle.bolt_tree.specs.Entries.{EntryView}
 use Rattle.bolt_etcd.specs.{NameFaults.AreByName, NameFaults.by_name_cmp, Newest.is_until, Newest.until, RevisionKeys.revision_key}
 use Rattle.bolt_etcd.specs.{Revisions.RevisionView, Revisions.record_under, Revisions.revision_in, Revisions.revision_of, Revisions.value_of, ShownRevisions.shown_revision, Stores.revisions}
 use Rattle.bolt_etcd.specs.declared.revision.Revision.{Revision}
-use Rattle.bolt_etcd.proofs.{Currents.bind_some, Currents.from_entry, Keys.read_fits, MappedLists.sorted_mapped, SortedOnce.by_name_total}
+use Rattle.bolt_etcd.proofs.{Currents.bind_some, Currents.from_entry, Keys.read_fits, SortedOnce.by_name_total}
 
 -- ---- each is of a transaction below 2^63
 

@@ -4,11 +4,10 @@ use Rattle.std.proofs.Common.{Some, None, refl, sym, ap, arith}
 use Rattle.std.proofs.lemmas.Bool.{and_from, and_parts, cases_lt}
 use Rattle.std.specs.List.{Contains, last_or}
 use Rattle.bolt_check.specs.Keys.{Key}
-use Rattle.bolt_tree.proofs.Filters.{filter_same}
-use Rattle.bolt_etcd.specs.{Compactions.IsCompaction, Histories.Transaction, Histories.history, Histories.state_at, Newest.is_named, Newest.is_until}
-use Rattle.bolt_etcd.specs.{Newest.newest, Newest.until, Revisions.RevisionView}
-use Rattle.bolt_etcd.proofs.{Filtered.filter_both, Filtered.kept_from, HistoryUntil.held_at, HistoryUntil.until_early, HistoryUntil.until_late}
-use Rattle.bolt_etcd.proofs.{KeptOfNames.filter_swap, LastOnes.last_in, LastOnes.last_passes, NameHistories.held_of, NameHistories.held_parts}
+use Rattle.bolt_tree.proofs.Exports.{filter_same, filter_both, kept_from, filters_swap}
+use Rattle.bolt_etcd.specs.{Compactions.IsCompaction, Histories.Transaction, Histories.history, Histories.state_at, Newest.is_named, Newest.is_until, Newest.newest, Newest.until}
+use Rattle.bolt_etcd.specs.Revisions.{RevisionView}
+use Rattle.bolt_etcd.proofs.{HistoryUntil.held_at, HistoryUntil.until_early, HistoryUntil.until_late, LastOnes.last_in, LastOnes.last_passes, NameHistories.held_of, NameHistories.held_parts}
 
 module _ (ts : List Transaction) (early late : ℕ) (le : early ≤ late) where
   abbrev both : RevisionView → Bool
@@ -31,7 +30,7 @@ module _ (ts : List Transaction) (early late : ℕ) (le : early ≤ late) where
       let (last, live) = held_parts _ r held in
       let here =
       ap (λ (rs : List RevisionView). last_or None (filter (is_named name) rs)) until_both
-      ∙ ap (last_or None) (filter_swap (is_named name) (is_until early) (until late (history ts)))
+      ∙ ap (last_or None) (filters_swap (is_named name) (is_until early) (until late (history ts)))
       ∙ last_passes (is_until early) None None (filter (is_named name) (until late (history ts))) r last (until_early early r low) (λ same. same) in
       held_at early ts name ∙ ap held_of (here ∙ sym last) ∙ held
 

@@ -1,31 +1,18 @@
 -- The keys that there are are the newest revisions that aren't deletions.
 use Rattle.std.proofs.Common.{◌≡◌, ◌≢◌, ◌∙◌, ◌++◌, ◌↔◌, Bool, false, List, [], ◌∷◌, filter, map, not, Option, Some, None, Result, Ok, Err, refl, sym, ap, subst, if◌then◌else◌}
-use Rattle.std.proofs.lemmas.Bool.{not-true}
-use Rattle.std.proofs.lemmas.Cmp.{nat_list_cmp_total, on_total}
-use Rattle.std.proofs.lemmas.List.{append_assoc, map-append}
-use Rattle.std.proofs.lemmas.List.Kept.{IsStrictlySortedBy-filter}
-use Rattle.std.proofs.lemmas.List.MinMax.{ranks_by}
-use Rattle.std.proofs.lemmas.List.Sorted.{Contains-permutation, IsPermutation-sym}
-use Rattle.std.proofs.lemmas.Option.{same_Some}
-use Rattle.std.specs.List.{Contains, cons_option, dedup}
-use Rattle.std.specs.List.Sorted.{IsPermutation, IsSorted}
-use Rattle.std.specs.Cmp.{IsStrictWeakOrder, IsTotalOrder}
-use Rattle.std.specs.Ordering.{eq_by_cmp, is_eq, is_lt}
-use Rattle.std.specs.Result.{is_err, is_ok}
-use Rattle.std.specs.Str.{bytes_eq}
-use Rattle.std.specs.declared.cmp.Ordering.{Ordering}
-use Rattle.std.proofs.lemmas.Slice.Eq.{bytes_eq-Decides}
+use Rattle.std.proofs.{lemmas.Bool.not-true, lemmas.Cmp.nat_list_cmp_total, lemmas.Cmp.on_total, lemmas.List.append_assoc, lemmas.List.map-append, lemmas.List.Kept.IsStrictlySortedBy-filter}
+use Rattle.std.proofs.{lemmas.List.MinMax.ranks_by, lemmas.List.Sorted.Contains-permutation, lemmas.List.Sorted.IsPermutation-sym, lemmas.Option.same_Some, lemmas.Slice.Eq.bytes_eq-Decides}
+use Rattle.std.specs.{List.Contains, List.cons_option, List.dedup, List.Sorted.IsPermutation, List.Sorted.IsSorted, Cmp.IsStrictWeakOrder, Cmp.IsTotalOrder}
+use Rattle.std.specs.{Ordering.eq_by_cmp, Ordering.is_eq, Ordering.is_lt, Result.is_err, Result.is_ok, Str.bytes_eq, declared.cmp.Ordering.Ordering}
 use Rattle.std.specs.declared.cmp.Ordering.TheVariants.{Equal, Greater, Less}
 use Rattle.bolt_format.specs.Elements.{LeafElement}
-use Rattle.bolt_tree.proofs.{Filters.kept}
+use Rattle.bolt_tree.proofs.Exports.{kept, filter_mapped, kept_from, dedup_mapped, gives_from, one_of}
 use Rattle.bolt_tree.specs.{Entries.EntryView, Entries.entry_cmp, Entries.entry_view, Order.Rises}
-use Rattle.bolt_etcd.specs.{Current.AreCurrent, Current.AreNewest, Current.HaveOwnPlaces, Current.IsCurrent, Current.IsNewest, Current.is_there, Current.name_cmp, Current.name_sum_cmp, Current.place_cmp, Newest.is_named, Newest.newest, Revisions.RevisionView, Revisions.name_of, Revisions.record_under, Revisions.revision_in, Revisions.revision_of, Revisions.value_of}
-use Rattle.bolt_etcd.specs.{RevisionKeys.revision_key, ShownRevisions.shown_revision, Stores.revisions, Wire.◌>>=◌}
-use Rattle.bolt_etcd.specs.{NameOrder.sums_cmp, SumOrder.AreNewestBySum}
-use Rattle.bolt_etcd.specs.declared.revision.Revision.{Revision}
-use Rattle.bolt_etcd.proofs.{Filtered.filter_mapped, Filtered.kept_from, MappedLists.dedup_mapped, MappedLists.gives_from}
+use Rattle.bolt_etcd.specs.Current.{AreCurrent, AreNewest, HaveOwnKeys, IsCurrent, IsNewest, is_there, name_cmp, name_sum_cmp, stored_key_cmp}
+use Rattle.bolt_etcd.specs.{Newest.is_named, Newest.newest, Revisions.RevisionView, Revisions.name_of, Revisions.record_under, Revisions.revision_in, Revisions.revision_of, Revisions.value_of}
+use Rattle.bolt_etcd.specs.{RevisionKeys.revision_key, ShownRevisions.shown_revision, Stores.revisions, Wire.◌>>=◌, NameOrder.sums_cmp, SumOrder.AreNewestBySum, declared.revision.Revision.Revision}
 use Rattle.bolt_etcd.proofs.NewestOfNames.{IsGreatest, greatest_kept, kept_greatest, last_from, last_greatest, names_rise, text_ties}
-use Rattle.bolt_etcd.proofs.{Rising.one_of, NameOrders.sums_tie, NameOrders.sums_total, SortedOnce.rises_from, SortedOnce.sorted_in}
+use Rattle.bolt_etcd.proofs.{NameOrders.sums_tie, NameOrders.sums_total, SortedOnce.rises_from, SortedOnce.sorted_in}
 
 -- ---- one more is pushed
 
@@ -42,19 +29,19 @@ pushed items more r left new total is first before =
     ∙ ap (λ (l : List RevisionView). map shown_revision items ++ l) (sym first)
     ∙ before
 
--- ---- revisions rise by their places, as entries do by their keys
+-- ---- revisions rise by their stored keys, as entries do by their keys
 
 pub bind_some : {A B : Type 0} (o : Option A) (f : A → Option B) (y : B) → (o >>= f) ≡ Some y → (x : A) × (o ≡ Some x) × (f x ≡ Some y)
 bind_some None f y e = cc
 bind_some (Some x) f y e = (x, refl, e)
 
-pub place_is : (v : EntryView) (r : RevisionView) → revision_of v ≡ Some r → r.place ≡ v.key
+pub stored_key_is : (v : EntryView) (r : RevisionView) → revision_of v ≡ Some r → r.stored_key ≡ v.key
 unfolding revision_of
-place_is v r e =
+stored_key_is v r e =
     let (value, _, inner) = bind_some (value_of v.item) (revision_in v.key) r e in
     let (k, _, later) = bind_some (revision_key v.key) _ r inner in
     let (content, _, made) = bind_some (record_under k value) _ r later in
-    sym (ap (λ (x : RevisionView). x.place) (same_Some _ r made))
+    sym (ap (λ (x : RevisionView). x.stored_key) (same_Some _ r made))
 
 pub key_is : (e : EntryView) (r : RevisionView) → revision_of e ≡ Some r → revision_key e.key ≡ Some r.key
 unfolding revision_of
@@ -67,17 +54,17 @@ key_is e r is =
 pub from_entry : (es : List LeafElement) (r : RevisionView) → Contains (revisions es) r → (f : LeafElement) × Contains es f × (revision_of (entry_view f) ≡ Some r)
 from_entry es r has = gives_from (λ (e : LeafElement). revision_of (entry_view e)) es r has
 
-rise_step : (o : Option RevisionView) (e : LeafElement) (es : List LeafElement) → revision_of (entry_view e) ≡ o → Rises entry_cmp (e ∷ es) → Rises place_cmp (revisions es)
-    → Rises place_cmp (cons_option o (revisions es))
+rise_step : (o : Option RevisionView) (e : LeafElement) (es : List LeafElement) → revision_of (entry_view e) ≡ o → Rises entry_cmp (e ∷ es) → Rises stored_key_cmp (revisions es)
+    → Rises stored_key_cmp (cons_option o (revisions es))
 rise_step None e es is rises later = later
 rise_step (Some r) e es is rises later = (
   λ s has.
       let (f, there, found) = from_entry es s has in
-      rw (place_is (entry_view e) r is, place_is (entry_view f) s found) (rises.0 f there),
+      rw (stored_key_is (entry_view e) r is, stored_key_is (entry_view f) s found) (rises.0 f there),
   later,
 )
 
-pub revisions_rise : (es : List LeafElement) → Rises entry_cmp es → Rises place_cmp (revisions es)
+pub revisions_rise : (es : List LeafElement) → Rises entry_cmp es → Rises stored_key_cmp (revisions es)
 revisions_rise [] rises = tt
 revisions_rise (e ∷ es) rises = rise_step (revision_of (entry_view e)) e es refl rises (revisions_rise es rises.1)
 
@@ -110,7 +97,7 @@ not_less Greater differs = refl
 
 module _ (rs : List RevisionView) where
   abbrev Greatest : RevisionView → Type 0
-  Greatest r = IsGreatest name_of (λ (x : RevisionView). x.place) sums_cmp sums_total sums_tie (is_named (name_of r)) rs r
+  Greatest r = IsGreatest name_of (λ (x : RevisionView). x.stored_key) sums_cmp sums_total sums_tie (is_named (name_of r)) rs r
 
   greatest_newest : (r : RevisionView) → Greatest r → r.key.deleted ≡ false → IsNewest rs r
   greatest_newest r g live = record {
@@ -123,32 +110,32 @@ module _ (rs : List RevisionView) where
   newest_greatest r n = record {
     has = n.has;
     passes = (bytes_eq-Decides (name_of r) (name_of r)).1 refl;
-    greatest = λ other has names. not_less (place_cmp r other) (n.last other has ((bytes_eq-Decides (name_of other) (name_of r)).0 names));
+    greatest = λ other has names. not_less (stored_key_cmp r other) (n.last other has ((bytes_eq-Decides (name_of other) (name_of r)).0 names));
   }
 
   -- of revisions sorted by names, the newest first, the first of each name that isn't a deletion
-  pub first_are_newest : (sorted : List RevisionView) → AreNewestBySum rs sorted → HaveOwnPlaces rs → AreNewest rs (filter is_there (dedup view_same_name sorted))
+  pub first_are_newest : (sorted : List RevisionView) → AreNewestBySum rs sorted → HaveOwnKeys rs → AreNewest rs (filter is_there (dedup view_same_name sorted))
   first_are_newest sorted are own = record {
-    rises = rises_from (on_total name_of sums_total) _ (IsStrictlySortedBy-filter name_sum_cmp is_there _ (names_rise name_of (λ r. r.place) sums_cmp sums_total sums_tie sorted are.rises));
+    rises = rises_from (on_total name_of sums_total) _ (IsStrictlySortedBy-filter name_sum_cmp is_there _ (names_rise name_of (λ r. r.stored_key) sums_cmp sums_total sums_tie sorted are.rises));
     exact = λ r. (
       λ has.
           let (first, live) = kept_from is_there _ r has in
-          greatest_newest r (kept_greatest name_of (λ r. r.place) sums_cmp sums_total sums_tie rs sorted own are.same are.rises r first) (not-true r.key.deleted live),
-      λ n. kept is_there _ r (greatest_kept name_of (λ r. r.place) sums_cmp sums_total sums_tie rs sorted own are.same are.rises r (newest_greatest r n)) (ap not n.there),
+          greatest_newest r (kept_greatest name_of (λ r. r.stored_key) sums_cmp sums_total sums_tie rs sorted own are.same are.rises r first) (not-true r.key.deleted live),
+      λ n. kept is_there _ r (greatest_kept name_of (λ r. r.stored_key) sums_cmp sums_total sums_tie rs sorted own are.same are.rises r (newest_greatest r n)) (ap not n.there),
     );
   }
 
   -- ---- of revisions in the order of their keys these are the current ones
 
-  module _ (rises : Rises place_cmp rs) where
-    pub own_places : HaveOwnPlaces rs
-    own_places a b has also same = one_of nat_list_cmp_total (λ (r : RevisionView). r.place) rs a b rises has also same
+  module _ (rises : Rises stored_key_cmp rs) where
+    pub own_keys : HaveOwnKeys rs
+    own_keys a b has also same = one_of nat_list_cmp_total (λ (r : RevisionView). r.stored_key) rs a b rises has also same
 
     current_newest : (r : RevisionView) → IsCurrent rs r ↔ IsNewest rs r
     unfolding newest
     current_newest r = (
-      λ (last, live). greatest_newest r (last_greatest name_of (λ r. r.place) sums_cmp sums_total sums_tie (is_named (name_of r)) rs r rises last) live,
-      λ n. (last_from name_of (λ r. r.place) sums_cmp sums_total sums_tie (is_named (name_of r)) rs r rises (newest_greatest r n), n.there),
+      λ (last, live). greatest_newest r (last_greatest name_of (λ r. r.stored_key) sums_cmp sums_total sums_tie (is_named (name_of r)) rs r rises last) live,
+      λ n. (last_from name_of (λ r. r.stored_key) sums_cmp sums_total sums_tie (is_named (name_of r)) rs r rises (newest_greatest r n), n.there),
     )
 
     differ : (a b : RevisionView) → name_sum_cmp a b ≡ Less → eq_by_cmp name_cmp a b ≡ false
@@ -166,7 +153,7 @@ module _ (rs : List RevisionView) where
 -- ---- of the code
 
 pub kept_newest : (old sorted left there : List Revision) → AreNewestBySum (map shown_revision old) (map shown_revision sorted) → left ≡ dedup code_same_name sorted
-    → there ≡ filter code_is_there left → HaveOwnPlaces (map shown_revision old) → AreNewest (map shown_revision old) (map shown_revision there)
+    → there ≡ filter code_is_there left → HaveOwnKeys (map shown_revision old) → AreNewest (map shown_revision old) (map shown_revision there)
 kept_newest old sorted left there are once live own =
     let shown =
     ap (map shown_revision) live ∙ filter_mapped shown_revision is_there left ∙ ap (filter is_there) (ap (map shown_revision) once ∙ dedup_mapped shown_revision view_same_name sorted) in

@@ -1,14 +1,13 @@
 -- What can be decided: whether two things are the same, what is said of both, of either, or of one if the other is, and what holds of each element of
 -- a list, or of one.
 use Rattle.std.proofs.Common.{◌≡◌, ◌⊎◌, inl, inr, Bool, true, false, List, [], ◌∷◌, refl, subst, sym}
-use Rattle.std.proofs.lemmas.Cmp.{tied_itself}
-use Rattle.std.specs.Cmp.{IsTotalOrder}
-use Rattle.std.specs.List.{Contains}
-use Rattle.std.specs.declared.cmp.Ordering.{Ordering}
+use Rattle.std.proofs.{lemmas.Cmp.tied_itself, Math.Decide.map_dec}
+use Rattle.std.specs.{Cmp.IsTotalOrder, List.Contains, declared.cmp.Ordering.Ordering}
 use Rattle.std.specs.declared.cmp.Ordering.TheVariants.{Equal, Greater, Less}
 use Rattle.bolt_check.specs.Keys.{Key}
-use Rattle.bolt_tree.proofs.{Lists.contains_cases, Lists.contains_head, Lists.contains_none, Lists.contains_tail, PathOrder.key_exact, PathOrder.key_total, PathOrder.path_exact, PathOrder.path_total}
+use Rattle.bolt_tree.proofs.Exports.{contains_cases, contains_head, contains_none, contains_tail, key_exact, key_total, path_exact, path_total}
 use Rattle.bolt_tree.specs.Paths.{Path}
+use mathlib.Core.Logic.Dec as decide
 
 abbrev pub told : {P : Type 0} → Dec P → Bool
 told (yes p) = true
@@ -23,15 +22,6 @@ true_told (yes p) q = refl
 true_told (no never) q = absurd (never q)
 
 -- ---- one from another, or from two
-
-pub dec_as : {P Q : Type 0} → Dec P → (P → Q) → (Q → P) → Dec Q
-dec_as (yes p) to from = yes (to p)
-dec_as (no never) to from = no (λ q. never (from q))
-
-pub dec_both : {P Q : Type 0} → Dec P → Dec Q → Dec (P × Q)
-dec_both (yes p) (yes q) = yes (p, q)
-dec_both (yes p) (no never) = no (λ both. never both.1)
-dec_both (no never) q = no (λ both. never both.0)
 
 pub dec_either : {P Q : Type 0} → Dec P → Dec Q → Dec (P ⊎ Q)
 dec_either (yes p) q = yes (inl p)
@@ -53,7 +43,7 @@ dec_equal Greater = no (λ e. cc)
 -- by an order that tells them apart
 dec_tied : {A : Type 0} {cmp : A → A → Ordering} → IsTotalOrder cmp → ((a b : A) → cmp a b ≡ Equal → a ≡ b) → (a b : A) → Dec (a ≡ b)
 dec_tied {A = A} {cmp = cmp} total exact a b =
-    dec_as (dec_equal (cmp a b)) (exact a b) (λ same. subst (λ (x : A). cmp x b ≡ Equal) (sym same) (tied_itself total b))
+    map_dec (exact a b) (λ same. subst (λ (x : A). cmp x b ≡ Equal) (sym same) (tied_itself total b)) (dec_equal (cmp a b))
 
 pub dec_key : (a b : Key) → Dec (a ≡ b)
 dec_key = dec_tied key_total key_exact
@@ -67,12 +57,12 @@ module _ {A : Type 0} (P : A → Type 0) (dec : (x : A) → Dec (P x)) where
   pub dec_each : (xs : List A) → Dec ((x : A) → Contains xs x → P x)
   dec_each [] = yes (λ x has. absurd (contains_none x has))
   dec_each (x ∷ xs) =
-      dec_as (dec_both (dec x) (dec_each xs)) (λ both y has. elim (contains_cases x y xs has) [ inl is ↦ subst P is both.0 | inr more ↦ both.1 y more ])
-      (λ all. (all x (contains_head x xs), λ y has. all y (contains_tail x y xs has)))
+      map_dec (λ both y has. elim (contains_cases x y xs has) [ inl is ↦ subst P is both.0 | inr more ↦ both.1 y more ])
+      (λ all. (all x (contains_head x xs), λ y has. all y (contains_tail x y xs has))) (decide.and (dec x) (dec_each xs))
 
   pub dec_some : (xs : List A) → Dec ((x : A) × Contains xs x × P x)
   dec_some [] = no (λ (x, has, is). contains_none x has)
   dec_some (x ∷ xs) =
-      dec_as (dec_either (dec x) (dec_some xs))
-      (λ either. elim either [ inl here ↦ (x, contains_head x xs, here) | inr (y, has, is) ↦ (y, contains_tail x y xs has, is) ])
+      map_dec (λ either. elim either [ inl here ↦ (x, contains_head x xs, here) | inr (y, has, is) ↦ (y, contains_tail x y xs has, is) ])
       (λ (y, has, is). elim (contains_cases x y xs has) [ inl same ↦ inl (subst P (sym same) is) | inr more ↦ inr (y, more, is) ])
+      (dec_either (dec x) (dec_some xs))

@@ -3,23 +3,18 @@ use Rattle.std.proofs.Common.{◌≡◌, ◌∙◌, ◌<◌, ◌≤◌, ℕ, Boo
 use Rattle.std.proofs.Common.{subst, arith}
 use Rattle.std.proofs.lemmas.Bool.{and_from, and_parts, cases_lt, lt-ltb, ltb-true, or_cases, or_left, or_right}
 use Rattle.std.proofs.lemmas.Cmp.{nat_list_cmp_total, on_total}
-use Rattle.std.specs.Cmp.{IsTotalOrder}
-use Rattle.std.specs.Cmp.Lexicographic.{same_text}
-use Rattle.std.specs.List.{Contains, last_or}
-use Rattle.std.specs.declared.cmp.Ordering.TheVariants.{Less}
+use Rattle.std.specs.{Cmp.IsTotalOrder, Cmp.Lexicographic.same_text, List.Contains, List.last_or, declared.cmp.Ordering.TheVariants.Less}
 use Rattle.bolt_check.specs.Keys.{Key}
-use Rattle.bolt_tree.proofs.{Filters.kept as passes, Lists.asymmetric, Lists.irreflexive}
+use Rattle.bolt_tree.proofs.Exports.{kept as passes, asymmetric, irreflexive, filter_rises, kept_from}
 use Rattle.bolt_tree.specs.Order.{Rises}
-use Rattle.bolt_etcd.specs.{Compactions.IsCompaction, Current.place_cmp, EtcdCompactions.etcd_keeps, EtcdCompactions.is_same_revision}
-use Rattle.bolt_etcd.specs.{Histories.Transaction, Histories.history, Histories.state_at}
-use Rattle.bolt_etcd.specs.{Newest.is_named, Newest.is_until, Newest.newest, Newest.until, Revisions.RevisionView, Revisions.name_of, Possible.ArePossible}
-use Rattle.bolt_etcd.proofs.{Filtered.filter_rises, Filtered.kept_from, HistorySteps.places_rise, HistorySteps.same_order}
-use Rattle.bolt_etcd.proofs.{HistoryUntil.held_at, HistoryUntil.until_early, LastOnes.last_after, LastOnes.last_in, MissingExact.main_le}
-use Rattle.bolt_etcd.proofs.{NameHistories.held_parts}
-use Rattle.bolt_etcd.proofs.StoreLemmas.{itself}
+use Rattle.bolt_etcd.specs.{Compactions.IsCompaction, Current.stored_key_cmp, EtcdCompactions.etcd_keeps, EtcdCompactions.is_same_revision}
+use Rattle.bolt_etcd.specs.{Histories.Transaction, Histories.history, Histories.state_at, Newest.is_named, Newest.is_until, Newest.newest, Newest.until, Revisions.RevisionView, Revisions.name_of}
+use Rattle.bolt_etcd.specs.Possible.{ArePossible}
+use Rattle.bolt_etcd.proofs.{HistorySteps.stored_keys_rise, HistorySteps.same_order, HistoryUntil.held_at, HistoryUntil.until_early, LastOnes.last_after, LastOnes.last_in, MissingExact.main_le}
+use Rattle.bolt_etcd.proofs.{NameHistories.held_parts, StoreLemmas.itself}
 
-places_total : IsTotalOrder place_cmp
-places_total = on_total (λ (r : RevisionView). r.place) nat_list_cmp_total
+stored_keys_total : IsTotalOrder stored_key_cmp
+stored_keys_total = on_total (λ (r : RevisionView). r.stored_key) nat_list_cmp_total
 
 module _ (ts : List Transaction) (new : Bool) (compacted : ℕ) (possible : ArePossible ts) where
   abbrev keeps : RevisionView → Bool
@@ -33,19 +28,19 @@ module _ (ts : List Transaction) (new : Bool) (compacted : ℕ) (possible : AreP
       let early = passes (is_until compacted) (history ts) r has (until_early compacted r le) in
       passes (is_named name) (until compacted (history ts)) r early (rw same (itself name))
 
-  own_rise : (name : Key) → Rises place_cmp (own name)
-  own_rise name = filter_rises place_cmp (is_named name) _ (filter_rises place_cmp (is_until compacted) (history ts) (places_rise ts possible))
+  own_rise : (name : Key) → Rises stored_key_cmp (own name)
+  own_rise name = filter_rises stored_key_cmp (is_named name) _ (filter_rises stored_key_cmp (is_until compacted) (history ts) (stored_keys_rise ts possible))
 
   -- none of its name is between the newest one and the compaction
   none_after : (a b : RevisionView) (o : Option RevisionView) → last_or None (own (name_of a)) ≡ o → is_same_revision a o ≡ true
-      → Contains (own (name_of a)) b → place_cmp a b ≡ Less → ⊥
+      → Contains (own (name_of a)) b → stored_key_cmp a b ≡ Less → ⊥
   none_after a b None e same has less = cc
   none_after a b (Some last) e same has less =
-      let place = same_text last.place a.place (sym same) in
-      let up : place_cmp last b ≡ Less = rw place less in
-      elim (last_after place_cmp None (own (name_of a)) last b (own_rise (name_of a)) e has) [
-        | inl is ↦ irreflexive places_total last (subst (λ (x : RevisionView). place_cmp last x ≡ Less) is up)
-        | inr back ↦ asymmetric places_total last b up back
+      let stored_key = same_text last.stored_key a.stored_key (sym same) in
+      let up : stored_key_cmp last b ≡ Less = rw stored_key less in
+      elim (last_after stored_key_cmp None (own (name_of a)) last b (own_rise (name_of a)) e has) [
+        | inl is ↦ irreflexive stored_keys_total last (subst (λ (x : RevisionView). stored_key_cmp last x ≡ Less) is up)
+        | inr back ↦ asymmetric stored_keys_total last b up back
       ]
 
   keeps_later : (r : RevisionView) → compacted < r.key.main → keeps r ≡ true
@@ -60,11 +55,11 @@ module _ (ts : List Transaction) (new : Bool) (compacted : ℕ) (possible : AreP
         | inl nowhere ↦ cc
         | inr has ↦
             let named = same_text (name_of r) name (sym (kept_from (is_named name) _ r has).1) in
-            let same = ap (is_same_revision r) (ap (λ (n : Key). last_or None (own n)) named ∙ last) ∙ itself r.place in
+            let same = ap (is_same_revision r) (ap (λ (n : Key). last_or None (own n)) named ∙ last) ∙ itself r.stored_key in
             or_right _ _ (and_from _ _ same (or_left _ _ (ap not live)))
       ]
 
-  keeps_newer : (a b : RevisionView) → Contains (history ts) a → Contains (history ts) b → name_of a ≡ name_of b → place_cmp a b ≡ Less
+  keeps_newer : (a b : RevisionView) → Contains (history ts) a → Contains (history ts) b → name_of a ≡ name_of b → stored_key_cmp a b ≡ Less
       → keeps a ≡ true → keeps b ≡ true
   unfolding newest
   keeps_newer a b has also same less keep = elim (cases_lt compacted b.key.main) [

@@ -1,26 +1,15 @@
 -- What is missing of one name is what its revisions alone say, wherever they stand among those of other names.
 use Rattle.std.proofs.Common.{◌≡◌, ◌∙◌, ◌&&◌, ◌||◌, ℕ, Bool, true, false, List, [], ◌∷◌, cond, filter, not, Option, Some, None, refl, sym, ap}
-use Rattle.std.proofs.lemmas.Bool.{cond-false, cond-true}
-use Rattle.std.proofs.lemmas.Cmp.{nat_list_cmp_total, tied_itself}
+use Rattle.std.proofs.{lemmas.Bool.cond-false, lemmas.Bool.cond-true, lemmas.Cmp.nat_list_cmp_total, lemmas.Cmp.tied_itself}
 use Rattle.std.proofs.lemmas.List.Sorted.{Contains-permutation, IsPermutation-sym}
-use Rattle.std.specs.Cmp.{IsTotalOrder}
-use Rattle.std.specs.Cmp.Lexicographic.{same_text}
-use Rattle.std.specs.List.{Contains}
-use Rattle.std.specs.List.Sorted.{IsPermutation}
-use Rattle.std.specs.Ordering.{is_eq, ordering_reverse, ordering_then}
-use Rattle.std.specs.Str.{bytes_eq}
-use Rattle.std.specs.declared.cmp.Ordering.{Ordering}
-use Rattle.std.specs.declared.cmp.Ordering.TheVariants.{Equal, Greater, Less}
+use Rattle.std.specs.{Cmp.IsTotalOrder, Cmp.Lexicographic.same_text, List.Contains, List.Sorted.IsPermutation, Ordering.is_eq, Ordering.ordering_reverse, Ordering.ordering_then, Str.bytes_eq}
+use Rattle.std.specs.{declared.cmp.Ordering.Ordering, declared.cmp.Ordering.TheVariants.Equal, declared.cmp.Ordering.TheVariants.Greater, declared.cmp.Ordering.TheVariants.Less}
 use Rattle.bolt_check.specs.Keys.{Key, key_cmp}
-use Rattle.bolt_tree.proofs.{Filters.filter_none, Filters.kept, Lists.contains_head, Lists.rises_once}
+use Rattle.bolt_tree.proofs.Exports.{filter_none, kept, contains_head, rises_once, filter_rises, kept_from, rises_as}
 use Rattle.bolt_tree.specs.Order.{IsBelow, Rises}
-use Rattle.bolt_etcd.specs.{Current.place_cmp, Follows.follows, MissingNumbers.is_of_later, NameOrder.sums_cmp, Newest.is_named, SumOrder.AreBySum}
-use Rattle.bolt_etcd.specs.{Revisions.RevisionView, Revisions.name_of}
-use Rattle.bolt_etcd.specs.NameFaults.{AreByName, NameFaultView, fault_of, is_newest, lacks_lease, lacks_one_before}
-use Rattle.bolt_etcd.specs.NameFaults.{name_faults}
-use Rattle.bolt_etcd.proofs.{Filtered.filter_rises, Filtered.kept_from, NameOrders.sums_tie, NameOrders.sums_total, NewestOfNames.text_ties}
-use Rattle.bolt_etcd.proofs.{SortedOnce.by_name_rises, SortedOnce.named_rises, SortedOnce.named_total, Rising.rises_as}
-use Rattle.bolt_etcd.proofs.{StoreLemmas.itself}
+use Rattle.bolt_etcd.specs.{Current.stored_key_cmp, Follows.follows, MissingNumbers.is_of_later, NameOrder.sums_cmp, Newest.is_named, SumOrder.AreBySum, Revisions.RevisionView, Revisions.name_of}
+use Rattle.bolt_etcd.specs.NameFaults.{AreByName, NameFaultView, fault_of, is_newest, lacks_lease, lacks_one_before, name_faults}
+use Rattle.bolt_etcd.proofs.{NameOrders.sums_tie, NameOrders.sums_total, NewestOfNames.text_ties, SortedOnce.by_name_rises, SortedOnce.named_rises, SortedOnce.named_total, StoreLemmas.itself}
 
 -- ---- revisions of one name stand together
 
@@ -34,7 +23,7 @@ module _ (cmp : Key → Key → Ordering) (total : IsTotalOrder cmp) (ties : (a 
   by a b = cmp (name_of a) (name_of b)
 
   abbrev ordered : RevisionView → RevisionView → Ordering
-  ordered a b = ordering_then (by a b) (place_cmp a b)
+  ordered a b = ordering_then (by a b) (stored_key_cmp a b)
 
   between : (a b c : RevisionView) → ordered a b ≡ Less → ordered b c ≡ Less → name_of c ≡ name_of a → name_of b ≡ name_of a
   between a b c first second same =
@@ -168,20 +157,20 @@ module _ (cmp : Key → Key → Ordering) (total : IsTotalOrder cmp) (ties : (a 
         let (there, passes) = kept_from (is_named name) rs r has in
         kept (is_named name) sorted r (Contains-permutation rs sorted r same there) passes
 
-    by_place : (rs : List RevisionView) → ((r : RevisionView) → Contains rs r → is_named name r ≡ true) → Rises place_cmp rs → Rises ordered rs
-    by_place rs are = rises_as place_cmp ordered rs (λ a b has also less.
+    by_stored_key : (rs : List RevisionView) → ((r : RevisionView) → Contains rs r → is_named name r ≡ true) → Rises stored_key_cmp rs → Rises ordered rs
+    by_stored_key rs are = rises_as stored_key_cmp ordered rs (λ a b has also less.
         let tied : by a b ≡ Equal = rw (own a (are a has), own b (are b also)) (tied_itself total name) in
         rw (tied, less) refl)
 
-    same_named : (rs sorted : List RevisionView) → Rises place_cmp rs → IsPermutation rs sorted → Rises ordered sorted → named sorted ≡ named rs
+    same_named : (rs sorted : List RevisionView) → Rises stored_key_cmp rs → IsPermutation rs sorted → Rises ordered sorted → named sorted ≡ named rs
     same_named rs sorted rises same up =
         rises_once (named_total total) (named sorted) (named rs)
         (filter_rises ordered (is_named name) sorted up)
-        (by_place (named rs) (λ r has. (kept_from (is_named name) rs r has).1) (filter_rises place_cmp (is_named name) rs rises))
+        (by_stored_key (named rs) (λ r has. (kept_from (is_named name) rs r has).1) (filter_rises stored_key_cmp (is_named name) rs rises))
         (kept_named rs sorted same) (sorted_named rs sorted same)
 
     -- the faults of a name, of revisions among which those of a name stand together
-    pub faults_of : (compacted : Option ℕ) (granted : ℕ → Bool) (rs sorted : List RevisionView) → Rises place_cmp rs → IsPermutation rs sorted → Rises ordered sorted
+    pub faults_of : (compacted : Option ℕ) (granted : ℕ → Bool) (rs sorted : List RevisionView) → Rises stored_key_cmp rs → IsPermutation rs sorted → Rises ordered sorted
         → filter is_of_name (name_faults compacted granted None sorted) ≡ name_faults compacted granted None (named rs)
     faults_of compacted granted rs sorted rises same up =
         of_name compacted granted None sorted tt up
@@ -197,14 +186,14 @@ none_of_any (f ∷ fs) none =
     cc
 
 -- the faults of a name, of revisions that are sorted by name
-pub faults_named : (compacted : Option ℕ) (granted : ℕ → Bool) (rs sorted : List RevisionView) (name : Key) → Rises place_cmp rs → AreByName rs sorted
+pub faults_named : (compacted : Option ℕ) (granted : ℕ → Bool) (rs sorted : List RevisionView) (name : Key) → Rises stored_key_cmp rs → AreByName rs sorted
     → filter (λ (f : NameFaultView). is_named name f.revision) (name_faults compacted granted None sorted)
     ≡ name_faults compacted granted None (filter (is_named name) rs)
 faults_named compacted granted rs sorted name rises is =
     faults_of key_cmp nat_list_cmp_total text_ties name compacted granted rs sorted rises is.same (by_name_rises rs sorted rises is)
 
 -- if none is found in the order of the sums of names, then none is by name
-pub none_by_name : (compacted : Option ℕ) (granted : ℕ → Bool) (rs by_sum by_name : List RevisionView) → Rises place_cmp rs → AreBySum rs by_sum
+pub none_by_name : (compacted : Option ℕ) (granted : ℕ → Bool) (rs by_sum by_name : List RevisionView) → Rises stored_key_cmp rs → AreBySum rs by_sum
     → AreByName rs by_name → name_faults compacted granted None by_sum ≡ [] → name_faults compacted granted None by_name ≡ []
 none_by_name compacted granted rs by_sum by_name rises sums names none =
     none_of_any (name_faults compacted granted None by_name) (λ name.

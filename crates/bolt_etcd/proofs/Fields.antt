@@ -1,7 +1,6 @@
 -- A record, field by field.
 use Rattle.std.proofs.Common.{◌≡◌, ◌∙◌, ℕ, zero, suc, ◌<◌, ◌≤◌, List, [], ◌∷◌, Option, Some, None, length, refl, arith}
-use Rattle.bolt_etcd.specs.Wire.{◌>>=◌, Field, field, fields_up_to}
-use Rattle.bolt_etcd.specs.Records.{RecordView, empty, record_of, with, with_all}
+use Rattle.bolt_etcd.specs.{Wire.◌>>=◌, Wire.Field, Wire.field, Wire.fields_up_to, Records.RecordView, Records.empty, Records.record_of, Records.with, Records.with_all}
 
 -- The fields so far make r. The rest has at most n more.
 pub record Goes (bytes : List ℕ) (r : RecordView) (rest : List ℕ) : Type 0 where

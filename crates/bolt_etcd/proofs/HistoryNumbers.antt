@@ -3,11 +3,11 @@ use Rattle.std.proofs.Common.{◌≡◌, ◌∙◌, ◌<◌, ◌≤◌, ◌+◌,
 use Rattle.std.proofs.lemmas.Bool.{cases_lt, cond-false, cond-true, eq-eqb, le-ltb, lt-ltb, ne_eqb}
 use Rattle.std.specs.Option.{option_to_list}
 use Rattle.bolt_etcd.specs.{Histories.State, Histories.after, Revisions.RevisionView}
-use Rattle.bolt_etcd.specs.MissingNumbers.{is_of_later, keys_above, missing_after, missing_before, missing_numbers, revisions_between}
-use Rattle.bolt_etcd.specs.MissingNumbers.{transactions_between}
-use Rattle.bolt_etcd.specs.declared.{missing.Missing.Missing, revision_key.RevisionKey.RevisionKey}
+use Rattle.bolt_etcd.specs.MissingNumbers.{is_of_later, keys_above, missing_after, missing_before, missing_numbers, revisions_between, transactions_between}
+use Rattle.bolt_etcd.specs.{declared.missing.Missing.Missing, declared.revision_key.RevisionKey.RevisionKey}
 use Rattle.bolt_etcd.specs.declared.missing.Missing.TheVariants.{Revisions, Transactions}
-use Rattle.bolt_etcd.proofs.{Filtered.drops, Filtered.keeps, HistorySteps.Goes, HistorySteps.IsNext}
+use Rattle.bolt_etcd.proofs.HistorySteps.{Goes, IsNext}
+use Rattle.bolt_tree.proofs.Exports.{drops, keeps}
 
 no_transaction : (before main : ℕ) → main ≤ before + 1 → option_to_list (transactions_between before main) ≡ []
 no_transaction before main le =

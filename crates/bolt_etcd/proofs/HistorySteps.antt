@@ -1,17 +1,14 @@
 -- A history, revision by revision: each is written upon what the earlier ones left, and is the next of its transaction or the first of the next one.
 use Rattle.std.proofs.Common.{◌≡◌, ◌∙◌, ◌<◌, ◌≤◌, ◌+◌, ◌⊎◌, inl, inr, ℕ, List, [], ◌∷◌, ◌++◌, refl, sym, ap, subst, arith}
 use Rattle.std.proofs.lemmas.Cmp.{nat_cmp_total, tied_itself}
-use Rattle.std.specs.List.{Contains}
-use Rattle.std.specs.Ordering.{bool_cmp, nat_cmp, ordering_then}
-use Rattle.std.specs.declared.cmp.Ordering.{Ordering}
+use Rattle.std.specs.{List.Contains, Ordering.bool_cmp, Ordering.nat_cmp, Ordering.ordering_then, declared.cmp.Ordering.Ordering}
 use Rattle.std.specs.declared.cmp.Ordering.TheVariants.{Equal, Greater, Less}
-use Rattle.bolt_tree.proofs.Lists.{contains_cases, contains_none}
+use Rattle.bolt_tree.proofs.Exports.{contains_cases, contains_none, rises_as}
 use Rattle.bolt_tree.specs.Order.{Rises}
 use Rattle.bolt_etcd.specs.Histories.{State, Transaction, Write, after, after_all, history, history_from, nothing, revision_by, written}
-use Rattle.bolt_etcd.specs.{Current.place_cmp, RevisionKeys.spelling, Revisions.RevisionView, Possible.CanFollow, Possible.CanWrite, Possible.CanWriteAll}
-use Rattle.bolt_etcd.specs.{Possible.ArePossible, Told.number_cmp}
+use Rattle.bolt_etcd.specs.{Current.stored_key_cmp, RevisionKeys.spelling, Revisions.RevisionView, Possible.CanFollow, Possible.CanWrite, Possible.CanWriteAll, Possible.ArePossible, Told.number_cmp}
 use Rattle.bolt_etcd.specs.declared.revision_key.RevisionKey.{RevisionKey}
-use Rattle.bolt_etcd.proofs.{KeyNumbers.less, KeyNumbers.spellings_cmp, Rising.rises_as}
+use Rattle.bolt_etcd.proofs.KeyNumbers.{less, spellings_cmp}
 
 abbrev pub IsWritten : State → RevisionView → Type 0
 IsWritten state r = (w : Write) × CanWrite state w × (r ≡ revision_by state r.key.main r.key.sub w)
@@ -118,19 +115,19 @@ numbers_rise rs =
 pub history_rises : (ts : List Transaction) → ArePossible ts → Rises pair_cmp (history ts)
 history_rises ts possible = pairs_rise nothing 2 0 (history ts) (goes ts possible)
 
--- ---- and so do the places
+-- ---- and so do the stored keys
 
-is_spelled : (state : State) (r : RevisionView) → IsWritten state r → r.place ≡ spelling r.key
-is_spelled state r (w, can, is) = ap (λ (x : RevisionView). x.place) is ∙ ap (λ (x : RevisionView). spelling x.key) (sym is)
+is_spelled : (state : State) (r : RevisionView) → IsWritten state r → r.stored_key ≡ spelling r.key
+is_spelled state r (w, can, is) = ap (λ (x : RevisionView). x.stored_key) is ∙ ap (λ (x : RevisionView). spelling x.key) (sym is)
 
-place_is : (ts : List Transaction) → ArePossible ts → (r : RevisionView) → Contains (history ts) r → r.place ≡ spelling r.key
-place_is ts possible r has = each (λ (s : RevisionView). s.place ≡ spelling s.key) is_spelled nothing 2 0 (history ts) (goes ts possible) r has
+stored_key_is : (ts : List Transaction) → ArePossible ts → (r : RevisionView) → Contains (history ts) r → r.stored_key ≡ spelling r.key
+stored_key_is ts possible r has = each (λ (s : RevisionView). s.stored_key ≡ spelling s.key) is_spelled nothing 2 0 (history ts) (goes ts possible) r has
 
 pub same_order : (ts : List Transaction) → ArePossible ts → (a b : RevisionView) → Contains (history ts) a → Contains (history ts) b
-    → place_cmp a b ≡ number_cmp a b
-same_order ts possible a b has also = rw (place_is ts possible a has, place_is ts possible b also) (spellings_cmp a.key b.key (possible.fits a has) (possible.fits b also))
+    → stored_key_cmp a b ≡ number_cmp a b
+same_order ts possible a b has also = rw (stored_key_is ts possible a has, stored_key_is ts possible b also) (spellings_cmp a.key b.key (possible.fits a has) (possible.fits b also))
 
-pub places_rise : (ts : List Transaction) → ArePossible ts → Rises place_cmp (history ts)
-places_rise ts possible =
-    rises_as number_cmp place_cmp (history ts) (λ a b has also less'. same_order ts possible a b has also ∙ less')
+pub stored_keys_rise : (ts : List Transaction) → ArePossible ts → Rises stored_key_cmp (history ts)
+stored_keys_rise ts possible =
+    rises_as number_cmp stored_key_cmp (history ts) (λ a b has also less'. same_order ts possible a b has also ∙ less')
     (numbers_rise (history ts) (history_rises ts possible))

@@ -1,10 +1,9 @@
 -- The revisions of a history up to a transaction are those of the transactions up to it.
 use Rattle.std.proofs.Common.{◌<◌, true, false, ◌≡◌, ◌∙◌, ◌≤◌, ◌+◌, ◌-◌, ◌++◌, inl, inr, ℕ, zero, suc, List, [], ◌∷◌, not, take, refl, sym, ap, arith}
-use Rattle.std.proofs.lemmas.Bool.{cases_lt, le-ltb, lt-ltb}
-use Rattle.std.proofs.lemmas.List.Elements.{Contains-append_cases, filter-append}
+use Rattle.std.proofs.{lemmas.Bool.cases_lt, lemmas.Bool.le-ltb, lemmas.Bool.lt-ltb, lemmas.List.Elements.Contains-append_cases, lemmas.List.Elements.filter-append}
 use Rattle.std.specs.List.{Contains}
 use Rattle.bolt_check.specs.Keys.{Key}
-use Rattle.bolt_tree.proofs.{Filters.filter_all, Filters.filter_none, Lists.contains_cases, Lists.contains_none}
+use Rattle.bolt_tree.proofs.Exports.{filter_all, filter_none, contains_cases, contains_none}
 use Rattle.bolt_etcd.specs.Histories.{State, Transaction, Write, after, after_all, history, history_from, nothing, revision_by, state_at, written}
 use Rattle.bolt_etcd.specs.{Newest.is_until, Newest.newest, Newest.until, Revisions.RevisionView}
 use Rattle.bolt_etcd.proofs.NameHistories.{held_of, newest_held}

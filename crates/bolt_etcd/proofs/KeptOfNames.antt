@@ -1,25 +1,14 @@
 -- What a compaction keeps of one name: all from a revision on.
 use Rattle.std.proofs.Common.{◌≡◌, ◌∙◌, ◌<◌, ◌≤◌, ◌++◌, inl, inr, ℕ, Bool, true, false, List, [], ◌∷◌, filter, Option, Some}
 use Rattle.std.proofs.Common.{None, refl, sym, ap, subst}
-use Rattle.std.proofs.Math.Bool.{and_comm}
-use Rattle.std.proofs.lemmas.Bool.{cases_lt, cond-false}
-use Rattle.std.proofs.lemmas.List.{append-nil}
-use Rattle.std.proofs.lemmas.List.Elements.{Contains-append_left, filter-append}
-use Rattle.std.specs.Cmp.Lexicographic.{same_text}
-use Rattle.std.specs.List.{Contains, last_or}
+use Rattle.std.proofs.{Math.Bool.and_comm, lemmas.Bool.cases_lt, lemmas.Bool.cond-false, lemmas.List.append-nil, lemmas.List.Elements.Contains-append_left, lemmas.List.Elements.filter-append}
+use Rattle.std.specs.{Cmp.Lexicographic.same_text, List.Contains, List.last_or}
 use Rattle.bolt_check.specs.Keys.{Key}
-use Rattle.bolt_tree.proofs.{Filters.filter_all, Filters.filter_none, Filters.filter_same, Lists.contains_cases, Lists.contains_head}
-use Rattle.bolt_tree.proofs.{Lists.contains_none}
-use Rattle.bolt_tree.proofs.{Lists.contains_tail}
+use Rattle.bolt_tree.proofs.Exports.{filter_all, filter_none, filter_same, contains_cases, contains_head, contains_none, contains_tail, filter_both, filter_rises, kept_from, filters_swap}
 use Rattle.bolt_tree.specs.Order.{Rises}
-use Rattle.bolt_etcd.specs.{Compactions.IsCompaction, Compactions.kept_revisions, Current.place_cmp, Histories.Transaction, Histories.history}
+use Rattle.bolt_etcd.specs.{Compactions.IsCompaction, Compactions.kept_revisions, Current.stored_key_cmp, Histories.Transaction, Histories.history}
 use Rattle.bolt_etcd.specs.{Newest.is_named, Newest.is_until, Newest.newest, Newest.until, Revisions.RevisionView, Revisions.name_of, Possible.ArePossible}
-use Rattle.bolt_etcd.proofs.{Filtered.filter_both, Filtered.filter_rises, Filtered.kept_from, HistorySteps.places_rise, HistoryUntil.until_early}
-use Rattle.bolt_etcd.proofs.{HistoryUntil.until_late, HistoryUntil.held_at, LastOnes.last_in}
-use Rattle.bolt_etcd.proofs.NameHistories.{held_of, held_parts}
-
-pub filter_swap : {A : Type 0} (p q : A → Bool) (xs : List A) → filter p (filter q xs) ≡ filter q (filter p xs)
-filter_swap p q xs = filter_both p q xs ∙ filter_same _ _ xs (λ x has. and_comm (p x) (q x)) ∙ sym (filter_both q p xs)
+use Rattle.bolt_etcd.proofs.{HistorySteps.stored_keys_rise, HistoryUntil.until_early, HistoryUntil.until_late, HistoryUntil.held_at, LastOnes.last_in, NameHistories.held_of, NameHistories.held_parts}
 
 module _ (compacted : ℕ) (ts : List Transaction) (keeps : RevisionView → Bool) (possible : ArePossible ts) (compaction : IsCompaction compacted ts keeps)
     (name : Key) where
@@ -57,7 +46,7 @@ module _ (compacted : ℕ) (ts : List Transaction) (keeps : RevisionView → Boo
     },
   )
 
-  split : (rs : List RevisionView) → Rises place_cmp rs → ((r : RevisionView) → Contains rs r → Contains (history ts) r × (name_of r ≡ name))
+  split : (rs : List RevisionView) → Rises stored_key_cmp rs → ((r : RevisionView) → Contains rs r → Contains (history ts) r × (name_of r ≡ name))
       → (removed : List RevisionView) × (rest : List RevisionView) × IsSplit rs removed rest
   split [] rise are = ([], [], record { joined = refl; left = refl; dropped = λ r none. absurd (contains_none r none) })
   split (r ∷ rs) rise are =
@@ -78,8 +67,8 @@ module _ (compacted : ℕ) (ts : List Transaction) (keeps : RevisionView → Boo
   own : (r : RevisionView) → Contains all_named r → Contains (history ts) r × (name_of r ≡ name)
   own r has = let (there, passes) = kept_from (is_named name) (history ts) r has in (there, same_text (name_of r) name (sym passes))
 
-  own_rise : Rises place_cmp all_named
-  own_rise = filter_rises place_cmp (is_named name) (history ts) (places_rise ts possible)
+  own_rise : Rises stored_key_cmp all_named
+  own_rise = filter_rises stored_key_cmp (is_named name) (history ts) (stored_keys_rise ts possible)
 
   module _ (removed rest : List RevisionView) (is : IsSplit all_named removed rest) where
     is_early : (r : RevisionView) → Contains removed r → r.key.main ≤ compacted
@@ -103,7 +92,7 @@ module _ (compacted : ℕ) (ts : List Transaction) (keeps : RevisionView → Boo
     unfolding newest
     newest_removed later =
         ap (last_or None)
-        (filter_swap (is_named name) (is_until compacted) (history ts)
+        (filters_swap (is_named name) (is_until compacted) (history ts)
         ∙ ap (filter (is_until compacted)) is.joined
         ∙ filter-append (is_until compacted) removed rest
         ∙ ap (λ (l : List RevisionView). l ++ filter (is_until compacted) rest) until_removed
@@ -123,7 +112,7 @@ module _ (compacted : ℕ) (ts : List Transaction) (keeps : RevisionView → Boo
     cut_is : IsCut removed rest
     cut_is = record {
       joined = is.joined;
-      is_rest = filter_swap (is_named name) keeps (history ts) ∙ is.left;
+      is_rest = filters_swap (is_named name) keeps (history ts) ∙ is.left;
       early = is_early;
       gone = λ later. none_left (held_of (last_or None removed)) later refl;
     }

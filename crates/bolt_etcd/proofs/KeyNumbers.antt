@@ -3,16 +3,11 @@ use Rattle.std.proofs.Common.{◌≡◌, ◌∙◌, ◌<◌, ◌≤◌, ◌+◌,
 use Rattle.std.proofs.Math.Nat.{mod-eq_of_lt, mod-lt, mul-le-mul_right, one-le-pow}
 use Rattle.std.proofs.lemmas.Bool.{cases_order, cond-false, cond-true, le-ltb, lt-ltb, ne_eqb}
 use Rattle.std.proofs.lemmas.Cmp.{nat_cmp_total, tied_itself}
-use Rattle.std.specs.Cmp.Lexicographic.{slice_cmp}
-use Rattle.std.specs.Int.{byte_at, bytes_high_first}
-use Rattle.std.specs.Ordering.{bool_cmp, ordering_then}
-use Rattle.std.specs.declared.cmp.Ordering.{Ordering}
+use Rattle.std.specs.{Cmp.Lexicographic.slice_cmp, Int.byte_at, Int.bytes_high_first, Ordering.bool_cmp, Ordering.ordering_then, declared.cmp.Ordering.Ordering}
 use Rattle.std.specs.declared.cmp.Ordering.TheVariants.{Equal, Greater, Less}
-use Rattle.byteorder.specs.Endian.{big_bytes}
-use Rattle.byteorder.specs.Numbers.{big_from-bytes, big_from-cons}
+use Rattle.byteorder.specs.{Endian.big_bytes, Numbers.big_from-bytes, Numbers.big_from-cons}
 use Rattle.bolt_check.specs.Keys.{key_cmp}
-use Rattle.bolt_etcd.specs.RevisionKeys.{IsSpelled, numbers_cmp, spelling}
-use Rattle.bolt_etcd.specs.declared.revision_key.RevisionKey.{RevisionKey}
+use Rattle.bolt_etcd.specs.{RevisionKeys.IsSpelled, RevisionKeys.numbers_cmp, RevisionKeys.spelling, declared.revision_key.RevisionKey.RevisionKey}
 
 pub less : (a b : ℕ) → a < b → nat_cmp a b ≡ Less
 less a b lt = cond-true (nat_lt a b) _ _ (lt-ltb a b lt)

@@ -2,13 +2,10 @@
 use Rattle.std.proofs.Common.{◌≡◌, ◌∙◌, ◌<◌, ◌≤◌, ◌^◌, ◌+◌, ℕ, Bool, true, false, List, [], ◌∷◌, ◌++◌, Some, None, drop, take, length, slice_index, nat_lt, lit<, refl, sym, ap, subst, arith, inl, inr, ◌==◌, ◌&&◌, if◌then◌else◌}
 use Rattle.std.proofs.lemmas.Bool.{and_from, and_parts, cases_lt, cond-true, eq-eqb, eqb-true, lt-ltb, ltb-true}
 use Rattle.std.proofs.lemmas.List.{drop-drop, drop_all, drop_at, drop_more, get_or-drop, get_or-take, get_or_at, get_or_past, length-append, length-drop, length-take-le, take-append-drop}
-use Rattle.std.proofs.lemmas.Nat.{be_bytes_8}
-use Rattle.std.proofs.lemmas.Option.{cond_some}
-use Rattle.byteorder.specs.Endian.{big_bytes, big_number}
-use Rattle.byteorder.specs.Numbers.{big_from-take, big_number-reads_back, length-bytes_high_first}
+use Rattle.std.proofs.{lemmas.Nat.be_bytes_8, lemmas.Option.cond_some}
+use Rattle.byteorder.specs.{Endian.big_bytes, Endian.big_number, Numbers.big_from-take, Numbers.big_number-reads_back, Numbers.length-bytes_high_first}
 use Rattle.bolt_format.specs.Bytes.{IsBytes}
-use Rattle.bolt_etcd.specs.RevisionKeys.{IsSpelled, numbers, revision_key, spelling}
-use Rattle.bolt_etcd.specs.declared.revision_key.RevisionKey.{RevisionKey}
+use Rattle.bolt_etcd.specs.{RevisionKeys.IsSpelled, RevisionKeys.numbers, RevisionKeys.revision_key, RevisionKeys.spelling, declared.revision_key.RevisionKey.RevisionKey}
 
 -- ---- what is spelled is read
 

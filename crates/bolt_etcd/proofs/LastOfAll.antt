@@ -1,7 +1,7 @@
 -- The last of those that pass a test, as a loop comes to it.
 use Rattle.std.proofs.Common.{◌≡◌, ◌∙◌, Bool, true, false, List, ◌∷◌, filter, Option, Some, sym, ap}
 use Rattle.std.specs.List.{last_or}
-use Rattle.bolt_etcd.proofs.Filtered.{drops, keeps}
+use Rattle.bolt_tree.proofs.Exports.{drops, keeps}
 
 module _ {A : Type 0} (p : A → Bool) (found total : Option A) (old new : List A) (x : A) (first : old ≡ x ∷ new) (before : last_or found (filter p old) ≡ total) where
   pub takes_last : p x ≡ true → last_or (Some x) (filter p new) ≡ total

@@ -1,19 +1,13 @@
 -- Which leases a bucket has: a look-up of a lease says whether it has it.
 use Rattle.std.proofs.Common.{◌≡◌, ◌∙◌, ◌&&◌, ◌||◌, ◌==◌, inl, inr, ℕ, Bool, true, false, List, [], ◌∷◌, not, Option, Some, None, refl, sym, ap}
-use Rattle.std.proofs.Math.Logic.{∥∥₁_elim}
-use Rattle.std.proofs.Props.{props}
-use Rattle.std.proofs.lemmas.Bool.{and_from, and_parts, eq-eqb, ne_eqb, not-true}
-use Rattle.std.specs.Cmp.Lexicographic.{same_text}
-use Rattle.std.specs.Int.{to_be_bytes, w64}
-use Rattle.std.specs.List.{Contains, list_any}
-use Rattle.std.specs.Option.{is_some, option_map}
-use Rattle.std.specs.Str.{bytes_eq}
+use Rattle.std.proofs.{Math.Logic.∥∥₁_elim, Props.props, lemmas.Bool.and_from, lemmas.Bool.and_parts, lemmas.Bool.eq-eqb, lemmas.Bool.ne_eqb, lemmas.Bool.not-true}
+use Rattle.std.specs.{Cmp.Lexicographic.same_text, Int.to_be_bytes, Int.w64, List.Contains, List.list_any, Option.is_some, Option.option_map, Str.bytes_eq}
 use Rattle.bolt_check.specs.declared.checked.Checked.{Checked}
 use Rattle.bolt_format.specs.Elements.{LeafElement}
-use Rattle.bolt_tree.proofs.Lists.{contains_cases, contains_head, contains_none, contains_tail}
-use Rattle.bolt_tree.specs.{BucketViews.entries_of, Entries.AreEntries, Entries.Start, Lookups.IsValueAt}
-use Rattle.bolt_tree.specs.declared.bucket.Bucket.{Bucket}
+use Rattle.bolt_tree.proofs.Exports.{contains_cases, contains_head, contains_none, contains_tail}
+use Rattle.bolt_tree.specs.{BucketViews.entries_of, Entries.AreEntries, Entries.Start, Lookups.IsValueAt, declared.bucket.Bucket.Bucket}
 use Rattle.bolt_etcd.specs.{FaultsLeft.ForGranted, NameFaults.has_lease, NameFaults.is_lease}
+use Rattle.bolt_etcd.proofs.StoreLemmas.{itself}
 
 -- ---- whether one of a list passes a test
 
@@ -44,10 +38,6 @@ module _ (checked : Checked) (start : Start) (entries : List LeafElement) (lease
   value_found : (value : List ℕ) → IsValueAt (entries_of checked) start key (Some value) → has_lease entries lease ≡ true
   value_found value found = ∥∥₁_elim found (hlevel props) (λ (e, there, under, flat, is).
       any_from (is_lease lease) entries e ((are.exact e).1 there) (and_from _ _ (rw under (itself key)) (ap not flat)))
-    where
-      itself : (xs : List ℕ) → bytes_eq xs xs ≡ true
-      itself [] = refl
-      itself (x ∷ xs) = and_from _ _ (eq-eqb x x refl) (itself xs)
 
   none_found : (b : Bool) → has_lease entries lease ≡ b → IsValueAt (entries_of checked) start key None → b ≡ false
   none_found false is none = refl

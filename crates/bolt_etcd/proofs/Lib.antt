@@ -1,51 +1,49 @@
-pub mod ByName
-pub mod CompactionsAdded
-pub mod Currents
-pub mod Decisions
-pub mod EtcdCompacts
-pub mod FaultsOfNames
-pub mod Fields
-pub mod Filtered
-pub mod HistoryNumbers
-pub mod HistorySteps
-pub mod HistoryUntil
-pub mod KeptOfNames
-pub mod KeyNumbers
-pub mod Keys
-pub mod LastOfAll
-pub mod LastOnes
-pub mod Leases
-pub mod ListedTexts
-pub mod MappedLists
-pub mod MarkLaws
-pub mod Messages
-pub mod MissingExact
-pub mod NameHistories
-pub mod NameOrders
-pub mod NewestOfNames
-pub mod NoFaults
-pub mod NothingFound
-pub mod NumberSteps
-pub mod OtherCounts
-pub mod OtherSteps
-pub mod PassSteps
-pub mod Passing
-pub mod RevisionLoops
-pub mod RevisionSteps
-pub mod RevisionsExact
-pub mod Rising
-pub mod SnapshotLemmas
-pub mod SortedExists
-pub mod SortedOnce
-pub mod StatesKept
-pub mod StoreExists
-pub mod StoreLemmas
-pub mod StoredRevisions
-pub mod SumOrders
-pub mod TakenAway
-pub mod TakenNames
+mod ByName
+mod CompactionsAdded
+mod Currents
+mod Decisions
+mod EtcdCompacts
+pub mod Exports
+mod FaultsOfNames
+mod Fields
+mod HistoryNumbers
+mod HistorySteps
+mod HistoryUntil
+mod KeptOfNames
+mod KeyNumbers
+mod Keys
+mod LastOfAll
+mod LastOnes
+mod Leases
+mod ListedTexts
+mod MarkLaws
+mod Messages
+mod MissingExact
+mod NameHistories
+mod NameOrders
+mod NewestOfNames
+mod NoFaults
+mod NothingFound
+mod NumberSteps
+mod OtherCounts
+mod OtherSteps
+mod PassSteps
+mod Passing
+mod RevisionLoops
+mod RevisionSteps
+mod RevisionsExact
+mod SnapshotLemmas
+mod SortedExists
+mod SortedOnce
+mod StatesKept
+mod StoreExists
+mod StoreLemmas
+mod StoredRevisions
+mod SumOrders
+mod TakenAway
+mod TakenNames
 mod TrailingAccounts
 mod TrailingBytes
 mod TrailingMetas
-pub mod Varints
-pub mod WholeNames
+mod Varints
+mod WholeNames

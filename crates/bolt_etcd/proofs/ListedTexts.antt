@@ -1,15 +1,14 @@
 -- Lines are written, and they are counted.
 use Rattle.std.proofs.Common.{◌≡◌, ◌∙◌, ◌<◌, ◌+◌, ◌++◌, ◌^◌, ℕ, List, [], ◌∷◌, append-nil, drop, flat_map, get_or, length, length-append, map, refl, sym, ap, arith}
-use Rattle.std.proofs.lemmas.List.{drop_more}
-use Rattle.std.proofs.lemmas.List.Folds.{concat-append}
+use Rattle.std.proofs.{lemmas.List.drop_more, lemmas.List.Folds.concat-append}
 use Rattle.std.specs.{List.concat, Result.IsErrAnd}
 use Rattle.std.specs.Prelude.{IsErr, Result}
 use Rattle.bolt_check.specs.Counts.{counted}
-use Rattle.bolt_format.proofs.{WroteFronts.WroteFront, WroteFronts.front_more, WroteFronts.front_none, WroteFronts.front_whole, WroteLemmas.Wrote-same}
+use Rattle.bolt_format.proofs.Exports.{WroteFront, front_more, front_none, front_whole, Wrote-same}
 use Rattle.bolt_format.specs.{Endings.broken, Endings.ending, Endings.whole, Wrote.Wrote, declared.sink.Sink.Ghosts, declared.sink.SinkFault.SinkFault}
-use Rattle.bolt_text.proofs.ReportLemmas.{Wrote-fault, front_broken}
+use Rattle.bolt_text.proofs.Exports.{Wrote-fault, front_broken}
 use Rattle.bolt_text.specs.{ReportEndings.fault_ending, ReportEndings.report_ending, declared.report_fault.ReportFault.ReportFault}
-use Rattle.bolt_tree.proofs.PagerLemmas.{counted_more}
+use Rattle.bolt_tree.proofs.Exports.{counted_more}
 use Rattle.bolt_etcd.specs.{ShownRevisions.shown_revision, declared.revision.Revision.Revision}
 
 -- of all lines, those that are left are still to be written, and the others were counted

@@ -2,8 +2,7 @@
 use Rattle.std.proofs.Common.{◌≡◌, ◌∙◌, ℕ, Bool, true, List, [], ◌∷◌, ◌==◌, length, not, Option, Some, None, refl, ap}
 use Rattle.std.proofs.lemmas.Bool.{and_parts, cond-true, eqb-true, not-true}
 use Rattle.bolt_etcd.specs.{Numbered.numbered_in, Others.other_at, Others.other_by, Records.empty, Records.record_of, RevisionKeys.revision_key, RevisionMarks.is_mark}
-use Rattle.bolt_etcd.specs.{Revisions.RevisionView, Revisions.record_content, Revisions.record_under, Revisions.revision_in, Wire.◌>>=◌}
-use Rattle.bolt_etcd.specs.declared.revision_key.RevisionKey.{RevisionKey}
+use Rattle.bolt_etcd.specs.{Revisions.RevisionView, Revisions.record_content, Revisions.record_under, Revisions.revision_in, Wire.◌>>=◌, declared.revision_key.RevisionKey.RevisionKey}
 use Rattle.bolt_etcd.proofs.OtherCounts.{view}
 
 no_bytes : (value : List ℕ) → length value ≡ 0 → value ≡ []
@@ -30,9 +29,9 @@ module _ (key value : List ℕ) (k : RevisionKey) (read : revision_key key ≡ S
   mark_is_no_other = ap (λ (o : Option RevisionKey). other_at key o (record_of value)) read ∙ ap (other_at key (Some k)) is_empty
 
   abbrev without_fields : Bool → Option RevisionView
-  without_fields deleted = Some (record { place = key; key = k; content = record_content deleted empty })
+  without_fields deleted = Some (record { stored_key = key; key = k; content = record_content deleted empty })
 
-  pub mark_has_number : numbered_in key value ≡ Some (record { place = key; key = k; content = empty })
+  pub mark_has_number : numbered_in key value ≡ Some (record { stored_key = key; key = k; content = empty })
   mark_has_number =
       ap (λ (o : Option RevisionKey). o >>= λ one. view key one (record_of value)) read
       ∙ ap (view key k) is_empty

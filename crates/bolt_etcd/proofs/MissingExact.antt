@@ -1,14 +1,12 @@
 -- The missing numbers tell exactly the transactions that are missing.
 use Rattle.std.proofs.Common.{◌≡◌, ◌∙◌, ◌<◌, ◌≤◌, ◌+◌, ◌-◌, ◌⊎◌, ◌↔◌, inl, inr, ℕ, Bool, true, false, List, [], ◌∷◌, ◌++◌, cond, filter, map, max, nat_lt, ◌==◌, Some, None, refl, sym, ap, subst, arith}
 use Rattle.std.proofs.lemmas.Bool.{cases_lt, cases_order, eqb-true, ltb-false, ltb-true}
-use Rattle.std.specs.List.{Contains}
-use Rattle.std.specs.Option.{option_to_list}
-use Rattle.std.specs.declared.cmp.Ordering.TheVariants.{Less}
-use Rattle.bolt_tree.proofs.Lists.{contains_cases, contains_head, contains_none, contains_tail}
+use Rattle.std.specs.{List.Contains, Option.option_to_list, declared.cmp.Ordering.TheVariants.Less}
+use Rattle.bolt_tree.proofs.Exports.{contains_cases, contains_head, contains_none, contains_tail}
 use Rattle.bolt_tree.specs.Order.{Rises}
 use Rattle.bolt_etcd.specs.{Revisions.RevisionView, RevisionKeys.numbers_cmp, Told.IsMissing, Told.IsTold, Told.number_cmp}
 use Rattle.bolt_etcd.specs.MissingNumbers.{is_of_later, keys_above, missing_after, missing_before, missing_numbers, revisions_between, transactions_between}
-use Rattle.bolt_etcd.specs.declared.{missing.Missing.Missing, revision_key.RevisionKey.RevisionKey}
+use Rattle.bolt_etcd.specs.{declared.missing.Missing.Missing, declared.revision_key.RevisionKey.RevisionKey}
 use Rattle.bolt_etcd.specs.declared.missing.Missing.TheVariants.{Revisions, Transactions}
 use Rattle.bolt_etcd.proofs.KeyNumbers.{greater}
 

@@ -1,13 +1,9 @@
 -- The revisions of one name in a history: each follows the one before it, and the last one is what the name holds.
 use Rattle.std.proofs.Common.{◌||◌, ◌≡◌, ◌∙◌, ◌+◌, ℕ, Bool, true, false, List, [], ◌∷◌, cond, filter, Option, Some, None, refl, sym, ap, subst}
-use Rattle.std.proofs.lemmas.Bool.{and_from, cond-false, cond-true, eq-eqb, or_left}
-use Rattle.std.specs.List.{last_or}
-use Rattle.std.proofs.lemmas.Option.{same_Some}
-use Rattle.std.specs.Option.{is_some}
-use Rattle.std.specs.Cmp.Lexicographic.{same_text}
+use Rattle.std.proofs.{lemmas.Bool.and_from, lemmas.Bool.cond-false, lemmas.Bool.cond-true, lemmas.Bool.eq-eqb, lemmas.Bool.or_left, lemmas.Option.same_Some}
+use Rattle.std.specs.{List.last_or, Option.is_some, Cmp.Lexicographic.same_text}
 use Rattle.bolt_check.specs.Keys.{Key}
-use Rattle.bolt_etcd.specs.{Follows.creates, Follows.follows, Follows.is_next_of, Newest.is_named, Newest.newest, Revisions.RevisionView}
-use Rattle.bolt_etcd.specs.{Revisions.name_of}
+use Rattle.bolt_etcd.specs.{Follows.creates, Follows.follows, Follows.is_next_of, Newest.is_named, Newest.newest, Revisions.RevisionView, Revisions.name_of}
 use Rattle.bolt_etcd.specs.Histories.{Delete, Put, State, after, after_all, held, nothing, revision_by}
 use Rattle.bolt_etcd.proofs.HistorySteps.{Goes, IsWritten}
 

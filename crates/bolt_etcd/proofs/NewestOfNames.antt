@@ -1,23 +1,16 @@
 -- Of a list that rises by keys, the last of each name is the first of its name in the list sorted by names, the later keys first.
 use Rattle.std.proofs.Common.{◌≡◌, ◌∙◌, ◌⊎◌, ◌+◌, inl, inr, ℕ, suc, Bool, true, false, List, [], ◌∷◌, cond, filter, Option, Some, None, refl, slice_index_or, sym, ap, subst, arith}
 use Rattle.std.proofs.lemmas.Cmp.{back_total, nat_list_cmp_total, nat_list_eq_equiv, on_equiv, on_total, then_total, tied_itself}
-use Rattle.std.proofs.lemmas.List.Kept.{Any-dedup, Contains-from_dedup, IsStrictlySortedBy-dedup}
-use Rattle.std.proofs.lemmas.List.MinMax.{ranks_by}
-use Rattle.std.proofs.lemmas.List.Sorted.{Contains-permutation, IsPermutation-sym, sorted_far}
-use Rattle.std.proofs.lemmas.Map.Text.{is_eq-slice_cmp}
-use Rattle.std.proofs.lemmas.Option.{same_Some}
-use Rattle.std.specs.Cmp.{IsEquivalence, IsStrictWeakOrder, IsTotalOrder}
-use Rattle.std.specs.List.{AllByRecursion, Contains, dedup, dedup_from, last_or}
-use Rattle.std.specs.List.Sorted.{IsPermutation, IsSorted, IsSortedBy, IsStrictlySortedBy}
-use Rattle.std.specs.Cmp.Lexicographic.{same_text}
-use Rattle.std.specs.Ordering.{eq_by_cmp, is_eq, is_lt, ordering_reverse, ordering_then}
-use Rattle.std.specs.Str.{bytes_eq}
-use Rattle.std.specs.declared.cmp.Ordering.{Ordering}
+use Rattle.std.proofs.{lemmas.List.Kept.Any-dedup, lemmas.List.Kept.Contains-from_dedup, lemmas.List.Kept.IsStrictlySortedBy-dedup, lemmas.List.MinMax.ranks_by}
+use Rattle.std.proofs.{lemmas.List.Sorted.Contains-permutation, lemmas.List.Sorted.IsPermutation-sym, lemmas.List.Sorted.sorted_far, lemmas.Map.Text.is_eq-slice_cmp, lemmas.Option.same_Some}
+use Rattle.std.specs.{Cmp.IsEquivalence, Cmp.IsStrictWeakOrder, Cmp.IsTotalOrder, List.AllByRecursion, List.Contains, List.dedup, List.dedup_from, List.last_or}
+use Rattle.std.specs.{List.Sorted.IsPermutation, List.Sorted.IsSorted, List.Sorted.IsSortedBy, List.Sorted.IsStrictlySortedBy, Cmp.Lexicographic.same_text}
+use Rattle.std.specs.{Ordering.eq_by_cmp, Ordering.is_eq, Ordering.is_lt, Ordering.ordering_reverse, Ordering.ordering_then, Str.bytes_eq, declared.cmp.Ordering.Ordering}
 use Rattle.std.specs.declared.cmp.Ordering.TheVariants.{Equal, Greater, Less}
 use Rattle.bolt_check.specs.Keys.{key_cmp}
-use Rattle.bolt_tree.proofs.{Lists.contains_cases, Lists.contains_head, Lists.contains_none, Lists.contains_tail, PathOrder.key_exact}
+use Rattle.bolt_tree.proofs.Exports.{contains_cases, contains_head, contains_none, contains_tail, key_exact, one_of}
 use Rattle.bolt_tree.specs.Order.{Rises}
-use Rattle.bolt_etcd.proofs.Rising.{one_of}
+use Rattle.bolt_check.proofs.Exports.{neither}
 
 never_none : {X : Type 0} (x : X) (xs : List X) → last_or (Some x) xs ≡ None → ⊥
 never_none x [] e = cc
@@ -31,11 +24,6 @@ first_less : (a b : Ordering) → is_lt (ordering_then a b) ≡ false → is_lt 
 first_less Less b e = e
 first_less Equal b e = refl
 first_less Greater b e = refl
-
-neither : (o : Ordering) → is_lt o ≡ false → is_lt (ordering_reverse o) ≡ false → o ≡ Equal
-neither Less up down = cc
-neither Equal up down = refl
-neither Greater up down = cc
 
 pub text_ties : (a b : List ℕ) → bytes_eq a b ≡ is_eq (key_cmp a b)
 text_ties a b = sym (is_eq-slice_cmp a b)

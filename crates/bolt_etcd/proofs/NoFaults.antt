@@ -1,13 +1,11 @@
 -- If nothing is missing of names in the order of their sums, no line is written of them.
 use Rattle.std.proofs.Common.{◌≡◌, ◌∙◌, ◌↔◌, Bool, true, false, ℕ, List, [], flat_map, map, not, Option, Some, None, refl, sym, ap, subst}
 use Rattle.std.proofs.lemmas.List.Sorted.{IsPermutation-map, IsPermutation-trans}
-use Rattle.std.specs.List.Sorted.{IsPermutation}
-use Rattle.std.specs.Option.{is_some}
-use Rattle.bolt_tree.specs.declared.bucket.Bucket.{Bucket}
-use Rattle.bolt_tree.specs.Order.{Rises}
-use Rattle.bolt_etcd.specs.{CheckLines.name_fault_lines, Current.place_cmp, FaultsLeft.ForGranted, FaultsLeft.GivesFault, NameFaults.AreByName}
-use Rattle.bolt_etcd.specs.{NameFaults.NameFaultView, NameFaults.name_faults, Revisions.RevisionView, ShownRevisions.shown_revision, StoreFaults.name_lines, SumOrder.AreBySum}
-use Rattle.bolt_etcd.specs.declared.{name_faults.NameFault.NameFault, revision.Revision.Revision}
+use Rattle.std.specs.{List.Sorted.IsPermutation, Option.is_some}
+use Rattle.bolt_tree.specs.{declared.bucket.Bucket.Bucket, Order.Rises}
+use Rattle.bolt_etcd.specs.{CheckLines.name_fault_lines, Current.stored_key_cmp, FaultsLeft.ForGranted, FaultsLeft.GivesFault, NameFaults.AreByName, NameFaults.NameFaultView, NameFaults.name_faults}
+use Rattle.bolt_etcd.specs.{Revisions.RevisionView, ShownRevisions.shown_revision, StoreFaults.name_lines, SumOrder.AreBySum, declared.name_faults.NameFault.NameFault}
+use Rattle.bolt_etcd.specs.declared.revision.Revision.{Revision}
 use Rattle.bolt_etcd.proofs.{FaultsOfNames.none_by_name, StoreLemmas.granted_map}
 
 is_true : (b : Bool) → false ≡ not b → b ≡ true
@@ -23,7 +21,7 @@ none_first old new (Some f) b is first = (
 )
 
 -- nor has a store lines of its names then
-pub none_lines : (rs : List RevisionView) (slice by_sum : List Revision) (compacted : Option ℕ) (leases : Option Bucket) (b : Bool) → Rises place_cmp rs
+pub none_lines : (rs : List RevisionView) (slice by_sum : List Revision) (compacted : Option ℕ) (leases : Option Bucket) (b : Bool) → Rises stored_key_cmp rs
     → AreBySum rs (map shown_revision by_sum) → slice ≡ by_sum → b ≡ true
     → ForGranted leases (λ granted. (b ≡ true) ↔ (name_faults compacted granted None (map shown_revision slice) ≡ []))
     → ForGranted leases (λ granted. (by_name : List RevisionView) → AreByName rs by_name → name_lines compacted granted by_name ≡ [])

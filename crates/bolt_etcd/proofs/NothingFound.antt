@@ -2,24 +2,19 @@
 use Rattle.std.proofs.Common.{◌≡◌, ◌∙◌, ◌++◌, ◌&&◌, ℕ, Bool, true, false, List, [], ◌∷◌, codes, flat_map, map, max, not, Option, Some, None}
 use Rattle.std.proofs.Common.{refl, ap}
 use Rattle.std.proofs.lemmas.Bool.{and_left, and_right, eq-eqb, ltb-true}
-use Rattle.std.specs.List.{Contains, cons_option}
-use Rattle.std.specs.Option.{is_some}
+use Rattle.std.specs.{List.Contains, List.cons_option, Option.is_some}
 use Rattle.bolt_check.specs.Keys.{Key}
 use Rattle.bolt_format.specs.Elements.{LeafElement}
-use Rattle.bolt_tree.proofs.{Filters.filter_none, Filters.filter_same, Lists.contains_head, Lists.contains_tail}
+use Rattle.bolt_tree.proofs.Exports.{filter_none, filter_same, contains_head, contains_tail, filter_both, filter_rises, kept_from}
 use Rattle.bolt_tree.specs.{Entries.entry_view, Order.Rises}
-use Rattle.bolt_etcd.specs.{CheckLines.name_fault_lines, Compactions.IsCompaction, Compactions.kept_revisions, Current.place_cmp}
-use Rattle.bolt_etcd.specs.Histories.{Delete, Put, State, Transaction, history, nothing}
-use Rattle.bolt_etcd.specs.{Misplaced.is_misplaced, Misplaced.misplaced, MissingNumbers.is_of_later, MissingNumbers.keys_above}
-use Rattle.bolt_etcd.specs.{MissingNumbers.missing_after, MissingNumbers.missing_numbers}
-use Rattle.bolt_etcd.specs.{NameFaults.name_faults, Numbered.numbered, Others.OtherView, Others.others_of, Revisions.RevisionView}
-use Rattle.bolt_etcd.specs.{Revisions.revision_of}
-use Rattle.bolt_etcd.specs.{Possible.ArePossible, StoreBuckets.StoreView, Stores.revisions, WholeStores.GrantsLeases, WholeStores.HoldsExactly}
+use Rattle.bolt_etcd.specs.{CheckLines.name_fault_lines, Compactions.IsCompaction, Compactions.kept_revisions, Current.stored_key_cmp}
+use Rattle.bolt_etcd.specs.{Histories.Delete, Histories.Put, Histories.State, Histories.Transaction, Histories.history, Histories.nothing, Misplaced.is_misplaced, Misplaced.misplaced}
+use Rattle.bolt_etcd.specs.{MissingNumbers.is_of_later, MissingNumbers.keys_above, MissingNumbers.missing_after, MissingNumbers.missing_numbers, NameFaults.name_faults, Numbered.numbered}
+use Rattle.bolt_etcd.specs.{Others.OtherView, Others.others_of, Revisions.RevisionView, Revisions.revision_of, Possible.ArePossible, StoreBuckets.StoreView, Stores.revisions}
+use Rattle.bolt_etcd.specs.WholeStores.{GrantsLeases, HoldsExactly}
 use Rattle.bolt_etcd.specs.StoreFaults.{missing_bucket_lines, bucket_names, entry_lines, key_lines, line_without, name_lines, store_granted, store_lines}
-use Rattle.bolt_etcd.proofs.{FaultsOfNames.faults_named, FaultsOfNames.none_of_any, Filtered.filter_both, Filtered.filter_rises}
-use Rattle.bolt_etcd.proofs.{Filtered.kept_from, HistoryNumbers.none_missing}
-use Rattle.bolt_etcd.proofs.{HistorySteps.IsWritten, HistorySteps.each, HistorySteps.goes, HistorySteps.places_rise, OtherCounts.is_numbered, OtherCounts.no_other}
-use Rattle.bolt_etcd.proofs.{WholeNames.no_faults}
+use Rattle.bolt_etcd.proofs.{FaultsOfNames.faults_named, FaultsOfNames.none_of_any, HistoryNumbers.none_missing}
+use Rattle.bolt_etcd.proofs.{HistorySteps.IsWritten, HistorySteps.each, HistorySteps.goes, HistorySteps.stored_keys_rise, OtherCounts.is_numbered, OtherCounts.no_other, WholeNames.no_faults}
 
 -- ---- buckets
 
@@ -77,8 +72,8 @@ module _ (compacted : ℕ) (ts : List Transaction) (keeps : RevisionView → Boo
   there : (r : RevisionView) → Contains (kept_revisions keeps ts) r → Contains (history ts) r
   there r has = (kept_from keeps (history ts) r has).0
 
-  kept_rises : Rises place_cmp (kept_revisions keeps ts)
-  kept_rises = filter_rises place_cmp keeps (history ts) (places_rise ts possible)
+  kept_rises : Rises stored_key_cmp (kept_revisions keeps ts)
+  kept_rises = filter_rises stored_key_cmp keeps (history ts) (stored_keys_rise ts possible)
 
   none_misplaced : misplaced (kept_revisions keeps ts) ≡ []
   none_misplaced =

@@ -1,17 +1,16 @@
 -- An entry is a revision or a mark, or it is something else.
 use Rattle.std.proofs.Common.{◌≡◌, ◌∙◌, ◌+◌, ℕ, suc, Bool, true, false, List, [], ◌∷◌, cond, length, not, Option, Some, None, refl, ap, arith}
-use Rattle.std.specs.List.{cons_option}
-use Rattle.std.specs.Option.{is_some, option_to_list}
+use Rattle.std.specs.{List.cons_option, Option.is_some, Option.option_to_list}
 use Rattle.bolt_check.specs.{Counts.counted, Keys.Key}
 use Rattle.bolt_format.specs.Elements.{LeafElement}
 use Rattle.bolt_tree.specs.Entries.{EntryView, entry_view}
 use Rattle.bolt_etcd.specs.{Numbered.numbered_in, Numbered.numbered_of, Others.OtherView, Others.other_at, Others.other_by, Others.other_of, Others.others_of, Records.RecordView, Records.record_of}
-use Rattle.bolt_etcd.specs.{RevisionKeys.revision_key, RevisionMarks.is_mark, Revisions.RevisionView, Revisions.record_content, Revisions.record_under, Revisions.revision_in, Revisions.revision_of}
-use Rattle.bolt_etcd.specs.{Revisions.value_of, Stores.others, Wire.◌>>=◌}
+use Rattle.bolt_etcd.specs.{RevisionKeys.revision_key, RevisionMarks.is_mark}
+use Rattle.bolt_etcd.specs.{Revisions.RevisionView, Revisions.record_content, Revisions.record_under, Revisions.revision_in, Revisions.revision_of, Revisions.value_of, Stores.others, Wire.◌>>=◌}
 use Rattle.bolt_etcd.specs.declared.revision_key.RevisionKey.{RevisionKey}
 
 at : (key : Key) (k : Option RevisionKey) (content : Option RecordView)
-    → is_some (other_at key k content) ≡ not (is_some {T = RevisionView} (k >>= λ one. content >>= λ r. Some (record { place = key; key = one; content = record_content one.deleted r })))
+    → is_some (other_at key k content) ≡ not (is_some {T = RevisionView} (k >>= λ one. content >>= λ r. Some (record { stored_key = key; key = one; content = record_content one.deleted r })))
 at key None content = refl
 at key (Some k) None = refl
 at key (Some k) (Some content) = refl
@@ -28,7 +27,7 @@ one_of_two e = by_value e.key (value_of e.item)
 
 -- what is under a revision key, if its value is this record
 abbrev pub view : Key → RevisionKey → Option RecordView → Option RevisionView
-view key k content = content >>= λ r. Some (record { place = key; key = k; content = record_content k.deleted r })
+view key k content = content >>= λ r. Some (record { stored_key = key; key = k; content = record_content k.deleted r })
 
 unless : (key : Key) (k : RevisionKey) (b : Bool) (content : Option RecordView) (r : RevisionView) → view key k (cond b None content) ≡ Some r → view key k content ≡ Some r
 unless key k true content r is = cc

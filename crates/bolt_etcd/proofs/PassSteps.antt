@@ -3,8 +3,7 @@ use Rattle.std.proofs.Common.{◌≡◌, ◌∙◌, ◌<◌, ◌≤◌, List, []
 use Rattle.std.specs.List.{cons_option, filter_map}
 use Rattle.bolt_format.specs.Elements.{LeafElement}
 use Rattle.bolt_tree.specs.Entries.{EntryView, entry_view}
-use Rattle.bolt_etcd.specs.Passes.{ShowsFirst}
-use Rattle.bolt_etcd.specs.RevisionsLeft.{ForPass, ahead_of, number_ahead, pass_checked, pass_start}
+use Rattle.bolt_etcd.specs.{Passes.ShowsFirst, RevisionsLeft.ForPass, RevisionsLeft.ahead_of, RevisionsLeft.number_ahead, RevisionsLeft.pass_checked, RevisionsLeft.pass_start}
 use Rattle.bolt_etcd.specs.declared.revisions.Revisions.{Revisions}
 use Rattle.bolt_etcd.proofs.RevisionSteps.{moved_to}
 

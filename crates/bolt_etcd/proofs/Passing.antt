@@ -1,23 +1,16 @@
 -- A pass over the entries of a bucket: each step takes the first of those ahead.
 use Rattle.std.proofs.Common.{◌≡◌, ◌∙◌, ◌<◌, ◌+◌, ℕ, List, [], ◌∷◌, cond, drop, length, Option, Some, None, refl, sym, ap, arith}
-use Rattle.std.proofs.Math.Logic.{∥∥₁_elim, ∥∥₁_prop}
-use Rattle.std.proofs.lemmas.List.{drop_all}
-use Rattle.std.proofs.lemmas.Option.{same_Some}
-use Rattle.std.specs.List.{cons_option}
-use Rattle.std.specs.Option.{is_some, option_map, option_to_list}
-use Rattle.bolt_format.proofs.ListLemmas.{drop_at}
+use Rattle.std.proofs.{Math.Logic.∥∥₁_elim, Math.Logic.∥∥₁_prop, lemmas.List.drop_all, lemmas.Option.same_Some}
+use Rattle.std.specs.{List.cons_option, Option.is_some, Option.option_map, Option.option_to_list}
+use Rattle.bolt_format.proofs.Exports.{drop_at}
 use Rattle.bolt_check.specs.{CheckedFiles.bytes_of, CheckedFiles.meta_of, Keys.Key}
 use Rattle.bolt_format.specs.Elements.{LeafElement}
-use Rattle.bolt_tree.proofs.{CursorMoves.ComesTo, CursorMoves.comes_from, Leaving.TakesFirst, Leaving.next_takes, SortedLemmas.sorted}
+use Rattle.bolt_tree.proofs.Exports.{ComesTo, comes_from, TakesFirst, next_takes, takes, tour_entries}
 use Rattle.bolt_tree.specs.{BucketViews.entries_of, Cursors.cursor_checked, Cursors.cursor_start, Entries.AreEntries, Entries.EntryView, Entries.entry_view, ShownEntries.shown_entry}
 use Rattle.bolt_tree.specs.{EntriesLeft.entries_left, FileTrees.file_entries, Places.Past, Places.Place, Places.least_from, Places.next_move, Places.place_in, Places.seek_move}
-use Rattle.bolt_tree.specs.declared.{cursor.Cursor.Cursor, entry.Entry.Entry}
+use Rattle.bolt_tree.specs.{declared.cursor.Cursor.Cursor, declared.entry.Entry.Entry}
 use Rattle.bolt_etcd.specs.{Others.OtherView, Others.other_of, Passes.ShowsFirst, Revisions.RevisionView, Revisions.revision_of, Stores.entries_from, Stores.others, Stores.revisions}
 use Rattle.bolt_etcd.proofs.OtherCounts.{no_other, one_more}
-
-pub nothing_shown : (o : Option Entry) → option_map shown_entry o ≡ None → o ≡ None
-nothing_shown None is = refl
-nothing_shown (Some entry) is = cc
 
 shows : (old new : List LeafElement) (x : Option EntryView) (o : Option LeafElement) → x ≡ option_map entry_view o → TakesFirst old new o → (x ≡ None → new ≡ []) → ShowsFirst old new x
 shows old new None None is taken none = (taken, none refl)
@@ -39,10 +32,6 @@ next_shows entries before after x (p, a) stays =
     let taken = next_takes entries before after (next_move entries (place_in entries before)).answer (p, refl) in
     shows _ _ x _ a taken (nothing_left entries before after x _ a taken stays)
 
-takes : (entries : List LeafElement) (n : ℕ) (place : Place) (o : Option LeafElement) → ComesTo entries n place o → TakesFirst (drop n entries) (entries_left entries place) o
-takes entries n place None past = drop_all n entries past
-takes entries n place (Some e) (on, at) = drop_at entries n e at ∙ ap (λ (q : Place). e ∷ entries_left entries q) (sym on)
-
 -- after `seek`
 pub seek_shows : (key : Key) (entries : List LeafElement) (after : Place) (x : Option EntryView)
     → (place_in entries after ≡ (seek_move key entries).place) × (x ≡ option_map entry_view (seek_move key entries).answer)
@@ -59,7 +48,7 @@ unfolding cursor_checked cursor_start
 are_entries cursor =
     let checked = cursor_checked cursor in
     ∥∥₁_elim cursor.resting ∥∥₁_prop (λ resting. ∥∥₁_elim resting.stack ∥∥₁_prop (λ (sound, stack).
-    ∣ sorted (bytes_of checked) (meta_of checked) sound.trees (cursor_start cursor) sound.start ∣₁))
+    ∣ tour_entries (bytes_of checked) (meta_of checked) sound.trees (cursor_start cursor) sound.start ∣₁))
 
 -- ---- revisions among those ahead
 

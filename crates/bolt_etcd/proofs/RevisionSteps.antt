@@ -1,14 +1,13 @@
 -- A pass goes over entries that aren't revisions, up to the next revision.
 use Rattle.std.proofs.Common.{◌≡◌, ◌∙◌, ◌<◌, ◌≤◌, ◌⊎◌, inl, inr, ℕ, false, true, List, length, not, Option, Some, None, refl, sym, ap, subst, arith}
-use Rattle.std.proofs.Math.Logic.{∥∥₁_elim}
-use Rattle.std.proofs.Props.{props}
+use Rattle.std.proofs.{Math.Logic.∥∥₁_elim, Props.props}
 use Rattle.std.specs.Option.{is_some, option_to_list}
 use Rattle.bolt_check.specs.{CheckedFiles.bytes_of, CheckedFiles.meta_of, Counts.counted, declared.checked.Checked.Checked}
 use Rattle.bolt_format.specs.Elements.{LeafElement}
-use Rattle.bolt_tree.proofs.PagerLemmas.{counted_more}
-use Rattle.bolt_tree.specs.{Buckets.bucket_checked, Buckets.bucket_start, Entries.EntryView, Entries.Start, EntriesLeft.ForEntries, FileTrees.file_entries, declared.bucket.Bucket.Bucket}
+use Rattle.bolt_tree.proofs.Exports.{counted_more}
+use Rattle.bolt_tree.specs.{Buckets.bucket_checked, Buckets.bucket_start, Entries.EntryView, Entries.Start, EntriesLeft.ForEntries, EntriesLeft.ForBucket, FileTrees.file_entries}
+use Rattle.bolt_tree.specs.declared.bucket.Bucket.{Bucket}
 use Rattle.bolt_etcd.specs.{Others.other_of, Passes.ShowsFirst, Revisions.RevisionView, Revisions.revision_of, Stores.others, Stores.revisions}
-use Rattle.bolt_tree.specs.EntriesLeft.{ForBucket}
 use Rattle.bolt_etcd.specs.RevisionsLeft.{CountsOthers, ForPass, GivesFirst, OpensOne, ahead_of, begins_with_other, number_ahead, pass_checked, pass_entries, pass_others, pass_start}
 use Rattle.bolt_etcd.specs.declared.revisions.Revisions.{Revisions}
 use Rattle.bolt_etcd.proofs.Passing.{are_entries, counts_none, counts_one, fewer, gives, passes}

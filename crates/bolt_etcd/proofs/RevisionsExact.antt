@@ -4,17 +4,14 @@ use Rattle.std.proofs.Common.{max, nat_lt, ◌==◌, Some, None, refl, sym, ap, 
 use Rattle.std.proofs.lemmas.Bool.{cases_lt, cases_order, eqb-false, eqb-true, lt-ltb, ltb-false, ltb-true}
 use Rattle.std.proofs.lemmas.Cmp.{nat_cmp_total, tied_itself}
 use Rattle.std.proofs.lemmas.List.Elements.{Contains-append_cases, Contains-append_left, Contains-append_right}
-use Rattle.std.specs.List.{Contains}
-use Rattle.std.specs.Option.{option_to_list}
-use Rattle.std.specs.declared.cmp.Ordering.TheVariants.{Less}
-use Rattle.bolt_tree.proofs.{Filters.kept, Lists.contains_cases, Lists.contains_head, Lists.contains_none, Lists.contains_tail}
+use Rattle.std.specs.{List.Contains, Option.option_to_list, declared.cmp.Ordering.TheVariants.Less}
+use Rattle.bolt_tree.proofs.Exports.{kept, contains_cases, contains_head, contains_none, contains_tail, filter_rises, kept_from}
 use Rattle.bolt_tree.specs.Order.{Rises}
-use Rattle.bolt_etcd.specs.{Revisions.RevisionView, Told.number_cmp, ToldRevisions.IsMissingRevision, ToldRevisions.IsToldRevision}
-use Rattle.bolt_etcd.specs.{ToldRevisions.TellsRevision}
+use Rattle.bolt_etcd.specs.{Revisions.RevisionView, Told.number_cmp, ToldRevisions.IsMissingRevision, ToldRevisions.IsToldRevision, ToldRevisions.TellsRevision}
 use Rattle.bolt_etcd.specs.MissingNumbers.{is_of_later, missing_after, missing_before, missing_numbers, revisions_between, transactions_between}
-use Rattle.bolt_etcd.specs.declared.{missing.Missing.Missing, revision_key.RevisionKey.RevisionKey}
+use Rattle.bolt_etcd.specs.{declared.missing.Missing.Missing, declared.revision_key.RevisionKey.RevisionKey}
 use Rattle.bolt_etcd.specs.declared.missing.Missing.TheVariants.{Revisions, Transactions}
-use Rattle.bolt_etcd.proofs.{Filtered.filter_rises, Filtered.kept_from, KeyNumbers.greater}
+use Rattle.bolt_etcd.proofs.KeyNumbers.{greater}
 
 module _ (t s : ℕ) where
   -- ---- what one gap tells

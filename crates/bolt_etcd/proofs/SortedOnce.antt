@@ -1,20 +1,15 @@
 -- A list whose elements an order tells apart has one sorted order.
 use Rattle.std.proofs.Common.{◌≡◌, ◌∙◌, ℕ, false, List, [], ◌∷◌, refl, ap, subst}
-use Rattle.std.proofs.lemmas.Bool.{cond-false}
-use Rattle.std.proofs.lemmas.Cmp.{nat_list_cmp_total, on_total, then_total}
-use Rattle.std.proofs.lemmas.List.Kept.{IsStrictlySortedBy-dedup}
-use Rattle.std.proofs.lemmas.List.Sorted.{Contains-permutation, IsPermutation-sym}
-use Rattle.std.proofs.lemmas.Map.Keys.{IsDistinct-IsPermutation}
-use Rattle.std.specs.Cmp.{IsTotalOrder}
-use Rattle.std.specs.List.{AllByRecursion, Contains, IsDistinct, dedup, dedup_from}
+use Rattle.std.proofs.{lemmas.Bool.cond-false, lemmas.Cmp.nat_list_cmp_total, lemmas.Cmp.on_total, lemmas.Cmp.then_total, lemmas.List.Kept.IsStrictlySortedBy-dedup}
+use Rattle.std.proofs.{lemmas.List.Sorted.Contains-permutation, lemmas.List.Sorted.IsPermutation-sym, lemmas.Map.Keys.IsDistinct-IsPermutation}
+use Rattle.std.specs.{Cmp.IsTotalOrder, List.AllByRecursion, List.Contains, List.IsDistinct, List.dedup, List.dedup_from}
 use Rattle.std.specs.List.Sorted.{IsPermutation, IsSorted, IsSortedBy, IsStrictlySortedBy}
-use Rattle.std.specs.Ordering.{eq_by_cmp, is_eq, is_lt, ordering_reverse, ordering_then}
-use Rattle.std.specs.declared.cmp.Ordering.{Ordering}
+use Rattle.std.specs.{Ordering.eq_by_cmp, Ordering.is_eq, Ordering.is_lt, Ordering.ordering_reverse, Ordering.ordering_then, declared.cmp.Ordering.Ordering}
 use Rattle.std.specs.declared.cmp.Ordering.TheVariants.{Equal, Greater, Less}
-use Rattle.bolt_tree.proofs.Lists.{contains_head, contains_tail, rises_once}
+use Rattle.bolt_tree.proofs.Exports.{contains_head, contains_tail, rises_once, Climbs, climbs_sorted}
 use Rattle.bolt_tree.specs.Order.{Rises}
-use Rattle.bolt_etcd.specs.{Current.AreCurrent, Current.name_cmp, Current.place_cmp, NameFaults.AreByName, NameFaults.by_name_cmp, Revisions.RevisionView, Revisions.name_of}
-use Rattle.bolt_etcd.proofs.{MappedLists.Climbs, MappedLists.climbs_sorted, NewestOfNames.all_at}
+use Rattle.bolt_etcd.specs.{Current.AreCurrent, Current.name_cmp, Current.stored_key_cmp, NameFaults.AreByName, NameFaults.by_name_cmp, Revisions.RevisionView, Revisions.name_of}
+use Rattle.bolt_etcd.proofs.NewestOfNames.{all_at}
 
 all_from : {X : Type 0} (P : X → Type 0) (xs : List X) → ((x : X) → Contains xs x → P x) → AllByRecursion P xs
 all_from P [] each = tt
@@ -84,26 +79,26 @@ then_apart Less b less = refl
 then_apart Equal b less = ap is_eq less
 then_apart Greater b less = refl
 
--- by names in an order of them, and of one name by places
+-- by names in an order of them, and of one name by stored keys
 module _ {cmp : List ℕ → List ℕ → Ordering} (total : IsTotalOrder cmp) where
   abbrev named_cmp : RevisionView → RevisionView → Ordering
-  named_cmp a b = ordering_then (cmp (name_of a) (name_of b)) (place_cmp a b)
+  named_cmp a b = ordering_then (cmp (name_of a) (name_of b)) (stored_key_cmp a b)
 
   pub named_total : IsTotalOrder named_cmp
-  named_total = then_total (on_total name_of total) (on_total (λ (r : RevisionView). r.place) nat_list_cmp_total)
+  named_total = then_total (on_total name_of total) (on_total (λ (r : RevisionView). r.stored_key) nat_list_cmp_total)
 
   -- sorted so, none is there twice
-  pub named_rises : (rs sorted : List RevisionView) → Rises place_cmp rs → IsPermutation rs sorted → IsSortedBy (λ a b. is_lt (named_cmp a b)) sorted → Rises named_cmp sorted
+  pub named_rises : (rs sorted : List RevisionView) → Rises stored_key_cmp rs → IsPermutation rs sorted → IsSortedBy (λ a b. is_lt (named_cmp a b)) sorted → Rises named_cmp sorted
   named_rises rs sorted rises same up =
-      sorted_in named_total place_cmp rs sorted (λ x y has also less. then_apart (cmp (name_of x) (name_of y)) _ less) rises same up
+      sorted_in named_total stored_key_cmp rs sorted (λ x y has also less. then_apart (cmp (name_of x) (name_of y)) _ less) rises same up
 
 pub by_name_total : IsTotalOrder by_name_cmp
 by_name_total = named_total nat_list_cmp_total
 
 -- revisions in the order of their keys have one order by name
-pub by_name_once : (rs a b : List RevisionView) → Rises place_cmp rs → AreByName rs a → AreByName rs b → a ≡ b
+pub by_name_once : (rs a b : List RevisionView) → Rises stored_key_cmp rs → AreByName rs a → AreByName rs b → a ≡ b
 by_name_once rs a b rises is also =
-    sorted_once by_name_total rs a b (differ by_name_total place_cmp (λ x y less. then_apart (name_cmp x y) _ less) rs rises) is.same also.same is.rises also.rises
+    sorted_once by_name_total rs a b (differ by_name_total stored_key_cmp (λ x y less. then_apart (name_cmp x y) _ less) rs rises) is.same also.same is.rises also.rises
 
 -- and there is one list of the keys that there are
 pub current_once : (rs a b : List RevisionView) → AreCurrent rs a → AreCurrent rs b → a ≡ b
@@ -111,5 +106,5 @@ current_once rs a b is also =
     rises_once (on_total name_of nat_list_cmp_total) a b is.rises also.rises (λ r has. (also.exact r).1 ((is.exact r).0 has)) (λ r has. (is.exact r).1 ((also.exact r).0 has))
 
 -- sorted by name, none is there twice
-pub by_name_rises : (rs sorted : List RevisionView) → Rises place_cmp rs → AreByName rs sorted → Rises by_name_cmp sorted
+pub by_name_rises : (rs sorted : List RevisionView) → Rises stored_key_cmp rs → AreByName rs sorted → Rises by_name_cmp sorted
 by_name_rises rs sorted rises is = named_rises nat_list_cmp_total rs sorted rises is.same is.rises

@@ -1,17 +1,14 @@
 -- After a compaction the keys that there are at a later transaction are what the names held then.
 use Rattle.std.proofs.Common.{◌<◌, ◌≡◌, ◌∙◌, ◌≤◌, ◌++◌, ◌↔◌, ℕ, Bool, List, [], ◌∷◌, filter, inl, inr, Some, None, refl, sym}
 use Rattle.std.proofs.Common.{subst, ap, arith}
-use Rattle.std.proofs.lemmas.Bool.{cases_lt, cond-false}
-use Rattle.std.proofs.lemmas.List.{append-nil}
-use Rattle.std.proofs.lemmas.List.Elements.{filter-append}
+use Rattle.std.proofs.{lemmas.Bool.cases_lt, lemmas.Bool.cond-false, lemmas.List.append-nil, lemmas.List.Elements.filter-append}
 use Rattle.std.specs.List.{Contains, last_or}
 use Rattle.bolt_check.specs.Keys.{Key}
-use Rattle.bolt_tree.proofs.{Filters.filter_all, Filters.kept as passes, Lists.contains_none}
+use Rattle.bolt_tree.proofs.Exports.{filter_all, kept as passes, contains_none, filters_swap}
 use Rattle.bolt_etcd.specs.{Compactions.IsCompaction, Compactions.kept_revisions, Current.AreCurrent, Current.IsCurrent, HeldNames.AreHeld}
-use Rattle.bolt_etcd.specs.{Histories.Transaction, Histories.history, Histories.state_at}
-use Rattle.bolt_etcd.specs.{Newest.is_named, Newest.is_until, Newest.newest, Newest.until, Revisions.RevisionView, Revisions.name_of, Possible.ArePossible}
-use Rattle.bolt_etcd.proofs.{HistoryUntil.held_at, HistoryUntil.until_early, KeptOfNames.IsCut, KeptOfNames.cut, KeptOfNames.filter_swap}
-use Rattle.bolt_etcd.proofs.{NameHistories.held_of, NameHistories.held_parts, LastOnes.last_of_both}
+use Rattle.bolt_etcd.specs.{Histories.Transaction, Histories.history, Histories.state_at, Newest.is_named, Newest.is_until, Newest.newest, Newest.until, Revisions.RevisionView, Revisions.name_of}
+use Rattle.bolt_etcd.specs.Possible.{ArePossible}
+use Rattle.bolt_etcd.proofs.{HistoryUntil.held_at, HistoryUntil.until_early, KeptOfNames.IsCut, KeptOfNames.cut, NameHistories.held_of, NameHistories.held_parts, LastOnes.last_of_both}
 
 -- a revision is current exactly if it is what its name holds
 current_is_held : (rs : List RevisionView) (r : RevisionView) → IsCurrent rs r ↔ (held_of (newest (name_of r) rs) ≡ Some r)
@@ -39,13 +36,13 @@ module _ (compacted at : ℕ) (ts : List Transaction) (keeps : RevisionView → 
 
     all_at : filter (is_named name) (until at (history ts)) ≡ removed ++ filter (is_until at) rest
     all_at =
-        filter_swap (is_named name) (is_until at) (history ts)
+        filters_swap (is_named name) (is_until at) (history ts)
         ∙ ap (filter (is_until at)) is.joined
         ∙ filter-append (is_until at) removed rest
         ∙ ap (λ (l : List RevisionView). l ++ filter (is_until at) rest) until_removed
 
     kept_at : filter (is_named name) (until at (kept_revisions keeps ts)) ≡ filter (is_until at) rest
-    kept_at = filter_swap (is_named name) (is_until at) (kept_revisions keeps ts) ∙ ap (filter (is_until at)) is.is_rest
+    kept_at = filters_swap (is_named name) (is_until at) (kept_revisions keeps ts) ∙ ap (filter (is_until at)) is.is_rest
 
     held_alike : held_of (newest name (until at (kept_revisions keeps ts))) ≡ state_at at ts name
     unfolding newest

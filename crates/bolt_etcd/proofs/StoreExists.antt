@@ -1,17 +1,13 @@
 -- A root bucket is that of exactly one store.
 use Rattle.std.proofs.Common.{◌≡◌, ◌∙◌, ◌&&◌, Bool, true, ℕ, List, Option, Some, None, ap, refl, subst, sym}
 use Rattle.std.proofs.lemmas.Bool.{and_parts}
-use Rattle.std.specs.Cmp.Lexicographic.{same_text}
-use Rattle.std.specs.List.{find}
-use Rattle.std.specs.Option.{option_map}
+use Rattle.std.specs.{Cmp.Lexicographic.same_text, List.find, Option.option_map, Str.bytes_eq}
 use Rattle.std.specs.Prelude.{codes}
-use Rattle.std.specs.Str.{bytes_eq}
 use Rattle.bolt_check.specs.{Keys.Key, Sound.HasSoundTrees}
 use Rattle.bolt_format.specs.{Elements.LeafElement, declared.meta.Meta.Meta}
-use Rattle.bolt_tree.proofs.{BucketWays.starts_below, Named.entry_once, SortedLemmas.sorted, SortedLemmas.sorted_one}
-use Rattle.bolt_tree.specs.Entries.{AreEntries, IsEntry, IsStart, Start, start_of}
-use Rattle.bolt_tree.specs.{FileTrees.file_entries, Order.Rises}
-use Rattle.bolt_etcd.specs.{Current.place_cmp, StoreBuckets.HasEntriesUnder, StoreBuckets.IsStore, StoreBuckets.StoreView, StoreBuckets.revisions_in}
+use Rattle.bolt_tree.proofs.Exports.{starts_below, entry_once, tour_entries, entries_once}
+use Rattle.bolt_tree.specs.{Entries.AreEntries, Entries.IsEntry, Entries.IsStart, Entries.Start, Entries.start_of, FileTrees.file_entries, Order.Rises}
+use Rattle.bolt_etcd.specs.{Current.stored_key_cmp, StoreBuckets.HasEntriesUnder, StoreBuckets.IsStore, StoreBuckets.StoreView, StoreBuckets.revisions_in}
 use Rattle.bolt_etcd.proofs.{Currents.revisions_rise, SortedExists.by_name_exists, SortedOnce.by_name_once, StoreLemmas.Finds, StoreLemmas.finds, StoreLemmas.itself}
 
 abbrev is_bucket_under : Key → LeafElement → Bool
@@ -19,7 +15,7 @@ is_bucket_under name e = bytes_eq e.key name && e.is_bucket
 
 module _ (file : List ℕ) (meta : Meta) (root : Start) (trees : HasSoundTrees file meta) (begins : IsStart file meta root) where
   all_are : AreEntries (IsEntry file meta) root (file_entries file meta root)
-  all_are = sorted file meta trees root begins
+  all_are = tour_entries file meta trees root begins
 
   -- ---- there is one
 
@@ -37,7 +33,7 @@ module _ (file : List ℕ) (meta : Meta) (root : Start) (trees : HasSoundTrees f
   bucket_by name (Some e) (has, passes) =
       let (named, is_bucket) = and_parts (bytes_eq e.key name) e.is_bucket passes in
       let own = (all_are.exact e).0 has in
-      (e, own, same_text e.key name (sym named), is_bucket, sorted file meta trees (start_of e.value) (starts_below file meta root e begins own is_bucket))
+      (e, own, same_text e.key name (sym named), is_bucket, tour_entries file meta trees (start_of e.value) (starts_below file meta root e begins own is_bucket))
 
   store : StoreView
   store = record { bucket = bucket; by_name = (by_name_exists (revisions_in (bucket (codes "key")))).0 }
@@ -57,9 +53,9 @@ module _ (file : List ℕ) (meta : Meta) (root : Start) (trees : HasSoundTrees f
   same_bucket name (Some entries) None (e, is, same, bucket, are) also = let flat = also e is same in absurd (cc)
   same_bucket name (Some own) (Some others) (e, is, same, bucket, are) (f, there, at, kind, also) =
       let one = entry_once (IsEntry file meta) root (file_entries file meta root) all_are e f is there (same ∙ sym at) in
-      ap Some (sorted_one file meta (start_of f.value) own others (subst (λ (x : LeafElement). AreEntries (IsEntry file meta) (start_of x.value) own) one are) also)
+      ap Some (entries_once file meta (start_of f.value) own others (subst (λ (x : LeafElement). AreEntries (IsEntry file meta) (start_of x.value) own) one are) also)
 
-  keys_rise : (o : Option (List LeafElement)) → HasEntriesUnder (IsEntry file meta) root (codes "key") o → Rises place_cmp (revisions_in o)
+  keys_rise : (o : Option (List LeafElement)) → HasEntriesUnder (IsEntry file meta) root (codes "key") o → Rises stored_key_cmp (revisions_in o)
   keys_rise None has = tt
   keys_rise (Some entries) (e, is, same, bucket, are) = revisions_rise entries are.rises
 

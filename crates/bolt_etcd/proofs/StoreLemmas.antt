@@ -1,24 +1,16 @@
 -- What look-ups in the root bucket say of a store.
 use Rattle.std.proofs.Common.{◌≡◌, ◌∙◌, ◌++◌, Bool, true, false, ℕ, List, [], ◌∷◌, codes, cond, flat_map, inl, inr, not, Option, Some, None, refl, sym, ap, subst}
-use Rattle.std.proofs.Math.Logic.{∥∥₁_elim}
-use Rattle.std.proofs.Props.{props}
-use Rattle.std.proofs.lemmas.Bool.{and_from, and_parts, eq-eqb, not-true}
-use Rattle.std.specs.Cmp.Lexicographic.{same_text}
-use Rattle.std.specs.List.{Contains, concat, find}
-use Rattle.std.specs.Option.{is_some, option_map}
-use Rattle.std.specs.Str.{bytes_eq}
+use Rattle.std.proofs.{Math.Logic.∥∥₁_elim, Props.props, lemmas.Bool.and_from, lemmas.Bool.and_parts, lemmas.Bool.eq-eqb, lemmas.Bool.not-true}
+use Rattle.std.specs.{Cmp.Lexicographic.same_text, List.Contains, List.concat, List.find, Option.is_some, Option.option_map, Str.bytes_eq}
 use Rattle.std.specs.Prelude.{IfSome}
 use Rattle.bolt_check.specs.{Keys.Key, declared.checked.Checked.Checked}
 use Rattle.bolt_format.specs.Elements.{LeafElement}
-use Rattle.bolt_tree.proofs.{Lists.contains_cases, Lists.contains_head, Lists.contains_none, Lists.contains_tail, Looking.own_entries, Named.entry_once}
-use Rattle.bolt_tree.specs.{BucketViews.entries_of, Buckets.bucket_checked, Buckets.bucket_start, Entries.AreEntries, Entries.Start, Entries.start_of}
-use Rattle.bolt_tree.specs.{Lookups.IsBucketAt, Lookups.IsValueAt, declared.bucket.Bucket.Bucket}
-use Rattle.bolt_tree.specs.Order.{Rises}
-use Rattle.bolt_etcd.specs.Current.{place_cmp}
-use Rattle.bolt_etcd.specs.Compacted.{IsCompacted, compacted_by, compacted_in, is_value_under, value_under}
-use Rattle.bolt_etcd.specs.{CheckLines.name_fault_lines, FaultsLeft.ForGranted, FaultsLeft.faults_leases, FaultsLeft.faults_left, NameFaults.AreByName, NameFaults.NameFaultView, NameFaults.name_faults}
-use Rattle.bolt_etcd.specs.{Revisions.RevisionView, StoreBuckets.HasEntriesUnder, StoreBuckets.IsStore, StoreBuckets.StoreView, StoreBuckets.revisions_in, Stores.revisions}
-use Rattle.bolt_tree.specs.EntriesLeft.{ForBucket}
+use Rattle.bolt_tree.proofs.Exports.{contains_cases, contains_head, contains_none, contains_tail, own_entries, entry_once}
+use Rattle.bolt_tree.specs.{BucketViews.entries_of, Buckets.bucket_checked, Buckets.bucket_start, Entries.AreEntries, Entries.Start, Entries.start_of, Lookups.IsBucketAt, Lookups.IsValueAt}
+use Rattle.bolt_tree.specs.{declared.bucket.Bucket.Bucket, Order.Rises, EntriesLeft.ForBucket}
+use Rattle.bolt_etcd.specs.{Current.stored_key_cmp, Compacted.IsCompacted, Compacted.compacted_by, Compacted.compacted_in, Compacted.is_value_under, Compacted.value_under, CheckLines.name_fault_lines}
+use Rattle.bolt_etcd.specs.{FaultsLeft.ForGranted, FaultsLeft.faults_leases, FaultsLeft.faults_left, NameFaults.AreByName, NameFaults.NameFaultView, NameFaults.name_faults, Revisions.RevisionView}
+use Rattle.bolt_etcd.specs.{StoreBuckets.HasEntriesUnder, StoreBuckets.IsStore, StoreBuckets.StoreView, StoreBuckets.revisions_in, Stores.revisions}
 use Rattle.bolt_etcd.specs.StoreFaults.{bucket_line, missing_bucket_lines, bucket_names, entry_lines, granted_in, key_lines, line_without, name_lines, store_compacted, store_granted, store_lines}
 use Rattle.bolt_etcd.specs.declared.name_faults.NameFaults.{NameFaults}
 use Rattle.bolt_etcd.proofs.{Currents.revisions_rise, ListedTexts.concat_three, SortedOnce.by_name_once}
@@ -98,11 +90,6 @@ module _ (root : Bucket) where
   no_line name (Some inner) None has is = absurd has
   no_line name (Some inner) (Some entries) has is = refl
 
-  pub one_line : (name : Key) (o : Option Bucket) (b : Option (List LeafElement)) → Fits o b → is_some o ≡ false → line_without name b ≡ bucket_line name ∷ []
-  one_line name None None has is = refl
-  one_line name None (Some entries) has is = absurd has
-  one_line name (Some inner) b has is = cc
-
   pub fits_none : (b : Option (List LeafElement)) → Fits None b → b ≡ None
   fits_none None has = refl
   fits_none (Some entries) has = absurd has
@@ -138,7 +125,7 @@ pub same_names : (compacted : Option ℕ) (granted : ℕ → Bool) (left : List 
     → flat_map name_fault_lines left ≡ name_lines compacted granted by_name
 same_names compacted granted left all by_name is same = ap (flat_map name_fault_lines) (is ∙ ap (name_faults compacted granted None) same)
 
-pub for_names : (rs : List RevisionView) (compacted : Option ℕ) (leases : Option Bucket) (pass : NameFaults) (all : List RevisionView) (Q : List (List ℕ) → Type 0) → Rises place_cmp rs
+pub for_names : (rs : List RevisionView) (compacted : Option ℕ) (leases : Option Bucket) (pass : NameFaults) (all : List RevisionView) (Q : List (List ℕ) → Type 0) → Rises stored_key_cmp rs
     → faults_leases pass ≡ leases → ((granted : ℕ → Bool) → faults_left pass granted ≡ name_faults compacted granted None all) → AreByName rs all
     → ForGranted (faults_leases pass) (λ granted. Q (flat_map name_fault_lines (faults_left pass granted)))
     → ForGranted leases (λ granted. (by_name : List RevisionView) → AreByName rs by_name → Q (name_lines compacted granted by_name))
@@ -149,11 +136,11 @@ for_names rs compacted leases pass all Q rises from left sorted each =
 
 -- of the revisions that were found in a bucket
 pub found_names : (keys : Bucket) (rs : List RevisionView) (leases : Option Bucket) (compacted : Option ℕ) (Q : List (List ℕ) → Type 0) → ForBucket keys (λ entries. rs ≡ revisions entries)
-    → (Rises place_cmp rs → ForGranted leases (λ granted. (by_name : List RevisionView) → AreByName rs by_name → Q (name_lines compacted granted by_name)))
+    → (Rises stored_key_cmp rs → ForGranted leases (λ granted. (by_name : List RevisionView) → AreByName rs by_name → Q (name_lines compacted granted by_name)))
     → ForBucket keys (λ entries. ForGranted leases (λ granted. (by_name : List RevisionView) → AreByName (revisions entries) by_name → Q (name_lines compacted granted by_name)))
 found_names keys rs leases compacted Q found all = λ entries are.
     subst (λ (l : List RevisionView). ForGranted leases (λ granted. (by_name : List RevisionView) → AreByName l by_name → Q (name_lines compacted granted by_name))) (found entries are)
-    (all (subst (Rises place_cmp) (sym (found entries are)) (revisions_rise entries are.rises)))
+    (all (subst (Rises stored_key_cmp) (sym (found entries are)) (revisions_rise entries are.rises)))
 
 -- ---- the lines of a store that has the bucket `key`
 

@@ -1,17 +1,12 @@
 -- What a revision of the code shows is what its key and its value say.
 use Rattle.std.proofs.Common.{◌≡◌, ◌∙◌, ◌≤◌, ◌+◌, ◌++◌, ℕ, Bool, List, [], ◌∷◌, length, Option, Some, None, nat_cmp, refl, sym, ap, arith, if◌then◌else◌}
 use Rattle.std.proofs.lemmas.List.{length-append}
-use Rattle.std.specs.Option.{option_map}
-use Rattle.std.specs.Ordering.{ordering_then}
-use Rattle.std.specs.declared.cmp.Ordering.{Ordering}
+use Rattle.std.specs.{Option.option_map, Ordering.ordering_then, declared.cmp.Ordering.Ordering}
 use Rattle.std.specs.declared.cmp.Ordering.TheVariants.{Equal, Greater, Less}
-use Rattle.byteorder.specs.Endian.{big_bytes, big_number}
-use Rattle.byteorder.specs.Numbers.{big_number-reads_back, length-bytes_high_first}
+use Rattle.byteorder.specs.{Endian.big_bytes, Endian.big_number, Numbers.big_number-reads_back, Numbers.length-bytes_high_first}
 use Rattle.bolt_check.specs.Keys.{Key, key_cmp}
-use Rattle.bolt_etcd.specs.RevisionKeys.{IsSpelled, numbers_cmp, revision_key, spelling}
-use Rattle.bolt_etcd.specs.declared.revision_key.RevisionKey.{RevisionKey}
-use Rattle.bolt_etcd.specs.declared.revision.Revision.{Revision}
-use Rattle.bolt_etcd.specs.{Revisions.RevisionView, Revisions.name_of, Revisions.record_under, Revisions.revision_in, Revisions.revision_of}
+use Rattle.bolt_etcd.specs.{RevisionKeys.IsSpelled, RevisionKeys.numbers_cmp, RevisionKeys.revision_key, RevisionKeys.spelling, declared.revision_key.RevisionKey.RevisionKey}
+use Rattle.bolt_etcd.specs.{declared.revision.Revision.Revision, Revisions.RevisionView, Revisions.name_of, Revisions.record_under, Revisions.revision_in, Revisions.revision_of}
 use Rattle.bolt_etcd.specs.ShownRevisions.{entry_of, or_nothing, shown_revision}
 use Rattle.bolt_etcd.proofs.{Currents.bind_some, KeyNumbers.spellings_cmp, Keys.read_spelled}
 
@@ -33,19 +28,19 @@ has_name r = (shows r).1
 -- its key says so of it
 record Stored (r : Revision) : Type 0 where
   pub key : revision_key r.key.now ≡ Some (shown_revision r).key
-  pub place : (shown_revision r).place ≡ r.key.now
+  pub stored_key : (shown_revision r).stored_key ≡ r.key.now
 
 stored : (r : Revision) → Stored r
 stored r =
     let (k, read, later) = bind_some (revision_key r.key.now) _ (shown_revision r) (shows r).0 in
     let (content, _, made) = bind_some (record_under k r.value.now) _ (shown_revision r) later in
-    record { key = cc; place = cc }
+    record { key = cc; stored_key = cc }
 
 pub has_key : (r : Revision) → revision_key r.key.now ≡ Some (shown_revision r).key
 has_key r = (stored r).key
 
-pub has_place : (r : Revision) → (shown_revision r).place ≡ r.key.now
-has_place r = (stored r).place
+pub has_stored_key : (r : Revision) → (shown_revision r).stored_key ≡ r.key.now
+has_stored_key r = (stored r).stored_key
 
 -- ---- its key is spelled
 

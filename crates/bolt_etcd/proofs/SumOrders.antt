@@ -1,17 +1,13 @@
 -- Revisions sorted by the sums of their names, as they are shown.
 use Rattle.std.proofs.Common.{◌≡◌, ◌∙◌, ℕ, Bool, List, ap, map, nat_cmp, sym}
-use Rattle.std.proofs.lemmas.List.MinMax.{ranks_by}
-use Rattle.std.proofs.lemmas.List.Sorted.{IsPermutation-map}
-use Rattle.std.specs.Cmp.{IsStrictWeakOrder}
-use Rattle.std.specs.List.Sorted.{IsPermutation, IsSortedBy}
-use Rattle.std.specs.Ordering.{is_lt, ordering_then}
-use Rattle.std.specs.declared.cmp.Ordering.{Ordering}
+use Rattle.std.proofs.{lemmas.List.MinMax.ranks_by, lemmas.List.Sorted.IsPermutation-map}
+use Rattle.std.specs.{Cmp.IsStrictWeakOrder, List.Sorted.IsPermutation, List.Sorted.IsSortedBy, Ordering.is_lt, Ordering.ordering_then, declared.cmp.Ordering.Ordering}
 use Rattle.std.specs.declared.cmp.Ordering.TheVariants.{Equal}
 use Rattle.bolt_check.specs.Keys.{key_cmp}
 use Rattle.bolt_etcd.specs.{NameOrder.name_sum, NameOrder.sums_cmp, Revisions.RevisionView, Revisions.name_of, ShownRevisions.shown_revision}
-use Rattle.bolt_etcd.specs.SumOrder.{AreSortedBy, by_sum_cmp, newest_by_sum_cmp}
-use Rattle.bolt_etcd.specs.declared.revision.Revision.{Revision}
-use Rattle.bolt_etcd.proofs.{MappedLists.sorted_mapped, NameOrders.sums_tie, NameOrders.sums_total, NewestOfNames.newest_ranks, SortedOnce.named_total, StoredRevisions.decided}
+use Rattle.bolt_etcd.specs.{SumOrder.AreSortedBy, SumOrder.by_sum_cmp, SumOrder.newest_by_sum_cmp, declared.revision.Revision.Revision}
+use Rattle.bolt_etcd.proofs.{NameOrders.sums_tie, NameOrders.sums_total, NewestOfNames.newest_ranks, SortedOnce.named_total, StoredRevisions.decided}
+use Rattle.bolt_tree.proofs.Exports.{sorted_mapped}
 
 -- ---- sums decide, or else names
 
@@ -40,7 +36,7 @@ abbrev pub code_newest_by_sum : Revision → Revision → Bool
 code_newest_by_sum a b = is_lt (newest_by_sum_cmp (shown_revision a) (shown_revision b))
 
 pub code_newest_by_sum_ranks : IsStrictWeakOrder code_newest_by_sum
-code_newest_by_sum_ranks = newest_ranks (λ r. name_of (shown_revision r)) (λ r. (shown_revision r).place) sums_cmp sums_total sums_tie
+code_newest_by_sum_ranks = newest_ranks (λ r. name_of (shown_revision r)) (λ r. (shown_revision r).stored_key) sums_cmp sums_total sums_tie
 
 pub are_sorted : (cmp : RevisionView → RevisionView → Ordering) (old sorted : List Revision) → IsPermutation old sorted
     → IsSortedBy (λ a b. is_lt (cmp (shown_revision a) (shown_revision b))) sorted → AreSortedBy cmp (map shown_revision old) (map shown_revision sorted)

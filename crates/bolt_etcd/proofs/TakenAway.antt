@@ -1,17 +1,12 @@
 -- A revision that is taken away from a store is told as missing by its numbers.
 use Rattle.std.proofs.Common.{◌≡◌, ◌<◌, ◌++◌, ℕ, Bool, List, ◌∷◌, inl, inr, sym, subst, arith}
-use Rattle.std.proofs.lemmas.Cmp.{nat_cmp_total, tied_itself}
-use Rattle.std.proofs.lemmas.List.Elements.{Contains-append_cases, Contains-append_right}
-use Rattle.std.specs.List.{Contains}
-use Rattle.std.specs.declared.cmp.Ordering.TheVariants.{Less}
-use Rattle.bolt_tree.proofs.Lists.{contains_head}
+use Rattle.std.proofs.{lemmas.Cmp.nat_cmp_total, lemmas.Cmp.tied_itself, lemmas.List.Elements.Contains-append_cases, lemmas.List.Elements.Contains-append_right}
+use Rattle.std.specs.{List.Contains, declared.cmp.Ordering.TheVariants.Less}
+use Rattle.bolt_tree.proofs.Exports.{contains_head, filter_rises, kept_from, after_it, before_it, without_rises}
 use Rattle.bolt_tree.specs.Order.{Rises}
-use Rattle.bolt_etcd.specs.{Compactions.kept_revisions, Current.place_cmp, Histories.Transaction, Histories.history, Histories.nothing}
-use Rattle.bolt_etcd.specs.{MissingNumbers.missing_numbers, Revisions.RevisionView, Possible.ArePossible, Taken.IsTaken}
-use Rattle.bolt_etcd.specs.{Told.IsTold, ToldRevisions.IsToldRevision}
-use Rattle.bolt_etcd.proofs.{Filtered.filter_rises, Filtered.kept_from, HistorySteps.from, HistorySteps.goes, HistorySteps.history_rises}
-use Rattle.bolt_etcd.proofs.{HistorySteps.numbers_rise, HistorySteps.pair_cmp, HistorySteps.places_rise}
-use Rattle.bolt_etcd.proofs.Rising.{after_it, before_it, without_rises}
+use Rattle.bolt_etcd.specs.{Compactions.kept_revisions, Current.stored_key_cmp, Histories.Transaction, Histories.history, Histories.nothing, MissingNumbers.missing_numbers, Revisions.RevisionView}
+use Rattle.bolt_etcd.specs.{Possible.ArePossible, Taken.IsTaken, Told.IsTold, ToldRevisions.IsToldRevision}
+use Rattle.bolt_etcd.proofs.HistorySteps.{from, goes, history_rises, numbers_rise, pair_cmp, stored_keys_rise}
 use Rattle.bolt_etcd.proofs.{MissingExact.missing_told, RevisionsExact.revisions_told}
 
 apart : (a b : RevisionView) → pair_cmp a b ≡ Less → a.key.main ≡ b.key.main → a.key.sub ≡ b.key.sub → ⊥
@@ -60,7 +55,7 @@ module _ (compacted : ℕ) (ts : List Transaction) (keeps : RevisionView → Boo
         none = none;
       })
 
-  pub left_places : Rises place_cmp left
-  left_places =
-      let all = subst (Rises place_cmp) is.there (filter_rises place_cmp keeps (history ts) (places_rise ts possible)) in
-      subst (Rises place_cmp) (sym is.gone) (without_rises r place_cmp is.before is.after all)
+  pub left_by_stored_key : Rises stored_key_cmp left
+  left_by_stored_key =
+      let all = subst (Rises stored_key_cmp) is.there (filter_rises stored_key_cmp keeps (history ts) (stored_keys_rise ts possible)) in
+      subst (Rises stored_key_cmp) (sym is.gone) (without_rises r stored_key_cmp is.before is.after all)

@@ -2,21 +2,16 @@
 use Rattle.std.proofs.Common.{◌≡◌, ◌∙◌, ◌<◌, ◌+◌, ◌++◌, ◌||◌, ℕ, Bool, true, false, List, [], ◌∷◌, cond, filter, inl, inr, not, Option, Some}
 use Rattle.std.proofs.Common.{None, refl, sym, ap, subst, arith}
 use Rattle.std.proofs.lemmas.Bool.{and_from, and_parts, cond-false, cond-true, eqb-true, false_from_ne_true, lt-ltb, not-true, or_left}
-use Rattle.std.proofs.lemmas.List.Elements.{Contains-append_left, filter-append}
-use Rattle.std.proofs.lemmas.Option.{same_Some}
+use Rattle.std.proofs.{lemmas.List.Elements.Contains-append_left, lemmas.List.Elements.filter-append, lemmas.Option.same_Some}
 use Rattle.std.specs.List.{Contains, find, last_or}
-use Rattle.bolt_tree.proofs.Lists.{contains_head, contains_tail}
+use Rattle.bolt_tree.proofs.Exports.{contains_head, contains_tail, kept_from, after_it}
 use Rattle.bolt_etcd.specs.{Compactions.IsCompaction, Compactions.kept_revisions, Follows.creates, Follows.follows, Follows.is_next_of}
-use Rattle.bolt_etcd.specs.{Histories.Delete, Histories.Put, Histories.State, Histories.Transaction, Histories.history, Histories.nothing}
-use Rattle.bolt_etcd.specs.{Histories.version_after}
-use Rattle.bolt_etcd.specs.{NameFaults.AreByName, NameFaults.NameFaultView, NameFaults.fault_of, NameFaults.name_faults, Newest.is_named}
-use Rattle.bolt_etcd.specs.{Newest.newest, Newest.value_if, Revisions.RevisionView, Revisions.name_of, Possible.ArePossible, Taken.IsShownBy}
-use Rattle.bolt_etcd.specs.{Taken.IsTaken, Taken.TellsOneBefore, Told.number_cmp}
+use Rattle.bolt_etcd.specs.Histories.{Delete, Put, State, Transaction, history, nothing, version_after}
+use Rattle.bolt_etcd.specs.{NameFaults.AreByName, NameFaults.NameFaultView, NameFaults.fault_of, NameFaults.name_faults, Newest.is_named, Newest.newest, Newest.value_if}
+use Rattle.bolt_etcd.specs.{Revisions.RevisionView, Revisions.name_of, Possible.ArePossible, Taken.IsShownBy, Taken.IsTaken, Taken.TellsOneBefore, Told.number_cmp}
 use Rattle.bolt_etcd.proofs.{HistorySteps.IsWritten, HistorySteps.each, HistorySteps.goes, HistorySteps.numbers_rise, StoreLemmas.itself}
-use Rattle.bolt_etcd.proofs.{WholeNames.IsOwn, WholeNames.LaterFollow, WholeNames.kept_follow, WholeNames.own_before}
-use Rattle.bolt_etcd.proofs.{FaultsOfNames.faults_named, Filtered.kept_from, LastOnes.last_in, MissingExact.main_le, Rising.after_it}
-use Rattle.bolt_etcd.proofs.NameHistories.{follows_held, follows_is, held_of, held_parts}
-use Rattle.bolt_etcd.proofs.{TakenAway.all_rise, TakenAway.left_places}
+use Rattle.bolt_etcd.proofs.{WholeNames.IsOwn, WholeNames.LaterFollow, WholeNames.kept_follow, WholeNames.own_before, FaultsOfNames.faults_named, LastOnes.last_in, MissingExact.main_le}
+use Rattle.bolt_etcd.proofs.{NameHistories.follows_held, NameHistories.follows_is, NameHistories.held_of, NameHistories.held_parts, TakenAway.all_rise, TakenAway.left_by_stored_key}
 
 next_version : (o : Option RevisionView) → 0 < version_after o
 next_version None = omega arith
@@ -198,6 +193,6 @@ module _ (compacted : ℕ) (ts : List Transaction) (keeps : RevisionView → Boo
     fault_found by_name sorted =
         let here = fault_in (Some compacted) granted None earlier next later is_missing in
         let all =
-        faults_named (Some compacted) granted left by_name (name_of r) (left_places compacted ts keeps possible r left is) sorted
+        faults_named (Some compacted) granted left by_name (name_of r) (left_by_stored_key compacted ts keeps possible r left is) sorted
         ∙ ap (name_faults (Some compacted) granted None) own_left in
         (fault, (kept_from _ _ fault (subst (λ (l : List NameFaultView). Contains l fault) (sym all) here)).0, refl, is_missing)

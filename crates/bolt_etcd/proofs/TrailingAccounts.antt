@@ -3,8 +3,8 @@ use Rattle.std.proofs.Common.{◌≡◌, ◌≢◌, ◌∙◌, ◌==◌, ℕ, Li
 use Rattle.std.proofs.lemmas.Bool.{eq-eqb, ne_eqb}
 use Rattle.bolt_format.specs.Freelists.{free_ids_at, free_ids_of, freelist_fault, freelist_fault_of}
 use Rattle.bolt_format.specs.{Pages.page_overflow, Pages.span_fault, declared.meta.Meta.Meta, declared.meta.TheConstants.NO_FREELIST}
-use Rattle.bolt_format.proofs.FaultLemmas.{first_of-none}
-use Rattle.bolt_check.proofs.{AccountsAlong.SameFreelist, Agreeing.Agree, Agreeing.accounts_along, Agreeing.trees_along}
+use Rattle.bolt_format.proofs.Exports.{first_of-none}
+use Rattle.bolt_check.proofs.Exports.{SameFreelist, Agree, accounts_along, trees_along}
 use Rattle.bolt_check.specs.Sound.{IsSound}
 use Rattle.bolt_etcd.specs.Marks.{HasAllPages}
 use Rattle.bolt_etcd.proofs.TrailingBytes.{below_of, bytes_more, count_more, fault_more, flags_more, overflow_more, shown_more, span_more}

@@ -1,15 +1,12 @@
 -- Bytes after the last page below the high-water mark: each page is as it was.
 use Rattle.std.proofs.Common.{◌≡◌, ◌∙◌, ◌<◌, ◌≤◌, ◌+◌, ◌*◌, ◌-◌, ℕ, suc, List, ◌++◌, drop, take, length, Option, Some, None, inl, inr, arith, ap, refl, sym}
-use Rattle.std.proofs.Math.Nat.{mul-le-mul_right}
-use Rattle.std.proofs.Math.Seq.{take-append_seam}
-use Rattle.std.proofs.lemmas.Bool.{cases_lt, le-leb, le-ltb}
+use Rattle.std.proofs.{Math.Nat.mul-le-mul_right, Math.Seq.take-append_seam, lemmas.Bool.cases_lt, lemmas.Bool.le-leb, lemmas.Bool.le-ltb}
 use Rattle.std.proofs.lemmas.List.{drop-append-le, length-append, length-drop, take-append-le}
 use Rattle.std.specs.List.{slice_range}
 use Rattle.byteorder.specs.{Endian.little_number, Numbers.little_from-take}
-use Rattle.bolt_format.specs.{Bytes.number_at, Headers.count_field, Headers.flags_field}
-use Rattle.bolt_format.specs.Pages.{from_page, page_at, page_fault, page_overflow, span_bytes, span_fault}
+use Rattle.bolt_format.specs.{Bytes.number_at, Headers.count_field, Headers.flags_field, Pages.from_page, Pages.page_at, Pages.page_fault, Pages.page_overflow, Pages.span_bytes, Pages.span_fault}
 use Rattle.bolt_format.specs.declared.meta.Meta.{Meta}
-use Rattle.bolt_format.proofs.{PageFacts.span_within, PageSizes.size_bounds}
+use Rattle.bolt_format.proofs.Exports.{span_within, size_bounds}
 use Rattle.bolt_etcd.specs.Marks.{HasAllPages}
 
 -- ---- numbers

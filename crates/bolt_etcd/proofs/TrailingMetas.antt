@@ -1,12 +1,11 @@
 -- Bytes after the last page below the high-water mark: the same meta is active.
 use Rattle.std.proofs.Common.{◌≡◌, ◌∙◌, ◌+◌, ◌*◌, ◌<◌, ◌≤◌, ℕ, List, [], ◌++◌, drop, take, length, inl, inr, arith, ap, refl, sym}
-use Rattle.std.proofs.Math.Nat.{mul-le-mul_right}
-use Rattle.std.proofs.lemmas.List.{drop-append-le, length-append, length-drop, take-append-le}
+use Rattle.std.proofs.{Math.Nat.mul-le-mul_right, lemmas.List.drop-append-le, lemmas.List.length-append, lemmas.List.length-drop, lemmas.List.take-append-le}
 use Rattle.bolt_format.specs.{Metas.IsActive, Metas.IsInSlot, Metas.IsMeta, Metas.other_slot, declared.meta.Meta.Meta, declared.meta.Slot.Slot}
 use Rattle.bolt_format.specs.declared.meta.Slot.TheVariants.{Zero, One}
-use Rattle.bolt_format.proofs.{MetaPrefix.SameRecord, MetaPrefix.meta_same, MetaPrefix.same_back, PageFacts.span_passes, PageSizes.size_bounds}
+use Rattle.bolt_format.proofs.Exports.{SameRecord, meta_same, same_back, span_passes, size_bounds}
 use Rattle.bolt_check.specs.{Nodes.node_at, Sound.HasSoundTrees, Ways.root_spot}
-use Rattle.bolt_check.proofs.{TreePages.IsTreePage, TreePages.a_branch, TreePages.a_leaf, TreePages.tree_page, WayFacts.in_own_span}
+use Rattle.bolt_check.proofs.Exports.{IsTreePage, a_branch, a_leaf, tree_page, in_own_span}
 use Rattle.bolt_etcd.specs.Marks.{HasAllPages}
 use Rattle.bolt_etcd.proofs.TrailingBytes.{below_of, number_more}
 
@@ -28,10 +27,10 @@ module _ (file more : List ℕ) where
   meta_less : (at : ℕ) (meta : Meta) → at + 80 ≤ length file → IsMeta (file ++ more) at meta → IsMeta file at meta
   meta_less at meta h valid = meta_same (file ++ more) file at meta (same_back file (file ++ more) at (record_more at h)) valid
 
-  slot_more : (slot : Slot) (meta : Meta) → IsInSlot file slot meta → IsInSlot (file ++ more) slot meta
-  slot_more Zero meta valid = meta_more 0 meta valid
-  slot_more One meta (inl (zero, first, second)) = inl (zero, meta_more 0 zero first, meta_more zero.page_size meta second)
-  slot_more One meta (inr (none, lone)) = inr (
+  pub in_slot_more : (slot : Slot) (meta : Meta) → IsInSlot file slot meta → IsInSlot (file ++ more) slot meta
+  in_slot_more Zero meta valid = meta_more 0 meta valid
+  in_slot_more One meta (inl (zero, first, second)) = inl (zero, meta_more 0 zero first, meta_more zero.page_size meta second)
+  in_slot_more One meta (inr (none, lone)) = inr (
     λ zero valid. none zero (meta_less 0 zero (omega (arith, lone.valid.whole)) valid),
     record {
       at = lone.at;
@@ -59,12 +58,9 @@ module _ (file more : List ℕ) where
 
   chosen_room : (slot : Slot) (meta : Meta) → meta.page_size + 80 ≤ length file → IsActive file slot meta → IsActive (file ++ more) slot meta
   chosen_room slot meta room chosen = record {
-    valid = slot_more slot meta chosen.valid;
+    valid = in_slot_more slot meta chosen.valid;
     newest = λ other valid. chosen.newest other (other_less slot meta other room chosen.valid valid);
   }
-
-  pub in_slot_more : (slot : Slot) (meta : Meta) → IsInSlot file slot meta → IsInSlot (file ++ more) slot meta
-  in_slot_more slot meta valid = slot_more slot meta valid
 
 -- ---- a file with sound trees has three pages
 

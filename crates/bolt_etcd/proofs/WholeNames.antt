@@ -2,24 +2,17 @@
 use Rattle.std.proofs.Common.{◌≡◌, ◌∙◌, ◌<◌, ◌++◌, ◌&&◌, ◌||◌, ◌==◌, ◌≢◌, ℕ, Bool, true, false, List, [], ◌∷◌, filter, inl, inr, not, Option}
 use Rattle.std.proofs.Common.{Some, None, refl, sym, ap, subst, arith}
 use Rattle.std.proofs.lemmas.Bool.{and_left, and_right, cond-false, cond-true, eqb-false, ltb-true}
-use Rattle.std.specs.Cmp.Lexicographic.{same_text}
-use Rattle.std.specs.List.{Contains, last_or}
-use Rattle.std.specs.Str.{bytes_eq}
+use Rattle.std.specs.{Cmp.Lexicographic.same_text, List.Contains, List.last_or, Str.bytes_eq}
 use Rattle.bolt_check.specs.Keys.{Key}
-use Rattle.bolt_tree.proofs.Lists.{contains_cases, contains_head, contains_tail}
+use Rattle.bolt_tree.proofs.Exports.{contains_cases, contains_head, contains_tail, filter_rises, kept_from}
 use Rattle.bolt_tree.specs.Order.{Rises}
-use Rattle.bolt_etcd.specs.{Compactions.IsCompaction, Compactions.kept_revisions, Follows.follows, Histories.Delete, Histories.Put}
-use Rattle.bolt_etcd.specs.{Histories.State, Histories.Transaction, Histories.after_all, Histories.history, Histories.nothing}
-use Rattle.bolt_etcd.specs.{MissingNumbers.is_of_later, NameFaults.before_of, NameFaults.is_newest, NameFaults.lacks_lease}
-use Rattle.bolt_etcd.specs.{NameFaults.lacks_one_before, NameFaults.name_faults, Newest.is_named, Newest.newest, Revisions.RevisionView}
-use Rattle.bolt_etcd.specs.{Revisions.name_of}
-use Rattle.bolt_etcd.specs.{Possible.ArePossible, Told.number_cmp}
-use Rattle.bolt_etcd.proofs.{Filtered.filter_rises, Filtered.kept_from, HistorySteps.IsWritten, HistorySteps.each, HistorySteps.goes}
-use Rattle.bolt_etcd.proofs.{HistorySteps.history_rises, HistorySteps.numbers_rise}
-use Rattle.bolt_etcd.proofs.{KeptOfNames.IsCut, KeptOfNames.cut, LastOnes.last_in, LastOnes.last_of_both, LastOnes.last_some}
-use Rattle.bolt_etcd.proofs.{MissingExact.main_le, NameHistories.AllFollow}
-use Rattle.bolt_etcd.proofs.{NameHistories.all_follow, NameHistories.follows_held, NameHistories.follows_is, NameHistories.held_of}
-use Rattle.bolt_etcd.proofs.{NameHistories.newest_held}
+use Rattle.bolt_etcd.specs.{Compactions.IsCompaction, Compactions.kept_revisions, Follows.follows}
+use Rattle.bolt_etcd.specs.{Histories.Delete, Histories.Put, Histories.State, Histories.Transaction, Histories.after_all, Histories.history, Histories.nothing, MissingNumbers.is_of_later}
+use Rattle.bolt_etcd.specs.{NameFaults.before_of, NameFaults.is_newest, NameFaults.lacks_lease, NameFaults.lacks_one_before, NameFaults.name_faults, Newest.is_named, Newest.newest}
+use Rattle.bolt_etcd.specs.{Revisions.RevisionView, Revisions.name_of, Possible.ArePossible, Told.number_cmp}
+use Rattle.bolt_etcd.proofs.{HistorySteps.IsWritten, HistorySteps.each, HistorySteps.goes, HistorySteps.history_rises, HistorySteps.numbers_rise, KeptOfNames.IsCut, KeptOfNames.cut}
+use Rattle.bolt_etcd.proofs.{LastOnes.last_in, LastOnes.last_of_both, LastOnes.last_some, MissingExact.main_le}
+use Rattle.bolt_etcd.proofs.NameHistories.{AllFollow, all_follow, follows_held, follows_is, held_of, newest_held}
 
 -- ---- each later one follows the one before
 

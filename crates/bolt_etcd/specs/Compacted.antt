@@ -4,8 +4,7 @@ use Rattle.std.specs.{List.find, Option.option_map, Str.bytes_eq}
 use Rattle.bolt_format.specs.Elements.{LeafElement}
 use Rattle.bolt_check.specs.Keys.{Key}
 use Rattle.bolt_tree.specs.{Entries.Start, Lookups.IsValueAt}
-use Rattle.bolt_etcd.specs.RevisionKeys.{revision_key}
-use Rattle.bolt_etcd.specs.declared.revision_key.RevisionKey.{RevisionKey}
+use Rattle.bolt_etcd.specs.{RevisionKeys.revision_key, declared.revision_key.RevisionKey.RevisionKey}
 
 abbrev pub main_of : Option RevisionKey → ℕ
 main_of (Some k) = k.main

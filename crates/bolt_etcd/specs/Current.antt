@@ -1,8 +1,6 @@
 -- Which keys there are, and what each is: the newest revision of each name, if that isn't a deletion.
 use Rattle.std.specs.Prelude.{◌≡◌, ◌≢◌, ◌↔◌, Bool, false, List, Some, not}
-use Rattle.std.specs.List.{Contains}
-use Rattle.std.specs.declared.cmp.Ordering.{Ordering}
-use Rattle.std.specs.declared.cmp.Ordering.TheVariants.{Less}
+use Rattle.std.specs.{List.Contains, declared.cmp.Ordering.Ordering, declared.cmp.Ordering.TheVariants.Less}
 use Rattle.bolt_check.specs.Keys.{key_cmp}
 use Rattle.bolt_tree.specs.Order.{Rises}
 use Rattle.bolt_etcd.specs.{NameOrder.sums_cmp, Newest.newest, Revisions.RevisionView, Revisions.name_of}
@@ -10,8 +8,8 @@ use Rattle.bolt_etcd.specs.{NameOrder.sums_cmp, Newest.newest, Revisions.Revisio
 abbrev pub name_cmp : RevisionView → RevisionView → Ordering
 name_cmp a b = key_cmp (name_of a) (name_of b)
 
-abbrev pub place_cmp : RevisionView → RevisionView → Ordering
-place_cmp a b = key_cmp a.place b.place
+abbrev pub stored_key_cmp : RevisionView → RevisionView → Ordering
+stored_key_cmp a b = key_cmp a.stored_key b.stored_key
 
 -- r is the newest revision of its name, and its key is there
 abbrev pub IsCurrent : List RevisionView → RevisionView → Type 0
@@ -23,14 +21,14 @@ pub record AreCurrent (rs current : List RevisionView) : Type 0 where
   pub exact : (r : RevisionView) → Contains current r ↔ IsCurrent rs r
 
 -- no two of these are under one key
-abbrev pub HaveOwnPlaces : List RevisionView → Type 0
-HaveOwnPlaces rs = (a b : RevisionView) → Contains rs a → Contains rs b → a.place ≡ b.place → a ≡ b
+abbrev pub HaveOwnKeys : List RevisionView → Type 0
+HaveOwnKeys rs = (a b : RevisionView) → Contains rs a → Contains rs b → a.stored_key ≡ b.stored_key → a ≡ b
 
 -- r isn't a deletion, and none of its name is later
 pub record IsNewest (rs : List RevisionView) (r : RevisionView) : Type 0 where
   pub has : Contains rs r
   pub there : r.key.deleted ≡ false
-  pub last : (other : RevisionView) → Contains rs other → name_of other ≡ name_of r → place_cmp r other ≢ Less
+  pub last : (other : RevisionView) → Contains rs other → name_of other ≡ name_of r → stored_key_cmp r other ≢ Less
 
 -- by the sums of names, and of one sum by name
 abbrev pub name_sum_cmp : RevisionView → RevisionView → Ordering

@@ -5,7 +5,7 @@ use Rattle.bolt_etcd.specs.{Newest.newest, Newest.until, Revisions.RevisionView,
 
 abbrev pub is_same_revision : RevisionView → Option RevisionView → Bool
 is_same_revision r None = false
-is_same_revision r (Some other) = bytes_eq other.place r.place
+is_same_revision r (Some other) = bytes_eq other.stored_key r.stored_key
 
 abbrev pub etcd_keeps : (new : Bool) (compacted : ℕ) → List RevisionView → RevisionView → Bool
 etcd_keeps new compacted rs r =

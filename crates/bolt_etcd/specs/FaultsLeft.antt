@@ -1,10 +1,9 @@
 -- What a pass over the revisions of all names has ahead of it.
 use Rattle.std.specs.Prelude.{◌≡◌, ◌||◌, ◌+◌, if◌then◌else◌, ℕ, Bool, false, List, [], ◌∷◌, drop, flat_map, length, map, Option, Some, None}
 use Rattle.std.specs.Option.{option_map}
-use Rattle.bolt_tree.specs.declared.bucket.Bucket.{Bucket}
+use Rattle.bolt_tree.specs.{declared.bucket.Bucket.Bucket, EntriesLeft.ForBucket}
 use Rattle.bolt_etcd.specs.{CheckLines.name_fault_lines, NameFaults.NameFaultView, NameFaults.fault_of, NameFaults.has_lease, NameFaults.name_faults, ShownRevisions.shown_revision}
-use Rattle.bolt_tree.specs.EntriesLeft.{ForBucket}
-use Rattle.bolt_etcd.specs.declared.{name_faults.NameFault.NameFault, name_faults.NameFaults.NameFaults, revision.Revision.Revision}
+use Rattle.bolt_etcd.specs.{declared.name_faults.NameFault.NameFault, declared.name_faults.NameFaults.NameFaults, declared.revision.Revision.Revision}
 
 abbrev pub shown_name_fault : NameFault → NameFaultView
 shown_name_fault f = record { revision = shown_revision f.revision; one_before = f.one_before; lease = f.lease }

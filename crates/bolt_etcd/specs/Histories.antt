@@ -2,8 +2,7 @@
 -- and each later one the next number. Each of its writes makes a revision: they have the numbers 0, 1, 2 and so on.
 use Rattle.std.specs.Prelude.{ℕ, ◌+◌, ◌-◌, Bool, true, false, List, [], ◌∷◌, ◌++◌, take, Option, Some, None, if◌then◌else◌}
 use Rattle.bolt_check.specs.Keys.{Key}
-use Rattle.bolt_etcd.specs.{Newest.is_named, Records.RecordView, Records.empty, RevisionKeys.spelling, Revisions.RevisionView}
-use Rattle.bolt_etcd.specs.declared.revision_key.RevisionKey.{RevisionKey}
+use Rattle.bolt_etcd.specs.{Newest.is_named, Records.RecordView, Records.empty, RevisionKeys.spelling, Revisions.RevisionView, declared.revision_key.RevisionKey.RevisionKey}
 
 pub data Write : Type 0 where
   Put : (name value : List ℕ) → (lease : ℕ) → Write
@@ -57,7 +56,7 @@ deletes (Delete name) = true
 
 -- under the spelling of its key
 abbrev pub revision_under : RevisionKey → RecordView → RevisionView
-revision_under k content = record { place = spelling k; key = k; content = content }
+revision_under k content = record { stored_key = spelling k; key = k; content = content }
 
 -- the revision of a write, which is number `sub` of transaction `main`
 abbrev pub revision_by : State → (main sub : ℕ) → Write → RevisionView

@@ -2,8 +2,7 @@
 -- revisions have the numbers 0, 1, 2 and so on. Revisions are looked at in the order of their keys.
 use Rattle.std.specs.Prelude.{ℕ, ◌+◌, ◌-◌, Bool, List, [], ◌∷◌, ◌++◌, filter, map, max, nat_lt, ◌==◌, Option, Some, None, if◌then◌else◌}
 use Rattle.std.specs.Option.{option_to_list}
-use Rattle.bolt_etcd.specs.Revisions.{RevisionView}
-use Rattle.bolt_etcd.specs.declared.{missing.Missing.Missing, revision_key.RevisionKey.RevisionKey}
+use Rattle.bolt_etcd.specs.{Revisions.RevisionView, declared.missing.Missing.Missing, declared.revision_key.RevisionKey.RevisionKey}
 use Rattle.bolt_etcd.specs.declared.missing.Missing.TheVariants.{Revisions, Transactions}
 
 -- the transactions after one and before the next that is there

@@ -1,18 +1,13 @@
 -- What is missing of the names of a store. The revisions are looked at by rising name, and of one name in their order: each must follow
 -- the one before it of its name, and the lease of the newest one must be there.
 use Rattle.std.specs.Prelude.{ℕ, ◌==◌, ◌&&◌, ◌||◌, Bool, true, false, List, [], ◌∷◌, not, Option, Some, None, if◌then◌else◌}
-use Rattle.std.specs.Int.{to_be_bytes, w64}
-use Rattle.std.specs.List.{list_any}
-use Rattle.std.specs.List.Sorted.{IsPermutation, IsSortedBy}
-use Rattle.std.specs.Ordering.{is_lt, ordering_then}
-use Rattle.std.specs.Str.{bytes_eq}
-use Rattle.std.specs.declared.cmp.Ordering.{Ordering}
+use Rattle.std.specs.{Int.to_be_bytes, Int.w64, List.list_any, List.Sorted.IsPermutation, List.Sorted.IsSortedBy, Ordering.is_lt, Ordering.ordering_then, Str.bytes_eq, declared.cmp.Ordering.Ordering}
 use Rattle.bolt_format.specs.Elements.{LeafElement}
-use Rattle.bolt_etcd.specs.{Current.name_cmp, Current.place_cmp, Follows.follows, MissingNumbers.is_of_later, Newest.is_named, Revisions.RevisionView, Revisions.name_of}
+use Rattle.bolt_etcd.specs.{Current.name_cmp, Current.stored_key_cmp, Follows.follows, MissingNumbers.is_of_later, Newest.is_named, Revisions.RevisionView, Revisions.name_of}
 
 -- by name, and of one name in their order
 abbrev pub by_name_cmp : RevisionView → RevisionView → Ordering
-by_name_cmp a b = ordering_then (name_cmp a b) (place_cmp a b)
+by_name_cmp a b = ordering_then (name_cmp a b) (stored_key_cmp a b)
 
 -- these revisions, in this order
 pub record AreByName (rs sorted : List RevisionView) : Type 0 where

@@ -1,7 +1,6 @@
 -- An order of names by sums, which revisions keep, so that it mostly looks at no name.
 use Rattle.std.specs.Prelude.{◌/◌, ◌^◌, ℕ, List}
-use Rattle.std.specs.Ordering.{nat_cmp, ordering_then}
-use Rattle.std.specs.declared.cmp.Ordering.{Ordering}
+use Rattle.std.specs.{Ordering.nat_cmp, Ordering.ordering_then, declared.cmp.Ordering.Ordering}
 use Rattle.bolt_format.specs.Bytes.{fnv_of}
 use Rattle.bolt_check.specs.Keys.{key_cmp}
 

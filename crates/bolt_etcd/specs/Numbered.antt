@@ -11,7 +11,7 @@ abbrev pub numbered_in : List ℕ → List ℕ → Option RevisionView
 numbered_in key value = do
   k ← revision_key key
   r ← record_of value
-  Some (record { place = key; key = k; content = record_content k.deleted r })
+  Some (record { stored_key = key; key = k; content = record_content k.deleted r })
 
 -- the revision or the mark that an entry is, if it is one
 unfoldable pub numbered_of : EntryView → Option RevisionView

@@ -4,8 +4,7 @@ use Rattle.std.specs.List.{filter_map}
 use Rattle.bolt_check.specs.Keys.{Key}
 use Rattle.bolt_format.specs.Elements.{LeafElement}
 use Rattle.bolt_tree.specs.Entries.{EntryView, entry_view}
-use Rattle.bolt_etcd.specs.{Records.RecordView, Records.record_of, RevisionKeys.revision_key, Revisions.value_of}
-use Rattle.bolt_etcd.specs.declared.revision_key.RevisionKey.{RevisionKey}
+use Rattle.bolt_etcd.specs.{Records.RecordView, Records.record_of, RevisionKeys.revision_key, Revisions.value_of, declared.revision_key.RevisionKey.RevisionKey}
 
 pub data OtherView : Type 0 where
   Other_key : Key → OtherView

@@ -1,10 +1,8 @@
 -- Which transactions etcd can do, one after another, from an empty store on.
 use Rattle.std.specs.Prelude.{◌<◌, ◌+◌, ℕ, IsSome, List, [], ◌∷◌, length}
 use Rattle.std.specs.List.{Contains}
-use Rattle.bolt_etcd.specs.{Histories.Delete, Histories.Put, Histories.State, Histories.Transaction, Histories.Write, Histories.after}
-use Rattle.bolt_etcd.specs.{Histories.after_all}
-use Rattle.bolt_etcd.specs.{Histories.history, Histories.nothing, Histories.revision_by, Histories.written, RevisionKeys.IsSpelled}
-use Rattle.bolt_etcd.specs.{Revisions.RevisionView}
+use Rattle.bolt_etcd.specs.Histories.{Delete, Put, State, Transaction, Write, after, after_all, history, nothing, revision_by, written}
+use Rattle.bolt_etcd.specs.{RevisionKeys.IsSpelled, Revisions.RevisionView}
 
 -- a name is deleted only if it is there
 abbrev pub CanWrite : State → Write → Type 0

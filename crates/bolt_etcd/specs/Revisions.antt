@@ -1,13 +1,12 @@
 -- A revision: an entry of etcd's bucket `key` whose key is a revision key, and whose value is a record.
 use Rattle.std.specs.Prelude.{Bool, List, [], ℕ, Option, Some, None, if◌then◌else◌}
 use Rattle.bolt_check.specs.Keys.{Key}
-use Rattle.bolt_tree.specs.{Entries.Bucket, Entries.EntryView, Entries.Item, Entries.Value}
-use Rattle.bolt_etcd.specs.{Records.RecordView, Records.record_of, RevisionKeys.revision_key, RevisionMarks.is_mark, Wire.◌>>=◌}
-use Rattle.bolt_etcd.specs.declared.revision_key.RevisionKey.{RevisionKey}
+use Rattle.bolt_tree.specs.Entries.{Bucket, EntryView, Item, Value}
+use Rattle.bolt_etcd.specs.{Records.RecordView, Records.record_of, RevisionKeys.revision_key, RevisionMarks.is_mark, Wire.◌>>=◌, declared.revision_key.RevisionKey.RevisionKey}
 
 -- its key as it is stored, by which revisions are ordered, and what that says; and what the revision says
 pub record RevisionView : Type 0 where
-  pub place : Key
+  pub stored_key : Key
   pub key : RevisionKey
   pub content : RecordView
 
@@ -27,7 +26,7 @@ abbrev pub revision_in : List ℕ → List ℕ → Option RevisionView
 revision_in key value = do
   k ← revision_key key
   r ← record_under k value
-  Some (record { place = key; key = k; content = record_content k.deleted r })
+  Some (record { stored_key = key; key = k; content = record_content k.deleted r })
 
 abbrev pub value_of : Item → Option (List ℕ)
 value_of (Value value) = Some value

@@ -1,6 +1,5 @@
 -- What an entry of the code is that isn't a revision.
-use Rattle.bolt_etcd.specs.Others.{No_record, OtherView, Other_key}
-use Rattle.bolt_etcd.specs.declared.other.Other.{Other}
+use Rattle.bolt_etcd.specs.{Others.No_record, Others.OtherView, Others.Other_key, declared.other.Other.Other}
 use Rattle.bolt_etcd.specs.declared.other.Other.TheVariants as other
 
 abbrev pub shown_other : Other → OtherView

@@ -1,18 +1,17 @@
 -- What a revision of the code shows, without where its bytes lie in memory.
 use Rattle.std.specs.Prelude.{ℕ, false, List, [], Option, Some, None}
 use Rattle.bolt_check.specs.Keys.{Key}
-use Rattle.bolt_tree.specs.{Entries.Bucket, Entries.EntryView, Entries.Item, Entries.Value}
-use Rattle.bolt_etcd.specs.{Records.empty, Revisions.RevisionView, Revisions.revision_in, ShownRecords.shown_record}
-use Rattle.bolt_etcd.specs.declared.{revision.Decoded.Decoded, revision.Revision.Revision}
+use Rattle.bolt_tree.specs.Entries.{Bucket, EntryView, Item, Value}
+use Rattle.bolt_etcd.specs.{Records.empty, Revisions.RevisionView, Revisions.revision_in, ShownRecords.shown_record, declared.revision.Decoded.Decoded, declared.revision.Revision.Revision}
 
 -- under this key
 abbrev pub shown_decoded : Key → Decoded → RevisionView
-shown_decoded place d = record { place = place; key = d.key; content = shown_record d.content }
+shown_decoded stored_key d = record { stored_key = stored_key; key = d.key; content = shown_record d.content }
 
 -- of `None` anything
 abbrev pub or_nothing : Option RevisionView → RevisionView
 or_nothing (Some r) = r
-or_nothing None = record { place = []; key = record { main = 0; sub = 0; deleted = false }; content = empty }
+or_nothing None = record { stored_key = []; key = record { main = 0; sub = 0; deleted = false }; content = empty }
 
 -- the revision that its value is under its key; by its ghost field there always is one
 unfoldable pub shown_revision : Revision → RevisionView

@@ -1,13 +1,10 @@
 -- What a bucket has of revisions: those among its entries, in the order of the entries, which is that of their keys.
 use Rattle.std.specs.Prelude.{◌≡◌, ℕ, List, drop, filter, length, map}
-use Rattle.std.specs.List.{filter_map}
-use Rattle.std.specs.Option.{is_some}
+use Rattle.std.specs.{List.filter_map, Option.is_some}
 use Rattle.bolt_format.specs.Elements.{LeafElement}
 use Rattle.bolt_check.specs.{Counts.counted, Keys.Key}
-use Rattle.bolt_tree.specs.{Entries.entry_view, Places.least_from, declared.bucket.Bucket.Bucket}
-use Rattle.bolt_etcd.specs.{Others.other_of, Revisions.RevisionView, Revisions.revision_of, ShownRevisions.shown_revision}
-use Rattle.bolt_etcd.specs.declared.collected.Collected.{Collected}
-use Rattle.bolt_tree.specs.EntriesLeft.{ForBucket}
+use Rattle.bolt_tree.specs.{Entries.entry_view, Places.least_from, declared.bucket.Bucket.Bucket, EntriesLeft.ForBucket}
+use Rattle.bolt_etcd.specs.{Others.other_of, Revisions.RevisionView, Revisions.revision_of, ShownRevisions.shown_revision, declared.collected.Collected.Collected}
 
 -- the revisions among entries
 abbrev pub revisions : List LeafElement → List RevisionView

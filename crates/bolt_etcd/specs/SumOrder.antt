@@ -1,17 +1,15 @@
 -- Revisions by the sums of their names. Those of one name stand together, and it is quicker than by name.
 use Rattle.std.specs.Prelude.{List}
-use Rattle.std.specs.List.Sorted.{IsPermutation, IsSortedBy}
-use Rattle.std.specs.Ordering.{is_lt, ordering_then}
-use Rattle.std.specs.declared.cmp.Ordering.{Ordering}
-use Rattle.bolt_etcd.specs.{Current.place_cmp, NameOrder.sums_cmp, Revisions.RevisionView, Revisions.name_of}
+use Rattle.std.specs.{List.Sorted.IsPermutation, List.Sorted.IsSortedBy, Ordering.is_lt, Ordering.ordering_then, declared.cmp.Ordering.Ordering}
+use Rattle.bolt_etcd.specs.{Current.stored_key_cmp, NameOrder.sums_cmp, Revisions.RevisionView, Revisions.name_of}
 
 -- by the sums of names, and of one name in their order
 abbrev pub by_sum_cmp : RevisionView → RevisionView → Ordering
-by_sum_cmp a b = ordering_then (sums_cmp (name_of a) (name_of b)) (place_cmp a b)
+by_sum_cmp a b = ordering_then (sums_cmp (name_of a) (name_of b)) (stored_key_cmp a b)
 
 -- by the sums of names, and of one name the later ones first
 abbrev pub newest_by_sum_cmp : RevisionView → RevisionView → Ordering
-newest_by_sum_cmp a b = ordering_then (sums_cmp (name_of a) (name_of b)) (place_cmp b a)
+newest_by_sum_cmp a b = ordering_then (sums_cmp (name_of a) (name_of b)) (stored_key_cmp b a)
 
 -- these revisions, in an order
 pub record AreSortedBy (cmp : RevisionView → RevisionView → Ordering) (rs sorted : List RevisionView) : Type 0 where

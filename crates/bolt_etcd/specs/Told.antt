@@ -1,9 +1,7 @@
 -- What the missing numbers tell: exactly the transactions that aren't there, of those after a compaction and before the last one.
 use Rattle.std.specs.Prelude.{◌≢◌, ◌<◌, ◌≤◌, ◌⊎◌, ℕ, List, [], ◌∷◌, max}
-use Rattle.std.specs.List.{Contains}
-use Rattle.std.specs.declared.cmp.Ordering.{Ordering}
-use Rattle.bolt_etcd.specs.{RevisionKeys.numbers_cmp, Revisions.RevisionView}
-use Rattle.bolt_etcd.specs.declared.missing.Missing.{Missing}
+use Rattle.std.specs.{List.Contains, declared.cmp.Ordering.Ordering}
+use Rattle.bolt_etcd.specs.{RevisionKeys.numbers_cmp, Revisions.RevisionView, declared.missing.Missing.Missing}
 use Rattle.bolt_etcd.specs.declared.missing.Missing.TheVariants.{Revisions, Transactions}
 
 abbrev pub number_cmp : RevisionView → RevisionView → Ordering

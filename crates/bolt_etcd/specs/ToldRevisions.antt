@@ -1,9 +1,7 @@
 -- Which revisions of a transaction the missing numbers tell as missing.
 use Rattle.std.specs.Prelude.{◌≡◌, ◌<◌, ◌≤◌, ℕ, List}
 use Rattle.std.specs.List.{Contains}
-use Rattle.bolt_etcd.specs.Revisions.{RevisionView}
-use Rattle.bolt_etcd.specs.declared.missing.Missing.{Missing}
-use Rattle.bolt_etcd.specs.declared.missing.Missing.TheVariants.{Revisions, Transactions}
+use Rattle.bolt_etcd.specs.{Revisions.RevisionView, declared.missing.Missing.Missing, declared.missing.Missing.TheVariants.Revisions, declared.missing.Missing.TheVariants.Transactions}
 
 -- it tells revision `sub` of transaction t, as one of a transaction that is there
 abbrev pub TellsRevision : (t sub : ℕ) → Missing → Type 0

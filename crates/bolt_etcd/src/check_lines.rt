@@ -62,8 +62,8 @@ pub(crate) fn put_misplaced<S: Sink>(revision: &Revision<'_>, sink: &mut S) -> R
 
 /// Writes that a record is that of another revision.
 fn put_record<S: Sink>(decoded: &Decoded<'_>, sink: &mut S) -> Result<(), SinkFault>
-    ensures { (place : Key) → Wrote S.Sink sink.old sink.new
-        (misplaced_line (shown_decoded place decoded.now)) (ending result) }
+    ensures { (stored_key : Key) → Wrote S.Sink sink.old sink.new
+        (misplaced_line (shown_decoded stored_key decoded.now)) (ending result) }
 {
     put_pieces(
         &[
@@ -153,9 +153,9 @@ fn put_one_before<S: Sink>(
     is_missing: bool,
     sink: &mut S,
 ) -> Result<(), SinkFault>
-    ensures { (place : Key)
+    ensures { (stored_key : Key)
         → Wrote S.Sink sink.old sink.new
-        (if is_missing then one_before_line (shown_decoded place decoded.now) else [])
+        (if is_missing then one_before_line (shown_decoded stored_key decoded.now) else [])
         (ending result) }
 {
     if !is_missing {
@@ -179,9 +179,9 @@ fn put_lease<S: Sink>(
     is_missing: bool,
     sink: &mut S,
 ) -> Result<(), SinkFault>
-    ensures { (place : Key)
+    ensures { (stored_key : Key)
         → Wrote S.Sink sink.old sink.new
-        (if is_missing then lease_line (shown_decoded place decoded.now) else []) (ending result) }
+        (if is_missing then lease_line (shown_decoded stored_key decoded.now) else []) (ending result) }
 {
     if !is_missing {
         return Ok(());

@@ -82,5 +82,7 @@ fn is_until(revision: &Revision<'_>, up_to: u64) -> bool
 fn compare(a: &Revision<'_>, b: &Revision<'_>) -> Ordering
     ensures { result ≡ by_name_cmp (shown_revision a.now) (shown_revision b.now) }
 {
-    a.name().cmp(b.name()).then(a.place().cmp(b.place()))
+    a.name()
+        .cmp(b.name())
+        .then(a.stored_key().cmp(b.stored_key()))
 }

@@ -2,7 +2,7 @@
 ghost use Rattle.std.specs.Prelude.{◌≡◌, IfOk, length, map};
 ghost use Rattle.bolt_check.specs.Counts.{counted};
 ghost use Rattle.std.specs.List.Sorted.{IsPermutation, IsSorted};
-ghost use Rattle.bolt_etcd.specs.Current.{AreNewest, HaveOwnPlaces, name_cmp};
+ghost use Rattle.bolt_etcd.specs.Current.{AreNewest, HaveOwnKeys, name_cmp};
 ghost use Rattle.bolt_etcd.specs.{ShownRevisions.shown_revision, Stores.others, Stores.revisions};
 ghost use Rattle.bolt_tree.specs.EntriesLeft.{ForBucket};
 ghost use Rattle.bolt_etcd.specs.ForNames.{AreCurrentAt};
@@ -52,7 +52,7 @@ impl<'a> Current<'a> {
 /// any order, but no two under one key. Needs no memory.
 pub fn keep_newest(revisions: &mut Vec<Revision<'_>>)
     ensures { let found = map shown_revision revisions.old.items in
-        HaveOwnPlaces found → AreNewest found (map shown_revision revisions.new.items) }
+        HaveOwnKeys found → AreNewest found (map shown_revision revisions.new.items) }
 {
     sort_newest_by_sum(revisions);
     revisions.dedup_by(|older, newest| older.name() == newest.name());

@@ -4,7 +4,7 @@ ghost use Rattle.std.specs.Option.{is_some};
 ghost use Rattle.bolt_check.specs.Keys.{key_cmp};
 ghost use Rattle.bolt_format.specs.{Bytes.IsBytes, Elements.LeafElement};
 ghost use Rattle.bolt_tree.specs.{Entries.EntryView, Entries.IsEntry, Order.Rises};
-ghost use Rattle.bolt_etcd.specs.{Current.AreCurrent, Current.place_cmp, NameFaults.AreByName, NameFaults.name_faults, StoreBuckets.IsStore, StoreBuckets.StoreView};
+ghost use Rattle.bolt_etcd.specs.{Current.AreCurrent, Current.stored_key_cmp, NameFaults.AreByName, NameFaults.name_faults, StoreBuckets.IsStore, StoreBuckets.StoreView};
 ghost use Rattle.bolt_etcd.specs.{Revisions.RevisionView, Told.IsMissing, Told.IsTold};
 ghost use Rattle.bolt_etcd.specs.{EtcdCompactions.etcd_keeps, Histories.history, FewTransactions.deletion_of_a, FewTransactions.first_a, FewTransactions.first_b, FewTransactions.second_a, FewTransactions.second_b, FewTransactions.few_transactions};
 ghost use Rattle.bolt_etcd.specs.{HeldNames.AreHeld, Histories.state_at, Newest.until, Taken.IsShownBy, Taken.IsTaken, Taken.TellsOneBefore, ToldRevisions.IsMissingRevision, ToldRevisions.IsToldRevision};
@@ -57,7 +57,7 @@ pub fn a_mark_has_a_number_alone()
     ensures revision { ForMarks (λ key value k. revision_in key value ≡ None) }
     ensures other { ForMarks (λ key value k. other_by key (Some value) ≡ None) }
     ensures number { ForMarks (λ key value k. numbered_in key value
-        ≡ Some (record { place = key; key = k; content = empty })) }
+        ≡ Some (record { stored_key = key; key = k; content = empty })) }
 {}
 
 /// If revisions are in the order of their numbers, the missing numbers tell that a transaction is
@@ -71,8 +71,8 @@ pub fn missing_transactions_are_told_exactly()
 /// Revisions in the order of their keys have one order by name, and there is one list of the keys
 /// that there are.
 pub fn revisions_have_one_order_by_name()
-    ensures by_name { (rs : List RevisionView) → Rises place_cmp rs → IsOne (AreByName rs) }
-    ensures current { (rs : List RevisionView) → Rises place_cmp rs → IsOne (AreCurrent rs) }
+    ensures by_name { (rs : List RevisionView) → Rises stored_key_cmp rs → IsOne (AreByName rs) }
+    ensures current { (rs : List RevisionView) → Rises stored_key_cmp rs → IsOne (AreCurrent rs) }
 {}
 
 /// If the trees of a file are sound, each bucket is the root bucket of one store.

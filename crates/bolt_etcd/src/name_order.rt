@@ -23,7 +23,7 @@ fn by_sum(a: &Revision<'_>, b: &Revision<'_>) -> Ordering
     ensures { result ≡ by_sum_cmp (shown_revision a.now) (shown_revision b.now) }
 {
     match cmp_by_sums(a, b) {
-        Ordering::Equal => a.place().cmp(b.place()),
+        Ordering::Equal => a.stored_key().cmp(b.stored_key()),
         order => order,
     }
 }
@@ -33,7 +33,7 @@ fn newest_by_sum(a: &Revision<'_>, b: &Revision<'_>) -> Ordering
     ensures { result ≡ newest_by_sum_cmp (shown_revision a.now) (shown_revision b.now) }
 {
     match cmp_by_sums(a, b) {
-        Ordering::Equal => b.place().cmp(a.place()),
+        Ordering::Equal => b.stored_key().cmp(a.stored_key()),
         order => order,
     }
 }

@@ -108,8 +108,8 @@ impl<'a> Revision<'a> {
     }
 
     /// Its key as it is stored. Revisions are ordered by it.
-    pub fn place(&self) -> &'a [u8]
-        ensures revision { result.now ≡ (shown_revision self.now).place }
+    pub fn stored_key(&self) -> &'a [u8]
+        ensures revision { result.now ≡ (shown_revision self.now).stored_key }
         ensures entry { result.now ≡ (entry_of self.now).key }
     {
         self.key
@@ -140,7 +140,7 @@ impl<'a> Revision<'a> {
     }
 
     /// Compares two by their keys, of which the transactions mostly tell.
-    pub fn cmp_place(&self, other: &Revision<'_>) -> Ordering
+    pub fn cmp_stored_key(&self, other: &Revision<'_>) -> Ordering
         ensures { result ≡ key_cmp (entry_of self.now).key (entry_of other.now).key }
     {
         match self.main().cmp(&other.main()) {
@@ -151,7 +151,7 @@ impl<'a> Revision<'a> {
 
     /// What it says.
     pub fn decode(&self) -> Decoded<'a>
-        ensures { shown_decoded (shown_revision self.now).place result ≡ shown_revision self.now }
+        ensures { shown_decoded (shown_revision self.now).stored_key result ≡ shown_revision self.now }
     {
         Decoded::of(self.key, self.value).unwrap()
     }
@@ -212,14 +212,14 @@ impl<'a> Decoded<'a> {
     /// Whether its record says that another transaction wrote it. A deletion's doesn't say.
     #[tactic(auto, unfolding(crate::specs::Misplaced::is_misplaced))]
     pub(crate) fn is_misplaced(&self) -> bool
-        ensures { (place : Key) → result ≡ is_misplaced (shown_decoded place self.now) }
+        ensures { (stored_key : Key) → result ≡ is_misplaced (shown_decoded stored_key self.now) }
     {
         !self.key.deleted && self.content.modified != self.key.main
     }
 
     /// Whether it creates its key.
     fn creates(&self) -> bool
-        ensures { (place : Key) → result ≡ creates (shown_decoded place self.now) }
+        ensures { (stored_key : Key) → result ≡ creates (shown_decoded stored_key self.now) }
     {
         let content = &self.content;
         !self.key.deleted && content.version == 1 && content.created == self.key.main
@@ -227,8 +227,8 @@ impl<'a> Decoded<'a> {
 
     /// Whether it has the next version of the same key.
     fn is_next_of(&self, before: &Decoded<'_>) -> bool
-        ensures { (place other : Key)
-            → result ≡ is_next_of (shown_decoded other before.now) (shown_decoded place self.now) }
+        ensures { (stored_key other : Key)
+            → result ≡ is_next_of (shown_decoded other before.now) (shown_decoded stored_key self.now) }
     {
         let (content, before) = (&self.content, &before.content);
         content.version > before.version

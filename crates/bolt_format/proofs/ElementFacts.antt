@@ -5,11 +5,9 @@ use Rattle.std.proofs.lemmas.List.{get_or-drop, get_or-take, get_or_past, length
 use Rattle.std.specs.List.{Contains, slice_range}
 use Rattle.bolt_format.specs.{Bytes.IsBytes, ElementLengths.HasFitLengths, ElementLengths.IsKeyLength, ElementLengths.IsValueLength}
 use Rattle.bolt_format.specs.Elements.{IsBucketValue, LeafElement, element_at, head_root, inline_bytes, inline_elements, key_length_fault, leaf_element, leaf_end, leaf_flags, leaf_flags_fault, leaf_key_length, leaf_key_start, leaf_value_length, leaf_value_start, leaves_fault, plain_leaf_fault, table_fault, value_length_fault}
-use Rattle.bolt_format.specs.Pages.{PageView, page_at, span_bytes}
+use Rattle.bolt_format.specs.{Pages.PageView, Pages.page_at, Pages.span_bytes, declared.meta.Meta.Meta}
 use Rattle.bolt_format.specs.declared.header.Kind.TheVariants as kind
-use Rattle.bolt_format.specs.declared.meta.Meta.{Meta}
-use Rattle.bolt_format.proofs.{FaultLemmas.first_of-none, GoodPages.faults_from-none, GoodPages.guard-none, GoodPages.plain-none}
-use Rattle.bolt_format.proofs.PageFacts.{in_inline, on_leaf}
+use Rattle.bolt_format.proofs.{FaultLemmas.first_of-none, GoodPages.faults_from-none, GoodPages.guard-none, GoodPages.plain-none, PageFacts.in_inline, PageFacts.on_leaf}
 
 key_fits : (n : ℕ) → key_length_fault n ≡ None → IsKeyLength n
 key_fits n e =
@@ -65,7 +63,7 @@ take_bytes bytes n h i = elim (cases_lt i n) [
   | inr high ↦ subst (λ (x : ℕ). x < 256) (sym (get_or_past (take n bytes) i 0 (let l = length-take n bytes in omega (arith, l, high)))) (omega arith)
 ]
 
-range_bytes : (bytes : List ℕ) (a b : ℕ) → IsBytes bytes → IsBytes (slice_range bytes a b)
+pub range_bytes : (bytes : List ℕ) (a b : ℕ) → IsBytes bytes → IsBytes (slice_range bytes a b)
 range_bytes bytes a b h = take_bytes (drop a bytes) (b - a) (drop_bytes bytes a h)
 
 -- an entry's value has bytes of the file

@@ -1,12 +1,10 @@
 -- Headers, and the heads of buckets' values, that were written are read back.
 use Rattle.std.proofs.Common.{◌≡◌, ◌∙◌, ℕ, ◌+◌, ◌^◌, ◌<◌, ◌≤◌, ◌==◌, nat_lt, Bool, true, false, List, [], ◌++◌, length, drop, None, Some, refl, sym, ap, arith, append_assoc, append-nil}
-use Rattle.std.proofs.lemmas.Bool.{le-ltb, ne_eqb}
-use Rattle.std.proofs.lemmas.List.{length-append}
+use Rattle.std.proofs.{lemmas.Bool.le-ltb, lemmas.Bool.ne_eqb, lemmas.List.length-append}
 use Rattle.bolt_format.specs.Elements.{branch_child, branch_key_length, branch_key_start, element_at, head_fault, head_root, leaf_flags, leaf_key_length, leaf_key_start, leaf_value_length, value_fault}
 use Rattle.bolt_format.specs.Headers.{flags_of, kind_of}
 use Rattle.bolt_format.specs.ReadBack.{IsBranchHeader, IsBranchHeaderFit, IsHead, IsHeader, IsHeaderFit, IsLeafHeader, IsLeafHeaderFit}
-use Rattle.bolt_format.specs.Encoded.{branch_header, head_bytes, header_bytes, leaf_flag, leaf_header, number_bytes}
-use Rattle.bolt_format.specs.declared.header.Kind.{Kind}
+use Rattle.bolt_format.specs.{Encoded.branch_header, Encoded.head_bytes, Encoded.header_bytes, Encoded.leaf_flag, Encoded.leaf_header, Encoded.number_bytes, declared.header.Kind.Kind}
 use Rattle.bolt_format.specs.declared.header.Kind.TheVariants as kind
 use Rattle.bolt_format.proofs.{FaultLemmas.first_of-both, NumberLemmas.length-number_bytes, NumberLemmas.number_next, NumberLemmas.number_read}
 

@@ -1,12 +1,9 @@
 -- A meta page that was written is valid.
 use Rattle.std.proofs.Common.{◌≡◌, ◌∙◌, ◌⊎◌, ℕ, ◌+◌, ◌*◌, ◌^◌, ◌<◌, ◌≤◌, List, [], ◌∷◌, ◌++◌, length, drop, take, refl, sym, ap, subst, inl, inr, arith, append_assoc, bit_xor}
-use Rattle.std.proofs.lemmas.List.{length-append}
-use Rattle.std.proofs.Math.Nat.{mod-lt}
-use Rattle.bolt_format.specs.Bytes.{fnv_from, fnv_of, fnv_step}
-use Rattle.bolt_format.specs.{Metas.IsActive, Metas.IsMeta, Metas.IsPageSize, Metas.magic, Metas.meta_fields, Metas.size_at, Metas.version, ReadBack.IsMetaFit}
-use Rattle.bolt_format.specs.Encoded.{header_bytes, meta_bytes, meta_record, number_bytes}
+use Rattle.std.proofs.{lemmas.List.length-append, Math.Nat.mod-lt}
+use Rattle.bolt_format.specs.{Bytes.fnv_from, Bytes.fnv_of, Bytes.fnv_step, Metas.IsActive, Metas.IsMeta, Metas.IsPageSize, Metas.magic, Metas.meta_fields, Metas.size_at, Metas.version}
+use Rattle.bolt_format.specs.{ReadBack.IsMetaFit, Encoded.header_bytes, Encoded.meta_bytes, Encoded.meta_record, Encoded.number_bytes, declared.meta.Meta.Meta, declared.meta.Slot.TheVariants.One}
 use Rattle.bolt_format.specs.declared.header.Kind.TheVariants as kind
-use Rattle.bolt_format.specs.{declared.meta.Meta.Meta, declared.meta.Slot.TheVariants.One}
 use Rattle.bolt_format.proofs.MetaLemmas.{newer_one}
 use Rattle.bolt_format.proofs.NumberLemmas.{length-number_bytes, number_next, number_read, part_next, part_read, part_within}
 use Rattle.bolt_format.proofs.{PageSizes.size_bounds, EncodedHeaders.length-header_bytes}

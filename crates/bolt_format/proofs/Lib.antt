@@ -1,17 +1,18 @@
-pub mod ElementFacts
-pub mod EncodedHeaders
-pub mod EncodedMetas
-pub mod FaultLemmas
+mod ElementFacts
+mod EncodedHeaders
+mod EncodedMetas
+pub mod Exports
+mod FaultLemmas
 mod FreeLemmas
 mod GoodPages
-pub mod ListLemmas
+mod ListLemmas
 mod MetaFaultLemmas
 mod MetaLemmas
-pub mod MetaPrefix
-pub mod NumberLemmas
-pub mod PageFacts
-pub mod PageLaws
-pub mod PageSizes
-pub mod SinkLemmas
-pub mod WroteFronts
-pub mod WroteLemmas
+mod MetaPrefix
+mod NumberLemmas
+mod PageFacts
+mod PageLaws
+mod PageSizes
+mod SinkLemmas
+mod WroteFronts
+mod WroteLemmas

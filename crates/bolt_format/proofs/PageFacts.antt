@@ -7,8 +7,7 @@ use Rattle.bolt_format.specs.Headers.{count_field, flags_field, kind_of}
 use Rattle.bolt_format.specs.Pages.{PageView, fault_as, from_page, page_at, page_fault, page_overflow, shown_as, span_bytes, span_fault, view_of}
 use Rattle.bolt_format.specs.{declared.meta.Meta.Meta, declared.header.Kind.Kind}
 use Rattle.bolt_format.specs.declared.header.Kind.TheVariants as kind
-use Rattle.bolt_format.proofs.FaultLemmas.{first_of-none}
-use Rattle.bolt_format.proofs.GoodPages.{good_fault, good_inline, good_leaf, good_within, no_bucket-at, good_span}
+use Rattle.bolt_format.proofs.{FaultLemmas.first_of-none, GoodPages.good_fault, GoodPages.good_inline, GoodPages.good_leaf, GoodPages.good_within, GoodPages.no_bucket-at, GoodPages.good_span}
 
 -- its number is below the high-water mark
 pub below_mark : (file : List ℕ) (meta : Meta) (id : ℕ) → IsSome (page_at file meta id) → id < meta.high_water

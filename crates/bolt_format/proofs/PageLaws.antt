@@ -1,8 +1,7 @@
 -- What holds of every page that a program has, for the crates above.
 use Rattle.std.proofs.Common.{◌≡◌, ◌∙◌, ap, length}
-use Rattle.bolt_format.specs.{Pages.shown_branches, Pages.shown_leaves, ShownGoodPages.shown, declared.header.Kind.Kind}
+use Rattle.bolt_format.specs.{Pages.shown_branches, Pages.shown_leaves, ShownGoodPages.shown, declared.header.Kind.Kind, declared.good_page.Page.Page}
 use Rattle.bolt_format.specs.declared.header.Kind.TheVariants as kind
-use Rattle.bolt_format.specs.declared.good_page.Page.{Page}
 use Rattle.bolt_format.proofs.GoodPages.{length-branch_elements, length-leaf_elements}
 
 -- a branch shows as many elements as its count says

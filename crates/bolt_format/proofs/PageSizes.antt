@@ -1,7 +1,6 @@
 -- Accepted page sizes have bounds.
 use Rattle.std.proofs.Common.{ℕ, zero, suc, ◌+◌, ◌*◌, ◌^◌, ◌≤◌, ◌==◌, List, [], ◌∷◌, map, IsTrue, inl, inr, arith}
-use Rattle.std.proofs.Math.Nat.{one-le-pow, pow-le-pow_right}
-use Rattle.std.proofs.lemmas.Bool.{eqb-true, or_cases}
+use Rattle.std.proofs.{Math.Nat.one-le-pow, Math.Nat.pow-le-pow_right, lemmas.Bool.eqb-true, lemmas.Bool.or_cases}
 use Rattle.std.specs.List.{AllByRecursion, list_any, range_with_len}
 use Rattle.bolt_format.specs.Metas.{IsPageSize, page_size_count, page_sizes}
 

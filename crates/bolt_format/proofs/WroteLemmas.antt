@@ -1,13 +1,12 @@
 -- One text after another on a sink.
 use Rattle.std.proofs.Common.{◌≡◌, ◌∙◌, ◌+◌, ℕ, suc, List, [], ◌++◌, None, Option, Some, Result, Ok, Err, add-one, ap, drop, flat_map, length, refl, slice_get, subst, sym, take}
-use Rattle.std.proofs.Math.Seq.{take-length}
-use Rattle.std.proofs.KnownBytes.{Appends-nil, Appends-trans}
+use Rattle.std.proofs.{Math.Seq.take-length, KnownBytes.Appends-nil, KnownBytes.Appends-trans}
 use Rattle.std.specs.Prelude.{IsErr}
 use Rattle.std.specs.Io.KnownBytes.{Appends}
 use Rattle.bolt_format.proofs.ListLemmas.{flat_map-cut_at, flat_map-take_more}
 use Rattle.bolt_format.proofs.SinkLemmas.{AppendsPrefix-first, AppendsPrefix-none, AppendsPrefix-second, AppendsProperPrefix-first, AppendsProperPrefix-second}
-use Rattle.bolt_format.specs.{Endings.Ending, Endings.whole, Endings.cut, Endings.broken, Endings.halted, Endings.ending, Endings.page_ending, Wrote.Wrote}
-use Rattle.bolt_format.specs.{declared.sink.Sink.Ghosts, declared.sink.SinkFault.SinkFault}
+use Rattle.bolt_format.specs.{Endings.Ending, Endings.whole, Endings.cut, Endings.broken, Endings.halted, Endings.ending, Endings.page_ending, Wrote.Wrote, declared.sink.Sink.Ghosts}
+use Rattle.bolt_format.specs.declared.sink.SinkFault.{SinkFault}
 
 -- nothing is put
 pub Wrote-none : {S : Type 0} {sink : Ghosts S} (old : S) → Wrote sink old old [] whole

@@ -3,9 +3,8 @@
 use Rattle.std.specs.Prelude.{◌≡◌, ◌==◌, ℕ, zero, suc, ◌+◌, ◌*◌, Bool, not, ◌||◌, nat_lt, List, map, length, drop, Option, Some, None, if◌then◌else◌, is_some, slice_range}
 use Rattle.std.specs.List.{list_any, range_with_len}
 use Rattle.bolt_format.specs.{Bytes.number_at, Headers.count_field, Headers.flags_field, Headers.flags_of, Headers.id_field}
+use Rattle.bolt_format.specs.declared.page_fault.TheConstants.PageFault.{ELEMENT_CUT, DATA_ORDER, KEY_LENGTH, VALUE_LENGTH, LEAF_FLAGS, BUCKET_SHORT, INLINE_PAGE, INLINE_NESTED}
 use Rattle.bolt_format.specs.declared.header.Kind.TheVariants as kind
-use Rattle.bolt_format.specs.declared.page_fault.TheConstants.PageFault.{ELEMENT_CUT, DATA_ORDER, KEY_LENGTH, VALUE_LENGTH, LEAF_FLAGS, BUCKET_SHORT}
-use Rattle.bolt_format.specs.declared.page_fault.TheConstants.PageFault.{INLINE_PAGE, INLINE_NESTED}
 
 -- the first fault of two
 abbrev pub first_of : Option ℕ → Option ℕ → Option ℕ

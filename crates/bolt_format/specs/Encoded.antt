@@ -2,9 +2,8 @@
 -- one: docs/FORMAT.md, "Page header", "Elements", "Buckets" and "Meta pages".
 use Rattle.std.specs.Prelude.{ℕ, List, ◌++◌, Bool, if◌then◌else◌}
 use Rattle.byteorder.specs.Endian.{little_bytes}
-use Rattle.bolt_format.specs.{Bytes.fnv_of, Headers.flags_of, Metas.magic, Metas.version, declared.header.Kind.Kind}
+use Rattle.bolt_format.specs.{Bytes.fnv_of, Headers.flags_of, Metas.magic, Metas.version, declared.header.Kind.Kind, declared.meta.Meta.Meta}
 use Rattle.bolt_format.specs.declared.header.Kind.TheVariants as kind
-use Rattle.bolt_format.specs.declared.meta.Meta.{Meta}
 
 -- a number in n bytes, the lowest first
 unfoldable pub number_bytes : ℕ → ℕ → List ℕ

@@ -1,12 +1,10 @@
 -- The numbers of free pages that a freelist page holds: docs/FORMAT.md, "Freelist page".
 use Rattle.std.specs.Prelude.{◌==◌, ℕ, ◌+◌, ◌*◌, nat_lt, List, length, map, Option, Some, None, if◌then◌else◌}
 use Rattle.std.specs.List.{range_with_len}
-use Rattle.bolt_format.specs.{Bytes.number_at, Elements.first_of, Headers.count_field, Headers.flags_field, Headers.kind_of}
-use Rattle.bolt_format.specs.Pages.{from_page, span_bytes, span_fault}
-use Rattle.bolt_format.specs.declared.page_fault.TheConstants.PageFault.{ELEMENT_CUT, PAGE_KIND}
-use Rattle.bolt_format.specs.declared.header.Kind.{Kind}
+use Rattle.bolt_format.specs.{Bytes.number_at, Elements.first_of, Headers.count_field, Headers.flags_field, Headers.kind_of, Pages.from_page, Pages.span_bytes, Pages.span_fault}
+use Rattle.bolt_format.specs.{declared.page_fault.TheConstants.PageFault.ELEMENT_CUT, declared.page_fault.TheConstants.PageFault.PAGE_KIND, declared.header.Kind.Kind, declared.meta.Meta.Meta}
+use Rattle.bolt_format.specs.declared.meta.TheConstants.{NO_FREELIST}
 use Rattle.bolt_format.specs.declared.header.Kind.TheVariants as kind
-use Rattle.bolt_format.specs.{declared.meta.Meta.Meta, declared.meta.TheConstants.NO_FREELIST}
 
 -- A count of 0xFFFF means that the first 8 bytes are the number of ids, and that the ids follow.
 abbrev pub id_count : ℕ → List ℕ → ℕ

@@ -1,3 +1,4 @@
+pub mod Assumed
 pub mod BboltMetas
 pub mod Bytes
 pub mod ElementLengths

@@ -1,8 +1,7 @@
 -- What a page of a tree shows: docs/FORMAT.md, "Elements".
 use Rattle.std.specs.Prelude.{ℕ, Bool, true, false, List, [], length, map}
-use Rattle.bolt_format.specs.Elements.{BranchElement, LeafElement, branch_elements, leaf_elements}
-use Rattle.bolt_format.specs.{Pages.PageView, declared.tree_page.BranchPage.BranchPage, declared.tree_page.LeafPage.LeafPage}
-use Rattle.bolt_format.specs.{declared.tree_page.TreePage.TreePage, declared.tree_page.TreePage.TheVariants.Branch, declared.tree_page.TreePage.TheVariants.Leaf}
+use Rattle.bolt_format.specs.{Elements.BranchElement, Elements.LeafElement, Elements.branch_elements, Elements.leaf_elements, Pages.PageView, declared.tree_page.BranchPage.BranchPage}
+use Rattle.bolt_format.specs.{declared.tree_page.LeafPage.LeafPage, declared.tree_page.TreePage.TreePage, declared.tree_page.TreePage.TheVariants.Branch, declared.tree_page.TreePage.TheVariants.Leaf}
 use Rattle.bolt_format.specs.declared.header.Kind.{Kind}
 use Rattle.bolt_format.specs.declared.header.Kind.TheVariants as kind
 

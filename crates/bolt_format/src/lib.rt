@@ -3,6 +3,7 @@
 //! shows, not how it is laid out.
 #![tactic(auto)]
 
+mod assumed;
 mod bbolt_meta;
 mod bucket_value;
 mod bytes;
@@ -22,6 +23,7 @@ mod page_fault;
 mod sink;
 mod tree_page;
 
+pub use assumed::assumed_meta;
 pub use bbolt_meta::{bbolt_page_size, bbolt_slot};
 pub use bucket_value::{HEAD_LEN, Head, Inline};
 pub use bytes::fnv1a;

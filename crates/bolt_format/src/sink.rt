@@ -51,8 +51,8 @@ pub trait Sink {
     }
 }
 
-/// A sink that keeps its bytes in memory. It may have a limit. If memory can't grow, that is a
-/// failure.
+/// A sink that keeps its bytes in memory. It may fail after a number of bytes. If memory can't grow,
+/// that is a failure too.
 #[derive(Drop)]
 pub struct MemSink {
     items: Vec<u8>,
@@ -61,7 +61,7 @@ pub struct MemSink {
 }
 
 impl MemSink {
-    /// An empty sink without a limit.
+    /// An empty sink that accepts bytes as long as memory can grow.
     pub fn new(alloc: Global) -> Self
         ensures taken { ⟦<MemSink as Sink>⟧.taken result ≡ Some [] }
         ensures sound { ⟦<MemSink as Sink>⟧.failed result ≡ 0 }
@@ -69,8 +69,8 @@ impl MemSink {
         MemSink::with_fuse(alloc, usize::MAX)
     }
 
-    /// An empty sink with a limit. It accepts `fuse` bytes in all and fails at the next one, after
-    /// it has accepted what still fits. Tests use it to see what a failure leaves behind.
+    /// An empty sink that accepts `fuse` bytes in all and fails at the next one, after it has
+    /// accepted what still fits. Tests use it to see what a failure leaves behind.
     pub fn with_fuse(alloc: Global, fuse: usize) -> Self
         ensures taken { ⟦<MemSink as Sink>⟧.taken result ≡ Some [] }
         ensures sound { ⟦<MemSink as Sink>⟧.failed result ≡ 0 }

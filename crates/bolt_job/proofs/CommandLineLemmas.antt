@@ -3,10 +3,8 @@ use Rattle.std.proofs.Common.{◌≡◌, ◌⊎◌, ◌∙◌, List, [], ◌∷�
 use Rattle.std.proofs.Common.{inr, rules, ◌||◌, Option, None, Some, Result, Ok, Err, IfOk, IfErr, option_map, slice_get, unwrap_or}
 use Rattle.bolt_job.proofs.Vocabulary.{AddsArg, AddsSubcommand, App, Asked, Asks, Box, Command, ReadsAs, HasKindOf, HasMatchesOf, Help, IsAmong, IsCommand, IsRefusedBy, Job, Kinds, Memory, Refusal, Row, Rule, Usage, Version, Word, asked, asked_by, asked_by_subcommand, asked_of, command_with, fault_of, first_word_of, is_simple, is_simple_and_free, map-append, option_and_then, program, rule_of, subcommand_of, subcommand_rows_of, take-suc, values_in, with_rule, with_subcommand}
 use Rattle.std.specs.Box.{box_value}
-use Rattle.clap.specs.{Words.Text, declared.parser.ArgMatches.ArgMatches}
-use Rattle.clap.specs.declared.parser.matches.ArgMatches.TheViews.{out-ArgMatches, out-SubCommand}
-use Rattle.clap.specs.{declared.parser.matches.SubCommand.SubCommand, Matches.subcommand_name_of, Simple.subcommand_rows, declared.builder.Arg.Arg}
-use Rattle.clap.specs.declared.error.ErrorKind.{ErrorKind}
+use Rattle.clap.specs.{Words.Text, declared.parser.ArgMatches.ArgMatches, declared.parser.matches.ArgMatches.TheViews.out-ArgMatches, declared.parser.matches.ArgMatches.TheViews.out-SubCommand}
+use Rattle.clap.specs.{declared.parser.matches.SubCommand.SubCommand, Matches.subcommand_name_of, Simple.subcommand_rows, declared.builder.Arg.Arg, declared.error.ErrorKind.ErrorKind}
 use Rattle.clap.specs.declared.error.ErrorKind.TheVariants as kind
 
 pub program_is_simple : is_simple program ≡ true

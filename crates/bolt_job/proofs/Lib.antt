@@ -1,4 +1,5 @@
-pub mod CommandLineLemmas
-pub mod PageSizes
-pub mod PathReading
-pub mod Vocabulary
+mod CommandLineLemmas
+pub mod Exports
+mod PageSizes
+mod PathReading
+mod Vocabulary

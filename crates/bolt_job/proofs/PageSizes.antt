@@ -1,9 +1,8 @@
 -- Page sizes, alone and in an assumed meta, are read of their words.
 use Rattle.std.proofs.Common.{◌≡◌, ◌∙◌, ◌+◌, ◌&&◌, ◌==◌, Bool, ℕ, [], Option, Some, None, Result, Ok, Err, codes, length, sym, refl, ap, ap₂, arith, subst}
-use Rattle.bolt_job.proofs.Vocabulary.{IfNone, IfSome, IsPageSize, MatchOption, PageSize, after_first, assumed_of, assumed_when, before_first, drop_all}
-use Rattle.bolt_job.proofs.Vocabulary.{false_from_ne_true, if◌then◌else◌, is_page_size, list_any, number_in, page_size_asked, page_sizes, position_or_len}
+use Rattle.bolt_job.proofs.Vocabulary.{IfNone, IfSome, IsPageSize, MatchOption, PageSize, after_first, assumed_of, assumed_when, before_first, drop_all, false_from_ne_true, if◌then◌else◌, is_page_size, list_any, number_in, page_size_asked, page_sizes, position_or_len}
 use Rattle.clap.specs.Words.{Text}
-use Rattle.bolt_text.proofs.DecimalNumbers.{number_is}
+use Rattle.bolt_text.proofs.Exports.{number_is}
 
 tested : (word : Text) (n : ℕ) → number_in word ≡ Some n → is_page_size word ≡ list_any (λ size. size == n) page_sizes
 tested word n is = let parts = number_is word n is in ap₂ (λ (b : Bool) (m : ℕ). b && list_any (λ size. size == m) page_sizes) parts.0 parts.1

@@ -1,7 +1,6 @@
 -- The parts of a path are read one after another.
 use Rattle.std.proofs.Common.{◌≡◌, ◌∙◌, ◌==◌, Bool, List, [], ◌∷◌, ◌++◌, Result, Ok, Err, codes, length, refl, sym, ap, ap₂, inl, inr, append_assoc, map}
-use Rattle.bolt_job.proofs.Vocabulary.{Bor, ReadsAs, IsErrAnd, Key, None, Option, Path, Refusal, Some, Text, each_part, false, hex_path_of, if◌then◌else◌}
-use Rattle.bolt_job.proofs.Vocabulary.{◌>>=◌, list_any, option_and_then, option_map, or_bad_hex, or_cases, or_parts, part_of, slice_split, true}
+use Rattle.bolt_job.proofs.Vocabulary.{Bor, ReadsAs, IsErrAnd, Key, None, Option, Path, Refusal, Some, Text, each_part, false, hex_path_of, if◌then◌else◌, ◌>>=◌, list_any, option_and_then, option_map, or_bad_hex, or_cases, or_parts, part_of, slice_split, true}
 use Rattle.bolt_text.specs.HexPaths.{hex_bytes_in, hex_path_in, part_in, parts_in}
 use Rattle.bolt_text.specs.declared.part_words.Parts.TheVariants as parts
 

@@ -1,13 +1,12 @@
 -- The command line as it is described to `clap`, and what its matches ask for.
 use Rattle.std.specs.Prelude.{◌≡◌, ◌≢◌, ◌⊎◌, List, [], Option, Some, None, Ok, Err, Result, false, true, codes, fold, unwrap_or, MatchResult}
 use Rattle.clap.specs.Words.{App, IsAmong, Kinds, Row, Rule, all_of, app_of, fault_of, new_app, subcommand_of, with_subcommand}
-use Rattle.clap.specs.{declared.builder.Command.Command, declared.builder.Command.TheViews.out-Command}
-use Rattle.clap.specs.declared.error.ErrorKind.{ErrorKind}
+use Rattle.clap.specs.{declared.builder.Command.Command, declared.builder.Command.TheViews.out-Command, declared.error.ErrorKind.ErrorKind}
 use Rattle.clap.specs.declared.error.ErrorKind.TheVariants as kind
 use Rattle.bolt_job.specs.{declared.job.Job.Job, declared.refusal.Refusal.Refusal}
 use Rattle.bolt_job.specs.declared.refusal.Refusal.TheVariants.{Memory, Help, Version, Usage, Word}
-use Rattle.bolt_text.specs.Lines.{Text}
 use Rattle.bolt_job.specs.{Jobs.asked_of, PlainWords.Asked, PlainWords.Values, PlainWords.asked, PlainWords.lines}
+use Rattle.bolt_text.specs.Lines.{Text}
 
 -- ---- what the command line may hold
 

@@ -1,13 +1,10 @@
 -- The forms that a command line names, each by its word: docs/COMMANDS.md, "Words".
 use Rattle.std.specs.Prelude.{List, [], ◌∷◌, ◌++◌, Option, Some, None, Result, Ok, Err, codes, if◌then◌else◌, map}
 use Rattle.std.specs.Str.{bytes_eq}
-use Rattle.bolt_text.specs.declared.forms.FigureForm.{FigureForm}
+use Rattle.bolt_text.specs.{declared.forms.FigureForm.FigureForm, declared.forms.Form.Form, declared.forms.ListForm.ListForm, Lines.Text}
 use Rattle.bolt_text.specs.declared.forms.FigureForm.TheVariants as figure_form
-use Rattle.bolt_text.specs.declared.forms.Form.{Form}
 use Rattle.bolt_text.specs.declared.forms.Form.TheVariants as form
-use Rattle.bolt_text.specs.declared.forms.ListForm.{ListForm}
 use Rattle.bolt_text.specs.declared.forms.ListForm.TheVariants as list_form
-use Rattle.bolt_text.specs.Lines.{Text}
 
 -- what can be printed of keys, of a listing, and of figures
 abbrev forms : List (Text × Form)

@@ -1,11 +1,9 @@
 -- How a path is written on a command line: a word for each part, or all parts in hexadecimal in one word: docs/COMMANDS.md, "Words".
 use Rattle.std.specs.Prelude.{List, [], ◌∷◌, Option, Some, None, Result, Ok, Err, codes, if◌then◌else◌}
 use Rattle.std.specs.Str.{bytes_eq}
-use Rattle.bolt_check.specs.Keys.{Key}
-use Rattle.bolt_tree.specs.Paths.{Path}
-use Rattle.bolt_text.specs.{HexPaths.hex_path_in, PartWords.part_by, declared.part_words.Parts.Parts}
+use Rattle.bolt_tree.specs.Paths.{Key, Path}
+use Rattle.bolt_text.specs.{HexPaths.hex_path_in, PartWords.part_by, declared.part_words.Parts.Parts, Lines.Text}
 use Rattle.bolt_text.specs.declared.part_words.Parts.TheVariants as parts
-use Rattle.bolt_text.specs.Lines.{Text}
 
 -- what comes next of what was read, or what is wrong with it
 infixl 10 ◌>>=◌

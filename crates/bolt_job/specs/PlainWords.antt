@@ -1,30 +1,22 @@
 -- What the words of a command line ask for: docs/COMMANDS.md, "Words".
 use Rattle.std.specs.Prelude.{◌==◌, ◌&&◌, ◌^◌, ℕ, Bool, true, false, List, [], ◌∷◌, Option, Some, None, Result, Ok, Err, Vec, codes, map, option_map, string_bytes, if◌then◌else◌, nat_lt}
-use Rattle.std.specs.List.{after_first, before_first, list_any}
-use Rattle.std.specs.Str.{bytes_eq}
-use Rattle.bolt_check.specs.Keys.{Key}
-use Rattle.bolt_tree.specs.Paths.{Path}
+use Rattle.std.specs.{List.after_first, List.before_first, List.list_any, Str.bytes_eq}
+use Rattle.bolt_tree.specs.Paths.{Key, Path}
 use Rattle.bolt_format.specs.{Metas.page_sizes, declared.meta.Slot.Slot, declared.meta.Slot.TheVariants.One, declared.meta.Slot.TheVariants.Zero}
-use Rattle.bolt_text.specs.Numbers.{decimal_value, is_number, number_in}
-use Rattle.bolt_text.specs.{declared.forms.FigureForm.FigureForm, declared.forms.Form.Form, declared.forms.ListForm.ListForm}
+use Rattle.bolt_text.specs.{Numbers.decimal_value, Numbers.is_number, Numbers.number_in, declared.forms.FigureForm.FigureForm, declared.forms.Form.Form, declared.forms.ListForm.ListForm, Lines.Text}
 use Rattle.bolt_job.specs.FormWords.{figure_form_by, form_by, list_form_by}
-use Rattle.clap.specs.Words.{Rule, new_rule}
 use Rattle.bolt_job.specs.WordRules.{alone, by_letter, by_name, needed, several, valued}
-use Rattle.bolt_text.specs.Lines.{Text}
-use Rattle.bolt_job.specs.PathWords.{◌>>=◌, each_part, hex_path_by, part_of, parts_by, prefix_of}
-use Rattle.bolt_job.specs.declared.choices.BucketsShown.{BucketsShown}
-use Rattle.bolt_job.specs.declared.choices.BucketsShown.TheVariants.{Names, Recovered, Sizes}
-use Rattle.bolt_job.specs.declared.choices.CopyKind.{CopyKind}
+use Rattle.bolt_job.specs.{PathWords.◌>>=◌, PathWords.each_part, PathWords.hex_path_by, PathWords.part_of, PathWords.parts_by, PathWords.prefix_of, declared.choices.BucketsShown.BucketsShown}
+use Rattle.bolt_job.specs.{declared.choices.BucketsShown.TheVariants.Names, declared.choices.BucketsShown.TheVariants.Sizes, declared.choices.CopyKind.CopyKind, declared.choices.Extent.Extent}
+use Rattle.bolt_job.specs.{declared.choices.MetaChoice.MetaChoice, declared.choices.PageSize.PageSize, declared.etcd_jobs.EtcdCheckJob.EtcdCheckJob, declared.etcd_jobs.EtcdGetJob.EtcdGetJob}
+use Rattle.bolt_job.specs.{declared.etcd_jobs.EtcdKeysJob.EtcdKeysJob, declared.etcd_jobs.EtcdRepairJob.EtcdRepairJob, declared.etcd_jobs.EtcdRevisionsJob.EtcdRevisionsJob}
+use Rattle.bolt_job.specs.{declared.page_commands.CheckJob.CheckJob, declared.page_commands.InfoJob.InfoJob, declared.page_commands.PageJob.PageJob, declared.page_commands.PagesJob.PagesJob}
+use Rattle.bolt_job.specs.{declared.bucket_commands.BucketsJob.BucketsJob, declared.bucket_commands.GetJob.GetJob, declared.bucket_commands.KeysJob.KeysJob, declared.bucket_commands.ListJob.ListJob}
+use Rattle.bolt_job.specs.{declared.bucket_commands.StatsJob.StatsJob, declared.writing_commands.CompactJob.CompactJob, declared.writing_commands.LoadJob.LoadJob}
+use Rattle.clap.specs.Words.{Rule, new_rule}
 use Rattle.bolt_job.specs.declared.choices.CopyKind.TheVariants as kind
-use Rattle.bolt_job.specs.declared.choices.Extent.{Extent}
 use Rattle.bolt_job.specs.declared.choices.Extent.TheVariants as extent
-use Rattle.bolt_job.specs.declared.choices.MetaChoice.{MetaChoice}
 use Rattle.bolt_job.specs.declared.choices.MetaChoice.TheVariants as choice
-use Rattle.bolt_job.specs.declared.choices.PageSize.{PageSize}
-use Rattle.bolt_job.specs.declared.etcd_jobs.{EtcdCheckJob.EtcdCheckJob, EtcdGetJob.EtcdGetJob, EtcdKeysJob.EtcdKeysJob, EtcdRepairJob.EtcdRepairJob, EtcdRevisionsJob.EtcdRevisionsJob}
-use Rattle.bolt_job.specs.declared.page_commands.{CheckJob.CheckJob, InfoJob.InfoJob, PageJob.PageJob, PagesJob.PagesJob}
-use Rattle.bolt_job.specs.declared.bucket_commands.{BucketsJob.BucketsJob, GetJob.GetJob, KeysJob.KeysJob, ListJob.ListJob, StatsJob.StatsJob}
-use Rattle.bolt_job.specs.declared.writing_commands.{CompactJob.CompactJob, LoadJob.LoadJob}
 
 -- ---- the arguments of the commands
 
@@ -208,11 +200,11 @@ copy_kind_by None None = kind.Plain
 abbrev kind_in : Values → CopyKind
 kind_in values = copy_kind_by (given values (codes "for-bbolt")) (given values (codes "etcd-snapshot"))
 
--- how far a command goes, by the words of `--all` or `--recover` and of `--lost-and-found` if they are given
+-- how much is read of a damaged file, by the words of `--all` or `--recover` and of `--lost-and-found` if they are given
 abbrev pub extent_by : (losses lost_and_found : Option Text) → Extent
 extent_by losses (Some word) = extent.LostAndFound
 extent_by (Some word) None = extent.Losses
-extent_by None None = extent.First
+extent_by None None = extent.Sound
 
 abbrev extent_in : (losses : Text) → Values → Extent
 extent_in losses values = extent_by (given values losses) (given values (codes "lost-and-found"))
@@ -265,12 +257,11 @@ prefix_by values = parts_by (given values (codes "parts")) >>= λ how. prefix_of
 abbrev pub name_by : Values → Result Key Text
 name_by values = parts_by (given values (codes "parts")) >>= λ how. text_by (codes "NAME") values >>= λ word. part_of how word
 
--- what is printed of buckets, by the words of `--sizes` and `--recover`, of which only one may be given
-abbrev pub shown_by : (sizes recover : Option Text) → Result BucketsShown Text
-shown_by None None = Ok Names
-shown_by (Some word) None = Ok Sizes
-shown_by None (Some word) = Ok Recovered
-shown_by (Some word) (Some other) = Err (codes "bad sizes: not with --recover")
+-- what is printed of buckets, by whether `--sizes` and `--recover` are given, of which only one may be
+abbrev pub shown_by : (sizes recover : Bool) → Result BucketsShown Text
+shown_by false recover = Ok (Names recover)
+shown_by true false = Ok Sizes
+shown_by true true = Err (codes "bad sizes: not with --recover")
 
 abbrev recover_in : Values → Bool
 recover_in values = is_given (given values (codes "recover"))
@@ -296,7 +287,7 @@ asks_check values =
 
 abbrev pub asks_buckets : Values → Result Asked Text
 asks_buckets values =
-    meta_by values >>= λ meta. form_by (given values (codes "form")) >>= λ form. shown_by (given values (codes "sizes")) (given values (codes "recover")) >>= λ shown.
+    meta_by values >>= λ meta. form_by (given values (codes "form")) >>= λ form. shown_by (is_given (given values (codes "sizes"))) (recover_in values) >>= λ shown.
     path_by values >>= λ path. file_by values >>= λ file. Ok (buckets file meta path form shown)
 
 abbrev pub asks_keys : Values → Result Asked Text

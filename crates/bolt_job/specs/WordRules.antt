@@ -1,7 +1,6 @@
 -- How an operand or an option is described to `clap`: docs/COMMANDS.md, "Words".
-use Rattle.std.specs.Prelude.{ℕ, true, List, [], ◌∷◌, Some, codes}
-use Rattle.clap.specs.Words.{Rule}
-use Rattle.clap.specs.declared.builder.action.ArgAction.TheVariants.{Append, Set}
+use Rattle.std.specs.Prelude.{ℕ, true, [], ◌∷◌, Some, codes}
+use Rattle.clap.specs.{Words.Rule, declared.builder.action.ArgAction.TheVariants.Append, declared.builder.action.ArgAction.TheVariants.Set}
 use Rattle.bolt_text.specs.Lines.{Text}
 
 -- it is one word, an operand or the value of an option

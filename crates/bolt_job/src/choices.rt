@@ -1,10 +1,9 @@
-//! What the words of a command choose: a meta, a page size, a form of the copy, what is printed of buckets, and how far a
-//! command goes in a damaged file.
+//! What the words of a command choose: a meta, a page size, a form of the copy, what is printed of buckets, and how much
+//! is read of a damaged file.
 ghost use Rattle.std.specs.Prelude.{◌≡◌, IfNone, IfSome, IfErr, IfOk};
 ghost use Rattle.bolt_format.specs.Metas.{IsPageSize};
 
-use bolt_check::assumed_meta;
-use bolt_format::{Meta, MetaFault, Slot, choose, page_size_ok, slot_meta};
+use bolt_format::{Meta, MetaFault, Slot, assumed_meta, choose, page_size_ok, slot_meta};
 
 /// An accepted page size. By this type `run` requires nothing of its job.
 #[derive(Clone, Copy)]
@@ -114,20 +113,22 @@ impl CopyKind {
 #[derive(Clone, Copy)]
 pub enum BucketsShown {
     /// Their names.
-    Names,
-    /// Their sizes and names.
+    Names {
+        /// Whether to print what is recovered.
+        recover: bool,
+    },
+    /// Their sizes and names, which are known of a sound file alone.
     Sizes,
-    /// The names of those that are recovered.
-    Recovered,
 }
 
-/// How far a command goes in a file with damaged trees.
+/// Which files `check`, `list` and `compact` read, and how much of a damaged one.
 #[derive(Clone, Copy)]
 pub enum Extent {
-    /// Up to the first finding: what the file holds is read only if it is sound.
-    First,
-    /// To each loss: what is kept is read.
+    /// A sound file alone. Of a damaged one `check` prints the first finding of its trees; `list` and
+    /// `compact` refuse it.
+    Sound,
+    /// A damaged file too: what is kept of it. Each loss is reported.
     Losses,
-    /// To each loss, and to each page that is found though nothing leads to it: both are read.
+    /// The same, and each page that is found though nothing leads to it.
     LostAndFound,
 }

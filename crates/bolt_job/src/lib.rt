@@ -19,5 +19,6 @@ pub use etcd_jobs::{EtcdCheckJob, EtcdGetJob, EtcdKeysJob, EtcdRepairJob, EtcdRe
 pub use job::Job;
 pub use job_words::read_words;
 pub use page_commands::{CheckJob, InfoJob, PageJob, PagesJob};
+pub use path_words::path_slices;
 pub use refusal::Refusal;
 pub use writing_commands::{CompactJob, LoadJob};

@@ -98,14 +98,13 @@ impl Line<'_, '_> {
     /// What is printed of buckets. Sizes aren't known of what is recovered.
     pub(crate) fn buckets_shown(&self) -> Result<BucketsShown, Refusal>
         ensures { ReadsAs (λ shown. shown)
-            (shown_by (first_word_of (values_of self.now (codes "sizes")))
-            (first_word_of (values_of self.now (codes "recover")))) result }
+            (shown_by (is_given (first_word_of (values_of self.now (codes "sizes"))))
+            (is_given (first_word_of (values_of self.now (codes "recover"))))) result }
     {
-        match (self.choice("sizes"), self.choice("recover")) {
-            (None, None) => Ok(BucketsShown::Names),
-            (Some(_), None) => Ok(BucketsShown::Sizes),
-            (None, Some(_)) => Ok(BucketsShown::Recovered),
-            (Some(_), Some(_)) => Err(Refusal::Word("bad sizes: not with --recover")),
+        match (self.is_given("sizes"), self.is_given("recover")) {
+            (false, recover) => Ok(BucketsShown::Names { recover }),
+            (true, false) => Ok(BucketsShown::Sizes),
+            (true, true) => Err(Refusal::Word("bad sizes: not with --recover")),
         }
     }
 
@@ -239,7 +238,8 @@ impl Line<'_, '_> {
         }
     }
 
-    /// How far a command goes, by the option of this name and `--lost-and-found`, which implies it.
+    /// How much is read of a damaged file, by the option of this name and `--lost-and-found`, which
+    /// implies it.
     pub(crate) fn extent(&self, losses: &str) -> Extent
         ensures { result ≡ extent_by (first_word_of (values_of self.now losses.now))
             (first_word_of (values_of self.now (codes "lost-and-found"))) }
@@ -247,7 +247,7 @@ impl Line<'_, '_> {
         match (self.choice(losses), self.choice("lost-and-found")) {
             (_, Some(_)) => Extent::LostAndFound,
             (Some(_), None) => Extent::Losses,
-            (None, None) => Extent::First,
+            (None, None) => Extent::Sound,
         }
     }
 }

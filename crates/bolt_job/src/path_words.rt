@@ -1,12 +1,13 @@
-//! Reads paths from the words of a command line.
-ghost use Rattle.std.specs.Prelude.{◌≡◌, ◌==◌, IfOk, length, map, option_map};
+//! Reads paths from the words of a command line, and hands them on.
+ghost use Rattle.std.specs.Prelude.{◌≡◌, ◌==◌, IfErr, IfOk, length, map, option_map};
+ghost use Rattle.bolt_tree.specs.Paths.{path_of};
 ghost use Rattle.std.specs.List.{list_any, slice_split};
 ghost use Rattle.bolt_job.specs.CommandLine.{ReadsAs};
 ghost use Rattle.bolt_job.specs.PathWords.{each_part, hex_path_by, hex_path_of, part_of, prefix_of};
 ghost use Rattle.bolt_job.specs.PlainWords.{owned_path};
 
 use crate::refusal::Refusal;
-use bolt_text::Parts;
+use bolt_text::{Parts, ReportFault};
 use hex::FromHexError;
 use std::alloc::{AllocError, Global};
 
@@ -85,4 +86,21 @@ fn has_empty(parts: &[&str]) -> bool
     ensures { result ≡ list_any (λ part. length part.now == 0) parts.now }
 {
     parts.iter().any(|part| part.is_empty())
+}
+
+/// The parts of a path as slices.
+///
+/// # Errors
+///
+/// `NoMemory` if memory runs out.
+pub fn path_slices<'a>(alloc: Global, parts: &'a [Vec<u8>]) -> Result<Vec<&'a [u8]>, ReportFault>
+    ensures path { IfOk result (λ path. path_of path.items ≡ owned_path parts.now) }
+    ensures memory { IfErr result (λ fault. fault ≡ ReportFault.NoMemory) }
+{
+    let mut path = Vec::new(alloc);
+    for part in parts {
+        path.push(part.as_slice())
+            .map_err(|_| ReportFault::NoMemory)?;
+    }
+    Ok(path)
 }

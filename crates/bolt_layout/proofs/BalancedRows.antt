@@ -1,8 +1,7 @@
 -- The limits that the plain layout notes are right for each bucket of the balanced one.
 use Rattle.std.proofs.Common.{◌≡◌, ◌∙◌, ◌+◌, ℕ, suc, false, Option, map, subst, arith}
 use Rattle.bolt_layout.proofs.Words.{AreFromEnds, AreRight, Balanced, end, HaveRightLimits, items_of, leaf_pages, limit_at, limits_from_ends, opened_by, Plain, row_ends_of, Tree, with_bucket, with_value}
-use Rattle.bolt_layout.proofs.{Faces.face, Faces.leaf_faces, OpenedBuckets.opened_by_same, RightLimits.limits_alike}
-use Rattle.bolt_layout.proofs.{SameFaces.inline_alike, SameFaces.items_alike, RowEnds.row_ends_are}
+use Rattle.bolt_layout.proofs.{Faces.face, Faces.leaf_faces, OpenedBuckets.opened_by_same, RightLimits.limits_alike, SameFaces.inline_alike, SameFaces.items_alike, RowEnds.row_ends_are}
 
 -- What the plain layout notes of a bucket's rows.
 abbrev pub IsFromEnds : (page_size : ℕ) → (limit : ℕ → Option ℕ) → Tree → Type 0

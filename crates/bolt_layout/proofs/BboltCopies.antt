@@ -4,10 +4,9 @@ use Rattle.std.proofs.Common.{◌≡◌, ◌∙◌, ◌<◌, ◌≤◌, ◌^◌,
 use Rattle.bolt_layout.proofs.Words.{AllByRecursion, At_page, Balanced, Contains, Contains-append_left, Contains-append_right, contains_head, contains_tail, end, IsAsked, IsEntry, IsTreeOf, items_of, Key, Layout, layout_mark, layout_meta, layout_of, layout_pages, layout_root, listing_below, Member, Meta, node_at, page_at, PageSpot, PageView, Path, Placed, Plain, reached, Root_page, root_of, root_over, size_bounds, Spot, Tree, tree_of, with_bucket, with_value}
 use Rattle.bolt_layout.proofs.{BboltWays.all_lone, BboltWays.none_found, BboltWays.only_found, EvenPages.IsEven, EvenPages.IsNeat, EvenPages.IsNeatElement, EvenPages.over_even, EvenTrees.tree_neat}
 use Rattle.bolt_layout.proofs.{EvenWays.IsEvenSpot, EvenWays.IsNeatSpot, EvenWays.even_by, LaidPages.AreNodes, PlacedWays.IsPlaced, PlacedWays.placed_way}
-use Rattle.bolt_layout.proofs.Soundness.{IsLaidOut, IsSoundLayout, PassingIsSound, laid_out, layout_sound, nodes_shown}
-use Rattle.bolt_layout.proofs.{SoundCopies.layout_tree, SpanLemmas.IsShown, TreeItems.root_stands, TreeItems.tree_items, TwoChildren.layout_twos}
-use Rattle.bolt_layout.specs.ForBbolt.{HasShortKeys, HoldsBuckets, IsForBbolt, IsOneChild}
-use Rattle.bolt_layout.specs.{Copies.IsOfOneTree, Layout.HasTwoIfBranch}
+use Rattle.bolt_layout.proofs.{Soundness.IsLaidOut, Soundness.IsSoundLayout, Soundness.PassingIsSound, Soundness.laid_out, Soundness.layout_sound, Soundness.nodes_shown, SoundCopies.layout_tree}
+use Rattle.bolt_layout.proofs.{SpanLemmas.IsShown, TreeItems.root_stands, TreeItems.tree_items, TwoChildren.layout_twos}
+use Rattle.bolt_layout.specs.{ForBbolt.HasShortKeys, ForBbolt.HoldsBuckets, ForBbolt.IsForBbolt, ForBbolt.IsOneChild, Copies.IsOfOneTree, Layout.HasTwoIfBranch}
 use Rattle.bolt_check.specs.{BboltFindings.AreBboltFindings, BboltFindings.is_too_large, BboltFindings.leaves_at, declared.finding.Finding.Finding}
 use Rattle.bolt_tree.specs.Entries.{Value}
 

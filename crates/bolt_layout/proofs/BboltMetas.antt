@@ -1,13 +1,12 @@
 -- Bbolt takes the active meta of a layout, and finds all of its pages in the file.
 use Rattle.std.proofs.Common.{◌≡◌, ◌≢◌, ◌∙◌, ◌==◌, ◌&&◌, ◌||◌, ◌*◌, ◌+◌, ◌<◌, ◌≤◌, ◌/◌, ◌^◌, ℕ, Bool, true, false, List, [], Option, Some, ap, ap₂, length, nat_lt, refl, sym, arith}
-use Rattle.std.proofs.Math.Nat.{mul-div_cancel}
-use Rattle.std.proofs.lemmas.Bool.{le-leb}
+use Rattle.std.proofs.{Math.Nat.mul-div_cancel, lemmas.Bool.le-leb}
 use Rattle.bolt_layout.proofs.Words.{copy_meta, eq-eqb, IsMeta, IsPageSize, Layout, le-ltb, layout_mark, layout_meta, layout_of, layout_pages, layout_root, lt-ltb, Meta, mul-le-mul_right, One, size_bounds, Tree}
 use Rattle.bolt_layout.proofs.Soundness.{IsFile, IsLaidOut}
 use Rattle.bolt_layout.specs.Copies.{IsAsked}
 use Rattle.bolt_check.specs.BboltFileFindings.{file_findings, takes, whole_pages}
-use Rattle.bolt_format.specs.BboltMetas.{bbolt_page_size, bbolt_slot, bbolt_txid, greater_txid, is_bbolt_meta}
-use Rattle.bolt_format.specs.{Bytes.fnv_of, Bytes.number_at, Metas.size_at, declared.meta.Slot.Slot}
+use Rattle.bolt_format.specs.{BboltMetas.bbolt_page_size, BboltMetas.bbolt_slot, BboltMetas.bbolt_txid, BboltMetas.greater_txid, BboltMetas.is_bbolt_meta, Bytes.fnv_of, Bytes.number_at, Metas.size_at}
+use Rattle.bolt_format.specs.declared.meta.Slot.{Slot}
 
 or_true : (b : Bool) → (b || true) ≡ true
 or_true true = refl

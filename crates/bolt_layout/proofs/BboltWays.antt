@@ -1,22 +1,20 @@
 -- What bbolt fails on in a file whose pages are even, and whose tree has short keys and buckets alone in its root bucket: branches of one child,
 -- and nothing else.
 use Rattle.std.proofs.Common.{◌≡◌, ◌∙◌, ◌==◌, ◌&&◌, ◌≤◌, ℕ, Bool, true, false, List, [], ◌∷◌, ◌++◌, Option, Some, None, Ok, Err, Result, ap, ap₂, append-nil, cond, flat_map, inl, inr, length, map, not, refl, slice_get, subst, sym, arith}
-use Rattle.std.specs.List.{list_any}
+use Rattle.std.specs.{List.list_any, Option.option_map}
 use Rattle.std.specs.Prelude.{is_some}
-use Rattle.std.proofs.lemmas.Bool.{eqb-true}
-use Rattle.std.proofs.lemmas.Option.{none-some, slice_get-map}
+use Rattle.std.proofs.{lemmas.Bool.eqb-true, lemmas.Option.none-some, lemmas.Option.same_Some, lemmas.Option.slice_get-map}
 use Rattle.bolt_layout.proofs.Words.{AllByRecursion, At_inline, At_page, Contains, contains_cases, contains_head, contains_none, contains_tail, end, Entry, eq-eqb, follow, HasSoundTrees, head_root, Inline_page, inline_elements, inline_page, InlinePage, IsEntry, IsTreeOf, Key, leaf_entry, LeafElement, length-map, Meta, ne_eqb, Node, node_at, Nodes, page_at, PageSpot, PageView, reached, root_spot, Root_page, Spot, Start, start_of, Tree, with_bucket, with_value}
-use Rattle.bolt_layout.proofs.{EvenWays.IsEvenSpot, EvenWays.leaf_is_first, EvenWays.same_node, ListLemmas.all_append}
+use Rattle.bolt_layout.proofs.{EvenWays.IsEvenSpot, EvenWays.leaf_is_first, EvenWays.same_node, ListLemmas.all_append, PlacedWays.same_spot}
 use Rattle.bolt_layout.specs.ForBbolt.{HasShortKeys, HoldsBuckets, IsOneChild}
-use Rattle.bolt_check.proofs.TreePages.{a_branch, a_leaf, branch_node, leaf_node, tree_page}
+use Rattle.bolt_check.proofs.Exports.{a_branch, a_leaf, branch_node, leaf_node, tree_page, follow_some, leads_follow}
 use Rattle.bolt_check.specs.BboltFindings.{AreBboltFindings, begins_otherwise, finding_if, has_one_child, has_other_first_key, inline_findings, is_in_root, is_large_value, is_too_large, is_value, leaves_at, node_findings, seen_findings, spot_findings, way_findings}
 use Rattle.bolt_check.specs.declared.finding.TheConstants.Finding.{FIRST_KEY, INLINE_NUMBER, LARGE_KEY, LEAF_DEPTH, ONE_CHILD, ROOT_VALUE}
-use Rattle.bolt_check.specs.{Findings.keys_of, Lists.Has, Nodes.branch_entry, Shape.child_at, Shape.child_in, Shape.child_of, Shape.leads, Ways.bucket_spots, Ways.child_spot, Ways.step, Ways.step_entry, Ways.upper_from, declared.finding.Finding.Finding}
-use Rattle.bolt_check.proofs.{Forest.follow_some, WayFacts.leads_follow}
-use Rattle.bolt_format.proofs.PageFacts.{bucket_value, flat_inline}
+use Rattle.bolt_check.specs.{Findings.keys_of, Lists.Has, Nodes.branch_entry, Shape.child_at, Shape.child_in, Shape.child_of, Shape.leads}
+use Rattle.bolt_check.specs.{Ways.bucket_spots, Ways.child_spot, Ways.step, Ways.step_entry, Ways.upper_from, declared.finding.Finding.Finding}
+use Rattle.bolt_format.proofs.Exports.{bucket_value, flat_inline}
 use Rattle.bolt_format.specs.Elements.{IsBucketValue}
-use Rattle.bolt_tree.proofs.EntryOrder.{contains_at}
-use Rattle.std.specs.Option.{option_map}
+use Rattle.bolt_tree.proofs.Exports.{contains_at}
 use Rattle.bolt_tree.specs.{Entries.AreEntries, Tree.Shows}
 use Rattle.bolt_format.specs.declared.header.Kind.TheVariants as kind
 
@@ -123,20 +121,17 @@ module _ (file : List ℕ) (meta : Meta) where
       → (root : ℕ) (address : List ℕ) → leads nodes (Some root) address ≡ Some s.number → Own (Root_page root) e
   leaf_is s view e at is has root address led = (address, s.number, led, (view, at, is, has))
 
-  same_some : (a b : Spot) → ◌≡◌ {A = Option Spot} (Some a) (Some b) → a ≡ b
-  same_some a b e = cc
-
   bucket_led : (host : ℕ) (e : LeafElement) (t : Spot) → IsBucketValue e.value → IsShortBucket (start_of e.value) → (b c : Bool) → (head_root e.value == 0) ≡ c
       → cond b (Some (cond c (At_inline host (inline_page e.value)) (At_page (root_spot (head_root e.value))))) None ≡ Some t → IsLed t
   bucket_led host e t passes bucket false c z led = absurd (none-some t led)
   bucket_led host e t passes bucket true true z led =
       let inner : IsShortBucket (Inline_page (inline_elements e.value)) = rw z at bucket in
       let root = eqb-true (head_root e.value) 0 z in
-      subst IsLed (same_some _ t led)
+      subst IsLed (same_Some _ t led)
       (inner_short (inline_elements e.value) (λ x has. bucket_short (Inline_page (inline_elements e.value)) x inner has (flat_inline e.value x passes root has)))
   bucket_led host e t passes bucket true false z led =
       let paged : IsShortBucket (Root_page (head_root e.value)) = rw z at bucket in
-      subst IsLed (same_some _ t led) (head_root e.value, [], paged, refl)
+      subst IsLed (same_Some _ t led) (head_root e.value, [], paged, refl)
 
   leaf_step : (s : PageSpot) (view : PageView) (i : ℕ) (t : Spot) (next : Option Entry) → page_at file meta s.number ≡ Some view → view.kind ≡ kind.Leaf → IsLed (At_page s)
       → step_entry true s (slice_get (map leaf_entry view.leaves) i) next ≡ Some t → IsLed t
@@ -164,7 +159,7 @@ module _ (file : List ℕ) (meta : Meta) where
 
       by : (o : Option Entry) → slice_get (map branch_entry view.branches) i ≡ o → step_entry false s o next ≡ Some t → IsLed t
       by None found e = absurd (none-some t e)
-      by (Some x) found e = subst IsLed (same_some (At_page (child_spot s x (upper_from next s.upper))) t e) (root, address ++ i ∷ [], bucket, on x found)
+      by (Some x) found e = subst IsLed (same_Some (At_page (child_spot s x (upper_from next s.upper))) t e) (root, address ++ i ∷ [], bucket, on x found)
 
   step_led : (s : Spot) (i : ℕ) (t : Spot) → ((p : PageSpot) → s ≡ At_page p → (node : Node) × (nodes p.number ≡ Ok node)) → IsLed s → step nodes (Some s) i ≡ Some t → IsLed t
   step_led (At_inline host inner) i t good led e = absurd (none-some t e)
@@ -178,7 +173,7 @@ module _ (file : List ℕ) (meta : Meta) where
   -- from a spot on
   ways_led : (here : Spot) (way : List ℕ) (t : Spot) → ((v : List ℕ) (p : PageSpot) → follow nodes (Some here) v ≡ Some (At_page p) → (node : Node) × (nodes p.number ≡ Ok node))
       → IsLed here → follow nodes (Some here) way ≡ Some t → IsLed t
-  ways_led here [] t good led e = subst IsLed (same_some here t e) led
+  ways_led here [] t good led e = subst IsLed (same_Some here t e) led
   ways_led here (i ∷ way) t good led e =
       let (next, is) = follow_some nodes (step nodes (Some here) i) way t e in
       ways_led next way t (λ v p f. good (i ∷ v) p (ap (λ (o : Option Spot). follow nodes o v) is ∙ f))
@@ -223,10 +218,7 @@ module _ (file : List ℕ) (meta : Meta) (trees : HasSoundTrees file meta) (tree
   same_page : (way : List ℕ) (s : PageSpot) (n : ℕ) → reached (node_at file meta) meta.root way ≡ Some (At_page s) → leads (node_at file meta) (Some meta.root) way ≡ Some n → n ≡ s.number
   same_page way s n e l =
       let (t, led, number) = leads_follow (node_at file meta) (root_spot meta.root) way n l in
-      sym number ∙ ap (λ (x : PageSpot). x.number) (page_same t s (sym led ∙ e))
-    where
-      page_same : (a b : PageSpot) → ◌≡◌ {A = Option Spot} (Some (At_page a)) (Some (At_page b)) → a ≡ b
-      page_same a b e = cc
+      sym number ∙ ap (λ (x : PageSpot). x.number) (same_spot t s (sym led ∙ e))
 
   buckets_alone : (way : List ℕ) (s : PageSpot) (view : PageView) → reached (node_at file meta) meta.root way ≡ Some (At_page s) → page_at file meta s.number ≡ Some view
       → view.kind ≡ kind.Leaf → (o : Option ℕ) → leads (node_at file meta) (Some meta.root) way ≡ o

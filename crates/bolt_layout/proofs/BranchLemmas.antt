@@ -3,7 +3,7 @@ use Rattle.std.proofs.Common.{◌≡◌, ◌∙◌, ℕ, suc, ◌+◌, ◌*◌, 
 use Rattle.bolt_layout.proofs.Words.{AllByRecursion, branch_bytes, branch_data, branch_header, branch_headers, BranchElement, element_at, faults_from, first_of-both, key_pos, le-ltb, length-append, part_next, part_read, part_within, range_with_len}
 use Rattle.bolt_format.specs.Elements.{branch_element, branch_elements, branch_end, branch_fault, branch_key_start, branches_fault}
 use Rattle.bolt_format.specs.ReadBack.{IsBranchHeader}
-use Rattle.bolt_format.proofs.EncodedHeaders.{branch_header_written, length-branch_header}
+use Rattle.bolt_format.proofs.Exports.{branch_header_written, length-branch_header}
 
 pub record IsBranchFit (e : BranchElement) : Type 0 where
   pub some : 1 ≤ length e.key

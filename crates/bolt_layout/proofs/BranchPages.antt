@@ -1,15 +1,12 @@
 -- A branch page over pages, and by the height the page over a row of items.
 use Rattle.std.proofs.lemmas.Grind.{common_steps}
-use Rattle.bolt_check.proofs.KeyLaws.{lt_strict}
+use Rattle.bolt_check.proofs.Exports.{lt_strict}
 use Rattle.std.proofs.Common.{◌≡◌, ◌∙◌, ℕ, zero, suc, ◌+◌, ◌*◌, ◌<◌, ◌≤◌, ◌==◌, true, false, List, [], ◌∷◌, ◌++◌, length, map, Option, Some, None, slice_get, refl, sym, ap, subst, arith, sum_by}
 use Rattle.bolt_layout.proofs.Words.{AllByRecursion, At_page, branch_data, branch_page_view, BranchElement, elements_of, Entry, is_below, is_from, Key, keys_of, keys_order_fault, Laid, LeafElement, length-append, ne_eqb, Node, node_finding, node_of, Nodes, numbers_of, page_over, pages_of, PageSpot, Placed, places, run_overflow, size_of, sum_by-cons, cases_Bool}
-use Rattle.bolt_layout.proofs.BranchLemmas.{IsBranchFit}
-use Rattle.bolt_layout.proofs.KeyLaws.{AreBelow, IsAbove, IsBelowItem, IsWithin, Rise, key_step, rise_split}
-use Rattle.bolt_layout.proofs.{ListLemmas.all_split, ListLemmas.all_weaker, OverRows.IsOver, OverRows.IsRun, OverRows.Pieces}
-use Rattle.bolt_layout.proofs.Parts.{IsPart, kids_at, more_kids, no_kids}
+use Rattle.bolt_layout.proofs.{BranchLemmas.IsBranchFit, KeyLaws.AreBelow, KeyLaws.IsAbove, KeyLaws.IsBelowItem, KeyLaws.IsWithin, KeyLaws.ItemsRise, KeyLaws.key_step, KeyLaws.rise_split}
+use Rattle.bolt_layout.proofs.{ListLemmas.all_split, ListLemmas.all_weaker, OverRows.IsOver, OverRows.IsRun, OverRows.Pieces, Parts.IsPart, Parts.kids_at, Parts.more_kids, Parts.no_kids}
 use Rattle.bolt_layout.proofs.PageRows.{HasRoom, IsPageFit, branch_room, overflow_room, overflow_small}
-use Rattle.bolt_layout.proofs.LaidPages.{AreNodes, HasPages, limit, own_page, page_has}
-use Rattle.bolt_layout.proofs.LaidItems.{IsItem, length-elements}
+use Rattle.bolt_layout.proofs.{LaidPages.AreNodes, LaidPages.HasPages, LaidPages.limit, LaidPages.own_page, LaidPages.page_has, LaidItems.IsItem, LaidItems.length-elements}
 use Rattle.bolt_layout.proofs.LeafPages.{IsPage, above_after, above_none, leaf_page, page_part}
 use Rattle.bolt_check.specs.{Nodes.branch_entry, Ways.child_spot, Ways.upper_from}
 
@@ -59,14 +56,14 @@ pub both_hold : (lower upper : Option Key) (ys : List (Laid LeafElement)) → Al
 both_hold lower upper [] a b = tt
 both_hold lower upper (y ∷ ys) a b = ((a.0, b.0), both_hold lower upper ys a.1 b.1)
 
-pub kids_parts : (page_size height : ℕ) (kids : List (Laid BranchElement)) (leaves : List (Laid LeafElement)) → Pieces (IsPage page_size height) kids leaves → Rise leaves
+pub kids_parts : (page_size height : ℕ) (kids : List (Laid BranchElement)) (leaves : List (Laid LeafElement)) → Pieces (IsPage page_size height) kids leaves → ItemsRise leaves
     → (nodes : Nodes) (s : PageSpot) (n to : ℕ) → AllByRecursion (IsWithin s.lower s.upper) leaves → suc s.depth + height ≤ 64 → 1 ≤ n → to ≡ n + numbers_of kids → to ≤ limit
     → AreNodes nodes (pages_of kids n) → IsPart nodes (kids_at nodes (places false s (map branch_entry (elements_of kids n)))) n to
 kids_parts page_size height [] leaves pieces rise nodes s n to within depth some end h shown = no_kids nodes n to (omega arith)
 kids_parts page_size height (kid ∷ kids) leaves pieces rise nodes s n to within depth some end h shown =
     let (x, front, back, e, page, more) = pieces in
     let both = all_split (λ (p : Placed). nodes p.number ≡ node_of p.view.kind p.view) (kid.pages n) (pages_of kids (n + kid.numbers)) shown in
-    let rise2 = rise_split (x ∷ front) back (subst Rise e rise) in
+    let rise2 = rise_split (x ∷ front) back (subst ItemsRise e rise) in
     let within2 = all_split (IsWithin s.lower s.upper) (x ∷ front) back (subst (AllByRecursion (IsWithin s.lower s.upper)) e within) in
     let entry : Entry = branch_entry (kid.element n) in
     let upper : Option Key = upper_from (slice_get (map branch_entry (elements_of kids (n + kid.numbers))) 0) s.upper in
@@ -78,7 +75,7 @@ kids_parts page_size height (kid ∷ kids) leaves pieces rise nodes s n to withi
     more_kids nodes (Some (At_page (child_spot s entry upper))) (places false s (map branch_entry (elements_of kids (n + kid.numbers)))) n (n + kid.numbers) to first
     (kids_parts page_size height kids back more rise2.1 nodes s (n + kid.numbers) to within2.1 depth (omega arith) (omega arith) h both.1)
 
-pub kids_keys : (page_size height : ℕ) (kids : List (Laid BranchElement)) (leaves : List (Laid LeafElement)) → Pieces (IsPage page_size height) kids leaves → Rise leaves
+pub kids_keys : (page_size height : ℕ) (kids : List (Laid BranchElement)) (leaves : List (Laid LeafElement)) → Pieces (IsPage page_size height) kids leaves → ItemsRise leaves
     → (before lower upper : Option Key) (n : ℕ) → AllByRecursion (IsAbove before) leaves → AllByRecursion (IsWithin lower upper) leaves
     → keys_order_fault before lower upper (keys_of (map branch_entry (elements_of kids n))) ≡ None
 kids_keys page_size height [] leaves pieces rise before lower upper n above within = refl
@@ -86,7 +83,7 @@ kids_keys page_size height (kid ∷ kids) leaves pieces rise before lower upper 
     let (x, front, back, e, page, more) = pieces in
     let key : Key = (kid.element n).key in
     let same : key ≡ x.key = page.key n ∙ page.first x front refl in
-    let rise2 = rise_split (x ∷ front) back (subst Rise e rise) in
+    let rise2 = rise_split (x ∷ front) back (subst ItemsRise e rise) in
     let within2 = all_split (IsWithin lower upper) (x ∷ front) back (subst (AllByRecursion (IsWithin lower upper)) e within) in
     let rest = kids_keys page_size height kids back more rise2.1 (Some key) lower upper (n + kid.numbers) (above_after x key back same rise2.2.0) within2.1 in
     grind (arith, key_step)
@@ -95,7 +92,7 @@ pub branch_content : (node : Node) (s : PageSpot) → node.is_leaf ≡ false →
 branch_content node s leaf some keys = let z : (length node.entries == 0) ≡ false = ne_eqb (length node.entries) 0 (λ e. omega arith) in rw (leaf, z, keys) refl
 
 pub branch_page : (page_size height : ℕ) (kid : Laid BranchElement) (kids : List (Laid BranchElement)) (leaves : List (Laid LeafElement)) → 0 < page_size
-    → Pieces (IsPage page_size height) (kid ∷ kids) leaves → AllByRecursion (IsItem page_size) leaves → Rise leaves → IsRun (kid ∷ kids)
+    → Pieces (IsPage page_size height) (kid ∷ kids) leaves → AllByRecursion (IsItem page_size) leaves → ItemsRise leaves → IsRun (kid ∷ kids)
     → IsPage page_size (suc height) (page_over branch_page_view page_size (kid ∷ kids)) leaves
 branch_page page_size height kid kids leaves sized pieces all rise fits = record {
   pages = page_has page_size branch_page_view (kid ∷ kids) (pieces_have page_size height (kid ∷ kids) leaves pieces) (λ further es. refl) (branch_own_room page_size height (kid ∷ kids) leaves sized pieces)
@@ -117,18 +114,18 @@ branch_page page_size height kid kids leaves sized pieces all rise fits = record
 }
 
 -- by the height
-pub over_pieces : (page_size height : ℕ) → ((page : Laid BranchElement) (leaves : List (Laid LeafElement)) → IsOver page_size height page leaves → AllByRecursion (IsItem page_size) leaves → Rise leaves → IsPage page_size height page leaves)
-    → (pages : List (Laid BranchElement)) (leaves : List (Laid LeafElement)) → Pieces (IsOver page_size height) pages leaves → AllByRecursion (IsItem page_size) leaves → Rise leaves
+pub over_pieces : (page_size height : ℕ) → ((page : Laid BranchElement) (leaves : List (Laid LeafElement)) → IsOver page_size height page leaves → AllByRecursion (IsItem page_size) leaves → ItemsRise leaves → IsPage page_size height page leaves)
+    → (pages : List (Laid BranchElement)) (leaves : List (Laid LeafElement)) → Pieces (IsOver page_size height) pages leaves → AllByRecursion (IsItem page_size) leaves → ItemsRise leaves
     → Pieces (IsPage page_size height) pages leaves
 over_pieces page_size height ih [] leaves h all rise = h
 over_pieces page_size height ih (page ∷ pages) leaves h all rise =
     let (x, front, back, e, o, more) = h in
     let all2 = all_split (IsItem page_size) (x ∷ front) back (subst (AllByRecursion (IsItem page_size)) e all) in
-    let rise2 = rise_split (x ∷ front) back (subst Rise e rise) in
+    let rise2 = rise_split (x ∷ front) back (subst ItemsRise e rise) in
     (x, front, back, e, ih page (x ∷ front) o all2.0 rise2.0, over_pieces page_size height ih pages back more all2.1 rise2.1)
 
 pub over_page : (page_size : ℕ) → 0 < page_size → (height : ℕ) (page : Laid BranchElement) (leaves : List (Laid LeafElement)) → IsOver page_size height page leaves
-    → AllByRecursion (IsItem page_size) leaves → Rise leaves → IsPage page_size height page leaves
+    → AllByRecursion (IsItem page_size) leaves → ItemsRise leaves → IsPage page_size height page leaves
 over_page page_size sized zero page leaves o all rise =
     let (e, fits) = o in subst (λ (p : Laid BranchElement). IsPage page_size 0 p leaves) (sym e) (leaf_page page_size leaves sized all rise fits)
 over_page page_size sized (suc height) page leaves o all rise =

@@ -2,10 +2,9 @@
 use Rattle.std.proofs.Common.{◌≡◌, ◌∙◌, ◌==◌, ℕ, ◌+◌, ◌/◌, ◌^◌, ◌<◌, ◌≤◌, Bool, true, false, List, [], ◌++◌, length, nat_le, not, refl, subst, sym, arith}
 use Rattle.std.proofs.lemmas.Bool.{leb-true}
 use Rattle.bolt_layout.proofs.Words.{AllByRecursion, and_parts, append-nil, bucket_item, elements_of, end, eq-eqb, HasLengths, head_bytes, head_root, head_written, header_bytes, header_written, holds_bucket, inline_value, is_inline, items_of, key_cmp, keys_in, Laid, largest_page, Layout, leaf_bytes, leaf_item, LeafElement, max_items, ne_eqb, Rises, RisesInside, root_over, run_size, size_of, stored_bucket, Tree, with_bucket, with_value}
-use Rattle.bolt_layout.proofs.{EvenPages.IsEven, EvenPages.IsNeatItem, EvenPages.over_even, InlineLemmas.inline_unnumbered}
-use Rattle.bolt_layout.proofs.{LaidItems.IsItem, LaidItems.length-elements, LaidPages.limit, OverRows.IsOver}
+use Rattle.bolt_layout.proofs.{EvenPages.IsEven, EvenPages.IsNeatItem, EvenPages.over_even, InlineLemmas.inline_unnumbered, LaidItems.IsItem, LaidItems.length-elements, LaidPages.limit}
+use Rattle.bolt_layout.proofs.{OverRows.IsOver, TreeItems.inline_read, TreeItems.root_page, TreeItems.root_stands, TreeItems.tree_items, TreeItems.tree_rise}
 use Rattle.bolt_format.specs.Elements.{inline_number}
-use Rattle.bolt_layout.proofs.TreeItems.{inline_read, root_page, root_stands, tree_items, tree_rise}
 
 false_true : false ≡ true → ⊥
 false_true e = cc

@@ -1,12 +1,11 @@
 -- Ways through even pages: each leaf is at the depth of the first leaf of its bucket, each page below a branch begins with the key of its entry,
 -- and no inline page has a number.
 use Rattle.std.proofs.Common.{◌≡◌, ◌∙◌, ◌==◌, ℕ, zero, suc, ◌+◌, ◌≤◌, Bool, true, false, List, [], ◌∷◌, map, Option, Some, None, Result, Ok, ap, cond, refl, slice_get, subst, sym, arith}
-use Rattle.std.proofs.lemmas.Option.{none-some, slice_get-map}
+use Rattle.std.proofs.lemmas.Option.{none-some, same_Some, slice_get-map}
 use Rattle.std.specs.Option.{option_map}
 use Rattle.bolt_layout.proofs.Words.{AllByRecursion, At_inline, At_page, Entry, follow, head_root, InlinePage, inline_page, Key, leaf_entry, LeafElement, Meta, Node, node_at, Nodes, page_at, PageSpot, PageView, reached, root_spot, Spot}
 use Rattle.bolt_layout.proofs.EvenPages.{BeginsWith, IsEven, IsEvenKid, IsNeatElement, even_depth}
-use Rattle.bolt_check.proofs.{Forest.follow_some, LeafDepths.child_leaves, LeafDepths.leaves_along, LeafDepths.leaves_same, LeafDepths.own_leaves}
-use Rattle.bolt_check.proofs.TreePages.{a_branch, a_leaf, branch_node, leaf_node, tree_page}
+use Rattle.bolt_check.proofs.Exports.{follow_some, child_leaves, leaves_along, leaves_same, own_leaves, a_branch, a_leaf, branch_node, leaf_node, tree_page}
 use Rattle.bolt_check.specs.{BboltFindings.first_leaf_depth, BboltFindings.leaves_at, Nodes.branch_entry, Ways.bucket_spots, Ways.child_spot, Ways.step, Ways.step_entry, Ways.upper_from}
 use Rattle.bolt_format.specs.declared.header.Kind.TheVariants as kind
 
@@ -27,9 +26,6 @@ ok node = Ok node
 
 pub same_node : (a b : Node) → ok a ≡ ok b → a ≡ b
 same_node a b e = cc
-
-same_spot : (a b : Spot) → ◌≡◌ {A = Option Spot} (Some a) (Some b) → a ≡ b
-same_spot a b e = cc
 
 all_get : {X : Type 0} (P : X → Type 0) (xs : List X) (i : ℕ) (x : X) → AllByRecursion P xs → slice_get xs i ≡ Some x → P x
 all_get P [] i x all at = absurd (none-some x at)
@@ -70,7 +66,7 @@ module _ (file : List ℕ) (meta : Meta) where
             low = omega arith;
             begins = λ key is. subst (BeginsWith nodes x.child) (same_key x.key key is) even.1;
           } in
-          subst (λ (u : Spot). IsEvenSpot nodes (own_leaves nodes leaves u) u) (same_spot (At_page k) t led) here
+          subst (λ (u : Spot). IsEvenSpot nodes (own_leaves nodes leaves u) u) (same_Some (At_page k) t led) here
         where
           same_key : (a b : Key) → ◌≡◌ {A = Option Key} (Some a) (Some b) → a ≡ b
           same_key a b e = cc
@@ -91,7 +87,7 @@ module _ (file : List ℕ) (meta : Meta) where
       → cond b (Some (cond c (At_inline host (inline_page e.value)) (At_page (root_spot (head_root e.value))))) None ≡ Some t → IsEvenSpot nodes (own_leaves nodes leaves t) t
   bucket_step host e t leaves neat false c bucket root led = absurd (none-some t led)
   bucket_step host e t leaves neat true true bucket root led =
-      subst (λ (u : Spot). IsEvenSpot nodes (own_leaves nodes leaves u) u) (same_spot (At_inline host (inline_page e.value)) t led) ((neat bucket).0 root)
+      subst (λ (u : Spot). IsEvenSpot nodes (own_leaves nodes leaves u) u) (same_Some (At_inline host (inline_page e.value)) t led) ((neat bucket).0 root)
   bucket_step host e t leaves neat true false bucket root led =
       let (height, low, even) = (neat bucket).1 root in
       let k = root_spot (head_root e.value) in
@@ -102,7 +98,7 @@ module _ (file : List ℕ) (meta : Meta) where
         low = omega arith;
         begins = λ key is. absurd (none-some key is);
       } in
-      subst (λ (u : Spot). IsEvenSpot nodes (own_leaves nodes leaves u) u) (same_spot (At_page k) t led) here
+      subst (λ (u : Spot). IsEvenSpot nodes (own_leaves nodes leaves u) u) (same_Some (At_page k) t led) here
 
   leaf_step : (s : PageSpot) (view : PageView) (i : ℕ) (t : Spot) (next : Option Entry) (leaves : ℕ) → AllByRecursion (IsNeatElement nodes) view.leaves
       → step_entry true s (slice_get (map leaf_entry view.leaves) i) next ≡ Some t → IsEvenSpot nodes (own_leaves nodes leaves t) t
@@ -131,7 +127,7 @@ module _ (file : List ℕ) (meta : Meta) where
 
   along : (here : Spot) (above : ℕ) (way : List ℕ) (t : Spot) → ((v : List ℕ) (u : Spot) → follow nodes (Some here) v ≡ Some u → IsNeatSpot u)
       → IsEvenSpot nodes (own_leaves nodes above here) here → follow nodes (Some here) way ≡ Some t → IsEvenSpot nodes (leaves_along nodes above (Some here) way) t
-  along here above [] t neat stands e = subst (IsEvenSpot nodes (own_leaves nodes above here)) (same_spot here t e) stands
+  along here above [] t neat stands e = subst (IsEvenSpot nodes (own_leaves nodes above here)) (same_Some here t e) stands
   along here above (i ∷ way) t neat stands e =
       let (next, is) = follow_some nodes (step nodes (Some here) i) way t e in
       let on = step_even here i next (own_leaves nodes above here) (neat [] here refl) stands is in

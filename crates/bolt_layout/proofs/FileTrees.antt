@@ -1,19 +1,16 @@
 -- What a file holds can be stored: the tree of a listing that rises, and whose members are held under their paths.
 use Rattle.std.proofs.Common.{◌≡◌, ◌∙◌, ℕ, ◌^◌, ◌<◌, Bool, true, false, IsTrue, List, [], ◌∷◌, ◌++◌, drop, refl, sym, ap, subst, subst₂, inl, inr, arith}
-use Rattle.std.proofs.lemmas.List.{same_from_push}
+use Rattle.std.proofs.{lemmas.List.same_from_push, lemmas.Bool.both_ways}
 use Rattle.bolt_layout.proofs.Words.{Contains, Contains-append_left, Contains-append_right, contains_cases, contains_head, contains_none, contains_tail, end, HasLengths, HasSoundTrees, head_root, head_sequence, inline_elements, Inline_page, IsBelow, IsEntry, IsOfOneTree, IsStorable, IsTreeOf, Key, key_cmp, keys_in, LeafElement, Less, listing_below, listing_of, Member, Meta, Path, Rises, RisesInside, Root_page, Start, start_of, Tree, tree_of, with_bucket, with_value}
 use Rattle.bolt_layout.proofs.SoundCopies.{TreeLists}
-use Rattle.std.specs.Ordering.{ordering_then}
-use Rattle.std.specs.declared.cmp.Ordering.{Ordering}
-use Rattle.std.specs.declared.cmp.Ordering.TheVariants.{Equal}
+use Rattle.std.specs.{Ordering.ordering_then, declared.cmp.Ordering.Ordering, declared.cmp.Ordering.TheVariants.Equal}
 use Rattle.byteorder.specs.Numbers.{little_from-lt}
 use Rattle.bolt_format.specs.{Bytes.IsBytes, Bytes.number_at, ElementLengths.HasFitLengths, Elements.IsBucketValue}
-use Rattle.bolt_format.proofs.ElementFacts.{drop_bytes, entry_fits, inline_fits, value_bytes}
-use Rattle.bolt_format.proofs.PageFacts.{bucket_value, flat_inline}
-use Rattle.bolt_tree.specs.{Entries.Bucket, Entries.Item, Entries.ShowsEntry, Entries.Value, Entries.item_of, Listing.IsListing, Listing.member_cmp}
-use Rattle.bolt_tree.specs.Paths.{Holds, path_cmp}
-use Rattle.bolt_tree.proofs.PathOrder.{same_front}
+use Rattle.bolt_format.proofs.Exports.{drop_bytes, entry_fits, inline_fits, value_bytes, bucket_value, flat_inline}
+use Rattle.bolt_tree.specs.{Entries.Bucket, Entries.Item, Entries.ShowsEntry, Entries.Value, Entries.item_of, Listing.IsListing, Listing.member_cmp, Paths.Holds, Paths.path_cmp}
+use Rattle.bolt_tree.proofs.Exports.{same_front}
 use Rattle.bolt_layout.specs.Storable.{IsFitListing, IsFitMember}
+use Rattle.bolt_check.proofs.Exports.{first_decides}
 
 -- the sequence of a bucket's value has 64 bits
 sequence_fits : (value : List ℕ) → IsBytes value → head_sequence value < 2 ^ 64
@@ -29,11 +26,8 @@ rises_right : {A : Type 0} (cmp : A → A → Ordering) (xs ys : List A) → Ris
 rises_right cmp [] ys r = r
 rises_right cmp (x ∷ xs) ys r = rises_right cmp xs ys r.1
 
-only_less : (o : Ordering) → ordering_then o Equal ≡ Less → o ≡ Less
-only_less o e = grind arith
-
 last_less : (front : Path) (j k : Key) → path_cmp (front ++ j ∷ []) (front ++ k ∷ []) ≡ Less → key_cmp j k ≡ Less
-last_less front j k less = only_less (key_cmp j k) (sym (same_front front (j ∷ []) (k ∷ [])) ∙ less)
+last_less front j k less = first_decides (key_cmp j k) (sym (same_front front (j ∷ []) (k ∷ [])) ∙ less)
 
 -- each key of the outermost bucket is the last part of a path
 key_listed : (tree : Tree) (front : Path) (k : Key) → Contains (keys_in tree) k → (item : Item) × Contains (listing_below front tree) (front ++ k ∷ [], item)
@@ -93,13 +87,10 @@ pub record IsGoodEntry (e : LeafElement) : Type 0 where
   pub value : e.is_bucket ≡ true → IsBucketValue e.value
   pub sequence : e.is_bucket ≡ true → IsBytes e.value
 
-not_both : (b : Bool) → b ≡ false → b ≡ true → ⊥
-not_both b e h = cc
-
 pub good_inner : (value : List ℕ) (e : LeafElement) → IsBucketValue value → head_root value ≡ 0 → Contains (inline_elements value) e → IsGoodEntry e
 good_inner value e good root within =
     let flat = flat_inline value e good root within in
-    record { lengths = inline_fits value e good root within; value = λ b. absurd (not_both e.is_bucket flat b); sequence = λ b. absurd (not_both e.is_bucket flat b) }
+    record { lengths = inline_fits value e good root within; value = λ b. absurd (both_ways e.is_bucket flat b); sequence = λ b. absurd (both_ways e.is_bucket flat b) }
 
 -- the format can hold its member
 pub good_fits : (path : Path) (e : LeafElement) → IsGoodEntry e → IsFitMember (path ++ e.key ∷ []) (item_of e)

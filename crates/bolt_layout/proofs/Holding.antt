@@ -3,7 +3,7 @@ use Rattle.std.proofs.Common.{◌≡◌, ◌∙◌, ℕ, zero, suc, ◌+◌, ◌
 use Rattle.std.proofs.lemmas.List.Elements.{Contains-append_cases}
 use Rattle.bolt_layout.proofs.Words.{AllByRecursion, branch_page_view, BranchElement, Contains, Contains-append_left, Contains-append_right, elements_of, IsEntry, Laid, leaf_page_view, LeafElement, Meta, node_at, numbers_of, page_at, page_over, pages_of, PageView, Placed, Root_page, run_overflow}
 use Rattle.bolt_format.specs.declared.header.Kind.TheVariants as kind
-use Rattle.bolt_check.proofs.TreePages.{branch_step, leads_child, leaf_ends, node_is}
+use Rattle.bolt_check.proofs.Exports.{branch_step, leads_child, leaf_ends, node_is}
 use Rattle.bolt_layout.proofs.{LaidPages.limit, ListLemmas.all_split, OverRows.IsOver, OverRows.Pieces}
 
 module _ (file : List ℕ) (meta : Meta) where

@@ -1,21 +1,20 @@
 -- What an order of keys says of a row of items.
 use Rattle.std.proofs.Common.{◌≡◌, true, List, [], ◌∷◌, ◌++◌, Option, None, Some, refl}
-use Rattle.bolt_layout.proofs.Words.{AllByRecursion, is_below, is_from, Key, key_lt, keys_order_fault, Laid, LeafElement}
-use Rattle.bolt_layout.proofs.ListLemmas.{all_split}
+use Rattle.bolt_layout.proofs.{Words.AllByRecursion, Words.is_below, Words.is_from, Words.Key, Words.key_lt, Words.keys_order_fault, Words.Laid, Words.LeafElement, ListLemmas.all_split}
 use Rattle.bolt_check.specs.Keys.{is_above}
 
 -- items whose keys rise
 abbrev pub IsBelowItem : Laid LeafElement → Laid LeafElement → Type 0
 IsBelowItem x y = key_lt x.key y.key ≡ true
 
-abbrev pub Rise : List (Laid LeafElement) → Type 0
-Rise [] = Unit {0}
-Rise (x ∷ xs) = AllByRecursion (IsBelowItem x) xs × Rise xs
+abbrev pub ItemsRise : List (Laid LeafElement) → Type 0
+ItemsRise [] = Unit {0}
+ItemsRise (x ∷ xs) = AllByRecursion (IsBelowItem x) xs × ItemsRise xs
 
 abbrev pub AreBelow : List (Laid LeafElement) → List (Laid LeafElement) → Type 0
 AreBelow xs ys = AllByRecursion (λ x. AllByRecursion (IsBelowItem x) ys) xs
 
-pub rise_split : (xs ys : List (Laid LeafElement)) → Rise (xs ++ ys) → Rise xs × Rise ys × AreBelow xs ys
+pub rise_split : (xs ys : List (Laid LeafElement)) → ItemsRise (xs ++ ys) → ItemsRise xs × ItemsRise ys × AreBelow xs ys
 rise_split [] ys h = (tt, h, tt)
 rise_split (x ∷ xs) ys h =
     let first = all_split (IsBelowItem x) xs ys h.0 in

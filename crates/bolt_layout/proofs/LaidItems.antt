@@ -1,10 +1,9 @@
 -- What holds of a leaf item, and of a row of them: they are read back, and have room on their page.
 use Rattle.bolt_layout.proofs.SpanLemmas.{length-leaf_bytes}
-use Rattle.std.proofs.Common.{◌≡◌, ℕ, ◌+◌, ◌*◌, ◌<◌, ◌≤◌, List, [], ◌∷◌, length, refl, arith, sum_by}
 use Rattle.bolt_layout.proofs.Words.{AllByRecursion, bucket_spots, common_steps, elements_of, follow, Laid, leaf_data, leaf_entry, leaf_page_view, LeafElement, length-append, Nodes, numbers_of, size_of, sum_by-cons, value_fault, length-header_bytes}
-use Rattle.bolt_layout.proofs.{LeafLemmas.IsLeafFit, OverRows.IsRun, Parts.IsPart}
-use Rattle.bolt_layout.proofs.PageRows.{HasRoom, IsPageFit, overflow_room, overflow_small}
+use Rattle.bolt_layout.proofs.{LeafLemmas.IsLeafFit, OverRows.IsRun, Parts.IsPart, PageRows.HasRoom, PageRows.IsPageFit, PageRows.overflow_room, PageRows.overflow_small}
 use Rattle.bolt_layout.proofs.LaidPages.{AreNodes, HasPages, limit, own_page}
+use Rattle.std.proofs.Common.{◌≡◌, ℕ, ◌+◌, ◌*◌, ◌<◌, ◌≤◌, List, [], ◌∷◌, length, refl, arith, sum_by}
 
 -- What holds of a leaf item.
 pub record IsItem (page_size : ℕ) (item : Laid LeafElement) : Type 0 where

@@ -3,7 +3,7 @@ use Rattle.std.proofs.Common.{◌≡◌, ◌∙◌, ℕ, suc, ◌+◌, ◌*◌, 
 use Rattle.bolt_layout.proofs.Words.{AllByRecursion, element_at, faults_from, first_of-both, key_pos, le-ltb, leaf_bytes, leaf_data, leaf_element, leaf_elements, leaf_header, leaf_headers, LeafElement, leaves_fault, length-append, part_next, part_read, part_within, range_with_len}
 use Rattle.bolt_format.specs.Elements.{data_fault, key_length_fault, leaf_end, leaf_fault, leaf_flags_fault, leaf_key_start, plain_leaf_fault, value_length_fault}
 use Rattle.bolt_format.specs.{Encoded.leaf_flag, ReadBack.IsLeafHeader}
-use Rattle.bolt_format.proofs.EncodedHeaders.{leaf_header_written, length-leaf_header}
+use Rattle.bolt_format.proofs.Exports.{leaf_header_written, length-leaf_header}
 
 -- an element whose numbers pass the tests
 pub record IsLeafFit (bucket_fault : List ℕ → Option ℕ) (e : LeafElement) : Type 0 where

@@ -1,11 +1,9 @@
 -- What holds of the page over a row of leaf items, where it holds of the items; and a leaf page over them.
 use Rattle.std.proofs.Common.{◌≡◌, ◌∙◌, ℕ, suc, ◌+◌, ◌<◌, ◌≤◌, nat_lt, Bool, true, false, List, [], ◌∷◌, ◌++◌, length, map, Option, Some, None, Ok, slice_get, refl, sym, ap, subst, arith}
 use Rattle.bolt_layout.proofs.Words.{AllByRecursion, At_page, BranchElement, bucket_spots, elements_of, Entry, finding_of, follow, follow_none, Key, key_lt, keys_of, keys_order_fault, Laid, le-ltb, leaf_entry, leaf_page_view, LeafElement, Node, node_finding, node_of, Nodes, numbers_of, page_over, pages_of, PageSpot, Placed, places, run_overflow, Spot}
-use Rattle.bolt_layout.proofs.KeyLaws.{IsAbove, IsBelowItem, IsWithin, Rise, key_step}
-use Rattle.bolt_layout.proofs.{ListLemmas.all_split, ListLemmas.all_weaker, OverRows.IsRun}
+use Rattle.bolt_layout.proofs.{KeyLaws.IsAbove, KeyLaws.IsBelowItem, KeyLaws.IsWithin, KeyLaws.ItemsRise, KeyLaws.key_step, ListLemmas.all_split, ListLemmas.all_weaker, OverRows.IsRun}
 use Rattle.bolt_layout.proofs.Parts.{IsFinePage, IsPart, kids_at, more_kids, no_kids, part_page}
-use Rattle.bolt_layout.proofs.LaidPages.{AreNodes, HasPages, limit, page_has}
-use Rattle.bolt_layout.proofs.LaidItems.{IsItem, leaf_own, leaf_own_room}
+use Rattle.bolt_layout.proofs.{LaidPages.AreNodes, LaidPages.HasPages, LaidPages.limit, LaidPages.page_has, LaidItems.IsItem, LaidItems.leaf_own, LaidItems.leaf_own_room}
 use Rattle.bolt_check.specs.Ways.{step_entry}
 use Rattle.bolt_layout.specs.Laid.{first_key}
 
@@ -51,7 +49,7 @@ items_parts page_size (item ∷ items) all nodes s n to some end h shown =
 pub above_after : (x : Laid LeafElement) (key : Key) (items : List (Laid LeafElement)) → key ≡ x.key → AllByRecursion (IsBelowItem x) items → AllByRecursion (IsAbove (Some key)) items
 above_after x key items same h = all_weaker (IsBelowItem x) (IsAbove (Some key)) (λ y less. ap (λ (k : Key). key_lt k y.key) same ∙ less) items h
 
-pub items_keys : (page_size : ℕ) (items : List (Laid LeafElement)) → AllByRecursion (IsItem page_size) items → (before lower upper : Option Key) (n : ℕ) → Rise items
+pub items_keys : (page_size : ℕ) (items : List (Laid LeafElement)) → AllByRecursion (IsItem page_size) items → (before lower upper : Option Key) (n : ℕ) → ItemsRise items
     → AllByRecursion (IsAbove before) items → AllByRecursion (IsWithin lower upper) items → keys_order_fault before lower upper (keys_of (map leaf_entry (elements_of items n))) ≡ None
 items_keys page_size [] all before lower upper n rise above within = refl
 items_keys page_size (item ∷ items) all before lower upper n rise above within =
@@ -67,7 +65,7 @@ above_none (item ∷ items) = (refl, above_none items)
 pub items_have : (page_size : ℕ) (items : List (Laid LeafElement)) → AllByRecursion (IsItem page_size) items → AllByRecursion (HasPages page_size) items
 items_have page_size items = all_weaker (IsItem page_size) (HasPages page_size) (λ item i. i.pages) items
 
-pub leaf_page : (page_size : ℕ) (leaves : List (Laid LeafElement)) → 0 < page_size → AllByRecursion (IsItem page_size) leaves → Rise leaves → IsRun leaves
+pub leaf_page : (page_size : ℕ) (leaves : List (Laid LeafElement)) → 0 < page_size → AllByRecursion (IsItem page_size) leaves → ItemsRise leaves → IsRun leaves
     → IsPage page_size 0 (page_over leaf_page_view page_size leaves) leaves
 leaf_page page_size leaves sized all rise fits = record {
   pages = page_has page_size leaf_page_view leaves (items_have page_size leaves all) (λ further es. refl) (leaf_own_room page_size leaves sized all)

@@ -1,48 +1,49 @@
+mod BalancedRows
 mod BboltCopies
 mod BboltMetas
 mod BboltWays
+mod BranchLemmas
+mod BranchPages
+mod Cutting
 mod EvenPages
 mod EvenTrees
 mod EvenWays
-mod Prefixes
-mod BranchPages
-pub mod FileTrees
+pub mod Exports
+mod Faces
+mod FileTrees
 mod HeldBounds
 mod Holding
 mod InlineLemmas
 mod KeyLaws
+mod LaidItems
 mod LaidPages
+mod LastItem
+mod LeafLemmas
 mod LeafPages
+mod LimitedRows
+mod LimitsFromEnds
+mod ListLemmas
+mod NotMuchLarger
+mod OneCut
+mod OpenedBuckets
+mod OverRows
+mod PageRows
 mod Parts
 mod PlacedWays
+mod PlainNumbers
+mod PlainRows
+mod Prefixes
+mod RightLimits
+mod RowEnds
+mod SameFaces
 mod Showing
 mod SoundCopies
 mod Soundness
+mod SpanLemmas
+mod Tops
 mod TreeItems
 mod TwoChildren
+mod Weights
+mod Words
 mod WorkedBytes
 mod WorkedLayouts
-pub mod BalancedRows
-pub mod BranchLemmas
-pub mod Cutting
-pub mod Faces
-pub mod LaidItems
-pub mod LastItem
-pub mod LeafLemmas
-pub mod LimitedRows
-pub mod ListLemmas
-pub mod NotMuchLarger
-pub mod OneCut
-pub mod OpenedBuckets
-pub mod OverRows
-pub mod PageRows
-pub mod PlainNumbers
-pub mod PlainRows
-pub mod RightLimits
-pub mod SameFaces
-pub mod SpanLemmas
-pub mod LimitsFromEnds
-pub mod RowEnds
-pub mod Tops
-pub mod Weights
-mod Words

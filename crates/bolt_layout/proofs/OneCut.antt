@@ -1,7 +1,6 @@
 -- There is one cut of each row.
-use Rattle.std.proofs.lemmas.Grind.{common_steps}
+use Rattle.std.proofs.{lemmas.Grind.common_steps, lemmas.Bool.or_cases, lemmas.Bool.or_parts}
 use Rattle.std.proofs.Common.{◌≡◌, ◌≢◌, ◌⊎◌, ℕ, suc, ◌<◌, ◌≤◌, nat_lt, true, false, List, [], ◌∷◌, ◌++◌, length, Some, slice_get, refl, sym, ap, subst, inl, inr, arith, append_assoc, flat_map}
-use Rattle.std.proofs.lemmas.Bool.{or_cases, or_parts}
 use Rattle.bolt_layout.proofs.Words.{append-nil, cases_Bool, cases_lt, cut_from, cut_of, joins, length-append, length_push, lt-ltb, ltb-false, ltb-true, max_items, run_size, sum_by-append}
 use Rattle.bolt_layout.specs.Cut.{CutIsOne, IsCut}
 

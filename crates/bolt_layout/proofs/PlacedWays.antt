@@ -2,7 +2,7 @@
 use Rattle.std.proofs.Common.{◌≡◌, ◌∙◌, ◌⊎◌, ℕ, ◌+◌, ◌<◌, ◌≤◌, List, [], ◌∷◌, Option, Some, Result, Ok, sym, ap, subst, inl, inr, arith}
 use Rattle.bolt_layout.proofs.Words.{At_inline, At_page, cases_lt, Node, node_of, Nodes, PageSpot, PageView, Placed, Spot}
 use Rattle.bolt_layout.proofs.{LaidPages.AreNodes, PageRows.IsInARow, Parts.IsFinePage, Parts.IsPart}
-use Rattle.bolt_check.proofs.Judging.{span_spot}
+use Rattle.bolt_check.proofs.Exports.{span_spot}
 use Rattle.bolt_check.specs.{Nodes.IsInSpan, Ways.SpanHas, Ways.SpanOf}
 use Rattle.bolt_format.specs.declared.header.Kind.{Kind}
 
@@ -21,7 +21,7 @@ IsPlaced (p ∷ pages) n = (p.number ≡ n) ⊎ IsPlaced pages n
 overflow_same : (k : Kind) (view : PageView) (node : Node) → node_of k view ≡ Ok node → node.overflow ≡ view.overflow
 overflow_same k view node e = grind arith
 
-same_spot : (a b : PageSpot) → ◌≡◌ {A = Option Spot} (Some (At_page a)) (Some (At_page b)) → a ≡ b
+pub same_spot : (a b : PageSpot) → ◌≡◌ {A = Option Spot} (Some (At_page a)) (Some (At_page b)) → a ≡ b
 same_spot a b e = cc
 
 module _ (nodes : Nodes) (reach : List ℕ → Option Spot) (from to : ℕ) (part : IsPart nodes reach from to) where

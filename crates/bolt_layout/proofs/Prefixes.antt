@@ -1,10 +1,8 @@
 -- A layout that is cut short is refused.
 use Rattle.std.proofs.Common.{◌≡◌, ◌∙◌, ℕ, ◌+◌, ◌-◌, ◌*◌, ◌^◌, ◌<◌, ◌≤◌, List, [], ◌∷◌, ◌++◌, length, drop, take, Some, Err, refl, ap, subst, inl, inr, arith}
-use Rattle.std.proofs.Math.Seq.{take-append-add}
-use Rattle.std.proofs.lemmas.List.{drop-take, length-take}
+use Rattle.std.proofs.{Math.Seq.take-append-add, lemmas.List.drop-take, lemmas.List.length-take}
 use Rattle.bolt_layout.proofs.Words.{AllByRecursion, At_page, cases_lt, chosen_of, copy_meta, eq-eqb, header_bytes, header_written, IsAsked, IsActive, IsHeaderFit, IsMeta, IsPageSize, Kind, Layout, layout_mark, layout_of, layout_root, le-ltb, length-header_bytes, length-meta_bytes, Meta, meta_bytes, meta_written, node_at, One, page_at, page_fault, Placed, placed_bytes, root_spot, span_fault, Tree, Zero}
-use Rattle.bolt_layout.proofs.PageRows.{IsInARow, IsPageFit, last_written, page_headed, row_last}
-use Rattle.bolt_layout.proofs.Soundness.{IsLaidOut, laid_out}
+use Rattle.bolt_layout.proofs.{PageRows.IsInARow, PageRows.IsPageFit, PageRows.last_written, PageRows.page_headed, PageRows.row_last, Soundness.IsLaidOut, Soundness.laid_out}
 use Rattle.bolt_format.specs.{Metas.IsInOne, Metas.IsInSlot, declared.page_fault.TheConstants.PageFault.CUT, declared.meta.Slot.Slot}
 use Rattle.bolt_check.specs.{Findings.PageTests, Findings.finding, Sound.IsFirstFinding, Sound.IsRefused, declared.check_fault.CheckFault.TheVariants.Structure}
 use Rattle.bolt_layout.specs.Copies.{RefusesPrefixes}

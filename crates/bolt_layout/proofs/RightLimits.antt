@@ -1,8 +1,7 @@
 -- The limits that follow from what is noted of the plain rows are those of the balanced ones. For this the keys and sizes of the pages are
 -- compared, row by row.
-use Rattle.std.proofs.lemmas.Grind.{common_steps}
+use Rattle.std.proofs.{lemmas.Grind.common_steps, lemmas.Bool.and_cases, lemmas.Bool.eqb-false, lemmas.Bool.eqb-true}
 use Rattle.std.proofs.Common.{◌≡◌, ◌≢◌, ◌∙◌, ◌⊎◌, ◌++◌, ◌-◌, ◌≤◌, ◌==◌, ◌&&◌, ℕ, zero, suc, nat_lt, Bool, true, false, List, [], ◌∷◌, length, map, Option, Some, None, refl, sym, ap, subst, inl, inr, arith}
-use Rattle.std.proofs.lemmas.Bool.{and_cases, eqb-false, eqb-true}
 use Rattle.bolt_layout.proofs.Words.{AllByRecursion, and_parts, AreRowEnds, Balanced, branch_cut, BranchElement, cases_Bool, cut_of, cut_row, eq-eqb, HaveRightLimits, IsPageRun, join_last, Laid, last_length, length-map, length_push, limit_at, limits_from_ends, ltb-false, ltb-true, map-append, ne_eqb, next_level, Plain, size_of}
 use Rattle.bolt_layout.proofs.{Cutting.cut_divides, Faces.Face, Faces.face, Faces.face_size, Faces.map_cut, Faces.map_last, Faces.next_faces, Faces.top_face}
 use Rattle.bolt_layout.proofs.LastItem.{HasItem, IsPushed, cut_pushed, join_none, join_tops, last_append, last_some, push_counts, push_last, push_tops, some_runs}

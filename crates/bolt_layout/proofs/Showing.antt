@@ -1,10 +1,9 @@
 -- The pages of a tree show it: the entries of each bucket are its items' elements.
 use Rattle.std.proofs.Common.{◌≡◌, ◌∙◌, ℕ, ◌+◌, ◌^◌, ◌<◌, ◌≤◌, ◌==◌, Bool, true, false, List, [], ◌∷◌, refl, sym, ap, subst, inl, inr, arith}
 use Rattle.bolt_layout.proofs.Words.{AllByRecursion, append-nil, bucket_item, contains_cases, contains_none, elements_of, eq-eqb, HasLengths, head_bytes, head_root, head_sequence, head_written, holds_bucket, inline_elements, Inline_page, inline_value, is_inline, IsBelow, IsEntry, IsTreeOf, items_of, Key, key_cmp, keys_in, Laid, largest_page, Layout, LeafElement, Less, Meta, ne_eqb, Rises, RisesInside, root_over, Root_page, Start, start_of, stored_bucket, Tree, with_bucket, with_value}
-use Rattle.bolt_layout.proofs.{Holding.AreOf, Holding.ArePages, Holding.Holds, Holding.over_holds, KeyLaws.IsBelowItem, KeyLaws.Rise, LaidItems.IsItem}
-use Rattle.bolt_layout.proofs.{LaidPages.limit, ListLemmas.all_weaker, OverRows.HasShortKey, OverRows.IsAtMost, OverRows.root_is_over}
-use Rattle.bolt_layout.proofs.TreeItems.{inline_read, root_page, tree_items, tree_rise}
-use Rattle.bolt_check.proofs.KeyLaws.{less_of}
+use Rattle.bolt_layout.proofs.{Holding.AreOf, Holding.ArePages, Holding.Holds, Holding.over_holds, KeyLaws.IsBelowItem, KeyLaws.ItemsRise, LaidItems.IsItem, LaidPages.limit, ListLemmas.all_weaker}
+use Rattle.bolt_layout.proofs.{OverRows.HasShortKey, OverRows.IsAtMost, OverRows.root_is_over, TreeItems.inline_read, TreeItems.root_page, TreeItems.tree_items, TreeItems.tree_rise}
+use Rattle.bolt_check.proofs.Exports.{less_of}
 use Rattle.bolt_tree.specs.{Entries.AreEntries, Entries.entry_cmp, Tree.Shows}
 
 module _ (file : List ℕ) (meta : Meta) where
@@ -23,13 +22,13 @@ module _ (file : List ℕ) (meta : Meta) where
       ]
   below_of page_size x e same es items are all below f has = grind (arith, contains_none)
 
-  rises_of : (page_size : ℕ) (es : List LeafElement) (items : List (Laid LeafElement)) → AreOf file meta es items → AllByRecursion (IsItem page_size) items → Rise items
+  rises_of : (page_size : ℕ) (es : List LeafElement) (items : List (Laid LeafElement)) → AreOf file meta es items → AllByRecursion (IsItem page_size) items → ItemsRise items
       → Rises entry_cmp es
   rises_of page_size (e ∷ es) (item ∷ items) are all rise = grind (arith, below_of, rises_of page_size es items are.1 all.1 rise.1)
   rises_of page_size es items are all rise = grind arith
 
   -- so they are the entries of a bucket whose root page stands over the items
-  held_entries : (page_size here : ℕ) (items : List (Laid LeafElement)) (held : Holds file meta here items) → AllByRecursion (IsItem page_size) items → Rise items
+  held_entries : (page_size here : ℕ) (items : List (Laid LeafElement)) (held : Holds file meta here items) → AllByRecursion (IsItem page_size) items → ItemsRise items
       → AreEntries (IsEntry file meta) (Root_page here) held.es
   held_entries page_size here items held all rise = grind (arith, rises_of)
 
@@ -60,14 +59,14 @@ module _ (file : List ℕ) (meta : Meta) where
         | inr later ↦ flat_below page_size x e same items all.1 below.1 (n + item.numbers) f later
       ]
 
-  flat_rises : (page_size : ℕ) (items : List (Laid LeafElement)) → AllByRecursion (IsItem page_size) items → Rise items → (n : ℕ) → Rises entry_cmp (elements_of items n)
+  flat_rises : (page_size : ℕ) (items : List (Laid LeafElement)) → AllByRecursion (IsItem page_size) items → ItemsRise items → (n : ℕ) → Rises entry_cmp (elements_of items n)
   flat_rises page_size [] all rise n = tt
   flat_rises page_size (item ∷ items) all rise n =
       let first : IsItem page_size item = all.0 in
       (flat_below page_size item (item.element n) (first.key n) items all.1 rise.0 (n + item.numbers), flat_rises page_size items all.1 rise.1 (n + item.numbers))
 
   inline_shows : (which : Layout) (page_size sequence : ℕ) (key : Key) (inside : Tree) (e : LeafElement) → page_size ≤ largest_page → sequence < 256 ^ 8 → HasLengths inside
-      → AllByRecursion (IsItem page_size) (items_of which page_size inside) → Rise (items_of which page_size inside) → is_inline page_size inside (items_of which page_size inside) ≡ true
+      → AllByRecursion (IsItem page_size) (items_of which page_size inside) → ItemsRise (items_of which page_size inside) → is_inline page_size inside (items_of which page_size inside) ≡ true
       → e ≡ record { key = key; value = inline_value sequence (elements_of (items_of which page_size inside) 0); is_bucket = true } → ShowsBucket key sequence inside e
   inline_shows which page_size sequence key inside e small sized lengths all rise inline same =
       let es : List LeafElement = elements_of (items_of which page_size inside) 0 in
@@ -90,7 +89,7 @@ module _ (file : List ℕ) (meta : Meta) where
       over_holds file meta page_size height (root_over which page_size items) items over n some room shown
 
   root_shows : (which : Layout) (page_size sequence n : ℕ) (key : Key) (inside : Tree) (items : List (Laid LeafElement)) (e : LeafElement) → 0 < page_size → page_size ≤ largest_page → sequence < 256 ^ 8
-      → AllByRecursion (IsItem page_size) items → Rise items
+      → AllByRecursion (IsItem page_size) items → ItemsRise items
       → ((es : List LeafElement) → AreOf file meta es items → Shows (IsEntry file meta) inside es)
       → 1 ≤ n → n + (root_over which page_size items).numbers ≤ limit → ArePages file meta ((root_over which page_size items).pages n)
       → e ≡ (bucket_item key sequence (root_over which page_size items)).element n → ShowsBucket key sequence inside e
@@ -106,7 +105,7 @@ module _ (file : List ℕ) (meta : Meta) where
       subst (ShowsBucket key sequence inside) (sym same) (refl, refl, head.sequence, (held.es, there, ih held.es held.are))
 
   stored_shows : (which : Layout) (page_size sequence n : ℕ) (key : Key) (inside : Tree) (e : LeafElement) → 0 < page_size → page_size ≤ largest_page → sequence < 256 ^ 8 → HasLengths inside
-      → AllByRecursion (IsItem page_size) (items_of which page_size inside) → Rise (items_of which page_size inside)
+      → AllByRecursion (IsItem page_size) (items_of which page_size inside) → ItemsRise (items_of which page_size inside)
       → ((es : List LeafElement) → AreOf file meta es (items_of which page_size inside) → Shows (IsEntry file meta) inside es)
       → (b : Bool) → is_inline page_size inside (items_of which page_size inside) ≡ b
       → 1 ≤ n → n + (stored_bucket which page_size key sequence inside (items_of which page_size inside)).numbers ≤ limit

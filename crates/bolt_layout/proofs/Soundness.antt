@@ -1,14 +1,13 @@
 -- The layout of a tree is a sound file.
 use Rattle.std.proofs.Common.{◌≡◌, ◌∙◌, ℕ, ◌+◌, ◌-◌, ◌*◌, ◌^◌, ◌<◌, ◌≤◌, List, [], ◌∷◌, ◌++◌, length, drop, replicate, Option, Some, refl, sym, ap, inl, inr, arith, append_assoc}
 use Rattle.bolt_layout.proofs.Words.{AllByRecursion, append-nil, cases_lt, chosen_of, copy_meta, freelist_page, HasSoundTrees, header_bytes, IsActive, IsMeta, IsPageSize, IsStorable, items_of, Layout, layout_mark, layout_meta, layout_of, layout_pages, layout_root, length-append, length-header_bytes, length-meta_bytes, Meta, meta_bytes, meta_page, meta_written, mul-le-mul_left, node_at, node_of, One, page_fault, PageView, part_next, Placed, placed_bytes, reached, root_of, root_over, root_spot, size_bounds, Tree, Zero}
-use Rattle.bolt_layout.proofs.SpanLemmas.{IsEmptyFreelist, IsShown, freelist_shown, length-filled}
+use Rattle.bolt_layout.proofs.{SpanLemmas.IsEmptyFreelist, SpanLemmas.IsShown, SpanLemmas.freelist_shown, SpanLemmas.length-filled, Parts.IsPart, Parts.part_clean}
+use Rattle.bolt_layout.proofs.{PageRows.IsInARow, PageRows.IsPageFit, PageRows.length-placed, PageRows.row_shown, LeafPages.IsPage, LaidPages.AreNodes, LaidPages.limit}
+use Rattle.bolt_layout.proofs.TreeItems.{root_page, tree_items, tree_rise, within_none}
 use Rattle.bolt_format.specs.{Metas.HasBothMetas, ReadBack.IsMetaFit}
 use Rattle.bolt_check.specs.{Nodes.node_seen, Sound.HasRightAccounts, Sound.PassesTests}
 use Rattle.bolt_layout.specs.{Copies.HasNoFreePage, Layout.file_bytes}
 use Rattle.bolt_format.specs.declared.header.Kind.TheVariants as kind
-use Rattle.bolt_layout.proofs.{Parts.IsPart, Parts.part_clean, PageRows.IsInARow, PageRows.IsPageFit, PageRows.length-placed, PageRows.row_shown}
-use Rattle.bolt_layout.proofs.{LeafPages.IsPage, LaidPages.AreNodes, LaidPages.limit}
-use Rattle.bolt_layout.proofs.TreeItems.{root_page, tree_items, tree_rise, within_none}
 
 -- How long the pieces are.
 length-meta_page : (page_size root sequence mark txid : ℕ) → 80 ≤ page_size → length (meta_page page_size root sequence mark txid) ≡ page_size

@@ -1,14 +1,13 @@
 -- A page that was written at its place in a file shows what was written.
 use Rattle.std.proofs.Common.{◌≡◌, ◌∙◌, ℕ, ◌+◌, ◌-◌, ◌*◌, ◌^◌, ◌<◌, ◌≤◌, ◌==◌, is_some, nat_lt, nat_le, true, false, List, [], ◌++◌, length, drop, replicate, Option, Some, None, refl, sym, ap, arith, append_assoc}
-use Rattle.std.proofs.lemmas.Bool.{lt-leb}
-use Rattle.std.proofs.lemmas.List.{drop_at}
+use Rattle.std.proofs.{lemmas.Bool.lt-leb, lemmas.List.drop_at}
 use Rattle.bolt_layout.proofs.Words.{add-mul, AllByRecursion, append-nil, branch_bytes, branch_data, branch_headers, branch_page_view, BranchElement, count_field, eq-eqb, first_of-both, flags_field, freelist_page, header_bytes, header_written, IsHeaderFit, Kind, le-ltb, leaf_bytes, leaf_data, leaf_headers, leaf_page_view, LeafElement, length-append, length-header_bytes, length-replicate, Meta, page_at, page_bytes, page_fault, PageView, part_read, part_within, span_fault, value_fault}
+use Rattle.bolt_layout.proofs.LeafLemmas.{IsLeafFit, leaves_written, length-leaf_headers}
+use Rattle.bolt_layout.proofs.BranchLemmas.{IsBranchFit, branches_written, length-branch_headers}
 use Rattle.bolt_format.specs.{Headers.id_field, Headers.kind_of, Freelists.freelist_fault, Freelists.free_ids_at, Freelists.ids_fault}
 use Rattle.bolt_format.specs.Pages.{content_fault, from_page, page_overflow, span_bytes, view_of}
 use Rattle.bolt_format.specs.declared.header.Kind.TheVariants as kind
 use Rattle.bolt_layout.specs.PageBytes.{filled}
-use Rattle.bolt_layout.proofs.LeafLemmas.{IsLeafFit, leaves_written, length-leaf_headers}
-use Rattle.bolt_layout.proofs.BranchLemmas.{IsBranchFit, branches_written, length-branch_headers}
 
 pub length-filled : (n : ℕ) (bytes : List ℕ) → length bytes ≤ n → length (filled n bytes) ≡ n
 length-filled n bytes h = let l = length-replicate {A = ℕ} (n - length bytes) 0 in length-append bytes (replicate (n - length bytes) 0) ∙ omega (arith, l)

@@ -1,14 +1,12 @@
 -- The items of a tree are read back, have room, and are parts of a sound tree of pages.
-use Rattle.bolt_layout.proofs.Parts.{none_some, nothing}
+use Rattle.bolt_layout.proofs.Parts.{none_some, nothing, IsPart, part_inline}
+use Rattle.bolt_layout.proofs.Words.{AllByRecursion, and_parts, append-nil, At_inline, At_page, bucket_item, bucket_spots, common_steps, contains_head, contains_tail, elements_of, end, eq-eqb, finding_of, follow, HasLengths, head_bytes, head_root, head_sequence, head_written, holds_bucket, inline_elements, inline_page, inline_finding, inline_value, is_inline, IsBelow, items_of, Key, key_cmp, keys_in, keys_of, Laid, largest_page, Layout, leaf_data, leaf_entry, leaf_item, LeafElement, length-append, length-header_bytes, max_items, ne_eqb, Nodes, Rises, RisesInside, root_over, root_spot, run_size, size_of, Spot, stored_bucket, Tree, value_fault, with_bucket, with_value}
+use Rattle.bolt_layout.proofs.{InlineLemmas.IsFlat, InlineLemmas.inline_written, SpanLemmas.length-leaf_bytes, KeyLaws.IsBelowItem, KeyLaws.IsWithin, KeyLaws.ItemsRise, ListLemmas.all_weaker}
+use Rattle.bolt_layout.proofs.{OverRows.HasShortKey, OverRows.IsAtMost, OverRows.IsOver, OverRows.root_is_over, LaidPages.limit, LaidItems.IsItem, LaidItems.items_size, LaidItems.length-elements}
+use Rattle.bolt_layout.proofs.{LeafPages.IsPage, LeafPages.above_none, LeafPages.items_keys, BranchPages.over_page}
 use Rattle.std.proofs.Common.{◌≡◌, ◌∙◌, ℕ, ◌+◌, ◌*◌, ◌/◌, ◌^◌, ◌<◌, ◌≤◌, ◌==◌, not, nat_le, Bool, true, false, List, [], ◌∷◌, length, map, Option, Some, None, refl, sym, ap, subst, arith}
 use Rattle.std.proofs.lemmas.Bool.{leb-true, not-true}
-use Rattle.bolt_layout.proofs.Words.{AllByRecursion, and_parts, append-nil, At_inline, At_page, bucket_item, bucket_spots, common_steps, contains_head, contains_tail, elements_of, end, eq-eqb, finding_of, follow, HasLengths, head_bytes, head_root, head_sequence, head_written, holds_bucket, inline_elements, inline_page, inline_finding, inline_value, is_inline, IsBelow, items_of, Key, key_cmp, keys_in, keys_of, Laid, largest_page, Layout, leaf_data, leaf_entry, leaf_item, LeafElement, length-append, length-header_bytes, max_items, ne_eqb, Nodes, Rises, RisesInside, root_over, root_spot, run_size, size_of, Spot, stored_bucket, Tree, value_fault, with_bucket, with_value}
-use Rattle.bolt_layout.proofs.{InlineLemmas.IsFlat, InlineLemmas.inline_written, SpanLemmas.length-leaf_bytes}
-use Rattle.bolt_layout.proofs.{KeyLaws.IsBelowItem, KeyLaws.IsWithin, KeyLaws.Rise, ListLemmas.all_weaker}
-use Rattle.bolt_layout.proofs.{OverRows.HasShortKey, OverRows.IsAtMost, OverRows.IsOver, OverRows.root_is_over, Parts.IsPart, Parts.part_inline}
-use Rattle.bolt_layout.proofs.{LaidPages.limit, LaidItems.IsItem, LaidItems.items_size, LaidItems.length-elements}
-use Rattle.bolt_layout.proofs.{LeafPages.IsPage, LeafPages.above_none, LeafPages.items_keys, BranchPages.over_page}
-use Rattle.bolt_format.proofs.EncodedHeaders.{length-head_bytes, root_passes}
+use Rattle.bolt_format.proofs.Exports.{length-head_bytes, root_passes}
 
 -- an item with no pages below it
 flat_item : (page_size : ℕ) (key value : List ℕ) (flag : Bool) → 1 ≤ length key → length key ≤ 0x40000000 → length value ≤ 0x7FFFFFFE → (flag ≡ true → value_fault value ≡ None)
@@ -74,7 +72,7 @@ inline_read which page_size sequence inside small sized lengths all inline =
     (written.0, written.1, written.2, written.3, none, omega arith)
 
 inline_item : (which : Layout) (page_size : ℕ) (key : List ℕ) (sequence : ℕ) (inside : Tree) → page_size ≤ largest_page → 1 ≤ length key → length key ≤ 0x40000000 → sequence < 256 ^ 8
-    → HasLengths inside → AllByRecursion (IsItem page_size) (items_of which page_size inside) → Rise (items_of which page_size inside)
+    → HasLengths inside → AllByRecursion (IsItem page_size) (items_of which page_size inside) → ItemsRise (items_of which page_size inside)
     → is_inline page_size inside (items_of which page_size inside) ≡ true
     → IsItem page_size (leaf_item key (inline_value sequence (elements_of (items_of which page_size inside) 0)) true)
 inline_item which page_size key sequence inside small some short sized lengths all rise inline =
@@ -97,7 +95,7 @@ root_stands which page_size items small all =
     let sizes = all_weaker (IsItem page_size) (IsAtMost 0xFFFFFFEF) (λ item i. i.most) items all in
     root_is_over which page_size items (omega arith) keys sizes
 
-pub root_page : (which : Layout) (page_size : ℕ) (items : List (Laid LeafElement)) → 0 < page_size → page_size ≤ largest_page → AllByRecursion (IsItem page_size) items → Rise items
+pub root_page : (which : Layout) (page_size : ℕ) (items : List (Laid LeafElement)) → 0 < page_size → page_size ≤ largest_page → AllByRecursion (IsItem page_size) items → ItemsRise items
     → (height : ℕ) × ((root_over which page_size items).numbers ≤ limit → height ≤ 63) × IsPage page_size height (root_over which page_size items) items
 root_page which page_size items sized small all rise =
     let (height, low, over) = root_stands which page_size items small all in
@@ -107,7 +105,7 @@ spot_of_root : (host root : ℕ) (e : LeafElement) → e.is_bucket ≡ true → 
 spot_of_root host root e bucket same some = let z : (head_root e.value == 0) ≡ false = ne_eqb (head_root e.value) 0 (λ zero_root. omega arith) in rw (bucket, z) refl
 
 root_item : (which : Layout) (page_size : ℕ) (key : List ℕ) (sequence : ℕ) (items : List (Laid LeafElement)) → 0 < page_size → page_size ≤ largest_page → 1 ≤ length key → length key ≤ 0x40000000 → sequence < 256 ^ 8
-    → AllByRecursion (IsItem page_size) items → Rise items → IsItem page_size (bucket_item key sequence (root_over which page_size items))
+    → AllByRecursion (IsItem page_size) items → ItemsRise items → IsItem page_size (bucket_item key sequence (root_over which page_size items))
 root_item which page_size key sequence items sized small some short narrow all rise =
     let root = root_over which page_size items in
     let (height, low, page) = root_page which page_size items sized small all rise in
@@ -147,7 +145,7 @@ keys_below which page_size key end below x same = tt
 keys_below which page_size key (with_value other value after) below x same = grind (arith, common_steps, contains_head, contains_tail, keys_below which page_size key after (λ k has. below k (contains_tail other k (keys_in after) has)) x same)
 keys_below which page_size key (with_bucket other sequence inside after) below x same = grind (arith, common_steps, contains_head, contains_tail, keys_below which page_size key after (λ k has. below k (contains_tail other k (keys_in after) has)) x same)
 
-pub tree_rise : (which : Layout) (page_size : ℕ) (tree : Tree) → Rises key_cmp (keys_in tree) → Rise (items_of which page_size tree)
+pub tree_rise : (which : Layout) (page_size : ℕ) (tree : Tree) → Rises key_cmp (keys_in tree) → ItemsRise (items_of which page_size tree)
 tree_rise which page_size end h = tt
 tree_rise which page_size (with_value key value after) h =
     (keys_below which page_size key after h.0 (leaf_item key value false) refl, tree_rise which page_size after h.1)
@@ -157,7 +155,7 @@ tree_rise which page_size (with_bucket key sequence inside after) h =
     (keys_below which page_size key after h.0 (stored_bucket which page_size key sequence inside items) named, tree_rise which page_size after h.1)
 
 stored_item : (which : Layout) (page_size : ℕ) (key : List ℕ) (sequence : ℕ) (inside : Tree) → 0 < page_size → page_size ≤ largest_page → 1 ≤ length key → length key ≤ 0x40000000 → sequence < 256 ^ 8
-    → HasLengths inside → AllByRecursion (IsItem page_size) (items_of which page_size inside) → Rise (items_of which page_size inside) → (b : Bool) → is_inline page_size inside (items_of which page_size inside) ≡ b
+    → HasLengths inside → AllByRecursion (IsItem page_size) (items_of which page_size inside) → ItemsRise (items_of which page_size inside) → (b : Bool) → is_inline page_size inside (items_of which page_size inside) ≡ b
     → IsItem page_size (stored_bucket which page_size key sequence inside (items_of which page_size inside))
 stored_item which page_size key sequence inside sized small some short narrow lengths all rise true e =
     rw e (inline_item which page_size key sequence inside small some short narrow lengths all rise e)

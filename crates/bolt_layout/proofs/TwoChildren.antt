@@ -1,10 +1,9 @@
 -- No branch page of a balanced layout has fewer than two elements.
 use Rattle.std.proofs.Common.{◌≡◌, ℕ, suc, ◌+◌, ◌≤◌, List, [], ◌∷◌, length, map, flat_map, refl, sym, ap, subst, arith}
 use Rattle.bolt_layout.proofs.Words.{AllByRecursion, Balanced, branch_cut, branch_page_view, BranchElement, cut_of, elements_of, end, items_of, join_last, Laid, layout_pages, leaf_level, leaf_page_view, LeafElement, length-append, next_level, page_over, pages_of, root_of, root_over, size_of, top_in, Tree, with_bucket, with_value}
+use Rattle.bolt_layout.proofs.{Cutting.branches_divide, Cutting.cut_divides, ListLemmas.all_append, ListLemmas.all_split, OneCut.AreRuns, OneCut.cut_runs, OneCut.cut_whole, OneCut.first_long}
 use Rattle.bolt_format.specs.declared.header.Kind.TheVariants as kind
 use Rattle.bolt_layout.specs.Layout.{HasTwoIfBranch, first_page}
-use Rattle.bolt_layout.proofs.{Cutting.branches_divide, Cutting.cut_divides, ListLemmas.all_append, ListLemmas.all_split}
-use Rattle.bolt_layout.proofs.OneCut.{AreRuns, cut_runs, cut_whole, first_long}
 
 abbrev HasItems : {X : Type 0} → List X → Type 0
 HasItems run = 2 ≤ length run

@@ -1,8 +1,6 @@
 -- How many page numbers a row of pages takes: its overflow, by the weights of what stands on it.
-use Rattle.std.proofs.lemmas.Grind.{common_steps}
+use Rattle.std.proofs.{lemmas.Grind.common_steps, Math.Nat.div-mul-le_self, lemmas.Nat.le-div}
 use Rattle.std.proofs.Common.{◌≡◌, ℕ, ◌+◌, ◌*◌, ◌/◌, ◌<◌, ◌≤◌, List, [], ◌∷◌, ◌++◌, length, map, flat_map, sum_by, refl, arith}
-use Rattle.std.proofs.Math.Nat.{div-mul-le_self}
-use Rattle.std.proofs.lemmas.Nat.{le-div}
 use Rattle.bolt_layout.proofs.Words.{add-mul, AllByRecursion, div-lt_iff_lt-mul, Laid, numbers_of, overflow_of, page_over, PageView, run_overflow, size_of, sum_by-cons}
 use Rattle.bolt_layout.proofs.{LastItem.HasItem, ListLemmas.all_split, OverRows.numbers-append}
 

@@ -1,14 +1,11 @@
 -- The words that the proofs of this crate cite, passed on from the modules that define them.
-pub use Rattle.bolt_check.proofs.Forest.{follow_none}
+pub use Rattle.bolt_check.proofs.Exports.{follow_none}
 pub use Rattle.bolt_check.specs.{EntrySpots.places, Findings.finding_of, Findings.inline_finding, Findings.keys_of, Findings.node_finding}
 pub use Rattle.bolt_check.specs.Keys.{Key, is_below, is_from, key_cmp, key_lt, keys_order_fault}
 pub use Rattle.bolt_check.specs.{Nodes.Entry, Nodes.InlinePage, Nodes.Node, Nodes.Nodes, Nodes.inline_page, Nodes.leaf_entry, Nodes.node_of, Sound.HasSoundTrees}
 pub use Rattle.bolt_check.specs.Ways.{At_inline, At_page, PageSpot, Spot, bucket_spots, follow, reached, root_spot}
 unfoldable pub use Rattle.bolt_check.specs.Nodes.{node_at}
-pub use Rattle.bolt_format.proofs.{FaultLemmas.first_of-both, NumberLemmas.part_next, NumberLemmas.part_read, NumberLemmas.part_within}
-pub use Rattle.bolt_format.proofs.PageSizes.{largest_page, size_bounds}
-pub use Rattle.bolt_format.proofs.EncodedHeaders.{head_written, header_written, length-header_bytes}
-pub use Rattle.bolt_format.proofs.EncodedMetas.{chosen_of, length-meta_bytes, meta_written}
+pub use Rattle.bolt_format.proofs.Exports.{first_of-both, part_next, part_read, part_within, largest_page, size_bounds, head_written, header_written, length-header_bytes, chosen_of, length-meta_bytes, meta_written}
 unfoldable pub use Rattle.bolt_format.specs.{Bytes.fnv_of, Bytes.fnv_step, Elements.leaf_elements, Elements.leaves_fault, Elements.value_fault}
 unfoldable pub use Rattle.bolt_format.specs.Pages.{page_at, page_fault, span_fault}
 unfoldable pub use Rattle.bolt_format.specs.Encoded.{branch_header, head_bytes, header_bytes, leaf_header, meta_bytes, meta_record, number_bytes}
@@ -30,7 +27,7 @@ pub use Rattle.bolt_layout.specs.{Storable.HasLengths, Storable.IsStorable, Stor
 pub use Rattle.bolt_layout.specs.declared.Layout.TheVariants.{Balanced, Plain}
 unfoldable pub use Rattle.bolt_layout.specs.{Items.root_of, Layout.layout_of, Levels.overflow_of, Levels.root_over}
 unfoldable pub use Rattle.bolt_layout.specs.PageBytes.{branch_bytes, freelist_page, inline_value, leaf_bytes, meta_page, page_bytes}
-pub use Rattle.bolt_tree.proofs.Lists.{contains_cases, contains_head, contains_none, contains_tail}
+pub use Rattle.bolt_tree.proofs.Exports.{contains_cases, contains_head, contains_none, contains_tail}
 pub use Rattle.bolt_tree.specs.{Entries.Inline_page, Entries.IsEntry, Entries.Root_page, Entries.Start, Entries.start_of, Listing.Member}
 pub use Rattle.bolt_tree.specs.{Order.IsBelow, Order.Rises, Paths.Path}
 pub use Rattle.bolt_tree.specs.Tree.{IsTreeOf, Tree, end, listing_below, listing_of, tree_of, with_bucket, with_value}

@@ -1,11 +1,8 @@
 -- What bbolt can write: docs/LAYOUT.md, "What holds of both layouts". No value is in the root bucket, and none under a key of more than 32,768
 -- bytes.
 use Rattle.std.specs.Prelude.{◌≡◌, ◌<◌, ◌^◌, ℕ, false, List, [], ◌∷◌, ◌++◌, Contains, length}
-use Rattle.bolt_check.specs.{BboltFindings.AreBboltFindings, BboltFindings.is_too_large, Keys.Key, Nodes.node_at, declared.finding.Finding.Finding}
-use Rattle.bolt_check.specs.declared.finding.TheConstants.Finding.{ONE_CHILD}
-use Rattle.bolt_tree.specs.Entries.{Value}
-use Rattle.bolt_tree.specs.{Listing.Member, Paths.Path, Tree.Tree}
-use Rattle.bolt_tree.specs.Tree.{end, tree_of, with_bucket, with_value}
+use Rattle.bolt_check.specs.{BboltFindings.AreBboltFindings, BboltFindings.is_too_large, Keys.Key, Nodes.node_at, declared.finding.Finding.Finding, declared.finding.TheConstants.Finding.ONE_CHILD}
+use Rattle.bolt_tree.specs.{Entries.Value, Listing.Member, Paths.Path, Tree.Tree, Tree.end, Tree.tree_of, Tree.with_bucket, Tree.with_value}
 use Rattle.bolt_layout.specs.{Copies.IsAsked, Copies.IsOfOneTree, Layout.layout_meta, Layout.layout_of, Layout.layout_root, declared.Layout.Layout}
 
 -- the names of buckets may have any length

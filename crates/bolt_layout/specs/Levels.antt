@@ -2,9 +2,7 @@
 use Rattle.std.specs.Prelude.{◌≡◌, ◌≤◌, ℕ, zero, suc, ◌+◌, ◌-◌, ◌*◌, ◌/◌, List, [], ◌∷◌, ◌++◌, length, map}
 use Rattle.bolt_format.specs.{Elements.BranchElement, Elements.LeafElement, Pages.PageView}
 use Rattle.bolt_format.specs.declared.header.Kind.TheVariants as kind
-use Rattle.bolt_layout.specs.Cut.{branch_cut, cut_of, run_size}
-use Rattle.bolt_layout.specs.Laid.{Laid, elements_of, first_key, held_in, numbers_of, pages_of, size_of}
-use Rattle.bolt_layout.specs.declared.Layout.{Layout}
+use Rattle.bolt_layout.specs.{Cut.branch_cut, Cut.cut_of, Cut.run_size, Laid.Laid, Laid.elements_of, Laid.first_key, Laid.held_in, Laid.numbers_of, Laid.pages_of, Laid.size_of, declared.Layout.Layout}
 
 -- the least number of further pages with which a page has room for this many bytes, of which there is one at least
 unfoldable pub overflow_of : (page_size size : ℕ) → ℕ

@@ -7,8 +7,7 @@
 -- before it, one run less, and the single item joins; any other has as many runs as in the plain layout.
 use Rattle.std.specs.Prelude.{zero, suc, ◌≡◌, ◌≤◌, ◌==◌, ◌-◌, ℕ, Bool, true, false, ◌&&◌, nat_lt, List, [], ◌∷◌, ◌++◌, length, Option, Some, None, if◌then◌else◌}
 use Rattle.bolt_format.specs.Elements.{BranchElement}
-use Rattle.bolt_layout.specs.{Cut.branch_cut, Cut.cut_of, Cut.joins, Laid.Laid, Laid.size_of, Levels.next_level, declared.Layout.Layout}
-use Rattle.bolt_layout.specs.declared.Layout.TheVariants.{Plain}
+use Rattle.bolt_layout.specs.{Cut.branch_cut, Cut.cut_of, Cut.joins, Laid.Laid, Laid.size_of, Levels.next_level, declared.Layout.Layout, declared.Layout.TheVariants.Plain}
 
 -- how many runs may still begin in a row: any number, or so many
 abbrev pub is_out : Option ℕ → Bool

@@ -3,10 +3,8 @@
 use Rattle.std.specs.Prelude.{suc, zero, ◌≡◌, ◌==◌, ◌+◌, ℕ, false, nat_lt, List, [], ◌∷◌, length, map, Option, None, if◌then◌else◌}
 use Rattle.bolt_format.specs.Elements.{BranchElement, LeafElement}
 use Rattle.bolt_tree.specs.Tree.{Tree, end, with_bucket, with_value}
-use Rattle.bolt_layout.specs.{Cut.cut_from, Cut.cut_of, Items.is_inline, Items.items_of, Laid.Laid, Laid.size_of}
-use Rattle.bolt_layout.specs.Levels.{leaf_page_view, next_level, page_over}
-use Rattle.bolt_layout.specs.{Limits.HaveRightLimits, Limits.last_length, Limits.limit_at, Limits.limits_from_ends, declared.Layout.Layout}
-use Rattle.bolt_layout.specs.declared.Layout.TheVariants.{Plain}
+use Rattle.bolt_layout.specs.{Cut.cut_from, Cut.cut_of, Items.is_inline, Items.items_of, Laid.Laid, Laid.size_of, Levels.leaf_page_view, Levels.next_level, Levels.page_over}
+use Rattle.bolt_layout.specs.{Limits.HaveRightLimits, Limits.last_length, Limits.limit_at, Limits.limits_from_ends, declared.Layout.Layout, declared.Layout.TheVariants.Plain}
 
 -- all leaf pages of a bucket with these items: one empty page where it has none
 abbrev pub leaf_pages : (page_size : ℕ) → List (Laid LeafElement) → List (Laid BranchElement)

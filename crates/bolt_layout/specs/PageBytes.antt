@@ -1,10 +1,8 @@
 -- The bytes of the pages of a compact copy: docs/LAYOUT.md, "Bytes". Each part directly follows the preceding one.
 use Rattle.std.specs.Prelude.{ℕ, ◌+◌, ◌-◌, ◌*◌, List, [], ◌∷◌, ◌++◌, length, replicate}
-use Rattle.bolt_format.specs.{Elements.BranchElement, Elements.LeafElement, Pages.PageView}
-use Rattle.bolt_format.specs.Encoded.{branch_header, head_bytes, header_bytes, leaf_header, meta_bytes}
-use Rattle.bolt_format.specs.declared.header.Kind.{Kind}
+use Rattle.bolt_format.specs.{Elements.BranchElement, Elements.LeafElement, Pages.PageView, Encoded.branch_header, Encoded.head_bytes, Encoded.header_bytes, Encoded.leaf_header, Encoded.meta_bytes}
+use Rattle.bolt_format.specs.{declared.header.Kind.Kind, declared.meta.Meta.Meta}
 use Rattle.bolt_format.specs.declared.header.Kind.TheVariants as kind
-use Rattle.bolt_format.specs.declared.meta.Meta.{Meta}
 
 -- bytes, and zeros up to n of them
 abbrev pub filled : ℕ → List ℕ → List ℕ

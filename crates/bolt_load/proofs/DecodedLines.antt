@@ -2,7 +2,7 @@
 use Rattle.std.proofs.Common.{rules, ◌≡◌, ◌∙◌, ◌<◌, ◌-◌, ℕ, List, [], ◌∷◌, ◌++◌, Option, Some, None, length, get_or, take, refl, sym, ap, subst, arith, append_assoc, append-nil, length-append}
 use Rattle.std.proofs.lemmas.Grind.{common_steps, flat_map-append}
 use Rattle.bolt_load.proofs.Words.{AddsDecoded, All, All-append, AreDecoded, filter_map-append, flat_map, IfSome, IsFirstLine, IsSome, length_fault, line_member, LineFault, lines_of, Member, member_bytes, members_of_lines, NotALine, option_map, option_map_or, shape_fault, StopsAt, take-append_seam, Text}
-use Rattle.bolt_text.proofs.LineLemmas.{no_lines}
+use Rattle.bolt_text.proofs.Exports.{no_lines}
 use Rattle.std.specs.Prelude.{zero, suc}
 
 -- ---- lines that are right in themselves

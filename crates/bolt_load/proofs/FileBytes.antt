@@ -1,21 +1,16 @@
 -- What a file lists has bytes of the file in its keys and its values.
-use Rattle.std.proofs.lemmas.Grind.{common_steps}
+use Rattle.std.proofs.{lemmas.Grind.common_steps, lemmas.List.get_or-take, lemmas.List.get_or_past, lemmas.Bool.both_ways}
 use Rattle.std.proofs.Common.{◌≡◌, ℕ, Bool, true, false, List, [], ◌∷◌, sym, subst, arith}
-use Rattle.std.proofs.lemmas.List.{get_or-take, get_or_past}
 use Rattle.bolt_load.proofs.Words.{ArePartsBytes, cases_lt, Contains, IsFitItem, Item, Member, Path}
 use Rattle.std.specs.List.{slice_range}
 use Rattle.bolt_format.specs.Bytes.{IsBytes}
 use Rattle.bolt_format.specs.Elements.{IsBucketValue, LeafElement, head_root, inline_bytes, inline_elements, leaf_element, leaf_key_start, leaf_value_start}
 use Rattle.bolt_format.specs.{Pages.span_bytes, declared.meta.Meta.Meta}
-use Rattle.bolt_format.proofs.{ElementFacts.drop_bytes, PageFacts.bucket_value, PageFacts.flat_inline, PageFacts.in_inline, PageFacts.on_leaf}
+use Rattle.bolt_format.proofs.Exports.{drop_bytes, range_bytes, bucket_value, flat_inline, in_inline, on_leaf}
 use Rattle.bolt_text.specs.JsonReadings.{IsItemOfBytes}
-use Rattle.bolt_tree.specs.{Entries.Inline_page, Entries.IsEntry, Entries.Root_page, Entries.Start, Entries.start_of, Listing.IsListing}
-use Rattle.bolt_tree.specs.Paths.{Holds}
+use Rattle.bolt_tree.specs.{Entries.Inline_page, Entries.IsEntry, Entries.Root_page, Entries.Start, Entries.start_of, Listing.IsListing, Paths.Holds}
 use Rattle.bolt_layout.specs.Storable.{IsFitMember}
 use Rattle.bolt_load.specs.ByteMembers.{AreOfBytes}
-
-range_bytes : (bytes : List ℕ) (a b : ℕ) → IsBytes bytes → IsBytes (slice_range bytes a b)
-range_bytes bytes a b are i = grind (arith, common_steps, cases_lt, ℕ, get_or-take, drop_bytes, get_or_past)
 
 record AreBytes (e : LeafElement) : Type 0 where
   key : IsBytes e.key
@@ -37,9 +32,6 @@ module _ (file : List ℕ) (meta : Meta) (bytes : IsBytes file) where
   start_bytes : (value : List ℕ) → IsBucketValue value → IsBytes value → IsOfBytes (start_of value)
   start_bytes value good are = grind arith
 
-  not_both : (b : Bool) → b ≡ false → b ≡ true → ⊥
-  not_both b e h = cc
-
   entry_good : (bucket : Start) (e : LeafElement) → IsOfBytes bucket → IsEntry file meta bucket e → IsGood e
   entry_good (Root_page root) e start (address, n, leading, (view, at, is, has)) =
       let on = on_leaf file meta n view e at is has in
@@ -50,7 +42,7 @@ module _ (file : List ℕ) (meta : Meta) (bytes : IsBytes file) where
       let on = in_inline value e good root within in
       record {
         bytes_are = subst AreBytes (sym on.same) (element_bytes (inline_bytes value) on.i (drop_bytes value 16 value_bytes));
-        start = λ b. absurd (not_both e.is_bucket (flat_inline value e good root within) b);
+        start = λ b. absurd (both_ways e.is_bucket (flat_inline value e good root within) b);
       }
 
   held_bytes : (path : Path) (item : Item) (from : Start) → IsOfBytes from → Holds (IsEntry file meta) from path item → IsFitItem item → ArePartsBytes path × IsItemOfBytes item

@@ -1,16 +1,12 @@
 -- The buckets of the members so far in which a further member may be are those of the last path: paths rise, and each has its bucket before it.
 use Rattle.std.proofs.Common.{rules, ◌≡◌, ◌∙◌, ◌⊎◌, inl, inr, ◌<◌, ◌+◌, ◌-◌, ◌==◌, ◌&&◌, ◌||◌, Bool, true, false, List, [], ◌∷◌, ◌++◌, Some, length, take, drop, slice_get, refl, sym, ap, subst, arith, append_assoc, append-nil, length-append, length-drop}
-use Rattle.std.proofs.lemmas.Grind.{common_steps}
-use Rattle.std.proofs.lemmas.Bool.{or_cases}
-use Rattle.std.proofs.lemmas.List.Folds.{list_any-append}
-use Rattle.std.proofs.lemmas.Slice.Eq.{slice_eq-Decides}
-use Rattle.std.proofs.Math.Seq.{take-append-add}
+use Rattle.std.proofs.{lemmas.Grind.common_steps, lemmas.Bool.or_cases, lemmas.List.Folds.list_any-append, lemmas.Slice.Eq.slice_eq-Decides, Math.Seq.take-append-add}
 use Rattle.std.specs.Cmp.Lexicographic.{pointwise}
 use Rattle.std.specs.Prelude.{nat_lt}
-use Rattle.bolt_load.proofs.Words.{and_parts, begins_of, begins_with, bytes_eq, bytes_eq-Decides, fault_after, order_fault, Has, has_bucket, has_split, is_above_last, is_bucket, is_lt, is_open, Item, Key, Less, less_lt, list_any, Member, nat_tests, option_map_or, Path, path_above, path_cmp, path_total, place_fault, take-append-drop}
+use Rattle.bolt_load.proofs.Words.{and_parts, begins_of, begins_with, bytes_eq, bytes_eq-Decides, fault_after, order_fault, Has, has_bucket, has_split, is_above_last, is_bucket, is_lt, is_open, Item, Key, Less, less_of, list_any, Member, nat_tests, option_map_or, Path, path_above, path_cmp, path_total, place_fault, take-append-drop}
 use Rattle.bolt_tree.specs.ListingParts.{is_bucket_at}
-use Rattle.bolt_check.proofs.Lists.{get_behind}
-use Rattle.bolt_tree.proofs.{Lists.asymmetric, PartLemmas.begins_by, PathOrder.beyond_less, PathOrder.beyond_or_longer}
+use Rattle.bolt_check.proofs.Exports.{get_behind}
+use Rattle.bolt_tree.proofs.Exports.{asymmetric, begins_by, beyond_less, beyond_or_longer}
 
 -- ---- tests
 
@@ -33,7 +29,7 @@ any_has p (x ∷ xs) any = elim (or_cases (p x) (list_any p xs) any) [
 same_path : (a b : Path) → pointwise bytes_eq a b ≡ true → a ≡ b
 same_path a b = (slice_eq-Decides bytes_eq-Decides a b (pointwise bytes_eq a b) refl).0
 
-path_itself : (path : Path) → pointwise bytes_eq path path ≡ true
+pub path_itself : (path : Path) → pointwise bytes_eq path path ≡ true
 path_itself path = (slice_eq-Decides bytes_eq-Decides path path (pointwise bytes_eq path path) refl).1 refl
 
 -- ---- the bucket above a path
@@ -131,7 +127,7 @@ module _ (before : List Member) (last : Path) (bucket : Bool) (is : IsLast befor
         at : (less : Bool) → is_lt (path_cmp last path) ≡ less → place_fault before (path, item) ≡ fault_after last bucket path
         at true less =
             ap (λ b. order_fault b (has_bucket (path_above path) before)) (is.above path some)
-            ∙ ap (order_fault (is_lt (path_cmp last path))) (path_open (less_lt (path_cmp last path) less))
+            ∙ ap (order_fault (is_lt (path_cmp last path))) (path_open (less_of (path_cmp last path) less))
         at false less =
             ap (λ b. order_fault b (has_bucket (path_above path) before)) (is.above path some ∙ less)
             ∙ sym (ap (λ b. order_fault b (is_open last bucket (path_above path))) less)

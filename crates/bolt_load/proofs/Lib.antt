@@ -1,18 +1,19 @@
-pub mod DecodedLines
-pub mod EdgeTrees
-pub mod FileBytes
-pub mod LastPaths
-pub mod ListingTexts
-pub mod MemberLemmas
-pub mod NextLines
-pub mod OpenTests
-pub mod PathLemmas
-pub mod PlacedLines
-pub mod PlainLines
-pub mod PushedParts
-pub mod ReadTexts
-pub mod RightTexts
-pub mod StoredTexts
-pub mod TextTrees
+mod DecodedLines
+mod EdgeTrees
+pub mod Exports
+mod FileBytes
+mod LastPaths
+mod ListingTexts
+mod MemberLemmas
+mod NextLines
+mod OpenTests
+mod PathLemmas
+mod PlacedLines
+mod PlainLines
+mod PushedParts
+mod ReadTexts
+mod RightTexts
+mod StoredTexts
+mod TextTrees
 mod Words
-pub mod WrittenLines
+mod WrittenLines

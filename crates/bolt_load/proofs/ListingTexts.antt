@@ -1,18 +1,13 @@
 -- The text of a listing that is of one tree is read back as that listing.
-use Rattle.std.proofs.lemmas.Grind.{common_steps}
+use Rattle.std.proofs.{lemmas.Grind.common_steps, lemmas.List.Elements.Contains-append_left, lemmas.Bool.Decides.Decides-eqb, lemmas.Slice.Eq.ends_is}
 use Rattle.std.proofs.Common.{◌≡◌, ◌∙◌, ◌==◌, ◌<◌, ◌-◌, ℕ, true, false, List, [], ◌∷◌, ◌++◌, Option, Some, None, length, map, slice_get, inl, inr, refl, sym, ap, ap₂, subst, arith, append_assoc, append-nil, length-append}
-use Rattle.std.proofs.lemmas.List.Elements.{Contains-append_left}
 use Rattle.bolt_load.proofs.Words.{Bucket, Contains, contains_from_has, end, filter_map-append, Has, has_bucket, if◌then◌else◌, is_above_last, is_lt, IsListingText, IsLoadFault, IsMemberOfBytes, Item, Key, Less, line_fault, line_member, LineFault, lines_of, listing_below, listing_of, listing_text, Member, member_cmp, member_line, members_of_lines, option_map_or, Path, path_above, path_cmp, place_fault, RightAfter, Rises, Text, text_members, Tree, Value, with_bucket, with_value}
-use Rattle.bolt_load.proofs.{DecodedLines.member_alone, LastPaths.has_more, LastPaths.has_new}
-use Rattle.bolt_text.proofs.LineLemmas.{lines_cut, no_lines}
-use Rattle.bolt_load.proofs.{NextLines.members_first, PlacedLines.fault_is_of_place, StoredTexts.AreKeys, StoredTexts.FitsMember}
+use Rattle.bolt_load.proofs.{DecodedLines.member_alone, LastPaths.has_more, LastPaths.has_new, NextLines.members_first, PlacedLines.fault_is_of_place, StoredTexts.AreKeys, StoredTexts.FitsMember}
 use Rattle.bolt_load.proofs.WrittenLines.{line_back, line_is, line_shaped, member_words, words_without}
-use Rattle.bolt_load.specs.LineFaults.{is_whole}
-use Rattle.bolt_load.specs.declared.load_fault.LineFault.TheVariants.{CutOff}
-use Rattle.bolt_load.specs.declared.load_fault.LoadFault.TheVariants.{Line}
-use Rattle.std.proofs.lemmas.{Bool.Decides.Decides-eqb, Slice.Eq.ends_is}
+use Rattle.bolt_text.proofs.Exports.{lines_cut, no_lines}
+use Rattle.bolt_load.specs.{LineFaults.is_whole, declared.load_fault.LineFault.TheVariants.CutOff, declared.load_fault.LoadFault.TheVariants.Line}
 use Rattle.bolt_tree.specs.Tree.{tree_of}
-use Rattle.bolt_check.proofs.Lists.{at_has, has_left, has_right}
+use Rattle.bolt_check.proofs.Exports.{at_has, has_left, has_right}
 use Rattle.bolt_layout.specs.{Copies.IsOfOneTree, Storable.HasLengths}
 
 -- ---- the lines of a text

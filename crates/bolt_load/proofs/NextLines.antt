@@ -70,15 +70,6 @@ module _ (text line after : Text) (bytes : List ℕ) (first : IsFirstLine text l
           begin = ap (take (length (listing_bytes (text_members after)))) rest_same ∙ take-append_seam (listing_bytes (text_members after)) (drop (length (listing_bytes (text_members text))) bytes);
         }
 
-        member_same : told.0 ≡ (newer, given)
-        member_same = ap₂ (λ path item. (path, item)) (sym (pushed told.0.0 both.0).0) item_same
-
-        pub gives_next : text_members text ≡ (newer, given) ∷ text_members after
-        gives_next = members_are ∙ ap (λ member. member ∷ text_members after) member_same
-
-        pub gives_line : GivesLine text after (Some given) newer
-        gives_line = (line, first.lines, told.1 ∙ ap Some member_same, first.shorter)
-
 pub no_members : (text : Text) → text ≡ [] → lines_of text ≡ []
 unfolding lines_of
 no_members text none = ap lines_of none

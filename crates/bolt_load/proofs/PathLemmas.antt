@@ -2,7 +2,7 @@
 use Rattle.std.proofs.lemmas.Grind.{common_steps}
 use Rattle.std.proofs.Common.{◌≡◌, ◌∙◌, ◌==◌, ◌<◌, ◌≤◌, ◌*◌, ℕ, Bool, true, false, List, [], ◌∷◌, ◌++◌, Option, Some, None, length, refl, sym, ap, arith, append_assoc, append-nil}
 use Rattle.bolt_load.proofs.Words.{AddsDecoded, hex_bytes_in, hex_path_in, if◌then◌else◌, is_long_key, is_some, IsCutAt, IsWithout, Key, list_any, nat_tests, option_and_then, option_map, part_in, parts_in, Path, path_bytes, result_ok, Text}
-use Rattle.bolt_text.proofs.CutLemmas.{parts_cut, parts_whole}
+use Rattle.bolt_text.proofs.Exports.{parts_cut, parts_whole}
 use Rattle.std.specs.Prelude.{◌/◌, ◌||◌, Result, Ok, nat_lt}
 use Rattle.hex.specs.Hex.{decode_of}
 use Rattle.hex.proofs.HexLemmas.{decode_of-ok}

@@ -1,11 +1,10 @@
 -- The places of lines are tested one after another.
 use Rattle.std.proofs.Common.{rules, ◌≡◌, ◌∙◌, ◌<◌, ◌≤◌, ◌+◌, ◌==◌, ℕ, Bool, true, List, [], ◌∷◌, ◌++◌, Option, Some, None, length, Bor, refl, sym, ap, subst, arith, append_assoc, append-nil, length-append}
 use Rattle.std.proofs.lemmas.Grind.{common_steps}
-use Rattle.bolt_load.proofs.Words.{All, fault_after, order_fault, filter_map-append, GivesLine, hex_path_in, is_bucket, is_lt, is_open, IsFirstFault, Item, Key, length-map, less_lt, line_fault, line_member, LineFault, lines_of, Member, member_in, members_of_lines, option_and_then, option_map, part_in, parts_in, Path, path_above, path_cmp, path_of, place_fault, RightAfter, slice_split, Text}
-use Rattle.bolt_text.proofs.CutLemmas.{some_parts}
-use Rattle.bolt_load.proofs.DecodedLines.{IsShaped, members_push}
-use Rattle.bolt_load.proofs.LastPaths.{IsLast, next_last, none_last, path_open, place_same}
+use Rattle.bolt_load.proofs.Words.{All, fault_after, order_fault, filter_map-append, GivesLine, hex_path_in, is_bucket, is_lt, is_open, IsFirstFault, Item, Key, length-map, less_of, line_fault, line_member, LineFault, lines_of, Member, member_in, members_of_lines, option_and_then, option_map, part_in, parts_in, Path, path_above, path_cmp, path_of, place_fault, RightAfter, slice_split, Text}
+use Rattle.bolt_load.proofs.{DecodedLines.IsShaped, DecodedLines.members_push, LastPaths.IsLast, LastPaths.next_last, LastPaths.none_last, LastPaths.path_open, LastPaths.place_same}
 use Rattle.bolt_load.proofs.NextLines.{first_of, others_of, parts_of}
+use Rattle.bolt_text.proofs.Exports.{some_parts}
 
 -- ---- a path has a part
 
@@ -79,7 +78,7 @@ module _ (text left : Text) (last : Path) (bucket : Bool) (number : ℕ) (so_far
     pub line_placed : fault_after last bucket path ≡ None → HasPlaced text after path (is_bucket item) (number + 1)
     line_placed none =
         let both = fault_parts (is_lt (path_cmp last path)) (is_open last bucket (path_above path)) none in
-        let less = less_lt (path_cmp last path) both.0 in
+        let less = less_of (path_cmp last path) both.0 in
         let is = so_far.number_is in
         let l = length-append so_far.front (given.0 ∷ []) in
         let fits = so_far.fits in

@@ -1,15 +1,10 @@
 -- A text without a fault, written plainly, is the text of the listing that it tells.
 use Rattle.std.proofs.Common.{rules, unwrap_or, ◌≡◌, ◌∙◌, ◌<◌, ◌+◌, ◌==◌, ◌&&◌, ◌*◌, ◌/◌, ◌%◌, ℕ, zero, suc, Bool, true, List, [], ◌∷◌, ◌++◌, Option, Some, Result, Ok, Err, codes, length, map, inl, inr, refl, sym, ap, ap₂, arith, append_assoc}
-use Rattle.std.proofs.lemmas.Grind.{common_steps}
-use Rattle.std.proofs.lemmas.List.Splits.{join_with_byte-slice_split}
-use Rattle.std.specs.Char.{to_ascii_lowercase}
-use Rattle.std.specs.List.{join_with_byte}
+use Rattle.std.proofs.{lemmas.Grind.common_steps, lemmas.List.Splits.join_with_byte-slice_split}
+use Rattle.std.specs.{Char.to_ascii_lowercase, List.join_with_byte, Result.result_unwrap_or, Str.str_to_ascii_lowercase}
 use Rattle.std.specs.Prelude.{nat_lt, slice_index}
-use Rattle.std.specs.Result.{result_unwrap_or}
-use Rattle.std.specs.Str.{str_to_ascii_lowercase}
 use Rattle.bolt_load.proofs.Words.{and_parts, Bucket, bytes_eq, bytes_eq-Decides, cases_Bool, cases_lt, decode_pairs, digit_or_error, encode_lower, encode_with, flat_map, FromHexError, hex_bytes_in, hex_digit_value, hex_path, hex_path_in, if◌then◌else◌, IsListingText, Item, item_end, item_in, line, line_member, lines_of, listing_text, lower_digits, map-append, Member, member_in, member_line, members_of_lines, nat_tests, number_in, option_and_then, option_map, pair_value, part_in, parts_in, Path, place_fault, result_ok, RightAfter, shape_fault, slice_split, Text, text_members, Value, value_at, value_end, ◌>>=◌}
-use Rattle.bolt_load.proofs.{DecodedLines.shaped_member, NextLines.members_first, NextLines.parts_of}
-use Rattle.bolt_load.proofs.{PathLemmas.part_is, PathLemmas.with_some, TextTrees.or_parts_none}
+use Rattle.bolt_load.proofs.{DecodedLines.shaped_member, NextLines.members_first, NextLines.parts_of, PathLemmas.part_is, PathLemmas.with_some, TextTrees.or_parts_none}
 use Rattle.bolt_load.specs.PlainTexts.{plain_line, plain_text, plain_word, plain_words}
 
 -- ---- digits in lower case

@@ -1,10 +1,9 @@
 -- What a right text tells can be stored: its keys and its values have lengths that the format allows, and its sequences have 64 bits.
-use Rattle.std.proofs.lemmas.Grind.{common_steps}
+use Rattle.std.proofs.{lemmas.Grind.common_steps, lemmas.Bool.ltb-false, lemmas.Bool.or_parts}
 use Rattle.std.proofs.Common.{◌≡◌, ◌∙◌, ◌==◌, ◌≤◌, false, List, [], ◌∷◌, ◌++◌, Some, None, length, sym, ap, subst, arith}
-use Rattle.std.proofs.lemmas.Bool.{ltb-false, or_parts}
 use Rattle.bolt_load.proofs.Words.{cases_Bool, Has, has_from_contains, hex_bytes_in, hex_path_in, is_long_item, is_long_key, IsFitItem, IsListingText, item_in, Key, length_fault, line_member, lines_of, list_any, Member, member_in, members_of_lines, option_and_then, option_map_or, part_in, parts_in, Path, place_fault, RightAfter, shape_fault, slice_split, Text, text_members}
-use Rattle.bolt_load.proofs.{DecodedLines.shaped_member, NextLines.members_first, NextLines.parts_of}
-use Rattle.bolt_load.proofs.{PathLemmas.digits_are, PathLemmas.part_is, PathLemmas.with_some, TextTrees.or_parts_none, TextTrees.text_tree}
+use Rattle.bolt_load.proofs.{DecodedLines.shaped_member, NextLines.members_first, NextLines.parts_of, PathLemmas.digits_are, PathLemmas.part_is, PathLemmas.with_some}
+use Rattle.bolt_load.proofs.TextTrees.{or_parts_none, text_tree}
 use Rattle.bolt_format.specs.ElementLengths.{IsKeyLength}
 use Rattle.bolt_layout.specs.Storable.{IsFitListing}
 

@@ -1,13 +1,12 @@
 -- What the lines of a text tell is what one tree lists: each member is put at the end of its bucket.
 use Rattle.std.proofs.Common.{rules, ◌≡◌, ◌∙◌, inl, inr, ◌<◌, ◌||◌, Bool, true, false, List, [], ◌∷◌, ◌++◌, Option, None, drop, length, refl, sym, ap, subst, arith, append_assoc, append-nil}
-use Rattle.bolt_load.proofs.Words.{and_parts, begins_of, begins_with, contains_from_has, end, Has, has_bucket, has_from_contains, has_split, is_bucket, is_lt, is_open, IsListingText, Item, Less, less_lt, line_member, LineFault, lines_of, listing_of, Member, member_cmp, members_of_lines, nat_tests, option_and_then, option_or, Path, path_above, path_cmp, path_total, place_fault, RightAfter, Rises, shape_fault, Text, text_members, Tree}
-use Rattle.bolt_load.proofs.DecodedLines.{member_alone, shaped_member}
-use Rattle.bolt_load.proofs.EdgeTrees.{OnEdge, front_on_edge, new_on_edge, put_last, put_lists}
-use Rattle.bolt_load.proofs.LastPaths.{IsLast, above_append, next_last, none_last, place_same, split_last}
-use Rattle.bolt_load.proofs.{NextLines.members_first, PlacedLines.fault_parts, PlacedLines.line_path_some}
+use Rattle.bolt_load.proofs.Words.{and_parts, begins_of, begins_with, contains_from_has, end, Has, has_bucket, has_from_contains, has_split, is_bucket, is_lt, is_open, IsListingText, Item, Less, less_of, line_member, LineFault, lines_of, listing_of, Member, member_cmp, members_of_lines, nat_tests, option_and_then, option_or, Path, path_above, path_cmp, path_total, place_fault, RightAfter, Rises, shape_fault, Text, text_members, Tree}
+use Rattle.bolt_load.proofs.{DecodedLines.member_alone, DecodedLines.shaped_member, EdgeTrees.OnEdge, EdgeTrees.front_on_edge, EdgeTrees.new_on_edge, EdgeTrees.put_last, EdgeTrees.put_lists}
+use Rattle.bolt_load.proofs.{LastPaths.IsLast, LastPaths.above_append, LastPaths.next_last, LastPaths.none_last, LastPaths.place_same, LastPaths.split_last, NextLines.members_first}
+use Rattle.bolt_load.proofs.PlacedLines.{fault_parts, line_path_some}
 use Rattle.std.specs.Prelude.{nat_lt}
 use Rattle.std.specs.declared.cmp.Ordering.{Ordering}
-use Rattle.bolt_tree.proofs.Lists.{contains_none}
+use Rattle.bolt_tree.proofs.Exports.{contains_none}
 
 -- ---- lists that rise
 
@@ -91,7 +90,7 @@ grows (line ∷ lines) before tree last bucket so_far right =
     let place : place_fault before told.0 ≡ None = sym (ap (option_and_then (place_fault before)) told.1) ∙ parts.1 in
     let some = line_path_some line path item told.1 in
     let both = fault_parts (is_lt (path_cmp last path)) (is_open last bucket (path_above path)) (sym (place_same before last bucket so_far.last_is path some item) ∙ place) in
-    let less = less_lt (path_cmp last path) both.0 in
+    let less = less_of (path_cmp last path) both.0 in
     let next = next_grown before tree last bucket so_far path item some less both.1 in
     let rest = grows lines (before ++ told.0 ∷ []) (next_tree before tree last bucket so_far path item some less both.1) path (is_bucket item) next
     (subst (λ (more : List Member). RightAfter (before ++ more) lines) (member_alone line told.0 told.1) right.1) in

@@ -19,9 +19,8 @@ unfoldable pub use Rattle.bolt_text.specs.Lines.{lines_of}
 pub use Rattle.bolt_text.specs.ListLines.{hex_path, listing_text}
 unfoldable pub use Rattle.bolt_text.specs.ListLines.{item_end, member_line, value_end}
 pub use Rattle.bolt_text.specs.Numbers.{number_in}
-pub use Rattle.bolt_check.proofs.Lists.{Has, contains_from_has, has_from_contains, has_split}
-pub use Rattle.bolt_tree.proofs.PartLemmas.{begins_of}
-pub use Rattle.bolt_tree.proofs.PathOrder.{less_lt, path_total}
+pub use Rattle.bolt_check.proofs.Exports.{Has, contains_from_has, has_from_contains, has_split, less_of}
+pub use Rattle.bolt_tree.proofs.Exports.{begins_of, path_total}
 pub use Rattle.bolt_tree.specs.Entries.{Bucket, Item, Value}
 pub use Rattle.bolt_tree.specs.Listing.{Member, member_cmp}
 pub use Rattle.bolt_tree.specs.ListingParts.{begins_with, has_bucket, is_bucket}

@@ -1,12 +1,9 @@
 -- The line of a member is read back as that member.
 use Rattle.std.proofs.Common.{rules, ◌≡◌, ◌∙◌, ◌==◌, ◌<◌, ◌≤◌, ◌^◌, ℕ, zero, suc, Bool, true, false, List, [], ◌∷◌, ◌++◌, Option, Some, None, codes, length, map, refl, sym, ap, ap₂, arith, append_assoc}
-use Rattle.std.proofs.lemmas.Bool.{not-true}
-use Rattle.std.proofs.lemmas.Grind.{common_steps}
-use Rattle.std.proofs.lemmas.List.Elements.{All-cons, All-nil}
+use Rattle.std.proofs.{lemmas.Bool.not-true, lemmas.Grind.common_steps, lemmas.List.Elements.All-cons, lemmas.List.Elements.All-nil}
 use Rattle.bolt_load.proofs.Words.{All-append, all_ascii_digits, and_parts, ArePartsBytes, Bucket, decimal, digits_decimal, encode_lower, encode_with, hex_bytes_in, hex_path, hex_path_in, is_ascii_digit, is_long_item, is_long_key, IsFitItem, IsMemberOfBytes, IsWithout, Item, item_end, Key, line, line_member, list_any, lower_digits, Member, member_in, member_line, nat_tests, number_in, option_and_then, option_map, part_in, parts_in, Path, result_ok, shape_fault, slice_split, slice_split_at, slice_split_none, Text, Value, value_end}
-use Rattle.bolt_text.proofs.DecimalNumbers.{decimal_numerals, number_written}
-use Rattle.bolt_load.proofs.MemberLemmas.{member_of}
-use Rattle.bolt_load.proofs.StoredTexts.{AreKeys, FitsMember}
+use Rattle.bolt_load.proofs.{MemberLemmas.member_of, StoredTexts.AreKeys, StoredTexts.FitsMember}
+use Rattle.bolt_text.proofs.Exports.{decimal_numerals, number_written}
 use Rattle.std.specs.List.{list_all}
 use Rattle.std.specs.Prelude.{◌/◌, ◌%◌, ◌||◌, nat_lt, not, slice_index}
 use Rattle.hex.specs.Hex.{IsBytes}

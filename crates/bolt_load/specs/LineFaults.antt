@@ -1,13 +1,11 @@
 -- What is wrong with a line, and which texts are right: docs/LISTING.md, "A listing as text".
 use Rattle.std.specs.Prelude.{◌≡◌, ◌+◌, ◌-◌, ◌⊎◌, ℕ, Bool, true, false, ◌==◌, List, [], ◌∷◌, ◌++◌, Option, Some, None, codes, length, nat_lt, not, option_and_then, slice_get, take, if◌then◌else◌}
-use Rattle.std.specs.List.{ends_with, list_any}
-use Rattle.std.specs.Option.{option_map_or, option_or}
-use Rattle.std.specs.Ordering.{is_lt}
+use Rattle.std.specs.{List.ends_with, List.list_any, Option.option_map_or, Option.option_or, Ordering.is_lt}
 use Rattle.bolt_check.specs.Keys.{Key}
 use Rattle.bolt_tree.specs.{Entries.Bucket, Entries.Item, Entries.Value, Listing.Member, ListingParts.has_bucket, Paths.Path, Paths.path_cmp}
 use Rattle.bolt_text.specs.{LineMembers.line_member, LineMembers.members_of_lines, Lines.Text, Lines.lines_of}
-use Rattle.bolt_load.specs.declared.load_fault.LineFault.{LineFault}
-use Rattle.bolt_load.specs.{declared.load_fault.LoadFault.LoadFault, declared.load_fault.LoadFault.TheVariants.Line, declared.load_fault.LoadFault.TheVariants.Memory}
+use Rattle.bolt_load.specs.{declared.load_fault.LineFault.LineFault, declared.load_fault.LoadFault.LoadFault}
+use Rattle.bolt_load.specs.declared.load_fault.LoadFault.TheVariants.{Line, Memory}
 use Rattle.bolt_load.specs.declared.load_fault.LineFault.TheVariants.{CutOff, KeyTooLong, NoBucketAbove, NotALine, PathNotRising, ValueTooLong}
 
 -- more bytes than a key can have, or a value

@@ -1,10 +1,9 @@
 -- What is reported of a line that isn't right: docs/COMMANDS.md, "Faults".
 use Rattle.std.specs.Prelude.{◌++◌, ℕ, List, codes}
 use Rattle.std.specs.Fmt.{decimal}
-use Rattle.bolt_load.specs.declared.load_fault.LineFault.{LineFault}
-use Rattle.bolt_load.specs.declared.load_fault.LoadFault.{LoadFault}
-use Rattle.bolt_load.specs.declared.load_fault.LoadFault.TheVariants as load
+use Rattle.bolt_load.specs.{declared.load_fault.LineFault.LineFault, declared.load_fault.LoadFault.LoadFault}
 use Rattle.bolt_load.specs.declared.load_fault.LineFault.TheVariants.{CutOff, KeyTooLong, NoBucketAbove, NotALine, PathNotRising, ValueTooLong}
+use Rattle.bolt_load.specs.declared.load_fault.LoadFault.TheVariants as load
 
 abbrev pub line_fault_words : LineFault → List ℕ
 line_fault_words NotALine = codes "not a line of a listing"

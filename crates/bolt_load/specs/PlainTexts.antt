@@ -1,7 +1,6 @@
 -- A text as `list` writes it: docs/LISTING.md, "A listing as text".
 use Rattle.std.specs.Prelude.{◌==◌, List, [], ◌∷◌, ◌++◌, codes, decimal, flat_map, if◌then◌else◌}
-use Rattle.std.specs.List.{join_with_byte, slice_split}
-use Rattle.std.specs.Str.{bytes_eq, str_to_ascii_lowercase}
+use Rattle.std.specs.{List.join_with_byte, List.slice_split, Str.bytes_eq, Str.str_to_ascii_lowercase}
 use Rattle.bolt_text.specs.{Lines.Text, Lines.lines_of, Numbers.decimal_value}
 
 -- a number without leading zeros, or digits of a value in lower case

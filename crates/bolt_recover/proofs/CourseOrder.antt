@@ -1,7 +1,7 @@
 -- A course visits ways in their order.
 use Rattle.std.proofs.Common.{◌≡◌, ◌∙◌, ◌<◌, inl, inr, ℕ, zero, suc, Bool, List, [], ◌∷◌, ◌++◌, Option, slice_get, arith, refl, sym, ap, subst, append_assoc}
 use Rattle.bolt_recover.proofs.Words.{append-nil, Before, Each, entry_tasks, Event, Finding, further, gives_at, LeafElement, Path, step_site, tasks_from, visits_at, Has, has_split, map_has, Meta, rises_append, RisesBy, Site, SurveyedWay, Task, tasks_after, To_give, To_visit, visits_of, Way, Has}
-use Rattle.bolt_tree.proofs.TourLemmas.{before_sides, before_under}
+use Rattle.bolt_tree.proofs.Exports.{before_sides, before_under}
 use Rattle.bolt_recover.proofs.Courses.{Course, Course.done, Course.give, Course.visit}
 use Rattle.bolt_recover.proofs.{SurveyIsOne.ways, TaskLists.IsAt, TaskLists.after_at, TaskLists.entry_at, TaskLists.from_at}
 

@@ -1,12 +1,11 @@
 -- What a course visits is a survey, and what it returns are the elements at the way_kept ways.
 use Rattle.std.proofs.Common.{◌≡◌, ◌∙◌, ◌⊎◌, ◌↔◌, ◌<◌, inl, inr, ℕ, Bool, true, ◌||◌, List, [], ◌∷◌, ◌++◌, Option, Some, None, refl, sym, ap, subst, subst₂, arith, append_assoc, cond}
-use Rattle.bolt_recover.proofs.Words.{after_event, after_events, all_events, append-nil, claimed_after, claims_of, Contains, contains_at, contains_from_has, counted, Each, Event, false≢true, Finding, further, Given, Gives, Has, has_from_contains, has_left, has_right, has_split, is_at_page, IsClaimedIn, IsKeptPage, IsMetaPage, IsOpen, IsRecoveredMember, IsSurvey, Item, item_of, way_kept, LeafElement, loss_at, losses_of, members_at, members_of, Meta, meta_pages, nat_tests, node_at, Nodes, or_cases, or_left, or_right, Outcome, outcome_of, page_ways, Path, Reach, reached, root_site, root_tasks, same_Some, Site, site_at, site_size, span_of, SpanAt, SpanHas, Spot, step_site, sum_by-cons, SurveyedWay, Task, tasks_after, To_give, To_visit, Visited, visit_at, visits_of, Way, Has, RisesBy, Before}
-use Rattle.bolt_recover.proofs.{Courses.Course, Courses.Course.done, Courses.Course.give, Courses.Course.visit, Courses.course, CourseOrder.rises_course}
+use Rattle.bolt_recover.proofs.Words.{after_event, after_events, all_events, append-nil, claimed_after, claims_of, Contains, contains_at, contains_from_has, counted, Each, Event, false≢true, Finding, further, Given, Gives, Has, has_from_contains, has_left, has_right, has_split, is_at_page, IsClaimedIn, IsKeptPage, IsMetaPage, IsOpen, IsRecoveredMember, IsSurvey, Item, item_of, way_kept, LeafElement, loss_at, losses_of, members_at, members_of, Meta, meta_pages, nat_tests, node_at, Nodes, or_cases, or_left, or_right, Outcome, outcome_of, page_ways, Path, Reach, reached, root_site, root_tasks, same_Some, Site, site_at, site_size, span_of, SpanAt, SpanHas, Spot, step_site, sum_by-cons, SurveyedWay, Task, tasks_after, To_give, To_visit, Visited, visit_at, visits_of, Way, RisesBy, Before}
+use Rattle.bolt_recover.proofs.{Courses.Course, Courses.course, Courses.Course.done, Courses.Course.give, Courses.Course.visit, CourseOrder.rises_course}
 use Rattle.bolt_recover.proofs.SiteFacts.{leads_within, site_further, site_is, size_enough, slice_of, spot_is, step_spot}
-use Rattle.bolt_recover.proofs.SurveyIsOne.{Earlier, gives_same, in_front, rise, ways}
-use Rattle.bolt_check.proofs.Lists.{flat_has, has_flat, rises_across}
-use Rattle.bolt_recover.proofs.MembersInBuckets.{well_at}
+use Rattle.bolt_recover.proofs.{SurveyIsOne.Earlier, SurveyIsOne.gives_same, SurveyIsOne.in_front, SurveyIsOne.rise, SurveyIsOne.ways, MembersInBuckets.well_at}
 use Rattle.bolt_recover.proofs.TaskLists.{IsAt, after_at, at_from}
+use Rattle.bolt_check.proofs.Exports.{flat_has, has_flat, rises_across}
 
 -- the claims of a spot are its span
 pub claims_in : (nodes : Nodes) (s : Spot) (n : ℕ) → (claims_of nodes s n ≡ true) ↔ SpanAt nodes s n

@@ -2,9 +2,8 @@
 -- of each bucket rise, within the bounds of its site.
 use Rattle.std.proofs.Common.{◌≡◌, ◌∙◌, ◌≤◌, inl, inr, ℕ, zero, suc, Bool, true, false, List, [], ◌∷◌, ◌++◌, ◌⊎◌, Option, Some, None, slice_get, refl, sym, ap, subst, arith, append_assoc}
 use Rattle.bolt_recover.proofs.Words.{Visited, all_events, append-nil, below_less, Bucket, cases_Bool, cases_order, end, entry_tasks, Event, Finding, from_more, get_before, Gives, gives_at, head_sequence, is_below, is_from, is_lt, Item, item_of, Key, key_lt, key_same, LeafElement, listing_below, listing_of, lower_of, lt_not_trans, lt_trans, Member, member_cmp, members_of, Meta, meta_pages, node_at, none-some, not-true, Path, Rises, root_tasks, same_Some, Site, Spot, step_site, Task, tasks_after, tasks_from, To_give, To_visit, Tree, upper_of, Value, visits_at, Way, with_bucket, with_value, further, Among}
-use Rattle.bolt_recover.proofs.{Courses.Course, Courses.Course.done, Courses.Course.give, Courses.Course.visit, Courses.course, SiteKeys.IsChild, SiteKeys.Keyed, SiteKeys.keyed}
-use Rattle.bolt_recover.proofs.{CourseSurveys.placed, MembersInBuckets.well_at, SiteSteps.IsTidy}
-use Rattle.bolt_recover.proofs.TreeOrder.{HasKey, IsFirst, Ordered, ordered_rises}
+use Rattle.bolt_recover.proofs.{Courses.Course, Courses.course, Courses.Course.done, Courses.Course.give, Courses.Course.visit, SiteKeys.IsChild, SiteKeys.Keyed, SiteKeys.keyed, CourseSurveys.placed}
+use Rattle.bolt_recover.proofs.{MembersInBuckets.well_at, SiteSteps.IsTidy, TreeOrder.HasKey, TreeOrder.IsFirst, TreeOrder.Ordered, TreeOrder.ordered_rises}
 
 -- one tree after another
 abbrev both : Tree → Tree → Tree

@@ -3,7 +3,7 @@ use Rattle.std.proofs.Common.{◌≡◌, ◌∙◌, inl, inr, ℕ, zero, suc, �
 use Rattle.bolt_recover.proofs.Words.{InlinePage, At_inline, At_page, claimed_after, Event, events, false_from_ne_true, false≢true, Finding, Given, give_all, Gives, LeafElement, Meta, Node, node_at, node_below, Nodes, none-some, or_parts, PageSpot, Path, run_all, run_on, run_to, Site, site_tasks, Spot, step_from, Task, tasks_after, test, To_give, To_visit, Visited, Way, Among}
 use Rattle.bolt_recover.proofs.{SiteFacts.step_spot, SurveyIsOne.gives_one, TaskLists.after_at, Tested.test_finds}
 use Rattle.std.proofs.Math.Bool.{or-false}
-use Rattle.bolt_check.proofs.TourExists.{has_number, numbers, shorter, still, without}
+use Rattle.bolt_check.proofs.Exports.{has_number, numbers, shorter, still, without, length-numbers}
 
 module _ (file : List ℕ) (meta : Meta) where
   -- from these claims these tasks come to these events
@@ -71,14 +71,10 @@ module _ (file : List ℕ) (meta : Meta) where
   course_to zero left claimed tasks lt covers = absurd (omega arith)
   course_to (suc k) left claimed tasks lt covers = course_all k (run_to file meta k) (course_to k) left claimed tasks (omega arith) covers
 
-  count_numbers : (n : ℕ) → length (numbers n) ≡ n
-  count_numbers zero = refl
-  count_numbers (suc n) = ap suc (count_numbers n)
-
   pub course : (tasks : List Task) (claimed : ℕ → Bool) → Course claimed tasks (events file meta tasks claimed)
   unfolding events
   course tasks claimed =
-      let count = count_numbers meta.high_water in
+      let count = length-numbers meta.high_water in
       course_to (suc meta.high_water) (numbers meta.high_water) claimed tasks (omega (arith, count)) (λ n below free. has_number n meta.high_water below)
 
   -- ---- And no other.

@@ -1,11 +1,9 @@
 -- The found pages of a whole file.
 use Rattle.std.proofs.Common.{◌≡◌, ◌∙◌, ◌↔◌, ◌⊎◌, ◌||◌, inl, inr, ℕ, suc, Bool, true, false, arith, List, [], ◌∷◌, Option, Some, None, refl, sym, ap, subst}
 use Rattle.bolt_recover.proofs.Words.{all_events, AreFound, AreKeptPages, AreLosses, At_page, claims_of, Contains, contains_cases, contains_head, contains_none, contains_tail, Event, false≢true, Finding, first_claimed, FoundBelow, Has, HasSoundTrees, IsFoundPage, IsKeptPage, IsListedFree, IsLoneLeaf, IsMetaPage, IsRecovered, IsSurvey, way_kept, LosesNothing, LosesRoot, lost, Member, members_of, Meta, meta_pages, nat_tests, node_at, node_below, root_site, root_spot, SpanAt, SurveyedWay, Visited, visits_of}
-use Rattle.bolt_recover.proofs.Existing.{has_survey, one_recovered, recovers}
-use Rattle.bolt_recover.proofs.FoundLemmas.{found_one, found_same, passed}
-use Rattle.bolt_recover.proofs.{LostWays.nothing_lost, Tested.IsFirst, Tested.first_is}
-use Rattle.bolt_recover.proofs.{KeptWays.sound, Recovering.whole, Recovering.whole_claimed, CourseSurveys.claims_in, CourseSurveys.either_or, CourseSurveys.surveyed, Courses.events_none, Courses.events_visit}
-use Rattle.bolt_recover.proofs.SurveyIsOne.{gives_same, same_survey}
+use Rattle.bolt_recover.proofs.{Existing.has_survey, Existing.one_recovered, Existing.recovers, FoundLemmas.found_one, FoundLemmas.found_same, FoundLemmas.passed, LostWays.nothing_lost}
+use Rattle.bolt_recover.proofs.{Tested.IsFirst, Tested.first_is, KeptWays.sound, Recovering.whole, Recovering.whole_claimed, CourseSurveys.claims_in, CourseSurveys.either_or, CourseSurveys.surveyed}
+use Rattle.bolt_recover.proofs.{Courses.events_none, Courses.events_visit, SurveyIsOne.gives_same, SurveyIsOne.same_survey}
 
 -- a way of a survey is lost, or none is
 pub lost_or_none : (survey : List SurveyedWay) → LosesNothing survey ⊎ ((way : List ℕ) × (x : Finding) × Has survey (lost way x))

@@ -2,7 +2,7 @@
 use Rattle.std.proofs.Common.{◌≡◌, ◌∙◌, ◌≤◌, ◌<◌, ◌⊎◌, ◌↔◌, inl, inr, ℕ, zero, suc, ◌+◌, Bool, true, false, List, [], ◌∷◌, ◌++◌, Some, Ok, refl, sym, subst, arith}
 use Rattle.bolt_recover.proofs.Words.{At_page, cases_lt, cases_order, Contains, Contains-append_left, Contains-append_right, Contains-push_cases, contains_head, contains_none, false_from_ne_true, false≢true, Found, FoundBelow, IsFoundNext, IsFoundPage, IsFoundView, IsListedFree, IsLoneLeaf, Meta, node_at, Nodes, page_at, root_spot, shown_node, SpanAt}
 use Rattle.bolt_format.specs.{TreePages.leaves_on, TreePages.shown_page, declared.tree_page.LeafPage.LeafPage, declared.tree_page.TreePage.TheVariants.Leaf}
-use Rattle.bolt_check.proofs.LeafLemmas.{lone_free, lone_same, lone_span}
+use Rattle.bolt_check.proofs.Exports.{lone_free, lone_same, lone_span}
 
 no_entries : (page : LeafPage) → leaves_on page ≡ [] → (shown_node (Leaf page)).entries ≡ []
 unfolding shown_node

@@ -4,7 +4,7 @@ use Rattle.bolt_format.specs.TreePages.{leaves_on}
 use Rattle.bolt_recover.proofs.Words.{append-nil, AreFound, Bucket, cases_Bool, Contains, Contains-append_cases, contains_cases, contains_head, contains_tail, end, filter-append, filter_all, filter_none, first_cmp, found_tree, Greater, is_found_path, is_lt, IsJoined, IsRecovered, joined_listing, key_lt, key_total, LacksBucketKey, LeafElement, leaves_of, Less, less_of, listing_below, listing_of, lost_and_found, Member, member_cmp, member_total, Meta, page_at, Path, path_cmp, put_bucket, Rises, Tree, tree_of, Value, with_bucket, with_value, All, All-head, All-tail, AreJoinable, Found, found_listing, IsFoundView, found_numbers, found_pages_of, recovered_of}
 use Rattle.bolt_recover.proofs.{Existing.has_recovered, Existing.one_recovered, Existing.recovers, FoundAll.one_found, FoundExists.has_found}
 use Rattle.bolt_recover.proofs.{CourseTrees.all_tree, TreeOrder.Ordered, TreeOrder.ordered_rises, TreeOrder.rises_both, TreeOrder.under}
-use Rattle.bolt_tree.proofs.{MergeLemmas.merge_none, PathOrder.flip_less, PathOrder.path_total, ReadBack.tree_back}
+use Rattle.bolt_tree.proofs.Exports.{merge_none, flip_less, path_total, tree_back}
 use Rattle.bolt_tree.specs.Merges.{merge, merge_first}
 use Rattle.std.specs.Prelude.{if◌then◌else◌}
 

@@ -1,9 +1,8 @@
 -- A joined listing is in the order of paths.
 use Rattle.std.proofs.Common.{◌≡◌, ◌≢◌, ◌∙◌, inl, inr, ℕ, zero, suc, ◌<◌, ◌+◌, ◌*◌, ◌^◌, true, List, [], ◌∷◌, Some, length, refl, sym, ap, subst, arith, slice_get}
 use Rattle.bolt_recover.proofs.Words.{AreFound, contains_from_has, Each, found_tree, FoundBelow, inside_of, IsJoined, IsKeptPage, IsLoneLeaf, IsRecovered, joined_listing, Key, key_lt, LeafElement, leaves_of, LeavesRoom, lt_of_mul-lt-mul_right, map_has, Member, member_cmp, Meta, node_at, node_within, page_at, page_key, Rises, rises_append, rises_map, RisesBy, root_spot, tree_of_elements, Has, At_page, none-some, same_Some}
-use Rattle.bolt_recover.proofs.{FoundAll.lost_or_none, FoundLemmas.found_here, FoundLemmas.found_leaf, SiteKeys.keyed, SiteSteps.keys_in}
-use Rattle.bolt_recover.proofs.{JoinedLemmas.joined_between, JoinedLemmas.with_elements, PageNames.digits_rise}
-use Rattle.bolt_recover.proofs.TreeOrder.{HasKey, Ordered, elements_ordered, inside_ordered}
+use Rattle.bolt_recover.proofs.{FoundAll.lost_or_none, FoundLemmas.found_here, FoundLemmas.found_leaf, SiteKeys.keyed, SiteSteps.keys_in, JoinedLemmas.joined_between, JoinedLemmas.with_elements}
+use Rattle.bolt_recover.proofs.{PageNames.digits_rise, TreeOrder.HasKey, TreeOrder.Ordered, TreeOrder.elements_ordered, TreeOrder.inside_ordered}
 
 -- found pages with rising numbers
 abbrev Page : Type 0

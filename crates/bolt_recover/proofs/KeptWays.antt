@@ -3,7 +3,7 @@
 use Rattle.std.proofs.Common.{◌≡◌, ◌∙◌, ℕ, inl, inr, List, [], ◌∷◌, ◌++◌, Option, Some, None, refl, sym, subst, append_assoc, arith}
 use Rattle.bolt_recover.proofs.Words.{append-nil, At_page, Before, before_trans, Finding, follow, follow_append, Has, HasSoundTrees, IsClaimedBefore, IsClaimedIn, IsFirst, IsMetaPage, IsSurvey, way_kept, LosesNothing, Meta, node_at, Nodes, Passes, passes_fewer, passes_silent, Reach, reached, root_spot, shape_of, shape_passes, span_spot, Spot, Surveys, SurveyedWay, tests_same}
 use Rattle.bolt_recover.proofs.SurveyIsOne.{gives_one}
-use Rattle.bolt_check.proofs.Forest.{follow_some}
+use Rattle.bolt_check.proofs.Exports.{follow_some}
 
 module _ (nodes : Nodes) (root : Option Spot) (survey : List SurveyedWay) (surveys : Surveys nodes (follow nodes root) survey) (P : List ℕ → Type 0) (closed : (front rest : List ℕ) → P (front ++ rest) → P front)
     (none : (v : SurveyedWay) → Has survey v → P v.way → v.found ≡ None) where

@@ -1,28 +1,29 @@
+mod CourseOrder
+mod CourseSurveys
+mod CourseTrees
 mod Courses
-pub mod Existing
+mod Existing
+pub mod Exports
 mod FoundAll
 mod FoundExists
 mod FoundLemmas
-pub mod MembersInBuckets
-pub mod JoinedContents
+mod JoinedContents
 mod JoinedLemmas
 mod JoinedOrder
 mod KeptWays
 mod Leading
 mod LostWays
-pub mod PageNames
+mod MembersInBuckets
+mod PageNames
+mod Recovering
+mod Refused
+mod Searched
 mod SiteFacts
 mod SiteKeys
 mod SiteSteps
 mod Skipping
-mod Recovering
-pub mod Refused
-mod CourseOrder
-mod CourseSurveys
-mod CourseTrees
-mod Searched
 mod SoundListing
-pub mod SoundWalks
+mod SoundWalks
 mod StepLemmas
 mod SurveyIsOne
 mod TaskLists

@@ -1,7 +1,7 @@
 -- What a path holds, and what is at ways: a path holds each element at a way under it and, if all ways are kept, nothing else.
 use Rattle.std.proofs.Common.{◌≡◌, ◌∙◌, inl, inr, ℕ, suc, Bool, false, eqb, List, [], ◌∷◌, ◌++◌, Option, Some, Result, slice_get, refl, sym, ap, subst, arith}
 use Rattle.bolt_recover.proofs.Words.{At_inline, At_page, cases_Bool, child_at, child_in, child_of, Contains, contains_at, Entry, follow_sites, head_root, Holds, Inline_page, IsEntry, IsRecoveredMember, Item, leads, LeafElement, leaves_of, Meta, Names, next_site, Node, node_at, Nodes, page_at, PageSpot, Path, Site, site_at, Root_page, root_site, same_Some, ShowsEntry, Spot, Start, start_of, step_site, SurveyedWay}
-use Rattle.bolt_tree.proofs.Named.{held_here, names_push}
+use Rattle.bolt_tree.proofs.Exports.{held_here, names_push}
 use Rattle.bolt_recover.proofs.SiteSteps.{IsTidy, IsTidyAt, bucket_site, child_site, leads_from, tidy_root, tidy_step}
 
 pub shows_entry : (file : List ℕ) (meta : Meta) (n : ℕ) (e : LeafElement) → Contains (leaves_of (page_at file meta n)) e → ShowsEntry file meta n e

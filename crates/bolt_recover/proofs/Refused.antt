@@ -1,7 +1,6 @@
 -- Nothing is recovered under a meta that was looked for.
 use Rattle.std.proofs.Common.{ℕ, List, arith}
-use Rattle.bolt_check.specs.declared.check_fault.CheckFault.{CheckFault}
-use Rattle.bolt_check.specs.declared.check_fault.CheckFault.TheVariants.{Structure}
+use Rattle.bolt_check.specs.{declared.check_fault.CheckFault.CheckFault, declared.check_fault.CheckFault.TheVariants.Structure}
 use Rattle.bolt_format.specs.{declared.meta.Meta.Meta, declared.meta.MetaFault.MetaFault}
 use Rattle.bolt_recover.specs.Refusals.{IsRefusedRoot, IsUnrecoverable}
 

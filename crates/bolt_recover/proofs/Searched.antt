@@ -1,9 +1,8 @@
 -- What is known of a file that was searched.
 use Rattle.std.proofs.Common.{◌≡◌, ◌≢◌, ◌∙◌, ◌<◌, ◌*◌, ◌^◌, true, false, List, [], ◌∷◌, ap, length, subst, sym, arith}
 use Rattle.bolt_recover.proofs.Words.{all_lost, AreJoinable, AreTreesOf, bytes_of, Checked, Contains, contains_cases, contains_head, contains_none, contains_tail, Damaged, everything, Finding, ForRecovered, Found, HasBucketKey, holds_key, IsSearched, LacksBucketKey, LosesRoot, LossView, lost_of, Member, meta_of, or_cases, or_parts, parts, props, Rootless, Sound, ∥∥₁_elim, ∥∥₁_map}
-use Rattle.bolt_recover.proofs.{FoundAll.nothing_recovered}
-use Rattle.bolt_recover.specs.{Lost.IsAllLost, declared.losses.Damage.Damage, declared.lost_and_found.LostAndFound.LostAndFound}
-use Rattle.bolt_recover.specs.declared.lost_and_found.Trees.{Trees}
+use Rattle.bolt_recover.proofs.FoundAll.{nothing_recovered}
+use Rattle.bolt_recover.specs.{Lost.IsAllLost, declared.losses.Damage.Damage, declared.lost_and_found.LostAndFound.LostAndFound, declared.lost_and_found.Trees.Trees}
 
 -- what is told of the key
 key_held : (listing : List Member) → holds_key listing ≡ true → HasBucketKey listing

@@ -17,9 +17,6 @@ IsTidy file meta p = IsTidyAt file meta p.elements p.spot
 abbrev pub HasForm : Node → List LeafElement → Type 0
 HasForm node leaves = ((node.is_leaf ≡ true) × (node.entries ≡ map leaf_entry leaves)) ⊎ ((node.is_leaf ≡ false) × (leaves ≡ []))
 
-abbrev node_ok : Node → Result Node ℕ
-node_ok node = Ok node
-
 pub page_form : (file : List ℕ) (meta : Meta) (n : ℕ) (node : Node) → node_at file meta n ≡ Ok node → HasForm node (leaves_of (page_at file meta n))
 unfolding node_at page_at
 page_form file meta n node is = grind arith

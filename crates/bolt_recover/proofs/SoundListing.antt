@@ -1,11 +1,9 @@
 -- If nothing is lost, each way is way_kept, and what a path holds is an element at a way.
 use Rattle.std.proofs.Common.{◌≡◌, ◌∙◌, ◌⊎◌, inl, inr, ℕ, suc, Bool, true, false, IsTrue, eqb-true, List, [], ◌∷◌, ◌++◌, Option, Some, None, Result, Ok, Err, slice_get, refl, sym, ap, subst, append_assoc, arith}
-use Rattle.bolt_recover.proofs.Words.{At_inline, At_page, cases_Bool, child_in, child_of, child_spot, Contains, contains_at, Entry, Has, HasSoundTrees, head_root, Holds, inline_elements, Inline_page, IsEntry, IsListing, IsRecovered, IsRecoveredMember, Item, item_of, way_kept, Key, leads, leads_none, leaf_node, LeafElement, leaves_of, Member, Meta, Node, node_at, Nodes, none-some, page_at, PageSpot, Path, Site, site_at, reached, Root_page, root_site, root_spot, same_Some, ShowsEntry, Spot, Start, start_of, step_site, upper_from, SurveyedWay}
-use Rattle.bolt_recover.proofs.SiteFacts.{site_further, slice_of, spot_is}
-use Rattle.bolt_recover.proofs.MembersInBuckets.{path_holds, shows_entry, well_at}
-use Rattle.bolt_recover.proofs.SiteSteps.{IsBranchPage, IsLeafPage, IsTidy, IsTidyAt, bucket_site, on_page}
-use Rattle.bolt_recover.proofs.{KeptWays.all_kept, KeptWays.none_lost}
-use Rattle.bolt_tree.proofs.BucketWays.{flat}
+use Rattle.bolt_recover.proofs.Words.{At_inline, At_page, cases_Bool, child_in, child_of, child_spot, Contains, contains_at, Entry, Has, HasSoundTrees, head_root, Holds, inline_elements, Inline_page, IsEntry, IsListing, IsRecovered, IsRecoveredMember, Item, item_of, way_kept, Key, leads, leads_none, leaf_node_at, LeafElement, leaves_of, Member, Meta, Node, node_at, Nodes, none-some, page_at, PageSpot, Path, Site, site_at, reached, Root_page, root_site, root_spot, same_Some, ShowsEntry, Spot, Start, start_of, step_site, upper_from, SurveyedWay}
+use Rattle.bolt_recover.proofs.{SiteFacts.site_further, SiteFacts.slice_of, SiteFacts.spot_is, MembersInBuckets.path_holds, MembersInBuckets.shows_entry, MembersInBuckets.well_at}
+use Rattle.bolt_recover.proofs.{SiteSteps.IsBranchPage, SiteSteps.IsLeafPage, SiteSteps.IsTidy, SiteSteps.IsTidyAt, SiteSteps.bucket_site, SiteSteps.on_page, KeptWays.all_kept, KeptWays.none_lost}
+use Rattle.bolt_tree.proofs.Exports.{flat}
 
 module _ (file : List ℕ) (meta : Meta) where
   abbrev nodes : Nodes
@@ -104,7 +102,7 @@ module _ (file : List ℕ) (meta : Meta) where
       let has : Contains (leaves_of (page_at file meta s.number)) e = subst (λ (xs : List LeafElement). Contains xs e) (subst (IsTidyAt file meta p.elements) at tidy) (contains_at p.elements i e get) in
       let shows = shows_entry file meta s.number e has in
       let (view, page, leaf, inside) = shows in
-      elim (on_page file meta p s _ tidy at (leaf_node file meta s.number view page leaf)) [
+      elim (on_page file meta p s _ tidy at (leaf_node_at file meta s.number view page leaf)) [
         | inl form ↦ (bucket_site file meta p.path s e, form.to i e get bucket, bucket_starts p.path s e s.number bucket shows, refl)
         | inr branch ↦ absurd (none-some e (ap (λ (xs : List LeafElement). slice_get xs i) (sym branch.none) ∙ get))
       ]

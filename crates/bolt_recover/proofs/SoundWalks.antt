@@ -1,9 +1,8 @@
 -- The walk over sound trees returns what is recovered of them, and nothing of them is lost.
 use Rattle.std.proofs.Common.{◌≡◌, ℕ, List, [], inl, refl, sym, Option, Some, None, arith}
 use Rattle.bolt_recover.proofs.Words.{GivesNext, item_view, option_map, Path, All-nil, AreLosses, At_page, bytes_of, Checked, Found, HasSoundTrees, IsClaimedBefore, IsFoundView, IsMetaPage, IsRecovered, IsSearched, KeepsRoot, LossView, Member, Meta, meta_of, node_at, passes_fewer, reached, root_spot, shape_passes, Sound, ∥∥₁_elim, ∥∥₁_map, props}
-use Rattle.bolt_recover.proofs.{FoundAll.are_none, Existing.has_survey, LostWays.no_losses, SoundListing.sound_listing}
-use Rattle.bolt_recover.proofs.KeptWays.{none_lost}
-use Rattle.bolt_check.proofs.CheckedLemmas.{checked_trees}
+use Rattle.bolt_recover.proofs.{FoundAll.are_none, Existing.has_survey, LostWays.no_losses, SoundListing.sound_listing, KeptWays.none_lost}
+use Rattle.bolt_check.proofs.Exports.{checked_trees}
 use Rattle.bolt_tree.specs.{FileListings.ForListing, declared.entry.Item.Item as CodeItem}
 
 pub no_loss : (file : List ℕ) (meta : Meta) (losses : List LossView) → HasSoundTrees file meta → AreLosses file meta losses → losses ≡ []

@@ -1,14 +1,12 @@
 -- What the steps of a recovering walk leave to be done.
 use Rattle.std.proofs.Common.{◌≡◌, ◌∙◌, ◌≤◌, ◌<◌, ℕ, suc, ◌+◌, ◌-◌, Bool, true, ◌↔◌, List, [], ◌∷◌, ◌++◌, length, map, take, Option, Some, None, slice_get, drop, refl, sym, ap, arith, append_assoc, sum_by, Vec, Global, Bor}
 use Rattle.bolt_recover.proofs.Words.{after_event, after_events, ahead_tasks, all_events, append-nil, AreOpenPages, At_page, both_ways, claimed_after, claims_file, claims_meta, claims_nodes, claims_visited, claims_with, Event, loss_of, Passes, Tests, KeptPage, content_elements, content_site, content_size, content_spot, counted, Ends, events, Finding, further, Gives, GivesHead, StepsOn, is_claimed, IsAllLeft, IsContent, IsGoodKeptPage, IsGoodPage, IsMetaPage, AreStepsPlaced, IsShallow, LeafElement, length_entries, length-map, length-take-le, loss_view, loss_at, map-append, members_of, Meta, meta_pages, nat_tests, NextVisit, node_at, Nodes, open_tasks, OpenPage, option_map, Outcome, outcome_of, page_tasks, page_visit, page_weight, Path, path_of, root_spot, Site, site_size, site_tasks, spot_at, spot_site, steps_left, steps_path, steps_weight, TreePage, sum_by-append, take-append-drop, take-append-le, tally_of, Task, tasks_after, tasks_from, tasks_left, Visited, Way, way_of, step_site}
+use Rattle.bolt_recover.proofs.{Courses.events_give, Courses.events_none, Courses.events_visit, SurveyIsOne.gives_same}
 use Rattle.bolt_format.specs.TreePages.{page_keys, shown_page}
-use Rattle.bolt_recover.specs.Private.Frames.{IsGoodAt, IsShallowAt}
+use Rattle.bolt_recover.specs.{Private.Frames.IsGoodAt, Private.Frames.IsShallowAt, declared.losses.Loss.Loss, declared.steps.Steps.Steps}
 use Rattle.bolt_check.specs.{declared.claims.Claims.Claims, declared.spot.Spot.Spot}
-use Rattle.bolt_recover.specs.{declared.losses.Loss.Loss, declared.steps.Steps.Steps}
 use Rattle.bolt_check.specs.declared.spot.Spot.TheVariants as spots
-use Rattle.bolt_recover.proofs.Courses.{events_give, events_none, events_visit}
 use Rattle.std.proofs.Math.Bool.{or-false}
-use Rattle.bolt_recover.proofs.SurveyIsOne.{gives_same}
 
 module _ (file : List ℕ) (meta : Meta) where
   -- the innermost page is the last one
@@ -179,9 +177,6 @@ module _ (s : Steps) (front : List OpenPage) (top : OpenPage) (has : AreStepsPla
         (takes : (n : ℕ) → n ≤ top.path_len → take n (path_of path.items) ≡ take n (steps_path s)) (low : top.path_len ≤ path_len) (high : path_len ≤ length (path_of path.items)) where
       in_front : top.next + 1 ≤ top.count
       in_front = let taken = inner.good.taken in omega (arith, taken, more)
-
-      abbrev rest_tasks : List Task
-      rest_tasks = tasks_from file_of meta_of (way_of front) here (suc top.next) (top.count - (top.next + 1)) ++ open_tasks file_of meta_of (steps_path s) [] front []
 
       -- an element of a branch
       pub took_branch : slice_get (content_elements top.content) top.next ≡ None → path.items ≡ s.path.items → StepsOn s on × (steps_weight on < steps_weight s)

@@ -1,8 +1,8 @@
 -- There is at most one survey: if all that stands before a way is the same in two of them, so is what is open, claimed and found there.
 use Rattle.std.proofs.Common.{◌≡◌, ℕ, inl, inr, List, [], ◌∷◌, ◌++◌, map, Option, refl, subst, arith}
 use Rattle.bolt_recover.proofs.Words.{Before, before_irreflexive, before_strict, before_trans, Finding, Gives, Has, has_split, Each, IsClaimedIn, IsOpen, IsSurvey, Meta, node_at, Nodes, passes_fewer, passes_silent, Reach, reached, Spot, Surveys, tests_same, SurveyedWay, RisesBy}
-use Rattle.bolt_check.proofs.{Lists.has_map, Lists.one_list, Lists.rises_right, Single.tests_one}
-use Rattle.bolt_tree.proofs.TourLemmas.{before_under}
+use Rattle.bolt_check.proofs.Exports.{has_map, one_list, rises_right, tests_one}
+use Rattle.bolt_tree.proofs.Exports.{before_under}
 
 abbrev pub ways : List SurveyedWay → List (List ℕ)
 ways visits = map (λ (v : SurveyedWay). v.way) visits

@@ -1,11 +1,5 @@
 -- The words that the proofs of this crate cite, passed on from the modules that define them.
-pub use Rattle.bolt_check.proofs.ClaimLemmas.{claims_bytes, counted_none, visited_fits}
-pub use Rattle.bolt_check.proofs.Judging.{passes_fewer, passes_silent, span_spot, tests_same}
-pub use Rattle.bolt_check.proofs.KeyLaws.{below_less, from_more, less_of, lt_not_trans, lt_trans}
-pub use Rattle.bolt_check.proofs.{KeyOrder.key_each, KeyOrder.key_rise, Lawful.shape_passes, Lawful.sound_reports_nothing}
-pub use Rattle.bolt_check.proofs.{MarkLemmas.node_below, MarkLemmas.node_within, NodeLemmas.length_entries, Shaping.finding_none, Shaping.shape_of}
-pub use Rattle.bolt_check.proofs.{Visited.passed_on, WayFacts.follow_append, WayFacts.key_at, WayFacts.leads_none, WayFacts.leaf_node}
-pub use Rattle.bolt_check.proofs.WayOrder.{before_irreflexive, before_strict, before_trans}
+pub use Rattle.bolt_check.proofs.Exports.{claims_bytes, counted_none, visited_fits, passes_fewer, passes_silent, span_spot, tests_same, below_less, from_more, lt_not_trans, lt_trans, less_of, key_each, key_rise, shape_passes, sound_reports_nothing, node_below, node_within, length_entries, finding_none, shape_of, passed_on, follow_append, key_at, leads_none, leaf_node_at, before_irreflexive, before_strict, before_trans, Each, RisesBy, contains_from_has, get_before, has_at, has_from_contains, has_left, has_right, has_split, map_has, rises_append, rises_map, Has as Among}
 unfoldable pub use Rattle.bolt_check.specs.CheckedFiles.{bytes_of, meta_of}
 unfoldable pub use Rattle.bolt_check.specs.Claims.{claims_file, claims_meta, claims_visited, is_claimed}
 unfoldable pub use Rattle.bolt_check.specs.Leftovers.{is_listed, is_taken, leftovers_file, leftovers_length, leftovers_meta}
@@ -61,12 +55,7 @@ unfoldable pub use Rattle.bolt_recover.specs.JoinedMembers.{joined_file, joined_
 unfoldable pub use Rattle.bolt_recover.specs.LostAndFound.{all_lost}
 unfoldable pub use Rattle.bolt_recover.specs.Recoveries.{recovery_begun, recovery_claimed, recovery_file, recovery_left, recovery_losses, recovery_meta}
 unfoldable pub use Rattle.bolt_recover.specs.Recoveries.{recovery_visited, recovery_work}
-pub use Rattle.bolt_tree.proofs.{EntryOrder.contains_at, Filters.filter_all, Filters.filter_none}
-pub use Rattle.bolt_check.proofs.Lists.{Each, RisesBy, contains_from_has, get_before, has_at, has_from_contains, has_left, has_right, has_split, map_has}
-pub use Rattle.bolt_check.proofs.Lists.{rises_append, rises_map, Has as Among}
-pub use Rattle.bolt_tree.proofs.{Lists.contains_cases, Lists.contains_head, Lists.contains_none, Lists.contains_tail, Lists.rises_once}
-pub use Rattle.bolt_tree.proofs.PathOrder.{before_longer, key_same, key_total, same_front}
-pub use Rattle.bolt_tree.proofs.Single.{lists_once, member_total}
+pub use Rattle.bolt_tree.proofs.Exports.{contains_at, filter_all, filter_none, contains_cases, contains_head, contains_none, contains_tail, rises_once, before_longer, key_same, key_total, same_front, lists_once, member_total}
 pub use Rattle.bolt_tree.specs.Entries.{Bucket, Inline_page, IsEntry, Item, Root_page, ShowsEntry, Start, Value, item_of, start_of}
 pub use Rattle.bolt_tree.specs.{Listing.IsListing, Listing.Member, Listing.member_cmp, Order.Rises}
 pub use Rattle.bolt_tree.specs.{Paths.Holds, Paths.Names, Paths.Path, Paths.path_cmp, Paths.path_of, ShownEntries.item_view}

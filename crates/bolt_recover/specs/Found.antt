@@ -1,10 +1,8 @@
 -- The pages that are found though nothing leads to them: docs/RECOVERY.md, "Found pages".
 use Rattle.std.specs.Prelude.{◌≡◌, ℕ, zero, suc, ◌⊎◌, List, [], ◌∷◌, ◌++◌, Contains, map}
 use Rattle.bolt_format.specs.declared.meta.Meta.{Meta}
-use Rattle.bolt_check.specs.{Lists.Has, LoneLeaves.IsListedFree, LoneLeaves.IsLoneLeaf, Nodes.node_at, Ways.At_page, Ways.SpanAt, Ways.root_spot}
-use Rattle.bolt_check.specs.declared.finding.Finding.{Finding}
-use Rattle.bolt_recover.specs.{KeptPages.IsKeptPage, Surveys.IsSurvey, Surveys.LosesNothing, Surveys.SurveyedWay, Surveys.lost}
-use Rattle.bolt_recover.specs.declared.found.Found.{Found}
+use Rattle.bolt_check.specs.{Lists.Has, LoneLeaves.IsListedFree, LoneLeaves.IsLoneLeaf, Nodes.node_at, Ways.At_page, Ways.SpanAt, Ways.root_spot, declared.finding.Finding.Finding}
+use Rattle.bolt_recover.specs.{KeptPages.IsKeptPage, Surveys.IsSurvey, Surveys.LosesNothing, Surveys.SurveyedWay, Surveys.lost, declared.found.Found.Found}
 
 module _ (file : List ℕ) (meta : Meta) where
   -- page n lies in the span of one of these pages

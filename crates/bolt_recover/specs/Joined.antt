@@ -1,11 +1,9 @@
 -- The recovered listing, joined with what is found: docs/RECOVERY.md, "The joined listing".
 use Rattle.std.specs.Prelude.{◌≡◌, ◌≢◌, ◌==◌, ◌&&◌, ◌⊎◌, ℕ, Bool, true, false, IsTrue, List, [], ◌∷◌, ◌++◌, Contains, None, codes, if◌then◌else◌, is_none, map, not}
 use Rattle.std.specs.Ordering.{is_eq}
-use Rattle.bolt_format.specs.{Elements.LeafElement, Elements.head_root, Elements.head_sequence, Elements.inline_elements, Pages.page_at}
-use Rattle.bolt_format.specs.declared.meta.Meta.{Meta}
+use Rattle.bolt_format.specs.{Elements.LeafElement, Elements.head_root, Elements.head_sequence, Elements.inline_elements, Pages.page_at, declared.meta.Meta.Meta}
 use Rattle.bolt_check.specs.Keys.{Key, key_cmp, key_lt, keys_order_fault}
-use Rattle.bolt_tree.specs.{Entries.Bucket, Entries.item_of, Listing.Member, Paths.Path}
-use Rattle.bolt_tree.specs.Tree.{Tree, end, listing_of, tree_of, with_bucket, with_value}
+use Rattle.bolt_tree.specs.{Entries.Bucket, Entries.item_of, Listing.Member, Paths.Path, Tree.Tree, Tree.end, Tree.listing_of, Tree.tree_of, Tree.with_bucket, Tree.with_value}
 use Rattle.bolt_recover.specs.{Found.AreFound, PageKeys.page_key, Sites.leaves_of, Recovered.IsRecovered}
 
 -- the bucket of what is found

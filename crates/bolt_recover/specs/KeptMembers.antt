@@ -3,33 +3,32 @@ use Rattle.std.specs.Prelude.{ℕ, List, []}
 use Rattle.bolt_format.specs.declared.meta.Meta.{Meta}
 use Rattle.bolt_check.specs.CheckedFiles.{bytes_of, meta_of}
 use Rattle.bolt_tree.specs.{Listing.Member, Paths.Path, Walks.left_of, Walks.walk_checked, Walks.walk_path, WalksLeft.left_number}
-use Rattle.bolt_recover.specs.Recoveries.{recovery_file, recovery_left, recovery_meta, recovery_path, recovery_work}
-use Rattle.bolt_recover.specs.declared.kept.Kept.{Kept}
-use Rattle.bolt_recover.specs.declared.kept.Kept.TheVariants.{Nothing, Recovery, Sound}
+use Rattle.bolt_recover.specs.{Recoveries.recovery_file, Recoveries.recovery_left, Recoveries.recovery_meta, Recoveries.recovery_path, Recoveries.recovery_work, declared.kept.Kept.Kept}
+use Rattle.bolt_recover.specs.declared.kept.Kept.TheVariants.{Recovery, Rootless, Sound}
 
 abbrev pub kept_file : Kept → List ℕ
 kept_file (Recovery recovery) = recovery_file recovery
 kept_file (Sound walk) = bytes_of (walk_checked walk)
-kept_file (Nothing root) = root.file.now
+kept_file (Rootless root) = root.file.now
 
 abbrev pub kept_meta : Kept → Meta
 kept_meta (Recovery recovery) = recovery_meta recovery
 kept_meta (Sound walk) = meta_of (walk_checked walk)
-kept_meta (Nothing root) = root.meta
+kept_meta (Rootless root) = root.meta
 
 -- the part of the recovered listing that is left
 abbrev pub kept_left : Kept → List Member → List Member
 kept_left (Recovery recovery) listing = recovery_left recovery listing
 kept_left (Sound walk) listing = left_of walk listing
-kept_left (Nothing root) listing = []
+kept_left (Rootless root) listing = []
 
 abbrev pub kept_work : Kept → ℕ
 kept_work (Recovery recovery) = recovery_work recovery
 kept_work (Sound walk) = left_number walk
-kept_work (Nothing root) = 0
+kept_work (Rootless root) = 0
 
 -- the path of the last member that was returned
 abbrev pub kept_path : Kept → Path
 kept_path (Recovery recovery) = recovery_path recovery
 kept_path (Sound walk) = walk_path walk
-kept_path (Nothing root) = []
+kept_path (Rootless root) = []

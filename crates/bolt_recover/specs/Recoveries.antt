@@ -4,8 +4,7 @@ use Rattle.std.specs.Option.{option_map}
 use Rattle.bolt_format.specs.declared.meta.Meta.{Meta}
 use Rattle.bolt_check.specs.{Claims.claims_file, Claims.claims_visited, Claims.is_claimed, Counts.counted}
 use Rattle.bolt_tree.specs.{Listing.Member, Paths.Path, ShownEntries.item_view, Walks.GivesNext, declared.entry.Item.Item}
-use Rattle.bolt_recover.specs.{Losses.AreLosses, Losses.LossView, PageWays.ForPageWays}
-use Rattle.bolt_recover.specs.{Private.Frames.members_left, Private.Frames.steps_path, Recovered.ForRecovered, ShownLosses.loss_view}
+use Rattle.bolt_recover.specs.{Losses.AreLosses, Losses.LossView, PageWays.ForPageWays, Private.Frames.members_left, Private.Frames.steps_path, Recovered.ForRecovered, ShownLosses.loss_view}
 use Rattle.bolt_recover.specs.declared.recovery.Recovery.{Recovery}
 
 unfoldable pub recovery_file : Recovery → List ℕ

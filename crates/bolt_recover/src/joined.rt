@@ -21,7 +21,7 @@ use std::alloc::Global;
 #[derive(Clone, Copy, Debug, PartialEq, Eq)]
 pub enum JoinFault {
     /// The root page is lost, with this finding, and no page is found.
-    Root(Finding),
+    Rootless(Finding),
     /// A page is found, and the recovered root bucket has an entry `lost+found`.
     Exists,
     /// The file has more pages than numbers of sixteen digits can name.
@@ -80,7 +80,7 @@ fn test_join(both: &LostAndFound<'_>) -> Result<(), JoinFault>
         }
         Trees::Rootless(finding) => {
             if !some {
-                return Err(JoinFault::Root(*finding));
+                return Err(JoinFault::Rootless(*finding));
             }
             Ok(())
         }
@@ -97,7 +97,7 @@ impl<'a> Joined<'a> {
     ///
     /// # Errors
     ///
-    /// `Root` if the root page is lost and no page is found; `Exists` if a page is found and the
+    /// `Rootless` if the root page is lost and no page is found; `Exists` if a page is found and the
     /// recovered root bucket has an entry `lost+found`; `TooLarge` if the file has 10^16 pages or more;
     /// `Memory` if memory runs out.
     pub fn new(alloc: Global, both: &'a LostAndFound<'_>) -> Result<Joined<'a>, JoinFault>

@@ -29,7 +29,7 @@ pub enum Kept<'a> {
     /// Those of a file whose trees are sound, so that nothing is lost. No page is tested again.
     Sound(Walk<'a>),
     /// None, since the root page is lost.
-    Nothing(LostRoot<'a>),
+    Rootless(LostRoot<'a>),
 }
 
 impl<'a> Kept<'a> {
@@ -56,7 +56,7 @@ impl<'a> Kept<'a> {
                 Ok(recovery) => Ok(Kept::Recovery(recovery)),
                 Err(_) => Err(NoMemory),
             },
-            Trees::Rootless(_) => Ok(Kept::Nothing(LostRoot {
+            Trees::Rootless(_) => Ok(Kept::Rootless(LostRoot {
                 file: both.file,
                 meta: both.meta,
             })),
@@ -87,7 +87,7 @@ impl<'a> Members<'a> for Kept<'a> {
         match self {
             Kept::Recovery(recovery) => recovery.next(),
             Kept::Sound(walk) => walk.next(),
-            Kept::Nothing(_) => Ok(None),
+            Kept::Rootless(_) => Ok(None),
         }
     }
 
@@ -96,7 +96,7 @@ impl<'a> Members<'a> for Kept<'a> {
         match self {
             Kept::Recovery(recovery) => recovery.path(),
             Kept::Sound(walk) => walk.path(),
-            Kept::Nothing(_) => &[],
+            Kept::Rootless(_) => &[],
         }
     }
 
@@ -107,7 +107,7 @@ impl<'a> Members<'a> for Kept<'a> {
                 *walk = Walk::new(alloc, walk.checked());
                 Ok(())
             }
-            Kept::Nothing(_) => Ok(()),
+            Kept::Rootless(_) => Ok(()),
         }
     }
 }

@@ -3,24 +3,18 @@ use Rattle.std.proofs.Common.{◌≡◌, ◌∙◌, ◌<◌, ◌++◌, ◌≤◌
 use Rattle.std.proofs.lemmas.Bool.{and_parts, cond-false, cond-true, false_from_ne_true, not-false, true_from_ne_false}
 use Rattle.std.proofs.lemmas.Cmp.{nat_list_eq_equiv}
 use Rattle.std.proofs.lemmas.List.{append-nil, append_assoc, drop-set-lt, drop_all, drop_more, map-append, take_more_set}
-use Rattle.std.proofs.lemmas.List.Kept.{Contains-dedup, Contains-from_dedup, IsStrictlySortedBy-dedup}
-use Rattle.std.proofs.lemmas.Map.Text.{is_eq-slice_cmp}
+use Rattle.std.proofs.{lemmas.List.Kept.Contains-dedup, lemmas.List.Kept.Contains-from_dedup, lemmas.List.Kept.IsStrictlySortedBy-dedup, lemmas.Map.Text.is_eq-slice_cmp}
 use Rattle.std.proofs.lemmas.Slice.Eq.{bytes_eq-Decides}
-use Rattle.std.specs.Cmp.Lexicographic.{same_text}
-use Rattle.std.specs.List.{Contains, dedup, dedup_from}
-use Rattle.std.specs.Ordering.{is_lt, ordering_reverse, ordering_then}
-use Rattle.std.specs.Str.{bytes_eq}
-use Rattle.std.specs.declared.cmp.Ordering.{Ordering}
-use Rattle.std.specs.declared.cmp.Ordering.TheVariants.{Equal, Greater, Less}
+use Rattle.std.specs.{Cmp.Lexicographic.same_text, List.Contains, List.dedup, List.dedup_from, Ordering.is_lt, Ordering.ordering_reverse, Ordering.ordering_then, Str.bytes_eq}
+use Rattle.std.specs.{declared.cmp.Ordering.Ordering, declared.cmp.Ordering.TheVariants.Equal, declared.cmp.Ordering.TheVariants.Greater, declared.cmp.Ordering.TheVariants.Less}
 use Rattle.bolt_check.specs.Keys.{Key, key_cmp}
-use Rattle.bolt_tree.proofs.{Lists.contains_cases, Lists.contains_head, Lists.contains_none, Lists.contains_tail, Lists.irreflexive, PathOrder.key_exact, PathOrder.key_total}
+use Rattle.bolt_tree.proofs.Exports.{contains_cases, contains_head, contains_none, contains_tail, irreflexive, key_exact, key_total, Climbs, climbs_sorted, shows_from, shows_has, rises_as}
 use Rattle.bolt_tree.specs.{Entries.EntryView, InBuckets.view_cmp, Order.Rises}
-use Rattle.bolt_repair.specs.Candidates.{whole_cmp}
-use Rattle.bolt_etcd.specs.ShownRevisions.{value_bytes}
-use Rattle.bolt_etcd.specs.{ShownRevisions.entry_of, declared.revision.Revision.Revision}
-use Rattle.bolt_repair.specs.Undisputed.{AreKeys, AreUndisputed, HaveKeys, is_last_of_key}
-use Rattle.bolt_etcd.proofs.{MappedLists.Climbs, MappedLists.climbs_sorted, MappedLists.shows_from, MappedLists.shows_has, Rising.rises_as, SortedOnce.rises_from}
-use Rattle.bolt_repair.proofs.{WholeOrder.whole_total}
+use Rattle.bolt_repair.specs.{Candidates.whole_cmp, Undisputed.AreKeys, Undisputed.AreUndisputed, Undisputed.HaveKeys, Undisputed.is_last_of_key}
+use Rattle.bolt_etcd.specs.{ShownRevisions.value_bytes, ShownRevisions.entry_of, declared.revision.Revision.Revision}
+use Rattle.bolt_etcd.proofs.Exports.{rises_from}
+use Rattle.bolt_repair.proofs.WholeOrder.{whole_total}
+use Rattle.bolt_check.proofs.Exports.{neither}
 
 -- ---- by key, entries climb
 
@@ -48,11 +42,6 @@ keys_climb (e ∷ es) rises = (
   λ key has. let (b, there, is) = shows_from (λ (x : EntryView). x.key) es key has in subst (λ (k : Key). key_below k e.key ≡ false) is (not_below e b (rises.0 b there)),
   keys_climb es rises.1,
 )
-
-pub neither : (o : Ordering) → is_lt o ≡ false → is_lt (ordering_reverse o) ≡ false → o ≡ Equal
-neither Less e f = cc
-neither Equal e f = refl
-neither Greater e f = cc
 
 level : (a b : Key) → key_below a b ≡ false → key_below b a ≡ false → a ≡ b
 level a b e f = key_exact a b (neither (key_cmp a b) e (ap is_lt (sym (key_total.antisymm b a)) ∙ f))

@@ -1,20 +1,18 @@
 -- The repair of a file that was searched.
 use Rattle.std.proofs.Common.{◌≡◌, ◌∙◌, ◌-◌, ◌≤◌, ◌&&◌, ◌==◌, ◌++◌, ℕ, Bool, true, false, List, [], ◌∷◌, Some, arith, length, map, not, refl, sym, ap, ap₂, subst}
-use Rattle.std.proofs.Math.Logic.{∥∥₁_elim, ∥∥₁_map}
-use Rattle.std.proofs.Props.{props}
-use Rattle.std.proofs.lemmas.{Bool.eqb-true, Bool.ne_eqb, List.Elements.All-head, List.Elements.All-tail, List.length-map}
+use Rattle.std.proofs.{Math.Logic.∥∥₁_elim, Math.Logic.∥∥₁_map, Props.props, lemmas.Bool.eqb-true, lemmas.Bool.ne_eqb, lemmas.List.Elements.All-head, lemmas.List.Elements.All-tail}
+use Rattle.std.proofs.lemmas.List.{length-map}
 use Rattle.std.specs.{Borrow.Bor, List.All, Option.option_map}
 use Rattle.bolt_format.specs.{Elements.LeafElement, Pages.page_at, TreePages.leaves_on, declared.meta.Meta.Meta}
 use Rattle.bolt_check.specs.{Keys.Key, declared.finding.Finding.Finding}
 use Rattle.bolt_tree.specs.{Listing.Member, ShownEntries.item_view}
-use Rattle.bolt_recover.proofs.Existing.{has_recovered}
-use Rattle.bolt_recover.specs.{Losses.everything, Lost.IsAllLost, LostAndFound.all_lost}
-use Rattle.bolt_recover.specs.{Found.found_numbers, Recovered.ForRecovered, Recovered.IsRecovered, Refusals.LosesRoot, ShownFound.IsFoundView, Sites.leaves_of, declared.found.Found.Found, declared.lost_and_found.LostAndFound.LostAndFound}
-use Rattle.bolt_etcd.specs.declared.revision.Revision.{Revision}
-use Rattle.bolt_etcd.specs.ShownRevisions.{entry_of, shown_revision}
-use Rattle.bolt_etcd.specs.{Among.without, Compacted.compacted_by}
-use Rattle.bolt_repair.specs.{Candidates.AreCandidates, Candidates.found_elements, FullRepairs.IsFullRepair}
-use Rattle.bolt_repair.specs.{Repaired.IsRepair, Repaired.elements_on, Repaired.lacks_bucket, StoreSurveys.IsStoreSurvey, StoreSurveys.IsSurveyOf, Undisputed.AreKeys, Undisputed.AreUndisputed, WhatGoesBack.ArePutBack, declared.survey.Survey.Survey}
+use Rattle.bolt_recover.proofs.Exports.{has_recovered}
+use Rattle.bolt_recover.specs.{Losses.everything, Lost.IsAllLost, LostAndFound.all_lost, Found.found_numbers, Recovered.ForRecovered, Recovered.IsRecovered, Refusals.LosesRoot, ShownFound.IsFoundView}
+use Rattle.bolt_recover.specs.{Sites.leaves_of, declared.found.Found.Found, declared.lost_and_found.LostAndFound.LostAndFound}
+use Rattle.bolt_etcd.specs.{declared.revision.Revision.Revision, ShownRevisions.entry_of, ShownRevisions.shown_revision, Among.without, Compacted.compacted_by}
+use Rattle.bolt_repair.specs.{Candidates.AreCandidates, Candidates.found_elements, FullRepairs.IsFullRepair, Repaired.IsRepair, Repaired.elements_on, Repaired.lacks_bucket}
+use Rattle.bolt_repair.specs.{RecoveredStores.IsRecoveredStore, RecoveredStores.IsStoreNoted, Undisputed.AreKeys, Undisputed.AreUndisputed, WhatGoesBack.ArePutBack}
+use Rattle.bolt_repair.specs.declared.recovered_store.RecoveredStore.{RecoveredStore}
 use Rattle.bolt_repair.proofs.WholeRepairs.{back_least, full_repair, is_nil, repair}
 
 -- the elements of the pages of the code are those of the pages with their numbers
@@ -48,11 +46,11 @@ module _ (es : List Revision) (made lacks : Bool) where
 abbrev now : Bor Key → Key
 now key = key.now
 
-module _ (both : LostAndFound) (pages : List Found) (on : pages ≡ both.found.items) (all listed left back : List Revision) (same : listed ≡ all) (survey : Survey)
-    (compacted : ℕ) (at : compacted ≡ compacted_by (option_map now survey.compaction)) (candidates : AreCandidates (found_elements pages) (map entry_of all))
-    (surveys : ForRecovered both.file.now both.meta (λ recovered. IsSurveyOf recovered (map entry_of listed) survey))
-    (agree : AreUndisputed (without (map now survey.met.items) (map entry_of all)) (map entry_of left))
-    (put : ArePutBack compacted (map shown_revision survey.kept.items) (map entry_of left) (map entry_of back)) where
+module _ (both : LostAndFound) (pages : List Found) (on : pages ≡ both.found.items) (all listed left back : List Revision) (same : listed ≡ all) (store : RecoveredStore)
+    (compacted : ℕ) (at : compacted ≡ compacted_by (option_map now store.compaction)) (candidates : AreCandidates (found_elements pages) (map entry_of all))
+    (stores : ForRecovered both.file.now both.meta (λ recovered. IsStoreNoted recovered (map entry_of listed) store))
+    (agree : AreUndisputed (without (map now store.met.items) (map entry_of all)) (map entry_of left))
+    (put : ArePutBack compacted (map shown_revision store.kept.items) (map entry_of left) (map entry_of back)) where
   abbrev recovered : List Member
   recovered = (has_recovered both.file.now both.meta).0
 
@@ -65,26 +63,26 @@ module _ (both : LostAndFound) (pages : List Found) (on : pages ≡ both.found.i
   on_pages : All (IsFoundView both.file.now both.meta) both.found.items → AreCandidates (elements_on both.file.now both.meta (found_numbers both.found.items)) (map entry_of all)
   on_pages views = subst (λ (es : List LeafElement). AreCandidates es (map entry_of all)) (sym (elements_found both.file.now both.meta both.found.items views)) on_all
 
-  surveyed : IsStoreSurvey recovered (map entry_of all) (option_map item_view survey.store) (option_map now survey.compaction) (map shown_revision survey.kept.items) (map now survey.met.items)
-  surveyed = subst (λ (es : List Revision). IsSurveyOf recovered (map entry_of es) survey) same (surveys recovered is_recovered)
+  stored : IsRecoveredStore recovered (map entry_of all) (option_map item_view store.bucket) (option_map now store.compaction) (map shown_revision store.kept.items) (map now store.met.items)
+  stored = subst (λ (es : List Revision). IsStoreNoted recovered (map entry_of es) store) same (stores recovered is_recovered)
 
-  put_back : ArePutBack (compacted_by (option_map now survey.compaction)) (map shown_revision survey.kept.items) (map entry_of left) (map entry_of back)
-  put_back = subst (λ (n : ℕ). ArePutBack n (map shown_revision survey.kept.items) (map entry_of left) (map entry_of back)) at put
+  put_back : ArePutBack (compacted_by (option_map now store.compaction)) (map shown_revision store.kept.items) (map entry_of left) (map entry_of back)
+  put_back = subst (λ (n : ℕ). ArePutBack n (map shown_revision store.kept.items) (map entry_of left) (map entry_of back)) at put
 
-  pub searched_least : (keys : List Key) → AreKeys (without (map now survey.met.items) (map entry_of all)) keys → length back ≤ length keys
+  pub searched_least : (keys : List Key) → AreKeys (without (map now store.met.items) (map entry_of all)) keys → length back ≤ length keys
   searched_least keys are = ∥∥₁_elim both.searched (hlevel props) (λ searched.
       let long = length-map back entry_of in
-      let few = back_least both.file.now both.meta (found_numbers both.found.items) searched.are_found (map entry_of all) (map entry_of left) (map entry_of back) (map now survey.met.items) _ _ _ (on_pages searched.views) agree recovered is_recovered surveyed put_back keys are in
+      let few = back_least both.file.now both.meta (found_numbers both.found.items) searched.are_found (map entry_of all) (map entry_of left) (map entry_of back) (map now store.met.items) _ _ _ (on_pages searched.views) agree recovered is_recovered stored put_back keys are in
       omega (arith, long, few))
 
-  module _ (lacks : Bool) (is_lacking : lacks_bucket (option_map item_view survey.store) ≡ Some lacks) (is_made : Bool) (made : is_made ≡ (lacks && not (is_nil (map entry_of back)))) where
+  module _ (lacks : Bool) (is_lacking : lacks_bucket (option_map item_view store.bucket) ≡ Some lacks) (is_made : Bool) (made : is_made ≡ (lacks && not (is_nil (map entry_of back)))) where
     pub searched_repair : ∥ IsRepair both.file.now both.meta (map entry_of back) is_made ∥₁
     searched_repair = ∥∥₁_map both.searched (λ searched.
-        repair both.file.now both.meta (found_numbers both.found.items) searched.are_found (map entry_of all) (map entry_of left) (map entry_of back) (map now survey.met.items) _ _ _ (on_pages searched.views) agree recovered is_recovered surveyed put_back
+        repair both.file.now both.meta (found_numbers both.found.items) searched.are_found (map entry_of all) (map entry_of left) (map entry_of back) (map now store.met.items) _ _ _ (on_pages searched.views) agree recovered is_recovered stored put_back
         lacks is_lacking is_made made)
 
-    pub searched_full : (keys : List Key) → AreKeys (without (map now survey.met.items) (map entry_of all)) keys → (left_out : ℕ) → left_out ≡ length keys - length back
+    pub searched_full : (keys : List Key) → AreKeys (without (map now store.met.items) (map entry_of all)) keys → (left_out : ℕ) → left_out ≡ length keys - length back
         → ∥ IsFullRepair both.file.now both.meta (map entry_of back) is_made left_out ∥₁
     searched_full keys are left_out number = ∥∥₁_map both.searched (λ searched.
-        full_repair both.file.now both.meta (found_numbers both.found.items) searched.are_found (map entry_of all) (map entry_of left) (map entry_of back) (map now survey.met.items) _ _ _ (on_pages searched.views) agree recovered is_recovered surveyed put_back
+        full_repair both.file.now both.meta (found_numbers both.found.items) searched.are_found (map entry_of all) (map entry_of left) (map entry_of back) (map now store.met.items) _ _ _ (on_pages searched.views) agree recovered is_recovered stored put_back
         lacks is_lacking is_made made keys are left_out (let long = length-map back entry_of in omega (arith, long, number)))

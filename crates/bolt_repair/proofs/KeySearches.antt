@@ -1,17 +1,10 @@
 -- What a binary search by keys finds.
 use Rattle.std.proofs.Common.{◌≡◌, ◌↔◌, ◌∙◌, ◌<◌, ◌≤◌, ◌⊎◌, inl, inr, ℕ, Bool, true, false, List, [], ◌∷◌, length, map, Result, Ok, Err, sym, ap, slice_index_or, arith}
-use Rattle.std.proofs.lemmas.List.{get_or-map, length-map}
-use Rattle.std.proofs.lemmas.List.Elements.{Contains-from_at}
-use Rattle.std.specs.List.{Contains, HoldsAt}
-use Rattle.std.specs.List.Sorted.{IsBinarySearchResult, IsPartitionPoint, IsSearchInRange, IsSortedBy}
-use Rattle.std.specs.Ordering.{is_lt}
-use Rattle.std.specs.Result.{is_ok}
+use Rattle.std.proofs.{lemmas.List.get_or-map, lemmas.List.length-map, lemmas.List.Elements.Contains-from_at, lemmas.List.Sorted.searchable_from_sorted, lemmas.Cmp.tied_itself}
+use Rattle.std.specs.{List.Contains, List.HoldsAt, List.Sorted.IsBinarySearchResult, List.Sorted.IsPartitionPoint, List.Sorted.IsSearchInRange, List.Sorted.IsSortedBy, Ordering.is_lt, Result.is_ok}
 use Rattle.std.specs.declared.cmp.Ordering.TheVariants.{Equal, Greater, Less}
-use Rattle.std.proofs.lemmas.List.Sorted.{searchable_from_sorted}
-use Rattle.std.proofs.lemmas.Cmp.{tied_itself}
 use Rattle.bolt_check.specs.Keys.{Key, key_cmp}
-use Rattle.bolt_tree.proofs.PathOrder.{key_exact, key_total}
-use Rattle.bolt_etcd.proofs.MappedLists.{shows_from}
+use Rattle.bolt_tree.proofs.Exports.{key_exact, key_total, shows_from}
 
 two_ways : (i k : ℕ) → (k < i) ⊎ (i ≤ k)
 two_ways i k = grind arith

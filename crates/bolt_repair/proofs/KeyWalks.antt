@@ -1,24 +1,15 @@
 -- Candidates by rising key, beside one key.
 use Rattle.std.proofs.Common.{◌≡◌, ◌∙◌, ◌<◌, ◌≤◌, ◌+◌, ◌-◌, ◌↔◌, inl, inr, ℕ, zero, suc, Bool, true, false, List, [], ◌∷◌, length, map, slice_index_or, refl, sym, ap, subst, arith}
-use Rattle.std.proofs.lemmas.Bool.{cases_lt}
-use Rattle.std.proofs.lemmas.Slice.Eq.{bytes_eq-Decides}
-use Rattle.std.specs.Ordering.{is_lt, ordering_reverse}
-use Rattle.std.specs.Str.{bytes_eq}
-use Rattle.std.specs.declared.cmp.Ordering.{Ordering}
+use Rattle.std.proofs.{lemmas.Bool.cases_lt, lemmas.Slice.Eq.bytes_eq-Decides}
+use Rattle.std.specs.{Ordering.is_lt, Ordering.ordering_reverse, Str.bytes_eq, declared.cmp.Ordering.Ordering}
 use Rattle.std.specs.declared.cmp.Ordering.TheVariants.{Equal, Greater, Less}
 use Rattle.bolt_check.specs.Keys.{Key, key_cmp}
-use Rattle.bolt_tree.proofs.{Lists.irreflexive, PathOrder.key_exact, PathOrder.key_same, PathOrder.key_total}
+use Rattle.bolt_tree.proofs.Exports.{irreflexive, key_exact, key_same, key_total, Climbs, shows_from, shows_has}
 use Rattle.bolt_tree.specs.{Entries.EntryView, Order.Rises}
 use Rattle.bolt_repair.specs.{Candidates.HasKey, Candidates.whole_cmp, Keyed.HaveLesserKeys}
-use Rattle.bolt_etcd.specs.{ShownRevisions.entry_of}
-use Rattle.bolt_etcd.specs.declared.revision.Revision.{Revision}
-use Rattle.bolt_repair.proofs.{Alones.entries_climb, Alones.entry_below, Alones.neither}
-use Rattle.bolt_etcd.proofs.{MappedLists.Climbs, MappedLists.shows_from, MappedLists.shows_has}
-
-less_is : (o : Ordering) → is_lt o ≡ true → o ≡ Less
-less_is Less e = refl
-less_is Equal e = cc
-less_is Greater e = cc
+use Rattle.bolt_etcd.specs.{ShownRevisions.entry_of, declared.revision.Revision.Revision}
+use Rattle.bolt_repair.proofs.Alones.{entries_climb, entry_below}
+use Rattle.bolt_check.proofs.Exports.{less_of, neither}
 
 -- what isn't above one that is below a key is below the key
 at_most : (a b key : Key) (o : Ordering) → key_cmp a b ≡ o → is_lt (ordering_reverse o) ≡ false → key_cmp b key ≡ Less → key_cmp a key ≡ Less
@@ -54,7 +45,7 @@ module _ (key : Key) (xs : List Revision) (rises : Rises whole_cmp (map entry_of
     within,
     λ k d lt.
         let last : slice_index_or xs (n - 1) r ≡ slice_index_or xs (n - 1) d = same_default xs (n - 1) r d (omega arith) in
-        let before = less_is (key_cmp r.key.now key) less in
+        let before = less_of (key_cmp r.key.now key) less in
         at_most (slice_index_or xs k d).key.now (slice_index_or xs (n - 1) d).key.now key _ refl (not_above k (n - 1) d (omega arith) (omega arith))
         (subst (λ (x : Revision). key_cmp x.key.now key ≡ Less) (at ∙ last) before),
   )

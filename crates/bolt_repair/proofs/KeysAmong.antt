@@ -1,14 +1,11 @@
 -- Entries whose keys aren't among others.
 use Rattle.std.proofs.Common.{◌≡◌, ◌↔◌, inl, inr, Bool, true, false, List, [], ◌∷◌, not, refl, sym, ap, subst}
-use Rattle.std.proofs.lemmas.Bool.{false_from_ne_true, not-true, or_cases, or_left, or_right}
-use Rattle.std.proofs.lemmas.Slice.Eq.{bytes_eq-Decides}
-use Rattle.std.specs.List.{Contains}
-use Rattle.std.specs.Str.{bytes_eq}
+use Rattle.std.proofs.{lemmas.Bool.false_from_ne_true, lemmas.Bool.not-true, lemmas.Bool.or_cases, lemmas.Bool.or_left, lemmas.Bool.or_right, lemmas.Slice.Eq.bytes_eq-Decides}
+use Rattle.std.specs.{List.Contains, Str.bytes_eq}
 use Rattle.bolt_check.specs.Keys.{Key}
-use Rattle.bolt_tree.proofs.{Filters.kept, Lists.contains_cases, Lists.contains_head, Lists.contains_none, Lists.contains_tail}
-use Rattle.bolt_tree.specs.{Entries.EntryView}
+use Rattle.bolt_tree.proofs.Exports.{kept, contains_cases, contains_head, contains_none, contains_tail, kept_from}
+use Rattle.bolt_tree.specs.Entries.{EntryView}
 use Rattle.bolt_etcd.specs.Among.{among, without}
-use Rattle.bolt_etcd.proofs.{Filtered.kept_from}
 
 -- ---- whether a key is among these, as a test
 

@@ -5,13 +5,13 @@ pub mod KeySearches
 pub mod KeyWalks
 pub mod KeysAmong
 pub mod NewestUntil
+pub mod NotedMembers
 pub mod OneRepair
-pub mod Places
 pub mod RepairExists
 pub mod RepairLaws
 pub mod RepairedListings
 pub mod RestoredStores
 pub mod SortedChoice
-pub mod Surveyed
+pub mod StorePaths
 pub mod WholeOrder
 pub mod WholeRepairs

@@ -1,17 +1,16 @@
 -- There is one repaired listing.
 use Rattle.std.proofs.Common.{◌≡◌, ◌∙◌, inl, inr, ℕ, Bool, true, false, List, [], ◌∷◌, refl, subst, sym, ap}
 use Rattle.std.proofs.lemmas.Cmp.{on_total}
-use Rattle.std.specs.{Cmp.IsTotalOrder, List.Contains}
+use Rattle.std.specs.{Cmp.IsTotalOrder, List.Contains, declared.cmp.Ordering.TheVariants.Less}
 use Rattle.bolt_format.specs.{Elements.LeafElement, declared.meta.Meta.Meta}
-use Rattle.bolt_tree.specs.{Entries.Bucket, Entries.EntryView, Entries.Value, InBuckets.view_cmp, Listing.Member, Listing.member_cmp, Order.Rises, Paths.Path}
-use Rattle.bolt_tree.proofs.{Lists.contains_cases, Lists.contains_none, Lists.irreflexive, Lists.rises_once, PathOrder.key_total, PathOrder.path_total}
-use Rattle.bolt_tree.specs.{Entries.Item, Paths.path_cmp}
-use Rattle.std.specs.declared.cmp.Ordering.TheVariants.{Less}
-use Rattle.bolt_recover.proofs.Existing.{one_recovered}
+use Rattle.bolt_tree.specs.{Entries.Bucket, Entries.EntryView, Entries.Value, Entries.Item, InBuckets.view_cmp, Listing.Member, Listing.member_cmp, Order.Rises, Paths.Path, Paths.path_cmp}
+use Rattle.bolt_tree.proofs.Exports.{contains_cases, contains_none, irreflexive, rises_once, key_total, path_total}
+use Rattle.bolt_recover.proofs.Exports.{one_recovered}
 use Rattle.bolt_check.specs.Ones.{AtMostOne}
 use Rattle.bolt_recover.specs.{Found.AreFound, Recovered.IsRecovered}
 use Rattle.bolt_etcd.specs.{Compacted.compacted_by, Revisions.value_of}
-use Rattle.bolt_repair.specs.{Repaired.IsRepair, Repaired.IsRepaired, Repaired.MakesStore, Repaired.elements_on, Repaired.repaired_listing, Repairs.AreBack, Repairs.IsCompactedAt, Repairs.compaction_path}
+use Rattle.bolt_repair.specs.Repaired.{IsRepair, IsRepaired, MakesStore, elements_on, repaired_listing}
+use Rattle.bolt_repair.specs.Repairs.{AreBack, IsCompactedAt, compaction_path}
 
 pub view_total : IsTotalOrder view_cmp
 view_total = on_total (λ (e : EntryView). e.key) key_total

@@ -1,25 +1,20 @@
 -- Each file has a repaired listing, if the recovered listing has no value under the name of the bucket: whether an entry goes back can be decided.
 use Rattle.std.proofs.Common.{◌≡◌, ◌↔◌, ◌&&◌, ◌-◌, ◌++◌, ℕ, Bool, true, false, List, [], ◌∷◌, Option, Some, None, ap, codes, filter, length, map, not, refl, subst, sym}
-use Rattle.std.proofs.lemmas.Cmp.{tied_itself}
-use Rattle.std.proofs.lemmas.List.MinMax.{ranks_by}
-use Rattle.std.proofs.lemmas.List.{append-nil}
-use Rattle.std.specs.{List.Contains, List.dedup, Option.option_to_list}
-use Rattle.std.specs.Ordering.{is_lt}
-use Rattle.std.specs.declared.cmp.Ordering.TheVariants.{Equal}
+use Rattle.std.proofs.{lemmas.Cmp.tied_itself, lemmas.List.MinMax.ranks_by, lemmas.List.append-nil}
+use Rattle.std.specs.{List.Contains, List.dedup, Option.option_to_list, Ordering.is_lt, declared.cmp.Ordering.TheVariants.Equal}
 use Rattle.bolt_format.specs.{Elements.LeafElement, declared.meta.Meta.Meta}
 use Rattle.bolt_check.specs.Keys.{Key}
 use Rattle.bolt_recover.specs.{Found.AreFound, Recovered.IsRecovered}
-use Rattle.bolt_tree.proofs.PathOrder.{key_exact, key_total}
+use Rattle.bolt_tree.proofs.Exports.{key_exact, key_total, kept_from, shows_from, shows_has}
 use Rattle.bolt_tree.specs.{Entries.Bucket, Entries.EntryView, Entries.Item, Entries.Value, Entries.entry_view, Listing.Member, Listing.member_cmp, Order.Rises, Paths.Path}
-use Rattle.bolt_etcd.specs.{Among.without, Compacted.compacted_by}
-use Rattle.bolt_repair.specs.{Candidates.AreCandidates, Candidates.HasKey, Candidates.candidates_in, Candidates.is_candidate, Candidates.is_same_entry, Candidates.whole_cmp}
+use Rattle.bolt_etcd.specs.{Among.without, Compacted.compacted_by, Revisions.RevisionView, Revisions.revision_of}
+use Rattle.bolt_repair.specs.Candidates.{AreCandidates, HasKey, candidates_in, is_candidate, is_same_entry, whole_cmp}
 use Rattle.bolt_repair.specs.{FullRepairs.IsFullRepair, FullRepairs.LacksStoreValue, Repaired.IsRepaired, Repaired.elements_on, Repaired.lacks_bucket, Repaired.repaired_listing}
-use Rattle.bolt_etcd.specs.Revisions.{RevisionView, revision_of}
-use Rattle.bolt_repair.specs.{Repairs.compaction_path, Repairs.store_path, StoreSurveys.ComesAfter, StoreSurveys.IsStoreSurvey, Undisputed.AreKeys, Undisputed.AreUndisputed, WhatGoesBack.ArePutBack, WhatGoesBack.goes_back, WhatGoesBack.old_revisions}
-use Rattle.bolt_etcd.proofs.Decisions.{dec_each, dec_equal, dec_if, dec_key, dec_path, dec_some}
-use Rattle.bolt_etcd.proofs.{Filtered.kept_from, MappedLists.shows_from, MappedLists.shows_has, SortedExists.newest_exists, SortedExists.sorted_exists}
+use Rattle.bolt_repair.specs.{Repairs.compaction_path, Repairs.store_path, RecoveredStores.ComesAfter, RecoveredStores.IsRecoveredStore, Undisputed.AreKeys, Undisputed.AreUndisputed}
+use Rattle.bolt_repair.specs.WhatGoesBack.{ArePutBack, goes_back, old_revisions}
+use Rattle.bolt_etcd.proofs.Exports.{dec_each, dec_equal, dec_if, dec_key, dec_path, dec_some, newest_exists, sorted_exists}
 use Rattle.bolt_repair.proofs.{KeysAmong.without_has, OneRepair.view_total, SortedChoice.sorted_choice, SortedChoice.sorted_elements}
-use Rattle.bolt_repair.proofs.Surveyed.{bucket_there, compaction_noted, key_not_wanted, key_noted, next_member, none_surveyed, nothing_there, store_noted}
+use Rattle.bolt_repair.proofs.NotedMembers.{bucket_there, compaction_noted, key_not_wanted, key_noted, next_member, no_members_noted, nothing_there, store_noted}
 use Rattle.bolt_repair.proofs.{WholeOrder.merged_are_candidates, WholeOrder.same_whole, WholeOrder.whole_total, WholeRepairs.full_repair, WholeRepairs.is_nil}
 
 -- ---- candidates, and keys
@@ -71,28 +66,28 @@ module _ (es : List EntryView) (are : (e : EntryView) → Contains es e → is_c
 -- ---- what the recovered listing says of a store, member by member
 
 module _ (candidates : List EntryView) where
-  abbrev Surveyed : List Member → Type 0
-  Surveyed ms = (under : Option Item) × (noted : Option (List ℕ)) × (revisions : List RevisionView) × (met : List Key) × IsStoreSurvey ms candidates under noted revisions met
+  abbrev HasRecoveredStore : List Member → Type 0
+  HasRecoveredStore ms = (under : Option Item) × (noted : Option (List ℕ)) × (revisions : List RevisionView) × (met : List Key) × IsRecoveredStore ms candidates under noted revisions met
 
   dec_has_key : (key : Key) → Dec (HasKey candidates key)
   dec_has_key key = dec_some (λ (e : EntryView). e.key ≡ key) (λ e. dec_key e.key key) candidates
 
   module _ (before : List Member) (path : Path) (item : Item) (after : ComesAfter before (path, item)) where
     abbrev Next : Type 0
-    Next = Surveyed (before ++ (path, item) ∷ [])
+    Next = HasRecoveredStore (before ++ (path, item) ∷ [])
 
-    elsewhere : Surveyed before → (path ≡ store_path → ⊥) → ((key : Key) → path ≡ store_path ++ key ∷ [] → ⊥) → (path ≡ compaction_path → ⊥) → Next
+    elsewhere : HasRecoveredStore before → (path ≡ store_path → ⊥) → ((key : Key) → path ≡ store_path ++ key ∷ [] → ⊥) → (path ≡ compaction_path → ⊥) → Next
     elsewhere (under, noted, revisions, met, s) no_bucket no_entry no_compaction =
         (under, noted, revisions, met, nothing_there before path item after candidates under noted revisions met s no_bucket no_entry no_compaction)
 
-    at_store : Surveyed before → path ≡ store_path → Next
+    at_store : HasRecoveredStore before → path ≡ store_path → Next
     at_store (under, noted, revisions, met, s) at = (Some item, noted, revisions, met, store_noted before path item after candidates under noted revisions met s at)
 
-    at_compaction : Surveyed before → path ≡ compaction_path → (i : Item) → item ≡ i → Next
+    at_compaction : HasRecoveredStore before → path ≡ compaction_path → (i : Item) → item ≡ i → Next
     at_compaction (under, noted, revisions, met, s) at (Value value) is = (under, Some value, revisions, met, compaction_noted before path item after candidates under noted revisions met s value is at)
     at_compaction (under, noted, revisions, met, s) at (Bucket sequence) is = (under, noted, revisions, met, bucket_there before path item after candidates under noted revisions met s sequence is at)
 
-    at_entry : Surveyed before → (key : Key) → path ≡ store_path ++ key ∷ [] → Dec (HasKey candidates key) → Next
+    at_entry : HasRecoveredStore before → (key : Key) → path ≡ store_path ++ key ∷ [] → Dec (HasKey candidates key) → Next
     at_entry (under, noted, revisions, met, s) key at (yes has) = (
       under,
       noted,
@@ -108,30 +103,30 @@ module _ (candidates : List EntryView) where
       key_not_wanted before path item after candidates under noted revisions met s key at _ (λ e some. refl) never,
     )
 
-  by_bucket : (before : List Member) (bucket : Key) (item : Item) → ComesAfter before (bucket ∷ [], item) → Surveyed before → Dec (bucket ≡ codes "key") → Surveyed (before ++ (bucket ∷ [], item) ∷ [])
+  by_bucket : (before : List Member) (bucket : Key) (item : Item) → ComesAfter before (bucket ∷ [], item) → HasRecoveredStore before → Dec (bucket ≡ codes "key") → HasRecoveredStore (before ++ (bucket ∷ [], item) ∷ [])
   by_bucket before bucket item after s (yes same) = at_store before (bucket ∷ []) item after s (ap (λ (k : Key). k ∷ []) same)
   by_bucket before bucket item after s (no never) = elsewhere before (bucket ∷ []) item after s (λ e. never cc) (λ key e. cc) (λ e. cc)
 
-  by_entry : (before : List Member) (bucket key : Key) (item : Item) → ComesAfter before (bucket ∷ key ∷ [], item) → Surveyed before → Dec (bucket ≡ codes "key")
-      → Dec ((bucket ∷ key ∷ []) ≡ compaction_path) → Surveyed (before ++ (bucket ∷ key ∷ [], item) ∷ [])
+  by_entry : (before : List Member) (bucket key : Key) (item : Item) → ComesAfter before (bucket ∷ key ∷ [], item) → HasRecoveredStore before → Dec (bucket ≡ codes "key")
+      → Dec ((bucket ∷ key ∷ []) ≡ compaction_path) → HasRecoveredStore (before ++ (bucket ∷ key ∷ [], item) ∷ [])
   by_entry before bucket key item after s (yes same) compaction = at_entry before (bucket ∷ key ∷ []) item after s key (ap (λ (k : Key). k ∷ key ∷ []) same) (dec_has_key key)
   by_entry before bucket key item after s (no never) (yes at) = at_compaction before (bucket ∷ key ∷ []) item after s at item refl
   by_entry before bucket key item after s (no never) (no other) = elsewhere before (bucket ∷ key ∷ []) item after s (λ e. cc) (λ k e. never cc) other
 
-  step : (before : List Member) (path : Path) (item : Item) → ComesAfter before (path, item) → Surveyed before → Surveyed (before ++ (path, item) ∷ [])
+  step : (before : List Member) (path : Path) (item : Item) → ComesAfter before (path, item) → HasRecoveredStore before → HasRecoveredStore (before ++ (path, item) ∷ [])
   step before [] item after s = elsewhere before [] item after s (λ e. cc) (λ key e. cc) (λ e. cc)
   step before (bucket ∷ []) item after s = by_bucket before bucket item after s (dec_key bucket (codes "key"))
   step before (bucket ∷ key ∷ []) item after s = by_entry before bucket key item after s (dec_key bucket (codes "key")) (dec_path (bucket ∷ key ∷ []) compaction_path)
   step before (bucket ∷ key ∷ more ∷ path) item after s = elsewhere before (bucket ∷ key ∷ more ∷ path) item after s (λ e. cc) (λ k e. cc) (λ e. cc)
 
-  survey_on : (left before : List Member) → Rises member_cmp (before ++ left) → Surveyed before → Surveyed (before ++ left)
-  survey_on [] before rises s = subst Surveyed (sym (append-nil before)) s
-  survey_on (m ∷ left) before rises s =
+  noted_on : (left before : List Member) → Rises member_cmp (before ++ left) → HasRecoveredStore before → HasRecoveredStore (before ++ left)
+  noted_on [] before rises s = subst HasRecoveredStore (sym (append-nil before)) s
+  noted_on (m ∷ left) before rises s =
       let (after, next) = next_member (before ++ m ∷ left) before (m ∷ left) left m.0 m.0 m.1 rises refl refl refl in
-      subst Surveyed next (survey_on left (before ++ m ∷ []) (subst (Rises member_cmp) (sym next) rises) (step before m.0 m.1 after s))
+      subst HasRecoveredStore next (noted_on left (before ++ m ∷ []) (subst (Rises member_cmp) (sym next) rises) (step before m.0 m.1 after s))
 
-  survey_exists : (recovered : List Member) → Rises member_cmp recovered → Surveyed recovered
-  survey_exists recovered rises = survey_on recovered [] rises (None, None, [], [], none_surveyed candidates)
+  store_exists : (recovered : List Member) → Rises member_cmp recovered → HasRecoveredStore recovered
+  store_exists recovered rises = noted_on recovered [] rises (None, None, [], [], no_members_noted candidates)
 
 put_back_exists : (compacted : ℕ) (kept : List RevisionView) (agreed : List EntryView) → (back : List EntryView) × ArePutBack compacted kept agreed back
 put_back_exists compacted kept agreed =
@@ -150,17 +145,17 @@ module _ (file : List ℕ) (meta : Meta) (found : List ℕ) (are_found : AreFoun
   pub has_full_repair : (back : List EntryView) × (is_made : Bool) × (left_out : ℕ) × IsFullRepair file meta back is_made left_out
   has_full_repair =
       let (all, candidates) = candidates_exist (elements_on file meta found) in
-      let (under, noted, revisions, met, survey) = survey_exists all recovered recovers.rises in
+      let (under, noted, revisions, met, store) = store_exists all recovered recovers.rises in
       let left = without met all in
       let (keys, are_keys) = keys_exist left in
       let (agreed, agree) = undisputed_exist left (λ e has.
       (kept_from is_candidate (map entry_view (elements_on file meta found)) e ((candidates.exact e).0 ((without_has met all e).0 has).0)).1) in
       let (back, put) = put_back_exists (compacted_by noted) revisions agreed in
-      let (lacks, is_lacking) = lacks_or_has under (λ value e. lacks_value value ((survey.store (Value value)).1 e)) in (
+      let (lacks, is_lacking) = lacks_or_has under (λ value e. lacks_value value ((store.bucket (Value value)).1 e)) in (
         back,
         lacks && not (is_nil back),
         length keys - length back,
-        full_repair file meta found are_found all agreed back met under noted revisions candidates agree recovered recovers survey put lacks is_lacking _ refl keys are_keys _ refl,
+        full_repair file meta found are_found all agreed back met under noted revisions candidates agree recovered recovers store put lacks is_lacking _ refl keys are_keys _ refl,
       )
 
   pub has_repaired : (listing : List Member) × IsRepaired file meta listing

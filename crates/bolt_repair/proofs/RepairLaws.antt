@@ -1,18 +1,17 @@
 -- What a repair keeps, what goes back of a name, and that sound trees are left as they are.
 use Rattle.std.proofs.Common.{◌≡◌, ◌≢◌, ◌∙◌, ◌⊎◌, ◌≤◌, inl, inr, ℕ, Bool, true, false, List, [], ◌∷◌, ap, arith, map, refl, subst, sym}
-use Rattle.std.specs.List.{Contains}
-use Rattle.std.specs.declared.cmp.Ordering.{Ordering}
-use Rattle.std.specs.declared.cmp.Ordering.TheVariants.{Equal, Greater, Less}
+use Rattle.std.specs.{List.Contains, declared.cmp.Ordering.Ordering, declared.cmp.Ordering.TheVariants.Equal, declared.cmp.Ordering.TheVariants.Greater, declared.cmp.Ordering.TheVariants.Less}
 use Rattle.std.specs.Ordering.{ordering_reverse}
 use Rattle.bolt_format.specs.{Elements.LeafElement, declared.meta.Meta.Meta}
 use Rattle.bolt_check.specs.Keys.{key_cmp}
 use Rattle.bolt_tree.specs.{Entries.Bucket, Entries.EntryView, InBuckets.entry_in, InBuckets.members_in, Listing.Member}
-use Rattle.bolt_tree.proofs.{InBucketLemmas.entry_of, Lists.contains_cases, Lists.contains_head, Lists.contains_none, MergeLemmas.merge_members, MergeLemmas.merge_none, PathOrder.key_exact, PathOrder.key_total}
-use Rattle.bolt_recover.proofs.Existing.{one_recovered}
+use Rattle.bolt_tree.proofs.Exports.{entry_of, contains_cases, contains_head, contains_none, merge_members, merge_none, key_exact, key_total}
+use Rattle.bolt_recover.proofs.Exports.{one_recovered}
 use Rattle.bolt_recover.specs.Recovered.{IsRecovered}
-use Rattle.bolt_etcd.proofs.Currents.{place_is}
+use Rattle.bolt_etcd.proofs.Exports.{stored_key_is}
 use Rattle.bolt_etcd.specs.Revisions.{RevisionView, name_of}
-use Rattle.bolt_repair.specs.{Repaired.IsRepair, Repaired.IsRepaired, Repaired.MakesStore, Repaired.elements_on, Repaired.repaired_listing, Repairs.AreBack, Repairs.GoesBack, Repairs.IsAgreed, Repairs.IsNewestUpTo, Repairs.store_path}
+use Rattle.bolt_repair.specs.Repaired.{IsRepair, IsRepaired, MakesStore, elements_on, repaired_listing}
+use Rattle.bolt_repair.specs.Repairs.{AreBack, GoesBack, IsAgreed, IsNewestUpTo, store_path}
 
 -- ---- nothing is found
 
@@ -71,8 +70,8 @@ module _ (compacted : ℕ) (recovered : List Member) (found : List LeafElement) 
   one_newest a b r s agreed_a agreed_b newest_r newest_s names =
       let first = newest_r.agreed b s agreed_b (sym names) newest_s.until in
       let second = newest_s.agreed a r agreed_a names newest_r.until in
-      let places = key_exact r.place s.place (neither (key_cmp r.place s.place) (key_cmp s.place r.place) (key_total.antisymm s.place r.place) first second) in
-      let keys = sym (place_is a r agreed_a.candidate.is_revision) ∙ places ∙ place_is b s agreed_b.candidate.is_revision in
+      let stored_keys = key_exact r.stored_key s.stored_key (neither (key_cmp r.stored_key s.stored_key) (key_cmp s.stored_key r.stored_key) (key_total.antisymm s.stored_key r.stored_key) first second) in
+      let keys = sym (stored_key_is a r agreed_a.candidate.is_revision) ∙ stored_keys ∙ stored_key_is b s agreed_b.candidate.is_revision in
       sym (agreed_a.undisputed b s agreed_b.candidate (sym keys))
 
   pub one_of_a_name : (a b : EntryView) → (x : GoesBack compacted recovered found a) → (y : GoesBack compacted recovered found b) → name_of x.0 ≡ name_of y.0 → x.0.key.main ≤ compacted

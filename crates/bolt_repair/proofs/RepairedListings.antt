@@ -2,8 +2,8 @@
 use Rattle.std.proofs.Common.{◌≡◌, ◌∙◌, inl, inr, ℕ, Bool, true, false, List, [], ◌∷◌, ◌++◌, ap, codes, map, refl, subst, sym}
 use Rattle.std.specs.List.{Contains}
 use Rattle.bolt_format.specs.{Elements.LeafElement, declared.meta.Meta.Meta}
-use Rattle.bolt_tree.specs.{Entries.Bucket, Entries.EntryView, Entries.Item, InBuckets.entry_in, InBuckets.members_in, Listing.Member, Listing.member_cmp, Merges.AreApart, Merges.HavePlaces, Merges.merge, Order.Rises, Paths.Path, Tree.Tree, Tree.listing_of, Tree.tree_of}
-use Rattle.bolt_tree.proofs.{InBucketLemmas.entry_of, InBucketLemmas.members_placed, InBucketLemmas.members_rise, InBucketLemmas.tree_placed, Lists.contains_cases, Lists.contains_head, Lists.contains_none, MergeLemmas.merge_bucket, MergeLemmas.merge_members, MergeLemmas.merge_places, MergeLemmas.merge_rises, PathOrder.path_exact, PlacedTrees.placed_tree}
+use Rattle.bolt_tree.specs.{Entries.Bucket, Entries.EntryView, Entries.Item, InBuckets.entry_in, InBuckets.members_in, Listing.Member, Listing.member_cmp, Merges.AreApart, Merges.HaveParents, Merges.merge, Order.Rises, Paths.Path, Tree.Tree, Tree.listing_of, Tree.tree_of}
+use Rattle.bolt_tree.proofs.Exports.{entry_of, members_have_parents, members_rise, tree_has_parents, contains_cases, contains_head, contains_none, merge_bucket, merge_members, merge_parents, merge_rises, path_exact, parented_tree}
 use Rattle.bolt_repair.specs.{Repaired.IsRepaired, Repaired.MakesStore, Repaired.elements_on, Repaired.repaired_listing, Repairs.AreBack, Repairs.store_path}
 
 -- ---- the order
@@ -32,24 +32,24 @@ module _ (recovered : List Member) (found : List LeafElement) (compacted : ℕ) 
 -- ---- the places
 
 module _ (recovered : List Member) where
-  places_back : (back : List EntryView) (is_made : Bool) → MakesStore recovered back is_made → HavePlaces (repaired_listing recovered is_made back) (members_in is_made store_path back)
-  places_back [] true makes = absurd makes
-  places_back [] false makes = λ m has. absurd (contains_none m has)
-  places_back (e ∷ back) true makes =
+  parents_back : (back : List EntryView) (is_made : Bool) → MakesStore recovered back is_made → HaveParents (repaired_listing recovered is_made back) (members_in is_made store_path back)
+  parents_back [] true makes = absurd makes
+  parents_back [] false makes = λ m has. absurd (contains_none m has)
+  parents_back (e ∷ back) true makes =
       let more = members_in true store_path (e ∷ back) in
-      members_placed (merge recovered more) true store_path (e ∷ back)
+      members_have_parents (merge recovered more) true store_path (e ∷ back)
       (inr (0, (merge_members recovered more (store_path, Bucket 0)).1 (inr (contains_head (store_path, Bucket 0) (map (entry_in store_path) (e ∷ back))))))
       (λ made. ([], codes "key", refl, inl refl))
-  places_back (e ∷ back) false (sequence, has) =
+  parents_back (e ∷ back) false (sequence, has) =
       let more = members_in false store_path (e ∷ back) in
-      members_placed (merge recovered more) false store_path (e ∷ back) (merge_bucket recovered more store_path (inr (sequence, has))) (λ made. absurd (cc))
+      members_have_parents (merge recovered more) false store_path (e ∷ back) (merge_bucket recovered more store_path (inr (sequence, has))) (λ made. absurd (cc))
 
   pub repaired_tree : (back : List EntryView) (is_made : Bool) → MakesStore recovered back is_made → (tree : Tree) × (recovered ≡ listing_of tree) → Rises member_cmp (repaired_listing recovered is_made back)
       → listing_of (tree_of (repaired_listing recovered is_made back)) ≡ repaired_listing recovered is_made back
   repaired_tree back is_made makes (tree, same) rises =
       let more = members_in is_made store_path back in
-      let placed = subst (λ (ms : List Member). HavePlaces ms ms) (sym same) (tree_placed tree) in
-      placed_tree (merge recovered more) rises (merge_places recovered more placed (places_back back is_made makes))
+      let placed = subst (λ (ms : List Member). HaveParents ms ms) (sym same) (tree_has_parents tree) in
+      parented_tree (merge recovered more) rises (merge_parents recovered more placed (parents_back back is_made makes))
 
 pub tree_of_repaired : (file : List ℕ) (meta : Meta) (listing : List Member) (is : IsRepaired file meta listing) → (tree : Tree) × (is.repair.recovered ≡ listing_of tree)
     → Rises member_cmp listing × ((tree : Tree) × (listing ≡ listing_of tree))

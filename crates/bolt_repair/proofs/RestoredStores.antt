@@ -5,14 +5,15 @@ use Rattle.std.proofs.lemmas.{Bool.cases_lt, List.same_from_push}
 use Rattle.std.specs.List.{Contains}
 use Rattle.bolt_format.specs.{Elements.LeafElement, declared.meta.Meta.Meta}
 use Rattle.bolt_check.specs.{Keys.Key, Keys.key_cmp, Ones.AtMostOne}
-use Rattle.bolt_tree.specs.{Entries.Bucket, Entries.EntryView, Entries.Item, Entries.Value, Entries.entry_view, InBuckets.entry_in, InBuckets.members_in, Listing.Member, Listing.member_cmp, Merges.HasBucket, Merges.HavePlaces, Order.Rises, Paths.Path, Tree.Tree, Tree.listing_of}
-use Rattle.bolt_tree.proofs.{InBucketLemmas.entry_of, InBucketLemmas.tree_placed, Lists.contains_cases, Lists.contains_head, Lists.contains_none, Lists.contains_tail, Lists.irreflexive, Lists.rises_once, MergeLemmas.merge_members, PathOrder.key_total, Single.member_total}
-use Rattle.bolt_recover.proofs.Existing.{one_recovered}
+use Rattle.bolt_tree.specs.{Entries.Bucket, Entries.EntryView, Entries.Item, Entries.Value, Entries.entry_view, InBuckets.entry_in, InBuckets.members_in, Listing.Member, Listing.member_cmp, Merges.HasBucket, Merges.HaveParents, Order.Rises, Paths.Path, Tree.Tree, Tree.listing_of}
+use Rattle.bolt_tree.proofs.Exports.{entry_of, tree_has_parents, contains_cases, contains_head, contains_none, contains_tail, irreflexive, rises_once, merge_members, key_total, member_total}
+use Rattle.bolt_recover.proofs.Exports.{one_recovered}
 use Rattle.bolt_recover.specs.Found.{AreFound}
 use Rattle.bolt_etcd.specs.{Misplaced.is_misplaced, Revisions.RevisionView, Revisions.revision_of}
 use Rattle.bolt_repair.specs.LostRevisions.{IsCompactedStore, IsRecoveredOrFound, LosesRevisions}
 use Rattle.bolt_repair.specs.{Repaired.IsRepaired, Repaired.MakesStore, Repaired.elements_on, Repaired.repaired_listing, Repairs.AreBack, Repairs.GoesBack, Repairs.IsAgreed, Repairs.IsCandidate, Repairs.IsCompactedAt, Repairs.IsNewestUpTo, Repairs.compaction_path, Repairs.store_path}
 use Rattle.bolt_repair.proofs.OneRepair.{member_once, one_compacted}
+use Rattle.bolt_repair.proofs.WholeOrder.{same_view}
 
 -- ---- other paths
 
@@ -30,9 +31,6 @@ no_compaction e item is = let f : length (codes "key") ≡ length (codes "meta")
 
 abbrev entry : Key → Item → EntryView
 entry key item = record { key = key; item = item }
-
-same_entry : (a b : EntryView) → a.key ≡ b.key → a.item ≡ b.item → a ≡ b
-same_entry a b keys items = ap (λ (key : Key). entry key a.item) keys ∙ ap (entry b.key) items
 
 entry_there : (e : EntryView) (entries : List EntryView) → Contains entries e → Contains (map (entry_in store_path) entries) (entry_in store_path e)
 entry_there e [] has = absurd (contains_none e has)
@@ -56,7 +54,7 @@ module _ (listing recovered : List Member) (found : List LeafElement) (compacted
 
   one_entry : (a b : EntryView) → Contains listing (entry_in store_path a) → Contains listing (entry_in store_path b) → a.key ≡ b.key → a ≡ b
   one_entry a b h k same =
-      same_entry a b same (member_once listing rises (store_path ++ b.key ∷ []) a.item b.item (subst (λ (key : Key). Contains listing (store_path ++ key ∷ [], a.item)) same h) k)
+      same_view a b same (member_once listing rises (store_path ++ b.key ∷ []) a.item b.item (subst (λ (key : Key). Contains listing (store_path ++ key ∷ [], a.item)) same h) k)
 
   module _ (element : LeafElement) (has : Contains found element) (r : RevisionView) (is : revision_of (entry_view element) ≡ Some r) where
     abbrev e : EntryView
@@ -95,7 +93,7 @@ module _ (listing recovered : List Member) (found : List LeafElement) (compacted
       agreed = λ other s agreed names low before.
           let same = store.one other e s r (candidate_listed other s agreed.candidate, agreed.candidate.is_revision) (element_listed element has, is) names low until in
           let revisions : s ≡ r = (let f = sym agreed.candidate.is_revision ∙ ap revision_of same ∙ is in cc) in
-          irreflexive key_total r.place (subst (λ (v : RevisionView). key_cmp r.place v.place ≡ Less) revisions before);
+          irreflexive key_total r.stored_key (subst (λ (v : RevisionView). key_cmp r.stored_key v.stored_key ≡ Less) revisions before);
     }
 
   goes_back : (element : LeafElement) → Contains found element → GoesBack compacted recovered found (entry_view element)
@@ -107,7 +105,7 @@ module _ (listing recovered : List Member) (found : List LeafElement) (compacted
 
   bucket_listed : (tree : Tree) × (listing ≡ listing_of tree) → (e : EntryView) → Contains listing (entry_in store_path e) → (sequence : ℕ) × Contains listing (store_path, Bucket sequence)
   bucket_listed (tree, same) e has =
-      let places = subst (λ (ms : List Member). HavePlaces ms ms) (sym same) (tree_placed tree) in
+      let places = subst (λ (ms : List Member). HaveParents ms ms) (sym same) (tree_has_parents tree) in
       let (above, key, at, bucket) = places (entry_in store_path e) has in
       let up = sym (same_from_push store_path above e.key key at).0 in
       elim (subst (λ (p : Path). HasBucket listing p) up bucket) [ inl none ↦ absurd (let f : store_path ≡ [] = none in cc) | inr there ↦ there ]

@@ -1,17 +1,11 @@
 -- The elements of a list of which something holds, sorted by an order that tells them apart, each once.
 use Rattle.std.proofs.Common.{◌≡◌, ◌↔◌, List, filter, refl, subst, sym}
-use Rattle.std.proofs.lemmas.Cmp.{eq_by_cmp_equiv}
-use Rattle.std.proofs.lemmas.List.Kept.{Any-dedup, Contains-from_dedup, IsStrictlySortedBy-dedup}
-use Rattle.std.proofs.lemmas.List.MinMax.{ranks_by}
+use Rattle.std.proofs.{lemmas.Cmp.eq_by_cmp_equiv, lemmas.List.Kept.Any-dedup, lemmas.List.Kept.Contains-from_dedup, lemmas.List.Kept.IsStrictlySortedBy-dedup, lemmas.List.MinMax.ranks_by}
 use Rattle.std.proofs.lemmas.List.Sorted.{Contains-permutation, IsPermutation-sym}
-use Rattle.std.specs.Cmp.{Equal-is, IsTotalOrder}
-use Rattle.std.specs.List.{Contains, dedup}
-use Rattle.std.specs.Ordering.{eq_by_cmp, is_lt}
-use Rattle.std.specs.declared.cmp.Ordering.{Ordering}
-use Rattle.std.specs.declared.cmp.Ordering.TheVariants.{Equal}
-use Rattle.bolt_tree.proofs.Filters.{kept}
+use Rattle.std.specs.{Cmp.Equal-is, Cmp.IsTotalOrder, List.Contains, List.dedup, Ordering.eq_by_cmp, Ordering.is_lt, declared.cmp.Ordering.Ordering, declared.cmp.Ordering.TheVariants.Equal}
+use Rattle.bolt_tree.proofs.Exports.{kept, kept_from}
 use Rattle.bolt_tree.specs.Order.{Rises}
-use Rattle.bolt_etcd.proofs.{Decisions.told, Decisions.told_true, Decisions.true_told, Filtered.kept_from, SortedExists.sorted_exists, SortedOnce.rises_from}
+use Rattle.bolt_etcd.proofs.Exports.{told, told_true, true_told, sorted_exists, rises_from}
 
 module _ {A : Type 0} {cmp : A → A → Ordering} (total : IsTotalOrder cmp) where
   pub sorted_elements : (xs : List A) → ((x y : A) → Contains xs x → Contains xs y → cmp x y ≡ Equal → x ≡ y)

@@ -2,29 +2,19 @@
 use Rattle.std.proofs.Common.{◌≡◌, ◌∙◌, ◌&&◌, ℕ, Bool, true, List, map, Option, Some, None, false, refl, sym, ap, subst}
 use Rattle.std.proofs.lemmas.Bool.{and_parts, not-true}
 use Rattle.std.proofs.lemmas.Cmp.{and_equiv, nat_list_cmp_total, nat_list_eq_equiv, on_equiv, on_total, then_total}
-use Rattle.std.proofs.lemmas.List.Kept.{Any-dedup, Contains-from_dedup, IsStrictlySortedBy-dedup}
-use Rattle.std.proofs.lemmas.List.MinMax.{ranks_by}
-use Rattle.std.proofs.lemmas.List.Sorted.{Contains-permutation, IsPermutation-map, IsPermutation-sym}
-use Rattle.std.proofs.lemmas.Map.Text.{is_eq-slice_cmp}
-use Rattle.std.specs.Cmp.{IsEquivalence, IsStrictWeakOrder, IsTotalOrder}
-use Rattle.std.specs.Cmp.Lexicographic.{same_text}
-use Rattle.std.specs.List.{Contains, dedup}
-use Rattle.std.specs.List.Sorted.{IsPermutation, IsSorted, IsSortedBy}
-use Rattle.std.specs.Ordering.{eq_by_cmp, is_eq, is_lt, ordering_then}
-use Rattle.std.specs.Str.{bytes_eq}
-use Rattle.std.specs.declared.cmp.Ordering.{Ordering}
-use Rattle.std.specs.declared.cmp.Ordering.TheVariants.{Equal, Greater, Less}
+use Rattle.std.proofs.{lemmas.List.Kept.Any-dedup, lemmas.List.Kept.Contains-from_dedup, lemmas.List.Kept.IsStrictlySortedBy-dedup, lemmas.List.MinMax.ranks_by}
+use Rattle.std.proofs.{lemmas.List.Sorted.Contains-permutation, lemmas.List.Sorted.IsPermutation-map, lemmas.List.Sorted.IsPermutation-sym, lemmas.Map.Text.is_eq-slice_cmp}
+use Rattle.std.specs.{Cmp.IsEquivalence, Cmp.IsStrictWeakOrder, Cmp.IsTotalOrder, Cmp.Lexicographic.same_text, List.Contains, List.dedup}
+use Rattle.std.specs.{List.Sorted.IsPermutation, List.Sorted.IsSorted, List.Sorted.IsSortedBy, Ordering.eq_by_cmp, Ordering.is_eq, Ordering.is_lt, Ordering.ordering_then, Str.bytes_eq}
+use Rattle.std.specs.{declared.cmp.Ordering.Ordering, declared.cmp.Ordering.TheVariants.Equal, declared.cmp.Ordering.TheVariants.Greater, declared.cmp.Ordering.TheVariants.Less}
 use Rattle.bolt_format.specs.Elements.{LeafElement}
 use Rattle.bolt_check.specs.Keys.{Key, key_cmp}
-use Rattle.bolt_tree.specs.{Entries.Bucket, Entries.EntryView, Entries.Item, Entries.Value, Entries.entry_view}
-use Rattle.bolt_etcd.specs.ShownRevisions.{entry_of}
-use Rattle.bolt_etcd.specs.declared.revision.Revision.{Revision}
-use Rattle.bolt_repair.specs.Candidates.{AreCandidates, candidates_in, is_candidate, is_in_place, is_same_entry, whole_cmp}
-use Rattle.bolt_etcd.specs.ShownRevisions.{bytes_of_item}
-use Rattle.bolt_etcd.specs.ShownRevisions.{value_bytes}
-use Rattle.bolt_etcd.specs.Misplaced.{is_misplaced}
+use Rattle.bolt_tree.specs.Entries.{Bucket, EntryView, Item, Value, entry_view}
+use Rattle.bolt_etcd.specs.{ShownRevisions.entry_of, ShownRevisions.bytes_of_item, ShownRevisions.value_bytes, declared.revision.Revision.Revision, Misplaced.is_misplaced}
 use Rattle.bolt_etcd.specs.Revisions.{RevisionView, revision_in, revision_of, value_of}
-use Rattle.bolt_etcd.proofs.{Currents.bind_some, Filtered.kept_from, MappedLists.dedup_mapped, MappedLists.sorted_mapped, SortedOnce.rises_from}
+use Rattle.bolt_repair.specs.Candidates.{AreCandidates, candidates_in, is_candidate, is_in_place, is_same_entry, whole_cmp}
+use Rattle.bolt_etcd.proofs.Exports.{bind_some, rises_from}
+use Rattle.bolt_tree.proofs.Exports.{dedup_mapped, sorted_mapped, kept_from}
 
 pub whole_total : IsTotalOrder whole_cmp
 whole_total = then_total (on_total (λ (e : EntryView). e.key) nat_list_cmp_total) (on_total value_bytes nat_list_cmp_total)

@@ -1,29 +1,25 @@
 -- From what is found and what the recovered listing says of a store: what goes back, and how many keys are left out.
 use Rattle.std.proofs.Common.{◌≡◌, ◌↔◌, ◌∙◌, ◌⊎◌, ◌≤◌, ◌&&◌, ◌-◌, ◌++◌, inl, inr, ℕ, Bool, true, false, List, [], ◌∷◌, Option, Some, None, arith, length, map, nat_lt, not, refl, sym, ap, subst}
 use Rattle.std.proofs.lemmas.Bool.{le-ltb, lt-ltb, ltb-false, ltb-true, not-false, not-true, or_cases, or_left, or_right}
-use Rattle.std.proofs.lemmas.List.{length-map}
-use Rattle.std.proofs.lemmas.{List.Elements.Contains-append_cases, List.Elements.Contains-append_left, List.Elements.Contains-append_right, Option.same_Some}
+use Rattle.std.proofs.{lemmas.List.length-map, lemmas.List.Elements.Contains-append_cases, lemmas.List.Elements.Contains-append_left, lemmas.List.Elements.Contains-append_right}
+use Rattle.std.proofs.lemmas.Option.{same_Some}
 use Rattle.std.specs.List.{Contains, filter_map}
 use Rattle.bolt_format.specs.{Elements.LeafElement, declared.meta.Meta.Meta}
 use Rattle.bolt_check.specs.Keys.{Key, key_cmp}
 use Rattle.bolt_recover.specs.{Found.AreFound, Recovered.IsRecovered}
-use Rattle.bolt_tree.proofs.{Filters.kept, PathOrder.key_total}
+use Rattle.bolt_tree.proofs.Exports.{kept, key_total, filter_rises, kept_from, gives_from, gives_has, shows_from, shows_has, fewer, rises_mapped}
 use Rattle.bolt_tree.specs.{Entries.Bucket, Entries.EntryView, Entries.Item, Entries.Value, Entries.entry_view, InBuckets.view_cmp, Listing.Member, Listing.member_cmp, Order.Rises}
-use Rattle.bolt_etcd.specs.{Among.without, Compacted.compacted_by}
-use Rattle.bolt_repair.specs.{Candidates.AreCandidates, Candidates.is_candidate, Candidates.is_in_place}
-use Rattle.bolt_repair.specs.{FullRepairs.AreCandidateKeys, FullRepairs.IsFullRepair, Repaired.IsRepair, Repaired.MakesStore, Repaired.elements_on, Repaired.lacks_bucket}
-use Rattle.bolt_etcd.specs.{Among.among, Current.HaveOwnPlaces, Current.IsNewest, Newest.is_until}
+use Rattle.bolt_etcd.specs.{Among.without, Among.among, Compacted.compacted_by, Current.HaveOwnKeys, Current.IsNewest, Newest.is_until, Revisions.RevisionView, Revisions.revision_of}
+use Rattle.bolt_repair.specs.{Candidates.AreCandidates, Candidates.is_candidate, Candidates.is_in_place, FullRepairs.AreCandidateKeys, FullRepairs.IsFullRepair}
+use Rattle.bolt_repair.specs.Repaired.{IsRepair, MakesStore, elements_on, lacks_bucket}
 use Rattle.bolt_repair.specs.Repairs.{AreBack, GoesBack, IsAgreed, IsCandidate, IsCompactedAt, IsKept, IsNewestUpTo, store_path}
-use Rattle.bolt_etcd.specs.{Revisions.RevisionView, Revisions.revision_of}
-use Rattle.bolt_repair.specs.{StoreSurveys.IsStoreSurvey, Undisputed.AreKeys, Undisputed.AreUndisputed, WhatGoesBack.ArePutBack, WhatGoesBack.goes_back, WhatGoesBack.is_old, WhatGoesBack.old_revisions}
-use Rattle.bolt_etcd.proofs.{Currents.place_is, Filtered.filter_rises, Filtered.kept_from, MappedLists.gives_from, MappedLists.gives_has, MappedLists.shows_from, MappedLists.shows_has, Rising.fewer, Rising.rises_mapped}
+use Rattle.bolt_repair.specs.{RecoveredStores.IsRecoveredStore, Undisputed.AreKeys, Undisputed.AreUndisputed}
+use Rattle.bolt_repair.specs.WhatGoesBack.{ArePutBack, goes_back, is_old, old_revisions}
+use Rattle.bolt_etcd.proofs.Exports.{stored_key_is, until_early}
 use Rattle.bolt_repair.proofs.{KeysAmong.among_has, KeysAmong.among_true, KeysAmong.without_has, OneRepair.member_once, WholeOrder.in_place, WholeOrder.same_view}
 
 until_at : (compacted : ℕ) (r : RevisionView) → is_until compacted r ≡ true → r.key.main ≤ compacted
 until_at compacted r until = ltb-false compacted r.key.main (not-true (nat_lt compacted r.key.main) until)
-
-at_until : (compacted : ℕ) (r : RevisionView) → r.key.main ≤ compacted → is_until compacted r ≡ true
-at_until compacted r low = ap not (le-ltb compacted r.key.main low)
 
 abbrev pub is_nil : {A : Type 0} → List A → Bool
 is_nil [] = true
@@ -37,7 +33,7 @@ value_under (Some (Value value)) none = (value, refl)
 -- ---- from elements
 
 module _ (recovered : List Member) (found : List LeafElement) (all : List EntryView) (met : List Key) (under : Option Item) (noted : Option (List ℕ)) (revisions : List RevisionView)
-    (are : AreCandidates found all) (survey : IsStoreSurvey recovered all under noted revisions met) where
+    (are : AreCandidates found all) (store : IsRecoveredStore recovered all under noted revisions met) where
   -- ---- candidates
 
   candidate_from : (e : EntryView) → Contains (without met all) e → (r : RevisionView) × IsCandidate recovered found e r
@@ -53,7 +49,7 @@ module _ (recovered : List Member) (found : List LeafElement) (all : List EntryV
           shows = is;
           is_revision = read;
           in_place = place;
-          is_lost = λ item kept. unmet ((survey.met e.key).1 ((e, has, refl), (item, kept)));
+          is_lost = λ item kept. unmet ((store.met e.key).1 ((e, has, refl), (item, kept)));
         },
       )
 
@@ -61,7 +57,7 @@ module _ (recovered : List Member) (found : List LeafElement) (all : List EntryV
   candidate_to e r c =
       let there = subst (Contains (map entry_view found)) c.shows (shows_has entry_view found c.element c.is_found) in
       let passes : is_candidate e ≡ true = ap is_in_place c.is_revision ∙ ap not c.in_place in
-      (without_has met all e).1 ((are.exact e).1 (kept is_candidate (map entry_view found) e there passes), λ has. let (_, (item, kept_one)) = (survey.met e.key).0 has in c.is_lost item kept_one)
+      (without_has met all e).1 ((are.exact e).1 (kept is_candidate (map entry_view found) e there passes), λ has. let (_, (item, kept_one)) = (store.met e.key).0 has in c.is_lost item kept_one)
 
   pub candidate_keys : (keys : List Key) → AreKeys (without met all) keys → AreCandidateKeys recovered found keys
   candidate_keys keys is = record {
@@ -90,8 +86,8 @@ module _ (recovered : List Member) (found : List LeafElement) (all : List EntryV
     same_revision : (a b : EntryView) (r s : RevisionView) → a ≡ b → revision_of a ≡ Some r → revision_of b ≡ Some s → r ≡ s
     same_revision a b r s same is also = same_Some r s (sym is ∙ ap revision_of same ∙ also)
 
-    same_keys : (a b : EntryView) (r s : RevisionView) → revision_of a ≡ Some r → revision_of b ≡ Some s → r.place ≡ s.place → a.key ≡ b.key
-    same_keys a b r s is also same = sym (place_is a r is) ∙ same ∙ place_is b s also
+    same_keys : (a b : EntryView) (r s : RevisionView) → revision_of a ≡ Some r → revision_of b ≡ Some s → r.stored_key ≡ s.stored_key → a.key ≡ b.key
+    same_keys a b r s is also same = sym (stored_key_is a r is) ∙ same ∙ stored_key_is b s also
 
     -- ---- of the old ones no two are under one key
 
@@ -108,16 +104,16 @@ module _ (recovered : List Member) (found : List LeafElement) (all : List EntryV
           (elim (Contains-append_cases revisions (filter_map revision_of agreed) r there) [ inl mine ↦ inl mine | inr other ↦ inr (gives_from revision_of agreed r other) ], until)
 
       old_from : (r : RevisionView) → IsOf r → r.key.main ≤ compacted → Contains old r
-      old_from r (inl has) low = kept (is_until compacted) _ r (Contains-append_left revisions (filter_map revision_of agreed) r has) (at_until compacted r low)
+      old_from r (inl has) low = kept (is_until compacted) _ r (Contains-append_left revisions (filter_map revision_of agreed) r has) (until_early compacted r low)
       old_from r (inr (e, has, is)) low =
-          kept (is_until compacted) _ r (Contains-append_right revisions (filter_map revision_of agreed) r (gives_has revision_of agreed e r has is)) (at_until compacted r low)
+          kept (is_until compacted) _ r (Contains-append_right revisions (filter_map revision_of agreed) r (gives_has revision_of agreed e r has is)) (until_early compacted r low)
 
-      lost : (e : EntryView) (r s : RevisionView) → Contains agreed e → revision_of e ≡ Some r → IsKept recovered s → s.place ≡ r.place → ⊥
+      lost : (e : EntryView) (r s : RevisionView) → Contains agreed e → revision_of e ≡ Some r → IsKept recovered s → s.stored_key ≡ r.stored_key → ⊥
       lost e r s has is (x, there, also) same =
           let (_, agrees) = agreed_from e has in
           agrees.candidate.is_lost x.item (subst (λ (k : Key). Contains recovered (store_path ++ k ∷ [], x.item)) (same_keys x e s r also is same) there)
 
-      one_kept : (a b : RevisionView) → IsKept recovered a → IsKept recovered b → a.place ≡ b.place → a ≡ b
+      one_kept : (a b : RevisionView) → IsKept recovered a → IsKept recovered b → a.stored_key ≡ b.stored_key → a ≡ b
       one_kept a b (x, has, is) (y, there, also) same =
           let keys = same_keys x y a b is also same in
           let items = member_once recovered rises (store_path ++ y.key ∷ []) x.item y.item (subst (λ (k : Key). Contains recovered (store_path ++ k ∷ [], x.item)) keys has) there in
@@ -125,20 +121,20 @@ module _ (recovered : List Member) (found : List LeafElement) (all : List EntryV
 
       module _ (e : EntryView) (has : Contains agreed e) where
         are_kept : (r : RevisionView) → Contains revisions r ↔ IsKept recovered r
-        are_kept = survey.kept e (in_all e has)
+        are_kept = store.kept e (in_all e has)
 
-        one_of_key : (x : EntryView) (r s : RevisionView) → Contains agreed x → revision_of x ≡ Some r → IsOf s → s.place ≡ r.place → s ≡ r
+        one_of_key : (x : EntryView) (r s : RevisionView) → Contains agreed x → revision_of x ≡ Some r → IsOf s → s.stored_key ≡ r.stored_key → s ≡ r
         one_of_key x r s there is (inl mine) same = absurd (lost x r s there is ((are_kept s).0 mine) same)
         one_of_key x r s there is (inr (y, also, reads)) same =
             same_revision y x s r (((agree.exact x).0 there).1 y ((agree.exact y).0 also).0 (same_keys y x s r reads is same)) reads is
 
-        one_old : (a b : RevisionView) → IsOf a → IsOf b → a.place ≡ b.place → a ≡ b
+        one_old : (a b : RevisionView) → IsOf a → IsOf b → a.stored_key ≡ b.stored_key → a ≡ b
         one_old a b (inl mine) (inl other) same = one_kept a b ((are_kept a).0 mine) ((are_kept b).0 other) same
         one_old a b (inr (x, there, is)) of_b same = sym (one_of_key x a b there is of_b (sym same))
         one_old a b (inl mine) (inr (x, there, is)) same = one_of_key x b a there is (inl mine) same
 
-        own_places : HaveOwnPlaces old
-        own_places a b first second same = one_old a b (old_cases a first).0 (old_cases b second).0 same
+        own_keys : HaveOwnKeys old
+        own_keys a b first second same = one_old a b (old_cases a first).0 (old_cases b second).0 same
 
         -- ---- the newest of them
 
@@ -168,8 +164,8 @@ module _ (recovered : List Member) (found : List LeafElement) (all : List EntryV
           }
 
       module _ (back : List EntryView) (put : ArePutBack compacted revisions agreed back) where
-        abbrev places : List Key
-        places = map (λ (r : RevisionView). r.place) put.newest
+        abbrev stored_keys : List Key
+        stored_keys = map (λ (r : RevisionView). r.stored_key) put.newest
 
         goes_from : (e : EntryView) → Contains agreed e → goes_back compacted put.newest e ≡ true → GoesBack compacted recovered found e
         goes_from e has goes =
@@ -177,12 +173,12 @@ module _ (recovered : List Member) (found : List LeafElement) (all : List EntryV
             let read = is.candidate.is_revision in (
               r,
               is,
-              elim (or_cases (not (is_old compacted (revision_of e))) (among places e.key) goes) [
+              elim (or_cases (not (is_old compacted (revision_of e))) (among stored_keys e.key) goes) [
                 | inl new ↦ inl (ltb-true compacted r.key.main (not-false (nat_lt compacted r.key.main) (sym (ap (is_old compacted) read) ∙ not-true (is_old compacted (revision_of e)) new)))
                 | inr one ↦
-                    let (s, there, at) = shows_from (λ (x : RevisionView). x.place) put.newest e.key (among_has places e.key one) in
-                    let n = (put.are (own_places e has) s).0 there in
-                    let same = one_of_key e has e r s has read (old_cases s n.has).0 (at ∙ sym (place_is e r read)) in
+                    let (s, there, at) = shows_from (λ (x : RevisionView). x.stored_key) put.newest e.key (among_has stored_keys e.key one) in
+                    let n = (put.are (own_keys e has) s).0 there in
+                    let same = one_of_key e has e r s has read (old_cases s n.has).0 (at ∙ sym (stored_key_is e r read)) in
                     inr (newest_from e has r read (subst (IsNewest old) same n))
               ],
             )
@@ -193,9 +189,9 @@ module _ (recovered : List Member) (found : List LeafElement) (all : List EntryV
             let read = is.candidate.is_revision in (
               has,
               elim why [
-                | inl above ↦ or_left (not (is_old compacted (revision_of e))) (among places e.key) (ap (λ (o : Option RevisionView). not (is_old compacted o)) read ∙ ap (λ (b : Bool). not (not b)) (lt-ltb compacted r.key.main above))
-                | inr n ↦ or_right (not (is_old compacted (revision_of e))) (among places e.key)
-                    (among_true places e.key (subst (Contains places) (place_is e r read) (shows_has (λ (x : RevisionView). x.place) put.newest r ((put.are (own_places e has) r).1 (newest_to e has r read n)))))
+                | inl above ↦ or_left (not (is_old compacted (revision_of e))) (among stored_keys e.key) (ap (λ (o : Option RevisionView). not (is_old compacted o)) read ∙ ap (λ (b : Bool). not (not b)) (lt-ltb compacted r.key.main above))
+                | inr n ↦ or_right (not (is_old compacted (revision_of e))) (among stored_keys e.key)
+                    (among_true stored_keys e.key (subst (Contains stored_keys) (stored_key_is e r read) (shows_has (λ (x : RevisionView). x.stored_key) put.newest r ((put.are (own_keys e has) r).1 (newest_to e has r read n)))))
               ],
             )
 
@@ -226,12 +222,12 @@ module _ (recovered : List Member) (found : List LeafElement) (all : List EntryV
   compacted_at = by noted refl
     where
       by : (o : Option (List ℕ)) → noted ≡ o → IsCompactedAt recovered (compacted_by o)
-      by (Some value) is = inl (value, (survey.compaction value).1 is, refl)
-      by None is = inr (λ value has. let some = (survey.compaction value).0 has in cc, refl)
+      by (Some value) is = inl (value, (store.compaction value).1 is, refl)
+      by None is = inr (λ value has. let some = (store.compaction value).0 has in cc, refl)
 
   module _ (lacks : Bool) (is_lacking : lacks_bucket under ≡ Some lacks) where
     pub no_value : (value : List ℕ) → Contains recovered (store_path, Value value) → ⊥
-    no_value value has = let there = ap lacks_bucket ((survey.store (Value value)).0 has) in cc
+    no_value value has = let there = ap lacks_bucket ((store.bucket (Value value)).0 has) in cc
 
     -- it is made if something goes back, and nothing is under its name
     pub makes : (back : List EntryView) → MakesStore recovered back (lacks && not (is_nil back))
@@ -240,22 +236,22 @@ module _ (recovered : List Member) (found : List LeafElement) (all : List EntryV
         by : (o : Option Item) (b : Bool) → under ≡ o → lacks_bucket o ≡ Some b → (entries : List EntryView) → MakesStore recovered entries (b && not (is_nil entries))
         by o true is some [] = tt
         by o false is some [] = tt
-        by None true is some (e ∷ entries) = λ item has. let there = (survey.store item).0 has in cc
+        by None true is some (e ∷ entries) = λ item has. let there = (store.bucket item).0 has in cc
         by None false is some (e ∷ entries) = cc
         by (Some (Value value)) b is some (e ∷ entries) = cc
         by (Some (Bucket sequence)) true is some (e ∷ entries) = cc
-        by (Some (Bucket sequence)) false is some (e ∷ entries) = (sequence, (survey.store (Bucket sequence)).1 is)
+        by (Some (Bucket sequence)) false is some (e ∷ entries) = (sequence, (store.bucket (Bucket sequence)).1 is)
 
 -- ---- the repair of a file
 
 module _ (file : List ℕ) (meta : Meta) (found : List ℕ) (are_found : AreFound file meta found) (all agreed back : List EntryView) (met : List Key) (under : Option Item) (noted : Option (List ℕ)) (revisions : List RevisionView)
     (candidates : AreCandidates (elements_on file meta found) all) (agree : AreUndisputed (without met all) agreed) (recovered : List Member) (recovers : IsRecovered file meta recovered)
-    (survey : IsStoreSurvey recovered all under noted revisions met) (put : ArePutBack (compacted_by noted) revisions agreed back) where
+    (store : IsRecoveredStore recovered all under noted revisions met) (put : ArePutBack (compacted_by noted) revisions agreed back) where
   abbrev elements : List LeafElement
   elements = elements_on file meta found
 
   pub back_least : (keys : List Key) → AreKeys (without met all) keys → length back ≤ length keys
-  back_least keys are = back_fewer recovered elements all met under noted revisions candidates survey agreed agree recovers.rises (compacted_by noted) back put keys are
+  back_least keys are = back_fewer recovered elements all met under noted revisions candidates store agreed agree recovers.rises (compacted_by noted) back put keys are
 
   module _ (lacks : Bool) (is_lacking : lacks_bucket under ≡ Some lacks) (is_made : Bool) (made : is_made ≡ (lacks && not (is_nil back))) where
     pub repair : IsRepair file meta back is_made
@@ -265,9 +261,9 @@ module _ (file : List ℕ) (meta : Meta) (found : List ℕ) (are_found : AreFoun
       found = found;
       are_found = are_found;
       compacted = compacted_by noted;
-      is_compacted = compacted_at recovered elements all met under noted revisions candidates survey;
-      are_back = are_back recovered elements all met under noted revisions candidates survey agreed agree recovers.rises (compacted_by noted) back put;
-      makes = subst (MakesStore recovered back) (sym made) (makes recovered elements all met under noted revisions candidates survey lacks is_lacking back);
+      is_compacted = compacted_at recovered elements all met under noted revisions candidates store;
+      are_back = are_back recovered elements all met under noted revisions candidates store agreed agree recovers.rises (compacted_by noted) back put;
+      makes = subst (MakesStore recovered back) (sym made) (makes recovered elements all met under noted revisions candidates store lacks is_lacking back);
     }
 
     pub full_repair : (keys : List Key) → AreKeys (without met all) keys → (left_out : ℕ) → left_out ≡ length keys - length back → IsFullRepair file meta back is_made left_out
@@ -276,6 +272,6 @@ module _ (file : List ℕ) (meta : Meta) (found : List ℕ) (are_found : AreFoun
         let few = back_least keys are in
         record {
           repair = repair;
-          left = (keys, candidate_keys recovered elements all met under noted revisions candidates survey keys are, omega (arith, few, number));
-          bucket = no_value recovered elements all met under noted revisions candidates survey lacks is_lacking;
+          left = (keys, candidate_keys recovered elements all met under noted revisions candidates store keys are, omega (arith, few, number));
+          bucket = no_value recovered elements all met under noted revisions candidates store lacks is_lacking;
         }

@@ -1,14 +1,11 @@
 -- Which elements of found pages are candidates, as far as the recovered listing isn't looked at.
 use Rattle.std.specs.Prelude.{◌&&◌, ◌≡◌, ◌↔◌, Bool, false, List, filter, flat_map, map, not, Option, Some, None, if◌then◌else◌}
-use Rattle.std.specs.List.{Contains}
-use Rattle.std.specs.{Option.is_some, Ordering.ordering_then, Str.bytes_eq}
-use Rattle.std.specs.declared.cmp.Ordering.{Ordering}
+use Rattle.std.specs.{List.Contains, Option.is_some, Ordering.ordering_then, Str.bytes_eq, declared.cmp.Ordering.Ordering}
 use Rattle.bolt_format.specs.{Elements.LeafElement, TreePages.leaves_on}
 use Rattle.bolt_check.specs.Keys.{Key, key_cmp}
 use Rattle.bolt_recover.specs.declared.found.Found.{Found}
 use Rattle.bolt_tree.specs.{Entries.EntryView, Entries.entry_view, Order.Rises}
-use Rattle.bolt_etcd.specs.{Misplaced.is_misplaced, RevisionKeys.revision_key, Revisions.RevisionView, Revisions.revision_of}
-use Rattle.bolt_etcd.specs.ShownRevisions.{value_bytes}
+use Rattle.bolt_etcd.specs.{Misplaced.is_misplaced, RevisionKeys.revision_key, Revisions.RevisionView, Revisions.revision_of, ShownRevisions.value_bytes}
 
 abbrev pub is_in_place : Option RevisionView → Bool
 is_in_place None = false

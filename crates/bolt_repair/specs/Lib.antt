@@ -3,11 +3,11 @@ pub mod FullRepairs
 pub mod Keyed
 pub mod LostRevisions
 pub mod PutBackMembers
+pub mod RecoveredStores
 pub mod RepairRefusals
 pub mod Repaired
 pub mod RepairedMembers
 pub mod RepairedMerges
 pub mod Repairs
-pub mod StoreSurveys
 pub mod Undisputed
 pub mod WhatGoesBack

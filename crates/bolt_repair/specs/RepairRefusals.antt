@@ -4,13 +4,12 @@ use Rattle.std.specs.List.{Contains}
 use Rattle.bolt_format.specs.declared.meta.Meta.{Meta}
 use Rattle.bolt_tree.specs.Entries.{Value}
 use Rattle.bolt_recover.specs.{Recovered.ForRecovered, Refusals.LosesRoot}
-use Rattle.bolt_repair.specs.{Repaired.IsRepair, Repairs.store_path}
-use Rattle.bolt_repair.specs.declared.repair.RepairFault.{RepairFault}
-use Rattle.bolt_repair.specs.declared.repair.RepairFault.TheVariants.{Memory, NotABucket, Root}
+use Rattle.bolt_repair.specs.{Repaired.IsRepair, Repairs.store_path, declared.repair.RepairFault.RepairFault}
+use Rattle.bolt_repair.specs.declared.repair.RepairFault.TheVariants.{Memory, NotABucket, Rootless}
 
 -- The root page is lost and nothing goes back, or the recovered root bucket has a value under the name of the bucket. Nothing is said of
 -- memory.
 abbrev pub IsRepairRefusal : List ℕ → Meta → RepairFault → Type 0
-IsRepairRefusal file meta (Root x) = ∥ LosesRoot file meta x ∥₁ × ∥ IsRepair file meta [] false ∥₁
+IsRepairRefusal file meta (Rootless x) = ∥ LosesRoot file meta x ∥₁ × ∥ IsRepair file meta [] false ∥₁
 IsRepairRefusal file meta NotABucket = (value : List ℕ) × ForRecovered file meta (λ recovered. Contains recovered (store_path, Value value))
 IsRepairRefusal file meta Memory = Unit {0}

@@ -1,10 +1,9 @@
 -- The repaired listing as the merge of what is recovered and what goes back.
 use Rattle.std.specs.Prelude.{◌≡◌, Bool, List, map}
-use Rattle.bolt_tree.specs.{Entries.EntryView, InBuckets.members_in, Listing.Member, Merging.merged_reads}
-use Rattle.bolt_tree.specs.declared.merged.Merged.{Merged}
+use Rattle.bolt_tree.specs.{Entries.EntryView, InBuckets.members_in, Listing.Member, Merging.merged_reads, declared.merged.Merged.Merged}
 use Rattle.bolt_recover.specs.{KeptMembers.kept_file, KeptMembers.kept_meta, Recovered.IsRecovered, TheRecovered.the_recovered, declared.kept.Kept.Kept}
 use Rattle.bolt_repair.specs.{PutBackMembers.put_back_listing, Repairs.store_path, declared.put_back.PutBack.PutBack, declared.repair.Repair.Repair}
-use Rattle.bolt_etcd.specs.{ShownRevisions.entry_of}
+use Rattle.bolt_etcd.specs.ShownRevisions.{entry_of}
 
 -- the entries that go back
 abbrev pub repair_back : Repair → List EntryView

@@ -43,9 +43,9 @@ pub record IsAgreed (recovered : List Member) (found : List LeafElement) (e : En
 pub record IsNewestUpTo (compacted : ℕ) (recovered : List Member) (found : List LeafElement) (r : RevisionView) : Type 0 where
   pub there : r.key.deleted ≡ false
   pub until : r.key.main ≤ compacted
-  pub kept : (other : RevisionView) → IsKept recovered other → name_of other ≡ name_of r → other.key.main ≤ compacted → key_cmp r.place other.place ≢ Less
+  pub kept : (other : RevisionView) → IsKept recovered other → name_of other ≡ name_of r → other.key.main ≤ compacted → key_cmp r.stored_key other.stored_key ≢ Less
   pub agreed : (e : EntryView) (other : RevisionView) → IsAgreed recovered found e other → name_of other ≡ name_of r → other.key.main ≤ compacted
-      → key_cmp r.place other.place ≢ Less
+      → key_cmp r.stored_key other.stored_key ≢ Less
 
 -- What goes back: it is above the last compaction, or what that keeps of its name.
 abbrev pub GoesBack : ℕ → List Member → List LeafElement → EntryView → Type 0

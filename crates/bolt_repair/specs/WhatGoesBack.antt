@@ -2,7 +2,7 @@
 use Rattle.std.specs.Prelude.{◌≡◌, ◌↔◌, ◌||◌, ◌++◌, ℕ, Bool, false, List, Option, Some, None, filter, map, not}
 use Rattle.std.specs.List.{Contains, filter_map}
 use Rattle.bolt_tree.specs.Entries.{EntryView}
-use Rattle.bolt_etcd.specs.{Among.among, Current.HaveOwnPlaces, Current.IsNewest, Newest.is_until, Newest.until, Revisions.RevisionView, Revisions.revision_of}
+use Rattle.bolt_etcd.specs.{Among.among, Current.HaveOwnKeys, Current.IsNewest, Newest.is_until, Newest.until, Revisions.RevisionView, Revisions.revision_of}
 
 -- a compaction at this transaction may have removed it
 abbrev pub is_old : ℕ → Option RevisionView → Bool
@@ -15,11 +15,11 @@ old_revisions compacted kept agreed = until compacted (kept ++ filter_map revisi
 
 -- exactly the newest of each name, if it isn't a deletion
 abbrev pub AreTheNewest : (old newest : List RevisionView) → Type 0
-AreTheNewest old newest = HaveOwnPlaces old → (r : RevisionView) → Contains newest r ↔ IsNewest old r
+AreTheNewest old newest = HaveOwnKeys old → (r : RevisionView) → Contains newest r ↔ IsNewest old r
 
 -- it isn't old, or it is one of these
 abbrev pub goes_back : ℕ → (newest : List RevisionView) → EntryView → Bool
-goes_back compacted newest e = not (is_old compacted (revision_of e)) || among (map (λ r. r.place) newest) e.key
+goes_back compacted newest e = not (is_old compacted (revision_of e)) || among (map (λ r. r.stored_key) newest) e.key
 
 -- Of the agreed ones these go back: those that aren't old, and the newest of each name among the old ones.
 pub record ArePutBack (compacted : ℕ) (kept : List RevisionView) (agreed back : List EntryView) : Type 0 where

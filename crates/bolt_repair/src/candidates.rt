@@ -94,7 +94,7 @@ fn count_on(elements: Leaves<'_>) -> usize
 fn by_key_and_value(a: &Revision<'_>, b: &Revision<'_>) -> Ordering
     ensures { result ≡ whole_cmp (entry_of a.now) (entry_of b.now) }
 {
-    match a.cmp_place(b) {
+    match a.cmp_stored_key(b) {
         Ordering::Equal => a.value().cmp(b.value()),
         order => order,
     }
@@ -103,7 +103,7 @@ fn by_key_and_value(a: &Revision<'_>, b: &Revision<'_>) -> Ordering
 fn is_same(a: &Revision<'_>, b: &Revision<'_>) -> bool
     ensures { result ≡ is_same_entry (entry_of a.now) (entry_of b.now) }
 {
-    a.place() == b.place() && a.value() == b.value()
+    a.stored_key() == b.stored_key() && a.value() == b.value()
 }
 
 /// Adds a key.
@@ -135,7 +135,7 @@ pub(crate) fn has_candidate(candidates: &[Revision<'_>], at: &mut usize, key: &[
         i += 1;
     }
     *at = i;
-    i < candidates.len() && candidates[i].place() == key
+    i < candidates.len() && candidates[i].stored_key() == key
 }
 
 /// A place before which all candidates have lesser keys: this one, if it is one.
@@ -153,5 +153,5 @@ fn start(candidates: &[Revision<'_>], at: usize, key: &[u8]) -> usize
 fn is_under_lesser_key(candidate: &Revision<'_>, key: &[u8]) -> bool
     ensures { result ≡ is_lt (key_cmp (entry_of candidate.now).key key.now) }
 {
-    candidate.place().cmp(key).is_lt()
+    candidate.stored_key().cmp(key).is_lt()
 }

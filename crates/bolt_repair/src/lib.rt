@@ -5,9 +5,9 @@
 mod candidates;
 pub mod laws;
 mod put_back;
+mod recovered_store;
 mod repair;
 mod repaired;
-mod survey;
 mod undisputed;
 
 pub use crate::repair::{Repair, RepairFault};

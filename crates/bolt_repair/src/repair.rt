@@ -9,7 +9,7 @@ ghost use Rattle.bolt_etcd.specs.{Among.among, Among.without, Newest.is_until, S
 ghost use Rattle.bolt_repair.specs.declared.repair.RepairFault.TheVariants as faults;
 
 use crate::candidates::{candidates_of, has_key};
-use crate::survey::Survey;
+use crate::recovered_store::RecoveredStore;
 use crate::undisputed::keep_undisputed;
 use bolt_check::{Finding, NoMemory};
 use bolt_etcd::{Revision, compacted_by, keep_newest};
@@ -35,7 +35,7 @@ pub struct Repair<'a> {
 #[derive(Clone, Copy, Debug, PartialEq, Eq)]
 pub enum RepairFault {
     /// The root page is lost, with this finding, and nothing goes back.
-    Root(Finding),
+    Rootless(Finding),
     /// The recovered root bucket has a value `key`.
     NotABucket,
     /// Memory ran out.
@@ -58,7 +58,7 @@ impl<'a> Repair<'a> {
     ///
     /// # Errors
     ///
-    /// `Root` if the root page is lost and nothing goes back; `NotABucket` if the recovered root bucket
+    /// `Rootless` if the root page is lost and nothing goes back; `NotABucket` if the recovered root bucket
     /// has a value `key`; `Memory` if memory runs out.
     pub fn find(alloc: Global, both: &'a LostAndFound<'_>) -> Result<Repair<'a>, RepairFault>
         ensures file { IfOk result (λ repair. repair_file repair ≡ both.now.file.now) }
@@ -69,17 +69,17 @@ impl<'a> Repair<'a> {
         ensures refused { IfErr result (IsRepairRefusal both.now.file.now both.now.meta) }
     {
         let mut back = candidates_of(alloc, both.found.as_slice())?;
-        let survey = Survey::of(alloc, both, back.as_slice())?;
-        let Some(is_lacking) = lacks_bucket(survey.store) else {
+        let store = RecoveredStore::of(alloc, both, back.as_slice())?;
+        let Some(is_lacking) = lacks_bucket(store.bucket) else {
             return Err(RepairFault::NotABucket);
         };
-        let compacted = compacted_by(survey.compaction);
-        let keys = keep_agreed(&mut back, survey.met);
-        keep_what_goes_back(survey.kept, &mut back, compacted)?;
+        let compacted = compacted_by(store.compaction);
+        let keys = keep_agreed(&mut back, store.met);
+        keep_what_goes_back(store.kept, &mut back, compacted)?;
         if let Lost::Everything(finding) = both.lost()
             && back.is_empty()
         {
-            return Err(RepairFault::Root(finding));
+            return Err(RepairFault::Rootless(finding));
         }
         Ok(Repair {
             both,
@@ -164,7 +164,7 @@ fn newest_until<'a>(
     newest.extend_from_slice(agreed)?;
     newest.retain(|revision| is_old(revision, compacted));
     keep_newest(&mut newest);
-    newest.sort_unstable_by(|a, b| a.cmp_place(b));
+    newest.sort_unstable_by(|a, b| a.cmp_stored_key(b));
     Ok(newest)
 }
 
@@ -180,17 +180,17 @@ fn goes_back(revision: &Revision<'_>, newest: &[Revision<'_>], compacted: u64) -
     requires { IsSorted key_cmp (map (λ r. (entry_of r).key) newest.now) }
     ensures { result ≡ goes_back compacted (map shown_revision newest.now) (entry_of revision.now) }
 {
-    !is_old(revision, compacted) || has_place(newest, revision)
+    !is_old(revision, compacted) || has_stored_key(newest, revision)
 }
 
 /// Whether one of these, which are sorted by key, has its key.
-fn has_place(revisions: &[Revision<'_>], revision: &Revision<'_>) -> bool
+fn has_stored_key(revisions: &[Revision<'_>], revision: &Revision<'_>) -> bool
     requires { IsSorted key_cmp (map (λ r. (entry_of r).key) revisions.now) }
     ensures { (result ≡ true)
         ↔ Contains (map (λ r. (entry_of r).key) revisions.now) (entry_of revision.now).key }
 {
     revisions
-        .binary_search_by(|other| other.cmp_place(revision))
+        .binary_search_by(|other| other.cmp_stored_key(revision))
         .is_ok()
 }
 
@@ -208,5 +208,5 @@ fn lacks_key(keys: &[&[u8]], revision: &Revision<'_>) -> bool
     requires { IsSorted key_cmp (map (λ key. key.now) keys.now) }
     ensures { result ≡ not (among (map (λ key. key.now) keys.now) (entry_of revision.now).key) }
 {
-    !has_key(keys, revision.place())
+    !has_key(keys, revision.stored_key())
 }

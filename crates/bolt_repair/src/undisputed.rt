@@ -37,7 +37,7 @@ fn is_last_of_key(candidates: &[Revision<'_>], i: usize) -> bool
     ensures { result ≡ is_last_of_key (map entry_of (drop i candidates.now)) }
 {
     match candidates.get(i + 1) {
-        Some(next) => next.place() != candidates[i].place(),
+        Some(next) => next.stored_key() != candidates[i].stored_key(),
         None => true,
     }
 }

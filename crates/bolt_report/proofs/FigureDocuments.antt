@@ -3,11 +3,10 @@ use Rattle.std.proofs.Common.{◌≡◌, ◌∙◌, ◌+◌, ℕ, ◌<◌, ◌�
 use Rattle.bolt_report.proofs.Words.{bytes_allocated, bytes_used, saturated, IsBytes, json_text, size_json, Stats}
 use Rattle.std.specs.Prelude.{IfSome}
 use Rattle.json.proofs.{Printed.Decimals.IsNumber-decimal, Printed.Trees.document-print}
-use Rattle.json.specs.Json.{Json, document, no_members}
-use Rattle.json.specs.Tree.{HasNumbers, MembersHaveNumbers, depth, members_depth}
+use Rattle.json.specs.{Json.Json, Json.document, Json.no_members, Tree.HasNumbers, Tree.MembersHaveNumbers, Tree.depth, Tree.members_depth}
 use Rattle.bolt_report.specs.FigureForms.{Named, figures_json, figures_then, json_name, number_json}
 use Rattle.bolt_report.specs.FigureReadings.{HaveWords, count_of, figures_in, figures_of, size_of}
-use Rattle.bolt_text.proofs.JsonLemmas.{Reads, numeral_back}
+use Rattle.bolt_text.proofs.Exports.{Reads, numeral_back}
 
 saturated_fits : (n : ℕ) → saturated n < 2 ^ 64
 saturated_fits n = omega arith

@@ -2,8 +2,7 @@
 use Rattle.std.proofs.Common.{◌≡◌, length, ◌≢◌, ◌∙◌, ◌+◌, ◌<◌, ℕ, Bool, true, false, List, [], ◌∷◌, Some, ap, arith, refl, slice_get, take}
 use Rattle.bolt_report.proofs.Words.{bucket_count, LeafElement}
 use Rattle.std.specs.Prelude.{cond}
-use Rattle.std.proofs.lemmas.List.Filters.{length-filter_more}
-use Rattle.std.proofs.lemmas.Option.{get_or_from_slice_get, slice_get_within}
+use Rattle.std.proofs.{lemmas.List.Filters.length-filter_more, lemmas.Option.get_or_from_slice_get, lemmas.Option.slice_get_within}
 
 module _ (elements : List LeafElement) (i : ℕ) (e : LeafElement) (found : slice_get elements i ≡ Some e) where
   counted : (is : Bool) → e.is_bucket ≡ is → bucket_count (take (i + 1) elements) ≡ bucket_count (take i elements) + cond is 1 0

@@ -1,14 +1,16 @@
+pub mod Exports
 mod FigureDocuments
 mod FigureTexts
 mod FoundLemmas
 mod ListPartTexts
+mod LookUps
 mod NameTexts
 mod PageFaults
 mod PageTableLemmas
 mod PrefixLemmas
 mod PrefixSteps
-pub mod RevisionDocuments
-pub mod RevisionTexts
-pub mod SizeLemmas
-pub mod SizesExist
+mod RevisionDocuments
+mod RevisionTexts
+mod SizeLemmas
+mod SizesExist
 mod Words

@@ -5,7 +5,7 @@ use Rattle.std.proofs.lemmas.List.{map-append}
 use Rattle.std.specs.Prelude.{if◌then◌else◌}
 use Rattle.bolt_report.proofs.Words.{begins_with, bytes_eq, Form, is_bucket_at, Key, list_any, Member, member_cmp, Path, path_of, pointwise, Rises}
 use Rattle.bolt_report.proofs.ListPartTexts.{apart_before, has_next}
-use Rattle.bolt_text.proofs.PartTests.{same_path}
+use Rattle.bolt_text.proofs.Exports.{same_path}
 use Rattle.bolt_report.specs.MemberNames.{WantedNames, entry_name, key_in, member_name}
 
 no_items : (path : List (Bor (List ℕ))) → length path ≡ 0 → path_of path ≡ []

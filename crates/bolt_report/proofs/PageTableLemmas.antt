@@ -3,12 +3,10 @@ use Rattle.std.proofs.Common.{◌≡◌, ◌∙◌, ℕ, zero, suc, ◌+◌, ◌
 use Rattle.std.specs.Prelude.{count_by}
 use Rattle.bolt_report.proofs.Words.{bytes_of, Checked, div_ceil, length-range_with_len, line_at, map_line, Meta, meta_of, props, range_with_len, slice_get-get_or, sum_by-cons, ∥∥₁_elim}
 use mathlib.Core.Sum.{⊎_set}
-use Rattle.std.proofs.Math.Nat.{mul-le-mul_right}
-use Rattle.std.proofs.lemmas.Grind.{div_ceil_times}
-use Rattle.std.proofs.lemmas.List.FromFn.{get_or-range_with_len}
+use Rattle.std.proofs.{Math.Nat.mul-le-mul_right, lemmas.Grind.div_ceil_times, lemmas.List.FromFn.get_or-range_with_len}
 use Rattle.bolt_check.specs.{CheckedFiles.has_accounts, Roles.AreRoles, Roles.HasRole, declared.role_table.Role.Role}
 use Rattle.bolt_check.specs.declared.role_table.Role.TheVariants as role
-use Rattle.bolt_check.proofs.RoleFacts.{one_role, past_is_free, size_positive, with_accounts}
+use Rattle.bolt_check.proofs.Exports.{one_role, past_is_free, size_positive, with_accounts}
 use Rattle.bolt_report.specs.PageTables.{begun, is_free, page_row, pages_in, pages_past}
 
 -- where each of these pages is free, as many are free as there are

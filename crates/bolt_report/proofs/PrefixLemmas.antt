@@ -3,8 +3,8 @@ use Rattle.std.proofs.Common.{◌≡◌, ◌==◌, ◌+◌, ℕ, suc, Bool, true
 use Rattle.std.proofs.lemmas.Bool.Decides.{nat_tests}
 use Rattle.bolt_report.proofs.Words.{has_key_prefix, Contains, entry_cmp, Key, key_lt, LeafElement, least_from, false_from_ne_true, Rises, starts_with, with_prefix}
 use Rattle.bolt_check.specs.Keys.{key_cmp}
-use Rattle.bolt_check.proofs.KeyLaws.{lt_trans}
-use Rattle.bolt_tree.proofs.{Filters.filter_none, Filters.lt_of, Lists.contains_cases, Lists.contains_none}
+use Rattle.bolt_check.proofs.Exports.{lt_trans, lt_of}
+use Rattle.bolt_tree.proofs.Exports.{filter_none, contains_cases, contains_none}
 
 abbrev pub key_begins : Key → Key → Bool
 key_begins key prefix = starts_with (λ a b. a == b) key prefix

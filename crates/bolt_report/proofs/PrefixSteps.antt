@@ -5,12 +5,10 @@ use Rattle.bolt_report.proofs.Words.{has_key_prefix, bytes_of, cond-true, Contai
 use Rattle.bolt_report.proofs.PrefixLemmas.{after_least, from_least, key_begins, none_later}
 use Rattle.std.specs.Option.{option_map}
 use Rattle.std.specs.Prelude.{⊤, IfErr, IsErrAnd}
-use Rattle.bolt_tree.specs.{BucketViews.AreSorted, BucketViews.BucketView, CursorBounds.OpensByNext, CursorBounds.OpensSeek}
-use Rattle.bolt_tree.specs.OpeningCounts.{IsGap, IsSeekCount, sum_to}
-use Rattle.bolt_tree.specs.{Places.next_move, Places.nothing_at, Places.move_onto, Places.place_in, Places.seek_move, declared.cursor.Cursor.Cursor}
-use Rattle.bolt_tree.specs.declared.entry.Entry.{Entry}
+use Rattle.bolt_tree.specs.{BucketViews.AreEntriesOf, BucketViews.BucketView, CursorBounds.OpensByNext, CursorBounds.OpensSeek, OpeningCounts.IsGap, OpeningCounts.IsSeekCount, OpeningCounts.sum_to}
+use Rattle.bolt_tree.specs.{Places.next_move, Places.nothing_at, Places.move_onto, Places.place_in, Places.seek_move, declared.cursor.Cursor.Cursor, declared.entry.Entry.Entry}
 use Rattle.bolt_check.specs.Counts.{counted}
-use Rattle.bolt_tree.proofs.{AllEntries.sorted_at, CursorMoves.none_past, CursorMoves.not_below, Leaving.TheEntries, Leaving.the_one, PagerLemmas.counted_more}
+use Rattle.bolt_tree.proofs.Exports.{none_past, not_below, TheEntries, the_one, counted_more, entries_at}
 use Rattle.bolt_text.specs.{declared.forms.Form.TheVariants.Json, declared.report_fault.ReportFault.TheVariants.NoMemory, declared.report_fault.ReportFault.TheVariants.Sink}
 
 -- ---- the entries of a cursor's bucket
@@ -21,7 +19,7 @@ cursor_entries cursor =
     let checked = cursor_checked cursor in
     let start = cursor_start cursor in
     ∥∥₁_elim cursor.resting (the_one checked start) (λ resting. ∥∥₁_elim resting.stack (the_one checked start) (λ (sound, stack).
-    let (entries, are) = sorted_at (bytes_of checked) (meta_of checked) sound.trees start sound.start in
+    let (entries, are) = entries_at (bytes_of checked) (meta_of checked) sound.trees start sound.start in
     (entries, ∣ are ∣₁)))
 
 -- ---- where it stands
@@ -60,10 +58,6 @@ moved [] n before place (Some v) on (p, a) = cc
 moved (e ∷ entries) n before place x on (p, a) =
     stands_by (e ∷ entries) (suc n) place (On n) x (nat_lt (suc n) (length (e ∷ entries))) refl
     (p ∙ ap (λ (q : Place). (next_move (e ∷ entries) q).place) on) (a ∙ ap (λ (q : Place). option_map entry_view (next_move (e ∷ entries) q).answer) on)
-
-pub nothing_shown : (o : Option Entry) → option_map shown_entry o ≡ None → o ≡ None
-nothing_shown None is = refl
-nothing_shown (Some entry) is = cc
 
 -- ---- how many entries are left
 
@@ -106,7 +100,7 @@ rises_later (suc n) [] rises = rises
 rises_later (suc n) (e ∷ entries) rises = rises_later n entries rises.1
 
 -- after the seek
-pub stage_sought : (b : BucketView) (first : ℕ) (prefix : Key) (entries : List LeafElement) (opened : ℕ) (place : Place) (x : Option EntryView) → AreSorted b entries
+pub stage_sought : (b : BucketView) (first : ℕ) (prefix : Key) (entries : List LeafElement) (opened : ℕ) (place : Place) (x : Option EntryView) → AreEntriesOf b entries
     → StandsAt entries (least_from prefix entries) place x → OpensSeek b prefix first opened → Stage b first prefix entries opened place x (least_from prefix entries) 0
 stage_sought b first prefix entries opened place x are stands seeks = record {
   at = omega arith;
@@ -127,7 +121,7 @@ module _ (b : BucketView) (first : ℕ) (prefix : Key) (entries : List LeafEleme
 
   -- and is gone over
   pub stage_next : (v : EntryView) → Stage b first prefix entries opened place (Some v) n done → key_begins v.key prefix ≡ true
-      → (opened2 : ℕ) (place2 : Place) (x2 : Option EntryView) → AreSorted b entries
+      → (opened2 : ℕ) (place2 : Place) (x2 : Option EntryView) → AreEntriesOf b entries
       → (place_in entries place2 ≡ (next_move entries (place_in entries place)).place) × (x2 ≡ option_map entry_view (next_move entries (place_in entries place)).answer)
       → OpensByNext b place opened opened2 → Stage b first prefix entries opened2 place2 x2 (suc n) (suc done)
   stage_next v stage starts opened2 place2 x2 are moves opens =

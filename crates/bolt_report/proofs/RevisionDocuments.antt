@@ -1,22 +1,18 @@
 -- Revisions as JSON: their text, and that they are read back.
 use Rattle.std.proofs.Common.{◌≡◌, ◌∙◌, ℕ, zero, suc, ◌<◌, ◌≤◌, ◌/◌, ◌%◌, ◌^◌, ◌++◌, Bool, true, false, List, [], ◌∷◌, Option, Some, ap, append_assoc, arith, codes, decimal, get_or, length, map, option_and_then, refl, sym}
-use Rattle.std.proofs.lemmas.Bool.{cond_both}
-use Rattle.std.proofs.lemmas.Fmt.{digits_is_IsNumeral}
-use Rattle.std.proofs.lemmas.List.FromFn.{get_or-map-range_with_len}
-use Rattle.std.specs.Fmt.{digit_glyph, digits, digits_onto}
-use Rattle.std.specs.List.{range_with_len}
+use Rattle.std.proofs.{lemmas.Bool.cond_both, lemmas.Fmt.digits_is_IsNumeral, lemmas.List.FromFn.get_or-map-range_with_len}
+use Rattle.std.specs.{Fmt.digit_glyph, Fmt.digits, Fmt.digits_onto, List.range_with_len, Str.is_utf8, Str.Parse.digits_value}
 use Rattle.std.specs.Prelude.{if◌then◌else◌}
-use Rattle.std.specs.Str.{is_utf8}
-use Rattle.std.specs.Str.Parse.{digits_value}
 use Rattle.hex.specs.Hex.{encode_lower}
 use Rattle.json.proofs.{Printed.Decimals.IsNumber-decimal, Printed.Tokens.print_from-append, Printed.Trees.document-print}
-use Rattle.json.specs.{Json.Json, Json.document, Json.member, Json.no_members, Json.object, Json.string, Print.escape, Print.escape_byte, Print.print_from, Token.Token, Tree.HasNumbers, Tree.MembersHaveNumbers, Tree.json_tokens, Tree.members_depth, Tree.members_tokens}
-use Rattle.bolt_text.proofs.JsonLemmas.{Reads, digits_read, items_read, numeral_back}
+use Rattle.json.specs.{Json.Json, Json.document, Json.member, Json.no_members, Json.object, Json.string, Print.escape, Print.escape_byte, Print.print_from, Token.Token}
+use Rattle.json.specs.Tree.{HasNumbers, MembersHaveNumbers, json_tokens, members_depth, members_tokens}
+use Rattle.bolt_text.proofs.Exports.{Reads, digits_read, items_read, numeral_back}
 use Rattle.bolt_text.specs.{Forms.digits_json, Forms.item_json, Forms.json_text, JsonReadings.digits_of, JsonReadings.item_in_json, Lines.line}
 use Rattle.bolt_text.specs.declared.forms.Form.TheVariants as form
-use Rattle.bolt_report.specs.{RevisionLines.members, RevisionLines.revision_line}
-use Rattle.bolt_etcd.specs.{Revisions.RevisionView}
+use Rattle.bolt_report.specs.RevisionLines.{members, revision_line}
 use Rattle.bolt_report.specs.RevisionObjects.{IsOfBytes, ReadRevision, ReadsRevisionsBack, as_read, read_revision, revision_json, value_member}
+use Rattle.bolt_etcd.specs.Revisions.{RevisionView}
 
 -- ---- digits in hexadecimal need no escapes
 
@@ -128,12 +124,6 @@ module _ (shown : List ℕ → Json) (read : Json → Option (List ℕ)) (reads 
       ),
     ),
   )
-
-  -- what is found in turn
-  abbrev found_by : (revision sub created version lease bytes : ℕ) → Option (List ℕ) → Option (Option (List ℕ)) → Option ReadRevision
-  found_by revision sub created version lease bytes name value =
-      option_and_then (λ (name : List ℕ). option_and_then (λ (value : Option (List ℕ)).
-      Some (record { revision = revision; sub = sub; created = created; version = version; lease = lease; bytes = bytes; name = name; value = value })) value) name
 
   pub revision_back : (values : Bool) (r : RevisionView) → IsOfBytes r → option_and_then (read_revision read) (document (json_text (revision_json shown values r))) ≡ Some (as_read values r)
   revision_back values r is =

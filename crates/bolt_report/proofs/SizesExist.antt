@@ -3,9 +3,9 @@
 use Rattle.std.proofs.Common.{◌≡◌, ◌∙◌, ℕ, Bool, true, false, List, [], ◌∷◌, ap, map, refl, subst, sym}
 use Rattle.bolt_report.proofs.Words.{AllByRecursion, AreSized, Contains, contains_head, contains_tail, HasSoundTrees, IsStart, IsStatsOf, LeafElement, Meta, Path, Root_page, Sized, Start, start_of}
 use Rattle.bolt_report.proofs.SizeLemmas.{HasStats, by_kind}
-use Rattle.bolt_stats.proofs.{StatsExist.some_stats, StatsOnce.one_stats}
+use Rattle.bolt_stats.proofs.Exports.{some_stats, one_stats}
 use Rattle.bolt_tree.specs.{Entries.AreEntries, Entries.IsEntry, Paths.Names}
-use Rattle.bolt_tree.proofs.BucketWays.{root_starts, starts_below, starts_named}
+use Rattle.bolt_tree.proofs.Exports.{root_starts, starts_below, starts_named}
 
 module _ (file : List ℕ) (meta : Meta) where
   abbrev HasSizes : List LeafElement → Type 0

@@ -4,9 +4,7 @@ pub use Rattle.bolt_check.specs.Keys.{Key, key_lt}
 pub use Rattle.bolt_check.specs.RoledFiles.{roles_checked}
 pub use Rattle.bolt_check.specs.Sound.{HasSoundTrees}
 pub use Rattle.bolt_check.specs.declared.checked.Checked.{Checked}
-pub use Rattle.bolt_format.proofs.ListLemmas.{drop_next}
-pub use Rattle.bolt_format.proofs.WroteFronts.{WroteFront, front_more, front_none, front_whole}
-pub use Rattle.bolt_format.proofs.WroteLemmas.{Wrote-element, Wrote-element_return, Wrote-elements, Wrote-none, Wrote-return, Wrote-same, Wrote-then, Wrote-then_return}
+pub use Rattle.bolt_format.proofs.Exports.{drop_next, WroteFront, front_more, front_none, front_whole, Wrote-element, Wrote-element_return, Wrote-elements, Wrote-none, Wrote-return, Wrote-same, Wrote-then, Wrote-then_return}
 pub use Rattle.bolt_format.specs.ElementPlaces.{branch_view, leaf_view}
 pub use Rattle.bolt_format.specs.Elements.{LeafElement}
 unfoldable pub use Rattle.bolt_format.specs.Pages.{page_at}
@@ -36,8 +34,7 @@ pub use Rattle.bolt_text.specs.ListForms.{lines_form, list_line, listing_lines}
 pub use Rattle.bolt_text.specs.declared.report_fault.ReportFault.{ReportFault}
 pub use Rattle.bolt_text.specs.declared.forms.Form.{Form}
 pub use Rattle.bolt_text.specs.declared.forms.ListForm.{ListForm}
-pub use Rattle.bolt_tree.proofs.Leaving.{fewer_left, next_shows, next_stands, the_entries}
-pub use Rattle.bolt_tree.proofs.Lists.{contains_head, contains_tail}
+pub use Rattle.bolt_tree.proofs.Exports.{fewer_left, next_shows, next_stands, the_entries, contains_head, contains_tail}
 pub use Rattle.bolt_tree.specs.Buckets.{bucket_checked, bucket_start}
 pub use Rattle.bolt_tree.specs.Cursors.{cursor_bucket, cursor_opened, cursor_place}
 unfoldable pub use Rattle.bolt_tree.specs.Cursors.{cursor_checked, cursor_start}

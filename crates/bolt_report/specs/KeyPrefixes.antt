@@ -3,7 +3,7 @@ use Rattle.std.specs.Prelude.{◌≡◌, ◌==◌, ◌+◌, ℕ, suc, Bool, List
 use Rattle.std.specs.List.{starts_with}
 use Rattle.bolt_format.specs.Elements.{LeafElement}
 use Rattle.bolt_check.specs.{Keys.Key, Counts.counted}
-use Rattle.bolt_tree.specs.{BucketViews.AreSorted, BucketViews.BucketView, OpeningCounts.IsGap, OpeningCounts.IsSeekCount, OpeningCounts.sum_to, Places.least_from}
+use Rattle.bolt_tree.specs.{BucketViews.AreEntriesOf, BucketViews.BucketView, OpeningCounts.IsGap, OpeningCounts.IsSeekCount, OpeningCounts.sum_to, Places.least_from}
 
 abbrev pub has_key_prefix : Key → LeafElement → Bool
 has_key_prefix prefix e = starts_with (λ a b. a == b) e.key prefix
@@ -16,6 +16,6 @@ with_prefix prefix entries = filter (has_key_prefix prefix) entries
 -- bucket's end.
 abbrev pub OpensPrefix : BucketView → Key → (old new : ℕ) → Type 0
 OpensPrefix b prefix old new =
-    (entries : List LeafElement) (seek : ℕ) (gap : ℕ → ℕ) → AreSorted b entries → IsSeekCount b.file b.meta b.start entries prefix seek
+    (entries : List LeafElement) (seek : ℕ) (gap : ℕ → ℕ) → AreEntriesOf b entries → IsSeekCount b.file b.meta b.start entries prefix seek
     → ((i : ℕ) → IsGap b.file b.meta b.start entries i (gap i))
     → new ≡ counted old (seek + sum_to (λ i. gap (suc (least_from prefix entries + i))) (length (with_prefix prefix entries)))

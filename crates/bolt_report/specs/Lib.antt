@@ -3,6 +3,7 @@ pub mod FaultWords
 pub mod FigureForms
 pub mod FigureReadings
 pub mod FoundLines
+pub mod HeldAtPaths
 pub mod KeyLines
 pub mod KeyPrefixes
 pub mod LossLines

@@ -1,10 +1,8 @@
 -- The keys in a bucket of a listing as a text: docs/COMMANDS.md, "Recovery".
 use Rattle.std.specs.Prelude.{◌==◌, ℕ, Bool, List, [], ◌∷◌, Option, Some, None, flat_map, if◌then◌else◌}
-use Rattle.std.specs.List.{starts_with}
-use Rattle.std.specs.Str.{bytes_eq}
+use Rattle.std.specs.{List.starts_with, Str.bytes_eq}
 use Rattle.bolt_check.specs.Keys.{Key}
-use Rattle.bolt_report.specs.declared.{name_lines.Names.Names, name_lines.NamesIn.NamesIn}
-use Rattle.bolt_report.specs.declared.name_lines.Names.TheVariants.{BeginningWith, Buckets}
+use Rattle.bolt_report.specs.{declared.name_lines.Names.Names, declared.name_lines.NamesIn.NamesIn, declared.name_lines.Names.TheVariants.BeginningWith, declared.name_lines.Names.TheVariants.Buckets}
 use Rattle.bolt_text.specs.{Forms.value_text, declared.forms.Form.Form}
 use Rattle.bolt_tree.specs.{Entries.Item, Listing.Member, ListingParts.has_bucket, ListingParts.is_bucket, Paths.Path, Paths.path_of}
 

@@ -1,8 +1,7 @@
 -- The map of all pages of a file: docs/COMMANDS.md, "What is printed".
 -- What is promised of it is promised for the roles of the pages; each page below the mark has exactly one.
 use Rattle.std.specs.Prelude.{◌*◌, ◌-◌, ℕ, List, ◌++◌, codes, count_by, decimal, flat_map, length, map, min}
-use Rattle.std.specs.Int.{div_ceil}
-use Rattle.std.specs.List.{range_with_len}
+use Rattle.std.specs.{Int.div_ceil, List.range_with_len}
 use Rattle.bolt_format.specs.declared.meta.Meta.{Meta}
 use Rattle.bolt_check.specs.{CheckedFiles.bytes_of, CheckedFiles.meta_of, declared.checked.Checked.Checked, declared.role_table.Role.Role}
 use Rattle.bolt_check.specs.declared.role_table.Role.TheVariants as role

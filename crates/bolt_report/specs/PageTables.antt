@@ -1,8 +1,7 @@
 -- The table of all pages of a file: docs/COMMANDS.md, "What is printed".
 -- What is promised of it is promised for the roles of the pages; each page below the mark has exactly one.
 use Rattle.std.specs.Prelude.{◌==◌, ◌-◌, ℕ, List, [], ◌++◌, Bool, true, false, Option, Some, None, codes, count_by, decimal, flat_map, if◌then◌else◌, length, min}
-use Rattle.std.specs.Int.{div_ceil}
-use Rattle.std.specs.List.{range_with_len}
+use Rattle.std.specs.{Int.div_ceil, List.range_with_len}
 use Rattle.bolt_format.specs.{Freelists.free_ids_at, Pages.PageView, Pages.page_at, declared.meta.Meta.Meta}
 use Rattle.bolt_check.specs.{CheckedFiles.bytes_of, CheckedFiles.meta_of, Roles.AreRoles, declared.checked.Checked.Checked, declared.role_table.Role.Role}
 use Rattle.bolt_check.specs.declared.role_table.Role.TheVariants as role

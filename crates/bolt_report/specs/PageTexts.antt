@@ -1,10 +1,9 @@
 -- Any page of a file as a text: docs/COMMANDS.md, "What is printed".
 use Rattle.std.specs.Prelude.{ℕ, List, [], Option, Some, None}
 use Rattle.std.specs.Option.{option_map}
-use Rattle.bolt_format.specs.{Freelists.free_ids_at, Freelists.freelist_fault, Pages.PageView, Pages.page_at, Pages.page_fault}
-use Rattle.bolt_format.specs.{declared.page_fault.PageFault.PageFault, declared.header.Kind.Kind}
-use Rattle.bolt_format.specs.declared.header.Kind.TheVariants as kind
+use Rattle.bolt_format.specs.{Freelists.free_ids_at, Freelists.freelist_fault, Pages.PageView, Pages.page_at, Pages.page_fault, declared.page_fault.PageFault.PageFault, declared.header.Kind.Kind}
 use Rattle.bolt_format.specs.declared.meta.Meta.{Meta}
+use Rattle.bolt_format.specs.declared.header.Kind.TheVariants as kind
 use Rattle.bolt_report.specs.PageLines.{page_lines}
 
 abbrev pub shown_page_text : ℕ → List ℕ → Option PageView → List ℕ

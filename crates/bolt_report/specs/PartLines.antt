@@ -1,7 +1,6 @@
 -- The lines of a part of a listing, from or below paths that the code holds as slices: docs/LISTING.md, "The part below a path".
 use Rattle.std.specs.Prelude.{ℕ, List}
-use Rattle.std.specs.Borrow.{Bor}
-use Rattle.std.specs.List.{take_while}
+use Rattle.std.specs.{Borrow.Bor, List.take_while}
 use Rattle.bolt_tree.specs.{Listing.Member, Listing.rest_from, ListingParts.begins_with, ListingParts.bucket_part, ListingParts.part_below, Paths.path_of}
 use Rattle.bolt_text.specs.{ListForms.listing_lines, ListLines.listing_text, declared.forms.ListForm.ListForm}
 

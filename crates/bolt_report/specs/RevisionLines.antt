@@ -1,7 +1,6 @@
 -- Revisions as lines: docs/COMMANDS.md, "What etcd keeps".
 use Rattle.std.specs.Prelude.{ℕ, Bool, false, List, [], ◌++◌, codes, decimal, filter, flat_map, ◌==◌, length, if◌then◌else◌}
-use Rattle.std.specs.Fmt.{digits}
-use Rattle.std.specs.List.{starts_with}
+use Rattle.std.specs.{Fmt.digits, List.starts_with}
 use Rattle.bolt_text.specs.{Forms.is_json, Forms.item_text, declared.forms.Form.Form}
 use Rattle.bolt_etcd.specs.Revisions.{RevisionView}
 

@@ -1,7 +1,6 @@
 -- A revision as a JSON object, and what a reader finds in it: docs/COMMANDS.md, "What etcd keeps".
 use Rattle.std.specs.Prelude.{◌≡◌, ℕ, ◌<◌, ◌^◌, Bool, List, Option, Some, None, codes, decimal, length, option_and_then, option_map, false, if◌then◌else◌}
-use Rattle.std.specs.Fmt.{digits}
-use Rattle.std.specs.Str.Parse.{digits_value}
+use Rattle.std.specs.{Fmt.digits, Str.Parse.digits_value}
 use Rattle.hex.specs.Hex.{IsBytes}
 use Rattle.json.specs.Json.{Json, Members, document, member, no_members, number, object, string}
 use Rattle.bolt_text.specs.{Forms.json_text, JsonReadings.object_members, JsonReadings.named, JsonReadings.number_under, JsonReadings.string_of}

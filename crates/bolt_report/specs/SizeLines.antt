@@ -4,14 +4,11 @@ use Rattle.std.specs.List.{AllByRecursion}
 use Rattle.json.specs.Json as json
 use Rattle.json.specs.Json.{member, no_members, object}
 use Rattle.bolt_format.specs.{Elements.LeafElement, declared.meta.Meta.Meta}
-use Rattle.bolt_check.specs.CheckedFiles.{bytes_of, meta_of}
-use Rattle.bolt_tree.specs.{Buckets.bucket_checked, Entries.start_of, declared.bucket.Bucket.Bucket}
-use Rattle.bolt_check.specs.Counts.{saturated}
-use Rattle.bolt_report.specs.{FigureForms.figures_then}
-use Rattle.bolt_tree.specs.EntriesLeft.{ForBucket}
-use Rattle.bolt_text.specs.{Forms.is_json, Forms.json_in, Forms.json_text, Forms.value_text, Lines.line}
+use Rattle.bolt_check.specs.{CheckedFiles.bytes_of, CheckedFiles.meta_of, Counts.saturated}
+use Rattle.bolt_tree.specs.{Buckets.bucket_checked, Entries.start_of, declared.bucket.Bucket.Bucket, EntriesLeft.ForBucket}
+use Rattle.bolt_report.specs.FigureForms.{figures_then}
+use Rattle.bolt_text.specs.{Forms.is_json, Forms.json_in, Forms.json_text, Forms.value_text, Lines.line, declared.forms.Form.Form}
 use Rattle.bolt_stats.specs.{StatsOf.IsStatsOf, declared.figures.Stats.Stats}
-use Rattle.bolt_text.specs.declared.forms.Form.{Form}
 
 -- the bytes used and allocated; a sum above 2^64 - 1 saturates there
 abbrev pub bytes_used : Stats → ℕ

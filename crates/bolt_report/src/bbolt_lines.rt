@@ -29,7 +29,7 @@ pub fn put_bbolt_findings<S: Sink>(
     put_error_count(of_file.len() as u64 + on_ways.len() as u64, sink)
 }
 
-#[tactic(auto, using(bolt_text::proofs::ReportLemmas::elements))]
+#[tactic(auto, using(bolt_text::proofs::Exports::elements))]
 fn put_file_findings<S: Sink>(findings: &[FileFinding], sink: &mut S) -> Result<(), SinkFault>
     ensures { Wrote S.Sink sink.old sink.new (flat_map file_finding_text findings.now)
         (ending result) }

@@ -66,7 +66,7 @@ pub fn put_findings<S: Sink>(
     put_error_count(earlier + findings.len() as u64, sink)
 }
 
-#[tactic(auto, using(bolt_text::proofs::ReportLemmas::elements))]
+#[tactic(auto, using(bolt_text::proofs::Exports::elements))]
 pub(crate) fn put_each_finding<S: Sink>(findings: &[Finding], sink: &mut S) -> Result<(), SinkFault>
     ensures { Wrote S.Sink sink.old sink.new (flat_map finding_text findings.now) (ending result) }
 {

@@ -8,7 +8,7 @@ ghost use Rattle.bolt_report.specs.FigureReadings.{HaveWords, figures_of, ReadsS
 ghost use Rattle.bolt_text.specs.JsonReadings.{digits_of, item_in_json};
 ghost use Rattle.bolt_report.specs.SizeLines.{AreSized, Sized};
 ghost use Rattle.bolt_check.specs.Ones.{AtMostOne};
-ghost use Rattle.bolt_tree.specs.Laws.{ForSorted};
+ghost use Rattle.bolt_tree.specs.Laws.{ForBucketEntries};
 ghost use Rattle.std.specs.Prelude.{◌≡◌, ℕ, Bool, List, Some, map};
 ghost use Rattle.bolt_format.specs.{Elements.LeafElement};
 ghost use Rattle.bolt_etcd.specs.{Revisions.RevisionView};
@@ -28,7 +28,7 @@ pub fn sizes_are_one()
 /// In sound trees the buckets among the entries of a bucket have their sizes.
 #[tactic(auto, using(crate::proofs::SizesExist::some_sizes))]
 pub fn sizes_exist()
-    ensures { ForSorted (λ file meta start entries. (sized : List Sized)
+    ensures { ForBucketEntries (λ file meta start entries. (sized : List Sized)
         × AreSized file meta entries sized) }
 {}
 

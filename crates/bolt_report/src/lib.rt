@@ -3,6 +3,7 @@
 //! `bolt_stats` that a caller needs are passed on.
 #![tactic(auto)]
 
+mod at_path;
 mod bbolt_lines;
 mod fault_lines;
 mod key_lines;
@@ -20,6 +21,7 @@ mod stats_lines;
 #[cfg(test)]
 mod store_tests;
 
+pub use at_path::{AtPath, look_up};
 pub use bbolt_lines::put_bbolt_findings;
 pub use bolt_stats::{Stats, add, stats};
 pub use bolt_text::{FigureForm, Form, ListForm, MemberLines, ReportFault, item, value};
@@ -33,7 +35,7 @@ pub use metas::{info, put_slot_fault};
 pub use name_lines::{Names, NamesIn, list_members_names};
 pub use page_lines::page_text;
 pub use page_table::{pages, put_page_table};
-pub use part_lines::{is_bucket_at, list, list_members_part, put_list_part};
+pub use part_lines::{list, list_members_part, put_list_part};
 pub use revision_lines::RevisionWriter;
 pub use size_lines::put_sizes;
 pub use stats_lines::stats_text;

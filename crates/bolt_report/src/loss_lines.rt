@@ -33,7 +33,7 @@ pub fn lost_count(lost: Lost<'_>) -> u64
     }
 }
 
-#[tactic(auto, using(bolt_text::proofs::ReportLemmas::elements))]
+#[tactic(auto, using(bolt_text::proofs::Exports::elements))]
 fn put_losses<S: Sink>(losses: &[Loss<'_>], sink: &mut S) -> Result<(), SinkFault>
     ensures { Wrote S.Sink sink.old sink.new (losses_text (map loss_view losses.now))
         (ending result) }
@@ -44,7 +44,7 @@ fn put_losses<S: Sink>(losses: &[Loss<'_>], sink: &mut S) -> Result<(), SinkFaul
     Ok(())
 }
 
-#[tactic(auto, using(bolt_format::proofs::WroteLemmas::wrote), unfolding(crate::specs::LossLines::loss_text))]
+#[tactic(auto, using(bolt_format::proofs::Exports::wrote), unfolding(crate::specs::LossLines::loss_text))]
 fn put_loss<S: Sink>(loss: &Loss<'_>, sink: &mut S) -> Result<(), SinkFault>
     ensures { Wrote S.Sink sink.old sink.new (loss_text (loss_view loss.now)) (ending result) }
 {
@@ -101,7 +101,7 @@ fn put_bounds<'a, S: Sink>(
 /// # Errors
 ///
 /// `SinkFault` if the sink failed. It has then accepted a prefix of the text.
-#[tactic(auto, using(bolt_format::proofs::WroteLemmas::wrote))]
+#[tactic(auto, using(bolt_format::proofs::Exports::wrote))]
 pub fn put_lost<S: Sink>(lost: Lost<'_>, found: &[Found<'_>], sink: &mut S) -> Result<(), SinkFault>
     requires { All IsFoundLeaf found.now }
     ensures { Wrote S.Sink sink.old sink.new
@@ -134,7 +134,7 @@ pub fn put_counted_lost<S: Sink>(
     put_error_count(earlier + lost_count(lost), sink)
 }
 
-#[tactic(auto, using(bolt_text::proofs::ReportLemmas::elements))]
+#[tactic(auto, using(bolt_text::proofs::Exports::elements))]
 fn put_all_found<S: Sink>(found: &[Found<'_>], sink: &mut S) -> Result<(), SinkFault>
     requires { All IsFoundLeaf found.now }
     ensures { Wrote S.Sink sink.old sink.new (found_text (map found_view found.now))

@@ -159,8 +159,8 @@ fn is_in_part(path: &[&[u8]], below: &[&[u8]], from: &[&[u8]]) -> bool
 }
 
 /// Whether a member is the bucket at a path.
-#[tactic(auto, using(bolt_text::proofs::PartTests::parts))]
-pub fn is_bucket_at(path: &[&[u8]], item: &Item<'_>, bucket: &[&[u8]]) -> bool
+#[tactic(auto, using(bolt_text::proofs::Exports::parts))]
+pub(crate) fn is_bucket_at(path: &[&[u8]], item: &Item<'_>, bucket: &[&[u8]]) -> bool
     ensures { result ≡ is_bucket_at (path_of bucket.now) (path_of path.now, item_view item.now) }
 {
     path == bucket && matches!(item, Item::Bucket { .. })

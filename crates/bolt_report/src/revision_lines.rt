@@ -21,7 +21,7 @@ pub struct RevisionWriter {
     pub values: bool,
 }
 
-#[tactic(auto, using(bolt_text::proofs::ReportLemmas::reports))]
+#[tactic(auto, using(bolt_text::proofs::Exports::reports))]
 impl RevisionWriter {
     ghost use Rattle.bolt_report.specs.WriterLines.{line_by, named_line_by, value_by};
 

@@ -91,7 +91,7 @@ fn put_size<S: Sink>(
 }
 
 /// Writes the figures and the name with spaces between them.
-#[tactic(auto, using(bolt_text::proofs::ReportLemmas::reports, bolt_text::proofs::ShortTexts::shorts))]
+#[tactic(auto, using(bolt_text::proofs::Exports::reports, bolt_text::proofs::Exports::shorts))]
 fn put_row<S: Sink>(
     stats: &Stats,
     name: &[u8],

@@ -1,12 +1,10 @@
 -- The depth that is found page by page is the bucket's depth.
 use Rattle.std.proofs.Common.{◌≡◌, ◌≢◌, ◌∙◌, ◌==◌, ℕ, zero, suc, ◌+◌, ◌≤◌, ◌⊎◌, max, inl, inr, Bool, true, false, List, [], ◌∷◌, ◌++◌, Option, Some, None, Result, Ok, cond, length, slice_get, refl, sym, ap, subst, arith, if◌then◌else◌}
-use Rattle.std.proofs.Math.Dec.{eqb-suc-zero}
-use Rattle.std.proofs.lemmas.Bool.{cases_lt}
-use Rattle.std.proofs.lemmas.Option.{none-some}
+use Rattle.std.proofs.{Math.Dec.eqb-suc-zero, lemmas.Bool.cases_lt, lemmas.Option.none-some}
 use Rattle.bolt_stats.proofs.Words.{At_page, cases_Bool, deepest_from, Enough, enough_kids, enough_node, follow, follow_append, greatest, Has, has_right, height_from, inline, inline_depth, inner_pages, IsBucketIn, IsDeepest, IsDepth, IsHeight, kid_pages, counted_depth, Node, Nodes, paged, pages_in_bucket, PageSpot, root_spot, roots_in_bucket, same_Some, Spot, step}
 use Rattle.bolt_stats.proofs.DepthSums.{deepest_kids, depth_from, greatest_append, greatest_has, height_kids, page_has}
 use Rattle.bolt_check.specs.{Nodes.Entry, Shape.child_at, Shape.child_in, Shape.child_of, Shape.leads, Subtrees.root_page, Ways.child_spot, Ways.upper_from}
-use Rattle.bolt_check.proofs.WayFacts.{leads_follow, leads_none, step_child}
+use Rattle.bolt_check.proofs.Exports.{leads_follow, leads_none, step_child}
 use Rattle.bolt_stats.specs.{Deepest.inline_in_bucket, Depths.IsLeafAt}
 
 -- one of the numbers has the greatest

@@ -1,9 +1,10 @@
 mod DepthExists
 mod DepthSums
+pub mod Exports
 mod FigureLemmas
 mod ReadDepths
 mod ReadLemmas
 mod ReadSums
-pub mod StatsExist
-pub mod StatsOnce
+mod StatsExist
+mod StatsOnce
 mod Words

@@ -7,7 +7,7 @@ use Rattle.bolt_format.specs.{Pages.PageView, TreePages.is_tree_kind, TreePages.
 use Rattle.bolt_format.specs.declared.header.Kind.TheVariants as kind
 use Rattle.bolt_check.specs.Nodes.{branch_entry}
 use Rattle.bolt_stats.proofs.DepthSums.{greatest_append}
-use Rattle.bolt_format.proofs.ListLemmas.{take_next}
+use Rattle.bolt_format.proofs.Exports.{take_next}
 
 -- what the elements of a page lead to
 pub branch_kids : (depth : ℕ) (xs : List BranchElement) → map (unread_page depth) (kid_pages false (map branch_entry xs)) ≡ map (λ (x : BranchElement). unread_page depth x.child) xs

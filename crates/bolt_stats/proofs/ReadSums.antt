@@ -4,7 +4,7 @@ use Rattle.std.proofs.lemmas.List.Sums.{sum_by-append}
 use Rattle.bolt_stats.proofs.Words.{AreGood, bucket_figure, Enough, enough_kids, Figure, figure, Has, has_right, inner_pages, inner_roots, kid_pages, map-append, Meta, Node, node_at, unread_numbers, pages_in_bucket, roots_in_bucket, roots_of, Stats, sum_by-cons, total_of, UnreadBucket, UnreadPage, weight, ∥∥₁_map}
 use Rattle.bolt_stats.proofs.DepthSums.{page_has, root_has}
 use Rattle.bolt_check.specs.Nodes.{Entry}
-use Rattle.bolt_check.proofs.{Lists.has_left, Lists.has_split, TourSums.weight_kids}
+use Rattle.bolt_check.proofs.Exports.{has_left, has_split, weight_kids}
 
 -- the last page was taken
 pub popped : (old new : List UnreadPage) (p : UnreadPage) → old ≡ new ++ p ∷ [] → unread_numbers old ≡ unread_numbers new ++ p.number ∷ []

@@ -3,7 +3,7 @@ use Rattle.std.proofs.Common.{◌≡◌, ◌≢◌, ◌∙◌, ℕ, suc, ◌+◌
 use Rattle.bolt_stats.proofs.Words.{AreGood, At_page, bucket_figure, saturated, depth_of, Enough, Figure, figure, follow, follow_append, HasSoundTrees, Inline_page, IsDepth, IsStart, IsStatsOf, Meta, Node, node_at, Nodes, one_tour, own_figure, PageSpot, reached, Root_page, root_spot, Spot, Start, Stats, step, sum_by-cons, total_of, tour_figure, weight}
 use Rattle.bolt_stats.proofs.{DepthExists.AllFilled, DepthExists.depth_is, StatsOnce.stats_from}
 use Rattle.bolt_check.specs.{Nodes.Entry, OnWays.IsOnWay, Ways.At_inline, Ways.SpanHas, Ways.step_at, Ways.step_entry}
-use Rattle.bolt_check.proofs.{TourSums.bucket_sum, TourSums.spot_weight, WayFacts.in_own_span}
+use Rattle.bolt_check.proofs.Exports.{bucket_sum, spot_weight, in_own_span}
 use Rattle.bolt_stats.specs.{Figures.inline_figure, StatsOf.IsPagedStats, StatsOf.spot_figure}
 
 -- A page that a way leads to is its bucket's root page, or at depth 2 or more.

@@ -1,8 +1,7 @@
 -- How deep a bucket is, found page by page: in so many steps, as of `weight`.
 use Rattle.std.specs.Prelude.{◌==◌, ℕ, zero, suc, ◌+◌, max, Bool, true, false, List, [], ◌∷◌, Result, Ok, Err, if◌then◌else◌}
 use Rattle.bolt_format.specs.declared.meta.Meta.{Meta}
-use Rattle.bolt_check.specs.{CheckedFiles.bytes_of, CheckedFiles.meta_of, Nodes.Entry, Nodes.Node, Nodes.Nodes, Nodes.node_at}
-use Rattle.bolt_check.specs.declared.checked.Checked.{Checked}
+use Rattle.bolt_check.specs.{CheckedFiles.bytes_of, CheckedFiles.meta_of, Nodes.Entry, Nodes.Node, Nodes.Nodes, Nodes.node_at, declared.checked.Checked.Checked}
 use Rattle.bolt_stats.specs.Readings.{inner_pages, inner_roots}
 
 abbrev pub greatest : {X : Type 0} → (X → ℕ) → List X → ℕ

@@ -2,12 +2,9 @@
 -- They are sums over the set of its ways, stated as the rising list of exactly these.
 use Rattle.std.specs.Prelude.{◌≡◌, ℕ, ◌+◌, List, sum_by, Option, Some, None}
 use Rattle.bolt_format.specs.{Elements.LeafElement, Pages.page_at, declared.meta.Meta.Meta}
-use Rattle.bolt_check.specs.{CheckedFiles.bytes_of, CheckedFiles.meta_of, Nodes.node_at, Tours.IsTour}
-use Rattle.bolt_check.specs.Ways.{At_inline, At_page, Reach, Spot, reached}
+use Rattle.bolt_check.specs.{CheckedFiles.bytes_of, CheckedFiles.meta_of, Nodes.node_at, Tours.IsTour, Ways.At_inline, Ways.At_page, Ways.Reach, Ways.Spot, Ways.reached, Counts.saturated}
 use Rattle.bolt_tree.specs.{Buckets.bucket_checked, Buckets.bucket_start, declared.bucket.Bucket.Bucket, Entries.Inline_page, Entries.Root_page, Entries.Start}
-use Rattle.bolt_stats.specs.{Depths.IsDepth, Figures.Figure, Figures.bucket_figure, Figures.figure, Figures.inline_figure, Figures.page_figure}
-use Rattle.bolt_check.specs.Counts.{saturated}
-use Rattle.bolt_stats.specs.declared.figures.Stats.{Stats}
+use Rattle.bolt_stats.specs.{Depths.IsDepth, Figures.Figure, Figures.bucket_figure, Figures.figure, Figures.inline_figure, Figures.page_figure, declared.figures.Stats.Stats}
 
 -- the figures of where a way leads; an inline bucket's are those of the page that holds it
 abbrev pub spot_figure : List ℕ → Meta → Figure → Option Spot → ℕ

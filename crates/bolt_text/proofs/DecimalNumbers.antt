@@ -1,14 +1,9 @@
 -- What `parse` makes of a word that is to be a number.
 use Rattle.std.proofs.Common.{◌≡◌, ◌<◌, ◌^◌, ◌&&◌, ◌==◌, ℕ, [], ◌∷◌, Option, Some, None, Result, Ok, Err, true, false, length, get_or, inl, inr, refl, sym, ap, rules, arith, subst}
-use Rattle.std.proofs.lemmas.Str.{IsUtf8-from_ascii}
-use Rattle.std.proofs.lemmas.Fmt.{decimal_nonempty, digits_value-decimal}
-use Rattle.std.proofs.lemmas.Bool.{false_from_ne_true, ltb-true}
+use Rattle.std.proofs.{lemmas.Str.IsUtf8-from_ascii, lemmas.Fmt.decimal_nonempty, lemmas.Fmt.digits_value-decimal, lemmas.Bool.false_from_ne_true, lemmas.Bool.ltb-true}
 use Rattle.std.proofs.lemmas.Str.Parse.{IsNumeralModel, numerals_by_weight, parse_plain}
 use Rattle.std.specs.Prelude.{IsUtf8, ◌≢◌, option_copied, slice_get, zero, suc, MatchResult, nat_lt}
-use Rattle.std.specs.Borrow.{Bor}
-use Rattle.std.specs.Option.{option_eq}
-use Rattle.std.specs.Str.{IsAscii}
-use Rattle.std.specs.Str.Parse.{ParsesUnsigned}
+use Rattle.std.specs.{Borrow.Bor, Option.option_eq, Str.IsAscii, Str.Parse.ParsesUnsigned}
 use Rattle.bolt_text.proofs.Vocabulary.{all_ascii_digits, and_parts, cases_Bool, decimal, digits_decimal, is_ascii_digit, nat_tests, number_in, result_ok, Text}
 use Rattle.bolt_text.specs.Numbers.{decimal_value, is_number}
 

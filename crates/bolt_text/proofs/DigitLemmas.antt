@@ -1,7 +1,6 @@
 -- Pairs of digits, good ones and others.
 use Rattle.std.proofs.Common.{◌≡◌, ◌+◌, ◌*◌, ◌<◌, ℕ, Bool, ◌&&◌, true, false, List, Some, None, Result, Ok, Err, MatchResult, length, refl, sym, arith, take, drop, slice_index, slice_set}
-use Rattle.std.specs.Bool.{OnTrue, MatchBool}
-use Rattle.std.specs.Char.{is_ascii_hexdigit}
+use Rattle.std.specs.{Bool.OnTrue, Bool.MatchBool, Char.is_ascii_hexdigit}
 use Rattle.bolt_text.proofs.Vocabulary.{decode_pairs, digit_or_error, FromHexError, hex_digit_value, nat_tests, pair_value, value_at, ◌>>=◌}
 use Rattle.hex.specs.Hex.{decode_sized}
 use Rattle.hex.proofs.Pairs.{decode_done, decode_err, decode_sized-pairs, decode_step, prepend}

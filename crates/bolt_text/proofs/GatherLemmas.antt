@@ -3,7 +3,7 @@ use Rattle.std.proofs.Common.{◌≡◌, ◌∙◌, ◌+◌, ℕ, suc, List, [],
 use Rattle.bolt_text.proofs.Vocabulary.{broken, ending, flat_map-take_more, Gathers, Ghosts, IsErr, later_parts, part_text, path_of, path_text, separator, SinkFault, whole, Wrote, Wrote-return, Wrote-same, Wrote-then}
 use Rattle.bolt_format.specs.Endings.{Ending, cut, halted}
 use Rattle.bolt_text.specs.{Gathers.left_gathered, declared.path_pieces.PathForm.PathForm}
-use Rattle.bolt_format.proofs.{ListLemmas.flat_map-cut_at, WroteLemmas.broken_by}
+use Rattle.bolt_format.proofs.Exports.{flat_map-cut_at, broken_by}
 
 none_gathered : (end : Ending) {gathers : List ℕ} → gathers ≡ [] → left_gathered end gathers ≡ []
 none_gathered whole none = none

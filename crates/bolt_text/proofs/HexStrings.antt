@@ -1,8 +1,6 @@
 -- Hexadecimal digits, written part by part, and as JSON strings, which need no escapes.
 use Rattle.std.proofs.Common.{◌≡◌, ◌∙◌, ℕ, ◌+◌, ◌-◌, ◌*◌, ◌/◌, ◌%◌, ◌<◌, List, [], ◌∷◌, ◌++◌, length, map, get_or, take, drop, bit_and, w16, ap, refl, sym, take-append-drop, suc, Bool, true, false, ◌&&◌, ◌==◌, not, nat_le, arith, append_assoc, codes}
-use Rattle.std.proofs.lemmas.List.{take_rest}
-use Rattle.std.proofs.lemmas.List.FromFn.{get_or-map-range_with_len}
-use Rattle.std.proofs.lemmas.Bool.{eqb-false, leb-true, not-true}
+use Rattle.std.proofs.{lemmas.List.take_rest, lemmas.List.FromFn.get_or-map-range_with_len, lemmas.Bool.eqb-false, lemmas.Bool.leb-true, lemmas.Bool.not-true}
 use Rattle.bolt_text.proofs.Vocabulary.{AllPass-from_list_all, and_parts, decimal, digits_json, encode_lower, end_json, escape_byte, IsBytes, items_tokens, json_line, line, list_all, lower_digits, parts_json, Path, path_text, print_from, range_with_len, Token, Value}
 use Rattle.std.specs.Prelude.{slice_index}
 use Rattle.std.specs.Int.{to_le_bytes}

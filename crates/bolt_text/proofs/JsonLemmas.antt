@@ -1,10 +1,8 @@
 -- JSON lines are read back.
 use Rattle.std.proofs.Common.{◌≡◌, ◌∙◌, ℕ, ◌<◌, ◌≤◌, ◌^◌, List, [], ◌∷◌, Option, Some, arith, ap, codes, option_and_then, option_map, refl}
-use Rattle.std.proofs.lemmas.Bool.{cond_both}
-use Rattle.std.proofs.lemmas.Fmt.{decimal_is_IsNumeral}
+use Rattle.std.proofs.{lemmas.Bool.cond_both, lemmas.Fmt.decimal_is_IsNumeral}
 use Rattle.bolt_text.proofs.Vocabulary.{decimal, digits_json, encode_lower, end_json, is_utf8, IsBytes, item_json, json_text, Member, parts_json, Path, Value}
-use Rattle.std.specs.Result.{result_ok}
-use Rattle.std.specs.Str.Parse.{digits_value}
+use Rattle.std.specs.{Result.result_ok, Str.Parse.digits_value}
 use Rattle.hex.proofs.HexLemmas.{decode_of-encode_lower}
 use Rattle.json.proofs.{Printed.Decimals.IsNumber-decimal, Printed.Trees.document-print}
 use Rattle.json.specs.Json.{Items, Json, array, document, member, no_members, object, string}

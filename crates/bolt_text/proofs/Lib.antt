@@ -1,15 +1,16 @@
-pub mod CutLemmas
-pub mod DecimalNumbers
+mod CutLemmas
+mod DecimalNumbers
 mod DigitLemmas
+pub mod Exports
 mod GatherLemmas
 mod HexNumbers
-pub mod HexStrings
-pub mod JsonLemmas
-pub mod LineLemmas
+mod HexStrings
+mod JsonLemmas
+mod LineLemmas
 mod MixedParts
-pub mod PartTests
-pub mod ReportLemmas
-pub mod ShortTexts
+mod PartTests
+mod ReportLemmas
+mod ShortTexts
 mod TokenLemmas
 mod Vocabulary
 mod WordLemmas

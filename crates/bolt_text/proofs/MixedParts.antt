@@ -1,13 +1,12 @@
 -- What is printed of an item in the form `mixed` is a word, which is read back as a part.
 use Rattle.std.proofs.Common.{◌≡◌, ◌∙◌, ◌++◌, ◌&&◌, ◌==◌, List, ℕ, Bool, true, false, Result, Some, ap, codes, drop, nat_le, not, refl, sym, take}
 use Rattle.bolt_text.proofs.Vocabulary.{FromHexError, and_parts, bytes_eq, bytes_eq-Decides, encode_lower, hex_bytes_in, if◌then◌else◌, result_ok}
+use Rattle.bolt_text.proofs.HexStrings.{digits_pass}
 use Rattle.std.proofs.lemmas.Bool.{false_from_ne_true, not-true}
 use Rattle.std.specs.Cmp.Lexicographic.{pointwise}
 use Rattle.hex.proofs.HexLemmas.{decode_of-encode_lower}
 use Rattle.hex.specs.Hex.{IsBytes}
-use Rattle.bolt_text.specs.PartWords.{mixed_in}
-use Rattle.bolt_text.specs.Forms.{is_marked, is_printable, mixed_text}
-use Rattle.bolt_text.proofs.HexStrings.{digits_pass}
+use Rattle.bolt_text.specs.{PartWords.mixed_in, Forms.is_marked, Forms.is_printable, Forms.mixed_text}
 
 -- without the mark it is read as text
 unmarked : (bytes : List ℕ) → is_marked bytes ≡ false → bytes_eq (take 2 bytes) (codes "0x") ≡ false

@@ -3,7 +3,7 @@ use Rattle.std.proofs.Common.{◌≡◌, ◌∙◌, ◌<◌, List, ℕ, ◌++◌
 use Rattle.std.proofs.lemmas.Option.{slice_get-map}
 use Rattle.std.specs.Result.{IsErrAnd}
 use Rattle.bolt_text.proofs.Vocabulary.{broken, ending, Ghosts, IsErr, length-map, ReportFault, SinkFault, slice_get-get_or, whole, Wrote, Wrote-element, Wrote-element_return, Wrote-elements, Wrote-return, Wrote-then, WroteFront}
-use Rattle.bolt_format.proofs.{WroteFronts.front_stop, WroteLemmas.Wrote-ends, WroteLemmas.Wrote-halt, WroteLemmas.Wrote-stop, WroteLemmas.Wrote-stop_halted}
+use Rattle.bolt_format.proofs.Exports.{front_stop, Wrote-ends, Wrote-halt, Wrote-stop, Wrote-stop_halted}
 use Rattle.bolt_text.specs.ReportEndings.{fault_ending, report_ending}
 use Rattle.bolt_text.specs.declared.report_fault.ReportFault.TheVariants as fault
 

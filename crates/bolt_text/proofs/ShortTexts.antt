@@ -5,7 +5,7 @@ use Rattle.std.specs.Result.{IsErrAnd}
 use Rattle.std.proofs.KnownBytes.{Appends-nil}
 use Rattle.bolt_text.proofs.Vocabulary.{Ghosts, ReportFault, Wrote, WroteFront, broken, cases_Bool, is_utf8, item_json, json_text, print_from, whole}
 use Rattle.bolt_text.proofs.ReportLemmas.{ends_by}
-use Rattle.bolt_format.proofs.SinkLemmas.{AppendsProperPrefix-first, AppendsProperPrefix-second}
+use Rattle.bolt_format.proofs.Exports.{AppendsProperPrefix-first, AppendsProperPrefix-second}
 use Rattle.bolt_format.specs.Endings.{Ending}
 use Rattle.bolt_text.specs.ReportEndings.{HaltsShort, fault_ending, report_ending}
 use Rattle.bolt_text.specs.declared.report_fault.ReportFault.TheVariants as fault

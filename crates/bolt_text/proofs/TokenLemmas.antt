@@ -1,9 +1,6 @@
 -- JSON tokens, written one after another, of bytes that are UTF-8 or not.
 use Rattle.std.proofs.Common.{◌≡◌, ℕ, List, Bool, true, false, Result, Ok, Err, nat_lt, refl, ◌∙◌, ◌+◌, Bor, [], ◌∷◌, ◌++◌, Some, add-one, ap, append_assoc, codes, flat_map, slice_get, sym, take}
-use Rattle.std.proofs.lemmas.Bool.{ltb-true}
-use Rattle.std.proofs.lemmas.List.Elements.{All-weaker}
-use Rattle.std.proofs.lemmas.Str.{IsUtf8-from_ascii, IsUtf8-from_is_utf8}
-use Rattle.std.proofs.lemmas.Str.Ascii.{IsAscii-from_all}
+use Rattle.std.proofs.{lemmas.Bool.ltb-true, lemmas.List.Elements.All-weaker, lemmas.Str.IsUtf8-from_ascii, lemmas.Str.IsUtf8-from_is_utf8, lemmas.Str.Ascii.IsAscii-from_all}
 use Rattle.std.specs.Prelude.{IsOk, MatchResult}
 use Rattle.std.specs.Str.{IsAscii, IsUtf8}
 use Rattle.bolt_text.proofs.Vocabulary.{AllPass-from_list_all, encode_lower, end_object, flat_map-take_more, is_utf8, is_utf8-from_IsUtf8, item_json, items_tokens, json_tokens, lower_digits, parts_json, path_of, Token}

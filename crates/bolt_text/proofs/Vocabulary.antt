@@ -1,7 +1,5 @@
 -- The words that the proofs of this crate cite, passed on from the modules that define them.
-pub use Rattle.bolt_format.proofs.ListLemmas.{flat_map-take_more}
-pub use Rattle.bolt_format.proofs.WroteFronts.{WroteFront, front_more, front_whole}
-pub use Rattle.bolt_format.proofs.WroteLemmas.{Wrote-element, Wrote-element_return, Wrote-elements, Wrote-return, Wrote-same, Wrote-then}
+pub use Rattle.bolt_format.proofs.Exports.{flat_map-take_more, WroteFront, front_more, front_whole, Wrote-element, Wrote-element_return, Wrote-elements, Wrote-return, Wrote-same, Wrote-then}
 pub use Rattle.bolt_format.specs.Endings.{broken, ending, whole}
 pub use Rattle.bolt_format.specs.Wrote.{Wrote}
 pub use Rattle.bolt_format.specs.declared.sink.Sink.{Ghosts}

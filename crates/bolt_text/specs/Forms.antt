@@ -1,8 +1,6 @@
 -- The forms of a key or a value: docs/COMMANDS.md, "What is printed".
 use Rattle.std.specs.Prelude.{ℕ, Bool, true, false, ◌&&◌, ◌==◌, ◌++◌, nat_le, not, List, codes, if◌then◌else◌}
-use Rattle.std.specs.Char.{is_control}
-use Rattle.std.specs.List.{list_all, starts_with}
-use Rattle.std.specs.Str.{chars, is_utf8}
+use Rattle.std.specs.{Char.is_control, List.list_all, List.starts_with, Str.chars, Str.is_utf8}
 use Rattle.hex.specs.Hex.{encode_lower}
 use Rattle.json.specs.{Json.Json, Json.member, Json.no_members, Json.object, Json.string, Print.print, Tree.json_tokens}
 use Rattle.bolt_text.specs.Lines.{line}

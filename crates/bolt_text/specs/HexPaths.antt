@@ -1,7 +1,6 @@
 -- Words in hexadecimal, two digits of either case for each byte: docs/COMMANDS.md, "Words".
 use Rattle.std.specs.Prelude.{◌==◌, ℕ, List, [], ◌∷◌, Option, Some, None, length, option_and_then, option_map, if◌then◌else◌}
-use Rattle.std.specs.List.{slice_split}
-use Rattle.std.specs.Result.{result_ok}
+use Rattle.std.specs.{List.slice_split, Result.result_ok}
 use Rattle.hex.specs.Hex.{decode_of}
 use Rattle.bolt_check.specs.Keys.{Key}
 use Rattle.bolt_tree.specs.Paths.{Path}

@@ -1,8 +1,6 @@
 -- What a reader of a JSON line finds in it: docs/COMMANDS.md, "What is printed".
 use Rattle.std.specs.Prelude.{ℕ, ◌<◌, ◌^◌, List, [], ◌∷◌, Option, Some, None, ⊤, codes, option_and_then, option_map, if◌then◌else◌}
-use Rattle.std.specs.Result.{result_ok}
-use Rattle.std.specs.Str.{bytes_eq}
-use Rattle.std.specs.Str.Parse.{digits_value}
+use Rattle.std.specs.{Result.result_ok, Str.bytes_eq, Str.Parse.digits_value}
 use Rattle.hex.specs.Hex.{IsBytes, decode_of}
 use Rattle.json.specs.Json.{Items, Json, Members, array, item, member, no_items, no_members, number, object, string}
 use Rattle.bolt_tree.specs.{Entries.Bucket, Entries.Item, Entries.Value, Listing.Member, Paths.Path}

@@ -1,7 +1,6 @@
 -- The member that a line tells, and the listing that a text tells: docs/LISTING.md, "A listing as text".
 use Rattle.std.specs.Prelude.{◌==◌, List, [], ◌∷◌, Option, None, codes, option_and_then, option_map, if◌then◌else◌}
-use Rattle.std.specs.List.{filter_map, slice_split}
-use Rattle.std.specs.Str.{bytes_eq}
+use Rattle.std.specs.{List.filter_map, List.slice_split, Str.bytes_eq}
 use Rattle.bolt_tree.specs.{Entries.Bucket, Entries.Item, Entries.Value, Listing.Member}
 use Rattle.bolt_text.specs.{HexPaths.hex_bytes_in, HexPaths.hex_path_in, Lines.Text, Lines.lines_of, Numbers.number_in}
 

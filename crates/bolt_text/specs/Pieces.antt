@@ -1,8 +1,6 @@
 -- The text of pieces.
 use Rattle.std.specs.Prelude.{ℕ, List, ◌∷◌, ◌++◌, decimal, false, flat_map, map}
-use Rattle.std.specs.Fmt.{digits}
-use Rattle.std.specs.List.{join_with_byte}
-use Rattle.std.specs.Borrow.{Bor}
+use Rattle.std.specs.{Fmt.digits, List.join_with_byte, Borrow.Bor}
 use Rattle.hex.specs.Hex.{encode_lower}
 use Rattle.json.specs.Print.{quoted}
 use Rattle.bolt_tree.specs.Paths.{Path, path_of}

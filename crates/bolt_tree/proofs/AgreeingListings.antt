@@ -2,11 +2,10 @@
 use Rattle.std.proofs.Common.{arith, ◌≡◌, ◌∙◌, ◌↔◌, ℕ, List, Option, Some, ap₂, sym}
 use Rattle.std.proofs.Math.Path.{fun_ext}
 use Rattle.std.specs.List.{Contains}
-use Rattle.bolt_format.specs.{Elements.LeafElement, Pages.PageView, Pages.page_at}
+use Rattle.bolt_format.specs.{Elements.LeafElement, Pages.PageView, Pages.page_at, declared.meta.Meta.Meta}
 use Rattle.bolt_format.specs.declared.header.Kind.TheVariants as kind
-use Rattle.bolt_format.specs.declared.meta.Meta.{Meta}
 use Rattle.bolt_check.specs.{Nodes.Nodes, Nodes.node_at, Shape.leads}
-use Rattle.bolt_check.proofs.Agreeing.{Agree, same_nodes, same_pages}
+use Rattle.bolt_check.proofs.Exports.{Agree, same_nodes, same_pages}
 use Rattle.bolt_tree.specs.{Entries.IsEntry, Entries.Inline_page, Entries.Root_page, Entries.Start, Listing.IsListing, Listing.Member}
 
 -- the entries of a bucket, by what pages are and show

@@ -1,7 +1,7 @@
 -- Ways from bucket to bucket: an address inside a bucket is a way, and so is a bucket among its entries. So each bucket that a path
 -- names begins at a place where a bucket of the tree does.
 use Rattle.std.proofs.Common.{arith, ◌≡◌, ◌∙◌, Bool, true, false, IsTrue, ℕ, eqb, List, [], ◌∷◌, ◌++◌, map, Option, Some, Result, Ok, slice_get, refl, sym, ap, subst}
-use Rattle.bolt_tree.proofs.Words.{At_page, Contains, Entry, Inline_page, IsEntry, IsOnWay, IsStart, LeafElement, Meta, Names, Node, Nodes, PageSpot, Path, Root_page, ShowsEntry, Spot, Start, bucket_value, flat_inline, follow, follow_append, head_root, inline_elements, leads, leads_follow, leaf_entry, leaf_node, node_at, option_map, root_spot, slice_get-get_or, slice_get-map, start_of, step_at}
+use Rattle.bolt_tree.proofs.Words.{At_page, Contains, Entry, Inline_page, IsEntry, IsOnWay, IsStart, LeafElement, Meta, Names, Node, Nodes, PageSpot, Path, Root_page, ShowsEntry, Spot, Start, bucket_value, flat_inline, follow, follow_append, head_root, inline_elements, leads, leads_follow, leaf_entry, leaf_node_at, node_at, option_map, root_spot, slice_get-get_or, slice_get-map, start_of, step_at}
 
 node_step : (t : PageSpot) (r : Result Node ℕ) (entries : List Entry) (overflow i : ℕ) (e : LeafElement) → r ≡ Ok (record { is_leaf = true; overflow = overflow; entries = entries })
     → slice_get entries i ≡ Some (leaf_entry e) → e.is_bucket ≡ true → eqb (head_root e.value) 0 ≡ false → step_at r t i ≡ Some (At_page (root_spot (head_root e.value)))
@@ -15,7 +15,7 @@ bucket_way file meta s e (address, n, lead, (view, at, k, is)) b page =
     let (t, on, number) = leads_follow nodes s address n lead in
     let i = is.0 in
     let place = slice_get-map leaf_entry view.leaves i ∙ ap (option_map leaf_entry) (slice_get-get_or view.leaves i e is.1 ∙ ap (λ (x : LeafElement). Some x) is.2) in
-    let node = ap nodes number ∙ leaf_node file meta n view at k in
+    let node = ap nodes number ∙ leaf_node_at file meta n view at k in
     let last : follow nodes (Some (At_page t)) (i ∷ []) ≡ Some (At_page (root_spot (head_root e.value))) = node_step t (nodes t.number) (map leaf_entry view.leaves) view.overflow i e node place b page in
     (address, i, follow_append nodes (Some (At_page s)) address (i ∷ []) ∙ (ap (λ (o : Option Spot). follow nodes o (i ∷ [])) on ∙ last))
 

@@ -3,8 +3,7 @@ use Rattle.std.proofs.Common.{arith, ◌≡◌, ◌∙◌, ◌⊎◌, IsTrue, Bo
 use Rattle.bolt_tree.proofs.Words.{AreOpen, Bucket, Checked, Cursor, CursorView, Equal, Greater, HasEntries, IsInPlace, IsInside, IsNamed, Key, Leaf, LeafElement, Less, Lists, Member, Moves, Names, Opens, Ordering, Path, Start, ∥∥₁_elim, beyond, cursor_checked, cursor_place, cursor_start, cursor_view, cursors_of, entries_of, fresh_view, is_end, is_lt, key_cmp, leaf_view, least_from, less_of, open_path, ordering_reverse, path_of, props, rest_from, root_start, seek_move, start_of, waiting_of}
 use Rattle.bolt_tree.proofs.{CursorMoves.by_key, OpenSteps.opens, OpenSteps.path_put}
 use Rattle.bolt_tree.proofs.Entering.{Fresh_at, MovesBy, comes_by, leads_by, leads_in, leads_inside, made, opens_by, placed_in}
-use Rattle.bolt_tree.proofs.{EntryOrder.contains_at, EntryOrder.seek_from, PathOrder.key_exact, PathOrder.key_total}
-use Rattle.bolt_tree.proofs.Seeking.{rest_greater, rest_none, rest_past_value}
+use Rattle.bolt_tree.proofs.{EntryOrder.contains_at, EntryOrder.seek_from, PathOrder.key_exact, PathOrder.key_total, Seeking.rest_greater, Seeking.rest_none, Seeking.rest_past_value}
 use Rattle.bolt_tree.specs.declared.open_buckets.OpenBuckets.{OpenBuckets}
 
 pub neither : (a b : Key) (o : Ordering) → key_cmp a b ≡ o → is_lt (key_cmp a b) ≡ false → is_lt (key_cmp b a) ≡ false → a ≡ b

@@ -1,10 +1,9 @@
 -- Numbers of pages: an address is counted by its place on the tour.
 use Rattle.std.proofs.Common.{◌≡◌, ℕ, suc, ◌+◌, ◌-◌, ◌≤◌, ◌<◌, ◌⊎◌, inl, inr, List, [], ◌∷◌, ◌++◌, Some, length, map, refl, sym, ap, ◌∙◌, subst, arith, append_assoc, append-nil, length-append}
 use Rattle.bolt_tree.proofs.Words.{Before, BucketView, HasCount, HasSoundTrees, Inline_page, IsAddress, IsAfter, IsEntry, IsHome, IsPagesUpTo, IsSeekPage, IsSoundBucket, IsStart, IsUpTo, LeafElement, Meta, Root_page, Start, TourPage, cases_lt, content_at, leads, length-map, lt_strict, node_at, pages_at, tour_pages_in}
-use Rattle.bolt_check.proofs.Lists.{Has, RisesBy, contains_from_has, flat_has, has_from_contains, has_left, has_map, has_right, has_split, map_has, one_list, pairs_from_rises, rises_across, rises_from_pairs, rises_left, rises_map, rises_right, rises_weaker}
-use Rattle.bolt_tree.proofs.SortedLemmas.{entry_visited, home_visited, start_rises, visit_is}
+use Rattle.bolt_tree.proofs.RisingEntries.{entry_visited, home_visited, start_rises, visit_is}
 use Rattle.bolt_tree.proofs.TourLemmas.{IsApart, led_tour, tour_led, visit_of}
-use Rattle.bolt_check.proofs.WayOrder.{before_irreflexive, before_strict, before_trans}
+use Rattle.bolt_check.proofs.Exports.{Has, RisesBy, contains_from_has, flat_has, has_from_contains, has_left, has_map, has_right, has_split, map_has, one_list, pairs_from_rises, rises_across, rises_from_pairs, rises_left, rises_map, rises_right, rises_weaker, before_irreflexive, before_strict, before_trans}
 
 -- A rising list of exactly these addresses.
 pub record IsExactly (Is : List ℕ → Type 0) (n : ℕ) : Type 0 where

@@ -1,9 +1,8 @@
 -- A bucket is entered, in what is known of open buckets: only that it is so.
 use Rattle.std.proofs.Common.{rules, ◌≡◌, ◌∙◌, IsTrue, false, List, [], ◌∷◌, ◌++◌, Option, Some, None, refl, sym, subst}
 use Rattle.bolt_tree.proofs.Words.{AreEntries, AreOpen, Bucket, Checked, CursorView, HasEntries, HasStart, IsInside, LeafElement, Lists, Member, Moves, Names, Path, Start, beyond, bucket_checked, bucket_start, bytes_of, drop_all, entries_of, item_of, meta_of, props, rest_after, rest_from, root_start, start_of, ∥∥₁_elim, ∥∥₁_map, ∥∥₁_prop}
-use Rattle.bolt_tree.proofs.{BucketWays.root_starts, BucketWays.starts_named, CursorMoves.ComesTo, CursorMoves.FirstMove, CursorMoves.by_first}
-use Rattle.bolt_tree.proofs.{EntryOrder.contains_at, Giving.give_first, Giving.give_itself, Giving.give_none, Giving.give_past_value, Named.names_push}
-use Rattle.bolt_tree.proofs.OpenSteps.{open_push}
+use Rattle.bolt_tree.proofs.{BucketWays.root_starts, BucketWays.starts_named, CursorMoves.ComesTo, CursorMoves.FirstMove, CursorMoves.by_first, EntryOrder.contains_at}
+use Rattle.bolt_tree.proofs.{Giving.give_first, Giving.give_itself, Giving.give_none, Giving.give_past_value, Named.names_push, OpenSteps.open_push}
 use Rattle.bolt_tree.specs.Private.OpenBuckets.{StandsOn}
 
 -- a fresh cursor of the bucket that the path names

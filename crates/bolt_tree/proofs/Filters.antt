@@ -1,8 +1,9 @@
--- What a filter keeps of a list: all, nothing, as much as another; and of a rising list first the least that it keeps.
-use Rattle.std.proofs.Common.{◌≡◌, ◌∙◌, ◌⊎◌, ◌<◌, inl, inr, Bool, true, false, List, [], ◌∷◌, length, cond, filter, refl, ap, subst, arith, not}
-use Rattle.std.proofs.lemmas.List.Filters.{length-filter_both}
-use Rattle.bolt_tree.proofs.Words.{Contains, Greater, IsTotalOrder, Less, Ordering, Rises, false_from_ne_true, is_lt, tied_itself}
+-- What a filter keeps of a list: all, nothing, as much as another; and of a rising list first the least that it keeps. For the crates above too.
+use Rattle.std.proofs.Common.{◌≡◌, ◌∙◌, ◌⊎◌, ◌<◌, ◌&&◌, inl, inr, Bool, true, false, List, [], ◌∷◌, length, cond, filter, map, refl, sym, ap, subst, arith, not}
+use Rattle.std.proofs.{Math.Bool.and_comm, lemmas.Bool.cond-false, lemmas.Bool.cond-true, lemmas.List.Filters.length-filter_both}
+use Rattle.bolt_tree.proofs.Words.{All-contains, All-contains_itself, All-filter, Contains, Greater, IsTotalOrder, Less, Ordering, Rises, false_from_ne_true, filter_passes, is_lt, tied_itself}
 use Rattle.bolt_tree.proofs.{Lists.contains_cases, Lists.contains_head, Lists.contains_none, Lists.contains_tail, PathOrder.flip_less}
+use Rattle.bolt_check.proofs.Exports.{lt_of, not_lt_of}
 
 pub filter_same : {A : Type 0} (f g : A → Bool) (xs : List A) → ((x : A) → Contains xs x → f x ≡ g x) → filter f xs ≡ filter g xs
 filter_same f g [] same = refl
@@ -18,12 +19,6 @@ filter_none f (x ∷ xs) none = rw (none x (contains_head x xs)) (filter_none f 
 pub filter_all : {A : Type 0} (f : A → Bool) (xs : List A) → ((x : A) → Contains xs x → f x ≡ true) → filter f xs ≡ xs
 filter_all f [] all = refl
 filter_all f (x ∷ xs) all = rw (all x (contains_head x xs)) (ap (λ ys. x ∷ ys) (filter_all f xs (λ y h. all y (contains_tail x y xs h))))
-
-pub lt_of : (o : Ordering) → o ≡ Less → is_lt o ≡ true
-lt_of o e = rw e refl
-
-pub not_lt_of : (o : Ordering) → o ≡ Greater → is_lt o ≡ false
-not_lt_of o e = rw e refl
 
 -- Of what a test keeps, m is the first: it is a member, what stands behind it is kept too, and nothing before it.
 module _ {A : Type 0} {cmp : A → A → Ordering} (o : IsTotalOrder cmp) (f : A → Bool) (m : A)
@@ -58,3 +53,51 @@ kept p (x ∷ xs) y h e = elim (contains_cases x y xs h) [
 
 pub filter_less : {A : Type 0} (p : A → Bool) (xs : List A) (y : A) → Contains xs y → p y ≡ false → length (filter p xs) < length xs
 filter_less p xs y h out = omega (arith, length-filter_both p (λ x. not (p x)) (λ x. refl) xs, (kept (λ x. not (p x)) xs y h (ap not out)).1)
+
+-- what a filter keeps is of the list, passes, and rises as the list does
+pub kept_from : {A : Type 0} (p : A → Bool) (xs : List A) (y : A) → Contains (filter p xs) y → Contains xs y × (p y ≡ true)
+kept_from p xs y has = (
+  All-contains (Contains xs) (filter p xs) y (All-filter p (Contains xs) xs (All-contains_itself xs)) has,
+  All-contains (λ x. p x ≡ true) (filter p xs) y (filter_passes p xs) has,
+)
+
+kept_rises : {A : Type 0} (cmp : A → A → Ordering) (p : A → Bool) (x : A) (xs : List A) (b : Bool) → Rises cmp (x ∷ xs) → Rises cmp (filter p xs)
+    → Rises cmp (cond b (x ∷ filter p xs) (filter p xs))
+kept_rises cmp p x xs true rises later = (λ y has. rises.0 y (kept_from p xs y has).0, later)
+kept_rises cmp p x xs false rises later = later
+
+pub filter_rises : {A : Type 0} (cmp : A → A → Ordering) (p : A → Bool) (xs : List A) → Rises cmp xs → Rises cmp (filter p xs)
+filter_rises cmp p [] rises = tt
+filter_rises cmp p (x ∷ xs) rises = kept_rises cmp p x xs (p x) rises (filter_rises cmp p xs rises.1)
+
+-- two filters, either way round
+cond_both : {A : Type 0} (a b : Bool) (x : A) (p : A → Bool) (xs : List A) → p x ≡ a → filter p (cond b (x ∷ xs) xs) ≡ cond (a && b) (x ∷ filter p xs) (filter p xs)
+cond_both true true x p xs e = cond-true (p x) _ _ e
+cond_both false true x p xs e = cond-false (p x) _ _ e
+cond_both true false x p xs e = refl
+cond_both false false x p xs e = refl
+
+pub filter_both : {A : Type 0} (p q : A → Bool) (xs : List A) → filter p (filter q xs) ≡ filter (λ x. p x && q x) xs
+filter_both p q [] = refl
+filter_both p q (x ∷ xs) = cond_both (p x) (q x) x p (filter q xs) refl ∙ ap (λ ys. cond (p x && q x) (x ∷ ys) ys) (filter_both p q xs)
+
+pub filters_swap : {A : Type 0} (p q : A → Bool) (xs : List A) → filter p (filter q xs) ≡ filter q (filter p xs)
+filters_swap p q xs = filter_both p q xs ∙ filter_same _ _ xs (λ x has. and_comm (p x) (q x)) ∙ sym (filter_both q p xs)
+
+-- what is kept by what its elements show
+mapped_step : {A B : Type 0} (f : A → B) (p : B → Bool) (x : A) (xs : List A) (b : Bool) → map f (filter (λ y. p (f y)) xs) ≡ filter p (map f xs)
+    → map f (cond b (x ∷ filter (λ y. p (f y)) xs) (filter (λ y. p (f y)) xs)) ≡ cond b (f x ∷ filter p (map f xs)) (filter p (map f xs))
+mapped_step f p x xs true later = ap (λ ys. f x ∷ ys) later
+mapped_step f p x xs false later = later
+
+pub filter_mapped : {A B : Type 0} (f : A → B) (p : B → Bool) (xs : List A) → map f (filter (λ y. p (f y)) xs) ≡ filter p (map f xs)
+filter_mapped f p [] = refl
+filter_mapped f p (x ∷ xs) = mapped_step f p x xs (p (f x)) (filter_mapped f p xs)
+
+-- the first of a list, if it is kept
+module _ {A : Type 0} (p : A → Bool) (old new : List A) (x : A) (first : old ≡ x ∷ new) where
+  pub keeps : p x ≡ true → filter p old ≡ x ∷ filter p new
+  keeps passes = ap (filter p) first ∙ cond-true (p x) (x ∷ filter p new) (filter p new) passes
+
+  pub drops : p x ≡ false → filter p old ≡ filter p new
+  drops fails = ap (filter p) first ∙ cond-false (p x) (x ∷ filter p new) (filter p new) fails

@@ -2,11 +2,11 @@
 -- Rests on the order of paths, and on what a named bucket holds (Named).
 use Rattle.std.proofs.Common.{arith, ◌≡◌, ◌∙◌, ◌⊎◌, ◌≤◌, inl, inr, Bool, true, false, not, ℕ, suc, List, [], ◌∷◌, ◌++◌, length, filter, Some, slice_get, refl, sym, ap, subst, append-nil}
 use Rattle.bolt_tree.proofs.Words.{AreEntries, Equal, HasEntries, Holds, Item, Key, LeafElement, Less, Lists, Member, Names, Ordering, Path, Start, append_cancel_left, beyond, both_ways, false_from_ne_true, is_beyond, is_lt, item_of, key_cmp, less_of, ordering_then, path_cmp, rest_after, rest_from}
-use Rattle.bolt_tree.proofs.EntryOrder.{contains_at, first_least, last_greatest, next_least, next_less}
-use Rattle.bolt_tree.proofs.{Filters.filter_first, Filters.filter_same, Filters.lt_of, Lists.contains_none, Lists.irreflexive}
-use Rattle.bolt_tree.proofs.Named.{first_of_held, held_below, held_down, held_here}
+use Rattle.bolt_tree.proofs.{EntryOrder.contains_at, EntryOrder.first_least, EntryOrder.last_greatest, EntryOrder.next_least, EntryOrder.next_less, Filters.filter_first, Filters.filter_same}
+use Rattle.bolt_tree.proofs.{Lists.contains_none, Lists.irreflexive, Named.first_of_held, Named.held_below, Named.held_down, Named.held_here}
 use Rattle.bolt_tree.proofs.PathOrder.{before_longer, beyond_here, beyond_less, beyond_longer, beyond_or_longer, beyond_push, beyond_up, flip_less, path_same, path_total, same_front}
 use Rattle.bolt_tree.proofs.Single.{member_total}
+use Rattle.bolt_check.proofs.Exports.{lt_of}
 
 -- a path is not rest_after another with a part in the same place that is not rest_after its own
 greater_part : (o r : Ordering) → is_lt o ≡ false → (o ≡ Equal → is_lt r ≡ false) → is_lt (ordering_then o r) ≡ false

@@ -2,7 +2,7 @@
 use Rattle.std.proofs.Common.{◌≡◌, inl, inr, Bool, true, false, List, [], ◌∷◌, ◌++◌, map, refl, subst}
 use Rattle.bolt_tree.proofs.Words.{Contains, EntryView, Less, Member, Path, Rises, Tree, end, listing_below, listing_of, member_cmp, path_cmp, with_bucket, with_value, Contains-append_cases, Contains-append_left, Contains-append_right}
 use Rattle.bolt_tree.proofs.{Lists.contains_cases, Lists.contains_head, Lists.contains_none, Lists.contains_tail, PathOrder.before_longer, PathOrder.same_front}
-use Rattle.bolt_tree.specs.{Entries.Bucket, Entries.Value, InBuckets.entry_in, InBuckets.members_in, InBuckets.view_cmp, Merges.HasBucket, Merges.HasPlace, Merges.HavePlaces}
+use Rattle.bolt_tree.specs.{Entries.Bucket, Entries.Value, InBuckets.entry_in, InBuckets.members_in, InBuckets.view_cmp, Merges.HasBucket, Merges.HasParent, Merges.HaveParents}
 
 pub entry_of : (bucket : Path) (entries : List EntryView) (m : Member) → Contains (map (entry_in bucket) entries) m → (e : EntryView) × Contains entries e × (entry_in bucket e ≡ m)
 entry_of bucket [] m has = absurd (contains_none m has)
@@ -33,24 +33,24 @@ members_rise true bucket entries rise = (
 
 -- ---- their places
 
-entry_place : (listing : List Member) (bucket : Path) (entries : List EntryView) → HasBucket listing bucket → HavePlaces listing (map (entry_in bucket) entries)
-entry_place listing bucket entries has m is = let (e, there, same) = entry_of bucket entries m is in subst (λ (z : Member). HasPlace listing z.0) same (bucket, e.key, refl, has)
+entry_place : (listing : List Member) (bucket : Path) (entries : List EntryView) → HasBucket listing bucket → HaveParents listing (map (entry_in bucket) entries)
+entry_place listing bucket entries has m is = let (e, there, same) = entry_of bucket entries m is in subst (λ (z : Member). HasParent listing z.0) same (bucket, e.key, refl, has)
 
-pub members_placed : (listing : List Member) (is_made : Bool) (bucket : Path) (entries : List EntryView) → HasBucket listing bucket → (is_made ≡ true → HasPlace listing bucket)
-    → HavePlaces listing (members_in is_made bucket entries)
-members_placed listing false bucket entries has place m is = entry_place listing bucket entries has m is
-members_placed listing true bucket entries has place m is = elim (contains_cases (bucket, Bucket 0) m (map (entry_in bucket) entries) is) [
-  | inl same ↦ subst (λ (z : Member). HasPlace listing z.0) same (place refl)
+pub members_have_parents : (listing : List Member) (is_made : Bool) (bucket : Path) (entries : List EntryView) → HasBucket listing bucket → (is_made ≡ true → HasParent listing bucket)
+    → HaveParents listing (members_in is_made bucket entries)
+members_have_parents listing false bucket entries has place m is = entry_place listing bucket entries has m is
+members_have_parents listing true bucket entries has place m is = elim (contains_cases (bucket, Bucket 0) m (map (entry_in bucket) entries) is) [
+  | inl same ↦ subst (λ (z : Member). HasParent listing z.0) same (place refl)
   | inr later ↦ entry_place listing bucket entries has m later
 ]
 
 -- ---- what a tree lists has its places
 
 below_placed : (listing : List Member) (base : Path) (tree : Tree) → ((m : Member) → Contains (listing_below base tree) m → Contains listing m) → HasBucket listing base
-    → HavePlaces listing (listing_below base tree)
+    → HaveParents listing (listing_below base tree)
 below_placed listing base end all has m is = absurd (contains_none m is)
 below_placed listing base (with_value key value after) all has m is = elim (contains_cases (base ++ key ∷ [], Value value) m (listing_below base after) is) [
-  | inl same ↦ subst (λ (z : Member). HasPlace listing z.0) same (base, key, refl, has)
+  | inl same ↦ subst (λ (z : Member). HasParent listing z.0) same (base, key, refl, has)
   | inr later ↦ below_placed listing base after (λ n there. all n (contains_tail (base ++ key ∷ [], Value value) n (listing_below base after) there)) has m later
 ]
 below_placed listing base (with_bucket key sequence inside after) all has m is =
@@ -58,7 +58,7 @@ below_placed listing base (with_bucket key sequence inside after) all has m is =
     let deep : List Member = listing_below (base ++ key ∷ []) inside in
     let behind : List Member = listing_below base after in
     elim (contains_cases here m (deep ++ behind) is) [
-      | inl same ↦ subst (λ (z : Member). HasPlace listing z.0) same (base, key, refl, has)
+      | inl same ↦ subst (λ (z : Member). HasParent listing z.0) same (base, key, refl, has)
       | inr more ↦ elim (Contains-append_cases deep behind m more) [
         | inl inner ↦
             below_placed listing (base ++ key ∷ []) inside (λ n there. all n (contains_tail here n (deep ++ behind) (Contains-append_left deep behind n there)))
@@ -67,5 +67,5 @@ below_placed listing base (with_bucket key sequence inside after) all has m is =
       ]
     ]
 
-pub tree_placed : (tree : Tree) → HavePlaces (listing_of tree) (listing_of tree)
-tree_placed tree = below_placed (listing_of tree) [] tree (λ m has. has) (inl refl)
+pub tree_has_parents : (tree : Tree) → HaveParents (listing_of tree) (listing_of tree)
+tree_has_parents tree = below_placed (listing_of tree) [] tree (λ m has. has) (inl refl)

@@ -2,9 +2,9 @@
 -- Rests on that the entries of a bucket in order exist, and are one.
 use Rattle.std.proofs.Common.{◌≡◌, ◌<◌, ℕ, suc, List, [], ◌∷◌, length, drop, nat_lt, Option, Some, None, refl, ap, subst, arith}
 use Rattle.bolt_tree.proofs.Words.{AreEntries, Bucket, Checked, EntryView, Fresh, LeafElement, On, Past, Place, ShowsMove, Start, bucket_checked, bucket_start, bytes_of, drop_all, drop_at, entries_of, entry_view, meta_of, next_move, option_map, place_in, props, ∥∥₁_elim, ∥∥₁_prop}
+use Rattle.bolt_tree.proofs.{CursorMoves.ComesTo, CursorMoves.by_length, CursorMoves.comes_first, Looking.own_entries, RisingEntries.entries_once}
 use mathlib.Core.HLevel.{Σ_prop_path}
-use Rattle.bolt_tree.specs.{EntriesLeft.ForEntries, EntriesLeft.entries_left, Lookups.IsBucketOf, Lookups.IsBucketOn, Places.entry_at}
-use Rattle.bolt_tree.proofs.{CursorMoves.ComesTo, CursorMoves.by_length, CursorMoves.comes_first, Looking.own_entries, SortedLemmas.sorted_one}
+use Rattle.bolt_tree.specs.{EntriesLeft.ForEntries, EntriesLeft.entries_left, Lookups.IsBucketOf, Lookups.IsBucketOn, Places.entry_at, ShownEntries.shown_entry, declared.entry.Entry.Entry}
 
 -- the entries of a bucket in order, taken out of what is only known to be
 abbrev pub TheEntries : Checked → Start → Type 0
@@ -12,7 +12,7 @@ TheEntries checked start = (entries : List LeafElement) × ∥ AreEntries (entri
 
 pub the_one : (checked : Checked) (start : Start) → IsProp (TheEntries checked start)
 the_one checked start = λ a b.
-    Σ_prop_path (λ l. ∥∥₁_prop) (∥∥₁_elim a.1 (hlevel props) (λ h. ∥∥₁_elim b.1 (hlevel props) (λ k. sorted_one (bytes_of checked) (meta_of checked) start a.0 b.0 h k)))
+    Σ_prop_path (λ l. ∥∥₁_prop) (∥∥₁_elim a.1 (hlevel props) (λ h. ∥∥₁_elim b.1 (hlevel props) (λ k. entries_once (bytes_of checked) (meta_of checked) start a.0 b.0 h k)))
 
 pub the_entries : (bucket : Bucket) → TheEntries (bucket_checked bucket) (bucket_start bucket)
 unfolding bucket_checked bucket_start
@@ -27,7 +27,7 @@ TakesFirst old new (Some e) = old ≡ e ∷ new
 none_left : (place : Place) → entries_left [] place ≡ []
 none_left place = grind arith
 
-takes : (entries : List LeafElement) (n : ℕ) (place : Place) (o : Option LeafElement) → ComesTo entries n place o → TakesFirst (drop n entries) (entries_left entries place) o
+pub takes : (entries : List LeafElement) (n : ℕ) (place : Place) (o : Option LeafElement) → ComesTo entries n place o → TakesFirst (drop n entries) (entries_left entries place) o
 takes entries n place o past = grind (arith, drop_all, drop_at)
 
 pub next_takes : (entries : List LeafElement) (before after : Place) (o : Option LeafElement)
@@ -38,6 +38,9 @@ next_takes (x ∷ entries) Fresh after o moved = takes (x ∷ entries) 0 after o
 next_takes (x ∷ entries) (On i) after o (p, a) = takes (x ∷ entries) (suc i) after o (by_length (x ∷ entries) (suc i) (On i) after o (nat_lt (suc i) (length (x ∷ entries))) refl p a)
 next_takes (x ∷ entries) Past after None (p, a) = refl
 next_takes entries before after o moved = absurd (cc)
+
+pub nothing_shown : (o : Option Entry) → option_map shown_entry o ≡ None → o ≡ None
+nothing_shown o is = grind arith
 
 -- the same of what is answered: what the first of what was left shows
 abbrev pub ShowsFirst : List LeafElement → List LeafElement → Option EntryView → Type 0

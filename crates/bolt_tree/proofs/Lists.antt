@@ -2,7 +2,7 @@
 -- Over any total order.
 use Rattle.std.proofs.Common.{rules, ◌≡◌, ◌⊎◌, suc, List, [], ◌∷◌, refl, arith}
 use Rattle.bolt_tree.proofs.Words.{Contains, IsTotalOrder, Less, Ordering, Rises, tied_itself}
-use Rattle.bolt_check.proofs.Lists.{RisesBy, contains_from_has, has_from_contains, one_list}
+use Rattle.bolt_check.proofs.Exports.{RisesBy, contains_from_has, has_from_contains, one_list}
 
 pub contains_head : {A : Type 0} (x : A) (xs : List A) → Contains (x ∷ xs) x
 contains_head x xs = (0, omega arith, refl)

@@ -1,7 +1,7 @@
 -- What a seek says of a bucket's entry with a key.
 use Rattle.std.proofs.Common.{rules, ◌≡◌, ◌∙◌, true, false, List, Option, Some, None, refl, sym, ap, subst}
 use Rattle.bolt_tree.proofs.Words.{AreEntries, Checked, Cursor, HasStart, Key, LeafElement, Moves, Start, bytes_of, cursor_checked, cursor_place, cursor_start, entries_of, is_lt, key_cmp, least_from, meta_of, props, seek_move, start_of, with_trees, ∥∥₁_elim, ∥∥₁_map, ∥∥₁_prop}
-use Rattle.bolt_tree.proofs.{AllEntries.sorted_at, BucketWays.starts_below, Coming.neither, CursorMoves.comes_from}
+use Rattle.bolt_tree.proofs.{BucketWays.starts_below, Coming.neither, CursorMoves.comes_from, AllEntries.entries_at}
 use Rattle.bolt_tree.proofs.{EntryOrder.contains_at, EntryOrder.seek_from, EntryOrder.seek_least, EntryOrder.seek_none, Named.entry_once, PathOrder.key_same}
 
 not_less_itself : (a b : Key) → a ≡ b → is_lt (key_cmp a b) ≡ false
@@ -11,7 +11,7 @@ not_less_itself a b e = rw e (ap is_lt (key_same b))
 pub own_entries : (checked : Checked) (bucket : Start) → HasStart checked bucket → ∥ ((entries : List LeafElement) × AreEntries (entries_of checked) bucket entries) ∥₁
 own_entries checked bucket begins =
     with_trees checked (∥ ((entries : List LeafElement) × AreEntries (entries_of checked) bucket entries) ∥₁) ∥∥₁_prop
-    (λ trees. ∥∥₁_map begins (λ start. sorted_at (bytes_of checked) (meta_of checked) trees bucket start))
+    (λ trees. ∥∥₁_map begins (λ start. entries_at (bytes_of checked) (meta_of checked) trees bucket start))
 
 module _ (checked : Checked) (bucket : Start) (fresh moved : Cursor) (key : Key) (known : ∥ ((entries : List LeafElement) × AreEntries (entries_of checked) bucket entries) ∥₁)
     (file : cursor_checked fresh ≡ checked) (start : cursor_start fresh ≡ bucket) where

@@ -2,7 +2,7 @@
 use Rattle.std.proofs.Common.{◌≡◌, ◌≢◌, ◌⊎◌, ◌↔◌, inl, inr, Bool, true, false, List, [], ◌∷◌, if◌then◌else◌, refl, ap, subst}
 use Rattle.bolt_tree.proofs.Words.{Contains, Equal, Greater, IsBelow, Less, Member, Ordering, Path, Rises, is_lt, less_of, member_cmp, ordering_reverse}
 use Rattle.bolt_tree.proofs.{Lists.contains_cases, Lists.contains_head, Lists.contains_none, Lists.contains_tail, Single.member_total}
-use Rattle.bolt_tree.specs.Merges.{AreApart, HasBucket, HavePlaces, merge}
+use Rattle.bolt_tree.specs.Merges.{AreApart, HasBucket, HaveParents, merge}
 
 -- ---- what goes on over a first member of either holds of every merge
 
@@ -103,8 +103,8 @@ module _ (xs ys : List Member) where
   merge_bucket path (inl root) = inl root
   merge_bucket path (inr (sequence, has)) = inr (sequence, (merge_members xs ys (path, _)).1 (inl has))
 
-  pub merge_places : HavePlaces xs xs → HavePlaces (merge xs ys) ys → HavePlaces (merge xs ys) (merge xs ys)
-  merge_places of_xs of_ys m has = elim ((merge_members xs ys m).0 has) [
+  pub merge_parents : HaveParents xs xs → HaveParents (merge xs ys) ys → HaveParents (merge xs ys) (merge xs ys)
+  merge_parents of_xs of_ys m has = elim ((merge_members xs ys m).0 has) [
     | inl in_xs ↦ let (above, key, path, bucket) = of_xs m in_xs in (above, key, path, merge_bucket above bucket)
     | inr in_ys ↦ of_ys m in_ys
   ]

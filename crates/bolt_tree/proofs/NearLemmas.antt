@@ -1,11 +1,9 @@
 -- The nearest leaf to a key: the way down to it, step by step, and what lies ahead of the key there.
 use Rattle.std.proofs.Common.{◌≡◌, ℕ, suc, ◌+◌, ◌-◌, ◌≤◌, inl, inr, true, false, List, [], ◌∷◌, ◌++◌, Some, slice_get, length, map, drop, take, refl, sym, ap, ◌∙◌, subst, arith, append_assoc, length-append, append-nil}
-use Rattle.bolt_tree.proofs.Words.{AreBelow, BranchElement, BucketView, Content, Contents, Frame, HasSoundTrees, HasStack, Inline_page, IsBetween, IsLeafTop, IsNear, IsNearFrom, IsNearTo, IsNearTop, IsNearest, IsOnWayDown, IsPlaceOf, IsSought, IsSoundBucket, IsStart, Key, KeysRise, LeafElement, Meta, Of_branch, Of_leaf, Root_page, Start, TourPage, address_on, ahead_of, branch_key, branch_node, cases_lt, content_at, content_at_start, content_keys, content_length, contents_in, elements_in, tour_elements, key_lt, least_from, passed_of, none-some, on_child, opened_content, option_map, tour_pages_in, props, later_of, root_content, slice_get-map, spot_node, tour, ∥∥₁_elim, ∥∥₁_map, ∥∥₁_prop}
-use Rattle.bolt_tree.proofs.{PlaceMoves.drop_front, PlaceMoves.leaf_parts}
-use Rattle.bolt_check.proofs.Lists.{Has, has_right, rises_gets}
-use Rattle.bolt_tree.proofs.{SeekLemmas.are_append, SeekLemmas.drop_get, SeekLemmas.is_above, SeekLemmas.not_above, SeekLemmas.take_get, SortedLemmas.visit_is}
-use Rattle.bolt_tree.proofs.{TourLemmas.IsBelowElement, TourLemmas.filled, WayPages.a_branch, WayPages.a_leaf, WayPages.on_way_page, WayPages.branch_page}
-use Rattle.bolt_tree.proofs.StackLemmas.{retaken}
+use Rattle.bolt_tree.proofs.Words.{AreBelow, BranchElement, BucketView, Content, Contents, Frame, HasSoundTrees, HasStack, Inline_page, IsBetween, IsLeafTop, IsNear, IsNearFrom, IsNearTo, IsNearTop, IsNearest, IsOnWayDown, IsNumberBefore, IsSought, IsSoundBucket, IsStart, Key, KeysRise, LeafElement, Meta, Of_branch, Of_leaf, Root_page, Start, TourPage, address_on, ahead_of, branch_key, branch_node, cases_lt, content_at, content_at_start, content_keys, content_length, contents_in, elements_in, tour_elements, key_lt, least_from, passed_of, none-some, on_child, opened_content, option_map, tour_pages_in, props, later_of, root_content, slice_get-map, spot_node, tour, ∥∥₁_elim, ∥∥₁_map, ∥∥₁_prop}
+use Rattle.bolt_tree.proofs.{PlaceMoves.drop_front, PlaceMoves.leaf_parts, SeekLemmas.are_append, SeekLemmas.drop_get, SeekLemmas.is_above, SeekLemmas.not_above, SeekLemmas.take_get}
+use Rattle.bolt_tree.proofs.{RisingEntries.visit_is, TourLemmas.IsBelowElement, TourLemmas.filled, WayPages.a_branch, WayPages.a_leaf, WayPages.on_way_page, WayPages.branch_page, StackLemmas.retaken}
+use Rattle.bolt_check.proofs.Exports.{Has, has_right, rises_gets}
 use Rattle.bolt_format.specs.{TreePages.leaves_on, declared.tree_page.BranchPage.BranchPage, declared.tree_page.TreePage.TreePage}
 use Rattle.bolt_format.specs.declared.tree_page.TreePage.TheVariants.{Branch, Leaf}
 
@@ -63,14 +61,14 @@ near_down file meta trees (Root_page root) key address bs i e (number, depth, on
     )
 near_down file meta trees (Inline_page elements) key address bs i e near nearest g = absurd (let c : Of_leaf elements ≡ Of_branch bs = near.1 in cc)
 
-nearest_of : (bs : List BranchElement) (key : Key) (n i : ℕ) (e : BranchElement) → IsPlaceOf (content_keys (Of_branch bs)) true key n → i ≡ n - 1 → slice_get bs i ≡ Some e → IsNearest bs key i
+nearest_of : (bs : List BranchElement) (key : Key) (n i : ℕ) (e : BranchElement) → IsNumberBefore (content_keys (Of_branch bs)) true key n → i ≡ n - 1 → slice_get bs i ≡ Some e → IsNearest bs key i
 nearest_of bs key n i e place is g = elim (cases_lt i n) [
   | inl lt ↦ inl (e, g, not_above bs key n i e place lt g, λ j f l h. is_above bs key n j f place (omega arith) h)
   | inr ge ↦ inr (omega arith, λ j f h. is_above bs key n j f place (omega arith) h)
 ]
 
 pub way_down : (bucket : BucketView) (key : Key) (below : List Frame) (bs : List BranchElement) (n i t : ℕ) (e : BranchElement) → HasStack bucket (record { content = Of_branch bs; taken = t } ∷ below)
-    → IsOnWayDown bucket key below (Of_branch bs) → IsPlaceOf (content_keys (Of_branch bs)) true key n → i ≡ n - 1 → slice_get bs i ≡ Some e
+    → IsOnWayDown bucket key below (Of_branch bs) → IsNumberBefore (content_keys (Of_branch bs)) true key n → i ≡ n - 1 → slice_get bs i ≡ Some e
     → IsOnWayDown bucket key (record { content = Of_branch bs; taken = i + 1 } ∷ below) (contents_in bucket e.child)
 way_down bucket key below bs n i t e stack near place is g = ∥∥₁_elim stack ∥∥₁_prop (λ s. ∥∥₁_map near (λ k.
     let back : (i + 1) - 1 ≡ i = omega arith in
@@ -101,7 +99,7 @@ leaf_key_at : (es : List LeafElement) (k : ℕ) (e : LeafElement) → slice_get 
 leaf_key_at es k e g = slice_get-map (λ (x : LeafElement). x.key) es k ∙ ap (option_map (λ (x : LeafElement). x.key)) g
 
 sought_leaf : (contents : Contents) (n : ℕ) (whole : List TourPage) (key : Key) (es : List LeafElement) (t : ℕ) (below : List Frame) → whole ≡ passed_of contents below ++ (tour contents n (address_on below) (Of_leaf es) ++ later_of contents below)
-    → IsPlaceOf (content_keys (Of_leaf es)) false key t → t ≤ length es → IsBetween contents key below → IsSought (tour_elements whole) key (ahead_of contents (record { content = Of_leaf es; taken = t } ∷ below))
+    → IsNumberBefore (content_keys (Of_leaf es)) false key t → t ≤ length es → IsBetween contents key below → IsSought (tour_elements whole) key (ahead_of contents (record { content = Of_leaf es; taken = t } ∷ below))
 sought_leaf contents n whole key es t below placed place most between =
     let left = tour_elements (passed_of contents below) in
     let right = tour_elements (later_of contents below) in
@@ -113,7 +111,7 @@ sought_leaf contents n whole key es t below placed place most between =
     grind (arith, least_is, length-append, drop_front)
 
 pub sought : (bucket : BucketView) (key : Key) (es : List LeafElement) (t u : ℕ) (below : List Frame) → HasStack bucket (record { content = Of_leaf es; taken = u } ∷ below)
-    → IsPlaceOf (content_keys (Of_leaf es)) false key t → t ≤ length es → IsBetween (contents_in bucket) key below
+    → IsNumberBefore (content_keys (Of_leaf es)) false key t → t ≤ length es → IsBetween (contents_in bucket) key below
     → IsSought (elements_in bucket) key (ahead_of (contents_in bucket) (record { content = Of_leaf es; taken = t } ∷ below))
 sought bucket key es t u below stack place most between = ∥∥₁_elim stack (Prim.hlevel props) (λ s.
     sought_leaf (contents_in bucket) (63 - length below) (tour_pages_in bucket) key es t below s.1.0.placed place most between)
@@ -148,7 +146,7 @@ pub record IsLanded (bucket : BucketView) (key : Key) (frames : List Frame) : Ty
 
 pub landed : (bucket : BucketView) (key : Key) (content : Content) (es : List LeafElement) (t : ℕ) (frames below : List Frame) → content ≡ Of_leaf es → frames ≡ record { content = content; taken = t } ∷ below
     → HasStack bucket (record { content = content; taken = 0 } ∷ below)
-    → IsPlaceOf (content_keys content) false key t → t ≤ content_length content → t ≤ 65536 → IsBetween (contents_in bucket) key below → IsOnWayDown bucket key below content
+    → IsNumberBefore (content_keys content) false key t → t ≤ content_length content → t ≤ 65536 → IsBetween (contents_in bucket) key below → IsOnWayDown bucket key below content
     → IsLanded bucket key frames
 landed bucket key content es t frames below e f stack place most fits between way = rw (f, e) (record {
   stack = retaken bucket (Of_leaf es) 0 t below (rw e at stack) (let m = rw e at most in omega (arith, m)) fits;

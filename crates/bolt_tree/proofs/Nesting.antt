@@ -4,8 +4,8 @@ use Rattle.std.proofs.Common.{◌≡◌, ◌∙◌, ◌≤◌, ◌<◌, Bool, tr
 use Rattle.std.proofs.lemmas.List.FromFn.{get_or-range_with_len, length-range_with_len}
 use Rattle.bolt_tree.proofs.Words.{At_page, Contains, HasSoundTrees, Inline_page, IsEntry, IsStart, IsTreeOf, LeafElement, Meta, PageSpot, Root_page, Shows, ShowsEntry, Spot, Start, Tree, file_entries, file_tree, follow, follow_append, head_root, head_sequence, if◌then◌else◌, inline_elements, node_at, one_way, range_with_len, reached, root_spot, start_of, tree_with, tree_within, with_bucket, with_value}
 use Rattle.bolt_tree.proofs.Lists.{contains_head, contains_tail}
-use Rattle.bolt_tree.proofs.BucketWays.{at_root, bucket_way, flat, in_itself, root_starts, starts_named}
-use Rattle.bolt_tree.proofs.{SortedLemmas.sorted, Filters.filter_less, Filters.kept}
+use Rattle.bolt_tree.proofs.{BucketWays.at_root, BucketWays.bucket_way, BucketWays.flat, BucketWays.in_itself, BucketWays.root_starts, BucketWays.starts_named, Filters.filter_less, Filters.kept}
+use Rattle.bolt_tree.proofs.RisingEntries.{tour_entries}
 
 -- Numbers without one of them.
 abbrev without : ℕ → List ℕ → List ℕ
@@ -50,7 +50,7 @@ module _ (file : List ℕ) (meta : Meta) (trees : HasSoundTrees file meta) where
       → IsTreeOf Own (Inline_page (inline_elements e.value)) (tree (suc k) (Inline_page (inline_elements e.value)))
   flat_tree k n e shows b root start =
       let bucket : Start = Inline_page (inline_elements e.value) in
-      let are = sorted file meta trees bucket start in
+      let are = tour_entries file meta trees bucket start in
       (file_entries file meta bucket, are, list_shows Own (tree k) (file_entries file meta bucket) (λ f h fb. absurd (let none = flat file meta n e f shows b root ((are.exact f).0 h) in cc)))
 
   -- the tree of a bucket below which only so many pages lie
@@ -62,7 +62,7 @@ module _ (file : List ℕ) (meta : Meta) (trees : HasSoundTrees file meta) where
       let (k, below, is) = all_in [] s refl in absurd (omega arith)
   tree_from (suc n) pages few w s at start all_in =
       let entries = file_entries file meta (Root_page s.number) in
-      let are = sorted file meta trees (Root_page s.number) start in
+      let are = tour_entries file meta trees (Root_page s.number) start in
       let fewer : length (without s.number pages) < length pages = filter_less (λ m. not (eqb m s.number)) pages s.number (all_in [] s refl) (same_number s.number) in
       let inside : (e : LeafElement) → Contains entries e → e.is_bucket ≡ true → IsTreeOf Own (start_of e.value) (tree (suc n) (start_of e.value)) = λ e h b.
       let is = (are.exact e).0 h in

@@ -2,7 +2,7 @@
 use Rattle.std.proofs.Common.{false, ◌≡◌, ℕ, suc, ◌+◌, ◌-◌, ◌≤◌, List, [], ◌∷◌, ◌++◌, Some, None, Option, slice_get, length, refl, ap, ◌∙◌, subst, arith, ◌*◌, sym, length-append}
 use Rattle.bolt_tree.proofs.Words.{BucketView, Content, Contents, Finds, Frame, HasCount, HasStack, IsAtRest, IsLeafContent, IsLeafTop, IsNear, IsNearTop, IsPagesUpTo, IsSeekPage, IsSought, IsSoundBucket, IsStack, Key, Leaf, LeafElement, Of_branch, Of_leaf, OpensByNext, OpensGap, OpensSeek, RestsOn, SeeksInBounds, LeafStandsOn, address_on, ahead_of, contents_in, counted, elements_in, index_of, leaf_view, least_from, passed_of, opened_to, option_map, tour_pages_in, place_on, props, later_of, slice_get_past, top_address, tour, ∥∥₁_elim}
 use Rattle.bolt_tree.proofs.CountLemmas.{Cut, IsAt, all_exact, cut_size, exact_is, upto_is, after_exact, seek_exact}
-use Rattle.bolt_check.proofs.Lists.{at_has, get_exists}
+use Rattle.bolt_check.proofs.Exports.{at_has, get_exists}
 use Rattle.bolt_tree.proofs.PlaceMoves.{on_rests, split, ahead_number, current, the_entries, get_next}
 use Rattle.bolt_tree.proofs.{NearestLeaf.one_near, StackLemmas.stack_short}
 

@@ -2,7 +2,7 @@
 -- come before the other.
 use Rattle.std.proofs.Common.{arith, ◌≡◌, ◌∙◌, inl, inr, Bool, true, false, not, List, [], ◌∷◌, ◌++◌, length, drop, cond, filter, refl, sym, ap, append-nil}
 use Rattle.bolt_tree.proofs.Words.{All-contains, All-contains_itself, All-filter, Contains, Equal, Greater, Item, Less, Member, Ordering, Path, Rises, bytes_eq-Decides, false_from_ne_true, filter_passes, is_beyond, is_lt, less_of, member_cmp, not-true, ordering_reverse, path_cmp, rest_from, starts_is, take_while, take_while-cons}
-use Rattle.bolt_tree.proofs.{Filters.filter_all, Filters.filter_first, Filters.filter_none, Single.member_total}
+use Rattle.bolt_tree.proofs.{Filters.filter_all, Filters.filter_first, Filters.filter_none, Filters.filter_rises, Filters.filters_swap, Filters.kept_from, Single.member_total}
 use Rattle.bolt_tree.proofs.Lists.{contains_head, contains_tail, irreflexive}
 use Rattle.bolt_tree.proofs.PathOrder.{before_longer, beyond_less, beyond_or_longer, beyond_up, flip_less, path_exact, path_same, path_total}
 use Rattle.bolt_tree.specs.ListingParts.{begins_with, later_path, part_below}
@@ -51,31 +51,6 @@ beyond_by below path Greater e after apart =
 pub after_or_beyond : (below path : Path) → is_lt (path_cmp path below) ≡ false → begins_with below path ≡ false → is_beyond below path ≡ true
 after_or_beyond below path = beyond_by below path (path_cmp below path) refl
 
--- what a filter keeps is of the list, passes, and rises as the list does
-pub filtered : {A : Type 0} (f : A → Bool) (xs : List A) (y : A) → Contains (filter f xs) y → Contains xs y × (f y ≡ true)
-filtered f xs y h = (
-  All-contains (Contains xs) (filter f xs) y (All-filter f (Contains xs) xs (All-contains_itself xs)) h,
-  All-contains (λ x. f x ≡ true) (filter f xs) y (filter_passes f xs) h,
-)
-
-rises_at : {A : Type 0} (cmp : A → A → Ordering) (f : A → Bool) (x : A) (xs : List A) (b : Bool) → ((y : A) → Contains xs y → cmp x y ≡ Less) → Rises cmp (filter f xs)
-    → Rises cmp (cond b (x ∷ filter f xs) (filter f xs))
-rises_at cmp f x xs true below rises = (λ y h. below y (filtered f xs y h).0, rises)
-rises_at cmp f x xs false below rises = rises
-
-pub filter_rises : {A : Type 0} (cmp : A → A → Ordering) (f : A → Bool) (xs : List A) → Rises cmp xs → Rises cmp (filter f xs)
-filter_rises cmp f [] r = tt
-filter_rises cmp f (x ∷ xs) r = rises_at cmp f x xs (f x) r.0 (filter_rises cmp f xs r.1)
-
--- two filters, either way round
-swapped : {A : Type 0} (f g : A → Bool) (x : A) (xs : List A) (a b : Bool) → f x ≡ a → g x ≡ b → filter f (filter g xs) ≡ filter g (filter f xs)
-    → filter f (cond b (x ∷ filter g xs) (filter g xs)) ≡ filter g (cond a (x ∷ filter f xs) (filter f xs))
-swapped f g x xs a b e h same = grind arith
-
-pub filters_swap : {A : Type 0} (f g : A → Bool) (xs : List A) → filter f (filter g xs) ≡ filter g (filter f xs)
-filters_swap f g [] = refl
-filters_swap f g (x ∷ xs) = swapped f g x xs (f x) (g x) refl refl (filters_swap f g xs)
-
 -- Of a rising list from the path on, the part comes first.
 module _ (below : Path) where
   none_later : (m : Member) (ms : List Member) → Rises member_cmp (m ∷ ms) → is_lt (path_cmp m.0 below) ≡ false → begins_with below m.0 ≡ false → part_below below ms ≡ []
@@ -102,14 +77,14 @@ module _ (below : Path) where
       → rest_from from (part_below below listing) ≡ part_below below listing
   whole_part from listing later =
       filter_all (λ (m : Member). not (is_lt (path_cmp m.0 from))) (part_below below listing) (λ m h.
-      ap not (later m.0 (begins_after below m.0 (filtered (λ (x : Member). begins_with below x.0) listing m h).1)))
+      ap not (later m.0 (begins_after below m.0 (kept_from (λ (x : Member). begins_with below x.0) listing m h).1)))
 
   -- from a path on that doesn't come before the part's own
   pub part_from : (from : Path) (listing : List Member) → Rises member_cmp listing → ((path : Path) → is_lt (path_cmp path from) ≡ false → is_lt (path_cmp path below) ≡ false)
       → part_below below (rest_from from listing) ≡ take_while (λ (x : Member). begins_with below x.0) (rest_from from listing)
   part_from from listing rises later =
       part_first (rest_from from listing) (filter_rises member_cmp (λ (m : Member). not (is_lt (path_cmp m.0 from))) listing rises) (λ x h.
-      later x.0 (not-true (is_lt (path_cmp x.0 from)) (filtered (λ (m : Member). not (is_lt (path_cmp m.0 from))) listing x h).1))
+      later x.0 (not-true (is_lt (path_cmp x.0 from)) (kept_from (λ (m : Member). not (is_lt (path_cmp m.0 from))) listing x h).1))
 
   -- the members of the part stand together
   pub part_together : (listing : List Member) → Rises member_cmp listing → part_below below listing ≡ take_while (λ (x : Member). begins_with below x.0) (rest_from below listing)

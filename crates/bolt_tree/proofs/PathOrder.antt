@@ -16,9 +16,6 @@ path_total = lists_total nat_list_cmp_total
 pub slices_cmp : (xs ys : List (Bor Key)) → path_cmp (path_of xs) (path_of ys) ≡ slice_cmp (λ (a b : Bor Key). key_cmp a.now b.now) xs ys
 slices_cmp = lex_map (λ (part : Bor Key). part.now) key_cmp
 
-pub less_lt : (o : Ordering) → is_lt o ≡ true → o ≡ Less
-less_lt o e = less_of o e
-
 -- only equal texts are tied
 then_equal : (a b : Ordering) → ordering_then a b ≡ Equal → (a ≡ Equal) × (b ≡ Equal)
 then_equal a b e = grind arith

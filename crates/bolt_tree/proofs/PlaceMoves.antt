@@ -1,9 +1,9 @@
 -- The place of a stack among the entries of its bucket, and what the moves of a trail are to a cursor's place.
 use Rattle.std.proofs.lemmas.Grind.{common_steps}
 use Rattle.std.proofs.Common.{true, false, Bool, ◌≡◌, ℕ, suc, ◌+◌, ◌-◌, ◌≤◌, ◌<◌, List, [], ◌∷◌, ◌++◌, Some, None, Option, slice_get, length, drop, refl, sym, ap, ◌∙◌, arith, length-append, take, append_assoc}
-use Rattle.bolt_tree.proofs.Words.{AreSorted, BucketView, Content, Contents, Finds, Frame, HasStack, IsAtRest, IsOn, IsSoundBucket, Key, Leaf, LeafElement, Move, Of_branch, Of_leaf, On, Past, Place, RestsOn, LeafStandsOn, TourPage, address_on, ahead_of, contents_in, drop-append_seam, elements_in, tour_elements, entries_to, first_move, flat_map-append, index_of, is_none, last_move, le-ltb, leaf_view, least_from, passed_of, length-drop, length-take, next_move, option_map, tour_pages_in, place_by, place_in, place_on, preceding_of, prev_move, props, later_of, seek_move, slice_get_within, take-append-drop, tour, ∥∥₁_elim, ∥∥₁_map}
-use Rattle.bolt_tree.proofs.{BackLemmas.behind_index, SortedLemmas.sorted, SortedLemmas.sorted_one}
-use Rattle.bolt_check.proofs.Lists.{get_behind, get_front}
+use Rattle.bolt_tree.proofs.Words.{AreEntriesOf, BucketView, Content, Contents, Finds, Frame, HasStack, IsAtRest, IsOn, IsSoundBucket, Key, Leaf, LeafElement, Move, Of_branch, Of_leaf, On, Past, Place, RestsOn, LeafStandsOn, TourPage, address_on, ahead_of, contents_in, drop-append_seam, elements_in, tour_elements, entries_to, first_move, flat_map-append, index_of, is_none, last_move, le-ltb, leaf_view, least_from, passed_of, length-drop, length-take, next_move, option_map, tour_pages_in, place_by, place_in, place_on, preceding_of, prev_move, props, later_of, seek_move, slice_get_within, take-append-drop, tour, ∥∥₁_elim, ∥∥₁_map}
+use Rattle.bolt_tree.proofs.{BackLemmas.behind_index, RisingEntries.tour_entries, RisingEntries.entries_once}
+use Rattle.bolt_check.proofs.Exports.{get_behind, get_front}
 
 module _ {X : Type 0} where
   pub drop_front : (xs ys : List X) (n : ℕ) → n ≡ length xs → drop n (xs ++ ys) ≡ ys
@@ -64,9 +64,9 @@ pub stack_bucket : (bucket : BucketView) (frames : List Frame) → HasStack buck
 stack_bucket bucket frames stack = ∥∥₁_map stack (λ s. s.0)
 
 -- the entries of a bucket of a sound tree are the elements along its tour
-pub the_entries : (bucket : BucketView) (entries : List LeafElement) → ∥ IsSoundBucket bucket ∥₁ → AreSorted bucket entries → elements_in bucket ≡ entries
+pub the_entries : (bucket : BucketView) (entries : List LeafElement) → ∥ IsSoundBucket bucket ∥₁ → AreEntriesOf bucket entries → elements_in bucket ≡ entries
 the_entries bucket entries is are = ∥∥₁_elim is (Prim.hlevel props) (λ s.
-    sorted_one bucket.file bucket.meta bucket.start (elements_in bucket) entries (sorted bucket.file bucket.meta s.trees bucket.start s.start) are)
+    entries_once bucket.file bucket.meta bucket.start (elements_in bucket) entries (tour_entries bucket.file bucket.meta s.trees bucket.start s.start) are)
 
 -- a cursor comes to a move's place, with its answer
 abbrev pub Comes : List LeafElement → Move → Place → Option LeafElement → Type 0

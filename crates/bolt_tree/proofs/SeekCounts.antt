@@ -1,9 +1,9 @@
 -- A number of pages that a seek opens: no more than the way down and the gap before the entry that it comes to. For every entry on a page after
 -- the nearest leaf is not below the key, so the page of the entry before is not after that leaf.
 use Rattle.std.proofs.Common.{◌≡◌, ℕ, zero, suc, ◌+◌, ◌-◌, ◌≤◌, ◌<◌, inl, inr, true, false, not, List, [], ◌∷◌, Some, None, Option, slice_get, length, refl, sym, ap, ◌∙◌, subst, arith}
-use Rattle.bolt_tree.proofs.Words.{AreSorted, Before, BranchElement, BucketView, HasCount, HasSoundTrees, Inline_page, IsEntry, IsGap, IsHome, IsNear, IsNearFrom, IsNearest, IsOnWay, IsPagesUpTo, IsSeekCount, IsSeekPage, IsSoundBucket, IsStart, Key, LeafElement, Meta, Root_page, Start, TourPage, branch_step, cases_lt, content_at, key_lt, leads, leads_child, leaf_ends, least_from, node_at, node_is, on_address, on_child, tour_pages_in, prefix_len-le-length}
+use Rattle.bolt_tree.proofs.Words.{AreEntriesOf, Before, BranchElement, BucketView, HasCount, HasSoundTrees, Inline_page, IsEntry, IsGap, IsHome, IsNear, IsNearFrom, IsNearest, IsOnWay, IsPagesUpTo, IsSeekCount, IsSeekPage, IsSoundBucket, IsStart, Key, LeafElement, Meta, Root_page, Start, TourPage, branch_step, cases_lt, content_at, key_lt, leads, leads_child, leaf_ends, least_from, node_at, node_is, on_address, on_child, tour_pages_in, prefix_len-le-length}
 use Rattle.bolt_format.specs.declared.header.Kind.TheVariants as kind
-use Rattle.bolt_check.proofs.Lists.{Has, at_has, contains_from_has, get_exists, has_from_contains, map_has}
+use Rattle.bolt_check.proofs.Exports.{Has, at_has, contains_from_has, get_exists, has_from_contains, map_has}
 use Rattle.bolt_tree.proofs.{SeekLemmas.not_below, TourLemmas.IsUnder, TourLemmas.entries_shown, TourLemmas.under_child, WayPages.content_is}
 use Rattle.bolt_tree.proofs.CountLemmas.{Cut, IsAt, address_of, address_visited, after_exact, all_exact, apart, cut_size, entry_at, exact_count, exact_is, has_cut, its_home, seek_exact, upto_is}
 use Rattle.bolt_tree.proofs.{GapLemmas.at_place, NearestLeaf.near_exists, NearestLeaf.one_near, EntryOrder.before_least}
@@ -51,7 +51,7 @@ module _ (b : BucketView) (s : IsSoundBucket b) (key : Key) where
   seek_pages c None entry = (length c.right, exact_count (after_exact b s c))
   seek_pages c (Some x) entry = let at = entry_at b s x (entry x refl) in (length c.right - length at.cut.right, exact_count (seek_exact b s c x at))
 
-  module _ (entries : List LeafElement) (sorted : AreSorted b entries) where
+  module _ (entries : List LeafElement) (sorted : AreEntriesOf b entries) where
     pub seek_counted : (n : ℕ) × IsSeekCount b.file b.meta b.start entries key n
     seek_counted =
         let near = near_cut in

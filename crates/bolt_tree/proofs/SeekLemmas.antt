@@ -1,10 +1,9 @@
 -- On the way down to the leaf that is near a key, the key is between what was passed and what comes later.
 use Rattle.std.proofs.lemmas.Grind.{common_steps}
 use Rattle.std.proofs.Common.{◌≡◌, ℕ, suc, ◌+◌, ◌-◌, ◌≤◌, ◌<◌, inl, inr, Bool, true, false, List, [], ◌∷◌, ◌++◌, Some, Ok, slice_get, length, drop, take, refl, sym, ap, ◌∙◌, subst, arith}
-use Rattle.bolt_tree.proofs.Words.{AreBelow, BranchElement, BucketView, Contents, Frame, HasSoundTrees, HasStack, IsBetween, IsOnWay, IsPlaceOf, Key, LeafElement, Meta, Of_branch, PageView, TourPage, address_on, branch_node, cases_lt, content_at, content_keys, contents_in, tour_elements, false_from_ne_true, flat_map-append, key_lt, passed_of, lt_not_trans, lt_trans, node_at, none-some, not-false, not-true, on_child, option_map, props, later_of, slice_get-map, tour, under_at, ∥∥₁_elim}
-use Rattle.bolt_check.proofs.Lists.{Has, at_has, flat_has, get_before, has_at, has_split}
-use Rattle.bolt_tree.proofs.TourLemmas.{IsUnder, branches_rise, tour_led, under_child, under_has}
-use Rattle.bolt_tree.proofs.WayPages.{branch_page}
+use Rattle.bolt_tree.proofs.Words.{AreBelow, BranchElement, BucketView, Contents, Frame, HasSoundTrees, HasStack, IsBetween, IsOnWay, IsNumberBefore, Key, LeafElement, Meta, Of_branch, PageView, TourPage, address_on, branch_node, cases_lt, content_at, content_keys, contents_in, tour_elements, false_from_ne_true, flat_map-append, key_lt, passed_of, lt_not_trans, lt_trans, node_at, none-some, not-false, not-true, on_child, option_map, props, later_of, slice_get-map, tour, under_at, ∥∥₁_elim}
+use Rattle.bolt_tree.proofs.{TourLemmas.IsUnder, TourLemmas.branches_rise, TourLemmas.tour_led, TourLemmas.under_child, TourLemmas.under_has, WayPages.branch_page}
+use Rattle.bolt_check.proofs.Exports.{Has, at_has, flat_has, get_before, has_at, has_split}
 
 module _ {X : Type 0} where
   pub take_get : (xs : List X) (i j : ℕ) (x : X) → slice_get (take i xs) j ≡ Some x → (slice_get xs j ≡ Some x) × (j < i)
@@ -61,10 +60,10 @@ branch_key_at : (elements : List BranchElement) (k : ℕ) (d : BranchElement) �
 branch_key_at elements k d g = slice_get-map (λ (e : BranchElement). e.key) elements k ∙ ap (option_map (λ (e : BranchElement). e.key)) g
 
 -- keys by the place of one among them
-pub not_above : (elements : List BranchElement) (key : Key) (n k : ℕ) (d : BranchElement) → IsPlaceOf (content_keys (Of_branch elements)) true key n → k < n → slice_get elements k ≡ Some d → key_lt key d.key ≡ false
+pub not_above : (elements : List BranchElement) (key : Key) (n k : ℕ) (d : BranchElement) → IsNumberBefore (content_keys (Of_branch elements)) true key n → k < n → slice_get elements k ≡ Some d → key_lt key d.key ≡ false
 not_above elements key n k d place h g = not-true (key_lt key d.key) (place.below k d.key h (branch_key_at elements k d g))
 
-pub is_above : (elements : List BranchElement) (key : Key) (n k : ℕ) (d : BranchElement) → IsPlaceOf (content_keys (Of_branch elements)) true key n → n ≤ k → slice_get elements k ≡ Some d → key_lt key d.key ≡ true
+pub is_above : (elements : List BranchElement) (key : Key) (n k : ℕ) (d : BranchElement) → IsNumberBefore (content_keys (Of_branch elements)) true key n → n ≤ k → slice_get elements k ≡ Some d → key_lt key d.key ≡ true
 is_above elements key n k d place h g = not-false (key_lt key d.key) (place.above k d.key h (branch_key_at elements k d g))
 
 pub are_append : (below : Bool) (key : Key) (xs ys : List LeafElement) → AreBelow below key xs → AreBelow below key ys → AreBelow below key (xs ++ ys)
@@ -79,7 +78,7 @@ nothing_left contents H address i elements x e h = grind arith
 -- under the nearest element the key still stands between
 pub between_down : (bucket : BucketView) (key : Key) (elements : List BranchElement) (i n t : ℕ) (e : BranchElement) (below : List Frame)
     → HasStack bucket (record { content = Of_branch elements; taken = t } ∷ below) → i ≡ n - 1 → slice_get elements i ≡ Some e
-    → IsPlaceOf (content_keys (Of_branch elements)) true key n → (suc (suc (length below)) ≤ 64) → IsBetween (contents_in bucket) key below
+    → IsNumberBefore (content_keys (Of_branch elements)) true key n → (suc (suc (length below)) ≤ 64) → IsBetween (contents_in bucket) key below
     → IsBetween (contents_in bucket) key (record { content = Of_branch elements; taken = i + 1 } ∷ below)
 between_down bucket key elements i n t e below stack is g place deep between =
     let contents = contents_in bucket in

@@ -1,9 +1,9 @@
 -- The entry that a trail rests on: an element of the page on top of its stack.
 use Rattle.std.proofs.Common.{rules, ◌≡◌, ◌∙◌, ℕ, suc, ◌-◌, ◌≤◌, Bool, true, false, List, [], ◌∷◌, ◌++◌, Some, None, Option, slice_get, length, take, refl, sym, ap, subst, arith}
 use Rattle.bolt_tree.proofs.Words.{Bucket, BucketView, Checked, Contains, Cursor, Content, Frame, HasStack, HasStart, HasTrail, IsAtRest, IsLeafContent, IsOn, IsResting, Leaf, LeafElement, MatchOption, Place, Position, RestsOn, Trail, content_length, contents_in, cursor_checked, cursor_place, cursor_start, cursor_trail, elements_in, entries_of, frame_of, frames_of, leaf_view, none-some, opened_content, option_map, pager_checked, place_by, props, slice_get_within, start_at, start_of, take_all, take_next, trail_bucket, trail_frames, ∥∥₁_elim, ∥∥₁_map}
+use Rattle.bolt_tree.proofs.{BucketWays.starts_below, EntryOrder.contains_at, PlaceMoves.current, PlaceMoves.the_entries}
+use Rattle.bolt_tree.proofs.{RestingLemmas.past_empty, RestingLemmas.resting_bucket, RestingLemmas.resting_stack, TrailLemmas.frames_push, RisingEntries.tour_entries}
 use Rattle.bolt_tree.specs.{Lookups.IsBucketOf, Lookups.IsBucketOn, Places.IsEntryAt, Places.entry_at}
-use Rattle.bolt_tree.proofs.{BucketWays.starts_below, EntryOrder.contains_at, PlaceMoves.current, PlaceMoves.the_entries, RestingLemmas.past_empty, RestingLemmas.resting_bucket}
-use Rattle.bolt_tree.proofs.{RestingLemmas.resting_stack, SortedLemmas.sorted, TrailLemmas.frames_push}
 
 -- the last position of a stack is its top
 last_on : (items : List Position) (top : Position) → slice_get items (length items - 1) ≡ Some top → frames_of items ≡ frame_of top ∷ frames_of (take (length items - 1) items)
@@ -57,7 +57,7 @@ module _ (trail : Trail) (is_past : Bool) (resting : ∥ IsResting trail is_past
   begins_on place e at bucket =
       let b = trail_bucket trail in
       ∥∥₁_map (resting_bucket trail is_past resting) (λ s.
-      let are = sorted b.file b.meta s.trees b.start s.start in
+      let are = tour_entries b.file b.meta s.trees b.start s.start in
       starts_below b.file b.meta b.start e s.start ((are.exact e).0 (held_at (elements_in b) place e (at (elements_in b) are))) bucket)
 
 -- what a cursor is on, as a bucket of the same file

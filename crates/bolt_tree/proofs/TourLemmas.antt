@@ -4,9 +4,8 @@ use Rattle.std.proofs.Common.{◌≡◌, ℕ, zero, suc, ◌+◌, ◌≤◌, ◌
 use Rattle.bolt_tree.proofs.Words.{Before, BranchElement, Content, Contents, HasSoundTrees, IsOnWay, IsTrue, LeafElement, Meta, Of_branch, Of_leaf, PageView, TourPage, all_under, branch_entry, branch_entry_at, branch_key, branch_node, branch_step, cases_lt, content_at, key_lt, leads, leads_child, leaf_ends, leaf_key, lt_not_trans, lt_trans, node_at, none-some, on_child, page_at, shallow, slice_get_within, spot_node, tour}
 use Rattle.bolt_format.specs.declared.header.Kind.TheVariants as kind
 use Rattle.bolt_check.specs.Findings.{keys_of}
-use Rattle.bolt_check.proofs.Lists.{Has, Each, RisesBy, get_before, has_at, has_left, has_right, has_split, rises_append, rises_from_gets, at_has}
+use Rattle.bolt_check.proofs.Exports.{Has, Each, RisesBy, get_before, has_at, has_left, has_right, has_split, rises_append, rises_from_gets, at_has, leaf_node}
 use Rattle.bolt_tree.proofs.WayPages.{a_branch, a_leaf, on_way_page}
-use Rattle.bolt_check.proofs.TreePages.{leaf_node}
 
 -- what lies under the elements of a branch
 pub under_has : (f : ℕ → ℕ → List TourPage) (i : ℕ) (elements : List BranchElement) (v : TourPage) → Has (all_under f i elements) v

@@ -3,7 +3,7 @@ use Rattle.std.proofs.Common.{◌≡◌, ℕ, List, Some, Ok, ap, arith, length,
 use Rattle.bolt_tree.proofs.Words.{BranchElement, Checked, HasSoundTrees, IsOnWay, IsTrue, Kind, LeafElement, Meta, Of_branch, Of_leaf, PageView, TreePage, branches_on, bytes_of, checked_trees, content_at, content_by, content_keys, content_length, content_of, content_seen, is_tree_kind, leaves_on, length-map, meta_of, node_at, opened_content, page_at, page_keys, props, shown_page, ∥∥₁_elim}
 use Rattle.bolt_format.specs.declared.tree_page.TreePage.TheVariants.{Branch, Leaf}
 use Rattle.bolt_format.specs.declared.header.Kind.TheVariants as kind
-use Rattle.bolt_check.proofs.TreePages as pages
+use Rattle.bolt_check.proofs.Exports as pages
 
 -- what a page shows, by its number
 pub content_shown : (file : List ℕ) (meta : Meta) (number : ℕ) (view : PageView) → page_at file meta number ≡ Some view → content_at file meta number ≡ content_of view

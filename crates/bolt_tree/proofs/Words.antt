@@ -1,22 +1,17 @@
 -- The words that the proofs of this crate cite, passed on from the modules that define them.
-pub use Rattle.bolt_check.proofs.CheckedLemmas.{checked_trees, good_on_way, good_page, with_trees}
-pub use Rattle.bolt_check.proofs.KeyLaws.{less_of, lt_not_trans, lt_strict, lt_trans}
-pub use Rattle.bolt_check.proofs.TreePages.{branch_entry_at, branch_key, branch_node, branch_step, inline_reached, leads_child, leaf_ends, leaf_key, node_is}
-pub use Rattle.bolt_check.proofs.TreePages.{on_address, on_child, shallow, spot_node}
-pub use Rattle.bolt_check.proofs.WayFacts.{follow_append, leads_follow, leaf_node, one_way}
+pub use Rattle.bolt_check.proofs.Exports.{checked_trees, good_on_way, good_page, with_trees, lt_not_trans, lt_strict, lt_trans, less_of, branch_entry_at, branch_key, branch_node, branch_step, inline_reached, leads_child, leaf_ends, leaf_key, node_is, on_address, on_child, shallow, spot_node, follow_append, leads_follow, one_way, leaf_node_at}
 pub use Rattle.bolt_check.specs.{CheckedFiles.bytes_of, CheckedFiles.meta_of, Counts.counted, Keys.Key, Keys.KeysRise, Keys.key_cmp, Keys.key_lt}
 pub use Rattle.bolt_check.specs.{Nodes.Entry, Nodes.Node, Nodes.Nodes, Nodes.branch_entry, Nodes.inline_page, Nodes.leaf_entry, Nodes.node_at, OnWays.IsOnWay, Shape.leads}
 pub use Rattle.bolt_check.specs.Sound.{HasSoundTrees}
 pub use Rattle.bolt_check.specs.Ways.{At_page, Before, PageSpot, Spot, bucket_spots, follow, reached, root_spot, step_at, step_entry}
 pub use Rattle.bolt_check.specs.declared.checked.Checked.{Checked}
-pub use Rattle.bolt_format.proofs.ListLemmas.{drop_at, one_some, take_next}
-pub use Rattle.bolt_format.proofs.PageFacts.{below_mark, bucket_value, flat_inline}
+pub use Rattle.bolt_format.proofs.Exports.{drop_at, one_some, take_next, below_mark, bucket_value, flat_inline}
 pub use Rattle.bolt_format.specs.ElementPlaces.{branch_view, leaf_view}
 pub use Rattle.bolt_format.specs.Elements.{BranchElement, LeafElement, head_root, head_sequence, inline_elements}
 pub use Rattle.bolt_format.specs.{Pages.PageView, Pages.page_at, TreePages.branches_on, TreePages.is_tree_kind, TreePages.leaves_on, TreePages.page_keys}
 pub use Rattle.bolt_format.specs.{TreePages.shown_page, declared.element.Leaf.Leaf, declared.header.Kind.Kind, declared.meta.Meta.Meta}
 pub use Rattle.bolt_format.specs.{declared.tree_page.BranchPage.BranchPage, declared.tree_page.TreePage.TreePage}
-pub use Rattle.bolt_tree.specs.BucketViews.{AreSorted, BucketView, bucket_in, entries_of}
+pub use Rattle.bolt_tree.specs.BucketViews.{AreEntriesOf, BucketView, bucket_in, entries_of}
 pub use Rattle.bolt_tree.specs.CursorBounds.{OpensByNext, OpensGap, OpensSeek, SeeksInBounds}
 pub use Rattle.bolt_tree.specs.Entries.{AreEntries, EntryView, Inline_page, IsEntry, IsStart, Item, Root_page, ShowsEntry, Start, Value, entry_cmp, entry_view}
 pub use Rattle.bolt_tree.specs.{Entries.item_of, Entries.start_of, FileListings.ForListing, FileListings.root_start}
@@ -34,7 +29,7 @@ pub use Rattle.bolt_tree.specs.{Private.Entered.IsEntered, Private.Entered.opene
 pub use Rattle.bolt_tree.specs.Private.Resting.{place_on}
 pub use Rattle.bolt_tree.specs.Private.Kept.{AreKept, CursorView, IsKeptStack, kept_view, kept_views}
 pub use Rattle.bolt_tree.specs.Private.OpenBuckets.{AreOpen, ComesNext, IsAhead, IsInPlace, IsInside, IsNamed, cursors_of, is_end, left_by, open_path, reported_path, waiting_of}
-pub use Rattle.bolt_tree.specs.Private.PageKeys.{IsPlaceOf, doubled, stands_before}
+pub use Rattle.bolt_tree.specs.Private.PageKeys.{IsNumberBefore, doubled, stands_before}
 pub use Rattle.bolt_tree.specs.Private.Seeks.{AreBelow, IsBetween, IsNearTo, IsNearTop, IsOnWayDown, IsSought, top_address}
 pub use Rattle.bolt_tree.specs.Private.ShownPages.{opened_content}
 pub use Rattle.bolt_tree.specs.Private.Stacks.{Frame, HasStack, IsAtRest, IsBeside, IsBranchContent, IsBranchTop, IsGoodContent, IsLast, IsLeafContent}

@@ -18,5 +18,5 @@ abbrev pub entries_of : Checked → Start → LeafElement → Type 0
 entries_of checked = IsEntry (bytes_of checked) (meta_of checked)
 
 -- these are the entries of the bucket in order
-abbrev pub AreSorted : BucketView → List LeafElement → Type 0
-AreSorted b entries = AreEntries (IsEntry b.file b.meta) b.start entries
+abbrev pub AreEntriesOf : BucketView → List LeafElement → Type 0
+AreEntriesOf b entries = AreEntries (IsEntry b.file b.meta) b.start entries

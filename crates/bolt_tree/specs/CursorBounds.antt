@@ -2,12 +2,11 @@
 use Rattle.std.specs.Prelude.{◌≡◌, ◌≤◌, ◌+◌, ◌*◌, ℕ, suc, List, length}
 use Rattle.bolt_format.specs.Elements.{LeafElement}
 use Rattle.bolt_check.specs.{Keys.Key, Counts.counted}
-use Rattle.bolt_tree.specs.{BucketViews.AreSorted, BucketViews.BucketView, OpeningCounts.IsGap, OpeningCounts.IsNear, OpeningCounts.IsSeekCount}
-use Rattle.bolt_tree.specs.Places.{Fresh, On, Past, Place}
+use Rattle.bolt_tree.specs.{BucketViews.AreEntriesOf, BucketViews.BucketView, OpeningCounts.IsGap, OpeningCounts.IsNear, OpeningCounts.IsSeekCount, Places.Fresh, Places.On, Places.Past, Places.Place}
 
 -- it opens the pages after that of the preceding entry, up to that of entry i or to the bucket's end
 abbrev pub OpensGap : BucketView → ℕ → (old new : ℕ) → Type 0
-OpensGap b i old new = (entries : List LeafElement) (gap : ℕ) → AreSorted b entries → IsGap b.file b.meta b.start entries i gap → new ≡ counted old gap
+OpensGap b i old new = (entries : List LeafElement) (gap : ℕ) → AreEntriesOf b entries → IsGap b.file b.meta b.start entries i gap → new ≡ counted old gap
 
 -- what `next` opens: before the first call as `first` does, and past the end nothing
 abbrev pub OpensByNext : BucketView → Place → (old new : ℕ) → Type 0
@@ -17,7 +16,7 @@ OpensByNext b Past old new = new ≡ old
 
 -- what a seek opens
 abbrev pub OpensSeek : BucketView → Key → (old new : ℕ) → Type 0
-OpensSeek b key old new = (entries : List LeafElement) (n : ℕ) → AreSorted b entries → IsSeekCount b.file b.meta b.start entries key n → new ≡ counted old n
+OpensSeek b key old new = (entries : List LeafElement) (n : ℕ) → AreEntriesOf b entries → IsSeekCount b.file b.meta b.start entries key n → new ≡ counted old n
 
 -- how deep it goes, and how often it compares
 abbrev pub SeeksInBounds : BucketView → Key → (compared : ℕ) → Type 0

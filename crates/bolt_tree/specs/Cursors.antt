@@ -2,12 +2,11 @@
 use Rattle.std.specs.Prelude.{ℕ, List, Option}
 use Rattle.std.specs.Option.{option_map}
 use Rattle.bolt_format.specs.{ElementPlaces.leaf_view, Elements.LeafElement, declared.element.Leaf.Leaf}
-use Rattle.bolt_check.specs.Keys.{Key}
-use Rattle.bolt_check.specs.declared.checked.Checked.{Checked}
-use Rattle.bolt_tree.specs.{BucketViews.BucketView, BucketViews.bucket_in, Private.BucketPages.contents_in, Entries.Start, Private.Resting.place_by}
-use Rattle.bolt_tree.specs.{Pagers.pager_checked, Pagers.pager_opened, Places.Place, Starts.start_at, Private.Trails.Trail, Private.Trails.frames_of, Private.Trails.pages_bucket, Private.Trails.trail_on}
-use Rattle.bolt_tree.specs.{BucketViews.entries_of, CursorBounds.OpensByNext, CursorBounds.OpensGap, CursorBounds.OpensSeek, CursorBounds.SeeksInBounds}
-use Rattle.bolt_tree.specs.{Places.IsEntryAt, Places.Move, Places.Moves, Places.ShowsMove, ShownEntries.shown_entry, declared.entry.Entry.Entry}
+use Rattle.bolt_check.specs.{Keys.Key, declared.checked.Checked.Checked}
+use Rattle.bolt_tree.specs.{BucketViews.BucketView, BucketViews.bucket_in, BucketViews.entries_of, Private.BucketPages.contents_in, Entries.Start, Private.Resting.place_by}
+use Rattle.bolt_tree.specs.{Pagers.pager_checked, Pagers.pager_opened, Places.Place, Places.IsEntryAt, Places.Move, Places.Moves, Places.ShowsMove, Starts.start_at}
+use Rattle.bolt_tree.specs.Private.Trails.{Trail, frames_of, pages_bucket, trail_on}
+use Rattle.bolt_tree.specs.{CursorBounds.OpensByNext, CursorBounds.OpensGap, CursorBounds.OpensSeek, CursorBounds.SeeksInBounds, ShownEntries.shown_entry, declared.entry.Entry.Entry}
 use Rattle.bolt_tree.specs.declared.cursor.Cursor.{Cursor}
 
 -- its pages and its stack

@@ -3,16 +3,15 @@ use Rattle.std.specs.Prelude.{◌≡◌, ◌≤◌, ◌+◌, ℕ, IsTrue, List, 
 use Rattle.bolt_format.specs.{Elements.LeafElement, Pages.PageView, Pages.page_at, declared.meta.Meta.Meta}
 use Rattle.bolt_format.specs.declared.header.Kind.TheVariants as kind
 use Rattle.bolt_check.specs.{Keys.Key, OnWays.IsOnWay, Sound.HasSoundTrees}
-use Rattle.bolt_tree.specs.Entries.{AreEntries, IsEntry, IsStart, Start}
-use Rattle.bolt_tree.specs.{Listing.IsListing, Listing.Member, OpeningCounts.IsGap, OpeningCounts.IsSeekCount, Places.least_from}
+use Rattle.bolt_tree.specs.{Entries.AreEntries, Entries.IsEntry, Entries.IsStart, Entries.Start, Listing.IsListing, Listing.Member, OpeningCounts.IsGap, OpeningCounts.IsSeekCount, Places.least_from}
 
 -- this holds of each bucket of a file with sound trees
 abbrev pub ForBuckets : (List ℕ → Meta → Start → Type 0) → Type 0
 ForBuckets P = (file : List ℕ) (meta : Meta) (start : Start) → HasSoundTrees file meta → IsStart file meta start → P file meta start
 
 -- and of its entries in order
-abbrev pub ForSorted : (List ℕ → Meta → Start → List LeafElement → Type 0) → Type 0
-ForSorted P = ForBuckets (λ file meta start. (entries : List LeafElement) → AreEntries (IsEntry file meta) start entries → P file meta start entries)
+abbrev pub ForBucketEntries : (List ℕ → Meta → Start → List LeafElement → Type 0) → Type 0
+ForBucketEntries P = ForBuckets (λ file meta start. (entries : List LeafElement) → AreEntries (IsEntry file meta) start entries → P file meta start entries)
 
 -- this holds of the listing of each file with sound trees
 abbrev pub ForListings : (List ℕ → Meta → List Member → Type 0) → Type 0

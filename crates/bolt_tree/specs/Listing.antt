@@ -1,8 +1,7 @@
 -- The listing of a file's tree, and its rest from a path: docs/LISTING.md, "The listing".
 -- The rising list of all paths with their items, over the order and the items of Paths.
 use Rattle.std.specs.Prelude.{◌↔◌, List, ℕ, filter, Contains, not}
-use Rattle.std.specs.Ordering.{is_lt}
-use Rattle.std.specs.declared.cmp.Ordering.{Ordering}
+use Rattle.std.specs.{Ordering.is_lt, declared.cmp.Ordering.Ordering}
 use Rattle.bolt_format.specs.{Elements.LeafElement, declared.meta.Meta.Meta}
 use Rattle.bolt_tree.specs.{Entries.IsEntry, Entries.Item, Entries.Root_page, Entries.Start, Order.Rises, Paths.Holds, Paths.Path, Paths.path_cmp}
 

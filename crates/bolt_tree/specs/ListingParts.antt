@@ -1,9 +1,6 @@
 -- The part of a listing below a path: docs/LISTING.md, "The part below a path".
 use Rattle.std.specs.Prelude.{◌&&◌, ◌==◌, length, ◌||◌, Bool, false, true, List, [], filter, if◌then◌else◌}
-use Rattle.std.specs.Cmp.Lexicographic.{pointwise}
-use Rattle.std.specs.List.{list_any, starts_with}
-use Rattle.std.specs.Ordering.{is_lt}
-use Rattle.std.specs.Str.{bytes_eq}
+use Rattle.std.specs.{Cmp.Lexicographic.pointwise, List.list_any, List.starts_with, Ordering.is_lt, Str.bytes_eq}
 use Rattle.bolt_tree.specs.{Entries.Bucket, Entries.Item, Entries.Value, Listing.Member, Paths.Path, Paths.path_cmp}
 
 -- a path begins with the parts of another

@@ -1,7 +1,6 @@
 -- Two listings merged into one, by path: docs/LISTING.md, "Merged listings".
 use Rattle.std.specs.Prelude.{◌≡◌, ◌≢◌, ◌⊎◌, ℕ, List, [], ◌∷◌, ◌++◌, Contains, if◌then◌else◌}
-use Rattle.std.specs.Ordering.{is_lt}
-use Rattle.std.specs.declared.cmp.Ordering.TheVariants.{Equal}
+use Rattle.std.specs.{Ordering.is_lt, declared.cmp.Ordering.TheVariants.Equal}
 use Rattle.bolt_check.specs.Keys.{Key}
 use Rattle.bolt_tree.specs.{Entries.Bucket, Listing.Member, Listing.member_cmp, Paths.Path}
 
@@ -24,9 +23,9 @@ abbrev pub HasBucket : List Member → Path → Type 0
 HasBucket listing path = (path ≡ []) ⊎ ((sequence : ℕ) × Contains listing (path, Bucket sequence))
 
 -- The path has at least one key, and what comes before its last key is a bucket of this listing.
-abbrev pub HasPlace : List Member → Path → Type 0
-HasPlace listing path = (above : Path) × (key : Key) × (path ≡ above ++ key ∷ []) × HasBucket listing above
+abbrev pub HasParent : List Member → Path → Type 0
+HasParent listing path = (above : Path) × (key : Key) × (path ≡ above ++ key ∷ []) × HasBucket listing above
 
--- each of these members has its place in this listing
-abbrev pub HavePlaces : List Member → List Member → Type 0
-HavePlaces listing members = (m : Member) → Contains members m → HasPlace listing m.0
+-- each of these members has a parent in this listing
+abbrev pub HaveParents : List Member → List Member → Type 0
+HaveParents listing members = (m : Member) → Contains members m → HasParent listing m.0

@@ -1,9 +1,8 @@
 -- How many pages of a bucket lie between two of its entries: addresses in the order of ways, and their numbers: docs/LISTING.md, "Openings".
 use Rattle.std.specs.Prelude.{◌≡◌, ◌<◌, ◌⊎◌, ◌↔◌, ℕ, zero, suc, ◌+◌, ◌-◌, List, [], ◌∷◌, IsTrue, IsFalse, length, Option, Some, None, Contains, slice_get}
 use Rattle.std.specs.List.{AllPairs}
-use Rattle.bolt_format.specs.{Elements.BranchElement, Elements.LeafElement, Pages.PageView, Pages.page_at}
+use Rattle.bolt_format.specs.{Elements.BranchElement, Elements.LeafElement, Pages.PageView, Pages.page_at, declared.meta.Meta.Meta}
 use Rattle.bolt_format.specs.declared.header.Kind.TheVariants as kind
-use Rattle.bolt_format.specs.declared.meta.Meta.{Meta}
 use Rattle.bolt_check.specs.{Keys.Key, Keys.key_lt, Nodes.node_at, Shape.leads, Ways.Before}
 use Rattle.bolt_tree.specs.{Entries.Inline_page, Entries.Root_page, Entries.ShowsEntry, Entries.Start, Places.least_from}
 

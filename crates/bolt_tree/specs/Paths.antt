@@ -1,11 +1,10 @@
 -- Paths: the keys from one bucket down, and what they hold: docs/LISTING.md, "Paths".
 -- Over any relation that says which elements a bucket has.
 use Rattle.std.specs.Prelude.{◌≡◌, ℕ, List, [], ◌∷◌, IsTrue, map}
-use Rattle.std.specs.Borrow.{Bor}
-use Rattle.std.specs.Cmp.Lexicographic.{slice_cmp}
-use Rattle.std.specs.declared.cmp.Ordering.{Ordering}
+use Rattle.std.specs.{Borrow.Bor, Cmp.Lexicographic.slice_cmp, declared.cmp.Ordering.Ordering}
 use Rattle.bolt_format.specs.Elements.{LeafElement}
-use Rattle.bolt_check.specs.Keys.{Key, key_cmp}
+use Rattle.bolt_check.specs.Keys.{key_cmp}
+pub use Rattle.bolt_check.specs.Keys.{Key}
 use Rattle.bolt_tree.specs.Entries.{AreEntries, Item, Start, item_of, start_of}
 
 abbrev pub Path : Type 0

@@ -1,7 +1,6 @@
 -- How a cursor's place moves over the entries of its bucket: docs/LISTING.md, "Places".
 use Rattle.std.specs.Prelude.{◌≡◌, ℕ, zero, suc, List, [], ◌∷◌, length, Option, None, if◌then◌else◌, slice_get, nat_lt, not}
-use Rattle.std.specs.List.{position_or_len}
-use Rattle.std.specs.Option.{option_map}
+use Rattle.std.specs.{List.position_or_len, Option.option_map}
 use Rattle.bolt_format.specs.Elements.{LeafElement}
 use Rattle.bolt_check.specs.Keys.{Key, key_lt}
 use Rattle.bolt_tree.specs.Entries.{AreEntries, EntryView, Start, entry_view}

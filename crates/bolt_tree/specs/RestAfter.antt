@@ -1,9 +1,7 @@
 -- The part of a listing after a path: all of it, or all but what begins with the path: docs/LISTING.md, "The walk". That is what a walk has
 -- left while its cursors are on the keys of the path.
 use Rattle.std.specs.Prelude.{Bool, true, false, List, [], ◌∷◌, filter}
-use Rattle.std.specs.Ordering.{is_lt}
-use Rattle.std.specs.declared.cmp.Ordering.{Ordering}
-use Rattle.std.specs.declared.cmp.Ordering.TheVariants.{Less, Equal, Greater}
+use Rattle.std.specs.{Ordering.is_lt, declared.cmp.Ordering.Ordering, declared.cmp.Ordering.TheVariants.Less, declared.cmp.Ordering.TheVariants.Equal, declared.cmp.Ordering.TheVariants.Greater}
 use Rattle.bolt_check.specs.Keys.{key_cmp}
 use Rattle.bolt_tree.specs.{Listing.Member, Paths.Path, Paths.path_cmp}
 

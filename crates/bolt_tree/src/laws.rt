@@ -4,10 +4,10 @@ ghost use Rattle.std.specs.List.{Contains, take_while};
 ghost use Rattle.bolt_format.specs.{Elements.LeafElement, Elements.head_root, Elements.inline_elements, declared.meta.Meta.Meta};
 ghost use Rattle.bolt_check.specs.{Ones.AtMostOne, Sound.HasSoundTrees};
 ghost use Rattle.bolt_tree.specs.Entries.{AreEntries, Inline_page, IsEntry, IsStart, Item, Root_page, Start};
-ghost use Rattle.bolt_tree.specs.Laws.{ForBucketElements, ForBuckets, ForListings, ForSorted, SeeksAreBounded, SeeksAreCounted};
+ghost use Rattle.bolt_tree.specs.Laws.{ForBucketElements, ForBuckets, ForListings, ForBucketEntries, SeeksAreBounded, SeeksAreCounted};
 ghost use Rattle.bolt_tree.specs.{Listing.IsListing, Listing.Lists, Listing.Member, Listing.member_cmp, Listing.rest_from, OpeningCounts.GapsCoverAll};
 ghost use Rattle.bolt_tree.specs.{Tree.IsTreeOf, Tree.Tree, Tree.listing_of, Tree.tree_of, ListingParts.begins_with, ListingParts.part_below, Order.Rises, Paths.Path};
-ghost use Rattle.bolt_tree.specs.Merges.{AreApart, HavePlaces, merge};
+ghost use Rattle.bolt_tree.specs.Merges.{AreApart, HaveParents, merge};
 
 use bolt_check::laws::ways_go_on;
 
@@ -23,31 +23,31 @@ pub fn buckets_begin_on_ways()
 }
 
 /// Each bucket of a sound tree has its entries in order.
-#[tactic(auto, using(crate::proofs::SortedLemmas::entries_exist))]
-pub fn sorted_entries_exist()
+#[tactic(auto, using(crate::proofs::RisingEntries::entries_exist))]
+pub fn entries_exist()
     ensures { ForBuckets (λ file meta start. (entries : List LeafElement) × AreEntries (IsEntry file meta) start entries) }
 {}
 
 /// There is at most one list of the entries of a bucket in order.
-pub fn sorted_entries_are_one()
+pub fn entries_are_one()
     ensures { (file : List ℕ) (meta : Meta) (start : Start) → AtMostOne (AreEntries (IsEntry file meta) start) }
 {}
 
 /// The pages between each entry and the next have a number, and so have those before the first and
 /// after the last. These numbers add up to that of all pages of the bucket.
 pub fn gaps_cover_all()
-    ensures { ForSorted GapsCoverAll }
+    ensures { ForBucketEntries GapsCoverAll }
 {}
 
 /// There is a number of pages that a seek of a key opens.
 pub fn seeks_are_counted()
-    ensures { ForSorted SeeksAreCounted }
+    ensures { ForBucketEntries SeeksAreCounted }
 {}
 
 /// A seek opens at most the 64 pages of the longest way down, and the pages between the entry that
 /// it comes to and the preceding one.
 pub fn seeks_are_bounded()
-    ensures { ForSorted SeeksAreBounded }
+    ensures { ForBucketEntries SeeksAreBounded }
 {}
 
 /// A file has at most one listing.
@@ -123,15 +123,15 @@ pub fn merged_members_rise()
     ensures { (xs ys : List Member) → Rises member_cmp xs → Rises member_cmp ys → AreApart xs ys → Rises member_cmp (merge xs ys) }
 {}
 
-/// Each member of a merge has its place, if those of the first have theirs there, and those of the
+/// Each member of a merge has a parent, if those of the first have theirs there, and those of the
 /// second have theirs in the merge.
-#[tactic(auto, using(crate::proofs::MergeLemmas::merge_places))]
-pub fn merged_members_have_places()
-    ensures { (xs ys : List Member) → HavePlaces xs xs → HavePlaces (merge xs ys) ys → HavePlaces (merge xs ys) (merge xs ys) }
+#[tactic(auto, using(crate::proofs::MergeLemmas::merge_parents))]
+pub fn merged_members_have_parents()
+    ensures { (xs ys : List Member) → HaveParents xs xs → HaveParents (merge xs ys) ys → HaveParents (merge xs ys) (merge xs ys) }
 {}
 
-/// What is in the order of paths is what a tree lists, if each member has its place.
-#[tactic(auto, using(crate::proofs::PlacedTrees::placed_tree))]
-pub fn placed_members_are_of_a_tree()
-    ensures { (listing : List Member) → Rises member_cmp listing → HavePlaces listing listing → listing_of (tree_of listing) ≡ listing }
+/// What is in the order of paths is what a tree lists, if each member has a parent.
+#[tactic(auto, using(crate::proofs::ParentedTrees::parented_tree))]
+pub fn members_with_parents_are_of_a_tree()
+    ensures { (listing : List Member) → Rises member_cmp listing → HaveParents listing listing → listing_of (tree_of listing) ≡ listing }
 {}

@@ -40,10 +40,10 @@ impl Process<'_> {
         })
     }
 
-    fn open_first(&self, name: &str, limit: u64) -> io::Result<(Vec<u8>, File)> {
+    fn open_first(&self, name: &str, count: u64) -> io::Result<(Vec<u8>, File)> {
         let mut file = File::open(self.rt, name)?;
         let mut bytes = Vec::new(self.rt.alloc());
-        read_limited(&mut file, &mut bytes, limit)?;
+        read_at_most(&mut file, &mut bytes, count)?;
         Ok((bytes, file))
     }
 }
@@ -55,9 +55,9 @@ fn room_for(length: u64) -> usize {
         .saturating_add(1)
 }
 
-/// Reads the bytes that come next, at most `limit`, and appends them.
-fn read_limited(file: &mut File, bytes: &mut Vec<u8>, limit: u64) -> io::Result<()> {
-    file.take(limit).read_to_end(bytes)?;
+/// Reads the bytes that come next, at most `count`, and appends them.
+fn read_at_most(file: &mut File, bytes: &mut Vec<u8>, count: u64) -> io::Result<()> {
+    file.take(count).read_to_end(bytes)?;
     Ok(())
 }
 
@@ -82,17 +82,17 @@ impl Outside for Process<'_> {
         Ok(self.read_source(name)?)
     }
 
-    fn read_first(&mut self, name: &str, limit: u64) -> Result<(Vec<u8>, File), ReadFault> {
-        Ok(self.open_first(name, limit)?)
+    fn read_first(&mut self, name: &str, count: u64) -> Result<(Vec<u8>, File), ReadFault> {
+        Ok(self.open_first(name, count)?)
     }
 
     fn read_on(
         &mut self,
         mut file: File,
         mut first: Vec<u8>,
-        limit: u64,
+        count: u64,
     ) -> Result<Vec<u8>, ReadFault> {
-        read_limited(&mut file, &mut first, limit)?;
+        read_at_most(&mut file, &mut first, count)?;
         Ok(first)
     }
 

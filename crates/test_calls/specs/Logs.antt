@@ -1,11 +1,9 @@
 -- The deeds that a log in memory holds.
 use Rattle.std.specs.Prelude.{◌≡◌, ◌⊎◌, ℕ, List, [], ◌∷◌, map, Bool, true, false, Option, Some, None, Ok, Err, IsTrue}
-use Rattle.bolt_cli.specs.Deeds.{Adds, Deed}
+use Rattle.bolt_cli.specs.{Deeds.Adds, Deeds.Deed, Sources.is_changed, declared.outside.OutputFault.TheVariants.ReaderLeft, declared.outside.OutputFault.TheVariants.Failed}
 use Rattle.bolt_cli.specs.Deeds as deeds
-use Rattle.bolt_cli.specs.{Sources.is_changed, declared.outside.OutputFault.TheVariants.ReaderLeft, declared.outside.OutputFault.TheVariants.Failed}
-use Rattle.test_calls.specs.declared.log.Kind.{Kind}
+use Rattle.test_calls.specs.{declared.log.Kind.Kind, declared.log.Record.Record, declared.log.Log.Log}
 use Rattle.test_calls.specs.declared.log.Kind.TheVariants as kind
-use Rattle.test_calls.specs.{declared.log.Record.Record, declared.log.Log.Log}
 
 -- what a log keeps of a deed
 pub record Look : Type 0 where
@@ -28,10 +26,10 @@ read_kind false = kind.Read
 abbrev pub look : {S : Type 0} → (taken : S → Option (List ℕ)) → Deed S S → Look
 look taken (deeds.Read name (Ok source)) = look_of (read_kind (is_changed source)) name source.bytes.items source.permissions
 look taken (deeds.Read name (Err fault)) = look_of kind.Unread name [] 0
-look taken (deeds.ReadFirst name limit (Ok first)) = look_of kind.ReadFirst name first 0
-look taken (deeds.ReadFirst name limit (Err fault)) = look_of kind.Unread name [] 0
-look taken (deeds.ReadOn first limit (Ok bytes)) = look_of kind.ReadOn [] bytes 0
-look taken (deeds.ReadOn first limit (Err fault)) = look_of kind.NotReadOn [] [] 0
+look taken (deeds.ReadFirst name count (Ok first)) = look_of kind.ReadFirst name first 0
+look taken (deeds.ReadFirst name count (Err fault)) = look_of kind.Unread name [] 0
+look taken (deeds.ReadOn first count (Ok bytes)) = look_of kind.ReadOn [] bytes 0
+look taken (deeds.ReadOn first count (Err fault)) = look_of kind.NotReadOn [] [] 0
 look taken (deeds.Made name permissions (Ok target)) = look_of kind.Made name [] permissions
 look taken (deeds.Made name permissions (Err fault)) = look_of kind.Unmade name [] permissions
 look taken (deeds.Ended target (Ok done)) = look_of kind.Ended [] (bytes_in (taken target)) 0

@@ -96,10 +96,10 @@ impl<'a> Outside for Memory<'a> {
         }
     }
 
-    fn read_first(&mut self, name: &str, limit: u64) -> Result<(Vec<u8>, &'a [u8]), ReadFault> {
+    fn read_first(&mut self, name: &str, count: u64) -> Result<(Vec<u8>, &'a [u8]), ReadFault> {
         let turn = self.next_turn();
         let text = name.as_bytes();
-        let (first, rest) = split_at_most(self.file, limit);
+        let (first, rest) = split_at_most(self.file, count);
         match first.to_vec(self.alloc) {
             Ok(bytes) if turn == Turn::Good => {
                 self.log.note(Kind::ReadFirst, text, first, 0);
@@ -116,10 +116,10 @@ impl<'a> Outside for Memory<'a> {
         &mut self,
         file: &'a [u8],
         first: Vec<u8>,
-        limit: u64,
+        count: u64,
     ) -> Result<Vec<u8>, ReadFault> {
         let mut bytes = first;
-        let (next, _) = split_at_most(file, limit);
+        let (next, _) = split_at_most(file, count);
         if self.next_turn() == Turn::Good && bytes.extend_from_slice(next).is_ok() {
             self.log.note(Kind::ReadOn, &[], bytes.as_slice(), 0);
             return Ok(bytes);
@@ -222,9 +222,9 @@ fn read_kind(changes: bool) -> Kind
     }
 }
 
-/// The first bytes, at most `limit`, and the others.
-fn split_at_most(bytes: &[u8], limit: u64) -> (&[u8], &[u8]) {
-    let count = usize::try_from(limit).unwrap_or(usize::MAX);
+/// The first bytes, at most `count`, and the others.
+fn split_at_most(bytes: &[u8], count: u64) -> (&[u8], &[u8]) {
+    let count = usize::try_from(count).unwrap_or(usize::MAX);
     bytes.split_at(count.min(bytes.len()))
 }
 

@@ -1,11 +1,9 @@
 -- What the open runs of a bucket become, with the items that are still to come; and so of all buckets that a pass has open.
 use Rattle.std.specs.Prelude.{◌≡◌, ◌≤◌, ℕ, suc, List, [], ◌∷◌, ◌++◌, length, Option, map}
 use Rattle.bolt_format.specs.Elements.{BranchElement, LeafElement}
-use Rattle.bolt_layout.specs.{Cut.branch_cut, Cut.cut_from, Items.bucket_item, Items.items_of, Laid.Laid, Laid.size_of}
-use Rattle.bolt_layout.specs.{Levels.branch_page_view, Levels.leaf_page_view, Levels.page_over, Levels.top_of, Limits.HaveRightLimits, Limits.cut_within}
-use Rattle.bolt_layout.specs.declared.Layout.{Layout}
-use Rattle.bolt_bulk.specs.Private.OpenRuns.{BucketFrame, Open, Upper, key_size, pushing}
-use Rattle.bolt_bulk.specs.Private.RowLimits.{bucket_limit}
+use Rattle.bolt_layout.specs.{Cut.branch_cut, Cut.cut_from, Items.bucket_item, Items.items_of, Laid.Laid, Laid.size_of, Levels.branch_page_view, Levels.leaf_page_view, Levels.page_over, Levels.top_of}
+use Rattle.bolt_layout.specs.{Limits.HaveRightLimits, Limits.cut_within, declared.Layout.Layout}
+use Rattle.bolt_bulk.specs.{Private.OpenRuns.BucketFrame, Private.OpenRuns.Open, Private.OpenRuns.Upper, Private.OpenRuns.key_size, Private.OpenRuns.pushing, Private.RowLimits.bucket_limit}
 
 -- These are all pages of a level. This is the page at the top over them, and the limits give the rows above as the layout has them.
 pub record IsUnder (which : Layout) (page_size : ℕ) (limits : ℕ → Option ℕ) (pages : List (Laid BranchElement)) (root : Laid BranchElement) : Type 0 where

@@ -1,17 +1,13 @@
 -- What the end of a pass leaves, and what is known of the members of a listing.
 use Rattle.std.specs.Prelude.{◌≡◌, ◌<◌, ◌≤◌, List, [], ◌∷◌, ◌++◌, length, true, Result, IfErr, IfOk, OnErr}
-use Rattle.bolt_check.specs.Keys.{Key}
-use Rattle.bolt_format.specs.{ElementLengths.IsValueLength, Sinks.AppendsProperPrefix}
+use Rattle.bolt_check.specs.{Keys.Key, Counts.saturated}
+use Rattle.bolt_format.specs.{ElementLengths.IsValueLength, Sinks.AppendsProperPrefix, Wrote.Wrote, declared.sink.Sink.Ghosts}
 use Rattle.bolt_tree.specs.{Entries.Bucket, Entries.Item, Entries.Value, Listing.Member, Paths.Path}
 use Rattle.bolt_layout.specs.{Laid.Placed, Layout.layout_held, Layout.layout_mark, Layout.layout_pages, Layout.layout_root, Layout.placed_bytes}
 use Rattle.bolt_layout.specs.declared.Layout.TheVariants.{Balanced, Plain}
-use Rattle.bolt_bulk.specs.{Private.FormatLimits.longest_key}
-use Rattle.bolt_check.specs.Counts.{saturated}
-use Rattle.bolt_bulk.specs.{Private.Passes.FitLimits, Private.Passes.Wanted, Private.Passes.limits_with, declared.page_setup.PageSetup.PageSetup}
-use Rattle.bolt_bulk.specs.declared.bulk_fault.BulkFault.{BulkFault}
+use Rattle.bolt_bulk.specs.{Private.FormatLimits.longest_key, Private.Passes.FitLimits, Private.Passes.Wanted, Private.Passes.limits_with, declared.page_setup.PageSetup.PageSetup}
+use Rattle.bolt_bulk.specs.{declared.bulk_fault.BulkFault.BulkFault, declared.pass.Ended.Ended, BulkEndings.bulk_ending}
 use Rattle.bolt_bulk.specs.declared.bulk_fault.BulkFault.TheVariants as fault
-use Rattle.bolt_bulk.specs.{declared.pass.Ended.Ended, BulkEndings.bulk_ending}
-use Rattle.bolt_format.specs.{Wrote.Wrote, declared.sink.Sink.Ghosts}
 
 -- The root page, the high-water mark and the number of items held are returned and, if they are asked for, the limits that yield the balanced
 -- layout.

@@ -3,9 +3,8 @@ use Rattle.std.specs.Prelude.{◌≡◌, ◌<◌, ◌≤◌, ℕ, ◌+◌, ◌*�
 use Rattle.std.specs.List.{AllByRecursion}
 use Rattle.bolt_format.specs.{ElementPlaces.leaf_view, Elements.LeafElement, declared.element.Leaf.Leaf, Encoded.head_bytes}
 use Rattle.bolt_layout.specs.PageBytes.{inline_value, leaf_data}
-use Rattle.bolt_bulk.specs.{declared.held.Held.Held, declared.held.Stored.Stored}
+use Rattle.bolt_bulk.specs.{declared.held.Held.Held, declared.held.Stored.Stored, Private.FormatLimits.length_end, Private.FormatLimits.longest_key}
 use Rattle.bolt_bulk.specs.declared.held.Stored.TheVariants as stored
-use Rattle.bolt_bulk.specs.Private.FormatLimits.{length_end, longest_key}
 
 -- the entries of the inline buckets of a run are in one list
 abbrev pub entries_in : List Leaf → (first count : ℕ) → List LeafElement

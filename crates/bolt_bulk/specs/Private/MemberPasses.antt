@@ -3,10 +3,8 @@ use Rattle.std.specs.Prelude.{◌≡◌, ◌≤◌, ◌<◌, ℕ, Bool, List, []
 use Rattle.bolt_format.specs.declared.sink.Sink.{Ghosts}
 use Rattle.bolt_tree.specs.{Listing.Member, Tree.tree_of}
 use Rattle.bolt_layout.specs.{Copies.IsOfOneTree, Copies.layout_of_listing, declared.Layout.Layout}
-use Rattle.bolt_bulk.specs.{Compacting.too_many, WholeListings.IsAgain}
-use Rattle.bolt_bulk.specs.Private.{Endings.EndsPass, Endings.ReturnsEnded, Passes.FitLimits, Passes.limits_with, Stops.stops_as_planned}
-use Rattle.bolt_bulk.specs.{declared.bulk_fault.BulkFault.BulkFault, declared.limits.Limits.Limits, declared.page_setup.PageSetup.PageSetup}
-use Rattle.bolt_bulk.specs.declared.pass.Ended.{Ended}
+use Rattle.bolt_bulk.specs.{Compacting.too_many, WholeListings.IsAgain, Private.Endings.EndsPass, Private.Endings.ReturnsEnded, Private.Passes.FitLimits, Private.Passes.limits_with}
+use Rattle.bolt_bulk.specs.{Private.Stops.stops_as_planned, declared.bulk_fault.BulkFault.BulkFault, declared.limits.Limits.Limits, declared.page_setup.PageSetup.PageSetup, declared.pass.Ended.Ended}
 use Rattle.bolt_bulk.specs.{declared.bulk_fault.PlanFault.PlanFault, declared.bulk_fault.PlanFault.TheVariants.TooLarge}
 
 -- the limits are right for each tree that is listed

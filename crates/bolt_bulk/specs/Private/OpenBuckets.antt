@@ -5,8 +5,7 @@ use Rattle.bolt_format.specs.Elements.{BranchElement}
 use Rattle.bolt_layout.specs.Levels.{overflow_of}
 use Rattle.bolt_bulk.specs.{Private.FormatLimits.length_end, Private.BranchRuns.IsStanding, Private.BranchRuns.runs_above, Private.BranchRuns.runs_end_next}
 use Rattle.bolt_bulk.specs.Private.HeldItems.{HoldsLeaves, held_views, inlined_in, page_size_of}
-use Rattle.bolt_bulk.specs.{Private.RunViews.LeafRunView, Private.RunViews.BucketRunsView, Private.RunViews.leaf_key, declared.leaf_run.LeafRun.LeafRun}
-use Rattle.bolt_bulk.specs.declared.bucket_runs.BucketRuns.{BucketRuns}
+use Rattle.bolt_bulk.specs.{Private.RunViews.LeafRunView, Private.RunViews.BucketRunsView, Private.RunViews.leaf_key, declared.leaf_run.LeafRun.LeafRun, declared.bucket_runs.BucketRuns.BucketRuns}
 
 -- the view of a run of items
 abbrev pub leaf_run_view : LeafRun → LeafRunView

@@ -3,8 +3,7 @@
 -- below begins the next run.
 use Rattle.std.specs.Prelude.{ℕ, suc, ◌+◌, Bool, ◌||◌, ◌&&◌, nat_lt, nat_le, List, [], ◌∷◌, ◌++◌, length, Option, None, if◌then◌else◌}
 use Rattle.bolt_format.specs.{Elements.BranchElement, Elements.LeafElement, Pages.PageView}
-use Rattle.bolt_layout.specs.{Layout.first_page, Cut.max_items, Cut.run_size}
-use Rattle.bolt_layout.specs.{Laid.Laid, Laid.Placed, Laid.elements_of, Laid.numbers_of, Laid.pages_of, Laid.size_of, Limits.is_out, Limits.one_less}
+use Rattle.bolt_layout.specs.{Layout.first_page, Cut.max_items, Cut.run_size, Laid.Laid, Laid.Placed, Laid.elements_of, Laid.numbers_of, Laid.pages_of, Laid.size_of, Limits.is_out, Limits.one_less}
 use Rattle.bolt_layout.specs.Levels.{branch_page_view, leaf_page_view, page_over, run_overflow}
 use Rattle.bolt_tree.specs.Tree.{Tree}
 use Rattle.bolt_bulk.specs.{Private.RowLimits.bucket_limit, declared.limits.BucketLimits.BucketLimits}

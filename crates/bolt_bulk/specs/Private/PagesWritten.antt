@@ -2,9 +2,8 @@
 use Rattle.std.specs.Prelude.{◌≡◌, ◌<◌, ℕ, List, IfErr, OnErr, OnOk, Result}
 use Rattle.bolt_format.specs.{Endings.page_ending, Sinks.AppendsProperPrefix, Wrote.Wrote, declared.sink.Sink.Ghosts}
 use Rattle.bolt_layout.specs.{Laid.Placed, Layout.placed_bytes}
-use Rattle.bolt_bulk.specs.{BulkEndings.bulk_ending, declared.bulk_fault.BulkFault.BulkFault}
+use Rattle.bolt_bulk.specs.{BulkEndings.bulk_ending, declared.bulk_fault.BulkFault.BulkFault, declared.page_setup.PageSetup.PageSetup}
 use Rattle.bolt_bulk.specs.declared.bulk_fault.BulkFault.TheVariants as fault
-use Rattle.bolt_bulk.specs.declared.page_setup.PageSetup.{PageSetup}
 
 -- A piece of a page is written. If the call fails, some of it is left out.
 abbrev pub WritesText : {S A E : Type 0} → Ghosts S → (old new : S) → List ℕ → Result A E → Type 0

@@ -1,25 +1,21 @@
 -- Where a pass is in the tree that it follows, as the code keeps it, and what a step of it leaves.
 use Rattle.std.specs.Prelude.{◌≡◌, ◌<◌, ◌≤◌, ℕ, suc, ◌+◌, ◌/◌, Bool, true, false, List, [], ◌∷◌, ◌++◌, length, map, reverse, Option, Some, None, Result, IfErr, OnOk}
 use Rattle.std.specs.List.{AllByRecursion}
-use Rattle.bolt_format.specs.{ElementPlaces.leaf_view, Elements.BranchElement, Elements.LeafElement, declared.element.Leaf.Leaf}
+use Rattle.bolt_format.specs.{ElementPlaces.leaf_view, Elements.BranchElement, Elements.LeafElement, declared.element.Leaf.Leaf, Wrote.Wrote, declared.sink.Sink.Ghosts}
 use Rattle.bolt_tree.specs.{Listing.Member, Tree.Tree, Tree.end, Tree.with_bucket, Tree.with_value}
-use Rattle.bolt_layout.specs.{Items.is_inline, Items.items_of, Items.root_of, Laid.Laid, Laid.Placed}
-use Rattle.bolt_layout.specs.{Layout.layout_mark, Layout.layout_pages, Layout.placed_bytes, Limits.HaveRightLimits, Limits.limit_at, Limits.limits_from_ends}
-use Rattle.bolt_layout.specs.Openings.{AreRight, leaf_pages, limits_for, opened_by, opened_in, row_ends_of}
-use Rattle.bolt_layout.specs.declared.Layout.TheVariants.{Plain}
+use Rattle.bolt_layout.specs.{Items.is_inline, Items.items_of, Items.root_of, Laid.Laid, Laid.Placed, Layout.layout_mark, Layout.layout_pages, Layout.placed_bytes}
+use Rattle.bolt_layout.specs.Limits.{HaveRightLimits, limit_at, limits_from_ends}
+use Rattle.bolt_layout.specs.{Openings.AreRight, Openings.leaf_pages, Openings.limits_for, Openings.opened_by, Openings.opened_in, Openings.row_ends_of, declared.Layout.TheVariants.Plain}
+use Rattle.bolt_layout.specs.declared.Layout.{Layout}
 use Rattle.bolt_bulk.specs.{declared.limits.Limits.Limits, Private.FormatLimits.longest_key, Private.Coming.IsPass, Private.RowLimits.limit_in}
-use Rattle.bolt_bulk.specs.{Private.HeldCounts.AreCounted, Private.HeldCounts.items_around, Private.HeldSoFar.held_so_far}
-use Rattle.bolt_check.specs.Counts.{saturated}
-use Rattle.bolt_bulk.specs.{Private.Parents.Parent, Private.Parents.left_in, Private.OpenBuckets.IsOpenBucket, Private.OpenBuckets.bucket_runs}
-use Rattle.bolt_bulk.specs.Private.BucketRuns.{AreOpenRuns}
-use Rattle.bolt_bulk.specs.Private.OpenRuns.{BucketFrame, Known, Open, all_put, base_in}
-use Rattle.bolt_bulk.specs.{Private.RunViews.BucketRunsView, Private.TakenItems.entries_size, Private.WaitingBuckets.IsWaiting}
-use Rattle.bolt_bulk.specs.{declared.page_setup.PageSetup.PageSetup, declared.bulk_fault.BulkFault.BulkFault}
-use Rattle.bolt_bulk.specs.declared.bulk_fault.BulkFault.TheVariants as fault
+use Rattle.bolt_bulk.specs.{Private.HeldCounts.AreCounted, Private.HeldCounts.items_around, Private.HeldSoFar.held_so_far, Private.Parents.Parent, Private.Parents.left_in}
+use Rattle.bolt_bulk.specs.{Private.OpenBuckets.IsOpenBucket, Private.OpenBuckets.bucket_runs, Private.BucketRuns.AreOpenRuns}
+use Rattle.bolt_bulk.specs.{Private.OpenRuns.BucketFrame, Private.OpenRuns.Known, Private.OpenRuns.Open, Private.OpenRuns.all_put, Private.OpenRuns.base_in, Private.RunViews.BucketRunsView}
+use Rattle.bolt_bulk.specs.{Private.TakenItems.entries_size, Private.WaitingBuckets.IsWaiting, declared.page_setup.PageSetup.PageSetup, declared.bulk_fault.BulkFault.BulkFault}
 use Rattle.bolt_bulk.specs.{declared.pass.Pass.Pass, declared.pending_bucket.PendingBucket.PendingBucket, declared.waiting_bucket.WaitingBucket.WaitingBucket}
 use Rattle.bolt_bulk.specs.{declared.noted_limits.NotedLimits.NotedLimits, BulkEndings.bulk_ending}
-use Rattle.bolt_layout.specs.declared.Layout.{Layout}
-use Rattle.bolt_format.specs.{Wrote.Wrote, declared.sink.Sink.Ghosts}
+use Rattle.bolt_check.specs.Counts.{saturated}
+use Rattle.bolt_bulk.specs.declared.bulk_fault.BulkFault.TheVariants as fault
 
 -- entries that are values, in front of a tree
 abbrev pub onto : List LeafElement → Tree → Tree

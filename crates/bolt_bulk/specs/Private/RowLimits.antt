@@ -1,10 +1,8 @@
 -- The limits of rows, as the code keeps them: only of the rows that have one.
 use Rattle.std.specs.Prelude.{◌≡◌, ◌⊎◌, ℕ, suc, true, false, None, List, Option, length, map}
-use Rattle.std.specs.BTreeMap.{get}
-use Rattle.std.specs.Ordering.{nat_cmp, ordering_then}
-use Rattle.std.specs.declared.cmp.Ordering.{Ordering}
-use Rattle.bolt_bulk.specs.{declared.branch_run.BranchRun.BranchRun, declared.limits.BucketLimits.BucketLimits, declared.limits.Limits.Limits}
-use Rattle.bolt_bulk.specs.{declared.noted_limits.NotedLimits.NotedLimits, declared.upper_runs.UpperRuns.UpperRuns}
+use Rattle.std.specs.{BTreeMap.get, Ordering.nat_cmp, Ordering.ordering_then, declared.cmp.Ordering.Ordering}
+use Rattle.bolt_bulk.specs.{declared.branch_run.BranchRun.BranchRun, declared.limits.BucketLimits.BucketLimits, declared.limits.Limits.Limits, declared.noted_limits.NotedLimits.NotedLimits}
+use Rattle.bolt_bulk.specs.declared.upper_runs.UpperRuns.{UpperRuns}
 use Rattle.bolt_layout.specs.Limits.{limit_at, limits_from_ends}
 
 abbrev pub row_cmp : (ℕ × ℕ) → (ℕ × ℕ) → Ordering

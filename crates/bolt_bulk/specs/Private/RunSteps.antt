@@ -1,18 +1,14 @@
 -- What a step of a bucket's open runs does: the pages that it writes, what is open then, and the number of the next page.
 use Rattle.std.specs.Prelude.{◌≡◌, ℕ, List, [], ◌∷◌, Option, Result, IfOk, OnOk, length, option_map}
-use Rattle.bolt_format.specs.{ElementPlaces.branch_view, Elements.BranchElement, Elements.LeafElement}
-use Rattle.bolt_format.specs.{declared.element.Branch.Branch, declared.sink.Sink.Ghosts}
+use Rattle.bolt_format.specs.{ElementPlaces.branch_view, Elements.BranchElement, Elements.LeafElement, declared.element.Branch.Branch, declared.sink.Sink.Ghosts}
 use Rattle.bolt_layout.specs.Laid.{Placed}
 use Rattle.bolt_bulk.specs.Private.BranchRuns.{own_element, run_taking, run_view, runs_above, runs_end_next, taking_next, taking_puts, taking_up}
-use Rattle.bolt_bulk.specs.Private.OpenBuckets.{bucket_end_next, bucket_runs, leaf_closed}
-use Rattle.bolt_bulk.specs.Private.{PagesWritten.Closes, PagesWritten.Writes, RowLimits.bucket_limit}
-use Rattle.bolt_bulk.specs.Private.RunViews.{BucketRunsView, LeafRunView, RunView, leaf_page, run_page, runs_climb, runs_close_put, runs_end, runs_end_put}
-use Rattle.bolt_bulk.specs.Private.RunViews.{runs_next, runs_push, runs_put, runs_room, runs_room_put, runs_root}
-use Rattle.bolt_bulk.specs.Private.TakenItems.{element_size, root_element, root_size, runs_taking}
-use Rattle.bolt_bulk.specs.{declared.branch_run.BranchRun.BranchRun, declared.bucket_runs.BucketRuns.BucketRuns, declared.bulk_fault.BulkFault.BulkFault}
-use Rattle.bolt_bulk.specs.{Private.Writers.next_after, declared.page_writer.PageWriter.PageWriter}
-use Rattle.bolt_bulk.specs.{declared.upper_runs.UpperRuns.UpperRuns, declared.pending_bucket.PendingBucket.PendingBucket}
-use Rattle.bolt_bulk.specs.declared.waiting_bucket.WaitingBucket.{WaitingBucket}
+use Rattle.bolt_bulk.specs.{Private.OpenBuckets.bucket_end_next, Private.OpenBuckets.bucket_runs, Private.OpenBuckets.leaf_closed, Private.PagesWritten.Closes, Private.PagesWritten.Writes}
+use Rattle.bolt_bulk.specs.Private.RowLimits.{bucket_limit}
+use Rattle.bolt_bulk.specs.Private.RunViews.{BucketRunsView, LeafRunView, RunView, leaf_page, run_page, runs_climb, runs_close_put, runs_end, runs_end_put, runs_next, runs_push, runs_put, runs_room, runs_room_put, runs_root}
+use Rattle.bolt_bulk.specs.{Private.TakenItems.element_size, Private.TakenItems.root_element, Private.TakenItems.root_size, Private.TakenItems.runs_taking, declared.branch_run.BranchRun.BranchRun}
+use Rattle.bolt_bulk.specs.{declared.bucket_runs.BucketRuns.BucketRuns, declared.bulk_fault.BulkFault.BulkFault, Private.Writers.next_after, declared.page_writer.PageWriter.PageWriter}
+use Rattle.bolt_bulk.specs.{declared.upper_runs.UpperRuns.UpperRuns, declared.pending_bucket.PendingBucket.PendingBucket, declared.waiting_bucket.WaitingBucket.WaitingBucket}
 
 -- a bucket has one item more, whatever the numbers of its pages are
 abbrev pub Pushes : (before after : BucketRuns) → LeafElement → (size : ℕ) → Type 0

@@ -1,8 +1,7 @@
 -- The spots that are still to be read for what bbolt fails on.
 use Rattle.std.specs.Prelude.{◌≤◌, ◌==◌, ◌&&◌, ℕ, Bool, List, [], Some, Result, Ok, Err, if◌then◌else◌, map, not, reverse}
 use Rattle.bolt_check.specs.{BboltFindings.first_leaf_depth, BboltFindings.spot_findings, Nodes.Node, Nodes.Nodes, Private.Pending.kids, ShownSpots.spot_at, Subtrees.Enough}
-use Rattle.bolt_check.specs.{Ways.At_inline, Ways.At_page, Ways.PageSpot, Ways.Spot, declared.for_bbolt.UnreadSpot.UnreadSpot}
-use Rattle.bolt_check.specs.declared.finding.Finding.{Finding}
+use Rattle.bolt_check.specs.{Ways.At_inline, Ways.At_page, Ways.PageSpot, Ways.Spot, declared.for_bbolt.UnreadSpot.UnreadSpot, declared.finding.Finding.Finding}
 
 -- a spot, whether it is in the root bucket, and the depth of the first leaf of the bucket that the page above it is in
 pub record Unread : Type 0 where

@@ -4,9 +4,8 @@ use Rattle.bolt_check.specs.declared.check_fault.CheckFault.TheVariants as check
 use Rattle.bolt_recover.specs.Losses.{everything}
 use Rattle.bolt_format.specs.declared.sink.Sink.{Ghosts}
 use Rattle.bolt_commands.specs.{Answers.Answer, Answers.JobEnding, Answers.refused, CheckAnswers.IsCheckAnswerAfter, CheckAnswers.check_refusal, CheckAnswers.lost_and_found_answer}
-use Rattle.bolt_commands.specs.{Private.Printing.PrintsAnswer, declared.check_command.Checking.Checking, declared.failure.Failure.Failure}
+use Rattle.bolt_commands.specs.{Private.Printing.PrintsAnswer, declared.commands.check_command.Checking.Checking, declared.failure.Failure.Failure, declared.file_faults.FileFaults.FileFaults}
 use Rattle.bolt_commands.specs.declared.failure.Failure.TheVariants as failure
-use Rattle.bolt_commands.specs.declared.file_faults.FileFaults.{FileFaults}
 use Rattle.bolt_job.specs.declared.choices.Extent.{Extent}
 
 abbrev pub ChecksTo : {S : Type 0} (sink : Ghosts S) (old new : S) → Extent → Checking → JobEnding → Type 0

@@ -6,12 +6,11 @@ use Rattle.bolt_layout.specs.Copies.{layout_of_listing}
 use Rattle.bolt_recover.specs.{Losses.LostView, LostAndFound.all_lost, declared.lost_and_found.LostAndFound.LostAndFound}
 use Rattle.bolt_report.specs.FoundLines.{found_view}
 use Rattle.bolt_tree.specs.Listing.{Member}
-use Rattle.bolt_commands.specs.{Answers.JobEnding, CopyAnswers.copy_page_size, CopyEnds.EndsCopy, FilesRead.IsReadTo, FilesRead.IsSalvaged, FilesRead.IsUnjoinedUnder, FilesRead.IsUnreadTo, JobAnswers.Loads, JobAnswers.MakesCopy}
-use Rattle.bolt_commands.specs.{CopyLayouts.layout_for, Failures.copied, GoodCopies.IsGoodCopy, Private.Endings.failing}
-use Rattle.bolt_commands.specs.Private.Opened.{opened_found, opened_lost, opened_meta}
-use Rattle.bolt_commands.specs.declared.{failure.Failure.Failure, opened.Opened.Opened}
-use Rattle.bolt_job.specs.{declared.choices.CopyKind.CopyKind, declared.choices.PageSize.PageSize}
-use Rattle.bolt_job.specs.{CopyKinds.is_snapshot, declared.writing_commands.CompactJob.CompactJob, declared.writing_commands.LoadJob.LoadJob}
+use Rattle.bolt_commands.specs.{Answers.JobEnding, CopyAnswers.copy_page_size, CopyEnds.EndsCopy, FilesRead.IsReadTo, FilesRead.IsSalvaged, FilesRead.IsUnjoinedUnder, FilesRead.IsUnreadTo}
+use Rattle.bolt_commands.specs.{JobAnswers.Loads, JobAnswers.MakesCopy, CopyLayouts.layout_for, Failures.copied, GoodCopies.IsGoodCopy, Private.Endings.failing}
+use Rattle.bolt_commands.specs.{Private.Opened.opened_found, Private.Opened.opened_lost, Private.Opened.opened_meta, declared.failure.Failure.Failure, declared.opened.Opened.Opened}
+use Rattle.bolt_job.specs.{declared.choices.CopyKind.CopyKind, declared.choices.PageSize.PageSize, CopyKinds.is_snapshot, declared.writing_commands.CompactJob.CompactJob}
+use Rattle.bolt_job.specs.declared.writing_commands.LoadJob.{LoadJob}
 
 module _ {O T : Type 0} (out : Ghosts O) (out_old out_new : O) (target : Ghosts T) (target_old target_new : T) where
   abbrev pub CompactsTo : CompactJob → List ℕ → JobEnding → Type 0

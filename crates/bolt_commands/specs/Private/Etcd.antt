@@ -6,7 +6,7 @@ use Rattle.bolt_text.specs.declared.report_fault.ReportFault.{ReportFault}
 use Rattle.bolt_tree.specs.{BucketViews.entries_of, Buckets.bucket_checked, Buckets.bucket_start, Entries.IsEntry, Entries.Root_page, Lookups.IsBucketAt}
 use Rattle.bolt_job.specs.declared.choices.MetaChoice.{MetaChoice}
 use Rattle.bolt_commands.specs.{Answers.JobEnding, EtcdAnswers.others_ending, Failures.reported, FilesRead.IsReadUnder, Private.Opened.IsUnread}
-use Rattle.bolt_commands.specs.declared.{etcd_commands.Store.Store, failure.Failure.Failure}
+use Rattle.bolt_commands.specs.declared.{etcd_store.Store.Store, failure.Failure.Failure}
 use Rattle.bolt_commands.specs.declared.failure.Failure.TheVariants as failure
 
 -- what is read of a file under this choice

@@ -10,7 +10,7 @@ use Rattle.bolt_recover.specs.{declared.found.Found.Found, declared.joined.Joine
 use Rattle.bolt_tree.specs.{Buckets.bucket_checked, Buckets.bucket_start, Paths.Path, declared.bucket.Bucket.Bucket}
 use Rattle.bolt_commands.specs.{Answers.refused, FilesRead.IsFileRefusal, FilesRead.IsReadUnder, FilesRead.IsRecoveredUnder, FilesRead.IsRefusedUnder, FilesRead.IsUnreadTo, FilesRead.LeadsNowhere, FilesRead.LeadsTo}
 use Rattle.bolt_job.specs.{MetaChoices.HasNoMetaOf, MetaChoices.IsMetaOf, declared.choices.Extent.Extent, declared.choices.MetaChoice.MetaChoice}
-use Rattle.bolt_job.specs.declared.choices.Extent.TheVariants.{First, LostAndFound as Joins, Losses}
+use Rattle.bolt_job.specs.declared.choices.Extent.TheVariants.{Losses, LostAndFound as Joins, Sound}
 use Rattle.bolt_commands.specs.declared.failure.Failure.{Failure}
 use Rattle.bolt_commands.specs.declared.failure.Failure.TheVariants as failure
 use Rattle.bolt_commands.specs.declared.opened.Opened.{Opened}
@@ -61,7 +61,7 @@ pub record IsSoundOf (file : List ℕ) (choice : MetaChoice) (checked : Checked)
 
 -- to this extent
 abbrev pub IsOpened : Extent → List ℕ → MetaChoice → Opened → Type 0
-IsOpened extent file choice (opened.Sound checked) = (extent ≡ First) × IsSoundOf file choice checked
+IsOpened extent file choice (opened.Sound checked) = (extent ≡ Sound) × IsSoundOf file choice checked
 IsOpened extent file choice (opened.Recovered recovery) = (extent ≡ Losses) × IsRecoveryOf file choice recovery
 IsOpened extent file choice (opened.Searched both) = (extent ≡ Joins) × IsSearchOf file choice both
 
@@ -84,7 +84,7 @@ opened_found (opened.Searched both) = both.found.items
 -- all that is lost is known, if that was looked for
 abbrev pub IsLostKnown : (before after : Opened) → Type 0
 IsLostKnown before after =
-    (extent : Extent) (file : List ℕ) (choice : MetaChoice) → IsOpened extent file choice before → extent ≢ First → IsAllLost file (opened_meta before) (opened_lost after)
+    (extent : Extent) (file : List ℕ) (choice : MetaChoice) → IsOpened extent file choice before → extent ≢ Sound → IsAllLost file (opened_meta before) (opened_lost after)
 
 -- why a file isn't searched: it has no such meta, or memory ran out
 abbrev pub IsUnsearched : List ℕ → MetaChoice → Failure → Type 0
@@ -94,6 +94,6 @@ IsUnsearched file choice why =
 
 -- why it isn't opened to this extent
 abbrev pub IsUnopened : Extent → List ℕ → MetaChoice → Failure → Type 0
-IsUnopened First file choice why = IsUnreadTo First file choice why
+IsUnopened Sound file choice why = IsUnreadTo Sound file choice why
 IsUnopened Losses file choice why = IsUnreadTo Losses file choice why
 IsUnopened Joins file choice why = IsUnsearched file choice why

@@ -5,8 +5,8 @@ use Rattle.std.specs.Option.{IfNone}
 use Rattle.bolt_tree.specs.{Entries.Value, Listing.Member, ListingParts.has_bucket, Paths.Path}
 use Rattle.bolt_job.specs.PlainWords.{owned_path}
 use Rattle.bolt_report.specs.MemberNames.{is_wanted}
-use Rattle.bolt_commands.specs.{Answers.Answer, Answers.JobEnding, FilesRead.lost_ending, FilesRead.parents_of, KeyAnswers.IsNamesAnswer, KeyAnswers.IsRecoveredAnswer, KeyAnswers.no_bucket, KeyAnswers.no_key}
-use Rattle.bolt_commands.specs.declared.{failure.Failure.Failure, recovered_commands.AtPath.AtPath, recovered_commands.RecoveredNames.RecoveredNames, shortfall.Shortfall.Shortfall}
+use Rattle.bolt_commands.specs.{Answers.Answer, Answers.JobEnding, FilesRead.lost_ending, KeyAnswers.IsNamesAnswer, KeyAnswers.IsRecoveredAnswer, KeyAnswers.no_bucket, KeyAnswers.no_key}
+use Rattle.bolt_commands.specs.declared.{failure.Failure.Failure, recovered_names.RecoveredNames.RecoveredNames, shortfall.Shortfall.Shortfall}
 
 -- the names that are asked for of what is recovered
 abbrev pub IsNamesPrint : RecoveredNames → List ℕ → Answer → Type 0
@@ -15,12 +15,6 @@ IsNamesPrint asked file = IsRecoveredAnswer file asked.meta (IsNamesAnswer asked
 -- how a job ends that put what is recovered of a bucket, if that was found
 abbrev pub bucket_ending : (found : Bool) → Option Shortfall → JobEnding
 bucket_ending found lost = if found then lost_ending lost else Err (no_bucket lost)
-
--- what these members hold at a path
-pub record HoldsNow (members : List Member) (path : Path) (at : AtPath) : Type 0 where
-  pub value : IfSome at.value (λ value. Contains members (path, Value value.now))
-  pub none : IfNone at.value ((value : List ℕ) → Contains members (path, Value value) → ⊥)
-  pub bucket : at.has_bucket ≡ has_bucket (parents_of path) members
 
 -- the value, or why there is none
 abbrev pub value_or_why : (value : Option (Bor (List ℕ))) (has_bucket : Bool) → Option Shortfall → Result (Bor (List ℕ)) Failure

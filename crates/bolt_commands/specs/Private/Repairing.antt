@@ -8,7 +8,7 @@ use Rattle.bolt_repair.specs.{Repaired.IsRepaired, RepairedMembers.repair_file, 
 use Rattle.bolt_tree.specs.Listing.{Member}
 use Rattle.bolt_commands.specs.{Answers.Answer, Answers.JobEnding, JobAnswers.MakesRepair, RepairAnswers.repair_report}
 use Rattle.bolt_commands.specs.Private.Copying.{CopiesListing, blueprint_layout}
-use Rattle.bolt_commands.specs.declared.{failure.Failure.Failure, repair_command.RepairReport.RepairReport}
+use Rattle.bolt_commands.specs.declared.{failure.Failure.Failure, commands.etcd_repair_command.RepairReport.RepairReport}
 use Rattle.bolt_commands.specs.declared.failure.Failure.TheVariants.{Memory}
 
 abbrev pub RepairsTo : {O T : Type 0} (out : Ghosts O) (out_old out_new : O) (target : Ghosts T) (target_old target_new : T) → EtcdRepairJob → List ℕ → JobEnding → Type 0

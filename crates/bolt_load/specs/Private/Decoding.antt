@@ -2,8 +2,7 @@
 use Rattle.std.specs.Prelude.{◌≡◌, ◌<◌, ℕ, List, [], ◌∷◌, ◌++◌, All, IsSome, Option, Some, None, length, take, flat_map}
 use Rattle.bolt_tree.specs.{Entries.Bucket, Entries.Item, Entries.Value, Listing.Member, Paths.Path}
 use Rattle.bolt_text.specs.{LineMembers.line_member, LineMembers.members_of_lines, Lines.Text, Lines.lines_of}
-use Rattle.bolt_load.specs.LineFaults.{shape_fault}
-use Rattle.bolt_load.specs.declared.load_fault.LineFault.{LineFault}
+use Rattle.bolt_load.specs.{LineFaults.shape_fault, declared.load_fault.LineFault.LineFault}
 
 abbrev pub path_bytes : Path → List ℕ
 path_bytes path = flat_map (λ part. part) path

@@ -4,8 +4,7 @@ use Rattle.std.specs.List.{flat_map}
 use Rattle.bolt_format.specs.{Elements.LeafElement, declared.meta.Meta.Meta}
 use Rattle.bolt_check.specs.{Counts.counted, Nodes.Node, Nodes.Nodes, Nodes.node_at, Ways.At_inline, Ways.At_page, Ways.Spot, declared.finding.Finding.Finding}
 use Rattle.bolt_tree.specs.{Entries.item_of, Listing.Member, Paths.Path}
-use Rattle.bolt_recover.specs.{Losses.LossView, Losses.loss_at, PageWays.is_at_page, Private.Tests.test, Sites.Site, Sites.root_site, Sites.step_site}
-use Rattle.bolt_recover.specs.Surveys.{SurveyedWay}
+use Rattle.bolt_recover.specs.{Losses.LossView, Losses.loss_at, PageWays.is_at_page, Private.Tests.test, Sites.Site, Sites.root_site, Sites.step_site, Surveys.SurveyedWay}
 
 abbrev pub Way : Type 0
 Way = List ℕ

@@ -5,8 +5,7 @@ use Rattle.bolt_check.specs.Keys.{Key}
 use Rattle.bolt_format.specs.{Elements.LeafElement, ElementsLeft.leaves_left, TreePages.leaves_on}
 use Rattle.bolt_tree.specs.{Entries.Bucket, Listing.Member, Paths.Path, Paths.path_of, ShownEntries.item_view, Tree.end, Tree.listing_below, Walks.GivesNext}
 use Rattle.bolt_tree.specs.declared.entry.Item as shown
-use Rattle.bolt_recover.specs.{Joined.found_tree, Joined.inside_of, Joined.lost_and_found, Joined.tree_of_elements}
-use Rattle.bolt_recover.specs.{declared.found.Found.Found, declared.found_members.FoundMembers.FoundMembers}
+use Rattle.bolt_recover.specs.{Joined.found_tree, Joined.inside_of, Joined.lost_and_found, Joined.tree_of_elements, declared.found.Found.Found, declared.found_members.FoundMembers.FoundMembers}
 
 -- found pages of the code with their elements
 abbrev pub found_pages_of : List Found → List (ℕ × List LeafElement)

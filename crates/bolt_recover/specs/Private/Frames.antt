@@ -1,21 +1,17 @@
 -- The open pages of the code as what is still to be done.
 use Rattle.std.specs.Prelude.{◌≡◌, ◌≤◌, ◌<◌, IsTrue, ℕ, ◌+◌, ◌-◌, ◌*◌, Bool, true, false, List, [], ◌∷◌, ◌++◌, length, map, take, Option, Some, None, Ok, slice_get, sum_by}
 use Rattle.std.specs.Option.{option_map}
-use Rattle.bolt_format.specs.{ElementPlaces.leaf_view, Elements.IsBucketValue, Elements.LeafElement}
+use Rattle.bolt_format.specs.{ElementPlaces.leaf_view, Elements.IsBucketValue, Elements.LeafElement, Pages.page_at, ShownInline.shown_inline, TreePages.page_keys, TreePages.shown_page}
+use Rattle.bolt_format.specs.{declared.meta.Meta.Meta, declared.tree_page.TreePage.TreePage}
 use Rattle.bolt_format.specs.declared.element.Leaf as element
-use Rattle.bolt_format.specs.{Pages.page_at, ShownInline.shown_inline, TreePages.page_keys, TreePages.shown_page, declared.meta.Meta.Meta}
-use Rattle.bolt_format.specs.declared.tree_page.TreePage.{TreePage}
-use Rattle.bolt_check.specs.{Claims.claims_file, Claims.claims_meta, Claims.claims_nodes, Claims.claims_visited, Claims.is_claimed, Nodes.node_at}
-use Rattle.bolt_check.specs.{ShownNodes.is_leaf_page, ShownNodes.shown_node, ShownSpots.spot_at, Ways.Spot}
-use Rattle.bolt_check.specs.{declared.claims.Claims.Claims, declared.finding.Finding.Finding, declared.spot.Spot.Spot as CodeSpot}
+use Rattle.bolt_check.specs.{Claims.claims_file, Claims.claims_meta, Claims.claims_nodes, Claims.claims_visited, Claims.is_claimed, Nodes.node_at, ShownNodes.is_leaf_page, ShownNodes.shown_node}
+use Rattle.bolt_check.specs.{ShownSpots.spot_at, Ways.Spot, declared.claims.Claims.Claims, declared.finding.Finding.Finding, declared.spot.Spot.Spot as CodeSpot}
 use Rattle.bolt_check.specs.declared.spot.Spot.TheVariants as spots
 use Rattle.bolt_tree.specs.{Entries.item_of, Listing.Member, Paths.Path, Paths.path_of}
 use Rattle.bolt_recover.specs.{Losses.LossView, Losses.loss_on, Sites.Site, Sites.leaves_of, Sites.step_site}
 use Rattle.bolt_recover.specs.Private.Courses.{Event, Outcome, Task, To_visit, Way, after_events, all_events, claimed_after, events, further, members_of, outcome_of, tasks_from}
-use Rattle.bolt_recover.specs.{ShownLosses.loss_view, declared.kept_page.KeptPage.KeptPage}
-use Rattle.bolt_recover.specs.declared.kept_page.OpenPage.{OpenPage}
-use Rattle.bolt_recover.specs.{declared.steps.NextVisit.NextVisit, declared.steps.Steps.Steps, declared.steps.Taken.Taken}
-use Rattle.bolt_recover.specs.declared.steps.Taken.TheVariants.{End, Leaf, Nothing}
+use Rattle.bolt_recover.specs.{ShownLosses.loss_view, declared.kept_page.KeptPage.KeptPage, declared.kept_page.OpenPage.OpenPage, declared.steps.NextVisit.NextVisit, declared.steps.Steps.Steps}
+use Rattle.bolt_recover.specs.{declared.steps.Taken.Taken, declared.steps.Taken.TheVariants.End, declared.steps.Taken.TheVariants.Leaf, declared.steps.Taken.TheVariants.Nothing}
 
 -- what a spot leads to
 abbrev pub spot_elements : List ℕ → Meta → CodeSpot → List LeafElement

@@ -1,13 +1,10 @@
 -- What makes a joined listing out of what is recovered and what is found.
 use Rattle.std.specs.Prelude.{◌≡◌, ◌≢◌, ◌<◌, ◌*◌, ◌^◌, ℕ, Bool, false, ◌||◌, List, [], ◌∷◌, length}
-use Rattle.std.specs.List.{All}
-use Rattle.std.specs.declared.cmp.Ordering.{Ordering}
-use Rattle.std.specs.declared.cmp.Ordering.TheVariants.{Less}
+use Rattle.std.specs.{List.All, declared.cmp.Ordering.Ordering, declared.cmp.Ordering.TheVariants.Less}
 use Rattle.bolt_check.specs.Keys.{key_cmp}
 use Rattle.bolt_format.specs.declared.meta.Meta.{Meta}
 use Rattle.bolt_tree.specs.{Listing.Member, Paths.Path}
-use Rattle.bolt_recover.specs.{Found.AreFound, Found.found_numbers, Joined.LacksBucketKey, Joined.is_found_path, Joined.lost_and_found, Recovered.ForRecovered}
-use Rattle.bolt_recover.specs.ShownFound.{IsFoundView}
+use Rattle.bolt_recover.specs.{Found.AreFound, Found.found_numbers, Joined.LacksBucketKey, Joined.is_found_path, Joined.lost_and_found, Recovered.ForRecovered, ShownFound.IsFoundView}
 use Rattle.bolt_recover.specs.declared.found.Found.{Found}
 
 -- how the first part of a path compares with the key of the bucket of what is found

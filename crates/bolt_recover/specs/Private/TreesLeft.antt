@@ -3,9 +3,8 @@ use Rattle.std.specs.Prelude.{◌≡◌, ℕ, List, [], map}
 use Rattle.std.specs.List.{All}
 use Rattle.bolt_format.specs.declared.meta.Meta.{Meta}
 use Rattle.bolt_check.specs.CheckedFiles.{bytes_of, meta_of}
-use Rattle.bolt_recover.specs.{Found.AreFound, Found.found_numbers, Losses.LostView, Losses.everything, Losses.parts, Lost.IsAllLost}
-use Rattle.bolt_recover.specs.{Private.Joining.TellsBucketKey, Recovered.ForRecovered, ShownFound.IsFoundView, ShownLosses.loss_view}
-use Rattle.bolt_recover.specs.{declared.found.Found.Found, declared.lost_and_found.Trees.Trees}
+use Rattle.bolt_recover.specs.{Found.AreFound, Found.found_numbers, Losses.LostView, Losses.everything, Losses.parts, Lost.IsAllLost, Private.Joining.TellsBucketKey, Recovered.ForRecovered}
+use Rattle.bolt_recover.specs.{ShownFound.IsFoundView, ShownLosses.loss_view, declared.found.Found.Found, declared.lost_and_found.Trees.Trees}
 use Rattle.bolt_recover.specs.declared.lost_and_found.Trees.TheVariants.{Damaged, Rootless, Sound}
 
 abbrev pub lost_of : Trees → LostView

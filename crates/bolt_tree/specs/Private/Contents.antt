@@ -1,8 +1,7 @@
 -- What a page of the tree shows, as a leaf or a branch: what the cursor sees of it.
 use Rattle.std.specs.Prelude.{ℕ, List, [], length, map, Option, Some, None}
-use Rattle.bolt_format.specs.{Elements.BranchElement, Elements.LeafElement, Pages.PageView, Pages.page_at, declared.header.Kind.Kind}
+use Rattle.bolt_format.specs.{Elements.BranchElement, Elements.LeafElement, Pages.PageView, Pages.page_at, declared.header.Kind.Kind, declared.meta.Meta.Meta}
 use Rattle.bolt_format.specs.declared.header.Kind.TheVariants as kind
-use Rattle.bolt_format.specs.declared.meta.Meta.{Meta}
 use Rattle.bolt_check.specs.{CheckedFiles.bytes_of, CheckedFiles.meta_of, Keys.Key, declared.checked.Checked.Checked}
 
 -- the elements of a leaf or of a branch

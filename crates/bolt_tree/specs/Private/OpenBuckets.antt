@@ -4,13 +4,11 @@ use Rattle.std.specs.Prelude.{◌≡◌, ℕ, Bool, true, false, IsTrue, List, [
 use Rattle.bolt_format.specs.{Elements.IsBucketValue, Elements.LeafElement, ElementPlaces.leaf_view, declared.element.Leaf.Leaf}
 use Rattle.bolt_check.specs.{Keys.Key, declared.checked.Checked.Checked}
 use Rattle.bolt_tree.specs.{Buckets.bucket_checked, Buckets.bucket_start, BucketViews.entries_of, FileListings.ForListing, FileListings.root_start}
-use Rattle.bolt_tree.specs.{Entries.AreEntries, Entries.Start, Entries.item_of, Entries.start_of, Listing.Member, Listing.rest_from}
-use Rattle.bolt_tree.specs.{Paths.HasEntries, Paths.Names, Paths.Path, Paths.path_of, Places.On, RestAfter.rest_after, RestAfter.beyond}
-use Rattle.bolt_tree.specs.{Private.CursorViews.innermost_views, Private.Kept.CursorView, Private.Kept.kept_views, declared.bucket.Bucket.Bucket}
+use Rattle.bolt_tree.specs.{Entries.AreEntries, Entries.Start, Entries.item_of, Entries.start_of, Listing.Member, Listing.rest_from, Paths.HasEntries, Paths.Names, Paths.Path, Paths.path_of}
+use Rattle.bolt_tree.specs.{Places.On, RestAfter.rest_after, RestAfter.beyond, Private.CursorViews.innermost_views, Private.Kept.CursorView, Private.Kept.kept_views, declared.bucket.Bucket.Bucket}
 use Rattle.bolt_tree.specs.declared.open_buckets.WalkStep.{WalkStep}
 use Rattle.bolt_tree.specs.declared.open_buckets.WalkStep.TheVariants.{Begin, Enter, Give, Leave}
-use Rattle.bolt_tree.specs.declared.open_buckets.PartResult.{PartResult}
-use Rattle.bolt_tree.specs.declared.open_buckets.PartResult.TheVariants.{Here, Inside}
+use Rattle.bolt_tree.specs.{declared.open_buckets.PartResult.PartResult, declared.open_buckets.PartResult.TheVariants.Here, declared.open_buckets.PartResult.TheVariants.Inside}
 use Rattle.bolt_tree.specs.declared.open_buckets.OpenBuckets.{OpenBuckets}
 
 -- the cursors, from the root bucket's on: those that wait, and then the innermost one

@@ -8,7 +8,7 @@ stands_before true key sought = not (key_lt sought key)
 stands_before false key sought = key_lt key sought
 
 -- the place of a key among keys: those before it come before, and the others don't
-pub record IsPlaceOf (keys : List Key) (or_equal : Bool) (sought : Key) (n : ℕ) : Type 0 where
+pub record IsNumberBefore (keys : List Key) (or_equal : Bool) (sought : Key) (n : ℕ) : Type 0 where
   pub below : (k : ℕ) (key : Key) → k < n → slice_get keys k ≡ Some key → stands_before or_equal key sought ≡ true
   pub above : (k : ℕ) (key : Key) → n ≤ k → slice_get keys k ≡ Some key → stands_before or_equal key sought ≡ false
 

@@ -1,7 +1,6 @@
 -- What the laws say of a listing of one tree holds where it is only known to be one.
 use Rattle.std.proofs.Common.{List, subst}
-use Rattle.std.proofs.Math.Logic.{∥∥₁_elim, ∥∥₁_map}
-use Rattle.std.proofs.Props.{props}
+use Rattle.std.proofs.{Math.Logic.∥∥₁_elim, Math.Logic.∥∥₁_map, Props.props}
 use Rattle.std.specs.Prelude.{◌≤◌}
 use Rattle.bolt_tree.specs.{Listing.Member, Tree.tree_of}
 use Rattle.bolt_layout.specs.{Held.most_held, Layout.layout_held}

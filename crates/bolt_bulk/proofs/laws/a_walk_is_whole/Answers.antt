@@ -1,8 +1,8 @@
 -- The trees of a checked file are only known to be sound.
 use Rattle.std.proofs.Math.Logic.{∥∥₁_map}
-use Rattle.bolt_check.proofs.CheckedLemmas.{checked_trees}
+use Rattle.bolt_check.proofs.Exports.{checked_trees}
 use Rattle.bolt_check.specs.CheckedFiles.{bytes_of, meta_of}
-use Rattle.bolt_tree.proofs.Measured.{is_the_listing}
+use Rattle.bolt_tree.proofs.Exports.{is_the_listing}
 use Rattle.bolt_tree.specs.{Walks.walk_checked, WalksLeft.the_listing}
 use Rattle.bolt_bulk.proofs.laws.a_walk_is_whole.Goals as goal
 

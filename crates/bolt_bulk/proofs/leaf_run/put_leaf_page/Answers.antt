@@ -1,5 +1,5 @@
 use Rattle.std.proofs.Common.{◌+◌, ◌*◌, ◌<◌, arith, length}
-use Rattle.bolt_format.proofs.WroteLemmas.{Wrote-return_cut, Wrote-then}
+use Rattle.bolt_format.proofs.Exports.{Wrote-return_cut, Wrote-then}
 use Rattle.bolt_bulk.specs.Private.{data_size, held_view, length_end}
 use Rattle.bolt_bulk.proofs.{HeldPuts.held_data, HeldPuts.held_length, HeldPuts.leaf_run_wrote, LeafPuts.key_by, PutsLemmas.puts}
 use Rattle.bolt_bulk.proofs.leaf_run.put_leaf_page.Goals as goal

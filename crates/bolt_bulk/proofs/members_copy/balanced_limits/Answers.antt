@@ -1,12 +1,11 @@
 -- The plain layout is never 28 times larger than the balanced one, so a pass over it that finds no room notes that neither has any.
 use Rattle.std.proofs.Common.{ℕ, refl, ap, subst, arith}
 use Rattle.std.proofs.lemmas.Result.{err_from_is_err_and}
-use Rattle.bolt_tree.specs.{Tree.tree_of}
+use Rattle.bolt_tree.specs.Tree.{tree_of}
 use Rattle.bolt_layout.specs.{Layout.layout_mark, declared.Layout.TheVariants.Balanced, declared.Layout.TheVariants.Plain}
 use Rattle.bolt_bulk.specs.Private.{FitLimits, limits_with, stopped_by}
-use Rattle.bolt_bulk.proofs.{FileLayouts.balanced_too_large, Openings.fit_plain}
+use Rattle.bolt_bulk.proofs.{FileLayouts.balanced_too_large, Openings.fit_plain, members_copy.balanced_limits.Goals.After-noting_setup_of-setup}
 use Rattle.bolt_bulk.proofs.members_copy.balanced_limits.Goals as goal
-use Rattle.bolt_bulk.proofs.members_copy.balanced_limits.Goals.{After-noting_setup_of-setup}
 
 -- no limits are right for the plain layout
 none_fit : (g : _) (c : After-noting_setup_of-setup g) (whole : g.M.Members.Whole) → FitLimits Plain (tree_of (g.M.Members.listing whole)) c.noting_setup_of-setup.result.page_size (limits_with c.none-none.result)

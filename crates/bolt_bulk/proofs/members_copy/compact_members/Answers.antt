@@ -1,19 +1,16 @@
 -- The plan, the first pages, and the pages of all buckets, which are the layout.
-use Rattle.std.proofs.lemmas.Grind.{common_steps}
+use Rattle.std.proofs.{lemmas.Grind.common_steps, Math.Logic.∥∥₁_elim, Props.props, lemmas.Result.err_from_is_err_and}
 use Rattle.std.proofs.Common.{Err, List, length, Result, subst, ◌≡◌, ◌*◌, ◌++◌, ℕ, refl, sym, ap, arith}
-use Rattle.std.proofs.Math.Logic.{∥∥₁_elim}
-use Rattle.std.proofs.Props.{props}
-use Rattle.std.proofs.lemmas.Result.{err_from_is_err_and}
-use Rattle.bolt_tree.specs.{Tree.tree_of}
+use Rattle.bolt_tree.specs.Tree.{tree_of}
 use Rattle.bolt_layout.specs.{Copies.layout_of_listing, Layout.layout_mark, Layout.layout_pages, Layout.placed_bytes, Laid.Placed}
 use Rattle.bolt_bulk.specs.{Compacting.Copies, Compacting.CopiesEach, declared.members_copy.Done.Done, declared.bulk_fault.BulkFault.BulkFault}
+use Rattle.bolt_bulk.specs.Private.{first_pages, FitLimits, limits_with, stopped_by}
 use Rattle.bolt_bulk.proofs.CopyLemmas.{copied, layout_parts, layout_written, stops_first, stops_later, stops_unplanned}
 use Rattle.bolt_bulk.proofs.{FileLayouts.some_bytes, FileLayouts.too_large, FileLayouts.within_mark, WalkLeft.whole_again}
-use Rattle.bolt_bulk.specs.Private.{first_pages, FitLimits, limits_with, stopped_by}
-use Rattle.bolt_format.proofs.PageSizes.{size_bounds}
+use Rattle.bolt_bulk.proofs.members_copy.compact_members.Goals.{After-a_listing_has_one_layout, After-setup_of-setup}
+use Rattle.bolt_format.proofs.Exports.{size_bounds}
 use Rattle.std.specs.Prelude.{IsErrAnd}
 use Rattle.bolt_bulk.proofs.members_copy.compact_members.Goals as goal
-use Rattle.bolt_bulk.proofs.members_copy.compact_members.Goals.{After-a_listing_has_one_layout, After-setup_of-setup}
 
 -- the limits are those of the layout, also at the setup's page size
 fit : (g : _) (c : After-setup_of-setup g) (whole : g.M.Members.Whole) → g.M.Members.reads c.args.members.now whole

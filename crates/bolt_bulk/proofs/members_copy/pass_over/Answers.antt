@@ -1,7 +1,6 @@
 -- The sink doesn't fail, since it has no failures.
 use Rattle.std.proofs.Common.{◌<◌, arith}
-use Rattle.std.proofs.Math.Logic.{∥∥₁_elim}
-use Rattle.std.proofs.Props.{props}
+use Rattle.std.proofs.{Math.Logic.∥∥₁_elim, Props.props}
 use Rattle.bolt_bulk.proofs.PutsLemmas.{Wrote-failed}
 use Rattle.bolt_bulk.proofs.members_copy.pass_over.Goals as goal
 

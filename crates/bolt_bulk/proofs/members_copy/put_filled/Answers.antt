@@ -1,4 +1,4 @@
-use Rattle.bolt_format.proofs.WroteLemmas.{Wrote-return_cut, Wrote-then}
+use Rattle.bolt_format.proofs.Exports.{Wrote-return_cut, Wrote-then}
 use Rattle.bolt_bulk.proofs.members_copy.put_filled.Goals as goal
 
 pub returns-in_err-put : goal.returns-in_err-put

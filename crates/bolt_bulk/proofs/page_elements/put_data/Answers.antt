@@ -1,6 +1,6 @@
 -- The next key isn't put whole, or the next value.
 use Rattle.std.proofs.Common.{refl}
-use Rattle.bolt_format.proofs.WroteFronts.{front_more, front_return}
+use Rattle.bolt_format.proofs.Exports.{front_more, front_return}
 use Rattle.bolt_bulk.proofs.ElementPuts.{data_left}
 use Rattle.bolt_bulk.proofs.page_elements.put_data.Goals as goal
 

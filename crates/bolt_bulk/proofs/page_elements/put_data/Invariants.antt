@@ -1,7 +1,7 @@
 -- The data before number i were written.
 use Rattle.std.proofs.Common.{drop}
 use Rattle.bolt_bulk.specs.Private.{data_of}
-use Rattle.bolt_format.proofs.WroteFronts.{WroteFront}
+use Rattle.bolt_format.proofs.Exports.{WroteFront}
 use Rattle.bolt_bulk.proofs.page_elements.put_data.Given as goal
 
 abbrev pub invariant-loop-element : goal.invariant-loop-element

@@ -1,4 +1,4 @@
-use Rattle.bolt_format.proofs.WroteLemmas.{Wrote-return_cut, Wrote-then}
+use Rattle.bolt_format.proofs.Exports.{Wrote-return_cut, Wrote-then}
 use Rattle.bolt_bulk.proofs.page_elements.put_elements.Goals as goal
 
 pub returns-in_err-put_headers : goal.returns-in_err-put_headers

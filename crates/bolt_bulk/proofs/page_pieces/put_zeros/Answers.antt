@@ -1,7 +1,7 @@
 -- The next zeros are not put whole.
 use Rattle.std.proofs.Common.{arith}
 use Rattle.bolt_bulk.proofs.FilledTexts.{zeros_left, zeros}
-use Rattle.bolt_format.proofs.WroteFronts.{front_return, fronts}
+use Rattle.bolt_format.proofs.Exports.{front_return, fronts}
 use Rattle.bolt_bulk.proofs.page_pieces.put_zeros.Goals as goal
 
 pub returns-in_err-put : goal.returns-in_err-put

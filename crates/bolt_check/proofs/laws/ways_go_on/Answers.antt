@@ -1,7 +1,6 @@
 use Rattle.std.proofs.Common.{ℕ, suc, ◌+◌, ◌≡◌, [], refl, subst, arith}
-use Rattle.bolt_check.proofs.Words.{head_root, IsOnWay, ne_eqb, root_spot}
+use Rattle.bolt_check.proofs.{Words.head_root, Words.IsOnWay, Words.ne_eqb, Words.root_spot, TreePages.node_is, TreePages.on_bucket, TreePages.on_child}
 use Rattle.bolt_format.specs.declared.header.Kind.TheVariants as kind
-use Rattle.bolt_check.proofs.TreePages.{node_is, on_bucket, on_child}
 use Rattle.bolt_check.proofs.laws.ways_go_on.Goals as goal
 
 pub returns : goal.returns

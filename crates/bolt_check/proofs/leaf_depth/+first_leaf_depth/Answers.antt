@@ -1,6 +1,5 @@
 use Rattle.std.proofs.Common.{◌≡◌, ◌-◌, suc, sym, arith}
-use Rattle.bolt_check.proofs.Words.{∥∥₁_map}
-use Rattle.bolt_check.proofs.FirstLeaves.{branch_goes_on, child_good, empty_ends, leaf_ends}
+use Rattle.bolt_check.proofs.{Words.∥∥₁_map, FirstLeaves.branch_goes_on, FirstLeaves.child_good, FirstLeaves.empty_ends, FirstLeaves.leaf_ends}
 use Rattle.bolt_check.specs.CheckedFiles.{checked_nodes}
 use Rattle.bolt_check.proofs.leaf_depth.+first_leaf_depth.Goals as goal
 

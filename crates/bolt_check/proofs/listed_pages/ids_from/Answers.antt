@@ -1,8 +1,6 @@
 use Rattle.std.proofs.Common.{◌∙◌, ◌<◌, ℕ, Global, Vec, append-nil, length, nat_le, sym, ap, arith}
-use Rattle.std.proofs.lemmas.Bool.{le-leb, lt-leb}
-use Rattle.std.proofs.lemmas.List.{take_all}
-use Rattle.bolt_check.proofs.{ListedIds.past_more, Words.shown_ids}
-use Rattle.bolt_check.proofs.listed_pages.ids_from.Goals.{else-first-id, then-first-id+in_ok-push}
+use Rattle.std.proofs.{lemmas.Bool.le-leb, lemmas.Bool.lt-leb, lemmas.List.take_all}
+use Rattle.bolt_check.proofs.{ListedIds.past_more, Words.shown_ids, listed_pages.ids_from.Goals.else-first-id, listed_pages.ids_from.Goals.then-first-id+in_ok-push}
 use Rattle.bolt_check.proofs.listed_pages.ids_from.Goals as goal
 
 pub loop-i-preserved : goal.loop-i-preserved

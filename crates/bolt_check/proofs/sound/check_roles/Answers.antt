@@ -1,5 +1,4 @@
-use Rattle.bolt_check.proofs.{Words.merely, Words.meta_of, Words.roles_checked}
-use Rattle.bolt_check.proofs.SoundLemmas.{sound_of, tested_of}
+use Rattle.bolt_check.proofs.{Words.merely, Words.meta_of, Words.roles_checked, SoundLemmas.sound_of, SoundLemmas.tested_of}
 use Rattle.bolt_check.proofs.sound.check_roles.Goals as goal
 
 pub invariant_of-checked-clause-sound : goal.invariant_of-checked-clause-sound

@@ -1,7 +1,6 @@
-use Rattle.bolt_check.proofs.Words.{cases_lt}
+use Rattle.bolt_check.proofs.{Words.cases_lt, TableLemmas.unclaimed_set}
 use Rattle.std.proofs.lemmas.Grind.{common_steps}
 use Rattle.std.proofs.Common.{arith, length-set, get_or-set_other}
-use Rattle.bolt_check.proofs.{TableLemmas.unclaimed_set}
 use Rattle.bolt_check.proofs.table.claim.Goals as goal
 
 pub loop-n-preserved : goal.loop-n-preserved

@@ -1,9 +1,7 @@
 use Rattle.std.proofs.lemmas.Grind.{common_steps}
 use Rattle.std.proofs.Common.{◌≡◌, ℕ, arith}
-use Rattle.bolt_check.proofs.Words.{first_use, use_at}
-use Rattle.bolt_check.proofs.TableLemmas.{first_claimed, first_unlisted, starts}
+use Rattle.bolt_check.proofs.{Words.first_use, Words.use_at, TableLemmas.first_claimed, TableLemmas.first_unlisted, TableLemmas.starts, table.new_table.Goals.After-loop-n}
 use Rattle.bolt_check.proofs.table.new_table.Goals as goal
-use Rattle.bolt_check.proofs.table.new_table.Goals.{After-loop-n}
 
 -- each page is used as it is from the start
 begun : (c : After-loop-n) (n : ℕ) → use_at c.loop-n.table.items n ≡ first_use n

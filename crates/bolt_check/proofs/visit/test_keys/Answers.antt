@@ -1,8 +1,7 @@
 use Rattle.std.proofs.Common.{◌≡◌, ◌∙◌, List, None, ap, rules, sym}
-use Rattle.bolt_check.proofs.KeyOrder.{key_passed}
-use Rattle.bolt_check.proofs.Words.{Key, bound_of, keys_order_fault}
+use Rattle.bolt_check.proofs.{KeyOrder.key_passed, Words.Key, Words.bound_of, Words.keys_order_fault}
 use Rattle.bolt_check.specs.Keys.{key_order_fault}
-use Rattle.bolt_format.proofs.ListLemmas.{drop_next}
+use Rattle.bolt_format.proofs.Exports.{drop_next}
 use Rattle.bolt_format.specs.TreePages.{page_keys}
 use Rattle.bolt_check.proofs.visit.test_keys.Goals as goal
 

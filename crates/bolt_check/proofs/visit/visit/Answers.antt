@@ -1,7 +1,6 @@
-use Rattle.bolt_check.proofs.Spans.{outside}
+use Rattle.bolt_check.proofs.{Spans.outside, Spans.not_both, Spans.still_unlisted, Words.IsClaimed, Words.late, Words.node_at, Words.page_spot, Words.PageTests, Words.shown_node, Lawful.early_passes}
+use Rattle.bolt_check.proofs.{Visited.passed_on, VisitLemmas.in_room, VisitLemmas.overflow_shown}
 use Rattle.std.proofs.Common.{◌∙◌, sym, refl, arith}
-use Rattle.bolt_check.proofs.{Words.IsClaimed, Words.late, Words.node_at, Words.page_spot, Words.PageTests, Words.shown_node, Lawful.early_passes}
-use Rattle.bolt_check.proofs.{Spans.not_both, Spans.still_unlisted, Visited.passed_on, VisitLemmas.in_room, VisitLemmas.overflow_shown}
 use Rattle.bolt_check.specs.Findings.{twice}
 use Rattle.bolt_check.proofs.visit.visit.Goals as goal
 

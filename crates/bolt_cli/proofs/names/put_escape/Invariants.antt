@@ -1,7 +1,5 @@
 use Rattle.std.proofs.Common.{flat_map}
-use Rattle.std.specs.Char.{encode_utf8}
-use Rattle.std.specs.Char.Escape.{escape_default}
-use Rattle.std.specs.Char.Iter.{escape_rest}
+use Rattle.std.specs.{Char.encode_utf8, Char.Escape.escape_default, Char.Iter.escape_rest}
 use Rattle.bolt_cli.proofs.Gathering.{GathersFront}
 use Rattle.bolt_format.specs.contracts.sink.MemSinkSink.TheImpl as mem
 use Rattle.bolt_cli.proofs.names.put_escape.Given as goal

@@ -1,7 +1,6 @@
 use Rattle.std.proofs.Common.{List, ℕ, flat_map, sym, subst, ap, ◌∙◌, map-id}
 use Rattle.std.specs.Char.{encode_utf8}
-use Rattle.std.proofs.lemmas.Iterator.{YieldsList-from_chars}
-use Rattle.std.proofs.lemmas.Iterator.Consumers.{YieldsList-end}
+use Rattle.std.proofs.{lemmas.Iterator.YieldsList-from_chars, lemmas.Iterator.Consumers.YieldsList-end}
 use Rattle.bolt_format.specs.contracts.sink.MemSinkSink.TheImpl as mem
 use Rattle.bolt_cli.specs.{Gathered.GathersPiece, Names.shown_char}
 use Rattle.bolt_cli.proofs.names.put_escaped_text.Goals as goal

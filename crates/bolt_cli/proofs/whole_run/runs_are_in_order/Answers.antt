@@ -1,6 +1,5 @@
-use Rattle.bolt_cli.proofs.Ordering.{run_ordered}
+use Rattle.bolt_cli.proofs.{Ordering.run_ordered, Sentences.Before, Sentences.after_each, Sentences.before_each, Sentences.made_at, Sentences.none_made_at}
 use Rattle.std.proofs.Common.{inl, inr}
-use Rattle.bolt_cli.proofs.Sentences.{Before, after_each, before_each, made_at, none_made_at}
 use Rattle.bolt_cli.specs.Orders.{is_opened, was_ended, was_made}
 use Rattle.bolt_cli.proofs.whole_run.runs_are_in_order.Goals as goal
 

@@ -1,9 +1,8 @@
 -- A copy that is whole is good. It is its layout, or that and its hash.
 use Rattle.std.proofs.Common.{◌∙◌, refl, sym}
-use Rattle.bolt_commands.proofs.{CopyAnswers.copy_good, SnapshotCopies.layout_stops, SnapshotCopies.layout_whole}
-use Rattle.bolt_commands.proofs.Vocabulary.{HasGoodCopies, is_snapshot}
-use Rattle.bolt_commands.proofs.copies.copy_members.Goals as goal
+use Rattle.bolt_commands.proofs.{CopyAnswers.copy_good, SnapshotCopies.layout_stops, SnapshotCopies.layout_whole, Vocabulary.HasGoodCopies, Vocabulary.is_snapshot}
 use Rattle.bolt_commands.proofs.copies.copy_members.Goals.{After-copies_are_good}
+use Rattle.bolt_commands.proofs.copies.copy_members.Goals as goal
 
 good : (g : _) (c : After-copies_are_good g) (whole : g.M.Members.Whole) → g.M.Members.reads c.args.members.now whole → ∥ HasGoodCopies (g.M.Members.listing whole) c.args.blueprint.now.sequence ∥₁
 good g c whole is = c.copies_are_good.ensures _ (c.requires.one whole is)

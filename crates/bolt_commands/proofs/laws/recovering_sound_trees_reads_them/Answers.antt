@@ -1,8 +1,7 @@
 use Rattle.std.proofs.Common.{inl, inr, refl, subst}
 use Rattle.std.proofs.Math.Logic.{∥∥₁_map}
 use Rattle.bolt_format.specs.declared.meta.Meta.{Meta}
-use Rattle.bolt_commands.proofs.EntryNames.{bucket_items}
-use Rattle.bolt_commands.proofs.SoundNames.{gets_the_same, names_the_same}
+use Rattle.bolt_commands.proofs.{EntryNames.bucket_items, SoundNames.gets_the_same, SoundNames.names_the_same}
 use Rattle.bolt_commands.proofs.SoundRecovery.{Below, copies_the_same, finds_alike, lists_the_same, names_one, recovers_alike}
 use Rattle.bolt_commands.proofs.SoundRepairs.{none_restored, none_unrestored}
 use Rattle.bolt_commands.specs.RepairAnswers.{IsRestored}

@@ -1,6 +1,6 @@
 use Rattle.std.proofs.Common.{◌≡◌, ◌∙◌, ◌++◌, ◌∷◌, ℕ, Bool, true, false, List, [], ap, append-nil, if◌then◌else◌, refl, sym}
 use Rattle.std.specs.List.{concat}
-use Rattle.bolt_format.proofs.WroteLemmas.{Wrote-return, Wrote-same, Wrote-then}
+use Rattle.bolt_format.proofs.Exports.{Wrote-return, Wrote-same, Wrote-then}
 use Rattle.bolt_etcd.specs.{CheckLines.lease_line, CheckLines.one_before_line, Revisions.RevisionView, ShownRevisions.shown_revision}
 use Rattle.bolt_etcd.proofs.check_lines.put_name_fault.Goals as goal
 
@@ -18,9 +18,9 @@ both a b r s same = ap (λ (v : RevisionView). (if a then one_before_line v else
 pub returns-in_err-put_one_before : goal.returns-in_err-put_one_before
 returns-in_err-put_one_before g c =
     Wrote-same (both c.args.fault.now.one_before c.args.fault.now.lease _ _ c.decode-decoded.ensures)
-    (Wrote-return _ _ (c.in_err-put_one_before.ensures (shown_revision c.args.fault.now.revision).place) c.from_residual.ensures.0)
+    (Wrote-return _ _ (c.in_err-put_one_before.ensures (shown_revision c.args.fault.now.revision).stored_key) c.from_residual.ensures.0)
 
 pub returns : goal.returns
 returns g c =
     Wrote-same (both c.args.fault.now.one_before c.args.fault.now.lease _ _ c.decode-decoded.ensures)
-    (Wrote-then (c.in_ok-put_one_before.ensures (shown_revision c.args.fault.now.revision).place) (c.put_lease.ensures (shown_revision c.args.fault.now.revision).place))
+    (Wrote-then (c.in_ok-put_one_before.ensures (shown_revision c.args.fault.now.revision).stored_key) (c.put_lease.ensures (shown_revision c.args.fault.now.revision).stored_key))

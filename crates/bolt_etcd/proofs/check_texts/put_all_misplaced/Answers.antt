@@ -1,8 +1,8 @@
 use Rattle.std.proofs.Common.{◌∙◌, ℕ, List, ap, map, subst, sym}
 use Rattle.bolt_etcd.specs.{CheckLines.misplaced_line, Misplaced.is_misplaced, Misplaced.misplaced, ShownRevisions.shown_revision}
-use Rattle.bolt_etcd.proofs.{Filtered.drops, Filtered.keeps, ListedTexts.Listed, ListedTexts.listed_fault, ListedTexts.listed_one}
-use Rattle.bolt_etcd.proofs.ListedTexts.{shown_at}
+use Rattle.bolt_etcd.proofs.ListedTexts.{Listed, listed_fault, listed_one, shown_at}
 use Rattle.bolt_etcd.proofs.check_texts.put_all_misplaced.Goals.{else-is_misplaced, then-is_misplaced+in_ok-put_misplaced}
+use Rattle.bolt_tree.proofs.Exports.{drops, keeps}
 use Rattle.bolt_etcd.proofs.check_texts.put_all_misplaced.Goals as goal
 
 pub rest-preserved : goal.rest-preserved

@@ -1,6 +1,5 @@
 use Rattle.std.proofs.Common.{◌≡◌, map}
-use Rattle.bolt_etcd.specs.CheckLines.{missing_line}
-use Rattle.bolt_etcd.specs.MissingLeft.{ForMissing, missing_checked, missing_left, missing_number, missing_start}
+use Rattle.bolt_etcd.specs.{CheckLines.missing_line, MissingLeft.ForMissing, MissingLeft.missing_checked, MissingLeft.missing_left, MissingLeft.missing_number, MissingLeft.missing_start}
 use Rattle.bolt_etcd.proofs.ListedTexts.{Listed}
 use Rattle.bolt_etcd.proofs.check_texts.put_all_missing.Given as goal
 

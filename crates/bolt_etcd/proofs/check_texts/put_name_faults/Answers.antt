@@ -3,8 +3,7 @@ use Rattle.std.specs.List.{concat}
 use Rattle.bolt_format.specs.{Endings.ending, Wrote.Wrote}
 use Rattle.bolt_check.specs.Counts.{counted}
 use Rattle.bolt_tree.specs.declared.bucket.Bucket.{Bucket}
-use Rattle.bolt_etcd.specs.CheckLines.{name_fault_lines}
-use Rattle.bolt_etcd.specs.FaultsLeft.{ForGranted, faults_leases, faults_left, shown_name_fault}
+use Rattle.bolt_etcd.specs.{CheckLines.name_fault_lines, FaultsLeft.ForGranted, FaultsLeft.faults_leases, FaultsLeft.faults_left, FaultsLeft.shown_name_fault}
 use Rattle.bolt_etcd.proofs.{Leases.granted_with, ListedTexts.Listed, ListedTexts.listed_faults, ListedTexts.listed_more}
 use Rattle.bolt_etcd.proofs.check_texts.put_name_faults.Goals as goal
 

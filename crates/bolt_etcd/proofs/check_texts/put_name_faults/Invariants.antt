@@ -1,6 +1,5 @@
 use Rattle.std.proofs.Common.{◌≡◌, flat_map}
-use Rattle.bolt_etcd.specs.CheckLines.{name_fault_lines}
-use Rattle.bolt_etcd.specs.FaultsLeft.{ForGranted, faults_leases, faults_left, faults_number}
+use Rattle.bolt_etcd.specs.{CheckLines.name_fault_lines, FaultsLeft.ForGranted, FaultsLeft.faults_leases, FaultsLeft.faults_left, FaultsLeft.faults_number}
 use Rattle.bolt_etcd.proofs.ListedTexts.{Listed}
 use Rattle.bolt_etcd.proofs.check_texts.put_name_faults.Given as goal
 

@@ -1,8 +1,7 @@
 use Rattle.std.proofs.Common.{◌∙◌, ap, map, refl}
 use Rattle.std.specs.Option.{option_map}
 use Rattle.bolt_etcd.specs.{CheckLines.other_line, Others.GivesOther, RevisionsLeft.ahead_of, ShownOthers.shown_other}
-use Rattle.bolt_etcd.proofs.ListedTexts.{listed_fault, listed_none, listed_number, listed_one, listed_whole}
-use Rattle.bolt_etcd.proofs.RevisionSteps.{moved_to}
+use Rattle.bolt_etcd.proofs.{ListedTexts.listed_fault, ListedTexts.listed_none, ListedTexts.listed_number, ListedTexts.listed_one, ListedTexts.listed_whole, RevisionSteps.moved_to}
 use Rattle.bolt_etcd.proofs.check_texts.put_others.Goals as goal
 
 pub rest-init : goal.rest-init

@@ -1,6 +1,5 @@
 use Rattle.std.proofs.Common.{◌≡◌, map}
-use Rattle.bolt_etcd.specs.{CheckLines.other_line, Others.others_of}
-use Rattle.bolt_etcd.specs.RevisionsLeft.{ForPass, ahead_of, number_ahead, pass_checked, pass_start}
+use Rattle.bolt_etcd.specs.{CheckLines.other_line, Others.others_of, RevisionsLeft.ForPass, RevisionsLeft.ahead_of, RevisionsLeft.number_ahead, RevisionsLeft.pass_checked, RevisionsLeft.pass_start}
 use Rattle.bolt_etcd.proofs.ListedTexts.{Listed}
 use Rattle.bolt_etcd.proofs.check_texts.put_others.Given as goal
 

@@ -1,10 +1,9 @@
 use Rattle.std.proofs.Common.{◌≡◌, ◌∙◌, List, ap, arith, length, lit<, sym}
 use Rattle.bolt_check.specs.Counts.{counted}
 use Rattle.bolt_format.specs.Elements.{LeafElement}
-use Rattle.bolt_tree.proofs.PagerLemmas.{counted_more}
+use Rattle.bolt_tree.proofs.Exports.{counted_more, drops, keeps}
 use Rattle.bolt_etcd.specs.{Newest.is_until, Newest.until, Revisions.RevisionView, RevisionsLeft.ahead_of, ShownRevisions.shown_revision, Stores.revisions}
-use Rattle.bolt_etcd.proofs.{Filtered.drops, Filtered.keeps, RevisionSteps.moved_to}
-use Rattle.bolt_etcd.proofs.RevisionLoops.{given_in, passed_more, passed_none}
+use Rattle.bolt_etcd.proofs.{RevisionSteps.moved_to, RevisionLoops.given_in, RevisionLoops.passed_more, RevisionLoops.passed_none}
 use Rattle.bolt_etcd.proofs.collected.count_until.Goals as goal
 
 pub rest-init : goal.rest-init

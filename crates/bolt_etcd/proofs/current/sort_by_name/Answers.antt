@@ -1,7 +1,8 @@
 use Rattle.std.proofs.Common.{◌≡◌, ap, is_lt, rules}
 use Rattle.std.proofs.lemmas.List.Sorted.{IsPermutation-map, IsPermutation-trans, answers_always}
 use Rattle.bolt_etcd.specs.{Current.name_cmp, ShownRevisions.shown_revision}
-use Rattle.bolt_etcd.proofs.{Currents.code_by_name, Currents.code_name_ranks, MappedLists.sorted_mapped}
+use Rattle.bolt_etcd.proofs.Currents.{code_by_name, code_name_ranks}
+use Rattle.bolt_tree.proofs.Exports.{sorted_mapped}
 use Rattle.bolt_etcd.proofs.current.sort_by_name.Goals as goal
 
 pub returns-clause-same : goal.returns-clause-same

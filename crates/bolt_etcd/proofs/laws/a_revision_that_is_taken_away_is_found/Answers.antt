@@ -1,5 +1,4 @@
-use Rattle.bolt_etcd.proofs.TakenAway.{told_by_number, told_by_transaction}
-use Rattle.bolt_etcd.proofs.TakenNames.{fault_found}
+use Rattle.bolt_etcd.proofs.{TakenAway.told_by_number, TakenAway.told_by_transaction, TakenNames.fault_found}
 use Rattle.bolt_etcd.proofs.laws.a_revision_that_is_taken_away_is_found.Goals as goal
 
 pub returns : goal.returns

@@ -1,6 +1,5 @@
 use Rattle.std.proofs.Common.{arith, refl}
-use Rattle.bolt_etcd.specs.{Histories.history, Newest.newest, RevisionKeys.IsSpelled, RevisionKeys.spelling, Revisions.RevisionView}
-use Rattle.bolt_etcd.specs.{Possible.ArePossible, FewTransactions.few_transactions}
+use Rattle.bolt_etcd.specs.{Histories.history, Newest.newest, RevisionKeys.IsSpelled, RevisionKeys.spelling, Revisions.RevisionView, Possible.ArePossible, FewTransactions.few_transactions}
 use Rattle.bolt_etcd.proofs.NewestOfNames.{all_at}
 use Rattle.bolt_etcd.proofs.laws.an_example_of_transactions.Goals as goal
 

@@ -1,6 +1,6 @@
 -- Each page is as it was, and so is all that is said of pages.
 use Rattle.std.proofs.Common.{◌++◌}
-use Rattle.bolt_tree.proofs.AgreeingListings.{listing_along}
+use Rattle.bolt_tree.proofs.Exports.{listing_along}
 use Rattle.bolt_etcd.proofs.{TrailingAccounts.agree_more, TrailingAccounts.sound_more, TrailingMetas.chosen_more, TrailingMetas.in_slot_more}
 use Rattle.bolt_etcd.proofs.snapshot.trailing_bytes_change_nothing.Goals as goal
 

@@ -2,7 +2,7 @@ use Rattle.std.proofs.Common.{◌≡◌, List, ap, length, map, sym}
 use Rattle.std.proofs.lemmas.Result.{IfOk-weaker}
 use Rattle.std.specs.List.{concat}
 use Rattle.bolt_check.specs.Counts.{counted}
-use Rattle.bolt_format.proofs.WroteLemmas.{Wrote-none, Wrote-same}
+use Rattle.bolt_format.proofs.Exports.{Wrote-none, Wrote-same}
 use Rattle.bolt_etcd.specs.{CheckLines.other_line, Others.OtherView, Others.others_of, RevisionsLeft.ahead_of}
 use Rattle.bolt_etcd.proofs.{OtherCounts.no_others, RevisionSteps.over_all}
 use Rattle.bolt_etcd.proofs.store_faults.put_counted_others.Goals as goal

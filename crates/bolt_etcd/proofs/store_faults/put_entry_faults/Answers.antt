@@ -1,7 +1,7 @@
 use Rattle.std.proofs.Common.{◌∙◌, List, ap, length, map}
 use Rattle.std.specs.List.{concat}
 use Rattle.bolt_check.specs.Counts.{counted}
-use Rattle.bolt_format.proofs.WroteLemmas.{Wrote-ends, Wrote-return, Wrote-same, Wrote-then, broken_by}
+use Rattle.bolt_format.proofs.Exports.{Wrote-ends, Wrote-return, Wrote-same, Wrote-then, broken_by}
 use Rattle.bolt_etcd.specs.{CheckLines.misplaced_line, CheckLines.missing_line, CheckLines.other_line, Misplaced.misplaced, Numbered.numbered, Others.others_of, Revisions.RevisionView}
 use Rattle.bolt_etcd.specs.{ShownRevisions.shown_revision, StoreFaults.missing_if, Stores.revisions}
 use Rattle.bolt_etcd.proofs.ListedTexts.{concat_three, counted_three}

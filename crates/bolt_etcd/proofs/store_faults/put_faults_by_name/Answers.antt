@@ -2,10 +2,9 @@ use Rattle.std.proofs.Common.{◌≡◌, ◌∙◌, ℕ, [], List, None, ap, len
 use Rattle.std.proofs.lemmas.Result.{IfOk-weaker}
 use Rattle.std.specs.List.{concat}
 use Rattle.bolt_check.specs.Counts.{counted}
-use Rattle.bolt_format.proofs.WroteLemmas.{Wrote-none, Wrote-same}
+use Rattle.bolt_format.proofs.Exports.{Wrote-none, Wrote-same}
 use Rattle.bolt_format.specs.{Endings.ending, Wrote.Wrote}
-use Rattle.bolt_etcd.specs.{NameFaults.AreByName, NameFaults.name_faults, Revisions.RevisionView, ShownRevisions.shown_revision, StoreFaults.name_lines}
-use Rattle.bolt_etcd.specs.declared.revision.Revision.{Revision}
+use Rattle.bolt_etcd.specs.{NameFaults.AreByName, NameFaults.name_faults, Revisions.RevisionView, ShownRevisions.shown_revision, StoreFaults.name_lines, declared.revision.Revision.Revision}
 use Rattle.bolt_etcd.proofs.{NoFaults.by_name_after, NoFaults.none_lines, StoreLemmas.for_names, StoreLemmas.granted_map}
 use Rattle.bolt_etcd.proofs.store_faults.put_faults_by_name.Goals as goal
 

@@ -1,10 +1,8 @@
 use Rattle.std.proofs.Common.{◌∙◌, ◌+◌, [], ap, drop, get_or, map}
 use Rattle.std.specs.Borrow.{Bor}
-use Rattle.bolt_check.specs.Counts.{counted}
-use Rattle.bolt_check.specs.Keys.{Key}
+use Rattle.bolt_check.specs.{Counts.counted, Keys.Key}
 use Rattle.bolt_etcd.specs.StoreFaults.{missing_bucket_lines, line_without}
-use Rattle.bolt_etcd.proofs.{ListedTexts.listed_faults, ListedTexts.listed_more}
-use Rattle.bolt_etcd.proofs.ListedTexts.{lines_from}
+use Rattle.bolt_etcd.proofs.ListedTexts.{listed_faults, listed_more, lines_from}
 use Rattle.bolt_etcd.proofs.store_faults.put_missing_buckets.Goals as goal
 
 none : Bor Key

@@ -2,9 +2,9 @@ use Rattle.std.proofs.Common.{◌≡◌, ◌∙◌, ◌++◌, List, ℕ, None, O
 use Rattle.std.proofs.lemmas.List.Folds.{concat-append}
 use Rattle.std.specs.List.{concat}
 use Rattle.bolt_check.specs.Counts.{counted}
-use Rattle.bolt_format.proofs.WroteLemmas.{Wrote-same, Wrote-then}
+use Rattle.bolt_format.proofs.Exports.{Wrote-same, Wrote-then}
 use Rattle.bolt_format.specs.{Elements.LeafElement, Endings.broken, Endings.whole, Wrote.Wrote}
-use Rattle.bolt_text.proofs.ReportLemmas.{Wrote-passed, Wrote-sink, Wrote-unbegun}
+use Rattle.bolt_text.proofs.Exports.{Wrote-passed, Wrote-sink, Wrote-unbegun}
 use Rattle.bolt_etcd.specs.StoreFaults.{missing_bucket_lines, bucket_names, key_lines}
 use Rattle.bolt_etcd.proofs.{ByName.until_all, ListedTexts.counted_three}
 use Rattle.bolt_etcd.proofs.StoreLemmas.{entries_hold, fits, fits_none, found_names, lines_are, lines_text, names_hold, of_entries, of_names}

@@ -1,7 +1,6 @@
 use Rattle.std.proofs.Common.{◌∙◌, ℕ, List, ap}
 use Rattle.std.proofs.lemmas.List.{take_rest}
-use Rattle.bolt_format.specs.Elements.{leaf_elements}
-use Rattle.bolt_format.specs.{Headers.count_field, TreePages.leaves_on}
+use Rattle.bolt_format.specs.{Elements.leaf_elements, Headers.count_field, TreePages.leaves_on}
 use Rattle.bolt_format.proofs.GoodPages.{flat_elements, flat_leaves, good_elements}
 use Rattle.bolt_format.proofs.open_bucket.inline.Goals as goal
 

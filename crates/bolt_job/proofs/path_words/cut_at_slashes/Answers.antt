@@ -1,6 +1,5 @@
 use Rattle.std.proofs.Common.{lit<}
-use Rattle.std.proofs.lemmas.Iterator.Consumers.{map_from_collect}
-use Rattle.std.proofs.lemmas.Iterator.Splits.{YieldsList-from_str_split}
+use Rattle.std.proofs.{lemmas.Iterator.Consumers.map_from_collect, lemmas.Iterator.Splits.YieldsList-from_str_split}
 use Rattle.bolt_job.proofs.path_words.cut_at_slashes.Goals as goal
 
 pub returns : goal.returns

@@ -1,7 +1,6 @@
 -- A path is one if all of its parts are.
 use Rattle.std.proofs.Common.{arith, ◌≡◌, Bool, subst}
-use Rattle.std.proofs.lemmas.Grind.{common_steps}
-use Rattle.std.proofs.lemmas.Result.{on_ok_weaker}
+use Rattle.std.proofs.{lemmas.Grind.common_steps, lemmas.Result.on_ok_weaker}
 use Rattle.bolt_load.proofs.Words.{is_some, option_map, part_in}
 use Rattle.bolt_load.proofs.PathLemmas.{bad_part, is_none, none_added, part_added, path_added, path_good}
 use Rattle.std.specs.Prelude.{IfOk}

@@ -1,8 +1,7 @@
 -- Each part has half as many bytes as digits.
 use Rattle.std.proofs.Common.{arith, ◌∙◌, ap}
 use Rattle.std.proofs.lemmas.Grind.{common_steps}
-use Rattle.bolt_load.proofs.Words.{map-append, path_of}
-use Rattle.bolt_load.proofs.PushedParts.{all_pushed, last_fits, none_pushed, part_fits, part_pushed}
+use Rattle.bolt_load.proofs.{Words.map-append, Words.path_of, PushedParts.all_pushed, PushedParts.last_fits, PushedParts.none_pushed, PushedParts.part_fits, PushedParts.part_pushed}
 use Rattle.bolt_load.proofs.line_members.push_parts.Goals as goal
 
 pub loop-part-init : goal.loop-part-init

@@ -1,7 +1,6 @@
 -- The found pages leave room for their names, and the recovered listing for their bucket.
 use Rattle.std.proofs.Common.{◌∙◌, List, [], ◌∷◌, ap}
-use Rattle.bolt_recover.proofs.Words.{joined_file, joined_meta, Member, member_cmp, found_numbers, props, Rises, ∥∥₁_elim}
-use Rattle.bolt_recover.proofs.FoundAll.{one_found}
+use Rattle.bolt_recover.proofs.{Words.joined_file, Words.joined_meta, Words.Member, Words.member_cmp, Words.found_numbers, Words.props, Words.Rises, Words.∥∥₁_elim, FoundAll.one_found}
 use Rattle.bolt_recover.proofs.laws.joined_members_rise.Goals as goal
 
 rises_prop : (listing : List Member) → IsProp (Rises member_cmp listing)

@@ -19,7 +19,7 @@ returns-then-i-candidates c =
           ap (λ (x : Revision). is_lt (key_cmp x.key.now key)) (sym same) ∙ sym w.is_under_lesser_key.ensures ∙ w.if-is_under_lesser_key.false
       | else-loop-i-test w ↦ absurd (let past = w.loop-i-test.false in let within = c.if-i-candidates.true in omega (arith, past, within))
     ] in
-    found key xs c.requires c.loop-i.i r c.loop-i.invariant c.if-i-candidates.true at not_less c.eq.result (c.eq.ensures ∙ ap (λ (k : Key). bytes_eq k key) c.place.ensures.entry)
+    found key xs c.requires c.loop-i.i r c.loop-i.invariant c.if-i-candidates.true at not_less c.eq.result (c.eq.ensures ∙ ap (λ (k : Key). bytes_eq k key) c.stored_key.ensures.entry)
 
 pub returns-else-i-candidates : goal.returns-else-i-candidates
 returns-else-i-candidates c = (

@@ -7,4 +7,4 @@ returns-then-not-is_old c = ap not c.if-not-is_old.true ∙ goes_new c.args.comp
 
 pub returns-else-not-is_old : goal.returns-else-not-is_old
 returns-else-not-is_old c =
-    goes_old c.args.compacted c.args.newest.now c.args.revision.now c.is_old.result c.is_old.ensures (ap not c.if-not-is_old.false) c.has_place.result c.has_place.ensures
+    goes_old c.args.compacted c.args.newest.now c.args.revision.now c.is_old.result c.is_old.ensures (ap not c.if-not-is_old.false) c.has_stored_key.result c.has_stored_key.ensures

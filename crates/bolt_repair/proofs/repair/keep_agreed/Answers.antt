@@ -4,7 +4,7 @@ use Rattle.bolt_check.specs.Keys.{Key}
 use Rattle.bolt_tree.specs.{Entries.EntryView, Order.Rises}
 use Rattle.bolt_etcd.specs.{Among.among, Among.without, ShownRevisions.entry_of}
 use Rattle.bolt_repair.specs.{Candidates.whole_cmp, Undisputed.AreUndisputed, Undisputed.HaveKeys}
-use Rattle.bolt_etcd.proofs.Filtered.{filter_rises}
+use Rattle.bolt_tree.proofs.Exports.{filter_rises}
 use Rattle.bolt_repair.proofs.repair.keep_agreed.Goals as goal
 
 abbrev now : Bor Key → Key

@@ -2,7 +2,8 @@ use Rattle.std.proofs.Common.{◌≡◌, ◌∙◌, List, ap, false, map, rules,
 use Rattle.std.proofs.lemmas.Fn.{filter_same}
 use Rattle.std.specs.List.{All}
 use Rattle.bolt_etcd.specs.{Newest.is_until, ShownRevisions.entry_of, ShownRevisions.shown_revision, declared.revision.Revision.Revision}
-use Rattle.bolt_etcd.proofs.{Filtered.filter_mapped, SortedExists.newest_exists}
+use Rattle.bolt_etcd.proofs.Exports.{newest_exists}
+use Rattle.bolt_tree.proofs.Exports.{filter_mapped}
 use Rattle.bolt_repair.specs.WhatGoesBack.{AreTheNewest, goes_back, old_revisions}
 use Rattle.bolt_repair.proofs.NewestUntil.{all_go_back}
 use Rattle.bolt_repair.proofs.repair.keep_what_goes_back.Goals as goal

@@ -7,4 +7,4 @@ use Rattle.bolt_repair.proofs.repair.lacks_key.Goals as goal
 pub returns : goal.returns
 returns c =
     let keys = map (λ (key : Bor Key). key.now) c.args.keys.now in
-    ap not (among_is _ _ c.has_key.result c.has_key.ensures) ∙ ap (λ (key : Key). not (among keys key)) c.place.ensures.entry
+    ap not (among_is _ _ c.has_key.result c.has_key.ensures) ∙ ap (λ (key : Key). not (among keys key)) c.stored_key.ensures.entry

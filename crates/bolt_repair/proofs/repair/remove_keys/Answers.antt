@@ -1,11 +1,9 @@
 use Rattle.std.proofs.Common.{◌∙◌, Bor, ap, map, not, rules}
 use Rattle.std.proofs.lemmas.Fn.{filter_same}
 use Rattle.bolt_check.specs.Keys.{Key}
-use Rattle.bolt_tree.specs.{Entries.EntryView}
-use Rattle.bolt_etcd.specs.ShownRevisions.{entry_of}
-use Rattle.bolt_etcd.specs.declared.revision.Revision.{Revision}
-use Rattle.bolt_etcd.specs.Among.{among}
-use Rattle.bolt_etcd.proofs.Filtered.{filter_mapped}
+use Rattle.bolt_tree.specs.Entries.{EntryView}
+use Rattle.bolt_etcd.specs.{ShownRevisions.entry_of, declared.revision.Revision.Revision, Among.among}
+use Rattle.bolt_tree.proofs.Exports.{filter_mapped}
 use Rattle.bolt_repair.proofs.repair.remove_keys.Goals as goal
 
 pub returns : goal.returns

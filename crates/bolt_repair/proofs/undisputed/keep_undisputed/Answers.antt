@@ -1,12 +1,11 @@
 -- What is written stands before what is still to be looked at.
 use Rattle.std.proofs.Common.{◌≡◌, ◌∙◌, ◌<◌, ◌+◌, ◌&&◌, Bool, List, false, inl, inr, ap, arith, drop, length, map, subst, sym}
 use Rattle.std.proofs.lemmas.Bool.{and_right}
-use Rattle.bolt_etcd.specs.ShownRevisions.{entry_of}
-use Rattle.bolt_etcd.specs.declared.revision.Revision.{Revision}
+use Rattle.bolt_etcd.specs.{ShownRevisions.entry_of, declared.revision.Revision.Revision}
 use Rattle.bolt_repair.specs.Undisputed.{AreUndisputed, HaveKeys, is_last_of_key}
 use Rattle.bolt_repair.proofs.Alones.{IsNext, all_counted, all_told, are_undisputed, count_keys, counted, have_keys, not_counted, passed, written}
-use Rattle.bolt_repair.proofs.undisputed.keep_undisputed.Goals as goal
 use Rattle.bolt_repair.proofs.undisputed.keep_undisputed.Goals.{else-is_first, else-is_last-2, then-is_first+then-is_last, then-is_last-2}
+use Rattle.bolt_repair.proofs.undisputed.keep_undisputed.Goals as goal
 
 pub loop-i-preserved : goal.loop-i-preserved
 loop-i-preserved c =

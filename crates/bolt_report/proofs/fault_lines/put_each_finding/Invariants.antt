@@ -1,5 +1,5 @@
 use Rattle.bolt_report.proofs.Words.{finding_text}
-use Rattle.bolt_text.proofs.ReportLemmas.{WroteLines}
+use Rattle.bolt_text.proofs.Exports.{WroteLines}
 use Rattle.bolt_report.proofs.fault_lines.put_each_finding.Given as goal
 
 -- the lines of the findings before this one were written

@@ -1,6 +1,6 @@
 use Rattle.std.proofs.Common.{◌∙◌, [], ap, flat_map, sym, ◌≡◌, ◌++◌, ◌∷◌, List, ℕ, refl, inl, inr}
 use Rattle.bolt_report.proofs.Words.{bucket_name, cases_Bool, cursor_place, entries_left, fewer_left, Form, front_more, front_whole, LeafElement, next_shows, Place, value_text, Wrote-none, Wrote-same}
-use Rattle.bolt_text.proofs.{ReportLemmas.front_fault, ShortTexts.short_front, ShortTexts.short_same}
+use Rattle.bolt_text.proofs.Exports.{front_fault, short_front, short_same}
 use Rattle.bolt_report.specs.KeyLines.{buckets_text}
 use Rattle.bolt_report.proofs.key_lines.buckets.Goals as goal
 

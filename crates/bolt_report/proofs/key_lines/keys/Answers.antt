@@ -1,7 +1,7 @@
 -- Every key begins with no bytes.
 use Rattle.std.proofs.Common.{ap}
 use Rattle.bolt_report.proofs.{Words.keys_text, Words.Wrote-same, PrefixLemmas.with_none}
-use Rattle.bolt_text.proofs.ShortTexts.{short_same}
+use Rattle.bolt_text.proofs.Exports.{short_same}
 use Rattle.bolt_report.proofs.key_lines.keys.Goals as goal
 
 pub returns-clause-written : goal.returns-clause-written

@@ -2,11 +2,12 @@
 use Rattle.std.proofs.Common.{◌∙◌, [], Option, None, suc, ap, sym, arith}
 use Rattle.bolt_report.proofs.Words.{cursor_bucket, cursor_opened, cursor_place, EntryView, Form, front_more, front_whole, keys_text, props, shown_entry, value_text, Wrote-none, Wrote-same, ∥∥₁_elim}
 use Rattle.bolt_report.proofs.PrefixLemmas.{from_least}
-use Rattle.bolt_report.proofs.PrefixSteps.{all_opened, cursor_entries, fault_handed_on, fewer_shown, moved, next_first, none_shown, nothing_shown, number_of, other_shown, sought, stage_next, stage_sought}
-use Rattle.bolt_text.proofs.{ReportLemmas.front_fault, ShortTexts.short_front, ShortTexts.short_same}
+use Rattle.bolt_report.proofs.PrefixSteps.{all_opened, cursor_entries, fault_handed_on, fewer_shown, moved, next_first, none_shown, number_of, other_shown, sought, stage_next, stage_sought}
+use Rattle.bolt_text.proofs.Exports.{front_fault, short_front, short_same}
 use Rattle.std.specs.Option.{option_map}
 use Rattle.bolt_tree.specs.declared.entry.Entry.{Entry}
 use Rattle.bolt_report.proofs.key_lines.put_keys_with_prefix.Goals as goal
+use Rattle.bolt_tree.proofs.Exports.{nothing_shown}
 
 pub rest-init : goal.rest-init
 rest-init g c = record {

@@ -1,4 +1,4 @@
-use Rattle.bolt_text.proofs.JsonLemmas.{digits_read, items_read}
+use Rattle.bolt_text.proofs.Exports.{digits_read, items_read}
 use Rattle.bolt_report.proofs.FigureDocuments.{size_back}
 use Rattle.bolt_report.proofs.laws.json_sizes_read_back.Goals as goal
 

@@ -1,8 +1,7 @@
 use Rattle.std.proofs.Common.{arith}
-use Rattle.bolt_report.proofs.{Words.leaf_view, FoundLemmas.counts_none, FoundLemmas.counts_one}
+use Rattle.bolt_report.proofs.{Words.leaf_view, FoundLemmas.counts_none, FoundLemmas.counts_one, loss_lines.count_buckets.Goals.then-element, loss_lines.count_buckets.Goals.else-element}
 use Rattle.bolt_format.specs.TreePages.{leaves_on}
 use Rattle.bolt_report.proofs.loss_lines.count_buckets.Goals as goal
-use Rattle.bolt_report.proofs.loss_lines.count_buckets.Goals.{then-element, else-element}
 
 pub loop-i-preserved : goal.loop-i-preserved
 loop-i-preserved c =

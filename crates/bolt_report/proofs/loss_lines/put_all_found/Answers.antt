@@ -1,5 +1,5 @@
 use Rattle.bolt_report.proofs.Words.{found_line, found_view}
-use Rattle.bolt_text.proofs.ReportLemmas.{view_more, view_return}
+use Rattle.bolt_text.proofs.Exports.{view_more, view_return}
 use Rattle.bolt_report.proofs.loss_lines.put_all_found.Goals as goal
 
 pub returns-in_err-put_found : goal.returns-in_err-put_found

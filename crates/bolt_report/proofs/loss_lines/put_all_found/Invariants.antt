@@ -1,6 +1,6 @@
 use Rattle.std.proofs.Common.{map}
 use Rattle.bolt_report.proofs.Words.{found_line, found_view}
-use Rattle.bolt_text.proofs.ReportLemmas.{WroteLines}
+use Rattle.bolt_text.proofs.Exports.{WroteLines}
 use Rattle.bolt_report.proofs.loss_lines.put_all_found.Given as goal
 
 -- the lines of the pages before this one were written

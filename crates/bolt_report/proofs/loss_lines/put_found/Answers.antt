@@ -1,7 +1,6 @@
 -- The pieces are those of the line.
 use Rattle.std.proofs.Common.{◌≡◌, ◌∙◌, ◌-◌, List, [], ℕ, Option, Some, ap, arith, length, option_map, slice_get, sym, unwrap_or}
-use Rattle.bolt_report.proofs.FoundLemmas.{not_empty}
-use Rattle.bolt_report.proofs.Words.{bucket_count, found_line, leaf_view, LeafElement}
+use Rattle.bolt_report.proofs.{FoundLemmas.not_empty, Words.bucket_count, Words.found_line, Words.leaf_view, Words.LeafElement}
 use Rattle.bolt_format.specs.TreePages.{leaves_on}
 use Rattle.bolt_report.specs.FoundLines.{key_at}
 use Rattle.bolt_report.proofs.loss_lines.put_found.Goals as goal

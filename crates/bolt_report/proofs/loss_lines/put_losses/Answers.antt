@@ -1,5 +1,5 @@
 use Rattle.bolt_report.proofs.Words.{loss_text, loss_view}
-use Rattle.bolt_text.proofs.ReportLemmas.{view_more, view_return}
+use Rattle.bolt_text.proofs.Exports.{view_more, view_return}
 use Rattle.bolt_report.proofs.loss_lines.put_losses.Goals as goal
 
 pub returns-in_err-put_loss : goal.returns-in_err-put_loss

@@ -1,6 +1,6 @@
 use Rattle.std.proofs.Common.{map}
 use Rattle.bolt_report.proofs.Words.{loss_text, loss_view}
-use Rattle.bolt_text.proofs.ReportLemmas.{WroteLines}
+use Rattle.bolt_text.proofs.Exports.{WroteLines}
 use Rattle.bolt_report.proofs.loss_lines.put_losses.Given as goal
 
 -- the lines of the losses before this one were written

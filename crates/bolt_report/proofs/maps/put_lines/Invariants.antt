@@ -1,6 +1,6 @@
 use Rattle.std.proofs.Common.{length}
 use Rattle.bolt_report.proofs.{Words.div_ceil, Words.ForRoles, Words.line_at, Words.range_with_len, Words.roles_checked, PageTableLemmas.rows_in}
-use Rattle.bolt_text.proofs.ReportLemmas.{WroteLines}
+use Rattle.bolt_text.proofs.Exports.{WroteLines}
 use Rattle.bolt_report.proofs.maps.put_lines.Given as goal
 
 -- the lines before this one were written

@@ -1,6 +1,5 @@
 use Rattle.std.proofs.Common.{◌≡◌, ◌↔◌, ◌||◌}
-use Rattle.bolt_report.proofs.Words.{is_bucket_at, list_any, member_cmp, path_of, Rises, WroteFront}
-use Rattle.bolt_report.proofs.NameTexts.{left_names}
+use Rattle.bolt_report.proofs.{Words.is_bucket_at, Words.list_any, Words.member_cmp, Words.path_of, Words.Rises, Words.WroteFront, NameTexts.left_names}
 use Rattle.bolt_report.specs.MemberNames.{is_wanted, names_text}
 use Rattle.bolt_tree.specs.ListingParts.{has_bucket}
 use Rattle.bolt_report.proofs.name_lines.list_members_names.Given as goal

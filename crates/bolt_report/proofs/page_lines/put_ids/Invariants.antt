@@ -1,5 +1,5 @@
 use Rattle.bolt_report.proofs.Words.{id_line, shown_ids}
-use Rattle.bolt_text.proofs.ReportLemmas.{WroteLines}
+use Rattle.bolt_text.proofs.Exports.{WroteLines}
 use Rattle.bolt_report.proofs.page_lines.put_ids.Given as goal
 
 -- the lines of the ids before number i were written

@@ -1,6 +1,6 @@
 use Rattle.bolt_report.proofs.Words.{leaf_line}
 use Rattle.bolt_format.specs.TreePages.{leaves_on}
-use Rattle.bolt_text.proofs.ReportLemmas.{WroteLines}
+use Rattle.bolt_text.proofs.Exports.{WroteLines}
 use Rattle.bolt_report.proofs.page_lines.put_leaves.Given as goal
 
 -- the lines of the elements before number i were written

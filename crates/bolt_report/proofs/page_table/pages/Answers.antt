@@ -1,4 +1,4 @@
-use Rattle.bolt_text.proofs.ReportLemmas.{Wrote-passed, Wrote-unbegun}
+use Rattle.bolt_text.proofs.Exports.{Wrote-passed, Wrote-unbegun}
 use Rattle.bolt_report.proofs.page_table.pages.Goals as goal
 
 pub returns-in_err-table-clause-written : goal.returns-in_err-table-clause-written

@@ -1,5 +1,5 @@
 use Rattle.bolt_report.proofs.Words.{bytes_of, meta_of, props, ∥∥₁_elim}
-use Rattle.bolt_check.proofs.RoleFacts.{freelist_shown}
+use Rattle.bolt_check.proofs.Exports.{freelist_shown}
 use Rattle.bolt_report.proofs.page_table.put_freelist_row.Goals as goal
 
 pub known-page-requires : goal.known-page-requires

@@ -1,6 +1,6 @@
 use Rattle.std.proofs.Common.{false, true}
 use Rattle.bolt_report.proofs.Words.{bytes_of, meta_of, props, ∥∥₁_elim}
-use Rattle.bolt_check.proofs.RoleFacts.{first_shown}
+use Rattle.bolt_check.proofs.Exports.{first_shown}
 use Rattle.bolt_report.proofs.page_table.put_row.Goals as goal
 
 pub put_tree_row-requires : goal.put_tree_row-requires

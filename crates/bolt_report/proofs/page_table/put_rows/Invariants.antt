@@ -1,5 +1,5 @@
 use Rattle.bolt_report.proofs.{Words.ForRoles, Words.roles_checked, PageTableLemmas.row_of, PageTableLemmas.rows_in}
-use Rattle.bolt_text.proofs.ReportLemmas.{WroteLines}
+use Rattle.bolt_text.proofs.Exports.{WroteLines}
 use Rattle.bolt_report.proofs.page_table.put_rows.Given as goal
 
 -- the rows of the pages before this one were written

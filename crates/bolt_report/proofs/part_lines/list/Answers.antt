@@ -2,7 +2,7 @@
 use Rattle.std.proofs.Common.{List, ap}
 use Rattle.bolt_report.proofs.Words.{Member, Wrote-same}
 use Rattle.bolt_report.specs.PartLines.{rest_text}
-use Rattle.bolt_tree.proofs.PartLemmas.{part_of_root}
+use Rattle.bolt_tree.proofs.Exports.{part_of_root}
 use Rattle.bolt_report.proofs.part_lines.list.Goals as goal
 
 pub returns-clause-written : goal.returns-clause-written

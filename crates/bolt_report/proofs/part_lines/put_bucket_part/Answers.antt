@@ -2,8 +2,8 @@
 use Rattle.std.proofs.Common.{◌≡◌, ◌∙◌, ◌∷◌, ◌||◌, [], Bool, List, Bor, ap, sym, refl, length, ℕ, ◌==◌}
 use Rattle.bolt_report.proofs.Words.{front_more, is_bucket_at, item_view, length-map, lines_form, list_any, list_line, ListForm, listing_lines, Member, member_cmp, path_of, rest_from, Rises, Wrote-none, Wrote-same}
 use Rattle.bolt_report.proofs.ListPartTexts.{iff_then, before_bucket, has_next, left_part, over_unwanted, with_wanted}
-use Rattle.bolt_text.proofs.ReportLemmas.{front_fault}
-use Rattle.bolt_format.proofs.WroteFronts.{front_same}
+use Rattle.bolt_text.proofs.Exports.{front_fault}
+use Rattle.bolt_format.proofs.Exports.{front_same}
 use Rattle.bolt_report.proofs.part_lines.put_bucket_part.Goals as goal
 use Rattle.bolt_report.proofs.part_lines.put_bucket_part.Goals.{else-found-via-then-found+else-is_in_part, else-found-via-else-found}
 

@@ -2,8 +2,8 @@
 use Rattle.std.proofs.Common.{◌∙◌, ap, sym}
 use Rattle.bolt_report.proofs.Words.{left_of, ListForm, listing_lines, Path, path_of, rest_from, walk_checked, Wrote-same}
 use Rattle.bolt_report.proofs.ListPartTexts.{same_listing, front}
-use Rattle.bolt_text.proofs.ReportLemmas.{Wrote-unbegun}
-use Rattle.bolt_tree.proofs.PartLemmas.{part_from_later}
+use Rattle.bolt_text.proofs.Exports.{Wrote-unbegun}
+use Rattle.bolt_tree.proofs.Exports.{part_from_later}
 use Rattle.bolt_report.proofs.part_lines.put_list_part.Goals as goal
 
 pub returns-in_err-walk-clause-written : goal.returns-in_err-walk-clause-written

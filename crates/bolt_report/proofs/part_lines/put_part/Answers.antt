@@ -2,7 +2,7 @@
 use Rattle.std.proofs.Common.{◌∙◌, ap, sym, refl}
 use Rattle.bolt_report.proofs.Words.{front_more, front_none, item_view, lines_form, list_line, ListForm, Member, path_of, Wrote-same}
 use Rattle.bolt_report.proofs.ListPartTexts.{iff_then, front_text}
-use Rattle.bolt_text.proofs.ReportLemmas.{front_fault}
+use Rattle.bolt_text.proofs.Exports.{front_fault}
 use Rattle.bolt_report.proofs.part_lines.put_part.Goals as goal
 
 pub part-init : goal.part-init

@@ -1,6 +1,6 @@
 use Rattle.std.proofs.Common.{◌∙◌, sym}
 use Rattle.std.proofs.lemmas.Bool.{cond-false, cond-true}
-use Rattle.bolt_format.proofs.WroteLemmas.{Wrote-same}
+use Rattle.bolt_format.proofs.Exports.{Wrote-same}
 use Rattle.bolt_report.proofs.revision_lines.put_head.Goals as goal
 
 pub returns-then-is_json : goal.returns-then-is_json

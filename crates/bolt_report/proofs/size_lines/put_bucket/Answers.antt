@@ -1,11 +1,9 @@
 -- A bucket has one set of figures.
 use Rattle.std.proofs.Common.{ap}
-use Rattle.bolt_report.proofs.Words.{bucket_checked, bucket_start, bytes_of, meta_of, props, Stats, Wrote-same, ∥∥₁_elim}
+use Rattle.bolt_report.proofs.{Words.bucket_checked, Words.bucket_start, Words.bytes_of, Words.meta_of, Words.props, Words.Stats, Words.Wrote-same, Words.∥∥₁_elim, SizeLemmas.size_some}
 use Rattle.bolt_report.specs.SizeLines.{size_text}
-use Rattle.bolt_stats.proofs.StatsOnce.{one_stats}
-use Rattle.bolt_text.proofs.ReportLemmas.{Wrote-unbegun}
-use Rattle.bolt_text.proofs.ShortTexts.{short_same, short_unbegun}
-use Rattle.bolt_report.proofs.SizeLemmas.{size_some}
+use Rattle.bolt_stats.proofs.Exports.{one_stats}
+use Rattle.bolt_text.proofs.Exports.{Wrote-unbegun, short_same, short_unbegun}
 use Rattle.bolt_report.proofs.size_lines.put_bucket.Goals as goal
 
 pub returns-in_err-stats-clause-written : goal.returns-in_err-stats-clause-written

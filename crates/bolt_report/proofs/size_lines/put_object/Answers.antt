@@ -1,7 +1,6 @@
 use Rattle.std.proofs.Common.{codes}
 use Rattle.bolt_report.proofs.{Words.Wrote-same, Words.Wrote-then, FigureTexts.sized_item}
-use Rattle.bolt_text.proofs.ReportLemmas.{Wrote-fault, Wrote-passed, Wrote-sink}
-use Rattle.bolt_text.proofs.ShortTexts.{short_fault, short_passed, short_same, short_then}
+use Rattle.bolt_text.proofs.Exports.{Wrote-fault, Wrote-passed, Wrote-sink, short_fault, short_passed, short_same, short_then}
 use Rattle.bolt_report.proofs.size_lines.put_object.Goals as goal
 
 pub returns-in_err-put_members-clause-written : goal.returns-in_err-put_members-clause-written

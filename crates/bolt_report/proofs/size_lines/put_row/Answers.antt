@@ -1,4 +1,4 @@
-use Rattle.bolt_text.proofs.ReportLemmas.{Wrote-sink}
+use Rattle.bolt_text.proofs.Exports.{Wrote-sink}
 use Rattle.bolt_report.proofs.size_lines.put_row.Goals as goal
 
 pub returns-in_err-put_columns-clause-written : goal.returns-in_err-put_columns-clause-written

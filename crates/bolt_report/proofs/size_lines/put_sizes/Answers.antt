@@ -1,8 +1,8 @@
 use Rattle.std.proofs.Common.{◌∙◌, ap, subst, sym}
 use Rattle.bolt_report.proofs.Words.{AreSized, bucket_checked, bytes_of, entries_left, EntryView, fewer_left, Form, front_more, front_none, front_whole, meta_of, next_shows, next_stands, Place, sizes_text, Wrote-none, Wrote-same}
-use Rattle.bolt_text.proofs.{ReportLemmas.front_fault, ShortTexts.short_front, ShortTexts.short_same}
+use Rattle.bolt_text.proofs.Exports.{front_fault, short_front, short_same}
 use Rattle.bolt_report.proofs.SizeLemmas.{bucket_line, cut, cut_text, no_line, value_line}
-use Rattle.bolt_tree.proofs.Leaving.{stands_on}
+use Rattle.bolt_tree.proofs.Exports.{stands_on}
 use Rattle.bolt_report.proofs.size_lines.put_sizes.Goals as goal
 
 pub rest-init : goal.rest-init

@@ -2,7 +2,7 @@ use Rattle.std.proofs.Common.{◌∙◌, ◌+◌, ◌++◌, List, ℕ, ap, appen
 use Rattle.bolt_stats.proofs.Words.{branches_on, bytes_of, leaves_on, saturated, inline_depth, leaf_entry, meta_of, props, shown, UnreadPage, ∥∥₁_elim}
 use Rattle.bolt_format.specs.declared.tree_page.TreePage.TheVariants.{Branch, Leaf}
 use Rattle.bolt_check.specs.ShownNodes.{shown_node}
-use Rattle.bolt_check.proofs.{KnownPages.is_tree, KnownPages.opened_as, KnownPages.some_tree, NodeLemmas.node_shown, TourSums.enough_shown}
+use Rattle.bolt_check.proofs.Exports.{is_tree, opened_as, some_tree, node_shown, enough_shown}
 use Rattle.bolt_stats.proofs.{DepthSums.greatest_map, ReadLemmas.branch_kids, ReadLemmas.leaf_kids}
 use Rattle.bolt_stats.proofs.bucket_stats.read_unread_page.Goals as goal
 

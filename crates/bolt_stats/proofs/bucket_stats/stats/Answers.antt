@@ -1,6 +1,5 @@
-use Rattle.bolt_stats.proofs.Words.{bucket_checked, bytes_of, meta_of, ∥∥₁_elim, ∥∥₁_map, ∥∥₁_prop}
-use Rattle.bolt_stats.proofs.StatsExist.{are_good, paged_stats_are}
-use Rattle.bolt_check.proofs.CheckedLemmas.{checked_trees}
+use Rattle.bolt_stats.proofs.{Words.bucket_checked, Words.bytes_of, Words.meta_of, Words.∥∥₁_elim, Words.∥∥₁_map, Words.∥∥₁_prop, StatsExist.are_good, StatsExist.paged_stats_are}
+use Rattle.bolt_check.proofs.Exports.{checked_trees}
 use Rattle.bolt_stats.proofs.bucket_stats.stats.Goals as goal
 
 pub paged_stats-requires : goal.paged_stats-requires

@@ -1,6 +1,5 @@
 use Rattle.std.proofs.Common.{◌∙◌, ap, arith}
-use Rattle.bolt_stats.proofs.Words.{figure}
-use Rattle.bolt_stats.proofs.FigureLemmas.{figure_add}
+use Rattle.bolt_stats.proofs.{Words.figure, FigureLemmas.figure_add}
 use Rattle.bolt_stats.proofs.page_stats.leaf_stats.Goals as goal
 
 pub returns : goal.returns

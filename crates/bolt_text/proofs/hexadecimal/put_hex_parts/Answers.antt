@@ -1,6 +1,5 @@
 use Rattle.std.proofs.Common.{sym}
-use Rattle.std.proofs.lemmas.Bool.{eqb-true}
-use Rattle.std.proofs.lemmas.List.{nil_from_length}
+use Rattle.std.proofs.{lemmas.Bool.eqb-true, lemmas.List.nil_from_length}
 use Rattle.bolt_text.proofs.{Vocabulary.front_more, Vocabulary.front_whole, HexStrings.next_digits, HexStrings.no_digits, ReportLemmas.front_broken}
 use Rattle.bolt_text.proofs.hexadecimal.put_hex_parts.Goals as goal
 

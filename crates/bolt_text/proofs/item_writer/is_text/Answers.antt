@@ -1,7 +1,6 @@
 -- The characters of a text are tested one after another.
 use Rattle.std.proofs.Common.{◌∙◌, Bool, ap, not, rules, sym, tests, ◌&&◌, chars}
-use Rattle.std.proofs.lemmas.Iterator.{YieldsList-from_chars}
-use Rattle.std.proofs.lemmas.Iterator.Search.{all_from_yields_List}
+use Rattle.std.proofs.{lemmas.Iterator.YieldsList-from_chars, lemmas.Iterator.Search.all_from_yields_List}
 use Rattle.std.specs.Char.{is_control}
 use Rattle.bolt_text.proofs.{Vocabulary.is_utf8-from_IsUtf8, Vocabulary.list_all, TokenLemmas.not_utf8}
 use Rattle.bolt_text.proofs.item_writer.is_text.Goals as goal

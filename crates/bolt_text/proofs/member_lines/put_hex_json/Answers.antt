@@ -1,6 +1,5 @@
 use Rattle.std.proofs.Common.{◌∙◌, ap, sym}
-use Rattle.bolt_text.proofs.Vocabulary.{digits_json, item_view, json_line, path_of, Wrote-same}
-use Rattle.bolt_text.proofs.HexStrings.{bucket_line, value_line}
+use Rattle.bolt_text.proofs.{Vocabulary.digits_json, Vocabulary.item_view, Vocabulary.json_line, Vocabulary.path_of, Vocabulary.Wrote-same, HexStrings.bucket_line, HexStrings.value_line}
 use Rattle.bolt_text.proofs.member_lines.put_hex_json.Goals as goal
 
 pub returns-in-Value : goal.returns-in-Value

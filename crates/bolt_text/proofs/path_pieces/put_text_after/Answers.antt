@@ -2,8 +2,7 @@
 use Rattle.std.proofs.Common.{◌∷◌, ◌++◌, [], ap}
 use Rattle.std.proofs.lemmas.List.{map-id}
 use Rattle.std.specs.List.{join_with_byte}
-use Rattle.bolt_text.proofs.GatherLemmas.{Gathers-return, Gathers-same, Gathers-then}
-use Rattle.bolt_text.proofs.Vocabulary.{path_of}
+use Rattle.bolt_text.proofs.{GatherLemmas.Gathers-return, GatherLemmas.Gathers-same, GatherLemmas.Gathers-then, Vocabulary.path_of}
 use Rattle.bolt_text.proofs.path_pieces.put_text_after.Goals as goal
 
 pub returns-in_err-put_bytes : goal.returns-in_err-put_bytes

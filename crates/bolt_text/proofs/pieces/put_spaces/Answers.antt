@@ -1,6 +1,5 @@
 use Rattle.std.proofs.Common.{◌≡◌, ◌∙◌, ◌+◌, ◌-◌, suc, ap, arith, replicate, sym}
-use Rattle.std.proofs.lemmas.Grind.{replicate_next}
-use Rattle.std.proofs.lemmas.List.{replicate-append-replicate}
+use Rattle.std.proofs.{lemmas.Grind.replicate_next, lemmas.List.replicate-append-replicate}
 use Rattle.bolt_text.proofs.GatherLemmas.{Gathers-return, Gathers-same, Gathers-then}
 use Rattle.bolt_text.proofs.pieces.put_spaces.Goals as goal
 

@@ -1,10 +1,7 @@
 -- The parts of the path are tested one after another.
 use Rattle.std.proofs.Common.{◌≡◌, ◌∙◌, ◌&&◌, Bool, Bor, List, ℕ, ap, length, not, rules, sym, tests, true}
 use Rattle.std.specs.Prelude.{◌==◌}
-use Rattle.std.proofs.lemmas.Iterator.{YieldsList-from_slice}
-use Rattle.std.proofs.lemmas.Iterator.Search.{all_from_yields_List}
-use Rattle.std.proofs.lemmas.List.{length-map}
-use Rattle.std.proofs.lemmas.List.Folds.{list_all-map}
+use Rattle.std.proofs.{lemmas.Iterator.YieldsList-from_slice, lemmas.Iterator.Search.all_from_yields_List, lemmas.List.length-map, lemmas.List.Folds.list_all-map}
 use Rattle.bolt_text.proofs.Vocabulary.{list_all, path_of}
 use Rattle.bolt_text.specs.NamedPaths.{is_readable_part}
 use Rattle.bolt_text.proofs.readable.is_readable.Goals as goal

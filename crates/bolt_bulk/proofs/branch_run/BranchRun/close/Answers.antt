@@ -1,7 +1,6 @@
 -- The page is written, unless it has no number.
-use Rattle.std.proofs.lemmas.Result.{err_from_is_err_and}
+use Rattle.std.proofs.{lemmas.Result.err_from_is_err_and, lemmas.Grind.common_steps}
 use Rattle.std.proofs.Common.{arith, rules}
-use Rattle.std.proofs.lemmas.Grind.{common_steps}
 use Rattle.bolt_bulk.proofs.PutsLemmas.{closes_above}
 use Rattle.bolt_bulk.proofs.branch_run.BranchRun.close.Goals as goal
 

@@ -2,9 +2,8 @@
 use Rattle.std.proofs.Common.{◌≡◌, ◌+◌, arith, length, map}
 use Rattle.bolt_format.specs.ElementPlaces.{leaf_view}
 use Rattle.bolt_bulk.specs.Private.{element_size, pending_element}
-use Rattle.bolt_bulk.proofs.{BucketLemmas.takes_item, BucketLemmas.takes_none, HeldRuns.length-inline_value}
+use Rattle.bolt_bulk.proofs.{BucketLemmas.takes_item, BucketLemmas.takes_none, HeldRuns.length-inline_value, bucket_runs.BucketRuns.add_inline.Goals.After-make_room}
 use Rattle.bolt_bulk.proofs.bucket_runs.BucketRuns.add_inline.Goals as goal
-use Rattle.bolt_bulk.proofs.bucket_runs.BucketRuns.add_inline.Goals.{After-make_room}
 
 -- the size that was counted is that of the item
 sized : (g : _) (c : After-make_room g) → 16 + (length c.args.pending.key.now + (c.args.pending.size + 16)) ≡ element_size (pending_element c.args.pending c.args.entries.now)

@@ -2,7 +2,7 @@
 use Rattle.std.proofs.Common.{◌∙◌, ◌+◌, ap, arith, rules, ℕ, length}
 use Rattle.bolt_bulk.specs.Private.{bucket_runs, BucketRunsView, leaves_have_room, root_element, runs_end, runs_push}
 use Rattle.bolt_bulk.proofs.{BucketLemmas.room_fits, PutsLemmas.closes_early}
-use Rattle.bolt_format.proofs.EncodedHeaders.{length-head_bytes}
+use Rattle.bolt_format.proofs.Exports.{length-head_bytes}
 use Rattle.bolt_bulk.proofs.bucket_runs.BucketRuns.end_inner.Goals as goal
 
 pub push_reserved-requires-clause-size : goal.push_reserved-requires-clause-size

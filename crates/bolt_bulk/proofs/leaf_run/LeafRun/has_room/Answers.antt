@@ -1,7 +1,6 @@
 -- An item that doesn't fit joins no run that has items.
 use Rattle.std.proofs.Common.{arith}
-use Rattle.std.proofs.lemmas.Bool.{le-ltb, lt-leb}
-use Rattle.std.proofs.lemmas.List.{length-map}
+use Rattle.std.proofs.{lemmas.Bool.le-ltb, lemmas.Bool.lt-leb, lemmas.List.length-map}
 use Rattle.bolt_bulk.proofs.leaf_run.LeafRun.has_room.Goals as goal
 
 pub returns-else-self-size : goal.returns-else-self-size

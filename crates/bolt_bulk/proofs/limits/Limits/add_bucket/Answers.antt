@@ -1,11 +1,9 @@
 -- One row after another gets its limit.
 use Rattle.std.proofs.Common.{List, ap, arith, drop, get_or, length, map, refl, subst, sym, ℕ, ◌+◌, ◌<◌, ◌∙◌, ◌∷◌, ◌≡◌, ◌≤◌}
-use Rattle.std.proofs.lemmas.List.{drop_more, length-map}
-use Rattle.std.proofs.Math.ListN.{get_or-map}
+use Rattle.std.proofs.{lemmas.List.drop_more, lemmas.List.length-map, Math.ListN.get_or-map}
 use Rattle.bolt_bulk.specs.{Private.limit_in, Private.run_end, declared.limits.Limits.Limits}
-use Rattle.bolt_bulk.proofs.LimitLemmas.{Noting, noted_all, noting_more}
+use Rattle.bolt_bulk.proofs.{LimitLemmas.Noting, LimitLemmas.noted_all, LimitLemmas.noting_more, limits.Limits.add_bucket.Goals.in-Some+in_ok-set, limits.Limits.add_bucket.Goals.in_default}
 use Rattle.bolt_bulk.proofs.limits.Limits.add_bucket.Goals as goal
-use Rattle.bolt_bulk.proofs.limits.Limits.add_bucket.Goals.{in-Some+in_ok-set, in_default}
 
 pub loop-level-preserved : goal.loop-level-preserved
 loop-level-preserved c =

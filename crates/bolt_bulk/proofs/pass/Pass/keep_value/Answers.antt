@@ -1,9 +1,8 @@
 -- The value comes after the others, and none has taken a step in the layout.
-use Rattle.bolt_bulk.proofs.Ontos.{onto_push}
+use Rattle.bolt_bulk.proofs.{Ontos.onto_push, PassReady.small_of, PassReady.small_push}
 use Rattle.std.proofs.lemmas.List.{map-append}
 use Rattle.std.proofs.Common.{rules, ◌≡◌, ◌++◌, [], ◌∷◌, false, refl, arith}
 use Rattle.bolt_format.specs.declared.element.Leaf.{Leaf}
-use Rattle.bolt_bulk.proofs.{PassReady.small_of, PassReady.small_push}
 use Rattle.bolt_bulk.proofs.pass.Pass.keep_value.Goals as goal
 
 pub returns-clause-on : goal.returns-clause-on

@@ -3,10 +3,9 @@ use Rattle.std.specs.Prelude.{⊤}
 use Rattle.std.proofs.Common.{Ok, Err, refl, rules, sym}
 use Rattle.bolt_bulk.specs.Private.{IsWaiting}
 use Rattle.bolt_bulk.specs.declared.bulk_fault.BulkFault.TheVariants as fault
-use Rattle.bolt_bulk.proofs.{HeldPasses.more_around, HeldPasses.waits_more, PassAt.open_steps, PassAt.open_stops, PassAt.steps_none, PassAt.steps_stop, PassAt.steps_to}
-use Rattle.bolt_layout.proofs.ListLemmas.{all_append}
+use Rattle.bolt_bulk.proofs.{HeldPasses.more_around, HeldPasses.waits_more, PassAt.open_steps, PassAt.open_stops, PassAt.steps_none, PassAt.steps_stop, PassAt.steps_to, PutsLemmas.writes_on}
+use Rattle.bolt_layout.proofs.Exports.{all_append}
 use Rattle.bolt_bulk.proofs.pass.Pass.open_pending.Goals as goal
-use Rattle.bolt_bulk.proofs.PutsLemmas.{writes_on}
 
 pub returns-in_default-clause-steps : goal.returns-in_default-clause-steps
 returns-in_default-clause-steps g c = λ wanted left parents put is rooted. steps_none (Ok tt) is tt is

@@ -3,9 +3,8 @@ use Rattle.std.proofs.Common.{map, arith}
 use Rattle.bolt_format.specs.ElementPlaces.{leaf_view}
 use Rattle.bolt_tree.specs.Tree.{Tree, with_value}
 use Rattle.bolt_bulk.specs.Private.{HasRoot, onto, Wanted}
-use Rattle.bolt_bulk.proofs.{PassAt.steps_none, PassAt.steps_stop, PassAt.steps_then, PassReady.full_rooted, PassReady.small_of}
+use Rattle.bolt_bulk.proofs.{PassAt.steps_none, PassAt.steps_stop, PassAt.steps_then, PassReady.full_rooted, PassReady.small_of, pass.Pass.take_value.Goals.After-open_pending}
 use Rattle.bolt_bulk.proofs.pass.Pass.take_value.Goals as goal
-use Rattle.bolt_bulk.proofs.pass.Pass.take_value.Goals.{After-open_pending}
 
 -- a bucket that has no room for the value has a root page
 rooted : (g : _) (c : After-open_pending g) (wanted : Wanted) (after : Tree)

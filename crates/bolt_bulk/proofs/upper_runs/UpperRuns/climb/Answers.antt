@@ -1,8 +1,7 @@
 -- Each run that closes is one step on; a run that stays, or the first new one, ends the climb.
 use Rattle.std.proofs.Common.{◌≡◌, ◌∙◌, ◌+◌, arith, refl}
-use Rattle.std.proofs.lemmas.List.{map-append, map-set, length-map, length-set}
-use Rattle.std.proofs.lemmas.Result.{err_from_is_err_and}
-use Rattle.bolt_format.specs.{ElementPlaces.branch_view}
+use Rattle.std.proofs.{lemmas.List.map-append, lemmas.List.map-set, lemmas.List.length-map, lemmas.List.length-set, lemmas.Result.err_from_is_err_and}
+use Rattle.bolt_format.specs.ElementPlaces.{branch_view}
 use Rattle.bolt_layout.specs.{Levels.overflow_of, Limits.one_less}
 use Rattle.bolt_bulk.specs.Private.{no_run, one_closed, run_push, run_view}
 use Rattle.bolt_bulk.proofs.ClimbLemmas.{climb_closes, climb_over, climb_stays, climb_stops, no_room_by, room_by, run_at, standing_set, up_key}

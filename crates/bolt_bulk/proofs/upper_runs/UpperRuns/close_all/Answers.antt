@@ -1,8 +1,7 @@
 -- The runs that are left come to the same as all of them: each that closes is one step on, and a fault leaves something out.
 use Rattle.std.proofs.Common.{arith}
-use Rattle.std.proofs.lemmas.List.{map-set, length-set}
-use Rattle.std.proofs.lemmas.Result.{err_from_is_err_and}
-use Rattle.bolt_format.specs.{ElementPlaces.branch_view}
+use Rattle.std.proofs.{lemmas.List.map-set, lemmas.List.length-set, lemmas.Result.err_from_is_err_and}
+use Rattle.bolt_format.specs.ElementPlaces.{branch_view}
 use Rattle.bolt_bulk.specs.Private.{run_view}
 use Rattle.bolt_bulk.proofs.ClimbLemmas.{close_more, close_stops, run_at, standing_set, up_key}
 use Rattle.bolt_bulk.proofs.upper_runs.UpperRuns.close_all.Goals as goal

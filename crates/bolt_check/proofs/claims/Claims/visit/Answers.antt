@@ -1,8 +1,6 @@
 use Rattle.std.proofs.Common.{rules, ◌∙◌, ap, arith, length}
-use Rattle.std.proofs.lemmas.Grind.{common_steps}
-use Rattle.std.proofs.lemmas.Result.{on_err_weaker}
-use Rattle.bolt_check.proofs.Words.{claims_file, unclaimed}
-use Rattle.bolt_check.proofs.Visited.{stored}
+use Rattle.std.proofs.{lemmas.Grind.common_steps, lemmas.Result.on_err_weaker}
+use Rattle.bolt_check.proofs.{Words.claims_file, Words.unclaimed, Visited.stored}
 use Rattle.bolt_check.specs.Claims.{claims_length, claims_meta, is_claimed, pages_left}
 use Rattle.bolt_check.proofs.claims.Claims.visit.Goals as goal
 

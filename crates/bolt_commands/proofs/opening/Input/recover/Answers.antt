@@ -1,7 +1,7 @@
 -- Nothing is recovered under the meta that is found.
 use Rattle.std.proofs.lemmas.Result.{IfErr-weaker}
 use Rattle.bolt_job.specs.MetaChoices.{HasNoMetaOf}
-use Rattle.bolt_recover.proofs.Refused.{refused_under}
+use Rattle.bolt_recover.proofs.Exports.{refused_under}
 use Rattle.bolt_commands.proofs.Vocabulary.{IsMetaOf}
 use Rattle.bolt_commands.proofs.opening.Input.recover.Goals as goal
 

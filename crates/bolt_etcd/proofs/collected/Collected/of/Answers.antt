@@ -2,11 +2,10 @@ use Rattle.std.proofs.Common.{◌≡◌, ◌∙◌, ◌++◌, List, ap, map, sym
 use Rattle.std.proofs.lemmas.List.{append-nil}
 use Rattle.std.specs.Option.{option_map}
 use Rattle.bolt_format.specs.Elements.{LeafElement}
-use Rattle.bolt_etcd.specs.{Newest.is_until, Newest.until, Revisions.RevisionView, RevisionsLeft.ahead_of, ShownRevisions.shown_revision, Stores.revisions}
-use Rattle.bolt_etcd.specs.declared.revision.Revision.{Revision}
-use Rattle.bolt_etcd.proofs.{Currents.pushed, Currents.was_pushed, Filtered.drops, Filtered.keeps, RevisionSteps.moved_to}
-use Rattle.bolt_etcd.proofs.RevisionLoops.{counted_all, given_in, passed_more, passed_none}
+use Rattle.bolt_etcd.specs.{Newest.is_until, Newest.until, Revisions.RevisionView, RevisionsLeft.ahead_of, ShownRevisions.shown_revision, Stores.revisions, declared.revision.Revision.Revision}
+use Rattle.bolt_etcd.proofs.{Currents.pushed, Currents.was_pushed, RevisionSteps.moved_to, RevisionLoops.counted_all, RevisionLoops.given_in, RevisionLoops.passed_more, RevisionLoops.passed_none}
 use Rattle.bolt_etcd.proofs.collected.Collected.of.Goals.{else-is_until-via-else-is_until, else-is_until-via-then-is_until+else-is_err}
+use Rattle.bolt_tree.proofs.Exports.{drops, keeps}
 use Rattle.bolt_etcd.proofs.collected.Collected.of.Goals as goal
 
 pub rest-init : goal.rest-init

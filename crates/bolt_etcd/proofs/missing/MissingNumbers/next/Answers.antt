@@ -1,7 +1,6 @@
 use Rattle.std.proofs.Common.{◌≤◌, IfSome, Option, Some, None, length, sym, ap, ◌∙◌, arith}
 use Rattle.std.specs.Option.{option_to_list}
-use Rattle.bolt_etcd.specs.{MissingLeft.missing_number, RevisionsLeft.number_ahead}
-use Rattle.bolt_etcd.specs.declared.missing.Missing.{Missing}
+use Rattle.bolt_etcd.specs.{MissingLeft.missing_number, RevisionsLeft.number_ahead, declared.missing.Missing.Missing}
 use Rattle.bolt_etcd.proofs.missing.MissingNumbers.next.Goals as goal
 
 at_most_one : (o : Option Missing) → length (option_to_list o) ≤ 1

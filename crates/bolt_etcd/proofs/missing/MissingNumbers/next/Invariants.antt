@@ -1,6 +1,5 @@
 use Rattle.std.proofs.Common.{◌≡◌, ◌≤◌, None}
-use Rattle.bolt_etcd.specs.MissingLeft.{missing_left}
-use Rattle.bolt_etcd.specs.RevisionsLeft.{ForPass, number_ahead, pass_checked, pass_start}
+use Rattle.bolt_etcd.specs.{MissingLeft.missing_left, RevisionsLeft.ForPass, RevisionsLeft.number_ahead, RevisionsLeft.pass_checked, RevisionsLeft.pass_start}
 use Rattle.bolt_etcd.proofs.missing.MissingNumbers.next.Given as goal
 
 -- nothing was returned, and nothing is known already

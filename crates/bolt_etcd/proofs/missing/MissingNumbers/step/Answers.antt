@@ -1,9 +1,7 @@
 use Rattle.std.proofs.Common.{◌∙◌, ◌++◌, Option, ap, sym}
-use Rattle.std.proofs.lemmas.Bool.{cond-false, cond-true, eq-eqb, ne_eqb}
-use Rattle.std.proofs.lemmas.List.{append-nil}
+use Rattle.std.proofs.{lemmas.Bool.cond-false, lemmas.Bool.cond-true, lemmas.Bool.eq-eqb, lemmas.Bool.ne_eqb, lemmas.List.append-nil}
 use Rattle.std.specs.Option.{option_to_list}
-use Rattle.bolt_etcd.specs.MissingNumbers.{missing_before, revisions_between, transactions_between}
-use Rattle.bolt_etcd.specs.declared.missing.Missing.{Missing}
+use Rattle.bolt_etcd.specs.{MissingNumbers.missing_before, MissingNumbers.revisions_between, MissingNumbers.transactions_between, declared.missing.Missing.Missing}
 use Rattle.bolt_etcd.proofs.missing.MissingNumbers.step.Goals as goal
 
 pub returns-then-key-main-clause-missing : goal.returns-then-key-main-clause-missing

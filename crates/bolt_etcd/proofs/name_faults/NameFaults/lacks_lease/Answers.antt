@@ -1,6 +1,5 @@
 use Rattle.std.proofs.Common.{◌∙◌, ap}
-use Rattle.bolt_etcd.specs.{NameFaults.has_lease, NameFaults.lacks_lease}
-use Rattle.bolt_etcd.specs.Revisions.{RevisionView}
+use Rattle.bolt_etcd.specs.{NameFaults.has_lease, NameFaults.lacks_lease, Revisions.RevisionView}
 use Rattle.bolt_etcd.proofs.Leases.{lacks}
 use Rattle.bolt_etcd.proofs.name_faults.NameFaults.lacks_lease.Goals as goal
 

@@ -1,10 +1,9 @@
 use Rattle.std.proofs.Common.{◌≡◌, ◌∙◌, List, None, ap, filter, sym}
-use Rattle.std.specs.List.{last_or}
-use Rattle.std.specs.Option.{option_map}
+use Rattle.std.specs.{List.last_or, Option.option_map}
 use Rattle.bolt_format.specs.Elements.{LeafElement}
 use Rattle.bolt_etcd.specs.{Newest.is_named, Newest.is_of, Newest.is_until, Newest.newest, Revisions.RevisionView, RevisionsLeft.ahead_of, ShownRevisions.shown_revision, Stores.revisions}
-use Rattle.bolt_etcd.proofs.{Filtered.filter_both, LastOfAll.skips, LastOfAll.takes_last, RevisionSteps.moved_to}
-use Rattle.bolt_etcd.proofs.RevisionLoops.{counted_all, given_in, passed_more, passed_none}
+use Rattle.bolt_etcd.proofs.{LastOfAll.skips, LastOfAll.takes_last, RevisionSteps.moved_to, RevisionLoops.counted_all, RevisionLoops.given_in, RevisionLoops.passed_more, RevisionLoops.passed_none}
+use Rattle.bolt_tree.proofs.Exports.{filter_both}
 use Rattle.bolt_etcd.proofs.newest.Newest.find.Goals as goal
 
 pub rest-init : goal.rest-init

@@ -1,6 +1,5 @@
 use Rattle.std.proofs.Common.{◌≡◌, None, filter}
-use Rattle.std.specs.List.{last_or}
-use Rattle.std.specs.Option.{option_map}
+use Rattle.std.specs.{List.last_or, Option.option_map}
 use Rattle.bolt_etcd.specs.{Newest.is_of, RevisionsLeft.ahead_of, RevisionsLeft.number_ahead, ShownRevisions.shown_revision, Stores.revisions}
 use Rattle.bolt_tree.specs.EntriesLeft.{ForBucket}
 use Rattle.bolt_etcd.proofs.RevisionLoops.{Passed}

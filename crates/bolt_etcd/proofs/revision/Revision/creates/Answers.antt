@@ -4,4 +4,4 @@ use Rattle.bolt_etcd.proofs.revision.Revision.creates.Goals as goal
 
 pub returns : goal.returns
 unfolding follows
-returns c = c.creates.ensures (shown_revision c.args.self.now).place ∙ ap creates c.decode.ensures
+returns c = c.creates.ensures (shown_revision c.args.self.now).stored_key ∙ ap creates c.decode.ensures

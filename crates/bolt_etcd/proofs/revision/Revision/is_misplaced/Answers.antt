@@ -3,4 +3,4 @@ use Rattle.bolt_etcd.specs.{Misplaced.is_misplaced, ShownRevisions.shown_revisio
 use Rattle.bolt_etcd.proofs.revision.Revision.is_misplaced.Goals as goal
 
 pub returns : goal.returns
-returns c = c.is_misplaced.ensures (shown_revision c.args.self.now).place ∙ ap is_misplaced c.decode.ensures
+returns c = c.is_misplaced.ensures (shown_revision c.args.self.now).stored_key ∙ ap is_misplaced c.decode.ensures

@@ -1,9 +1,10 @@
 use Rattle.std.proofs.Common.{sym, ◌∙◌}
 use Rattle.std.specs.Option.{option_map}
 use Rattle.bolt_tree.specs.{Cursors.cursor_place, ShownEntries.shown_entry}
-use Rattle.bolt_etcd.proofs.Passing.{next_shows, nothing_shown, seek_shows}
+use Rattle.bolt_etcd.proofs.Passing.{next_shows, seek_shows}
 use Rattle.bolt_etcd.specs.RevisionsLeft.{ahead_of, pass_checked, pass_start}
 use Rattle.bolt_etcd.proofs.revisions.Revisions.advance.Goals as goal
+use Rattle.bolt_tree.proofs.Exports.{nothing_shown}
 
 pub returns-in-Some-clause-first : goal.returns-in-Some-clause-first
 unfolding ahead_of pass_checked pass_start

@@ -2,8 +2,7 @@ use Rattle.std.proofs.Common.{Option, Some, ap, arith, refl, sym, ◌∙◌, ◌
 use Rattle.std.specs.Option.{option_map}
 use Rattle.std.specs.Prelude.{IfSome}
 use Rattle.bolt_tree.specs.ShownEntries.{shown_entry}
-use Rattle.bolt_etcd.specs.{Numbered.GivesNumber, Numbered.numbered_of, RevisionsLeft.ahead_of, RevisionsLeft.number_ahead}
-use Rattle.bolt_etcd.specs.declared.revision_key.RevisionKey.{RevisionKey}
+use Rattle.bolt_etcd.specs.{Numbered.GivesNumber, Numbered.numbered_of, RevisionsLeft.ahead_of, RevisionsLeft.number_ahead, declared.revision_key.RevisionKey.RevisionKey}
 use Rattle.bolt_etcd.proofs.{NumberSteps.none_numbered, NumberSteps.some_numbered, PassSteps.goes_by_none, PassSteps.goes_by_one, PassSteps.none_shown, PassSteps.one_shown}
 use Rattle.bolt_etcd.proofs.RevisionSteps.{goes_none, number_falls}
 use Rattle.bolt_etcd.proofs.revisions.Revisions.next_number.Goals as goal

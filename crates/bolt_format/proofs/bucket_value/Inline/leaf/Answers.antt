@@ -1,7 +1,6 @@
 use Rattle.std.proofs.Common.{◌∙◌, ◌<◌, ℕ, List, ap, arith, length, sym}
 use Rattle.std.proofs.lemmas.Option.{same_Some}
-use Rattle.bolt_format.specs.Elements.{LeafElement, leaf_element, leaf_elements}
-use Rattle.bolt_format.specs.TreePages.{leaves_on}
+use Rattle.bolt_format.specs.{Elements.LeafElement, Elements.leaf_element, Elements.leaf_elements, TreePages.leaves_on}
 use Rattle.bolt_format.proofs.GoodPages.{length-leaf_elements, no_bucket-at, slice_get-made}
 use Rattle.bolt_format.proofs.bucket_value.Inline.leaf.Goals as goal
 

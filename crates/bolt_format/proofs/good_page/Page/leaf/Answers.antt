@@ -1,6 +1,5 @@
 use Rattle.std.proofs.Common.{◌∙◌, ap, sym, subst, Some, slice_get}
-use Rattle.bolt_format.specs.Elements.{IsBucketValue, LeafElement, leaf_element, leaf_elements, value_fault}
-use Rattle.bolt_format.specs.{Pages.shown_leaves, ShownGoodPages.shown}
+use Rattle.bolt_format.specs.{Elements.IsBucketValue, Elements.LeafElement, Elements.leaf_element, Elements.leaf_elements, Elements.value_fault, Pages.shown_leaves, ShownGoodPages.shown}
 use Rattle.bolt_format.specs.declared.header.Kind.TheVariants as kind
 use Rattle.bolt_format.proofs.GoodPages.{good_content, good_leaf, slice_get-made}
 use Rattle.bolt_format.proofs.good_page.Page.leaf.Goals as goal

@@ -1,6 +1,5 @@
 use Rattle.std.proofs.Common.{◌≡◌, ◌∙◌, ℕ, ◌-◌, List, ◌++◌, length, take, drop, ap, sym, append_assoc, take-append-drop}
-use Rattle.std.proofs.KnownBytes.{Appends-trans}
-use Rattle.std.proofs.lemmas.List.{take_rest}
+use Rattle.std.proofs.{KnownBytes.Appends-trans, lemmas.List.take_rest}
 use Rattle.bolt_format.proofs.sink.WriteSinkSink.put.Goals as goal
 
 -- n more bytes go from the rest to the front

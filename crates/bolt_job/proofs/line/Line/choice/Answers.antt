@@ -1,6 +1,5 @@
 use Rattle.std.proofs.Common.{◌∙◌, find}
-use Rattle.bolt_job.proofs.Vocabulary.{Row, bytes_eq, first_value-rows, found_of, rows_of}
-use Rattle.bolt_job.proofs.CommandLineLemmas.{found_first}
+use Rattle.bolt_job.proofs.{Vocabulary.Row, Vocabulary.bytes_eq, Vocabulary.first_value-rows, Vocabulary.found_of, Vocabulary.rows_of, CommandLineLemmas.found_first}
 use Rattle.bolt_job.proofs.line.Line.choice.Goals as goal
 
 pub returns : goal.returns

@@ -1,6 +1,5 @@
 use Rattle.std.proofs.Common.{◌≡◌, ◌∙◌, List, [], Option, Ok, codes, ap, ap₂, sym, unwrap_or}
-use Rattle.bolt_job.proofs.Vocabulary.{◌>>=◌, Row, Text, all_of, each_part, first_word_of, found_of, part_of, parts_by, path_by, owned_path, raw_values-rows}
-use Rattle.bolt_job.proofs.Vocabulary.{rows_of, values_in}
+use Rattle.bolt_job.proofs.Vocabulary.{◌>>=◌, Row, Text, all_of, each_part, first_word_of, found_of, part_of, parts_by, path_by, owned_path, raw_values-rows, rows_of, values_in}
 use Rattle.bolt_job.proofs.CommandLineLemmas.{gives_same}
 use Rattle.bolt_text.specs.declared.part_words.Parts.{Parts}
 use Rattle.bolt_job.proofs.line.Line.path.Goals as goal

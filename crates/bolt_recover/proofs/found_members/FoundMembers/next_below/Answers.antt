@@ -1,9 +1,8 @@
 -- An element shows itself, and then what it holds.
 use Rattle.std.proofs.Common.{◌≡◌, ◌++◌, ◌∷◌, [], List, false, inl, inr, Option, ap, append_assoc, refl, arith}
 use Rattle.bolt_recover.proofs.Words.{cases_Bool, end, inside_of, IsTrue, item_of, leaf_view, LeafElement, listing_below, lost_and_found, Member, Path, Tree, tree_of_elements}
-use Rattle.bolt_recover.specs.Private.{FoundLeft.GivesBelow}
+use Rattle.bolt_recover.specs.{Private.FoundLeft.GivesBelow, declared.found_members.FoundMembers.FoundMembers}
 use Rattle.bolt_format.specs.{ElementsLeft.leaves_left, declared.elements.Leaves.Leaves}
-use Rattle.bolt_recover.specs.declared.found_members.FoundMembers.{FoundMembers}
 use Rattle.bolt_tree.specs.declared.entry.Item.{Item as CodeItem}
 use Rattle.bolt_recover.proofs.found_members.FoundMembers.next_below.Goals as goal
 

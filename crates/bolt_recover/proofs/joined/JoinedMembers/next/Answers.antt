@@ -1,6 +1,5 @@
 -- The members are those of the merge, which goes on over the same listings.
-use Rattle.bolt_recover.proofs.SoundWalks.{gives_prop}
-use Rattle.bolt_recover.proofs.Words.{IfOk-weaker, joined_left, joined_path, on_err_weaker, props, ∥∥₁_elim, ∥∥₁_map}
+use Rattle.bolt_recover.proofs.{SoundWalks.gives_prop, Words.IfOk-weaker, Words.joined_left, Words.joined_path, Words.on_err_weaker, Words.props, Words.∥∥₁_elim, Words.∥∥₁_map}
 use Rattle.bolt_recover.proofs.joined.JoinedMembers.next.Goals as goal
 
 pub invariant_of-self-clause-reads : goal.invariant_of-self-clause-reads

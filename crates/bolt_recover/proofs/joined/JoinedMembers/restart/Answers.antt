@@ -1,7 +1,6 @@
 -- Begun again, over the same pages.
 use Rattle.std.proofs.Common.{◌∙◌}
-use Rattle.bolt_recover.proofs.Words.{joined_file, joined_left, joined_meta, on_ok_weaker, props, ∥∥₁_elim, ∥∥₁_map}
-use Rattle.bolt_recover.proofs.JoinedLemmas.{merged_joined}
+use Rattle.bolt_recover.proofs.{Words.joined_file, Words.joined_left, Words.joined_meta, Words.on_ok_weaker, Words.props, Words.∥∥₁_elim, Words.∥∥₁_map, JoinedLemmas.merged_joined}
 use Rattle.bolt_recover.proofs.joined.JoinedMembers.restart.Goals as goal
 
 pub invariant_of-self-clause-reads : goal.invariant_of-self-clause-reads

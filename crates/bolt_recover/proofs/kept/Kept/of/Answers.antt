@@ -1,7 +1,6 @@
 -- By what is left of the trees.
 use Rattle.std.proofs.Common.{◌≡◌, sym}
-use Rattle.bolt_recover.proofs.{Searched.none_recovered, Searched.of_sound, Searched.root_lost, SoundWalks.walked}
-use Rattle.bolt_recover.proofs.Words.{left_of, props, ∥∥₁_map}
+use Rattle.bolt_recover.proofs.{Searched.none_recovered, Searched.of_sound, Searched.root_lost, SoundWalks.walked, Words.left_of, Words.props, Words.∥∥₁_map}
 use Rattle.bolt_recover.proofs.kept.Kept.of.Goals as goal
 
 pub returns-in-Sound-clause-file : goal.returns-in-Sound-clause-file

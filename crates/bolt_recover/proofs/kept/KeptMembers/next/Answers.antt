@@ -1,8 +1,7 @@
 -- A recovery returns what is recovered, and so does the walk over sound trees.
 use Rattle.std.proofs.Common.{◌≡◌}
-use Rattle.bolt_tree.proofs.Measured.{walk_falls}
-use Rattle.bolt_recover.proofs.Words.{IfOk-weaker, left_of, on_err_weaker, props, walk_checked}
-use Rattle.bolt_recover.proofs.SoundWalks.{gives_prop, walked}
+use Rattle.bolt_tree.proofs.Exports.{walk_falls}
+use Rattle.bolt_recover.proofs.{Words.IfOk-weaker, Words.left_of, Words.on_err_weaker, Words.props, Words.walk_checked, SoundWalks.gives_prop, SoundWalks.walked}
 use Rattle.bolt_recover.proofs.kept.KeptMembers.next.Goals as goal
 
 pub returns-in-Recovery-clause-given : goal.returns-in-Recovery-clause-given

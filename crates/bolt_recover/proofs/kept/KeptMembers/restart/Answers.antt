@@ -1,12 +1,11 @@
 -- Nothing is recovered if the root page is lost. What sound trees list is recovered.
 use Rattle.std.proofs.Common.{◌≡◌, sym}
-use Rattle.bolt_recover.proofs.{FoundAll.nothing_recovered, SoundWalks.walked}
-use Rattle.bolt_recover.proofs.Words.{left_of, props, walk_checked, ∥∥₁_elim}
+use Rattle.bolt_recover.proofs.{FoundAll.nothing_recovered, SoundWalks.walked, Words.left_of, Words.props, Words.walk_checked, Words.∥∥₁_elim}
 use Rattle.bolt_recover.proofs.kept.KeptMembers.restart.Goals as goal
 
-pub returns-in-Nothing-clause-all : goal.returns-in-Nothing-clause-all
-returns-in-Nothing-clause-all c = rw c.in-Nothing.is (λ listing is.
-    let root = c.in-Nothing.field-0 in
+pub returns-in-Rootless-clause-all : goal.returns-in-Rootless-clause-all
+returns-in-Rootless-clause-all c = rw c.in-Rootless.is (λ listing is.
+    let root = c.in-Rootless.field-0 in
     ∥∥₁_elim root.lost (hlevel props) (λ (x, lost). sym (nothing_recovered root.file.now root.meta x lost listing is)))
 
 pub returns-in-Sound-clause-all : goal.returns-in-Sound-clause-all

@@ -1,7 +1,6 @@
 -- What was given is dropped too, and then the values after it; after the last member nothing is left.
 use Rattle.std.proofs.Common.{◌∙◌, List, [], ◌∷◌, ◌++◌, Result, OnErr, ap, append_assoc, refl, sym, arith}
-use Rattle.bolt_recover.proofs.Words.{Member, recovery_file, recovery_left, recovery_meta}
-use Rattle.bolt_recover.proofs.Existing.{recovers}
+use Rattle.bolt_recover.proofs.{Words.Member, Words.recovery_file, Words.recovery_left, Words.recovery_meta, Existing.recovers}
 use Rattle.bolt_recover.specs.Recoveries.{DropsFirst, LeavesRest}
 use Rattle.bolt_recover.proofs.recovery.Recovery.finish.Goals as goal
 

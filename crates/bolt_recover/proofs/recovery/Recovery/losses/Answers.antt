@@ -1,5 +1,4 @@
-use Rattle.bolt_recover.proofs.Words.{recovery_file, recovery_losses, recovery_meta}
-use Rattle.bolt_recover.proofs.Recovering.{reported_first}
+use Rattle.bolt_recover.proofs.{Words.recovery_file, Words.recovery_losses, Words.recovery_meta, Recovering.reported_first}
 use Rattle.bolt_recover.proofs.recovery.Recovery.losses.Goals as goal
 
 pub returns-clause-first : goal.returns-clause-first

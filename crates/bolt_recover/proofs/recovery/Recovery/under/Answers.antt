@@ -1,5 +1,4 @@
-use Rattle.bolt_recover.proofs.Words.{recovery_left}
-use Rattle.bolt_recover.proofs.Recovering.{left_all}
+use Rattle.bolt_recover.proofs.{Words.recovery_left, Recovering.left_all}
 use Rattle.bolt_recover.proofs.recovery.Recovery.under.Goals as goal
 
 pub returns-clause-all : goal.returns-clause-all

@@ -1,6 +1,5 @@
 use Rattle.std.proofs.Common.{arith, subst, sym}
-use Rattle.bolt_recover.proofs.Words.{StepsOn}
-use Rattle.bolt_recover.proofs.StepLemmas.{goes_in, goes_lost}
+use Rattle.bolt_recover.proofs.{Words.StepsOn, StepLemmas.goes_in, StepLemmas.goes_lost}
 use Rattle.bolt_recover.proofs.steps.Steps.enter.Goals as goal
 
 pub returns-in-Err-clause-on : goal.returns-in-Err-clause-on

@@ -1,9 +1,7 @@
 use Rattle.std.proofs.Common.{◌≡◌, ◌∙◌, ◌++◌, ◌∷◌, [], Option, None, ap, arith, length}
-use Rattle.bolt_recover.proofs.Words.{claims_file, claims_meta, OpenPage, option_to_list, steps_path}
-use Rattle.bolt_recover.proofs.Skipping.{skipped}
-use Rattle.bolt_recover.proofs.StepLemmas.{Innermost, inner}
-use Rattle.bolt_recover.proofs.steps.Steps.skip_values.Goals as goal
+use Rattle.bolt_recover.proofs.{Words.claims_file, Words.claims_meta, Words.OpenPage, Words.option_to_list, Words.steps_path, Skipping.skipped, StepLemmas.Innermost, StepLemmas.inner}
 use Rattle.bolt_recover.proofs.steps.Steps.skip_values.Goals.{In-Some}
+use Rattle.bolt_recover.proofs.steps.Steps.skip_values.Goals as goal
 
 -- nothing was ahead, and the innermost page was the last one
 nothing_ahead : (c : In-Some) → c.args.self.now.ahead ≡ None

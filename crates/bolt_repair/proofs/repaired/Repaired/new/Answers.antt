@@ -1,10 +1,8 @@
 -- What goes back is merged with what is kept of the same file.
 use Rattle.std.proofs.Common.{◌∙◌, ap, ap₂, List, map, sym}
-use Rattle.std.proofs.Math.Logic.{∥∥₁_elim}
-use Rattle.std.proofs.Props.{props}
+use Rattle.std.proofs.{Math.Logic.∥∥₁_elim, Props.props}
 use Rattle.bolt_tree.specs.{InBuckets.members_in, Merges.merge}
-use Rattle.bolt_etcd.specs.declared.revision.Revision.{Revision}
-use Rattle.bolt_etcd.specs.ShownRevisions.{entry_of}
+use Rattle.bolt_etcd.specs.{declared.revision.Revision.Revision, ShownRevisions.entry_of}
 use Rattle.bolt_repair.specs.{RepairedMerges.repair_back, RepairedMembers.repaired_left, Repairs.store_path}
 use Rattle.bolt_repair.proofs.OneRepair.{merged_repaired}
 use Rattle.bolt_repair.proofs.repaired.Repaired.new.Goals as goal

@@ -1,9 +1,7 @@
 -- The members are those of the merge, which goes on over the same listings.
-use Rattle.std.proofs.Math.Logic.{∥∥₁_elim, ∥∥₁_map}
-use Rattle.std.proofs.Props.{props}
-use Rattle.std.proofs.lemmas.Result.{IfOk-weaker, on_err_weaker}
+use Rattle.std.proofs.{Math.Logic.∥∥₁_elim, Math.Logic.∥∥₁_map, Props.props, lemmas.Result.IfOk-weaker, lemmas.Result.on_err_weaker}
 use Rattle.bolt_repair.specs.RepairedMembers.{repaired_left, repaired_path}
-use Rattle.bolt_recover.proofs.SoundWalks.{gives_prop}
+use Rattle.bolt_recover.proofs.Exports.{gives_prop}
 use Rattle.bolt_repair.proofs.repaired.RepairedMembers.next.Goals as goal
 
 pub invariant_of-self : goal.invariant_of-self

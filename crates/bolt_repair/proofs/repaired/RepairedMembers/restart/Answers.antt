@@ -1,8 +1,6 @@
 -- Begun again, over the same listings.
 use Rattle.std.proofs.Common.{◌∙◌}
-use Rattle.std.proofs.Math.Logic.{∥∥₁_elim, ∥∥₁_map}
-use Rattle.std.proofs.Props.{props}
-use Rattle.std.proofs.lemmas.Result.{on_ok_weaker}
+use Rattle.std.proofs.{Math.Logic.∥∥₁_elim, Math.Logic.∥∥₁_map, Props.props, lemmas.Result.on_ok_weaker}
 use Rattle.bolt_repair.specs.{RepairedMerges.repair_back, RepairedMembers.repaired_file, RepairedMembers.repaired_left, RepairedMembers.repaired_meta}
 use Rattle.bolt_repair.proofs.OneRepair.{merged_repaired}
 use Rattle.bolt_repair.proofs.repaired.RepairedMembers.restart.Goals as goal

@@ -1,11 +1,11 @@
 use Rattle.std.proofs.Common.{◌∙◌, ◌+◌, drop, flat_map, map, arith, ap}
 use Rattle.std.proofs.lemmas.List.{drop_all}
-use Rattle.bolt_format.proofs.{WroteFronts.front_more, WroteFronts.front_whole, WroteLemmas.Wrote-same}
-use Rattle.bolt_text.proofs.ReportLemmas.{front_fault}
+use Rattle.bolt_format.proofs.Exports.{front_more, front_whole, Wrote-same}
+use Rattle.bolt_text.proofs.Exports.{front_fault}
 use Rattle.bolt_report.specs.{RevisionLines.prefix_line}
 use Rattle.bolt_etcd.specs.{ShownRevisions.shown_revision}
 use Rattle.bolt_report.proofs.RevisionTexts.{named_lines, same_line}
-use Rattle.bolt_etcd.proofs.ListedTexts.{lines_at}
+use Rattle.bolt_etcd.proofs.Exports.{lines_at}
 use Rattle.bolt_report.proofs.revision_lines.RevisionWriter.put_all.Goals as goal
 
 pub returns-in_err-put_named-clause-written : goal.returns-in_err-put_named-clause-written

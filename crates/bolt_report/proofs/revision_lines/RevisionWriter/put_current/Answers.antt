@@ -1,8 +1,8 @@
 use Rattle.std.proofs.Common.{◌∙◌, List, ap, map}
-use Rattle.bolt_format.proofs.WroteLemmas.{Wrote-same}
+use Rattle.bolt_format.proofs.Exports.{Wrote-same}
 use Rattle.bolt_report.specs.{RevisionLines.named_with, RevisionLines.revision_lines}
 use Rattle.bolt_etcd.specs.{Revisions.RevisionView, ShownRevisions.shown_revision}
-use Rattle.bolt_etcd.proofs.{ListedTexts.Wrote-given, SortedOnce.current_once}
+use Rattle.bolt_etcd.proofs.Exports.{Wrote-given, current_once}
 use Rattle.bolt_report.proofs.revision_lines.RevisionWriter.put_current.Goals as goal
 
 pub returns-in_err-put_all-clause-written : goal.returns-in_err-put_all-clause-written

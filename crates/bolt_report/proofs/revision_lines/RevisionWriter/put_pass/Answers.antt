@@ -1,11 +1,11 @@
 use Rattle.std.proofs.Common.{◌∙◌, List, ap, flat_map}
-use Rattle.bolt_format.proofs.{WroteFronts.front_more, WroteFronts.front_whole, WroteLemmas.Wrote-same}
-use Rattle.bolt_text.proofs.ReportLemmas.{front_fault}
+use Rattle.bolt_format.proofs.Exports.{front_more, front_whole, Wrote-same}
+use Rattle.bolt_text.proofs.Exports.{front_fault}
 use Rattle.bolt_report.specs.{RevisionLines.prefix_line}
 use Rattle.bolt_etcd.specs.{Revisions.RevisionView, ShownRevisions.shown_revision, Stores.revisions}
 use Rattle.bolt_etcd.specs.RevisionsLeft.{CountsOthers, GivesFirst, ahead_of, pass_others}
 use Rattle.std.specs.Option.{option_map}
-use Rattle.bolt_etcd.proofs.{RevisionSteps.moved_to}
+use Rattle.bolt_etcd.proofs.Exports.{moved_to}
 use Rattle.bolt_report.proofs.{RevisionTexts.named_lines, RevisionTexts.same_line}
 use Rattle.bolt_report.proofs.revision_lines.RevisionWriter.put_pass.Goals as goal
 

@@ -1,5 +1,5 @@
 use Rattle.std.proofs.Common.{◌≡◌, flat_map}
-use Rattle.bolt_format.proofs.WroteFronts.{WroteFront}
+use Rattle.bolt_format.proofs.Exports.{WroteFront}
 use Rattle.bolt_report.specs.{RevisionLines.prefix_line}
 use Rattle.bolt_etcd.specs.{Stores.revisions}
 use Rattle.bolt_etcd.specs.RevisionsLeft.{CountsOthers, ForPass, ahead_of, number_ahead, pass_checked, pass_others, pass_start}

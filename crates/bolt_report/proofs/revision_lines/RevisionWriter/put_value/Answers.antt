@@ -1,8 +1,8 @@
 use Rattle.std.proofs.Common.{◌∙◌, ◌++◌, List, ℕ, ap, sym}
 use Rattle.std.proofs.lemmas.Bool.{cond-true}
-use Rattle.bolt_format.proofs.WroteLemmas.{Wrote-same}
+use Rattle.bolt_format.proofs.Exports.{Wrote-same}
 use Rattle.bolt_text.specs.Forms.{item_text}
-use Rattle.bolt_text.proofs.ReportLemmas.{Wrote-sink}
+use Rattle.bolt_text.proofs.Exports.{Wrote-sink}
 use Rattle.bolt_report.proofs.revision_lines.RevisionWriter.put_value.Goals as goal
 
 pub returns-in_err-put-clause-written : goal.returns-in_err-put-clause-written

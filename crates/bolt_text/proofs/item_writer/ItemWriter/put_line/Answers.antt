@@ -1,7 +1,6 @@
 -- An item, and then a line feed.
 use Rattle.std.proofs.Common.{◌∷◌, []}
-use Rattle.bolt_text.proofs.ReportLemmas.{Wrote-fault, Wrote-passed}
-use Rattle.bolt_text.proofs.{ShortTexts.short_fault, Vocabulary.Wrote-then}
+use Rattle.bolt_text.proofs.{ReportLemmas.Wrote-fault, ReportLemmas.Wrote-passed, ShortTexts.short_fault, Vocabulary.Wrote-then}
 use Rattle.bolt_text.proofs.item_writer.ItemWriter.put_line.Goals as goal
 
 pub returns-in_err-put-clause-written : goal.returns-in_err-put-clause-written

@@ -1,6 +1,5 @@
 use Rattle.std.proofs.Common.{◌∙◌, sym, ap}
-use Rattle.bolt_tree.proofs.Words.{bucket_checked, bucket_start, is_lt, leaf_view, start_at}
-use Rattle.bolt_tree.proofs.Looking.{look_found, look_greater, look_none, own_entries}
+use Rattle.bolt_tree.proofs.{Words.bucket_checked, Words.bucket_start, Words.is_lt, Words.leaf_view, Words.start_at, Looking.look_found, Looking.look_greater, Looking.look_none, Looking.own_entries}
 use Rattle.bolt_tree.proofs.bucket.Bucket.element.Goals as goal
 
 pub returns-in_err-leaf-clause-element : goal.returns-in_err-leaf-clause-element

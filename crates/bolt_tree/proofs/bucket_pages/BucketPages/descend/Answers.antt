@@ -1,5 +1,5 @@
 use Rattle.std.proofs.Common.{◌≡◌, ◌∷◌, ◌∙◌, ◌-◌, false, suc, length, List, sym, ap, arith, refl, subst}
-use Rattle.bolt_tree.proofs.Words.{BranchElement, BucketView, Frame, HasStack, IsNearTop, IsOnWayDown, IsPlaceOf, IsSought, Key, KeysRise, Of_branch, ahead_of, contents_in, counted, elements_in, branches_on, length-map, frames_of, opened_content, pager_opened, pages_bucket}
+use Rattle.bolt_tree.proofs.Words.{BranchElement, BucketView, Frame, HasStack, IsNearTop, IsOnWayDown, IsNumberBefore, IsSought, Key, KeysRise, Of_branch, ahead_of, contents_in, counted, elements_in, branches_on, length-map, frames_of, opened_content, pager_opened, pages_bucket}
 use Rattle.bolt_tree.proofs.NearLemmas.{begins, branch_filled, landed, moved_between, moved_way, shows_leaf, stack_rises, way_begins, way_down}
 use Rattle.bolt_tree.proofs.{PagerLemmas.counted_more, PagerLemmas.counted_zero, StackLemmas.popped, StackLemmas.retaken, StackLemmas.root_stack, StackLemmas.branch_room, SeekLemmas.between_down}
 use Rattle.bolt_tree.proofs.{TrailLemmas.frames_pop, TrailLemmas.same_bucket, WayPages.keys_opened, WayPages.length_keys}
@@ -45,8 +45,8 @@ loop-opened-preserved c =
     let e = done.child in
     let stack : HasStack old (record { content = Of_branch bs; taken = 0 } ∷ below) = rw c.in-Branch.is at inv.stack in
     let way : IsOnWayDown old key below (Of_branch bs) = rw c.in-Branch.is at inv.way in
-    let between = between_down old key bs i n 0 e.0 below stack c.saturating_sub.ensures e.1 c.keys_before-found.ensures.place (branch_room old bs 0 below stack) inv.between in
-    let on = way_down old key below bs n i 0 e.0 stack way c.keys_before-found.ensures.place c.saturating_sub.ensures e.1 in
+    let between = between_down old key bs i n 0 e.0 below stack c.saturating_sub.ensures e.1 c.keys_before-found.ensures.before (branch_room old bs 0 below stack) inv.between in
+    let on = way_down old key below bs n i 0 e.0 stack way c.keys_before-found.ensures.before c.saturating_sub.ensures e.1 in
     grind (arith, moved_between, moved_way, counted_more)
 
 pub keys_before-found-requires-2 : goal.keys_before-found-requires-2
@@ -61,7 +61,7 @@ returns c =
     let below = frames_of c.loop-opened.stack.items in
     let frames : frames_of c.push.new.self.items ≡ record { content = opened_content c.loop-opened.opened; taken = c.keys_before-found-2.result.before } ∷ below = rw c.from.ensures at (frames_pop c.push.new.self.items _ _ c.push.ensures.items) in
     let is = landed bucket key (opened_content c.loop-opened.opened) leaf.0 c.keys_before-found-2.result.before (frames_of c.push.new.self.items) below leaf.1 frames inv.stack
-    (subst (λ (keys : List Key). IsPlaceOf keys false key c.keys_before-found-2.result.before) (keys_opened c.loop-opened.opened) c.keys_before-found-2.ensures.place)
+    (subst (λ (keys : List Key). IsNumberBefore keys false key c.keys_before-found-2.result.before) (keys_opened c.loop-opened.opened) c.keys_before-found-2.ensures.before)
     (omega (arith, c.keys_before-found-2.ensures.within, length_keys c.loop-opened.opened)) (omega arith) inv.between inv.way in
     let more : length (frames_of c.push.new.self.items) ≡ suc (length below) = ap (λ (fs : List Frame). length fs) frames in
     let less : length below ≡ length (frames_of c.push.new.self.items) - 1 = omega (arith, more) in

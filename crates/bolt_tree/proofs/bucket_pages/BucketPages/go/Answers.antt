@@ -1,12 +1,11 @@
 -- What lies in the direction stays the same until an entry is taken, and each page that is opened is the next one there.
 use Rattle.std.proofs.Common.{◌≡◌, ◌∙◌, ◌+◌, ◌-◌, suc, length, List, ◌∷◌, ◌++◌, Option, None, Some, option_to_list, sym, ap, refl, arith}
 use Rattle.bolt_tree.proofs.Words.{BucketPages, Frame, HasStack, HasTrail, IsEntered, Of_branch, Position, branches_on, contents_in, trail_entries_left, entries_to, frame_of, frames_of, leaf_view, opened_content, pages_bucket, pages_left, pages_to, taken_at, trail_on}
-use Rattle.bolt_tree.proofs.MoveLemmas.{opens, page_left, takes}
-use Rattle.bolt_tree.proofs.{PagerLemmas.counted_more, PagerLemmas.counted_zero, StackLemmas.popped, StackLemmas.retaken, StackLemmas.taken_bound}
-use Rattle.bolt_tree.proofs.StackLemmas.{taken_fits}
+use Rattle.bolt_tree.proofs.{MoveLemmas.opens, MoveLemmas.page_left, MoveLemmas.takes, PagerLemmas.counted_more, PagerLemmas.counted_zero}
+use Rattle.bolt_tree.proofs.StackLemmas.{popped, retaken, taken_bound, taken_fits}
 use Rattle.bolt_tree.proofs.TrailLemmas.{edge_room, frames_pop, length-frames, popped_none, popped_stack, same_bucket, stack_room}
-use Rattle.bolt_tree.proofs.bucket_pages.BucketPages.go.Goals as goal
 use Rattle.bolt_tree.proofs.bucket_pages.BucketPages.go.Goals.{After-element, After-push-in-Branch}
+use Rattle.bolt_tree.proofs.bucket_pages.BucketPages.go.Goals as goal
 
 pub loop-top-init : goal.loop-top-init
 loop-top-init c =

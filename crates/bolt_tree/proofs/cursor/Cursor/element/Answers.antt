@@ -1,6 +1,5 @@
 use Rattle.std.proofs.Common.{List, Some, subst, sym}
-use Rattle.bolt_tree.proofs.{Standing.entry_on, Standing.top_rests, Standing.topped}
-use Rattle.bolt_tree.proofs.{RestingLemmas.resting_rest, RestingLemmas.resting_stack}
+use Rattle.bolt_tree.proofs.{Standing.entry_on, Standing.top_rests, Standing.topped, RestingLemmas.resting_rest, RestingLemmas.resting_stack}
 use Rattle.bolt_tree.proofs.Words.{Frame, IsOn, cursor_checked, cursor_place, cursor_start, cursor_trail, leaf_view}
 use Rattle.bolt_tree.proofs.cursor.Cursor.element.Goals as goal
 

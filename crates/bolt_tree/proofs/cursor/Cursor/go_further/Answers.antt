@@ -1,6 +1,5 @@
 use Rattle.std.proofs.Common.{◌∙◌, ◌≡◌}
-use Rattle.bolt_tree.proofs.Words.{IsMoved, cursor_trail, trail_on}
-use Rattle.bolt_tree.proofs.{RestingLemmas.moved_resting, RestingLemmas.resting_rest, RestingLemmas.resting_stack, TrailLemmas.kept_stack}
+use Rattle.bolt_tree.proofs.{Words.IsMoved, Words.cursor_trail, Words.trail_on, RestingLemmas.moved_resting, RestingLemmas.resting_rest, RestingLemmas.resting_stack, TrailLemmas.kept_stack}
 use Rattle.bolt_tree.proofs.cursor.Cursor.go_further.Goals as goal
 
 pub invariant_of-self : goal.invariant_of-self

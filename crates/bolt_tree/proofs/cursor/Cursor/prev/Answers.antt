@@ -1,5 +1,4 @@
-use Rattle.bolt_tree.proofs.Words.{cursor_checked, cursor_place, cursor_start, prev_move}
-use Rattle.bolt_tree.proofs.RestingLemmas.{moves_prev, moves_prev_start, shows_by}
+use Rattle.bolt_tree.proofs.{Words.cursor_checked, Words.cursor_place, Words.cursor_start, Words.prev_move, RestingLemmas.moves_prev, RestingLemmas.moves_prev_start, RestingLemmas.shows_by}
 use Rattle.bolt_tree.proofs.TrailLemmas.{no_frames, nonempty}
 use Rattle.bolt_tree.proofs.cursor.Cursor.prev.Goals as goal
 

@@ -1,8 +1,7 @@
 -- The root page is put on the stack at its edge, so that everything lies in the direction.
 use Rattle.std.proofs.Common.{◌≡◌, ◌∷◌, ◌++◌, ◌∙◌, ◌+◌, ◌-◌, ◌&&◌, ℕ, [], Bool, true, false, not, Option, length, List, ap, refl, arith}
 use Rattle.bolt_tree.proofs.Words.{Content, Finds, Frame, Leaf, LeafElement, MatchOption, Position, counted, frame_of, frames_of, pager_opened, pages_bucket, tour_pages_in, pages_left, root_content, taken_at, trail_on}
-use Rattle.bolt_tree.proofs.{MoveLemmas.at_edge, PagerLemmas.counted_more, StackLemmas.root_stack}
-use Rattle.bolt_tree.proofs.{RestingLemmas.resting_bucket, TrailLemmas.edge_room}
+use Rattle.bolt_tree.proofs.{MoveLemmas.at_edge, PagerLemmas.counted_more, StackLemmas.root_stack, RestingLemmas.resting_bucket, TrailLemmas.edge_room}
 use Rattle.std.specs.Option.{is_some}
 use Rattle.bolt_tree.proofs.cursor.Cursor.start.Goals as goal
 

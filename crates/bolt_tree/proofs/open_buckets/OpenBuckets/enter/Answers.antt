@@ -1,9 +1,8 @@
 use Rattle.std.proofs.Common.{◌∙◌, ◌++◌, ◌∷◌, [], None, Some, ap, refl}
 use Rattle.bolt_tree.proofs.Words.{Opens, cursor_view, cursors_of, first_move, fresh_view, leaf_view, next_move, path_of, props, waiting_of, ∥∥₁_elim}
-use Rattle.bolt_tree.proofs.{CursorMoves.by_first, Entering.first_gives, Entering.first_none, Entering.leads_by, Entering.leads_in, Entering.made}
-use Rattle.bolt_tree.proofs.{Entering.opens_by, Entering.placed_in, OpenSteps.enters, OpenSteps.opens, OpenSteps.path_put, OpenSteps.some_open}
+use Rattle.bolt_tree.proofs.{CursorMoves.by_first, Entering.first_gives, Entering.first_none, Entering.leads_by, Entering.leads_in, Entering.made, Entering.opens_by, Entering.placed_in}
+use Rattle.bolt_tree.proofs.{OpenSteps.enters, OpenSteps.opens, OpenSteps.path_put, OpenSteps.some_open, open_buckets.OpenBuckets.enter.Goals.After-close}
 use Rattle.bolt_tree.proofs.open_buckets.OpenBuckets.enter.Goals as goal
-use Rattle.bolt_tree.proofs.open_buckets.OpenBuckets.enter.Goals.{After-close}
 
 pub open-requires : goal.open-requires
 open-requires c = ∥∥₁_elim c.requires.named (hlevel props) (λ n. n.0)

@@ -1,0 +1,55 @@
+-- The copy is made and then reported, or it isn't whole, or there is none.
+use Rattle.std.proofs.Common.{◌∙◌, inl, inr, refl, sym}
+use Rattle.std.proofs.lemmas.List.{length-map}
+use Rattle.bolt_commands.proofs.{Doing.ends_as, RepairAnswers.is_repaired, RepairAnswers.repair_done, RepairAnswers.repair_failed, RepairAnswers.unsearched_unrestored, Vocabulary.∥∥₁_map}
+use Rattle.bolt_repair.specs.{FullRepairs.IsFullRepair, RepairedMembers.repair_file, RepairedMembers.repair_meta, RepairedMerges.repair_back, RepairedMerges.repair_is_made}
+use Rattle.bolt_repair.specs.declared.repair.RepairFault.TheVariants.{Memory}
+use Rattle.bolt_commands.proofs.commands.etcd_repair_command.do_etcd_repair.Goals as goal
+
+pub returns-in_err-both : goal.returns-in_err-both
+returns-in_err-both g c = inr (_, unsearched_unrestored _ _ _ c.in_err-both.ensures.refused, (refl, refl, ends_as _ _ c.from_residual.ensures.1))
+
+pub returns-in_err-repair : goal.returns-in_err-repair
+returns-in_err-repair g c =
+    let searched = c.in_ok-both.ensures.searched in
+    let why = rw searched.bytes at c.in_err-repair.ensures.refused in
+    inr (_, inl (_, _, searched.under, why, refl), (refl, refl, ends_as _ _ c.from_residual-in_err-repair.ensures.1))
+
+pub returns-in_err-copy : goal.returns-in_err-copy
+returns-in_err-copy g c =
+    let both = c.in_ok-both.both in
+    let repair = c.in_ok-repair.repair in
+    let searched = c.in_ok-both.ensures.searched in
+    let found = c.in_ok-repair.ensures in
+    let file = c.args.input.file.now in
+    let choice = c.args.job.now.meta in
+    let ends = ends_as _ _ c.from_residual-in_err-copy.ensures.1 in
+    let faults = rw c.kind_of-kind.ensures.snapshot at c.of_copy-faults.ensures in
+    elim c.in_err-copy.ensures [
+      | inl copies ↦ inl (∥∥₁_map found.back (λ (full : IsFullRepair (repair_file repair) (repair_meta repair) (repair_back repair) (repair_is_made repair) repair.left_out).
+          let from = found.file ∙ searched.bytes in
+          let is = is_repaired file choice both repair _ _ searched from found.meta full found.some _ refl in
+          repair_failed file choice both repair _ _ searched from found.meta full found.some _ refl g.O.Sink _ c.kind_of-kind.result _ _ _ c.kind_of-kind.ensures.snapshot c.kind_of-kind.ensures.layout
+          c.blueprint_of-blueprint.ensures _ faults _ _ (copies _ is) ends))
+      | inr (same, is) ↦ inr (_, inl (_, Memory, searched.under, tt, refl), (refl, same, ends ∙ is))
+    ]
+
+pub returns : goal.returns
+returns g c =
+    let both = c.in_ok-both.both in
+    let repair = c.in_ok-repair.repair in
+    let searched = c.in_ok-both.ensures.searched in
+    let found = c.in_ok-repair.ensures in
+    let file = c.args.input.file.now in
+    let choice = c.args.job.now.meta in
+    let told = rw c.lost.ensures at c.end_repair.ensures in
+    let faults = rw c.kind_of-kind.ensures.snapshot at c.of_copy-faults.ensures in
+    elim c.in_ok-copy.ensures [
+      | inl copies ↦ inl (∥∥₁_map found.back (λ (full : IsFullRepair (repair_file repair) (repair_meta repair) (repair_back repair) (repair_is_made repair) repair.left_out).
+          let from = found.file ∙ searched.bytes in
+          let counts = c.len.ensures ∙ repair.back.ok.0 ∙ sym (length-map _ _) in
+          let is = is_repaired file choice both repair _ _ searched from found.meta full found.some _ counts in
+          repair_done file choice both repair _ _ searched from found.meta full found.some _ counts g.O.Sink _ c.kind_of-kind.result _ _ _ c.kind_of-kind.ensures.snapshot c.kind_of-kind.ensures.layout
+          c.blueprint_of-blueprint.ensures _ faults _ _ (copies _ is) told))
+      | inr (same, is) ↦ absurd (cc)
+    ]

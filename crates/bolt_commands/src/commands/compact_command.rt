@@ -1,0 +1,98 @@
+//! The command `compact`: a copy of what a file holds, or of what is left of a damaged one.
+ghost use Rattle.std.specs.Prelude.{◌≡◌};
+ghost use Rattle.bolt_commands.specs.{Private.Copying.CompactsTo, Private.Copying.CopiesJoined, Private.Copying.CopiesRead, Private.Opened.IsOpened, Private.Opened.IsSearchOf, Private.Opened.opened_found, CopyAnswers.hash_refusal};
+
+use crate::copies::{CopyReport, blueprint_of, copy_members, end_copy};
+use crate::failure::{Failure, Outcome};
+use crate::file_faults::FileFaults;
+use crate::opened::Opened;
+use crate::opening::{Input, join};
+use bolt_bulk::Blueprint;
+use bolt_bulk::laws::{a_recovery_is_whole, a_walk_is_whole, joined_members_are_whole};
+use bolt_etcd::SnapshotFault;
+use bolt_format::Sink;
+use bolt_job::{CompactJob, Extent};
+use bolt_recover::LostAndFound;
+use bolt_recover::laws::{each_file_has_a_joined_listing, each_file_has_found_pages};
+use bolt_tree::Walk;
+
+/// Writes the compact copy that is asked for to `target`, and then what is reported of it to `out`.
+pub(crate) fn do_compact<O: Sink, T: Sink>(
+    input: Input<'_>,
+    job: &CompactJob,
+    out: &mut O,
+    target: &mut T,
+) -> Outcome
+    ensures { CompactsTo O.Sink out.old out.new T.Sink target.old target.new job.now input.entry.file.now result }
+{
+    each_file_has_found_pages();
+    let mut opened = input.open(job.meta, job.extent)?;
+    let faults = FileFaults::of_copy(input.file, job.kind, job.extent, job.meta);
+    if let Some(fault) = hash_refusal(job.extent, faults.hash) {
+        return Err(Failure::Hash(fault));
+    }
+    let copy = copy_opened(input, job, &mut opened, target)?;
+    let report = CopyReport {
+        faults,
+        lost: opened.lost(),
+        found: opened.found(),
+        source: input.file.len() as u64,
+    };
+    end_copy(copy, &report, out)
+}
+
+/// Why a file isn't copied whose hash is wrong. What is left of a damaged one is copied all the same.
+fn hash_refusal(extent: Extent, hash: Option<SnapshotFault>) -> Option<SnapshotFault>
+    ensures { result ≡ hash_refusal extent hash }
+{
+    match extent {
+        Extent::Sound => hash,
+        _ => None,
+    }
+}
+
+/// Writes the copy of what is read, and returns its length.
+fn copy_opened<T: Sink>(
+    input: Input<'_>,
+    job: &CompactJob,
+    opened: &mut Opened<'_>,
+    target: &mut T,
+) -> Result<u64, Failure>
+    requires { IsOpened job.now.extent input.file.now job.now.meta opened.old }
+    ensures read { CopiesRead T.Sink target.old target.new job.now input.entry.file.now opened.old opened.new result }
+    ensures found { opened_found opened.new ≡ opened_found opened.old }
+{
+    let blueprint = blueprint_of(job.kind, job.page_size, &opened.meta());
+    match opened {
+        Opened::Sound(checked) => {
+            let mut walk = Walk::new(input.alloc, *checked);
+            a_walk_is_whole(&walk);
+            let copied = copy_members(input.alloc, &mut walk, &blueprint, job.kind, target)?;
+            Ok(copied)
+        }
+        Opened::Recovered(recovery) => {
+            a_recovery_is_whole(recovery);
+            let copied = copy_members(input.alloc, recovery, &blueprint, job.kind, target)?;
+            Ok(copied)
+        }
+        Opened::Searched(both) => copy_joined(input, job, both, &blueprint, target),
+    }
+}
+
+/// Writes the copy of what is recovered of a file and what is found of it, and returns its length.
+fn copy_joined<T: Sink>(
+    input: Input<'_>,
+    job: &CompactJob,
+    both: &LostAndFound<'_>,
+    blueprint: &Blueprint,
+    target: &mut T,
+) -> Result<u64, Failure>
+    requires { IsSearchOf input.file.now job.now.meta both.now }
+    ensures { CopiesJoined T.Sink target.old target.new job.now input.entry.file.now both.now blueprint.now result }
+{
+    each_file_has_a_joined_listing();
+    let mut joined = join(input, job.meta, both)?;
+    joined_members_are_whole(&joined);
+    let copied = copy_members(input.alloc, &mut joined, blueprint, job.kind, target)?;
+    Ok(copied)
+}

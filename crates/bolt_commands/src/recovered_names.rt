@@ -1,0 +1,66 @@
+//! The names that `buckets` and `keys` print of what is recovered of a damaged file.
+ghost use Rattle.std.specs.Prelude.{◌≡◌};
+ghost use Rattle.bolt_commands.specs.{KeyAnswers.no_bucket, Private.Printing.PrintsAnswer, Private.Recovered.IsNamesPrint, Private.Recovered.bucket_ending};
+
+use crate::failure::{Failure, Outcome, end_listing};
+use crate::file_faults::metas_fault;
+use crate::opening::Input;
+use crate::shortfall::Shortfall;
+use bolt_format::Sink;
+use bolt_job::{Extent, MetaChoice, path_slices};
+use bolt_recover::Lost;
+use bolt_report::{Form, Names, NamesIn, list_members_names};
+
+/// Which names are printed of what is recovered.
+#[derive(Clone, Copy)]
+pub(crate) struct RecoveredNames<'j> {
+    pub meta: MetaChoice,
+    /// The path of the bucket.
+    pub path: &'j [Vec<u8>],
+    pub names: Names<'j>,
+    pub form: Form,
+}
+
+/// Writes names of entries of the bucket at a path, as they are recovered.
+pub(crate) fn name_recovered<O: Sink>(
+    input: Input<'_>,
+    asked: RecoveredNames<'_>,
+    out: &mut O,
+) -> Outcome
+    ensures { PrintsAnswer O.Sink out.old out.new
+        (IsNamesPrint asked.entry input.entry.file.now) result }
+{
+    let mut recovery = input.recover(asked.meta)?;
+    let other = metas_fault(Extent::Losses, input.file, asked.meta);
+    let path = path_slices(input.alloc, asked.path)?;
+    let wanted = NamesIn {
+        bucket: path.as_slice(),
+        names: asked.names,
+    };
+    let found = list_members_names(input.alloc, &mut recovery, wanted, asked.form, out)?;
+    end_names(
+        found,
+        Shortfall::find(Lost::Parts(recovery.losses()), other),
+    )
+}
+
+/// How a job ends that put what is recovered of a bucket, if it was found.
+fn end_names(found: bool, lost: Option<Shortfall>) -> Outcome
+    ensures { result ≡ bucket_ending found lost }
+{
+    if found {
+        end_listing(lost)
+    } else {
+        Err(no_bucket(lost))
+    }
+}
+
+/// Why no bucket is recovered at a path.
+pub(crate) fn no_bucket(lost: Option<Shortfall>) -> Failure
+    ensures { result ≡ no_bucket lost }
+{
+    match lost {
+        None => Failure::NoBucket,
+        Some(lost) => Failure::BucketMaybeLost(lost),
+    }
+}

@@ -1,0 +1,17 @@
+use Rattle.std.proofs.Common.{List, map, ◌++◌, ◌≡◌}
+use Rattle.bolt_tree.specs.{Listing.Member}
+use Rattle.bolt_recover.specs.{KeptMembers.kept_file, KeptMembers.kept_left, KeptMembers.kept_meta, KeptMembers.kept_work, Recovered.ForRecovered, Recovered.IsRecovered}
+use Rattle.bolt_etcd.specs.ShownRevisions.{entry_of}
+use Rattle.bolt_repair.specs.RecoveredStores.{IsStoreNoted}
+use Rattle.bolt_repair.proofs.recovered_store.RecoveredStore.of.Given as goal
+
+-- the members so far, which the store is of, and those that are left are all
+abbrev pub invariant-members : goal.invariant-members
+invariant-members l = record {
+  reads : ForRecovered l.both.file.now l.both.meta (λ listing. IsRecovered (kept_file l.kept) (kept_meta l.kept) listing);
+  noted : ForRecovered l.both.file.now l.both.meta (λ listing.
+      (before : List Member) × (before ++ kept_left l.kept listing ≡ listing) × IsStoreNoted before (map entry_of l.candidates) l.store);
+}
+
+abbrev pub decreases-members : goal.decreases-members
+decreases-members l = kept_work l.kept

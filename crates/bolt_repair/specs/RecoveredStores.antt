@@ -1,0 +1,47 @@
+-- What the recovered listing says of a store.
+use Rattle.std.specs.Prelude.{◌≡◌, ◌↔◌, ℕ, List, ◌∷◌, ◌++◌, [], Option, Some, map}
+use Rattle.std.specs.{Borrow.Bor, List.Contains, Option.option_map, Option.option_to_list}
+use Rattle.std.specs.declared.cmp.Ordering.TheVariants.{Less}
+use Rattle.bolt_check.specs.Keys.{Key, key_cmp}
+use Rattle.bolt_tree.specs.{Entries.EntryView, Entries.Item, Entries.Value, InBuckets.entry_in, Listing.Member, Listing.member_cmp, Order.Rises, Paths.Path, ShownEntries.item_view}
+use Rattle.bolt_repair.specs.{Candidates.HasKey, Repairs.IsKept, Repairs.compaction_path, Repairs.store_path}
+use Rattle.bolt_etcd.specs.{Revisions.RevisionView, Revisions.revision_of, ShownRevisions.shown_revision}
+use Rattle.bolt_repair.specs.declared.recovered_store.{StorePath.StorePath, StorePath.TheVariants.Compaction, StorePath.TheVariants.InStore, StorePath.TheVariants.Other, StorePath.TheVariants.Store, RecoveredStore.RecoveredStore}
+
+-- an entry of the recovered bucket has this key
+abbrev pub HasKeptKey : List Member → Key → Type 0
+HasKeptKey recovered key = (item : Item) × Contains recovered (entry_in store_path (record { key = key; item = item }))
+
+-- What the recovered listing says of a store, and which keys its bucket and the candidates have both. If there are candidates, these are the
+-- revisions in the bucket.
+pub record IsRecoveredStore (recovered : List Member) (candidates : List EntryView) (under : Option Item) (noted : Option (List ℕ)) (revisions : List RevisionView) (keys : List Key) : Type 0 where
+  pub bucket : (item : Item) → Contains recovered (store_path, item) ↔ (under ≡ Some item)
+  pub compaction : (value : List ℕ) → Contains recovered (compaction_path, Value value) ↔ (noted ≡ Some value)
+  pub kept : (e : EntryView) → Contains candidates e → (r : RevisionView) → Contains revisions r ↔ IsKept recovered r
+  pub rises : Rises key_cmp keys
+  pub met : (key : Key) → Contains keys key ↔ (HasKey candidates key × HasKeptKey recovered key)
+
+-- what the code notes is so of these members
+abbrev pub IsStoreNoted : List Member → List EntryView → RecoveredStore → Type 0
+IsStoreNoted members candidates store =
+    IsRecoveredStore members candidates (option_map item_view store.bucket) (option_map (λ (value : Bor (List ℕ)). value.now) store.compaction)
+    (map shown_revision store.kept.items) (map (λ (key : Bor (List ℕ)). key.now) store.met.items)
+
+-- a member comes after these
+abbrev pub ComesAfter : List Member → Member → Type 0
+ComesAfter before m = (x : Member) → Contains before x → member_cmp x m ≡ Less
+
+-- What is noted of the members before this one becomes what is noted of this one too.
+abbrev pub NotesMember : List EntryView → Member → (old new : RecoveredStore) → Type 0
+NotesMember candidates m old new = (before : List Member) → ComesAfter before m → IsStoreNoted before candidates old → IsStoreNoted (before ++ m ∷ []) candidates new
+
+-- if there are candidates, the revision that the entry is comes after these, if it is one
+abbrev pub KeepsRevision : List EntryView → EntryView → (old new : List RevisionView) → Type 0
+KeepsRevision candidates entry old new = (e : EntryView) → Contains candidates e → new ≡ old ++ option_to_list (revision_of entry)
+
+-- where a path leads, as far as a store is concerned
+abbrev pub IsStorePath : Path → StorePath → Type 0
+IsStorePath path Store = path ≡ store_path
+IsStorePath path (InStore key) = path ≡ store_path ++ key.now ∷ []
+IsStorePath path Compaction = path ≡ compaction_path
+IsStorePath path Other = (path ≡ store_path → ⊥) × ((key : Key) → path ≡ store_path ++ key ∷ [] → ⊥) × (path ≡ compaction_path → ⊥)
