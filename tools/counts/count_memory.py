@@ -24,7 +24,7 @@ SIZE = 4000
 MOST_MORE_REQUESTS = 12
 FOR_LOST_BRANCH = 10
 # How many bytes each revision takes, and each found page while the list of them grows.
-OF_REVISION = {"etcd-revisions": 0, "etcd-get": 0, "etcd-keys": 56, "etcd-check": 56, "etcd-repair": 224}
+OF_REVISION = {"etcd-revisions": 0, "etcd-get": 0, "etcd-keys": 56, "etcd-check": 56, "etcd-repair": 112}
 OF_FOUND_PAGE = 72
 # Large blocks are rounded up to pages of memory.
 SLACK = 2 * 4096

@@ -5,7 +5,7 @@ use Rattle.bolt_commands.proofs.Vocabulary.{AreFoundTo, AreLosses, Checked, Exte
 use Rattle.bolt_commands.proofs.{FoundAnswers.are_leaves, FoundAnswers.are_pages, ReadFiles.read_trees}
 use Rattle.bolt_etcd.specs.declared.snapshot.SnapshotFault.{SnapshotFault}
 use Rattle.bolt_job.specs.declared.choices.Extent.TheVariants.{Losses, LostAndFound as Joins, Sound}
-use Rattle.bolt_recover.specs.{Found.AreFound, declared.joined.JoinFault.TheVariants.Memory, declared.recovery.Recovery.Recovery}
+use Rattle.bolt_recover.specs.{Found.AreFound, declared.recover_fault.RecoverFault.TheVariants.Memory, declared.recovery.Recovery.Recovery}
 use Rattle.bolt_commands.specs.declared.opened.Opened.TheVariants as opened
 
 module _ {extent : Extent} {file : List ℕ} {choice : MetaChoice} {listing : List Member} where

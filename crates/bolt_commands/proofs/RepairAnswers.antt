@@ -7,7 +7,7 @@ use Rattle.bolt_job.specs.{MetaChoices.IsMetaOf, declared.choices.CopyKind.CopyK
 use Rattle.bolt_layout.specs.declared.Layout.TheVariants.{Balanced}
 use Rattle.bolt_recover.specs.Lost.{IsAllLost}
 use Rattle.bolt_repair.specs.{FullRepairs.IsFullRepair, RepairedMerges.repair_back, RepairedMerges.repair_is_made, Repaired.IsRepaired, Repaired.repaired_listing, declared.repair.Repair.Repair}
-use Rattle.bolt_repair.specs.declared.repair.RepairFault.TheVariants.{Memory}
+use Rattle.bolt_recover.specs.declared.recover_fault.RecoverFault.TheVariants.{Memory}
 use Rattle.bolt_commands.specs.{JobAnswers.WritesRestored, Private.Opened.IsUnsearched, RepairAnswers.IsRestored, RepairAnswers.IsUnrestored, RepairAnswers.repair_report}
 
 -- a file that isn't searched isn't repaired

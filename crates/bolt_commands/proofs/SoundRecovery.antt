@@ -1,15 +1,15 @@
 -- With sound trees, `--recover` does what is done without it under the same meta, if the accounts don't count there, and `--lost-and-found`
 -- does what `--recover` does.
 use Rattle.std.proofs.Common.{◌≡◌, ◌≢◌, ◌↔◌, ◌*◌, ◌<◌, ◌^◌, ℕ, Bool, List, [], Option, ap, arith, inl, inr, length, refl, rules, subst, sym, ◌∙◌}
-use Rattle.bolt_commands.proofs.Vocabulary.{Active, Answer, AreLosses, Assumed, CheckFault, JobEnding, Extent, Failure, Sound, FoundView, HasSoundTrees, InSlot, IsActive, IsFailureOf, IsInSlot, IsListedAnswer, IsListing, IsMetaOf, IsMetasFault, IsReadTo, IsReadUnder, IsRecovered, IsSalvaged, IsUnreadTo, Layout, ListForm, LossView, Losses, LostView, MakesCopy, Member, Meta, MetaChoice, MetaFault, PageSize, Path, Slot, bad_hash, everything, has_losses, hash_refusal, parts, props, unjoined, ∥∥₁_elim}
+use Rattle.bolt_commands.proofs.Vocabulary.{Active, Answer, AreLosses, Assumed, CheckFault, JobEnding, Extent, Failure, Sound, FoundView, HasSoundTrees, InSlot, IsActive, IsFailureOf, IsInSlot, IsListedAnswer, IsListing, IsMetaOf, IsMetasFault, IsReadTo, IsReadUnder, IsRecovered, IsSalvaged, IsUnreadTo, Layout, ListForm, LossView, Losses, LostView, MakesCopy, Member, Meta, MetaChoice, MetaFault, PageSize, Path, Slot, bad_hash, everything, has_losses, hash_refusal, parts, props, unlisted, ∥∥₁_elim}
 use Rattle.bolt_check.specs.declared.check_fault.CheckFault.TheVariants as check
 use Rattle.bolt_commands.specs.declared.failure.Failure.TheVariants as failure
 use Rattle.bolt_commands.proofs.OtherMetas.{found_metas, metas_found, no_hidden, none_hidden}
 use Rattle.bolt_commands.specs.Alike.{HidesNoState}
 use Rattle.bolt_commands.proofs.{ReadFiles.no_accounts, ReadFiles.read_meta, SoundReads.NamesOne, SoundReads.has_meta, SoundReads.keeps_not_loses, SoundReads.keeps_root, SoundReads.unread, SoundReads.unrecovered}
 use Rattle.bolt_job.specs.declared.choices.Extent.TheVariants.{LostAndFound}
-use Rattle.bolt_recover.specs.{Found.AreFound, JoinRefusals.IsJoinRefusal, Lost.IsAllLost, declared.joined.JoinFault.JoinFault}
-use Rattle.bolt_recover.specs.declared.joined.JoinFault.TheVariants as join
+use Rattle.bolt_recover.specs.{Found.AreFound, JoinRefusals.IsJoinRefusal, Lost.IsAllLost, declared.recover_fault.RecoverFault.RecoverFault}
+use Rattle.bolt_recover.specs.declared.recover_fault.RecoverFault.TheVariants as recover
 use Rattle.bolt_repair.specs.Repaired.{IsRepaired}
 
 -- what the laws of the crates below say
@@ -126,12 +126,13 @@ module _ (b : Below) (file : List ℕ) (meta : Meta) (trees : HasSoundTrees file
           rw (b.none_found file meta numbers no_losses are) at pages,
         )
 
-    unsalvaged : (found : List ℕ) (fault : JoinFault) (why : Failure) → AreFound file meta found → IsJoinRefusal file meta found fault → why ≡ unjoined fault
+    unsalvaged : (found : List ℕ) (fault : RecoverFault) (why : Failure) → AreFound file meta found → IsJoinRefusal file meta found fault → why ≡ unlisted fault
         → why ≡ failure.Memory
-    unsalvaged found (join.Rootless x) why are (none, loses) same = absurd (∥∥₁_elim loses (hlevel props) (keeps_not_loses file meta trees meta x refl))
-    unsalvaged found join.Exists why are (some, has) same = absurd (some (b.none_found file meta found no_losses are))
-    unsalvaged found join.TooLarge why are large same = absurd (omega (arith, few, large))
-    unsalvaged found join.Memory why are is same = same
+    unsalvaged found (recover.Rootless x) why are (none, loses) same = absurd (∥∥₁_elim loses (hlevel props) (keeps_not_loses file meta trees meta x refl))
+    unsalvaged found recover.Exists why are (some, has) same = absurd (some (b.none_found file meta found no_losses are))
+    unsalvaged found recover.NotABucket why are none same = absurd none
+    unsalvaged found recover.TooLarge why are large same = absurd (omega (arith, few, large))
+    unsalvaged found recover.Memory why are is same = same
 
     found_there : Reads file meta LostAndFound Losses choice choice
     found_there = record {
@@ -164,7 +165,7 @@ module _ (b : Below) (file : List ℕ) (meta : Meta) (trees : HasSoundTrees file
             some = λ x everything_is. absurd (search (rules, everything_is));
           } in
           (same, (shown, rw (empty, none) all)));
-      unread = λ why unread. inl (meta, shown, ([], join.Memory, no_found, tt, only_memory choice shown why unread));
+      unread = λ why unread. inl (meta, shown, ([], recover.Memory, no_found, tt, only_memory choice shown why unread));
       metas = metas_found file choice;
     }
 

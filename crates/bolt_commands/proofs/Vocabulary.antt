@@ -12,7 +12,7 @@ pub use Rattle.bolt_commands.specs.KeyAnswers.{HoldsNone, IsEntriesAnswer, IsSiz
 pub use Rattle.bolt_commands.specs.StatsAnswers.{AddsEntry, HasStats, IsStatsAnswer, IsTotal, no_stats}
 pub use Rattle.bolt_commands.specs.{ListAnswers.IsListPrint, ListAnswers.IsListedAnswer, ListAnswers.listing_part_text, ListAnswers.part_ending, PageAnswers.IsInfoAnswer, PageAnswers.page_answer}
 pub use Rattle.bolt_commands.specs.CopyAnswers.{StopsShort, copy_page_size, copy_report, hash_refusal}
-pub use Rattle.bolt_commands.specs.Failures.{IsFailureOf, copied, reported, unjoined}
+pub use Rattle.bolt_commands.specs.Failures.{IsFailureOf, copied, reported, unlisted}
 pub use Rattle.bolt_commands.specs.{FileFaults.AreCopyFaults, FileFaults.IsMetasFault, FileFaults.IsOtherFault, FileFaults.errors_in, FileFaults.other_meta_lines, Shortfalls.shortfall}
 pub use Rattle.bolt_commands.specs.{declared.shortfall.Shortfall.Shortfall, GoodCopies.HasGoodCopies, GoodCopies.IsGoodCopy, GoodCopies.RefusesFile}
 pub use Rattle.bolt_commands.specs.Private.Copying.{CompactsTo, CopiesJoined, CopiesListing, CopiesRead, CopiesTo, IsAskedBlueprint, blueprint_layout, job_layout}

@@ -5,10 +5,10 @@ use Rattle.bolt_check.specs.{declared.finding.Finding.Finding, ShownFindings.fin
 use Rattle.bolt_check.specs.declared.check_fault.CheckFault.TheVariants as check
 use Rattle.bolt_format.specs.{Pages.page_at, declared.meta.Meta.Meta, declared.meta.MetaFault.MetaFault, declared.meta.Slot.Slot}
 use Rattle.bolt_recover.specs.{Found.AreFound, JoinRefusals.IsJoinRefusal, Joined.IsJoined, Joined.LacksBucketKey, Losses.AreLosses, Losses.LossView, Losses.LostView, Losses.everything, Losses.parts}
-use Rattle.bolt_recover.specs.{Lost.IsAllLost, Sites.leaves_of, Recovered.ForRecovered, Recovered.IsRecovered, Refusals.IsUnrecoverable, Refusals.KeepsRoot, declared.joined.JoinFault.JoinFault}
+use Rattle.bolt_recover.specs.{Lost.IsAllLost, Sites.leaves_of, Recovered.ForRecovered, Recovered.IsRecovered, Refusals.IsUnrecoverable, Refusals.KeepsRoot, declared.recover_fault.RecoverFault.RecoverFault}
 use Rattle.bolt_report.specs.FoundLines.{FoundView}
 use Rattle.bolt_tree.specs.{Entries.IsEntry, Entries.Item, Entries.Root_page, Entries.Start, Listing.IsListing, Listing.Member, Paths.Holds, Paths.Names, Paths.Path}
-use Rattle.bolt_commands.specs.{Failures.IsFailureOf, Failures.unjoined, FileFaults.IsMetasFault, Shortfalls.shortfall, declared.shortfall.Shortfall.Shortfall, declared.failure.Failure.Failure}
+use Rattle.bolt_commands.specs.{Failures.IsFailureOf, Failures.unlisted, FileFaults.IsMetasFault, Shortfalls.shortfall, declared.shortfall.Shortfall.Shortfall, declared.failure.Failure.Failure}
 use Rattle.bolt_commands.specs.Answers.{Answer, JobEnding, refused}
 use Rattle.bolt_job.specs.{MetaChoices.HasNoMetaOf, MetaChoices.IsMetaOf, declared.choices.Extent.Extent}
 use Rattle.bolt_job.specs.declared.choices.Extent.TheVariants.{Losses, LostAndFound, Sound}
@@ -89,7 +89,7 @@ pub record IsSalvaged (file : List ℕ) (meta : Meta) (listing : List Member) (l
 -- why there is none
 abbrev pub IsUnjoined : List ℕ → Meta → Failure → Type 0
 IsUnjoined file meta why =
-    (found : List ℕ) × (fault : JoinFault) × AreFound file meta found × IsJoinRefusal file meta found fault × (why ≡ unjoined fault)
+    (found : List ℕ) × (fault : RecoverFault) × AreFound file meta found × IsJoinRefusal file meta found fault × (why ≡ unlisted fault)
 
 abbrev pub IsUnjoinedUnder : List ℕ → MetaChoice → Failure → Type 0
 IsUnjoinedUnder file choice why =

@@ -2,11 +2,11 @@
 use Rattle.std.specs.Prelude.{◌≡◌, ◌≢◌, ◌-◌, ◌⊎◌, ℕ, List, [], ◌++◌, Bool, codes, decimal, length, Ok}
 use Rattle.bolt_check.specs.declared.finding.Finding.{Finding}
 use Rattle.bolt_format.specs.{declared.meta.Meta.Meta, declared.meta.MetaFault.MetaFault}
-use Rattle.bolt_recover.specs.{Losses.LostView, Losses.everything, Lost.IsAllLost}
-use Rattle.bolt_repair.specs.{FullRepairs.IsFullRepair, RepairRefusals.IsRepairRefusal, Repaired.repaired_listing, declared.repair.RepairFault.RepairFault}
+use Rattle.bolt_recover.specs.{Losses.LostView, Losses.everything, Lost.IsAllLost, declared.recover_fault.RecoverFault.RecoverFault}
+use Rattle.bolt_repair.specs.{FullRepairs.IsFullRepair, RepairRefusals.IsRepairRefusal, Repaired.repaired_listing}
 use Rattle.bolt_report.specs.FoundLines.{lost_text}
 use Rattle.bolt_tree.specs.{Entries.EntryView, Listing.Member}
-use Rattle.bolt_commands.specs.{Failures.unrepaired, FileFaults.fault_lines, declared.failure.Failure.Failure, declared.file_faults.FileFaults.FileFaults, Answers.Answer}
+use Rattle.bolt_commands.specs.{Failures.unlisted, FileFaults.fault_lines, declared.failure.Failure.Failure, declared.file_faults.FileFaults.FileFaults, Answers.Answer}
 use Rattle.bolt_commands.specs.CopyAnswers.{copy_status, lengths_line}
 use Rattle.bolt_job.specs.{MetaChoices.HasNoMetaOf, MetaChoices.IsMetaOf, declared.choices.MetaChoice.MetaChoice}
 use Rattle.bolt_commands.specs.declared.failure.Failure.TheVariants as failure
@@ -26,7 +26,7 @@ pub record IsRestored (file : List ℕ) (choice : MetaChoice) (meta : Meta) (lis
 -- why there is none
 abbrev pub IsUnrestored : List ℕ → MetaChoice → Failure → Type 0
 IsUnrestored file choice why =
-    ((meta : Meta) × (fault : RepairFault) × IsMetaOf file choice meta × IsRepairRefusal file meta fault × (why ≡ unrepaired fault))
+    ((meta : Meta) × (fault : RecoverFault) × IsMetaOf file choice meta × IsRepairRefusal file meta fault × (why ≡ unlisted fault))
     ⊎ ((fault : MetaFault) × HasNoMetaOf file choice fault × (why ≡ failure.Metas fault))
 
 -- the line with the numbers of revisions that go back, and of those that stay out

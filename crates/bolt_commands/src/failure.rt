@@ -1,6 +1,6 @@
 //! Why a job isn't done, and how it ends.
 ghost use Rattle.std.specs.Prelude.{◌≡◌, Ok};
-ghost use Rattle.bolt_commands.specs.{Failures.IsFailureOf, Failures.copied, Failures.reported, Failures.unjoined, Failures.unloaded, Failures.unrepaired, FilesRead.lost_ending, Private.Endings.end_written, Private.Endings.ending_by};
+ghost use Rattle.bolt_commands.specs.{Failures.IsFailureOf, Failures.copied, Failures.reported, Failures.unlisted, Failures.unloaded, FilesRead.lost_ending, Private.Endings.end_written, Private.Endings.ending_by};
 ghost use Rattle.bolt_commands.specs.declared.failure.Failure.TheVariants as failure;
 
 use crate::shortfall::Shortfall;
@@ -9,8 +9,7 @@ use bolt_check::{CheckFault, Finding, NoMemory};
 use bolt_etcd::SnapshotFault;
 use bolt_format::{MetaFault, PageFault, SinkFault};
 use bolt_load::{LineFault, LoadFault};
-use bolt_recover::JoinFault;
-use bolt_repair::RepairFault;
+use bolt_recover::RecoverFault;
 use bolt_report::ReportFault;
 use std::alloc::AllocFailed;
 
@@ -124,27 +123,16 @@ impl From<CheckFault> for Failure {
     }
 }
 
-impl From<JoinFault> for Failure {
-    ghost from_gives = { λ fault result. result ≡ unjoined fault };
+impl From<RecoverFault> for Failure {
+    ghost from_gives = { λ fault result. result ≡ unlisted fault };
 
-    fn from(fault: JoinFault) -> Failure {
+    fn from(fault: RecoverFault) -> Failure {
         match fault {
-            JoinFault::Rootless(finding) => Failure::File(finding),
-            JoinFault::Exists => Failure::Exists,
-            JoinFault::TooLarge => Failure::TooManyPages,
-            JoinFault::Memory => Failure::Memory,
-        }
-    }
-}
-
-impl From<RepairFault> for Failure {
-    ghost from_gives = { λ fault result. result ≡ unrepaired fault };
-
-    fn from(fault: RepairFault) -> Failure {
-        match fault {
-            RepairFault::Rootless(finding) => Failure::File(finding),
-            RepairFault::NotABucket => Failure::NotABucket,
-            RepairFault::Memory => Failure::Memory,
+            RecoverFault::Rootless(finding) => Failure::File(finding),
+            RecoverFault::Exists => Failure::Exists,
+            RecoverFault::NotABucket => Failure::NotABucket,
+            RecoverFault::TooLarge => Failure::TooManyPages,
+            RecoverFault::Memory => Failure::Memory,
         }
     }
 }

@@ -1,8 +1,11 @@
 -- What is known of a file that was searched.
-use Rattle.std.proofs.Common.{◌≡◌, ◌≢◌, ◌∙◌, ◌<◌, ◌*◌, ◌^◌, true, false, List, [], ◌∷◌, ap, length, subst, sym, arith}
+use Rattle.std.proofs.Common.{◌≡◌, ◌≢◌, ◌∙◌, ◌<◌, ◌*◌, ◌^◌, ℕ, true, false, List, [], ◌∷◌, ap, length, subst, subst₂, sym, arith}
 use Rattle.bolt_recover.proofs.Words.{all_lost, AreJoinable, AreTreesOf, bytes_of, Checked, Contains, contains_cases, contains_head, contains_none, contains_tail, Damaged, everything, Finding, ForRecovered, Found, HasBucketKey, holds_key, IsSearched, LacksBucketKey, LosesRoot, LossView, lost_of, Member, meta_of, or_cases, or_parts, parts, props, Rootless, Sound, ∥∥₁_elim, ∥∥₁_map}
 use Rattle.bolt_recover.proofs.FoundAll.{nothing_recovered}
 use Rattle.bolt_recover.specs.{Lost.IsAllLost, declared.losses.Damage.Damage, declared.lost_and_found.LostAndFound.LostAndFound, declared.lost_and_found.Trees.Trees}
+use Rattle.bolt_check.specs.{Counts.saturated, Sound.HasSoundTrees}
+use Rattle.bolt_check.proofs.Exports.{checked_trees}
+use Rattle.bolt_format.specs.declared.meta.Meta.{Meta}
 
 -- what is told of the key
 key_held : (listing : List Member) → holds_key listing ≡ true → HasBucketKey listing
@@ -23,6 +26,11 @@ module _ (both : LostAndFound) where
   pub of_sound : (checked : Checked) → both.trees ≡ Sound checked → (bytes_of checked ≡ both.file.now) × (meta_of checked ≡ both.meta) × (both.found.items ≡ [])
   of_sound checked is = ∥∥₁_elim both.searched (hlevel props) (left (Sound checked) is)
 
+  pub trees_sound : (checked : Checked) → both.trees ≡ Sound checked → ∥ HasSoundTrees both.file.now both.meta ∥₁
+  trees_sound checked is =
+      let same = of_sound checked is in
+      subst₂ (λ (file : List ℕ) (meta : Meta). ∥ HasSoundTrees file meta ∥₁) same.0 same.1 (checked_trees checked)
+
   -- trees whose root page is kept
   pub not_everything : (losses : List LossView) → lost_of both.trees ≡ parts losses → (x : Finding) → all_lost both ≡ everything x → ⊥
   unfolding all_lost
@@ -40,10 +48,13 @@ module _ (both : LostAndFound) where
 
   module _ (damage : Damage) (is : both.trees ≡ Damaged damage) where
     pub has_key : damage.has_bucket_key ≡ true → ForRecovered both.file.now both.meta HasBucketKey
-    has_key same listing recovers = key_held listing (∥∥₁_elim both.searched (hlevel props) (λ searched. sym (left (Damaged damage) is searched listing recovers) ∙ same))
+    has_key same listing recovers = key_held listing (∥∥₁_elim both.searched (hlevel props) (λ searched. sym (left (Damaged damage) is searched listing recovers).0 ∙ same))
 
     pub lacks_key : damage.has_bucket_key ≡ false → ForRecovered both.file.now both.meta LacksBucketKey
-    lacks_key other listing recovers = key_lacks listing (∥∥₁_elim both.searched (hlevel props) (λ searched. sym (left (Damaged damage) is searched listing recovers) ∙ other))
+    lacks_key other listing recovers = key_lacks listing (∥∥₁_elim both.searched (hlevel props) (λ searched. sym (left (Damaged damage) is searched listing recovers).0 ∙ other))
+
+    pub number : ForRecovered both.file.now both.meta (λ listing. damage.members ≡ saturated (length listing))
+    number listing recovers = ∥∥₁_elim both.searched (hlevel props) (λ searched. (left (Damaged damage) is searched listing recovers).1)
 
   module _ (x : Finding) (is : both.trees ≡ Rootless x) where
     pub root_lost : ∥ LosesRoot both.file.now both.meta x ∥₁

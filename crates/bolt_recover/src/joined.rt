@@ -5,38 +5,17 @@ ghost use Rattle.bolt_format.specs.Bytes.{IsBytes};
 ghost use Rattle.bolt_recover.specs.{Found.found_numbers, Joined.IsJoined, Joined.LacksBucketKey, JoinRefusals.IsJoinRefusal};
 ghost use Rattle.bolt_recover.specs.{Losses.everything, LostAndFound.all_lost, Private.Joining.AreJoinable, Private.Merging.ReadsJoined};
 ghost use Rattle.bolt_recover.specs.Recovered.{ForRecovered};
-ghost use Rattle.bolt_recover.specs.declared.joined.JoinFault.TheVariants as faults;
 ghost use Rattle.bolt_tree.specs.Listing.{Member};
 
 use crate::found::Found;
 use crate::found_members::FoundMembers;
 use crate::kept::Kept;
 use crate::lost_and_found::{LostAndFound, Trees};
-use bolt_check::{Finding, NoMemory};
+use crate::recover_fault::RecoverFault;
+use bolt_check::NoMemory;
 use bolt_format::Meta;
 use bolt_tree::{Item, Members, Merged};
 use std::alloc::Global;
-
-/// Why there is no joined listing.
-#[derive(Clone, Copy, Debug, PartialEq, Eq)]
-pub enum JoinFault {
-    /// The root page is lost, with this finding, and no page is found.
-    Rootless(Finding),
-    /// A page is found, and the recovered root bucket has an entry `lost+found`.
-    Exists,
-    /// The file has more pages than numbers of sixteen digits can name.
-    TooLarge,
-    /// Memory ran out.
-    Memory,
-}
-
-impl From<NoMemory> for JoinFault {
-    ghost from_gives = { λ _ fault. fault ≡ faults.Memory };
-
-    fn from(_fault: NoMemory) -> Self {
-        JoinFault::Memory
-    }
-}
 
 /// The members of the joined listing of a damaged file, in the order of paths (docs/RECOVERY.md, "The
 /// joined listing"): each recovered member once and, before the first one of the root bucket whose
@@ -57,7 +36,7 @@ pub struct Joined<'a> {
 const NAMES: u64 = 10_000_000_000_000_000;
 
 /// Tests whether there is a joined listing of a file that was searched.
-fn test_join(both: &LostAndFound<'_>) -> Result<(), JoinFault>
+fn test_join(both: &LostAndFound<'_>) -> Result<(), RecoverFault>
     ensures apart { OnOk result (both.now.found.items ≢ []
         → ForRecovered both.now.file.now both.now.meta LacksBucketKey) }
     ensures some { OnOk result ((x : Finding) → all_lost both.now ≡ everything x
@@ -67,20 +46,20 @@ fn test_join(both: &LostAndFound<'_>) -> Result<(), JoinFault>
         (IsJoinRefusal both.now.file.now both.now.meta (found_numbers both.now.found.items)) }
 {
     if both.file.len() as u64 / u64::from(both.meta.page_size) >= NAMES {
-        return Err(JoinFault::TooLarge);
+        return Err(RecoverFault::TooLarge);
     }
     let some = !both.found.is_empty();
     match &both.trees {
         Trees::Sound(_) => Ok(()),
         Trees::Damaged(damage) => {
             if some && damage.has_bucket_key {
-                return Err(JoinFault::Exists);
+                return Err(RecoverFault::Exists);
             }
             Ok(())
         }
         Trees::Rootless(finding) => {
             if !some {
-                return Err(JoinFault::Rootless(*finding));
+                return Err(RecoverFault::Rootless(*finding));
             }
             Ok(())
         }
@@ -100,7 +79,7 @@ impl<'a> Joined<'a> {
     /// `Rootless` if the root page is lost and no page is found; `Exists` if a page is found and the
     /// recovered root bucket has an entry `lost+found`; `TooLarge` if the file has 10^16 pages or more;
     /// `Memory` if memory runs out.
-    pub fn new(alloc: Global, both: &'a LostAndFound<'_>) -> Result<Joined<'a>, JoinFault>
+    pub fn new(alloc: Global, both: &'a LostAndFound<'_>) -> Result<Joined<'a>, RecoverFault>
         ensures file { IfOk result (λ joined. joined_file joined ≡ both.now.file.now) }
         ensures meta { IfOk result (λ joined. joined_meta joined ≡ both.now.meta) }
         ensures all { IfOk result (λ joined.

@@ -13,12 +13,14 @@ mod kept_page;
 pub mod laws;
 mod losses;
 mod lost_and_found;
+mod recover_fault;
 mod recovery;
 mod steps;
 
 pub use found::Found;
-pub use joined::{JoinFault, Joined};
+pub use joined::Joined;
 pub use kept::{Kept, LostRoot};
 pub use losses::{Loss, Lost};
 pub use lost_and_found::LostAndFound;
+pub use recover_fault::RecoverFault;
 pub use recovery::Recovery;

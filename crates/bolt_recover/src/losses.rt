@@ -67,4 +67,6 @@ pub(crate) struct Damage<'a> {
     pub losses: Vec<Loss<'a>>,
     /// Whether the recovered root bucket has an entry with the key of the bucket of what is found.
     pub has_bucket_key: bool,
+    /// How many members are recovered. Saturates at 2^64 - 1.
+    pub members: u64,
 }

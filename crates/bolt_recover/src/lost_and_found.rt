@@ -1,9 +1,10 @@
 //! What is lost of a file, and what is found of it though nothing leads to it.
 ghost use Rattle.std.specs.List.{All};
-ghost use Rattle.std.specs.Prelude.{◌≡◌, ◌<◌, IfOk};
-ghost use Rattle.bolt_check.specs.{Sound.HasSoundTrees, declared.finding.Finding.Finding};
+ghost use Rattle.std.specs.Option.{IfNone};
+ghost use Rattle.std.specs.Prelude.{◌≡◌, ◌<◌, IfOk, IfSome, length};
+ghost use Rattle.bolt_check.specs.{Counts.saturated, Sound.HasSoundTrees, declared.finding.Finding.Finding};
 ghost use Rattle.bolt_format.specs.Bytes.{IsBytes};
-ghost use Rattle.bolt_recover.specs.{Found.AreFound, Found.found_numbers, Lost.IsAllLost, Private.TreesLeft.IsSearched, ShownFound.IsFoundView};
+ghost use Rattle.bolt_recover.specs.{Found.AreFound, Found.found_numbers, Lost.IsAllLost, Private.TreesLeft.IsSearched, Recovered.ForRecovered, ShownFound.IsFoundView};
 ghost use Rattle.bolt_recover.specs.{Refusals.LosesRoot, ShownLosses.lost_view};
 
 use crate::found::Found;
@@ -104,6 +105,19 @@ impl<'a> LostAndFound<'a> {
                 })
             }
             Err(_) => Err(NoMemory),
+        }
+    }
+
+    /// How many members are recovered, if the trees aren't sound. Saturates at 2^64 - 1.
+    pub fn recovered(&self) -> Option<u64>
+        ensures number { IfSome result (λ members.
+            ForRecovered self.now.file.now self.now.meta (λ listing. members ≡ saturated (length listing))) }
+        ensures sound { IfNone result (∥ HasSoundTrees self.now.file.now self.now.meta ∥₁) }
+    {
+        match &self.trees {
+            Trees::Sound(_) => None,
+            Trees::Damaged(damage) => Some(damage.members),
+            Trees::Rootless(_) => Some(0),
         }
     }
 

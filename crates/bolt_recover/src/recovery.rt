@@ -1,7 +1,7 @@
 //! A walk over everything that is kept of a damaged file.
 ghost use Rattle.std.specs.Option.{IfNone};
-ghost use Rattle.std.specs.Prelude.{◌≡◌, ◌<◌, ◌≤◌, ◌^◌, [], IfErr, IfOk, IfSome, List, OnErr, OnOk, map};
-ghost use Rattle.bolt_check.specs.{Claims.claims_file, Claims.claims_meta, Counts.counted};
+ghost use Rattle.std.specs.Prelude.{◌≡◌, ◌<◌, ◌≤◌, ◌^◌, [], IfErr, IfOk, IfSome, List, OnErr, OnOk, length, map};
+ghost use Rattle.bolt_check.specs.{Claims.claims_file, Claims.claims_meta, Counts.counted, Counts.saturated};
 ghost use Rattle.bolt_check.specs.Sound.{HasSoundTrees};
 ghost use Rattle.bolt_tree.specs.{Listing.Member, Paths.path_of};
 ghost use Rattle.bolt_recover.specs.{KeptPages.AreKeptPages, Private.Frames.StepsAreOn, Private.Frames.AreStepsPlaced, Recovered.ForRecovered, Recovered.IsRecovered};
@@ -182,39 +182,45 @@ impl<'a> Recovery<'a> {
             IsSearched (recovery_file self.entry) (recovery_meta self.entry)
             (Trees.Damaged damage) found.items) }
     {
-        let has_bucket_key = self.find_bucket_key()?;
+        let (has_bucket_key, members) = self.look_through()?;
         let steps = self.steps;
         let found = find_leaves(steps.alloc, Leftovers::new(steps.claims))?;
         Ok((
             Damage {
                 losses: steps.losses,
                 has_bucket_key,
+                members,
             },
             found,
         ))
     }
 
-    /// Drops what is left, and returns whether the root bucket has an entry with the key of the bucket
-    /// of what is found.
-    fn find_bucket_key(&mut self) -> Result<bool, NoMemory>
+    /// Drops what is left. Returns whether the root bucket has an entry with the key of the bucket of what
+    /// is found, and how many members were left.
+    fn look_through(&mut self) -> Result<(bool, u64), NoMemory>
         requires { ForRecovered (recovery_file self.old) (recovery_meta self.old) (λ listing.
             recovery_left self.old listing ≡ listing) }
         ensures file { recovery_file self.new ≡ recovery_file self.old }
         ensures meta { recovery_meta self.new ≡ recovery_meta self.old }
         ensures under { claims_meta self.new.steps.claims ≡ self.old.meta }
-        ensures has { IfOk result (λ has.
+        ensures has { IfOk result (λ (has, members).
             ForRecovered (recovery_file self.old) (recovery_meta self.old) (λ listing.
             TellsBucketKey listing has)) }
+        ensures number { IfOk result (λ (has, members).
+            ForRecovered (recovery_file self.old) (recovery_meta self.old) (λ listing.
+            members ≡ saturated (length listing))) }
         ensures all { OnOk result (HasReportedAll self.old self.new) }
         ensures kept { OnOk result
             (AreKeptPages (recovery_file self.old) (recovery_meta self.old)
             (recovery_claimed self.new)) }
     {
         let mut has_bucket_key = false;
+        let mut members = 0_u64;
         while let Some(_) = self.next()? {
             has_bucket_key |= compare_first(self.path()).is_eq();
+            members = members.saturating_add(1);
         }
-        Ok(has_bucket_key)
+        Ok((has_bucket_key, members))
     }
 
     /// The path of the last item that was returned, from the root bucket down. It is empty before

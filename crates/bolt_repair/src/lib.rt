@@ -10,5 +10,5 @@ mod repair;
 mod repaired;
 mod undisputed;
 
-pub use crate::repair::{Repair, RepairFault};
+pub use crate::repair::Repair;
 pub use crate::repaired::Repaired;

@@ -1,5 +1,5 @@
 //! What the recovered listing says of a store.
-ghost use Rattle.std.specs.Prelude.{IfOk, OnOk, map};
+ghost use Rattle.std.specs.Prelude.{◌≡◌, [], IfOk, OnOk, map};
 ghost use Rattle.bolt_tree.specs.{Order.Rises, Paths.path_of, ShownEntries.item_view, ShownEntries.shown_entry};
 ghost use Rattle.bolt_recover.specs.Recovered.{ForRecovered};
 ghost use Rattle.bolt_repair.specs.{Candidates.whole_cmp, RecoveredStores.KeepsRevision, RecoveredStores.IsStorePath};
@@ -62,10 +62,11 @@ impl<'a> RecoveredStore<'a> {
             ForRecovered both.now.file.now both.now.meta (λ recovered.
             IsStoreNoted recovered (map entry_of candidates.now) store)) }
     {
+        let room = room_for_kept(alloc, both, candidates)?;
         let mut store = RecoveredStore {
             bucket: None,
             compaction: None,
-            kept: Vec::new(alloc),
+            kept: room,
             met: Vec::new(alloc),
             at: 0,
         };
@@ -104,6 +105,23 @@ impl<'a> RecoveredStore<'a> {
         }
         Ok(())
     }
+}
+
+/// Room for all revisions that are recovered and for the candidates, which come to them later, if there
+/// are any. So the list never grows: while it did, it would need up to three times as much.
+fn room_for_kept<'a>(
+    alloc: Global,
+    both: &LostAndFound<'a>,
+    candidates: &[Revision<'a>],
+) -> Result<Vec<Revision<'a>>, NoMemory>
+    ensures { IfOk result (λ room. room.items ≡ []) }
+{
+    if candidates.is_empty() {
+        return Ok(Vec::new(alloc));
+    }
+    let recovered = both.recovered().unwrap_or(0);
+    let room = usize::try_from(recovered).unwrap_or(usize::MAX);
+    Ok(Vec::with_capacity(alloc, room.saturating_add(candidates.len()))?)
 }
 
 /// Where a path leads.

@@ -6,14 +6,13 @@ ghost use Rattle.bolt_recover.specs.{LostAndFound.all_lost, Losses.everything};
 ghost use Rattle.bolt_repair.specs.{Repaired.IsRepair, RepairRefusals.IsRepairRefusal, Candidates.whole_cmp, Repaired.lacks_bucket, Undisputed.AreUndisputed, Undisputed.HaveKeys, WhatGoesBack.ArePutBack, WhatGoesBack.AreTheNewest, WhatGoesBack.goes_back, WhatGoesBack.old_revisions};
 ghost use Rattle.bolt_tree.specs.{Order.Rises, ShownEntries.item_view};
 ghost use Rattle.bolt_etcd.specs.{Among.among, Among.without, Newest.is_until, ShownRevisions.entry_of, ShownRevisions.shown_revision};
-ghost use Rattle.bolt_repair.specs.declared.repair.RepairFault.TheVariants as faults;
 
 use crate::candidates::{candidates_of, has_key};
 use crate::recovered_store::RecoveredStore;
 use crate::undisputed::keep_undisputed;
-use bolt_check::{Finding, NoMemory};
+use bolt_check::NoMemory;
 use bolt_etcd::{Revision, compacted_by, keep_newest};
-use bolt_recover::{Lost, LostAndFound};
+use bolt_recover::{Lost, LostAndFound, RecoverFault};
 use bolt_tree::Item;
 use std::alloc::Global;
 
@@ -31,36 +30,17 @@ pub struct Repair<'a> {
     ghost goes_back: { ∥ IsRepair both.now.file.now both.now.meta (map entry_of back.items) is_made ∥₁ },
 }
 
-/// Why a file isn't repaired.
-#[derive(Clone, Copy, Debug, PartialEq, Eq)]
-pub enum RepairFault {
-    /// The root page is lost, with this finding, and nothing goes back.
-    Rootless(Finding),
-    /// The recovered root bucket has a value `key`.
-    NotABucket,
-    /// Memory ran out.
-    Memory,
-}
-
-impl From<NoMemory> for RepairFault {
-    ghost from_gives = { λ _ fault. fault ≡ faults.Memory };
-
-    fn from(_fault: NoMemory) -> Self {
-        RepairFault::Memory
-    }
-}
-
 impl<'a> Repair<'a> {
     ghost use Rattle.bolt_repair.specs.{RepairedMembers.IsWholeRepair, RepairedMembers.repair_file, RepairedMembers.repair_meta, RepairedMerges.repair_back};
 
-    /// Finds what goes back. Goes over what is recovered once. If there are candidates, it needs at most 168
-    /// bytes for each of them and for each recovered revision.
+    /// Finds what goes back. Goes over what is recovered once. If there are candidates, it needs 112 bytes for
+    /// each of them and 56 for each recovered member.
     ///
     /// # Errors
     ///
     /// `Rootless` if the root page is lost and nothing goes back; `NotABucket` if the recovered root bucket
     /// has a value `key`; `Memory` if memory runs out.
-    pub fn find(alloc: Global, both: &'a LostAndFound<'_>) -> Result<Repair<'a>, RepairFault>
+    pub fn find(alloc: Global, both: &'a LostAndFound<'_>) -> Result<Repair<'a>, RecoverFault>
         ensures file { IfOk result (λ repair. repair_file repair ≡ both.now.file.now) }
         ensures meta { IfOk result (λ repair. repair_meta repair ≡ both.now.meta) }
         ensures back { IfOk result (λ repair. IsWholeRepair repair) }
@@ -71,7 +51,7 @@ impl<'a> Repair<'a> {
         let mut back = candidates_of(alloc, both.found.as_slice())?;
         let store = RecoveredStore::of(alloc, both, back.as_slice())?;
         let Some(is_lacking) = lacks_bucket(store.bucket) else {
-            return Err(RepairFault::NotABucket);
+            return Err(RecoverFault::NotABucket);
         };
         let compacted = compacted_by(store.compaction);
         let keys = keep_agreed(&mut back, store.met);
@@ -79,7 +59,7 @@ impl<'a> Repair<'a> {
         if let Lost::Everything(finding) = both.lost()
             && back.is_empty()
         {
-            return Err(RepairFault::Rootless(finding));
+            return Err(RecoverFault::Rootless(finding));
         }
         Ok(Repair {
             both,

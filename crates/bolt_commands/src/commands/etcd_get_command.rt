@@ -19,17 +19,17 @@ pub(crate) fn do_etcd_get<O: Sink>(input: Input<'_>, job: &EtcdGetJob, out: &mut
     let store = read_store(input, job.meta)?;
     refuse_compacted(&store.root, job.at)?;
     let newest = Newest::find(&store.keys, job.name.as_slice(), up_to(job.at));
-    let Some(held) = newest.value() else {
+    let Some(value) = newest.value() else {
         return Err(Failure::NoKey);
     };
-    end_held(
-        put_value(input.alloc, held, job.form, job.no_newline, out),
+    end_value(
+        put_value(input.alloc, value, job.form, job.no_newline, out),
         newest.others,
     )
 }
 
 /// How a job ends that wrote a value.
-fn end_held(put: Result<(), ReportFault>, others: u64) -> Outcome
+fn end_value(put: Result<(), ReportFault>, others: u64) -> Outcome
     ensures { result ≡ ending_by put (others_ending others) }
 {
     put?;

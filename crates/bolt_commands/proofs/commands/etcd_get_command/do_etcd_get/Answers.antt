@@ -35,5 +35,5 @@ returns g c =
     let kept = c.in_ok-refuse_compacted.ensures.kept (own _ _ s of).0 (here _ _ s of) in
     let found = rw (c.as_slice.ensures.value, c.up_to.ensures) at (c.find-newest.ensures.revision entries are) in
     let some = ap value_if (sym found) ∙ sym c.value.ensures ∙ ap (option_map (λ value. value.now)) c.in-Some.is in
-    let put = short_put (job.form ≡ Json) (value_shown job.form job.no_newline c.in-Some.held.now) (entries_ending entries) c.put_value.result c.put_value.ensures.written c.put_value.ensures.short c.put_value.ensures.fault in
-    rw (c.end_held.ensures, c.find-newest.ensures.others entries are) (answer_at _ _ s of (IsHeldText job) _ job.at kept (answer_as put (λ answer shown. rw some shown)))
+    let put = short_put (job.form ≡ Json) (value_shown job.form job.no_newline c.in-Some.value.now) (entries_ending entries) c.put_value.result c.put_value.ensures.written c.put_value.ensures.short c.put_value.ensures.fault in
+    rw (c.end_value.ensures, c.find-newest.ensures.others entries are) (answer_at _ _ s of (IsHeldText job) _ job.at kept (answer_as put (λ answer shown. rw some shown)))

@@ -3,7 +3,7 @@ use Rattle.std.proofs.Common.{◌∙◌, inl, inr, refl, sym}
 use Rattle.std.proofs.lemmas.List.{length-map}
 use Rattle.bolt_commands.proofs.{Doing.ends_as, RepairAnswers.is_repaired, RepairAnswers.repair_done, RepairAnswers.repair_failed, RepairAnswers.unsearched_unrestored, Vocabulary.∥∥₁_map}
 use Rattle.bolt_repair.specs.{FullRepairs.IsFullRepair, RepairedMembers.repair_file, RepairedMembers.repair_meta, RepairedMerges.repair_back, RepairedMerges.repair_is_made}
-use Rattle.bolt_repair.specs.declared.repair.RepairFault.TheVariants.{Memory}
+use Rattle.bolt_recover.specs.declared.recover_fault.RecoverFault.TheVariants.{Memory}
 use Rattle.bolt_commands.proofs.commands.etcd_repair_command.do_etcd_repair.Goals as goal
 
 pub returns-in_err-both : goal.returns-in_err-both

@@ -7,7 +7,7 @@ use Rattle.bolt_recover.proofs.recovery.Recovery.found.Goals as goal
 pub returns : goal.returns
 unfolding recovery_claimed recovery_file recovery_losses recovery_meta
 returns c =
-    let self = c.find_bucket_key.new.self in
+    let self = c.look_through.new.self in
     let rest = c.new.result in
     let finished = c.in_ok-has_bucket_key.ensures in
     let file = recovery_file c.args.self in
@@ -16,7 +16,7 @@ returns c =
     let same_file = c.new.ensures.file ∙ finished.file in
     let same_meta = c.new.ensures.meta ∙ finished.under in
     record {
-      left = finished.has;
+      left = λ listing is. (finished.has listing is, finished.number listing is);
       lost = (c.requires.root, finished.all);
       are_found =
           found_damaged file meta (recovery_claimed self) (is_taken rest) (found_numbers items) finished.kept c.new.ensures.taken c.requires.damaged
