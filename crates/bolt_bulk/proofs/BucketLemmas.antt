@@ -62,6 +62,4 @@ module _ {S A B : Type 0} {sink : Ghosts S} {old new : PageWriter S} {before mad
 
   -- there was no room
   pub takes_none : {f : BulkFault} → IsErrAnd result (λ g. g ≡ f) → MakesRoom sink old new {A = A} before e.key size made (Err f) → TakesItem sink old new before e after result
-  takes_none same room =
-      let (_, is, e_is) = err_from_is_err_and result same in
-      grind arith
+  takes_none same room = grind (arith, err_from_is_err_and)

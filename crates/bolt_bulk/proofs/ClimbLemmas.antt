@@ -1,9 +1,9 @@
 -- A bucket's open runs, one after another: the climb over them, and the end of the bucket, at which each closes.
 use Rattle.std.proofs.lemmas.Grind.{common_steps}
-use Rattle.std.proofs.lemmas.List.{length-map, drop_all, drop_more, drop-set-lt, set_split, take_all, take_more_set}
+use Rattle.std.proofs.lemmas.List.{length-map, drop_more, drop-set-lt, set_split, take_more_set}
 use Rattle.std.proofs.{Math.ListN.get_or-map, lemmas.Option.none-some, lemmas.Option.same_Some}
-use Rattle.std.proofs.Common.{◌≡◌, ◌∙◌, ℕ, suc, ◌+◌, ◌<◌, ◌≤◌, true, false, List, [], ◌∷◌, ◌++◌, length, map, take, drop, get_or, set, if◌then◌else◌, add-one, Option, Some, None, Ok, Err, option_map, refl, sym, ap, arith, append_assoc}
-use Rattle.std.specs.{List.AllByRecursion, Prelude.⊤}
+use Rattle.std.proofs.Common.{◌≡◌, ◌∙◌, ℕ, suc, ◌+◌, ◌<◌, ◌≤◌, true, false, List, [], ◌∷◌, ◌++◌, length, map, take, drop, get_or, set, if◌then◌else◌, add-one, Option, Some, None, Err, option_map, refl, sym, ap, arith, append_assoc}
+use Rattle.std.specs.{List.AllByRecursion}
 use Rattle.bolt_format.specs.{ElementPlaces.branch_view, Elements.BranchElement, declared.element.Branch.Branch, Wrote.Wrote, Endings.whole, declared.sink.Sink.Ghosts}
 use Rattle.bolt_bulk.specs.Private.{element_up, IsStanding, key_size, no_run, one_closed, run_kept, run_page, run_push, run_stays, run_view, runs_above, runs_climb, runs_close_put, runs_end_next, runs_next, runs_put, runs_root, RunView, taking_next, taking_puts, taking_up, Closes, Writes}
 use Rattle.bolt_bulk.specs.{declared.branch_run.BranchRun.BranchRun, declared.bulk_fault.BulkFault.BulkFault, declared.page_setup.PageSetup.PageSetup}
@@ -63,15 +63,6 @@ module _ {S : Type 0} {sink : Ghosts S} {setup : PageSetup} {new : Option ℕ} {
     large = λ is. let large = one.large is in grind (arith, next_grows);
   }
 
--- no run is left: a new one takes the element
-pub climb_over : {S : Type 0} {sink : Ghosts S} {setup : PageSetup} {new : Option ℕ} {key : List ℕ} {e0 e : BranchElement} {n0 next i : ℕ} {runs0 : List RunView} {old later : S} (runs : List BranchRun)
-    → Climbing setup new key e0 n0 runs0 sink old later (runs_above runs) i e next → length runs ≤ i
-    → Writes {A = ⊤} sink old later setup (runs_put setup.page_size key e0 n0 runs0) (runs_next setup.page_size key e0 n0 runs0) (Ok tt)
-    × (runs_climb setup.page_size new key e0 n0 runs0 ≡ runs_above runs ++ run_push (no_run new 0) e ∷ []) × (next ≡ runs_next setup.page_size key e0 n0 runs0)
-climb_over {setup = setup} {key = key} {e = e} {next = next} {i = i} runs c h =
-    let l = length-map runs run_view in
-    grind (arith, drop_all, whole, take_all, front_whole)
-
 -- the same of the runs that the code keeps
 standing_at : (runs : List BranchRun) (i : ℕ) (run : BranchRun) → i < length runs → run ≡ get_or runs i run → AllByRecursion IsStanding (map run_view runs) → IsStanding (run_view run)
 standing_at (x ∷ runs) (suc i) run h same all = standing_at runs i run (omega arith) same all.1
@@ -118,9 +109,7 @@ pub record Closing {S : Type 0} (setup : PageSetup) (e0 : BranchElement) (n0 : �
 close_left : (page_size : ℕ) (e : BranchElement) (next : ℕ) (run : RunView) (runs left : List RunView) → left ≡ run ∷ runs
     → placed_bytes page_size (runs_close_put page_size e next left)
     ≡ placed_bytes page_size (run_page page_size (run_push run e) next ∷ []) ++ placed_bytes page_size (runs_close_put page_size (element_up e next run) (next + (1 + overflow_of page_size (run_push run e).size)) runs)
-close_left page_size e next run runs left at =
-    ap (λ (rs : List RunView). placed_bytes page_size (runs_close_put page_size e next rs)) at
-    ∙ bytes-append page_size (run_page page_size (run_push run e) next ∷ []) (runs_close_put page_size (element_up e next run) (next + (1 + overflow_of page_size (run_push run e).size)) runs)
+close_left page_size e next run runs left at = rw at (bytes-append page_size (run_page page_size (run_push run e) next ∷ []) _)
 
 -- the numbers only grow
 pub end_grows : (page_size : ℕ) (e : BranchElement) (next : ℕ) (runs : List RunView) → next ≤ runs_end_next page_size e next runs

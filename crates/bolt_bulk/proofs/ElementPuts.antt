@@ -4,7 +4,7 @@ use Rattle.std.proofs.lemmas.List.{drop_all, drop_more, length-drop}
 use Rattle.std.specs.List.{AllByRecursion}
 use Rattle.std.specs.Prelude.{IsErr}
 use Rattle.bolt_bulk.specs.Private.{Buffers, data_of, data_size, heads_from}
-use Rattle.bolt_format.proofs.Exports.{WroteFront, front_more, front_return, Wrote-same, Wrote-then}
+use Rattle.bolt_format.proofs.Exports.{WroteFront, front_more, front_return, Wrote-then}
 use Rattle.bolt_format.specs.{Wrote.Wrote, Endings.Ending, Endings.page_ending, declared.sink.Sink.Ghosts}
 
 -- the next element of those that are left
@@ -46,24 +46,12 @@ module _ {S X : Type 0} {head : ℕ → ℕ → ℕ → X → List ℕ} {key : X
 
   module _ (x : X) (h : i < length xs) (is : x ≡ get_or xs i x) where
     pub heads_next : NextHead x
-    heads_next =
-        let at = next_is xs i x h is in
-        let size = ap (λ (ys : List X). data_size key value_length ys) at in
-        let count = ap (λ (ys : List X). length ys) at in grind (arith, put.place, put.room, length-drop)
+    heads_next = grind (arith, next_is, length-drop, put.place, put.room)
 
     pub heads_more : {new : S} {A E : Type 0} {kept after : List ℕ} {a : A} (next : ℕ) → next + 16 ≡ pos + (length (key x) + value_length x) → after ≡ kept ++ head pos (length (key x)) (value_length x) x
         → Buffers {A = A} {E = E} sink mid new buffer kept (Ok a) → HeadsPut head key value_length sink old new after xs (i + 1) next
-    heads_more {kept = kept} {after = after} next step pushed gathers =
-        let at = next_is xs i x h is in
-        let size = ap (λ (ys : List X). data_size key value_length ys) at in
-        let count = ap (λ (ys : List X). length ys) at in
-        let left = ap (λ (ys : List X). heads_from head key value_length put.before ys) at in
-        let p = put.place in
-        let rest : List ℕ = heads_from head key value_length (put.before + (length (key x) + value_length x)) (drop (i + 1) xs) in
-        grind (arith, gathered_left, append_assoc, front_more)
+    heads_more {kept = kept} {after = after} next step pushed gathers = let at = next_is xs i x h is in grind (arith, gathered_left, append_assoc, front_more, at, put.place, put.room)
 
   -- if all headers are in the buffer or were written, the buffer is what is left
   pub heads_all : {new : S} {end : Ending} → length xs ≤ i → Wrote sink mid new buffer end → Wrote sink old new (heads_from head key value_length 0 xs) end
-  heads_all h rest =
-      let none = ap (λ (ys : List X). heads_from head key value_length put.before ys) (drop_all i xs h) in
-      Wrote-same (sym (put.front.parts ∙ ap (λ (t : List ℕ). put.front.front ++ t) (ap (λ (t : List ℕ). buffer ++ t) none ∙ append-nil buffer))) (Wrote-then put.front.wrote rest)
+  heads_all h rest = grind (arith, drop_all, append-nil, Wrote-then)

@@ -40,6 +40,4 @@ pub leaf_run_wrote : {S : Type 0} {sink : Ghosts S} {old new : S} {end : Ending}
     → Wrote sink old new (header_bytes number kind.Leaf (length run.items.items) (overflow_of page_size run.size)
     ++ (elements_text (held_view run.inlined.items) held_length run.items.items ++ zeros ((1 + overflow_of page_size run.size) * page_size - run.size))) end
     → Wrote sink old new (placed_bytes page_size (leaf_page page_size (leaf_run_view run) number ∷ [])) end
-leaf_run_wrote page_size number run is wrote =
-    let long = held_long run.inlined.items run.items.items is.held in
-    run_pieces page_size number run is.sized (rw (leaf_elements (held_view run.inlined.items) held_length run.items.items long) at wrote)
+leaf_run_wrote page_size number run is wrote = grind (arith, held_long, run_pieces, leaf_elements)

@@ -3,7 +3,6 @@ use Rattle.std.proofs.Common.{◌≡◌, ◌∙◌, ℕ, ◌+◌, ◌≤◌, Opt
 use Rattle.std.proofs.{lemmas.List.length-append, lemmas.List.length-map, lemmas.List.Sums.sum_by-cons}
 use Rattle.bolt_format.specs.{ElementPlaces.branch_view, Elements.BranchElement, Elements.LeafElement}
 use Rattle.bolt_layout.specs.Laid.{Laid, elements_of, held_in}
-use Rattle.bolt_layout.specs.Levels as parents
 use Rattle.bolt_bulk.specs.Private.{AreOpenRuns, AreUppers, AreWaiting, bucket_runs, climb, close, end_of, BucketFrame, held_frames, held_item, held_on, held_open, held_over, held_so_far, items_above, items_around, items_in, Known, length_frames, length_open, length_over, making_room, Open, pushing, run_view, runs_above, taking, Upper}
 use Rattle.bolt_bulk.specs.{declared.branch_run.BranchRun.BranchRun, declared.bucket_runs.BucketRuns.BucketRuns, declared.waiting_bucket.WaitingBucket.WaitingBucket}
 use Rattle.bolt_check.specs.Counts.{saturated}
@@ -51,12 +50,7 @@ made page_size state key size = grind (arith, on_page, climbed)
 -- and so does the end of a bucket
 closed : (page_size : ℕ) (q : Laid BranchElement) (uppers : List Upper) → 1 ≤ q.held → (close page_size q uppers).held ≡ held_over uppers q.held
 closed page_size q [] some = refl
-closed page_size q (upper ∷ uppers) some =
-    let run : List (Laid BranchElement) = upper.run in
-    let up : Laid BranchElement = parents.page_over parents.branch_page_view page_size (run ++ q ∷ []) in
-    let same : up.held ≡ held_on run q.held = on_page (run ++ q ∷ []) ∙ joined run q some in
-    let m = on_max run q.held in
-    closed page_size up uppers (omega arith) ∙ ap (λ (n : ℕ). held_over uppers n) same
+closed page_size q (upper ∷ uppers) some = let above = λ (up : Laid BranchElement) (high : 1 ≤ up.held). closed page_size up uppers high in grind (arith, joined, on_page, on_max, above)
 
 pub end_held : (page_size : ℕ) (state : Open) → (state.run ≡ [] → state.uppers ≡ []) → (end_of page_size state).held ≡ held_open state 0
 end_held page_size state begun = grind (arith, on_page, closed)

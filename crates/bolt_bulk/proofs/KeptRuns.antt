@@ -3,7 +3,7 @@ use Rattle.std.proofs.Common.{◌≡◌, ◌∙◌, ℕ, ◌+◌, Option, List, 
 use Rattle.std.proofs.lemmas.List.Sums.{sum_by_push}
 use Rattle.std.specs.List.{AllByRecursion}
 use Rattle.bolt_format.specs.Elements.{BranchElement, LeafElement}
-use Rattle.bolt_layout.specs.{Laid.Laid, Laid.Placed, Laid.elements_of, Laid.first_key, Laid.numbers_of, Levels.branch_page_view, Levels.overflow_of, Levels.page_over, Levels.leaf_page_view}
+use Rattle.bolt_layout.specs.{Laid.Laid, Laid.elements_of, Laid.first_key, Laid.numbers_of, Levels.branch_page_view, Levels.overflow_of, Levels.page_over, Levels.leaf_page_view}
 use Rattle.bolt_bulk.specs.Private.{AreOpenRuns, AreUppers, bucket_end_next, bucket_limit, BucketRunsView, climb, climb_puts, close, close_puts, element_up, end_of, end_puts, IsKeyed, IsKeyedItem, IsUpper, kept_upper, key_size, Known, leaf_closed, leaf_page, making_room, no_leaves, nothing_open, numbers_in, Open, own_page, pushed_on, pushing, put_in, room_puts, run_kept, run_key, run_page, run_push, run_stays, runs_climb, runs_close_put, runs_end, runs_end_next, runs_end_put, runs_next, runs_push, runs_put, runs_room, runs_room_put, runs_root, RunView, stays_open, Upper}
 use Rattle.bolt_bulk.specs.declared.limits.BucketLimits.{BucketLimits}
 use Rattle.bolt_layout.proofs.Exports.{all_append, numbers-append, length-elements, same_branch}
@@ -115,10 +115,6 @@ runs_closed page_size e next b q kept_runs uppers are keyed same number = grind 
 pub runs_ended : (page_size : ℕ) (kept_runs : BucketRunsView) (state : Open) (b : ℕ) → AreOpenRuns kept_runs state b
     → (runs_end_put page_size kept_runs ≡ end_puts page_size state b) × (runs_end page_size kept_runs ≡ ((end_of page_size state).element b).child)
     × (bucket_end_next page_size kept_runs ≡ b + (end_of page_size state).numbers)
-runs_ended page_size kept_runs state b is =
-    let m : ℕ = b + numbers_in state.uppers in
-    let over = over_leaf page_size kept_runs state b is in
-    let closed : BranchElement = leaf_closed kept_runs.leaves kept_runs.next in
-    let after : ℕ = kept_runs.next + (1 + overflow_of page_size kept_runs.leaves.size) in
-    let ends = runs_closed page_size closed after b (page_over leaf_page_view page_size state.run) kept_runs.uppers state.uppers is.above (refl, λ k. refl) over.named over.after in
-    (ap (λ (p : Placed). p ∷ runs_close_put page_size closed after kept_runs.uppers) over.own ∙ ap (λ (ps : List Placed). own_page leaf_page_view page_size state.run m ∷ ps) ends.0, ends.1, ends.2)
+runs_ended page_size kept_runs state b is = let over = over_leaf page_size kept_runs state b is in
+    let ends = runs_closed page_size (leaf_closed kept_runs.leaves kept_runs.next) _ b (page_over leaf_page_view page_size state.run) kept_runs.uppers state.uppers is.above (refl, λ k. refl) over.named over.after in
+    grind arith

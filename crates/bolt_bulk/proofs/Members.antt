@@ -71,9 +71,7 @@ pub record IsNext (parents : List Parent) (rest : Tree) (path : Path) (item : It
 
 next_by : (parents : List Parent) (key : Key) (own : Item) (inside after : Tree) (path : Path) (item : Item) (more : List Member) → (path_in parents ++ key ∷ [], own) ∷ left_after parents key own inside after ≡ (path, item) ∷ more
     → IsNext parents (with_item key own inside after) path item more
-next_by parents key own inside after path item more e =
-    let first : ◌≡◌ {A = Member} (path_in parents ++ key ∷ [], own) (path, item) = cc in
-    grind arith
+next_by parents key own inside after path item more e = grind arith
 
 pub next_entry : (parents : List Parent) (rest : Tree) (path : Path) (item : Item) (more : List Member) → left_in parents rest ≡ (path, item) ∷ more → length path ≡ suc (length parents) → IsNext parents rest path item more
 next_entry parents end path item more e deep = let n = behind_short parents (path, item) more e in absurd (omega arith)

@@ -35,16 +35,12 @@ onto_holds (e ∷ entries) tree = onto_holds entries tree
 
 pub values_size : (entries : List LeafElement) → run_size size_of (value_items entries) ≡ entries_size entries
 values_size [] = refl
-values_size (e ∷ entries) =
-    let ih = values_size entries in
-    grind (arith, common_steps, sum_by-cons, length-append)
+values_size (e ∷ entries) = grind (arith, common_steps, sum_by-cons, length-append, values_size entries)
 
 pub onto_size : (which : Layout) (page_size : ℕ) (entries : List LeafElement) (tree : Tree)
     → run_size size_of (items_of which page_size (onto entries tree)) + 16 ≡ entries_size entries + run_size size_of (items_of which page_size tree)
 onto_size which page_size [] tree = omega arith
-onto_size which page_size (e ∷ entries) tree =
-    let ih = onto_size which page_size entries tree in
-    grind (arith, common_steps, sum_by-cons, length-append)
+onto_size which page_size (e ∷ entries) tree = grind (arith, common_steps, sum_by-cons, length-append, onto_size which page_size entries tree)
 
 pub onto_count : (which : Layout) (page_size : ℕ) (entries : List LeafElement) (tree : Tree) → length (items_of which page_size (onto entries tree)) ≡ length entries + length (items_of which page_size tree)
 onto_count which page_size [] tree = omega arith
@@ -81,9 +77,7 @@ never_first a b = grind arith
 pub value_too_large : (which : Layout) (page_size : ℕ) (entries : List LeafElement) (key value : List ℕ) (after : Tree)
     → (page_size / 4 < entries_size entries + (16 + (length key + length value))) ⊎ (65534 ≤ length entries)
     → is_inline page_size (onto entries (with_value key value after)) (items_of which page_size (onto entries (with_value key value after))) ≡ false
-value_too_large which page_size entries key value after large =
-    let s = onto_size which page_size entries (with_value key value after) in
-    grind (arith, common_steps, sum_by-cons, onto_count, lt-leb, never_first)
+value_too_large which page_size entries key value after large = grind (arith, common_steps, sum_by-cons, onto_size, onto_count, lt-leb, never_first)
 
 -- and one that holds a bucket isn't
 pub bucket_has_root : (which : Layout) (page_size : ℕ) (entries : List LeafElement) (key : List ℕ) (sequence : ℕ) (inside after : Tree)

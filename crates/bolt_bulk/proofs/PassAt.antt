@@ -105,9 +105,7 @@ at_counted : {wanted : Wanted} {pass counted : Pass} {parents : List Parent} {re
     → PassIsOn wanted.which pass.setup.page_size wanted.tree frames state (items_of wanted.which pass.setup.page_size rest) (bucket_runs pass.bucket pass.next) put → AreWaiting (reverse pass.waiting.items) frames
     → IsPending pass.pending pass.entries.items (map parent_of frames) rest parents left → (counted.most ≡ max pass.most (saturated (length_frames frames + length_open state)) → counted.most ≡ saturated (held_so_far frames state))
     → pass.opened ≡ saturated opened → IsToCome wanted pass.setup.page_size (limits_by pass) opened rest frames → HasNoted wanted pass.setup.page_size pass.noted opened (open_in state frames) → PassIsAt wanted counted parents left put
-at_counted {wanted} {pass} {counted} {parents} {rest} {left} {put} {frames} {state} {opened} k on waits pends held opened_is coming noted =
-    let count = counted_items frames state pass.waiting.items pass.bucket pass.next waits on.kept in
-    grind arith
+at_counted {wanted} {pass} {counted} {parents} {rest} {left} {put} {frames} {state} {opened} k on waits pends held opened_is coming noted = grind (arith, counted_items)
 
 module _ (wanted : Wanted) (pass : Pass) where
   abbrev P : ℕ

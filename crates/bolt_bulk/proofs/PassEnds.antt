@@ -3,9 +3,9 @@ use Rattle.std.proofs.{lemmas.Grind.common_steps, lemmas.Result.err_from_is_err_
 use Rattle.bolt_layout.proofs.Exports.{all_append}
 use Rattle.std.specs.Prelude.{IsErrAnd}
 use Rattle.std.specs.List.{AllByRecursion}
-use Rattle.std.proofs.Common.{◌≡◌, ◌≢◌, ◌∙◌, ℕ, suc, true, ◌+◌, ◌≤◌, List, [], ◌∷◌, ◌++◌, length, map, None, Result, Ok, Err, OnErr, refl, sym, ap, subst, arith, append_assoc}
+use Rattle.std.proofs.Common.{◌≡◌, ◌≢◌, ◌∙◌, ℕ, suc, true, ◌+◌, ◌≤◌, List, [], ◌∷◌, ◌++◌, length, map, None, Result, Ok, Err, refl, sym, ap, subst, arith, append_assoc}
 use Rattle.bolt_check.specs.{Keys.Key, Counts.saturated}
-use Rattle.bolt_format.specs.{Sinks.AppendsProperPrefix, declared.sink.Sink.Ghosts}
+use Rattle.bolt_format.specs.{declared.sink.Sink.Ghosts}
 use Rattle.bolt_tree.specs.{Entries.Item, Listing.Member, Paths.Path, Tree.Tree, Tree.end, Tree.listing_below, Tree.listing_of, Tree.with_bucket, Tree.with_value}
 use Rattle.bolt_layout.specs.{Laid.Placed, Layout.first_page, Layout.layout_held, Layout.layout_mark, Layout.layout_pages, Layout.layout_root, Layout.placed_bytes, Storable.HasLengths}
 use Rattle.bolt_layout.specs.{Openings.leaf_pages, Openings.opened_in, declared.Layout.Layout, declared.Layout.TheVariants.Balanced, declared.Layout.TheVariants.Plain, Items.items_of}
@@ -16,7 +16,7 @@ use Rattle.bolt_bulk.proofs.{PassSteps.pass_begins, PassSteps.pass_ends, HeldSte
 use Rattle.bolt_bulk.proofs.{Members.all_left, Members.left_after, Members.next_entry, Members.next_short, Members.none_at_all, Members.with_item, KeptRuns.nothing_runs, KeptRuns.runs_ended}
 use Rattle.bolt_bulk.proofs.{OpenRunLemmas.ends, Openings.all_coming, Openings.root_notes, PassAt.on_of, PassLeft.depth_parents}
 use Rattle.bolt_bulk.proofs.{Tables.none_noted, Tables.noted_leaves, Tables.opened_most, Tables.table_fits, PutsLemmas.bytes-append, PutsLemmas.pages_some, PutsLemmas.short_then}
-use Rattle.bolt_format.proofs.Exports.{Wrote-same, Wrote-then}
+use Rattle.bolt_format.proofs.Exports.{Wrote-then}
 
 -- ---- the next member
 
@@ -155,14 +155,4 @@ module _ {S : Type 0} {wanted : Wanted} {sink : Ghosts S} {setup : PageSetup} {o
   -- after steps that went well
   pub ends_after : {A : Type 0} {later : PageSetup} {mid : S} {x : A} → later ≡ setup → Steps wanted sink old mid setup put At (Ok x) → ((all : List Placed) → At all → EndsPass wanted sink mid new later all result)
       → EndsPass wanted sink old new setup put result
-  ends_after {mid} later_is one two =
-      let P : ℕ = setup.page_size in
-      let then = subst (λ (b : PageSetup). EndsPass wanted sink mid new b (put ++ one.more) result) later_is (two (put ++ one.more) one.at) in
-      let bytes = sym (bytes-append P one.more then.others) in
-      record {
-        others = one.more ++ then.others;
-        all = then.all ∙ append_assoc put one.more then.others;
-        puts = Wrote-same bytes (Wrote-then one.puts then.puts);
-        short = subst (λ (bs : List ℕ). OnErr result (AppendsProperPrefix (sink.taken old) (sink.taken new) bs)) bytes (short_then old mid new (placed_bytes P one.more) (placed_bytes P then.others) result one.puts then.short);
-        returned = then.returned;
-      }
+  ends_after {mid} later_is one two = grind (arith, bytes-append, append_assoc, Wrote-then, short_then)

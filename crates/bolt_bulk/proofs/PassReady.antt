@@ -1,5 +1,5 @@
 -- What is known of a pass without its tree, after a step.
-use Rattle.std.proofs.Common.{◌⊎◌, ◌≡◌, ℕ, suc, ◌+◌, ◌-◌, ◌/◌, ◌≤◌, ◌<◌, false, List, [], ◌∷◌, ◌++◌, length, map, Option, Some, ap, drop, get_or, refl, subst, take, arith}
+use Rattle.std.proofs.Common.{◌⊎◌, ◌≡◌, ℕ, ◌+◌, ◌-◌, ◌/◌, ◌≤◌, ◌<◌, false, List, [], ◌∷◌, ◌++◌, length, map, Option, Some, drop, get_or, refl, subst, take, arith}
 use Rattle.std.proofs.lemmas.List.{length-append, length-map, map-append}
 use Rattle.std.specs.List.{AllByRecursion}
 use Rattle.bolt_format.specs.{ElementPlaces.leaf_view, declared.element.Leaf.Leaf}
@@ -23,11 +23,7 @@ small_push page_size size p entries more entry is key value sized small few push
 last_off : {X : Type 0} (all rest : List X) (x : X) → 0 < length all → x ≡ get_or all (length all - 1) x → rest ≡ take (length all - 1) all ++ drop (length all - 1 + 1) all → all ≡ rest ++ x ∷ []
 last_off [] rest x some at off = absurd (omega arith)
 last_off (y ∷ []) rest x some at off = rw (off, at) refl
-last_off {X} (y ∷ z ∷ all) rest x some at off =
-    let n : length (y ∷ z ∷ all) - 1 ≡ suc (length (z ∷ all) - 1) = omega arith in
-    let m : length (y ∷ z ∷ all) - 1 + 1 ≡ suc (length (z ∷ all) - 1 + 1) = omega arith in
-    let others = last_off (z ∷ all) (take (length (z ∷ all) - 1) (z ∷ all) ++ drop (length (z ∷ all) - 1 + 1) (z ∷ all)) x (omega arith) (rw n at at) refl in
-    rw (off, m, n) (ap (λ (l : List X). y ∷ l) others)
+last_off {X} (y ∷ z ∷ all) rest x some at off = let others = last_off (z ∷ all) in grind (arith, others)
 
 pub last_off_at : {X : Type 0} (n : ℕ) (all rest : List X) (x : X) → n ≡ length all → 0 < length all → x ≡ get_or all (n - 1) x → rest ≡ take (n - 1) all ++ drop (n - 1 + 1) all → all ≡ rest ++ x ∷ []
 last_off_at n all rest x count some is off = last_off all rest x some (rw count at is) (rw count at off)

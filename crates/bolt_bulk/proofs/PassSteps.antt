@@ -21,12 +21,7 @@ pub pass_begins : (which : Layout) (page_size : ℕ) (known : Known) (tree : Tre
     → HaveRightLimits which page_size (bucket_limit known.limits) (leaves_coming page_size [] (items_of which page_size tree))
     → IsPass which page_size [] (nothing_open known) (items_of which page_size tree) (root_of which page_size tree)
 unfolding root_of
-pass_begins which page_size known tree leaves right = record {
-  root = root_over which page_size (items_of which page_size tree);
-  current = opens which page_size known (items_of which page_size tree) leaves right;
-  begun = λ none. refl;
-  stack = refl;
-}
+pass_begins which page_size known tree leaves right = grind (arith, opens which page_size known (items_of which page_size tree) leaves right)
 
 -- An item with no pages below it: room is made, and it is taken.
 pub pass_takes : (which : Layout) (page_size : ℕ) (frames : List BucketFrame) (state : Open) (item : Laid LeafElement) (items : List (Laid LeafElement)) (whole : Laid BranchElement)
@@ -80,9 +75,7 @@ pass_ends which page_size tree state pass = grind (arith, ends, close_put, appen
 module _ {which : Layout} {page_size : ℕ} {tree : Tree} where
   -- what was written comes before the root page, and its numbers are below the high-water mark
   pub on_before : {frames : List BucketFrame} {state : Open} {items : List (Laid LeafElement)} {runs : BucketRunsView} {put : List Placed} → PassIsOn which page_size tree frames state items runs put → StandsBefore put (layout_pages which page_size tree)
-  on_before {frames} {state} {items} on =
-      let is = pass_before which page_size frames state items (root_of which page_size tree) on.under in
-      record { rest = is.rest; parts = is.parts ∙ ap (λ (ps : List Placed). ps ++ is.rest) (sym on.put_is); some = is.some }
+  on_before {frames} {state} {items} on = grind (arith, pass_before which page_size frames state items (root_of which page_size tree) on.under)
 
   pub on_numbers : {frames : List BucketFrame} {state : Open} {items : List (Laid LeafElement)} {runs : BucketRunsView} {put : List Placed} → PassIsOn which page_size tree frames state items runs put → runs.next ≤ layout_mark which page_size tree
   on_numbers {frames} {state} {items} on = omega (arith, (pass_before which page_size frames state items (root_of which page_size tree) on.under).fewer, on.kept.next_is)

@@ -1,6 +1,6 @@
 -- What a call that writes pages leaves on its sink, if it can also fail because memory runs out or the layout is too large.
 use Rattle.std.proofs.{lemmas.Grind.common_steps, KnownBytes.Appends-nil, lemmas.List.length-append, lemmas.Result.err_from_is_err_and}
-use Rattle.std.proofs.Common.{◌≡◌, ◌≢◌, ℕ, ◌<◌, ◌≤◌, List, [], ◌∷◌, ◌++◌, length, OnErr, Option, Result, Ok, Err, refl, sym, ap, subst, arith, append_assoc}
+use Rattle.std.proofs.Common.{◌≡◌, ◌≢◌, ℕ, ◌<◌, ◌≤◌, List, [], ◌∷◌, ◌++◌, length, OnErr, Option, Result, Ok, Err, refl, ap, subst, arith, append_assoc}
 use Rattle.bolt_format.proofs.Exports.{AppendsPrefix-whole, AppendsProperPrefix-first, AppendsProperPrefix-second, more_some, Wrote-halt, Wrote-none, Wrote-return_cut, Wrote-stop, Wrote-stop_cut, Wrote-stop_halted, Wrote-then, Wrote-unkept, length-header_bytes, WroteFront}
 use Rattle.bolt_format.specs.{Endings.whole, Endings.halted, Pages.PageView, Sinks.AppendsProperPrefix, Wrote.Wrote, declared.sink.Sink.Ghosts}
 use Rattle.bolt_layout.specs.{Laid.Placed, Layout.placed_bytes, PageBytes.page_bytes}
@@ -24,9 +24,7 @@ none_length : (xs : List ℕ) → xs ≡ [] → length xs ≡ 0
 none_length xs e = ap (λ (ys : List ℕ). length ys) e
 
 page_some : (page_size number : ℕ) (view : PageView) → page_bytes page_size number view ≢ []
-page_some page_size number view e =
-    let l = page_length page_size number view in
-    let n = none_length (page_bytes page_size number view) e in absurd (omega arith)
+page_some page_size number view e = let l = page_length page_size number view in grind (arith, none_length)
 
 pub pages_some : (page_size : ℕ) (page : Placed) (pages : List Placed) → placed_bytes page_size (page ∷ pages) ≢ []
 pages_some page_size page pages = more_some (page_bytes page_size page.number page.view) (placed_bytes page_size pages) (page_some page_size page.number page.view)
@@ -79,8 +77,7 @@ closes_early {sink} {old} {setup} {page} {pages} {result = result} same memory =
 pub closes_above : {S A : Type 0} {sink : Ghosts S} {old : S} {setup : PageSetup} {page : Placed} {pages : List Placed} {mark next : ℕ} {e : BulkFault} {result : Result A BulkFault} → IsErrAnd result (λ f. f ≡ e) → e ≡ fault.TooLarge
     → setup.highest_mark < mark → Closes sink old old setup (page ∷ pages) mark next result
 closes_above {sink} {old} {setup} {page} {pages} {result = result} same large above =
-    let (_, is, e_is) = err_from_is_err_and result same in
-    record { writes = rw (is, e_is, large) (record { pages = Wrote-halt old _; large = λ e. above }); short = rw is (proper_none (sink.taken old) _ (pages_some setup.page_size page pages)); marked = rw is tt }
+    let (_, is, e_is) = err_from_is_err_and result same in grind (arith, common_steps, proper_none, pages_some, Wrote-halt)
 
 -- nothing is written after these pages
 pub writes_on : {S A B : Type 0} {sink : Ghosts S} {old new : S} {setup : PageSetup} {row : List Placed} {mark : ℕ} {x : A} (result : Result B BulkFault) → IfErr result (λ e. e ≡ fault.Memory)
@@ -89,10 +86,7 @@ writes_on result memory one = grind (arith, common_steps)
 
 pub short_stop : {S : Type 0} {sink : Ghosts S} {old mid new : S} {text piece left : List ℕ} (rest : List ℕ) → left ≡ piece ++ rest
     → WroteFront sink old mid text left → AppendsProperPrefix (sink.taken mid) (sink.taken new) piece → AppendsProperPrefix (sink.taken old) (sink.taken new) text
-short_stop {sink} {old} {mid} {new} {text} {piece} {left} rest same before one =
-    proper_same (sink.taken old) (sink.taken new) (before.front ++ left) text (sym before.parts)
-    (AppendsProperPrefix-second (sink.taken old) (sink.taken mid) (sink.taken new) before.front left before.wrote.appends
-    (proper_same (sink.taken mid) (sink.taken new) (piece ++ rest) left (sym same) (AppendsProperPrefix-first (sink.taken mid) (sink.taken new) piece rest one)))
+short_stop {sink} {old} {mid} {new} {text} {piece} {left} rest same before one = grind (arith, AppendsProperPrefix-second, AppendsProperPrefix-first)
 
 -- one text after another
 pub ruleset puts = (Wrote-then, Wrote-return_cut, Wrote-stop_cut, Wrote-none, Wrote-unkept)

@@ -76,9 +76,5 @@ module _ (mark : ℕ) (in_use : ℕ → Type 0) (times : ℕ → ℕ) where
 pub reports_interval : {mark : ℕ} {in_use : ℕ → Type 0} {times : ℕ → ℕ} {from page : ℕ} → from ≤ page → IsLostInterval mark in_use times from page
     → (IsLost mark in_use times page → ⊥)
     → Reports mark in_use times from page (interval_findings from page)
-reports_interval {mark = mark} {in_use = in_use} {times = times} {from = from} {page = page} order interval ends = elim (cases_lt from page) [
-  | inl some ↦ rw (lt-ltb from page some) (reports_one mark in_use times from page (record { number = UNREACHABLE; page = from; last = page - 1 })
-      (interval_found mark in_use times from page some interval ends) (omega arith) some (interval_is mark in_use times from page interval ends))
-  | inr none ↦ rw (le-ltb from page none)
-      (reports_none mark in_use times from page (λ n low high. absurd (omega arith)) (λ x is low high. absurd (omega arith)))
-]
+reports_interval {mark = mark} {in_use = in_use} {times = times} {from = from} {page = page} order interval ends =
+    grind (arith, cases_lt, lt-ltb, interval_found, interval_is, le-ltb)

@@ -1,7 +1,7 @@
 -- Byte order, and the bounds of keys.
 use Rattle.std.proofs.Common.{arith, ◌≡◌, Bool, true, false, not, Option, Some, None, refl, ap}
 use Rattle.std.proofs.{lemmas.Cmp.nat_list_cmp_total, lemmas.List.MinMax.ranks_by}
-use Rattle.std.specs.{Cmp.IsStrictWeakOrder, Ordering.is_lt, declared.cmp.Ordering.Ordering, declared.cmp.Ordering.TheVariants.Less}
+use Rattle.std.specs.{Cmp.IsStrictWeakOrder}
 use Rattle.bolt_check.proofs.Words.{both_ways, is_above, is_below, is_from, Key, key_lt, not-true}
 
 order : IsStrictWeakOrder key_lt

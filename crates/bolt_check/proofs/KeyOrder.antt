@@ -12,10 +12,7 @@ three_none x y z a b c e = grind arith
 pub key_each : (before lower upper : Option Key) (keys : List Key) → keys_order_fault before lower upper keys ≡ None → (j : ℕ) (q : Key) → slice_get keys j ≡ Some q
     → (is_above before q ≡ true) × (is_from lower q ≡ true) × (is_below upper q ≡ true)
 key_each before lower upper [] e j q g = absurd (none-some q g)
-key_each before lower upper (p ∷ keys) e zero q g =
-    let f = first_of-none (key_order_fault before lower upper p) (keys_order_fault (Some p) lower upper keys) e in
-    let same : p ≡ q = cc in
-    rw (← same) (three_none ORDER BELOW_PARENT ABOVE_NEXT (is_above before p) (is_from lower p) (is_below upper p) f.0)
+key_each before lower upper (p ∷ keys) e zero q g = grind (arith, first_of-none, three_none)
 key_each before lower upper (p ∷ keys) e (suc j) q g =
     let f = first_of-none (key_order_fault before lower upper p) (keys_order_fault (Some p) lower upper keys) e in
     let t = three_none ORDER BELOW_PARENT ABOVE_NEXT (is_above before p) (is_from lower p) (is_below upper p) f.0 in
@@ -49,9 +46,7 @@ next_from : (lower upper : Option Key) (p q : Key) (keys : List Key) → is_from
     → (is_from lower q ≡ true → keys_order_fault (Some q) lower upper keys ≡ keys_order_fault (Some q) None upper keys)
     → (b : Bool) → key_lt p q ≡ b → keys_order_fault (Some p) lower upper (q ∷ keys) ≡ keys_order_fault (Some p) None upper (q ∷ keys)
 next_from lower upper p q keys from rest false falls = rw falls refl
-next_from lower upper p q keys from rest true rises =
-    let above = from_more lower p q from (lt_not_back p q rises) in
-    rw (rises, above, rest above) refl
+next_from lower upper p q keys from rest true rises = grind (arith, from_more, lt_not_back)
 
 lower_once : (lower upper : Option Key) (p : Key) (keys : List Key) → is_from lower p ≡ true → keys_order_fault (Some p) lower upper keys ≡ keys_order_fault (Some p) None upper keys
 lower_once lower upper p [] from = refl
@@ -60,6 +55,4 @@ lower_once lower upper p (q ∷ keys) from = next_from lower upper p q keys from
 -- after a key that passes its tests those after it tell, and they need no lower bound
 pub key_passed : (before lower upper : Option Key) (key : Key) (keys : List Key) → key_order_fault before lower upper key ≡ None
     → keys_order_fault before lower upper (key ∷ keys) ≡ keys_order_fault (Some key) None upper keys
-key_passed before lower upper key keys passes =
-    let from = (three_none ORDER BELOW_PARENT ABOVE_NEXT (is_above before key) (is_from lower key) (is_below upper key) passes).1 in
-    rw passes (lower_once lower upper key keys from)
+key_passed before lower upper key keys passes = grind (arith, three_none, lower_once)

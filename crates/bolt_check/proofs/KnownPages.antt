@@ -1,5 +1,5 @@
 -- A page that a way leads to is a branch or a leaf.
-use Rattle.std.proofs.Common.{◌≡◌, ◌∙◌, ℕ, List, Option, None, Some, true, false, refl, sym}
+use Rattle.std.proofs.Common.{arith, ◌≡◌, ◌∙◌, ℕ, List, Option, None, Some, true, false, refl, sym}
 use Rattle.std.specs.Option.{IfNone}
 use Rattle.std.specs.Prelude.{IfSome, IsSome}
 use Rattle.bolt_format.specs.{TreePages.is_tree_kind, TreePages.shown_page, declared.header.Kind.Kind}
@@ -16,10 +16,7 @@ module _ (file : List ℕ) (meta : Meta) (n : ℕ) (view : PageView) (at : page_
 
   -- so it is a branch or a leaf
   tree_kind_by : (k : ℕ) (l : Kind) → Enough (node_at file meta) k n → view.kind ≡ l → is_tree_kind l ≡ true
-  tree_kind_by k kind.Branch h is = refl
-  tree_kind_by k kind.Leaf h is = refl
-  tree_kind_by k kind.Meta h is = absurd (no_meta k h is)
-  tree_kind_by k kind.Freelist h is = absurd (no_freelist k h is)
+  tree_kind_by k l h is = grind (arith, no_meta, no_freelist)
 
   pub is_tree : (k : ℕ) → Enough (node_at file meta) k n → is_tree_kind view.kind ≡ true
   is_tree k h = tree_kind_by k view.kind h refl

@@ -1,5 +1,5 @@
 -- The depth of the first leaf of a bucket, which is handed down from its root page, is that at the way to the bucket's root page.
-use Rattle.std.proofs.Common.{◌≡◌, ◌∙◌, ℕ, suc, ◌+◌, ◌-◌, ◌≤◌, ◌==◌, ◌⊎◌, inl, inr, Bool, true, false, List, [], ◌∷◌, Option, Some, None, Result, Ok, Err, ap, cond, length, refl, slice_get, sym, take, arith}
+use Rattle.std.proofs.Common.{◌≡◌, ◌∙◌, ℕ, suc, ◌+◌, ◌-◌, ◌≤◌, ◌⊎◌, inl, inr, Bool, List, [], ◌∷◌, Option, Some, None, Result, Ok, Err, ap, cond, length, refl, slice_get, sym, take, arith}
 use Rattle.bolt_check.proofs.Words.{At_inline, At_page, Entry, follow, Node, ne_eqb, Nodes, none-some, PageSpot, root_spot, Spot, step, step_entry}
 use Rattle.bolt_check.proofs.Forest.{follow_none}
 use Rattle.bolt_check.specs.{BboltFindings.bucket_way, BboltFindings.first_leaf_depth, BboltFindings.leaf_depth, Ways.reached, Ways.step_at}
@@ -20,14 +20,10 @@ depth_of None = 0
 
 bucket_kid : (bucket small : Bool) (host : ℕ) (e : Entry) (k : PageSpot)
     → cond bucket (Some (cond small (At_inline host e.inner) (At_page (root_spot e.child)))) None ≡ Some (At_page k) → k.depth ≡ 1
-bucket_kid false small host e k h = absurd (none-some (At_page k) h)
-bucket_kid true true host e k h = absurd (cc)
-bucket_kid true false host e k h = sym (ap depth_of h)
+bucket_kid bucket small host e k h = grind (arith, none-some)
 
 entry_kid : (is_leaf : Bool) (s k : PageSpot) (e next : Option Entry) → step_entry is_leaf s e next ≡ Some (At_page k) → (k.depth ≡ suc s.depth) ⊎ (k.depth ≡ 1)
-entry_kid is_leaf s k None next h = absurd (none-some (At_page k) h)
-entry_kid false s k (Some e) next h = inl (sym (ap depth_of h))
-entry_kid true s k (Some e) next h = inr (bucket_kid e.is_bucket (e.child == 0) s.number e k h)
+entry_kid is_leaf s k e next h = grind (arith, none-some, bucket_kid)
 
 node_kid : (r : Result Node ℕ) (s k : PageSpot) (i : ℕ) → step_at r s i ≡ Some (At_page k) → (k.depth ≡ suc s.depth) ⊎ (k.depth ≡ 1)
 node_kid (Err fault) s k i h = absurd (none-some (At_page k) h)
@@ -84,18 +80,9 @@ module _ (nodes : Nodes) where
       by : (o : Option Spot) → step nodes (Some (At_page s)) i ≡ o
           → ((k : PageSpot) → 1 ≤ k.depth → follow nodes (Some (At_page k)) way ≡ Some (At_page t) → Stays k (page_leaves nodes above s) way t ⊎ Leaves k (page_leaves nodes above s) way t)
           → Stays s above (i ∷ way) t ⊎ Leaves s above (i ∷ way) t
-      by None q further = absurd (none-some (At_page t) (sym (ap (λ (o : Option Spot). follow nodes o way) q ∙ follow_none nodes way) ∙ e))
-      by (Some (At_inline host inner)) q further = absurd (inline_ends host inner way t (sym (ap (λ (o : Option Spot). follow nodes o way) q) ∙ e))
-      by (Some (At_page k)) q further =
-          let kind = node_kid (nodes s.number) s k i q in
-          let deep : 1 ≤ k.depth = elim kind [ inl child ↦ omega (arith, child) | inr root ↦ omega (arith, root) ] in
-          by_kid k q kind (further k deep (sym (ap (λ (o : Option Spot). follow nodes o way) q) ∙ e))
+      by o q further = grind (arith, none-some, follow_none, inline_ends, node_kid, by_kid)
 
   -- from the root page of the file
   pub leaves_same : (root : ℕ) (way : List ℕ) (t : PageSpot) → reached nodes root way ≡ Some (At_page t)
       → leaves_along nodes 0 (Some (At_page (root_spot root))) way ≡ leaf_depth nodes (reached nodes root (bucket_way way t.depth))
-  leaves_same root way t e = elim (along (root_spot root) (omega arith) 0 way t e) [
-    | inl (deep, same) ↦ (
-        same ∙ sym (ap (λ (n : ℕ). leaf_depth nodes (reached nodes root (take n way))) (let none : length way + 1 - t.depth ≡ 0 = omega (arith, deep) in none)))
-    | inr (less, same) ↦ same
-  ]
+  leaves_same root way t e = grind (arith, along)

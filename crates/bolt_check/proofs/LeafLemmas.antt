@@ -1,5 +1,5 @@
 -- Leaves by themselves, and what is listed as free.
-use Rattle.std.proofs.Common.{◌≡◌, ◌≢◌, ◌∙◌, ◌==◌, ◌<◌, ◌+◌, ℕ, true, false, not, List, [], length, Option, Result, Ok, refl, sym, ap, map, subst, arith}
+use Rattle.std.proofs.Common.{◌≡◌, ◌≢◌, ◌∙◌, ◌==◌, ◌<◌, ℕ, true, false, not, List, [], length, Option, Result, Ok, refl, sym, ap, subst, arith}
 use Rattle.std.specs.Option.{IfNone}
 use Rattle.std.specs.Prelude.{IsTrue, nat_lt}
 use Rattle.bolt_check.proofs.Words.{At_page, Entry, HasRoom, ltb-true, Meta, nat_tests, Node, node_at, Nodes, PagePasses, PageUse, root_spot, SpanAt, leaf_entry, shown_node}
@@ -33,10 +33,7 @@ lone_free nodes before n lone was = lone.passes.free n (omega arith, omega arith
 
 -- a table has room for a good page
 pub node_in_table : (file : List ℕ) (meta : Meta) (table : List PageUse) (n : ℕ) (node : Node) → HasRoom file meta table → node_at file meta n ≡ Ok node → n < length table
-node_in_table file meta table n node room is =
-    let within = node_within file meta n node is in
-    let last = room (n + node.overflow) within.1 within.0 in
-    omega (arith, last)
+node_in_table file meta table n node room is = grind (arith, node_within file meta n node is)
 
 -- how often a page is listed
 pub none_listed : (t : ℕ) → not (t == 0) ≡ false → t ≡ 0
@@ -57,10 +54,7 @@ leaf_filled seen page is more =
 
 pub leaf_empty : (seen : Result Node ℕ) (page : LeafPage) → seen ≡ Ok (shown_node (Leaf page)) → nat_lt 0 (length (leaves_on page)) ≡ false → IsFilledLeaf seen → ⊥
 unfolding shown_node
-leaf_empty seen page is none (node, of, leaf, some) =
-    let same : shown_node (Leaf page) ≡ node = cc in
-    let empty : length (leaves_on page) ≡ 0 = grind (arith, nat_tests) in
-    some (ap (λ (n : Node). n.entries) (sym same) ∙ ap (map leaf_entry) (nil_from_length (leaves_on page) empty))
+leaf_empty seen page is none (node, of, leaf, some) = grind (arith, nat_tests, nil_from_length)
 
 pub branch_unfilled : (seen : Result Node ℕ) (page : BranchPage) → seen ≡ Ok (shown_node (Branch page)) → IsFilledLeaf seen → ⊥
 unfolding shown_node

@@ -1,5 +1,5 @@
 -- Ids listed one after another.
-use Rattle.std.proofs.Common.{rules, ◌≡◌, ◌≢◌, ◌∙◌, ◌==◌, ℕ, ◌+◌, ◌<◌, Bool, List, [], ◌∷◌, ◌++◌, Some, slice_get, length, get_or, cond, take, filter, min, sym, ap, arith}
+use Rattle.std.proofs.Common.{rules, ◌≡◌, ◌≢◌, ◌∙◌, ◌==◌, ℕ, ◌+◌, ◌<◌, Bool, List, [], ◌∷◌, ◌++◌, Some, slice_get, length, get_or, cond, take, filter, min, sym, arith}
 use Rattle.std.proofs.{lemmas.List.Elements.filter_more, lemmas.List.Sums.sum_by_more, lemmas.Option.slice_get-get_or}
 use Rattle.bolt_check.proofs.Words.{eq-eqb, times_in}
 
@@ -13,10 +13,7 @@ times_more ids i id n before h e b = grind (arith, sum_by_more, id_at)
 
 pub past_more : (p : ℕ → Bool) (ids : List ℕ) (i id : ℕ) (before : List ℕ) → i < length ids → slice_get ids i ≡ Some id → before ≡ filter p (take i ids)
     → before ++ cond (p id) (id ∷ []) [] ≡ filter p (take (i + 1) ids)
-past_more p ids i id before h e b =
-    let more = filter_more p ids i 0 h in
-    let one = ap (λ (x : ℕ). filter p (take i ids) ++ cond (p x) (x ∷ []) []) (id_at ids i id h e) in
-    ap (λ (xs : List ℕ). xs ++ cond (p id) (id ∷ []) []) b ∙ sym (more ∙ one)
+past_more p ids i id before h e b = grind (arith, filter_more p ids i 0 h, id_at ids i id h e)
 
 -- a number that isn't among the ids up to one isn't among those before it, and isn't that one
 pub times_before : (ids : List ℕ) (i id n : ℕ) → i < length ids → slice_get ids i ≡ Some id → times_in (take (i + 1) ids) n ≡ 0

@@ -17,10 +17,7 @@ node_shown file meta id view (Branch page) at is = node_is file meta id view kin
 node_shown file meta id view (Leaf page) at is = node_is file meta id view kind.Leaf at (ap (λ (v : PageView). v.kind) (sym is)) ∙ ap (node_of kind.Leaf) (sym is)
 
 other_kind : (k : Kind) (view : PageView) → is_tree_kind k ≡ false → node_of k view ≡ Err PAGE_KIND
-other_kind kind.Branch view not = absurd (cc)
-other_kind kind.Leaf view not = absurd (cc)
-other_kind kind.Meta view not = refl
-other_kind kind.Freelist view not = refl
+other_kind k view not = grind arith
 
 pub node_refused : (file : List ℕ) (meta : Meta) (id : ℕ) (view : PageView) → page_at file meta id ≡ Some view → is_tree_kind view.kind ≡ false
     → node_at file meta id ≡ Err PAGE_KIND
@@ -61,9 +58,7 @@ upper-next page i upper e found = ap (λ next. upper_from next upper) (branch-en
 pub upper-last : (page : BranchPage) (i : ℕ) (upper : Option Key) → length (branches_on page) ≤ i + 1
     → upper_from (slice_get (shown_node (Branch page)).entries (suc i)) upper ≡ upper
 unfolding shown_node
-upper-last page i upper h =
-    ap (λ next. upper_from next upper)
-    (slice_get_past (shown_node (Branch page)).entries (suc i) (omega (arith, h, length-map (branches_on page) branch_entry)))
+upper-last page i upper h = grind (arith, slice_get_past, length-map)
 
 -- where an element leads
 pub step-branch : (page : BranchPage) (s : PageSpot) (i : ℕ) (e : Entry) (upper : Option Key) → slice_get (shown_node (Branch page)).entries i ≡ Some e

@@ -69,9 +69,7 @@ span_clean nodes reach c clean w None n e h b = h
 span_clean nodes reach c clean w (Some t) n e h b = span_free nodes (IsClaimedBefore nodes reach c w) t n (clean.passes w t e) h b
 
 fine_at : (nodes : Nodes) (root : ℕ) → IsClean nodes (reached nodes root) IsMetaPage → (way : List ℕ) (s : PageSpot) → reached nodes root way ≡ Some (At_page s) → KeysFine nodes s
-fine_at nodes root clean way s e node h =
-    let p : PagePasses nodes (IsClaimedBefore nodes (reached nodes root) IsMetaPage way) s = clean.passes way (At_page s) e in
-    (content_parts node s (rw (same_node (nodes s.number) node p.node h p.page) p.content)).1
+fine_at nodes root clean way s e node h = grind (arith, clean.passes way (At_page s) e)
 
 pub shape_of : (nodes : Nodes) (root : ℕ) → IsClean nodes (reached nodes root) IsMetaPage → HasShape nodes root
 shape_of nodes root clean = record {

@@ -1,10 +1,8 @@
 -- From the search and the test of the accounts to the whole file.
-use Rattle.std.proofs.Common.{◌≡◌, refl, ap, arith, ℕ, ◌↔◌, ◌≢◌, List, [], Option, Some, None, MatchOption, true, length, subst}
-use Rattle.bolt_check.proofs.Words.{AreAccountFindings, Finding, HasAccounts, HasRightAccounts, HasSoundTrees, IsClaimed, IsSound, IsUsed, Meta, PageUse, Slot}
+use Rattle.std.proofs.Common.{◌≡◌, ap, arith, ℕ, ◌↔◌, ◌≢◌, List, [], Option, Some, None, MatchOption, true, length, subst}
+use Rattle.bolt_check.proofs.Words.{AreAccountFindings, Finding, HasAccounts, HasRightAccounts, IsClaimed, IsSound, IsUsed, Meta, PageUse}
 use Rattle.bolt_check.proofs.{AccountsAlong.account_findings_along, AccountsAlong.has_accounts_along, AccountsAlong.own_freelist, Lawful.sound_reports_nothing}
-use Rattle.bolt_format.specs.Metas.{IsActive}
-use Rattle.bolt_check.specs.{Private.SearchFaults.is_memory, ShownFindings.findings_in, Sound.IsRefusedFor, Sound.IsTested, declared.check_fault.CheckFault.CheckFault, declared.finding_list.Findings.Findings}
-use Rattle.bolt_check.specs.declared.check_fault.CheckFault.TheVariants.{Accounts, Memory, Open, Structure}
+use Rattle.bolt_check.specs.{Private.SearchFaults.is_memory, ShownFindings.findings_in, Sound.IsRefusedFor, declared.check_fault.CheckFault.CheckFault, declared.finding_list.Findings.Findings}
 
 pub right_of : (file : List ℕ) (meta : Meta) (table : List PageUse) → ((n : ℕ) → IsClaimed table n ↔ IsUsed file meta n)
     → HasAccounts file meta (IsClaimed table) → HasRightAccounts file meta
@@ -18,18 +16,9 @@ pub findings_of_file : (file : List ℕ) (meta : Meta) (table : List PageUse) (r
     → AreAccountFindings file meta (IsClaimed table) reported → AreAccountFindings file meta (IsUsed file meta) reported
 findings_of_file file meta table reported same = account_findings_along file meta (IsClaimed table) (IsUsed file meta) same reported
 
-pub sound_of : (file : List ℕ) (slot : Slot) (meta : Meta) → IsActive file slot meta → HasSoundTrees file meta → HasRightAccounts file meta → IsSound file meta true
-sound_of file slot meta chosen trees right = record { slot = slot; valid = chosen.valid; trees = trees; right = λ _. right }
-
-pub tested_of : (file : List ℕ) (slot : Slot) (meta : Meta) → IsActive file slot meta → HasSoundTrees file meta → HasRightAccounts file meta → IsTested file meta true
-tested_of file slot meta chosen trees right = record { trees = trees; whole = λ _. sound_of file slot meta chosen trees right }
-
 -- a file that is sound is refused only because memory ran out
 pub memory_alone : (file : List ℕ) (meta : Meta) (fault : CheckFault) → IsSound file meta true → IsRefusedFor file meta true fault → is_memory fault ≡ true
-memory_alone file meta (Structure x) sound first = absurd (sound_reports_nothing file meta x sound.trees first)
-memory_alone file meta Memory sound refused = refl
-memory_alone file meta (Open fault) sound refused = absurd refused
-memory_alone file meta (Accounts findings) sound (trees, wrong, reported, some) = absurd (wrong (sound.right refl))
+memory_alone file meta fault sound first = grind (arith, sound_reports_nothing)
 
 pub none_of : (found : Option Findings) (items : List Finding) → found ≡ None → MatchOption found (items ≡ []) (λ findings. findings_in findings ≡ items) → items ≡ []
 none_of found items none is = grind arith

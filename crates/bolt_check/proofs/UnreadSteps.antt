@@ -2,7 +2,7 @@
 use Rattle.std.proofs.Common.{◌≡◌, ◌∙◌, ◌&&◌, ℕ, ◌+◌, ◌≤◌, inl, inr, true, List, [], ◌∷◌, ◌++◌, Some, Result, Ok, Err, ap, not, refl, subst, sum_by, arith}
 use Rattle.std.proofs.lemmas.List.Sums.{sum_by-append}
 use Rattle.bolt_check.proofs.Words.{InlinePage, At_inline, At_page, forest, Has, HasSoundTrees, kids, Meta, Node, node_at, Nodes, PageSpot, places, props, root_spot, somes, Spot, sum_by-cons, ∥∥₁_elim}
-use Rattle.bolt_check.proofs.{Pendings.unread_push, Forest.inline_visits, Forest.lift, Forest.page_visits, Forest.root_visits, Forest.tail, Lists.has_split}
+use Rattle.bolt_check.proofs.{Pendings.unread_push, Forest.inline_visits, Forest.lift, Forest.page_visits, Forest.root_visits, Lists.has_split}
 use Rattle.bolt_check.proofs.TourSums.{bucket_sum, enough_kids, enough_node, pages_append, pages_of, pages_of_kids, weight_kids}
 use Rattle.bolt_check.proofs.UnreadWays.{spots_in, spots_kids}
 use Rattle.bolt_check.specs.{Subtrees.Enough, Subtrees.kid_pages, Subtrees.weight, Ways.reached}
@@ -57,17 +57,11 @@ module _ (nodes : Nodes) (root steps : ℕ) where
         omega (arith, here, both, whole)
 
   pub inline_reached : (host : ℕ) (inner : InlinePage) (rest : List Spot) → AreReached nodes root steps (At_inline host inner ∷ rest) → AreReached nodes root steps rest
-  inline_reached host inner rest r = record {
-    from = λ way t e. r.from (lift [] way) t ((inline_visits nodes host inner rest).same way t e);
-    good = r.good;
-  }
+  inline_reached host inner rest r = grind (arith, inline_visits nodes host inner rest)
 
   -- the root page of the file
   pub root_reached : Enough nodes steps root → AreReached nodes root steps (At_page (root_spot root) ∷ [])
-  root_reached enough = record {
-    from = λ way t e. (tail way, (root_visits nodes (At_page (root_spot root))).same way t e);
-    good = λ n h. elim h [ inl is ↦ subst (Enough nodes steps) is enough | inr none ↦ absurd none ];
-  }
+  root_reached enough = grind (arith, root_visits nodes (At_page (root_spot root)))
 
   -- after a step
   pub step_reached : (u : Unread) (rest after : List Unread) → after ≡ unread_kids nodes u ++ rest → AreReached nodes root steps (spots_in (u ∷ rest)) → AreReached nodes root steps (spots_in after)

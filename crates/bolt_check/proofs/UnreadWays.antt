@@ -1,11 +1,11 @@
 -- The spots that are still to be read, as ways: the first number of a way picks the spot. What is found along all ways is what is found at a
 -- spot, and then along the ways of what is left.
-use Rattle.std.proofs.Common.{◌≡◌, ◌∙◌, ℕ, zero, suc, ◌&&◌, ◌⊎◌, inl, inr, Bool, true, false, List, [], ◌∷◌, ◌++◌, Option, Some, None, Ok, ap, ap₂, flat_map, map, not, refl, sym, slice_get, arith}
+use Rattle.std.proofs.Common.{◌≡◌, ◌∙◌, ℕ, suc, ◌&&◌, ◌⊎◌, inl, inr, Bool, true, false, List, [], ◌∷◌, ◌++◌, Option, Some, None, Ok, ap, ap₂, flat_map, map, not, refl, sym, slice_get, arith}
 use Rattle.std.specs.Prelude.{is_some}
 use Rattle.bolt_check.proofs.Words.{InlinePage, At_inline, At_page, Entry, Finding, follow, forest, Has, IsTour, kids, Node, Nodes, option_map, PageSpot, places, Reach, root_spot, somes, Spot, step, step_entry}
 use Rattle.bolt_check.proofs.Forest.{flat, follow_none, forest_empty, inline_visits, kids_step, lift, nothing_is, page_visits, root_visits, tail, up, way_of, where_is}
 use Rattle.bolt_check.proofs.{TourLemmas.Ways, TourLemmas.tour_map, TourLemmas.tour_step, Visiting.Visits, WayFacts.leads_none, LeafDepths.leaves_along, LeafDepths.leaves_same}
-use Rattle.bolt_check.specs.BboltFindings.{AreBboltFindings, is_in_root, leaves_at, spot_findings, way_findings}
+use Rattle.bolt_check.specs.BboltFindings.{AreBboltFindings, spot_findings, way_findings}
 use Rattle.bolt_check.specs.{Shape.child_at, Shape.child_of, Shape.leads, Ways.reached}
 use Rattle.bolt_check.specs.Private.Unread.{Unread, mark, own_findings, page_leaves, unread_kids}
 
@@ -84,9 +84,7 @@ module _ (nodes : Nodes) (s : PageSpot) (in_root : Bool) (leaves : ℕ) where
       → spot_findings nodes (in_root && is_some (leads nodes (child_of is_leaf e) way)) (leaves_along nodes leaves (step_entry is_leaf s e next) way)
       (follow nodes (step_entry is_leaf s e next) way)
       ≡ findings_from nodes (option_map (mark (in_root && not is_leaf) leaves) (step_entry is_leaf s e next)) way
-  entry_kid is_leaf None next way = rw (follow_none nodes way) refl
-  entry_kid false (Some e) next way = rw (and_true in_root) refl
-  entry_kid true (Some e) next way = leaf_kid (step_entry true s (Some e) next) way
+  entry_kid is_leaf e next way = grind (arith, follow_none, and_true, leaf_kid)
 
 module _ (nodes : Nodes) (s : PageSpot) (in_root : Bool) (above : ℕ) (rest : List Unread) (node : Node) (page : nodes s.number ≡ Ok node) where
   abbrev below : Bool
@@ -121,9 +119,7 @@ module _ (nodes : Nodes) (s : PageSpot) (in_root : Bool) (above : ℕ) (rest : L
   kid_findings j way = rw page (entry_kid nodes s in_root leaves node.is_leaf (slice_get node.entries j) (slice_get node.entries (suc j)) way)
 
   findings_at : (x : ℕ ⊎ ℕ) (way : List ℕ) → forest_findings nodes (here ∷ rest) (way_of x way) ≡ findings_from nodes (place_of os x) way
-  findings_at (inl j) way =
-      kid_findings j way ∙ ap (λ (o : Option Spot). findings_from nodes (option_map (mark below leaves) o) way) (sym (kids_step nodes s node page j))
-  findings_at (inr k) way = refl
+  findings_at x way = grind (arith, kid_findings, kids_step)
 
   page_same : (b : List ℕ) → forest_findings nodes (here ∷ rest) (lift os b) ≡ forest_findings nodes (map (mark below leaves) (somes os) ++ rest) b
   page_same [] = refl
@@ -157,12 +153,7 @@ inline_along nodes host inner in_root above rest found along =
 
 root_same : (nodes : Nodes) (root : ℕ) (b : List ℕ) (t : Spot) → forest nodes (At_page (root_spot root) ∷ []) b ≡ Some t
     → way_findings nodes root (tail b) ≡ forest_findings nodes (mark true 0 (At_page (root_spot root)) ∷ []) b
-root_same nodes root [] t e = absurd (nothing_is t e)
-root_same nodes root (zero ∷ way) (At_inline host inner) e = rw e refl
-root_same nodes root (zero ∷ way) (At_page t) e =
-    ap (λ (o : Option Spot). spot_findings nodes (is_in_root nodes root way) (leaves_at nodes root way o) (reached nodes root way)) e
-    ∙ ap (λ (leaves : ℕ). spot_findings nodes (is_in_root nodes root way) leaves (reached nodes root way)) (sym (leaves_same nodes root way t e))
-root_same nodes root (suc k ∷ way) t e = absurd (nothing_is t (sym (follow_none nodes way) ∙ e))
+root_same nodes root b t e = grind (arith, nothing_is, leaves_same, follow_none)
 
 -- the root page alone is left: what is found along its ways is all
 pub root_along : (nodes : Nodes) (root : ℕ) (unread : List Unread) → unread ≡ mark true 0 (At_page (root_spot root)) ∷ [] → (found : List Finding)
@@ -174,11 +165,7 @@ root_along nodes root unread is found along =
 
 -- nothing is left
 pub none_along : (nodes : Nodes) → AreAlong (forest nodes []) (forest_findings nodes []) []
-none_along nodes = record {
-  tour = [];
-  whole = record { rises = tt; all = λ way s e. absurd (nothing_is s (sym (forest_empty nodes way) ∙ e)); only = λ way h. absurd h };
-  all = refl;
-}
+none_along nodes = grind (arith, nothing_is, forest_empty)
 
 -- a spot is read: what is found at it, and then along the ways of what is left
 pub unread_along : (nodes : Nodes) (u : Unread) (rest after : List Unread) (node_of_page : (s : PageSpot) → u.spot ≡ At_page s → (node : Node) × (nodes s.number ≡ Ok node))

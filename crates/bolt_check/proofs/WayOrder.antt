@@ -1,5 +1,5 @@
 -- The order of ways is strict and total.
-use Rattle.std.proofs.Common.{◌≡◌, ℕ, ◌⊎◌, inl, inr, List, [], ◌∷◌, refl, sym, arith}
+use Rattle.std.proofs.Common.{◌≡◌, ℕ, ◌⊎◌, inl, inr, List, [], ◌∷◌, refl, arith}
 use Rattle.bolt_check.proofs.Words.{Before, cases_order}
 
 pub before_irreflexive : (v : List ℕ) → Before v v → ⊥
@@ -20,14 +20,7 @@ pub before_total : (v w : List ℕ) → (v ≡ w) ⊎ (Before v w ⊎ Before w v
 before_total [] [] = inl refl
 before_total [] (j ∷ w) = inr (inl tt)
 before_total (i ∷ v) [] = inr (inr tt)
-before_total (i ∷ v) (j ∷ w) =
-    elim (cases_order i j) [
-      | inl e ↦ elim (before_total v w) [
-        | inl d ↦ inl (cc)
-        | inr h ↦ inr (elim h [ inl k ↦ inl (inr (e, k)) | inr k ↦ inr (inr (sym e, k)) ])
-      ]
-      | inr h ↦ inr (elim h [ inl k ↦ inl (inl k) | inr k ↦ inr (inl k) ])
-    ]
+before_total (i ∷ v) (j ∷ w) = grind (arith, cases_order, before_total v w)
 
 pub before_strict : (v w : List ℕ) → Before v w → Before w v → ⊥
 before_strict v w h k = before_irreflexive v (before_trans v w v h k)

@@ -1,7 +1,7 @@
 -- What `check` answers to a good copy, and to its proper prefixes.
-use Rattle.std.proofs.Common.{◌≡◌, ◌≢◌, ◌∙◌, ◌&&◌, ◌⊎◌, ◌∷◌, ◌<◌, ℕ, List, [], Bool, true, false, IsTrue, Option, None, Some, Ok, ap, ap₂, codes, inl, inr, length, refl}
+use Rattle.std.proofs.Common.{arith, ◌≡◌, ◌≢◌, ◌∙◌, ◌&&◌, ◌⊎◌, ◌∷◌, ◌<◌, ℕ, List, [], Bool, true, false, IsTrue, Option, None, Some, Ok, ap, codes, inl, inr, length, refl}
 use Rattle.std.proofs.Common.{subst, sym, take}
-use Rattle.bolt_commands.proofs.Vocabulary.{Active, Answer, AnswersLost, AreLosses, CheckFault, Extent, FileFaults, Sound, HasBothMetas, HasSoundTrees, IsCheckAnswer, IsCheckAnswerAfter, IsActive, IsFoundAnswer, IsGoodCopy, IsLostAnswer, IsMetaOf, IsMetasFault, IsSnapshot, IsSound, LossView, Losses, Member, Meta, MetaFault, Site, RefusesFile, Slot, cases_lt, check_refusal, copy_of, done, found, hash_fault, hash_found, loss_at, losses_of, none_found, site_at, refused, everything, has_losses, parts}
+use Rattle.bolt_commands.proofs.Vocabulary.{Active, Answer, AnswersLost, AreLosses, CheckFault, Extent, FileFaults, Sound, HasBothMetas, HasSoundTrees, IsCheckAnswer, IsCheckAnswerAfter, IsActive, IsFoundAnswer, IsGoodCopy, IsLostAnswer, IsMetaOf, IsMetasFault, IsSnapshot, IsSound, LossView, Losses, Member, Meta, MetaFault, Site, RefusesFile, Slot, cases_lt, check_refusal, copy_of, done, found, hash_fault, hash_found, loss_at, losses_of, site_at, refused, everything, has_losses, parts}
 use Rattle.bolt_commands.proofs.{OtherMetas.no_other, ReadFiles.read_active, ReadFiles.refused_active, SoundReads.NamesOne, SoundReads.keeps_not_loses, SoundReads.unread}
 use Rattle.bolt_check.specs.declared.check_fault.CheckFault.TheVariants as check
 use Rattle.bolt_etcd.specs.declared.snapshot.SnapshotFault.{SnapshotFault}
@@ -74,15 +74,11 @@ module _ (laws : Laws) (for_bbolt : Bool) (faults : FileFaults) (file : List ℕ
       by false found = found
 
   fine_found : IsFoundAnswer for_bbolt faults file Active answer → IsFine answer
-  fine_found (inl (own, of_file, on_ways, under, are, said)) =
-      let (whole, ways) = looked_for own of_file on_ways under.0 are in
-      inl (said ∙ (ap₂ (all_found faults) whole ways ∙ ap none_found right))
+  fine_found (inl (own, of_file, on_ways, under, are, said)) = grind (arith, looked_for)
   fine_found (inr (fault, is, said)) = inr (said ∙ ap (check_refusal faults) (unread file meta sound.trees Active fault one (read_active file slot meta chosen sound) is))
 
   none_lost : (own : Meta) (losses : List LossView) → IsMetaOf file Active own → AreLosses file own losses → losses ≡ []
-  none_lost own losses is (survey, surveys, same) =
-      let trees = subst (HasSoundTrees file) (sym (one own is)) sound.trees in
-      same ∙ none_of file own survey (laws.lose file own survey surveys trees)
+  none_lost own losses is (survey, surveys, same) = grind (arith, none_of)
 
   fine_lost : (extent : Extent) → IsLostAnswer extent for_bbolt faults file Active answer → IsFine answer
   fine_lost extent (inl (own, parts reported, pages, is, (keeps, all), finds, answers)) =
@@ -101,12 +97,7 @@ pub passes : Laws → (extent : Extent) (snapshot for_bbolt : Bool) (layout : Li
     → ((slot : Slot) (meta : Meta) → IsActive (copy_of snapshot layout) slot meta → (of_file : List FileFinding) (on_ways : List Finding)
     → AreFoundFor for_bbolt (copy_of snapshot layout) Active meta of_file on_ways → (of_file ≡ []) × (on_ways ≡ []))
     → IsCheckAnswer extent snapshot for_bbolt (copy_of snapshot layout) Active answer → (answer ≡ done (codes "OK\n")) ⊎ (answer ≡ refused failure.Memory)
-passes laws extent snapshot for_bbolt layout listing answer good clean (faults, are, is) =
-    let (slot, meta, chosen, sound, lists) = good.accepted in
-    let file = copy_of snapshot layout in
-    let hash = are.hash ∙ no_hash_fault snapshot file good.hash in
-    let other = no_other_fault extent file good.metas faults.other are.metas in
-    fine laws for_bbolt faults file slot meta answer (rw (hash, other) refl) chosen sound (clean slot meta chosen) extent is
+passes laws extent snapshot for_bbolt layout listing answer good clean (faults, are, is) = grind (arith, no_hash_fault, no_other_fault, fine)
 
 -- ---- a file that `check` refuses, or whose hash isn't right
 

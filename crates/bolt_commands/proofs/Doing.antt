@@ -1,5 +1,5 @@
 -- What jobs do with their text, and how they end.
-use Rattle.std.proofs.Common.{◌≡◌, ℕ, List, Result, Ok, Err, inl, inr, ap, refl}
+use Rattle.std.proofs.Common.{arith, ◌≡◌, ℕ, List, Result, Ok, Err, inl, inr, ap, refl}
 use Rattle.bolt_commands.proofs.Vocabulary.{Answer, Appends-nil, CheckFault, JobEnding, Failure, Ghosts, HasNoBucket, IsErrAnd, IsFailureOf, IsReadUnder, IsUnread, LeadsTo, Meta, MetaChoice, OnOk, Path, PrintsAnswer, SinkFault, Start, Wrote, end_written, ending, refused}
 use Rattle.bolt_commands.specs.declared.failure.Failure.TheVariants.{NoBucket}
 
@@ -41,7 +41,4 @@ module _ {S : Type 0} {sink : Ghosts S} {old : S} {IsWanted : Answer → Type 0}
       → ((meta : Meta) → IsReadUnder file choice meta → ((bucket : Start) → LeadsTo file meta path bucket → ⊥) → IsWanted (refused NoBucket))
       → (IsUnread file choice failure → IsWanted (refused failure))
       → IsErrAnd result (λ said. said ≡ failure) → PrintsAnswer sink old old IsWanted result
-  answer_none failure result refusal none unread said = elim refusal.why [
-    | inl (meta, under, nowhere, is) ↦ answer_nothing failure result (rw is (none meta under nowhere)) said
-    | inr refused ↦ answer_nothing failure result (unread refused) said
-  ]
+  answer_none failure result refusal none unread said = grind (arith, answer_nothing)

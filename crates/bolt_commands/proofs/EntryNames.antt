@@ -3,7 +3,7 @@
 -- are the same.
 use Rattle.std.proofs.Common.{◌≡◌, ◌∙◌, ◌++◌, Bool, true, false, List, [], ◌∷◌, None, Option, Some, ap, arith, filter, flat_map, inl, inr, map, refl, rules, subst, sym, ℕ}
 use Rattle.std.specs.Prelude.{if◌then◌else◌}
-use Rattle.std.specs.{declared.cmp.Ordering.Ordering, declared.cmp.Ordering.TheVariants.Equal, declared.cmp.Ordering.TheVariants.Less, Cmp.IsTotalOrder, Ordering.ordering_then}
+use Rattle.std.specs.{declared.cmp.Ordering.Ordering, declared.cmp.Ordering.TheVariants.Less, Cmp.IsTotalOrder}
 use Rattle.std.proofs.lemmas.Cmp.{on_total}
 use Rattle.bolt_check.proofs.Exports.{contains_from_has, has_from_contains, has_map, map_has, first_decides}
 use Rattle.bolt_check.specs.Keys.{key_cmp}
@@ -67,12 +67,7 @@ module _ (bucket : Path) where
   picked : (m : Member) (ms : List Member) (n : Named) (found : Option Key) → key_in bucket m.0 ≡ found → Contains (pick m.1 found (named_in bucket ms)) n
       → (Contains (named_in bucket ms) n → Contains ms (there n)) → Contains (m ∷ ms) (there n)
   picked m ms n None e has more = contains_tail m (there n) ms (more has)
-  picked m ms n (Some key) e has more = elim (contains_cases (key, m.1) n (named_in bucket ms) has) [
-    | inl same ↦
-        let here = subst (λ (path : Path). Contains (m ∷ ms) (path, m.1)) (path_of_key bucket m.0 key e) (contains_head m ms) in
-        subst (λ (x : Named). Contains (m ∷ ms) (there x)) same here
-    | inr later ↦ contains_tail m (there n) ms (more later)
-  ]
+  picked m ms n (Some key) e has more = grind (arith, contains_cases, path_of_key, contains_head, contains_tail)
 
   named_there : (ms : List Member) (n : Named) → Contains (named_in bucket ms) n → Contains ms (there n)
   unfolding named_in
@@ -168,10 +163,7 @@ module _ (form : Form) (wanted : WantedNames) where
 
     entries_text : (entries : List LeafElement) → flat_map line (map named_entry entries) ≡ keys_text form (filter is_named entries)
     entries_text [] = refl
-    entries_text (e ∷ entries) =
-        ap (λ (b : Bool). (if b then value_text form e.key else []) ++ flat_map line (map named_entry entries)) (same e)
-        ∙ ap (λ (rest : List ℕ). (if is_named e then value_text form e.key else []) ++ rest) (entries_text entries)
-        ∙ by_test e entries (is_named e)
+    entries_text (e ∷ entries) = grind (arith, by_test, entries_text entries)
 
     -- The text of the names in the bucket that the path leads to is that of the keys of its entries.
     pub names_are_keys : (file : List ℕ) (meta : Meta) → HasSoundTrees file meta → (listing : List Member) → IsListing file meta listing → (path : Path) (bucket : Start)

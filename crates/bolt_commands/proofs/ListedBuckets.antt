@@ -1,5 +1,5 @@
 -- A listing has the bucket at a path where the path leads to one.
-use Rattle.std.proofs.Common.{arith, length, ◌==◌, ◌≡◌, ◌∙◌, ◌||◌, ◌&&◌, ℕ, Bool, true, false, List, [], ◌∷◌, IsTrue, inl, inr, refl, sym, ap, rules}
+use Rattle.std.proofs.Common.{arith, ◌≡◌, ◌∙◌, ◌&&◌, ℕ, Bool, true, false, List, [], ◌∷◌, IsTrue, inl, inr, refl, sym, ap}
 use Rattle.std.proofs.lemmas.Bool.Decides.{nat_tests}
 use Rattle.bolt_commands.proofs.Vocabulary.{Contains, Holds, IsEntry, IsListing, Item, Key, LeadsTo, LeafElement, Member, Meta, Names, Path, Root_page, Start, Value, and_parts, bytes_eq, bytes_eq-Decides, cases_Bool, has_bucket, head_sequence, is_bucket, is_bucket_at, item_of, list_any, or_cases, or_left, or_right, pointwise, slice_eq-Decides, start_of}
 use Rattle.bolt_tree.specs.Entries.{Bucket}
@@ -25,23 +25,16 @@ some_of p (x ∷ ms) any = elim (or_cases (p x) (list_any p ms) any) [
 -- ---- entries
 
 is_bucket_of : (e : LeafElement) (sequence : ℕ) → item_of e ≡ Bucket sequence → IsTrue e.is_bucket
-is_bucket_of e sequence is = elim (cases_Bool e.is_bucket) [
-  | inl holds ↦ holds
-  | inr apart ↦ let bad = rw apart at is in absurd (search (rules, bad))
-]
+is_bucket_of e sequence is = grind (arith, cases_Bool)
 
 module _ (Entry : Start → LeafElement → Type 0) where
   held_of : (key : Key) (path : Path) (from bucket : Start) → Names Entry from (key ∷ path) bucket → (sequence : ℕ) × Holds Entry from (key ∷ path) (Bucket sequence)
   held_of key [] from bucket (e, is, k, b, there) = (head_sequence e.value, (e, is, k, rw b refl))
-  held_of key (next ∷ path) from bucket (e, is, k, b, later) =
-      let (sequence, held) = held_of next path (start_of e.value) bucket later in
-      (sequence, (e, is, k, b, held))
+  held_of key (next ∷ path) from bucket (e, is, k, b, later) = grind (arith, held_of next path (start_of e.value) bucket later)
 
   named_of : (key : Key) (path : Path) (from : Start) (sequence : ℕ) → Holds Entry from (key ∷ path) (Bucket sequence) → (bucket : Start) × Names Entry from (key ∷ path) bucket
   named_of key [] from sequence (e, is, k, item) = (start_of e.value, (e, is, k, is_bucket_of e sequence item, refl))
-  named_of key (next ∷ path) from sequence (e, is, k, b, held) =
-      let (bucket, names) = named_of next path (start_of e.value) sequence held in
-      (bucket, (e, is, k, b, names))
+  named_of key (next ∷ path) from sequence (e, is, k, b, held) = grind (arith, named_of next path (start_of e.value) sequence held)
 
 -- ---- members
 
@@ -52,9 +45,7 @@ bucket_in (Bucket sequence) t = (sequence, refl)
 module _ (file : List ℕ) (meta : Meta) (listing : List Member) (is : IsListing file meta listing) where
   -- but for the root bucket, by its members
   by_members : (key : Key) (path : Path) → has_bucket (key ∷ path) listing ≡ list_any (is_bucket_at (key ∷ path)) listing
-  by_members key path =
-      let some : (length (key ∷ path) == 0) ≡ false = grind (arith, nat_tests) in
-      ap (λ (b : Bool). b || list_any (is_bucket_at (key ∷ path)) listing) some
+  by_members key path = grind (arith, nat_tests, list_any)
 
   pub has_named : (path : Path) (bucket : Start) → LeadsTo file meta path bucket → has_bucket path listing ≡ true
   has_named [] bucket leads = refl

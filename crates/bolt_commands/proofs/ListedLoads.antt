@@ -1,6 +1,6 @@
 -- What `list` prints of a file is loaded as the listing of the file.
-use Rattle.std.proofs.Common.{◌≡◌, ◌∙◌, ◌<◌, ℕ, Bool, List, [], ◌∷◌, Option, Ok, ap, arith, false, inl, inr, length, refl, subst, sym}
-use Rattle.bolt_commands.proofs.Vocabulary.{Answer, JobEnding, Sound, HasSoundTrees, IsEndedOrCut, IsListedAnswer, IsListing, IsListingText, IsLoadFault, IsOfOneTree, IsReadUnder, Layout, Loads, LoadsListing, Member, Meta, MetaChoice, Path, Rises, filter_all, listing_lines, member_cmp, not, part_below, listing_part_text, path_cmp, rest_from, text_members}
+use Rattle.std.proofs.Common.{◌≡◌, ◌∙◌, ◌<◌, ℕ, Bool, List, [], ◌∷◌, Option, Ok, ap, arith, inl, inr, length, subst, sym}
+use Rattle.bolt_commands.proofs.Vocabulary.{Answer, JobEnding, Sound, HasSoundTrees, IsEndedOrCut, IsListedAnswer, IsListing, IsListingText, IsLoadFault, IsOfOneTree, IsReadUnder, Layout, Loads, LoadsListing, Member, Meta, MetaChoice, Rises, filter_all, listing_lines, member_cmp, not, part_below, listing_part_text, path_cmp, rest_from, text_members}
 use Rattle.bolt_commands.proofs.ReadFiles.{read_trees}
 use Rattle.std.specs.Ordering.{is_lt}
 use Rattle.bolt_format.specs.Bytes.{IsBytes}

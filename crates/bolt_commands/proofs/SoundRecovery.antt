@@ -56,10 +56,7 @@ module _ {file : List ℕ} {meta : Meta} {from to : Extent} {wanted named : Meta
     copied : Reads file meta from to wanted named → hash_refusal from (bad_hash snapshot file) ≡ hash_refusal to (bad_hash snapshot file)
         → MakesCopy out_taken out_failed out_old out_new target_taken target_failed target_old target_new file wanted size which snapshot from ending
         → MakesCopy out_taken out_failed out_old out_new target_taken target_failed target_old target_new file named size which snapshot to ending
-    copied r same (inl (other, listing, lost, found, read, faults, are, writes)) =
-        let (one, there) = r.read other listing lost found read in
-        let refusal = ap (hash_refusal from) are.hash ∙ same ∙ ap (hash_refusal to) (sym are.hash) in
-        inl (meta, listing, lost, found, there, faults, record { hash = are.hash; metas = r.metas faults.other are.metas }, rw (refusal, one) at writes)
+    copied r same (inl (other, listing, lost, found, read, faults, are, writes)) = grind arith
     copied r same (inr (why, unread, none)) = inr (why, r.unread why unread, none)
 
 -- ---- with sound trees
@@ -184,7 +181,4 @@ pub copies_the_same : {file : List ℕ} {meta : Meta} {from to : Extent} {wanted
     → hash_refusal from (bad_hash snapshot file) ≡ hash_refusal to (bad_hash snapshot file)
     → MakesCopy out_taken out_failed out_old out_new target_taken target_failed target_old target_new file wanted size which snapshot from ending
     ↔ MakesCopy out_taken out_failed out_old out_new target_taken target_failed target_old target_new file named size which snapshot to ending
-copies_the_same r out_taken out_failed target_taken target_failed out_old out_new target_old target_new size which snapshot ending same = (
-  copied out_taken out_failed target_taken target_failed out_old out_new target_old target_new size which snapshot ending r.there same,
-  copied out_taken out_failed target_taken target_failed out_old out_new target_old target_new size which snapshot ending r.back (sym same),
-)
+copies_the_same r out_taken out_failed target_taken target_failed out_old out_new target_old target_new size which snapshot ending same = grind arith

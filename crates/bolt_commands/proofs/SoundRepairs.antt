@@ -1,8 +1,7 @@
 -- With sound trees nothing goes back, and what is copied is their listing.
-use Rattle.std.proofs.Common.{◌≡◌, ◌∙◌, ◌+◌, ℕ, List, [], ◌∷◌, ap, arith, inl, inr, length, refl, subst, sym}
+use Rattle.std.proofs.Common.{◌≡◌, ◌∙◌, ℕ, List, [], ◌∷◌, ap, arith, inl, inr, length, refl, subst}
 use Rattle.bolt_commands.proofs.Vocabulary.{Failure, HasSoundTrees, IsListing, IsMetaOf, LostView, Member, Meta, MetaChoice, parts, props, ∥∥₁_elim}
 use Rattle.bolt_commands.proofs.{SoundReads.has_meta, SoundReads.keeps_not_loses, SoundRecovery.Below, SoundRecovery.names_one, SoundRecovery.no_loss, SoundRecovery.no_losses}
-use Rattle.std.specs.List.{Contains}
 use Rattle.bolt_check.specs.Keys.{Key}
 use Rattle.bolt_format.specs.Elements.{LeafElement}
 use Rattle.bolt_recover.specs.Found.{AreFound}
@@ -12,7 +11,6 @@ use Rattle.bolt_repair.specs.{FullRepairs.AreCandidateKeys, FullRepairs.IsLeftOu
 use Rattle.bolt_recover.specs.declared.recover_fault.RecoverFault.{RecoverFault}
 use Rattle.bolt_recover.specs.declared.recover_fault.RecoverFault.TheVariants as recover
 use Rattle.bolt_commands.specs.{Alike.IsUnrepairable, Failures.unlisted, RepairAnswers.IsRestored, RepairAnswers.IsUnrestored}
-use Rattle.bolt_commands.specs.declared.failure.Failure.TheVariants as failure
 
 -- ---- nothing is a candidate if nothing is found
 

@@ -1,24 +1,19 @@
 -- All revisions of a bucket, sorted by name and then by their stored keys.
 use Rattle.std.proofs.Common.{◌≡◌, ◌<◌, ◌-◌, ◌^◌, Bool, List, map, not, Some, ap, subst, arith}
-use Rattle.std.proofs.{lemmas.Bool.le-ltb, lemmas.List.MinMax.ranks_by, lemmas.List.Sorted.IsPermutation-map, lemmas.Option.same_Some}
+use Rattle.std.proofs.{lemmas.Bool.le-ltb, lemmas.List.MinMax.ranks_by, lemmas.List.Sorted.IsPermutation-map}
 use Rattle.std.specs.{Cmp.IsStrictWeakOrder, List.Sorted.IsPermutation, List.Sorted.IsSortedBy, Ordering.is_lt}
 use Rattle.bolt_format.specs.Elements.{LeafElement}
 use Rattle.bolt_tree.proofs.Exports.{filter_all, sorted_mapped}
 use Rattle.bolt_tree.specs.Entries.{EntryView}
-use Rattle.bolt_etcd.specs.{NameFaults.AreByName, NameFaults.by_name_cmp, Newest.is_until, Newest.until, RevisionKeys.revision_key}
-use Rattle.bolt_etcd.specs.{Revisions.RevisionView, Revisions.record_under, Revisions.revision_in, Revisions.revision_of, Revisions.value_of, ShownRevisions.shown_revision, Stores.revisions}
+use Rattle.bolt_etcd.specs.{NameFaults.AreByName, NameFaults.by_name_cmp, Newest.is_until, Newest.until}
+use Rattle.bolt_etcd.specs.{Revisions.RevisionView, Revisions.revision_of, ShownRevisions.shown_revision, Stores.revisions}
 use Rattle.bolt_etcd.specs.declared.revision.Revision.{Revision}
-use Rattle.bolt_etcd.proofs.{Currents.bind_some, Currents.from_entry, Keys.read_fits, SortedOnce.by_name_total}
+use Rattle.bolt_etcd.proofs.{Currents.from_entry, Currents.key_is, Keys.read_fits, SortedOnce.by_name_total}
 
 -- ---- each is of a transaction below 2^63
 
 main_fits : (v : EntryView) (r : RevisionView) → revision_of v ≡ Some r → r.key.main < 2 ^ 63
-unfolding revision_of
-main_fits v r e =
-    let (value, _, inner) = bind_some (value_of v.item) (revision_in v.key) r e in
-    let (k, read, later) = bind_some (revision_key v.key) _ r inner in
-    let (content, _, made) = bind_some (record_under k value) _ r later in
-    subst (λ (x : RevisionView). x.key.main < 2 ^ 63) (same_Some _ r made) (read_fits v.key k read).0
+main_fits v r e = (read_fits v.key r.key (key_is v r e)).0
 
 pub until_all : (es : List LeafElement) → until (2 ^ 64 - 1) (revisions es) ≡ revisions es
 until_all es = filter_all (is_until (2 ^ 64 - 1)) (revisions es) (λ r has.

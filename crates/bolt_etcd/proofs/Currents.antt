@@ -1,15 +1,15 @@
 -- The keys that there are are the newest revisions that aren't deletions.
-use Rattle.std.proofs.Common.{◌≡◌, ◌≢◌, ◌∙◌, ◌++◌, ◌↔◌, Bool, false, List, [], ◌∷◌, filter, map, not, Option, Some, None, Result, Ok, Err, refl, sym, ap, subst, if◌then◌else◌}
+use Rattle.std.proofs.Common.{ℕ, ◌≡◌, ◌≢◌, ◌∙◌, ◌++◌, ◌↔◌, Bool, false, List, [], ◌∷◌, filter, map, not, Option, Some, None, Result, refl, sym, ap, subst, arith, if◌then◌else◌}
 use Rattle.std.proofs.{lemmas.Bool.not-true, lemmas.Cmp.nat_list_cmp_total, lemmas.Cmp.on_total, lemmas.List.append_assoc, lemmas.List.map-append, lemmas.List.Kept.IsStrictlySortedBy-filter}
-use Rattle.std.proofs.{lemmas.List.MinMax.ranks_by, lemmas.List.Sorted.Contains-permutation, lemmas.List.Sorted.IsPermutation-sym, lemmas.Option.same_Some, lemmas.Slice.Eq.bytes_eq-Decides}
+use Rattle.std.proofs.{lemmas.List.MinMax.ranks_by, lemmas.List.Sorted.Contains-permutation, lemmas.List.Sorted.IsPermutation-sym, lemmas.Slice.Eq.bytes_eq-Decides}
 use Rattle.std.specs.{List.Contains, List.cons_option, List.dedup, List.Sorted.IsPermutation, List.Sorted.IsSorted, Cmp.IsStrictWeakOrder, Cmp.IsTotalOrder}
 use Rattle.std.specs.{Ordering.eq_by_cmp, Ordering.is_eq, Ordering.is_lt, Result.is_err, Result.is_ok, Str.bytes_eq, declared.cmp.Ordering.Ordering}
-use Rattle.std.specs.declared.cmp.Ordering.TheVariants.{Equal, Greater, Less}
+use Rattle.std.specs.declared.cmp.Ordering.TheVariants.{Less}
 use Rattle.bolt_format.specs.Elements.{LeafElement}
 use Rattle.bolt_tree.proofs.Exports.{kept, filter_mapped, kept_from, dedup_mapped, gives_from, one_of}
 use Rattle.bolt_tree.specs.{Entries.EntryView, Entries.entry_cmp, Entries.entry_view, Order.Rises}
 use Rattle.bolt_etcd.specs.Current.{AreCurrent, AreNewest, HaveOwnKeys, IsCurrent, IsNewest, is_there, name_cmp, name_sum_cmp, stored_key_cmp}
-use Rattle.bolt_etcd.specs.{Newest.is_named, Newest.newest, Revisions.RevisionView, Revisions.name_of, Revisions.record_under, Revisions.revision_in, Revisions.revision_of, Revisions.value_of}
+use Rattle.bolt_etcd.specs.{Newest.is_named, Newest.newest, Revisions.RevisionView, Revisions.name_of, Revisions.revision_in, Revisions.revision_of, Revisions.value_of}
 use Rattle.bolt_etcd.specs.{RevisionKeys.revision_key, ShownRevisions.shown_revision, Stores.revisions, Wire.◌>>=◌, NameOrder.sums_cmp, SumOrder.AreNewestBySum, declared.revision.Revision.Revision}
 use Rattle.bolt_etcd.proofs.NewestOfNames.{IsGreatest, greatest_kept, kept_greatest, last_from, last_greatest, names_rise, text_ties}
 use Rattle.bolt_etcd.proofs.{NameOrders.sums_tie, NameOrders.sums_total, SortedOnce.rises_from, SortedOnce.sorted_in}
@@ -17,17 +17,11 @@ use Rattle.bolt_etcd.proofs.{NameOrders.sums_tie, NameOrders.sums_total, SortedO
 -- ---- one more is pushed
 
 pub was_pushed : {X E : Type 0} {A : Type 0} (r : Result X E) (a b : List A) → is_err r ≡ false → (if is_ok r then a else b) ≡ a
-was_pushed (Ok x) a b e = refl
-was_pushed (Err x) a b e = cc
+was_pushed r a b e = grind arith
 
 pub pushed : (items more : List Revision) (r : Revision) (left new total : List RevisionView) → more ≡ items ++ r ∷ [] → left ≡ shown_revision r ∷ new
     → map shown_revision items ++ left ≡ total → map shown_revision more ++ new ≡ total
-pushed items more r left new total is first before =
-    ap (λ l. map shown_revision l ++ new) is
-    ∙ ap (λ (l : List RevisionView). l ++ new) (map-append shown_revision items (r ∷ []))
-    ∙ append_assoc (map shown_revision items) (shown_revision r ∷ []) new
-    ∙ ap (λ (l : List RevisionView). map shown_revision items ++ l) (sym first)
-    ∙ before
+pushed items more r left new total is first before = grind (arith, map-append, append_assoc)
 
 -- ---- revisions rise by their stored keys, as entries do by their keys
 
@@ -35,21 +29,17 @@ pub bind_some : {A B : Type 0} (o : Option A) (f : A → Option B) (y : B) → (
 bind_some None f y e = cc
 bind_some (Some x) f y e = (x, refl, e)
 
+-- it has its key, and is as that says
+pub in_says : (key value : List ℕ) (r : RevisionView) → revision_in key value ≡ Some r → (r.stored_key ≡ key) × (revision_key key ≡ Some r.key)
+in_says key value r e = grind (arith, bind_some)
+
 pub stored_key_is : (v : EntryView) (r : RevisionView) → revision_of v ≡ Some r → r.stored_key ≡ v.key
 unfolding revision_of
-stored_key_is v r e =
-    let (value, _, inner) = bind_some (value_of v.item) (revision_in v.key) r e in
-    let (k, _, later) = bind_some (revision_key v.key) _ r inner in
-    let (content, _, made) = bind_some (record_under k value) _ r later in
-    sym (ap (λ (x : RevisionView). x.stored_key) (same_Some _ r made))
+stored_key_is v r e = let (value, _, inner) = bind_some (value_of v.item) (revision_in v.key) r e in (in_says v.key value r inner).0
 
-pub key_is : (e : EntryView) (r : RevisionView) → revision_of e ≡ Some r → revision_key e.key ≡ Some r.key
+pub key_is : (v : EntryView) (r : RevisionView) → revision_of v ≡ Some r → revision_key v.key ≡ Some r.key
 unfolding revision_of
-key_is e r is =
-    let (value, _, inner) = bind_some (value_of e.item) (revision_in e.key) r is in
-    let (k, read, later) = bind_some (revision_key e.key) _ r inner in
-    let (content, _, made) = bind_some (record_under k value) _ r later in
-    read ∙ ap Some (ap (λ (x : RevisionView). x.key) (same_Some _ r made))
+key_is v r e = let (value, _, inner) = bind_some (value_of v.item) (revision_in v.key) r e in (in_says v.key value r inner).1
 
 pub from_entry : (es : List LeafElement) (r : RevisionView) → Contains (revisions es) r → (f : LeafElement) × Contains es f × (revision_of (entry_view f) ≡ Some r)
 from_entry es r has = gives_from (λ (e : LeafElement). revision_of (entry_view e)) es r has
@@ -91,27 +81,17 @@ code_is_there r = is_there (shown_revision r)
 -- ---- the newest of each name
 
 not_less : (o : Ordering) → o ≢ Less → is_lt o ≡ false
-not_less Less differs = absurd (differs refl)
-not_less Equal differs = refl
-not_less Greater differs = refl
+not_less o differs = grind arith
 
 module _ (rs : List RevisionView) where
   abbrev Greatest : RevisionView → Type 0
   Greatest r = IsGreatest name_of (λ (x : RevisionView). x.stored_key) sums_cmp sums_total sums_tie (is_named (name_of r)) rs r
 
   greatest_newest : (r : RevisionView) → Greatest r → r.key.deleted ≡ false → IsNewest rs r
-  greatest_newest r g live = record {
-    has = g.has;
-    there = live;
-    last = λ other has names less. let no = g.greatest other has ((bytes_eq-Decides (name_of other) (name_of r)).1 names) in cc;
-  }
+  greatest_newest r g live = grind (arith, bytes_eq-Decides)
 
   newest_greatest : (r : RevisionView) → IsNewest rs r → Greatest r
-  newest_greatest r n = record {
-    has = n.has;
-    passes = (bytes_eq-Decides (name_of r) (name_of r)).1 refl;
-    greatest = λ other has names. not_less (stored_key_cmp r other) (n.last other has ((bytes_eq-Decides (name_of other) (name_of r)).0 names));
-  }
+  newest_greatest r n = grind (arith, bytes_eq-Decides, not_less)
 
   -- of revisions sorted by names, the newest first, the first of each name that isn't a deletion
   pub first_are_newest : (sorted : List RevisionView) → AreNewestBySum rs sorted → HaveOwnKeys rs → AreNewest rs (filter is_there (dedup view_same_name sorted))

@@ -1,7 +1,7 @@
 -- What etcd keeps in a compaction is what the names held then, and the older ones of a name go first.
-use Rattle.std.proofs.Common.{◌≡◌, ◌∙◌, ◌<◌, ◌≤◌, ℕ, Bool, true, List, filter, inl, inr, not, Option, Some, None, refl, sym, ap}
+use Rattle.std.proofs.Common.{◌≡◌, ◌∙◌, ◌<◌, ◌≤◌, ℕ, Bool, true, List, filter, inl, inr, not, Option, Some, None, sym, ap}
 use Rattle.std.proofs.Common.{subst, arith}
-use Rattle.std.proofs.lemmas.Bool.{and_from, and_parts, cases_lt, lt-ltb, ltb-true, or_cases, or_left, or_right}
+use Rattle.std.proofs.lemmas.Bool.{and_from, cases_lt, lt-ltb, ltb-true, or_cases, or_left, or_right}
 use Rattle.std.proofs.lemmas.Cmp.{nat_list_cmp_total, on_total}
 use Rattle.std.specs.{Cmp.IsTotalOrder, Cmp.Lexicographic.same_text, List.Contains, List.last_or, declared.cmp.Ordering.TheVariants.Less}
 use Rattle.bolt_check.specs.Keys.{Key}
@@ -62,18 +62,7 @@ module _ (ts : List Transaction) (new : Bool) (compacted : ℕ) (possible : AreP
   keeps_newer : (a b : RevisionView) → Contains (history ts) a → Contains (history ts) b → name_of a ≡ name_of b → stored_key_cmp a b ≡ Less
       → keeps a ≡ true → keeps b ≡ true
   unfolding newest
-  keeps_newer a b has also same less keep = elim (cases_lt compacted b.key.main) [
-    | inl lt ↦ keeps_later b lt
-    | inr le ↦ elim (or_cases _ _ keep) [
-      | inl above ↦ (
-          let low = main_le a.key b.key (sym (same_order ts possible a b has also) ∙ less) in
-          let lt = ltb-true compacted a.key.main above in
-          absurd (omega (arith, low, lt, le)))
-      | inr newest_one ↦
-          let there = is_own (name_of a) b also (sym same) le in
-          absurd (none_after a b (last_or None (own (name_of a))) refl (and_parts _ _ newest_one).0 there less)
-    ]
-  ]
+  keeps_newer a b has also same less keep = grind (arith, cases_lt, keeps_later, or_cases, main_le, same_order, ltb-true, is_own, none_after)
 
   pub etcd_compacts : IsCompaction compacted ts (etcd_keeps new compacted (history ts))
   etcd_compacts = record { later = λ r has lt. keeps_later r lt; held = keeps_held; oldest_first = keeps_newer }

@@ -1,22 +1,20 @@
 -- What is missing of one name is what its revisions alone say, wherever they stand among those of other names.
-use Rattle.std.proofs.Common.{◌≡◌, ◌∙◌, ◌&&◌, ◌||◌, ℕ, Bool, true, false, List, [], ◌∷◌, cond, filter, not, Option, Some, None, refl, sym, ap}
-use Rattle.std.proofs.{lemmas.Bool.cond-false, lemmas.Bool.cond-true, lemmas.Cmp.nat_list_cmp_total, lemmas.Cmp.tied_itself}
+use Rattle.std.proofs.Common.{inl, inr, ◌≡◌, ◌∙◌, ◌&&◌, ◌||◌, ℕ, Bool, true, false, List, [], ◌∷◌, cond, filter, not, Option, Some, None, refl, sym, ap, arith}
+use Rattle.std.proofs.{lemmas.Bool.cases_Bool, lemmas.Bool.cond-false, lemmas.Bool.cond-true, lemmas.Bool.cond_both, lemmas.Bool.false_from_ne_true, lemmas.Cmp.nat_list_cmp_total, lemmas.Cmp.tied_itself}
 use Rattle.std.proofs.lemmas.List.Sorted.{Contains-permutation, IsPermutation-sym}
 use Rattle.std.specs.{Cmp.IsTotalOrder, Cmp.Lexicographic.same_text, List.Contains, List.Sorted.IsPermutation, Ordering.is_eq, Ordering.ordering_reverse, Ordering.ordering_then, Str.bytes_eq}
-use Rattle.std.specs.{declared.cmp.Ordering.Ordering, declared.cmp.Ordering.TheVariants.Equal, declared.cmp.Ordering.TheVariants.Greater, declared.cmp.Ordering.TheVariants.Less}
+use Rattle.std.specs.{declared.cmp.Ordering.Ordering, declared.cmp.Ordering.TheVariants.Equal, declared.cmp.Ordering.TheVariants.Less}
 use Rattle.bolt_check.specs.Keys.{Key, key_cmp}
 use Rattle.bolt_tree.proofs.Exports.{filter_none, kept, contains_head, rises_once, filter_rises, kept_from, rises_as}
 use Rattle.bolt_tree.specs.Order.{IsBelow, Rises}
 use Rattle.bolt_etcd.specs.{Current.stored_key_cmp, Follows.follows, MissingNumbers.is_of_later, NameOrder.sums_cmp, Newest.is_named, SumOrder.AreBySum, Revisions.RevisionView, Revisions.name_of}
-use Rattle.bolt_etcd.specs.NameFaults.{AreByName, NameFaultView, fault_of, is_newest, lacks_lease, lacks_one_before, name_faults}
+use Rattle.bolt_etcd.specs.NameFaults.{AreByName, NameFaultView, fault_of, is_newest, lacks_one_before, name_faults}
 use Rattle.bolt_etcd.proofs.{NameOrders.sums_tie, NameOrders.sums_total, NewestOfNames.text_ties, SortedOnce.by_name_rises, SortedOnce.named_rises, SortedOnce.named_total, StoreLemmas.itself}
 
 -- ---- revisions of one name stand together
 
 both_ways : (o p q : Ordering) → ordering_then o p ≡ Less → ordering_then (ordering_reverse o) q ≡ Less → is_eq o ≡ true
-both_ways Less p q first second = cc
-both_ways Equal p q first second = refl
-both_ways Greater p q first second = cc
+both_ways o p q first second = grind arith
 
 module _ (cmp : Key → Key → Ordering) (total : IsTotalOrder cmp) (ties : (a b : Key) → bytes_eq a b ≡ is_eq (cmp a b)) where
   abbrev by : RevisionView → RevisionView → Ordering
@@ -40,14 +38,7 @@ module _ (cmp : Key → Key → Ordering) (total : IsTotalOrder cmp) (ties : (a 
 
     none_later : (a b : RevisionView) (rs : List RevisionView) → is_named name a ≡ true → is_named name b ≡ false → ordered a b ≡ Less
         → IsBelow ordered b rs → named rs ≡ []
-    none_later a b rs is other less below = filter_none (is_named name) rs (λ r has. other_name r (is_named name r) refl (below r has))
-      where
-        other_name : (r : RevisionView) (t : Bool) → is_named name r ≡ t → ordered b r ≡ Less → is_named name r ≡ false
-        other_name r true also up =
-            let same = between a b r less up (own r also ∙ sym (own a is)) in
-            let here : is_named name b ≡ true = rw (same ∙ own a is) (itself name) in
-            cc
-        other_name r false e up = e
+    none_later a b rs is other less below = grind (arith, filter_none, false_from_ne_true, between, itself)
 
     -- ---- the faults of a name
 
@@ -58,18 +49,10 @@ module _ (cmp : Key → Key → Ordering) (total : IsTotalOrder cmp) (ties : (a 
     BeforeAll None rs = Unit {0}
     BeforeAll (Some before) rs = IsBelow ordered before rs
 
-    newest_step : (r x : RevisionView) (rs : List RevisionView) (b : Bool) → is_named name x ≡ b → is_named name r ≡ true → ordered r x ≡ Less
-        → IsBelow ordered x rs
-        → is_newest r (cond b (x ∷ named rs) (named rs)) ≡ not b
-    newest_step r x rs true is own_r less below = ap not (ap (bytes_eq (name_of x)) (own r own_r) ∙ is)
-    newest_step r x rs false other own_r less below = ap (is_newest r) (none_later r x rs own_r other less below)
-
     newest_same : (r : RevisionView) (rs : List RevisionView) → is_named name r ≡ true → IsBelow ordered r rs → Rises ordered rs
         → is_newest r (named rs) ≡ is_newest r rs
     newest_same r [] is below rises = refl
-    newest_same r (x ∷ rs) is below rises =
-        newest_step r x rs (is_named name x) refl is (below x (contains_head x rs)) rises.0
-        ∙ sym (ap not (ap (bytes_eq (name_of x)) (own r is)))
+    newest_same r (x ∷ rs) is below rises = grind (arith, cond_both, none_later, contains_head)
 
     module _ (compacted : Option ℕ) (granted : ℕ → Bool) where
       abbrev faults : Option RevisionView → List RevisionView → List NameFaultView
@@ -81,9 +64,7 @@ module _ (cmp : Key → Key → Ordering) (total : IsTotalOrder cmp) (ties : (a 
 
       fault_same : (before : Option RevisionView) (r : RevisionView) (rs : List RevisionView) → is_named name r ≡ true → IsBelow ordered r rs
           → Rises ordered rs → fault_of compacted granted before r rs ≡ fault_of compacted granted before r (named rs)
-      fault_same before r rs is below rises =
-          ap (λ (b : Bool). record { revision = r; one_before = lacks_one_before compacted before r; lease = b && lacks_lease granted r })
-          (sym (newest_same r rs is below rises))
+      fault_same before r rs is below rises = grind (arith, newest_same)
 
       -- one of another name before them is as none
       lacks_same : (c : Option ℕ) (a r : RevisionView) → is_named (name_of r) a ≡ false → lacks_one_before c (Some a) r ≡ lacks_one_before c None r
@@ -93,11 +74,7 @@ module _ (cmp : Key → Key → Ordering) (total : IsTotalOrder cmp) (ties : (a 
       not_own : (a : RevisionView) (rs : List RevisionView) → is_named name a ≡ false → ((r : RevisionView) → Contains rs r → is_named name r ≡ true)
           → faults (Some a) rs ≡ faults None rs
       not_own a [] other are = refl
-      not_own a (r ∷ rs) other are =
-          let apart = ap (bytes_eq (name_of a)) (own r (are r (contains_head r rs))) ∙ other in
-          let lease = is_newest r rs && lacks_lease granted r in
-          ap (λ (b : Bool). listed (b || lease) (record { revision = r; one_before = b; lease = lease }) (faults (Some r) rs))
-          (lacks_same compacted a r apart)
+      not_own a (r ∷ rs) other are = grind (arith, contains_head, lacks_same)
 
       filter_own : (b : Bool) (f : NameFaultView) (later : List NameFaultView) → is_of_name f ≡ true
           → filter is_of_name (listed b f later) ≡ listed b f (filter is_of_name later)
@@ -113,47 +90,31 @@ module _ (cmp : Key → Key → Ordering) (total : IsTotalOrder cmp) (ties : (a 
       are_own rs r has = (kept_from (is_named name) rs r has).1
 
       -- after a revision of another name there are none of this name, or none was before it
-      skip_own : (before r : RevisionView) (rs : List RevisionView) (b : Bool) → is_named name before ≡ b → is_named name r ≡ false
-          → ordered before r ≡ Less → IsBelow ordered r rs → faults (Some r) (named rs) ≡ faults (Some before) (named rs)
-      skip_own before r rs true is other less below =
-          let none = none_later before r rs is other less below in
-          ap (faults (Some r)) none ∙ sym (ap (faults (Some before)) none)
-      skip_own before r rs false is other less below = not_own r (named rs) other (are_own rs) ∙ sym (not_own before (named rs) is (are_own rs))
-
       skip : (before : Option RevisionView) (r : RevisionView) (rs : List RevisionView) → is_named name r ≡ false → BeforeAll before (r ∷ rs)
           → IsBelow ordered r rs → faults (Some r) (named rs) ≡ faults before (named rs)
       skip None r rs other all below = not_own r (named rs) other (are_own rs)
-      skip (Some before) r rs other all below = skip_own before r rs (is_named name before) refl other (all r (contains_head r rs)) below
-
-      name_step : (before : Option RevisionView) (r : RevisionView) (rs : List RevisionView) (b : Bool) → is_named name r ≡ b
-          → BeforeAll before (r ∷ rs) → Rises ordered (r ∷ rs)
-          → filter is_of_name (faults (Some r) rs) ≡ faults (Some r) (named rs)
-          → filter is_of_name (faults before (r ∷ rs)) ≡ faults before (cond b (r ∷ named rs) (named rs))
-      name_step before r rs true is all rises later =
-          let f = fault_of compacted granted before r rs in
-          filter_own (f.one_before || f.lease) f (faults (Some r) rs) is
-          ∙ ap (listed (f.one_before || f.lease) f) later
-          ∙ ap (λ (x : NameFaultView). listed (x.one_before || x.lease) x (faults (Some r) (named rs))) (fault_same before r rs is rises.0 rises.1)
-      name_step before r rs false other all rises later =
-          let f = fault_of compacted granted before r rs in
-          filter_other (f.one_before || f.lease) f (faults (Some r) rs) other
-          ∙ later
-          ∙ skip before r rs other all rises.0
+      skip (Some before) r rs other all below = elim (cases_Bool (is_named name before)) [
+        | inl is ↦ rw (none_later before r rs is other (all r (contains_head r rs)) below) refl
+        | inr is ↦ not_own r (named rs) other (are_own rs) ∙ sym (not_own before (named rs) is (are_own rs))
+      ]
 
       of_name : (before : Option RevisionView) (rs : List RevisionView) → BeforeAll before rs → Rises ordered rs
           → filter is_of_name (faults before rs) ≡ faults before (named rs)
       of_name before [] all rises = refl
-      of_name before (r ∷ rs) all rises = name_step before r rs (is_named name r) refl all rises (of_name (Some r) rs rises.0 rises.1)
+      of_name before (r ∷ rs) all rises =
+          let f = fault_of compacted granted before r rs in
+          let later = of_name (Some r) rs rises.0 rises.1 in
+          cond_both (is_named name r) _ _ (λ l. filter is_of_name (faults before (r ∷ rs)) ≡ faults before l)
+          (λ is.
+          filter_own (f.one_before || f.lease) f (faults (Some r) rs) is
+          ∙ ap (listed (f.one_before || f.lease) f) later
+          ∙ ap (λ (x : NameFaultView). listed (x.one_before || x.lease) x (faults (Some r) (named rs))) (fault_same before r rs is rises.0 rises.1))
+          (λ other. filter_other (f.one_before || f.lease) f (faults (Some r) rs) other ∙ later ∙ skip before r rs other all rises.0)
 
     -- ---- in the order of their names they are in the order of their keys
 
-    kept_named : (rs sorted : List RevisionView) → IsPermutation rs sorted → (r : RevisionView) → Contains (named sorted) r → Contains (named rs) r
-    kept_named rs sorted same r has =
-        let (there, passes) = kept_from (is_named name) sorted r has in
-        kept (is_named name) rs r (Contains-permutation sorted rs r (IsPermutation-sym rs sorted same) there) passes
-
-    sorted_named : (rs sorted : List RevisionView) → IsPermutation rs sorted → (r : RevisionView) → Contains (named rs) r → Contains (named sorted) r
-    sorted_named rs sorted same r has =
+    named_moved : (rs sorted : List RevisionView) → IsPermutation rs sorted → (r : RevisionView) → Contains (named rs) r → Contains (named sorted) r
+    named_moved rs sorted same r has =
         let (there, passes) = kept_from (is_named name) rs r has in
         kept (is_named name) sorted r (Contains-permutation rs sorted r same there) passes
 
@@ -167,14 +128,12 @@ module _ (cmp : Key → Key → Ordering) (total : IsTotalOrder cmp) (ties : (a 
         rises_once (named_total total) (named sorted) (named rs)
         (filter_rises ordered (is_named name) sorted up)
         (by_stored_key (named rs) (λ r has. (kept_from (is_named name) rs r has).1) (filter_rises stored_key_cmp (is_named name) rs rises))
-        (kept_named rs sorted same) (sorted_named rs sorted same)
+        (named_moved sorted rs (IsPermutation-sym rs sorted same)) (named_moved rs sorted same)
 
     -- the faults of a name, of revisions among which those of a name stand together
     pub faults_of : (compacted : Option ℕ) (granted : ℕ → Bool) (rs sorted : List RevisionView) → Rises stored_key_cmp rs → IsPermutation rs sorted → Rises ordered sorted
         → filter is_of_name (name_faults compacted granted None sorted) ≡ name_faults compacted granted None (named rs)
-    faults_of compacted granted rs sorted rises same up =
-        of_name compacted granted None sorted tt up
-        ∙ ap (name_faults compacted granted None) (same_named rs sorted rises same up)
+    faults_of compacted granted rs sorted rises same up = grind (arith, of_name, same_named)
 
 -- those of each name are all
 pub none_of_any : (fs : List NameFaultView) → ((name : Key) → filter (λ (f : NameFaultView). is_named name f.revision) fs ≡ []) → fs ≡ []

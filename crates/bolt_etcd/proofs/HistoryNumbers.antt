@@ -1,10 +1,10 @@
 -- In a history no number is missing, whatever a compaction removed up to its transaction.
-use Rattle.std.proofs.Common.{◌≡◌, ◌∙◌, ◌<◌, ◌≤◌, ◌+◌, ◌-◌, ◌++◌, inl, inr, ℕ, List, [], ◌∷◌, map, max, nat_lt, ◌==◌, Some, refl, ap, arith}
+use Rattle.std.proofs.Common.{◌≡◌, ◌∙◌, ◌<◌, ◌≤◌, ◌+◌, ◌-◌, inl, inr, ℕ, List, [], ◌∷◌, map, max, nat_lt, ◌==◌, Some, refl, ap, arith}
 use Rattle.std.proofs.lemmas.Bool.{cases_lt, cond-false, cond-true, eq-eqb, le-ltb, lt-ltb, ne_eqb}
 use Rattle.std.specs.Option.{option_to_list}
 use Rattle.bolt_etcd.specs.{Histories.State, Histories.after, Revisions.RevisionView}
 use Rattle.bolt_etcd.specs.MissingNumbers.{is_of_later, keys_above, missing_after, missing_before, missing_numbers, revisions_between, transactions_between}
-use Rattle.bolt_etcd.specs.{declared.missing.Missing.Missing, declared.revision_key.RevisionKey.RevisionKey}
+use Rattle.bolt_etcd.specs.{declared.revision_key.RevisionKey.RevisionKey}
 use Rattle.bolt_etcd.specs.declared.missing.Missing.TheVariants.{Revisions, Transactions}
 use Rattle.bolt_etcd.proofs.HistorySteps.{Goes, IsNext}
 use Rattle.bolt_tree.proofs.Exports.{drops, keeps}
@@ -22,10 +22,7 @@ none_same main sub k m s = cond-true (k.main == main) _ _ (eq-eqb k.main main m)
 
 none_later : (main sub : ℕ) (k : RevisionKey) → k.main ≡ main + 1 → k.sub ≡ 0 → missing_before main sub k ≡ []
 unfolding missing_before
-none_later main sub k m s =
-    cond-false (k.main == main) _ _ (ne_eqb k.main main (λ e. omega (arith, m, e)))
-    ∙ ap (λ (l : List Missing). l ++ option_to_list (revisions_between k.main 0 k.sub)) (no_transaction main k.main (omega (arith, m)))
-    ∙ no_revision k.main 0 k.sub (omega (arith, s))
+none_later main sub k m s = grind (arith, cond-false, ne_eqb, no_transaction, no_revision)
 
 none_before : (main sub : ℕ) (k : RevisionKey) → IsNext main sub k → missing_before main sub k ≡ []
 none_before main sub k (inl (m, s)) = none_same main sub k m s
@@ -42,15 +39,11 @@ module _ (compacted : ℕ) where
   below r rs le = ap keys (drops (is_of_later compacted) (r ∷ rs) rs r refl (le-ltb compacted r.key.main le))
 
   next_main : (main sub : ℕ) (k : RevisionKey) → IsNext main sub k → main ≤ k.main
-  next_main main sub k (inl (m, s)) = omega (arith, m)
-  next_main main sub k (inr (some, m, s)) = omega (arith, m)
+  next_main main sub k next = grind arith
 
   one_none : (main sub : ℕ) (r : RevisionView) (rs : List RevisionView) → compacted < r.key.main → missing_before main sub r.key ≡ []
       → missing_after r.key.main (r.key.sub + 1) (keys_above compacted rs) ≡ [] → missing_after main sub (keys_above compacted (r ∷ rs)) ≡ []
-  one_none main sub r rs lt none later =
-      ap (missing_after main sub) (above r rs lt)
-      ∙ ap (λ (l : List Missing). l ++ missing_after r.key.main (r.key.sub + 1) (keys_above compacted rs)) none
-      ∙ later
+  one_none main sub r rs lt none later = grind arith
 
   none_after : (state : State) (main sub : ℕ) (rs : List RevisionView) → Goes state main sub rs → compacted < main
       → missing_after main sub (keys_above compacted rs) ≡ []
@@ -65,17 +58,10 @@ module _ (compacted : ℕ) where
   Begins main sub = (0 < main) × (main ≤ max compacted 1 + 1) × (compacted < main → sub ≡ 0)
 
   begins_next : (main sub : ℕ) (k : RevisionKey) → Begins main sub → IsNext main sub k → Begins k.main k.sub
-  begins_next main sub k (some, le, first) (inl (m, s)) = (omega (arith, m), omega (arith, m, le), λ lt. s ∙ first (omega (arith, m, lt)))
-  begins_next main sub k (some, le, first) (inr (more, m, s)) = elim (cases_lt compacted main) [
-    | inl lt ↦ absurd (let e = first lt in omega (arith, e, more))
-    | inr low ↦ (omega (arith, m), omega (arith, m, low), λ lt. s)
-  ]
+  begins_next main sub k begins next = grind arith
 
   begins_up : (k : RevisionKey) → Begins k.main k.sub → compacted < k.main → missing_before (max compacted 1) 0 k ≡ []
-  begins_up k (some, le, first) lt = elim (cases_lt (max compacted 1) k.main) [
-    | inl up ↦ none_later (max compacted 1) 0 k (omega (arith, le, up)) (first lt)
-    | inr low ↦ none_same (max compacted 1) 0 k (omega (arith, low, lt, some)) (first lt)
-  ]
+  begins_up k (some, le, first) lt = grind (arith, cases_lt, none_later, none_same)
 
   none_from : (state : State) (main sub : ℕ) (rs : List RevisionView) → Goes state main sub rs → Begins main sub
       → missing_after (max compacted 1) 0 (keys_above compacted rs) ≡ []

@@ -1,8 +1,8 @@
 -- A history, revision by revision: each is written upon what the earlier ones left, and is the next of its transaction or the first of the next one.
-use Rattle.std.proofs.Common.{◌≡◌, ◌∙◌, ◌<◌, ◌≤◌, ◌+◌, ◌⊎◌, inl, inr, ℕ, List, [], ◌∷◌, ◌++◌, refl, sym, ap, subst, arith}
+use Rattle.std.proofs.Common.{◌≡◌, ◌∙◌, ◌<◌, ◌≤◌, ◌+◌, ◌⊎◌, inl, inr, ℕ, false, List, [], ◌∷◌, ◌++◌, refl, sym, ap, subst, arith}
 use Rattle.std.proofs.lemmas.Cmp.{nat_cmp_total, tied_itself}
-use Rattle.std.specs.{List.Contains, Ordering.bool_cmp, Ordering.nat_cmp, Ordering.ordering_then, declared.cmp.Ordering.Ordering}
-use Rattle.std.specs.declared.cmp.Ordering.TheVariants.{Equal, Greater, Less}
+use Rattle.std.specs.{List.Contains, Ordering.nat_cmp, Ordering.ordering_then, declared.cmp.Ordering.Ordering}
+use Rattle.std.specs.declared.cmp.Ordering.TheVariants.{Less}
 use Rattle.bolt_tree.proofs.Exports.{contains_cases, contains_none, rises_as}
 use Rattle.bolt_tree.specs.Order.{Rises}
 use Rattle.bolt_etcd.specs.Histories.{State, Transaction, Write, after, after_all, history, history_from, nothing, revision_by, written}
@@ -30,29 +30,19 @@ more_go state main sub (w ∷ ws) rest (can, more) go = (
   more_go (after (revision_by state main sub w) state) main (sub + 1) ws rest more (λ n le. go n (omega (arith, le))),
 )
 
-next_go : (state : State) (main sub : ℕ) (ts : List Transaction) → 0 < sub → CanFollow state (main + 1) ts
-    → Goes state main sub (history_from state (main + 1) ts)
-next_go state main sub [] some can = tt
-next_go state main sub ([] ∷ later) some can = absurd (let lt = can.0 in omega (arith, lt))
-next_go state main sub ((w ∷ ws) ∷ later) some (lt, (can, more), rest) = (
-  inr (some, refl, refl),
+from_go : (state : State) (main sub at : ℕ) (ts : List Transaction) → IsNext main sub (record { main = at; sub = 0; deleted = false }) → CanFollow state at ts
+    → Goes state main sub (history_from state at ts)
+from_go state main sub at [] next can = tt
+from_go state main sub at ([] ∷ later) next can = absurd (let lt = can.0 in omega (arith, lt))
+from_go state main sub at ((w ∷ ws) ∷ later) next (lt, (can, more), rest) = (
+  next,
   (w, can, refl),
-  more_go (after (revision_by state (main + 1) 0 w) state) (main + 1) 1 ws _ more
-      (λ n le. next_go (after_all (written state (main + 1) 0 (w ∷ ws)) state) (main + 1) n later (omega (arith, le)) rest),
-)
-
-first_go : (state : State) (main : ℕ) (ts : List Transaction) → CanFollow state main ts → Goes state main 0 (history_from state main ts)
-first_go state main [] can = tt
-first_go state main ([] ∷ later) can = absurd (let lt = can.0 in omega (arith, lt))
-first_go state main ((w ∷ ws) ∷ later) (lt, (can, more), rest) = (
-  inl (refl, refl),
-  (w, can, refl),
-  more_go (after (revision_by state main 0 w) state) main 1 ws _ more
-      (λ n le. next_go (after_all (written state main 0 (w ∷ ws)) state) main n later (omega (arith, le)) rest),
+  more_go (after (revision_by state at 0 w) state) at 1 ws _ more
+      (λ n le. from_go (after_all (written state at 0 (w ∷ ws)) state) at n (at + 1) later (inr (omega (arith, le), refl, refl)) rest),
 )
 
 pub goes : (ts : List Transaction) → ArePossible ts → Goes nothing 2 0 (history ts)
-goes ts possible = first_go nothing 2 ts possible.allowed
+goes ts possible = from_go nothing 2 0 2 ts (inl (refl, refl)) possible.allowed
 
 -- ---- what holds of each revision that is written
 
@@ -71,14 +61,10 @@ abbrev IsFrom : (main sub : ℕ) → RevisionView → Type 0
 IsFrom main sub r = (main < r.key.main) ⊎ ((r.key.main ≡ main) × (sub ≤ r.key.sub))
 
 from_next : (main sub : ℕ) (k : RevisionKey) (r : RevisionView) → IsNext main sub k → IsFrom k.main k.sub r → IsFrom main sub r
-from_next main sub k r (inl (m, s)) (inl lt) = inl (omega (arith, m, lt))
-from_next main sub k r (inl (m, s)) (inr (e, le)) = inr (e ∙ m, omega (arith, s, le))
-from_next main sub k r (inr (some, m, s)) (inl lt) = inl (omega (arith, m, lt))
-from_next main sub k r (inr (some, m, s)) (inr (e, le)) = inl (omega (arith, m, e))
+from_next main sub k r next from = grind arith
 
 from_step : (k : RevisionKey) (r : RevisionView) → IsFrom k.main (k.sub + 1) r → IsFrom k.main k.sub r
-from_step k r (inl lt) = inl lt
-from_step k r (inr (e, le)) = inr (e, omega (arith, le))
+from_step k r from = grind arith
 
 pub from : (state : State) (main sub : ℕ) (rs : List RevisionView) → Goes state main sub rs → (r : RevisionView) → Contains rs r → IsFrom main sub r
 from state main sub [] go r has = absurd (contains_none r has)
@@ -103,14 +89,10 @@ pairs_rise state main sub (r ∷ rs) (next, is, go) = (
 )
 
 number_less : (o p q : Ordering) → ordering_then o p ≡ Less → ordering_then o (ordering_then p q) ≡ Less
-number_less Less p q is = refl
-number_less Equal p q is = ap (λ (x : Ordering). ordering_then x q) is
-number_less Greater p q is = is
+number_less o p q is = grind arith
 
 pub numbers_rise : (rs : List RevisionView) → Rises pair_cmp rs → Rises number_cmp rs
-numbers_rise rs =
-    rises_as pair_cmp number_cmp rs (λ a b has also less'.
-    number_less (nat_cmp a.key.main b.key.main) (nat_cmp a.key.sub b.key.sub) (bool_cmp a.key.deleted b.key.deleted) less')
+numbers_rise rs = grind (arith, rises_as, number_less)
 
 pub history_rises : (ts : List Transaction) → ArePossible ts → Rises pair_cmp (history ts)
 history_rises ts possible = pairs_rise nothing 2 0 (history ts) (goes ts possible)
@@ -128,6 +110,4 @@ pub same_order : (ts : List Transaction) → ArePossible ts → (a b : RevisionV
 same_order ts possible a b has also = rw (stored_key_is ts possible a has, stored_key_is ts possible b also) (spellings_cmp a.key b.key (possible.fits a has) (possible.fits b also))
 
 pub stored_keys_rise : (ts : List Transaction) → ArePossible ts → Rises stored_key_cmp (history ts)
-stored_keys_rise ts possible =
-    rises_as number_cmp stored_key_cmp (history ts) (λ a b has also less'. same_order ts possible a b has also ∙ less')
-    (numbers_rise (history ts) (history_rises ts possible))
+stored_keys_rise ts possible = grind (arith, rises_as, same_order, numbers_rise, history_rises)

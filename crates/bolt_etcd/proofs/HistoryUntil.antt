@@ -4,7 +4,7 @@ use Rattle.std.proofs.{lemmas.Bool.cases_lt, lemmas.Bool.le-ltb, lemmas.Bool.lt-
 use Rattle.std.specs.List.{Contains}
 use Rattle.bolt_check.specs.Keys.{Key}
 use Rattle.bolt_tree.proofs.Exports.{filter_all, filter_none, contains_cases, contains_none}
-use Rattle.bolt_etcd.specs.Histories.{State, Transaction, Write, after, after_all, history, history_from, nothing, revision_by, state_at, written}
+use Rattle.bolt_etcd.specs.Histories.{State, Transaction, Write, after, after_all, history, history_from, revision_by, state_at, written}
 use Rattle.bolt_etcd.specs.{Newest.is_until, Newest.newest, Newest.until, Revisions.RevisionView}
 use Rattle.bolt_etcd.proofs.NameHistories.{held_of, newest_held}
 
@@ -51,9 +51,7 @@ until_from at state main (t ∷ later) = elim (cases_lt at main) [
 ]
 
 until_history : (at : ℕ) (ts : List Transaction) → until at (history ts) ≡ history (take (at - 1) ts)
-until_history at ts =
-    let same : at + 1 - 2 ≡ at - 1 = omega arith in
-    until_from at nothing 2 ts ∙ ap (λ (n : ℕ). history (take n ts)) same
+until_history at ts = grind (arith, until_from)
 
 -- after a transaction a name holds the newest of its revisions up to then
 pub held_at : (at : ℕ) (ts : List Transaction) (name : Key) → state_at at ts name ≡ held_of (newest name (until at (history ts)))

@@ -1,10 +1,10 @@
 -- What a compaction keeps of one name: all from a revision on.
-use Rattle.std.proofs.Common.{◌≡◌, ◌∙◌, ◌<◌, ◌≤◌, ◌++◌, inl, inr, ℕ, Bool, true, false, List, [], ◌∷◌, filter, Option, Some}
+use Rattle.std.proofs.Common.{arith, ◌≡◌, ◌∙◌, ◌<◌, ◌≤◌, ◌++◌, inl, inr, ℕ, Bool, false, List, [], ◌∷◌, filter, Option, Some}
 use Rattle.std.proofs.Common.{None, refl, sym, ap, subst}
-use Rattle.std.proofs.{Math.Bool.and_comm, lemmas.Bool.cases_lt, lemmas.Bool.cond-false, lemmas.List.append-nil, lemmas.List.Elements.Contains-append_left, lemmas.List.Elements.filter-append}
+use Rattle.std.proofs.{lemmas.Bool.cases_Bool, lemmas.Bool.cases_lt, lemmas.Bool.cond-false, lemmas.List.append-nil, lemmas.List.Elements.Contains-append_left, lemmas.List.Elements.filter-append}
 use Rattle.std.specs.{Cmp.Lexicographic.same_text, List.Contains, List.last_or}
 use Rattle.bolt_check.specs.Keys.{Key}
-use Rattle.bolt_tree.proofs.Exports.{filter_all, filter_none, filter_same, contains_cases, contains_head, contains_none, contains_tail, filter_both, filter_rises, kept_from, filters_swap}
+use Rattle.bolt_tree.proofs.Exports.{filter_all, filter_none, contains_cases, contains_head, contains_none, contains_tail, filter_rises, kept_from, filters_swap}
 use Rattle.bolt_tree.specs.Order.{Rises}
 use Rattle.bolt_etcd.specs.{Compactions.IsCompaction, Compactions.kept_revisions, Current.stored_key_cmp, Histories.Transaction, Histories.history}
 use Rattle.bolt_etcd.specs.{Newest.is_named, Newest.is_until, Newest.newest, Newest.until, Revisions.RevisionView, Revisions.name_of, Possible.ArePossible}
@@ -20,42 +20,36 @@ module _ (compacted : ℕ) (ts : List Transaction) (keeps : RevisionView → Boo
     left : filter keeps rs ≡ rest
     dropped : (r : RevisionView) → Contains removed r → keeps r ≡ false
 
-  split_step : (r : RevisionView) (rs : List RevisionView) (b : Bool) → keeps r ≡ b
-      → (keeps r ≡ true → (s : RevisionView) → Contains rs s → keeps s ≡ true)
-      → (removed : List RevisionView) × (rest : List RevisionView) × IsSplit rs removed rest
-      → (removed : List RevisionView) × (rest : List RevisionView) × IsSplit (r ∷ rs) removed rest
-  split_step r rs true is all more = (
-    [],
-    r ∷ rs,
-    record {
-      joined = refl;
-      left = filter_all keeps (r ∷ rs) (λ s has. elim (contains_cases r s rs has) [
-        | inl same ↦ ap keeps (sym same) ∙ is
-        | inr later ↦ all is s later
-      ]);
-      dropped = λ s none. absurd (contains_none s none);
-    },
-  )
-  split_step r rs false is all (removed, rest, more) = (
-    r ∷ removed,
-    rest,
-    record {
-      joined = ap (λ (l : List RevisionView). r ∷ l) more.joined;
-      left = cond-false (keeps r) _ _ is ∙ more.left;
-      dropped = λ s has. elim (contains_cases r s removed has) [ inl same ↦ ap keeps (sym same) ∙ is | inr later ↦ more.dropped s later ];
-    },
-  )
-
   split : (rs : List RevisionView) → Rises stored_key_cmp rs → ((r : RevisionView) → Contains rs r → Contains (history ts) r × (name_of r ≡ name))
       → (removed : List RevisionView) × (rest : List RevisionView) × IsSplit rs removed rest
   split [] rise are = ([], [], record { joined = refl; left = refl; dropped = λ r none. absurd (contains_none r none) })
-  split (r ∷ rs) rise are =
-      split_step r rs (keeps r) refl
-      (λ is s has.
-      let (first, named) = are r (contains_head r rs) in
-      let (second, also) = are s (contains_tail r s rs has) in
-      compaction.oldest_first r s first second (named ∙ sym also) (rise.0 s has) is)
-      (split rs rise.1 (λ s has. are s (contains_tail r s rs has)))
+  split (r ∷ rs) rise are = elim (cases_Bool (keeps r)) [
+    | inl is ↦ (
+      [],
+      r ∷ rs,
+      record {
+        joined = refl;
+        left = filter_all keeps (r ∷ rs) (λ s has. elim (contains_cases r s rs has) [
+          | inl same ↦ ap keeps (sym same) ∙ is
+          | inr later ↦
+              let (first, named) = are r (contains_head r rs) in
+              let (second, also) = are s has in
+              compaction.oldest_first r s first second (named ∙ sym also) (rise.0 s later) is
+        ]);
+        dropped = λ s none. absurd (contains_none s none);
+      },
+    )
+    | inr is ↦
+        let (removed, rest, more) = split rs rise.1 (λ s has. are s (contains_tail r s rs has)) in (
+          r ∷ removed,
+          rest,
+          record {
+            joined = ap (λ (l : List RevisionView). r ∷ l) more.joined;
+            left = cond-false (keeps r) _ _ is ∙ more.left;
+            dropped = λ s has. elim (contains_cases r s removed has) [ inl same ↦ ap keeps (sym same) ∙ is | inr later ↦ more.dropped s later ];
+          },
+        )
+  ]
 
   -- a first part is removed, up to the compaction at most; if all that is kept_revisions is later, what was removed ends in a deletion or is nothing
   pub record IsCut (removed rest : List RevisionView) : Type 0 where
@@ -90,14 +84,7 @@ module _ (compacted : ℕ) (ts : List Transaction) (keeps : RevisionView → Boo
     newest_removed : ((r : RevisionView) → Contains rest r → compacted < r.key.main)
         → newest name (until compacted (history ts)) ≡ last_or None removed
     unfolding newest
-    newest_removed later =
-        ap (last_or None)
-        (filters_swap (is_named name) (is_until compacted) (history ts)
-        ∙ ap (filter (is_until compacted)) is.joined
-        ∙ filter-append (is_until compacted) removed rest
-        ∙ ap (λ (l : List RevisionView). l ++ filter (is_until compacted) rest) until_removed
-        ∙ ap (λ (l : List RevisionView). removed ++ l) (until_rest later)
-        ∙ append-nil removed)
+    newest_removed later = grind (arith, filters_swap, filter-append, until_removed, until_rest, append-nil)
 
     none_left : (o : Option RevisionView) → ((r : RevisionView) → Contains rest r → compacted < r.key.main) → held_of (last_or None removed) ≡ o
         → o ≡ None

@@ -29,19 +29,15 @@ digits_cmp unit a b c d low high = elim (cases_order a c) [
         | inr (inr gt) ↦ greater (a * unit + b) (c * unit + d) (omega (arith, top, gt)) ∙ sym (greater b d gt)
       ]))
   | inr (inl lt) ↦ (
-      let room : (a + 1) * unit ≤ c * unit = mul-le-mul_right unit (omega arith) in
-      let one : (a + 1) * unit ≡ a * unit + unit = grind arith in
-      rw (less a c lt) (less (a * unit + b) (c * unit + d) (omega (arith, room, one))))
+      let room : suc a * unit ≤ c * unit = mul-le-mul_right unit lt in
+      rw (less a c lt) (less (a * unit + b) (c * unit + d) (omega (arith, room))))
   | inr (inr gt) ↦ (
-      let room : (c + 1) * unit ≤ a * unit = mul-le-mul_right unit (omega arith) in
-      let one : (c + 1) * unit ≡ c * unit + unit = grind arith in
-      rw (greater a c gt) (greater (a * unit + b) (c * unit + d) (omega (arith, room, one))))
+      let room : suc c * unit ≤ a * unit = mul-le-mul_right unit gt in
+      rw (greater a c gt) (greater (a * unit + b) (c * unit + d) (omega (arith, room))))
 ]
 
 then_assoc : (o p q : Ordering) → ordering_then o (ordering_then p q) ≡ ordering_then (ordering_then o p) q
-then_assoc Less p q = refl
-then_assoc Equal p q = refl
-then_assoc Greater p q = refl
+then_assoc o p q = grind arith
 
 -- the highest of n + 1 bytes, and the others
 split : (n x : ℕ) → x % 256 ^ suc n ≡ byte_at n x * 256 ^ n + x % 256 ^ n

@@ -1,9 +1,9 @@
 -- How revision keys are spelled: what is spelled is read, and what is read is spelled so.
-use Rattle.std.proofs.Common.{◌≡◌, ◌∙◌, ◌<◌, ◌≤◌, ◌^◌, ◌+◌, ℕ, Bool, true, false, List, [], ◌∷◌, ◌++◌, Some, None, drop, take, length, slice_index, nat_lt, lit<, refl, sym, ap, subst, arith, inl, inr, ◌==◌, ◌&&◌, if◌then◌else◌}
+use Rattle.std.proofs.Common.{◌≡◌, ◌∙◌, ◌<◌, ◌≤◌, ◌^◌, ◌+◌, ℕ, Bool, true, false, List, [], ◌∷◌, ◌++◌, Some, None, drop, take, length, slice_index, nat_lt, lit<, refl, sym, ap, subst, arith, ◌==◌, ◌&&◌, if◌then◌else◌}
 use Rattle.std.proofs.lemmas.Bool.{and_from, and_parts, cases_lt, cond-true, eq-eqb, eqb-true, lt-ltb, ltb-true}
 use Rattle.std.proofs.lemmas.List.{drop-drop, drop_all, drop_at, drop_more, get_or-drop, get_or-take, get_or_at, get_or_past, length-append, length-drop, length-take-le, take-append-drop}
 use Rattle.std.proofs.{lemmas.Nat.be_bytes_8, lemmas.Option.cond_some}
-use Rattle.byteorder.specs.{Endian.big_bytes, Endian.big_number, Numbers.big_from-take, Numbers.big_number-reads_back, Numbers.length-bytes_high_first}
+use Rattle.byteorder.specs.{Endian.big_bytes, Endian.big_number, Numbers.big_number-reads_back, Numbers.length-bytes_high_first}
 use Rattle.bolt_format.specs.Bytes.{IsBytes}
 use Rattle.bolt_etcd.specs.{RevisionKeys.IsSpelled, RevisionKeys.numbers, RevisionKeys.revision_key, RevisionKeys.spelling, declared.revision_key.RevisionKey.RevisionKey}
 
@@ -11,9 +11,7 @@ use Rattle.bolt_etcd.specs.{RevisionKeys.IsSpelled, RevisionKeys.numbers, Revisi
 
 chosen : (k : RevisionKey) (mark main sub : ℕ) → mark ≡ 0x5F → main ≡ k.main → sub ≡ k.sub → IsSpelled k
     → (if (mark == 0x5F) && nat_lt main (2 ^ 63) && nat_lt sub (2 ^ 63) then Some (record { main = main; sub = sub; deleted = k.deleted }) else None) ≡ Some k
-chosen k mark main sub marked is_main is_sub (low, high) =
-    cond-true _ _ _ (and_from _ _ (and_from _ _ (eq-eqb mark 0x5F marked) (lt-ltb main (2 ^ 63) (omega arith))) (lt-ltb sub (2 ^ 63) (omega arith)))
-    ∙ rw (is_main, is_sub) refl
+chosen k mark main sub marked is_main is_sub (low, high) = grind (arith, cond-true, and_from, eq-eqb, lt-ltb)
 
 module _ (m s end : List ℕ) (eight : length m ≡ 8) (other : length s ≡ 8) where
   long : length (m ++ (0x5F ∷ (s ++ end))) ≡ 17 + length end
@@ -72,15 +70,10 @@ parts_of bytes deleted k is =
     )
 
 are_bytes : (n : ℕ) (xs : List ℕ) → n ≤ length xs → IsBytes xs → IsBytes (take n xs)
-are_bytes n xs le h i = elim (cases_lt i n) [
-  | inl lt ↦ rw (get_or-take n xs i 0 lt) (h i)
-  | inr ge ↦ rw (get_or_past (take n xs) i 0 (omega (arith, length-take-le n xs le))) (lit< tt)
-]
+are_bytes n xs le h i = grind (arith, cases_lt, get_or-take, get_or_past, length-take-le, lit<)
 
 eight_back : (xs : List ℕ) → IsBytes xs → 8 ≤ length xs → take 8 xs ≡ big_bytes 8 (big_number 8 xs)
-eight_back xs h le =
-    let same : big_number 8 xs ≡ big_number 8 (take 8 xs) = sym (big_from-take 0 8 8 xs (omega arith)) in
-    sym (be_bytes_8 (take 8 xs) (big_number 8 xs) (length-take-le 8 xs le) (are_bytes 8 xs le h) (same ∙ omega arith))
+eight_back xs h le = grind (arith, be_bytes_8, length-take-le, are_bytes)
 
 spelled_by : (bytes : List ℕ) (k : RevisionKey) → IsBytes bytes → 17 ≤ length bytes → Parts bytes k
     → bytes ≡ big_bytes 8 k.main ++ (0x5F ∷ (big_bytes 8 k.sub ++ drop 17 bytes))
@@ -103,24 +96,8 @@ by_tests : (bytes : List ℕ) (k : RevisionKey) (plain deleted : Bool) → IsByt
     → ((length bytes == 18) && (slice_index bytes 17 == 0x74)) ≡ deleted
     → (if plain then numbers bytes false else if deleted then numbers bytes true else None) ≡ Some k → IsReadAs bytes k
 unfolding IsReadAs spelling
-by_tests bytes k true deleted h at17 at18 is =
-    let (p, flag) = parts_of bytes false k is in
-    let long = eqb-true _ _ at17 in (
-      spelled_by bytes k h (omega arith) p
-          ∙ ap (λ (xs : List ℕ). big_bytes 8 k.main ++ (0x5F ∷ (big_bytes 8 k.sub ++ xs))) (drop_all 17 bytes (omega arith)
-          ∙ ap (λ (b : Bool). if b then 0x74 ∷ [] else []) flag),
-      p.spelled,
-    )
-by_tests bytes k false true h at17 at18 is =
-    let (p, flag) = parts_of bytes true k is in
-    let (len, mark) = and_parts (length bytes == 18) (slice_index bytes 17 == 0x74) at18 in
-    let long = eqb-true _ _ len in
-    let tail : drop 17 bytes ≡ 0x74 ∷ [] =
-    drop_more bytes 17 0 (omega arith) ∙ ap (λ (b : ℕ). b ∷ drop 18 bytes) (eqb-true _ _ mark) ∙ ap (λ (xs : List ℕ). 0x74 ∷ xs) (drop_all 18 bytes (omega arith)) in (
-      spelled_by bytes k h (omega arith) p
-          ∙ ap (λ (xs : List ℕ). big_bytes 8 k.main ++ (0x5F ∷ (big_bytes 8 k.sub ++ xs))) (tail ∙ ap (λ (b : Bool). if b then 0x74 ∷ [] else []) flag),
-      p.spelled,
-    )
+by_tests bytes k true deleted h at17 at18 is = grind (arith, eqb-true, spelled_by, drop_all)
+by_tests bytes k false true h at17 at18 is = grind (arith, and_parts, slice_index, eqb-true, drop_more, drop_all, spelled_by)
 by_tests bytes k false false h at17 at18 is = cc
 
 pub read_spelled : (bytes : List ℕ) (k : RevisionKey) → IsBytes bytes → revision_key bytes ≡ Some k → (bytes ≡ spelling k) × IsSpelled k

@@ -24,20 +24,12 @@ module _ {S : Type 0} {sink : Ghosts S} {old mid : S} {all left : List (List ℕ
   -- some lines more,
   pub listed_more : {new : S} (these rest : List (List ℕ)) (more : ℕ) → left ≡ these ++ rest → Wrote sink mid new (concat these) whole → more ≡ counted n (length these)
       → Listed sink old new all rest more
-  listed_more these rest more first some next = record {
-    put = front_more listed.put some (ap concat first ∙ concat-append these rest);
-    number = ap (λ (m : ℕ). counted m (length rest)) next ∙ counted_more n (length these) (length rest) ∙ ap (counted n) (sym (ap length first ∙ length-append these rest)) ∙ listed.number;
-    fits = omega (arith, next);
-  }
+  listed_more these rest more first some next = grind (arith, front_more, concat-append, counted_more, length-append)
 
   -- or one
   pub listed_one : {new : S} (line : List ℕ) (rest : List (List ℕ)) (more : ℕ) → left ≡ line ∷ rest → Wrote sink mid new line whole → more ≡ counted n 1
       → Listed sink old new all rest more
-  listed_one line rest more first one next = record {
-    put = front_more listed.put one (ap concat first);
-    number = ap (λ (m : ℕ). counted m (length rest)) next ∙ counted_more n 1 (length rest) ∙ ap (counted n) (sym (ap length first ∙ omega arith)) ∙ listed.number;
-    fits = omega (arith, next);
-  }
+  listed_one line rest more first one next = listed_more (line ∷ []) rest more first (Wrote-same (sym (append-nil line)) one) next
 
   pub listed_faults : {B : Type 0} {new : S} (these rest : List (List ℕ)) (result : Result B SinkFault) → left ≡ these ++ rest → Wrote sink mid new (concat these) broken → IsErr result
       → Wrote sink old new (concat all) (ending result)
@@ -51,11 +43,7 @@ module _ {S : Type 0} {sink : Ghosts S} {old mid : S} {all left : List (List ℕ
   listed_whole none = front_whole listed.put (ap concat none)
 
   pub listed_number : left ≡ [] → n ≡ counted 0 (length all)
-  listed_number none =
-      let fits = listed.fits in
-      let last : counted n 0 ≡ counted 0 (length all) = ap (λ (l : List (List ℕ)). counted n (length l)) (sym none) ∙ listed.number in
-      let small : n ≡ counted n 0 = omega (arith, fits) in
-      small ∙ last
+  listed_number none = omega (arith, ap (λ (l : List (List ℕ)). counted n (length l)) none, listed.number, listed.fits)
 
 -- ---- a fault that was passed on
 
@@ -74,11 +62,7 @@ counted_two a b x y n is also sum = let long = length-append a b in omega (arith
 pub counted_three : (a b c : List (List ℕ)) (x y z m n : ℕ) → x ≡ counted 0 (length a) → y ≡ counted 0 (length b) → z ≡ counted 0 (length c) → m ≡ counted x y → n ≡ counted m z
     → n ≡ counted 0 (length (a ++ (b ++ c)))
 counted_three a b c x y z m n is also last sum more =
-    let two = counted_two a b x y m is also sum in
-    let long = length-append a b in
-    let inner = length-append b c in
-    let outer = length-append a (b ++ c) in
-    omega (arith, two, last, more, long, inner, outer)
+    omega (arith, counted_two a b x y m is also sum, length-append a b, length-append b c, length-append a (b ++ c))
 
 -- ---- a list of texts
 

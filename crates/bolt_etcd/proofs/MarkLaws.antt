@@ -1,13 +1,8 @@
 -- A mark is a record without fields, and no revision.
-use Rattle.std.proofs.Common.{◌≡◌, ◌∙◌, ℕ, Bool, true, List, [], ◌∷◌, ◌==◌, length, not, Option, Some, None, refl, ap}
-use Rattle.std.proofs.lemmas.Bool.{and_parts, cond-true, eqb-true, not-true}
+use Rattle.std.proofs.Common.{arith, ◌≡◌, ◌∙◌, ℕ, true, List, [], ◌==◌, length, not, Option, Some, None, refl, ap}
+use Rattle.std.proofs.{lemmas.Bool.and_parts, lemmas.Bool.cond-true, lemmas.Bool.eqb-true, lemmas.Bool.not-true, lemmas.List.nil_from_length}
 use Rattle.bolt_etcd.specs.{Numbered.numbered_in, Others.other_at, Others.other_by, Records.empty, Records.record_of, RevisionKeys.revision_key, RevisionMarks.is_mark}
-use Rattle.bolt_etcd.specs.{Revisions.RevisionView, Revisions.record_content, Revisions.record_under, Revisions.revision_in, Wire.◌>>=◌, declared.revision_key.RevisionKey.RevisionKey}
-use Rattle.bolt_etcd.proofs.OtherCounts.{view}
-
-no_bytes : (value : List ℕ) → length value ≡ 0 → value ≡ []
-no_bytes [] none = refl
-no_bytes (b ∷ bytes) none = cc
+use Rattle.bolt_etcd.specs.{Revisions.revision_in, declared.revision_key.RevisionKey.RevisionKey}
 
 no_fields : record_of [] ≡ Some empty
 unfolding record_of
@@ -18,21 +13,13 @@ module _ (key value : List ℕ) (k : RevisionKey) (read : revision_key key ≡ S
   parts = and_parts (not k.deleted) (length value == 0) mark
 
   is_empty : record_of value ≡ Some empty
-  is_empty = ap record_of (no_bytes value (eqb-true (length value) 0 parts.1)) ∙ no_fields
+  is_empty = ap record_of (nil_from_length value (eqb-true (length value) 0 parts.1)) ∙ no_fields
 
   pub mark_is_no_revision : revision_in key value ≡ None
-  mark_is_no_revision =
-      ap (λ (o : Option RevisionKey). o >>= λ one. view key one (record_under one value)) read
-      ∙ ap (view key k) (cond-true (is_mark k value) None (record_of value) mark)
+  mark_is_no_revision = grind (arith, cond-true)
 
   pub mark_is_no_other : other_by key (Some value) ≡ None
   mark_is_no_other = ap (λ (o : Option RevisionKey). other_at key o (record_of value)) read ∙ ap (other_at key (Some k)) is_empty
 
-  abbrev without_fields : Bool → Option RevisionView
-  without_fields deleted = Some (record { stored_key = key; key = k; content = record_content deleted empty })
-
   pub mark_has_number : numbered_in key value ≡ Some (record { stored_key = key; key = k; content = empty })
-  mark_has_number =
-      ap (λ (o : Option RevisionKey). o >>= λ one. view key one (record_of value)) read
-      ∙ ap (view key k) is_empty
-      ∙ ap without_fields (not-true k.deleted parts.0)
+  mark_has_number = grind (arith, is_empty, not-true)

@@ -24,9 +24,7 @@ within_leaves : (n : ℕ) (bytes : List ℕ) → Leaves (length bytes) (varint_w
 unfolding varint_within
 within_leaves zero bytes = tt
 within_leaves (suc n) [] = tt
-within_leaves (suc n) (b ∷ bytes) =
-    leaves_if (length (b ∷ bytes)) (nat_lt b 128) _ _ (omega arith)
-    (leaves_then (length (b ∷ bytes)) (varint_within n bytes) _ (leaves_more (length bytes) _ _ (omega arith) (within_leaves n bytes)) (λ x lt. lt))
+within_leaves (suc n) (b ∷ bytes) = grind (arith, within_leaves n bytes)
 
 varint_leaves : (n : ℕ) (bytes : List ℕ) → length bytes ≤ n → Leaves n (varint bytes)
 unfolding varint

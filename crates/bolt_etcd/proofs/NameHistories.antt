@@ -1,6 +1,6 @@
 -- The revisions of one name in a history: each follows the one before it, and the last one is what the name holds.
-use Rattle.std.proofs.Common.{◌||◌, ◌≡◌, ◌∙◌, ◌+◌, ℕ, Bool, true, false, List, [], ◌∷◌, cond, filter, Option, Some, None, refl, sym, ap, subst}
-use Rattle.std.proofs.{lemmas.Bool.and_from, lemmas.Bool.cond-false, lemmas.Bool.cond-true, lemmas.Bool.eq-eqb, lemmas.Bool.or_left, lemmas.Option.same_Some}
+use Rattle.std.proofs.Common.{arith, ◌||◌, ◌≡◌, ◌∙◌, ◌+◌, ℕ, Bool, true, false, List, [], ◌∷◌, filter, Option, Some, None, inl, inr, refl, sym, ap, subst}
+use Rattle.std.proofs.{lemmas.Bool.and_from, lemmas.Bool.cases_Bool, lemmas.Bool.cond-false, lemmas.Bool.cond-true, lemmas.Bool.cond_both, lemmas.Bool.eq-eqb, lemmas.Bool.or_left, lemmas.Option.same_Some}
 use Rattle.std.specs.{List.last_or, Option.is_some, Cmp.Lexicographic.same_text}
 use Rattle.bolt_check.specs.Keys.{Key}
 use Rattle.bolt_etcd.specs.{Follows.creates, Follows.follows, Follows.is_next_of, Newest.is_named, Newest.newest, Revisions.RevisionView, Revisions.name_of}
@@ -12,15 +12,9 @@ abbrev pub held_of : Option RevisionView → Option RevisionView
 held_of None = None
 held_of (Some r) = held r
 
-parts_by : (s r : RevisionView) (b : Bool) → s.key.deleted ≡ b → cond b None (Some s) ≡ Some r → (Some s ≡ Some r) × (s.key.deleted ≡ false)
-parts_by s r true is e = cc
-parts_by s r false is e = (e, is)
-
 pub held_parts : (o : Option RevisionView) (r : RevisionView) → held_of o ≡ Some r → (o ≡ Some r) × (r.key.deleted ≡ false)
 held_parts None r e = cc
-held_parts (Some s) r e =
-    let (same, live) = parts_by s r s.key.deleted refl e in
-    (same, subst (λ (x : RevisionView). x.key.deleted ≡ false) (same_Some s r same) live)
+held_parts (Some s) r e = grind (arith, cases_Bool, cond-false, same_Some)
 
 -- ---- each follows the one before
 
@@ -33,15 +27,10 @@ abbrev pub follows_held : Option RevisionView → RevisionView → Bool
 follows_held None r = creates r
 follows_held (Some before) r = r.key.deleted || is_next_of before r
 
-by_deletion : (before r : RevisionView) (b : Bool)
-    → cond b (creates r) (r.key.deleted || is_next_of before r) ≡ follows_held (cond b None (Some before)) r
-by_deletion before r true = refl
-by_deletion before r false = refl
-
 pub follows_is : (o : Option RevisionView) (r : RevisionView) → follows o r ≡ follows_held (held_of o) r
 unfolding follows
 follows_is None r = refl
-follows_is (Some before) r = by_deletion before r before.key.deleted
+follows_is (Some before) r = elim (cases_Bool before.key.deleted) [ inl is ↦ rw is refl | inr is ↦ rw is refl ]
 
 put_follows : (o : Option RevisionView) (main sub : ℕ) (name value : List ℕ) (lease : ℕ)
     → follows_held o (revision_by (λ (other : Key). o) main sub (Put name value lease)) ≡ true
@@ -70,34 +59,27 @@ module _ (name : Key) where
   after_other : (state : State) (r : RevisionView) → is_named name r ≡ false → after r state name ≡ state name
   after_other state r other = cond-false (is_named name r) _ _ other
 
-  follow_step : (state : State) (o : Option RevisionView) (r : RevisionView) (rs : List RevisionView) (b : Bool) → is_named name r ≡ b
-      → IsWritten state r → state name ≡ held_of o
-      → ((o' : Option RevisionView) → after r state name ≡ held_of o' → AllFollow o' (named rs)) → AllFollow o (cond b (r ∷ named rs) (named rs))
-  follow_step state o r rs true own is holds later = (
-    follows_is o r
-        ∙ ap (λ (h : Option RevisionView). follows_held h r) (sym holds ∙ ap state (sym (same_text (name_of r) name (sym own))))
-        ∙ written_follows state r is,
-    later (Some r) (after_own state r own),
-  )
-  follow_step state o r rs false other is holds later = later o (after_other state r other ∙ holds)
-
   pub all_follow : (state : State) (main sub : ℕ) (rs : List RevisionView) (o : Option RevisionView) → Goes state main sub rs
       → state name ≡ held_of o → AllFollow o (named rs)
   all_follow state main sub [] o go holds = tt
   all_follow state main sub (r ∷ rs) o (next, is, go) holds =
-      follow_step state o r rs (is_named name r) refl is holds (λ o' holds'. all_follow (after r state) r.key.main (r.key.sub + 1) rs o' go holds')
-
-  last_step : (state : State) (o : Option RevisionView) (r : RevisionView) (rs : List RevisionView) (b : Bool) → is_named name r ≡ b
-      → state name ≡ held_of o
-      → ((o' : Option RevisionView) → after r state name ≡ held_of o' → after_all rs (after r state) name ≡ held_of (last_or o' (named rs)))
-      → after_all rs (after r state) name ≡ held_of (last_or o (cond b (r ∷ named rs) (named rs)))
-  last_step state o r rs true own holds later = later (Some r) (after_own state r own)
-  last_step state o r rs false other holds later = later o (after_other state r other ∙ holds)
+      let later = λ (p : Option RevisionView) (holds' : after r state name ≡ held_of p). all_follow (after r state) r.key.main (r.key.sub + 1) rs p go holds' in
+      cond_both (is_named name r) _ _ (AllFollow o)
+      (λ own. (
+        follows_is o r
+            ∙ ap (λ (h : Option RevisionView). follows_held h r) (sym holds ∙ ap state (sym (same_text (name_of r) name (sym own))))
+            ∙ written_follows state r is,
+        later (Some r) (after_own state r own),
+      ))
+      (λ other. later o (after_other state r other ∙ holds))
 
   last_held : (rs : List RevisionView) (state : State) (o : Option RevisionView) → state name ≡ held_of o
       → after_all rs state name ≡ held_of (last_or o (named rs))
   last_held [] state o holds = holds
-  last_held (r ∷ rs) state o holds = last_step state o r rs (is_named name r) refl holds (λ o' holds'. last_held rs (after r state) o' holds')
+  last_held (r ∷ rs) state o holds =
+      cond_both (is_named name r) _ _ (λ l. after_all rs (after r state) name ≡ held_of (last_or o l))
+      (λ own. last_held rs (after r state) (Some r) (after_own state r own))
+      (λ other. last_held rs (after r state) o (after_other state r other ∙ holds))
 
   -- after all of these it holds the newest of its revisions
   pub newest_held : (rs : List RevisionView) → after_all rs nothing name ≡ held_of (newest name rs)

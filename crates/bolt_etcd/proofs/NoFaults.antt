@@ -1,26 +1,14 @@
 -- If nothing is missing of names in the order of their sums, no line is written of them.
-use Rattle.std.proofs.Common.{◌≡◌, ◌∙◌, ◌↔◌, Bool, true, false, ℕ, List, [], flat_map, map, not, Option, Some, None, refl, sym, ap, subst}
+use Rattle.std.proofs.Common.{◌≡◌, ◌↔◌, Bool, true, ℕ, List, [], flat_map, map, Option, None, ap, subst}
 use Rattle.std.proofs.lemmas.List.Sorted.{IsPermutation-map, IsPermutation-trans}
-use Rattle.std.specs.{List.Sorted.IsPermutation, Option.is_some}
+use Rattle.std.specs.{List.Sorted.IsPermutation}
 use Rattle.bolt_tree.specs.{declared.bucket.Bucket.Bucket, Order.Rises}
-use Rattle.bolt_etcd.specs.{CheckLines.name_fault_lines, Current.stored_key_cmp, FaultsLeft.ForGranted, FaultsLeft.GivesFault, NameFaults.AreByName, NameFaults.NameFaultView, NameFaults.name_faults}
-use Rattle.bolt_etcd.specs.{Revisions.RevisionView, ShownRevisions.shown_revision, StoreFaults.name_lines, SumOrder.AreBySum, declared.name_faults.NameFault.NameFault}
+use Rattle.bolt_etcd.specs.{CheckLines.name_fault_lines, Current.stored_key_cmp, FaultsLeft.ForGranted, NameFaults.AreByName, NameFaults.name_faults}
+use Rattle.bolt_etcd.specs.{Revisions.RevisionView, ShownRevisions.shown_revision, StoreFaults.name_lines, SumOrder.AreBySum}
 use Rattle.bolt_etcd.specs.declared.revision.Revision.{Revision}
 use Rattle.bolt_etcd.proofs.{FaultsOfNames.none_by_name, StoreLemmas.granted_map}
 
-is_true : (b : Bool) → false ≡ not b → b ≡ true
-is_true true e = refl
-is_true false e = cc
-
--- a pass has nothing to return if it returns nothing first
-pub none_first : (old new : List NameFaultView) (o : Option NameFault) (b : Bool) → is_some o ≡ not b → GivesFault old new o → (b ≡ true) ↔ (old ≡ [])
-none_first old new None b is (none, end) = (λ whole. none, λ empty. is_true b is)
-none_first old new (Some f) b is first = (
-  λ whole. absurd (let both : true ≡ false = is ∙ ap not whole in cc),
-  λ empty. absurd (let both = sym first ∙ empty in cc),
-)
-
--- nor has a store lines of its names then
+-- nor has a store lines of its names
 pub none_lines : (rs : List RevisionView) (slice by_sum : List Revision) (compacted : Option ℕ) (leases : Option Bucket) (b : Bool) → Rises stored_key_cmp rs
     → AreBySum rs (map shown_revision by_sum) → slice ≡ by_sum → b ≡ true
     → ForGranted leases (λ granted. (b ≡ true) ↔ (name_faults compacted granted None (map shown_revision slice) ≡ []))

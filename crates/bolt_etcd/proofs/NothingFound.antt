@@ -1,15 +1,15 @@
 -- Nothing is found in a store from which nothing is missing.
-use Rattle.std.proofs.Common.{◌≡◌, ◌∙◌, ◌++◌, ◌&&◌, ℕ, Bool, true, false, List, [], ◌∷◌, codes, flat_map, map, max, not, Option, Some, None}
+use Rattle.std.proofs.Common.{arith, ◌≡◌, ◌∙◌, ◌++◌, ◌&&◌, ℕ, Bool, true, false, List, [], ◌∷◌, codes, flat_map, map, max, not, Option, Some, None}
 use Rattle.std.proofs.Common.{refl, ap}
-use Rattle.std.proofs.lemmas.Bool.{and_left, and_right, eq-eqb, ltb-true}
-use Rattle.std.specs.{List.Contains, List.cons_option, Option.is_some}
+use Rattle.std.proofs.lemmas.Bool.{and_left, and_right, cases_Bool, eq-eqb, ltb-true}
+use Rattle.std.specs.{List.Contains, List.cons_option, List.filter_map, Option.is_some}
 use Rattle.bolt_check.specs.Keys.{Key}
 use Rattle.bolt_format.specs.Elements.{LeafElement}
 use Rattle.bolt_tree.proofs.Exports.{filter_none, filter_same, contains_head, contains_tail, filter_both, filter_rises, kept_from}
-use Rattle.bolt_tree.specs.{Entries.entry_view, Order.Rises}
+use Rattle.bolt_tree.specs.{Entries.EntryView, Entries.entry_view, Order.Rises}
 use Rattle.bolt_etcd.specs.{CheckLines.name_fault_lines, Compactions.IsCompaction, Compactions.kept_revisions, Current.stored_key_cmp}
 use Rattle.bolt_etcd.specs.{Histories.Delete, Histories.Put, Histories.State, Histories.Transaction, Histories.history, Histories.nothing, Misplaced.is_misplaced, Misplaced.misplaced}
-use Rattle.bolt_etcd.specs.{MissingNumbers.is_of_later, MissingNumbers.keys_above, MissingNumbers.missing_after, MissingNumbers.missing_numbers, NameFaults.name_faults, Numbered.numbered}
+use Rattle.bolt_etcd.specs.{MissingNumbers.is_of_later, MissingNumbers.keys_above, MissingNumbers.missing_after, MissingNumbers.missing_numbers, NameFaults.name_faults, Numbered.numbered, Numbered.numbered_of}
 use Rattle.bolt_etcd.specs.{Others.OtherView, Others.others_of, Revisions.RevisionView, Revisions.revision_of, Possible.ArePossible, StoreBuckets.StoreView, Stores.revisions}
 use Rattle.bolt_etcd.specs.WholeStores.{GrantsLeases, HoldsExactly}
 use Rattle.bolt_etcd.specs.StoreFaults.{missing_bucket_lines, bucket_names, entry_lines, key_lines, line_without, name_lines, store_granted, store_lines}
@@ -31,25 +31,17 @@ no_bucket_lines store (name ∷ names) there =
 
 -- ---- entries that are these revisions
 
-revisions_are : (entries : List LeafElement) (rs : List RevisionView) → map (λ (e : LeafElement). revision_of (entry_view e)) entries ≡ map Some rs
-    → revisions entries ≡ rs
-revisions_are [] [] are = refl
-revisions_are [] (r ∷ rs) are = cc
-revisions_are (e ∷ entries) [] are = cc
-revisions_are (e ∷ entries) (r ∷ rs) are =
+-- what shows a revision as it is shows them all
+shown_are : (shows : EntryView → Option RevisionView) → ((v : EntryView) (r : RevisionView) → revision_of v ≡ Some r → shows v ≡ Some r)
+    → (entries : List LeafElement) (rs : List RevisionView) → map (λ (e : LeafElement). revision_of (entry_view e)) entries ≡ map Some rs
+    → filter_map (λ e. shows (entry_view e)) entries ≡ rs
+shown_are shows one [] [] are = refl
+shown_are shows one [] (r ∷ rs) are = cc
+shown_are shows one (e ∷ entries) [] are = cc
+shown_are shows one (e ∷ entries) (r ∷ rs) are =
     let first : revision_of (entry_view e) ≡ Some r = cc in
     let later : map (λ (f : LeafElement). revision_of (entry_view f)) entries ≡ map Some rs = cc in
-    ap (λ (o : Option RevisionView). cons_option o (revisions entries)) first ∙ ap (λ (l : List RevisionView). r ∷ l) (revisions_are entries rs later)
-
-numbered_are : (entries : List LeafElement) (rs : List RevisionView) → map (λ (e : LeafElement). revision_of (entry_view e)) entries ≡ map Some rs
-    → numbered entries ≡ rs
-numbered_are [] [] are = refl
-numbered_are [] (r ∷ rs) are = cc
-numbered_are (e ∷ entries) [] are = cc
-numbered_are (e ∷ entries) (r ∷ rs) are =
-    let first : revision_of (entry_view e) ≡ Some r = cc in
-    let later : map (λ (f : LeafElement). revision_of (entry_view f)) entries ≡ map Some rs = cc in
-    ap (λ (o : Option RevisionView). cons_option o (numbered entries)) (is_numbered (entry_view e) r first) ∙ ap (λ (l : List RevisionView). r ∷ l) (numbered_are entries rs later)
+    rw (one (entry_view e) r first) (ap (λ (l : List RevisionView). r ∷ l) (shown_are shows one entries rs later))
 
 no_others : (entries : List LeafElement) (rs : List RevisionView) → map (λ (e : LeafElement). revision_of (entry_view e)) entries ≡ map Some rs
     → others_of entries ≡ []
@@ -80,27 +72,21 @@ module _ (compacted : ℕ) (ts : List Transaction) (keeps : RevisionView → Boo
       filter_none is_misplaced (kept_revisions keeps ts) (λ r has.
       each (λ (s : RevisionView). is_misplaced s ≡ false) not_misplaced nothing 2 0 (history ts) (goes ts possible) r (there r has))
 
-  above_kept : (r : RevisionView) (b : Bool) → is_of_later compacted r ≡ b → Contains (history ts) r
-      → (is_of_later compacted r && keeps r) ≡ is_of_later compacted r
-  above_kept r true above has = rw (above, compaction.later r has (ltb-true compacted r.key.main above)) refl
-  above_kept r false above has = rw above refl
+  above_kept : (r : RevisionView) → Contains (history ts) r → (is_of_later compacted r && keeps r) ≡ is_of_later compacted r
+  above_kept r has = grind (arith, cases_Bool, ltb-true)
 
   keys_kept : keys_above compacted (kept_revisions keeps ts) ≡ keys_above compacted (history ts)
-  keys_kept =
-      ap (map (λ (r : RevisionView). r.key))
-      (filter_both (is_of_later compacted) keeps (history ts)
-      ∙ filter_same (λ (r : RevisionView). is_of_later compacted r && keeps r) (is_of_later compacted) (history ts) (λ r has.
-      above_kept r (is_of_later compacted r) refl has))
+  keys_kept = grind (arith, filter_both, filter_same, above_kept)
 
   no_number : missing_numbers compacted (kept_revisions keeps ts) ≡ []
   no_number = ap (missing_after (max compacted 1) 0) keys_kept ∙ none_missing compacted nothing (history ts) (goes ts possible)
 
   module _ (store : StoreView) (is : HoldsExactly store compacted (kept_revisions keeps ts)) (grants : GrantsLeases store ts) where
     own : revisions is.entries ≡ kept_revisions keeps ts
-    own = revisions_are is.entries (kept_revisions keeps ts) is.revisions
+    own = shown_are revision_of (λ v r found. found) is.entries (kept_revisions keeps ts) is.revisions
 
     there_are : numbered is.entries ≡ kept_revisions keeps ts
-    there_are = numbered_are is.entries (kept_revisions keeps ts) is.revisions
+    there_are = shown_are numbered_of is_numbered is.entries (kept_revisions keeps ts) is.revisions
 
     no_entry_lines : entry_lines (Some compacted) is.entries ≡ []
     no_entry_lines =

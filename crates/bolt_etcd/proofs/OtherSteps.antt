@@ -13,6 +13,6 @@ pub some_other : (P : Option OtherView → Type 0) (o : Option Other) (v : Optio
 some_other P None v some is h = cc
 some_other P (Some x) v some is h = h (shown_other x) (sym is)
 
-pub if_other : {P : Type 0} (o : Option Other) → P → IfSome o (λ _. P)
-if_other None p = tt
-if_other (Some x) p = p
+pub if_given : {A P : Type 0} (o : Option A) → P → IfSome o (λ _. P)
+if_given None p = tt
+if_given (Some x) p = p

@@ -1,5 +1,5 @@
 -- A pass goes over entries of which something shows nothing, up to the next one of which it shows something.
-use Rattle.std.proofs.Common.{◌≡◌, ◌∙◌, ◌<◌, ◌≤◌, List, [], Option, Some, None, refl, sym, ap, arith}
+use Rattle.std.proofs.Common.{◌≡◌, ◌∙◌, ◌<◌, ◌≤◌, List, [], Option, Some, None, arith}
 use Rattle.std.specs.List.{cons_option, filter_map}
 use Rattle.bolt_format.specs.Elements.{LeafElement}
 use Rattle.bolt_tree.specs.Entries.{EntryView, entry_view}
@@ -18,9 +18,6 @@ module _ {X : Type 0} (shown_of : EntryView → Option X) where
     pub same : ForPass old (λ entries. all_shown (ahead_of old entries) ≡ all_shown (ahead_of here entries))
     pub behind : number_ahead here ≤ number_ahead old
 
-  pub goes_by_none : (pass : Revisions) → GoesBy pass pass
-  goes_by_none pass = record { checked = refl; start = refl; same = λ entries are. refl; behind = omega arith }
-
   module _ (old here next : Revisions) (x : Option EntryView) (goes : GoesBy old here) (checked : pass_checked next ≡ pass_checked here) (start : pass_start next ≡ pass_start here)
       (first : ForPass here (λ entries. ShowsFirst (ahead_of here entries) (ahead_of next entries) x)) where
     first_here : ForPass old (λ entries. ShowsFirst (ahead_of here entries) (ahead_of next entries) x)
@@ -28,9 +25,7 @@ module _ {X : Type 0} (shown_of : EntryView → Option X) where
 
     -- one that shows something is the first of those that do
     pub one_shown : (v : EntryView) (o : Option X) → x ≡ Some v → shown_of v ≡ o → ForPass old (λ entries. all_shown (ahead_of old entries) ≡ cons_option o (all_shown (ahead_of next entries)))
-    one_shown v o is found entries are =
-        let (e, shown, old_is) = rw is at (first_here entries are) in
-        goes.same entries are ∙ ap all_shown old_is ∙ ap (λ (q : Option X). cons_option q (all_shown (ahead_of next entries))) (sym (ap shown_of shown) ∙ found)
+    one_shown v o is found entries are = grind arith
 
     pub goes_by_one : (v : EntryView) → x ≡ Some v → shown_of v ≡ None → number_ahead next < number_ahead here → GoesBy old next
     goes_by_one v is found less = record {
@@ -41,6 +36,4 @@ module _ {X : Type 0} (shown_of : EntryView → Option X) where
     }
 
     pub none_shown : x ≡ None → ForPass old (λ entries. (all_shown (ahead_of old entries) ≡ []) × (ahead_of next entries ≡ []))
-    none_shown is entries are =
-        let (none, end) = rw is at (first_here entries are) in
-        (goes.same entries are ∙ ap all_shown none, end)
+    none_shown is entries are = grind arith

@@ -1,28 +1,22 @@
 -- A pass over the entries of a bucket: each step takes the first of those ahead.
-use Rattle.std.proofs.Common.{◌≡◌, ◌∙◌, ◌<◌, ◌+◌, ℕ, List, [], ◌∷◌, cond, drop, length, Option, Some, None, refl, sym, ap, arith}
-use Rattle.std.proofs.{Math.Logic.∥∥₁_elim, Math.Logic.∥∥₁_prop, lemmas.List.drop_all, lemmas.Option.same_Some}
+use Rattle.std.proofs.Common.{◌≡◌, ◌∙◌, ◌<◌, ◌+◌, List, [], ◌∷◌, cond, length, Option, Some, None, refl, sym, ap, arith}
+use Rattle.std.proofs.{Math.Logic.∥∥₁_elim, Math.Logic.∥∥₁_prop, lemmas.Option.same_Some}
 use Rattle.std.specs.{List.cons_option, Option.is_some, Option.option_map, Option.option_to_list}
-use Rattle.bolt_format.proofs.Exports.{drop_at}
 use Rattle.bolt_check.specs.{CheckedFiles.bytes_of, CheckedFiles.meta_of, Keys.Key}
 use Rattle.bolt_format.specs.Elements.{LeafElement}
-use Rattle.bolt_tree.proofs.Exports.{ComesTo, comes_from, TakesFirst, next_takes, takes, tour_entries}
-use Rattle.bolt_tree.specs.{BucketViews.entries_of, Cursors.cursor_checked, Cursors.cursor_start, Entries.AreEntries, Entries.EntryView, Entries.entry_view, ShownEntries.shown_entry}
+use Rattle.bolt_tree.proofs.Exports.{comes_from, TakesFirst, next_takes, takes, tour_entries}
+use Rattle.bolt_tree.specs.{BucketViews.entries_of, Cursors.cursor_checked, Cursors.cursor_start, Entries.AreEntries, Entries.EntryView, Entries.entry_view}
 use Rattle.bolt_tree.specs.{EntriesLeft.entries_left, FileTrees.file_entries, Places.Past, Places.Place, Places.least_from, Places.next_move, Places.place_in, Places.seek_move}
-use Rattle.bolt_tree.specs.{declared.cursor.Cursor.Cursor, declared.entry.Entry.Entry}
+use Rattle.bolt_tree.specs.{declared.cursor.Cursor.Cursor}
 use Rattle.bolt_etcd.specs.{Others.OtherView, Others.other_of, Passes.ShowsFirst, Revisions.RevisionView, Revisions.revision_of, Stores.entries_from, Stores.others, Stores.revisions}
 use Rattle.bolt_etcd.proofs.OtherCounts.{no_other, one_more}
 
 shows : (old new : List LeafElement) (x : Option EntryView) (o : Option LeafElement) → x ≡ option_map entry_view o → TakesFirst old new o → (x ≡ None → new ≡ []) → ShowsFirst old new x
-shows old new None None is taken none = (taken, none refl)
-shows old new None (Some e) is taken none = cc
-shows old new (Some x) None is taken none = cc
-shows old new (Some x) (Some e) is taken none = (e, same_Some x (entry_view e) is, taken)
+shows old new x o is taken none = grind (arith, same_Some)
 
 nothing_left : (entries : List LeafElement) (before after : Place) (x : Option EntryView) (o : Option LeafElement) → x ≡ option_map entry_view o
     → TakesFirst (entries_left entries before) (entries_left entries after) o → (x ≡ None → after ≡ before) → x ≡ None → entries_left entries after ≡ []
-nothing_left entries before after None None is taken stays none = ap (entries_left entries) (stays refl) ∙ taken
-nothing_left entries before after None (Some e) is taken stays none = cc
-nothing_left entries before after (Some x) o is taken stays none = cc
+nothing_left entries before after x o is taken stays none = grind arith
 
 -- after `next`
 pub next_shows : (entries : List LeafElement) (before after : Place) (x : Option EntryView)

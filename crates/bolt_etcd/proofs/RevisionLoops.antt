@@ -14,16 +14,6 @@ pub record Passed (bucket : Bucket) (pass : Revisions) : Type 0 where
   pub start : pass_start pass ≡ bucket_start bucket
   pub counts : ForBucket bucket (λ entries. CountsOthers entries (ahead_of pass entries) 0 (pass_others pass))
 
-pub passed_none : (bucket : Bucket) (pass : Revisions) → pass_checked pass ≡ bucket_checked bucket → pass_start pass ≡ bucket_start bucket
-    → ForPass pass (λ entries. ahead_of pass entries ≡ entries) → pass_others pass ≡ 0 → Passed bucket pass
-passed_none bucket pass checked start all none = record {
-  checked = checked;
-  start = start;
-  counts = λ entries are.
-      ap (λ (k : ℕ). counted k (length (others (ahead_of pass entries)))) none
-      ∙ ap (λ (es : List LeafElement). counted 0 (length (others es))) (moved_to _ _ _ _ (λ es. ahead_of pass es ≡ es) checked start all entries are);
-}
-
 module _ (bucket : Bucket) (here next : Revisions) (x : Option RevisionView) (passed : Passed bucket here)
     (given : ForPass here (λ entries. GivesFirst (ahead_of here entries) (ahead_of next entries) x))
     (counts : ForPass here (λ entries. CountsOthers (ahead_of here entries) (ahead_of next entries) (pass_others here) (pass_others next))) where

@@ -1,7 +1,7 @@
 -- A pass goes over entries that aren't revisions, up to the next revision.
-use Rattle.std.proofs.Common.{◌≡◌, ◌∙◌, ◌<◌, ◌≤◌, ◌⊎◌, inl, inr, ℕ, false, true, List, length, not, Option, Some, None, refl, sym, ap, subst, arith}
+use Rattle.std.proofs.Common.{◌≡◌, ◌∙◌, ◌<◌, ◌≤◌, ◌⊎◌, inl, inr, ℕ, false, true, List, length, Option, Some, None, refl, ap, subst, arith}
 use Rattle.std.proofs.{Math.Logic.∥∥₁_elim, Props.props}
-use Rattle.std.specs.Option.{is_some, option_to_list}
+use Rattle.std.specs.Option.{option_to_list}
 use Rattle.bolt_check.specs.{CheckedFiles.bytes_of, CheckedFiles.meta_of, Counts.counted, declared.checked.Checked.Checked}
 use Rattle.bolt_format.specs.Elements.{LeafElement}
 use Rattle.bolt_tree.proofs.Exports.{counted_more}
@@ -67,24 +67,7 @@ module _ (old here next : Revisions) (x : Option EntryView) (goes : Goes old her
 
   pub some_counts : (v : EntryView) (r : RevisionView) → x ≡ Some v → revision_of v ≡ Some r → pass_others next ≡ pass_others here
       → ForPass old (λ entries. CountsOthers (ahead_of old entries) (ahead_of next entries) (pass_others old) (pass_others next))
-  some_counts v r is found same = λ entries are.
-      let none = counts_none _ _ v r (rw is at (first_here entries are)) found in
-      ap (λ (k : ℕ). counted k (length (others (ahead_of next entries)))) same
-      ∙ ap (λ (es : List LeafElement). counted (pass_others here) (length es)) (sym none)
-      ∙ goes.counts entries are
-
-  pub none_given : x ≡ None → ForPass old (λ entries. GivesFirst (ahead_of old entries) (ahead_of next entries) None)
-  none_given is = λ entries are.
-      let (none, end) = rw is at (first_here entries are) in
-      (goes.same entries are ∙ ap revisions none, end)
-
-  pub none_counts : x ≡ None → pass_others next ≡ pass_others here
-      → ForPass old (λ entries. CountsOthers (ahead_of old entries) (ahead_of next entries) (pass_others old) (pass_others next))
-  none_counts is same = λ entries are.
-      let (none, end) = rw is at (first_here entries are) in
-      ap (λ (k : ℕ). counted k (length (others (ahead_of next entries)))) same
-      ∙ ap (λ (es : List LeafElement). counted (pass_others here) (length (others es))) (end ∙ sym none)
-      ∙ goes.counts entries are
+  some_counts v r is found same = grind (arith, counts_none)
 
   -- and so fewer than at first
   pub number_falls : (v : EntryView) → x ≡ Some v → pass_checked next ≡ pass_checked here → pass_start next ≡ pass_start here → number_ahead next < number_ahead old
@@ -100,10 +83,7 @@ module _ (old here next : Revisions) (x : Option EntryView) (goes : Goes old her
   -- unless the pass has gone over one before, the one that it goes over now is the first
   pub other_first : (here ≡ old) ⊎ ForPass old (λ entries. begins_with_other (ahead_of old entries) ≡ true) → (v : EntryView) → x ≡ Some v → revision_of v ≡ None
       → ForPass old (λ entries. begins_with_other (ahead_of old entries) ≡ true)
-  other_first (inl same) v is other = λ entries are.
-      let (e, shown, at) = rw is at (first_here entries are) in
-      ap (λ (p : Revisions). begins_with_other (ahead_of p entries)) (sym same) ∙ ap begins_with_other at
-      ∙ ap (λ (o : Option RevisionView). not (is_some o)) (ap revision_of (sym shown) ∙ other)
+  other_first (inl same) v is other = grind arith
   other_first (inr before) v is other = before
 
 -- if the first of those ahead is a revision, one step was made

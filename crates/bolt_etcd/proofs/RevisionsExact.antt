@@ -1,17 +1,16 @@
 -- The missing numbers tell exactly the revisions of a transaction that are missing.
-use Rattle.std.proofs.Common.{◌≡◌, ◌∙◌, ◌<◌, ◌≤◌, ◌+◌, ◌-◌, ◌⊎◌, ◌↔◌, inl, inr, ℕ, Bool, true, false, List, [], ◌∷◌, ◌++◌, cond, filter, map}
-use Rattle.std.proofs.Common.{max, nat_lt, ◌==◌, Some, None, refl, sym, ap, subst, arith}
-use Rattle.std.proofs.lemmas.Bool.{cases_lt, cases_order, eqb-false, eqb-true, lt-ltb, ltb-false, ltb-true}
-use Rattle.std.proofs.lemmas.Cmp.{nat_cmp_total, tied_itself}
+use Rattle.std.proofs.Common.{◌≡◌, ◌∙◌, ◌<◌, ◌≤◌, ◌+◌, ◌-◌, ◌⊎◌, ◌↔◌, inl, inr, ℕ, Bool, true, false, List, [], ◌∷◌, ◌++◌, cond}
+use Rattle.std.proofs.Common.{max, nat_lt, ◌==◌, Some, None, refl, sym, arith}
+use Rattle.std.proofs.lemmas.Bool.{cases_lt, cases_order, eqb-false, eqb-true, ltb-false, ltb-true}
 use Rattle.std.proofs.lemmas.List.Elements.{Contains-append_cases, Contains-append_left, Contains-append_right}
 use Rattle.std.specs.{List.Contains, Option.option_to_list, declared.cmp.Ordering.TheVariants.Less}
-use Rattle.bolt_tree.proofs.Exports.{kept, contains_cases, contains_head, contains_none, contains_tail, filter_rises, kept_from}
+use Rattle.bolt_tree.proofs.Exports.{contains_cases, contains_head, contains_none, contains_tail, filter_rises}
 use Rattle.bolt_tree.specs.Order.{Rises}
 use Rattle.bolt_etcd.specs.{Revisions.RevisionView, Told.number_cmp, ToldRevisions.IsMissingRevision, ToldRevisions.IsToldRevision, ToldRevisions.TellsRevision}
 use Rattle.bolt_etcd.specs.MissingNumbers.{is_of_later, missing_after, missing_before, missing_numbers, revisions_between, transactions_between}
 use Rattle.bolt_etcd.specs.{declared.missing.Missing.Missing, declared.revision_key.RevisionKey.RevisionKey}
 use Rattle.bolt_etcd.specs.declared.missing.Missing.TheVariants.{Revisions, Transactions}
-use Rattle.bolt_etcd.proofs.KeyNumbers.{greater}
+use Rattle.bolt_etcd.proofs.{MissingExact.above, MissingExact.is_later, MissingExact.keys, MissingExact.later_is}
 
 module _ (t s : ℕ) where
   -- ---- what one gap tells
@@ -29,10 +28,7 @@ module _ (t s : ℕ) where
   told_second xs ys (m, has, tells) = (m, Contains-append_right xs ys m has, tells)
 
   told_one : (m : Missing) → IsToldRevision t s (m ∷ []) → TellsRevision t s m
-  told_one m (n, has, tells) = elim (contains_cases m n [] has) [
-    | inl is ↦ subst (TellsRevision t s) (sym is) tells
-    | inr none ↦ absurd (contains_none n none)
-  ]
+  told_one m (n, has, tells) = grind (arith, contains_cases, contains_none)
 
   told_none : IsToldRevision t s [] → ⊥
   told_none (n, has, tells) = contains_none n has
@@ -46,10 +42,7 @@ module _ (t s : ℕ) where
         (same, low, (omega (arith, high, lt))),
     λ (same, low, high). (Revisions main from (to - 1), contains_head _ [], (same, low, omega (arith, high))),
   )
-  told_revisions main from to false test = (
-    λ told. absurd (told_none told),
-    λ (same, low, high). absurd (let le = ltb-false from to test in omega (arith, low, high, le)),
-  )
+  told_revisions main from to false test = grind (arith, told_none, ltb-false)
 
   no_transaction : (before main : ℕ) (b : Bool) → IsToldRevision t s (option_to_list (cond b (Some (Transactions (before + 1) (main - 1))) None)) → ⊥
   no_transaction before main true told = told_one (Transactions (before + 1) (main - 1)) told
@@ -87,93 +80,46 @@ module _ (t s : ℕ) where
   abbrev IsAfter : (main sub : ℕ) → RevisionView → Type 0
   IsAfter main sub r = (main < r.key.main) ⊎ ((r.key.main ≡ main) × (sub ≤ r.key.sub + 1))
 
-  abbrev keys : List RevisionView → List RevisionKey
-  keys rs = map (λ (r : RevisionView). r.key) rs
-
   -- a later one of the transaction is there, and this one isn't
-  record IsGap (rs : List RevisionView) : Type 0 where
-    later : RevisionView
-    there : Contains rs later
-    in_it : IsIn later.key
-    none : (r : RevisionView) → Contains rs r → r.key.main ≡ t → r.key.sub ≡ s → ⊥
+  abbrev IsGap : List RevisionView → Type 0
+  IsGap rs = (later : RevisionView) × Contains rs later × IsIn later.key × ((r : RevisionView) → Contains rs r → r.key.main ≡ t → r.key.sub ≡ s → ⊥)
 
   numbers_le : (a b : RevisionView) → number_cmp a b ≡ Less → IsAfter a.key.main (a.key.sub + 1) b
-  numbers_le a b less = elim (cases_order a.key.main b.key.main) [
-    | inl e ↦ elim (cases_lt b.key.sub a.key.sub) [
-      | inl lt ↦ absurd (let back = rw (sym e, tied_itself nat_cmp_total a.key.main, greater a.key.sub b.key.sub lt) at less in cc)
-      | inr le ↦ inr (sym e, omega (arith, le))
-    ]
-    | inr (inl lt) ↦ inl lt
-    | inr (inr gt) ↦ absurd (let back = rw (greater a.key.main b.key.main gt) at less in cc)
-  ]
+  numbers_le a b less = grind arith
 
   le_main : (main sub : ℕ) (r : RevisionView) → IsAfter main sub r → main ≤ r.key.main
-  le_main main sub r (inl lt) = omega (arith, lt)
-  le_main main sub r (inr (e, le)) = omega (arith, e)
+  le_main main sub r after = grind arith
 
   past_before : (main sub : ℕ) (r : RevisionView) → IsAfter main sub r → IsPast r.key.main (r.key.sub + 1) → IsPast main sub
-  past_before main sub r (inl lt) (inl up) = inl (omega (arith, lt, up))
-  past_before main sub r (inl lt) (inr (e, le)) = inl (omega (arith, lt, e))
-  past_before main sub r (inr (same, low)) (inl up) = inl (omega (arith, same, up))
-  past_before main sub r (inr (same, low)) (inr (e, le)) = inr (sym same ∙ e, omega (arith, low, le))
+  past_before main sub r after past = grind arith
 
   gap_here : (r : RevisionView) (rs : List RevisionView) → Rises number_cmp (r ∷ rs) → IsIn r.key → IsGap (r ∷ rs)
-  gap_here r rs rises (same, lt) = record {
-    later = r;
-    there = contains_head r rs;
-    in_it = (same, lt);
-    none = λ x has at is. elim (contains_cases r x rs has) [
-      | inl one ↦ (let e = ap (λ (y : RevisionView). y.key.sub) one in omega (arith, lt, e, is))
-      | inr more ↦ elim (numbers_le r x (rises.0 x more)) [ inl up ↦ omega (arith, up, same, at) | inr (e, le) ↦ omega (arith, lt, is, le) ]
-    ];
-  }
+  gap_here r rs rises is = (r, contains_head r rs, is, λ x has at same. grind (arith, contains_cases r x rs has, λ (more : Contains rs x). numbers_le r x (rises.0 x more)))
 
   gap_later : (r : RevisionView) (rs : List RevisionView) → IsPast r.key.main (r.key.sub + 1) → IsGap rs → IsGap (r ∷ rs)
-  gap_later r rs past gap = record {
-    later = gap.later;
-    there = contains_tail r gap.later rs gap.there;
-    in_it = gap.in_it;
-    none = λ x has at is. elim (contains_cases r x rs has) [
-      | inl one ↦ (
-          let main = ap (λ (y : RevisionView). y.key.main) one in
-          let sub = ap (λ (y : RevisionView). y.key.sub) one in
-          elim past [ inl lt ↦ omega (arith, lt, main, at) | inr (e, le) ↦ omega (arith, le, sub, is) ])
-      | inr more ↦ gap.none x more at is
-    ];
-  }
+  gap_later r rs past (later, there, is, none) = (later, contains_tail r later rs there, is, λ x has at same. grind (arith, contains_cases r x rs has, none x))
 
   gap_rest : (r : RevisionView) (rs : List RevisionView) → IsGap (r ∷ rs) → (IsIn r.key → ⊥) → IsGap rs
-  gap_rest r rs gap not_in = record {
-    later = gap.later;
-    there = elim (contains_cases r gap.later rs gap.there) [
-      | inl one ↦ absurd (not_in (subst (λ (y : RevisionView). IsIn y.key) (sym one) gap.in_it))
-      | inr more ↦ more
-    ];
-    in_it = gap.in_it;
-    none = λ x has. gap.none x (contains_tail r x rs has);
-  }
+  gap_rest r rs (later, there, is, none) not_in = (later, grind (arith, contains_cases r later rs there), is, λ x has. none x (contains_tail r x rs has))
 
   gap_cases : (r : RevisionView) (rs : List RevisionView) → Rises number_cmp (r ∷ rs) → IsGap (r ∷ rs)
       → IsIn r.key ⊎ (IsGap rs × IsPast r.key.main (r.key.sub + 1))
   gap_cases r rs rises gap = elim (cases_order r.key.main t) [
     | inl same ↦ elim (cases_order s r.key.sub) [
-      | inl e ↦ absurd (gap.none r (contains_head r rs) same (sym e))
+      | inl e ↦ absurd (gap.3 r (contains_head r rs) same (sym e))
       | inr (inl lt) ↦ inl (same, lt)
       | inr (inr gt) ↦ inr (gap_rest r rs gap (λ (e, lt). omega (arith, lt, gt)), inr (same, omega (arith, gt)))
     ]
     | inr (inl lt) ↦ inr (gap_rest r rs gap (λ (e, up). omega (arith, e, lt)), inl lt)
     | inr (inr gt) ↦
-        let rest = gap_rest r rs gap (λ (e, up). omega (arith, e, gt)) in
-        absurd (elim (numbers_le r rest.later (rises.0 rest.later rest.there)) [
-          | inl lt ↦ (let e = rest.in_it.0 in omega (arith, lt, gt, e))
-          | inr (same, le) ↦ (let e = rest.in_it.0 in omega (arith, same, gt, e))
-        ])
+        let (later, there, is, none) = gap_rest r rs gap (λ (e, up). omega (arith, e, gt)) in
+        absurd (grind (arith, numbers_le r later (rises.0 later there)))
   ]
 
   told_exactly : (main sub : ℕ) (rs : List RevisionView) → Rises number_cmp rs → ((r : RevisionView) → Contains rs r → IsAfter main sub r)
       → IsToldRevision t s (missing_after main sub (keys rs)) ↔ (IsGap rs × IsPast main sub)
   unfolding missing_before
-  told_exactly main sub [] rises follow = (λ told. absurd (told_none told), λ (gap, past). absurd (contains_none gap.later gap.there))
+  told_exactly main sub [] rises follow = (λ told. absurd (told_none told), λ (gap, past). absurd (contains_none gap.0 gap.1))
   told_exactly main sub (r ∷ rs) rises follow =
       let first = follow r (contains_head r rs) in
       let here = told_before main sub r.key (r.key.main == main) refl (le_main main sub r first) in
@@ -191,18 +137,9 @@ module _ (t s : ℕ) where
   -- ---- of all revisions those of later transactions
 
   module _ (compacted : ℕ) (rs : List RevisionView) (rises : Rises number_cmp rs) where
-    abbrev above : List RevisionView
-    above = filter (is_of_later compacted) rs
-
-    is_later : (r : RevisionView) → Contains above r → Contains rs r × (compacted < r.key.main)
-    is_later r has = let (there, passes) = kept_from (is_of_later compacted) rs r has in (there, ltb-true compacted r.key.main passes)
-
-    later_is : (r : RevisionView) → Contains rs r → compacted < r.key.main → Contains above r
-    later_is r has lt = kept (is_of_later compacted) rs r has (lt-ltb compacted r.key.main lt)
-
-    begins : (r : RevisionView) → Contains above r → IsAfter (max compacted 1) 0 r
+    begins : (r : RevisionView) → Contains (above compacted rs) r → IsAfter (max compacted 1) 0 r
     begins r has =
-        let lt = (is_later r has).1 in
+        let lt = (is_later compacted rs r has).1 in
         elim (cases_lt (max compacted 1) r.key.main) [ inl up ↦ inl up | inr le ↦ inr (omega (arith, lt, le), omega arith) ]
 
     past : compacted < t → IsPast (max compacted 1) 0
@@ -210,26 +147,20 @@ module _ (t s : ℕ) where
 
     pub revisions_told : IsToldRevision t s (missing_numbers compacted rs) ↔ IsMissingRevision compacted t s rs
     revisions_told =
-        let core = told_exactly (max compacted 1) 0 above (filter_rises number_cmp (is_of_later compacted) rs rises) begins in (
+        let core = told_exactly (max compacted 1) 0 (above compacted rs) (filter_rises number_cmp (is_of_later compacted) rs rises) begins in (
           λ told.
-              let gap = (core.0 told).0 in
-              let (there, lt) = is_later gap.later gap.there in
-              let (same, before) = gap.in_it in
+              let (later, here, (same, before), none) = (core.0 told).0 in
+              let (there, lt) = is_later compacted rs later here in
               record {
                 after = (omega (arith, lt, same));
-                later = gap.later;
+                later = later;
                 there = there;
                 same = same;
                 before = before;
-                none = λ r has at is. gap.none r (later_is r has (omega (arith, lt, same, at))) at is;
+                none = λ r has at is. none r (later_is compacted rs r has (omega (arith, lt, same, at))) at is;
               },
           λ m. core.1 (
-            record {
-              later = m.later;
-              there = later_is m.later m.there (let lt = m.after in let e = m.same in omega (arith, lt, e));
-              in_it = (m.same, m.before);
-              none = λ r has. m.none r (is_later r has).0;
-            },
+            (m.later, later_is compacted rs m.later m.there (let lt = m.after in let e = m.same in omega (arith, lt, e)), (m.same, m.before), λ r has. m.none r (is_later compacted rs r has).0),
             past m.after,
           ),
         )

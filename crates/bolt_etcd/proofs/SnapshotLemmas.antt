@@ -1,5 +1,5 @@
 -- The hash is right exactly if the file is a snapshot.
-use Rattle.std.proofs.Common.{◌≡◌, ◌↔◌, ◌∙◌, ◌-◌, ◌%◌, ◌+◌, ◌<◌, ◌≤◌, ℕ, List, ◌++◌, Bool, true, Option, None, Some, ap, arith, drop, length, length-append, length-take-le, sym, take, take-append-drop}
+use Rattle.std.proofs.Common.{◌≡◌, ◌↔◌, ◌∙◌, ◌-◌, ◌%◌, ◌+◌, ◌<◌, ℕ, List, ◌++◌, Bool, true, Option, None, Some, ap, arith, length, length-append, length-take-le, sym, take, take-append-drop}
 use Rattle.std.proofs.{Math.Seq.drop-append_seam, Math.Seq.take-append_seam, lemmas.Slice.Eq.bytes_eq-Decides}
 use Rattle.std.specs.Str.{bytes_eq}
 use Rattle.sha2.specs.Sha256.{sha256}
@@ -12,17 +12,13 @@ seam : (body : List ℕ) → length (body ++ sha256 body) - 32 ≡ length body
 seam body = omega (arith, length-append body (sha256 body), length-sha256 body)
 
 right_of : (body : List ℕ) → sha256 (body_of (body ++ sha256 body)) ≡ hash_of (body ++ sha256 body)
-right_of body =
-    let whole = body ++ sha256 body in
-    ap sha256 (ap (λ n. take n whole) (seam body) ∙ take-append_seam body (sha256 body)) ∙ sym (ap (λ n. drop n whole) (seam body) ∙ drop-append_seam body (sha256 body))
+right_of body = grind (arith, seam, take-append_seam, drop-append_seam)
 
 length_of : (body : List ℕ) → length body % 512 ≡ 0 → length (body ++ sha256 body) % 512 ≡ 32
 length_of body blocks = omega (arith, length-append body (sha256 body), length-sha256 body)
 
 no_fault : (file body : List ℕ) → file ≡ body ++ sha256 body → length body % 512 ≡ 0 → hash_fault file ≡ None
-no_fault file body parts blocks =
-    let right : bytes_eq (sha256 (body_of (body ++ sha256 body))) (hash_of (body ++ sha256 body)) ≡ true = (bytes_eq-Decides _ _).1 (right_of body) in
-    ap hash_fault parts ∙ ap (λ n. fault_by n (bytes_eq (sha256 (body_of (body ++ sha256 body))) (hash_of (body ++ sha256 body)))) (length_of body blocks) ∙ ap (fault_by 32) right
+no_fault file body parts blocks = grind (arith, bytes_eq-Decides, right_of, length_of)
 
 both_right : (extra : ℕ) (is_right : Bool) → fault_by extra is_right ≡ None → (extra ≡ 32) × (is_right ≡ true)
 both_right extra is_right none = grind arith
@@ -45,14 +41,10 @@ no_fault_iff file fault is = (
 )
 
 cut_length : (body : List ℕ) (n : ℕ) → length body % 512 ≡ 0 → n < 32 → length (take (length body + n) (snapshot_of body)) % 512 ≡ n
-cut_length body n blocks less =
-    let within : length body + n ≤ length (snapshot_of body) = omega (arith, less, length-append body (sha256 body), length-sha256 body) in
-    ap (λ k. k % 512) (length-take-le (length body + n) (snapshot_of body) within) ∙ omega (arith, blocks, less)
+cut_length body n blocks less = grind (arith, length-append, length-sha256, length-take-le)
 
 cut_by : (n : ℕ) (is_right : Bool) → n < 32 → fault_by n is_right ≡ Some (cut_hash_fault n)
 cut_by n is_right less = grind arith
 
 pub cut_fault : (body : List ℕ) (n : ℕ) → length body % 512 ≡ 0 → n < 32 → hash_fault (take (length body + n) (snapshot_of body)) ≡ Some (cut_hash_fault n)
-cut_fault body n blocks less =
-    let cut = take (length body + n) (snapshot_of body) in
-    ap (λ k. fault_by k (bytes_eq (sha256 (body_of cut)) (hash_of cut))) (cut_length body n blocks less) ∙ cut_by n _ less
+cut_fault body n blocks less = grind (arith, cut_length, cut_by)

@@ -1,79 +1,54 @@
 -- A list can be sorted, by insertion.
-use Rattle.std.proofs.Common.{◌≡◌, ◌+◌, zero, suc, Bool, true, false, List, [], ◌∷◌, cond, filter, refl, arith}
-use Rattle.std.proofs.lemmas.List.MinMax.{ranks_by}
-use Rattle.std.proofs.lemmas.List.Sorted.{IsPermutation-cons, IsPermutation-insert, IsPermutation-refl, IsPermutation-trans}
+use Rattle.std.proofs.Common.{◌≡◌, inl, inr, Bool, false, List, [], ◌∷◌, filter, subst}
+use Rattle.std.proofs.{lemmas.Bool.cases_Bool, lemmas.List.MinMax.ranks_by}
+use Rattle.std.proofs.lemmas.List.Sorted.{Contains-permutation, IsPermutation-cons, IsPermutation-insert, IsPermutation-refl, IsPermutation-sym, IsPermutation-trans}
 use Rattle.std.proofs.lemmas.Cmp.{nat_list_cmp_total, on_total}
 use Rattle.std.specs.{Cmp.IsStrictWeakOrder, List.dedup, List.Sorted.IsPermutation, List.Sorted.IsSortedBy, Ordering.is_lt}
+use Rattle.bolt_tree.proofs.Exports.{Climbs, climbs_sorted, contains_cases, contains_none}
 use Rattle.bolt_tree.specs.Order.{Rises}
 use Rattle.bolt_etcd.specs.{Current.AreCurrent, Current.AreNewest, Current.HaveOwnKeys, Current.is_there, Current.name_cmp, Current.stored_key_cmp, NameFaults.AreByName, NameFaults.by_name_cmp}
 use Rattle.bolt_etcd.specs.{NameOrder.sums_cmp, Revisions.RevisionView, Revisions.name_of, SumOrder.newest_by_sum_cmp}
 use Rattle.bolt_etcd.proofs.{Currents.first_are_newest, Currents.own_keys, Currents.sorted_are_current, Currents.view_same_name, NameOrders.sums_tie, NameOrders.sums_total, NewestOfNames.newest_ranks}
 use Rattle.bolt_etcd.proofs.SortedOnce.{by_name_once, by_name_total, current_once}
 
-module _ {X : Type 0} (lt : X → X → Bool) where
-  abbrev insert_in : X → List X → List X
-  insert_in x [] = x ∷ []
-  insert_in x (y ∷ ys) = cond (lt y x) (y ∷ insert_in x ys) (x ∷ y ∷ ys)
+module _ {X : Type 0} (lt : X → X → Bool) (ranks : IsStrictWeakOrder lt) where
+  put_in : (x : X) (ys : List X) → Climbs lt ys → (zs : List X) × IsPermutation (x ∷ ys) zs × Climbs lt zs
+  put_in x [] climbs = (x ∷ [], IsPermutation-refl _, (λ y none. absurd (contains_none y none), tt))
+  put_in x (y ∷ ys) climbs = elim (cases_Bool (lt y x)) [
+    | inl before ↦
+        let (zs, moved, up) = put_in x ys climbs.1 in (
+          y ∷ zs,
+          IsPermutation-trans _ _ _ (IsPermutation-insert (y ∷ ys) 1 x) (IsPermutation-cons y _ _ moved),
+          (
+            λ z has. elim (contains_cases x z ys (Contains-permutation zs (x ∷ ys) z (IsPermutation-sym (x ∷ ys) zs moved) has)) [
+              | inl is ↦ subst (λ w. lt w y ≡ false) is (ranks.one_way y x before)
+              | inr more ↦ climbs.0 z more
+            ],
+            up,
+          ),
+        )
+    | inr after ↦ (
+      x ∷ y ∷ ys,
+      IsPermutation-refl _,
+      (
+        λ z has. elim (contains_cases y z ys has) [
+          | inl is ↦ subst (λ w. lt w x ≡ false) is after
+          | inr more ↦ ranks.chain z y x (climbs.0 z more) after
+        ],
+        climbs,
+      ),
+    )
+  ]
 
-  abbrev sort : List X → List X
-  sort [] = []
-  sort (x ∷ xs) = insert_in x (sort xs)
+  climbing : (xs : List X) → (zs : List X) × IsPermutation xs zs × Climbs lt zs
+  climbing [] = ([], IsPermutation-refl _, tt)
+  climbing (x ∷ xs) =
+      let (ys, moved, up) = climbing xs in
+      let (zs, put, climbs) = put_in x ys up in
+      (zs, IsPermutation-trans _ _ _ (IsPermutation-cons x _ _ moved) put, climbs)
 
-  -- ---- the same elements
-
-  insert_step : (x y : X) (ys : List X) (b : Bool) → IsPermutation (x ∷ ys) (insert_in x ys) → IsPermutation (x ∷ y ∷ ys) (cond b (y ∷ insert_in x ys) (x ∷ y ∷ ys))
-  insert_step x y ys true later = IsPermutation-trans _ _ _ (IsPermutation-insert (y ∷ ys) 1 x) (IsPermutation-cons y _ _ later)
-  insert_step x y ys false later = IsPermutation-refl _
-
-  inserted : (x : X) (ys : List X) → IsPermutation (x ∷ ys) (insert_in x ys)
-  inserted x [] = IsPermutation-refl _
-  inserted x (y ∷ ys) = insert_step x y ys (lt y x) (inserted x ys)
-
-  moved : (xs : List X) → IsPermutation xs (sort xs)
-  moved [] = IsPermutation-refl _
-  moved (x ∷ xs) = IsPermutation-trans _ _ _ (IsPermutation-cons x _ _ (moved xs)) (inserted x (sort xs))
-
-  -- ---- in order: the first isn't below x
-
-  abbrev Above : X → List X → Type 0
-  Above x [] = Unit {0}
-  Above x (y ∷ ys) = lt y x ≡ false
-
-  abbrev Up : List X → Type 0
-  Up [] = Unit {0}
-  Up (x ∷ xs) = Above x xs × Up xs
-
-  sorted_by : (xs : List X) → Up xs → IsSortedBy lt xs
-  sorted_by [] up k d low high = absurd (omega arith)
-  sorted_by (x ∷ []) up k d low high = absurd (omega arith)
-  sorted_by (x ∷ y ∷ ys) up zero d low high = up.0
-  sorted_by (x ∷ y ∷ ys) up (suc k) d low high =
-      let next : suc k + 1 ≡ suc (k + 1) = omega arith in
-      rw next (sorted_by (y ∷ ys) up.1 k d (omega arith) (omega (arith, high)))
-
-  above_step : (z x y : X) (ys : List X) (b : Bool) → lt y z ≡ false → lt x z ≡ false → Above z (cond b (y ∷ insert_in x ys) (x ∷ y ∷ ys))
-  above_step z x y ys true above less = above
-  above_step z x y ys false above less = less
-
-  above_in : (z x : X) (ys : List X) → Above z ys → lt x z ≡ false → Above z (insert_in x ys)
-  above_in z x [] above less = less
-  above_in z x (y ∷ ys) above less = above_step z x y ys (lt y x) above less
-
-  module _ (ranks : IsStrictWeakOrder lt) where
-    up_step : (x y : X) (ys : List X) (b : Bool) → lt y x ≡ b → Up (y ∷ ys) → Up (insert_in x ys) → Up (cond b (y ∷ insert_in x ys) (x ∷ y ∷ ys))
-    up_step x y ys true is up later = (above_in y x ys up.0 (ranks.one_way y x is), later)
-    up_step x y ys false is up later = (is, up)
-
-    up_in : (x : X) (ys : List X) → Up ys → Up (insert_in x ys)
-    up_in x [] up = (tt, tt)
-    up_in x (y ∷ ys) up = up_step x y ys (lt y x) refl up (up_in x ys up.1)
-
-    sort_up : (xs : List X) → Up (sort xs)
-    sort_up [] = tt
-    sort_up (x ∷ xs) = up_in x (sort xs) (sort_up xs)
-
-    pub sorted_exists : (xs : List X) → (sorted : List X) × IsPermutation xs sorted × IsSortedBy lt sorted
-    sorted_exists xs = (sort xs, moved xs, sorted_by (sort xs) (sort_up xs))
+  pub sorted_exists : (xs : List X) → (sorted : List X) × IsPermutation xs sorted × IsSortedBy lt sorted
+  sorted_exists xs = let (sorted, moved, climbs) = climbing xs in (sorted, moved, climbs_sorted lt sorted climbs)
 
 -- ---- the revisions of a bucket
 

@@ -1,5 +1,5 @@
 -- After a compaction the keys that there are at a later transaction are what the names held then.
-use Rattle.std.proofs.Common.{◌<◌, ◌≡◌, ◌∙◌, ◌≤◌, ◌++◌, ◌↔◌, ℕ, Bool, List, [], ◌∷◌, filter, inl, inr, Some, None, refl, sym}
+use Rattle.std.proofs.Common.{◌<◌, ◌≡◌, ◌∙◌, ◌≤◌, ◌++◌, ◌↔◌, ℕ, Bool, List, [], ◌∷◌, filter, inl, inr, Some, None, sym}
 use Rattle.std.proofs.Common.{subst, ap, arith}
 use Rattle.std.proofs.{lemmas.Bool.cases_lt, lemmas.Bool.cond-false, lemmas.List.append-nil, lemmas.List.Elements.filter-append}
 use Rattle.std.specs.List.{Contains, last_or}
@@ -12,10 +12,7 @@ use Rattle.bolt_etcd.proofs.{HistoryUntil.held_at, HistoryUntil.until_early, Kep
 
 -- a revision is current exactly if it is what its name holds
 current_is_held : (rs : List RevisionView) (r : RevisionView) → IsCurrent rs r ↔ (held_of (newest (name_of r) rs) ≡ Some r)
-current_is_held rs r = (
-  λ (last, live). ap held_of last ∙ cond-false r.key.deleted None (Some r) live,
-  held_parts (newest (name_of r) rs) r,
-)
+current_is_held rs r = grind (arith, cond-false, held_parts)
 
 module _ (compacted at : ℕ) (ts : List Transaction) (keeps : RevisionView → Bool) (possible : ArePossible ts) (compaction : IsCompaction compacted ts keeps)
     (le : compacted ≤ at) where
@@ -35,21 +32,14 @@ module _ (compacted at : ℕ) (ts : List Transaction) (keeps : RevisionView → 
     until_removed = filter_all (is_until at) removed (λ r has. let early = is.early r has in until_early at r (omega (arith, early, le)))
 
     all_at : filter (is_named name) (until at (history ts)) ≡ removed ++ filter (is_until at) rest
-    all_at =
-        filters_swap (is_named name) (is_until at) (history ts)
-        ∙ ap (filter (is_until at)) is.joined
-        ∙ filter-append (is_until at) removed rest
-        ∙ ap (λ (l : List RevisionView). l ++ filter (is_until at) rest) until_removed
+    all_at = grind (arith, filters_swap, filter-append, until_removed)
 
     kept_at : filter (is_named name) (until at (kept_revisions keeps ts)) ≡ filter (is_until at) rest
     kept_at = filters_swap (is_named name) (is_until at) (kept_revisions keeps ts) ∙ ap (filter (is_until at)) is.is_rest
 
     held_alike : held_of (newest name (until at (kept_revisions keeps ts))) ≡ state_at at ts name
     unfolding newest
-    held_alike =
-        ap (λ (l : List RevisionView). held_of (last_or None l)) kept_at
-        ∙ same_last (filter (is_until at) rest) refl
-        ∙ sym (held_at at ts name ∙ ap (λ (l : List RevisionView). held_of (last_or None l)) all_at)
+    held_alike = grind (arith, kept_at, same_last, held_at, all_at)
 
   held_kept : (name : Key) → held_of (newest name (until at (kept_revisions keeps ts))) ≡ state_at at ts name
   held_kept name = let (removed, rest, is) = cut compacted ts keeps possible compaction name in held_alike name removed rest is

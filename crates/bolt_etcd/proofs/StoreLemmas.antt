@@ -1,6 +1,6 @@
 -- What look-ups in the root bucket say of a store.
-use Rattle.std.proofs.Common.{◌≡◌, ◌∙◌, ◌++◌, Bool, true, false, ℕ, List, [], ◌∷◌, codes, cond, flat_map, inl, inr, not, Option, Some, None, refl, sym, ap, subst}
-use Rattle.std.proofs.{Math.Logic.∥∥₁_elim, Props.props, lemmas.Bool.and_from, lemmas.Bool.and_parts, lemmas.Bool.eq-eqb, lemmas.Bool.not-true}
+use Rattle.std.proofs.Common.{arith, ◌≡◌, ◌∙◌, ◌++◌, Bool, true, false, ℕ, List, [], ◌∷◌, codes, cond, flat_map, inl, inr, not, Option, Some, None, refl, sym, ap, subst}
+use Rattle.std.proofs.{Math.Logic.∥∥₁_elim, Props.props, lemmas.Bool.and_from, lemmas.Bool.and_parts, lemmas.Bool.not-true, lemmas.Slice.Eq.bytes_eq-Decides}
 use Rattle.std.specs.{Cmp.Lexicographic.same_text, List.Contains, List.concat, List.find, Option.is_some, Option.option_map, Str.bytes_eq}
 use Rattle.std.specs.Prelude.{IfSome}
 use Rattle.bolt_check.specs.{Keys.Key, declared.checked.Checked.Checked}
@@ -8,10 +8,10 @@ use Rattle.bolt_format.specs.Elements.{LeafElement}
 use Rattle.bolt_tree.proofs.Exports.{contains_cases, contains_head, contains_none, contains_tail, own_entries, entry_once}
 use Rattle.bolt_tree.specs.{BucketViews.entries_of, Buckets.bucket_checked, Buckets.bucket_start, Entries.AreEntries, Entries.Start, Entries.start_of, Lookups.IsBucketAt, Lookups.IsValueAt}
 use Rattle.bolt_tree.specs.{declared.bucket.Bucket.Bucket, Order.Rises, EntriesLeft.ForBucket}
-use Rattle.bolt_etcd.specs.{Current.stored_key_cmp, Compacted.IsCompacted, Compacted.compacted_by, Compacted.compacted_in, Compacted.is_value_under, Compacted.value_under, CheckLines.name_fault_lines}
+use Rattle.bolt_etcd.specs.{Current.stored_key_cmp, Compacted.IsCompacted, Compacted.compacted_in, Compacted.is_value_under, Compacted.value_under, CheckLines.name_fault_lines}
 use Rattle.bolt_etcd.specs.{FaultsLeft.ForGranted, FaultsLeft.faults_leases, FaultsLeft.faults_left, NameFaults.AreByName, NameFaults.NameFaultView, NameFaults.name_faults, Revisions.RevisionView}
 use Rattle.bolt_etcd.specs.{StoreBuckets.HasEntriesUnder, StoreBuckets.IsStore, StoreBuckets.StoreView, StoreBuckets.revisions_in, Stores.revisions}
-use Rattle.bolt_etcd.specs.StoreFaults.{bucket_line, missing_bucket_lines, bucket_names, entry_lines, granted_in, key_lines, line_without, name_lines, store_compacted, store_granted, store_lines}
+use Rattle.bolt_etcd.specs.StoreFaults.{missing_bucket_lines, bucket_names, entry_lines, granted_in, key_lines, line_without, name_lines, store_compacted, store_granted, store_lines}
 use Rattle.bolt_etcd.specs.declared.name_faults.NameFaults.{NameFaults}
 use Rattle.bolt_etcd.proofs.{Currents.revisions_rise, ListedTexts.concat_three, SortedOnce.by_name_once}
 
@@ -31,8 +31,7 @@ finds p [] = λ x has. absurd (contains_none x has)
 finds p (y ∷ ys) = find_step p y ys (p y) refl (find p ys) (finds p ys)
 
 pub itself : (xs : List ℕ) → bytes_eq xs xs ≡ true
-itself [] = refl
-itself (x ∷ xs) = and_from _ _ (eq-eqb x x refl) (itself xs)
+itself xs = (bytes_eq-Decides xs xs).1 refl
 
 -- ---- a value among entries
 
@@ -86,13 +85,10 @@ module _ (root : Bucket) where
       subst (λ (s : Start). AreEntries (entries_of (bucket_checked root)) s entries) (sym start) are
 
   pub no_line : (name : Key) (o : Option Bucket) (b : Option (List LeafElement)) → Fits o b → is_some o ≡ true → line_without name b ≡ []
-  no_line name None b has is = cc
-  no_line name (Some inner) None has is = absurd has
-  no_line name (Some inner) (Some entries) has is = refl
+  no_line name o b has is = grind arith
 
   pub fits_none : (b : Option (List LeafElement)) → Fits None b → b ≡ None
-  fits_none None has = refl
-  fits_none (Some entries) has = absurd has
+  fits_none b has = grind arith
 
   pub fits_some : (inner : Bucket) (b : Option (List LeafElement)) → Fits (Some inner) b
       → (entries : List LeafElement) × (b ≡ Some entries) × AreEntries (entries_of (bucket_checked root)) (bucket_start inner) entries
@@ -103,9 +99,7 @@ module _ (root : Bucket) where
   pub compaction : (meta : Bucket) (n : ℕ) (b : Option (List LeafElement)) → bucket_checked meta ≡ bucket_checked root → Fits (Some meta) b
       → IsCompacted (entries_of (bucket_checked meta)) (bucket_start meta) n → Some n ≡ option_map compacted_in b
   compaction meta n None checked has is = absurd has
-  compaction meta n (Some entries) checked are (value, at, is) =
-      let here = rw checked at at in
-      ap Some (is ∙ ap compacted_by (sym (value_at (entries_of (bucket_checked root)) (bucket_start meta) entries _ are value here)))
+  compaction meta n (Some entries) checked are (value, at, is) = grind (arith, value_at)
 
   -- which leases there are
   pub granted : (leases : Option Bucket) (b : Option (List LeafElement)) (P : (ℕ → Bool) → Type 0) → IfSome leases (λ inner. bucket_checked inner ≡ bucket_checked root)
@@ -138,9 +132,7 @@ for_names rs compacted leases pass all Q rises from left sorted each =
 pub found_names : (keys : Bucket) (rs : List RevisionView) (leases : Option Bucket) (compacted : Option ℕ) (Q : List (List ℕ) → Type 0) → ForBucket keys (λ entries. rs ≡ revisions entries)
     → (Rises stored_key_cmp rs → ForGranted leases (λ granted. (by_name : List RevisionView) → AreByName rs by_name → Q (name_lines compacted granted by_name)))
     → ForBucket keys (λ entries. ForGranted leases (λ granted. (by_name : List RevisionView) → AreByName (revisions entries) by_name → Q (name_lines compacted granted by_name)))
-found_names keys rs leases compacted Q found all = λ entries are.
-    subst (λ (l : List RevisionView). ForGranted leases (λ granted. (by_name : List RevisionView) → AreByName l by_name → Q (name_lines compacted granted by_name))) (found entries are)
-    (all (subst (Rises stored_key_cmp) (sym (found entries are)) (revisions_rise entries are.rises)))
+found_names keys rs leases compacted Q found all = grind (arith, revisions_rise)
 
 -- ---- the lines of a store that has the bucket `key`
 

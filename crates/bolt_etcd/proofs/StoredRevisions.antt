@@ -2,13 +2,13 @@
 use Rattle.std.proofs.Common.{◌≡◌, ◌∙◌, ◌≤◌, ◌+◌, ◌++◌, ℕ, Bool, List, [], ◌∷◌, length, Option, Some, None, nat_cmp, refl, sym, ap, arith, if◌then◌else◌}
 use Rattle.std.proofs.lemmas.List.{length-append}
 use Rattle.std.specs.{Option.option_map, Ordering.ordering_then, declared.cmp.Ordering.Ordering}
-use Rattle.std.specs.declared.cmp.Ordering.TheVariants.{Equal, Greater, Less}
+use Rattle.std.specs.declared.cmp.Ordering.TheVariants.{Equal}
 use Rattle.byteorder.specs.{Endian.big_bytes, Endian.big_number, Numbers.big_number-reads_back, Numbers.length-bytes_high_first}
 use Rattle.bolt_check.specs.Keys.{Key, key_cmp}
 use Rattle.bolt_etcd.specs.{RevisionKeys.IsSpelled, RevisionKeys.numbers_cmp, RevisionKeys.revision_key, RevisionKeys.spelling, declared.revision_key.RevisionKey.RevisionKey}
-use Rattle.bolt_etcd.specs.{declared.revision.Revision.Revision, Revisions.RevisionView, Revisions.name_of, Revisions.record_under, Revisions.revision_in, Revisions.revision_of}
+use Rattle.bolt_etcd.specs.{declared.revision.Revision.Revision, Revisions.RevisionView, Revisions.name_of, Revisions.revision_in, Revisions.revision_of}
 use Rattle.bolt_etcd.specs.ShownRevisions.{entry_of, or_nothing, shown_revision}
-use Rattle.bolt_etcd.proofs.{Currents.bind_some, KeyNumbers.spellings_cmp, Keys.read_spelled}
+use Rattle.bolt_etcd.proofs.{Currents.in_says, KeyNumbers.spellings_cmp, Keys.read_spelled}
 
 some_of : (o : Option RevisionView) (name : List ℕ) → option_map name_of o ≡ Some name → (o ≡ Some (or_nothing o)) × (name_of (or_nothing o) ≡ name)
 some_of None name e = cc
@@ -22,25 +22,12 @@ pub is_revision : (r : Revision) → revision_of (entry_of r) ≡ Some (shown_re
 unfolding revision_of
 is_revision r = (shows r).0
 
-pub has_name : (r : Revision) → name_of (shown_revision r) ≡ r.name.now
-has_name r = (shows r).1
-
 -- its key says so of it
-record Stored (r : Revision) : Type 0 where
-  pub key : revision_key r.key.now ≡ Some (shown_revision r).key
-  pub stored_key : (shown_revision r).stored_key ≡ r.key.now
-
-stored : (r : Revision) → Stored r
-stored r =
-    let (k, read, later) = bind_some (revision_key r.key.now) _ (shown_revision r) (shows r).0 in
-    let (content, _, made) = bind_some (record_under k r.value.now) _ (shown_revision r) later in
-    record { key = cc; stored_key = cc }
-
 pub has_key : (r : Revision) → revision_key r.key.now ≡ Some (shown_revision r).key
-has_key r = (stored r).key
+has_key r = (in_says r.key.now r.value.now (shown_revision r) (shows r).0).1
 
 pub has_stored_key : (r : Revision) → (shown_revision r).stored_key ≡ r.key.now
-has_stored_key r = (stored r).stored_key
+has_stored_key r = (in_says r.key.now r.value.now (shown_revision r) (shows r).0).0
 
 -- ---- its key is spelled
 
@@ -76,9 +63,7 @@ by_numbers a b =
     ap (λ (k : Key). key_cmp k b.key.now) is ∙ ap (key_cmp (spelling (shown_revision a).key)) also ∙ spellings_cmp (shown_revision a).key (shown_revision b).key fits fit
 
 pub decided : (o p : Ordering) → (o ≡ Equal → ⊥) → ordering_then o p ≡ o
-decided Less p differ = refl
-decided Equal p differ = absurd (differ refl)
-decided Greater p differ = refl
+decided o p differ = grind arith
 
 pub by_main : (a b : Revision) (o : Ordering) → o ≡ nat_cmp (shown_revision a).key.main (shown_revision b).key.main → (o ≡ Equal → ⊥) → o ≡ key_cmp a.key.now b.key.now
 by_main a b o is differ = is ∙ sym (by_numbers a b ∙ decided _ _ (λ e. differ (is ∙ e)))

@@ -6,7 +6,7 @@ use Rattle.std.specs.declared.cmp.Ordering.TheVariants.{Equal}
 use Rattle.bolt_check.specs.Keys.{key_cmp}
 use Rattle.bolt_etcd.specs.{NameOrder.name_sum, NameOrder.sums_cmp, Revisions.RevisionView, Revisions.name_of, ShownRevisions.shown_revision}
 use Rattle.bolt_etcd.specs.{SumOrder.AreSortedBy, SumOrder.by_sum_cmp, SumOrder.newest_by_sum_cmp, declared.revision.Revision.Revision}
-use Rattle.bolt_etcd.proofs.{NameOrders.sums_tie, NameOrders.sums_total, NewestOfNames.newest_ranks, SortedOnce.named_total, StoredRevisions.decided}
+use Rattle.bolt_etcd.proofs.{NameOrders.sums_tie, NameOrders.sums_total, NewestOfNames.newest_ranks, SortedOnce.named_total}
 use Rattle.bolt_tree.proofs.Exports.{sorted_mapped}
 
 -- ---- sums decide, or else names
@@ -17,9 +17,6 @@ module _ (a b : Revision) where
 
   abbrev name_b : List ℕ
   name_b = name_of (shown_revision b)
-
-  pub by_sums : (o : Ordering) → o ≡ nat_cmp (name_sum name_a) (name_sum name_b) → (o ≡ Equal → ⊥) → o ≡ sums_cmp name_a name_b
-  by_sums o is differ = is ∙ sym (decided _ _ (λ e. differ (is ∙ e)))
 
   pub by_names : (o p : Ordering) → o ≡ nat_cmp (name_sum name_a) (name_sum name_b) → o ≡ Equal → p ≡ key_cmp name_a name_b → p ≡ sums_cmp name_a name_b
   by_names o p is tied names = names ∙ sym (ap (λ (q : Ordering). ordering_then q (key_cmp name_a name_b)) (sym is ∙ tied))

@@ -1,17 +1,17 @@
 -- A revision that is taken away is missed by the next one of its name.
-use Rattle.std.proofs.Common.{◌≡◌, ◌∙◌, ◌<◌, ◌+◌, ◌++◌, ◌||◌, ℕ, Bool, true, false, List, [], ◌∷◌, cond, filter, inl, inr, not, Option, Some}
+use Rattle.std.proofs.Common.{◌≡◌, ◌∙◌, ◌<◌, ◌+◌, ◌++◌, ℕ, Bool, true, false, List, [], ◌∷◌, cond, filter, inl, inr, not, Option, Some}
 use Rattle.std.proofs.Common.{None, refl, sym, ap, subst, arith}
-use Rattle.std.proofs.lemmas.Bool.{and_from, and_parts, cond-false, cond-true, eqb-true, false_from_ne_true, lt-ltb, not-true, or_left}
+use Rattle.std.proofs.lemmas.Bool.{and_from, cases_Bool, cond-false, cond-true, eqb-true, false_from_ne_true, lt-ltb, or_left}
 use Rattle.std.proofs.{lemmas.List.Elements.Contains-append_left, lemmas.List.Elements.filter-append, lemmas.Option.same_Some}
 use Rattle.std.specs.List.{Contains, find, last_or}
 use Rattle.bolt_tree.proofs.Exports.{contains_head, contains_tail, kept_from, after_it}
-use Rattle.bolt_etcd.specs.{Compactions.IsCompaction, Compactions.kept_revisions, Follows.creates, Follows.follows, Follows.is_next_of}
+use Rattle.bolt_etcd.specs.{Compactions.IsCompaction, Compactions.kept_revisions, Follows.follows}
 use Rattle.bolt_etcd.specs.Histories.{Delete, Put, State, Transaction, history, nothing, version_after}
 use Rattle.bolt_etcd.specs.{NameFaults.AreByName, NameFaults.NameFaultView, NameFaults.fault_of, NameFaults.name_faults, Newest.is_named, Newest.newest, Newest.value_if}
 use Rattle.bolt_etcd.specs.{Revisions.RevisionView, Revisions.name_of, Possible.ArePossible, Taken.IsShownBy, Taken.IsTaken, Taken.TellsOneBefore, Told.number_cmp}
 use Rattle.bolt_etcd.proofs.{HistorySteps.IsWritten, HistorySteps.each, HistorySteps.goes, HistorySteps.numbers_rise, StoreLemmas.itself}
 use Rattle.bolt_etcd.proofs.{WholeNames.IsOwn, WholeNames.LaterFollow, WholeNames.kept_follow, WholeNames.own_before, FaultsOfNames.faults_named, LastOnes.last_in, MissingExact.main_le}
-use Rattle.bolt_etcd.proofs.{NameHistories.follows_held, NameHistories.follows_is, NameHistories.held_of, NameHistories.held_parts, TakenAway.all_rise, TakenAway.left_by_stored_key}
+use Rattle.bolt_etcd.proofs.{NameHistories.follows_is, NameHistories.held_of, NameHistories.held_parts, TakenAway.all_rise, TakenAway.left_by_stored_key}
 
 next_version : (o : Option RevisionView) → 0 < version_after o
 next_version None = omega arith
@@ -26,28 +26,17 @@ has_version : (state : State) (r : RevisionView) → IsWritten state r → HasVe
 has_version state r (Put name value lease, can, is) put = subst (λ (x : RevisionView). 0 < x.content.version) (sym is) (next_version (state name))
 has_version state r (Delete name, can, is) put = let deleted = ap (λ (x : RevisionView). x.key.deleted) is in cc
 
-gone_by : (r : RevisionView) (value : List ℕ) (b : Bool) → cond b None (Some value) ≡ None → cond b None (Some r) ≡ None
-gone_by r value true none = refl
-gone_by r value false some = cc
-
 is_gone : (o : Option RevisionView) → value_if o ≡ None → held_of o ≡ None
 is_gone None none = refl
-is_gone (Some r) none = gone_by r r.content.value r.key.deleted none
+is_gone (Some r) none = grind arith
 
 creates_then : (o : Option RevisionView) (r : RevisionView) → held_of o ≡ None → follows o r ≡ true
     → (r.key.deleted ≡ false) × (r.content.version ≡ 1)
-creates_then o r none follow =
-    let creation : creates r ≡ true = sym (follows_is o r ∙ ap (λ (h : Option RevisionView). follows_held h r) none) ∙ follow in
-    let (both, _) = and_parts _ _ creation in
-    let (live, one) = and_parts _ _ both in
-    (not-true r.key.deleted live, eqb-true r.content.version 1 one)
+creates_then o r none follow = grind (arith, follows_is, eqb-true)
 
 next_then : (o : Option RevisionView) (before r : RevisionView) → held_of o ≡ Some before → r.key.deleted ≡ false → follows o r ≡ true
     → r.content.version ≡ before.content.version + 1
-next_then o before r holds live follow =
-    let either = sym (follows_is o r ∙ ap (λ (h : Option RevisionView). follows_held h r) holds) ∙ follow in
-    let next : is_next_of before r ≡ true = sym (ap (λ (b : Bool). b || is_next_of before r) live) ∙ either in
-    eqb-true r.content.version (before.content.version + 1) (and_parts _ _ next).0
+next_then o before r holds live follow = grind (arith, follows_is, eqb-true)
 
 live_held : (r : RevisionView) → r.key.deleted ≡ false → held_of (Some r) ≡ Some r
 live_held r live = cond-false r.key.deleted None (Some r) live
@@ -63,10 +52,7 @@ upon_gone o r next gone first second both =
 
 upon_put : (o : Option RevisionView) (before r next : RevisionView) (a : Bool) → held_of o ≡ Some before → 0 < before.content.version
     → r.key.deleted ≡ a → next.key.deleted ≡ false → follows o r ≡ true → follows (Some r) next ≡ true → follows o next ≡ true → ⊥
-upon_put o before r next true holds some is live first second both =
-    let one = (creates_then (Some r) next (cond-true r.key.deleted None (Some r) is) second).1 in
-    let up = next_then o before next holds live both in
-    omega (arith, one, up, some)
+upon_put o before r next true holds some is live first second both = grind (arith, creates_then, cond-true, next_then)
 upon_put o before r next false holds some is live first second both =
     let one = next_then o before r holds is first in
     let two = next_then (Some r) r next (live_held r is) live second in
@@ -86,19 +72,16 @@ follows_both o r next (Some before) holds some gone first second both =
 abbrev IsFound : {A : Type 0} → (A → Bool) → List A → A → Type 0
 IsFound {A} p xs x = (rest : List A) × (filter p xs ≡ x ∷ rest) × Contains xs x × (p x ≡ true)
 
-found_step : {A : Type 0} (p : A → Bool) (y : A) (ys : List A) (x : A) (b : Bool) → p y ≡ b → (find p ys ≡ Some x → IsFound p ys x)
-    → cond b (Some y) (find p ys) ≡ Some x
-    → IsFound p (y ∷ ys) x
-found_step p y ys x true is later e =
-    let same = same_Some y x e in
-    (filter p ys, cond-true (p y) _ _ is ∙ ap (λ z. z ∷ filter p ys) same, subst (Contains (y ∷ ys)) same (contains_head y ys), ap p (sym same) ∙ is)
-found_step p y ys x false is later e =
-    let (rest, are, has, passes) = later e in
-    (rest, cond-false (p y) _ _ is ∙ are, contains_tail y x ys has, passes)
-
 found_there : {A : Type 0} (p : A → Bool) (xs : List A) (x : A) → find p xs ≡ Some x → IsFound p xs x
 found_there p [] x e = cc
-found_there p (y ∷ ys) x e = found_step p y ys x (p y) refl (found_there p ys x) e
+found_there p (y ∷ ys) x e = elim (cases_Bool (p y)) [
+  | inl is ↦
+      let same = same_Some y x (rw is at e) in
+      (filter p ys, cond-true (p y) _ _ is ∙ ap (λ z. z ∷ filter p ys) same, subst (Contains (y ∷ ys)) same (contains_head y ys), ap p (sym same) ∙ is)
+  | inr fails ↦
+      let (rest, are, has, passes) = found_there p ys x (rw fails at e) in
+      (rest, cond-false (p y) _ _ fails ∙ are, contains_tail y x ys has, passes)
+]
 
 follow_at : (compacted : ℕ) (o : Option RevisionView) (xs ys : List RevisionView) → LaterFollow compacted o (xs ++ ys)
     → LaterFollow compacted (last_or o xs) ys
@@ -112,13 +95,8 @@ one_more false g f fs has = has
 fault_in : (c : Option ℕ) (granted : ℕ → Bool) (o : Option RevisionView) (xs : List RevisionView) (x : RevisionView) (ys : List RevisionView)
     → (fault_of c granted (last_or o xs) x ys).one_before ≡ true
     → Contains (name_faults c granted o (xs ++ x ∷ ys)) (fault_of c granted (last_or o xs) x ys)
-fault_in c granted o [] x ys is =
-    let f = fault_of c granted o x ys in
-    let first = cond-true (f.one_before || f.lease) _ _ (or_left f.one_before f.lease is) in
-    subst (λ (l : List NameFaultView). Contains l f) (sym first) (contains_head f (name_faults c granted (Some x) ys))
-fault_in c granted o (z ∷ xs) x ys is =
-    let g = fault_of c granted o z (xs ++ x ∷ ys) in
-    one_more (g.one_before || g.lease) g _ (name_faults c granted (Some z) (xs ++ x ∷ ys)) (fault_in c granted (Some z) xs x ys is)
+fault_in c granted o [] x ys is = grind (arith, cond-true, or_left, contains_head)
+fault_in c granted o (z ∷ xs) x ys is = grind (arith, one_more, fault_in c granted (Some z) xs x ys is)
 
 module _ (compacted : ℕ) (ts : List Transaction) (keeps : RevisionView → Bool) (possible : ArePossible ts) (compaction : IsCompaction compacted ts keeps)
     (r next : RevisionView) (left : List RevisionView) (is : IsTaken compacted (kept_revisions keeps ts) r left)
@@ -133,17 +111,10 @@ module _ (compacted : ℕ) (ts : List Transaction) (keeps : RevisionView → Boo
   later = its_next.0
 
   own_kept : filter (is_named (name_of r)) (kept_revisions keeps ts) ≡ earlier ++ r ∷ next ∷ later
-  own_kept =
-      ap (filter (is_named (name_of r))) is.there
-      ∙ filter-append (is_named (name_of r)) is.before (r ∷ is.after)
-      ∙ ap (λ (l : List RevisionView). earlier ++ l)
-      (cond-true (is_named (name_of r) r) _ _ (itself (name_of r)) ∙ ap (λ (l : List RevisionView). r ∷ l) its_next.1)
+  own_kept = grind (arith, filter-append, cond-true, itself)
 
   own_left : filter (is_named (name_of r)) left ≡ earlier ++ next ∷ later
-  own_left =
-      ap (filter (is_named (name_of r))) is.gone
-      ∙ filter-append (is_named (name_of r)) is.before is.after
-      ∙ ap (λ (l : List RevisionView). earlier ++ l) its_next.1
+  own_left = grind (arith, filter-append)
 
   above : compacted < next.key.main
   above =

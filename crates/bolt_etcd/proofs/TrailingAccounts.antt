@@ -1,5 +1,5 @@
 -- Bytes after the last page below the high-water mark: each page and the freelist show what they did, so the file stays sound.
-use Rattle.std.proofs.Common.{◌≡◌, ◌≢◌, ◌∙◌, ◌==◌, ℕ, List, ◌++◌, Bool, true, false, Option, Some, None, cond, ap, refl, sym}
+use Rattle.std.proofs.Common.{arith, ◌≡◌, ◌≢◌, ◌==◌, ℕ, List, ◌++◌, Bool, true, false, Option, Some, None, cond, ap, refl}
 use Rattle.std.proofs.lemmas.Bool.{eq-eqb, ne_eqb}
 use Rattle.bolt_format.specs.Freelists.{free_ids_at, free_ids_of, freelist_fault, freelist_fault_of}
 use Rattle.bolt_format.specs.{Pages.page_overflow, Pages.span_fault, declared.meta.Meta.Meta, declared.meta.TheConstants.NO_FREELIST}
@@ -17,9 +17,7 @@ module _ (file more : List ℕ) (meta : Meta) (all : HasAllPages file meta) wher
   freelist_by : (id : ℕ) (o : Option ℕ) → span_fault file meta id ≡ o → freelist_fault longer meta id ≡ freelist_fault file meta id
   unfolding freelist_fault
   freelist_by id (Some fault) is = rw (span_more file more meta all id, is) refl
-  freelist_by id None is =
-      let below = below_of file more meta all id is in
-      rw (span_more file more meta all id, is, flags_more file more meta all id below, count_more file more meta all id below, bytes_more file more meta all id is) refl
+  freelist_by id None is = grind (arith, below_of, span_more, flags_more, count_more, bytes_more)
 
   own_fault : freelist_fault_of longer meta ≡ freelist_fault_of file meta
   own_fault = ap (λ (o : Option ℕ). cond (meta.freelist == NO_FREELIST) None o) (freelist_by meta.freelist (span_fault file meta meta.freelist) refl)
@@ -27,10 +25,7 @@ module _ (file more : List ℕ) (meta : Meta) (all : HasAllPages file meta) wher
   -- the span of a good freelist that was written passes its tests
   freelist_passes : meta.freelist ≢ NO_FREELIST → freelist_fault_of file meta ≡ None → span_fault file meta meta.freelist ≡ None
   unfolding freelist_fault
-  freelist_passes written good =
-      let own : freelist_fault file meta meta.freelist ≡ None =
-      ap (λ (b : Bool). cond b None (freelist_fault file meta meta.freelist)) (sym (ne_eqb meta.freelist NO_FREELIST written)) ∙ good in
-      (first_of-none (span_fault file meta meta.freelist) _ own).0
+  freelist_passes written good = grind (arith, ne_eqb, first_of-none)
 
   overflow_same : meta.freelist ≢ NO_FREELIST → freelist_fault_of file meta ≡ None → page_overflow longer meta meta.freelist ≡ page_overflow file meta meta.freelist
   overflow_same written good = overflow_more file more meta all meta.freelist (below_of file more meta all meta.freelist (freelist_passes written good))
@@ -38,9 +33,7 @@ module _ (file more : List ℕ) (meta : Meta) (all : HasAllPages file meta) wher
   module _ (good : freelist_fault_of file meta ≡ None) where
     ids_at : meta.freelist ≢ NO_FREELIST → free_ids_at longer meta meta.freelist ≡ free_ids_at file meta meta.freelist
     unfolding free_ids_at
-    ids_at written =
-        let passed = freelist_passes written good in
-        rw (count_more file more meta all meta.freelist (below_of file more meta all meta.freelist passed), bytes_more file more meta all meta.freelist passed) refl
+    ids_at written = grind (arith, freelist_passes, count_more, below_of, bytes_more)
 
     ids_by : (b : Bool) → (meta.freelist == NO_FREELIST) ≡ b → free_ids_of longer meta ≡ free_ids_of file meta
     ids_by true is = rw is refl

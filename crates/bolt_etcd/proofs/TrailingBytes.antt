@@ -1,8 +1,7 @@
 -- Bytes after the last page below the high-water mark: each page is as it was.
-use Rattle.std.proofs.Common.{◌≡◌, ◌∙◌, ◌<◌, ◌≤◌, ◌+◌, ◌*◌, ◌-◌, ℕ, suc, List, ◌++◌, drop, take, length, Option, Some, None, inl, inr, arith, ap, refl, sym}
+use Rattle.std.proofs.Common.{◌≡◌, ◌∙◌, ◌<◌, ◌≤◌, ◌+◌, ◌*◌, ℕ, suc, List, ◌++◌, drop, length, Option, Some, None, inl, inr, arith, ap, refl, sym}
 use Rattle.std.proofs.{Math.Nat.mul-le-mul_right, Math.Seq.take-append_seam, lemmas.Bool.cases_lt, lemmas.Bool.le-leb, lemmas.Bool.le-ltb}
 use Rattle.std.proofs.lemmas.List.{drop-append-le, length-append, length-drop, take-append-le}
-use Rattle.std.specs.List.{slice_range}
 use Rattle.byteorder.specs.{Endian.little_number, Numbers.little_from-take}
 use Rattle.bolt_format.specs.{Bytes.number_at, Headers.count_field, Headers.flags_field, Pages.from_page, Pages.page_at, Pages.page_fault, Pages.page_overflow, Pages.span_bytes, Pages.span_fault}
 use Rattle.bolt_format.specs.declared.meta.Meta.{Meta}
@@ -35,9 +34,7 @@ module _ (file more : List ℕ) (meta : Meta) (all : HasAllPages file meta) wher
   from_more id below = drop-append-le (id * meta.page_size) file more (omega (arith, header_in id below))
 
   field_more : (id at n : ℕ) → id < meta.high_water → at + n ≤ 16 → number_at (from_page (file ++ more) meta id) at n ≡ number_at (from_page file meta id) at n
-  field_more id at n below h =
-      ap (λ (bytes : List ℕ). number_at bytes at n) (from_more id below)
-      ∙ number_more (from_page file meta id) more at n (omega (arith, h, header_in id below, length-drop (id * meta.page_size) file))
+  field_more id at n below h = grind (arith, from_more, number_more, header_in, length-drop)
 
   pub overflow_more : (id : ℕ) → id < meta.high_water → page_overflow (file ++ more) meta id ≡ page_overflow file meta id
   overflow_more id below = field_more id 12 4 below (omega arith)
@@ -49,9 +46,7 @@ module _ (file more : List ℕ) (meta : Meta) (all : HasAllPages file meta) wher
   flags_more id below = field_more id 8 2 below (omega arith)
 
   end_in : (id over : ℕ) → id + over < meta.high_water → (id + 1 + over) * meta.page_size ≤ length file
-  end_in id over below =
-      let rows : (id + 1 + over) * meta.page_size ≤ meta.high_water * meta.page_size = mul-le-mul_right meta.page_size (omega (arith, below)) in
-      omega (arith, rows, all.long)
+  end_in id over below = grind (arith, mul-le-mul_right)
 
   long_more : length file ≤ length (file ++ more)
   long_more = omega (arith, length-append file more)
@@ -59,20 +54,7 @@ module _ (file more : List ℕ) (meta : Meta) (all : HasAllPages file meta) wher
   -- the tests of its span
   span_below : (id : ℕ) → id < meta.high_water → span_fault (file ++ more) meta id ≡ span_fault file meta id
   unfolding span_fault
-  span_below id below =
-      let over = page_overflow file meta id in
-      let e0 = field_more id 0 8 below (omega arith) in
-      let e8 = flags_more id below in
-      let e12 = overflow_more id below in
-      let s = le-ltb (length file) (id * meta.page_size + 16) (header_in id below) in
-      let t = le-ltb (length (file ++ more)) (id * meta.page_size + 16) (omega (arith, header_in id below, long_more)) in
-      elim (cases_lt (id + over) meta.high_water) [
-        | inl within ↦ (
-            let u = le-ltb (length file) ((id + 1 + over) * meta.page_size) (end_in id over within) in
-            let v = le-ltb (length (file ++ more)) ((id + 1 + over) * meta.page_size) (omega (arith, end_in id over within, long_more)) in
-            rw (e0, e8, e12, s, t, u, v) refl)
-        | inr past ↦ (let w = le-leb meta.high_water (id + over) past in rw (e0, e8, e12, s, t, w) refl)
-      ]
+  span_below id below = grind (arith, field_more, flags_more, overflow_more, le-ltb, header_in, long_more, cases_lt, end_in)
 
   span_above : (id : ℕ) → meta.high_water ≤ id → span_fault (file ++ more) meta id ≡ span_fault file meta id
   unfolding span_fault
@@ -86,15 +68,7 @@ module _ (file more : List ℕ) (meta : Meta) (all : HasAllPages file meta) wher
 
   -- the bytes of a span that passes
   pub bytes_more : (id : ℕ) → span_fault file meta id ≡ None → span_bytes (file ++ more) meta id ≡ span_bytes file meta id
-  bytes_more id passed =
-      let over = page_overflow file meta id in
-      let at = id * meta.page_size in
-      let end = (id + 1 + over) * meta.page_size in
-      let within = end_in id over (span_within file meta id passed).0 in
-      let start = header_in id (below_of id passed) in
-      ap (λ n. slice_range (file ++ more) at ((id + 1 + n) * meta.page_size)) (overflow_more id (below_of id passed))
-      ∙ ap (λ (bytes : List ℕ). take (end - at) bytes) (from_more id (below_of id passed))
-      ∙ take-append-le (end - at) (drop at file) more (omega (arith, within, start, length-drop at file))
+  bytes_more id passed = grind (arith, end_in, span_within, header_in, below_of, overflow_more, from_more, take-append-le, length-drop)
 
   -- all tests, and what the page shows
   fault_by : (id : ℕ) (o : Option ℕ) → span_fault file meta id ≡ o → page_fault (file ++ more) meta id ≡ page_fault file meta id

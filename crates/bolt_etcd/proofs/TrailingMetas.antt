@@ -1,5 +1,5 @@
 -- Bytes after the last page below the high-water mark: the same meta is active.
-use Rattle.std.proofs.Common.{◌≡◌, ◌∙◌, ◌+◌, ◌*◌, ◌<◌, ◌≤◌, ℕ, List, [], ◌++◌, drop, take, length, inl, inr, arith, ap, refl, sym}
+use Rattle.std.proofs.Common.{◌≡◌, ◌∙◌, ◌+◌, ◌<◌, ◌≤◌, ℕ, List, [], ◌++◌, drop, take, length, inl, inr, arith, ap, refl, sym}
 use Rattle.std.proofs.{Math.Nat.mul-le-mul_right, lemmas.List.drop-append-le, lemmas.List.length-append, lemmas.List.length-drop, lemmas.List.take-append-le}
 use Rattle.bolt_format.specs.{Metas.IsActive, Metas.IsInSlot, Metas.IsMeta, Metas.other_slot, declared.meta.Meta.Meta, declared.meta.Slot.Slot}
 use Rattle.bolt_format.specs.declared.meta.Slot.TheVariants.{Zero, One}
@@ -57,10 +57,7 @@ module _ (file more : List ℕ) where
   other_less One meta other room valid first = meta_less 0 other (first_room One meta valid) first
 
   chosen_room : (slot : Slot) (meta : Meta) → meta.page_size + 80 ≤ length file → IsActive file slot meta → IsActive (file ++ more) slot meta
-  chosen_room slot meta room chosen = record {
-    valid = in_slot_more slot meta chosen.valid;
-    newest = λ other valid. chosen.newest other (other_less slot meta other room chosen.valid valid);
-  }
+  chosen_room slot meta room chosen = grind (arith, in_slot_more, other_less)
 
 -- ---- a file with sound trees has three pages
 
@@ -76,9 +73,7 @@ three_pages file meta all trees =
     omega (arith, below, above)
 
 second_room : (file : List ℕ) (meta : Meta) → HasAllPages file meta → HasSoundTrees file meta → meta.page_size + 80 ≤ length file
-second_room file meta all trees =
-    let rows : 3 * meta.page_size ≤ meta.high_water * meta.page_size = mul-le-mul_right meta.page_size (three_pages file meta all trees) in
-    omega (arith, rows, all.long, size_bounds meta.page_size all.size)
+second_room file meta all trees = grind (arith, mul-le-mul_right, three_pages, size_bounds)
 
 pub chosen_more : (file more : List ℕ) (slot : Slot) (meta : Meta) → HasAllPages file meta → HasSoundTrees file meta → IsActive file slot meta → IsActive (file ++ more) slot meta
 chosen_more file more slot meta all trees chosen = chosen_room file more slot meta (second_room file meta all trees) chosen

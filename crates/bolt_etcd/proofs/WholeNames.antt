@@ -1,7 +1,7 @@
 -- Of what a compaction keeps of one name nothing is missing.
-use Rattle.std.proofs.Common.{◌≡◌, ◌∙◌, ◌<◌, ◌++◌, ◌&&◌, ◌||◌, ◌==◌, ◌≢◌, ℕ, Bool, true, false, List, [], ◌∷◌, filter, inl, inr, not, Option}
+use Rattle.std.proofs.Common.{◌≡◌, ◌∙◌, ◌<◌, ◌++◌, ◌&&◌, ◌==◌, ◌≢◌, ℕ, Bool, true, false, List, [], ◌∷◌, filter, inl, inr, not, Option}
 use Rattle.std.proofs.Common.{Some, None, refl, sym, ap, subst, arith}
-use Rattle.std.proofs.lemmas.Bool.{and_left, and_right, cond-false, cond-true, eqb-false, ltb-true}
+use Rattle.std.proofs.lemmas.Bool.{and_left, and_right, cond-false, cond-true, eqb-false, ltb-true, or_from}
 use Rattle.std.specs.{Cmp.Lexicographic.same_text, List.Contains, List.last_or, Str.bytes_eq}
 use Rattle.bolt_check.specs.Keys.{Key}
 use Rattle.bolt_tree.proofs.Exports.{contains_cases, contains_head, contains_tail, filter_rises, kept_from}
@@ -65,9 +65,7 @@ module _ (compacted : ℕ) (ts : List Transaction) (keeps : RevisionView → Boo
   own_kept = filter (is_named name) (kept_revisions keeps ts)
 
   own_rise : Rises number_cmp own_kept
-  own_rise =
-      filter_rises number_cmp (is_named name) (kept_revisions keeps ts)
-      (filter_rises number_cmp keeps (history ts) (numbers_rise (history ts) (history_rises ts possible)))
+  own_rise = grind (arith, filter_rises, numbers_rise, history_rises)
 
   all_own : AllFollow None (filter (is_named name) (history ts))
   all_own = all_follow name nothing 2 0 (history ts) None (goes ts possible) refl
@@ -108,9 +106,7 @@ module _ (compacted : ℕ) (ts : List Transaction) (keeps : RevisionView → Boo
         let there = (kept_from keeps (history ts) r (kept_from (is_named name) (kept_revisions keeps ts) r has).0).0 in
         absurd (eqb-false r.content.lease 0 test (each HasNoLeaseIfDeleted no_lease nothing 2 0 (history ts) (goes ts possible) r there deleted))
   ]
-  lease_there granted grants r e false false test deleted =
-      let holds = newest_held name (history ts) ∙ ap held_of (newest_kept r e) ∙ cond-false r.key.deleted None (Some r) deleted in
-      and_right _ _ (ap not (grants r holds (eqb-false r.content.lease 0 test)))
+  lease_there granted grants r e false false test deleted = grind (arith, newest_held, newest_kept, cond-false, and_right, eqb-false)
 
   -- ---- so it has no fault
 
@@ -130,9 +126,6 @@ module _ (compacted : ℕ) (ts : List Transaction) (keeps : RevisionView → Boo
         let same = same_text (name_of r) name (sym (own r (contains_head r (x ∷ rs)))) in
         and_left _ _ (ap not (ap (bytes_eq (name_of x)) same ∙ own x (contains_tail r x (x ∷ rs) (contains_head x rs))))
 
-    neither : (a b : Bool) → a ≡ false → b ≡ false → (a || b) ≡ false
-    neither a b first second = rw (first, second) refl
-
     no_fault : (o : Option RevisionView) (rs : List RevisionView) → IsOwn name o → ((s : RevisionView) → Contains rs s → is_named name s ≡ true)
         → LaterFollow compacted o rs
         → ((s : RevisionView) → last_or o rs ≡ Some s → lacks_lease granted s ≡ false) → name_faults (Some compacted) granted o rs ≡ []
@@ -140,7 +133,7 @@ module _ (compacted : ℕ) (ts : List Transaction) (keeps : RevisionView → Boo
     no_fault o (r ∷ rs) is own follow lease =
         let own_r = own r (contains_head r rs) in
         cond-false _ _ _
-        (neither _ _ (none_before o r (is_of_later compacted r) refl (own_before name o r is own_r) follow.0) (none_of_lease r rs own lease))
+        (or_from _ _ (none_before o r (is_of_later compacted r) refl (own_before name o r is own_r) follow.0) (none_of_lease r rs own lease))
         ∙ no_fault (Some r) rs own_r (λ s has. own s (contains_tail r s rs has)) follow.1 lease
 
     pub no_faults : Grants granted → name_faults (Some compacted) granted None own_kept ≡ []

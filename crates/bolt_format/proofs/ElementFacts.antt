@@ -1,5 +1,5 @@
 -- The elements of good pages have lengths that the format allows, and their values are bytes of the file.
-use Rattle.std.proofs.Common.{◌≡◌, ℕ, ◌+◌, ◌-◌, ◌<◌, ◌≤◌, ◌==◌, ◌||◌, nat_lt, List, length, take, drop, Option, None, Some, sym, ap, subst, inl, inr, arith}
+use Rattle.std.proofs.Common.{◌≡◌, ℕ, ◌+◌, ◌-◌, ◌<◌, ◌≤◌, nat_lt, List, length, take, drop, Option, None, Some, sym, ap, subst, arith}
 use Rattle.std.proofs.lemmas.Bool.{cases_lt, eqb-false, ltb-false, or_parts}
 use Rattle.std.proofs.lemmas.List.{get_or-drop, get_or-take, get_or_past, length-drop, length-take}
 use Rattle.std.specs.List.{Contains, slice_range}
@@ -10,20 +10,14 @@ use Rattle.bolt_format.specs.declared.header.Kind.TheVariants as kind
 use Rattle.bolt_format.proofs.{FaultLemmas.first_of-none, GoodPages.faults_from-none, GoodPages.guard-none, GoodPages.plain-none, PageFacts.in_inline, PageFacts.on_leaf}
 
 key_fits : (n : ℕ) → key_length_fault n ≡ None → IsKeyLength n
-key_fits n e =
-    let both = or_parts (n == 0) (nat_lt 0x40000000 n) (guard-none (n == 0 || nat_lt 0x40000000 n) _ None e).0 in
-    let some = eqb-false n 0 both.0 in
-    let most = ltb-false 0x40000000 n both.1 in
-    (elim (cases_lt 0 n) [ inl more ↦ omega (arith, more) | inr none ↦ absurd (some (omega (arith, none))) ], omega (arith, most))
+key_fits n e = grind (arith, or_parts, guard-none, eqb-false, ltb-false, cases_lt)
 
 value_fits : (n : ℕ) → value_length_fault n ≡ None → IsValueLength n
 value_fits n e = let most = ltb-false 0x7FFFFFFE n (guard-none (nat_lt 0x7FFFFFFE n) _ None e).0 in omega (arith, most)
 
 -- a range of bytes that are there
 length-range : (bytes : List ℕ) (a b : ℕ) → b ≤ length bytes → length (slice_range bytes a b) ≡ b - a
-length-range bytes a b h =
-    let d = length-drop a bytes in
-    let t = length-take (b - a) (drop a bytes) in omega (arith, d, t)
+length-range bytes a b h = grind (arith, length-drop, length-take)
 
 -- element i of good leaves
 leaf_fits : (bucket_fault : List ℕ → Option ℕ) (bytes : List ℕ) (count i : ℕ) → leaves_fault bucket_fault bytes count ≡ None → i < count → HasFitLengths (leaf_element bytes i)
@@ -58,10 +52,7 @@ pub drop_bytes : (bytes : List ℕ) (a : ℕ) → IsBytes bytes → IsBytes (dro
 drop_bytes bytes a h i = subst (λ (x : ℕ). x < 256) (sym (get_or-drop a bytes i 0)) (h (a + i))
 
 take_bytes : (bytes : List ℕ) (n : ℕ) → IsBytes bytes → IsBytes (take n bytes)
-take_bytes bytes n h i = elim (cases_lt i n) [
-  | inl low ↦ subst (λ (x : ℕ). x < 256) (sym (get_or-take n bytes i 0 low)) (h i)
-  | inr high ↦ subst (λ (x : ℕ). x < 256) (sym (get_or_past (take n bytes) i 0 (let l = length-take n bytes in omega (arith, l, high)))) (omega arith)
-]
+take_bytes bytes n h i = grind (arith, cases_lt, get_or-take, get_or_past, length-take)
 
 pub range_bytes : (bytes : List ℕ) (a b : ℕ) → IsBytes bytes → IsBytes (slice_range bytes a b)
 range_bytes bytes a b h = take_bytes (drop a bytes) (b - a) (drop_bytes bytes a h)

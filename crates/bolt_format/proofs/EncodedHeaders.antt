@@ -42,12 +42,7 @@ header_written bytes rest number is count overflow h fit =
 
 pub length-header_bytes : (number : ℕ) (is : Kind) (count overflow : ℕ) → length (header_bytes number is count overflow) ≡ 16
 unfolding header_bytes
-length-header_bytes number is count overflow =
-    let a = length-number_bytes 8 number in
-    let b = length-number_bytes 2 (flags_of is) in
-    let c = length-number_bytes 2 count in
-    let d = length-number_bytes 4 overflow in
-    simp length-append (omega (arith, a, b, c, d))
+length-header_bytes number is count overflow = grind (arith, length-number_bytes, length-append)
 
 -- The header of a branch element.
 pub branch_header_written : (bytes rest : List ℕ) (i pos key child : ℕ) → drop (element_at i) bytes ≡ branch_header pos key child ++ rest
@@ -67,11 +62,7 @@ branch_header_written bytes rest i pos key child h fit =
 
 pub length-branch_header : (pos key child : ℕ) → length (branch_header pos key child) ≡ 16
 unfolding branch_header
-length-branch_header pos key child =
-    let a = length-number_bytes 4 pos in
-    let b = length-number_bytes 4 key in
-    let c = length-number_bytes 8 child in
-    simp length-append (omega (arith, a, b, c))
+length-branch_header pos key child = grind (arith, length-number_bytes, length-append)
 
 -- The header of a leaf element.
 flag_small : (b : Bool) → leaf_flag b < 256 ^ 4
@@ -104,20 +95,12 @@ leaf_header_written bytes rest i is_bucket pos key value h fit =
 
 pub length-leaf_header : (is_bucket : Bool) (pos key value : ℕ) → length (leaf_header is_bucket pos key value) ≡ 16
 unfolding leaf_header
-length-leaf_header is_bucket pos key value =
-    let a = length-number_bytes 4 (leaf_flag is_bucket) in
-    let b = length-number_bytes 4 pos in
-    let c = length-number_bytes 4 key in
-    let d = length-number_bytes 4 value in
-    simp length-append (omega (arith, a, b, c, d))
+length-leaf_header is_bucket pos key value = grind (arith, length-number_bytes, length-append)
 
 -- The head of a bucket's value.
 pub length-head_bytes : (root sequence : ℕ) → length (head_bytes root sequence) ≡ 16
 unfolding head_bytes
-length-head_bytes root sequence =
-    let a = length-number_bytes 8 root in
-    let b = length-number_bytes 8 sequence in
-    simp length-append (omega (arith, a, b))
+length-head_bytes root sequence = grind (arith, length-number_bytes, length-append)
 
 pub head_written : (value rest : List ℕ) (root sequence : ℕ) → value ≡ head_bytes root sequence ++ rest → root < 2 ^ 64 → sequence < 2 ^ 64
     → IsHead value root sequence rest

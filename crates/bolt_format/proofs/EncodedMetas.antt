@@ -1,5 +1,5 @@
 -- A meta page that was written is valid.
-use Rattle.std.proofs.Common.{◌≡◌, ◌∙◌, ◌⊎◌, ℕ, ◌+◌, ◌*◌, ◌^◌, ◌<◌, ◌≤◌, List, [], ◌∷◌, ◌++◌, length, drop, take, refl, sym, ap, subst, inl, inr, arith, append_assoc, bit_xor}
+use Rattle.std.proofs.Common.{◌≡◌, ◌∙◌, ◌⊎◌, ℕ, ◌+◌, ◌*◌, ◌^◌, ◌<◌, ◌≤◌, List, [], ◌∷◌, ◌++◌, length, drop, take, sym, ap, subst, inl, inr, arith, append_assoc, bit_xor}
 use Rattle.std.proofs.{lemmas.List.length-append, Math.Nat.mod-lt}
 use Rattle.bolt_format.specs.{Bytes.fnv_from, Bytes.fnv_of, Bytes.fnv_step, Metas.IsActive, Metas.IsMeta, Metas.IsPageSize, Metas.magic, Metas.meta_fields, Metas.size_at, Metas.version}
 use Rattle.bolt_format.specs.{ReadBack.IsMetaFit, Encoded.header_bytes, Encoded.meta_bytes, Encoded.meta_record, Encoded.number_bytes, declared.meta.Meta.Meta, declared.meta.Slot.TheVariants.One}
@@ -23,32 +23,15 @@ fnv_of-small bytes = fnv_from-small 0xcbf29ce484222325 bytes (omega arith)
 
 length-meta_record : (meta : Meta) → length (meta_record meta) ≡ 56
 unfolding meta_record
-length-meta_record meta =
-    let a = length-number_bytes 4 magic in
-    let b = length-number_bytes 4 version in
-    let c = length-number_bytes 4 meta.page_size in
-    let d = length-number_bytes 4 0 in
-    let e = length-number_bytes 8 meta.root in
-    let f = length-number_bytes 8 meta.root_sequence in
-    let g = length-number_bytes 8 meta.freelist in
-    let h = length-number_bytes 8 meta.high_water in
-    let i = length-number_bytes 8 meta.txid in
-    simp length-append (omega (arith, a, b, c, d, e, f, g, h, i))
+length-meta_record meta = grind (arith, length-number_bytes, length-append)
 
 pub length-meta_bytes : (number : ℕ) (meta : Meta) → length (meta_bytes number meta) ≡ 80
 unfolding meta_bytes
-length-meta_bytes number meta =
-    let a = length-header_bytes number kind.Meta 0 0 in
-    let b = length-meta_record meta in
-    let c = length-number_bytes 8 (fnv_of (meta_record meta)) in
-    simp length-append (omega (arith, a, b, c))
+length-meta_bytes number meta = grind (arith, length-header_bytes, length-meta_record, length-number_bytes, length-append)
 
 same_meta : (a b : Meta) → a.page_size ≡ b.page_size → a.root ≡ b.root → a.root_sequence ≡ b.root_sequence → a.freelist ≡ b.freelist → a.high_water ≡ b.high_water
     → a.txid ≡ b.txid → a ≡ b
-same_meta a b p q r s t u =
-    let f : ℕ → ℕ → ℕ → ℕ → ℕ → ℕ → Meta = λ size root sequence freelist mark txid.
-    record { page_size = size; root = root; root_sequence = sequence; freelist = freelist; high_water = mark; txid = txid } in
-    let e : f a.page_size a.root a.root_sequence a.freelist a.high_water a.txid ≡ f b.page_size b.root b.root_sequence b.freelist b.high_water b.txid = rw (p, q, r, s, t, u) refl in e
+same_meta a b p q r s t u = grind arith
 
 pub meta_written : (file rest : List ℕ) (at number : ℕ) (meta : Meta) → drop at file ≡ meta_bytes number meta ++ rest
     → IsMetaFit meta → (at ≡ 0) ⊎ (at ≡ meta.page_size) → at ≤ length file → IsMeta file at meta
@@ -96,5 +79,4 @@ meta_written file rest at number meta h fit place within =
 
 -- of two metas the one with the greater transaction id is active
 pub chosen_of : (file : List ℕ) (page_size : ℕ) (older one : Meta) → IsMeta file 0 older → IsMeta file page_size one → older.page_size ≡ page_size → older.txid < one.txid → IsActive file One one
-chosen_of file page_size older one first second size newer =
-    newer_one file older one first (inl (older, first, subst (λ (n : ℕ). IsMeta file n one) (sym size) second)) newer
+chosen_of file page_size older one first second size newer = grind (arith, newer_one)

@@ -1,12 +1,12 @@
 -- What follows of the elements of a page that passed its tests.
-use Rattle.std.proofs.Common.{◌≡◌, ◌∙◌, ℕ, zero, suc, ◌+◌, ◌-◌, ◌<◌, ◌≤◌, List, Bool, true, false, Option, None, Some, IsSome, is_some, length, not, zero-add, ◌||◌, eq-eqb, ◌*◌, ◌==◌, nat_le, map, arith, ap, refl, sym, subst, cond, nat_lt, slice_get, inl, inr, take, drop}
+use Rattle.std.proofs.Common.{◌≡◌, ◌∙◌, ℕ, zero, suc, ◌+◌, ◌-◌, ◌<◌, ◌≤◌, List, Bool, true, false, Option, None, Some, IsSome, is_some, length, zero-add, eq-eqb, nat_le, map, arith, ap, refl, sym, subst, cond, nat_lt, slice_get, inl, inr, take, drop}
 use Rattle.std.proofs.{lemmas.Bool.cases_lt, lemmas.Bool.ltb-false, lemmas.Bool.not-false, lemmas.Bool.or_parts, lemmas.Bool.Decides.nat_tests}
 use Rattle.std.proofs.lemmas.List.FromFn.{get_or-map-range_with_len, get_or-range_with_len, length-map-range_with_len, length-range_with_len}
 use Rattle.std.proofs.{lemmas.List.take_rest, lemmas.List.Folds.list_any_at, lemmas.Option.slice_get-get_or}
 use Rattle.std.specs.List.{list_any, range_with_len}
-use Rattle.bolt_format.specs.Elements.{IsBucketValue, branch_element, branch_elements, branch_end, branch_fault, branch_key_length, branch_key_start, branches_fault, data_fault, element_at, faults_from, page_has_bucket, head_fault, head_root, inline_bytes, inline_fault, inline_page_fault, first_of, is_bucket_element, key_length_fault, leaf_element, leaf_fault, leaf_elements, leaf_end, leaf_flags, leaf_flags_fault, leaf_key_length, leaf_key_start, leaf_value, leaf_value_length, leaves_fault, plain_leaf_fault, table_fault, value_fault, value_length_fault}
-use Rattle.bolt_format.specs.Headers.{count_field, flags_field, id_field, kind_of}
-use Rattle.bolt_format.specs.Pages.{content_fault, fault_as, from_page, page_at, page_fault, page_overflow, shown_as, span_bytes, span_fault}
+use Rattle.bolt_format.specs.Elements.{IsBucketValue, branch_element, branch_elements, branch_end, branch_fault, branch_key_length, branch_key_start, branches_fault, data_fault, element_at, faults_from, page_has_bucket, head_fault, head_root, inline_bytes, inline_fault, first_of, is_bucket_element, key_length_fault, leaf_element, leaf_fault, leaf_elements, leaf_end, leaf_value, leaves_fault, plain_leaf_fault, table_fault, value_fault}
+use Rattle.bolt_format.specs.Headers.{count_field}
+use Rattle.bolt_format.specs.Pages.{content_fault, fault_as, from_page, page_at, page_fault, shown_as, span_bytes, span_fault}
 use Rattle.bolt_format.specs.{Private.Spans.IsSpan, Private.Spans.IsWithin, declared.meta.Meta.Meta, declared.open_page.Span.Span, declared.header.Kind.Kind}
 use Rattle.bolt_format.proofs.FaultLemmas.{first_of-none}
 
@@ -27,13 +27,10 @@ faults_from-none fault end free i (suc n) e k low high =
     ]
 
 table-none : (bytes : List ℕ) (count : ℕ) → table_fault bytes count ≡ None → element_at count ≤ length bytes
-table-none bytes count e =
-    let within = ltb-false _ _ (guard-none (nat_lt (length bytes) (element_at count)) _ None e).0 in omega (arith, within)
+table-none bytes count e = grind (arith, ltb-false, guard-none)
 
 data-none : (bytes : List ℕ) (free start end : ℕ) → data_fault bytes free start end ≡ None → end ≤ length bytes
-data-none bytes free start end e =
-    let later = (guard-none (nat_lt start free) _ _ e).1 in
-    let within = ltb-false _ _ (guard-none (nat_lt (length bytes) end) _ None later).0 in omega (arith, within)
+data-none bytes free start end e = grind (arith, guard-none, ltb-false)
 
 -- element i of a good branch
 pub good_branch : (bytes : List ℕ) (count i : ℕ) → branches_fault bytes count ≡ None → i < count
@@ -48,11 +45,7 @@ good_branch bytes count i e h =
 -- a plain element ends within the bytes
 pub plain-none : (bytes : List ℕ) (free i : ℕ) → plain_leaf_fault bytes free i ≡ None → leaf_end bytes i ≤ length bytes
 unfolding plain_leaf_fault
-plain-none bytes free i e =
-    let flags = first_of-none (leaf_flags_fault (leaf_flags bytes i)) _ e in
-    let key = first_of-none (key_length_fault (leaf_key_length bytes i)) _ flags.1 in
-    let value = first_of-none (value_length_fault (leaf_value_length bytes i)) _ key.1 in
-    data-none bytes free (leaf_key_start bytes i) _ value.1
+plain-none bytes free i e = grind (arith, first_of-none, data-none)
 
 chosen-none : (test : Bool) (fault : Option ℕ) → cond test fault None ≡ None → test ≡ true → fault ≡ None
 chosen-none true fault e h = e
@@ -84,14 +77,7 @@ below-of e = grind (arith, nat_tests)
 
 pub good_span : (file : List ℕ) (meta : Meta) (id : ℕ) → span_fault file meta id ≡ None → IsWithin file meta id
 unfolding span_fault
-good_span file meta id e =
-    let in_range = guard-none (nat_le meta.high_water id) _ _ e in
-    let header = guard-none (nat_lt (length file) (id * meta.page_size + 16)) _ _ in_range.1 in
-    let own = guard-none (not (id_field (from_page file meta id) == id)) _ _ header.1 in
-    let kind = guard-none (not (is_some (kind_of (flags_field (from_page file meta id))))) _ _ own.1 in
-    let last = guard-none (nat_le meta.high_water (id + page_overflow file meta id)) _ _ kind.1 in
-    let end = guard-none (nat_lt (length file) ((id + 1 + page_overflow file meta id) * meta.page_size)) _ None last.1 in
-    record { header = ltb-false _ _ header.0; kind = not-false _ kind.0; below = below-of last.0; end = ltb-false _ _ end.0 }
+good_span file meta id e = grind (arith, guard-none, is_some, ltb-false, not-false, below-of)
 
 -- A page that shows something passed all tests.
 shown-passed : (fault : Option ℕ) (kind : Option Kind) (count overflow : ℕ) (bytes : List ℕ) → IsSome (shown_as fault kind count overflow bytes) → fault ≡ None
@@ -134,21 +120,11 @@ not-some (Some x) e = absurd (cc)
 
 good_inline_fault : (bytes : List ℕ) → inline_fault bytes ≡ None → IsInlinePage bytes
 unfolding inline_fault
-good_inline_fault bytes e =
-    let parts = first_of-none (inline_page_fault bytes) _ e in
-    let tests = or_parts (nat_lt (length bytes) 16) _ (guard-none (nat_lt (length bytes) 16 || (not (flags_field bytes == 2) || is_some (leaves_fault head_fault bytes (count_field bytes)))) _ None parts.0).0 in
-    let elements = or_parts (not (flags_field bytes == 2)) _ tests.1 in
-    record {
-      header = ltb-false _ _ tests.0;
-      good = not-some _ elements.1;
-      flat = (guard-none (page_has_bucket bytes (count_field bytes)) _ None parts.1).0;
-    }
+good_inline_fault bytes e = grind (arith, first_of-none, or_parts, guard-none, is_some, ltb-false, not-some)
 
 pub good_inline : (value bytes : List ℕ) → bytes ≡ inline_bytes value → IsBucketValue value → head_root value ≡ 0 → IsInlinePage bytes
 unfolding value_fault
-good_inline value bytes same e root =
-    subst IsInlinePage (sym same) (good_inline_fault (inline_bytes value)
-    (chosen-none (head_root value == 0) (inline_fault (inline_bytes value)) (first_of-none (head_fault value) _ e).1 (eq-eqb (head_root value) 0 root)))
+good_inline value bytes same e root = grind (arith, good_inline_fault, chosen-none, first_of-none, eq-eqb)
 
 -- what a bucket's value has after its head, as the code cuts it
 abbrev after_head : List ℕ → List ℕ
@@ -188,8 +164,7 @@ same-faults bytes free i (suc n) flat =
 pub flat_leaves : (bytes : List ℕ) (count : ℕ) → leaves_fault head_fault bytes count ≡ None → page_has_bucket bytes count ≡ false
     → leaves_fault value_fault bytes count ≡ None
 unfolding leaves_fault
-flat_leaves bytes count good flat =
-    ap (first_of (table_fault bytes count)) (same-faults bytes (element_at count) 0 count (λ k low high. no_bucket-at bytes count k flat (omega arith))) ∙ good
+flat_leaves bytes count good flat = grind (arith, same-faults, no_bucket-at)
 
 pub length-branch_elements : (bytes : List ℕ) (count : ℕ) → length (branch_elements bytes count) ≡ count
 unfolding branch_elements

@@ -6,7 +6,6 @@ mod FaultLemmas
 mod FreeLemmas
 mod GoodPages
 mod ListLemmas
-mod MetaFaultLemmas
 mod MetaLemmas
 mod MetaPrefix
 mod NumberLemmas

@@ -11,8 +11,7 @@ IsMeta-one file at a b p q = p.fields ∙ sym q.fields
 
 -- slot one, where slot zero is valid
 pub IsInOne-beside : (file : List ℕ) (zero meta : Meta) → IsMeta file 0 zero → IsInOne file meta → IsMeta file zero.page_size meta
-IsInOne-beside file zero meta valid (inl (other, first, second)) =
-    subst (λ (m : Meta). IsMeta file m.page_size meta) (IsMeta-one file 0 other zero first valid) second
+IsInOne-beside file zero meta valid (inl (other, first, second)) = grind arith
 IsInOne-beside file zero meta valid (inr (none, lone)) = absurd (none zero valid)
 
 -- slot one, where slot zero is not
@@ -61,10 +60,7 @@ IsActive-one file One meta p Zero another q = absurd (not_both file another meta
 
 -- slot one is active if its transaction is the greater
 pub newer_one : (file : List ℕ) (zero one : Meta) → IsInSlot file Zero zero → IsInSlot file One one → zero.txid < one.txid → IsActive file One one
-newer_one file zero one first second newer = record {
-  valid = second;
-  newest = λ other valid. inl (let e : other.txid ≡ zero.txid = ap (λ (m : Meta). m.txid) (IsInSlot-one file Zero other zero valid first) in omega (arith, e, newer));
-}
+newer_one file zero one first second newer = grind arith
 
 -- slot zero is active if the transaction of slot one is no greater
 pub no_newer : (file : List ℕ) (zero one : Meta) → IsInSlot file Zero zero → IsInSlot file One one → one.txid ≤ zero.txid → IsActive file Zero zero
@@ -80,10 +76,7 @@ no_newer file zero one first second older = record {
 
 -- a meta is active if the other slot has none
 pub lone_chosen : (file : List ℕ) (slot : Slot) (meta : Meta) → ((other : Meta) → IsInSlot file (other_slot slot) other → ⊥) → IsInSlot file slot meta → IsActive file slot meta
-lone_chosen file slot meta none valid = record {
-  valid = valid;
-  newest = λ other is. absurd (none other is);
-}
+lone_chosen file slot meta none valid = grind arith
 
 -- no slot has one
 pub IsInSlot-none : (file : List ℕ) → ((zero : Meta) → IsInSlot file Zero zero → ⊥) → ((one : Meta) → IsInSlot file One one → ⊥)

@@ -41,15 +41,7 @@ sum_same : (file other : List ℕ) (at : ℕ) → SameRecord file other at → n
 sum_same file other at s e = s.numbers 72 8 (omega arith) ∙ (e ∙ ap fnv_of (sym s.hashed))
 
 pub meta_same : (file other : List ℕ) (at : ℕ) (meta : Meta) → SameRecord file other at → IsMeta file at meta → IsMeta other at meta
-meta_same file other at meta s valid = record {
-  whole = s.whole valid.whole;
-  magic = s.numbers 16 4 (omega arith) ∙ valid.magic;
-  version = s.numbers 20 4 (omega arith) ∙ valid.version;
-  sum = sum_same file other at s valid.sum;
-  size = subst IsPageSize (sym (size_same file other at s)) valid.size;
-  place = placed_same file other at s valid.place;
-  fields = valid.fields ∙ fields_same file other at s;
-}
+meta_same file other at meta s valid = grind (arith, sum_same, size_same, placed_same, fields_same)
 
 fault_same : (file other : List ℕ) (at : ℕ) (fault : MetaFault) → SameRecord file other at → HasMetaFault file at fault → HasMetaFault other at fault
 fault_same file other at Cut s h = λ whole. h (s.part whole)

@@ -4,7 +4,7 @@ use Rattle.std.proofs.lemmas.List.FromFn.{get_or-map-range_with_len, length-map-
 use Rattle.std.specs.List.{Contains, range_with_len}
 use Rattle.bolt_format.specs.Elements.{IsBucketValue, LeafElement, head_fault, head_root, inline_bytes, inline_elements, leaf_element, leaf_elements, leaves_fault, value_fault}
 use Rattle.bolt_format.specs.Headers.{count_field, flags_field, kind_of}
-use Rattle.bolt_format.specs.Pages.{PageView, fault_as, from_page, page_at, page_fault, page_overflow, shown_as, span_bytes, span_fault, view_of}
+use Rattle.bolt_format.specs.Pages.{PageView, fault_as, from_page, page_at, page_fault, page_overflow, shown_as, span_bytes, span_fault}
 use Rattle.bolt_format.specs.{declared.meta.Meta.Meta, declared.header.Kind.Kind}
 use Rattle.bolt_format.specs.declared.header.Kind.TheVariants as kind
 use Rattle.bolt_format.proofs.{FaultLemmas.first_of-none, GoodPages.good_fault, GoodPages.good_inline, GoodPages.good_leaf, GoodPages.good_within, GoodPages.no_bucket-at, GoodPages.good_span}
@@ -15,10 +15,7 @@ below_mark file meta id e = let within = good_within file meta id e in omega (ar
 
 -- an element of a list that is made of a function
 made_at : (f : ℕ → LeafElement) (count k : ℕ) (e : LeafElement) → k < length (map f (range_with_len 0 count)) → get_or (map f (range_with_len 0 count)) k e ≡ e → (k < count) × (e ≡ f k)
-made_at f count k e h at =
-    let n = length-map-range_with_len f 0 count in
-    let low : k < count = omega (arith, n, h) in
-    (low, sym at ∙ get_or-map-range_with_len f 0 count k k e low (omega arith))
+made_at f count k e h at = grind (arith, length-map-range_with_len, get_or-map-range_with_len)
 
 element_of : (bytes : List ℕ) (count : ℕ) (e : LeafElement) → Contains (leaf_elements bytes count) e → (i : ℕ) × (i < count) × (e ≡ leaf_element bytes i)
 unfolding leaf_elements
@@ -29,14 +26,10 @@ leaves_good : (fault : Option ℕ) (k : Option Kind) (count overflow : ℕ) (byt
     → fault_as k count bytes ≡ None → (view.leaves ≡ leaf_elements bytes count) × (leaves_fault value_fault bytes count ≡ None)
 leaves_good (Some fault) k count overflow bytes view e leaf good = absurd (let c : None ≡ Some view = e in cc)
 leaves_good None None count overflow bytes view e leaf good = absurd (let c : None ≡ Some view = e in cc)
-leaves_good None (Some kind.Leaf) count overflow bytes view e leaf good =
-    let same : view_of kind.Leaf count overflow bytes ≡ view = cc in (sym (ap (λ (v : PageView). v.leaves) same), good)
-leaves_good None (Some kind.Branch) count overflow bytes view e leaf good =
-    absurd (let same : view_of kind.Branch count overflow bytes ≡ view = cc in let k : kind.Branch ≡ kind.Leaf = ap (λ (v : PageView). v.kind) same ∙ leaf in cc)
-leaves_good None (Some kind.Meta) count overflow bytes view e leaf good =
-    absurd (let same : view_of kind.Meta count overflow bytes ≡ view = cc in let k : kind.Meta ≡ kind.Leaf = ap (λ (v : PageView). v.kind) same ∙ leaf in cc)
-leaves_good None (Some kind.Freelist) count overflow bytes view e leaf good =
-    absurd (let same : view_of kind.Freelist count overflow bytes ≡ view = cc in let k : kind.Freelist ≡ kind.Leaf = ap (λ (v : PageView). v.kind) same ∙ leaf in cc)
+leaves_good None (Some kind.Leaf) count overflow bytes view e leaf good = grind arith
+leaves_good None (Some kind.Branch) count overflow bytes view e leaf good = grind arith
+leaves_good None (Some kind.Meta) count overflow bytes view e leaf good = grind arith
+leaves_good None (Some kind.Freelist) count overflow bytes view e leaf good = grind arith
 
 is_some_of : (o : Option PageView) (view : PageView) → o ≡ Some view → IsSome o
 is_some_of o view e = rw e refl
@@ -44,10 +37,7 @@ is_some_of o view e = rw e refl
 -- a span that passed its tests lies below the mark and in the file
 pub span_within : (file : List ℕ) (meta : Meta) (id : ℕ) → span_fault file meta id ≡ None
     → (id + page_overflow file meta id < meta.high_water) × ((id + page_overflow file meta id + 1) * meta.page_size ≤ length file)
-span_within file meta id passed =
-    let within = good_span file meta id passed in
-    let same : id + 1 + page_overflow file meta id ≡ id + page_overflow file meta id + 1 = omega arith in
-    (within.below, subst (λ (n : ℕ). n * meta.page_size ≤ length file) same within.end)
+span_within file meta id passed = omega (arith, good_span file meta id passed)
 
 pub span_passes : (file : List ℕ) (meta : Meta) (id : ℕ) (view : PageView) → page_at file meta id ≡ Some view → span_fault file meta id ≡ None
 unfolding page_fault

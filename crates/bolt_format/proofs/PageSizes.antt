@@ -12,10 +12,7 @@ IsBounded size = (1024 ≤ size) × (size ≤ largest_page)
 
 sizes_bounded : (k n : ℕ) → k + n ≤ page_size_count → AllByRecursion IsBounded (map (λ k. 1024 * 2 ^ k) (range_with_len k n))
 sizes_bounded k zero h = tt
-sizes_bounded k (suc n) h =
-    let low : 1 ≤ 2 ^ k = one-le-pow k 2 (omega arith) in
-    let high : 2 ^ k ≤ 2 ^ 15 = pow-le-pow_right {n = 2} (omega arith) {i = k} {j = 15} (omega arith) in
-    ((omega arith, omega arith), sizes_bounded (k + 1) n (omega arith))
+sizes_bounded k (suc n) h = grind (arith, one-le-pow, pow-le-pow_right, sizes_bounded (k + 1) n (omega arith))
 
 one_bounded : (sizes : List ℕ) (n : ℕ) → AllByRecursion IsBounded sizes → IsTrue (list_any (λ size. size == n) sizes) → IsBounded n
 one_bounded [] n all h = absurd (cc)

@@ -1,6 +1,6 @@
 -- The command line as it is built, and what its matches say.
-use Rattle.std.proofs.Common.{◌≡◌, ◌⊎◌, ◌∙◌, List, [], ◌∷◌, ◌++◌, ℕ, ◌+◌, ◌<◌, true, false, add-one, get_or, length, map, take, refl, sym, ap, ap₂, subst, inl}
-use Rattle.std.proofs.Common.{inr, rules, ◌||◌, Option, None, Some, Result, Ok, Err, IfOk, IfErr, option_map, slice_get, unwrap_or}
+use Rattle.std.proofs.Common.{arith, ◌≡◌, ◌⊎◌, ◌∙◌, List, [], ◌∷◌, ◌++◌, ℕ, ◌+◌, ◌<◌, true, false, add-one, get_or, length, map, take, refl, sym, ap, ap₂, subst, inl}
+use Rattle.std.proofs.Common.{inr, rules, Option, None, Some, Result, Ok, Err, IfOk, IfErr, option_map, slice_get, unwrap_or}
 use Rattle.bolt_job.proofs.Vocabulary.{AddsArg, AddsSubcommand, App, Asked, Asks, Box, Command, ReadsAs, HasKindOf, HasMatchesOf, Help, IsAmong, IsCommand, IsRefusedBy, Job, Kinds, Memory, Refusal, Row, Rule, Usage, Version, Word, asked, asked_by, asked_by_subcommand, asked_of, command_with, fault_of, first_word_of, is_simple, is_simple_and_free, map-append, option_and_then, program, rule_of, subcommand_of, subcommand_rows_of, take-suc, values_in, with_rule, with_subcommand}
 use Rattle.std.specs.Box.{box_value}
 use Rattle.clap.specs.{Words.Text, declared.parser.ArgMatches.ArgMatches, declared.parser.matches.ArgMatches.TheViews.out-ArgMatches, declared.parser.matches.ArgMatches.TheViews.out-SubCommand}
@@ -20,18 +20,12 @@ made_more f xs i d within = ap (λ n. map f (take n xs)) (add-one i) ∙ ap (map
 -- a command with one more argument
 pub argument_added : (name : Text) (before : List Rule) (rule : Rule) (old new : Command) (arg : Arg) → IsCommand (command_with name before) old
     → rule_of arg ≡ rule → arg.global ≡ false → AddsArg old arg new → IsCommand (command_with name (before ++ rule ∷ [])) new
-argument_added name before rule old new arg above is local adds = (
-  adds.shape local ∙ ap₂ with_rule above.0 is,
-  adds.globals ∙ ap₂ (λ x y. x || y) above.1 local,
-)
+argument_added name before rule old new arg above is local adds = grind (arith, with_rule)
 
 -- a command with one more subcommand
 pub subcommand_added : (a b : App) (old sub new : Command) → IsCommand a old → IsCommand b sub
     → AddsSubcommand old sub new → IsCommand (with_subcommand a b.top) new
-subcommand_added a b old sub new above below adds = (
-  adds.shape below.1 ∙ ap₂ with_subcommand above.0 (ap (λ (x : App). x.top) below.0),
-  adds.globals ∙ ap₂ (λ x y. x || y) above.1 below.1,
-)
+subcommand_added a b old sub new above below adds = grind (arith, with_subcommand)
 
 -- the subcommand that matches have is the one that the words name
 pub subcommand_met : (a b : App) (ws vs : List Text) (m : ArgMatches) → a ≡ b → ws ≡ vs → is_simple b ≡ true
@@ -77,10 +71,7 @@ job_answered texts (Err e) gives taken = tt
 pub word_refused : (kinds : Kinds) (wanted : Result Asked Text) (r : Result Job Refusal) → ReadsAs asked_of wanted r
     → kinds ≡ [] → IfErr r (IsRefusedBy kinds wanted)
 word_refused kinds wanted (Ok job) gives taken = tt
-word_refused kinds wanted (Err e) gives taken = elim gives [
-  | inl full ↦ subst (λ (x : Refusal). IsRefusedBy kinds wanted x) (sym full) tt
-  | inr p ↦ subst (λ (x : Refusal). IsRefusedBy kinds wanted x) (sym p.1) (taken, p.2)
-]
+word_refused kinds wanted (Err e) gives taken = grind arith
 
 pub fault_refused : (k : ErrorKind) (kinds : Kinds) (wanted : Result Asked Text) (e : Refusal) → HasKindOf k e
     → (k ≡ kind.OutOfMemory) ⊎ IsAmong k kinds → IsRefusedBy kinds wanted e

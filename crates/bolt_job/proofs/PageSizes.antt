@@ -1,5 +1,5 @@
 -- Page sizes, alone and in an assumed meta, are read of their words.
-use Rattle.std.proofs.Common.{◌≡◌, ◌∙◌, ◌+◌, ◌&&◌, ◌==◌, Bool, ℕ, [], Option, Some, None, Result, Ok, Err, codes, length, sym, refl, ap, ap₂, arith, subst}
+use Rattle.std.proofs.Common.{◌≡◌, ◌∙◌, ◌&&◌, ◌==◌, Bool, ℕ, Option, Some, None, Result, Ok, Err, codes, length, sym, refl, ap₂, arith, subst}
 use Rattle.bolt_job.proofs.Vocabulary.{IfNone, IfSome, IsPageSize, MatchOption, PageSize, after_first, assumed_of, assumed_when, before_first, drop_all, false_from_ne_true, if◌then◌else◌, is_page_size, list_any, number_in, page_size_asked, page_sizes, position_or_len}
 use Rattle.clap.specs.Words.{Text}
 use Rattle.bolt_text.proofs.Exports.{number_is}
@@ -30,6 +30,4 @@ no_root (Err why) = refl
 
 -- after the end of a word there is no number
 pub no_colon : (word : Text) → position_or_len (λ byte. byte == 58) word ≡ length word → assumed_of word ≡ Err (codes "bad meta: use PAGE_SIZE:ROOT, and no --meta")
-no_colon word end =
-    let empty : after_first (λ byte. byte == 58) word ≡ [] = drop_all (position_or_len (λ byte. byte == 58) word + 1) word (omega (arith, end)) in
-    ap (λ (root : Text). assumed_when (page_size_asked (before_first (λ byte. byte == 58) word)) (number_in root)) empty ∙ no_root (page_size_asked (before_first (λ byte. byte == 58) word))
+no_colon word end = grind (arith, after_first, drop_all, position_or_len, before_first, no_root)

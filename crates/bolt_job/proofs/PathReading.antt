@@ -1,5 +1,5 @@
 -- The parts of a path are read one after another.
-use Rattle.std.proofs.Common.{◌≡◌, ◌∙◌, ◌==◌, Bool, List, [], ◌∷◌, ◌++◌, Result, Ok, Err, codes, length, refl, sym, ap, ap₂, inl, inr, append_assoc, map}
+use Rattle.std.proofs.Common.{arith, ◌≡◌, ◌∙◌, ◌==◌, Bool, List, [], ◌∷◌, ◌++◌, Result, Ok, Err, codes, length, refl, sym, ap, ap₂, inl, inr, append_assoc, map}
 use Rattle.bolt_job.proofs.Vocabulary.{Bor, ReadsAs, IsErrAnd, Key, None, Option, Path, Refusal, Some, Text, each_part, false, hex_path_of, if◌then◌else◌, ◌>>=◌, list_any, option_and_then, option_map, or_bad_hex, or_cases, or_parts, part_of, slice_split, true}
 use Rattle.bolt_text.specs.HexPaths.{hex_bytes_in, hex_path_in, part_in, parts_in}
 use Rattle.bolt_text.specs.declared.part_words.Parts.TheVariants as parts
@@ -30,10 +30,7 @@ module _ (read : Text → Result Key Text) (word : Text) (words : List Text) whe
   pub part_refused : {T U : Type 0} (view : T → Path) (part_view : U → Key) (front : Path) (whole : Result Path Text) (refusal : Refusal) (result : Result T Refusal)
       → ReadsAs part_view (read word) (Err refusal) → continued front (each_part read (word ∷ words)) ≡ whole → IsErrAnd result (λ said. said ≡ refusal) → ReadsAs view whole result
   part_refused view part_view front whole refusal (Ok path) gives same is = absurd is
-  part_refused view part_view front whole refusal (Err said) gives same is = elim gives [
-    | inl full ↦ inl (is ∙ full)
-    | inr (why, is_word, bad) ↦ inr (why, is ∙ is_word, sym same ∙ continued_bad front why.now bad)
-  ]
+  part_refused view part_view front whole refusal (Err said) gives same is = grind (arith, continued_bad)
 
 -- ---- a path in one word, by the parts between its slashes
 

@@ -1,12 +1,10 @@
 -- Bbolt takes the active meta of a layout, and finds all of its pages in the file.
-use Rattle.std.proofs.Common.{◌≡◌, ◌≢◌, ◌∙◌, ◌==◌, ◌&&◌, ◌||◌, ◌*◌, ◌+◌, ◌<◌, ◌≤◌, ◌/◌, ◌^◌, ℕ, Bool, true, false, List, [], Option, Some, ap, ap₂, length, nat_lt, refl, sym, arith}
+use Rattle.std.proofs.Common.{rules, ◌≡◌, ◌∙◌, ◌==◌, ◌||◌, ◌*◌, ◌<◌, ◌≤◌, ◌/◌, ℕ, Bool, true, false, List, [], Some, ap, length, refl, sym, arith}
 use Rattle.std.proofs.{Math.Nat.mul-div_cancel, lemmas.Bool.le-leb}
-use Rattle.bolt_layout.proofs.Words.{copy_meta, eq-eqb, IsMeta, IsPageSize, Layout, le-ltb, layout_mark, layout_meta, layout_of, layout_pages, layout_root, lt-ltb, Meta, mul-le-mul_right, One, size_bounds, Tree}
-use Rattle.bolt_layout.proofs.Soundness.{IsFile, IsLaidOut}
-use Rattle.bolt_layout.specs.Copies.{IsAsked}
-use Rattle.bolt_check.specs.BboltFileFindings.{file_findings, takes, whole_pages}
-use Rattle.bolt_format.specs.{BboltMetas.bbolt_page_size, BboltMetas.bbolt_slot, BboltMetas.bbolt_txid, BboltMetas.greater_txid, BboltMetas.is_bbolt_meta, Bytes.fnv_of, Bytes.number_at, Metas.size_at}
-use Rattle.bolt_format.specs.declared.meta.Slot.{Slot}
+use Rattle.bolt_layout.proofs.Words.{eq-eqb, IsMeta, IsPageSize, Layout, le-ltb, layout_mark, layout_meta, layout_of, lt-ltb, Meta, mul-le-mul_right, One, size_bounds, Tree}
+use Rattle.bolt_layout.proofs.Soundness.{IsLaidOut}
+use Rattle.bolt_check.specs.BboltFileFindings.{file_findings}
+use Rattle.bolt_format.specs.{BboltMetas.bbolt_page_size, BboltMetas.bbolt_slot, BboltMetas.bbolt_txid, BboltMetas.is_bbolt_meta}
 
 or_true : (b : Bool) → (b || true) ≡ true
 or_true true = refl
@@ -15,9 +13,7 @@ or_true false = refl
 -- a valid meta is valid to bbolt
 valid_to_bbolt : (file : List ℕ) (at : ℕ) (meta : Meta) → IsMeta file at meta → is_bbolt_meta file at ≡ true
 unfolding is_bbolt_meta
-valid_to_bbolt file at meta is =
-    rw (le-leb (at + 80) (length file) is.whole, eq-eqb (number_at file (at + 16) 4) _ is.magic, eq-eqb (number_at file (at + 20) 4) _ is.version, eq-eqb (number_at file (at + 72) 8) _ is.sum)
-    (or_true _)
+valid_to_bbolt file at meta is = grind (arith, le-leb, eq-eqb, or_true)
 
 txid_to_bbolt : (file : List ℕ) (at : ℕ) (meta : Meta) → IsMeta file at meta → bbolt_txid file at ≡ Some meta.txid
 txid_to_bbolt file at meta is = rw (valid_to_bbolt file at meta is) (ap Some (sym (ap (λ (m : Meta). m.txid) is.fields)))
@@ -28,11 +24,7 @@ size_to_bbolt file meta is = rw (valid_to_bbolt file 0 meta is) (sym (ap (λ (m 
 slot_one : (file : List ℕ) (page_size : ℕ) (zero one : Meta) → 4096 ≤ length file → IsMeta file 0 zero → IsMeta file page_size one → zero.page_size ≡ page_size → zero.txid < one.txid
     → bbolt_slot file ≡ Some One
 unfolding bbolt_slot
-slot_one file page_size zero one long first second size newer =
-    let at : bbolt_page_size file ≡ page_size = size_to_bbolt file zero first ∙ size in
-    rw (le-ltb (length file) 4096 long)
-    (ap₂ greater_txid (txid_to_bbolt file 0 zero first) (ap (bbolt_txid file) at ∙ txid_to_bbolt file page_size one second)
-    ∙ rw (lt-ltb zero.txid one.txid newer) refl)
+slot_one file page_size zero one long first second size newer = search (rules, size_to_bbolt, le-ltb, txid_to_bbolt, lt-ltb)
 
 -- nothing is found in the file as a whole
 pub layout_file_findings : (which : Layout) (page_size : ℕ) (tree : Tree) (sequence : ℕ) → IsPageSize page_size → IsLaidOut which page_size tree sequence

@@ -5,11 +5,11 @@ use Rattle.std.specs.{List.list_any, Option.option_map}
 use Rattle.std.specs.Prelude.{is_some}
 use Rattle.std.proofs.{lemmas.Bool.eqb-true, lemmas.Option.none-some, lemmas.Option.same_Some, lemmas.Option.slice_get-map}
 use Rattle.bolt_layout.proofs.Words.{AllByRecursion, At_inline, At_page, Contains, contains_cases, contains_head, contains_none, contains_tail, end, Entry, eq-eqb, follow, HasSoundTrees, head_root, Inline_page, inline_elements, inline_page, InlinePage, IsEntry, IsTreeOf, Key, leaf_entry, LeafElement, length-map, Meta, ne_eqb, Node, node_at, Nodes, page_at, PageSpot, PageView, reached, root_spot, Root_page, Spot, Start, start_of, Tree, with_bucket, with_value}
-use Rattle.bolt_layout.proofs.{EvenWays.IsEvenSpot, EvenWays.leaf_is_first, EvenWays.same_node, ListLemmas.all_append, PlacedWays.same_spot}
+use Rattle.bolt_layout.proofs.{EvenWays.IsEvenSpot, EvenWays.leaf_is_first, EvenWays.same_node, ListLemmas.all_append}
 use Rattle.bolt_layout.specs.ForBbolt.{HasShortKeys, HoldsBuckets, IsOneChild}
 use Rattle.bolt_check.proofs.Exports.{a_branch, a_leaf, branch_node, leaf_node, tree_page, follow_some, leads_follow}
 use Rattle.bolt_check.specs.BboltFindings.{AreBboltFindings, begins_otherwise, finding_if, has_one_child, has_other_first_key, inline_findings, is_in_root, is_large_value, is_too_large, is_value, leaves_at, node_findings, seen_findings, spot_findings, way_findings}
-use Rattle.bolt_check.specs.declared.finding.TheConstants.Finding.{FIRST_KEY, INLINE_NUMBER, LARGE_KEY, LEAF_DEPTH, ONE_CHILD, ROOT_VALUE}
+use Rattle.bolt_check.specs.declared.finding.TheConstants.Finding.{FIRST_KEY, LARGE_KEY, LEAF_DEPTH, ONE_CHILD, ROOT_VALUE}
 use Rattle.bolt_check.specs.{Findings.keys_of, Lists.Has, Nodes.branch_entry, Shape.child_at, Shape.child_in, Shape.child_of, Shape.leads}
 use Rattle.bolt_check.specs.{Ways.bucket_spots, Ways.child_spot, Ways.step, Ways.step_entry, Ways.upper_from, declared.finding.Finding.Finding}
 use Rattle.bolt_format.proofs.Exports.{bucket_value, flat_inline}
@@ -129,9 +129,7 @@ module _ (file : List ℕ) (meta : Meta) where
       let root = eqb-true (head_root e.value) 0 z in
       subst IsLed (same_Some _ t led)
       (inner_short (inline_elements e.value) (λ x has. bucket_short (Inline_page (inline_elements e.value)) x inner has (flat_inline e.value x passes root has)))
-  bucket_led host e t passes bucket true false z led =
-      let paged : IsShortBucket (Root_page (head_root e.value)) = rw z at bucket in
-      subst IsLed (same_Some _ t led) (head_root e.value, [], paged, refl)
+  bucket_led host e t passes bucket true false z led = grind (arith, same_Some)
 
   leaf_step : (s : PageSpot) (view : PageView) (i : ℕ) (t : Spot) (next : Option Entry) → page_at file meta s.number ≡ Some view → view.kind ≡ kind.Leaf → IsLed (At_page s)
       → step_entry true s (slice_get (map leaf_entry view.leaves) i) next ≡ Some t → IsLed t
@@ -145,10 +143,7 @@ module _ (file : List ℕ) (meta : Meta) where
           bucket_led s.number le t (bucket_value file meta s.number view le at is has ib) (shows_inside tree es shows short le ((are.exact le).1 own) ib) true (head_root le.value == 0) refl (rw ib at e)
 
       by : (o : Option LeafElement) → slice_get view.leaves i ≡ o → step_entry true s (option_map leaf_entry o) next ≡ Some t → IsLed t
-      by None found e = absurd (none-some t e)
-      by (Some le) found e =
-          let has = contains_at view.leaves i le found in
-          of_bucket le has (leaf_is s view le at is has root address led) le.is_bucket refl e
+      by o found e = grind (arith, none-some, contains_at, of_bucket)
 
   branch_step : (s : PageSpot) (view : PageView) (i : ℕ) (t : Spot) (next : Option Entry) → node_at file meta s.number ≡ Ok (branch_node view) → IsLed (At_page s)
       → step_entry false s (slice_get (map branch_entry view.branches) i) next ≡ Some t → IsLed t
@@ -163,12 +158,7 @@ module _ (file : List ℕ) (meta : Meta) where
 
   step_led : (s : Spot) (i : ℕ) (t : Spot) → ((p : PageSpot) → s ≡ At_page p → (node : Node) × (nodes p.number ≡ Ok node)) → IsLed s → step nodes (Some s) i ≡ Some t → IsLed t
   step_led (At_inline host inner) i t good led e = absurd (none-some t e)
-  step_led (At_page s) i t good led e =
-      let (node, page) = good s refl in
-      elim (tree_page file meta s.number node page) [
-        | a_leaf view at is shown ↦ leaf_step s view i t _ at is led (rw shown at e)
-        | a_branch view at is shown ↦ branch_step s view i t _ shown led (rw shown at e)
-      ]
+  step_led (At_page s) i t good led e = grind (arith, tree_page, leaf_step, branch_step)
 
   -- from a spot on
   ways_led : (here : Spot) (way : List ℕ) (t : Spot) → ((v : List ℕ) (p : PageSpot) → follow nodes (Some here) v ≡ Some (At_page p) → (node : Node) × (nodes p.number ≡ Ok node))
@@ -216,9 +206,7 @@ module _ (file : List ℕ) (meta : Meta) (trees : HasSoundTrees file meta) (tree
 
   -- an address of the root bucket leads to the page that it leads to as a way
   same_page : (way : List ℕ) (s : PageSpot) (n : ℕ) → reached (node_at file meta) meta.root way ≡ Some (At_page s) → leads (node_at file meta) (Some meta.root) way ≡ Some n → n ≡ s.number
-  same_page way s n e l =
-      let (t, led, number) = leads_follow (node_at file meta) (root_spot meta.root) way n l in
-      sym number ∙ ap (λ (x : PageSpot). x.number) (same_spot t s (sym led ∙ e))
+  same_page way s n e l = grind (arith, leads_follow (node_at file meta) (root_spot meta.root) way n l)
 
   buckets_alone : (way : List ℕ) (s : PageSpot) (view : PageView) → reached (node_at file meta) meta.root way ≡ Some (At_page s) → page_at file meta s.number ≡ Some view
       → view.kind ≡ kind.Leaf → (o : Option ℕ) → leads (node_at file meta) (Some meta.root) way ≡ o
@@ -252,9 +240,7 @@ module _ (file : List ℕ) (meta : Meta) (trees : HasSoundTrees file meta) (tree
 
   branch_only : (s : PageSpot) (view : PageView) (in_root : Bool) (leaves : ℕ) → node_at file meta s.number ≡ Ok (branch_node view) → IsEvenSpot (node_at file meta) leaves (At_page s)
       → node_findings in_root leaves s (branch_node view) ≡ finding_if (has_one_child (branch_node view)) ONE_CHILD s.number
-  branch_only s view in_root leaves shown stands =
-      first_alone (finding_if (has_one_child (branch_node view)) ONE_CHILD s.number) _ _ _ _ ROOT_VALUE LARGE_KEY FIRST_KEY LEAF_DEPTH s.number
-      (and_false in_root) refl (begins_so s (branch_node view) leaves shown stands) refl
+  branch_only s view in_root leaves shown stands = grind (arith, first_alone, and_false)
 
   way_only : (way : List ℕ) (t : Spot) → reached (node_at file meta) meta.root way ≡ Some t → way_findings (node_at file meta) meta.root way ≡ lone_at (node_at file meta) (Some t)
   way_only way (At_inline host inner) e =
@@ -289,10 +275,7 @@ module _ (file : List ℕ) (meta : Meta) (trees : HasSoundTrees file meta) (tree
 
   -- if each branch has two children, nothing is
   two_none : (s : PageSpot) (view : PageView) → 2 ≤ length view.branches → node_at file meta s.number ≡ Ok (branch_node view) → lone_at (node_at file meta) (Some (At_page s)) ≡ []
-  two_none s view two shown =
-      let many : (length (map branch_entry view.branches) == 1) ≡ false =
-      ne_eqb (length (map branch_entry view.branches)) 1 (λ one. absurd (omega (arith, one, two, length-map view.branches branch_entry))) in
-      ap (lone s) shown ∙ rw many refl
+  two_none s view two shown = grind (arith, ne_eqb, length-map)
 
   none_at : HasTwoOnBranches → (way : List ℕ) (t : Spot) → reached (node_at file meta) meta.root way ≡ Some t → lone_at (node_at file meta) (Some t) ≡ []
   none_at twos way (At_inline host inner) e = refl
@@ -323,9 +306,7 @@ lone_code s (Ok node) = by (has_one_child node)
     by false = tt
 
 lone_codes : (nodes : Nodes) (o : Option Spot) → AllByRecursion IsOneChild (lone_at nodes o)
-lone_codes nodes (Some (At_page s)) = lone_code s (nodes s.number)
-lone_codes nodes (Some (At_inline host inner)) = tt
-lone_codes nodes None = tt
+lone_codes nodes o = grind (arith, lone_code)
 
 pub all_lone : (nodes : Nodes) (reach : List ℕ → Option Spot) (ways : List (List ℕ)) → AllByRecursion IsOneChild (flat_map (λ (way : List ℕ). lone_at nodes (reach way)) ways)
 all_lone nodes reach [] = tt

@@ -1,6 +1,6 @@
 -- The pages of a layout are as bbolt writes them: the leaves of a bucket are at one depth, each page below a branch begins with the key of its
 -- entry, and no inline page has a number.
-use Rattle.std.proofs.Common.{◌≡◌, ◌≢◌, ◌∙◌, ◌==◌, ℕ, zero, suc, ◌+◌, ◌≤◌, true, false, List, [], ◌∷◌, ◌++◌, Ok, ap, inl, length, map, not, refl, subst, arith}
+use Rattle.std.proofs.Common.{◌≡◌, ◌≢◌, ◌==◌, ℕ, zero, suc, ◌+◌, ◌≤◌, true, false, List, [], ◌∷◌, Ok, ap, map, not, refl, subst, arith}
 use Rattle.std.proofs.lemmas.Slice.Eq.{bytes_eq-Decides}
 use Rattle.bolt_layout.proofs.Words.{AllByRecursion, branch_page_view, BranchElement, elements_of, Entry, head_root, Key, keys_of, Laid, leaf_entry, leaf_page_view, LeafElement, Node, node_of, Nodes, numbers_of, page_over, pages_of, Placed}
 use Rattle.bolt_layout.proofs.{LaidPages.AreNodes, LaidPages.limit, ListLemmas.all_append, ListLemmas.all_split, OverRows.IsOver, OverRows.Pieces}

@@ -1,7 +1,7 @@
 -- The buckets of a tree are laid out as bbolt writes them, in their own pages and inline.
-use Rattle.std.proofs.Common.{◌≡◌, ◌∙◌, ◌==◌, ℕ, ◌+◌, ◌/◌, ◌^◌, ◌<◌, ◌≤◌, Bool, true, false, List, [], ◌++◌, length, nat_le, not, refl, subst, sym, arith}
+use Rattle.std.proofs.Common.{◌≡◌, ℕ, ◌+◌, ◌^◌, ◌<◌, ◌≤◌, Bool, true, false, List, [], length, refl, subst, sym, arith}
 use Rattle.std.proofs.lemmas.Bool.{leb-true}
-use Rattle.bolt_layout.proofs.Words.{AllByRecursion, and_parts, append-nil, bucket_item, elements_of, end, eq-eqb, HasLengths, head_bytes, head_root, head_written, header_bytes, header_written, holds_bucket, inline_value, is_inline, items_of, key_cmp, keys_in, Laid, largest_page, Layout, leaf_bytes, leaf_item, LeafElement, max_items, ne_eqb, Rises, RisesInside, root_over, run_size, size_of, stored_bucket, Tree, with_bucket, with_value}
+use Rattle.bolt_layout.proofs.Words.{AllByRecursion, and_parts, append-nil, bucket_item, elements_of, end, eq-eqb, HasLengths, head_bytes, head_root, head_written, inline_value, is_inline, items_of, key_cmp, keys_in, Laid, largest_page, Layout, leaf_item, LeafElement, max_items, ne_eqb, Rises, RisesInside, root_over, stored_bucket, Tree, with_bucket, with_value}
 use Rattle.bolt_layout.proofs.{EvenPages.IsEven, EvenPages.IsNeatItem, EvenPages.over_even, InlineLemmas.inline_unnumbered, LaidItems.IsItem, LaidItems.length-elements, LaidPages.limit}
 use Rattle.bolt_layout.proofs.{OverRows.IsOver, TreeItems.inline_read, TreeItems.root_page, TreeItems.root_stands, TreeItems.tree_items, TreeItems.tree_rise}
 use Rattle.bolt_format.specs.Elements.{inline_number}
@@ -11,20 +11,13 @@ false_true e = cc
 
 -- an inline bucket has few items
 inline_few : (page_size : ℕ) (inside : Tree) (items : List (Laid LeafElement)) → is_inline page_size inside items ≡ true → length items ≤ max_items
-inline_few page_size inside items e =
-    let parts = and_parts (not (holds_bucket inside)) _ e in
-    let sizes = and_parts (nat_le (run_size size_of items) (page_size / 4)) _ parts.1 in
-    leb-true (length items) max_items sizes.1
+inline_few page_size inside items e = grind (arith, and_parts, leb-true)
 
 value_neat : (key value : List ℕ) → IsNeatItem (leaf_item key value false)
 value_neat key value = record { key = λ n. refl; own = λ nodes n some h shown bucket. absurd (false_true bucket); below = λ nodes n some h shown. tt }
 
 inline_neat : (key value : List ℕ) → head_root value ≡ 0 → inline_number value ≡ 0 → IsNeatItem (leaf_item key value true)
-inline_neat key value root number = record {
-  key = λ n. refl;
-  own = λ nodes n some h shown bucket. (λ inline. number, λ paged. absurd (let inline = eq-eqb (head_root value) 0 root in cc));
-  below = λ nodes n some h shown. tt;
-}
+inline_neat key value root number = grind (arith, eq-eqb)
 
 root_neat : (which : Layout) (page_size : ℕ) (key : List ℕ) (sequence : ℕ) (items : List (Laid LeafElement)) → sequence < 256 ^ 8
     → ((n : ℕ) → (n ≤ ((root_over which page_size items).element n).child) × (((root_over which page_size items).element n).child < n + (root_over which page_size items).numbers))

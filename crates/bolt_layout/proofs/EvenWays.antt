@@ -3,10 +3,10 @@
 use Rattle.std.proofs.Common.{◌≡◌, ◌∙◌, ◌==◌, ℕ, zero, suc, ◌+◌, ◌≤◌, Bool, true, false, List, [], ◌∷◌, map, Option, Some, None, Result, Ok, ap, cond, refl, slice_get, subst, sym, arith}
 use Rattle.std.proofs.lemmas.Option.{none-some, same_Some, slice_get-map}
 use Rattle.std.specs.Option.{option_map}
-use Rattle.bolt_layout.proofs.Words.{AllByRecursion, At_inline, At_page, Entry, follow, head_root, InlinePage, inline_page, Key, leaf_entry, LeafElement, Meta, Node, node_at, Nodes, page_at, PageSpot, PageView, reached, root_spot, Spot}
+use Rattle.bolt_layout.proofs.Words.{AllByRecursion, At_inline, At_page, Entry, follow, head_root, inline_page, Key, leaf_entry, LeafElement, Meta, Node, node_at, Nodes, page_at, PageSpot, PageView, reached, root_spot, Spot}
 use Rattle.bolt_layout.proofs.EvenPages.{BeginsWith, IsEven, IsEvenKid, IsNeatElement, even_depth}
-use Rattle.bolt_check.proofs.Exports.{follow_some, child_leaves, leaves_along, leaves_same, own_leaves, a_branch, a_leaf, branch_node, leaf_node, tree_page}
-use Rattle.bolt_check.specs.{BboltFindings.first_leaf_depth, BboltFindings.leaves_at, Nodes.branch_entry, Ways.bucket_spots, Ways.child_spot, Ways.step, Ways.step_entry, Ways.upper_from}
+use Rattle.bolt_check.proofs.Exports.{follow_some, child_leaves, leaves_along, leaves_same, own_leaves, branch_node, tree_page}
+use Rattle.bolt_check.specs.{BboltFindings.first_leaf_depth, BboltFindings.leaves_at, Nodes.branch_entry, Ways.child_spot, Ways.step, Ways.step_entry, Ways.upper_from}
 use Rattle.bolt_format.specs.declared.header.Kind.TheVariants as kind
 
 -- a page at its depth, by that of the first leaf of its bucket
@@ -85,20 +85,7 @@ module _ (file : List ℕ) (meta : Meta) where
 
   bucket_step : (host : ℕ) (e : LeafElement) (t : Spot) (leaves : ℕ) → IsNeatElement nodes e → (b c : Bool) → e.is_bucket ≡ b → (head_root e.value == 0) ≡ c
       → cond b (Some (cond c (At_inline host (inline_page e.value)) (At_page (root_spot (head_root e.value))))) None ≡ Some t → IsEvenSpot nodes (own_leaves nodes leaves t) t
-  bucket_step host e t leaves neat false c bucket root led = absurd (none-some t led)
-  bucket_step host e t leaves neat true true bucket root led =
-      subst (λ (u : Spot). IsEvenSpot nodes (own_leaves nodes leaves u) u) (same_Some (At_inline host (inline_page e.value)) t led) ((neat bucket).0 root)
-  bucket_step host e t leaves neat true false bucket root led =
-      let (height, low, even) = (neat bucket).1 root in
-      let k = root_spot (head_root e.value) in
-      let here : IsEvenPage nodes (first_leaf_depth nodes 63 (head_root e.value)) k = record {
-        height = height;
-        even = even;
-        deep = let depth = even_depth nodes height (head_root e.value) 63 even low in omega (arith, depth);
-        low = omega arith;
-        begins = λ key is. absurd (none-some key is);
-      } in
-      subst (λ (u : Spot). IsEvenSpot nodes (own_leaves nodes leaves u) u) (same_Some (At_page k) t led) here
+  bucket_step host e t leaves neat h c bucket root led = grind (arith, none-some, same_Some, even_depth)
 
   leaf_step : (s : PageSpot) (view : PageView) (i : ℕ) (t : Spot) (next : Option Entry) (leaves : ℕ) → AllByRecursion (IsNeatElement nodes) view.leaves
       → step_entry true s (slice_get (map leaf_entry view.leaves) i) next ≡ Some t → IsEvenSpot nodes (own_leaves nodes leaves t) t
@@ -116,12 +103,7 @@ module _ (file : List ℕ) (meta : Meta) where
 
   step_even : (s : Spot) (i : ℕ) (t : Spot) (leaves : ℕ) → IsNeatSpot s → IsEvenSpot nodes leaves s → step nodes (Some s) i ≡ Some t → IsEvenSpot nodes (own_leaves nodes leaves t) t
   step_even (At_inline host inner) i t leaves is stands led = absurd (none-some t led)
-  step_even (At_page s) i t leaves is stands led =
-      let (node, page) = is.good s refl in
-      elim (tree_page file meta s.number node page) [
-        | a_leaf view at leaf shown ↦ leaf_step s view i t _ leaves (is.neat s view refl at leaf) (rw shown at led)
-        | a_branch view at branch shown ↦ branch_step s view i t _ leaves shown stands (rw shown at led)
-      ]
+  step_even (At_page s) i t leaves is stands led = grind (arith, tree_page, leaf_step, branch_step)
 
   -- ---- along a way
 
@@ -136,13 +118,7 @@ module _ (file : List ℕ) (meta : Meta) where
       (ap (λ (o : Option Spot). follow nodes o way) (sym is) ∙ e))
 
   root_even : (height : ℕ) → height ≤ 63 → IsEven nodes height meta.root → IsEvenPage nodes (first_leaf_depth nodes 63 meta.root) (root_spot meta.root)
-  root_even height low even = record {
-    height = height;
-    even = even;
-    deep = let depth = even_depth nodes height meta.root 63 even low in omega (arith, depth);
-    low = omega arith;
-    begins = λ key is. absurd (none-some key is);
-  }
+  root_even height low even = grind (arith, even_depth, none-some)
 
   -- from the root page of the file
   pub even_by : (height : ℕ) → height ≤ 63 → IsEven nodes height meta.root → ((way : List ℕ) (t : Spot) → reached nodes meta.root way ≡ Some t → IsNeatSpot t)

@@ -60,12 +60,9 @@ over_faces view page_size [] = refl
 over_faces view page_size (run ∷ runs) = grind (arith, over_faces view page_size runs)
 
 pub leaf_faces : (page_size : ℕ) (items : List (Laid LeafElement)) → map face (leaf_pages page_size items) ≡ map top_face (cut_from page_size 1 face_size [] (map face items))
-leaf_faces page_size items =
-    over_faces leaf_page_view page_size (cut_from page_size 1 size_of [] items)
-    ∙ ap (λ (rs : List (List Face)). map top_face rs) (map_from face page_size 1 face_size [] items)
+leaf_faces page_size items = grind (arith, over_faces leaf_page_view page_size (cut_from page_size 1 size_of [] items), map_from face page_size 1 face_size [] items)
 
 pub next_faces : (which : Layout) (page_size : ℕ) (pages : List (Laid BranchElement))
     → map face (next_level which page_size pages) ≡ map top_face (branch_cut which page_size face_size (map face pages))
 next_faces which page_size pages =
-    over_faces branch_page_view page_size (branch_cut which page_size size_of pages)
-    ∙ ap (λ (rs : List (List Face)). map top_face rs) (map_branches face which page_size face_size pages)
+    grind (arith, over_faces branch_page_view page_size (branch_cut which page_size size_of pages), map_branches face which page_size face_size pages)

@@ -1,9 +1,9 @@
 -- What a file holds can be stored: the tree of a listing that rises, and whose members are held under their paths.
-use Rattle.std.proofs.Common.{◌≡◌, ◌∙◌, ℕ, ◌^◌, ◌<◌, Bool, true, false, IsTrue, List, [], ◌∷◌, ◌++◌, drop, refl, sym, ap, subst, subst₂, inl, inr, arith}
-use Rattle.std.proofs.{lemmas.List.same_from_push, lemmas.Bool.both_ways}
+use Rattle.std.proofs.Common.{◌≡◌, ◌∙◌, ℕ, ◌^◌, ◌<◌, true, IsTrue, List, [], ◌∷◌, ◌++◌, drop, refl, sym, ap, subst, subst₂, inl, inr, arith}
+use Rattle.std.proofs.{lemmas.List.same_from_push}
 use Rattle.bolt_layout.proofs.Words.{Contains, Contains-append_left, Contains-append_right, contains_cases, contains_head, contains_none, contains_tail, end, HasLengths, HasSoundTrees, head_root, head_sequence, inline_elements, Inline_page, IsBelow, IsEntry, IsOfOneTree, IsStorable, IsTreeOf, Key, key_cmp, keys_in, LeafElement, Less, listing_below, listing_of, Member, Meta, Path, Rises, RisesInside, Root_page, Start, start_of, Tree, tree_of, with_bucket, with_value}
 use Rattle.bolt_layout.proofs.SoundCopies.{TreeLists}
-use Rattle.std.specs.{Ordering.ordering_then, declared.cmp.Ordering.Ordering, declared.cmp.Ordering.TheVariants.Equal}
+use Rattle.std.specs.{declared.cmp.Ordering.Ordering}
 use Rattle.byteorder.specs.Numbers.{little_from-lt}
 use Rattle.bolt_format.specs.{Bytes.IsBytes, Bytes.number_at, ElementLengths.HasFitLengths, Elements.IsBucketValue}
 use Rattle.bolt_format.proofs.Exports.{drop_bytes, entry_fits, inline_fits, value_bytes, bucket_value, flat_inline}
@@ -88,9 +88,7 @@ pub record IsGoodEntry (e : LeafElement) : Type 0 where
   pub sequence : e.is_bucket ≡ true → IsBytes e.value
 
 pub good_inner : (value : List ℕ) (e : LeafElement) → IsBucketValue value → head_root value ≡ 0 → Contains (inline_elements value) e → IsGoodEntry e
-good_inner value e good root within =
-    let flat = flat_inline value e good root within in
-    record { lengths = inline_fits value e good root within; value = λ b. absurd (both_ways e.is_bucket flat b); sequence = λ b. absurd (both_ways e.is_bucket flat b) }
+good_inner value e good root within = grind (arith, flat_inline value e good root within, inline_fits value e good root within)
 
 -- the format can hold its member
 pub good_fits : (path : Path) (e : LeafElement) → IsGoodEntry e → IsFitMember (path ++ e.key ∷ []) (item_of e)

@@ -1,5 +1,5 @@
 -- What an order of keys says of a row of items.
-use Rattle.std.proofs.Common.{◌≡◌, true, List, [], ◌∷◌, ◌++◌, Option, None, Some, refl}
+use Rattle.std.proofs.Common.{arith, ◌≡◌, true, List, [], ◌∷◌, ◌++◌, Option, None, Some, refl}
 use Rattle.bolt_layout.proofs.{Words.AllByRecursion, Words.is_below, Words.is_from, Words.Key, Words.key_lt, Words.keys_order_fault, Words.Laid, Words.LeafElement, ListLemmas.all_split}
 use Rattle.bolt_check.specs.Keys.{is_above}
 
@@ -16,10 +16,7 @@ AreBelow xs ys = AllByRecursion (λ x. AllByRecursion (IsBelowItem x) ys) xs
 
 pub rise_split : (xs ys : List (Laid LeafElement)) → ItemsRise (xs ++ ys) → ItemsRise xs × ItemsRise ys × AreBelow xs ys
 rise_split [] ys h = (tt, h, tt)
-rise_split (x ∷ xs) ys h =
-    let first = all_split (IsBelowItem x) xs ys h.0 in
-    let rest = rise_split xs ys h.1 in
-    ((first.0, rest.0), rest.1, (first.1, rest.2))
+rise_split (x ∷ xs) ys h = grind (arith, all_split (IsBelowItem x) xs ys h.0, rise_split xs ys h.1)
 
 -- items whose keys are within bounds, and above one
 abbrev pub IsWithin : Option Key → Option Key → Laid LeafElement → Type 0

@@ -1,6 +1,6 @@
 -- A part of a tree of pages: what is reached passes the tests, and its spans fill a row of page numbers, each once.
 use Rattle.std.proofs.Common.{◌≡◌, ◌∙◌, ℕ, zero, suc, ◌+◌, ◌<◌, ◌≤◌, List, [], ◌∷◌, Option, Some, None, Result, Ok, refl, sym, subst, inl, inr, arith}
-use Rattle.bolt_layout.proofs.Words.{InlinePage, At_inline, At_page, cases_lt, follow, follow_none, inline_finding, Key, Node, node_finding, Nodes, PageSpot, reached, Spot}
+use Rattle.bolt_layout.proofs.Words.{InlinePage, At_inline, At_page, cases_lt, follow, follow_none, inline_finding, Node, node_finding, Nodes, PageSpot, reached, Spot}
 use Rattle.bolt_check.specs.{Nodes.IsInSpan, Ways.Before, Ways.SpanHas, Ways.SpanOf, Findings.IsClaimedBefore, Findings.IsClean, Findings.IsMetaPage, Findings.Passes, Findings.early_finding}
 use Rattle.bolt_check.proofs.Exports.{before_irreflexive}
 

@@ -1,9 +1,8 @@
 -- Each page that a way leads to in a layout is one of its pages: these stand in a row, and so do the spans of the ways.
-use Rattle.std.proofs.Common.{◌≡◌, ◌∙◌, ◌⊎◌, ℕ, ◌+◌, ◌<◌, ◌≤◌, List, [], ◌∷◌, Option, Some, Result, Ok, sym, ap, subst, inl, inr, arith}
-use Rattle.bolt_layout.proofs.Words.{At_inline, At_page, cases_lt, Node, node_of, Nodes, PageSpot, PageView, Placed, Spot}
-use Rattle.bolt_layout.proofs.{LaidPages.AreNodes, PageRows.IsInARow, Parts.IsFinePage, Parts.IsPart}
-use Rattle.bolt_check.proofs.Exports.{span_spot}
-use Rattle.bolt_check.specs.{Nodes.IsInSpan, Ways.SpanHas, Ways.SpanOf}
+use Rattle.std.proofs.Common.{◌≡◌, ◌∙◌, ◌⊎◌, ℕ, ◌+◌, ◌<◌, ◌≤◌, List, [], ◌∷◌, Option, Some, Ok, sym, ap, inl, inr, arith}
+use Rattle.bolt_layout.proofs.Words.{At_page, cases_lt, Node, node_of, Nodes, PageSpot, PageView, Placed, Spot}
+use Rattle.bolt_layout.proofs.{LaidPages.AreNodes, PageRows.IsInARow, Parts.IsPart}
+use Rattle.bolt_check.specs.{Nodes.IsInSpan, Ways.SpanHas}
 use Rattle.bolt_format.specs.declared.header.Kind.{Kind}
 
 -- page n lies in the span of the page that this way leads to
@@ -21,41 +20,21 @@ IsPlaced (p ∷ pages) n = (p.number ≡ n) ⊎ IsPlaced pages n
 overflow_same : (k : Kind) (view : PageView) (node : Node) → node_of k view ≡ Ok node → node.overflow ≡ view.overflow
 overflow_same k view node e = grind arith
 
-pub same_spot : (a b : PageSpot) → ◌≡◌ {A = Option Spot} (Some (At_page a)) (Some (At_page b)) → a ≡ b
-same_spot a b e = cc
-
 module _ (nodes : Nodes) (reach : List ℕ → Option Spot) (from to : ℕ) (part : IsPart nodes reach from to) where
   -- a page that a way leads to lies in its own span
   own_cover : (way : List ℕ) (t : PageSpot) → reach way ≡ Some (At_page t) → IsCovering nodes reach way t t.number
-  own_cover way t led =
-      let fine : IsFinePage nodes t = part.passes way (At_page t) led in
-      record { led = led; node = fine.node; page = fine.page; within = (omega arith, omega arith) }
+  own_cover way t led = grind (arith, part.passes way (At_page t) led)
 
   span_of : (way : List ℕ) (t : PageSpot) (n : ℕ) → IsCovering nodes reach way t n → SpanHas nodes (reach way) n
-  span_of way t n c =
-      let here : SpanOf (Ok c.node) t.number n = c.within in
-      let there : SpanOf (nodes t.number) t.number n = subst (λ (r : Result Node ℕ). SpanOf r t.number n) (sym c.page) here in
-      subst (λ (o : Option Spot). SpanHas nodes o n) (sym c.led) there
+  span_of way t n c = grind arith
 
   -- two that cover one page are one
   one_cover : (v w : List ℕ) (s t : PageSpot) (n : ℕ) → IsCovering nodes reach v s n → IsCovering nodes reach w t n → s ≡ t
-  one_cover v w s t n a b =
-      let same : v ≡ w = part.apart v w n (span_of v s n a) (span_of w t n b) in
-      same_spot s t (sym a.led ∙ (ap reach same ∙ b.led))
+  one_cover v w s t n a b = grind (arith, part.apart v w n (span_of v s n a) (span_of w t n b))
 
   -- each page number is covered
-  cover_spot : (way : List ℕ) (s : Spot) (n : ℕ) → reach way ≡ Some s → SpanHas nodes (Some s) n → (t : PageSpot) × IsCovering nodes reach way t n
-  cover_spot way (At_inline host inner) n led h = absurd h
-  cover_spot way (At_page t) n led h =
-      let fine : IsFinePage nodes t = part.passes way (At_page t) led in
-      let within : SpanOf (Ok fine.node) t.number n = subst (λ (r : Result Node ℕ). SpanOf r t.number n) fine.page h in
-      (t, record { led = led; node = fine.node; page = fine.page; within = within })
-
   covered : (n : ℕ) → from ≤ n → n < to → (way : List ℕ) × (t : PageSpot) × IsCovering nodes reach way t n
-  covered n low high =
-      let (way, span) = part.whole n low high in
-      let (s, (led, here)) = span_spot nodes (reach way) n span in
-      let (t, c) = cover_spot way s n led here in (way, t, c)
+  covered n low high = grind (arith, part.whole n low high)
 
   below : (way : List ℕ) (t : PageSpot) (n : ℕ) → IsCovering nodes reach way t n → n < to
   below way t n c = (part.inside way n (span_of way t n c)).1

@@ -2,7 +2,7 @@
 -- compared, row by row.
 use Rattle.std.proofs.{lemmas.Grind.common_steps, lemmas.Bool.and_cases, lemmas.Bool.eqb-false, lemmas.Bool.eqb-true}
 use Rattle.std.proofs.Common.{◌≡◌, ◌≢◌, ◌∙◌, ◌⊎◌, ◌++◌, ◌-◌, ◌≤◌, ◌==◌, ◌&&◌, ℕ, zero, suc, nat_lt, Bool, true, false, List, [], ◌∷◌, length, map, Option, Some, None, refl, sym, ap, subst, inl, inr, arith}
-use Rattle.bolt_layout.proofs.Words.{AllByRecursion, and_parts, AreRowEnds, Balanced, branch_cut, BranchElement, cases_Bool, cut_of, cut_row, eq-eqb, HaveRightLimits, IsPageRun, join_last, Laid, last_length, length-map, length_push, limit_at, limits_from_ends, ltb-false, ltb-true, map-append, ne_eqb, next_level, Plain, size_of}
+use Rattle.bolt_layout.proofs.Words.{AllByRecursion, and_parts, AreRowEnds, Balanced, branch_cut, BranchElement, cases_Bool, cut_of, cut_row, HaveRightLimits, IsPageRun, join_last, Laid, last_length, length-map, length_push, limit_at, limits_from_ends, ltb-false, ltb-true, map-append, ne_eqb, next_level, Plain, size_of}
 use Rattle.bolt_layout.proofs.{Cutting.cut_divides, Faces.Face, Faces.face, Faces.face_size, Faces.map_cut, Faces.map_last, Faces.next_faces, Faces.top_face}
 use Rattle.bolt_layout.proofs.LastItem.{HasItem, IsPushed, cut_pushed, join_none, join_tops, last_append, last_some, push_counts, push_last, push_tops, some_runs}
 use Rattle.bolt_layout.proofs.{ListLemmas.all_weaker, LimitedRows.IsLimit, LimitedRows.row_limited}
@@ -90,21 +90,7 @@ pushed_row row runs more last all some e r m =
 -- or is a run of its own.
 alone_row : (row : ℕ × ℕ) (runs more : List (List Face)) (last : Face) → more ≡ runs ++ (last ∷ []) ∷ [] → 2 ≤ last_length runs
     → row.1 ≡ last_length more → IsRow true row runs (map top_face more)
-alone_row row runs more last e two m =
-    let one : row.1 ≡ 1 = m ∙ (ap (λ (rs : List (List Face)). last_length rs) e ∙ last_append runs (last ∷ [])) in
-    let t : (row.1 == 1) ≡ true = eq-eqb row.1 1 one in
-    record {
-      limit = None;
-      next = true;
-      noted = λ rows. rw t refl;
-      right = inl (refl, inl two);
-      above_lost = (
-        top_face (last ∷ []),
-        ap (λ (rs : List (List Face)). map top_face rs) e
-            ∙ (map-append top_face runs ((last ∷ []) ∷ [])
-            ∙ ap (λ (rs : List (List Face)). map top_face rs ++ top_face (last ∷ []) ∷ []) (sym (join_none runs (inl two)))),
-      );
-    }
+alone_row row runs more last e two m = grind (arith, last_append runs (last ∷ []), map-append top_face runs ((last ∷ []) ∷ []), join_none runs (inl two))
 
 lost_row : (row : ℕ × ℕ) (runs more : List (List Face)) (last : Face) → AllByRecursion HasItem runs → 1 ≤ length runs → IsPushed runs last more
     → row.0 ≡ length more → row.1 ≡ last_length more → IsRow true row runs (map top_face more)

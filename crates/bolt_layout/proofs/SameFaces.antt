@@ -1,16 +1,12 @@
 -- The items of a bucket have the same keys and sizes in both layouts, and the same buckets are inline.
-use Rattle.std.proofs.Common.{◌≡◌, ◌∙◌, ◌+◌, ℕ, true, false, List, ◌∷◌, length, map, sum_by, refl, sym, ap, arith}
-use Rattle.bolt_layout.proofs.Words.{Balanced, end, holds_bucket, is_inline, items_of, Laid, leaf_item, LeafElement, length-map, Plain, size_of, Tree, with_bucket, with_value}
+use Rattle.std.proofs.Common.{◌≡◌, ◌+◌, ℕ, true, false, List, ◌∷◌, length, map, refl, ap, arith}
+use Rattle.bolt_layout.proofs.Words.{Balanced, end, holds_bucket, is_inline, items_of, Laid, leaf_item, LeafElement, length-map, Plain, Tree, with_bucket, with_value}
 use Rattle.bolt_layout.proofs.Faces.{Face, face, face_size, sum_map}
 
 -- Sizes decide which buckets are inline.
 inline_by_faces : (page_size : ℕ) (inside : Tree) (plain balanced : List (Laid LeafElement)) → map face plain ≡ map face balanced
     → is_inline page_size inside plain ≡ is_inline page_size inside balanced
-inline_by_faces page_size inside plain balanced same =
-    let long : length plain ≡ length balanced = sym (length-map plain face) ∙ (ap (λ (faces : List Face). length faces) same ∙ length-map balanced face) in
-    let sum : sum_by size_of plain ≡ sum_by size_of balanced =
-    sym (sum_map face face_size plain) ∙ (ap (λ (faces : List Face). sum_by face_size faces) same ∙ sum_map face face_size balanced) in
-    rw (long, sum) refl
+inline_by_faces page_size inside plain balanced same = grind (arith, length-map plain face, length-map balanced face, sum_map face face_size plain, sum_map face face_size balanced)
 
 -- A bucket that holds no bucket has the same items.
 same_items : (page_size : ℕ) (tree : Tree) → holds_bucket tree ≡ false → items_of Plain page_size tree ≡ items_of Balanced page_size tree

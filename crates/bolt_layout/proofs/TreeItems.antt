@@ -2,9 +2,9 @@
 use Rattle.bolt_layout.proofs.Parts.{none_some, nothing, IsPart, part_inline}
 use Rattle.bolt_layout.proofs.Words.{AllByRecursion, and_parts, append-nil, At_inline, At_page, bucket_item, bucket_spots, common_steps, contains_head, contains_tail, elements_of, end, eq-eqb, finding_of, follow, HasLengths, head_bytes, head_root, head_sequence, head_written, holds_bucket, inline_elements, inline_page, inline_finding, inline_value, is_inline, IsBelow, items_of, Key, key_cmp, keys_in, keys_of, Laid, largest_page, Layout, leaf_data, leaf_entry, leaf_item, LeafElement, length-append, length-header_bytes, max_items, ne_eqb, Nodes, Rises, RisesInside, root_over, root_spot, run_size, size_of, Spot, stored_bucket, Tree, value_fault, with_bucket, with_value}
 use Rattle.bolt_layout.proofs.{InlineLemmas.IsFlat, InlineLemmas.inline_written, SpanLemmas.length-leaf_bytes, KeyLaws.IsBelowItem, KeyLaws.IsWithin, KeyLaws.ItemsRise, ListLemmas.all_weaker}
-use Rattle.bolt_layout.proofs.{OverRows.HasShortKey, OverRows.IsAtMost, OverRows.IsOver, OverRows.root_is_over, LaidPages.limit, LaidItems.IsItem, LaidItems.items_size, LaidItems.length-elements}
+use Rattle.bolt_layout.proofs.{OverRows.IsOver, OverRows.root_is_over, LaidPages.limit, LaidItems.IsItem, LaidItems.items_size, LaidItems.length-elements}
 use Rattle.bolt_layout.proofs.{LeafPages.IsPage, LeafPages.above_none, LeafPages.items_keys, BranchPages.over_page}
-use Rattle.std.proofs.Common.{◌≡◌, ◌∙◌, ℕ, ◌+◌, ◌*◌, ◌/◌, ◌^◌, ◌<◌, ◌≤◌, ◌==◌, not, nat_le, Bool, true, false, List, [], ◌∷◌, length, map, Option, Some, None, refl, sym, ap, subst, arith}
+use Rattle.std.proofs.Common.{rules, ◌≡◌, ◌∙◌, ℕ, ◌+◌, ◌*◌, ◌/◌, ◌^◌, ◌<◌, ◌≤◌, ◌==◌, not, nat_le, Bool, true, false, List, [], ◌∷◌, length, map, Option, Some, None, refl, sym, ap, subst, arith}
 use Rattle.std.proofs.lemmas.Bool.{leb-true, not-true}
 use Rattle.bolt_format.proofs.Exports.{length-head_bytes, root_passes}
 
@@ -12,16 +12,7 @@ use Rattle.bolt_format.proofs.Exports.{length-head_bytes, root_passes}
 flat_item : (page_size : ℕ) (key value : List ℕ) (flag : Bool) → 1 ≤ length key → length key ≤ 0x40000000 → length value ≤ 0x7FFFFFFE → (flag ≡ true → value_fault value ≡ None)
     → ((nodes : Nodes) (n host : ℕ) → 1 ≤ n → IsPart nodes (follow nodes (bucket_spots host (leaf_entry (record { key = key; value = value; is_bucket = flag })))) n (n + 0))
     → IsItem page_size (leaf_item key value flag)
-flat_item page_size key value flag some short sized bucket part = record {
-  pages = record { row = λ n. omega arith; room = λ n. tt; fits = λ n any h. tt };
-  some = some;
-  short = short;
-  most = omega arith;
-  key = λ n. refl;
-  size = λ n. refl;
-  fit = λ n any h. record { some = some; key = short; value = sized; bucket = bucket };
-  part = λ nodes n host any h shown. part nodes n host any;
-}
+flat_item page_size key value flag some short sized bucket part = search rules
 
 -- a value
 value_item : (page_size : ℕ) (key value : List ℕ) → 1 ≤ length key → length key ≤ 0x40000000 → length value ≤ 0x7FFFFFFE → IsItem page_size (leaf_item key value false)
@@ -90,10 +81,7 @@ inline_item which page_size key sequence inside small some short sized lengths a
 -- the root page of a bucket's items stands over them
 pub root_stands : (which : Layout) (page_size : ℕ) (items : List (Laid LeafElement)) → page_size ≤ largest_page → AllByRecursion (IsItem page_size) items
     → (height : ℕ) × ((root_over which page_size items).numbers ≤ limit → height ≤ 63) × IsOver page_size height (root_over which page_size items) items
-root_stands which page_size items small all =
-    let keys = all_weaker (IsItem page_size) HasShortKey (λ item i. i.short) items all in
-    let sizes = all_weaker (IsItem page_size) (IsAtMost 0xFFFFFFEF) (λ item i. i.most) items all in
-    root_is_over which page_size items (omega arith) keys sizes
+root_stands which page_size items small all = grind (arith, all_weaker, root_is_over)
 
 pub root_page : (which : Layout) (page_size : ℕ) (items : List (Laid LeafElement)) → 0 < page_size → page_size ≤ largest_page → AllByRecursion (IsItem page_size) items → ItemsRise items
     → (height : ℕ) × ((root_over which page_size items).numbers ≤ limit → height ≤ 63) × IsPage page_size height (root_over which page_size items) items

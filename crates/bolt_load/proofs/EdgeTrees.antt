@@ -1,5 +1,5 @@
 -- A member that comes last is put at the end of its bucket, which is on the right edge of the tree.
-use Rattle.std.proofs.Common.{◌≡◌, ◌∙◌, ℕ, List, [], ◌∷◌, ◌++◌, refl, sym, ap, append_assoc, append-nil}
+use Rattle.std.proofs.Common.{arith, ◌≡◌, ◌∙◌, ℕ, List, [], ◌∷◌, ◌++◌, refl, sym, ap, append_assoc, append-nil}
 use Rattle.bolt_load.proofs.Words.{Bucket, end, Item, Key, listing_below, Member, Path, Tree, Value, with_bucket, with_value}
 
 -- the first if nothing comes after, and otherwise the second
@@ -47,20 +47,15 @@ put_lists end base [] key (Value value) edge = refl
 put_lists end base [] key (Bucket sequence) edge = refl
 put_lists end base (part ∷ path) key item edge = absurd edge
 put_lists (with_value k v after) base path key item edge = ap (λ more. (base ++ k ∷ [], Value v) ∷ more) (put_lists after base path key item edge)
-put_lists (with_bucket k s inside after) base [] key item edge =
-    ap (λ more. (base ++ k ∷ [], Bucket s) ∷ (listing_below (base ++ k ∷ []) inside ++ more)) (put_lists after base [] key item (root_on_edge after))
-    ∙ ap (λ more. (base ++ k ∷ [], Bucket s) ∷ more) (sym (append_assoc (listing_below (base ++ k ∷ []) inside) (listing_below base after) ((base ++ (key ∷ []), item) ∷ [])))
+put_lists (with_bucket k s inside after) base [] key item edge = grind (arith, append_assoc, put_lists after base [] key item (root_on_edge after))
 put_lists (with_bucket k s inside end) base (part ∷ path) key item edge =
     let same : (base ++ k ∷ []) ++ (path ++ key ∷ []) ≡ base ++ ((part ∷ path) ++ key ∷ []) =
     append_assoc base (k ∷ []) (path ++ key ∷ []) ∙ ap (λ part. base ++ (part ∷ (path ++ key ∷ []))) edge.0 in
     ap (λ more. (base ++ k ∷ [], Bucket s) ∷ (more ++ [])) (put_lists inside (base ++ k ∷ []) path key item edge.1 ∙ ap (λ path. listing_below (base ++ k ∷ []) inside ++ (path, item) ∷ []) same)
     ∙ ap (λ more. (base ++ k ∷ [], Bucket s) ∷ more) (moved (listing_below (base ++ k ∷ []) inside) (base ++ ((part ∷ path) ++ key ∷ []), item))
-put_lists (with_bucket k s inside (with_value a b c)) base (part ∷ path) key item edge =
-    ap (λ more. (base ++ k ∷ [], Bucket s) ∷ (listing_below (base ++ k ∷ []) inside ++ more)) (put_lists (with_value a b c) base (part ∷ path) key item edge)
-    ∙ ap (λ more. (base ++ k ∷ [], Bucket s) ∷ more) (sym (append_assoc (listing_below (base ++ k ∷ []) inside) (listing_below base (with_value a b c)) ((base ++ ((part ∷ path) ++ key ∷ []), item) ∷ [])))
+put_lists (with_bucket k s inside (with_value a b c)) base (part ∷ path) key item edge = grind (arith, append_assoc, put_lists (with_value a b c) base (part ∷ path) key item edge)
 put_lists (with_bucket k s inside (with_bucket a b c d)) base (part ∷ path) key item edge =
-    ap (λ more. (base ++ k ∷ [], Bucket s) ∷ (listing_below (base ++ k ∷ []) inside ++ more)) (put_lists (with_bucket a b c d) base (part ∷ path) key item edge)
-    ∙ ap (λ more. (base ++ k ∷ [], Bucket s) ∷ more) (sym (append_assoc (listing_below (base ++ k ∷ []) inside) (listing_below base (with_bucket a b c d)) ((base ++ ((part ∷ path) ++ key ∷ []), item) ∷ [])))
+    grind (arith, append_assoc, put_lists (with_bucket a b c d) base (part ∷ path) key item edge)
 
 -- the tree isn't empty then
 put_some : (tree : Tree) (path : Path) (key : Key) (item : Item) (Here Later : Type 0) → Later → fact_at_end (put_last tree path key item) Here Later

@@ -1,8 +1,7 @@
 -- What a file lists has bytes of the file in its keys and its values.
-use Rattle.std.proofs.{lemmas.Grind.common_steps, lemmas.List.get_or-take, lemmas.List.get_or_past, lemmas.Bool.both_ways}
-use Rattle.std.proofs.Common.{◌≡◌, ℕ, Bool, true, false, List, [], ◌∷◌, sym, subst, arith}
-use Rattle.bolt_load.proofs.Words.{ArePartsBytes, cases_lt, Contains, IsFitItem, Item, Member, Path}
-use Rattle.std.specs.List.{slice_range}
+use Rattle.std.proofs.{lemmas.Grind.common_steps, lemmas.Bool.both_ways}
+use Rattle.std.proofs.Common.{◌≡◌, ℕ, true, List, [], ◌∷◌, sym, subst, arith}
+use Rattle.bolt_load.proofs.Words.{ArePartsBytes, Contains, IsFitItem, Item, Member, Path}
 use Rattle.bolt_format.specs.Bytes.{IsBytes}
 use Rattle.bolt_format.specs.Elements.{IsBucketValue, LeafElement, head_root, inline_bytes, inline_elements, leaf_element, leaf_key_start, leaf_value_start}
 use Rattle.bolt_format.specs.{Pages.span_bytes, declared.meta.Meta.Meta}

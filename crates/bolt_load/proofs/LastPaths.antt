@@ -1,5 +1,5 @@
 -- The buckets of the members so far in which a further member may be are those of the last path: paths rise, and each has its bucket before it.
-use Rattle.std.proofs.Common.{rules, ◌≡◌, ◌∙◌, ◌⊎◌, inl, inr, ◌<◌, ◌+◌, ◌-◌, ◌==◌, ◌&&◌, ◌||◌, Bool, true, false, List, [], ◌∷◌, ◌++◌, Some, length, take, drop, slice_get, refl, sym, ap, subst, arith, append_assoc, append-nil, length-append, length-drop}
+use Rattle.std.proofs.Common.{rules, ◌≡◌, ◌∙◌, ◌⊎◌, inl, inr, ◌<◌, ◌+◌, ◌-◌, ◌==◌, ◌||◌, Bool, true, false, List, [], ◌∷◌, ◌++◌, Some, length, take, drop, slice_get, refl, sym, ap, subst, arith, append_assoc, append-nil, length-append, length-drop}
 use Rattle.std.proofs.{lemmas.Grind.common_steps, lemmas.Bool.or_cases, lemmas.List.Folds.list_any-append, lemmas.Slice.Eq.slice_eq-Decides, Math.Seq.take-append-add}
 use Rattle.std.specs.Cmp.Lexicographic.{pointwise}
 use Rattle.std.specs.Prelude.{nat_lt}
@@ -57,9 +57,7 @@ longer_open : (last above : Path) (bucket : Bool) (key : Key) (rest : Path) → 
 longer_open last above bucket key rest is = grind (arith, common_steps, begins_by, key, length-append, nat_lt, nat_tests)
 
 same_open : (last above : Path) (bucket : Bool) → last ≡ above → bucket ≡ true → is_open last bucket above ≡ true
-same_open last above bucket same is =
-    let begins = begins_by above last [] (same ∙ sym (append-nil above)) in
-    ap (λ b. b && (nat_lt (length above) (length last) || bucket)) begins ∙ or_right (nat_lt (length above) (length last)) bucket is
+same_open last above bucket same is = cc (begins_by above last [] (same ∙ sym (append-nil above)), append-nil above, or_right (nat_lt (length above) (length last)) bucket is)
 
 -- ---- the last of the members so far
 

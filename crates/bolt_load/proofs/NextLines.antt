@@ -1,7 +1,7 @@
 -- The next line tells the member whose bytes come next.
-use Rattle.std.proofs.Common.{rules, ◌≡◌, ◌∙◌, ℕ, List, [], ◌∷◌, ◌++◌, Option, Some, None, length, drop, take, refl, sym, ap, ap₂, subst, arith, append_assoc}
+use Rattle.std.proofs.Common.{rules, ◌≡◌, ◌∙◌, ℕ, List, [], ◌∷◌, ◌++◌, Option, Some, None, length, drop, take, refl, sym, ap, subst, arith, append_assoc}
 use Rattle.std.proofs.lemmas.List.{append_cancel_left}
-use Rattle.bolt_load.proofs.Words.{All, AreDecoded, BeginsWith, GivesLine, IsFirstLine, IsSome, Item, item_bytes, line_member, lines_of, Member, member_bytes, members_of_lines, Path, path_bytes, take-append-drop, take-append_seam, Text, text_members}
+use Rattle.bolt_load.proofs.Words.{All, AreDecoded, BeginsWith, IsFirstLine, IsSome, Item, item_bytes, line_member, lines_of, Member, member_bytes, members_of_lines, Path, path_bytes, take-append-drop, take-append_seam, Text, text_members}
 use Rattle.bolt_load.proofs.MemberLemmas.{member_of}
 use Rattle.std.specs.Prelude.{suc, IsSomeAnd}
 use Rattle.bolt_load.specs.Private.Decoding.{listing_bytes}

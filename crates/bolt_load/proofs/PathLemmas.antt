@@ -115,17 +115,11 @@ module _ (word rest : Text) (old bytes new : List ℕ) (so_far : AddsParts word 
       at None found = ap is_some found ∙ sym (ap (λ path. is_some (option_map path_bytes path)) (bad_end word rest so_far.front so_far.parts without found))
       at (Some key) found = ap is_some found ∙ sym (ap (λ path. is_some (option_map path_bytes path)) (end_part word rest so_far.front so_far.parts key without found))
 
-pub none_added : (word : Text) (old : List ℕ) → AddsParts word word old old
-none_added word old = record { front = []; parts = all_parts word; added = sym (append-nil old) }
-
 -- ---- the lengths of the parts
 
 -- the parts so far aren't long
 abbrev pub HasShort : (word rest : Text) → Type 0
 HasShort word rest = (path : Path) → hex_path_in word ≡ Some path → (left : Path) × (hex_path_in rest ≡ Some left) × (list_any is_long_key path ≡ list_any is_long_key left)
-
-pub none_short : (word : Text) → HasShort word word
-none_short word path is = (path, is, refl)
 
 some_else : {A : Type 0} (b : Bool) (x : Option A) (a : A) → (if b then None else x) ≡ Some a → x ≡ Some a
 some_else b x a is = grind arith

@@ -3,7 +3,7 @@ use Rattle.std.proofs.Common.{rules, unwrap_or, ◌≡◌, ◌∙◌, ◌<◌, �
 use Rattle.std.proofs.{lemmas.Grind.common_steps, lemmas.List.Splits.join_with_byte-slice_split}
 use Rattle.std.specs.{Char.to_ascii_lowercase, List.join_with_byte, Result.result_unwrap_or, Str.str_to_ascii_lowercase}
 use Rattle.std.specs.Prelude.{nat_lt, slice_index}
-use Rattle.bolt_load.proofs.Words.{and_parts, Bucket, bytes_eq, bytes_eq-Decides, cases_Bool, cases_lt, decode_pairs, digit_or_error, encode_lower, encode_with, flat_map, FromHexError, hex_bytes_in, hex_digit_value, hex_path, hex_path_in, if◌then◌else◌, IsListingText, Item, item_end, item_in, line, line_member, lines_of, listing_text, lower_digits, map-append, Member, member_in, member_line, members_of_lines, nat_tests, number_in, option_and_then, option_map, pair_value, part_in, parts_in, Path, place_fault, result_ok, RightAfter, shape_fault, slice_split, Text, text_members, Value, value_at, value_end, ◌>>=◌}
+use Rattle.bolt_load.proofs.Words.{and_parts, Bucket, bytes_eq, bytes_eq-Decides, cases_Bool, cases_lt, decode_pairs, digit_or_error, encode_lower, encode_with, flat_map, FromHexError, hex_bytes_in, hex_digit_value, hex_path, hex_path_in, if◌then◌else◌, IsListingText, Item, item_end, item_in, line, line_member, lines_of, listing_text, lower_digits, map-append, Member, member_in, member_line, members_of_lines, nat_tests, number_in, option_and_then, option_map, pair_value, part_in, parts_in, Path, result_ok, RightAfter, slice_split, Text, text_members, Value, value_at, value_end, ◌>>=◌}
 use Rattle.bolt_load.proofs.{DecodedLines.shaped_member, NextLines.members_first, NextLines.parts_of, PathLemmas.part_is, PathLemmas.with_some, TextTrees.or_parts_none}
 use Rattle.bolt_load.specs.PlainTexts.{plain_line, plain_text, plain_word, plain_words}
 
@@ -122,10 +122,7 @@ line_plain line member is = words_plain (slice_split (λ byte. byte == 32) line)
 lines_plain : (lines : List Text) (before : List Member) → RightAfter before lines → flat_map plain_line lines ≡ listing_text (members_of_lines lines)
 lines_plain [] before right = refl
 lines_plain (line ∷ lines) before right =
-    let shaped = (or_parts_none (shape_fault line) (option_and_then (place_fault before) (line_member line)) right.0).0 in
-    let told = shaped_member line shaped in
-    ap₂ (λ (xs ys : Text). xs ++ ys) (line_plain line told.0 told.1) (lines_plain lines (before ++ members_of_lines (line ∷ [])) right.1)
-    ∙ ap listing_text (sym (members_first line lines told.0 told.1))
+    grind (arith, or_parts_none, option_and_then, shaped_member, line_plain, members_first, lines_plain lines (before ++ members_of_lines (line ∷ [])) right.1)
 
 pub text_plain : (text : Text) → IsListingText text → plain_text text ≡ listing_text (text_members text)
 text_plain text is = lines_plain (lines_of text) [] is.right

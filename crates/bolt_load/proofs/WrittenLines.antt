@@ -1,11 +1,11 @@
 -- The line of a member is read back as that member.
 use Rattle.std.proofs.Common.{rules, ◌≡◌, ◌∙◌, ◌==◌, ◌<◌, ◌≤◌, ◌^◌, ℕ, zero, suc, Bool, true, false, List, [], ◌∷◌, ◌++◌, Option, Some, None, codes, length, map, refl, sym, ap, ap₂, arith, append_assoc}
 use Rattle.std.proofs.{lemmas.Bool.not-true, lemmas.Grind.common_steps, lemmas.List.Elements.All-cons, lemmas.List.Elements.All-nil}
-use Rattle.bolt_load.proofs.Words.{All-append, all_ascii_digits, and_parts, ArePartsBytes, Bucket, decimal, digits_decimal, encode_lower, encode_with, hex_bytes_in, hex_path, hex_path_in, is_ascii_digit, is_long_item, is_long_key, IsFitItem, IsMemberOfBytes, IsWithout, Item, item_end, Key, line, line_member, list_any, lower_digits, Member, member_in, member_line, nat_tests, number_in, option_and_then, option_map, part_in, parts_in, Path, result_ok, shape_fault, slice_split, slice_split_at, slice_split_none, Text, Value, value_end}
+use Rattle.bolt_load.proofs.Words.{All-append, all_ascii_digits, and_parts, ArePartsBytes, Bucket, decimal, digits_decimal, encode_lower, encode_with, hex_bytes_in, hex_path, hex_path_in, is_ascii_digit, is_long_item, is_long_key, IsFitItem, IsMemberOfBytes, IsWithout, Item, item_end, Key, line, line_member, list_any, lower_digits, Member, member_line, nat_tests, option_and_then, part_in, parts_in, Path, result_ok, shape_fault, slice_split, slice_split_at, slice_split_none, Text, Value, value_end}
 use Rattle.bolt_load.proofs.{MemberLemmas.member_of, StoredTexts.AreKeys, StoredTexts.FitsMember}
 use Rattle.bolt_text.proofs.Exports.{decimal_numerals, number_written}
 use Rattle.std.specs.List.{list_all}
-use Rattle.std.specs.Prelude.{◌/◌, ◌%◌, ◌||◌, nat_lt, not, slice_index}
+use Rattle.std.specs.Prelude.{◌/◌, ◌%◌, nat_lt, not, slice_index}
 use Rattle.hex.specs.Hex.{IsBytes}
 use Rattle.hex.proofs.HexLemmas.{decode_of-encode_lower, length-encode_with}
 
@@ -75,15 +75,11 @@ key_back key some are = search (rules, length-encode_with, lower_digits, encode_
 path_parts : (path : Path) → 0 < length path → ArePartsBytes path → slice_split (λ byte. byte == 47) (hex_path path) ≡ map encode_lower path
 path_parts [] some are = absurd (omega (arith, some))
 path_parts (part ∷ []) some are = slice_split_none (λ byte. byte == 47) (encode_lower part) (hex_without 47 slash_apart part are.0)
-path_parts (part ∷ next ∷ path) some are =
-    slice_split_at (λ byte. byte == 47) (encode_lower part) 47 (hex_path (next ∷ path)) (hex_without 47 slash_apart part are.0) refl
-    ∙ ap (λ parts. encode_lower part ∷ parts) (path_parts (next ∷ path) (omega arith) are.1)
+path_parts (part ∷ next ∷ path) some are = grind (arith, slice_split_at, encode_lower, hex_without, slash_apart, path_parts (next ∷ path) (omega arith) are.1)
 
 parts_back : (path : Path) → AreKeys path → ArePartsBytes path → parts_in (map encode_lower path) ≡ Some path
 parts_back [] keys are = refl
-parts_back (key ∷ path) keys are =
-    ap (option_and_then (λ part. option_map (λ parts. part ∷ parts) (parts_in (map encode_lower path)))) (key_back key keys.0.0 are.0)
-    ∙ ap (option_map (λ parts. key ∷ parts)) (parts_back path keys.1 are.1)
+parts_back (key ∷ path) keys are = grind (arith, option_and_then, encode_lower, key_back, parts_back path keys.1 are.1)
 
 path_back : (path : Path) → 0 < length path → AreKeys path → ArePartsBytes path → hex_path_in (hex_path path) ≡ Some path
 unfolding hex_path_in
@@ -110,29 +106,19 @@ line_is member = ap (λ end. hex_path member.0 ++ end) (item_end_is member.1) �
 -- the three words
 value_parts : (path : Path) (value : List ℕ) → ArePartsBytes path → IsBytes value
     → slice_split (λ byte. byte == 32) (hex_path path ++ (codes " = " ++ encode_lower value)) ≡ hex_path path ∷ codes "=" ∷ encode_lower value ∷ []
-value_parts path value are bytes =
-    slice_split_at (λ byte. byte == 32) (hex_path path) 32 (codes "= " ++ encode_lower value) (path_without 32 space_apart path refl are) refl
-    ∙ ap (λ parts. hex_path path ∷ codes "=" ∷ parts) (slice_split_none (λ byte. byte == 32) (encode_lower value) (hex_without 32 space_apart value bytes))
+value_parts path value are bytes = grind (arith, slice_split_at, encode_lower, path_without, space_apart, slice_split_none, hex_without)
 
 bucket_parts : (path : Path) (sequence : ℕ) → ArePartsBytes path → sequence < 2 ^ 64
     → slice_split (λ byte. byte == 32) (hex_path path ++ (codes " bucket " ++ decimal sequence)) ≡ hex_path path ∷ codes "bucket" ∷ decimal sequence ∷ []
-bucket_parts path sequence are fits =
-    slice_split_at (λ byte. byte == 32) (hex_path path) 32 (codes "bucket " ++ decimal sequence) (path_without 32 space_apart path refl are) refl
-    ∙ ap (λ parts. hex_path path ∷ codes "bucket" ∷ parts) (slice_split_none (λ byte. byte == 32) (decimal sequence) (decimal_without 32 space_apart sequence fits))
+bucket_parts path sequence are fits = grind (arith, slice_split_at, path_without, space_apart, slice_split_none, decimal_without)
 
 told : (path : Path) (item : Item) (found : Option Path) (other : Option Item) → found ≡ Some path → other ≡ Some item → member_of found other ≡ Some (path, item)
 told path item found other is same = ap₂ member_of is same
 
 pub line_back : (member : Member) → 0 < length member.0 → FitsMember member → IsMemberOfBytes member → line_member (member_words member) ≡ Some member
 unfolding line_member
-line_back (path, Value value) some fits are =
-    ap member_in (value_parts path value are.0 are.1)
-    ∙ told path (Value value) (hex_path_in (hex_path path)) (option_map Value (hex_bytes_in (encode_lower value))) (path_back path some fits.0 are.0)
-    (ap (λ found. option_map Value (result_ok found)) (decode_of-encode_lower value are.1))
-line_back (path, Bucket sequence) some fits are =
-    ap member_in (bucket_parts path sequence are.0 are.1)
-    ∙ told path (Bucket sequence) (hex_path_in (hex_path path)) (option_map Bucket (number_in (decimal sequence))) (path_back path some fits.0 are.0)
-    (ap (option_map Bucket) (number_written sequence are.1))
+line_back (path, Value value) some fits are = grind (arith, value_parts, encode_lower, path_back, result_ok, decode_of-encode_lower)
+line_back (path, Bucket sequence) some fits are = grind (arith, bucket_parts, path_back, number_written)
 
 -- no line feed is in it
 pub words_without : (member : Member) → IsMemberOfBytes member → IsWithout 10 (member_words member)
@@ -147,9 +133,7 @@ words_without (path, Bucket sequence) are =
 
 short_parts : (path : Path) → AreKeys path → list_any is_long_key path ≡ false
 short_parts [] keys = refl
-short_parts (key ∷ path) keys =
-    let short : is_long_key key ≡ false = grind (arith, nat_tests, keys.0.1) in
-    ap₂ ◌||◌ short (short_parts path keys.1)
+short_parts (key ∷ path) keys = grind (arith, nat_tests, short_parts path keys.1)
 
 short_item : (item : Item) → IsFitItem item → is_long_item item ≡ false
 short_item (Value value) fits = short (length value) fits

@@ -17,7 +17,7 @@ Under tasks u = (v : Way) × (p : Site) × (rest : Way) × Has tasks (To_visit v
 
 module _ (file : List ℕ) (meta : Meta) where
   across : (w : Way) (p : Site) (i j : ℕ) (a b : Task) → i < j → IsAt file meta w p i a → IsAt file meta w p j b → Ahead a b
-  across w p i j (To_visit v t) (To_visit u q) lt h k = λ rest more. rw (h.0, k.0, append_assoc w (i ∷ []) rest, append_assoc w (j ∷ []) more) (before_sides w rest more i j lt)
+  across w p i j (To_visit v t) (To_visit u q) lt h k = grind (arith, append_assoc, before_sides)
   across w p i j a b lt h k = grind arith
 
   entry_rises : (path : Path) (o : Option LeafElement) (v : Way) (q : Option Site) → RisesBy Ahead (gives_at file meta path o ++ visits_at file meta v q)
@@ -33,11 +33,11 @@ module _ (file : List ℕ) (meta : Meta) where
   after_rises w p found = grind (arith, from_rises)
 
   child_ahead : (w : Way) (p : Site) (j : ℕ) (a b : Task) → IsAt file meta w p j a → Ahead (To_visit w p) b → Ahead a b
-  child_ahead w p j (To_visit v t) (To_visit u q) at before = λ rest more. subst (λ (z : Way). Before z (u ++ more)) (sym (append_assoc w (j ∷ []) rest) ∙ ap (λ (z : Way). z ++ rest) (sym at.0)) (before (j ∷ rest) more)
+  child_ahead w p j (To_visit v t) (To_visit u q) at before = grind (arith, append_assoc)
   child_ahead w p j a b at before = grind arith
 
   before_all : (w : Way) (visits : List SurveyedWay) → ((u : SurveyedWay) → Has visits u → Before w u.way) → Each (Before w) (ways visits)
-  before_all w visits h = λ u has. let (v, there, is) = map_has (λ (z : SurveyedWay). z.way) visits u has in subst (Before w) is (h v there)
+  before_all w visits h = grind (arith, map_has)
 
   -- all below what is to be visited next, and all below what comes after it
   below : (w u : Way) (p : Site) (found : Option Finding) (tasks : List Task) → ((b : Task) → Has tasks b → Ahead (To_visit w p) b) → Under (tasks_after file meta w p found ++ tasks) u
@@ -57,9 +57,7 @@ module _ (file : List ℕ) (meta : Meta) where
 
   pub rises_course : (claimed : ℕ → Bool) (tasks : List Task) (events : List Event) → Course file meta claimed tasks events → RisesBy Ahead tasks → Rise tasks events
   rises_course claimed tasks events done rise = (tt, λ u has. absurd has)
-  rises_course claimed tasks events (give {tasks = more} {events = rest} course) rise =
-      let later = rises_course claimed more rest course rise.1 in
-      (later.0, λ u has. let (v, p, front, inside, same) = later.1 u has in (v, p, front, inr inside, same))
+  rises_course claimed tasks events (give {tasks = more} {events = rest} course) rise = let later = rises_course claimed more rest course in grind (arith, later)
   rises_course claimed tasks events (visit {way = w} {p = p} {found = found} {tasks = more} {events = rest} here course) rise =
       let first = tasks_after file meta w p found in
       let later = rises_course _ (first ++ more) rest course

@@ -31,7 +31,7 @@ module _ (file : List ℕ) (meta : Meta) where
     λ is. (w, (refl, subst (λ (o : Option Spot). SpanHas nodes o n) (sym (spot_is file meta w p at)) ((claims_in nodes p.spot n).0 is))),
     λ (v, (same, span)). (claims_in nodes p.spot n).1 (subst (λ (o : Option Spot). SpanHas nodes o n) (ap reach (ap (λ (z : SurveyedWay). z.way) same) ∙ spot_is file meta w p at) span),
   )
-  by_visit w p (Some x) n at = (λ is. absurd (false≢true is), λ (v, (same, span)). absurd (let f : None ≡ Some x = ap (λ (z : SurveyedWay). z.found) same in cc))
+  by_visit w p (Some x) n at = grind (arith, false≢true)
 
   -- what comes of events is what the survey of their visits says
   pub record Tallied (o : Outcome) (events : List Event) : Type 0 where
@@ -95,7 +95,7 @@ module _ (file : List ℕ) (meta : Meta) (survey : List SurveyedWay) where
   -- the claims in front are those that test 18 looks at
   module _ (front : List SurveyedWay) (x : SurveyedWay) (rest : List SurveyedWay) (all : front ++ x ∷ rest ≡ survey) (rises : RisesBy Earlier survey) where
     in_rest : (v : SurveyedWay) → Has survey v → Earlier v x → Has front v
-    in_rest v has = in_front front x rest (subst (RisesBy Earlier) (sym all) rises) v (subst (λ (s : List SurveyedWay). Has s v) (sym all) has)
+    in_rest v has = let rises_all = subst (RisesBy Earlier) (sym all) rises in grind (arith, in_front, rises_all)
 
     in_all : (v : SurveyedWay) → Has front v → Has survey v × Earlier v x
     in_all v has = (subst (λ (s : List SurveyedWay). Has s v) all (has_left front (x ∷ rest) v has), rises_across Earlier front (x ∷ rest) (subst (RisesBy Earlier) (sym all) rises) v x has (inl refl))
@@ -104,7 +104,7 @@ module _ (file : List ℕ) (meta : Meta) (survey : List SurveyedWay) where
     claimed_here claimed claims n h = grind (arith, in_rest)
 
     claimed_there : (claimed : ℕ → Bool) → AreClaims (Has front) claimed → (n : ℕ) → claimed n ≡ true → IsClaimedIn (nodes file meta) (reach file meta) survey x.way n
-    claimed_there claimed claims n is = elim ((claims n).0 is) [ inl low ↦ inl low | inr (v, (before, span)) ↦ let (has, lt) = in_all (way_kept v) before in inr (v, (has, lt, span)) ]
+    claimed_there claimed claims n is = grind (arith, in_all)
 
   -- the claims after a visit
   claims_after : (front : List SurveyedWay) (w : Way) (p : Site) (found : Option Finding) (claimed : ℕ → Bool) → site_at file meta w ≡ Some p → AreClaims (Has front) claimed
@@ -163,12 +163,7 @@ in_visits : (events : List Event) (w : Way) (p : Site) (found : Option Finding) 
 in_visits events w p found h = has_flat visit_at events (Visited w p found) _ h (inl refl)
 
 member_in : (events : List Event) (path : Path) (item : Item) → Contains (members_of events) (path, item) → (e : LeafElement) × Has events (Given path e) × (item ≡ item_of e)
-member_in events path item h = let (x, has, at) = flat_has members_at events (path, item) (has_from_contains _ _ h) in by x has at
-  where
-    by : (x : Event) → Has events x → Has (members_at x) (path, item) → (e : LeafElement) × Has events (Given path e) × (item ≡ item_of e)
-    by (Visited w p found) has at = absurd at
-    by (Given q e) has (inl same) = (e, subst (λ (m : Path × Item). Has events (Given m.0 e)) same has, sym (ap (λ (m : Path × Item). m.1) same))
-    by (Given q e) has (inr none) = absurd none
+member_in events path item h = let (x, has, at) = flat_has members_at events (path, item) (has_from_contains _ _ h) in grind arith
 
 in_members : (events : List Event) (path : Path) (e : LeafElement) → Has events (Given path e) → Contains (members_of events) (path, item_of e)
 in_members events path e h = contains_from_has _ _ (has_flat members_at events (Given path e) _ h (inl refl))

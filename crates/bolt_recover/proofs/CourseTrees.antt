@@ -1,7 +1,7 @@
 -- What a course returns is what a tree lists: each site that is visited comes to a tree, in which a bucket holds what its own site comes to. The keys
 -- of each bucket rise, within the bounds of its site.
 use Rattle.std.proofs.Common.{◌≡◌, ◌∙◌, ◌≤◌, inl, inr, ℕ, zero, suc, Bool, true, false, List, [], ◌∷◌, ◌++◌, ◌⊎◌, Option, Some, None, slice_get, refl, sym, ap, subst, arith, append_assoc}
-use Rattle.bolt_recover.proofs.Words.{Visited, all_events, append-nil, below_less, Bucket, cases_Bool, cases_order, end, entry_tasks, Event, Finding, from_more, get_before, Gives, gives_at, head_sequence, is_below, is_from, is_lt, Item, item_of, Key, key_lt, key_same, LeafElement, listing_below, listing_of, lower_of, lt_not_trans, lt_trans, Member, member_cmp, members_of, Meta, meta_pages, node_at, none-some, not-true, Path, Rises, root_tasks, same_Some, Site, Spot, step_site, Task, tasks_after, tasks_from, To_give, To_visit, Tree, upper_of, Value, visits_at, Way, with_bucket, with_value, further, Among}
+use Rattle.bolt_recover.proofs.Words.{Visited, all_events, append-nil, below_less, Bucket, cases_Bool, cases_order, end, Event, Finding, from_more, get_before, Gives, gives_at, head_sequence, is_below, is_from, is_lt, Item, item_of, Key, key_lt, key_same, LeafElement, listing_below, listing_of, lower_of, lt_not_trans, lt_trans, Member, member_cmp, members_of, Meta, meta_pages, node_at, none-some, not-true, Path, Rises, root_tasks, same_Some, Site, Spot, step_site, Task, tasks_after, tasks_from, To_give, To_visit, Tree, upper_of, Value, visits_at, Way, with_bucket, with_value, further, Among}
 use Rattle.bolt_recover.proofs.{Courses.Course, Courses.course, Courses.Course.done, Courses.Course.give, Courses.Course.visit, SiteKeys.IsChild, SiteKeys.Keyed, SiteKeys.keyed, CourseSurveys.placed}
 use Rattle.bolt_recover.proofs.{MembersInBuckets.well_at, SiteSteps.IsTidy, TreeOrder.HasKey, TreeOrder.IsFirst, TreeOrder.Ordered, TreeOrder.ordered_rises}
 
@@ -13,10 +13,8 @@ both (with_bucket key sequence inside rest) after = with_bucket key sequence ins
 
 both_list : (path : Path) (a b : Tree) → listing_below path (both a b) ≡ listing_below path a ++ listing_below path b
 both_list path end b = refl
-both_list path (with_value key value rest) b = ap (λ (ms : List Member). (path ++ key ∷ [], Value value) ∷ ms) (both_list path rest b)
-both_list path (with_bucket key sequence inside rest) b =
-    ap (λ (ms : List Member). (path ++ key ∷ [], Bucket sequence) ∷ (listing_below (path ++ key ∷ []) inside ++ ms)) (both_list path rest b)
-    ∙ ap (λ (ms : List Member). (path ++ key ∷ [], Bucket sequence) ∷ ms) (sym (append_assoc (listing_below (path ++ key ∷ []) inside) (listing_below path rest) (listing_below path b)))
+both_list path (with_value key value rest) b = let later = both_list path rest b in cc
+both_list path (with_bucket key sequence inside rest) b = let later = both_list path rest in grind (arith, append_assoc, later)
 
 both_has : (a b : Tree) (k : Key) → HasKey (both a b) k → HasKey a k ⊎ HasKey b k
 both_has end b k h = inr h
@@ -24,7 +22,7 @@ both_has (with_value key value rest) b k h = let later = both_has rest in grind 
 both_has (with_bucket key sequence inside rest) b k h = let later = both_has rest in grind (arith, later)
 
 both_first : (key : Key) (a b : Tree) → IsFirst key a → IsFirst key b → IsFirst key (both a b)
-both_first key a b own later k h = elim (both_has a b k h) [ inl x ↦ own k x | inr y ↦ later k y ]
+both_first key a b own later k h = grind (arith, both_has)
 
 both_ordered : (a b : Tree) → Ordered a → Ordered b → ((j k : Key) → HasKey a j → HasKey b k → key_lt j k ≡ true) → Ordered (both a b)
 both_ordered end b own later less = later
@@ -80,13 +78,10 @@ module _ (file : List ℕ) (meta : Meta) (w : Way) (p : Site) (keys : List Key) 
         → members ≡ (p.path ++ e.key ∷ [], item_of e) ∷ inner → inner ≡ listing_below deep tree ++ more → HasTree (suc i) rest more → HasTree i rest members
     put_bucket deep tree rest members inner more is named own first second after =
         let item : item_of e ≡ Bucket (head_sequence e.value) = rw is refl in
-        let head : Member = (p.path ++ e.key ∷ [], Bucket (head_sequence e.value)) in
         record {
           tree = with_bucket e.key (head_sequence e.value) tree after.tree;
           later = after.later;
-          same = first ∙ ap (λ (x : Item). (p.path ++ e.key ∷ [], x) ∷ inner) item
-              ∙ ap (λ (ms : List Member). head ∷ ms) (second ∙ ap (λ (q : Path). listing_below q tree ++ more) named ∙ ap (λ (ms : List Member). listing_below (p.path ++ e.key ∷ []) tree ++ ms) after.same
-              ∙ sym (append_assoc (listing_below (p.path ++ e.key ∷ []) tree) (listing_below p.path after.tree) after.later));
+          same = grind (arith, append_assoc, after.same);
           ordered = (first_key after.tree after.own, own, after.ordered);
           own = all_own after.tree after.own;
           pieces = after.pieces;
@@ -110,10 +105,10 @@ module _ (file : List ℕ) (meta : Meta) (w : Way) (p : Site) (keys : List Key) 
   -- what a child of a branch comes to
   module _ (i : ℕ) (t : Site) (child : IsChild p t i keys) (tree : Tree) (within : IsWithin t.spot tree) where
     child_from : (k : Key) → HasKey tree k → key_lt k child.key ≡ false
-    child_from k h = not-true (key_lt k child.key) (subst (λ (o : Option Key). is_from o k ≡ true) child.lower (within k h).0)
+    child_from k h = grind (arith, not-true, within, child.lower)
 
     child_below : (k next : Key) → HasKey tree k → slice_get keys (suc i) ≡ Some next → key_lt k next ≡ true
-    child_below k next h at = subst (λ (o : Option Key). is_below o k ≡ true) (child.next next at) (within k h).1
+    child_below k next h at = grind (arith, within, child.next)
 
     child_upper : (o : Option Key) → slice_get keys (suc i) ≡ o → (k : Key) → HasKey tree k → is_below (upper_of p.spot) k ≡ true
     child_upper None none k h = subst (λ (o : Option Key). is_below o k ≡ true) (child.last none) (within k h).1
@@ -127,18 +122,18 @@ module _ (file : List ℕ) (meta : Meta) (w : Way) (p : Site) (keys : List Key) 
     ]) over
 
     put_child : (rest : List Task) (members more : List Member) → Ordered tree → members ≡ listing_below t.path tree ++ more → HasTree (suc i) rest more → HasTree i rest members
-    put_child rest members more own first after = record {
-      tree = both tree after.tree;
-      later = after.later;
-      same = first ∙ ap (λ (q : Path). listing_below q tree ++ more) child.path ∙ ap (λ (ms : List Member). listing_below p.path tree ++ ms) after.same
-          ∙ sym (append_assoc (listing_below p.path tree) (listing_below p.path after.tree) after.later) ∙ ap (λ (ms : List Member). ms ++ after.later) (sym (both_list p.path tree after.tree));
-      ordered = both_ordered tree after.tree own after.ordered (λ j k h later. child_less j k h (after.own k later));
-      own = λ k h. elim (both_has tree after.tree k h) [
-        | inl mine ↦ (i, child.key, omega arith, child.at, child_from k mine, child_upper (slice_get keys (suc i)) refl k mine)
-        | inr later ↦ own_next i k (after.own k later)
-      ];
-      pieces = after.pieces;
-    }
+    put_child rest members more own first after =
+        record {
+          tree = both tree after.tree;
+          later = after.later;
+          same = grind (arith, both_list, append_assoc, after.same, child.path);
+          ordered = both_ordered tree after.tree own after.ordered (λ j k h later. child_less j k h (after.own k later));
+          own = λ k h. elim (both_has tree after.tree k h) [
+            | inl mine ↦ (i, child.key, omega arith, child.at, child_from k mine, child_upper (slice_get keys (suc i)) refl k mine)
+            | inr later ↦ own_next i k (after.own k later)
+          ];
+          pieces = after.pieces;
+        }
 
   entry_tree : (i : ℕ) (o : Option LeafElement) (q : Option Site) (later rest : List Task) (members : List Member) → slice_get p.elements i ≡ o → step_site file meta p i ≡ q
       → Pieces ((gives_at file meta p.path o ++ visits_at file meta (further w i) q) ++ later) members → ((ms : List Member) → Pieces later ms → HasTree (suc i) rest ms) → HasTree i rest members
@@ -157,11 +152,7 @@ module _ (file : List ℕ) (meta : Meta) (w : Way) (p : Site) (keys : List Key) 
 
   site_tree : (i k : ℕ) (rest : List Task) (members : List Member) → Pieces (tasks_from file meta w p i k ++ rest) members → HasTree i rest members
   site_tree i zero rest members pieces = record { tree = end; later = members; same = refl; ordered = tt; own = λ k h. absurd h; pieces = pieces }
-  site_tree i (suc k) rest members pieces =
-      let later = tasks_from file meta w p (suc i) k in
-      entry_tree i (slice_get p.elements i) (step_site file meta p i) (later ++ rest) rest members refl refl
-      (subst (λ (ts : List Task). Pieces ts members) (append_assoc (entry_tasks file meta w p i) later rest) pieces)
-      (λ ms more. site_tree (suc i) k rest ms more)
+  site_tree i (suc k) rest members pieces = let later = site_tree (suc i) k in grind (arith, entry_tree, append_assoc, later)
 
 module _ (file : List ℕ) (meta : Meta) where
   visit_tree : (w : Way) (p : Site) (found : Option Finding) (before : ℕ → Type 0) (tasks : List Task) (members : List Member) → IsTidy file meta p → Gives (node_at file meta) before p.spot found
@@ -171,7 +162,7 @@ module _ (file : List ℕ) (meta : Meta) where
       let has = site_tree file meta w p keys known 0 _ tasks members pieces in
       let within : IsWithin p.spot has.tree = λ k h. let (j, own, le, at, over, below) = has.own k h in (from_more (lower_of p.spot) own k (known.each j own at).0 over, below) in
       (has.tree, has.later, has.same, has.ordered, within, has.pieces)
-  visit_tree w p (Some x) before tasks members tidy gives pieces = (end, members, refl, tt, (λ k h. absurd h), pieces)
+  visit_tree w p (Some x) before tasks members tidy gives pieces = grind arith
 
   pieces_course : (claimed : ℕ → Bool) (tasks : List Task) (events : List Event) → Course file meta claimed tasks events
       → ((w : Way) (p : Site) (found : Option Finding) → Among events (Visited w p found) → IsTidy file meta p) → Pieces tasks (members_of events)

@@ -1,6 +1,6 @@
 -- The course of tasks: they come to one list of events, that of the function.
-use Rattle.std.proofs.Common.{◌≡◌, ◌∙◌, inl, inr, ℕ, zero, suc, ◌<◌, ◌≤◌, Bool, true, false, List, [], ◌∷◌, ◌++◌, length, Option, Some, None, Ok, refl, sym, ap, subst, arith}
-use Rattle.bolt_recover.proofs.Words.{InlinePage, At_inline, At_page, claimed_after, Event, events, false_from_ne_true, false≢true, Finding, Given, give_all, Gives, LeafElement, Meta, Node, node_at, node_below, Nodes, none-some, or_parts, PageSpot, Path, run_all, run_on, run_to, Site, site_tasks, Spot, step_from, Task, tasks_after, test, To_give, To_visit, Visited, Way, Among}
+use Rattle.std.proofs.Common.{◌≡◌, inl, inr, ℕ, zero, suc, ◌<◌, ◌≤◌, Bool, true, false, List, [], ◌∷◌, ◌++◌, length, Option, Some, None, Ok, refl, sym, ap, subst, arith}
+use Rattle.bolt_recover.proofs.Words.{InlinePage, At_inline, At_page, claimed_after, Event, events, false_from_ne_true, false≢true, Finding, Given, give_all, Gives, LeafElement, Meta, Node, node_at, node_below, Nodes, or_parts, PageSpot, Path, run_all, run_on, run_to, Site, site_tasks, Spot, Task, tasks_after, To_give, To_visit, Visited, Way, Among}
 use Rattle.bolt_recover.proofs.{SiteFacts.step_spot, SurveyIsOne.gives_one, TaskLists.after_at, Tested.test_finds}
 use Rattle.std.proofs.Math.Bool.{or-false}
 use Rattle.bolt_check.proofs.Exports.{has_number, numbers, shorter, still, without, length-numbers}
@@ -37,10 +37,7 @@ module _ (file : List ℕ) (meta : Meta) where
   course_gives claimed (To_give path e ∷ first) tasks later only course = give (course_gives claimed first tasks later (λ way p h. only way p (inr h)) course)
 
   inline_gives : (way v : Way) (p t : Site) (host : ℕ) (inner : InlinePage) → p.spot ≡ At_inline host inner → Among (site_tasks file meta way p) (To_visit v t) → ⊥
-  inline_gives way v p t host inner is h =
-      let (none, i, at) = after_at file meta way p None (To_visit v t) h in
-      let f : None ≡ Some t.spot = ap (λ (s : Spot). step_from nodes s i) (sym is) ∙ step_spot file meta p t i at.1 in
-      none-some t.spot f
+  inline_gives way v p t host inner is h = let (none, i, at) = after_at file meta way p None (To_visit v t) h in grind (arith, step_spot)
 
   -- where fewer pages are left, tasks come to what is run
   module _ (k : ℕ) (deeper : List Task → (ℕ → Bool) → List Event)
@@ -62,10 +59,7 @@ module _ (file : List ℕ) (meta : Meta) where
     course_all : (left : List ℕ) (claimed : ℕ → Bool) (tasks : List Task) → length left ≤ k → Covers claimed left → Course claimed tasks (run_all file meta deeper tasks claimed)
     course_all left claimed [] le covers = done
     course_all left claimed (To_give path e ∷ tasks) le covers = give (course_all left claimed tasks le covers)
-    course_all left claimed (To_visit way p ∷ tasks) le covers =
-        let found = test nodes claimed p.spot in
-        let gives = test_finds nodes claimed p.spot in
-        visit gives (course_on left claimed tasks (run_all file meta deeper tasks claimed) way p found p.spot le covers refl gives (course_all left claimed tasks le covers))
+    course_all left claimed (To_visit way p ∷ tasks) le covers = let later = course_all left claimed tasks in grind (arith, test_finds, course_on, visit, later)
 
   course_to : (k : ℕ) (left : List ℕ) (claimed : ℕ → Bool) (tasks : List Task) → length left < k → Covers claimed left → Course claimed tasks (run_to file meta k tasks claimed)
   course_to zero left claimed tasks lt covers = absurd (omega arith)

@@ -39,10 +39,7 @@ module _ (file : List ℕ) (meta : Meta) where
   -- the found pages next to the way_kept ones of the survey
   pub below_of : (found : List ℕ) (survey : List SurveyedWay) (way : List ℕ) (x : Finding) → AreFound file meta found → IsSurvey file meta survey → Has survey (lost way x)
       → FoundBelow file meta (IsKeptPage file meta survey) meta.high_water found
-  below_of found survey way x are is has =
-      let same = same_survey file meta are.survey survey are.surveys is in
-      subst (λ (s : List SurveyedWay). FoundBelow file meta (IsKeptPage file meta s) meta.high_water found) same
-      (are.some way x (subst (λ (s : List SurveyedWay). Has s (lost way x)) (sym same) has))
+  below_of found survey way x are is has = let same = same_survey file meta are.survey survey are.surveys is in grind arith
 
   pub one_found : (a b : List ℕ) → AreFound file meta a → AreFound file meta b → a ≡ b
   one_found a b h k =
@@ -85,7 +82,7 @@ module _ (file : List ℕ) (meta : Meta) where
       ])
 
   pub either_is : (found : List ℕ) (survey : List SurveyedWay) → IsSurvey file meta survey → (k : ℕ) → (in_either found k ≡ true) ↔ (IsKeptPage file meta survey k ⊎ IsFoundPage file meta found k)
-  either_is found survey is k = either_or ((whole file meta 0).claimed k) (in_found found k) _ _ _ (whole_claimed file meta 0 survey is k) (found_is found k) (λ h. inl h) (λ h. inr h) (λ h. h)
+  either_is found survey is k = grind (arith, either_or, whole_claimed, found_is)
 
   -- an intact leaf that isn't listed as free shares a page
   pub shares : (found : List ℕ) (survey : List SurveyedWay) (way : List ℕ) (x : Finding) (n : ℕ) → AreFound file meta found → IsSurvey file meta survey → Has survey (lost way x)

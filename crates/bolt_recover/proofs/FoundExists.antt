@@ -1,5 +1,5 @@
 -- Each file has found pages: whether a page is found can be told.
-use Rattle.std.proofs.Common.{◌≡◌, ◌∙◌, ◌≢◌, ◌⊎◌, Bool, true, inl, inr, ℕ, zero, suc, List, [], ◌∷◌, ◌++◌, Option, Some, None, Ok, refl, sym, ap, subst, arith, ◌↔◌}
+use Rattle.std.proofs.Common.{◌≡◌, ◌∙◌, ◌≢◌, ◌⊎◌, Bool, true, inl, inr, ℕ, zero, suc, List, [], ◌∷◌, ◌++◌, Option, Some, None, Ok, refl, sym, subst, arith, ◌↔◌}
 use Rattle.bolt_recover.proofs.Words.{AreFound, At_page, cases_Bool, cases_lt, false≢true, Entry, Finding, FoundBelow, Gives, IsFoundNext, IsFoundPage, IsKeptPage, IsListedFree, IsLoneLeaf, IsSurvey, Meta, Node, node_at, Nodes, passes_silent, root_spot, SurveyedWay, test}
 use Rattle.bolt_recover.proofs.{Existing.has_survey, FoundAll.are_none, FoundAll.are_some, FoundAll.either_is, FoundAll.in_either, FoundAll.lost_or_none, Tested.test_finds}
 use Rattle.bolt_check.proofs.Exports.{lone_same}
@@ -30,18 +30,12 @@ lone_decided nodes before n = by (test nodes before (At_page (root_spot n))) (te
 
 module _ (file : List ℕ) (meta : Meta) where
   ids_decided : (n : ℕ) (fault : Option ℕ) (ids : Option (List ℕ)) → freelist_fault_of file meta ≡ fault → free_ids_of file meta ≡ ids → Dec (IsListedFree file meta n)
-  ids_decided n (Some x) ids good is = no (λ listed. (let f : Some x ≡ None = sym good ∙ listed.good in cc))
-  ids_decided n None None good is = no (λ listed. (let f : None ≡ Some listed.ids = sym is ∙ listed.listed in cc))
-  ids_decided n None (Some ids) good is =
-      elim (cases_lt 0 (times_in ids n)) [
-        | inl more ↦ yes (record { ids = ids; good = good; listed = is; times = omega (arith, more) })
-        | inr none ↦ no (λ listed.
-            let both : Some ids ≡ Some listed.ids = sym is ∙ listed.listed in
-            let same : ids ≡ listed.ids = cc in
-            let times = listed.times in
-            let here : times_in ids n ≡ times_in listed.ids n = ap (λ (xs : List ℕ). times_in xs n) same in
-            omega (arith, none, times, here))
-      ]
+  ids_decided n (Some x) ids good is = no (λ listed. grind arith)
+  ids_decided n None None good is = no (λ listed. grind arith)
+  ids_decided n None (Some ids) good is = elim (cases_lt 0 (times_in ids n)) [
+    | inl more ↦ yes (record { ids = ids; good = good; listed = is; times = omega (arith, more) })
+    | inr none ↦ no (λ listed. grind arith)
+  ]
 
   next_decided : (survey : List SurveyedWay) → IsSurvey file meta survey → (found : List ℕ) (n : ℕ) → Dec (IsFoundNext file meta (IsKeptPage file meta survey) found n)
   next_decided survey is found n =

@@ -155,19 +155,14 @@ module _ (file : List ℕ) (meta : Meta) where
                 within = λ m there less. elim (push m there) [ inl low ↦ low | inr last ↦ absurd (omega (arith, same, less, last)) ];
               }
         ]
-    found_here (suc mark) found n (before, below, inr (none, is)) has =
-        let here = found_here mark before n below (subst (λ (xs : List ℕ). Contains xs n) is has) in
-        let lt = here.below in
-        record { below = omega (arith, lt); before = here.before; next = here.next; within = λ m there less. here.within m (subst (λ (xs : List ℕ). Contains xs m) is there) less }
+    found_here (suc mark) found n (before, below, inr (none, is)) has = let here = found_here mark before n below in grind (arith, here)
 
     -- it is intact, and two found pages share no page
     pub found_leaf : (mark : ℕ) (found : List ℕ) (n : ℕ) → IsFoundHere mark found n → IsLoneLeaf nodes kept n
     found_leaf mark found n here = lone_same nodes (λ k. kept k ⊎ IsFoundPage file meta here.before k) kept n (λ k is. inl is) here.next.leaf
 
     not_shared : (mark : ℕ) (found : List ℕ) (n m k : ℕ) → IsFoundHere mark found n → Contains found m → m < n → SpanAt nodes (At_page (root_spot n)) k → SpanAt nodes (At_page (root_spot m)) k → ⊥
-    not_shared mark found n m k here there less left right =
-        let inside = rw here.next.leaf.passes.page at left in
-        here.next.leaf.passes.free k inside (inr (m, (here.within m there less, right)))
+    not_shared mark found n m k here there less left right = grind (arith, here.within m there less)
 
     pub found_apart : (mark : ℕ) (found : List ℕ) (n m k : ℕ) → FoundBelow file meta kept mark found → Contains found n → Contains found m
         → SpanAt nodes (At_page (root_spot n)) k → SpanAt nodes (At_page (root_spot m)) k → n ≡ m

@@ -18,8 +18,7 @@ here_by inside path e elements m true has =
       | inl same ↦ inl (inl (sym same))
       | inr more ↦ elim (Contains-append_cases deep behind m more) [ inl inner ↦ inl (inr (refl, inner)) | inr later ↦ inr later ]
     ]
-here_by inside path e elements m false has =
-    elim (contains_cases (path ++ e.key ∷ [], Value e.value) m (listing_below path (tree_of_elements inside elements)) has) [ inl same ↦ inl (inl (sym same)) | inr later ↦ inr later ]
+here_by inside path e elements m false has = grind (arith, contains_cases)
 
 element_of : (inside : LeafElement → Tree) (path : Path) (elements : List LeafElement) (m : Member) → Contains (listing_below path (tree_of_elements inside elements)) m
     → (e : LeafElement) × (Contains elements e × IsHere inside path e m)

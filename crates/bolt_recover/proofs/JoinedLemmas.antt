@@ -1,7 +1,7 @@
 -- The joined listing is the recovered one with the bucket of what is found put in.
 use Rattle.std.proofs.Common.{◌≡◌, ◌∙◌, ◌⊎◌, inl, inr, ℕ, Bool, true, false, not, List, [], ◌∷◌, ◌++◌, filter, map, refl, sym, ap, subst, ◌≢◌, arith}
 use Rattle.bolt_format.specs.TreePages.{leaves_on}
-use Rattle.bolt_recover.proofs.Words.{append-nil, AreFound, Bucket, cases_Bool, Contains, Contains-append_cases, contains_cases, contains_head, contains_tail, end, filter-append, filter_all, filter_none, first_cmp, found_tree, Greater, is_found_path, is_lt, IsJoined, IsRecovered, joined_listing, key_lt, key_total, LacksBucketKey, LeafElement, leaves_of, Less, less_of, listing_below, listing_of, lost_and_found, Member, member_cmp, member_total, Meta, page_at, Path, path_cmp, put_bucket, Rises, Tree, tree_of, Value, with_bucket, with_value, All, All-head, All-tail, AreJoinable, Found, found_listing, IsFoundView, found_numbers, found_pages_of, recovered_of}
+use Rattle.bolt_recover.proofs.Words.{append-nil, AreFound, Bucket, cases_Bool, Contains, Contains-append_cases, contains_cases, contains_head, contains_tail, end, filter-append, filter_all, filter_none, first_cmp, found_tree, Greater, is_found_path, is_lt, IsJoined, IsRecovered, joined_listing, key_lt, key_total, LacksBucketKey, LeafElement, leaves_of, Less, less_of, listing_below, listing_of, lost_and_found, Member, member_cmp, member_total, Meta, page_at, Path, path_cmp, put_bucket, Rises, Tree, tree_of, with_bucket, with_value, All, All-head, All-tail, AreJoinable, Found, found_listing, IsFoundView, found_numbers, found_pages_of, recovered_of}
 use Rattle.bolt_recover.proofs.{Existing.has_recovered, Existing.one_recovered, Existing.recovers, FoundAll.one_found, FoundExists.has_found}
 use Rattle.bolt_recover.proofs.{CourseTrees.all_tree, TreeOrder.Ordered, TreeOrder.ordered_rises, TreeOrder.rises_both, TreeOrder.under}
 use Rattle.bolt_tree.proofs.Exports.{merge_none, flip_less, path_total, tree_back}
@@ -38,10 +38,7 @@ passes put (x ∷ front) rest less = rw (less x (contains_head x front)) (ap (λ
 
 put_tree : (inside tree : Tree) → put_members (put_of inside) (listing_of tree) ≡ listing_of (put_bucket lost_and_found inside tree)
 put_tree inside end = refl
-put_tree inside (with_value key value after) = elim (cases_Bool (key_lt key lost_and_found)) [
-  | inl less ↦ rw less (ap (λ (ms : List Member). (key ∷ [], Value value) ∷ ms) (put_tree inside after))
-  | inr over ↦ rw over refl
-]
+put_tree inside (with_value key value after) = let later = put_tree inside after in grind (arith, later)
 put_tree inside (with_bucket key sequence own after) = elim (cases_Bool (key_lt key lost_and_found)) [
   | inl less ↦ rw less (ap (λ (ms : List Member). (key ∷ [], Bucket sequence) ∷ ms)
       (passes (put_of inside) (listing_below (key ∷ []) own) (listing_of after) (λ m has. let u = under own (key ∷ []) m has in rw u.at less)
@@ -121,11 +118,7 @@ module _ (file : List ℕ) (meta : Meta) where
 
   pub put_recovered : (found : List (ℕ × List LeafElement)) (recovered : List Member) → IsRecovered file meta recovered
       → put_members (put_of (found_tree found)) recovered ≡ listing_of (put_bucket lost_and_found (found_tree found) (tree_of recovered))
-  put_recovered found recovered is =
-      let (tree, of) = tree_recovered recovered is in
-      ap (put_members (put_of (found_tree found))) of
-      ∙ put_tree (found_tree found) tree
-      ∙ ap (λ (t : Tree). listing_of (put_bucket lost_and_found (found_tree found) t)) (sym (ap tree_of of ∙ tree_back tree))
+  put_recovered found recovered is = let (tree, of) = tree_recovered recovered is in grind (arith, put_tree, tree_back)
 
   pub joined_keeps : (recovered : List Member) (found : List (ℕ × List LeafElement)) → IsRecovered file meta recovered → LacksBucketKey recovered → filter stays (joined_listing recovered found) ≡ recovered
   joined_keeps recovered [] is lacks = filter_all stays recovered lacks

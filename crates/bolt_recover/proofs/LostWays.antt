@@ -39,11 +39,7 @@ module _ (file : List ℕ) (meta : Meta) where
   pub way_there : (survey : List SurveyedWay) (l : LossView) → Contains (losses_of file meta survey) l
       → (way : List ℕ) × (x : Finding) × (p : Site) × Has survey (lost way x) × (site_at file meta way ≡ Some p) × (l ≡ loss_of p x)
   way_there [] l has = absurd (contains_none l has)
-  way_there (v ∷ survey) l has =
-      elim (which (site_at file meta v.way) v.found (losses_of file meta survey) l has) [
-        | inl (p, x, at, found, is) ↦ (v.way, x, p, inl (λ i. record { way = v.way; found = found i }), at, is)
-        | inr later ↦ let (way, x, p, there, at, is) = way_there survey l later in (way, x, p, inr there, at, is)
-      ]
+  way_there (v ∷ survey) l has = let later = way_there survey l in grind (arith, which, later)
 
   -- without losses, nothing is lost
   found_none : (survey : List SurveyedWay) → IsSurvey file meta survey → losses_of file meta survey ≡ [] → (way : List ℕ) (f : Option Finding) → Has survey (record { way = way; found = f }) → f ≡ None

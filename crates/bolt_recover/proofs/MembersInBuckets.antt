@@ -1,6 +1,6 @@
 -- What a path holds, and what is at ways: a path holds each element at a way under it and, if all ways are kept, nothing else.
-use Rattle.std.proofs.Common.{◌≡◌, ◌∙◌, inl, inr, ℕ, suc, Bool, false, eqb, List, [], ◌∷◌, ◌++◌, Option, Some, Result, slice_get, refl, sym, ap, subst, arith}
-use Rattle.bolt_recover.proofs.Words.{At_inline, At_page, cases_Bool, child_at, child_in, child_of, Contains, contains_at, Entry, follow_sites, head_root, Holds, Inline_page, IsEntry, IsRecoveredMember, Item, leads, LeafElement, leaves_of, Meta, Names, next_site, Node, node_at, Nodes, page_at, PageSpot, Path, Site, site_at, Root_page, root_site, same_Some, ShowsEntry, Spot, Start, start_of, step_site, SurveyedWay}
+use Rattle.std.proofs.Common.{◌≡◌, ◌∙◌, inl, inr, ℕ, suc, Bool, false, List, [], ◌∷◌, ◌++◌, Option, Some, Result, slice_get, refl, sym, ap, subst, arith}
+use Rattle.bolt_recover.proofs.Words.{At_inline, At_page, cases_Bool, child_at, child_in, child_of, Contains, contains_at, Entry, follow_sites, Holds, Inline_page, IsEntry, IsRecoveredMember, Item, leads, LeafElement, leaves_of, Meta, Names, next_site, Node, node_at, Nodes, page_at, PageSpot, Path, Site, site_at, Root_page, root_site, same_Some, ShowsEntry, Spot, Start, start_of, step_site, SurveyedWay}
 use Rattle.bolt_tree.proofs.Exports.{held_here, names_push}
 use Rattle.bolt_recover.proofs.SiteSteps.{IsTidy, IsTidyAt, bucket_site, child_site, leads_from, tidy_root, tidy_step}
 
@@ -32,7 +32,7 @@ module _ (file : List ℕ) (meta : Meta) where
 
   -- a bucket on a leaf
   bucket_named : (path : Path) (s : PageSpot) (e : LeafElement) → Names (IsEntry file meta) (Root_page meta.root) (path ++ e.key ∷ []) (start_of e.value) → IsNamed (bucket_site file meta path s e)
-  bucket_named path s e names = (start_of e.value, names, elim (cases_Bool (eqb (head_root e.value) 0)) [ inl zero ↦ rw zero refl | inr more ↦ rw more ([], refl) ])
+  bucket_named path s e names = grind (arith, cases_Bool)
 
   -- a child of a branch
   child_named : (from : Start) (path : Path) (s : PageSpot) (elements : List LeafElement) (x : Entry) (next : Option Entry) (i : ℕ) → Names (IsEntry file meta) (Root_page meta.root) path from

@@ -7,8 +7,7 @@ then_less o r after less further = grind arith
 
 -- texts of the same length, and more after them
 less_more : (xs ys a b : Key) → length xs ≡ length ys → key_cmp xs ys ≡ Less → key_cmp (xs ++ a) (ys ++ b) ≡ Less
-less_more (x ∷ xs) (y ∷ ys) a b same less =
-    then_less (nat_cmp x y) (key_cmp xs ys) (key_cmp (xs ++ a) (ys ++ b)) less (λ rest. less_more xs ys a b (let f : suc (length xs) ≡ suc (length ys) = same in omega (arith, f)) rest)
+less_more (x ∷ xs) (y ∷ ys) a b same less = let later = less_more xs ys a b in grind (arith, then_less, later)
 less_more xs ys a b same less = grind arith
 
 same_more : (xs a b : Key) → key_cmp (xs ++ a) (xs ++ b) ≡ key_cmp a b

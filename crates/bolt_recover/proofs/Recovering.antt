@@ -1,8 +1,7 @@
 -- A recovery between its calls: what comes of it in the end is all that comes of its file.
-use Rattle.std.proofs.Common.{◌≡◌, ◌∙◌, ◌≤◌, ℕ, true, ◌↔◌, List, [], ◌∷◌, ◌++◌, length, map, take, Option, Some, Result, IfOk, OnErr, refl, sym, ap, subst, arith, append_assoc, Vec, Global}
-use Rattle.bolt_recover.proofs.Words.{Advances, after_event, after_events, all_events, append-nil, AreFirst, AreKeptPages, AreLosses, AreOpenPages, ArePageWays, claims_file, claims_meta, claims_nodes, claims_visited, TreePage, counted, Ends, Event, Given, StepsOn, is_claimed, IsAllLeft, IsGoodPage, IsKeptPage, StepsAreOn, AreStepsPlaced, IsRecovered, loss_view, losses_of, LossView, loss_at, Member, members_left, Meta, node_at, Nodes, OpenPage, Outcome, outcome_of, page_ways, props, reached, StaysOn, steps_left, SurveyedWay, take-append-le, take_all, tally_of, Visited}
+use Rattle.std.proofs.Common.{◌≡◌, ◌∙◌, ◌≤◌, ℕ, true, ◌↔◌, List, [], ◌∷◌, ◌++◌, length, map, take, refl, sym, ap, subst, arith, append_assoc}
+use Rattle.bolt_recover.proofs.Words.{after_event, after_events, all_events, append-nil, AreFirst, AreKeptPages, AreLosses, AreOpenPages, ArePageWays, claims_file, claims_nodes, claims_visited, TreePage, counted, Ends, Event, Given, is_claimed, IsAllLeft, IsGoodPage, IsKeptPage, StepsAreOn, AreStepsPlaced, IsRecovered, loss_view, losses_of, LossView, Member, members_left, Meta, node_at, Nodes, OpenPage, Outcome, outcome_of, page_ways, props, reached, steps_left, SurveyedWay, take-append-le, take_all, tally_of, Visited}
 use Rattle.bolt_recover.proofs.{Existing.one_recovered, Existing.recovers, CourseSurveys.all_claimed, CourseSurveys.survey_of, CourseSurveys.surveyed, CourseSurveys.tally, SurveyIsOne.same_survey}
-use Rattle.bolt_format.specs.declared.element.Leaf.{Leaf}
 use Rattle.bolt_check.specs.declared.spot.Spot.{Spot}
 use Rattle.bolt_check.specs.declared.spot.Spot.TheVariants as spots
 use Rattle.bolt_recover.specs.{Private.Frames.IsGoodAt, declared.steps.Steps.Steps}
@@ -46,28 +45,13 @@ module _ (file : List ℕ) (meta : Meta) (begun : ℕ) where
 grows : (nodes : Nodes) (o : Outcome) (events : List Event) → (rest : List LossView) × ((after_events nodes o events).losses ≡ o.losses ++ rest)
 grows nodes o [] = ([], sym (append-nil o.losses))
 grows nodes o (Given path e ∷ events) = grows nodes o events
-grows nodes o (Visited way p found ∷ events) =
-    let (rest, same) = grows nodes (after_event nodes o (Visited way p found)) events in
-    (loss_at (Some p) found ++ rest, same ∙ append_assoc o.losses (loss_at (Some p) found) rest)
+grows nodes o (Visited way p found ∷ events) = let later = grows nodes (after_event nodes o (Visited way p found)) events in grind (arith, append_assoc, later)
 
 -- at the start all is left
 pub left_all : (file : List ℕ) (meta : Meta) (begun : ℕ) (s : Steps) (listing : List Member) → IsAllLeft file meta begun s → IsRecovered file meta listing → members_left s ≡ listing
 left_all file meta begun s listing all recovered = all.members ∙ one_recovered file meta _ listing (recovers file meta) recovered
 
-pub on_begun : (file : List ℕ) (meta : Meta) (begun : ℕ) (s : Steps) → claims_file s.claims ≡ file → claims_meta s.claims ≡ meta → IsAllLeft file meta begun s → StepsAreOn s meta begun
-on_begun file meta begun s of_file of_meta all = record { meta = of_meta; comes = all.outcome ∙ ap (λ (f : List ℕ). whole f meta begun) (sym of_file) }
-
--- where there is room for more open pages, the same is left
-pub on_reserved : (s : Steps) (meta : Meta) (begun : ℕ) (stack : Vec OpenPage Global) → stack.items ≡ s.open.items → StepsAreOn s meta begun → StepsAreOn (record s { «open» = stack }) meta begun
-on_reserved s meta begun stack same on = record { meta = on.meta; comes = rw same on.comes }
-
-pub stays_advanced : {E : Type 0} (old new : Steps) (result : Result (Option Leaf) E) → IfOk result (Advances old new) → OnErr result (StepsOn old new) → StaysOn old new
-stays_advanced old new result given same = grind arith
-
 module _ {s : Steps} {meta : Meta} {begun : ℕ} (on : StepsAreOn s meta begun) where
-  pub on_further : {new : Steps} → StaysOn s new → StepsAreOn new meta begun
-  on_further stays = record { meta = stays.meta ∙ on.meta; comes = stays.outcome ∙ on.comes ∙ ap (λ (file : List ℕ). whole file meta begun) (sym stays.file) }
-
   -- after the end
   ended_with : {new : Steps} → Ends s new → whole (claims_file s.claims) meta begun ≡ tally_of new
   ended_with {new} h = sym on.comes ∙ sym h.on.outcome ∙ ap (after_events (claims_nodes new.claims) (tally_of new)) h.ended

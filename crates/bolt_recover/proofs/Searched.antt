@@ -1,11 +1,10 @@
 -- What is known of a file that was searched.
-use Rattle.std.proofs.Common.{◌≡◌, ◌≢◌, ◌∙◌, ◌<◌, ◌*◌, ◌^◌, ℕ, true, false, List, [], ◌∷◌, ap, length, subst, subst₂, sym, arith}
+use Rattle.std.proofs.Common.{◌≡◌, ◌≢◌, ◌∙◌, ◌<◌, ◌*◌, ◌^◌, true, false, List, [], ◌∷◌, ap, length, subst, sym, arith}
 use Rattle.bolt_recover.proofs.Words.{all_lost, AreJoinable, AreTreesOf, bytes_of, Checked, Contains, contains_cases, contains_head, contains_none, contains_tail, Damaged, everything, Finding, ForRecovered, Found, HasBucketKey, holds_key, IsSearched, LacksBucketKey, LosesRoot, LossView, lost_of, Member, meta_of, or_cases, or_parts, parts, props, Rootless, Sound, ∥∥₁_elim, ∥∥₁_map}
 use Rattle.bolt_recover.proofs.FoundAll.{nothing_recovered}
 use Rattle.bolt_recover.specs.{Lost.IsAllLost, declared.losses.Damage.Damage, declared.lost_and_found.LostAndFound.LostAndFound, declared.lost_and_found.Trees.Trees}
 use Rattle.bolt_check.specs.{Counts.saturated, Sound.HasSoundTrees}
 use Rattle.bolt_check.proofs.Exports.{checked_trees}
-use Rattle.bolt_format.specs.declared.meta.Meta.{Meta}
 
 -- what is told of the key
 key_held : (listing : List Member) → holds_key listing ≡ true → HasBucketKey listing
@@ -27,14 +26,12 @@ module _ (both : LostAndFound) where
   of_sound checked is = ∥∥₁_elim both.searched (hlevel props) (left (Sound checked) is)
 
   pub trees_sound : (checked : Checked) → both.trees ≡ Sound checked → ∥ HasSoundTrees both.file.now both.meta ∥₁
-  trees_sound checked is =
-      let same = of_sound checked is in
-      subst₂ (λ (file : List ℕ) (meta : Meta). ∥ HasSoundTrees file meta ∥₁) same.0 same.1 (checked_trees checked)
+  trees_sound checked is = grind (arith, of_sound checked is, checked_trees checked)
 
   -- trees whose root page is kept
   pub not_everything : (losses : List LossView) → lost_of both.trees ≡ parts losses → (x : Finding) → all_lost both ≡ everything x → ⊥
   unfolding all_lost
-  not_everything losses is x all = parts_some losses x (sym is ∙ all)
+  not_everything losses is x all = grind (arith, parts_some)
 
   -- what is found can be joined, if there are few enough pages and room for the bucket
   pub joinable : (found : List Found) → found ≡ both.found.items → length both.file.now < 10 ^ 16 * both.meta.page_size → (both.found.items ≢ [] → ForRecovered both.file.now both.meta LacksBucketKey)

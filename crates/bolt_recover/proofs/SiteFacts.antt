@@ -14,8 +14,7 @@ spot_next file meta here i = grind (arith, spot_on)
 
 spot_follow : (file : List ℕ) (meta : Meta) (here : Option Site) (way : List ℕ) → spot_in (follow_sites file meta here way) ≡ follow (node_at file meta) (spot_in here) way
 spot_follow file meta here [] = refl
-spot_follow file meta here (i ∷ way) =
-    spot_follow file meta (next_site file meta here i) way ∙ ap (λ (s : Option Spot). follow (node_at file meta) s way) (spot_next file meta here i)
+spot_follow file meta here (i ∷ way) = let later = spot_follow file meta (next_site file meta here i) way in grind (arith, spot_next, later)
 
 -- the spot of a site is where its way leads
 pub spot_is : (file : List ℕ) (meta : Meta) (way : List ℕ) (p : Site) → site_at file meta way ≡ Some p → reached (node_at file meta) meta.root way ≡ Some p.spot

@@ -40,16 +40,7 @@ own_key file meta p s node i e h at = grind (arith, key_at, slice_get-map, none-
 keyed_at : (file : List ℕ) (meta : Meta) (before : ℕ → Type 0) (spot : Spot) (path : Path) (elements : List LeafElement) → IsTidyAt file meta elements spot → Passes (node_at file meta) before spot
     → (keys : List Key) × Keyed file meta (record { spot = spot; path = path; elements = elements }) keys
 keyed_at file meta before (At_inline host inner) path elements tidy passes =
-    let keys = inner.keys in
-    let none = finding_none (keys_order_fault None None None keys) host passes in (
-      keys,
-      record {
-        rise = key_rise None None None keys none;
-        each = λ j q at. let t = key_each None None None keys none j q at in (t.1, t.2);
-        own = λ i e at. ap (λ (ks : List Key). slice_get ks i) tidy ∙ key_of_element elements i e at;
-        kids = λ i t is. absurd (cc);
-      },
-    )
+    let none = finding_none (keys_order_fault None None None inner.keys) host passes in (inner.keys, grind (arith, key_rise, key_each, key_of_element, none))
 keyed_at file meta before (At_page s) path elements tidy passes =
     let node = passes.node in
     let keys = keys_of node.entries in

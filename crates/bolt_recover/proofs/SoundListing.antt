@@ -53,7 +53,7 @@ module _ (file : List ℕ) (meta : Meta) where
   HasPage path n = (way : List ℕ) × (p : Site) × (s : PageSpot) × (site_at file meta way ≡ Some p) × (p.spot ≡ At_page s) × (s.number ≡ n) × (p.path ≡ path)
 
   tidy_page : (way : List ℕ) (p : Site) (s : PageSpot) → site_at file meta way ≡ Some p → p.spot ≡ At_page s → IsTidyAt file meta p.elements (At_page s)
-  tidy_page way p s at is = subst (λ (t : Spot). IsTidyAt file meta p.elements t) is (well_at file meta way p at).1
+  tidy_page way p s at is = grind (arith, well_at)
 
   down : (address way : List ℕ) (p : Site) (s : PageSpot) (n : ℕ) → site_at file meta way ≡ Some p → p.spot ≡ At_page s → leads nodes (Some s.number) address ≡ Some n → HasPage p.path n
   down [] way p s n at is lead = (way, p, s, at, is, same_Some s.number n lead, refl)

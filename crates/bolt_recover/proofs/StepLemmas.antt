@@ -1,6 +1,6 @@
 -- What the steps of a recovering walk leave to be done.
-use Rattle.std.proofs.Common.{◌≡◌, ◌∙◌, ◌≤◌, ◌<◌, ℕ, suc, ◌+◌, ◌-◌, Bool, true, ◌↔◌, List, [], ◌∷◌, ◌++◌, length, map, take, Option, Some, None, slice_get, drop, refl, sym, ap, arith, append_assoc, sum_by, Vec, Global, Bor}
-use Rattle.bolt_recover.proofs.Words.{after_event, after_events, ahead_tasks, all_events, append-nil, AreOpenPages, At_page, both_ways, claimed_after, claims_file, claims_meta, claims_nodes, claims_visited, claims_with, Event, loss_of, Passes, Tests, KeptPage, content_elements, content_site, content_size, content_spot, counted, Ends, events, Finding, further, Gives, GivesHead, StepsOn, is_claimed, IsAllLeft, IsContent, IsGoodKeptPage, IsGoodPage, IsMetaPage, AreStepsPlaced, IsShallow, LeafElement, length_entries, length-map, length-take-le, loss_view, loss_at, map-append, members_of, Meta, meta_pages, nat_tests, NextVisit, node_at, Nodes, open_tasks, OpenPage, option_map, Outcome, outcome_of, page_tasks, page_visit, page_weight, Path, path_of, root_spot, Site, site_size, site_tasks, spot_at, spot_site, steps_left, steps_path, steps_weight, TreePage, sum_by-append, take-append-drop, take-append-le, tally_of, Task, tasks_after, tasks_from, tasks_left, Visited, Way, way_of, step_site}
+use Rattle.std.proofs.Common.{◌≡◌, ◌∙◌, ◌≤◌, ◌<◌, ℕ, ◌+◌, ◌-◌, Bool, true, ◌↔◌, List, [], ◌∷◌, ◌++◌, length, map, take, Option, Some, None, slice_get, drop, refl, sym, ap, arith, append_assoc, sum_by, Vec, Global, Bor}
+use Rattle.bolt_recover.proofs.Words.{after_event, ahead_tasks, all_events, append-nil, AreOpenPages, At_page, both_ways, claimed_after, claims_file, claims_meta, claims_nodes, claims_visited, claims_with, Event, loss_of, Passes, Tests, KeptPage, content_elements, content_site, content_size, content_spot, counted, Ends, events, Finding, further, Gives, GivesHead, StepsOn, is_claimed, IsAllLeft, IsContent, IsGoodKeptPage, IsGoodPage, IsMetaPage, AreStepsPlaced, IsShallow, LeafElement, length_entries, length-map, length-take-le, loss_view, loss_at, map-append, members_of, Meta, meta_pages, nat_tests, NextVisit, node_at, open_tasks, OpenPage, option_map, page_tasks, page_visit, page_weight, Path, path_of, root_spot, Site, site_size, site_tasks, spot_at, spot_site, steps_left, steps_path, steps_weight, TreePage, sum_by-append, take-append-drop, take-append-le, tally_of, Task, tasks_after, tasks_left, Visited, Way, way_of, step_site}
 use Rattle.bolt_recover.proofs.{Courses.events_give, Courses.events_none, Courses.events_visit, SurveyIsOne.gives_same}
 use Rattle.bolt_format.specs.TreePages.{page_keys, shown_page}
 use Rattle.bolt_recover.specs.{Private.Frames.IsGoodAt, Private.Frames.IsShallowAt, declared.losses.Loss.Loss, declared.steps.Steps.Steps}
@@ -13,11 +13,7 @@ module _ (file : List ℕ) (meta : Meta) where
   pub open_last : (path : Path) (way : Way) (pages : List OpenPage) (page : OpenPage) (rest : List Task)
       → open_tasks file meta path way (pages ++ page ∷ []) rest ≡ page_tasks file meta path (way ++ way_of pages) page ++ open_tasks file meta path way pages rest
   open_last path way [] page rest = ap (λ (w : Way). page_tasks file meta path w page ++ rest) (sym (append-nil way))
-  open_last path way (first ∷ pages) page rest =
-      let more = page_tasks file meta path way first ++ rest in
-      let next = further way (first.next - 1) in
-      open_last path next pages page more
-      ∙ ap (λ (w : Way). page_tasks file meta path w page ++ open_tasks file meta path next pages more) (append_assoc way ((first.next - 1) ∷ []) (way_of pages))
+  open_last path way (first ∷ pages) page rest = let later = open_last path (further way (first.next - 1)) pages page in grind (arith, append_assoc, later)
 
   pub are_open_push : (low : ℕ) (pages : List OpenPage) (page : OpenPage) (high : ℕ)
       → AreOpenPages file meta low pages page.path_len → IsGoodPage file meta page → page.path_len ≤ high → AreOpenPages file meta low (pages ++ page ∷ []) high
@@ -36,8 +32,7 @@ module _ (file : List ℕ) (meta : Meta) where
 
   innermost : (low : ℕ) (pages : List OpenPage) (page : OpenPage) (high : ℕ) → AreOpenPages file meta low (pages ++ page ∷ []) high → Innermost low pages page high
   innermost low [] page high are = record { below = are.0; good = are.1; within = are.2 }
-  innermost low (first ∷ pages) page high are =
-      let more = innermost first.path_len pages page high are.2 in record { below = (are.0, are.1, more.below); good = more.good; within = more.within }
+  innermost low (first ∷ pages) page high are = let later = innermost first.path_len pages page high are.2 in grind arith
 
   are_open_up : (low : ℕ) (pages : List OpenPage) (high higher : ℕ) → AreOpenPages file meta low pages high → high ≤ higher → AreOpenPages file meta low pages higher
   are_open_up low [] high higher are le = omega (arith, are, le)
@@ -47,11 +42,7 @@ module _ (file : List ℕ) (meta : Meta) where
   same_open : (low high : ℕ) (pages : List OpenPage) (way : Way) (a b : Path) (rest : List Task) → AreOpenPages file meta low pages high
       → ((n : ℕ) → n ≤ high → take n a ≡ take n b) → open_tasks file meta a way pages rest ≡ open_tasks file meta b way pages rest
   same_open low high [] way a b rest are same = refl
-  same_open low high (page ∷ pages) way a b rest are same =
-      let next = further way (page.next - 1) in
-      ap (λ (p : Path). open_tasks file meta a next pages (tasks_from file meta way (content_site p page.content) page.next (page.count - page.next) ++ rest))
-      (same page.path_len (low_high page.path_len pages high are.2))
-      ∙ same_open page.path_len high pages next a b (page_tasks file meta b way page ++ rest) are.2 same
+  same_open low high (page ∷ pages) way a b rest are same = let later = same_open page.path_len high pages in grind (arith, low_high, later)
 
   size_at : (page : TreePage) (s : Spot) → IsGoodAt file meta page s → length (page_keys page) ≡ site_size (node_at file meta) (spot_at s) (shown_page page).leaves
   size_at page s good = grind (arith, length_entries, length-map)
@@ -65,10 +56,7 @@ module _ (file : List ℕ) (meta : Meta) where
   opened path pages s content path_len count is long = grind (arith, open_last, size_is)
 
 pub take_below : (m n : ℕ) (path rest : Path) → m ≤ length path → n ≤ m → take n (take m path ++ rest) ≡ take n path
-take_below m n path rest long le =
-    let have = length-take-le m path long in
-    let short : n ≤ length (take m path) = omega (arith, have) in
-    take-append-le n (take m path) rest short ∙ sym (take-append-le n (take m path) (drop m path) short) ∙ ap (take n) (take-append-drop m path)
+take_below m n path rest long le = grind (arith, length-take-le m path, take-append-le n (take m path) rest, take-append-le n (take m path) (drop m path), take-append-drop m path)
 
 -- what is ahead was visited, with these pages open after it
 module _ (s : Steps) (claims : Claims) (stack : Vec OpenPage Global) (losses : Vec Loss Global) (loss_path : Vec (Bor (List ℕ)) Global) (ahead : NextVisit)
@@ -105,9 +93,7 @@ module _ (s : Steps) (claims : Claims) (stack : Vec OpenPage Global) (losses : V
           file = file;
           meta = meta;
           placed = rw (file, meta) (record { pages = placed; within = omega arith });
-          outcome = ap (λ (n : Nodes). after_events n (tally_of visited) (steps_left visited)) (λ i. node_at (file i) (meta i))
-              ∙ ap (λ (o : Outcome). after_events (claims_nodes s.claims) o (steps_left visited)) tally
-              ∙ sym (ap (after_events (claims_nodes s.claims) (tally_of s)) left);
+          outcome = grind (arith, left, tally);
         };
         path = refl;
         members = sym (ap members_of left);
@@ -228,8 +214,4 @@ begins s claims stack loss_path content count is none lost metas file meta count
     let left : steps_left s ≡ all_events (claims_file s.claims) (claims_meta s.claims) = rw (is, none, claimed) refl in
     let tally : tally_of s ≡ record { losses = []; visited = claims_visited s.claims; claimed = meta_pages } =
     λ i. record { losses = map loss_view (lost i); visited = claims_visited s.claims; claimed = claimed i } in
-    record {
-      members = goes.members ∙ ap members_of left;
-      outcome = goes.on.outcome ∙ ap (λ (o : Outcome). after_events (claims_nodes s.claims) o (steps_left s)) tally
-          ∙ ap (outcome_of (claims_nodes s.claims) (claims_visited s.claims)) left;
-    }
+    record { members = goes.members ∙ ap members_of left; outcome = grind (arith, left, tally, goes.on.outcome) }

@@ -25,8 +25,7 @@ module _ (nodes : Nodes) (claimed : ℕ → Bool) where
       → Finds (At_page s) (option_or (option_map (finding TWICE) o) (node_finding node s))
   node_finds s node (Some n) (low, high, was, first) is page =
       twice node is page (record { in_span = (low, omega (arith, high)); was = was; lowest = λ k inside lt h. first k inside.0 lt h }) refl
-  node_finds s node None none is page =
-      late_finds s node (node_finding node s) refl is page (λ n inside h. none n inside.0 (let last = inside.1 in omega (arith, last)) h)
+  node_finds s node None none is page = grind (arith, late_finds)
 
   pub test_finds : (s : Spot) → Finds s (test nodes claimed s)
   test_finds s = grind (arith, node_finds, first_is)

@@ -1,6 +1,6 @@
 -- Trees whose keys rise, and what they list.
 use Rattle.std.proofs.Common.{◌≡◌, ◌∙◌, ◌⊎◌, inl, inr, ℕ, zero, suc, true, List, [], ◌∷◌, ◌++◌, Some, slice_get, refl, sym, ap, subst, arith, append_assoc}
-use Rattle.bolt_recover.proofs.Words.{before_longer, Bucket, cases_Bool, cond_both, Contains, Contains-append_cases, contains_cases, contains_head, contains_none, contains_tail, end, head_sequence, inside_of, Key, key_cmp, key_lt, key_rise, KeysRise, LeafElement, Less, less_of, listing_below, Member, member_cmp, Path, path_cmp, Rises, same_front, Tree, tree_of_elements, Value, with_bucket, with_value}
+use Rattle.bolt_recover.proofs.Words.{before_longer, Bucket, cases_Bool, cond_both, Contains, Contains-append_cases, contains_cases, contains_head, contains_none, contains_tail, end, head_sequence, inside_of, Key, key_cmp, key_lt, key_rise, KeysRise, LeafElement, Less, less_of, listing_below, Member, member_cmp, Path, path_cmp, Rises, same_front, Tree, tree_of_elements, with_bucket, with_value}
 use Rattle.bolt_recover.proofs.SiteSteps.{keys_in}
 
 -- a key of the outermost bucket
@@ -26,10 +26,7 @@ pub record IsUnder (front : Path) (tree : Tree) (m : Member) : Type 0 where
 
 pub under : (tree : Tree) (front : Path) (m : Member) → Contains (listing_below front tree) m → IsUnder front tree m
 under end front m h = absurd (contains_none m h)
-under (with_value key value after) front m h = elim (contains_cases (front ++ key ∷ [], Value value) m (listing_below front after) h) [
-  | inl same ↦ record { key = key; rest = []; has = inl refl; at = sym (ap (λ (x : Member). x.0) same) }
-  | inr later ↦ let u = under after front m later in record { key = u.key; rest = u.rest; has = inr u.has; at = u.at }
-]
+under (with_value key value after) front m h = let later = under after front m in grind (arith, contains_cases, later)
 under (with_bucket key sequence inside after) front m h =
     elim (contains_cases (front ++ key ∷ [], Bucket sequence) m (listing_below (front ++ key ∷ []) inside ++ listing_below front after) h) [
       | inl same ↦ record { key = key; rest = []; has = inl refl; at = sym (ap (λ (x : Member). x.0) same) }

@@ -1,12 +1,12 @@
 -- Of entries by key and value, those whose keys no others have, and the number of the keys.
-use Rattle.std.proofs.Common.{◌≡◌, ◌∙◌, ◌<◌, ◌++◌, ◌≤◌, ◌+◌, ◌⊎◌, ◌&&◌, inl, inr, ℕ, zero, suc, Bool, true, false, List, [], ◌∷◌, cond, drop, length, length-set, map, not, refl, set, sym, ap, subst, slice_index_or, take, arith}
-use Rattle.std.proofs.lemmas.Bool.{and_parts, cond-false, cond-true, false_from_ne_true, not-false, true_from_ne_false}
+use Rattle.std.proofs.Common.{rules, ◌≡◌, ◌∙◌, ◌<◌, ◌++◌, ◌≤◌, ◌+◌, ◌⊎◌, ◌&&◌, inl, inr, ℕ, suc, Bool, true, false, List, [], ◌∷◌, cond, drop, length, length-set, map, not, refl, set, sym, ap, subst, slice_index_or, take, arith}
+use Rattle.std.proofs.lemmas.Bool.{and_parts, cases_Bool, cond-false, cond-true, cond_both, false_from_ne_true, not-false, true_from_ne_false}
 use Rattle.std.proofs.lemmas.Cmp.{nat_list_eq_equiv}
-use Rattle.std.proofs.lemmas.List.{append-nil, append_assoc, drop-set-lt, drop_all, drop_more, map-append, take_more_set}
+use Rattle.std.proofs.lemmas.List.{append-nil, append_assoc, drop-set-lt, drop_all, drop_more, get_or_default, map-append, take_more_set}
 use Rattle.std.proofs.{lemmas.List.Kept.Contains-dedup, lemmas.List.Kept.Contains-from_dedup, lemmas.List.Kept.IsStrictlySortedBy-dedup, lemmas.Map.Text.is_eq-slice_cmp}
 use Rattle.std.proofs.lemmas.Slice.Eq.{bytes_eq-Decides}
 use Rattle.std.specs.{Cmp.Lexicographic.same_text, List.Contains, List.dedup, List.dedup_from, Ordering.is_lt, Ordering.ordering_reverse, Ordering.ordering_then, Str.bytes_eq}
-use Rattle.std.specs.{declared.cmp.Ordering.Ordering, declared.cmp.Ordering.TheVariants.Equal, declared.cmp.Ordering.TheVariants.Greater, declared.cmp.Ordering.TheVariants.Less}
+use Rattle.std.specs.{declared.cmp.Ordering.Ordering, declared.cmp.Ordering.TheVariants.Less}
 use Rattle.bolt_check.specs.Keys.{Key, key_cmp}
 use Rattle.bolt_tree.proofs.Exports.{contains_cases, contains_head, contains_none, contains_tail, irreflexive, key_exact, key_total, Climbs, climbs_sorted, shows_from, shows_has, rises_as}
 use Rattle.bolt_tree.specs.{Entries.EntryView, InBuckets.view_cmp, Order.Rises}
@@ -25,9 +25,7 @@ abbrev pub entry_below : EntryView → EntryView → Bool
 entry_below a b = key_below a.key b.key
 
 then_not_above : (o later : Ordering) → ordering_then o later ≡ Less → is_lt (ordering_reverse o) ≡ false
-then_not_above Less later e = refl
-then_not_above Equal later e = refl
-then_not_above Greater later e = cc
+then_not_above o later e = grind arith
 
 not_below : (a b : EntryView) → whole_cmp a b ≡ Less → entry_below b a ≡ false
 not_below a b less = ap is_lt (key_total.antisymm b.key a.key) ∙ then_not_above (key_cmp a.key b.key) _ less
@@ -71,25 +69,18 @@ alone_there first (x ∷ es) e has = elim (alone_cases x e _ (first && is_last_o
   | inr more ↦ contains_tail x e es (alone_there (is_last_of_key (x ∷ es)) es e more)
 ]
 
-rises_step : (x : EntryView) (es rest : List EntryView) (c : Bool) → Rises whole_cmp (x ∷ es) → ((e : EntryView) → Contains rest e → Contains es e) → Rises whole_cmp rest
-    → Rises whole_cmp (cond c (x ∷ rest) rest)
-rises_step x es rest true rises there later = (λ y has. rises.0 y (there y has), later)
-rises_step x es rest false rises there later = later
-
 alones_rise : (first : Bool) (es : List EntryView) → Rises whole_cmp es → Rises whole_cmp (alones first es)
 alones_rise first [] rises = tt
 alones_rise first (x ∷ es) rises =
     let last = is_last_of_key (x ∷ es) in
-    rises_step x es (alones last es) (first && last) rises (alone_there last es) (alones_rise last es rises.1)
+    let later = alones_rise last es rises.1 in
+    cond_both (first && last) _ _ (Rises whole_cmp) (λ both. (λ y has. rises.0 y (alone_there last es y has), later)) (λ other. later)
 
 -- ---- no other one has their keys
 
 -- the next one has the key that a later one has
 next_same : (a b : EntryView) (es : List EntryView) (y : EntryView) → Rises whole_cmp (a ∷ b ∷ es) → Contains (b ∷ es) y → y.key ≡ a.key → b.key ≡ a.key
-next_same a b es y rises has same = elim (contains_cases b y es has) [
-  | inl is ↦ ap (λ (e : EntryView). e.key) is ∙ same
-  | inr more ↦ level b.key a.key (not_below a b (rises.0 b (contains_head b es))) (subst (λ (k : Key). key_below k b.key ≡ false) same (not_below b y (rises.1.0 y more)))
-]
+next_same a b es y rises has same = grind (arith, contains_cases, level, not_below, contains_head)
 
 -- so the first isn't the last with its key
 not_last : (a : EntryView) (es : List EntryView) (y : EntryView) → Rises whole_cmp (a ∷ es) → Contains es y → y.key ≡ a.key → is_last_of_key (a ∷ es) ≡ false
@@ -159,9 +150,7 @@ alone_has first (x ∷ es) e rises has one free =
     ]
 
 by_keys : (a b : EntryView) (o : Ordering) → key_cmp a.key b.key ≡ o → ordering_then o (key_cmp (value_bytes a) (value_bytes b)) ≡ Less → (a.key ≡ b.key → ⊥) → o ≡ Less
-by_keys a b Less is less differ = refl
-by_keys a b Equal is less differ = absurd (differ (key_exact a.key b.key is))
-by_keys a b Greater is less differ = cc
+by_keys a b o is less differ = grind (arith, key_exact)
 
 pub are_undisputed : (es : List EntryView) → Rises whole_cmp es → AreUndisputed es (alones true es)
 are_undisputed es rises = record {
@@ -193,14 +182,9 @@ abbrev pub count_keys : List EntryView → ℕ
 count_keys [] = 0
 count_keys (e ∷ es) = cond (is_last_of_key (e ∷ es)) (suc (count_keys es)) (count_keys es)
 
-count_step : (a b : EntryView) (es : List EntryView) (c : Bool) → bytes_eq b.key a.key ≡ c → length (dedup_from bytes_eq b.key (keys_in es)) ≡ count_keys (b ∷ es)
-    → length (cond c (dedup_from bytes_eq a.key (keys_in es)) (a.key ∷ dedup_from bytes_eq b.key (keys_in es))) ≡ cond (not c) (suc (count_keys (b ∷ es))) (count_keys (b ∷ es))
-count_step a b es true e later = ap (λ (k : Key). length (dedup_from bytes_eq k (keys_in es))) (sym (same_text b.key a.key (sym e))) ∙ later
-count_step a b es false e later = ap suc later
-
 count_from : (a : EntryView) (es : List EntryView) → length (dedup_from bytes_eq a.key (keys_in es)) ≡ count_keys (a ∷ es)
 count_from a [] = refl
-count_from a (b ∷ es) = count_step a b es (bytes_eq b.key a.key) refl (count_from b es)
+count_from a (b ∷ es) = search (rules, cases_Bool, count_from b es)
 
 pub have_keys : (es : List EntryView) → Rises whole_cmp es → HaveKeys es (count_keys es)
 have_keys [] rises = ([], are_keys [] tt, refl)
@@ -210,9 +194,7 @@ have_keys (e ∷ es) rises = (dedup bytes_eq (keys_in (e ∷ es)), are_keys (e �
 
 -- what stands at a place
 pub same_at : {X : Type 0} (xs : List X) (i : ℕ) (x y : X) → i < length xs → x ≡ slice_index_or xs i x → y ≡ slice_index_or xs i y → x ≡ y
-same_at [] i x y below is also = absurd (omega arith)
-same_at (z ∷ xs) zero x y below is also = is ∙ sym also
-same_at (z ∷ xs) (suc i) x y below is also = same_at xs i x y (omega arith) is also
+same_at xs i x y below is also = is ∙ get_or_default xs i x y below ∙ sym also
 
 -- ---- from one entry on to the next
 
@@ -245,14 +227,12 @@ module _ (xs : List Revision) (i : ℕ) (last : Bool) (is : last ≡ is_last_of_
     pub counted : last ≡ true → (keys + 1) + count_keys rest ≡ count_keys whole
     counted ends =
         let (x, at) = here_at xs i below in
-        let step = keys_at x at ∙ cond-true last (suc (count_keys rest)) (count_keys rest) ends in
-        omega (arith, number, step)
+        omega (arith, number, keys_at x at ∙ cond-true last (suc (count_keys rest)) (count_keys rest) ends)
 
     pub not_counted : last ≡ false → keys + count_keys rest ≡ count_keys whole
     not_counted more =
         let (x, at) = here_at xs i below in
-        let step = keys_at x at ∙ cond-false last (suc (count_keys rest)) (count_keys rest) more in
-        omega (arith, number, step)
+        omega (arith, number, keys_at x at ∙ cond-false last (suc (count_keys rest)) (count_keys rest) more)
 
   -- these are kept
   module _ (whole : List EntryView) (kept : ℕ) (first : Bool) (low : kept ≤ i) (below : i < length xs) (told : map entry_of (take kept xs) ++ alones first (map entry_of (drop i xs)) ≡ alones true whole) where
@@ -261,17 +241,7 @@ module _ (xs : List Revision) (i : ℕ) (last : Bool) (is : last ≡ is_last_of_
         (length ys ≡ length xs) × (more ≤ i + 1) × (drop (i + 1) ys ≡ drop (i + 1) xs) × (map entry_of (take more ys) ++ alones last (map entry_of (drop (i + 1) ys)) ≡ alones true whole)
 
     pub written : (x : Revision) → x ≡ slice_index_or xs i x → first ≡ true → last ≡ true → (ys : List Revision) (more : ℕ) → ys ≡ set xs kept x → more ≡ kept + 1 → IsNext ys more
-    written x stands leads ends ys more is_set is_more =
-        let at : drop i xs ≡ x ∷ drop (i + 1) xs = drop_more xs i x below ∙ ap (λ (r : Revision). r ∷ drop (i + 1) xs) (sym stands) in
-        let left : drop (i + 1) ys ≡ drop (i + 1) xs = ap (drop (i + 1)) is_set ∙ drop-set-lt (i + 1) xs kept x (omega (arith, low)) in
-        let front : map entry_of (take more ys) ≡ map entry_of (take kept xs) ++ entry_of x ∷ [] =
-        rw (is_set, is_more) (ap (map entry_of) (take_more_set xs kept x (omega (arith, low, below))) ∙ map-append entry_of (take kept xs) (x ∷ [])) in
-        let step = alones_at x at first ∙ cond-true (first && last) _ _ (rw (leads, ends) refl) in (
-          ap length is_set ∙ length-set xs kept x,
-          omega (arith, low, is_more),
-          left,
-          rw (front, left) (append_assoc (map entry_of (take kept xs)) (entry_of x ∷ []) _ ∙ ap (λ (es : List EntryView). map entry_of (take kept xs) ++ es) (sym step) ∙ told),
-        )
+    written x stands leads ends ys more is_set is_more = grind (arith, drop_more, drop-set-lt, take_more_set, map-append, alones_at, cond-true, length-set, append_assoc)
 
     pub passed : first && last ≡ false → (ys : List Revision) (more : ℕ) → ys ≡ xs → more ≡ kept → IsNext ys more
     passed none ys more is_same is_more =
@@ -287,6 +257,4 @@ all_told whole xs i kept first past told =
     sym (append-nil _) ∙ ap (λ (rs : List Revision). map entry_of (take kept xs) ++ alones first (map entry_of rs)) (sym (drop_all i xs past)) ∙ told
 
 pub all_counted : (whole : List EntryView) (xs : List Revision) (i keys : ℕ) → length xs ≤ i → keys + count_keys (map entry_of (drop i xs)) ≡ count_keys whole → keys ≡ count_keys whole
-all_counted whole xs i keys past number =
-    let none = ap (λ (rs : List Revision). count_keys (map entry_of rs)) (drop_all i xs past) in
-    omega (arith, none, number)
+all_counted whole xs i keys past number = omega (arith, ap (λ (rs : List Revision). count_keys (map entry_of rs)) (drop_all i xs past), number)

@@ -1,5 +1,5 @@
 -- Candidates of several pages.
-use Rattle.std.proofs.Common.{◌≡◌, ◌∙◌, List, ◌∷◌, ◌++◌, map, filter, ap, sym, append_assoc}
+use Rattle.std.proofs.Common.{arith, ◌≡◌, ◌∙◌, List, ◌∷◌, ◌++◌, map, filter, ap, append_assoc}
 use Rattle.std.proofs.lemmas.{List.Elements.filter-append, List.map-append}
 use Rattle.bolt_format.specs.{Elements.LeafElement, TreePages.leaves_on}
 use Rattle.bolt_tree.specs.Entries.{EntryView, entry_view}
@@ -11,8 +11,4 @@ candidates_split a b = ap (filter is_candidate) (map-append entry_view a b) ∙ 
 
 pub page_more : (found rest : List Found) (f : Found) (before all : List EntryView) → rest ≡ f ∷ found → before ++ candidates_in (found_elements rest) ≡ all
     → (before ++ candidates_in (leaves_on f.page)) ++ candidates_in (found_elements found) ≡ all
-page_more found rest f before all same held =
-    append_assoc before (candidates_in (leaves_on f.page)) (candidates_in (found_elements found))
-    ∙ ap (λ (es : List EntryView). before ++ es) (sym (candidates_split (leaves_on f.page) (found_elements found)))
-    ∙ ap (λ (fs : List Found). before ++ candidates_in (found_elements fs)) (sym same)
-    ∙ held
+page_more found rest f before all same held = grind (arith, append_assoc, candidates_split)

@@ -1,13 +1,11 @@
 -- What a binary search by keys finds.
-use Rattle.std.proofs.Common.{◌≡◌, ◌↔◌, ◌∙◌, ◌<◌, ◌≤◌, ◌⊎◌, inl, inr, ℕ, Bool, true, false, List, [], ◌∷◌, length, map, Result, Ok, Err, sym, ap, slice_index_or, arith}
+use Rattle.std.proofs.Common.{◌≡◌, ◌↔◌, ◌∙◌, ◌<◌, inl, inr, ℕ, Bool, true, false, List, [], ◌∷◌, length, map, Result, Ok, Err, sym, ap, slice_index_or, arith}
+use Rattle.std.proofs.lemmas.Bool.{cases_lt}
 use Rattle.std.proofs.{lemmas.List.get_or-map, lemmas.List.length-map, lemmas.List.Elements.Contains-from_at, lemmas.List.Sorted.searchable_from_sorted, lemmas.Cmp.tied_itself}
 use Rattle.std.specs.{List.Contains, List.HoldsAt, List.Sorted.IsBinarySearchResult, List.Sorted.IsPartitionPoint, List.Sorted.IsSearchInRange, List.Sorted.IsSortedBy, Ordering.is_lt, Result.is_ok}
 use Rattle.std.specs.declared.cmp.Ordering.TheVariants.{Equal, Greater, Less}
 use Rattle.bolt_check.specs.Keys.{Key, key_cmp}
 use Rattle.bolt_tree.proofs.Exports.{key_exact, key_total, shows_from}
-
-two_ways : (i k : ℕ) → (k < i) ⊎ (i ≤ k)
-two_ways i k = grind arith
 
 module _ {X : Type 0} (f : X → Key) (key : Key) where
   found_here : (xs : List X) (i : ℕ) → i < length xs → HoldsAt (λ x. key_cmp (f x) key ≡ Equal) xs i → Contains (map f xs) key
@@ -20,7 +18,7 @@ module _ {X : Type 0} (f : X → Key) (key : Key) where
   not_found xs i parts has =
       let (x, (k, below, at), is) = shows_from f xs key has in
       let tied : key_cmp (f (slice_index_or xs k x)) key ≡ Equal = ap (λ (y : X). key_cmp (f y) key) at ∙ ap (λ (l : Key). key_cmp l key) is ∙ tied_itself key_total key in
-      elim (two_ways i k) [
+      elim (cases_lt k i) [
         | inl before ↦ (let less = parts.0 k x (omega arith) before in let wrong : Less ≡ Equal = sym less ∙ tied in cc)
         | inr after ↦ (let greater = parts.1 k x after below in let wrong : Greater ≡ Equal = sym greater ∙ tied in cc)
       ]

@@ -1,10 +1,12 @@
 -- Candidates by rising key, beside one key.
-use Rattle.std.proofs.Common.{◌≡◌, ◌∙◌, ◌<◌, ◌≤◌, ◌+◌, ◌-◌, ◌↔◌, inl, inr, ℕ, zero, suc, Bool, true, false, List, [], ◌∷◌, length, map, slice_index_or, refl, sym, ap, subst, arith}
+use Rattle.std.proofs.Common.{◌≡◌, ◌∙◌, ◌<◌, ◌≤◌, ◌+◌, ◌-◌, ◌↔◌, inl, inr, ℕ, Bool, true, false, List, length, map, slice_index_or, refl, sym, ap, subst, arith}
+use Rattle.std.proofs.{lemmas.List.MinMax.ranks_by, lemmas.List.Sorted.sorted_far}
+use Rattle.std.proofs.lemmas.List.{get_or_default}
 use Rattle.std.proofs.{lemmas.Bool.cases_lt, lemmas.Slice.Eq.bytes_eq-Decides}
 use Rattle.std.specs.{Ordering.is_lt, Ordering.ordering_reverse, Str.bytes_eq, declared.cmp.Ordering.Ordering}
 use Rattle.std.specs.declared.cmp.Ordering.TheVariants.{Equal, Greater, Less}
 use Rattle.bolt_check.specs.Keys.{Key, key_cmp}
-use Rattle.bolt_tree.proofs.Exports.{irreflexive, key_exact, key_same, key_total, Climbs, shows_from, shows_has}
+use Rattle.bolt_tree.proofs.Exports.{irreflexive, key_exact, key_total, Climbs, climbs_sorted, sorted_by_shown, shows_from, shows_has}
 use Rattle.bolt_tree.specs.{Entries.EntryView, Order.Rises}
 use Rattle.bolt_repair.specs.{Candidates.HasKey, Candidates.whole_cmp, Keyed.HaveLesserKeys}
 use Rattle.bolt_etcd.specs.{ShownRevisions.entry_of, declared.revision.Revision.Revision}
@@ -17,34 +19,21 @@ at_most a b key Less is not_above less = key_total.trans a b key is less
 at_most a b key Equal is not_above less = subst (λ (k : Key). key_cmp k key ≡ Less) (sym (key_exact a b is)) less
 at_most a b key Greater is not_above less = cc
 
--- what stands at a place that is there
-same_default : {X : Type 0} (xs : List X) (i : ℕ) (a b : X) → i < length xs → slice_index_or xs i a ≡ slice_index_or xs i b
-same_default [] i a b lt = absurd (omega arith)
-same_default (x ∷ xs) zero a b lt = refl
-same_default (x ∷ xs) (suc i) a b lt = same_default xs i a b (omega arith)
-
--- no later one is below
-climbs_at : (xs : List Revision) → Climbs entry_below (map entry_of xs) → (j k : ℕ) (d : Revision) → j ≤ k → k < length xs
-    → entry_below (entry_of (slice_index_or xs k d)) (entry_of (slice_index_or xs j d)) ≡ false
-climbs_at [] up j k d le lt = absurd (omega arith)
-climbs_at (x ∷ xs) up zero zero d le lt = ap is_lt (key_same x.key.now)
-climbs_at (x ∷ xs) up zero (suc k) d le lt = up.0 (entry_of (slice_index_or xs k d)) (shows_has entry_of xs (slice_index_or xs k d) (k, omega arith, same_default xs k _ d (omega arith)))
-climbs_at (x ∷ xs) up (suc j) zero d le lt = absurd (omega arith)
-climbs_at (x ∷ xs) up (suc j) (suc k) d le lt = climbs_at xs up.1 j k d (omega arith) (omega arith)
-
 module _ (key : Key) (xs : List Revision) (rises : Rises whole_cmp (map entry_of xs)) where
   climbs : Climbs entry_below (map entry_of xs)
   climbs = entries_climb (map entry_of xs) rises
 
   not_above : (j k : ℕ) (d : Revision) → j ≤ k → k < length xs → is_lt (ordering_reverse (key_cmp (slice_index_or xs j d).key.now (slice_index_or xs k d).key.now)) ≡ false
-  not_above j k d le lt = ap is_lt (sym (key_total.antisymm (slice_index_or xs k d).key.now (slice_index_or xs j d).key.now)) ∙ climbs_at xs climbs j k d le lt
+  not_above j k d le lt =
+      ap is_lt (sym (key_total.antisymm (slice_index_or xs k d).key.now (slice_index_or xs j d).key.now))
+      ∙ sorted_far _ (ranks_by key_total (λ (r : Revision). r.key.now)) xs (sorted_by_shown entry_of entry_below xs (climbs_sorted entry_below _ climbs)) j k d le lt
 
   -- if the one before a place is below, all before it are
   pub below_all : (n : ℕ) (r : Revision) → 0 < n → n ≤ length xs → r ≡ slice_index_or xs (n - 1) r → is_lt (key_cmp r.key.now key) ≡ true → HaveLesserKeys key xs n
   below_all n r some within at less = (
     within,
     λ k d lt.
-        let last : slice_index_or xs (n - 1) r ≡ slice_index_or xs (n - 1) d = same_default xs (n - 1) r d (omega arith) in
+        let last : slice_index_or xs (n - 1) r ≡ slice_index_or xs (n - 1) d = get_or_default xs (n - 1) r d (omega arith) in
         let before = less_of (key_cmp r.key.now key) less in
         at_most (slice_index_or xs k d).key.now (slice_index_or xs (n - 1) d).key.now key _ refl (not_above k (n - 1) d (omega arith) (omega arith))
         (subst (λ (x : Revision). key_cmp x.key.now key ≡ Less) (at ∙ last) before),
@@ -74,7 +63,7 @@ module _ (key : Key) (xs : List Revision) (rises : Rises whole_cmp (map entry_of
               let less = subst (λ (y : Revision). key_cmp y.key.now key ≡ Less) here (below.1 k x before) in
               absurd (irreflexive key_total key (subst (λ (l : Key). key_cmp l key ≡ Less) key_is less))
           | inr after ↦
-              let mine : slice_index_or xs i x ≡ r = same_default xs i x r lt ∙ sym at in
+              let mine : slice_index_or xs i x ≡ r = get_or_default xs i x r lt ∙ sym at in
               let above = not_above i k x after within in
               let turned = subst (λ (y : Revision). is_lt (ordering_reverse (key_cmp y.key.now (slice_index_or xs k x).key.now)) ≡ false) mine above in
               let beside = subst (λ (l : Key). is_lt (ordering_reverse (key_cmp r.key.now l)) ≡ false) (ap (λ (y : Revision). y.key.now) here ∙ key_is) turned in

@@ -1,10 +1,10 @@
 -- What one member more says of a store.
-use Rattle.std.proofs.Common.{◌≡◌, ◌↔◌, ◌∙◌, ◌⊎◌, inl, inr, ℕ, List, [], ◌∷◌, ◌++◌, Option, Some, None, refl, sym, ap, subst, length, arith}
+use Rattle.std.proofs.Common.{rules, ◌≡◌, ◌↔◌, ◌∙◌, inl, inr, ℕ, List, [], ◌∷◌, ◌++◌, Option, Some, None, refl, sym, ap, subst, length, arith}
 use Rattle.std.proofs.lemmas.List.{append-nil, append_assoc}
-use Rattle.std.proofs.lemmas.List.Elements.{Contains-append_cases, Contains-append_left, Contains-append_right, Contains-push}
+use Rattle.std.proofs.lemmas.List.Elements.{Contains-append_cases, Contains-append_left, Contains-append_right, Contains-push, Contains-push_cases}
 use Rattle.std.proofs.lemmas.Option.{same_Some}
-use Rattle.std.specs.{List.Contains, Option.option_to_list, declared.cmp.Ordering.Ordering, Ordering.ordering_then}
-use Rattle.std.specs.declared.cmp.Ordering.TheVariants.{Equal, Greater, Less}
+use Rattle.std.specs.{List.Contains, Option.option_to_list, declared.cmp.Ordering.Ordering}
+use Rattle.std.specs.declared.cmp.Ordering.TheVariants.{Less}
 use Rattle.bolt_check.specs.Keys.{Key, key_cmp}
 use Rattle.bolt_tree.proofs.Exports.{contains_cases, contains_head, contains_none, contains_tail, irreflexive, path_total, before_it}
 use Rattle.bolt_tree.specs.{Entries.Bucket, Entries.EntryView, Entries.Item, Entries.Value, InBuckets.entry_in, Listing.Member, Listing.member_cmp, Order.Rises, Paths.Path, Paths.path_cmp}
@@ -13,13 +13,6 @@ use Rattle.bolt_repair.specs.{Candidates.HasKey, Repairs.IsKept, Repairs.compact
 use Rattle.bolt_repair.specs.RecoveredStores.{ComesAfter, HasKeptKey, IsRecoveredStore, KeepsRevision}
 use Rattle.bolt_check.proofs.Exports.{first_decides}
 
--- one is among these or is the last
-last_cases : {A : Type 0} (xs : List A) (x y : A) → Contains (xs ++ x ∷ []) y → Contains xs y ⊎ (x ≡ y)
-last_cases xs x y has = elim (Contains-append_cases xs (x ∷ []) y has) [
-  | inl before ↦ inl before
-  | inr last ↦ (elim (contains_cases x y [] last) [ inl is ↦ inr is | inr none ↦ absurd (contains_none y none) ])
-]
-
 only : {A : Type 0} (o : Option A) (x : A) → Contains (option_to_list o) x → o ≡ Some x
 only None x has = absurd (contains_none x has)
 only (Some y) x has = elim (contains_cases y x [] has) [ inl is ↦ ap Some is | inr none ↦ absurd (contains_none x none) ]
@@ -27,7 +20,7 @@ only (Some y) x has = elim (contains_cases y x [] has) [ inl is ↦ ap Some is |
 pub rises_push : {A : Type 0} (cmp : A → A → Ordering) (xs : List A) (x : A) → Rises cmp xs → ((y : A) → Contains xs y → cmp y x ≡ Less) → Rises cmp (xs ++ x ∷ [])
 rises_push {A = A} cmp [] x rises below = (λ y has. absurd (contains_none y has), tt)
 rises_push {A = A} cmp (z ∷ xs) x rises below = (
-  λ y has. elim (last_cases xs x y has) [ inl there ↦ rises.0 y there | inr is ↦ subst (λ (w : A). cmp z w ≡ Less) is (below z (contains_head z xs)) ],
+  λ y has. elim (Contains-push_cases xs x y has) [ inl there ↦ rises.0 y there | inr is ↦ subst (λ (w : A). cmp z w ≡ Less) is (below z (contains_head z xs)) ],
   rises_push cmp xs x rises.1 (λ y has. below y (contains_tail z y xs has)),
 )
 
@@ -35,7 +28,7 @@ module _ (before : List Member) (m : Member) where
   -- at another path there is nothing more
   elsewhere : (path : Path) (item : Item) → (m.0 ≡ path → ⊥) → Contains (before ++ m ∷ []) (path, item) ↔ Contains before (path, item)
   elsewhere path item other = (
-    λ has. elim (last_cases before m (path, item) has) [ inl there ↦ there | inr is ↦ absurd (other (ap (λ (x : Member). x.0) is)) ],
+    λ has. elim (Contains-push_cases before m (path, item) has) [ inl there ↦ there | inr is ↦ absurd (other (ap (λ (x : Member). x.0) is)) ],
     λ has. Contains-append_left before (m ∷ []) (path, item) has,
   )
 
@@ -86,7 +79,7 @@ module _ (before : List Member) (path : Path) (item : Item) (after : ComesAfter 
   met_same : ((key : Key) → path ≡ store_path ++ key ∷ [] → HasKey candidates key → ⊥) → (key : Key) → Contains keys key ↔ (HasKey candidates key × HasKeptKey now key)
   met_same other key = (
     λ has. (let (wanted, (i, kept)) = (s.met key).0 has in (wanted, (i, Contains-append_left before ((path, item) ∷ []) _ kept))),
-    λ (wanted, (i, kept)). elim (last_cases before (path, item) _ kept) [
+    λ (wanted, (i, kept)). elim (Contains-push_cases before (path, item) _ kept) [
       | inl there ↦ (s.met key).1 (wanted, (i, there))
       | inr is ↦ absurd (other key (ap (λ (m : Member). m.0) is) wanted)
     ],
@@ -102,7 +95,7 @@ module _ (before : List Member) (path : Path) (item : Item) (after : ComesAfter 
   pub store_noted : path ≡ store_path → IsRecoveredStore now candidates (Some item) noted revisions keys
   store_noted at = record {
     bucket = λ i. (
-      λ has. elim (last_cases before (path, item) (store_path, i) has) [
+      λ has. elim (Contains-push_cases before (path, item) (store_path, i) has) [
         | inl there ↦ absurd (alone before (path, item) after i (subst (λ (p : Path). Contains before (p, i)) (sym at) there))
         | inr is ↦ ap (λ (m : Member). Some m.1) is
       ],
@@ -119,7 +112,7 @@ module _ (before : List Member) (path : Path) (item : Item) (after : ComesAfter 
     compaction_noted at = record {
       bucket = store_same (λ e. bucket_not_compaction (sym e ∙ at));
       compaction = λ v. (
-        λ has. elim (last_cases before (path, item) (compaction_path, Value v) has) [
+        λ has. elim (Contains-push_cases before (path, item) (compaction_path, Value v) has) [
           | inl there ↦ absurd (alone before (path, item) after (Value v) (subst (λ (p : Path). Contains before (p, Value v)) (sym at) there))
           | inr is ↦ let same : Value value ≡ Value v = sym is_value ∙ ap (λ (m : Member). m.1) is in cc
         ],
@@ -136,7 +129,7 @@ module _ (before : List Member) (path : Path) (item : Item) (after : ComesAfter 
     bucket_there at = record {
       bucket = store_same (λ e. bucket_not_compaction (sym e ∙ at));
       compaction = λ v. (
-        λ has. elim (last_cases before (path, item) (compaction_path, Value v) has) [
+        λ has. elim (Contains-push_cases before (path, item) (compaction_path, Value v) has) [
           | inl there ↦ (s.compaction v).0 there
           | inr is ↦ let wrong : Bucket sequence ≡ Value v = sym is_bucket ∙ ap (λ (m : Member). m.1) is in cc
         ],
@@ -173,7 +166,7 @@ module _ (before : List Member) (path : Path) (item : Item) (after : ComesAfter 
         | inl there ↦ (let (x, before_it, reads) = (s.kept e some r).0 there in (x, Contains-append_left before ((path, item) ∷ []) _ before_it, reads))
         | inr new ↦ (entry, subst (λ (p : Path). Contains now (p, item)) at last, is ∙ only o r new)
       ],
-      λ (x, has, reads). elim (last_cases before (path, item) _ has) [
+      λ (x, has, reads). elim (Contains-push_cases before (path, item) _ has) [
         | inl there ↦ Contains-append_left revisions (option_to_list o) r ((s.kept e some r).1 (x, there, reads))
         | inr new ↦ Contains-append_right revisions (option_to_list o) r (subst (λ (p : Option RevisionView). Contains (option_to_list p) r) (sym (ap revision_of (last_entry x new) ∙ reads) ∙ is) (contains_head r []))
       ],
@@ -190,14 +183,14 @@ module _ (before : List Member) (path : Path) (item : Item) (after : ComesAfter 
         kept = kept_more;
         rises = rises_push key_cmp keys key s.rises met_below;
         met = λ k. (
-          λ has. elim (last_cases keys key k has) [
+          λ has. elim (Contains-push_cases keys key k has) [
             | inl there ↦ (let (want, (i, kept)) = (s.met k).0 there in (want, (i, Contains-append_left before ((path, item) ∷ []) _ kept)))
             | inr is ↦ (
               subst (HasKey candidates) is wanted,
               (item, subst (Contains now) (ap (λ (p : Path). (p, item)) (at ∙ ap (λ (l : Key). store_path ++ l ∷ []) is)) last),
             )
           ],
-          λ (want, (i, kept)). elim (last_cases before (path, item) _ kept) [
+          λ (want, (i, kept)). elim (Contains-push_cases before (path, item) _ kept) [
             | inl there ↦ Contains-append_left keys (key ∷ []) k ((s.met k).1 (want, (i, there)))
             | inr is ↦ subst (Contains (keys ++ key ∷ [])) (same_last key k (sym at ∙ ap (λ (m : Member). m.0) is)) (Contains-push keys key)
           ],
@@ -217,24 +210,12 @@ module _ (before : List Member) (path : Path) (item : Item) (after : ComesAfter 
       }
 
   pub nothing_there : (path ≡ store_path → ⊥) → ((key : Key) → path ≡ store_path ++ key ∷ [] → ⊥) → (path ≡ compaction_path → ⊥) → IsRecoveredStore now candidates under noted revisions keys
-  nothing_there no_bucket no_entry no_compaction = record {
-    bucket = store_same no_bucket;
-    compaction = compaction_same no_compaction;
-    kept = kept_same no_entry;
-    rises = s.rises;
-    met = met_same (λ key e _. no_entry key e);
-  }
+  nothing_there no_bucket no_entry no_compaction = search (rules, store_same, compaction_same, kept_same, met_same)
 
 -- ---- of no member
 
 pub no_members_noted : (candidates : List EntryView) → IsRecoveredStore [] candidates None None [] []
-no_members_noted candidates = record {
-  bucket = λ i. (λ has. absurd (contains_none _ has), λ e. cc);
-  compaction = λ v. (λ has. absurd (contains_none _ has), λ e. cc);
-  kept = λ e some r. (λ has. absurd (contains_none r has), λ (x, has, reads). absurd (contains_none _ has));
-  rises = tt;
-  met = λ key. (λ has. absurd (contains_none _ has), λ (_, (i, kept)). absurd (contains_none _ kept));
-}
+no_members_noted candidates = grind (arith, contains_none)
 
 -- ---- the members of a listing, one after another
 

@@ -1,10 +1,10 @@
 -- There is one repaired listing.
-use Rattle.std.proofs.Common.{◌≡◌, ◌∙◌, inl, inr, ℕ, Bool, true, false, List, [], ◌∷◌, refl, subst, sym, ap}
+use Rattle.std.proofs.Common.{arith, ◌≡◌, ◌∙◌, inl, inr, ℕ, Bool, true, false, List, [], ◌∷◌, refl, subst, sym, ap}
 use Rattle.std.proofs.lemmas.Cmp.{on_total}
-use Rattle.std.specs.{Cmp.IsTotalOrder, List.Contains, declared.cmp.Ordering.TheVariants.Less}
+use Rattle.std.specs.{Cmp.IsTotalOrder, List.Contains}
 use Rattle.bolt_format.specs.{Elements.LeafElement, declared.meta.Meta.Meta}
-use Rattle.bolt_tree.specs.{Entries.Bucket, Entries.EntryView, Entries.Value, Entries.Item, InBuckets.view_cmp, Listing.Member, Listing.member_cmp, Order.Rises, Paths.Path, Paths.path_cmp}
-use Rattle.bolt_tree.proofs.Exports.{contains_cases, contains_none, irreflexive, rises_once, key_total, path_total}
+use Rattle.bolt_tree.specs.{Entries.Bucket, Entries.EntryView, Entries.Value, Entries.Item, InBuckets.view_cmp, Listing.Member, Listing.member_cmp, Order.Rises, Paths.Path}
+use Rattle.bolt_tree.proofs.Exports.{one_of, rises_once, key_total, path_total}
 use Rattle.bolt_recover.proofs.Exports.{one_recovered}
 use Rattle.bolt_check.specs.Ones.{AtMostOne}
 use Rattle.bolt_recover.specs.{Found.AreFound, Recovered.IsRecovered}
@@ -19,17 +19,7 @@ one_back : (compacted : ℕ) (recovered : List Member) (found : List LeafElement
 one_back compacted recovered found a b h k = rises_once view_total a b h.rises k.rises (λ e has. (k.exact e).1 ((h.exact e).0 has)) (λ e has. (h.exact e).1 ((k.exact e).0 has))
 
 pub member_once : (listing : List Member) → Rises member_cmp listing → (path : Path) (a b : Item) → Contains listing (path, a) → Contains listing (path, b) → a ≡ b
-member_once [] rises path a b h k = absurd (contains_none (path, a) h)
-member_once (m ∷ listing) rises path a b h k = elim (contains_cases m (path, a) listing h) [
-  | inl is_a ↦ elim (contains_cases m (path, b) listing k) [
-    | inl is_b ↦ ap (λ (x : Member). x.1) (sym is_a ∙ is_b)
-    | inr later ↦ absurd (irreflexive path_total path (subst (λ (x : Member). path_cmp x.0 path ≡ Less) is_a (rises.0 (path, b) later)))
-  ]
-  | inr later ↦ elim (contains_cases m (path, b) listing k) [
-    | inl is_b ↦ absurd (irreflexive path_total path (subst (λ (x : Member). path_cmp x.0 path ≡ Less) is_b (rises.0 (path, a) later)))
-    | inr more ↦ member_once listing rises.1 path a b later more
-  ]
-]
+member_once listing rises path a b h k = ap (λ (x : Member). x.1) (one_of path_total (λ (x : Member). x.0) listing (path, a) (path, b) rises h k refl)
 
 pub one_compacted : (recovered : List Member) → Rises member_cmp recovered → (n m : ℕ) → IsCompactedAt recovered n → IsCompactedAt recovered m → n ≡ m
 one_compacted recovered rises n m (inl (v, has, is)) (inl (w, had, was)) =
@@ -39,9 +29,7 @@ one_compacted recovered rises n m (inr (none, zero)) (inl (w, had, was)) = absur
 one_compacted recovered rises n m (inr (none, zero)) (inr (nothing, is)) = zero ∙ sym is
 
 one_made : (recovered : List Member) (back : List EntryView) (a b : Bool) → MakesStore recovered back a → MakesStore recovered back b → a ≡ b
-one_made recovered [] true b h k = absurd h
-one_made recovered [] false true h k = absurd k
-one_made recovered [] false false h k = refl
+one_made recovered [] a b h k = grind arith
 one_made recovered (e ∷ back) true true h k = refl
 one_made recovered (e ∷ back) true false h (sequence, has) = absurd (h (Bucket sequence) has)
 one_made recovered (e ∷ back) false true (sequence, has) k = absurd (k (Bucket sequence) has)
@@ -67,16 +55,10 @@ module _ (file : List ℕ) (meta : Meta) (x y : List EntryView) (p q : Bool) (h 
       k.are_back
 
   same_made : p ≡ q
-  same_made =
-      one_made k.recovered y p q
-      (subst (λ (ms : List Member). MakesStore ms y p) same_recovered (subst (λ (es : List EntryView). MakesStore h.recovered es p) same_back h.makes))
-      k.makes
+  same_made = grind (arith, one_made, same_recovered, same_back)
 
   pub same_repaired : repaired_listing h.recovered p x ≡ repaired_listing k.recovered q y
-  same_repaired =
-      ap (λ (ms : List Member). repaired_listing ms p x) same_recovered
-      ∙ ap (λ (b : Bool). repaired_listing k.recovered b x) same_made
-      ∙ ap (λ (es : List EntryView). repaired_listing k.recovered q es) same_back
+  same_repaired = grind (arith, same_recovered, same_made, same_back)
 
 pub one_repaired : (file : List ℕ) (meta : Meta) → AtMostOne (AreFound file meta) → AtMostOne (IsRepaired file meta)
 one_repaired file meta found_one a b h k = h.repaired ∙ same_repaired file meta h.back k.back h.is_made k.is_made h.repair k.repair found_one ∙ sym k.repaired

@@ -1,6 +1,6 @@
 -- What a repair keeps, what goes back of a name, and that sound trees are left as they are.
 use Rattle.std.proofs.Common.{◌≡◌, ◌≢◌, ◌∙◌, ◌⊎◌, ◌≤◌, inl, inr, ℕ, Bool, true, false, List, [], ◌∷◌, ap, arith, map, refl, subst, sym}
-use Rattle.std.specs.{List.Contains, declared.cmp.Ordering.Ordering, declared.cmp.Ordering.TheVariants.Equal, declared.cmp.Ordering.TheVariants.Greater, declared.cmp.Ordering.TheVariants.Less}
+use Rattle.std.specs.{List.Contains, declared.cmp.Ordering.Ordering, declared.cmp.Ordering.TheVariants.Equal, declared.cmp.Ordering.TheVariants.Less}
 use Rattle.std.specs.Ordering.{ordering_reverse}
 use Rattle.bolt_format.specs.{Elements.LeafElement, declared.meta.Meta.Meta}
 use Rattle.bolt_check.specs.Keys.{key_cmp}
@@ -58,9 +58,7 @@ module _ (file : List ℕ) (meta : Meta) (listing recovered : List Member) (m : 
 -- ---- of one name
 
 neither : (o p : Ordering) → p ≡ ordering_reverse o → o ≢ Less → p ≢ Less → o ≡ Equal
-neither Less p back first second = absurd (first refl)
-neither Equal p back first second = refl
-neither Greater p back first second = absurd (second back)
+neither o p back first second = grind arith
 
 module _ (compacted : ℕ) (recovered : List Member) (found : List LeafElement) where
   abbrev Newest : RevisionView → Type 0

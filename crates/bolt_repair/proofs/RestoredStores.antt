@@ -6,7 +6,7 @@ use Rattle.std.specs.List.{Contains}
 use Rattle.bolt_format.specs.{Elements.LeafElement, declared.meta.Meta.Meta}
 use Rattle.bolt_check.specs.{Keys.Key, Keys.key_cmp, Ones.AtMostOne}
 use Rattle.bolt_tree.specs.{Entries.Bucket, Entries.EntryView, Entries.Item, Entries.Value, Entries.entry_view, InBuckets.entry_in, InBuckets.members_in, Listing.Member, Listing.member_cmp, Merges.HasBucket, Merges.HaveParents, Order.Rises, Paths.Path, Tree.Tree, Tree.listing_of}
-use Rattle.bolt_tree.proofs.Exports.{entry_of, tree_has_parents, contains_cases, contains_head, contains_none, contains_tail, irreflexive, rises_once, merge_members, key_total, member_total}
+use Rattle.bolt_tree.proofs.Exports.{entry_of, tree_has_parents, contains_head, contains_tail, irreflexive, rises_once, shows_has, merge_members, key_total, member_total}
 use Rattle.bolt_recover.proofs.Exports.{one_recovered}
 use Rattle.bolt_recover.specs.Found.{AreFound}
 use Rattle.bolt_etcd.specs.{Misplaced.is_misplaced, Revisions.RevisionView, Revisions.revision_of}
@@ -32,16 +32,9 @@ no_compaction e item is = let f : length (codes "key") ≡ length (codes "meta")
 abbrev entry : Key → Item → EntryView
 entry key item = record { key = key; item = item }
 
-entry_there : (e : EntryView) (entries : List EntryView) → Contains entries e → Contains (map (entry_in store_path) entries) (entry_in store_path e)
-entry_there e [] has = absurd (contains_none e has)
-entry_there e (x ∷ entries) has = elim (contains_cases x e entries has) [
-  | inl is ↦ subst (λ (y : EntryView). Contains (map (entry_in store_path) (x ∷ entries)) (entry_in store_path y)) is (contains_head (entry_in store_path x) (map (entry_in store_path) entries))
-  | inr later ↦ contains_tail (entry_in store_path x) (entry_in store_path e) (map (entry_in store_path) entries) (entry_there e entries later)
-]
-
 member_there : (is_made : Bool) (e : EntryView) (entries : List EntryView) → Contains entries e → Contains (members_in is_made store_path entries) (entry_in store_path e)
-member_there false e entries has = entry_there e entries has
-member_there true e entries has = contains_tail (store_path, Bucket 0) (entry_in store_path e) (map (entry_in store_path) entries) (entry_there e entries has)
+member_there false e entries has = shows_has (entry_in store_path) entries e has
+member_there true e entries has = contains_tail (store_path, Bucket 0) (entry_in store_path e) (map (entry_in store_path) entries) (shows_has (entry_in store_path) entries e has)
 
 module _ (listing recovered : List Member) (found : List LeafElement) (compacted : ℕ) (rises : Rises member_cmp listing) (loses : IsRecoveredOrFound listing recovered found) (store : IsCompactedStore compacted listing) where
   element_listed : (element : LeafElement) → Contains found element → Contains listing (entry_in store_path (entry_view element))

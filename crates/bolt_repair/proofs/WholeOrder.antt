@@ -1,16 +1,16 @@
 -- Candidates by key and value.
-use Rattle.std.proofs.Common.{◌≡◌, ◌∙◌, ◌&&◌, ℕ, Bool, true, List, map, Option, Some, None, false, refl, sym, ap, subst}
+use Rattle.std.proofs.Common.{rules, arith, ◌≡◌, ◌∙◌, ◌&&◌, ℕ, Bool, true, List, map, Option, Some, None, false, refl, sym, ap, subst}
 use Rattle.std.proofs.lemmas.Bool.{and_parts, not-true}
 use Rattle.std.proofs.lemmas.Cmp.{and_equiv, nat_list_cmp_total, nat_list_eq_equiv, on_equiv, on_total, then_total}
 use Rattle.std.proofs.{lemmas.List.Kept.Any-dedup, lemmas.List.Kept.Contains-from_dedup, lemmas.List.Kept.IsStrictlySortedBy-dedup, lemmas.List.MinMax.ranks_by}
 use Rattle.std.proofs.{lemmas.List.Sorted.Contains-permutation, lemmas.List.Sorted.IsPermutation-map, lemmas.List.Sorted.IsPermutation-sym, lemmas.Map.Text.is_eq-slice_cmp}
-use Rattle.std.specs.{Cmp.IsEquivalence, Cmp.IsStrictWeakOrder, Cmp.IsTotalOrder, Cmp.Lexicographic.same_text, List.Contains, List.dedup}
-use Rattle.std.specs.{List.Sorted.IsPermutation, List.Sorted.IsSorted, List.Sorted.IsSortedBy, Ordering.eq_by_cmp, Ordering.is_eq, Ordering.is_lt, Ordering.ordering_then, Str.bytes_eq}
-use Rattle.std.specs.{declared.cmp.Ordering.Ordering, declared.cmp.Ordering.TheVariants.Equal, declared.cmp.Ordering.TheVariants.Greater, declared.cmp.Ordering.TheVariants.Less}
+use Rattle.std.specs.{Cmp.IsEquivalence, Cmp.IsStrictWeakOrder, Cmp.IsTotalOrder, List.Contains, List.dedup}
+use Rattle.std.specs.{List.Sorted.IsPermutation, List.Sorted.IsSorted, List.Sorted.IsSortedBy, Ordering.eq_by_cmp, Ordering.is_eq, Ordering.is_lt, Ordering.ordering_then}
+use Rattle.std.specs.{declared.cmp.Ordering.Ordering, declared.cmp.Ordering.TheVariants.Equal}
 use Rattle.bolt_format.specs.Elements.{LeafElement}
-use Rattle.bolt_check.specs.Keys.{Key, key_cmp}
-use Rattle.bolt_tree.specs.Entries.{Bucket, EntryView, Item, Value, entry_view}
-use Rattle.bolt_etcd.specs.{ShownRevisions.entry_of, ShownRevisions.bytes_of_item, ShownRevisions.value_bytes, declared.revision.Revision.Revision, Misplaced.is_misplaced}
+use Rattle.bolt_check.specs.Keys.{Key}
+use Rattle.bolt_tree.specs.Entries.{EntryView, Item, Value, entry_view}
+use Rattle.bolt_etcd.specs.{ShownRevisions.entry_of, ShownRevisions.value_bytes, declared.revision.Revision.Revision, Misplaced.is_misplaced}
 use Rattle.bolt_etcd.specs.Revisions.{RevisionView, revision_in, revision_of, value_of}
 use Rattle.bolt_repair.specs.Candidates.{AreCandidates, candidates_in, is_candidate, is_in_place, is_same_entry, whole_cmp}
 use Rattle.bolt_etcd.proofs.Exports.{bind_some, rises_from}
@@ -20,17 +20,10 @@ pub whole_total : IsTotalOrder whole_cmp
 whole_total = then_total (on_total (λ (e : EntryView). e.key) nat_list_cmp_total) (on_total value_bytes nat_list_cmp_total)
 
 both_tied : (a b : Ordering) → is_eq (ordering_then a b) ≡ (is_eq a && is_eq b)
-both_tied Less b = refl
-both_tied Equal b = refl
-both_tied Greater b = refl
+both_tied a b = grind arith
 
 ties : (x y : EntryView) → is_same_entry x y ≡ eq_by_cmp whole_cmp x y
-ties x y =
-    let keys = is_eq-slice_cmp x.key y.key in
-    let values = is_eq-slice_cmp (value_bytes x) (value_bytes y) in
-    ap (λ (a : Bool). a && bytes_eq (value_bytes x) (value_bytes y)) (sym keys)
-    ∙ ap (λ (b : Bool). is_eq (key_cmp x.key y.key) && b) (sym values)
-    ∙ sym (both_tied (key_cmp x.key y.key) (key_cmp (value_bytes x) (value_bytes y)))
+ties x y = grind (arith, is_eq-slice_cmp, both_tied)
 
 same_equal : IsEquivalence is_same_entry
 same_equal = and_equiv (on_equiv (λ (e : EntryView). e.key) nat_list_eq_equiv) (on_equiv value_bytes nat_list_eq_equiv)
@@ -42,8 +35,7 @@ in_place None e = cc
 in_place (Some r) e = (r, refl, not-true (is_misplaced r) e)
 
 value_from : (item : Item) (value : List ℕ) → value_of item ≡ Some value → item ≡ Value value
-value_from (Value v) value e = cc
-value_from (Bucket s) value e = cc
+value_from item value e = grind arith
 
 pub revision_value : (e : EntryView) (r : RevisionView) → revision_of e ≡ Some r → (value : List ℕ) × (e.item ≡ Value value)
 unfolding revision_of
@@ -56,16 +48,10 @@ pub same_view : (x y : EntryView) → x.key ≡ y.key → x.item ≡ y.item → 
 same_view x y key item = ap (λ (k : Key). record x { key = k }) key ∙ ap (λ (i : Item). record y { item = i }) item
 
 same_values : (x y : EntryView) (v w : List ℕ) → x.item ≡ Value v → y.item ≡ Value w → x.key ≡ y.key → value_bytes x ≡ value_bytes y → x ≡ y
-same_values x y v w is also key bytes =
-    let value : v ≡ w = sym (ap bytes_of_item is) ∙ bytes ∙ ap bytes_of_item also in
-    same_view x y key (is ∙ ap Value value ∙ sym also)
+same_values x y v w is also key bytes = grind (arith, same_view)
 
 same_candidates : (x y : EntryView) → is_candidate x ≡ true → is_candidate y ≡ true → is_same_entry x y ≡ true → x ≡ y
-same_candidates x y first second e =
-    let (v, is) = candidate_value x first in
-    let (w, also) = candidate_value y second in
-    let (keys, values) = and_parts (bytes_eq x.key y.key) (bytes_eq (value_bytes x) (value_bytes y)) e in
-    same_values x y v w is also (same_text x.key y.key (sym keys)) (same_text (value_bytes x) (value_bytes y) (sym values))
+same_candidates x y first second e = search (rules, candidate_value, and_parts, same_values)
 
 pub same_whole : (x y : EntryView) → is_candidate x ≡ true → is_candidate y ≡ true → whole_cmp x y ≡ Equal → x ≡ y
 same_whole x y first second e = same_candidates x y first second (ties x y ∙ ap is_eq e)

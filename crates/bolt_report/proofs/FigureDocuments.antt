@@ -52,9 +52,7 @@ shown_figures figures = map (λ figure. (json_name figure.0, figure.1)) figures
 figures_back : (figures : List Named) → HaveWords figures → figures_in (figures_then figures no_members) ≡ Some (shown_figures figures)
 unfolding shown_figures
 figures_back [] h = refl
-figures_back (figure ∷ figures) h =
-    ap (option_and_then (λ (n : Option ℕ). option_map (λ (later : List Named). (json_name figure.0, n) ∷ later) (figures_in (figures_then figures no_members)))) (named_back figure.1 h.0)
-    ∙ ap (option_map (λ (later : List Named). (json_name figure.0, figure.1) ∷ later)) (figures_back figures h.1)
+figures_back (figure ∷ figures) h = grind (arith, option_and_then, named_back, figures_back figures h.1)
 
 pub figures_document : (figures : List Named) → HaveWords figures → option_and_then figures_of (document (json_text (figures_json figures))) ≡ Some (map (λ figure. (json_name figure.0, figure.1)) figures)
 unfolding shown_figures

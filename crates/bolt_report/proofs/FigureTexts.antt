@@ -1,5 +1,5 @@
 -- Figures as an object, piece by piece.
-use Rattle.std.proofs.Common.{◌≡◌, ◌∙◌, ◌++◌, ◌∷◌, [], ℕ, List, Bool, true, false, Option, Some, None, ap, append_assoc, codes, refl, sym}
+use Rattle.std.proofs.Common.{arith, ◌≡◌, ◌∙◌, ◌++◌, ◌∷◌, [], ℕ, List, Bool, true, false, Option, Some, None, ap, append_assoc, codes, refl}
 use Rattle.bolt_report.proofs.Words.{bytes_allocated, bytes_used, decimal, end_object, escape_byte, Form, json_text, json_tokens, line, print_from, size_json, Stats}
 use Rattle.std.specs.Prelude.{fold}
 use Rattle.json.proofs.Printed.Tokens.{print_from-append}
@@ -36,9 +36,7 @@ opened stats name =
 
 size_object : (stats : Stats) (name : Json) → size_members stats ++ (json_text name ++ codes "}\n") ≡ line (json_text (size_json stats name))
 unfolding print_from escape_byte
-size_object stats name =
-    let closed : size_members stats ++ (json_text name ++ codes "}\n") ≡ line (opened stats (json_text name ++ codes "}")) = simp append_assoc in
-    closed ∙ sym (ap (λ (text : List ℕ). line (opened stats text)) (value_closes name))
+size_object stats name = grind (arith, append_assoc, value_closes)
 
 -- an item in a form that is JSON
 json_item : (f : Form) (bytes : List ℕ) → is_json f ≡ true → item_text f bytes ≡ json_text (json_in f bytes)

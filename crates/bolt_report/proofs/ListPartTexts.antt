@@ -1,6 +1,6 @@
 -- The text of the part of a listing below a path, or from a bucket on, member by member.
 -- The members are read once, in order: what begins with the path comes after the bucket at that path, if there is one.
-use Rattle.std.proofs.Common.{◌≡◌, ◌↔◌, List, subst, sym, ◌∙◌, ◌++◌, ◌∷◌, [], Bool, true, ap, refl, ◌&&◌, ◌||◌, false, not, inl, inr}
+use Rattle.std.proofs.Common.{arith, ◌≡◌, ◌↔◌, List, subst, sym, ◌∙◌, ◌++◌, ◌∷◌, [], Bool, true, ap, refl, ◌&&◌, ◌||◌, false, not, inl, inr}
 use Rattle.std.proofs.{lemmas.List.Sums.take_while-cons, Math.Bool.or_assoc, lemmas.Bool.cond-false, lemmas.Bool.or_cases, lemmas.Slice.Eq.bytes_eq-Decides, lemmas.Slice.Eq.slice_eq-Decides}
 use Rattle.bolt_report.proofs.Words.{and_parts, begins_with, bytes_eq, bytes_of, Checked, cond-true, Contains, contains_head, contains_tail, is_bucket_at, list_any, list_line, ListForm, listing_lines, Member, member_cmp, meta_of, false_from_ne_true, Path, pointwise, rest_from, Rises, take_while}
 use Rattle.bolt_tree.specs.{Listing.IsListing, ListingParts.is_bucket, ListingParts.part_below, Paths.path_cmp}
@@ -22,9 +22,7 @@ module _ (below : Path) where
   -- the line of a member that begins with the path, and then the text of the others
   pub front_text : (form : ListForm) (old new : List Member) (m : Member) → old ≡ m ∷ new → begins_with below m.0 ≡ true
       → listing_lines form (front old) ≡ list_line form m ++ listing_lines form (front new)
-  front_text form old new m given begins =
-      ap (λ (ms : List Member). listing_lines form (front ms)) given
-      ∙ ap (listing_lines form) (take_while-cons (λ (x : Member). begins_with below x.0) m new ∙ cond-true _ _ _ begins)
+  front_text form old new m given begins = grind (arith, take_while-cons, cond-true)
 
 module _ (below : Path) where
   -- the part of what is left, if the bucket was found or is among it

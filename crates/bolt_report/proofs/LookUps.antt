@@ -1,5 +1,5 @@
 -- What members hold at a path, one by one.
-use Rattle.std.proofs.Common.{◌≡◌, ◌∙◌, ◌∷◌, ◌||◌, Bool, Bor, List, None, Option, Some, ap, false, inl, inr, refl, rules, sym, true, ℕ}
+use Rattle.std.proofs.Common.{arith, ◌≡◌, ◌∙◌, ◌∷◌, ◌||◌, Bool, Bor, List, None, Option, Some, ap, false, refl, rules, sym, true, ℕ}
 use Rattle.std.specs.{Bool.Decides, Option.IfNone, Option.option_or, Prelude.IfSome}
 use Rattle.std.proofs.Math.Bool.{or_assoc}
 use Rattle.std.proofs.lemmas.Slice.Eq.{bytes_eq-Decides, slice_eq-Decides}
@@ -57,7 +57,4 @@ module _ (old new : List Member) (m : Member) (first : old ≡ m ∷ new) where
   later_there x has = rw first (contains_tail m x new has)
 
   pub not_first : (x : Member) → (m ≡ x → ⊥) → Contains old x → Contains new x
-  not_first x other has = elim (contains_cases m x new (rw first at has)) [
-    | inl same ↦ absurd (other same)
-    | inr later ↦ later
-  ]
+  not_first x other has = grind (arith, contains_cases)

@@ -1,12 +1,12 @@
 -- The text of the names in a bucket of a listing, member by member.
 -- The members are read once, in order: what lies in the bucket comes after the bucket itself, if that is there.
-use Rattle.std.proofs.Common.{◌≡◌, ◌∙◌, ◌++◌, ◌∷◌, ◌&&◌, ◌||◌, [], Bool, Bor, List, None, Option, Some, ap, arith, false, flat_map, length, refl, sym, true, ℕ}
+use Rattle.std.proofs.Common.{◌≡◌, ◌∙◌, ◌++◌, ◌∷◌, ◌&&◌, ◌||◌, [], Bool, Bor, List, None, Option, Some, ap, arith, false, flat_map, length, refl, true, ℕ}
 use Rattle.std.proofs.lemmas.List.{map-append}
 use Rattle.std.specs.Prelude.{if◌then◌else◌}
 use Rattle.bolt_report.proofs.Words.{begins_with, bytes_eq, Form, is_bucket_at, Key, list_any, Member, member_cmp, Path, path_of, pointwise, Rises}
 use Rattle.bolt_report.proofs.ListPartTexts.{apart_before, has_next}
 use Rattle.bolt_text.proofs.Exports.{same_path}
-use Rattle.bolt_report.specs.MemberNames.{WantedNames, entry_name, key_in, member_name}
+use Rattle.bolt_report.specs.MemberNames.{WantedNames, key_in, member_name}
 
 no_items : (path : List (Bor (List ℕ))) → length path ≡ 0 → path_of path ≡ []
 no_items [] none = refl
@@ -54,10 +54,7 @@ key_last (part ∷ bucket) (first ∷ parents) key = both_or_none (bytes_eq part
 module _ (bucket path : List (Bor (List ℕ))) where
   pub key_split : (parents : List (Bor (List ℕ))) (key : Bor (List ℕ)) → path ≡ parents ++ key ∷ [] → (same : Bool)
       → same ≡ pointwise (λ (a b : Bor (List ℕ)). bytes_eq a.now b.now) bucket parents → key_in (path_of bucket) (path_of path) ≡ (if same then Some key.now else None)
-  key_split parents key is same test =
-      let whole : path_of path ≡ path_of parents ++ key.now ∷ [] = ap path_of is ∙ map-append (λ (part : Bor (List ℕ)). part.now) parents (key ∷ []) in
-      ap (key_in (path_of bucket)) whole ∙ key_last (path_of bucket) (path_of parents) key.now
-      ∙ ap (λ (b : Bool). if b then Some key.now else None) (same_path bucket parents ∙ sym test)
+  key_split parents key is same test = grind (arith, map-append, key_last, same_path)
 
   pub key_none : length path ≡ 0 → key_in (path_of bucket) (path_of path) ≡ None
   key_none none = let no_parts : path_of path ≡ [] = no_items path none in ap (key_in (path_of bucket)) no_parts ∙ none_of_nothing (path_of bucket)
@@ -71,9 +68,7 @@ module _ (form : Form) (wanted : WantedNames) (bucket : Path) where
 
   by_later : (m : Member) (ms : List Member) (any : Bool) → list_any (is_bucket_at bucket) ms ≡ any → Rises member_cmp (m ∷ ms)
       → (if any then flat_map (member_name form wanted bucket) (m ∷ ms) else []) ≡ (if any then flat_map (member_name form wanted bucket) ms else [])
-  by_later m ms true e rises =
-      let out = key_out bucket m.0 (apart_before bucket m.0 ms rises.0 e) in
-      ap (λ (key : Option Key). entry_name form wanted m.1 key ++ flat_map (member_name form wanted bucket) ms) out
+  by_later m ms true e rises = grind (arith, key_out, apart_before)
   by_later m ms false e rises = refl
 
   module _ (found now : Bool) (m : Member) (ms : List Member) (is : now ≡ (found || is_bucket_at bucket m)) where

@@ -1,12 +1,12 @@
 -- A cursor goes along the entries that begin with given bytes: what it has gone over, and what is left.
 -- Rests on that a bucket's entries in order exist, and are one.
 use Rattle.std.proofs.Common.{◌≡◌, ◌∙◌, ◌<◌, ◌⊎◌, inl, inr, ◌+◌, ℕ, zero, suc, Bool, true, false, List, [], ◌∷◌, Option, Some, None, Result, Ok, Err, cond, drop, length, nat_lt, refl, slice_get, sym, ap, subst, arith, add-one}
-use Rattle.bolt_report.proofs.Words.{has_key_prefix, bytes_of, cond-true, Contains, contains_head, contains_tail, cursor_checked, cursor_start, drop_all, drop_next, entries_left, entry_cmp, entry_view, EntryView, Form, Key, key_lt, LeafElement, least_from, meta_of, On, Past, Place, ReportFault, Rises, same_Some, shown_entry, with_prefix, ∥∥₁_elim}
+use Rattle.bolt_report.proofs.Words.{bytes_of, cond-true, Contains, contains_head, contains_tail, cursor_checked, cursor_start, drop_all, drop_next, entries_left, entry_cmp, entry_view, EntryView, Form, Key, key_lt, LeafElement, least_from, meta_of, On, Past, Place, ReportFault, Rises, same_Some, with_prefix, ∥∥₁_elim}
 use Rattle.bolt_report.proofs.PrefixLemmas.{after_least, from_least, key_begins, none_later}
 use Rattle.std.specs.Option.{option_map}
 use Rattle.std.specs.Prelude.{⊤, IfErr, IsErrAnd}
 use Rattle.bolt_tree.specs.{BucketViews.AreEntriesOf, BucketViews.BucketView, CursorBounds.OpensByNext, CursorBounds.OpensSeek, OpeningCounts.IsGap, OpeningCounts.IsSeekCount, OpeningCounts.sum_to}
-use Rattle.bolt_tree.specs.{Places.next_move, Places.nothing_at, Places.move_onto, Places.place_in, Places.seek_move, declared.cursor.Cursor.Cursor, declared.entry.Entry.Entry}
+use Rattle.bolt_tree.specs.{Places.next_move, Places.nothing_at, Places.move_onto, Places.place_in, Places.seek_move, declared.cursor.Cursor.Cursor}
 use Rattle.bolt_check.specs.Counts.{counted}
 use Rattle.bolt_tree.proofs.Exports.{none_past, not_below, TheEntries, the_one, counted_more, entries_at}
 use Rattle.bolt_text.specs.{declared.forms.Form.TheVariants.Json, declared.report_fault.ReportFault.TheVariants.NoMemory, declared.report_fault.ReportFault.TheVariants.Sink}
@@ -69,10 +69,7 @@ pub fewer_shown : (entries : List LeafElement) (n : ℕ) (before after : Place) 
     → length (entries_left entries after) + number_of x < length (entries_left entries before) + 1
 fewer_shown entries n before after None on none stays =
     let same = ap (λ (q : Place). length (entries_left entries q)) (stays refl) in omega (arith, same)
-fewer_shown entries n before after (Some v) on (e, shown, at, first) stays =
-    let new = ap (λ (q : Place). length (entries_left entries q)) at in
-    let old = ap (λ (q : Place). length (entries_left entries q)) on in
-    let one = ap length first in omega (arith, new, old, one)
+fewer_shown entries n before after (Some v) on (e, shown, at, first) stays = grind arith
 
 -- ---- what it has gone over
 
@@ -115,9 +112,7 @@ module _ (b : BucketView) (first : ℕ) (prefix : Key) (entries : List LeafEleme
   -- the next of those that begin so is the first of them,
   pub next_first : (v : EntryView) (stage : Stage b first prefix entries opened place (Some v) n done) → key_begins v.key prefix ≡ true
       → with_prefix prefix (drop n entries) ≡ stage.stands.0 ∷ with_prefix prefix (drop (suc n) entries)
-  next_first v stage starts =
-      let (e, shown, on, rest) = stage.stands in
-      ap (with_prefix prefix) rest ∙ cond-true (has_key_prefix prefix e) (e ∷ with_prefix prefix (drop (suc n) entries)) (with_prefix prefix (drop (suc n) entries)) (rw shown at starts)
+  next_first v stage starts = grind (arith, cond-true)
 
   -- and is gone over
   pub stage_next : (v : EntryView) → Stage b first prefix entries opened place (Some v) n done → key_begins v.key prefix ≡ true
@@ -146,18 +141,12 @@ module _ (b : BucketView) (first : ℕ) (prefix : Key) (entries : List LeafEleme
 
   -- or if the next doesn't
   pub other_shown : (v : EntryView) → Stage b first prefix entries opened place (Some v) n done → key_begins v.key prefix ≡ false → with_prefix prefix (drop n entries) ≡ []
-  other_shown v stage differs =
-      let (e, shown, on, rest) = stage.stands in
-      let after = rw rest at stage.after e in
-      ap (with_prefix prefix) rest ∙ none_later prefix e (drop (suc n) entries) (rw rest at stage.rises) (after (contains_head e (drop (suc n) entries))) (rw shown at differs)
+  other_shown v stage differs = grind (arith, none_later, contains_head)
 
   -- so the pages were opened for all
   pub all_opened : (x : Option EntryView) → Stage b first prefix entries opened place x n done → with_prefix prefix (drop n entries) ≡ []
       → Opened b first prefix entries opened (length (with_prefix prefix entries))
-  all_opened x stage none =
-      let left = ap length none in
-      let all : done ≡ length (with_prefix prefix entries) = let whole = stage.whole in omega (arith, whole, left) in
-      subst (Opened b first prefix entries opened) all stage.opens
+  all_opened x stage none = grind arith
 
 -- ---- a fault that is handed on
 

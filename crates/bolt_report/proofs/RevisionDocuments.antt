@@ -1,7 +1,7 @@
 -- Revisions as JSON: their text, and that they are read back.
 use Rattle.std.proofs.Common.{◌≡◌, ◌∙◌, ℕ, zero, suc, ◌<◌, ◌≤◌, ◌/◌, ◌%◌, ◌^◌, ◌++◌, Bool, true, false, List, [], ◌∷◌, Option, Some, ap, append_assoc, arith, codes, decimal, get_or, length, map, option_and_then, refl, sym}
 use Rattle.std.proofs.{lemmas.Bool.cond_both, lemmas.Fmt.digits_is_IsNumeral, lemmas.List.FromFn.get_or-map-range_with_len}
-use Rattle.std.specs.{Fmt.digit_glyph, Fmt.digits, Fmt.digits_onto, List.range_with_len, Str.is_utf8, Str.Parse.digits_value}
+use Rattle.std.specs.{Fmt.digit_glyph, Fmt.digits, Fmt.digits_onto, List.range_with_len, Str.Parse.digits_value}
 use Rattle.std.specs.Prelude.{if◌then◌else◌}
 use Rattle.hex.specs.Hex.{encode_lower}
 use Rattle.json.proofs.{Printed.Decimals.IsNumber-decimal, Printed.Tokens.print_from-append, Printed.Trees.document-print}
@@ -11,7 +11,7 @@ use Rattle.bolt_text.proofs.Exports.{Reads, digits_read, items_read, numeral_bac
 use Rattle.bolt_text.specs.{Forms.digits_json, Forms.item_json, Forms.json_text, JsonReadings.digits_of, JsonReadings.item_in_json, Lines.line}
 use Rattle.bolt_text.specs.declared.forms.Form.TheVariants as form
 use Rattle.bolt_report.specs.RevisionLines.{members, revision_line}
-use Rattle.bolt_report.specs.RevisionObjects.{IsOfBytes, ReadRevision, ReadsRevisionsBack, as_read, read_revision, revision_json, value_member}
+use Rattle.bolt_report.specs.RevisionObjects.{IsOfBytes, ReadsRevisionsBack, as_read, read_revision, revision_json, value_member}
 use Rattle.bolt_etcd.specs.Revisions.{RevisionView}
 
 -- ---- digits in hexadecimal need no escapes
@@ -52,9 +52,7 @@ abbrev hex_object : List ℕ → Json
 hex_object bytes = object (member (codes "hex") (string (encode_lower bytes)) no_members)
 
 items_close : Closes item_json
-items_close bytes later =
-    cond_both (is_utf8 bytes) (string bytes) (hex_object bytes) (λ json. print_from false (json_tokens json ++ later) ≡ json_text json ++ print_from true later)
-    (λ e. print_from-append false (json_tokens (string bytes)) later) (λ e. print_from-append false (json_tokens (hex_object bytes)) later)
+items_close bytes later = grind (arith, cond_both, print_from-append)
 
 -- up to the name, and from there on
 abbrev opened : RevisionView → (lease rest : List ℕ) → List ℕ

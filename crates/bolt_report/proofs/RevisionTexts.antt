@@ -1,9 +1,8 @@
 -- Texts of revisions, line by line.
-use Rattle.std.proofs.Common.{◌≡◌, ◌∙◌, ◌<◌, ◌+◌, ◌++◌, ℕ, Bool, true, false, List, [], ◌∷◌, cond, drop, flat_map, get_or, length, map, refl, sym, ap}
-use Rattle.std.proofs.lemmas.List.{drop_more}
+use Rattle.std.proofs.Common.{◌≡◌, ◌++◌, ℕ, Bool, true, false, List, [], ◌∷◌, cond, flat_map, refl, ap}
 use Rattle.bolt_text.specs.declared.forms.Form.{Form}
 use Rattle.bolt_report.specs.{RevisionLines.begins, RevisionLines.named_with, RevisionLines.prefix_line, RevisionLines.revision_line, RevisionLines.revision_lines}
-use Rattle.bolt_etcd.specs.{Revisions.RevisionView, ShownRevisions.shown_revision, declared.revision.Revision.Revision}
+use Rattle.bolt_etcd.specs.{Revisions.RevisionView}
 
 module _ (prefix : List ℕ) (form : Form) (values : Bool) where
   named_step : (r : RevisionView) (rs : List RevisionView) (b : Bool) → flat_map (prefix_line prefix form values) rs ≡ revision_lines form values (named_with prefix rs)

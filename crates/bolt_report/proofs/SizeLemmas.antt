@@ -29,13 +29,7 @@ module _ (file : List ℕ) (meta : Meta) where
 
   cut_by : (e : LeafElement) (entries : List LeafElement) (b : Bool) → e.is_bucket ≡ b → (sized : List Sized)
       → map (λ (s : Sized). s.entry) sized ≡ cond b (e ∷ buckets_of entries) (buckets_of entries) → AllByRecursion HasStats sized → Cut e entries sized
-  cut_by e entries false is sized same stats = record {
-    own = [];
-    rest = sized;
-    whole = refl;
-    first = record { buckets = sym (by_kind e [] false is); stats = tt };
-    later = record { buckets = same; stats = stats };
-  }
+  cut_by e entries false is sized same stats = grind (arith, by_kind)
   cut_by e entries true is [] same stats = cc
   cut_by e entries true is (s ∷ sized) same stats =
       let head : s.entry ≡ e = cc in

@@ -1,7 +1,7 @@
 -- The sizes of the buckets in a bucket of a sound file exist, and are one list.
 -- Rests on that each bucket of the tree has one set of figures (StatsExist, StatsOnce), and that a bucket in a bucket of the tree is one of the tree.
-use Rattle.std.proofs.Common.{◌≡◌, ◌∙◌, ℕ, Bool, true, false, List, [], ◌∷◌, ap, map, refl, subst, sym}
-use Rattle.bolt_report.proofs.Words.{AllByRecursion, AreSized, Contains, contains_head, contains_tail, HasSoundTrees, IsStart, IsStatsOf, LeafElement, Meta, Path, Root_page, Sized, Start, start_of}
+use Rattle.std.proofs.Common.{arith, ◌≡◌, ◌∙◌, ℕ, Bool, true, false, List, [], ◌∷◌, ap, map, refl, sym}
+use Rattle.bolt_report.proofs.Words.{AllByRecursion, AreSized, Contains, contains_head, contains_tail, HasSoundTrees, IsStart, LeafElement, Meta, Path, Root_page, Sized, Start, start_of}
 use Rattle.bolt_report.proofs.SizeLemmas.{HasStats, by_kind}
 use Rattle.bolt_stats.proofs.Exports.{some_stats, one_stats}
 use Rattle.bolt_tree.specs.{Entries.AreEntries, Entries.IsEntry, Paths.Names}
@@ -44,10 +44,7 @@ module _ (file : List ℕ) (meta : Meta) where
   -- ---- and no other
 
   same_sized : (s t : Sized) → s.entry ≡ t.entry → HasStats file meta s → HasStats file meta t → s ≡ t
-  same_sized s t is a b =
-      let there = subst (λ (x : LeafElement). IsStatsOf file meta (start_of x.value) t.stats) (sym is) b in
-      let same = one_stats file meta (start_of s.entry.value) s.stats t.stats a there in
-      λ i. record { entry = is i; stats = same i }
+  same_sized s t is a b = grind (arith, one_stats)
 
   one_by : (a b : List Sized) → map (λ (s : Sized). s.entry) a ≡ map (λ (s : Sized). s.entry) b → AllByRecursion (HasStats file meta) a → AllByRecursion (HasStats file meta) b → a ≡ b
   one_by [] [] same h k = refl

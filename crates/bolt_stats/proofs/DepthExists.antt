@@ -1,9 +1,9 @@
 -- The depth that is found page by page is the bucket's depth.
-use Rattle.std.proofs.Common.{◌≡◌, ◌≢◌, ◌∙◌, ◌==◌, ℕ, zero, suc, ◌+◌, ◌≤◌, ◌⊎◌, max, inl, inr, Bool, true, false, List, [], ◌∷◌, ◌++◌, Option, Some, None, Result, Ok, cond, length, slice_get, refl, sym, ap, subst, arith, if◌then◌else◌}
+use Rattle.std.proofs.Common.{◌≡◌, ◌≢◌, ◌∙◌, ◌==◌, ℕ, zero, suc, ◌+◌, ◌≤◌, ◌⊎◌, max, inl, inr, Bool, true, false, List, [], ◌∷◌, ◌++◌, Option, Some, None, Ok, cond, length, slice_get, refl, sym, ap, subst, arith, if◌then◌else◌}
 use Rattle.std.proofs.{Math.Dec.eqb-suc-zero, lemmas.Bool.cases_lt, lemmas.Option.none-some}
 use Rattle.bolt_stats.proofs.Words.{At_page, cases_Bool, deepest_from, Enough, enough_kids, enough_node, follow, follow_append, greatest, Has, has_right, height_from, inline, inline_depth, inner_pages, IsBucketIn, IsDeepest, IsDepth, IsHeight, kid_pages, counted_depth, Node, Nodes, paged, pages_in_bucket, PageSpot, root_spot, roots_in_bucket, same_Some, Spot, step}
 use Rattle.bolt_stats.proofs.DepthSums.{deepest_kids, depth_from, greatest_append, greatest_has, height_kids, page_has}
-use Rattle.bolt_check.specs.{Nodes.Entry, Shape.child_at, Shape.child_in, Shape.child_of, Shape.leads, Subtrees.root_page, Ways.child_spot, Ways.upper_from}
+use Rattle.bolt_check.specs.{Nodes.Entry, Shape.child_at, Shape.child_of, Shape.leads, Subtrees.root_page, Ways.child_spot, Ways.upper_from}
 use Rattle.bolt_check.proofs.Exports.{leads_follow, leads_none, step_child}
 use Rattle.bolt_stats.specs.{Deepest.inline_in_bucket, Depths.IsLeafAt}
 
@@ -44,15 +44,11 @@ module _ (nodes : Nodes) where
 
   step_in : (n i : ℕ) (rest : List ℕ) (number : ℕ) (node : Node) → nodes n ≡ Ok node → leads nodes (child_at nodes (Some n) i) rest ≡ Some number
       → (m : ℕ) × (Has (inner_pages node) m × (leads nodes (Some m) rest ≡ Some number))
-  step_in n i rest number node page h =
-      let (e, leaf, at, on) = child_step node.is_leaf (slice_get node.entries i) rest number (subst (λ (r : Result Node ℕ). leads nodes (child_in r i) rest ≡ Some number) page h) in
-      (e.child, (child_has node.is_leaf node.entries i e leaf at, on))
+  step_in n i rest number node page h = grind (arith, child_step, child_has)
 
   child_leaf : (n i : ℕ) (node : Node) (e : Entry) (address : List ℕ) → nodes n ≡ Ok node → node.is_leaf ≡ false → slice_get node.entries i ≡ Some e
       → IsLeafAt nodes e.child address → IsLeafAt nodes n (i ∷ address)
-  child_leaf n i node e address page leaf at is =
-      let into : child_at nodes (Some n) i ≡ Some e.child = rw (page, leaf, at) refl in
-      record { number = is.number; node = is.node; leads = ap (λ (o : Option ℕ). leads nodes o address) into ∙ is.leads; page = is.page; leaf = is.leaf }
+  child_leaf n i node e address page leaf at is = grind arith
 
   module _ (steps : ℕ) where
     enough_leaf : (k : ℕ) (address : List ℕ) (n number : ℕ) → Enough nodes k n → leads nodes (Some n) address ≡ Some number → Enough nodes k number
@@ -151,10 +147,7 @@ module _ (nodes : Nodes) where
 
     entry_above : (entries : List Entry) (place : ℕ) (e : Entry) → slice_get entries place ≡ Some e → e.is_bucket ≡ true → child_depth e.child ≤ leaf_deepest entries
     entry_above [] place e at is = absurd (none-some e at)
-    entry_above (x ∷ entries) zero e at is =
-        let same : child_depth e.child ≡ entry_depth x.is_bucket x.child = sym (entry_is e.is_bucket e.child is) ∙ ap (λ (y : Entry). entry_depth y.is_bucket y.child) (sym (same_Some x e at)) in
-        let first = first_deepest x entries in
-        omega (arith, same, first)
+    entry_above (x ∷ entries) zero e at is = grind (arith, entry_is, same_Some, first_deepest)
     entry_above (x ∷ entries) (suc place) e at is =
         let rest = entry_above entries place e at is in let first = first_deepest x entries in omega (arith, rest, first)
 
@@ -238,11 +231,7 @@ module _ (nodes : Nodes) where
     -- a bucket that lies in this one
     bucket_has : (entries : List Entry) (place c : ℕ) (e : Entry) → slice_get entries place ≡ Some e → e.is_bucket ≡ true → e.child ≡ suc c → Has (kid_pages true entries) (suc c)
     bucket_has [] place c e at is child = absurd (none-some e at)
-    bucket_has (x ∷ entries) zero c e at is child =
-        let same = same_Some x e at in
-        let bucket : x.is_bucket ≡ true = ap (λ (y : Entry). y.is_bucket) same ∙ is in
-        let leads : x.child ≡ suc c = ap (λ (y : Entry). y.child) same ∙ child in
-        rw (bucket, leads, eqb-suc-zero c) (inl refl)
+    bucket_has (x ∷ entries) zero c e at is child = grind (arith, same_Some, eqb-suc-zero)
     bucket_has (x ∷ entries) (suc place) c e at is child = has_right (root_page x) (kid_pages true entries) (suc c) (bucket_has entries place c e at is child)
 
     bucket_step : (s : PageSpot) (place c : ℕ) (node : Node) (e : Entry) → nodes s.number ≡ Ok node → node.is_leaf ≡ true → slice_get node.entries place ≡ Some e → e.is_bucket ≡ true → e.child ≡ suc c

@@ -61,12 +61,7 @@ module _ (file : List ℕ) (meta : Meta) where
   pub read_deepest : (rest roots pages found : List ℕ) (n : ℕ) (node : Node) (d : ℕ) → node_at file meta n ≡ Ok node → Enough (node_at file meta) meta.high_water n
       → pages ≡ rest ++ inner_pages node → found ≡ roots ++ inner_roots node → d ≡ inner_inline node
       → max d (max (greatest (deepest_of file meta) pages) (greatest (depth_of file meta) found)) ≡ max (greatest (deepest_of file meta) (rest ++ n ∷ [])) (greatest (depth_of file meta) roots)
-  read_deepest rest roots pages found n node d page enough a b own =
-      let whole = deepest_kids (node_at file meta) meta.high_water n node page enough in
-      let p = ap (greatest (deepest_of file meta)) a ∙ greatest_append (deepest_of file meta) rest (inner_pages node) in
-      let q = ap (greatest (depth_of file meta)) b ∙ greatest_append (depth_of file meta) roots (inner_roots node) in
-      let r = greatest_append (deepest_of file meta) rest (n ∷ []) in
-      omega (arith, whole, p, q, r, own)
+  read_deepest rest roots pages found n node d page enough a b own = grind (arith, deepest_kids, greatest_append)
 
   under : (above d : ℕ) (f : ℕ → ℕ) (roots : List ℕ) → max (above + d) (greatest (λ (root : ℕ). above + f root) roots) ≡ above + max d (greatest f roots)
   under above d f [] = omega arith
@@ -87,7 +82,4 @@ module _ (file : List ℕ) (meta : Meta) where
 -- a root page goes over to the open buckets
 pub moved_depth : (before more : List UnreadBucket) (roots rest : List ℕ) (root : ℕ) (f : UnreadBucket → ℕ) (above : ℕ) → roots ≡ rest ++ root ∷ [] → more ≡ before ++ unread_bucket above root ∷ []
     → max (greatest f more) (greatest (λ (n : ℕ). f (unread_bucket above n)) rest) ≡ max (greatest f before) (greatest (λ (n : ℕ). f (unread_bucket above n)) roots)
-moved_depth before more roots rest root f above popped pushed =
-    let p = ap (greatest f) pushed ∙ greatest_append f before (unread_bucket above root ∷ []) in
-    let q = ap (greatest (λ (n : ℕ). f (unread_bucket above n))) popped ∙ greatest_append (λ (n : ℕ). f (unread_bucket above n)) rest (root ∷ []) in
-    omega (arith, p, q)
+moved_depth before more roots rest root f above popped pushed = grind (arith, greatest_append)

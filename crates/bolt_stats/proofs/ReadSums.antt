@@ -24,15 +24,7 @@ module _ (file : List ℕ) (meta : Meta) where
   pub read_sum : (own : ℕ → ℕ) (rest roots pages found : List ℕ) (n : ℕ) (node : Node) → node_at file meta n ≡ Ok node → Enough (node_at file meta) meta.high_water n
       → pages ≡ rest ++ inner_pages node → found ≡ roots ++ inner_roots node
       → own n + (total_of file meta own pages + total_of file meta own found) ≡ total_of file meta own (rest ++ n ∷ []) + total_of file meta own roots
-  read_sum own rest roots pages found n node page enough a b =
-      let w = weight (node_at file meta) own meta.high_water in
-      let here = weight_kids (node_at file meta) own meta.high_water n node page enough in
-      let inner = inner_sum own node.is_leaf node.entries in
-      let p = ap (sum_by w) a ∙ sum_by-append w rest (inner_pages node) in
-      let q = ap (sum_by w) b ∙ sum_by-append w roots (inner_roots node) in
-      let r = sum_by-append w rest (n ∷ []) in
-      let one = sum_by-cons w n [] in
-      omega (arith, here, inner, p, q, r, one)
+  read_sum own rest roots pages found n node page enough a b = grind (arith, weight_kids, inner_sum, sum_by-append, sum_by-cons)
 
   pub read_good : (rest roots pages found : List ℕ) (n : ℕ) (node : Node) → node_at file meta n ≡ Ok node → AreGood file meta ((rest ++ n ∷ []) ++ roots)
       → pages ≡ rest ++ inner_pages node → found ≡ roots ++ inner_roots node → AreGood file meta (pages ++ found)
@@ -67,9 +59,7 @@ zero_depth s zero = grind arith
 
 -- more buckets were found
 pub more_found : (file : List ℕ) (meta : Meta) (own : ℕ → ℕ) (roots found inner : List ℕ) → found ≡ roots ++ inner → total_of file meta own roots ≤ total_of file meta own found
-more_found file meta own roots found inner e =
-    let w = weight (node_at file meta) own meta.high_water in
-    let both = ap (sum_by w) e ∙ sum_by-append w roots inner in omega (arith, both)
+more_found file meta own roots found inner e = grind (arith, sum_by-append)
 
 -- nothing was taken, so nothing is left
 pub none_left : {X : Type 0} {items rest : List X} {n : ℕ} → n ≡ 0 → rest ≡ take (n - 1) items → items ≡ rest ++ [] → items ≡ []

@@ -1,21 +1,15 @@
 -- The figures of a bucket are one.
-use Rattle.std.proofs.Common.{◌≡◌, ◌∙◌, ℕ, ◌+◌, ◌≤◌, inl, inr, List, sym, ap, refl, arith}
+use Rattle.std.proofs.Common.{◌≡◌, ◌∙◌, ℕ, ◌+◌, ◌≤◌, List, sym, ap, refl, arith}
 use Rattle.bolt_stats.proofs.Words.{bucket_figure, saturated, Figure, figure, inline, Inline_page, IsBucketIn, IsDeepest, IsDepth, IsHeight, IsStatsOf, Meta, node_at, Nodes, one_tour, paged, reached, Root_page, Start, Stats, tour_figure}
 use Rattle.bolt_check.specs.Nodes.{Entry}
 use Rattle.bolt_stats.specs.Figures.{buckets, inline_buckets, inline_used, keys, branch_pages, branch_overflow, branch_allocated, branch_used, leaf_pages, leaf_overflow, leaf_allocated, leaf_used}
 use Rattle.bolt_stats.specs.StatsOf.{AreSums}
 
 one_height : (nodes : Nodes) (root a b : ℕ) → IsHeight nodes root a → IsHeight nodes root b → a ≡ b
-one_height nodes root a b h k =
-    let p = h.least k.address k.longest in let q = k.least h.address h.longest in
-    let e = h.height in let f = k.height in omega (arith, p, q, e, f)
+one_height nodes root a b h k = grind arith
 
 not_deeper : (nodes : Nodes) (root a b : ℕ) (f g : Entry → ℕ) → ((e : Entry) → IsBucketIn nodes root e → f e ≡ g e) → IsDeepest nodes root f a → IsDeepest nodes root g b → a ≤ b
-not_deeper nodes root a b f g same h k =
-    elim h.met [
-      | inl zero ↦ omega (arith, zero)
-      | inr (e, (is, at)) ↦ let s = same e is in let up = k.above e is in omega (arith, s, up, at)
-    ]
+not_deeper nodes root a b f g same h k = grind arith
 
 pub one_depth : (nodes : Nodes) {root : ℕ} {a b : ℕ} → IsDepth nodes root a → IsDepth nodes root b → a ≡ b
 one_depth nodes inline inline = refl

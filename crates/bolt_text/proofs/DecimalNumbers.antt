@@ -1,8 +1,8 @@
 -- What `parse` makes of a word that is to be a number.
-use Rattle.std.proofs.Common.{◌≡◌, ◌<◌, ◌^◌, ◌&&◌, ◌==◌, ℕ, [], ◌∷◌, Option, Some, None, Result, Ok, Err, true, false, length, get_or, inl, inr, refl, sym, ap, rules, arith, subst}
+use Rattle.std.proofs.Common.{◌≡◌, ◌<◌, ◌^◌, ◌==◌, ℕ, [], ◌∷◌, Option, Some, None, Result, Ok, Err, true, false, length, get_or, refl, rules, arith, subst}
 use Rattle.std.proofs.{lemmas.Str.IsUtf8-from_ascii, lemmas.Fmt.decimal_nonempty, lemmas.Fmt.digits_value-decimal, lemmas.Bool.false_from_ne_true, lemmas.Bool.ltb-true}
 use Rattle.std.proofs.lemmas.Str.Parse.{IsNumeralModel, numerals_by_weight, parse_plain}
-use Rattle.std.specs.Prelude.{IsUtf8, ◌≢◌, option_copied, slice_get, zero, suc, MatchResult, nat_lt}
+use Rattle.std.specs.Prelude.{IsUtf8, ◌≢◌, option_copied, slice_get, zero, suc, MatchResult}
 use Rattle.std.specs.{Borrow.Bor, Option.option_eq, Str.IsAscii, Str.Parse.ParsesUnsigned}
 use Rattle.bolt_text.proofs.Vocabulary.{all_ascii_digits, and_parts, cases_Bool, decimal, digits_decimal, is_ascii_digit, nat_tests, number_in, result_ok, Text}
 use Rattle.bolt_text.specs.Numbers.{decimal_value, is_number}
@@ -14,38 +14,22 @@ pub good_number : (word : Text) → all_ascii_digits word ≡ true → 0 < lengt
 good_number word digits some small = grind (arith, nat_tests, digits)
 
 is_good : (word : Text) → is_number word ≡ true → (all_ascii_digits word ≡ true) × (0 < length word) × (decimal_value word < 2 ^ 64)
-is_good word good =
-    let parts = and_parts (nat_lt 0 (length word) && all_ascii_digits word) (nat_lt (decimal_value word) (2 ^ 64)) good in
-    let digits = and_parts (nat_lt 0 (length word)) (all_ascii_digits word) parts.0 in
-    (digits.1, ltb-true 0 (length word) digits.0, ltb-true (decimal_value word) (2 ^ 64) parts.1)
+is_good word good = grind (arith, and_parts, all_ascii_digits, ltb-true)
 
 pub no_number : (word : Text) → is_number word ≡ false → number_in word ≡ None
 no_number word bad = rw bad refl
 
 pub number_is : (word : Text) (n : ℕ) → number_in word ≡ Some n → (is_number word ≡ true) × (decimal_value word ≡ n) × (n < 2 ^ 64)
-number_is word n is = elim (cases_Bool (is_number word)) [
-  | inl good ↦
-      let read : number_in word ≡ Some (decimal_value word) = rw good refl in
-      let same : decimal_value word ≡ n = cc in
-      (good, same, subst (λ (m : ℕ). m < 2 ^ 64) same (is_good word good).2)
-  | inr bad ↦ let none = no_number word bad in absurd (cc)
-]
+number_is word n is = grind (arith, cases_Bool, is_good, no_number)
 
 -- without a plus before it
 pub parsed_number : {E : Type 0} (word : Text) (parsed : Result ℕ E) → ParsesUnsigned 64 10 word parsed → get_or word 0 0 ≢ 43 → result_ok parsed ≡ number_in word
-parsed_number {E} word (Ok n) parses plain =
-    let read = parse_plain decimal_numerals {E = E} 64 word (Ok n) parses plain in
-    rw (good_number word read.0.0 read.0.1 read.0.2) (ap Some read.1)
-parsed_number {E} word (Err e) parses plain =
-    let read = parse_plain decimal_numerals {E = E} 64 word (Err e) parses plain in
-    sym (no_number word (false_from_ne_true (is_number word) (λ good. read (is_good word good))))
+parsed_number {E} word (Ok n) parses plain = grind (arith, parse_plain, decimal_numerals, good_number)
+parsed_number {E} word (Err e) parses plain = grind (arith, parse_plain, decimal_numerals, no_number, false_from_ne_true, is_good)
 
 -- the digits of a number are read as it
 pub number_written : (n : ℕ) → n < 2 ^ 64 → number_in (decimal n) ≡ Some n
-number_written n fits =
-    let value = digits_value-decimal decimal_numerals n fits in
-    let good = good_number (decimal n) (digits_decimal decimal_numerals n fits) (decimal_nonempty n fits) (subst (λ (m : ℕ). m < 2 ^ 64) (sym value) fits) in
-    rw (good, value) refl
+number_written n fits = grind (arith, digits_value-decimal, decimal_numerals, good_number, digits_decimal, decimal_nonempty)
 
 -- digits are ASCII
 ascii_digits : (word : Text) → all_ascii_digits word ≡ true → IsAscii word
@@ -57,10 +41,7 @@ ascii_digits (digit ∷ word) digits (suc i) = ascii_digits word (and_parts (is_
 pub no_plus : (word : Text) (first : Option (Bor ℕ)) (plus : Bor ℕ) → plus.now ≡ 43 → option_copied first ≡ slice_get word 0 → option_eq (λ (x y : Bor ℕ). x.now == y.now) first (Some plus) ≡ false → get_or word 0 0 ≢ 43
 no_plus [] first plus is value other same = absurd (omega (arith, same))
 no_plus (byte ∷ word) None plus is value other same = absurd (let f : None ≡ Some byte = value in cc)
-no_plus (byte ∷ word) (Some x) plus is value other same =
-    let f : Some x.now ≡ Some byte = value in
-    let h : x.now ≡ plus.now = cc in
-    absurd (grind (arith, nat_tests, other, h))
+no_plus (byte ∷ word) (Some x) plus is value other same = grind (arith, nat_tests)
 
 -- a word that isn't text in UTF-8 has other bytes than digits
 not_utf8 : (word : Text) → ¬ (IsUtf8 word) → number_in word ≡ None

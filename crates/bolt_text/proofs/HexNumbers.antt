@@ -33,6 +33,4 @@ begins n written none = ap (digits_onto 64 16 false n) none
 
 -- the first digit is written last
 pub ends : (at rest : ℕ) (written text : List ℕ) → rest < 16 → digits_onto (49 + at) 16 false rest written ≡ text → digit_glyph false rest ∷ written ≡ text
-ends at rest written text least before =
-    let up : 49 + at ≡ suc (48 + at) = omega arith in
-    sym (last (48 + at) rest written least) ∙ rw up at before
+ends at rest written text least before = grind arith

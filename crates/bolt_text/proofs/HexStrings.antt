@@ -1,12 +1,12 @@
 -- Hexadecimal digits, written part by part, and as JSON strings, which need no escapes.
-use Rattle.std.proofs.Common.{◌≡◌, ◌∙◌, ℕ, ◌+◌, ◌-◌, ◌*◌, ◌/◌, ◌%◌, ◌<◌, List, [], ◌∷◌, ◌++◌, length, map, get_or, take, drop, bit_and, w16, ap, refl, sym, take-append-drop, suc, Bool, true, false, ◌&&◌, ◌==◌, not, nat_le, arith, append_assoc, codes}
+use Rattle.std.proofs.Common.{rules, ◌≡◌, ◌∙◌, ℕ, ◌+◌, ◌-◌, ◌*◌, ◌/◌, ◌%◌, ◌<◌, List, [], ◌∷◌, ◌++◌, length, map, get_or, take, drop, bit_and, w16, ap, refl, sym, take-append-drop, suc, Bool, true, false, ◌&&◌, ◌==◌, not, nat_le, arith, append_assoc, codes}
 use Rattle.std.proofs.{lemmas.List.take_rest, lemmas.List.FromFn.get_or-map-range_with_len, lemmas.Bool.eqb-false, lemmas.Bool.leb-true, lemmas.Bool.not-true}
-use Rattle.bolt_text.proofs.Vocabulary.{AllPass-from_list_all, and_parts, decimal, digits_json, encode_lower, end_json, escape_byte, IsBytes, items_tokens, json_line, line, list_all, lower_digits, parts_json, Path, path_text, print_from, range_with_len, Token, Value}
+use Rattle.bolt_text.proofs.Vocabulary.{AllPass-from_list_all, and_parts, decimal, digits_json, encode_lower, escape_byte, IsBytes, items_tokens, json_line, list_all, lower_digits, parts_json, Path, path_text, print_from, range_with_len, Token, Value}
 use Rattle.std.specs.Prelude.{slice_index}
 use Rattle.std.specs.Int.{to_le_bytes}
 use Rattle.hex.specs.Hex.{encode_with}
 use Rattle.json.proofs.Printed.Strings.{escape_byte_plain}
-use Rattle.json.specs.{Print.escape, Tree.members_tokens}
+use Rattle.json.specs.{Print.escape}
 use Rattle.bolt_tree.specs.Entries.{Bucket}
 use Rattle.bolt_text.specs.{Pieces.hex_string, declared.path_pieces.PathForm.TheVariants.Strings}
 
@@ -59,10 +59,7 @@ abbrev is_plain : ℕ → Bool
 is_plain x = nat_le 48 x && not (x == 92)
 
 plain_byte : (x : ℕ) → is_plain x ≡ true → escape_byte x ≡ x ∷ []
-plain_byte x e =
-    let (low, other) = and_parts (nat_le 48 x) (not (x == 92)) e in
-    let least = leb-true 48 x low in
-    escape_byte_plain x (λ quote. omega (arith, least, quote)) (eqb-false x 92 (not-true (x == 92) other)) (omega (arith, least))
+plain_byte x e = grind (arith, and_parts, leb-true, escape_byte_plain, eqb-false, not-true)
 
 plain_text : (text : List ℕ) → list_all is_plain text ≡ true → escape text ≡ text
 plain_text [] all = refl
@@ -80,18 +77,12 @@ parts_print : (path : Path) (later : List Token) → print_from false (items_tok
 unfolding print_from
 parts_print [] later = refl
 parts_print (part ∷ []) later = refl
-parts_print (part ∷ next ∷ path) later =
-    ap (λ (text : List ℕ). hex_string part ++ (44 ∷ text)) (parts_print (next ∷ path) later)
-    ∙ sym (append_assoc (hex_string part) (44 ∷ path_text Strings (next ∷ path)) (93 ∷ print_from true later))
+parts_print (part ∷ next ∷ path) later = grind (arith, append_assoc, print_from, parts_print (next ∷ path) later)
 
 pub value_line : (path : Path) (value : List ℕ) → codes "{\"path\":[" ++ (path_text Strings path ++ (codes "],\"value\":" ++ (hex_string value ++ (codes "}\n" ++ [])))) ≡ json_line digits_json (path, Value value)
 unfolding print_from escape_byte json_line
-value_line path value =
-    let whole = ap (λ (text : List ℕ). line (codes "{\"path\":[" ++ text)) (parts_print path (members_tokens (end_json digits_json (Value value)))) in
-    (simp append_assoc) ∙ sym whole
+value_line path value = search (rules, parts_print, append_assoc)
 
 pub bucket_line : (path : Path) (sequence : ℕ) → codes "{\"path\":[" ++ (path_text Strings path ++ (codes "],\"bucket\":" ++ (decimal sequence ++ (codes "}\n" ++ [])))) ≡ json_line digits_json (path, Bucket sequence)
 unfolding print_from escape_byte json_line
-bucket_line path sequence =
-    let whole = ap (λ (text : List ℕ). line (codes "{\"path\":[" ++ text)) (parts_print path (members_tokens (end_json digits_json (Bucket sequence)))) in
-    (simp append_assoc) ∙ sym whole
+bucket_line path sequence = search (rules, parts_print, append_assoc)

@@ -1,5 +1,5 @@
 -- JSON lines are read back.
-use Rattle.std.proofs.Common.{◌≡◌, ◌∙◌, ℕ, ◌<◌, ◌≤◌, ◌^◌, List, [], ◌∷◌, Option, Some, arith, ap, codes, option_and_then, option_map, refl}
+use Rattle.std.proofs.Common.{rules, ◌≡◌, ◌∙◌, ℕ, ◌<◌, ◌≤◌, ◌^◌, List, [], ◌∷◌, Option, Some, arith, ap, codes, option_and_then, option_map, refl}
 use Rattle.std.proofs.{lemmas.Bool.cond_both, lemmas.Fmt.decimal_is_IsNumeral}
 use Rattle.bolt_text.proofs.Vocabulary.{decimal, digits_json, encode_lower, end_json, is_utf8, IsBytes, item_json, json_text, Member, parts_json, Path, Value}
 use Rattle.std.specs.{Result.result_ok, Str.Parse.digits_value}
@@ -28,11 +28,7 @@ abbrev hex_object : List ℕ → Json
 hex_object bytes = object (member (codes "hex") (string (encode_lower bytes)) no_members)
 
 pub items_read : Reads item_json item_in_json
-items_read = record {
-  back = λ bytes h. cond_both (is_utf8 bytes) (string bytes) (hex_object bytes) (λ json. item_in_json json ≡ Some bytes) (λ e. refl) (λ e. digits_back bytes h);
-  numbers = λ bytes. cond_both (is_utf8 bytes) (string bytes) (hex_object bytes) HasNumbers (λ e. tt) (λ e. (tt, tt));
-  shallow = λ bytes. cond_both (is_utf8 bytes) (string bytes) (hex_object bytes) (λ json. depth json ≤ 1) (λ e. omega arith) (λ e. omega arith);
-}
+items_read = grind (arith, cond_both, is_utf8, digits_back)
 
 pub numeral_back : (n : ℕ) → n < 2 ^ 64 → digits_value 10 (decimal n) ≡ n
 numeral_back n h = (decimal_is_IsNumeral n h).1
@@ -45,9 +41,7 @@ module _ (shown : List ℕ → Json) (read : Json → Option (List ℕ)) (reads 
 
   parts_back : (path : Path) → ArePartsBytes path → parts_of read (parts_json shown path) ≡ Some path
   parts_back [] h = refl
-  parts_back (part ∷ path) h =
-      ap (option_and_then (λ (first : List ℕ). option_map (λ (rest : Path). first ∷ rest) (parts_of read (parts_json shown path)))) (reads.back part h.0)
-      ∙ ap (option_map (λ (rest : Path). part ∷ rest)) (parts_back path h.1)
+  parts_back (part ∷ path) h = grind (arith, option_and_then, parts_back path h.1)
 
   parts_numbers : (path : Path) → ItemsHaveNumbers (parts_json shown path)
   parts_numbers [] = tt
@@ -74,10 +68,7 @@ module _ (shown : List ℕ → Json) (read : Json → Option (List ℕ)) (reads 
   line_document m h = document-print (member_json shown m) (parts_numbers m.0, end_numbers m.1 h.1) (omega (arith, parts_depth m.0, end_depth m.1))
 
   pub line_member : (m : Member) → IsMemberOfBytes m → option_and_then (member_of read) (document (json_text (member_json shown m))) ≡ Some m
-  line_member m h =
-      ap (option_and_then (member_of read)) (line_document m h)
-      ∙ ap (option_and_then (λ (path : Path). option_map (λ (last : Item). (path, last)) (end_of read (member (codes "path") (array (parts_json shown m.0)) (end_json shown m.1))))) (parts_back m.0 h.0)
-      ∙ ap (option_map (λ (last : Item). (m.0, last))) (end_back (parts_json shown m.0) m.1 h.1)
+  line_member m h = search (rules, option_and_then, line_document, parts_back, end_back)
 
 -- for the search
 pub ruleset read_back = (items_read, digits_read, line_document, line_member)

@@ -1,19 +1,15 @@
 -- What is printed of an item in the form `mixed` is a word, which is read back as a part.
-use Rattle.std.proofs.Common.{◌≡◌, ◌∙◌, ◌++◌, ◌&&◌, ◌==◌, List, ℕ, Bool, true, false, Result, Some, ap, codes, drop, nat_le, not, refl, sym, take}
+use Rattle.std.proofs.Common.{arith, ◌≡◌, ◌++◌, ◌&&◌, List, ℕ, Bool, true, false, Result, Some, ap, codes, drop, nat_le, not, refl, take}
 use Rattle.bolt_text.proofs.Vocabulary.{FromHexError, and_parts, bytes_eq, bytes_eq-Decides, encode_lower, hex_bytes_in, if◌then◌else◌, result_ok}
 use Rattle.bolt_text.proofs.HexStrings.{digits_pass}
 use Rattle.std.proofs.lemmas.Bool.{false_from_ne_true, not-true}
-use Rattle.std.specs.Cmp.Lexicographic.{pointwise}
 use Rattle.hex.proofs.HexLemmas.{decode_of-encode_lower}
 use Rattle.hex.specs.Hex.{IsBytes}
 use Rattle.bolt_text.specs.{PartWords.mixed_in, Forms.is_marked, Forms.is_printable, Forms.mixed_text}
 
 -- without the mark it is read as text
 unmarked : (bytes : List ℕ) → is_marked bytes ≡ false → bytes_eq (take 2 bytes) (codes "0x") ≡ false
-unmarked bytes none =
-    false_from_ne_true (bytes_eq (take 2 bytes) (codes "0x")) (λ marked.
-    let same : take 2 bytes ≡ codes "0x" = (bytes_eq-Decides (take 2 bytes) (codes "0x")).0 marked in
-    let both : true ≡ false = sym (ap (λ (front : List ℕ). pointwise (λ a b. a == b) (codes "0x") front) same) ∙ none in cc)
+unmarked bytes none = grind (arith, false_from_ne_true, bytes_eq, bytes_eq-Decides)
 
 module _ (bytes : List ℕ) (are : IsBytes bytes) where
   by_test : (plain : Bool) → (is_printable bytes && not (is_marked bytes)) ≡ plain → mixed_in (if plain then bytes else codes "0x" ++ encode_lower bytes) ≡ Some bytes

@@ -1,5 +1,5 @@
 -- Paths are compared part by part, as the slices are that hold them.
-use Rattle.std.proofs.Common.{◌≡◌, ◌∙◌, Bor, List, ap, ℕ, length, take}
+use Rattle.std.proofs.Common.{arith, ◌≡◌, Bor, List, ℕ}
 use Rattle.std.proofs.lemmas.List.{take-map}
 use Rattle.bolt_text.proofs.Vocabulary.{begins_with, bytes_eq, length-map, path_of, pointwise, starts_with}
 use Rattle.std.specs.Cmp.Derive.Mapped.{lex_map, pointwise-map}
@@ -8,10 +8,7 @@ pub same_path : (xs ys : List (Bor (List ℕ))) → pointwise bytes_eq (path_of 
 same_path xs ys = pointwise-map (λ (part : Bor (List ℕ)). part.now) bytes_eq xs ys
 
 pub begins_parts : (path below : List (Bor (List ℕ))) → begins_with (path_of below) (path_of path) ≡ starts_with (λ (a b : Bor (List ℕ)). bytes_eq a.now b.now) path below
-begins_parts path below =
-    ap (λ (n : ℕ). pointwise bytes_eq (path_of below) (take n (path_of path))) (length-map below (λ (part : Bor (List ℕ)). part.now))
-    ∙ ap (pointwise bytes_eq (path_of below)) (take-map (λ (part : Bor (List ℕ)). part.now) (length below) path)
-    ∙ same_path below (take (length below) path)
+begins_parts path below = grind (arith, pointwise, bytes_eq, length-map, take-map, same_path)
 
 -- for the search
 pub ruleset parts = (begins_parts, same_path, lex_map)

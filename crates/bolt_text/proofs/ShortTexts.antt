@@ -1,5 +1,5 @@
 -- A call that gives up has not written the whole text.
-use Rattle.std.proofs.Common.{◌≡◌, List, ℕ, [], ◌++◌, Result, inl, inr, refl, subst, sym}
+use Rattle.std.proofs.Common.{arith, ◌≡◌, List, ℕ, [], ◌++◌, Result, refl, subst, sym}
 use Rattle.std.specs.Prelude.{◌≢◌}
 use Rattle.std.specs.Result.{IsErrAnd}
 use Rattle.std.proofs.KnownBytes.{Appends-nil}
@@ -54,11 +54,7 @@ module _ {S : Type 0} {sink : Ghosts S} where
 -- an item in JSON has a first byte
 pub json_some : (bytes : List ℕ) → json_text (item_json bytes) ≢ []
 unfolding print_from
-json_some bytes =
-    elim (cases_Bool (is_utf8 bytes)) [
-      | inl text ↦ rw text (λ none. cc)
-      | inr other ↦ rw other (λ none. cc)
-    ]
+json_some bytes = grind (arith, cases_Bool, is_utf8)
 
 -- for the search
 pub ruleset shorts = (short_whole, short_then, short_fault, short_passed)

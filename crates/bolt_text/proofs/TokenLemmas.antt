@@ -1,9 +1,9 @@
 -- JSON tokens, written one after another, of bytes that are UTF-8 or not.
-use Rattle.std.proofs.Common.{◌≡◌, ℕ, List, Bool, true, false, Result, Ok, Err, nat_lt, refl, ◌∙◌, ◌+◌, Bor, [], ◌∷◌, ◌++◌, Some, add-one, ap, append_assoc, codes, flat_map, slice_get, sym, take}
+use Rattle.std.proofs.Common.{arith, ◌≡◌, ℕ, List, Bool, true, false, Result, Ok, Err, nat_lt, refl, ◌+◌, Bor, [], ◌∷◌, ◌++◌, append_assoc, codes, flat_map}
 use Rattle.std.proofs.{lemmas.Bool.ltb-true, lemmas.List.Elements.All-weaker, lemmas.Str.IsUtf8-from_ascii, lemmas.Str.IsUtf8-from_is_utf8, lemmas.Str.Ascii.IsAscii-from_all}
 use Rattle.std.specs.Prelude.{IsOk, MatchResult}
 use Rattle.std.specs.Str.{IsAscii, IsUtf8}
-use Rattle.bolt_text.proofs.Vocabulary.{AllPass-from_list_all, encode_lower, end_object, flat_map-take_more, is_utf8, is_utf8-from_IsUtf8, item_json, items_tokens, json_tokens, lower_digits, parts_json, path_of, Token}
+use Rattle.bolt_text.proofs.Vocabulary.{AllPass-from_list_all, encode_lower, end_object, is_utf8, is_utf8-from_IsUtf8, item_json, items_tokens, json_tokens, lower_digits, parts_json, path_of}
 use Rattle.hex.proofs.HexLemmas.{IsAscii-encode_with}
 use Rattle.json.specs.Token.{begin_object, end_array, key, string}
 
@@ -28,9 +28,7 @@ digits_utf8 bytes = IsUtf8-from_ascii (encode_lower bytes) (IsAscii-encode_with 
 
 pub parts_tokens : (path : List (Bor (List ℕ))) → items_tokens (parts_json item_json (path_of path)) ≡ flat_map (λ (part : Bor (List ℕ)). json_tokens (item_json part.now)) path ++ end_array ∷ []
 parts_tokens [] = refl
-parts_tokens (part ∷ path) =
-    ap (λ (ts : List Token). json_tokens (item_json part.now) ++ ts) (parts_tokens path)
-    ∙ sym (append_assoc (json_tokens (item_json part.now)) (flat_map (λ (p : Bor (List ℕ)). json_tokens (item_json p.now)) path) (end_array ∷ []))
+parts_tokens (part ∷ path) = grind (arith, json_tokens, append_assoc, parts_tokens path)
 
 -- bytes that are UTF-8 are a string
 pub text_tokens : (bytes text : List ℕ) → IsUtf8 bytes → text ≡ bytes → json_tokens (item_json bytes) ≡ string text ∷ []
@@ -39,12 +37,3 @@ text_tokens bytes text utf8 same = rw (is_utf8-from_IsUtf8 bytes utf8) (rw same 
 -- and others an object
 pub digits_tokens : (bytes : List ℕ) → ¬ (IsUtf8 bytes) → json_tokens (item_json bytes) ≡ begin_object ∷ key (codes "hex") ∷ string (encode_lower bytes) ∷ end_object ∷ []
 digits_tokens bytes other = rw (not_utf8 bytes other) refl
-
--- the tokens of one part more
-pub part_more : (path : List (Bor (List ℕ))) (i : ℕ) (part : Bor (List ℕ)) (old mid new : List Token) → slice_get path i ≡ Some part
-    → mid ≡ old ++ flat_map (λ (p : Bor (List ℕ)). json_tokens (item_json p.now)) (take i path) → new ≡ mid ++ json_tokens (item_json part.now)
-    → new ≡ old ++ flat_map (λ (p : Bor (List ℕ)). json_tokens (item_json p.now)) (take (i + 1) path)
-part_more path i part old mid new found before one =
-    let f : Bor (List ℕ) → List Token = λ p. json_tokens (item_json p.now) in
-    one ∙ ap (λ (ts : List Token). ts ++ f part) before ∙ append_assoc old (flat_map f (take i path)) (f part)
-    ∙ ap (λ (ts : List Token). old ++ ts) (sym (ap (λ k. flat_map f (take k path)) (add-one i) ∙ flat_map-take_more f path i part found))

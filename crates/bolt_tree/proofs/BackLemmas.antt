@@ -77,9 +77,7 @@ left_entries contents H address content k = grind arith
 
 pub left_elements : (contents : Contents) (frames : List Frame) → tour_elements (passed_of contents frames) ≡ tour_elements (pages_before contents frames)
 left_elements contents [] = refl
-left_elements contents (f ∷ below) =
-    let r = left_elements contents below in
-    grind (arith, left_entries, flat_map-append)
+left_elements contents (f ∷ below) = grind (arith, left_entries, flat_map-append, left_elements contents below)
 
 pub behind_index : (contents : Contents) (f : Frame) (below : List Frame) → IsAtRest (f ∷ below) → length (preceding_of contents (f ∷ below)) ≡ index_of contents (f ∷ below)
 behind_index contents f below rest = grind (arith, append-nil, length-take, left_elements, length-append)

@@ -1,6 +1,6 @@
 -- Numbers of pages: an address is counted by its place on the tour.
 use Rattle.std.proofs.Common.{◌≡◌, ℕ, suc, ◌+◌, ◌-◌, ◌≤◌, ◌<◌, ◌⊎◌, inl, inr, List, [], ◌∷◌, ◌++◌, Some, length, map, refl, sym, ap, ◌∙◌, subst, arith, append_assoc, append-nil, length-append}
-use Rattle.bolt_tree.proofs.Words.{Before, BucketView, HasCount, HasSoundTrees, Inline_page, IsAddress, IsAfter, IsEntry, IsHome, IsPagesUpTo, IsSeekPage, IsSoundBucket, IsStart, IsUpTo, LeafElement, Meta, Root_page, Start, TourPage, cases_lt, content_at, leads, length-map, lt_strict, node_at, pages_at, tour_pages_in}
+use Rattle.bolt_tree.proofs.Words.{Before, BucketView, HasCount, HasSoundTrees, Inline_page, IsAddress, IsAfter, IsEntry, IsHome, IsPagesUpTo, IsSeekPage, IsSoundBucket, IsStart, IsUpTo, LeafElement, Meta, Root_page, Start, TourPage, cases_lt, content_at, length-map, lt_strict, pages_at, tour_pages_in}
 use Rattle.bolt_tree.proofs.RisingEntries.{entry_visited, home_visited, start_rises, visit_is}
 use Rattle.bolt_tree.proofs.TourLemmas.{IsApart, led_tour, tour_led, visit_of}
 use Rattle.bolt_check.proofs.Exports.{Has, RisesBy, contains_from_has, flat_has, has_from_contains, has_left, has_map, has_right, has_split, map_has, one_list, pairs_from_rises, rises_across, rises_from_pairs, rises_left, rises_map, rises_right, rises_weaker, before_irreflexive, before_strict, before_trans}
@@ -53,10 +53,7 @@ module _ {X : Type 0} where
 
   two_cuts : (a b c d : List X) (x y : X) → a ++ (x ∷ b) ≡ c ++ (y ∷ d) → length d ≤ length b → (between : List X) × (b ≡ between ++ d) × (a ++ x ∷ between ≡ c ++ y ∷ [])
   two_cuts [] b [] d x y e l = ([], cc, cc)
-  two_cuts [] b (z ∷ c) d x y e l =
-      let rest : b ≡ c ++ (y ∷ d) = cc in
-      let same : x ≡ z = cc in
-      (c ++ y ∷ [], rest ∙ sym (append_assoc c (y ∷ []) d), ap (λ (w : X). w ∷ (c ++ y ∷ [])) same)
+  two_cuts [] b (z ∷ c) d x y e l = grind (arith, append_assoc c (y ∷ []) d)
   two_cuts (w ∷ a) b [] d x y e l = grind (arith, length-append)
   two_cuts (w ∷ a) b (z ∷ c) d x y e l =
       let rest : a ++ (x ∷ b) ≡ c ++ (y ∷ d) = cc in
@@ -72,9 +69,7 @@ address_of v = v.address
 
 module _ (file : List ℕ) (meta : Meta) (trees : HasSoundTrees file meta) where
   visit_address : (start : Start) (v : TourPage) → IsStart file meta start → Has (pages_at file meta start) v → IsAddress file meta start v.address
-  visit_address (Root_page number) v is h =
-      let r = tour_led file meta trees 63 number 1 [] v is (omega arith) h in
-      (r.page, ap (λ (a : List ℕ). leads (node_at file meta) (Some number) a) r.from ∙ r.led)
+  visit_address (Root_page number) v is h = grind (arith, tour_led file meta trees 63 number 1 [] v is (omega arith) h)
   visit_address (Inline_page elements) v is (inl e) = sym (ap address_of e)
   visit_address (Inline_page elements) v is (inr x) = absurd x
 

@@ -30,10 +30,7 @@ module _ {X Y : Type 0} (f : X → Y) where
 
   pub sorted_by_shown : (lt : Y → Y → Bool) (xs : List X) → IsSortedBy lt (map f xs) → IsSortedBy (λ a b. lt (f a) (f b)) xs
   sorted_by_shown lt xs up k d low high =
-      let long = length-map xs f in
-      ap (λ (y : Y). lt y (f (slice_index_or xs k d))) (sym (get_or-map f xs (k + 1) d (f d) high))
-      ∙ ap (λ (y : Y). lt (slice_index_or (map f xs) (k + 1) (f d)) y) (sym (get_or-map f xs k d (f d) (omega arith)))
-      ∙ up k (f d) low (omega (arith, long))
+      grind (arith, length-map xs f, slice_index_or xs k d, get_or-map f xs (k + 1) d (f d) high, slice_index_or (map f xs) (k + 1) (f d), get_or-map f xs k d (f d) (omega arith))
 
   module _ (same : Y → Y → Bool) where
     abbrev pub shown_same : X → X → Bool
@@ -58,10 +55,7 @@ module _ {X Y : Type 0} (h : X → Option Y) where
   from_step : (o : Option Y) (x : X) (xs : List X) (y : Y) → h x ≡ o → (Contains (filter_map h xs) y → (z : X) × Contains xs z × (h z ≡ Some y)) → Contains (cons_option o (filter_map h xs)) y
       → (z : X) × Contains (x ∷ xs) z × (h z ≡ Some y)
   from_step None x xs y is later has = let (z, there, found) = later has in (z, contains_tail x z xs there, found)
-  from_step (Some w) x xs y is later has = elim (contains_cases w y (filter_map h xs) has) [
-    | inl same ↦ (x, contains_head x xs, is ∙ ap Some same)
-    | inr more ↦ (let (z, there, found) = later more in (z, contains_tail x z xs there, found))
-  ]
+  from_step (Some w) x xs y is later has = grind (arith, contains_cases, contains_head, contains_tail)
 
   pub gives_from : (xs : List X) (y : Y) → Contains (filter_map h xs) y → (x : X) × Contains xs x × (h x ≡ Some y)
   gives_from [] y has = absurd (contains_none y has)
@@ -89,6 +83,4 @@ module _ {X : Type 0} (lt : X → X → Bool) where
   climbs_sorted [] up k d low high = absurd (omega arith)
   climbs_sorted (x ∷ []) up k d low high = absurd (omega arith)
   climbs_sorted (x ∷ y ∷ ys) up zero d low high = up.0 y (contains_head y ys)
-  climbs_sorted (x ∷ y ∷ ys) up (suc k) d low high =
-      let next : suc k + 1 ≡ suc (k + 1) = omega arith in
-      rw next (climbs_sorted (y ∷ ys) up.1 k d (omega arith) (omega (arith, high)))
+  climbs_sorted (x ∷ y ∷ ys) up (suc k) d low high = grind (arith, climbs_sorted (y ∷ ys) up.1 k d (omega arith) (omega (arith, high)))

@@ -67,7 +67,5 @@ near_exists_from file meta trees (suc n) number depth key on deep = elim (on_way
 
 pub near_exists : (file : List ℕ) (meta : Meta) (trees : HasSoundTrees file meta) (start : Start) (key : Key) → IsStart file meta start
     → (near : List ℕ) × IsNear file meta start key near × IsAddress file meta start near × (1 + length near ≤ 64)
-near_exists file meta trees (Root_page number) key is =
-    let r = near_exists_from file meta trees 63 number 1 key is (omega arith) in
-    (r.0, r.2, (r.1, r.3), r.4)
+near_exists file meta trees (Root_page number) key is = grind (arith, near_exists_from file meta trees 63 number 1 key is (omega arith))
 near_exists file meta trees (Inline_page page) key is = ([], refl, refl, omega arith)

@@ -12,9 +12,7 @@ abbrev without : ℕ → List ℕ → List ℕ
 without n ns = filter (λ m. not (eqb m n)) ns
 
 no_longer : (w v : List ℕ) (i : ℕ) (x : List ℕ) → w ≡ (w ++ (v ++ i ∷ [])) ++ x → ⊥
-no_longer w v i x e =
-    let one : length (i ∷ []) ≡ 1 = refl in
-    omega (arith, ap length e, length-append (w ++ (v ++ i ∷ [])) x, length-append w (v ++ i ∷ []), length-append v (i ∷ []), one)
+no_longer w v i x e = grind (arith, length-append (w ++ (v ++ i ∷ [])) x, length-append w (v ++ i ∷ []), length-append v (i ∷ []))
 
 module _ (Own : Start → LeafElement → Type 0) (inside : Start → Tree) where
   shows_with : (e : LeafElement) (entries : List LeafElement) (b : Bool) → e.is_bucket ≡ b → Shows Own (tree_with inside entries) entries

@@ -25,19 +25,8 @@ pub record Top (checked : Checked) (before : Path) (cursors : List CursorView) (
 
 pub open_pop : (checked : Checked) (before : Path) (cursors : List CursorView) (cursor : CursorView) (keys : Path) → AreOpen checked before (cursors ++ cursor ∷ []) keys
     → Top checked before cursors cursor keys
-open_pop checked before [] cursor (key ∷ []) (same, names, stands, more) =
-    record {
-      front = [];
-      key = key;
-      split = refl;
-      below = tt;
-      checked_file = same;
-      names = subst (λ (p : Path). Names (entries_of checked) (root_start checked) p cursor.start) (sym (append-nil before)) names;
-      stands = stands;
-    }
-open_pop checked before (c ∷ cursors) cursor (key ∷ keys) (same, names, stands, more) =
-    let top = open_pop checked (before ++ key ∷ []) cursors cursor keys more in
-    grind (arith, same, append_assoc)
+open_pop checked before [] cursor (key ∷ []) (same, names, stands, more) = grind (arith, append-nil before)
+open_pop checked before (c ∷ cursors) cursor (key ∷ keys) (same, names, stands, more) = grind (arith, append_assoc, open_pop checked (before ++ key ∷ []) cursors cursor keys more)
 open_pop checked before cursors cursor keys h = absurd (grind arith)
 
 pub open_push : (checked : Checked) (before : Path) (cursors : List CursorView) (cursor : CursorView) (keys : Path) (key : Key) → AreOpen checked before cursors keys
@@ -75,26 +64,18 @@ module _ (checked : Checked) (all : HasEntries (entries_of checked) (root_start 
 
   -- to an entry
   pub next_stands : (e : LeafElement) → moved.start ≡ cursor.start → MovesOn (Some e) → StandsOn (entries_of checked) moved e.key
-  next_stands e start moves entries are =
-      let (i, old, at, same, came) = goes (Some e) moves entries (subst (λ (s : Start). AreEntries (entries_of checked) s entries) start are) in
-      (suc i, e, came.0, came.1, refl)
+  next_stands e start moves entries are = grind (arith, goes)
 
   pub next_open : (e : LeafElement) → moved.checked ≡ cursor.checked → moved.start ≡ cursor.start → MovesOn (Some e)
       → AreOpen checked [] (cursors ++ moved ∷ []) (top.front ++ e.key ∷ [])
   next_open e file start moves = grind (arith, open_push, next_stands)
 
   pub next_entry : (e : LeafElement) → MovesOn (Some e) → entries_of checked cursor.start e
-  next_entry e moves =
-      let own = all top.front cursor.start top.names in
-      let (i, old, at, same, came) = goes (Some e) moves own.0 own.1 in
-      (own.1.exact e).0 (contains_at own.0 (suc i) e came.1)
+  next_entry e moves = grind (arith, goes, contains_at)
 
   pub next_given : (e : LeafElement) → MovesOn (Some e) → (listing : List Member) → Lists (entries_of checked) (root_start checked) listing
       → beyond keys listing ≡ (top.front ++ e.key ∷ [], item_of e) ∷ rest_after (top.front ++ e.key ∷ []) listing
-  next_given e moves listing lists =
-      let own = all top.front cursor.start top.names in
-      let (i, old, at, same, came) = goes (Some e) moves own.0 own.1 in
-      grind (arith, same, give_next)
+  next_given e moves listing lists = grind (arith, goes, give_next)
 
   -- or to none
   pub next_ended : MovesOn None → (listing : List Member) → Lists (entries_of checked) (root_start checked) listing → beyond keys listing ≡ beyond top.front listing

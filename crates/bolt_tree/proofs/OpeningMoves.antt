@@ -47,10 +47,7 @@ module _ (bucket : BucketView) where
   pub first_opens : (found : Option Leaf) (frames : List Frame) (old new : ℕ) → ∥ IsSoundBucket bucket ∥₁ → HasStack bucket frames
       → Finds false found (elements_in bucket) (ahead_of (contents_in bucket) frames) frames []
       → new ≡ counted old (length (tour_pages_in bucket) - length (later_of (contents_in bucket) frames)) → OpensGap bucket 0 old new
-  first_opens None frames old new is stack h opened = λ entries gap are up.
-      let g = all_upto gap 0 is (let z = ap length h.0 in omega (arith, z)) (rw (← the_entries bucket entries is are) at up) in
-      let zero_right : length (later_of (contents_in bucket) frames) ≡ 0 = ap (λ (fs : List Frame). length (later_of (contents_in bucket) fs)) h.1 in
-      opened ∙ ap (counted old) (omega (arith, g, zero_right))
+  first_opens None frames old new is stack h opened = grind (arith, all_upto, the_entries)
   first_opens (Some leaf) [] old new is stack h opened = absurd h.1
   first_opens (Some leaf) (f ∷ below) old new is stack h opened = λ entries gap are up.
       let rest = on_rests (f ∷ below) (leaf_view leaf) h.1 in

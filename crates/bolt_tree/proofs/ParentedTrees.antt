@@ -1,6 +1,6 @@
 -- A rising listing whose members have parents is what a tree lists: each member lies in the bucket that the one before it is or lies in, or
 -- in one further out.
-use Rattle.std.proofs.Common.{◌≡◌, ◌∙◌, ◌⊎◌, inl, inr, ℕ, List, [], ◌∷◌, ◌++◌, refl, sym, ap, subst, append_assoc}
+use Rattle.std.proofs.Common.{arith, ◌≡◌, ◌∙◌, ◌⊎◌, inl, inr, ℕ, List, [], ◌∷◌, ◌++◌, refl, sym, ap, subst, append_assoc}
 use Rattle.bolt_tree.proofs.Words.{Contains, Item, Key, Less, Member, Path, Rises, Tree, Value, first_tree, later_trees, listing_below, listing_of, member_cmp, path_cmp, put_first, tree_of, trees_by_depth, with_bucket, with_value}
 use Rattle.bolt_tree.proofs.{Lists.asymmetric, Lists.contains_cases, Lists.contains_head, Lists.contains_tail, Lists.irreflexive, PathOrder.before_longer, PathOrder.beyond_less, PathOrder.beyond_or_longer, PathOrder.path_total}
 use Rattle.bolt_tree.specs.{Entries.Bucket, Merges.HasBucket, Merges.HaveParents}
@@ -45,11 +45,7 @@ spread_one base (key ∷ opened) tree = refl
 deeper : (base : Path) (p : Key) (opened : Path) (part next : Key) (path : Path) (item : Item) (trees : List Tree) (o : Path) → part ≡ p
     → spread (base ++ p ∷ []) opened (put_first (next ∷ path) item (later_trees trees)) ≡ ((base ++ p ∷ []) ++ next ∷ path, item) ∷ spread (base ++ p ∷ []) o (later_trees trees)
     → spread base (p ∷ opened) (first_tree trees ∷ put_first (next ∷ path) item (later_trees trees)) ≡ (base ++ part ∷ next ∷ path, item) ∷ spread base (part ∷ o) trees
-deeper base p opened part next path item trees o same deep =
-    ap (λ (ms : List Member). ms ++ listing_below base (first_tree trees)) deep
-    ∙ ap (λ (q : Path). (q, item) ∷ (spread (base ++ p ∷ []) o (later_trees trees) ++ listing_below base (first_tree trees)))
-    (append_assoc base (p ∷ []) (next ∷ path) ∙ ap (λ (k : Key). base ++ k ∷ next ∷ path) (sym same))
-    ∙ ap (λ (ms : List Member). (base ++ part ∷ next ∷ path, item) ∷ ms) (sym (spread_open base p o trees) ∙ ap (λ (k : Key). spread base (k ∷ o) trees) (sym same))
+deeper base p opened part next path item trees o same deep = grind (arith, append_assoc, spread_open)
 
 -- a member that is put to the front comes first
 spread_first : (base opened path : Path) (item : Item) (trees : List Tree) → (key : Key) (rest : Path) → path ≡ key ∷ rest → Begins (above path) opened
@@ -57,10 +53,7 @@ spread_first : (base opened path : Path) (item : Item) (trees : List Tree) → (
 spread_first base opened [] item trees key rest some begins = absurd (cc)
 spread_first base opened (part ∷ []) (Value value) trees key rest some begins =
     spread_one base opened (with_value part value (first_tree trees)) ∙ ap (λ (ms : List Member). (base ++ part ∷ [], Value value) ∷ ms) (sym (spread_root base trees))
-spread_first base opened (part ∷ []) (Bucket sequence) trees key rest some begins =
-    spread_one base opened (with_bucket part sequence (first_tree (later_trees trees)) (first_tree trees))
-    ∙ ap (λ (ms : List Member). (base ++ part ∷ [], Bucket sequence) ∷ (ms ++ listing_below base (first_tree trees))) (sym (spread_root (base ++ part ∷ []) (later_trees trees)))
-    ∙ ap (λ (ms : List Member). (base ++ part ∷ [], Bucket sequence) ∷ ms) (sym (spread_open base part [] trees))
+spread_first base opened (part ∷ []) (Bucket sequence) trees key rest some begins = grind (arith, spread_one, with_bucket, spread_root, spread_open)
 spread_first base [] (part ∷ next ∷ path) item trees key rest some begins = absurd begins
 spread_first base (p ∷ opened) (part ∷ next ∷ path) (Value value) trees key rest some begins =
     deeper base p opened part next path (Value value) trees (above (next ∷ path)) begins.0 (spread_first (base ++ p ∷ []) opened (next ∷ path) (Value value) (later_trees trees) next path refl begins.1)

@@ -1,7 +1,7 @@
 -- The part of a listing below a path: its members stand together, and a walk from the later of two paths comes to all of them that don't
 -- come before the other.
-use Rattle.std.proofs.Common.{arith, ◌≡◌, ◌∙◌, inl, inr, Bool, true, false, not, List, [], ◌∷◌, ◌++◌, length, drop, cond, filter, refl, sym, ap, append-nil}
-use Rattle.bolt_tree.proofs.Words.{All-contains, All-contains_itself, All-filter, Contains, Equal, Greater, Item, Less, Member, Ordering, Path, Rises, bytes_eq-Decides, false_from_ne_true, filter_passes, is_beyond, is_lt, less_of, member_cmp, not-true, ordering_reverse, path_cmp, rest_from, starts_is, take_while, take_while-cons}
+use Rattle.std.proofs.Common.{arith, ◌≡◌, ◌∙◌, Bool, true, false, not, List, [], ◌∷◌, ◌++◌, length, drop, cond, filter, refl, sym, ap, append-nil}
+use Rattle.bolt_tree.proofs.Words.{Contains, Equal, Greater, Item, Less, Member, Ordering, Path, Rises, bytes_eq-Decides, false_from_ne_true, is_beyond, is_lt, less_of, member_cmp, not-true, ordering_reverse, path_cmp, rest_from, starts_is, take_while, take_while-cons}
 use Rattle.bolt_tree.proofs.{Filters.filter_all, Filters.filter_first, Filters.filter_none, Filters.filter_rises, Filters.filters_swap, Filters.kept_from, Single.member_total}
 use Rattle.bolt_tree.proofs.Lists.{contains_head, contains_tail, irreflexive}
 use Rattle.bolt_tree.proofs.PathOrder.{before_longer, beyond_less, beyond_or_longer, beyond_up, flip_less, path_exact, path_same, path_total}
@@ -16,12 +16,8 @@ begins_by below path rest e = (starts_is bytes_eq-Decides path below (begins_wit
 
 -- it doesn't come before it,
 longer_after : (below rest path : Path) → path ≡ below ++ rest → is_lt (path_cmp path below) ≡ false
-longer_after below [] path e =
-    let same : path ≡ below = e ∙ append-nil below in
-    ap (λ (p : Path). is_lt (path_cmp p below)) same ∙ ap is_lt (path_same below)
-longer_after below (k ∷ rest) path e =
-    let less : path_cmp below path ≡ Less = ap (path_cmp below) e ∙ before_longer below k rest in
-    ap is_lt (flip_less path_total below path less)
+longer_after below [] path e = grind (arith, append-nil, is_lt, path_same)
+longer_after below (k ∷ rest) path e = grind (arith, before_longer, is_lt, flip_less, path_total)
 
 pub begins_after : (below path : Path) → begins_with below path ≡ true → is_lt (path_cmp path below) ≡ false
 begins_after below path e = longer_after below (drop (length below) path) path (begins_of below path e)
@@ -36,11 +32,7 @@ beyond_apart below path h =
 
 -- one that neither comes before it nor begins with it does
 beyond_by : (below path : Path) (o : Ordering) → path_cmp below path ≡ o → is_lt (path_cmp path below) ≡ false → begins_with below path ≡ false → is_beyond below path ≡ true
-beyond_by below path Less e after apart =
-    elim (beyond_or_longer below path e) [
-      | inl beyond ↦ beyond
-      | inr (k, r, longer) ↦ absurd (let f = begins_by below path (k ∷ r) longer in let g : true ≡ false = sym f ∙ apart in cc)
-    ]
+beyond_by below path Less e after apart = grind (arith, beyond_or_longer, begins_by)
 beyond_by below path Equal e after apart =
     let same : path ≡ below ++ [] = sym (path_exact below path e) ∙ sym (append-nil below) in
     absurd (let g : true ≡ false = sym (begins_by below path [] same) ∙ apart in cc)

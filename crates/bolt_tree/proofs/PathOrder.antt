@@ -1,8 +1,8 @@
 -- The order of paths, part by part: what comes after a path, and where.
 -- Rests on the order of keys, which is total, and in which only equal keys are tied.
-use Rattle.std.proofs.Common.{arith, ◌≡◌, ◌∙◌, ◌⊎◌, inl, inr, Bool, true, false, List, [], ◌∷◌, ◌++◌, refl, ap}
+use Rattle.std.proofs.Common.{arith, ◌≡◌, ◌∙◌, ◌⊎◌, inl, Bool, true, false, List, [], ◌∷◌, ◌++◌, refl, ap}
 use Rattle.std.proofs.lemmas.Map.Lookups.{exact_bytes}
-use Rattle.bolt_tree.proofs.Words.{Equal, Greater, IsTotalOrder, Key, Less, Ordering, Path, by_first, is_beyond, is_lt, key_cmp, less_of, lists_total, nat_list_cmp_total, ordering_reverse, ordering_then, path_cmp, tied_itself}
+use Rattle.bolt_tree.proofs.Words.{Equal, Greater, IsTotalOrder, Key, Less, Ordering, Path, by_first, is_beyond, key_cmp, lists_total, nat_list_cmp_total, ordering_reverse, ordering_then, path_cmp, tied_itself}
 use Rattle.std.specs.{Borrow.Bor, Cmp.Derive.Mapped.lex_map, Cmp.Lexicographic.slice_cmp}
 use Rattle.bolt_tree.specs.Paths.{path_of}
 
@@ -58,9 +58,7 @@ by_parts : (x y : Key) (p q : Path) (o : Ordering) → key_cmp x y ≡ o → ord
     → (path_cmp p q ≡ Less → (is_beyond p q ≡ true) ⊎ ((k : Key) × (r : Path) × (q ≡ p ++ k ∷ r)))
     → (by_first o (is_beyond p q) ≡ true) ⊎ ((k : Key) × (r : Path) × (y ∷ q ≡ (x ∷ p) ++ k ∷ r))
 by_parts x y p q Less e h more = inl refl
-by_parts x y p q Equal e h more =
-    let same = key_exact x y e in
-    elim (more h) [ inl beyond ↦ inl beyond | inr (k, r, longer) ↦ inr (k, r, let both : y ∷ q ≡ x ∷ (p ++ k ∷ r) = cc in both) ]
+by_parts x y p q Equal e h more = grind (arith, key_exact x y e)
 by_parts x y p q Greater e h more = absurd (let f : Greater ≡ Less = h in cc)
 
 pub beyond_or_longer : (p q : Path) → path_cmp p q ≡ Less → (is_beyond p q ≡ true) ⊎ ((k : Key) × (r : Path) × (q ≡ p ++ k ∷ r))
@@ -80,9 +78,7 @@ by_last : (x y : Key) (p q : Path) (k : Key) (o : Ordering) → key_cmp x y ≡ 
     → (is_beyond (p ++ k ∷ []) q ≡ true → (is_beyond p q ≡ true) ⊎ ((z : Key) × (r : Path) × (q ≡ p ++ z ∷ r) × (key_cmp k z ≡ Less)))
     → (by_first o (is_beyond p q) ≡ true) ⊎ ((z : Key) × (r : Path) × (y ∷ q ≡ (x ∷ p) ++ z ∷ r) × (key_cmp k z ≡ Less))
 by_last x y p q k Less e h more = inl refl
-by_last x y p q k Equal e h more =
-    let same = key_exact x y e in
-    elim (more h) [ inl beyond ↦ inl beyond | inr (z, r, longer, less) ↦ inr (z, r, (let both : y ∷ q ≡ x ∷ (p ++ z ∷ r) = cc in both), less) ]
+by_last x y p q k Equal e h more = grind (arith, key_exact x y e)
 by_last x y p q k Greater e h more = absurd (let f : false ≡ true = h in cc)
 
 only_less : (k y : Key) (o : Ordering) → key_cmp k y ≡ o → by_first o false ≡ true → key_cmp k y ≡ Less

@@ -1,7 +1,7 @@
 -- The place of a stack among the entries of its bucket, and what the moves of a trail are to a cursor's place.
 use Rattle.std.proofs.lemmas.Grind.{common_steps}
 use Rattle.std.proofs.Common.{true, false, Bool, ◌≡◌, ℕ, suc, ◌+◌, ◌-◌, ◌≤◌, ◌<◌, List, [], ◌∷◌, ◌++◌, Some, None, Option, slice_get, length, drop, refl, sym, ap, ◌∙◌, arith, length-append, take, append_assoc}
-use Rattle.bolt_tree.proofs.Words.{AreEntriesOf, BucketView, Content, Contents, Finds, Frame, HasStack, IsAtRest, IsOn, IsSoundBucket, Key, Leaf, LeafElement, Move, Of_branch, Of_leaf, On, Past, Place, RestsOn, LeafStandsOn, TourPage, address_on, ahead_of, contents_in, drop-append_seam, elements_in, tour_elements, entries_to, first_move, flat_map-append, index_of, is_none, last_move, le-ltb, leaf_view, least_from, passed_of, length-drop, length-take, next_move, option_map, tour_pages_in, place_by, place_in, place_on, preceding_of, prev_move, props, later_of, seek_move, slice_get_within, take-append-drop, tour, ∥∥₁_elim, ∥∥₁_map}
+use Rattle.bolt_tree.proofs.Words.{AreEntriesOf, BucketView, Content, Contents, Finds, Frame, HasStack, IsAtRest, IsOn, IsSoundBucket, Key, Leaf, LeafElement, Move, Of_branch, Of_leaf, On, Past, Place, RestsOn, LeafStandsOn, TourPage, address_on, ahead_of, contents_in, drop-append_seam, elements_in, tour_elements, entries_to, first_move, flat_map-append, index_of, is_none, last_move, leaf_view, least_from, passed_of, length-drop, length-take, next_move, option_map, tour_pages_in, place_by, place_in, place_on, preceding_of, prev_move, props, later_of, seek_move, slice_get_within, take-append-drop, tour, ∥∥₁_elim, ∥∥₁_map}
 use Rattle.bolt_tree.proofs.{BackLemmas.behind_index, RisingEntries.tour_entries, RisingEntries.entries_once}
 use Rattle.bolt_check.proofs.Exports.{get_behind, get_front}
 
@@ -93,9 +93,6 @@ next_onto : (entries : List LeafElement) (i k : ℕ) (answer : Option LeafElemen
     → Comes entries (next_move entries (place_in entries (On i))) (On k) answer
 next_onto entries i k answer e g h = grind arith
 
-next_stays : (entries : List LeafElement) (i : ℕ) → 0 < length entries → length entries ≤ suc i → Comes entries (next_move entries (place_in entries (On i))) (On i) None
-next_stays entries i some h = rw (place_there entries (On i) some, le-ltb (suc i) (length entries) h) (refl, refl)
-
 prev_onto : (entries : List LeafElement) (i k : ℕ) (answer : Option LeafElement) → i ≡ suc k → slice_get entries k ≡ answer → 0 < length entries
     → Comes entries (prev_move entries (place_in entries (On i))) (On k) answer
 prev_onto entries i k answer e g some = rw (place_there entries (On i) some, place_there entries (On k) some, e, g) (refl, refl)
@@ -158,9 +155,7 @@ module _ (bucket : BucketView) where
   pub go_moves : (back : Bool) (found : Option Leaf) (from frames : List Frame) → HasStack bucket from → IsAtRest from → (from ≡ [] → ⊥) → HasStack bucket frames
       → Finds back found (entries_to back (contents_in bucket) from) (entries_to back (contents_in bucket) frames) frames from
       → Comes (elements_in bucket) (go_move back (elements_in bucket) (place_in (elements_in bucket) (here from))) (here frames) (option_map leaf_view found)
-  go_moves false None (f ∷ below) frames old rest some new h =
-      let a = ahead_number (elements_in bucket) (contents_in bucket) f below (split bucket f below old rest) in
-      rw h.1 (next_stays (elements_in bucket) (index_of (contents_in bucket) (f ∷ below)) (omega (arith, a)) (omega (arith, a, ap length h.0)))
+  go_moves false None (f ∷ below) frames old rest some new h = grind (arith, ahead_number (elements_in bucket) (contents_in bucket) f below (split bucket f below old rest))
   go_moves false (Some leaf) (f ∷ below) (g ∷ under) old rest some new h =
       let s = split bucket f below old rest in
       let a = ahead_number (elements_in bucket) (contents_in bucket) f below s in

@@ -55,9 +55,7 @@ module _ (file : List ℕ) (meta : Meta) (trees : HasSoundTrees file meta) where
               (leaf.view, leaf.at, leaf.is, subst (λ (es : List LeafElement). Contains es x) (sym leaf.leaves) (contains_from_has v.entries x k)),
             );
       }
-  visit_is (Inline_page elements) v is (inl e) =
-      let same : elements ≡ v.entries = ap (λ (w : TourPage). w.entries) e in
-      grind (arith, inline_rises, contains_from_has)
+  visit_is (Inline_page elements) v is (inl e) = grind (arith, inline_rises, contains_from_has)
   visit_is (Inline_page elements) v is (inr x) = absurd x
 
   pub start_rises : (start : Start) → IsStart file meta start → RisesBy IsApart (pages_at file meta start)

@@ -1,9 +1,9 @@
 -- The entry that a trail rests on: an element of the page on top of its stack.
 use Rattle.std.proofs.Common.{rules, ◌≡◌, ◌∙◌, ℕ, suc, ◌-◌, ◌≤◌, Bool, true, false, List, [], ◌∷◌, ◌++◌, Some, None, Option, slice_get, length, take, refl, sym, ap, subst, arith}
-use Rattle.bolt_tree.proofs.Words.{Bucket, BucketView, Checked, Contains, Cursor, Content, Frame, HasStack, HasStart, HasTrail, IsAtRest, IsLeafContent, IsOn, IsResting, Leaf, LeafElement, MatchOption, Place, Position, RestsOn, Trail, content_length, contents_in, cursor_checked, cursor_place, cursor_start, cursor_trail, elements_in, entries_of, frame_of, frames_of, leaf_view, none-some, opened_content, option_map, pager_checked, place_by, props, slice_get_within, start_at, start_of, take_all, take_next, trail_bucket, trail_frames, ∥∥₁_elim, ∥∥₁_map}
+use Rattle.bolt_tree.proofs.Words.{BucketView, Checked, Contains, Cursor, Content, Frame, HasStack, HasStart, HasTrail, IsAtRest, IsLeafContent, IsOn, IsResting, Leaf, LeafElement, MatchOption, Place, Position, RestsOn, Trail, content_length, contents_in, cursor_checked, cursor_place, cursor_start, cursor_trail, elements_in, entries_of, frame_of, frames_of, leaf_view, none-some, opened_content, option_map, pager_checked, place_by, props, slice_get_within, start_at, start_of, take_all, take_next, trail_bucket, trail_frames, ∥∥₁_elim, ∥∥₁_map}
 use Rattle.bolt_tree.proofs.{BucketWays.starts_below, EntryOrder.contains_at, PlaceMoves.current, PlaceMoves.the_entries}
 use Rattle.bolt_tree.proofs.{RestingLemmas.past_empty, RestingLemmas.resting_bucket, RestingLemmas.resting_stack, TrailLemmas.frames_push, RisingEntries.tour_entries}
-use Rattle.bolt_tree.specs.{Lookups.IsBucketOf, Lookups.IsBucketOn, Places.IsEntryAt, Places.entry_at}
+use Rattle.bolt_tree.specs.{Places.IsEntryAt, Places.entry_at}
 
 -- the last position of a stack is its top
 last_on : (items : List Position) (top : Position) → slice_get items (length items - 1) ≡ Some top → frames_of items ≡ frame_of top ∷ frames_of (take (length items - 1) items)
@@ -64,10 +64,6 @@ module _ (trail : Trail) (is_past : Bool) (resting : ∥ IsResting trail is_past
 module _ (cursor : Cursor) (checked : Checked) (same : cursor_checked cursor ≡ checked) where
   abbrev IsHere : Checked → Option LeafElement → Type 0
   IsHere file found = IsEntryAt (entries_of file) (cursor_start cursor) (cursor_place cursor) found
-
-  pub bucket_here : (found : Option LeafElement) (inner : Option Bucket) → IsHere (cursor_checked cursor) found → IsBucketOf found inner
-      → IsBucketOn (entries_of checked) (cursor_start cursor) (cursor_place cursor) inner
-  bucket_here found inner at is = search rules
 
   pub begins_here : (e : LeafElement) → IsHere (cursor_checked cursor) (Some e) → e.is_bucket ≡ true → HasStart checked (start_of e.value)
   unfolding cursor_checked cursor_start

@@ -98,15 +98,7 @@ module _ (file : List ℕ) (meta : Meta) (trees : HasSoundTrees file meta) where
   tour_branch n number address elements is = ap (tour (content_at file meta) (suc n) address) is
 
   itself : (number depth : ℕ) (address : List ℕ) (v : TourPage) → IsOnWay file meta number depth → visit_of address (content_at file meta number) ≡ v → IsUnder file meta number address v
-  itself number depth address v on e = record {
-    rest = [];
-    page = number;
-    depth = depth;
-    from = sym (ap (λ (w : TourPage). w.address) e) ∙ sym (append-nil address);
-    led = refl;
-    shown = ap (λ (w : TourPage). w.entries) e;
-    on = on;
-  }
+  itself number depth address v on e = grind (arith, append-nil address)
 
   -- each page of the tour is led to
   pub tour_led : (n number depth : ℕ) (address : List ℕ) (v : TourPage) → IsOnWay file meta number depth → 64 ≤ depth + n

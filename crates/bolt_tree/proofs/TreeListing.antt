@@ -137,10 +137,7 @@ module _ (Entry : Start → LeafElement → Type 0) where
       grind (arith, behind_key)
 
   pub listing_rises : (tree : Tree) (entries : List LeafElement) → Shows Entry tree entries → Rises entry_cmp entries → (front : Path) → Rises member_cmp (listing_below front tree)
-  listing_rises (with_value key value after) (e ∷ entries) (b, k, v, more) r front = (
-    λ m h. subst (λ (j : Key). path_cmp (front ++ j ∷ []) m.0 ≡ Less) k (before_after e entries after more r.0 front [] m h),
-    listing_rises after entries more r.1 front,
-  )
+  listing_rises (with_value key value after) (e ∷ entries) (b, k, v, more) r front = grind (arith, before_after, listing_rises after entries more r.1 front)
   listing_rises (with_bucket key sequence inside after) (e ∷ entries) (b, k, q, (own_entries, are, shows), more) r front =
       let deep : List Member = listing_below (front ++ key ∷ []) inside in
       let behind : List Member = listing_below front after in

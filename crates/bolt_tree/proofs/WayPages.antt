@@ -16,10 +16,7 @@ content_is file meta number view k at is = content_shown file meta number view a
 -- the same, as the code opens it
 pub content_opened : (file : List ℕ) (meta : Meta) (number : ℕ) (view : PageView) (page : TreePage) → page_at file meta number ≡ Some view → shown_page page ≡ view
     → opened_content page ≡ content_at file meta number
-content_opened file meta number view page at shown = opened page ∙ ap content_of shown ∙ sym (content_shown file meta number view at) where
-  opened : (p : TreePage) → opened_content p ≡ content_of (shown_page p)
-  opened (Branch branch) = refl
-  opened (Leaf leaf) = refl
+content_opened file meta number view page at shown = grind (arith, content_shown file meta number view)
 
 -- its keys
 pub keys_opened : (page : TreePage) → page_keys page ≡ content_keys (opened_content page)

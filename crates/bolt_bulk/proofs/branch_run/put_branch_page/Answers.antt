@@ -1,6 +1,6 @@
-use Rattle.std.proofs.Common.{◌+◌, ◌*◌, ◌<◌, arith, length}
+use Rattle.std.proofs.lemmas.Grind.{common_steps}
+use Rattle.std.proofs.Common.{arith}
 use Rattle.std.proofs.lemmas.List.{length-map}
-use Rattle.bolt_bulk.specs.Private.{data_size, length_end}
 use Rattle.bolt_bulk.proofs.{BranchPuts.branch_run_wrote, BranchPuts.branch_size, BranchPuts.key_of, BranchPuts.no_length, ElementPuts.nothing_asked, PutsLemmas.puts}
 use Rattle.bolt_bulk.proofs.branch_run.put_branch_page.Goals as goal
 
@@ -8,10 +8,7 @@ pub put_elements-requires-clause-held : goal.put_elements-requires-clause-held
 put_elements-requires-clause-held g c = nothing_asked c.as_slice-branches.result.now
 
 pub put_elements-requires-clause-size : goal.put_elements-requires-clause-size
-put_elements-requires-clause-size g c =
-    let size = branch_size c.args.run.now.elements.items in
-    let small : 16 * length c.args.run.now.elements.items + data_size key_of no_length c.args.run.now.elements.items < length_end = grind (arith, length-map, c.requires.sized, c.requires.small) in
-    rw c.as_slice-branches.ensures.value small
+put_elements-requires-clause-size g c = grind (arith, common_steps, branch_size, key_of, no_length, length-map)
 
 pub returns-in_err-zeros-clause-page : goal.returns-in_err-zeros-clause-page
 returns-in_err-zeros-clause-page g c = grind (arith, puts, branch_run_wrote)

@@ -1,5 +1,5 @@
 use Rattle.bolt_check.proofs.Words.{bytes_of, meta_of, props, shown, ∥∥₁_elim}
-use Rattle.std.proofs.Common.{refl}
+use Rattle.std.proofs.Common.{rules}
 use Rattle.bolt_check.proofs.{KnownPages.is_tree, KnownPages.opened_as, KnownPages.some_tree, NodeLemmas.node_shown, TourSums.enough_shown}
 use Rattle.bolt_check.proofs.leaf_depth.known_page.Goals as goal
 
@@ -14,6 +14,4 @@ unwrap-requires c =
     ∥∥₁_elim c.requires (Prim.hlevel props) (λ (steps, h). some_tree c.tree_page.result _ (is_tree _ _ _ (shown c.known-page.result) at steps h) c.tree_page.ensures.none)
 
 pub returns : goal.returns
-returns c =
-    let at = rw (c.bytes.ensures, c.meta.ensures) at c.known-page.ensures in
-    node_shown _ _ _ (shown c.known-page.result) c.unwrap.result at (opened_as c.tree_page.result _ _ (shown c.known-page.result) c.unwrap.ensures refl c.tree_page.ensures.some)
+returns c = search (rules, node_shown, opened_as)

@@ -1,5 +1,5 @@
 use Rattle.std.proofs.Common.{◌∙◌, ◌<◌, ℕ, Global, Vec, append-nil, length, nat_le, sym, ap, arith}
-use Rattle.std.proofs.{lemmas.Bool.le-leb, lemmas.Bool.lt-leb, lemmas.List.take_all}
+use Rattle.std.proofs.{lemmas.Bool.le-leb, lemmas.Bool.lt-leb}
 use Rattle.bolt_check.proofs.{ListedIds.past_more, Words.shown_ids, listed_pages.ids_from.Goals.else-first-id, listed_pages.ids_from.Goals.then-first-id+in_ok-push}
 use Rattle.bolt_check.proofs.listed_pages.ids_from.Goals as goal
 
@@ -11,6 +11,3 @@ loop-i-preserved c =
       | then-first-id+in_ok-push w ↦ ap (λ (v : Vec ℕ Global). v.items) w.past-is ∙ w.in_ok-push.ensures.items ∙ rw (le-leb c.args.first c.get-id.result w.if-first-id.true) at more
       | else-first-id w ↦ ap (λ (v : Vec ℕ Global). v.items) w.past-is ∙ sym (append-nil c.loop-i.past.items) ∙ rw (lt-leb c.args.first c.get-id.result w.if-first-id.false) at more
     ]
-
-pub returns : goal.returns
-returns c = rw (take_all c.loop-i.i (shown_ids c.args.ids) (omega arith)) at c.loop-i.invariant

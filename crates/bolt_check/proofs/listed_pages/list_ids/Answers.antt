@@ -1,6 +1,5 @@
 use Rattle.std.proofs.Common.{◌≡◌, ◌∙◌, ◌<◌, length, arith}
 use Rattle.bolt_check.proofs.{Words.shown_ids, Words.times_of, Words.use_at, ListedIds.times_before, ListedIds.times_more}
-use Rattle.std.proofs.lemmas.List.{take_all}
 use Rattle.bolt_check.proofs.listed_pages.list_ids.Goals as goal
 
 pub loop-i-preserved : goal.loop-i-preserved
@@ -15,9 +14,3 @@ loop-i-preserved c =
       kept = λ n none. let before = times_before (shown_ids c.args.ids) c.loop-i.i c.get.result n inside c.get.ensures none in
           now.kept n before.1 ∙ c.loop-i.invariant.kept n before.0;
     }
-
-pub returns-clause-times : goal.returns-clause-times
-returns-clause-times c = λ n h. rw (take_all c.loop-i.i (shown_ids c.args.ids) (omega arith)) at (c.loop-i.invariant.times n h)
-
-pub returns-clause-kept : goal.returns-clause-kept
-returns-clause-kept c = λ n none. c.loop-i.invariant.kept n (rw (take_all c.loop-i.i (shown_ids c.args.ids) (omega arith)) none)

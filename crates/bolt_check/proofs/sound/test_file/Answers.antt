@@ -1,7 +1,7 @@
 use Rattle.std.proofs.Common.{◌≢◌, List, [], subst, sym}
 use Rattle.bolt_check.proofs.{Words.AreAccountFindings, Words.Finding, Words.IsUsed, Words.merely, Words.node_at, RoleLemmas.uses_with, Shaping.shape_of}
 use Rattle.bolt_check.proofs.SoundLemmas.{findings_of_file, none_of, right_of, some_in, some_of, wrong_of}
-use Rattle.bolt_check.proofs.{MarkLemmas.table_wide, Visited.stored}
+use Rattle.bolt_check.proofs.{Visited.stored}
 use Rattle.bolt_check.proofs.sound.test_file.Goals as goal
 
 pub returns-clause-trees : goal.returns-clause-trees
@@ -37,6 +37,3 @@ returns-in-Some-clause-refused c =
           (findings_of_file c.args.file.now c.args.meta.now c.in_ok-table.table.items c.in_ok-findings.findings.items c.in_ok-table.ensures.covered (reported own)),
       some,
     )
-
-pub test_accounts-requires-clause-wide : goal.test_accounts-requires-clause-wide
-test_accounts-requires-clause-wide c = rw c.deref_mut.ensures.value (table_wide c.args.file.now c.args.meta.now c.in_ok-table.table.items c.in_ok-table.ensures.clean c.in_ok-table.ensures.room)

@@ -27,9 +27,6 @@ returns-clause-passes c = grind (arith, early_passes, overflow_shown)
 pub returns-clause-claims : goal.returns-clause-claims
 returns-clause-claims c = grind (arith, overflow_shown)
 
-pub overflow_add-last : goal.overflow_add-last
-overflow_add-last c = let room = in_room _ _ _ _ _ c.in_ok-node.ensures.within c.requires in omega (arith, room, c.overflow.ensures)
-
 pub first_claimed-requires-clause-within : goal.first_claimed-requires-clause-within
 first_claimed-requires-clause-within c = let room = in_room _ _ _ _ _ c.in_ok-node.ensures.within c.requires in omega (arith, room, c.overflow.ensures)
 

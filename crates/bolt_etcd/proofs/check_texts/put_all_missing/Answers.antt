@@ -1,10 +1,7 @@
-use Rattle.std.proofs.Common.{◌∙◌, ap, map, refl}
+use Rattle.std.proofs.Common.{◌∙◌, ap, map}
 use Rattle.bolt_etcd.specs.{CheckLines.missing_line, MissingLeft.GivesMissing, MissingLeft.missing_left}
-use Rattle.bolt_etcd.proofs.{ListedTexts.listed_fault, ListedTexts.listed_none, ListedTexts.listed_number, ListedTexts.listed_one, ListedTexts.listed_whole, RevisionSteps.moved_to}
+use Rattle.bolt_etcd.proofs.{ListedTexts.listed_fault, ListedTexts.listed_number, ListedTexts.listed_one, ListedTexts.listed_whole, RevisionSteps.moved_to}
 use Rattle.bolt_etcd.proofs.check_texts.put_all_missing.Goals as goal
-
-pub rest-init : goal.rest-init
-rest-init g c = record { checked = refl; start = refl; listed = λ entries are. listed_none c.args.sink.now _ _ refl }
 
 pub rest-preserved : goal.rest-preserved
 rest-preserved g c =

@@ -1,11 +1,8 @@
-use Rattle.std.proofs.Common.{◌∙◌, ap, map, refl}
+use Rattle.std.proofs.Common.{◌∙◌, ap, map}
 use Rattle.std.specs.Option.{option_map}
 use Rattle.bolt_etcd.specs.{CheckLines.other_line, Others.GivesOther, RevisionsLeft.ahead_of, ShownOthers.shown_other}
-use Rattle.bolt_etcd.proofs.{ListedTexts.listed_fault, ListedTexts.listed_none, ListedTexts.listed_number, ListedTexts.listed_one, ListedTexts.listed_whole, RevisionSteps.moved_to}
+use Rattle.bolt_etcd.proofs.{ListedTexts.listed_fault, ListedTexts.listed_one, RevisionSteps.moved_to}
 use Rattle.bolt_etcd.proofs.check_texts.put_others.Goals as goal
-
-pub rest-init : goal.rest-init
-rest-init g c = record { checked = refl; start = refl; listed = λ entries are. listed_none c.args.sink.now _ _ refl }
 
 pub rest-preserved : goal.rest-preserved
 rest-preserved g c =
@@ -21,13 +18,3 @@ pub returns-in_err-put_other-clause-written : goal.returns-in_err-put_other-clau
 returns-in_err-put_other-clause-written g c = λ entries are.
     let given = moved_to _ _ _ _ (λ entries. GivesOther (ahead_of c.rest.pass entries) (ahead_of c.next_other.new.self entries) (option_map shown_other c.next_other.result)) c.rest.invariant.checked c.rest.invariant.start c.next_other.ensures.given in
     listed_fault (c.rest.invariant.listed entries are) _ _ _ (ap (map other_line) (rw c.in-Some.is at (given entries are))) c.in_err-put_other.ensures c.from_residual.ensures.0
-
-pub returns-clause-written : goal.returns-clause-written
-returns-clause-written g c = λ entries are.
-    let given = moved_to _ _ _ _ (λ entries. GivesOther (ahead_of c.rest.pass entries) (ahead_of c.next_other.new.self entries) (option_map shown_other c.next_other.result)) c.rest.invariant.checked c.rest.invariant.start c.next_other.ensures.given in
-    listed_whole (c.rest.invariant.listed entries are) (ap (map other_line) (rw c.in_default.is at (given entries are)).0)
-
-pub returns-clause-number : goal.returns-clause-number
-returns-clause-number g c = λ entries are.
-    let given = moved_to _ _ _ _ (λ entries. GivesOther (ahead_of c.rest.pass entries) (ahead_of c.next_other.new.self entries) (option_map shown_other c.next_other.result)) c.rest.invariant.checked c.rest.invariant.start c.next_other.ensures.given in
-    listed_number (c.rest.invariant.listed entries are) (ap (map other_line) (rw c.in_default.is at (given entries are)).0)

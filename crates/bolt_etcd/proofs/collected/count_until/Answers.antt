@@ -1,19 +1,9 @@
-use Rattle.std.proofs.Common.{◌≡◌, ◌∙◌, List, ap, arith, length, lit<, sym}
+use Rattle.std.proofs.Common.{◌∙◌, List, ap, arith, length, sym}
 use Rattle.bolt_check.specs.Counts.{counted}
-use Rattle.bolt_format.specs.Elements.{LeafElement}
 use Rattle.bolt_tree.proofs.Exports.{counted_more, drops, keeps}
 use Rattle.bolt_etcd.specs.{Newest.is_until, Newest.until, Revisions.RevisionView, RevisionsLeft.ahead_of, ShownRevisions.shown_revision, Stores.revisions}
-use Rattle.bolt_etcd.proofs.{RevisionSteps.moved_to, RevisionLoops.given_in, RevisionLoops.passed_more, RevisionLoops.passed_none}
+use Rattle.bolt_etcd.proofs.{RevisionLoops.given_in, RevisionLoops.passed_more}
 use Rattle.bolt_etcd.proofs.collected.count_until.Goals as goal
-
-pub rest-init : goal.rest-init
-rest-init c = record {
-  passed = passed_none c.args.bucket.now c.of-revisions.result c.of-revisions.ensures.checked c.of-revisions.ensures.start c.of-revisions.ensures.all c.of-revisions.ensures.others;
-  fits = lit< tt;
-  all = λ entries are.
-      ap (λ (es : List LeafElement). counted 0 (length (until c.args.up_to (revisions es))))
-      (moved_to _ _ _ _ (λ es. ahead_of c.of-revisions.result es ≡ es) c.of-revisions.ensures.checked c.of-revisions.ensures.start c.of-revisions.ensures.all entries are);
-}
 
 pub rest-preserved-then-is_until : goal.rest-preserved-then-is_until
 rest-preserved-then-is_until c =

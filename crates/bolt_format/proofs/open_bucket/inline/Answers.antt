@@ -1,16 +1,11 @@
-use Rattle.std.proofs.Common.{◌∙◌, ℕ, List, ap}
+use Rattle.std.proofs.Common.{rules, ◌∙◌, ℕ, List, ap}
 use Rattle.std.proofs.lemmas.List.{take_rest}
 use Rattle.bolt_format.specs.{Elements.leaf_elements, Headers.count_field, TreePages.leaves_on}
 use Rattle.bolt_format.proofs.GoodPages.{flat_elements, flat_leaves, good_elements}
 use Rattle.bolt_format.proofs.open_bucket.inline.Goals as goal
 
 pub invariant_of-result : goal.invariant_of-result
-invariant_of-result c =
-    let value = c.args.value.now in
-    record {
-      good = flat_leaves _ _ (good_elements value _ c.read-header.ensures.count c.requires.bucket c.requires.inline)
-          (flat_elements value _ c.read-header.ensures.count c.requires.bucket c.requires.inline);
-    }
+invariant_of-result c = search (rules, flat_leaves, good_elements, flat_elements)
 
 pub returns-clause-elements : goal.returns-clause-elements
 unfolding leaves_on

@@ -1,4 +1,4 @@
-use Rattle.std.proofs.Common.{List, map, ap, rules, subst, sym}
+use Rattle.std.proofs.Common.{List, rules, subst, sym}
 use Rattle.bolt_job.proofs.Vocabulary.{IsCommand, Rule, argument_rule, command_with, take_all}
 use Rattle.bolt_job.proofs.CommandLineLemmas.{argument_added, made_more}
 use Rattle.bolt_job.proofs.command_line.command.Goals as goal
@@ -14,8 +14,4 @@ loop-argument-preserved c =
     (argument_added _ _ _ _ _ _ c.loop-argument.invariant c.arg_of.ensures.rule c.arg_of.ensures.local c.in_ok-command.ensures)
 
 pub returns : goal.returns
-returns c =
-    let syntax = c.args.syntax.now in
-    subst (λ (rules : List Rule). IsCommand (command_with syntax.name.now rules) c.loop-argument.command)
-    (ap (map argument_rule) (take_all c.loop-argument.argument-index syntax.arguments.now c.loop-argument-test.false))
-    c.loop-argument.invariant
+returns c = search (rules, take_all)

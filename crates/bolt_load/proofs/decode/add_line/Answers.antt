@@ -13,12 +13,6 @@ returns-clause-fault c =
     shape_is_right c.args.line.now (hex_path_in c.in-Some.words.path.now) (word_item c.in-Some.words.item) c.in-Some.ensures.member (sym c.in_ok-decode_words.ensures.good ∙ c.if-not-branch.false)
     c.has_long_key.result c.is_long_item.result c.has_long_key.ensures c.is_long_item.ensures c.if-has_long_key.false c.if-is_long_item.false
 
-pub returns-then-not-branch-clause-added : goal.returns-then-not-branch-clause-added
-returns-then-not-branch-clause-added c = rw c.in-Some.ensures.member c.in_ok-decode_words.ensures.added
-
-pub returns-then-has_long_key-clause-added : goal.returns-then-has_long_key-clause-added
-returns-then-has_long_key-clause-added c = rw c.in-Some.ensures.member c.in_ok-decode_words.ensures.added
-
 pub returns-then-is_long_item-clause-added : goal.returns-then-is_long_item-clause-added
 returns-then-is_long_item-clause-added c = rw c.in-Some.ensures.member c.in_ok-decode_words.ensures.added
 

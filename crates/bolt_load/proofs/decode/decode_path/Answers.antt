@@ -2,12 +2,9 @@
 use Rattle.std.proofs.Common.{arith, ◌≡◌, Bool, subst}
 use Rattle.std.proofs.{lemmas.Grind.common_steps, lemmas.Result.on_ok_weaker}
 use Rattle.bolt_load.proofs.Words.{is_some, option_map, part_in}
-use Rattle.bolt_load.proofs.PathLemmas.{bad_part, is_none, none_added, part_added, path_added, path_good}
+use Rattle.bolt_load.proofs.PathLemmas.{bad_part, is_none, part_added, path_added, path_good}
 use Rattle.std.specs.Prelude.{IfOk}
 use Rattle.bolt_load.proofs.decode.decode_path.Goals as goal
-
-pub loop-part-init : goal.loop-part-init
-loop-part-init c = none_added c.args.word.now c.args.bytes.now.items
 
 pub returns-then-not-branch-clause-good : goal.returns-then-not-branch-clause-good
 returns-then-not-branch-clause-good c = grind (arith, common_steps, bad_part, is_none, part_in, is_some, option_map)

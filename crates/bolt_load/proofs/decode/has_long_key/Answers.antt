@@ -1,12 +1,9 @@
 -- One part after another is tested.
-use Rattle.bolt_load.proofs.PathLemmas.{long_end, long_here, none_short, short_here}
+use Rattle.bolt_load.proofs.PathLemmas.{long_end, long_here, short_here}
 use Rattle.bolt_load.proofs.decode.has_long_key.Goals as goal
 
 pub returns-then-part-gt-MAX_KEY_LEN : goal.returns-then-part-gt-MAX_KEY_LEN
 returns-then-part-gt-MAX_KEY_LEN c = long_here c.args.word.now c.loop-part.rest.now c.loop-part.invariant c.in-Some.part.now c.in-Some.after.now c.in-Some.ensures c.if-part-gt-MAX_KEY_LEN.true
-
-pub loop-part-init : goal.loop-part-init
-loop-part-init c = none_short c.args.word.now
 
 pub loop-part-preserved : goal.loop-part-preserved
 loop-part-preserved c = short_here c.args.word.now c.loop-part.rest.now c.loop-part.invariant c.in-Some.part.now c.in-Some.after.now c.in-Some.ensures c.if-part-gt-MAX_KEY_LEN.false

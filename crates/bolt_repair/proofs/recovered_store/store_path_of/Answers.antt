@@ -1,4 +1,4 @@
-use Rattle.std.proofs.Common.{codes, sym, ◌∙◌}
+use Rattle.std.proofs.Common.{rules, codes, sym, ◌∙◌}
 use Rattle.bolt_repair.proofs.StorePaths.{both_keys, first_key, one_key}
 use Rattle.bolt_repair.proofs.recovered_store.store_path_of.Goals as goal
 
@@ -9,6 +9,4 @@ pub returns-in-len2 : goal.returns-in-len2
 returns-in-len2 c = first_key c.args.path.now _ _ (codes "key") c.in-len2.len_at_least c.in-len2.len_below (sym c.if-eq-2.true ∙ c.eq-then-path-lt3.ensures)
 
 pub returns-in-len2-2 : goal.returns-in-len2-2
-returns-in-len2-2 c =
-    both_keys c.args.path.now _ _ (codes "meta") (codes "scheduledCompactRev") c.in-len2.len_at_least c.in-len2.len_below (sym c.if-eq-3.true ∙ c.eq-then-path-lt3-2.ensures)
-    (sym c.if-eq-4.true ∙ c.eq-then-eq-3.ensures)
+returns-in-len2-2 c = search (rules, both_keys)

@@ -1,8 +1,8 @@
 -- What is written stands before what is still to be looked at.
-use Rattle.std.proofs.Common.{◌≡◌, ◌∙◌, ◌<◌, ◌+◌, ◌&&◌, Bool, List, false, inl, inr, ap, arith, drop, length, map, subst, sym}
+use Rattle.std.proofs.Common.{rules, ◌≡◌, ◌∙◌, ◌<◌, ◌+◌, ◌&&◌, Bool, List, false, inl, inr, ap, arith, drop, length, map, subst, sym}
 use Rattle.std.proofs.lemmas.Bool.{and_right}
 use Rattle.bolt_etcd.specs.{ShownRevisions.entry_of, declared.revision.Revision.Revision}
-use Rattle.bolt_repair.specs.Undisputed.{AreUndisputed, HaveKeys, is_last_of_key}
+use Rattle.bolt_repair.specs.Undisputed.{HaveKeys, is_last_of_key}
 use Rattle.bolt_repair.proofs.Alones.{IsNext, all_counted, all_told, are_undisputed, count_keys, counted, have_keys, not_counted, passed, written}
 use Rattle.bolt_repair.proofs.undisputed.keep_undisputed.Goals.{else-is_first, else-is_last-2, then-is_first+then-is_last, then-is_last-2}
 use Rattle.bolt_repair.proofs.undisputed.keep_undisputed.Goals as goal
@@ -39,10 +39,7 @@ loop-i-preserved c =
     }
 
 pub returns-clause-undisputed : goal.returns-clause-undisputed
-returns-clause-undisputed c =
-    let whole = map entry_of c.args.candidates.now.items in
-    let all = all_told whole c.loop-i.candidates.items c.loop-i.i c.loop-i.kept c.loop-i.is_first (omega arith) c.loop-i.invariant.told in
-    subst (AreUndisputed whole) (sym (ap (map entry_of) c.truncate.ensures.items ∙ all)) (are_undisputed whole c.requires)
+returns-clause-undisputed c = search (rules, all_told, are_undisputed)
 
 pub returns-clause-keys : goal.returns-clause-keys
 returns-clause-keys c =

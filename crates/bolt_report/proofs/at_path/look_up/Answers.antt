@@ -1,4 +1,4 @@
-use Rattle.std.proofs.Common.{◌≡◌, ◌∙◌, ◌∷◌, ◌||◌, ◌==◌, Bool, Bor, List, ap, length, sym, ℕ}
+use Rattle.std.proofs.Common.{rules, ◌≡◌, ◌∙◌, ◌∷◌, ◌||◌, Bool, ap, sym}
 use Rattle.std.proofs.{lemmas.List.length-map, Math.Bool.or-false}
 use Rattle.bolt_report.proofs.Words.{Member, Value, is_bucket_at, list_any, path_of}
 use Rattle.bolt_report.proofs.LookUps.{bucket_next, first_there, later_there, none_as, none_later, not_first, some_as, some_later}
@@ -7,17 +7,7 @@ use Rattle.bolt_tree.specs.ShownEntries.{item_view}
 use Rattle.bolt_report.proofs.at_path.look_up.Goals as goal
 
 pub members-init : goal.members-init
-members-init g c =
-    let root : (length (path_of c.parents_of-parents.result.now) == 0) ≡ c.is_empty-has_bucket.result =
-    ap (λ (n : ℕ). n == 0) (length-map c.parents_of-parents.result.now (λ (part : Bor (List ℕ)). part.now)) ∙ sym c.is_empty-has_bucket.ensures in
-    record {
-      same = λ whole. (λ is. is, λ is. is);
-      end = λ end is. is;
-      kept = λ whole lists m has. has;
-      value = tt;
-      none = λ whole lists value has. has;
-      bucket = λ whole lists. ap (λ (b : Bool). b || list_any (is_bucket_at (path_of c.parents_of-parents.result.now)) (g.M.Members.left c.args.members.now whole)) root;
-    }
+members-init g c = search (rules, length-map, list_any)
 
 pub members-preserved : goal.members-preserved
 members-preserved g c =

@@ -1,5 +1,5 @@
 -- Each entry that begins with the prefix has its line written, and the first that doesn't ends the text.
-use Rattle.std.proofs.Common.{◌∙◌, [], Option, None, suc, ap, sym, arith}
+use Rattle.std.proofs.Common.{rules, ◌∙◌, [], Option, None, suc, ap, sym, arith}
 use Rattle.bolt_report.proofs.Words.{cursor_bucket, cursor_opened, cursor_place, EntryView, Form, front_more, front_whole, keys_text, props, shown_entry, value_text, Wrote-none, Wrote-same, ∥∥₁_elim}
 use Rattle.bolt_report.proofs.PrefixLemmas.{from_least}
 use Rattle.bolt_report.proofs.PrefixSteps.{all_opened, cursor_entries, fault_handed_on, fewer_shown, moved, next_first, none_shown, number_of, other_shown, sought, stage_next, stage_sought}
@@ -97,9 +97,7 @@ rest-preserved g c =
     }
 
 pub returns-clause-written : goal.returns-clause-written
-returns-clause-written g c = λ entries are.
-    let (n, done, shows, before) = c.rest.invariant.put entries are in
-    front_whole before (ap (keys_text c.args.form) (none_shown _ _ _ _ _ _ n done (rw c.in_default.is at shows)))
+returns-clause-written g c = search (rules, front_whole, none_shown)
 
 pub returns-clause-opens : goal.returns-clause-opens
 returns-clause-opens g c = λ entries seek gap are is gaps.

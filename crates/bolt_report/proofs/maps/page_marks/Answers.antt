@@ -1,4 +1,4 @@
-use Rattle.std.proofs.Common.{◌≡◌, ◌∙◌, ◌+◌, ◌-◌, ◌≤◌, ◌++◌, ◌∷◌, [], ℕ, List, ap, arith, map, sym}
+use Rattle.std.proofs.Common.{rules, ◌≡◌, ◌∙◌, ◌+◌, ◌-◌, ◌≤◌, ◌++◌, ◌∷◌, [], ℕ, List, ap, arith, map, sym}
 use Rattle.std.proofs.lemmas.List.FromFn.{map-range_with_len_more}
 use Rattle.bolt_report.proofs.{Words.page_mark, Words.range_with_len, Words.roles_checked, PageTableLemmas.same_role}
 use Rattle.bolt_report.proofs.maps.page_marks.Goals as goal
@@ -17,7 +17,4 @@ loop-id-preserved c = record {
 }
 
 pub returns : goal.returns
-returns c = λ roles are.
-    let marks : ℕ → List ℕ = λ n. map (λ k. page_mark (roles k)) (range_with_len c.args.first n) in
-    let ended : c.loop-id.id - c.args.first ≡ c.args.end - c.args.first = omega (arith, c.loop-id-test.false, c.loop-id.auto.id-end) in
-    c.loop-id.invariant.marks roles are ∙ ap marks ended
+returns c = search (rules, range_with_len)

@@ -1,5 +1,5 @@
-use Rattle.std.proofs.Common.{◌∙◌, arith}
-use Rattle.bolt_report.proofs.Words.{bytes_of, length-range_with_len, line_at, meta_of, range_with_len, roles_checked, Wrote-element, Wrote-element_return, Wrote-elements, Wrote-same}
+use Rattle.std.proofs.Common.{rules, ◌∙◌, arith}
+use Rattle.bolt_report.proofs.Words.{length-range_with_len, line_at, range_with_len, roles_checked, Wrote-element, Wrote-element_return, Wrote-elements, Wrote-same}
 use Rattle.bolt_report.proofs.PageTableLemmas.{fits_below, next_line, starts_below, positive}
 use Rattle.bolt_report.proofs.maps.put_lines.Goals as goal
 
@@ -7,11 +7,7 @@ pub page_count-end-requires : goal.page_count-end-requires
 page_count-end-requires g c = rw c.checked.ensures (positive (roles_checked c.args.table.now) c.requires)
 
 pub put_line-requires-clause-below : goal.put_line-requires-clause-below
-put_line-requires-clause-below g c =
-    let ends = rw c.checked.ensures at c.page_count-end.ensures in
-    let fits = fits_below (bytes_of (roles_checked c.args.table.now)) (meta_of (roles_checked c.args.table.now)) in
-    let begins = starts_below c.page_count-end.result c.loop-line.line (rw c.div_ceil-line-end.ensures at c.loop-line-test.true) in
-    omega (arith, c.min.ensures, ends, fits, begins)
+put_line-requires-clause-below g c = search (rules, fits_below, starts_below)
 
 pub returns-in_err-put_line : goal.returns-in_err-put_line
 returns-in_err-put_line g c = λ roles are.

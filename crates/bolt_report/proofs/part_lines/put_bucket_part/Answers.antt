@@ -1,6 +1,6 @@
 -- The bucket at the path comes before all that begins with the path, so nothing is missed before it is found.
-use Rattle.std.proofs.Common.{◌≡◌, ◌∙◌, ◌∷◌, ◌||◌, [], Bool, List, Bor, ap, sym, refl, length, ℕ, ◌==◌}
-use Rattle.bolt_report.proofs.Words.{front_more, is_bucket_at, item_view, length-map, lines_form, list_any, list_line, ListForm, listing_lines, Member, member_cmp, path_of, rest_from, Rises, Wrote-none, Wrote-same}
+use Rattle.std.proofs.Common.{rules, ◌≡◌, ◌∙◌, ◌∷◌, ◌||◌, Bool, List, ap, sym}
+use Rattle.bolt_report.proofs.Words.{front_more, is_bucket_at, item_view, length-map, lines_form, list_any, list_line, ListForm, listing_lines, Member, member_cmp, path_of, rest_from, Rises, Wrote-same}
 use Rattle.bolt_report.proofs.ListPartTexts.{iff_then, before_bucket, has_next, left_part, over_unwanted, with_wanted}
 use Rattle.bolt_text.proofs.Exports.{front_fault}
 use Rattle.bolt_format.proofs.Exports.{front_same}
@@ -8,44 +8,10 @@ use Rattle.bolt_report.proofs.part_lines.put_bucket_part.Goals as goal
 use Rattle.bolt_report.proofs.part_lines.put_bucket_part.Goals.{else-found-via-then-found+else-is_in_part, else-found-via-else-found}
 
 pub part-init : goal.part-init
-part-init g c =
-    let form = lines_form c.args.lines.now in
-    let below = path_of c.args.below.now in
-    let root : (length below == 0) ≡ c.is_empty-found.result = ap (λ (n : ℕ). n == 0) (length-map c.args.below.now (λ (part : Bor (List ℕ)). part.now)) ∙ sym c.is_empty-found.ensures in
-    record {
-      form = refl;
-      same = λ whole. (λ is. is, λ is. is);
-      end = λ end is. is;
-      has = λ whole is. ap (λ (b : Bool). b || list_any (is_bucket_at below) (g.M.Members.left c.args.members.now whole)) root;
-      rises = λ whole is up. up;
-      put = λ whole is up. record {
-        front = [];
-        parts = ap (λ (b : Bool). listing_lines form (rest_from (path_of c.args.from.now) (left_part below b (g.M.Members.left c.args.members.now whole)))) root;
-        wrote = Wrote-none c.args.sink.now;
-      };
-    }
+part-init g c = search (rules, length-map, list_any)
 
 pub part-preserved-then-is_in_part : goal.part-preserved-then-is_in_part
-part-preserved-then-is_in_part g c =
-    let below = path_of c.args.below.now in
-    let from = path_of c.args.from.now in
-    let m : Member = (g.M.Members.last_path c.next.new.self, item_view c.in-Some.item) in
-    let now = c.part.found || c.is_bucket_at-found.result in
-    let is : now ≡ (c.part.found || is_bucket_at below m) = ap (λ (b : Bool). c.part.found || b) (rw c.path.ensures at c.is_bucket_at-found.ensures) in
-    let both = sym (rw c.path-then-found.ensures at c.is_in_part.ensures) ∙ c.if-is_in_part.true in
-    let first : (whole : g.M.Members.Whole) → g.M.Members.reads c.args.members.now whole → g.M.Members.left c.part.members whole ≡ m ∷ g.M.Members.left c.next.new.self whole =
-    λ whole lists. (rw c.in-Some.is at c.in_ok-item.ensures.given) whole ((c.part.invariant.same whole).1 lists) in
-    record {
-      form = c.put.ensures.form ∙ c.part.invariant.form;
-      same = λ whole. iff_then (c.next.ensures.reads whole) (c.part.invariant.same whole);
-      end = λ end is. c.part.invariant.end end (c.next.ensures.same_end end is);
-      has = λ whole lists. rw (first whole lists) at (c.part.invariant.has whole lists) ∙ has_next below c.part.found now m _ is;
-      rises = λ whole lists up. (rw (first whole lists) at (c.part.invariant.rises whole lists up)).1;
-      put = λ whole lists up.
-          front_more (rw (first whole lists) at (c.part.invariant.put whole lists up))
-          (Wrote-same (ap (λ (f : ListForm). list_line f m) c.part.invariant.form) (rw c.path-then-is_in_part.ensures at c.in_ok-put.ensures.written))
-          (with_wanted below c.part.found now m _ is from (lines_form c.args.lines.now) c.if-found.true both);
-    }
+part-preserved-then-is_in_part g c = search (rules, iff_then, has_next, front_more, with_wanted)
 
 pub returns-in_err-put-clause-written : goal.returns-in_err-put-clause-written
 returns-in_err-put-clause-written g c = λ whole lists up.

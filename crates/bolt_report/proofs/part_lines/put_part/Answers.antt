@@ -1,16 +1,12 @@
 -- Each member that begins with the path has its line written, and the first that doesn't ends the text.
-use Rattle.std.proofs.Common.{◌∙◌, ap, sym, refl}
+use Rattle.std.proofs.Common.{rules, ◌∙◌, ap, sym}
 use Rattle.bolt_report.proofs.Words.{front_more, front_none, item_view, lines_form, list_line, ListForm, Member, path_of, Wrote-same}
 use Rattle.bolt_report.proofs.ListPartTexts.{iff_then, front_text}
 use Rattle.bolt_text.proofs.Exports.{front_fault}
 use Rattle.bolt_report.proofs.part_lines.put_part.Goals as goal
 
 pub part-init : goal.part-init
-part-init g c = record {
-  form = refl;
-  same = λ whole. (λ is. is, λ is. is);
-  put = λ whole is. front_none c.args.sink.now _;
-}
+part-init g c = search (rules, front_none)
 
 pub part-preserved : goal.part-preserved
 part-preserved g c =

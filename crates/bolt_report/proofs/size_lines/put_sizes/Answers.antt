@@ -1,21 +1,12 @@
-use Rattle.std.proofs.Common.{◌∙◌, ap, subst, sym}
-use Rattle.bolt_report.proofs.Words.{AreSized, bucket_checked, bytes_of, entries_left, EntryView, fewer_left, Form, front_more, front_none, front_whole, meta_of, next_shows, next_stands, Place, sizes_text, Wrote-none, Wrote-same}
+use Rattle.std.proofs.Common.{rules, ◌∙◌, ap, sym}
+use Rattle.bolt_report.proofs.Words.{bucket_checked, EntryView, fewer_left, Form, front_more, front_none, front_whole, next_shows, next_stands, sizes_text, Wrote-none, Wrote-same}
 use Rattle.bolt_text.proofs.Exports.{front_fault, short_front, short_same}
 use Rattle.bolt_report.proofs.SizeLemmas.{bucket_line, cut, cut_text, no_line, value_line}
 use Rattle.bolt_tree.proofs.Exports.{stands_on}
 use Rattle.bolt_report.proofs.size_lines.put_sizes.Goals as goal
 
 pub rest-init : goal.rest-init
-rest-init g c = record {
-  checked = c.cursor-cursor.ensures.checked;
-  start = c.cursor-cursor.ensures.start;
-  form = c.new-items.ensures;
-  put = λ entries are sized stats. (
-    sized,
-    subst (λ (place : Place). AreSized (bytes_of (bucket_checked c.args.bucket.now)) (meta_of (bucket_checked c.args.bucket.now)) (entries_left entries place) sized) (sym c.cursor-cursor.ensures.place) stats,
-    front_none c.args.sink.now _,
-  );
-}
+rest-init g c = search (rules, front_none)
 
 pub rest-smaller : goal.rest-smaller
 rest-smaller g c = fewer_left c.args.bucket.now _ _ _ _ _ c.rest.invariant.checked c.rest.invariant.start c.in-Some.ensures.moves

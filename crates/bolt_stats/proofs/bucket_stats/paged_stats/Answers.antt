@@ -1,4 +1,4 @@
-use Rattle.std.proofs.Common.{◌≡◌, ◌∙◌, ◌∷◌, [], ℕ, List, ap, arith}
+use Rattle.std.proofs.Common.{rules, ◌≡◌, ◌∙◌, ◌∷◌, [], ℕ, List, ap, arith}
 use Rattle.bolt_stats.proofs.Words.{bytes_of, figure, meta_of, node_at, one, own_figure, roots_of, Stats, UnreadBucket, weight, ∥∥₁_elim, ∥∥₁_map, ∥∥₁_prop}
 use Rattle.bolt_stats.proofs.{FigureLemmas.figure_add, ReadDepths.bucket_end, ReadDepths.read_end}
 use Rattle.bolt_stats.proofs.ReadSums.{all_good, deepened, first_figure, first_fits, last_good, none_left, unread_popped, total_popped, zero_depth}
@@ -68,11 +68,7 @@ buckets-smaller c =
     omega (arith, sums, before, c.in_ok-read.ensures.fewer)
 
 pub returns-clause-stats : goal.returns-clause-stats
-returns-clause-stats c = λ f.
-    let whole = rw (none_left c.in_default.ensures.cases.0 c.in_default.ensures.rest c.in_default.ensures.items) at (c.buckets.invariant.stats f) in
-    omega (arith, whole, c.buckets.invariant.fits f)
+returns-clause-stats c = search (rules, none_left)
 
 pub returns-clause-depth : goal.returns-clause-depth
-returns-clause-depth c =
-    let whole = rw (none_left c.in_default.ensures.cases.0 c.in_default.ensures.rest c.in_default.ensures.items) at c.buckets.invariant.depth in
-    omega (arith, whole, c.buckets.invariant.depth_fits)
+returns-clause-depth c = search (rules, none_left)

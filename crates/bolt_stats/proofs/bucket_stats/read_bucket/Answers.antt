@@ -1,4 +1,4 @@
-use Rattle.std.proofs.Common.{◌≡◌, ◌∙◌, ◌+◌, ◌<◌, ◌++◌, ◌∷◌, [], ℕ, List, inl, inr, ap, arith, map, sym}
+use Rattle.std.proofs.Common.{rules, ◌≡◌, ◌∙◌, ◌+◌, ◌<◌, ◌++◌, ◌∷◌, [], ℕ, List, inl, inr, ap, arith, map, sym}
 use Rattle.bolt_stats.proofs.Words.{bytes_of, saturated, deepest_of, figure, greatest, inner_pages, inner_roots, meta_of, Node, unread_numbers, one, own_figure, props, total_of, unread_page, ∥∥₁_elim, ∥∥₁_map, ∥∥₁_prop}
 use Rattle.bolt_stats.proofs.{FigureLemmas.figure_add, ReadDepths.first_height, ReadDepths.numbers_opened, ReadDepths.read_deepest, ReadDepths.read_height}
 use Rattle.bolt_stats.proofs.ReadSums.{more_found, next_good, none_left, popped, read_good, read_sum, started, zero_figure}
@@ -85,9 +85,7 @@ pub returns-clause-good : goal.returns-clause-good
 returns-clause-good c = rw (none_left c.in_default.ensures.cases.0 c.in_default.ensures.rest c.in_default.ensures.items) at c.pages.invariant.good
 
 pub returns-clause-stats : goal.returns-clause-stats
-returns-clause-stats c = λ f.
-    let whole = rw (none_left c.in_default.ensures.cases.0 c.in_default.ensures.rest c.in_default.ensures.items) at (c.pages.invariant.stats f) in
-    omega (arith, whole, c.pages.invariant.fits f)
+returns-clause-stats c = search (rules, none_left)
 
 pub returns-clause-height : goal.returns-clause-height
 returns-clause-height c = let whole = rw (none_left c.in_default.ensures.cases.0 c.in_default.ensures.rest c.in_default.ensures.items) at c.pages.invariant.height in omega (arith, whole)

@@ -1,4 +1,4 @@
-use Rattle.std.proofs.Common.{◌∙◌, ◌+◌, ◌++◌, List, ℕ, ap, append-nil, arith, refl, sym}
+use Rattle.std.proofs.Common.{◌∙◌, ◌+◌, ◌++◌, List, ℕ, ap, append-nil, refl, sym}
 use Rattle.bolt_stats.proofs.Words.{branches_on, bytes_of, leaves_on, saturated, inline_depth, leaf_entry, meta_of, props, shown, UnreadPage, ∥∥₁_elim}
 use Rattle.bolt_format.specs.declared.tree_page.TreePage.TheVariants.{Branch, Leaf}
 use Rattle.bolt_check.specs.ShownNodes.{shown_node}

@@ -11,6 +11,3 @@ close-requires g c =
 
 pub returns-in_err-push_page-clause-closes : goal.returns-in_err-push_page-clause-closes
 returns-in_err-push_page-clause-closes g c = record { closes = closes_early c.from_residual.ensures.1 c.in_err-push_page.ensures.fault; up = search rules }
-
-pub returns-clause-closes : goal.returns-clause-closes
-returns-clause-closes g c = rw c.in_ok-push_page.ensures.run at c.close.ensures.closes

@@ -1,4 +1,5 @@
 -- The value goes to the bucket that may be inline, or that one is opened first, as it has no room.
+use Rattle.std.proofs.lemmas.Grind.{common_steps}
 use Rattle.std.proofs.Common.{map, arith}
 use Rattle.bolt_format.specs.ElementPlaces.{leaf_view}
 use Rattle.bolt_tree.specs.Tree.{Tree, with_value}
@@ -9,9 +10,7 @@ use Rattle.bolt_bulk.proofs.pass.Pass.take_value.Goals as goal
 -- a bucket that has no room for the value has a root page
 rooted : (g : _) (c : After-open_pending g) (wanted : Wanted) (after : Tree)
     → HasRoot wanted.which c.args.self.now.setup.page_size (onto (map leaf_view c.args.self.now.entries.items) (with_value c.args.key.now c.args.value.now after))
-rooted g c wanted after =
-    let small = small_of c.args.self.now.setup.page_size c.args.self.now.pending c.in-Some.pending c.args.self.now.entries.items c.in-Some.is c.requires.ready.pending in
-    grind (arith, full_rooted)
+rooted g c wanted after = grind (arith, common_steps, small_of, full_rooted)
 
 pub returns-then-len-lt-MAX_ITEMS-clause-steps : goal.returns-then-len-lt-MAX_ITEMS-clause-steps
 returns-then-len-lt-MAX_ITEMS-clause-steps g c = λ wanted after parents put is. steps_none c.keep_value.result is c.keep_value.ensures.fault (c.keep_value.ensures.keeps wanted after parents put is)

@@ -1,11 +1,10 @@
 -- Each run that closes is one step on; a run that stays, or the first new one, ends the climb.
 use Rattle.std.proofs.Common.{◌≡◌, ◌∙◌, ◌+◌, arith, refl}
-use Rattle.std.proofs.{lemmas.List.map-append, lemmas.List.map-set, lemmas.List.length-map, lemmas.List.length-set, lemmas.Result.err_from_is_err_and}
+use Rattle.std.proofs.{lemmas.List.map-set, lemmas.List.length-set, lemmas.Result.err_from_is_err_and}
 use Rattle.bolt_format.specs.ElementPlaces.{branch_view}
 use Rattle.bolt_layout.specs.{Levels.overflow_of, Limits.one_less}
 use Rattle.bolt_bulk.specs.Private.{no_run, one_closed, run_push, run_view}
-use Rattle.bolt_bulk.proofs.ClimbLemmas.{climb_closes, climb_over, climb_stays, climb_stops, no_room_by, room_by, run_at, standing_set, up_key}
-use Rattle.bolt_bulk.proofs.PutsLemmas.{writes_on}
+use Rattle.bolt_bulk.proofs.ClimbLemmas.{climb_closes, climb_stays, climb_stops, no_room_by, room_by, run_at, standing_set, up_key}
 use Rattle.bolt_bulk.proofs.upper_runs.UpperRuns.climb.Goals as goal
 
 pub take_page-requires-clause-standing : goal.take_page-requires-clause-standing
@@ -36,18 +35,3 @@ loop-i-preserved g c =
     let set_is = map-set run_view c.loop-i.self.runs.items c.loop-i.i c.take_page.new.self in
     let closes = climb_closes here.at c.loop-i.invariant.climbs here.within closed (rw c.loop-i.invariant.same.setup at c.in_ok-take_page.ensures.takes.writes.pages) in
     grind (arith, up_key, standing_set, length-set)
-
-pub returns-in_err-push_page-clause-climbs : goal.returns-in_err-push_page-clause-climbs
-returns-in_err-push_page-clause-climbs g c =
-    let over = climb_over c.loop-i.self.runs.items c.loop-i.invariant.climbs (omega arith) in
-    grind (arith, err_from_is_err_and, writes_on)
-
-pub returns-in_err-push-clause-climbs : goal.returns-in_err-push-clause-climbs
-returns-in_err-push-clause-climbs g c =
-    let over = climb_over c.loop-i.self.runs.items c.loop-i.invariant.climbs (omega arith) in
-    grind (arith, err_from_is_err_and, writes_on)
-
-pub returns-clause-climbs : goal.returns-clause-climbs
-returns-clause-climbs g c =
-    let over = climb_over c.loop-i.self.runs.items c.loop-i.invariant.climbs (omega arith) in
-    record { writes = over.0; runs = grind (arith, map-append, length-map); limits = c.loop-i.invariant.limits; marked = over.2 }

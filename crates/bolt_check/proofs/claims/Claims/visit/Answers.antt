@@ -1,11 +1,8 @@
-use Rattle.std.proofs.Common.{rules, ◌∙◌, ap, arith, length}
+use Rattle.std.proofs.Common.{◌∙◌, ap, arith, length}
 use Rattle.std.proofs.{lemmas.Grind.common_steps, lemmas.Result.on_err_weaker}
 use Rattle.bolt_check.proofs.{Words.claims_file, Words.unclaimed, Visited.stored}
 use Rattle.bolt_check.specs.Claims.{claims_length, claims_meta, is_claimed, pages_left}
 use Rattle.bolt_check.proofs.claims.Claims.visit.Goals as goal
-
-pub invariant_of-self : goal.invariant_of-self
-invariant_of-self c = search (rules, stored)
 
 pub returns-clause-length : goal.returns-clause-length
 unfolding claims_length

@@ -1,4 +1,5 @@
-use Rattle.std.proofs.Common.{inl, inr, refl, sym}
+use Rattle.std.proofs.lemmas.Grind.{common_steps}
+use Rattle.std.proofs.Common.{arith, inl, inr, refl}
 use Rattle.bolt_commands.specs.declared.failure.Failure.TheVariants as failure
 use Rattle.bolt_commands.proofs.{Doing.ends_as, ReadFiles.some_page_size}
 use Rattle.bolt_commands.proofs.opening.Input.search.Goals as goal
@@ -13,7 +14,4 @@ pub returns-in_err-both-clause-refused : goal.returns-in_err-both-clause-refused
 returns-in_err-both-clause-refused c = rw (ends_as _ failure.Memory c.from_residual-in_err-both.ensures.1) (inr (_, c.in_ok-meta.ensures.found, refl))
 
 pub returns-clause-searched : goal.returns-clause-searched
-returns-clause-searched c =
-    let both = c.in_ok-both.ensures in
-    let same = sym both.meta in
-    record { under = rw same at c.in_ok-meta.ensures.found; bytes = both.file; lost = rw same at both.lost; found = rw same at both.found; views = rw same at both.views }
+returns-clause-searched c = grind (arith, common_steps)

@@ -1,21 +1,11 @@
-use Rattle.std.proofs.Common.{◌≡◌, ◌∙◌, ◌++◌, List, ap, map, sym}
+use Rattle.std.proofs.Common.{◌∙◌, ◌++◌, List, ap, map, sym}
 use Rattle.std.proofs.lemmas.List.{append-nil}
 use Rattle.std.specs.Option.{option_map}
-use Rattle.bolt_format.specs.Elements.{LeafElement}
-use Rattle.bolt_etcd.specs.{Newest.is_until, Newest.until, Revisions.RevisionView, RevisionsLeft.ahead_of, ShownRevisions.shown_revision, Stores.revisions, declared.revision.Revision.Revision}
-use Rattle.bolt_etcd.proofs.{Currents.pushed, Currents.was_pushed, RevisionSteps.moved_to, RevisionLoops.counted_all, RevisionLoops.given_in, RevisionLoops.passed_more, RevisionLoops.passed_none}
+use Rattle.bolt_etcd.specs.{Newest.is_until, Newest.until, Revisions.RevisionView, RevisionsLeft.ahead_of, ShownRevisions.shown_revision, Stores.revisions}
+use Rattle.bolt_etcd.proofs.{Currents.pushed, Currents.was_pushed, RevisionLoops.counted_all, RevisionLoops.given_in, RevisionLoops.passed_more}
 use Rattle.bolt_etcd.proofs.collected.Collected.of.Goals.{else-is_until-via-else-is_until, else-is_until-via-then-is_until+else-is_err}
 use Rattle.bolt_tree.proofs.Exports.{drops, keeps}
 use Rattle.bolt_etcd.proofs.collected.Collected.of.Goals as goal
-
-pub rest-init : goal.rest-init
-rest-init c = record {
-  passed = passed_none c.args.bucket.now c.of-revisions.result c.of-revisions.ensures.checked c.of-revisions.ensures.start c.of-revisions.ensures.all c.of-revisions.ensures.others;
-  all = λ entries are.
-      ap (λ (l : List Revision). map shown_revision l ++ until c.args.up_to (revisions (ahead_of c.of-revisions.result entries))) c.in_ok-collected.ensures.items
-      ∙ ap (λ (es : List LeafElement). until c.args.up_to (revisions es))
-      (moved_to _ _ _ _ (λ es. ahead_of c.of-revisions.result es ≡ es) c.of-revisions.ensures.checked c.of-revisions.ensures.start c.of-revisions.ensures.all entries are);
-}
 
 pub rest-preserved : goal.rest-preserved
 rest-preserved c =

@@ -1,15 +1,12 @@
-use Rattle.std.proofs.Common.{◌≤◌, IfSome, Option, Some, None, length, sym, ap, ◌∙◌, arith}
+use Rattle.std.proofs.Common.{◌≤◌, Option, Some, None, length, sym, ap, ◌∙◌, arith}
 use Rattle.std.specs.Option.{option_to_list}
 use Rattle.bolt_etcd.specs.{MissingLeft.missing_number, RevisionsLeft.number_ahead, declared.missing.Missing.Missing}
+use Rattle.bolt_etcd.proofs.OtherSteps.{if_given}
 use Rattle.bolt_etcd.proofs.missing.MissingNumbers.next.Goals as goal
 
 at_most_one : (o : Option Missing) → length (option_to_list o) ≤ 1
 at_most_one None = omega arith
 at_most_one (Some m) = omega arith
-
-if_missing : {P : Type 0} (o : Option Missing) → P → IfSome o (λ _. P)
-if_missing None p = tt
-if_missing (Some m) p = p
 
 pub returns-in-Some-clause-fewer : goal.returns-in-Some-clause-fewer
 unfolding missing_number
@@ -22,4 +19,4 @@ returns-then-is_some-clause-fewer c =
     let before = c.rest.invariant.behind in
     let one = at_most_one c.step-missing.new.self.pending in
     let same = ap number_ahead c.step-missing.ensures.pass in
-    if_missing c.step-missing.result (omega (arith, less, before, one, same))
+    if_given c.step-missing.result (omega (arith, less, before, one, same))

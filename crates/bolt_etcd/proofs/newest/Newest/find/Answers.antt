@@ -1,18 +1,9 @@
-use Rattle.std.proofs.Common.{◌≡◌, ◌∙◌, List, None, ap, filter, sym}
+use Rattle.std.proofs.Common.{◌∙◌, List, None, ap, filter, sym}
 use Rattle.std.specs.{List.last_or, Option.option_map}
-use Rattle.bolt_format.specs.Elements.{LeafElement}
 use Rattle.bolt_etcd.specs.{Newest.is_named, Newest.is_of, Newest.is_until, Newest.newest, Revisions.RevisionView, RevisionsLeft.ahead_of, ShownRevisions.shown_revision, Stores.revisions}
-use Rattle.bolt_etcd.proofs.{LastOfAll.skips, LastOfAll.takes_last, RevisionSteps.moved_to, RevisionLoops.counted_all, RevisionLoops.given_in, RevisionLoops.passed_more, RevisionLoops.passed_none}
+use Rattle.bolt_etcd.proofs.{LastOfAll.skips, LastOfAll.takes_last, RevisionLoops.counted_all, RevisionLoops.given_in, RevisionLoops.passed_more}
 use Rattle.bolt_tree.proofs.Exports.{filter_both}
 use Rattle.bolt_etcd.proofs.newest.Newest.find.Goals as goal
-
-pub rest-init : goal.rest-init
-rest-init c = record {
-  passed = passed_none c.args.bucket.now c.of-revisions.result c.of-revisions.ensures.checked c.of-revisions.ensures.start c.of-revisions.ensures.all c.of-revisions.ensures.others;
-  last = λ entries are.
-      ap (λ (es : List LeafElement). last_or None (filter (is_of c.args.name.now c.args.up_to) (revisions es)))
-      (moved_to _ _ _ _ (λ es. ahead_of c.of-revisions.result es ≡ es) c.of-revisions.ensures.checked c.of-revisions.ensures.start c.of-revisions.ensures.all entries are);
-}
 
 pub rest-preserved-then-is_of : goal.rest-preserved-then-is_of
 rest-preserved-then-is_of c =

@@ -1,13 +1,10 @@
-use Rattle.std.proofs.Common.{◌∙◌, ap, ap₂, inl, inr, refl}
+use Rattle.std.proofs.Common.{◌∙◌, ap, ap₂, inr}
 use Rattle.std.specs.Option.{option_map}
 use Rattle.bolt_check.specs.Counts.{counted}
 use Rattle.bolt_tree.specs.ShownEntries.{shown_entry}
-use Rattle.bolt_etcd.proofs.RevisionSteps.{falls, goes_none, goes_on, none_counts, none_given, number_falls, opens_first, other_first, some_counts, some_given}
+use Rattle.bolt_etcd.proofs.RevisionSteps.{falls, goes_on, number_falls, opens_first, other_first, some_counts, some_given}
 use Rattle.bolt_etcd.specs.{RevisionsLeft.ahead_of, RevisionsLeft.pass_others, ShownRevisions.shown_revision}
 use Rattle.bolt_etcd.proofs.revisions.Revisions.next.Goals as goal
-
-pub rest-init : goal.rest-init
-rest-init c = record { goes = goes_none c.args.self.now; opens = inl refl }
 
 pub rest-smaller : goal.rest-smaller
 unfolding ahead_of
@@ -35,15 +32,6 @@ returns-in-Some-of-clause-counts c =
     some_counts c.args.self.now c.rest.self c.advance.new.self _ c.rest.invariant.goes c.advance.ensures.first (shown_entry c.in-Some.entry) (shown_revision c.in-Some-of.revision)
     (ap (option_map shown_entry) c.in-Some.is) c.in-Some-of.ensures.revision c.advance.ensures.others
 
-pub returns-clause-given : goal.returns-clause-given
-returns-clause-given c =
-    none_given c.args.self.now c.rest.self c.advance.new.self _ c.rest.invariant.goes c.advance.ensures.first (ap (option_map shown_entry) c.in_default.is)
-
-pub returns-clause-counts : goal.returns-clause-counts
-returns-clause-counts c =
-    none_counts c.args.self.now c.rest.self c.advance.new.self _ c.rest.invariant.goes c.advance.ensures.first (ap (option_map shown_entry) c.in_default.is)
-    c.advance.ensures.others
-
 pub returns-in-Some-of-clause-fewer : goal.returns-in-Some-of-clause-fewer
 returns-in-Some-of-clause-fewer c =
     number_falls c.args.self.now c.rest.self c.advance.new.self _ c.rest.invariant.goes c.advance.ensures.first (shown_entry c.in-Some.entry)
@@ -51,6 +39,3 @@ returns-in-Some-of-clause-fewer c =
 
 pub returns-in-Some-of-clause-opens : goal.returns-in-Some-of-clause-opens
 returns-in-Some-of-clause-opens c = opens_first c.args.self.now c.rest.self _ c.rest.invariant.opens c.advance.ensures.opens
-
-pub returns-clause-opens : goal.returns-clause-opens
-returns-clause-opens c = opens_first c.args.self.now c.rest.self _ c.rest.invariant.opens c.advance.ensures.opens

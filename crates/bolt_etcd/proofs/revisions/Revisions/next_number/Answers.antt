@@ -3,12 +3,9 @@ use Rattle.std.specs.Option.{option_map}
 use Rattle.std.specs.Prelude.{IfSome}
 use Rattle.bolt_tree.specs.ShownEntries.{shown_entry}
 use Rattle.bolt_etcd.specs.{Numbered.GivesNumber, Numbered.numbered_of, RevisionsLeft.ahead_of, RevisionsLeft.number_ahead, declared.revision_key.RevisionKey.RevisionKey}
-use Rattle.bolt_etcd.proofs.{NumberSteps.none_numbered, NumberSteps.some_numbered, PassSteps.goes_by_none, PassSteps.goes_by_one, PassSteps.none_shown, PassSteps.one_shown}
+use Rattle.bolt_etcd.proofs.{NumberSteps.none_numbered, NumberSteps.some_numbered, PassSteps.goes_by_one, PassSteps.one_shown}
 use Rattle.bolt_etcd.proofs.RevisionSteps.{goes_none, number_falls}
 use Rattle.bolt_etcd.proofs.revisions.Revisions.next_number.Goals as goal
-
-pub rest-init : goal.rest-init
-rest-init c = goes_by_none numbered_of c.args.self.now
 
 pub rest-smaller : goal.rest-smaller
 rest-smaller c =
@@ -41,8 +38,3 @@ returns-then-is_some-clause-fewer c =
     let all : number_ahead c.advance.new.self < number_ahead c.args.self.now = omega (arith, less, before) in
     some_numbered (λ (o : Option RevisionKey). IfSome o (λ _. number_ahead c.advance.new.self < number_ahead c.args.self.now)) c.number_of-key.result _
     (sym c.is_some.ensures ∙ c.if-is_some.true) c.number_of-key.ensures.key (λ r found. all)
-
-pub returns-clause-given : goal.returns-clause-given
-returns-clause-given c =
-    none_shown numbered_of c.args.self.now c.rest.self c.advance.new.self _ c.rest.invariant c.advance.ensures.checked c.advance.ensures.start c.advance.ensures.first
-    (ap (option_map shown_entry) c.in_default.is)

@@ -1,13 +1,10 @@
-use Rattle.std.proofs.Common.{Option, Some, ap, arith, refl, sym, ◌∙◌, ◌<◌}
+use Rattle.std.proofs.Common.{Option, Some, ap, arith, sym, ◌∙◌, ◌<◌}
 use Rattle.std.specs.Option.{option_map}
 use Rattle.bolt_tree.specs.ShownEntries.{shown_entry}
 use Rattle.bolt_etcd.specs.{Others.GivesOther, Others.OtherView, Others.other_of, RevisionsLeft.ahead_of, RevisionsLeft.number_ahead}
-use Rattle.bolt_etcd.proofs.{OtherSteps.if_other, OtherSteps.none_other, OtherSteps.some_other, PassSteps.goes_by_none, PassSteps.goes_by_one, PassSteps.none_shown, PassSteps.one_shown}
+use Rattle.bolt_etcd.proofs.{OtherSteps.if_given, OtherSteps.none_other, OtherSteps.some_other, PassSteps.goes_by_one, PassSteps.one_shown}
 use Rattle.bolt_etcd.proofs.RevisionSteps.{goes_none, number_falls}
 use Rattle.bolt_etcd.proofs.revisions.Revisions.next_other.Goals as goal
-
-pub rest-init : goal.rest-init
-rest-init c = record { goes = goes_by_none other_of c.args.self.now; others = refl }
 
 pub rest-smaller : goal.rest-smaller
 rest-smaller c =
@@ -37,9 +34,4 @@ returns-then-is_some-clause-fewer c =
     (ap (option_map shown_entry) c.in-Some.is) c.advance.ensures.checked c.advance.ensures.start in
     let before = c.rest.invariant.goes.behind in
     let all : number_ahead c.advance.new.self < number_ahead c.args.self.now = omega (arith, less, before) in
-    if_other c.of-other.result all
-
-pub returns-clause-given : goal.returns-clause-given
-returns-clause-given c =
-    none_shown other_of c.args.self.now c.rest.self c.advance.new.self _ c.rest.invariant.goes c.advance.ensures.checked c.advance.ensures.start c.advance.ensures.first
-    (ap (option_map shown_entry) c.in_default.is)
+    if_given c.of-other.result all

@@ -1,12 +1,10 @@
-use Rattle.std.proofs.Common.{◌≡◌, ◌∙◌, ℕ, ◌-◌, List, ◌++◌, length, take, drop, ap, sym, append_assoc, take-append-drop}
+use Rattle.std.proofs.Common.{rules, ◌≡◌, ℕ, ◌-◌, List, ◌++◌, length, take, drop, append_assoc, take-append-drop}
 use Rattle.std.proofs.{KnownBytes.Appends-trans, lemmas.List.take_rest}
 use Rattle.bolt_format.proofs.sink.WriteSinkSink.put.Goals as goal
 
 -- n more bytes go from the rest to the front
 front_grows : (all front rest : List ℕ) (n : ℕ) → all ≡ front ++ rest → all ≡ (front ++ take n rest) ++ take (length rest - n) (drop n rest)
-front_grows all front rest n e =
-    e ∙ ap (λ l. front ++ l) (sym (take-append-drop n rest)) ∙ sym (append_assoc front (take n rest) (drop n rest))
-    ∙ ap (λ l. (front ++ take n rest) ++ l) (sym (take_rest rest n))
+front_grows all front rest n e = search (rules, take-append-drop, append_assoc, take_rest)
 
 pub loop-rest-preserved : goal.loop-rest-preserved
 loop-rest-preserved g c =

@@ -4,12 +4,6 @@ use Rattle.bolt_tree.proofs.Exports.{walk_falls}
 use Rattle.bolt_recover.proofs.{Words.IfOk-weaker, Words.left_of, Words.on_err_weaker, Words.props, Words.walk_checked, SoundWalks.gives_prop, SoundWalks.walked}
 use Rattle.bolt_recover.proofs.kept.KeptMembers.next.Goals as goal
 
-pub returns-in-Recovery-clause-given : goal.returns-in-Recovery-clause-given
-returns-in-Recovery-clause-given c = rw c.in-Recovery.is c.next.ensures.given
-
-pub returns-in-Recovery-clause-same : goal.returns-in-Recovery-clause-same
-returns-in-Recovery-clause-same c = rw c.in-Recovery.is c.next.ensures.same
-
 pub returns-in-Sound-clause-given : goal.returns-in-Sound-clause-given
 returns-in-Sound-clause-given c =
     let walk = c.next-in-Sound in

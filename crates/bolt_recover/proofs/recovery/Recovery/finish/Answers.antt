@@ -1,5 +1,5 @@
 -- What was given is dropped too, and then the values after it; after the last member nothing is left.
-use Rattle.std.proofs.Common.{◌∙◌, List, [], ◌∷◌, ◌++◌, Result, OnErr, ap, append_assoc, refl, sym, arith}
+use Rattle.std.proofs.Common.{◌∙◌, List, [], ◌∷◌, ◌++◌, Result, OnErr, ap, append_assoc, sym, arith}
 use Rattle.bolt_recover.proofs.{Words.Member, Words.recovery_file, Words.recovery_left, Words.recovery_meta, Existing.recovers}
 use Rattle.bolt_recover.specs.Recoveries.{DropsFirst, LeavesRest}
 use Rattle.bolt_recover.proofs.recovery.Recovery.finish.Goals as goal
@@ -9,9 +9,6 @@ drops_on a b c (first, whole) (then, rest) = (first ++ then, whole ∙ ap (λ (m
 
 on_error : {T E : Type 0} (result : Result T E) (P : Type 0) → P → OnErr result P
 on_error result P p = grind arith
-
-pub loop-self-init : goal.loop-self-init
-loop-self-init c = record { file = refl; meta = refl; begun = refl; rest = λ listing recovered. ([], refl) }
 
 pub loop-self-preserved : goal.loop-self-preserved
 loop-self-preserved c =

@@ -1,6 +1,5 @@
 -- What was returned is looked at, and then all is reported.
-use Rattle.std.proofs.Common.{arith, ◌≡◌, ◌∙◌, [], length, ap, sym}
-use Rattle.bolt_check.specs.Counts.{counted}
+use Rattle.std.proofs.Common.{arith}
 use Rattle.bolt_recover.proofs.recovery.Recovery.look_through.Goals as goal
 
 pub loop-self-init : goal.loop-self-init

@@ -1,21 +1,10 @@
-use Rattle.std.proofs.Common.{arith, List, subst, sym, ℕ}
-use Rattle.bolt_recover.proofs.Words.{KeepsRoot, merely, recovery_begun, recovery_claimed, recovery_file, recovery_losses, recovery_meta, recovery_visited, visited_fits, ∥∥₁_elim}
-use Rattle.bolt_recover.proofs.Recovering.{claimed_ended, on_further, placed_prop, reported_ended, stays_advanced, visited_ended}
+use Rattle.std.proofs.Common.{arith}
+use Rattle.bolt_recover.proofs.Words.{recovery_begun, recovery_claimed, recovery_file, recovery_losses, recovery_meta, recovery_visited, visited_fits, ∥∥₁_elim}
+use Rattle.bolt_recover.proofs.Recovering.{claimed_ended, placed_prop, reported_ended, visited_ended}
 use Rattle.bolt_recover.proofs.recovery.Recovery.next.Goals as goal
 
 pub advance-requires : goal.advance-requires
 advance-requires c = ∥∥₁_elim c.args.self.now.placed (placed_prop c.args.self.now.steps) (λ placed. placed)
-
-pub invariant_of-self : goal.invariant_of-self
-invariant_of-self c =
-    let self = c.args.self.now in
-    let stays = stays_advanced _ _ c.advance.result c.advance.ensures.given c.advance.ensures.same in
-    record {
-      sized = self.sized;
-      placed = merely stays.placed;
-      on = on_further self.on stays;
-      root = subst (λ (file : List ℕ). ∥ KeepsRoot file self.meta ∥₁) (sym stays.file) self.root;
-    }
 
 pub returns-in-None-clause-all : goal.returns-in-None-clause-all
 unfolding recovery_file recovery_losses recovery_meta

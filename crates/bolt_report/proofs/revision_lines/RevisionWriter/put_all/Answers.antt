@@ -1,4 +1,4 @@
-use Rattle.std.proofs.Common.{◌∙◌, ◌+◌, drop, flat_map, map, arith, ap}
+use Rattle.std.proofs.Common.{rules, ◌∙◌, ◌+◌, drop, flat_map, map}
 use Rattle.std.proofs.lemmas.List.{drop_all}
 use Rattle.bolt_format.proofs.Exports.{front_more, front_whole, Wrote-same}
 use Rattle.bolt_text.proofs.Exports.{front_fault}
@@ -27,7 +27,4 @@ rest-preserved g c = record {
 }
 
 pub returns-clause-written : goal.returns-clause-written
-returns-clause-written g c =
-    let line = prefix_line c.args.prefix.now c.args.self.now.items.form c.args.self.now.values in
-    Wrote-same (named_lines _ _ _ (map shown_revision c.args.revisions.now))
-    (front_whole c.rest.invariant.put (ap (λ l. flat_map line (map shown_revision l)) (let past = c.rest-test.false in drop_all c.rest.revision-index c.args.revisions.now (omega (arith, past)))))
+returns-clause-written g c = search (rules, named_lines, front_whole, drop_all)

@@ -9,8 +9,5 @@ returns-in_err-put-clause-written g c = Wrote-fault (10 ∷ []) _ _ c.in_err-put
 pub returns-in_err-put-2-clause-written : goal.returns-in_err-put-2-clause-written
 returns-in_err-put-2-clause-written g c = Wrote-passed _ (Wrote-then c.in_ok-put.ensures.written c.in_err-put-2.ensures) c.from_residual-in_err-put-2.ensures.1
 
-pub returns-clause-written : goal.returns-clause-written
-returns-clause-written g c = Wrote-then c.in_ok-put.ensures.written c.in_ok-put-2.ensures
-
 pub returns-in_err-put-clause-short : goal.returns-in_err-put-clause-short
 returns-in_err-put-clause-short g c = short_fault (10 ∷ []) _ _ c.in_err-put.ensures.short c.from_residual.ensures.1

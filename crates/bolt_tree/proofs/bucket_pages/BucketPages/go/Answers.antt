@@ -1,5 +1,5 @@
 -- What lies in the direction stays the same until an entry is taken, and each page that is opened is the next one there.
-use Rattle.std.proofs.Common.{◌≡◌, ◌∙◌, ◌+◌, ◌-◌, suc, length, List, ◌∷◌, ◌++◌, Option, None, Some, option_to_list, sym, ap, refl, arith}
+use Rattle.std.proofs.Common.{rules, ◌≡◌, ◌∙◌, ◌+◌, suc, length, List, ◌∷◌, ◌++◌, Option, None, Some, option_to_list, sym, ap, refl, arith}
 use Rattle.bolt_tree.proofs.Words.{BucketPages, Frame, HasStack, HasTrail, IsEntered, Of_branch, Position, branches_on, contents_in, trail_entries_left, entries_to, frame_of, frames_of, leaf_view, opened_content, pages_bucket, pages_left, pages_to, taken_at, trail_on}
 use Rattle.bolt_tree.proofs.{MoveLemmas.opens, MoveLemmas.page_left, MoveLemmas.takes, PagerLemmas.counted_more, PagerLemmas.counted_zero}
 use Rattle.bolt_tree.proofs.StackLemmas.{popped, retaken, taken_bound, taken_fits}
@@ -8,14 +8,7 @@ use Rattle.bolt_tree.proofs.bucket_pages.BucketPages.go.Goals.{After-element, Af
 use Rattle.bolt_tree.proofs.bucket_pages.BucketPages.go.Goals as goal
 
 pub loop-top-init : goal.loop-top-init
-loop-top-init c =
-    let left = length (pages_left c.args.back (trail_on c.args.self.now c.args.stack.now.items)) in
-    record {
-      moved = record { file = refl; at = refl; stack = c.requires };
-      entries = refl;
-      less = omega arith;
-      opened = let none : left - left ≡ 0 = omega arith in rw none (sym (counted_zero c.args.self.now.pager));
-    }
+loop-top-init c = search (rules, counted_zero)
 
 pub beside-requires-clause-bound : goal.beside-requires-clause-bound
 beside-requires-clause-bound c = let bound = taken_bound _ _ _ (popped_stack c.loop-top.self _ _ c.in-Some.top c.in-Some.ensures.items c.loop-top.invariant.moved.stack) in omega (arith, bound)
@@ -76,9 +69,7 @@ edge_stack : (c : After-push-in-Branch) → HasStack (pages_bucket c.go_under-ch
 edge_stack c = rw (edge c) (edge_room c.args.back _ (opened_content c.go_under-child.result) c.at_edge.result _ c.go_under-child.ensures.stack c.at_edge.ensures.frame c.at_edge.ensures.fits)
 
 under : (c : After-push-in-Branch) → IsEntered (contents_in (pages_bucket c.loop-top.self)) c.args.back (opened_content c.in-Some.top.page) c.in-Some-beside.i (frames_of c.pop.new.self.items) (frames_of c.push-in-Branch.new.self.items) None
-under c =
-    let child = c.go_under-child.ensures.child in
-    rw c.in-Branch.is (child.0, child.1, edge c ∙ rw (c.go_under-child.ensures.frames, child.2) refl)
+under c = search (rules, edge)
 
 -- the page that is opened is the next one that lies in the direction
 opened : (c : After-push-in-Branch) → (trail_entries_left c.args.back (trail_on c.loop-top.self c.loop-top.stack.items) ≡ trail_entries_left c.args.back (trail_on c.go_under-child.new.self c.push-in-Branch.new.self.items))

@@ -55,9 +55,6 @@ returns-then-last-eq0-clause-opens c =
     opens_none (cursor_trail c.args.self.now) c.args.self.now.is_past c.args.self.now.resting c.deref.result.now c.len.result c.in-Some.last c.index-deref-last.result c.len.ensures.value c.in-Some.ensures.0 c.in-Some.ensures.1
     c.index-deref-last.is c.deref.ensures.0 c.in-Leaf.page c.in-Leaf.is (omega (arith, c.if-top-from.false, c.from.ensures, c.count.ensures)) c.if-last-eq0.true
 
-pub go_further-requires : goal.go_further-requires
-go_further-requires c = filled c.args.self.now.stack.items c.len.result c.len.ensures.value c.in-Some.ensures.0
-
 pub returns-clause-moves : goal.returns-clause-moves
 unfolding cursor_checked cursor_place cursor_start
 returns-clause-moves c =

@@ -7,9 +7,6 @@ unfolding cursor_checked cursor_place cursor_start
 returns-then-is_empty-clause-moves c = shows_by _ _ prev_move (cursor_place c.args.self.now) _ _ _ c.entry_of.ensures.entry
     (moves_prev_start _ _ c.start.ensures.moved _ _ c.args.self.now.resting c.start.result (no_frames c.args.self.now.stack.items c.is_empty.result c.is_empty.ensures c.if-is_empty.true) c.start.ensures.found c.start.ensures.past)
 
-pub go_further-requires : goal.go_further-requires
-go_further-requires c = nonempty c.args.self.now.stack.items c.is_empty.result c.is_empty.ensures c.if-is_empty.false
-
 pub returns-clause-moves : goal.returns-clause-moves
 unfolding cursor_checked cursor_place cursor_start
 returns-clause-moves c = shows_by _ _ prev_move (cursor_place c.args.self.now) _ _ _ c.entry_of-2.ensures.entry

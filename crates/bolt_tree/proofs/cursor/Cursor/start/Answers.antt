@@ -44,12 +44,3 @@ returns c =
       past = past was.is_past c.is_none.result c.go-found.result c.is_none.ensures;
       compared = refl;
     }
-
-pub invariant_of-self : goal.invariant_of-self
-invariant_of-self c = record {
-  resting = ∣ record {
-    stack = c.go-found.ensures.moved.stack;
-    rest = c.go-found.ensures.rest;
-    empty = empty c.args.back c.args.self.now.is_past c.is_none.result c.go-found.result _ _ _ c.is_none.ensures c.go-found.ensures.found;
-  } ∣₁;
-}

@@ -1,7 +1,7 @@
 use Rattle.std.proofs.Common.{◌∙◌, ◌++◌, ◌∷◌, [], None, Some, ap, refl}
 use Rattle.bolt_tree.proofs.Words.{Opens, cursor_view, cursors_of, first_move, fresh_view, leaf_view, next_move, path_of, props, waiting_of, ∥∥₁_elim}
 use Rattle.bolt_tree.proofs.{CursorMoves.by_first, Entering.first_gives, Entering.first_none, Entering.leads_by, Entering.leads_in, Entering.made, Entering.opens_by, Entering.placed_in}
-use Rattle.bolt_tree.proofs.{OpenSteps.enters, OpenSteps.opens, OpenSteps.path_put, OpenSteps.some_open, open_buckets.OpenBuckets.enter.Goals.After-close}
+use Rattle.bolt_tree.proofs.{OpenSteps.enters, OpenSteps.opens, OpenSteps.path_put, open_buckets.OpenBuckets.enter.Goals.After-close}
 use Rattle.bolt_tree.proofs.open_buckets.OpenBuckets.enter.Goals as goal
 
 pub open-requires : goal.open-requires
@@ -12,12 +12,6 @@ returns-in_err-open-clause-placed c =
     let old = c.args.self.now in
     placed_in old.checked c.open.new.self.checked (cursors_of old) (cursors_of c.open.new.self) (path_of old.path.items) (path_of c.open.new.self.path.items)
     c.in_err-open.ensures.checked c.in_err-open.ensures.same (ap path_of c.in_err-open.ensures.path) c.requires.placed
-
-pub returns-in_default-clause-placed : goal.returns-in_default-clause-placed
-returns-in_default-clause-placed c = absurd (some_open c.args.self.now c.open.new.self c.args.bucket c.in_ok-open.ensures.cursors c.in_default.is)
-
-pub returns-in_default-clause-left : goal.returns-in_default-clause-left
-returns-in_default-clause-left c = absurd (some_open c.args.self.now c.open.new.self c.args.bucket c.in_ok-open.ensures.cursors c.in_default.is)
 
 -- the bucket has no entry, and is closed again
 emptied : (c : After-close) → Opens c.args.bucket (λ entries place. first_move entries) (cursors_of c.args.self.now) (cursors_of c.close.new.self) None

@@ -1,5 +1,5 @@
-use Rattle.std.proofs.Common.{◌∙◌, sym}
-use Rattle.bolt_tree.proofs.{Words.cursors_of, Words.leaf_view, Words.open_path, Words.path_of, Climbing.listed_in, Climbing.none_beyond, Entering.itself}
+use Rattle.std.proofs.Common.{rules, ◌∙◌, sym}
+use Rattle.bolt_tree.proofs.{Words.cursors_of, Words.leaf_view, Words.path_of, Climbing.listed_in, Climbing.none_beyond, Entering.itself}
 use Rattle.bolt_tree.proofs.open_buckets.OpenBuckets.next_step.Goals as goal
 
 pub returns-in-Some-clause-left : goal.returns-in-Some-clause-left
@@ -12,7 +12,4 @@ returns-in-Some-clause-left c = λ listing lists.
     ∙ sym (came listing lists)
 
 pub returns-in-None-clause-left : goal.returns-in-None-clause-left
-returns-in-None-clause-left c = λ listing lists.
-    let ended = rw c.in-None.is at c.in_ok-leaf.ensures.ended in
-    let came = rw c.in-None.is at c.in_ok-leaf.ensures.left in
-    none_beyond (open_path c.advance.new.self) listing ended ∙ sym (came listing lists)
+returns-in-None-clause-left c = search (rules, none_beyond)

@@ -1,18 +1,12 @@
 use Rattle.std.proofs.Common.{◌∙◌, inl, inr, ◌++◌, ◌∷◌, [], None, refl, sym, ap}
 use Rattle.bolt_tree.proofs.Words.{Key, Path, beyond, cursor_view, cursors_of, fresh_view, is_lt, path_of, props, seek_move, start_of, waiting_of, ∥∥₁_elim}
 use Rattle.bolt_tree.proofs.{Climbing.listed_in, Coming.at, Coming.beyond_there, Coming.from_none, Coming.inside_there, Coming.leads_there, Coming.placed_there, Coming.rest_there, Coming.same_there}
-use Rattle.bolt_tree.proofs.{Entering.lies_in, Entering.made, Entering.named_by, Entering.placed_in, OpenSteps.opens, OpenSteps.some_open}
+use Rattle.bolt_tree.proofs.{Entering.lies_in, Entering.made, Entering.named_by, Entering.placed_in, OpenSteps.opens}
 use Rattle.bolt_tree.proofs.open_buckets.OpenBuckets.seek_part.Goals.{then-is_lt-via-then-is_lt, then-is_lt-via-else-is_lt+then-is_last}
 use Rattle.bolt_tree.proofs.open_buckets.OpenBuckets.seek_part.Goals as goal
 
 pub open-requires : goal.open-requires
 open-requires c = ∥∥₁_elim c.requires.named (hlevel props) (λ n. n.0)
-
-pub returns-in_default-clause-placed : goal.returns-in_default-clause-placed
-returns-in_default-clause-placed c = absurd (some_open c.args.self.now c.open.new.self c.args.within c.in_ok-open.ensures.cursors c.in_default.is)
-
-pub returns-in_default-clause-sought : goal.returns-in_default-clause-sought
-returns-in_default-clause-sought c = absurd (some_open c.args.self.now c.open.new.self c.args.within c.in_ok-open.ensures.cursors c.in_default.is)
 
 pub next_step-requires : goal.next_step-requires
 next_step-requires c =

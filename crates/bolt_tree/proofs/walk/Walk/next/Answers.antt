@@ -1,5 +1,5 @@
-use Rattle.std.proofs.Common.{arith, ◌∙◌, List, ◌∷◌, OnErr, Result, sym, ap}
-use Rattle.bolt_tree.proofs.Words.{Item, Member, Path, item_view, left_by, open_path, reported_path, rest_after, walk_checked, walk_path, ∥∥₁_elim, ∥∥₁_map, ∥∥₁_prop}
+use Rattle.std.proofs.Common.{arith, ◌∙◌, List, ◌∷◌, sym, ap}
+use Rattle.bolt_tree.proofs.Words.{Item, Member, Path, item_view, open_path, reported_path, rest_after, walk_checked, walk_path, ∥∥₁_elim, ∥∥₁_map, ∥∥₁_prop}
 use Rattle.bolt_tree.proofs.{Climbing.listed_in, Climbing.none_beyond, Walking.ahead_in, Walking.ahead_prop}
 use Rattle.bolt_tree.specs.Walks.{left_of}
 use Rattle.bolt_tree.proofs.walk.Walk.next.Goals as goal
@@ -32,15 +32,3 @@ returns-in-Some-clause-given c = λ listing lists.
 pub returns-in-None-clause-given : goal.returns-in-None-clause-given
 unfolding left_of walk_checked walk_path
 returns-in-None-clause-given c = grind (arith, none_beyond)
-
--- what always holds also holds of an error
-when_err : {X E P : Type 0} (result : Result X E) → P → OnErr result P
-when_err result p = grind arith
-
-pub returns-in_err-leaf-clause-same : goal.returns-in_err-leaf-clause-same
-unfolding left_of walk_checked
-returns-in_err-leaf-clause-same c = when_err c.from_residual.result (λ listing lists. ap (λ (p : Path). left_by c.args.self.now.ahead p listing) c.in_err-leaf.ensures.same)
-
-pub returns-in_err-leaf-clause-same_path : goal.returns-in_err-leaf-clause-same_path
-unfolding walk_path
-returns-in_err-leaf-clause-same_path c = when_err c.from_residual.result (ap (reported_path c.args.self.now.ahead) c.in_err-leaf.ensures.same)
