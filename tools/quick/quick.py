@@ -16,7 +16,7 @@ from concurrent.futures import ThreadPoolExecutor
 from keep_tried import keep_tried
 
 NOT_SHOWN = (
-    "No proof and no wrong body was tried, no call of a library, no file above 512 KB; no completion, failure, refused"
+    "No proof and no mutant was tried, no call of a library, no file above 512 KB; no completion, failure, refused"
     " memory or count of work, and nothing beside bbolt: make test"
 )
 

@@ -14,9 +14,9 @@
 
    A file that was synced must not be written to later: the process is aborted if it is.
 
-   With REFUSED_CALL touch or append nothing is refused: each of the first REFUSED_NUMBER times that
-   the process has read a regular file to its end, the file's time of change becomes a nanosecond later,
-   or a byte is appended to it. */
+   With REFUSED_CALL touch, wait or append nothing is refused: each of the first REFUSED_NUMBER times
+   that the process has read a regular file to its end, the file's time of change becomes a nanosecond
+   later, or a second, or a byte is appended to it, in which case that time stays. */
 
 #define _GNU_SOURCE
 #include <dlfcn.h>
@@ -140,15 +140,17 @@ void free(void *block)
 	__libc_free(block);
 }
 
-static void touch(int file, const struct stat *status)
+/* Sets the time of change, with so many seconds more and so many nanoseconds. */
+static void touch(int file, const struct stat *status, long seconds, long nanoseconds)
 {
 	struct timespec times[2] = {status->st_atim, status->st_mtim};
 
-	times[1].tv_nsec += times[1].tv_nsec < 999999999 ? 1 : -1;
+	times[1].tv_sec += seconds;
+	times[1].tv_nsec += times[1].tv_nsec < 999999999 ? nanoseconds : -nanoseconds;
 	futimens(file, times);
 }
 
-static void append(int file)
+static void append(int file, const struct stat *status)
 {
 	char name[64];
 	int again;
@@ -156,6 +158,7 @@ static void append(int file)
 	snprintf(name, sizeof name, "/proc/self/fd/%d", file);
 	again = open(name, O_WRONLY | O_APPEND);
 	next_write(again, "", 1);
+	touch(again, status, 0, 0);
 	close(again);
 }
 
@@ -163,16 +166,17 @@ static void append(int file)
 static void change(int file)
 {
 	int is_append = strcmp(refused_call, "append") == 0;
+	int is_wait = strcmp(refused_call, "wait") == 0;
 	struct stat status;
 
-	if (!is_append && strcmp(refused_call, "touch") != 0)
+	if (!is_append && !is_wait && strcmp(refused_call, "touch") != 0)
 		return;
 	if (fstat(file, &status) != 0 || !S_ISREG(status.st_mode) || ++made > refused_number)
 		return;
 	if (is_append)
-		append(file);
+		append(file, &status);
 	else
-		touch(file, &status);
+		touch(file, &status, is_wait, !is_wait);
 }
 
 ssize_t read(int file, void *to, size_t count)

@@ -28,7 +28,7 @@ run_changed() {
 }
 
 # FILE is read three times at most.
-for how in touch append; do
+for how in touch wait append; do
 	for times in 0 1 2; do
 		run_changed $how $times check "$file"
 		[ "$status $(cat "$folder/out")" = "0 OK" ] || fail "$how $times: wants OK"

@@ -261,11 +261,12 @@ unmade_target() {
 	[ ! -e "$folder/missing" ] || fail "made what a link leads to"
 }
 
-# OUT has the permission bits of FILE, less those that the umask removes, whether FILE is sound or not.
+# OUT has the permission bits of FILE, less those that the umask removes, whether FILE is sound or not. The bits that
+# run a program as its owner or group, and the sticky bit, aren't copied.
 copied_permissions() {
 	for file in "$sound" "$refused"; do
 		for bits in "077 600 600" "022 600 600" "022 640 640" "022 400 400" "022 644 644" \
-			"022 666 644" "022 755 755" "022 777 755" "000 666 666" "027 644 640"; do
+			"022 666 644" "022 755 755" "022 777 755" "000 666 666" "027 644 640" "022 4755 755" "022 2750 750" "022 1644 644"; do
 			set -- $bits
 			cp "$file" "$folder/file.db"
 			chmod "$2" "$folder/file.db"

@@ -44,7 +44,7 @@ def add(name, sources, cases):
 def main():
     with tempfile.TemporaryDirectory(prefix="luntsegi-programs-") as folder:
         room = pathlib.Path(folder)
-        shutil.copytree("crates", room / "crates", ignore=shutil.ignore_patterns("out", "must-fail"))
+        shutil.copytree("crates", room / "crates", ignore=shutil.ignore_patterns("out", "mutants"))
         shutil.copy("HANDLES", room)
         sources, cases = room / "crates/readme_programs/src", room / "cases"
         sources.mkdir(parents=True)

@@ -46,7 +46,7 @@ over_run page_size next b e q kept_run upper uppers is keyed same number =
     let pushed = run_grown kept_run upper m q e is keyed (same ∙ ap q.element place) in
     grind (arith, numbers-append, same_branch, key_same, placed_same)
 
--- the climb of the kept_upper runs is that of the open ones
+-- the climb of the kept upper runs is that of the open ones
 runs_climbed : (page_size : ℕ) (new : Option ℕ) (key : List ℕ) (e : BranchElement) (next b : ℕ) (q : Laid BranchElement) (kept_runs : List RunView) (uppers : List Upper) → AreUppers kept_runs uppers b → IsKeyed q
     → e ≡ q.element (b + numbers_in uppers) → next ≡ b + numbers_in uppers + q.numbers
     → AreUppers (runs_climb page_size new key e next kept_runs) (climb page_size new key q uppers) b × (runs_put page_size key e next kept_runs ≡ climb_puts page_size key q uppers b)

@@ -31,17 +31,17 @@ others_ending (suc n) = Err (failure.Others (suc n))
 abbrev pub entries_ending : List LeafElement → JobEnding
 entries_ending entries = others_ending (counted 0 (length (others entries)))
 
--- from a transaction on, if one is named_with: the entries whose keys aren't below its number in eight bytes
+-- from a transaction on, if one is named: the entries whose keys aren't below its number in eight bytes
 abbrev pub entries_asked : Option ℕ → List LeafElement → List LeafElement
 entries_asked None entries = entries
 entries_asked (Some main) entries = entries_from (to_be_bytes w64 main) entries
 
--- of the revisions of no later transaction, if one is named_with; no number is above 2^64 - 1
+-- of the revisions of no later transaction, if one is named; no number is above 2^64 - 1
 abbrev pub up_to : Option ℕ → ℕ
 up_to None = 2 ^ 64 - 1
 up_to (Some main) = main
 
--- whether the transaction that is named_with was compacted away
+-- whether the transaction that is named was compacted away
 abbrev pub is_compacted : Option ℕ → Option ℕ → Bool
 is_compacted (Some main) (Some compacted) = nat_lt main compacted
 is_compacted _ _ = false

@@ -13,7 +13,7 @@ abbrev pub page_answer : Option PageFault → List ℕ → Answer
 page_answer None text = done text
 page_answer (Some fault) text = refused (failure.Page fault)
 
--- the meta that is shown: that of the slot that is named_with, or the active one
+-- the meta that is shown: that of the slot that is named, or the active one
 abbrev pub IsShownMeta : List ℕ → Option Slot → Slot → Meta → Type 0
 IsShownMeta file None slot meta = IsActive file slot meta
 IsShownMeta file (Some named_with) slot meta = (slot ≡ named_with) × IsInSlot file named_with meta

@@ -51,7 +51,7 @@ module _ (compacted : ℕ) (ts : List Transaction) (keeps : RevisionView → Boo
         )
   ]
 
-  -- a first part is removed, up to the compaction at most; if all that is kept_revisions is later, what was removed ends in a deletion or is nothing
+  -- a first part is removed, up to the compaction at most; if all that is kept is later, what was removed ends in a deletion or is nothing
   pub record IsCut (removed rest : List RevisionView) : Type 0 where
     pub joined : filter (is_named name) (history ts) ≡ removed ++ rest
     pub is_rest : filter (is_named name) (kept_revisions keeps ts) ≡ rest

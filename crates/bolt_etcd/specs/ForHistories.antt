@@ -5,12 +5,12 @@ use Rattle.bolt_tree.specs.Order.{Rises}
 use Rattle.bolt_etcd.specs.{Compactions.IsCompaction, Compactions.kept_revisions, Histories.Transaction, MissingNumbers.missing_numbers, Possible.ArePossible}
 use Rattle.bolt_etcd.specs.{Revisions.RevisionView, Taken.IsTaken, Told.number_cmp, declared.missing.Missing.Missing}
 
--- this holds of transactions that etcd can do, of one that they were compacted at, and of the revisions that are kept_revisions
+-- this holds of transactions that etcd can do, of one that they were compacted at, and of the revisions that are kept
 abbrev pub ForCompacted : (List Transaction → ℕ → List RevisionView → Type 0) → Type 0
 ForCompacted P = (ts : List Transaction) (compacted : ℕ) (keeps : RevisionView → Bool) → ArePossible ts → IsCompaction compacted ts keeps
     → P ts compacted (kept_revisions keeps ts)
 
--- This holds of a revision that is taken away from those that are kept_revisions, of each other one, of all that are left, and of what these lack by number.
+-- This holds of a revision that is taken away from those that are kept, of each other one, of all that are left, and of what these lack by number.
 abbrev pub ForTaken : ((r later : RevisionView) → List RevisionView → List Missing → Type 0) → Type 0
 ForTaken P = (ts : List Transaction) (compacted : ℕ) (keeps : RevisionView → Bool) (r later : RevisionView) (left : List RevisionView)
     → ArePossible ts → IsTaken compacted (kept_revisions keeps ts) r left → Contains left later → P r later left (missing_numbers compacted left)

@@ -20,8 +20,6 @@ mod revision_key;
 mod revisions;
 mod snapshot;
 mod store_faults;
-#[cfg(test)]
-mod tests;
 mod wire;
 
 pub use crate::collected::Collected;

@@ -74,8 +74,8 @@ impl Job {
     }
 
     /// Whether the job needs no more of FILE than its metas. On the bytes up to their end
-    /// (`bolt_format::metas_end`) it does what it does on the whole file
-    /// (`laws::needed_bytes_are_enough`).
+    /// (`bolt_format::metas_end`) it does what it does on the whole file, as a law of
+    /// `bolt_commands` says.
     pub fn needs_metas_alone(&self) -> bool
         ensures { result ≡ needs_metas_alone self.now }
     {

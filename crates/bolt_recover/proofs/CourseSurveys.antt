@@ -1,4 +1,4 @@
--- What a course visits is a survey, and what it returns are the elements at the way_kept ways.
+-- What a course visits is a survey, and what it returns are the elements at the kept ways.
 use Rattle.std.proofs.Common.{◌≡◌, ◌∙◌, ◌⊎◌, ◌↔◌, ◌<◌, inl, inr, ℕ, Bool, true, ◌||◌, List, [], ◌∷◌, ◌++◌, Option, Some, None, refl, sym, ap, subst, subst₂, arith, append_assoc, cond}
 use Rattle.bolt_recover.proofs.Words.{after_event, after_events, all_events, append-nil, claimed_after, claims_of, Contains, contains_at, contains_from_has, counted, Each, Event, false≢true, Finding, further, Given, Gives, Has, has_from_contains, has_left, has_right, has_split, is_at_page, IsClaimedIn, IsKeptPage, IsMetaPage, IsOpen, IsRecoveredMember, IsSurvey, Item, item_of, way_kept, LeafElement, loss_at, losses_of, members_at, members_of, Meta, meta_pages, nat_tests, node_at, Nodes, or_cases, or_left, or_right, Outcome, outcome_of, page_ways, Path, Reach, reached, root_site, root_tasks, same_Some, Site, site_at, site_size, span_of, SpanAt, SpanHas, Spot, step_site, sum_by-cons, SurveyedWay, Task, tasks_after, To_give, To_visit, Visited, visit_at, visits_of, Way, RisesBy, Before}
 use Rattle.bolt_recover.proofs.{Courses.Course, Courses.course, Courses.Course.done, Courses.Course.give, Courses.Course.visit, CourseOrder.rises_course}
@@ -22,7 +22,7 @@ module _ (file : List ℕ) (meta : Meta) where
   abbrev pub reach : Reach
   reach = reached nodes meta.root
 
-  -- page n is claimed by a visit, if that is way_kept
+  -- page n is claimed by a visit, if that is kept
   abbrev ByKept : (SurveyedWay → Type 0) → ℕ → Type 0
   ByKept IsVisit n = (v : Way) × (IsVisit (way_kept v) × SpanHas nodes (reach v) n)
 
@@ -54,11 +54,11 @@ module _ (file : List ℕ) (meta : Meta) where
       }
 
 module _ (file : List ℕ) (meta : Meta) (survey : List SurveyedWay) where
-  -- the claims are those of the way_kept visits in front
+  -- the claims are those of the kept visits in front
   abbrev AreClaims : (SurveyedWay → Type 0) → (ℕ → Bool) → Type 0
   AreClaims InFront claimed = (n : ℕ) → (claimed n ≡ true) ↔ (IsMetaPage n ⊎ ByKept file meta InFront n)
 
-  -- an element at a way_kept way
+  -- an element at a kept way
   abbrev IsGiven : Path → LeafElement → Type 0
   IsGiven path e = (way : Way) × (p : Site) × Has survey (way_kept way) × (site_at file meta way ≡ Some p) × Contains p.elements e × (path ≡ p.path ++ e.key ∷ [])
 
@@ -85,7 +85,7 @@ module _ (file : List ℕ) (meta : Meta) (survey : List SurveyedWay) where
   tasks_of (Given path e) = []
   tasks_of (Visited w p found) = tasks_after file meta w p found
 
-  -- what comes of a course: the tasks are done, and those at the sites that are visited, and the way_kept visits claim what is claimed at the end
+  -- what comes of a course: the tasks are done, and those at the sites that are visited, and the kept visits claim what is claimed at the end
   record Comes (claimed : ℕ → Bool) (tasks : List Task) (events : List Event) : Type 0 where
     claims : (o : Outcome) → o.claimed ≡ claimed → AreClaims (Has survey) (after_events (nodes file meta) o events).claimed
     only : Each IsEvent events
@@ -185,7 +185,7 @@ module _ (file : List ℕ) (meta : Meta) where
   pub placed : (w : Way) (p : Site) (found : Option Finding) → Has (all_events file meta) (Visited w p found) → site_at file meta w ≡ Some p
   placed w p found there = (comes.only (Visited w p found) there).1
 
-  -- a site that is visited, and what there is to do at a way_kept one
+  -- a site that is visited, and what there is to do at a kept one
   site_of : (u : SurveyedWay) → Has survey_of u → (p : Site) × Has (all_events file meta) (Visited u.way p u.found) × (site_at file meta u.way ≡ Some p)
       × Gives (nodes file meta) (IsClaimedIn (nodes file meta) (reach file meta) survey_of u.way) p.spot u.found
   site_of u has = grind (arith, visit_in, comes)
@@ -231,6 +231,6 @@ module _ (file : List ℕ) (meta : Meta) where
   pub tally : (begun : ℕ) → Tallied file meta (record { losses = []; visited = begun; claimed = meta_pages }) (all_events file meta)
   tally begun = tallied file meta (record { losses = []; visited = begun; claimed = meta_pages }) (all_events file meta) placed
 
-  -- the pages that its way_kept visits take in
+  -- the pages that its kept visits take in
   pub all_claimed : (begun n : ℕ) → ((outcome_of (nodes file meta) begun (all_events file meta)).claimed n ≡ true) ↔ IsKeptPage file meta survey_of n
   all_claimed begun n = comes.claims (record { losses = []; visited = begun; claimed = meta_pages }) refl n

@@ -18,7 +18,7 @@ lost_or_none (v ∷ survey) = first v survey v.found refl (lost_or_none survey)
     first v survey None e (inl none) = inl (λ u has. elim has [ inl same ↦ ap (λ (z : SurveyedWay). z.found) (sym same) ∙ e | inr later ↦ none u later ])
 
 module _ (file : List ℕ) (meta : Meta) where
-  -- if nothing is lost, nothing is found; otherwise what is found next to the way_kept pages
+  -- if nothing is lost, nothing is found; otherwise what is found next to the kept pages
   pub are_none : (survey : List SurveyedWay) → IsSurvey file meta survey → LosesNothing survey → AreFound file meta []
   are_none survey is none = grind arith
 
@@ -36,7 +36,7 @@ module _ (file : List ℕ) (meta : Meta) where
             (λ k was. (are survey is k).0 (sym (same k) ∙ was)) (λ k was. same k ∙ (are survey is k).1 was) meta.high_water found below)
       ]
 
-  -- the found pages next to the way_kept ones of the survey
+  -- the found pages next to the kept ones of the survey
   pub below_of : (found : List ℕ) (survey : List SurveyedWay) (way : List ℕ) (x : Finding) → AreFound file meta found → IsSurvey file meta survey → Has survey (lost way x)
       → FoundBelow file meta (IsKeptPage file meta survey) meta.high_water found
   below_of found survey way x are is has = let same = same_survey file meta are.survey survey are.surveys is in grind arith
@@ -63,7 +63,7 @@ module _ (file : List ℕ) (meta : Meta) where
       ]
 
 module _ (file : List ℕ) (meta : Meta) where
-  -- whether page k is found, and whether it is way_kept or found
+  -- whether page k is found, and whether it is kept or found
   abbrev in_found : List ℕ → ℕ → Bool
   in_found [] k = false
   in_found (m ∷ found) k = claims_of (node_at file meta) (At_page (root_spot m)) k || in_found found k

@@ -1,4 +1,4 @@
--- Ways of a survey that loses none of some ways: those that lead somewhere are way_kept, and the tests find nothing at them, whatever ways come before. So
+-- Ways of a survey that loses none of some ways: those that lead somewhere are kept, and the tests find nothing at them, whatever ways come before. So
 -- trees that lose nothing are sound, sound trees lose nothing, and the first loss is the first finding.
 use Rattle.std.proofs.Common.{◌≡◌, ◌∙◌, ℕ, inl, inr, List, [], ◌∷◌, ◌++◌, Option, Some, None, refl, sym, subst, append_assoc, arith}
 use Rattle.bolt_recover.proofs.Words.{append-nil, At_page, Before, before_trans, Finding, follow, follow_append, Has, HasSoundTrees, IsClaimedBefore, IsClaimedIn, IsFirst, IsMetaPage, IsSurvey, way_kept, LosesNothing, Meta, node_at, Nodes, Passes, passes_fewer, passes_silent, Reach, reached, root_spot, shape_of, shape_passes, span_spot, Spot, Surveys, SurveyedWay, tests_same}
@@ -46,7 +46,7 @@ none_lost file meta survey trees surveys v has =
     (passes_fewer nodes (IsClaimedBefore nodes reach IsMetaPage v.way) (IsClaimedIn nodes reach survey v.way) s (claimed_before nodes reach survey v.way) ((shape_passes nodes meta.root trees).passes v.way s led))
 
 module _ (file : List ℕ) (meta : Meta) (survey : List SurveyedWay) (surveys : IsSurvey file meta survey) (none : LosesNothing survey) where
-  -- each way that leads somewhere is way_kept
+  -- each way that leads somewhere is kept
   pub all_kept : (way : List ℕ) (s : Spot) → reached (node_at file meta) meta.root way ≡ Some s → Has survey (way_kept way)
   all_kept way s led = kept_way (node_at file meta) (Some (At_page (root_spot meta.root))) survey surveys (λ w. Unit {0}) (λ front rest is. tt) (λ v has is. none v has) way s led tt
 

@@ -1,4 +1,4 @@
--- If nothing is lost, each way is way_kept, and what a path holds is an element at a way.
+-- If nothing is lost, each way is kept, and what a path holds is an element at a way.
 use Rattle.std.proofs.Common.{◌≡◌, ◌∙◌, ◌⊎◌, inl, inr, ℕ, suc, Bool, true, false, IsTrue, eqb-true, List, [], ◌∷◌, ◌++◌, Option, Some, None, Result, Ok, Err, slice_get, refl, sym, ap, subst, append_assoc, arith}
 use Rattle.bolt_recover.proofs.Words.{At_inline, At_page, cases_Bool, child_in, child_of, child_spot, Contains, contains_at, Entry, Has, HasSoundTrees, head_root, Holds, inline_elements, Inline_page, IsEntry, IsListing, IsRecovered, IsRecoveredMember, Item, item_of, way_kept, Key, leads, leads_none, leaf_node_at, LeafElement, leaves_of, Member, Meta, Node, node_at, Nodes, none-some, page_at, PageSpot, Path, Site, site_at, reached, Root_page, root_site, root_spot, same_Some, ShowsEntry, Spot, Start, start_of, step_site, upper_from, SurveyedWay}
 use Rattle.bolt_recover.proofs.{SiteFacts.site_further, SiteFacts.slice_of, SiteFacts.spot_is, MembersInBuckets.path_holds, MembersInBuckets.shows_entry, MembersInBuckets.well_at}

@@ -5,7 +5,7 @@ use Rattle.bolt_format.specs.{Elements.LeafElement, declared.meta.Meta.Meta}
 use Rattle.bolt_tree.specs.{Entries.IsEntry, Entries.Item, Entries.Root_page, Entries.item_of, Listing.Member, Listing.member_cmp, Order.Rises, Paths.Holds, Paths.Path}
 use Rattle.bolt_recover.specs.{Sites.Site, Sites.site_at, Surveys.IsSurvey, Surveys.SurveyedWay, Surveys.way_kept}
 
--- an element of the leaf page or inline page at a way_kept way, under the path of its bucket
+-- an element of the leaf page or inline page at a kept way, under the path of its bucket
 pub record IsRecoveredMember (file : List ℕ) (meta : Meta) (survey : List SurveyedWay) (path : Path) (item : Item) : Type 0 where
   pub way : List ℕ
   pub site : Site

@@ -1,10 +1,10 @@
--- What is way_kept and what is lost of a damaged file: docs/RECOVERY.md, "Kept and lost".
+-- What is kept and what is lost of a damaged file: docs/RECOVERY.md, "Kept and lost".
 use Rattle.std.specs.Prelude.{◌≡◌, ℕ, ◌⊎◌, List, [], ◌∷◌, ◌++◌, Option, Some, None, map}
 use Rattle.bolt_format.specs.declared.meta.Meta.{Meta}
 use Rattle.bolt_check.specs.{Findings.IsMetaPage, Findings.Passes, Findings.Tests, Nodes.Nodes, Nodes.node_at, Lists.RisesBy}
 use Rattle.bolt_check.specs.{Lists.Has, Ways.Before, Ways.Reach, Ways.SpanHas, Ways.Spot, Ways.reached, declared.finding.Finding.Finding}
 
--- A way and what the tests find at it: nothing if the way is way_kept, and a finding if it is lost.
+-- A way and what the tests find at it: nothing if the way is kept, and a finding if it is lost.
 pub record SurveyedWay : Type 0 where
   pub way : List ℕ
   pub found : Option Finding
@@ -15,11 +15,11 @@ way_kept way = record { way = way; found = None }
 abbrev pub lost : List ℕ → Finding → SurveyedWay
 lost way x = record { way = way; found = Some x }
 
--- the empty way, or one whose parent is way_kept
+-- the empty way, or one whose parent is kept
 abbrev pub IsOpen : List SurveyedWay → List ℕ → Type 0
 IsOpen survey way = (way ≡ []) ⊎ ((parent : List ℕ) × (i : ℕ) × (way ≡ parent ++ i ∷ []) × Has survey (way_kept parent))
 
--- page n is a meta page, or lies in the span of a way_kept way before this one
+-- page n is a meta page, or lies in the span of a kept way before this one
 abbrev pub IsClaimedIn : Nodes → Reach → List SurveyedWay → List ℕ → ℕ → Type 0
 IsClaimedIn nodes reach survey way n = IsMetaPage n ⊎ ((v : List ℕ) × (Has survey (way_kept v) × Before v way × SpanHas nodes (reach v) n))
 
@@ -28,7 +28,7 @@ abbrev pub Gives : Nodes → (ℕ → Type 0) → Spot → Option Finding → Ty
 Gives nodes before spot None = Passes nodes before spot
 Gives nodes before spot (Some x) = Tests nodes before spot x
 
--- The ways whose parents are way_kept, and the empty way, each with what the tests find there; test 18 looks at the way_kept ways before.
+-- The ways whose parents are kept, and the empty way, each with what the tests find there; test 18 looks at the kept ways before.
 pub record Surveys (nodes : Nodes) (reach : Reach) (survey : List SurveyedWay) : Type 0 where
   pub rises : RisesBy Before (map (λ (v : SurveyedWay). v.way) survey)
   pub only : (v : SurveyedWay) → Has survey v

@@ -19,7 +19,7 @@ next_between q x y p a b later after less starts = grind (arith, nat_tests)
 next_below : (q x : ℕ) (p a : Key) → (key_lt a p ≡ true → key_begins a p ≡ false) → key_lt (x ∷ a) (q ∷ p) ≡ true → key_begins (x ∷ a) (q ∷ p) ≡ false
 next_below q x p a later less = grind (arith, nat_tests)
 
--- what isn't below a prefix, and is below a key that has_key_prefix with it, has_key_prefix with it
+-- what isn't below a prefix, and is below a key that begins with it, begins with it
 pub between : (prefix a b : Key) → key_lt a prefix ≡ false → key_lt a b ≡ true → key_begins b prefix ≡ true → key_begins a prefix ≡ true
 between [] a b after less starts = refl
 between (q ∷ p) [] b after less starts = cc
@@ -76,7 +76,7 @@ module _ (prefix : Key) where
             | inr more ↦ not_below e f below (lt_of (key_cmp e.key f.key) (rises.0 f more))
           ]
 
--- every key has_key_prefix with no bytes
+-- every key begins with no bytes
 pub with_none : (entries : List LeafElement) → with_prefix [] entries ≡ entries
 with_none [] = refl
 with_none (e ∷ entries) = ap (λ (es : List LeafElement). e ∷ es) (with_none entries)

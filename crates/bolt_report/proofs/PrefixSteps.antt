@@ -135,7 +135,7 @@ module _ (b : BucketView) (first : ℕ) (prefix : Key) (entries : List LeafEleme
             step ∙ ap (λ (k : ℕ). counted k (gap (suc n))) (stage.opens seek gap is gaps) ∙ counted_more first (seek + before) (gap (suc n)) ∙ ap (counted first) (omega (arith, sum));
       }
 
-  -- no other has_key_prefix so, if none is left,
+  -- no other begins so, if none is left,
   pub none_shown : Stage b first prefix entries opened place None n done → with_prefix prefix (drop n entries) ≡ []
   none_shown stage = ap (with_prefix prefix) stage.stands
 

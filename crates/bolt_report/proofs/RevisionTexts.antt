@@ -10,7 +10,7 @@ module _ (prefix : List ℕ) (form : Form) (values : Bool) where
   named_step r rs true later = ap (λ (text : List ℕ). revision_line form values r ++ text) later
   named_step r rs false later = later
 
-  -- the lines of those that are named_with so
+  -- the lines of those that are named so
   pub named_lines : (rs : List RevisionView) → flat_map (prefix_line prefix form values) rs ≡ revision_lines form values (named_with prefix rs)
   named_lines [] = refl
   named_lines (r ∷ rs) = named_step r rs (begins prefix r) (named_lines rs)

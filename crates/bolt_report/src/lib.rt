@@ -18,8 +18,6 @@ mod part_lines;
 mod revision_lines;
 mod size_lines;
 mod stats_lines;
-#[cfg(test)]
-mod store_tests;
 
 pub use at_path::{AtPath, look_up};
 pub use bbolt_lines::put_bbolt_findings;

@@ -10,7 +10,7 @@ use bolt_format::{Sink, SinkFault, free_ids_at, known};
 use bolt_text::{Piece, ReportFault, put, put_pieces};
 use std::alloc::Global;
 
-/// Writes the table of all pages of a file, as `pages_table` does, after it has found their roles.
+/// Writes the table of all pages of a file, after it has found their roles.
 /// The file's accounts were tested too.
 ///
 /// # Errors

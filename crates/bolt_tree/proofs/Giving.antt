@@ -8,7 +8,7 @@ use Rattle.bolt_tree.proofs.PathOrder.{before_longer, beyond_here, beyond_less, 
 use Rattle.bolt_tree.proofs.Single.{member_total}
 use Rattle.bolt_check.proofs.Exports.{lt_of}
 
--- a path is not rest_after another with a part in the same place that is not rest_after its own
+-- a path is not after another with a part in the same place that is not after its own
 greater_part : (o r : Ordering) → is_lt o ≡ false → (o ≡ Equal → is_lt r ≡ false) → is_lt (ordering_then o r) ≡ false
 greater_part o r e more = grind arith
 

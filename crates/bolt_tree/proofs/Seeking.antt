@@ -85,7 +85,7 @@ module _ (Entry : Start → LeafElement → Type 0) (from : Start) (all : HasEnt
   held_some : (q : Path) (item : Item) → Holds Entry from q item → is_lt (path_cmp [] q) ≡ true
   held_some q item h = grind arith
 
-  -- and all is rest_after it
+  -- and all is after it
   pub behind_all : rest_after [] listing ≡ listing
   behind_all = filter_all (λ m. is_lt (path_cmp [] m.0)) listing (λ m in_it. held_some m.0 m.1 ((lists.exact m.0 m.1).0 in_it))
 
