@@ -7,7 +7,7 @@ TRY_ETCD = PYTHONPATH=tools/format:tools/usage python3 -B tools/etcd/try_etcd.py
 PROGRAM = crates/luntsegi/out/luntsegi
 CALLS = crates/test_calls/out/test_calls
 
-.PHONY: build calls help toolchain quick fmt demo set-up cases examples programs manual failures memory work bbolt etcd huge fuzz fuzz-wrong wrong-bodies test bench install dist deb clean
+.PHONY: build calls help toolchain quick fmt demo set-up cases examples programs manual failures memory work bbolt etcd huge fuzz fuzz-wrong mutants test bench install dist deb clean
 
 # Proves the libraries and the program, and builds it.
 build:
@@ -30,7 +30,7 @@ help:
 		{ about = "" }' $(firstword $(MAKEFILE_LIST))
 
 # These run the toolchain's command, as `make test` does. Without it they end with one line that says so.
-build calls quick fmt demo programs wrong-bodies: toolchain
+build calls quick fmt demo programs mutants: toolchain
 
 toolchain:
 	@$(if $(shell command -v rt 2>&1),:,$(error the Rattle toolchain is missing: put its command rt on the path))
@@ -106,10 +106,9 @@ huge: $(PROGRAM)
 fuzz-wrong: $(PROGRAM)
 	$(MAKER) tools/fuzz/try_wrong.py $(PROGRAM)
 
-# Tries the mutants that the gate leaves out, in a copy of the crates. CRATES="bolt_tree bolt_cli" tries those
-# of some crates.
-wrong-bodies:
-	RT_JOBS=$(JOBS) python3 -B tools/wrong_bodies/try_others.py $(CRATES)
+# Tries that the prover refuses the mutants of the crates. CRATES="bolt_tree bolt_cli" tries those of some crates.
+mutants:
+	JOBS=$(JOBS) python3 -B tools/mutants/try_mutants.py $(CRATES)
 
 # How many crates the gate proves side by side: two, if the machine has two processors and room for both, with 6.5 GB
 # each. With more, each takes a third more processor time, as if rt splits one crate over several processors, and little
@@ -120,14 +119,21 @@ JOBS ?= $(shell awk -v processors=$$(nproc) '/MemTotal/ { print ($$2 < 13000000 
 set-up:
 	tools/set_up.sh
 
-# The merge gate: every proof from nothing, the mutants of crates/*/must-fail, the built programs, what these targets
-# try, the same random files each time, and rounds beside bbolt and etcd. The prover keeps freed memory for 10 s: fewer
-# page faults. It ends with its processor minutes.
+# The merge gate: every proof from nothing, the built programs, the mutants, what these targets try, the same random
+# files each time, and rounds beside bbolt and etcd. The prover keeps freed memory for 10 s: fewer page faults. It ends
+# with its processor minutes, and fails if a large part takes twice its share of tools/try/times.txt.
 test: toolchain set-up
-	python3 -B tools/try/gate.py "RT_JOBS=$(JOBS) MIMALLOC_PURGE_DELAY=10000 rt ci" \
-		"make cases examples programs manual failures memory work" \
-		"$(MAKER) tools/fuzz/fuzz.py $(PROGRAM) --seed 1 --files 36" "tools/bbolt/try.sh $(PROGRAM) 3" \
-		"$(TRY_ETCD) $(PROGRAM) --seed 1 --keys 300 --seconds 150"
+	MIMALLOC_PURGE_DELAY=10000 python3 -B tools/try/gate.py $(TIMES) tools/try/times.txt "rt ci: RT_JOBS=$(JOBS) rt ci $(ANEW)" \
+		"mutants: JOBS=$(JOBS) python3 -B tools/mutants/try_mutants.py --over-gate" \
+		$(foreach target,cases examples programs manual failures memory work,"$(target): make $(target)") \
+		"fuzz: $(MAKER) tools/fuzz/fuzz.py $(PROGRAM) --seed 1 --files 36" "bbolt: tools/bbolt/try.sh $(PROGRAM) 3" \
+		"etcd: $(TRY_ETCD) $(PROGRAM) --seed 1 --keys 300 --seconds 150"
+
+# Runs the gate with one check at a time and every proof anew, and writes what share of the whole each part takes to
+# tools/try/times.txt. Nothing else should run meanwhile.
+.PHONY: times
+times:
+	$(MAKE) test JOBS=1 ANEW=--anew TIMES=--write
 
 # Stores of etcd that lost half of their branches, and all.
 LOST_STORES = out/store_half.db out/store_all.db out/short_half.db out/short_all.db

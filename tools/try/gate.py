@@ -1,20 +1,23 @@
 #!/usr/bin/env python3
-"""Runs the commands of the gate, one after the other, and prints what they took, for `make test`.
+"""Runs the commands of the gate, one after the other, and prints what each part of them took, for `make test`.
 
-    gate.py COMMAND..
+    gate.py [--write] TIMES 'NAME: COMMAND'..
 
 Before the first command, after it and at the end a loop is timed for two seconds, so that a slow hour can be told from
-a slow change. The gate ends at the first command that fails, and its status is that command's."""
+a slow change. The gate ends at the first command that fails, and its status is that command's. If all pass, it compares
+each part's share of the whole with that of the file TIMES (`shares.py`), and fails if the share of a large part doubled.
+With --write it writes the file in place of that."""
 
 import resource
 import subprocess
 import sys
 import time
 
+from processors import Watch
+from shares import Times, compare, read_times, write_times
+
 STEPS = 500_000
 SECONDS = 2
-# Processor minutes that the gate may take: if the loop takes no longer than this, and in any hour.
-GOOD_HOUR, MOST_IN_GOOD_HOUR, MOST = 0.065, 80, 100
 
 
 def time_loop():
@@ -28,41 +31,56 @@ def time_loop():
     return (time.process_time() - begin) / rounds
 
 
-def run_all(commands, loops):
-    """Runs the commands until one fails, and returns its status. After the first one the loop is timed."""
-    for command in commands:
+def processor_seconds():
+    """What the commands took that have ended."""
+    used = resource.getrusage(resource.RUSAGE_CHILDREN)
+    return used.ru_utime + used.ru_stime
+
+
+def run_all(commands, loops, watch):
+    """Runs the commands until one fails, and returns its status, and the seconds of each part. After the first one the
+    loop is timed."""
+    parts = {}
+    for name, _, command in (it.partition(": ") for it in commands):
         print(command, flush=True)
+        begin = processor_seconds()
         status = subprocess.run(command, shell=True).returncode
+        checks = watch.taken()
+        parts.update(checks)
+        parts[name] = max(0, processor_seconds() - begin - sum(checks.values()))
         if status:
-            return status if status > 0 else 128 - status
+            return status if status > 0 else 128 - status, parts
         if len(loops) == 1:
             loops.append(time_loop())
-    return 0
+    return 0, parts
 
 
-def verdict(status, minutes, loops):
-    """How the gate ended. Without a failure, whether it kept its budget."""
-    if status:
-        return f"it FAILED with status {status}"
-    most = MOST_IN_GOOD_HOUR if max(loops) <= GOOD_HOUR else MOST
-    return f"{'no more' if minutes <= most else 'MORE'} than the {most} of such an hour"
-
-
-def main():
+def main(words):
     begin = time.monotonic()
+    is_written = words[0] == "--write"
+    file, *commands = words[is_written:]
     loops = [time_loop()]
-    status = run_all(sys.argv[1:], loops)
+    with Watch() as watch:
+        status, parts = run_all(commands, loops, watch)
     loops.append(time_loop())
-    used = resource.getrusage(resource.RUSAGE_CHILDREN)
-    minutes, clock = (used.ru_utime + used.ru_stime) / 60, (time.monotonic() - begin) / 60
-    times = ", ".join(f"{it:.3f}" for it in loops)
+    minutes, clock = processor_seconds() / 60, (time.monotonic() - begin) / 60
+    times = Times(parts, minutes, sum(loops) / len(loops))
+    faults = []
+    if not status and is_written:
+        write_times(file, times)
+    elif not status:
+        faults = compare(read_times(file), times)
+        status = 1 if faults else 0
+    loop_times = ", ".join(f"{it:.3f}" for it in loops)
     print(
-        f"the gate: {minutes:.1f} processor minutes, {clock:.1f} by the clock; a loop of {STEPS:,} steps took {times} s;"
-        f" {verdict(status, minutes, loops)}",
+        *faults,
+        f"the gate: {minutes:.1f} processor minutes, {clock:.1f} by the clock; a loop of {STEPS:,} steps took {loop_times} s"
+        f"{'' if not status else f'; it FAILED with status {status}'}",
+        sep="\n",
         flush=True,
     )
     return status
 
 
 if __name__ == "__main__":
-    sys.exit(main())
+    sys.exit(main(sys.argv[1:]))
