@@ -69,7 +69,8 @@ class Told:
 
     def __init__(self, text):
         self.verdicts, self.errors = {}, []
-        for line in text.split("\n"):
+        # (a message goes on in lines with an indent)
+        for line in text.replace("\n  ", " ").split("\n"):
             if found := VERDICT.match(line):
                 self.verdicts[found[1]] = found[2]
             elif (found := PLACE.match(line)) and not NAMES_ALONE.search(found[3]):
