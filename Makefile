@@ -3,11 +3,11 @@ PREFIX ?= /usr/local
 # Runs a tool that makes files. They take the format's numbers from tools/format.
 MAKER = PYTHONPATH=tools/format python3 -B
 # It also runs lines of docs/GUIDE.md, which a tool in tools/usage reads.
-TRY_ETCD = PYTHONPATH=tools/format:tools/usage python3 -B tools/etcd/try_etcd.py
+TRY_ETCD = env PYTHONPATH=tools/format:tools/usage python3 -B tools/etcd/try_etcd.py
 PROGRAM = crates/luntsegi/out/luntsegi
 CALLS = crates/test_calls/out/test_calls
 
-.PHONY: build calls help toolchain quick fmt demo set-up cases examples programs manual failures memory work bbolt etcd huge fuzz fuzz-wrong wrong-bodies test bench install dist deb clean
+.PHONY: build calls help toolchain quick fmt demo set-up peers cases examples programs manual failures memory work bbolt etcd huge fuzz fuzz-wrong wrong-bodies test bench install dist deb clean
 
 # Proves the libraries and the program, and builds it.
 build:
@@ -52,7 +52,7 @@ cases: $(PROGRAM) $(CALLS)
 	tools/try/cases.sh $(PROGRAM) $(CALLS)
 
 # Compares what is printed of real databases and of their copies with what bbolt finds, and what documents show.
-examples: $(PROGRAM)
+examples: $(PROGRAM) peers
 	tools/try/examples.sh $(PROGRAM)
 
 PROGRAMS = $(wildcard $(patsubst %,crates/bolt_%/README.md,bulk check cli commands etcd format job load recover report stats text tree))
@@ -82,20 +82,30 @@ SEED ?= $(shell date +%s)
 fuzz: $(PROGRAM)
 	$(MAKER) tools/fuzz/fuzz.py $(PROGRAM) --seed $(SEED) --seconds $(SECONDS)
 
-# Compares the program with bbolt's own library, also on files after random transactions by bbolt. It
-# needs Go and bbolt's source, Debian's packages golang-go and golang-github-coreos-bbolt-dev.
-bbolt: $(PROGRAM)
-	tools/bbolt/try.sh $(PROGRAM) 30
+# Fetches the newest bbolt and etcd of Debian's newer suites into out/peers, if they aren't there. Nothing is installed.
+peers:
+	tools/peers/fetch.sh
 
-# The same with 3,000 random files. SEED=N repeats those of another run.
+NEWEST_BBOLT = tools/peers/with.sh newest bbolt
+OTHER_BBOLT = tools/peers/with.sh other bbolt
+# Compares the program with the library of the newest bbolt, also on files after random transactions by bbolt, and then
+# with the installed one (Debian's packages golang-go and golang-github-coreos-bbolt-dev), if that is another.
+bbolt: $(PROGRAM) peers
+	$(NEWEST_BBOLT) tools/bbolt/try.sh $(PROGRAM) 30
+	$(OTHER_BBOLT) tools/bbolt/try.sh $(PROGRAM) 30
+
+# The same with 3,000 random files and the newest bbolt. SEED=N repeats those of another run.
 .PHONY: bbolt-long
-bbolt-long: $(PROGRAM)
-	tools/bbolt/try.sh $(PROGRAM) 30 3000 $(SEED)
+bbolt-long: $(PROGRAM) peers
+	$(NEWEST_BBOLT) tools/bbolt/try.sh $(PROGRAM) 30 3000 $(SEED)
 
-# Compares the program with an etcd server on the files that etcd writes. SEED=N repeats the writes of another run. It
-# needs Debian's packages etcd-server and etcd-client.
-etcd: $(PROGRAM)
-	$(TRY_ETCD) $(PROGRAM) --seed $(SEED) --keys 3000 --seconds 600
+NEWEST_ETCD = tools/peers/with.sh newest etcd
+OTHER_ETCD = tools/peers/with.sh other etcd
+# Compares the program with a server of the newest etcd on the files that etcd writes, and then with the installed one
+# (Debian's packages etcd-server and etcd-client), if that is another. SEED=N repeats the writes of another run.
+etcd: $(PROGRAM) peers
+	$(NEWEST_ETCD) $(TRY_ETCD) $(PROGRAM) --seed $(SEED) --keys 3000 --seconds 600
+	$(OTHER_ETCD) $(TRY_ETCD) $(PROGRAM) --seed $(SEED) --keys 3000 --seconds 600
 
 # Tries sparse files of more than 4 GB, if there is memory for them.
 huge: $(PROGRAM)
@@ -121,21 +131,23 @@ set-up:
 	tools/set_up.sh
 
 # The merge gate: every proof from nothing, the mutants of crates/*/must-fail, the built programs, what these targets
-# try, the same random files each time, and rounds beside bbolt and etcd. The prover keeps freed memory for 10 s: fewer
+# try, the same random files each time, and rounds beside bbolt and etcd, the newest and then the installed ones. The prover keeps freed memory for 10 s: fewer
 # page faults. It ends with its processor minutes.
-test: toolchain set-up
+test: toolchain set-up peers
 	python3 -B tools/try/gate.py "RT_JOBS=$(JOBS) MIMALLOC_PURGE_DELAY=10000 rt ci" \
 		"make cases examples programs manual failures memory work" \
-		"$(MAKER) tools/fuzz/fuzz.py $(PROGRAM) --seed 1 --files 36" "tools/bbolt/try.sh $(PROGRAM) 3" \
-		"$(TRY_ETCD) $(PROGRAM) --seed 1 --keys 300 --seconds 150"
+		"$(MAKER) tools/fuzz/fuzz.py $(PROGRAM) --seed 1 --files 36" \
+		"$(NEWEST_BBOLT) tools/bbolt/try.sh $(PROGRAM) 3" "$(OTHER_BBOLT) tools/bbolt/try.sh $(PROGRAM) 1 60" \
+		"$(NEWEST_ETCD) $(TRY_ETCD) $(PROGRAM) --seed 1 --keys 300 --seconds 150" \
+		"$(OTHER_ETCD) $(TRY_ETCD) $(PROGRAM) --seed 1 --keys 100 --seconds 150"
 
 # Stores of etcd that lost half of their branches, and all.
 LOST_STORES = out/store_half.db out/store_all.db out/short_half.db out/short_all.db
 
 # Times the program on large files and, if it can be built, bbolt's library.
-bench: $(PROGRAM) out/measured out/large.db out/wide.db out/long.db out/sparse.db out/very_deep.db out/lost_leaves.db \
+bench: $(PROGRAM) peers out/measured out/large.db out/wide.db out/long.db out/sparse.db out/very_deep.db out/lost_leaves.db \
 		out/lost_branch.db out/half_freed.db out/freed.db $(LOST_STORES)
-	tools/bench/bench.sh $(PROGRAM)
+	$(NEWEST_BBOLT) tools/bench/bench.sh $(PROGRAM)
 
 out/measured: tools/bench/measured.c
 	mkdir -p $(@D)

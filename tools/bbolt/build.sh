@@ -8,4 +8,5 @@ if ! command -v go > /dev/null || [ ! -d "$sources/src/go.etcd.io/bbolt" ]; then
     exit 0
 fi
 mkdir -p out
+rm -f out/bbolt
 GO111MODULE=off GOPATH=$sources GOCACHE=$PWD/out/go go build -o out/bbolt ./tools/bbolt
