@@ -7,7 +7,7 @@ TRY_ETCD = env PYTHONPATH=tools/format:tools/usage python3 -B tools/etcd/try_etc
 PROGRAM = crates/luntsegi/out/luntsegi
 CALLS = crates/test_calls/out/test_calls
 
-.PHONY: build calls help toolchain quick fmt demo set-up peers cases examples programs manual failures memory work bbolt etcd huge fuzz fuzz-wrong wrong-bodies test bench install dist deb clean
+.PHONY: build calls help toolchain quick fmt demo set-up peers cases examples programs manual installed failures memory work bbolt etcd huge fuzz fuzz-wrong wrong-bodies test bench install dist deb clean
 
 # Proves the libraries and the program, and builds it.
 build:
@@ -76,6 +76,12 @@ memory: $(PROGRAM) $(CALLS) out/refuse.so out/nested.db out/deep.db out/damaged.
 work: $(PROGRAM) $(CALLS) out/refuse.so
 	tools/try/work.sh $(PROGRAM) $(CALLS)
 
+# Installs everything below out/installed, and tries the launcher.
+installed: $(PROGRAM) out/luntsegi.1
+	rm -rf out/installed
+	$(MAKE) --no-print-directory -s install PREFIX=out/installed
+	tools/try/installed.sh $(PROGRAM) out/installed
+
 SECONDS ?= 60
 SEED ?= $(shell date +%s)
 # Compares what the program prints of random files. SEED=N repeats the files of another run.
@@ -135,7 +141,7 @@ set-up:
 # page faults. It ends with its processor minutes.
 test: toolchain set-up peers
 	python3 -B tools/try/gate.py "RT_JOBS=$(JOBS) MIMALLOC_PURGE_DELAY=10000 rt ci" \
-		"make cases examples programs manual failures memory work" \
+		"make cases examples programs manual installed failures memory work" \
 		"$(MAKER) tools/fuzz/fuzz.py $(PROGRAM) --seed 1 --files 36" \
 		"$(NEWEST_BBOLT) tools/bbolt/try.sh $(PROGRAM) 3" "$(OTHER_BBOLT) tools/bbolt/try.sh $(PROGRAM) 1 60" \
 		"$(NEWEST_ETCD) $(TRY_ETCD) $(PROGRAM) --seed 1 --keys 300 --seconds 150" \
@@ -144,10 +150,11 @@ test: toolchain set-up peers
 # Stores of etcd that lost half of their branches, and all.
 LOST_STORES = out/store_half.db out/store_all.db out/short_half.db out/short_all.db
 
-# Times the program on large files and, if it can be built, bbolt's library.
-bench: $(PROGRAM) peers out/measured out/large.db out/wide.db out/long.db out/sparse.db out/very_deep.db out/lost_leaves.db \
+# Times the installed program on large files and, if it can be built, bbolt's library.
+bench: $(PROGRAM) out/luntsegi.1 peers out/measured out/large.db out/wide.db out/long.db out/sparse.db out/very_deep.db out/lost_leaves.db \
 		out/lost_branch.db out/half_freed.db out/freed.db $(LOST_STORES)
-	$(NEWEST_BBOLT) tools/bench/bench.sh $(PROGRAM)
+	$(MAKE) --no-print-directory -s install PREFIX=out/installed
+	$(NEWEST_BBOLT) tools/bench/bench.sh out/installed/bin/luntsegi
 
 out/measured: tools/bench/measured.c
 	mkdir -p $(@D)
@@ -213,9 +220,10 @@ out/luntsegi.1: docs/COMMANDS.md docs/CHANGELOG.md tools/usage/manual.py tools/p
 	mkdir -p $(@D)
 	python3 -B tools/usage/manual.py $(PROGRAM) $< "$$(tools/package/release.sh date)" > $@
 
-# Installs the program, the manual page, the completions, the documents and the examples below PREFIX.
+# Installs the program with its launcher, the manual page, the completions, the documents and the examples below PREFIX.
 install: $(PROGRAM) out/luntsegi.1
-	install -D -m 755 $(PROGRAM) $(DESTDIR)$(PREFIX)/bin/luntsegi
+	install -D -m 755 $(PROGRAM) $(DESTDIR)$(PREFIX)/libexec/luntsegi
+	install -D -m 755 tools/package/launcher.sh $(DESTDIR)$(PREFIX)/bin/luntsegi
 	install -D -m 644 out/luntsegi.1 $(DESTDIR)$(PREFIX)/share/man/man1/luntsegi.1
 	install -D -m 644 completions/luntsegi.bash $(DESTDIR)$(PREFIX)/share/bash-completion/completions/luntsegi
 	install -D -m 644 completions/_luntsegi $(DESTDIR)$(ZSH_COMPLETIONS)/_luntsegi
