@@ -100,10 +100,12 @@ bbolt: $(PROGRAM) peers
 	$(NEWEST_BBOLT) tools/bbolt/try.sh $(PROGRAM) 30
 	$(OTHER_BBOLT) tools/bbolt/try.sh $(PROGRAM) 30
 
-# The same with 3,000 random files and the newest bbolt. SEED=N repeats those of another run.
+# The same with 3,000 random files and the newest bbolt, and the files that its own tests leave behind. SEED=N repeats the
+# random files of another run.
 .PHONY: bbolt-long
 bbolt-long: $(PROGRAM) peers
 	$(NEWEST_BBOLT) tools/bbolt/try.sh $(PROGRAM) 30 3000 $(SEED)
+	$(NEWEST_BBOLT) python3 -B tools/bbolt/own_tests.py $(PROGRAM) out/bbolt out/own_tests
 
 NEWEST_ETCD = tools/peers/with.sh newest etcd
 OTHER_ETCD = tools/peers/with.sh other etcd

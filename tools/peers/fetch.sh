@@ -12,6 +12,7 @@ set -eu
 tools=$PWD/tools/peers
 peers=$PWD/out/peers
 log=$peers/log
+cache=$PWD/out/go
 suites="sid trixie"
 keyring=/usr/share/keyrings/debian-archive-keyring.gpg
 
@@ -45,7 +46,19 @@ unpack() (
 	done
 	dpkg-deb -f "$1"_*.deb Version | "$tools/upstream.sh" >"$folder/new"
 	rm ./*.deb
+	replace_links "$PWD"
 )
+
+# Puts in the place of each link what it leads to in this folder. rt refuses a repository with a link anywhere.
+replace_links() {
+	find "$1" -type l | while IFS= read -r link; do
+		leads_to=$(readlink -f "$link")
+		rm "$link"
+		case $leads_to in
+		"$1"/*) [ ! -e "$leads_to" ] || cp -rlL "$leads_to" "$link" ;;
+		esac
+	done
+}
 
 fetch_etcd() {
 	unpack "$1" etcd-server etcd-client
@@ -57,7 +70,8 @@ fetch_bbolt() {
 	[ -n "$go" ] || return
 	unpack "$1" golang-github-coreos-bbolt-dev "$go" "${go%-go}-src" golang-golang-x-sys-dev golang-golang-x-sync-dev \
 		golang-github-spf13-cobra-dev golang-github-spf13-pflag-dev golang-github-inconshreveable-mousetrap-dev \
-		golang-github-stretchr-testify-dev golang-github-etcd-io-gofail-dev || return
+		golang-github-stretchr-testify-dev golang-github-davecgh-go-spew-dev golang-github-pmezard-go-difflib-dev \
+		golang-github-stretchr-objx-dev golang-gopkg-yaml.v3-dev golang-github-etcd-io-gofail-dev || return
 	build_command "$1"
 }
 
@@ -70,7 +84,7 @@ build_command() {
 	rm -r "$1"/bbolt-* "$1"/*.orig.tar.* "$1"/*.debian.tar.* "$1"/*.dsc
 	goroot=$(echo "$1"/root/usr/lib/go-*)
 	(cd "$source/cmd/bbolt" && PATH=$goroot/bin:$PATH GOROOT=$goroot GOPATH=$gopath GO111MODULE=off GOTOOLCHAIN=local \
-		GOCACHE=$peers/go go build -o "$1/bbolt" .)
+		GOCACHE=$cache go build -o "$1/bbolt" .)
 }
 
 # Fetches one of both, if it isn't there.

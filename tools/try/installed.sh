@@ -9,8 +9,10 @@ set -eux
 program=$1
 folder=$2
 launcher=$folder/bin/luntsegi
-linked=$folder/linked
-ln -sf "$PWD/$launcher" "$linked"
+elsewhere=$(mktemp -d)
+trap 'rm -r "$elsewhere"' EXIT
+linked=$elsewhere/luntsegi
+ln -s "$PWD/$launcher" "$linked"
 
 # Runs a command line by the program and by the launcher. Both must end and print the same.
 same() {
