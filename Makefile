@@ -3,11 +3,11 @@ PREFIX ?= /usr/local
 # Runs a tool that makes files. They take the format's numbers from tools/format.
 MAKER = PYTHONPATH=tools/format python3 -B
 # It also runs lines of docs/GUIDE.md, which a tool in tools/usage reads.
-TRY_ETCD = PYTHONPATH=tools/format:tools/usage python3 -B tools/etcd/try_etcd.py
+TRY_ETCD = env PYTHONPATH=tools/format:tools/usage python3 -B tools/etcd/try_etcd.py
 PROGRAM = crates/luntsegi/out/luntsegi
 CALLS = crates/test_calls/out/test_calls
 
-.PHONY: build calls help toolchain quick fmt demo set-up cases examples programs manual failures memory work bbolt etcd huge fuzz fuzz-wrong mutants test bench install dist deb clean
+.PHONY: build calls help toolchain quick fmt demo set-up peers cases examples programs manual installed failures memory work bbolt etcd huge fuzz fuzz-wrong mutants test bench install dist deb clean
 
 # Proves the libraries and the program, and builds it.
 build:
@@ -52,7 +52,7 @@ cases: $(PROGRAM) $(CALLS)
 	tools/try/cases.sh $(PROGRAM) $(CALLS)
 
 # Compares what is printed of real databases and of their copies with what bbolt finds, and what documents show.
-examples: $(PROGRAM)
+examples: $(PROGRAM) peers
 	tools/try/examples.sh $(PROGRAM)
 
 PROGRAMS = $(wildcard $(patsubst %,crates/bolt_%/README.md,bulk check cli commands etcd format job load recover report stats text tree))
@@ -76,26 +76,44 @@ memory: $(PROGRAM) $(CALLS) out/refuse.so out/nested.db out/deep.db out/damaged.
 work: $(PROGRAM) $(CALLS) out/refuse.so
 	tools/try/work.sh $(PROGRAM) $(CALLS)
 
+# Installs everything below out/installed, and tries the launcher.
+installed: $(PROGRAM) out/luntsegi.1
+	rm -rf out/installed
+	$(MAKE) --no-print-directory -s install PREFIX=out/installed
+	tools/try/installed.sh $(PROGRAM) out/installed
+
 SECONDS ?= 60
 SEED ?= $(shell date +%s)
 # Compares what the program prints of random files. SEED=N repeats the files of another run.
 fuzz: $(PROGRAM)
 	$(MAKER) tools/fuzz/fuzz.py $(PROGRAM) --seed $(SEED) --seconds $(SECONDS)
 
-# Compares the program with bbolt's own library, also on files after random transactions by bbolt. It
-# needs Go and bbolt's source, Debian's packages golang-go and golang-github-coreos-bbolt-dev.
-bbolt: $(PROGRAM)
-	tools/bbolt/try.sh $(PROGRAM) 30
+# Fetches the newest bbolt and etcd of Debian's newer suites into out/peers, if they aren't there. Nothing is installed.
+peers:
+	tools/peers/fetch.sh
 
-# The same with 3,000 random files. SEED=N repeats those of another run.
+NEWEST_BBOLT = tools/peers/with.sh newest bbolt
+OTHER_BBOLT = tools/peers/with.sh other bbolt
+# Compares the program with the library of the newest bbolt, also on files after random transactions by bbolt, and then
+# with the installed one (Debian's packages golang-go and golang-github-coreos-bbolt-dev), if that is another.
+bbolt: $(PROGRAM) peers
+	$(NEWEST_BBOLT) tools/bbolt/try.sh $(PROGRAM) 30
+	$(OTHER_BBOLT) tools/bbolt/try.sh $(PROGRAM) 30
+
+# The same with 3,000 random files and the newest bbolt, and the files that its own tests leave behind. SEED=N repeats the
+# random files of another run.
 .PHONY: bbolt-long
-bbolt-long: $(PROGRAM)
-	tools/bbolt/try.sh $(PROGRAM) 30 3000 $(SEED)
+bbolt-long: $(PROGRAM) peers
+	$(NEWEST_BBOLT) tools/bbolt/try.sh $(PROGRAM) 30 3000 $(SEED)
+	$(NEWEST_BBOLT) python3 -B tools/bbolt/own_tests.py $(PROGRAM) out/bbolt out/own_tests
 
-# Compares the program with an etcd server on the files that etcd writes. SEED=N repeats the writes of another run. It
-# needs Debian's packages etcd-server and etcd-client.
-etcd: $(PROGRAM)
-	$(TRY_ETCD) $(PROGRAM) --seed $(SEED) --keys 3000 --seconds 600
+NEWEST_ETCD = tools/peers/with.sh newest etcd
+OTHER_ETCD = tools/peers/with.sh other etcd
+# Compares the program with a server of the newest etcd on the files that etcd writes, and then with the installed one
+# (Debian's packages etcd-server and etcd-client), if that is another. SEED=N repeats the writes of another run.
+etcd: $(PROGRAM) peers
+	$(NEWEST_ETCD) $(TRY_ETCD) $(PROGRAM) --seed $(SEED) --keys 3000 --seconds 600
+	$(OTHER_ETCD) $(TRY_ETCD) $(PROGRAM) --seed $(SEED) --keys 3000 --seconds 600
 
 # Tries sparse files of more than 4 GB, if there is memory for them.
 huge: $(PROGRAM)
@@ -120,14 +138,17 @@ set-up:
 	tools/set_up.sh
 
 # The merge gate: every proof from nothing, the built programs, the mutants, what these targets try, the same random
-# files each time, and rounds beside bbolt and etcd. The prover keeps freed memory for 10 s: fewer page faults. It ends
-# with its processor minutes, and fails if a large part takes twice its share of tools/try/times.txt.
-test: toolchain set-up
+# files each time, and rounds beside bbolt and etcd, the newest and then the installed ones. The prover keeps freed
+# memory for 10 s: fewer page faults. It ends with its processor minutes, and fails if a large part takes twice its share
+# of tools/try/times.txt.
+test: toolchain set-up peers
 	MIMALLOC_PURGE_DELAY=10000 python3 -B tools/try/gate.py $(TIMES) tools/try/times.txt "rt ci: RT_JOBS=$(JOBS) rt ci $(ANEW)" \
 		"mutants: JOBS=$(JOBS) python3 -B tools/mutants/try_mutants.py --over-gate" \
-		$(foreach target,cases examples programs manual failures memory work,"$(target): make $(target)") \
-		"fuzz: $(MAKER) tools/fuzz/fuzz.py $(PROGRAM) --seed 1 --files 36" "bbolt: tools/bbolt/try.sh $(PROGRAM) 3" \
-		"etcd: $(TRY_ETCD) $(PROGRAM) --seed 1 --keys 300 --seconds 150"
+		$(foreach target,cases examples programs manual installed failures memory work,"$(target): make $(target)") \
+		"fuzz: $(MAKER) tools/fuzz/fuzz.py $(PROGRAM) --seed 1 --files 36" \
+		"bbolt: $(NEWEST_BBOLT) tools/bbolt/try.sh $(PROGRAM) 3" "other bbolt: $(OTHER_BBOLT) tools/bbolt/try.sh $(PROGRAM) 1 60" \
+		"etcd: $(NEWEST_ETCD) $(TRY_ETCD) $(PROGRAM) --seed 1 --keys 300 --seconds 150" \
+		"other etcd: $(OTHER_ETCD) $(TRY_ETCD) $(PROGRAM) --seed 1 --keys 100 --seconds 150"
 
 # Runs the gate with one check at a time and every proof anew, and writes what share of the whole each part takes to
 # tools/try/times.txt. Nothing else should run meanwhile.
@@ -138,10 +159,11 @@ times:
 # Stores of etcd that lost half of their branches, and all.
 LOST_STORES = out/store_half.db out/store_all.db out/short_half.db out/short_all.db
 
-# Times the program on large files and, if it can be built, bbolt's library.
-bench: $(PROGRAM) out/measured out/large.db out/wide.db out/long.db out/sparse.db out/very_deep.db out/lost_leaves.db \
+# Times the installed program on large files and, if it can be built, bbolt's library.
+bench: $(PROGRAM) out/luntsegi.1 peers out/measured out/large.db out/wide.db out/long.db out/sparse.db out/very_deep.db out/lost_leaves.db \
 		out/lost_branch.db out/half_freed.db out/freed.db $(LOST_STORES)
-	tools/bench/bench.sh $(PROGRAM)
+	$(MAKE) --no-print-directory -s install PREFIX=out/installed
+	$(NEWEST_BBOLT) tools/bench/bench.sh out/installed/bin/luntsegi
 
 out/measured: tools/bench/measured.c
 	mkdir -p $(@D)
@@ -207,9 +229,10 @@ out/luntsegi.1: docs/COMMANDS.md docs/CHANGELOG.md tools/usage/manual.py tools/p
 	mkdir -p $(@D)
 	python3 -B tools/usage/manual.py $(PROGRAM) $< "$$(tools/package/release.sh date)" > $@
 
-# Installs the program, the manual page, the completions, the documents and the examples below PREFIX.
+# Installs the program with its launcher, the manual page, the completions, the documents and the examples below PREFIX.
 install: $(PROGRAM) out/luntsegi.1
-	install -D -m 755 $(PROGRAM) $(DESTDIR)$(PREFIX)/bin/luntsegi
+	install -D -m 755 $(PROGRAM) $(DESTDIR)$(PREFIX)/libexec/luntsegi
+	install -D -m 755 tools/package/launcher.sh $(DESTDIR)$(PREFIX)/bin/luntsegi
 	install -D -m 644 out/luntsegi.1 $(DESTDIR)$(PREFIX)/share/man/man1/luntsegi.1
 	install -D -m 644 completions/luntsegi.bash $(DESTDIR)$(PREFIX)/share/bash-completion/completions/luntsegi
 	install -D -m 644 completions/_luntsegi $(DESTDIR)$(ZSH_COMPLETIONS)/_luntsegi

@@ -11,6 +11,7 @@
 | `zero PAGE ..` | pages of zeros |
 | `at OFFSET BYTES ..` | bytes over those at a place |
 | `cut LENGTH` | the file ends there |
+| `example NAME` | the file of this name in `examples`, which another program wrote |
 | `nested COUNT` | this many buckets `b`, each in the preceding one, in pages of 1,024 bytes |
 | `levels COUNT` | this many pages of 1,024 bytes, each but the last a branch with one child |
 
@@ -26,6 +27,7 @@ written.
 Nothing here decides a layout: pages are placed exactly as the lines say.
 """
 
+import os
 import re
 import struct
 
@@ -45,6 +47,7 @@ FRESH = {
     "txid": 0,
 }
 GREATEST_LENGTH = 2**32 - 1
+EXAMPLES = os.path.join(os.path.dirname(os.path.abspath(__file__)), "..", "examples")
 REVISION = r"%(\d+)\.(\d+)(t?)"
 
 
@@ -56,6 +59,11 @@ def make(text):
             verb, words = halves(line, " ")
             draft.take(verb, words.split())
     return bytes(draft.file)
+
+
+def read_example(name):
+    with open(os.path.join(EXAMPLES, name), "rb") as file:
+        return file.read()
 
 
 def meta_page(number, fields):
@@ -137,6 +145,8 @@ class Draft:
                 self.set_fields(self.metas, words)
             case "meta0" | "meta1":
                 self.set_fields([self.metas[int(verb[4:])]], words)
+            case "example":
+                self.file = bytearray(read_example(*words))
             case "size":
                 self.page_size = int(words[0])
             case "pages":

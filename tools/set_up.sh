@@ -33,8 +33,8 @@ for package in $(missing); do
 	zsh | fish) echo "set-up: $package is missing: its completions are not tried" ;;
 	valgrind) echo "set-up: valgrind is missing: no instructions are counted" ;;
 	jq) echo "set-up: jq is missing: two lines of docs/GUIDE.md aren't run" ;;
-	golang-*) echo "set-up: $package is missing: nothing is compared with bbolt" ;;
-	etcd-*) echo "set-up: $package is missing: nothing is compared with etcd" ;;
+	golang-*) echo "set-up: $package is missing: nothing is compared with an installed bbolt" ;;
+	etcd-*) echo "set-up: $package is missing: nothing is compared with an installed etcd" ;;
 	esac
 done
 exit "$status"

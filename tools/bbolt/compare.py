@@ -1,8 +1,8 @@
 """Compares the program's output with that of bbolt's own library.
 
-    compare.py PROGRAM BBOLT FOLDER [--rounds N] [--random N] [--seed N] [--guide DOCUMENT] FILE ..
+    compare.py PROGRAM BBOLT FOLDER --version V [--rounds N] [--random N] [--seed N] [--guide DOCUMENT] FILE ..
 
-BBOLT is the program built from main.go beside this file. The files compared are each FILE and some
+BBOLT is the program built from main.go beside this file, with the library of this version. The files compared are each FILE and some
 that bbolt makes in FOLDER. Of each: bbolt accepts it where the program does, and both list the same
 and count the same pages; of its compact copies in both layouts, and of what is loaded of the lines
 that bbolt's cursor prints, too. Then bbolt makes random transactions, N rounds of them, on the files
@@ -15,7 +15,8 @@ key. From each copy that the commands of DOCUMENT made, bbolt deletes every key:
 Each file in which `check --for-bbolt` finds nothing, bbolt empties key by key, and copies by its own compact. It finds
 nothing in what bbolt wrote. In N random sound files (--random) it finds nothing either: bbolt drains each in four orders,
 fills it, compacts it and backs it up, and its own check and the content are compared after each step, and when the file
-is opened again. Of each of the nine things that are found, one small file makes bbolt fail.
+is opened again. For each of the ten things that are found there is a small file that makes bbolt fail, of this or another
+version.
 """
 
 import argparse
@@ -212,6 +213,7 @@ def main():
     parser.add_argument("bbolt", type=os.path.abspath)
     parser.add_argument("folder")
     parser.add_argument("files", nargs="*")
+    parser.add_argument("--version", required=True)
     parser.add_argument("--rounds", type=int, default=30)
     parser.add_argument("--random", type=int, default=300)
     parser.add_argument("--seed", type=int, default=1)
@@ -227,7 +229,7 @@ def main():
     for file in words.files + made:
         compare_file(programs, file, words.folder)
     count = compare_panics(programs, made[KINDS.index("long")], words.folder)
-    failing = try_failing(programs, words.folder)
+    failing = try_failing(programs, words.folder, words.version)
     drawn = try_random(programs, words.folder, words.random, words.seed)
     for file in made:
         change_file(programs, programs.copy_for_bbolt(file, file + ".copy"), words.rounds)

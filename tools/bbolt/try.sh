@@ -1,5 +1,5 @@
 #!/bin/sh
-# Compares PROGRAM with bbolt's own library:
+# Compares PROGRAM with bbolt's own library, of the version PEER, 1.3 if that isn't set:
 #
 #     try.sh PROGRAM ROUNDS [FILES [SEED]]
 #
@@ -11,5 +11,6 @@ set -eu
 tools/bbolt/build.sh
 [ -x out/bbolt ] || exit 0
 python3 -B tools/usage/run_examples.py "$1" docs/GUIDE.md
-python3 -B tools/bbolt/compare.py "$1" out/bbolt out/bbolt_files examples/*.db --rounds "$2" --random "${3:-300}" --seed "${4:-1}" --guide docs/GUIDE.md
+python3 -B tools/bbolt/compare.py "$1" out/bbolt out/bbolt_files examples/*.db --version "${PEER:-1.3}" --rounds "$2" \
+    --random "${3:-300}" --seed "${4:-1}" --guide docs/GUIDE.md
 python3 -B tools/lost/try_lost_pages.py --bbolt out/bbolt "$1" out/bbolt_files/churn.db out/bbolt_files/inline.db

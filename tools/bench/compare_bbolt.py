@@ -7,8 +7,8 @@ BBOLT is the program of tools/bbolt. Each command is run by both in turn; the fi
 five. If BUCKET, a bucket of FILE, and KEY, a key of it, are there, `keys` and `get` are timed too. A copy by
 bbolt is made with each size of a transaction that one would choose, its own default and a large one, and not
 synced; the faster one counts. Memory is the most that was resident; bbolt maps the file, and what it touched of
-it counts too. Prints a row for each command, and one of `check` in turn without large pages and with them, which
-the kernel may give on request. The status is 1 if a command fails.
+it counts too. Prints a row for each command, and one of `check` in turn without large pages and with them, for which
+the launcher of the installed program asks the kernel. The status is 1 if a command fails.
 """
 
 import os
@@ -21,6 +21,7 @@ from statistics import median
 MEASURED = "out/measured"
 ROUNDS = 5
 TRANSACTIONS = (65536, 16 << 20)
+SMALL_PAGES = ["env", "GLIBC_TUNABLES=glibc.malloc.hugetlb=0"]
 LARGE_PAGES = ["env", "GLIBC_TUNABLES=glibc.malloc.hugetlb=1"]
 
 
@@ -72,7 +73,8 @@ def compare_copies(program, bbolt, file):
 def compare_large_pages(program, file):
     """Prints the row of `check` without large pages and with them."""
     words = [program, "check", file]
-    shown("check without large pages, with them", medians(lambda: run(words), lambda: run([*LARGE_PAGES, *words])))
+    calls = [lambda pages=pages: run([*pages, *words]) for pages in (SMALL_PAGES, LARGE_PAGES)]
+    shown("check without large pages, with them", medians(*calls))
 
 
 def main():

@@ -101,8 +101,13 @@ class Store:
         if self.branches:
             yield self.zeroed("every second branch", self.branches[::2])
         yield self.zeroed("some leaves and a branch", self.leaves[2::5] + self.branches[:1])
-        half = self.data[: len(self.data) // 2]
-        yield Damage("its second half", half, [one for one in self.leaves if self.end_of(one) <= len(half)], True)
+        yield self.cut()
+
+    def cut(self):
+        """The damage if the file ends before the leaf in the middle, by place. Half of a file may lack nothing but free
+        pages."""
+        data = self.data[: sorted(self.leaves)[len(self.leaves) // 2] * self.page_size]
+        return Damage("half of its leaves", data, [one for one in self.leaves if self.end_of(one) <= len(data)], True)
 
     def newest(self, leaves):
         """The newest revision of each name on some leaves. A deletion has version 0."""

@@ -5,10 +5,13 @@ import os
 from answers import ask, keys_at, last_revision
 from compare import Difference
 from damage import Store
+from guide import Room, add_programs, plain_blocks
 from server import Server, restore_snapshot
 
 # At how many revisions the keys are compared.
 REVISIONS_ASKED = 5
+# The last of the guide's lines there adds the bucket `meta`, without which etcd 3.5 restores nothing.
+ADDED_META = "etcd after a recovery"
 
 
 def read_file(path):
@@ -37,6 +40,8 @@ class Repairs:
         self.before = before
         self.store = Store(read_file(file))
         self.newest = self.store.newest(self.store.leaves)
+        self.programs = os.path.abspath(os.path.join(folder, "programs"))
+        add_programs(self.programs, comparisons.program)
 
     def path(self, name, count):
         return os.path.join(self.folder, f"{name}{count}")
@@ -46,7 +51,7 @@ class Repairs:
         self.comparisons.want_same_lists("the keys on the leaves of the file", self.before.keys, kept(self.newest))
         for count, damage in enumerate(self.store.damages()):
             self.repair(damage, self.path("damaged", count), self.path("repaired", count))
-            restore_snapshot(self.path("repaired", count), self.path("served", count))
+            restore_snapshot(self.restorable(self.path("repaired", count)), self.path("served", count))
             self.serve(damage, self.path("served", count), steps)
 
     def is_found(self, damage):
@@ -65,6 +70,15 @@ class Repairs:
             self.comparisons.want_same(f"compact {self.file}", (0, b""), (copied.status, copied.err))
             same = read_file(whole) == read_file(repaired)
             self.comparisons.want_same(f"the repair without {damage.lost} is the copy of the whole file", True, same)
+
+    def restorable(self, repaired):
+        """A repair with the bucket `meta`. If it was lost, the guide's line adds an empty one."""
+        if b"meta" in self.comparisons.run("buckets", repaired).out.splitlines():
+            return repaired
+        added = os.path.abspath(repaired) + ".meta"
+        words = {"new.snapshot": os.path.abspath(repaired), "with_meta.snapshot": added}
+        Room(self.folder, self.programs, words).run(plain_blocks()[ADDED_META][-1], {})
+        return added
 
     def serve(self, damage, folder, steps):
         """Compares what a server reports of a repair. Then it has writes, deletions and a compaction."""

@@ -19,6 +19,8 @@ END_SECONDS = 10
 STORE_SECONDS = 0.5
 # How often a start is tried: another process may take one of the ports first.
 STARTS = 3
+# What a server with users answers somebody who hasn't logged in.
+NO_LOGIN = "user name is empty"
 
 
 class EtcdFault(Exception):
@@ -62,10 +64,13 @@ def faults_named(path):
         raise EtcdFault(f"{path}: {fault!r}") from None
 
 
-def send(connection, path, body, token=None):
+def send(connection, path, body=None, token=None):
     """The response to a request, which must have succeeded. A user who has logged in has a token."""
-    user = {"Authorization": token} if token else {}
-    connection.request("POST", "/v3/" + path, json.dumps(body), {"Content-Type": "application/json"} | user)
+    if body is None:
+        connection.request("GET", "/" + path)
+    else:
+        user = {"Authorization": token} if token else {}
+        connection.request("POST", "/v3/" + path, json.dumps(body), {"Content-Type": "application/json"} | user)
     response = connection.getresponse()
     if response.status != 200:
         raise EtcdFault(f"{path}: {response.read()[-300:]}")
@@ -149,13 +154,14 @@ class Server:
         return False
 
     def serves(self):
-        """Whether this server serves. Another one may have taken the port: then the name of its member differs."""
+        """Whether this server serves. Another one may have taken the port: then the name of its member differs, unless it
+        is kept from those who haven't logged in, as by etcd 3.5."""
         try:
+            self.version = self.request("version")["etcdserver"]
             members = self.request("cluster/member/list", {})["members"]
-            self.version = self.request("maintenance/status", {})["version"]
-        except EtcdFault:
+        except EtcdFault as fault:
             self.connection.close()
-            return False
+            return NO_LOGIN in str(fault)
         return [member.get("name") for member in members] == [self.name]
 
     def stop(self):
@@ -179,8 +185,8 @@ class Server:
         self.process.kill()
         self.process.wait(END_SECONDS)
 
-    def request(self, path, body):
-        """What the server returns for a request to its JSON gateway."""
+    def request(self, path, body=None):
+        """What the server returns for a request to its JSON gateway or, without a body, at a path beside that."""
         with faults_named(path):
             return json.loads(send(self.connection, path, body, self.token).read())
 

@@ -18,8 +18,8 @@ Of each file
 - `etcd-get` prints some values, and finds no deleted key;
 - `etcd-check` finds nothing.
 
-Copies of the second file lose pages of the bucket `key`: its root page, every second branch, some leaves, and their
-second half. A server starts from the copy of each that `etcd-repair --etcd-snapshot` makes, and has more writes and
+Copies of the second file lose pages of the bucket `key`: its root page, every second branch, some leaves, and half of
+them with the end of the file. A server starts from the copy of each that `etcd-repair --etcd-snapshot` makes, and has more writes and
 another compaction. If all leaves are found, it reports what the first server did. If not, its keys are those of the
 leaves that are left.
 

@@ -10,7 +10,7 @@ from compare import Difference
 from damage import Store
 from guide import BY_ETCD, SPANS_BY_ETCD, Room, WrongLine, add_programs, plain_blocks, refuse_unknown
 from repairs import read_file, write_file
-from server import HOST, EtcdFault, Server
+from server import HOST, NO_LOGIN, EtcdFault, Server
 
 # How many keys are put before each end of the server, and after how many entries of its log it makes a `.snap` file.
 PUTS = 125
@@ -52,7 +52,7 @@ def served_keys(server):
     try:
         keys_at(server, 0)
     except EtcdFault as fault:
-        if "user name is empty" not in str(fault):
+        if NO_LOGIN not in str(fault):
             raise
     else:
         raise Difference("etcd serves keys to all")
@@ -157,7 +157,7 @@ class Guide:
         write_file(self.path("lost.db"), data)
         folder = self.path("served")
         room = self.room("recovery", {"FILE": self.path("lost.db"), "NEW_FOLDER": folder})
-        repair, login, (restore, start) = self.recovery
+        repair, login, (restore, start), _ = self.recovery
         self.run(room, [*repair, *login, restore])
         shown = ("etcd-keys", "--values", "--form", "json-hex", os.path.join(room.folder, "new.snapshot"))
         keys = [one for _, one in self.comparisons.lines(*shown)]

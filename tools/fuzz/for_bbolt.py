@@ -2,7 +2,7 @@
 `check --for-bbolt` prints."""
 
 from file_format import BRANCH, BRANCH_ELEMENT, BUCKET_FLAGS, BUCKET_HEAD, CHECKSUM, HEADER, LEAF_ELEMENT
-from file_format import MAGIC, META_BYTES, META_RECORD, VERSION, checksum
+from file_format import MAGIC, META, META_BYTES, META_RECORD, VERSION, checksum
 from program import want
 from results import info_of, read
 
@@ -116,6 +116,9 @@ def lines_of_file(data, info):
         yield f"meta {slot}: not taken by bbolt"
     if info["txid"] >= LARGE_TXID:
         yield f"meta {slot}: txid too large for bbolt"
+    for number in (0, 1):
+        if HEADER.unpack_from(data, number * page_size)[:2] != (number, META):
+            yield f"page {number}: not a meta page for bbolt"
     past = [number for number in range(max(mark - 9, 0), mark) if (number + 1) * page_size > len(data)]
     if len(past) == 1:
         yield f"page {past[0]}: past the end of the file"

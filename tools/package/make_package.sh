@@ -27,7 +27,7 @@ test_version() {
 install_files() {
     rm -f out/luntsegi.1
     make --no-print-directory -s install PROGRAM="$program" DESTDIR="$1" PREFIX="$2" ZSH_COMPLETIONS="$3"
-    strip "$1$2/bin/luntsegi"
+    strip "$1$2/libexec/luntsegi"
 }
 
 # Gives all files below a folder that time.

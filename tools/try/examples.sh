@@ -45,7 +45,6 @@ status=0
 "$program" check $leaked.db 2>/dev/null >/dev/full || status=$?
 [ $status -eq 1 ]
 
-tools/bbolt/build.sh
 python3 -B tools/lost/try_lost_pages.py "$program" $(ls examples/*.buckets | sed 's/\.buckets$/.db/')
 python3 -B tools/usage/run_examples.py "$program" README.md docs/GUIDE.md docs/COMMANDS.md
 python3 -B tools/usage/run_guide.py "$program"

@@ -5,7 +5,7 @@
 
 In a document an example is a block that is indented by four spaces. Each line of it that begins with `$ ` is a command, and the lines below it are all that it prints,
 on both streams. The commands are run by bash in order in the current folder, where `luntsegi` is PROGRAM
-and `bbolt` is out/bbolt; if that isn't built, the commands that begin with `bbolt` are left out. Files
+and `bbolt` is bbolt's own command in out/peers; if that isn't there, the commands that begin with `bbolt` are left out. Files
 that they write go to out/examples, which the commands of a document make anew: so they can be run again,
 and after those of others. Prints what differs; the status is 1 then, and if a document has no command.
 """
@@ -17,7 +17,7 @@ import subprocess
 import sys
 import tempfile
 
-BBOLT = "out/bbolt"
+BBOLT = "out/peers/bbolt/bbolt"
 
 
 def blocks(text):

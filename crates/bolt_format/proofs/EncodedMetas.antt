@@ -1,12 +1,12 @@
 -- A meta page that was written is valid.
-use Rattle.std.proofs.Common.{◌≡◌, ◌∙◌, ◌⊎◌, ℕ, ◌+◌, ◌*◌, ◌^◌, ◌<◌, ◌≤◌, List, [], ◌∷◌, ◌++◌, length, drop, take, sym, ap, subst, inl, inr, arith, append_assoc, bit_xor}
-use Rattle.std.proofs.{lemmas.List.length-append, Math.Nat.mod-lt}
-use Rattle.bolt_format.specs.{Bytes.fnv_from, Bytes.fnv_of, Bytes.fnv_step, Metas.IsActive, Metas.IsMeta, Metas.IsPageSize, Metas.magic, Metas.meta_fields, Metas.size_at, Metas.version}
+use Rattle.std.proofs.Common.{IsTrue, ◌≡◌, ◌∙◌, ◌⊎◌, ℕ, ◌+◌, ◌*◌, ◌^◌, ◌<◌, ◌≤◌, List, [], ◌∷◌, ◌++◌, length, drop, take, refl, sym, ap, subst, inl, inr, arith, append_assoc, bit_xor}
+use Rattle.std.proofs.{lemmas.Bool.eq-eqb, lemmas.Bool.le-leb, lemmas.List.length-append, Math.Nat.mod-lt}
+use Rattle.bolt_format.specs.{BboltMetas.is_meta_header, Bytes.fnv_from, Bytes.fnv_of, Bytes.fnv_step, Metas.IsActive, Metas.IsMeta, Metas.IsPageSize, Metas.magic, Metas.meta_fields, Metas.size_at, Metas.version}
 use Rattle.bolt_format.specs.{ReadBack.IsMetaFit, Encoded.header_bytes, Encoded.meta_bytes, Encoded.meta_record, Encoded.number_bytes, declared.meta.Meta.Meta, declared.meta.Slot.TheVariants.One}
 use Rattle.bolt_format.specs.declared.header.Kind.TheVariants as kind
 use Rattle.bolt_format.proofs.MetaLemmas.{newer_one}
 use Rattle.bolt_format.proofs.NumberLemmas.{length-number_bytes, number_next, number_read, part_next, part_read, part_within}
-use Rattle.bolt_format.proofs.{PageSizes.size_bounds, EncodedHeaders.length-header_bytes}
+use Rattle.bolt_format.proofs.{PageSizes.size_bounds, EncodedHeaders.header_written, EncodedHeaders.length-header_bytes}
 
 -- a checksum has 64 bits
 fnv_step-small : (hash byte : ℕ) → fnv_step hash byte < 2 ^ 64
@@ -76,6 +76,18 @@ meta_written file rest at number meta h fit place within =
           (sym (number_read file _ (at + 56) 8 meta.high_water d7 fit.mark))
           (sym (number_read file _ (at + 64) 8 meta.txid d8 fit.txid));
     }
+
+-- its header is that of a meta page with this number
+pub meta_header_written : (file rest : List ℕ) (at number : ℕ) (meta : Meta) → drop at file ≡ meta_bytes number meta ++ rest
+    → number < 2 ^ 64 → at ≤ length file → IsTrue (is_meta_header file at number)
+unfolding meta_bytes
+meta_header_written file rest at number meta h small within =
+    let header : List ℕ = header_bytes number kind.Meta 0 0 in
+    let e : drop at file ≡ header ++ (meta_record meta ++ (number_bytes 8 (fnv_of (meta_record meta)) ++ rest)) = h ∙ simp append_assoc in
+    let long = length-header_bytes number kind.Meta 0 0 in
+    let whole = part_within file header _ at e within in
+    let (is, behind) = header_written (drop at file) _ number kind.Meta 0 0 e (record { id = small; count = omega arith; overflow = omega arith }) in
+    rw (le-leb (at + 16) (length file) (omega arith), eq-eqb _ _ is.id, eq-eqb _ _ is.flags) refl
 
 -- of two metas the one with the greater transaction id is active
 pub chosen_of : (file : List ℕ) (page_size : ℕ) (older one : Meta) → IsMeta file 0 older → IsMeta file page_size one → older.page_size ≡ page_size → older.txid < one.txid → IsActive file One one

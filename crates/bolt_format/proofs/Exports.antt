@@ -1,7 +1,7 @@
 -- What the proofs of other crates may cite of this one. Its other modules of proofs are its own.
 pub use Rattle.bolt_format.proofs.ElementFacts.{drop_bytes, entry_fits, inline_fits, range_bytes, value_bytes}
 pub use Rattle.bolt_format.proofs.EncodedHeaders.{branch_header_written, head_written, header_written, leaf_header_written, length-branch_header, length-head_bytes, length-header_bytes, length-leaf_header, root_passes}
-pub use Rattle.bolt_format.proofs.EncodedMetas.{chosen_of, length-meta_bytes, meta_written}
+pub use Rattle.bolt_format.proofs.EncodedMetas.{chosen_of, length-meta_bytes, meta_header_written, meta_written}
 pub use Rattle.bolt_format.proofs.FaultLemmas.{first_of-both, first_of-none}
 pub use Rattle.bolt_format.proofs.ListLemmas.{drop_at, drop_next, flat_map-cut_at, flat_map-take_more, one_some, take_next}
 pub use Rattle.bolt_format.proofs.MetaPrefix.{SameRecord, meta_same, same_back}

@@ -1,8 +1,9 @@
 -- Which meta bbolt takes when it opens a file: docs/FORMAT.md, "The meta that bbolt takes". Beside "The active meta" it tests less of a record,
--- and looks for the second one elsewhere.
+-- and looks for the second one elsewhere. A page with a meta should have its own number and flags in its header.
 use Rattle.std.specs.Prelude.{◌==◌, ◌&&◌, ◌||◌, ℕ, ◌+◌, Bool, List, Option, None, Some, drop, if◌then◌else◌, length, nat_le, nat_lt, take}
-use Rattle.bolt_format.specs.{Bytes.number_at, Bytes.fnv_of, Metas.magic, Metas.size_at, Metas.version}
+use Rattle.bolt_format.specs.{Bytes.number_at, Bytes.fnv_of, Headers.flags_field, Headers.flags_of, Headers.id_field, Metas.magic, Metas.size_at, Metas.version}
 use Rattle.bolt_format.specs.{declared.meta.Slot.Slot, declared.meta.Slot.TheVariants.Zero, declared.meta.Slot.TheVariants.One}
+use Rattle.bolt_format.specs.declared.header.Kind.TheVariants as kind
 
 -- the checksum is right, or it is 0
 abbrev pub has_sum_or_none : List ℕ → ℕ → Bool
@@ -35,3 +36,14 @@ unfoldable pub bbolt_slot : List ℕ → Option Slot
 bbolt_slot file =
     if nat_lt (length file) 4096 then None
     else greater_txid (bbolt_txid file 0) (bbolt_txid file (bbolt_page_size file))
+
+-- the header at this byte has this page number, and the flags of a meta page
+abbrev pub is_meta_header : List ℕ → (at number : ℕ) → Bool
+is_meta_header file at number =
+    nat_le (at + 16) (length file)
+    && (id_field (drop at file) == number && flags_field (drop at file) == flags_of kind.Meta)
+
+-- the header of this slot's page, at this page size
+abbrev pub has_meta_header : List ℕ → Slot → (page_size : ℕ) → Bool
+has_meta_header file Zero page_size = is_meta_header file 0 0
+has_meta_header file One page_size = is_meta_header file page_size 1

@@ -1,8 +1,10 @@
-//! Which of the two metas bbolt takes when it opens a file. It isn't always the active one.
+//! Which of the two metas bbolt takes when it opens a file, which isn't always the active one; and the
+//! headers of their pages, which its check reads.
 ghost use Rattle.std.specs.Prelude.{◌≡◌, ◌+◌, ◌≤◌, IsTrue, length};
-ghost use Rattle.bolt_format.specs.BboltMetas.{bbolt_page_size, bbolt_slot, bbolt_txid, is_bbolt_meta};
+ghost use Rattle.bolt_format.specs.BboltMetas.{bbolt_page_size, bbolt_slot, bbolt_txid, has_meta_header, is_bbolt_meta, is_meta_header};
 
 use crate::bytes::{fnv1a, u32_at, u64_at};
+use crate::header::{HEADER_LEN, Header, Kind};
 use crate::meta::{MAGIC, META_LEN, Slot, VERSION};
 
 /// The page size of bbolt's system. It opens no file with fewer bytes, and looks for the second meta
@@ -65,4 +67,27 @@ fn is_bbolt_meta(file: &[u8], at: usize) -> bool
     }
     let sum = u64_at(file, at + 72);
     sum == 0 || sum == fnv1a(&file[at + 16..at + 72])
+}
+
+/// Whether the page of a slot's meta has its own number in its header, and the flags of a meta page.
+/// bbolt's check panics on another one (docs/SOUND.md, "For bbolt"); no other call reads this header.
+/// A header that isn't whole is none.
+pub fn has_meta_header(file: &[u8], slot: Slot, page_size: u32) -> bool
+    ensures { result ≡ has_meta_header file.now slot page_size }
+{
+    match slot {
+        Slot::Zero => is_meta_header(file, 0, 0),
+        Slot::One => is_meta_header(file, page_size as usize, 1),
+    }
+}
+
+/// Whether the header at byte `at` is that of a meta page with this number.
+fn is_meta_header(file: &[u8], at: usize, number: u64) -> bool
+    ensures { result ≡ is_meta_header file.now at number }
+{
+    if file.len() < HEADER_LEN || at > file.len() - HEADER_LEN {
+        return false;
+    }
+    let header = Header::read(&file[at..]);
+    header.id == number && header.flags == Kind::Meta.flags()
 }

@@ -1,8 +1,8 @@
 //! What the definitions of metas and of pages imply, and that what is written reads back.
-ghost use Rattle.std.specs.Prelude.{◌≡◌, ◌⊎◌, ◌↔◌, ◌<◌, ◌≤◌, ◌^◌, ◌+◌, ◌-◌, ◌∷◌, [], ℕ, ◌++◌, Bool, List, drop, length};
+ghost use Rattle.std.specs.Prelude.{◌≡◌, ◌⊎◌, ◌↔◌, ◌<◌, ◌≤◌, ◌^◌, ◌+◌, ◌-◌, ◌∷◌, [], ℕ, ◌++◌, Bool, IsTrue, List, drop, length};
 ghost use Rattle.bolt_format.specs.Metas.{ForMetasPrefix, HasMetaFault, HasSlotFault, IsActive, IsInSlot, IsMeta, IsOnlyActive};
 ghost use Rattle.bolt_format.specs.ReadBack.{BranchReadsBack, IsHead, IsHeader, IsHeaderFit, IsMetaFit, LeafReadsBack};
-ghost use Rattle.bolt_format.specs.{Encoded.head_bytes, Encoded.header_bytes, Encoded.meta_bytes, declared.header.Kind.Kind};
+ghost use Rattle.bolt_format.specs.{BboltMetas.is_meta_header, Encoded.head_bytes, Encoded.header_bytes, Encoded.meta_bytes, declared.header.Kind.Kind};
 ghost use Rattle.bolt_format.specs.declared.meta.TheConstants.{METAS_END, NO_FREELIST};
 ghost use Rattle.bolt_format.specs.declared.page_fault.TheConstants.PageFault.{BUCKET_SHORT, CUT, DATA_ORDER, ELEMENT_CUT, ID, INLINE_NESTED, INLINE_PAGE, KEY_LENGTH, LEAF_FLAGS, PAGE_KIND, RANGE, VALUE_LENGTH};
 ghost use Rattle.bolt_format.specs.{declared.meta.Meta.Meta, declared.meta.MetaFault.MetaFault, declared.meta.Slot.Slot};
@@ -71,8 +71,11 @@ pub fn bucket_heads_read_back()
         → root < 2 ^ 64 → sequence < 2 ^ 64 → IsHead value root sequence rest }
 {}
 
-/// A meta page is a valid meta with these fields, at byte 0 and at its page size.
+/// A meta page is a valid meta with these fields, at byte 0 and at its page size. Its header is that
+/// of a meta page with its number.
 pub fn meta_pages_are_valid()
-    ensures { (file rest : List ℕ) (at number : ℕ) (meta : Meta) → drop at file ≡ meta_bytes number meta ++ rest
+    ensures valid { (file rest : List ℕ) (at number : ℕ) (meta : Meta) → drop at file ≡ meta_bytes number meta ++ rest
         → IsMetaFit meta → (at ≡ 0) ⊎ (at ≡ meta.page_size) → at ≤ length file → IsMeta file at meta }
+    ensures header { (file rest : List ℕ) (at number : ℕ) (meta : Meta) → drop at file ≡ meta_bytes number meta ++ rest
+        → number < 2 ^ 64 → at ≤ length file → IsTrue (is_meta_header file at number) }
 {}

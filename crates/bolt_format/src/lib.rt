@@ -24,7 +24,7 @@ mod sink;
 mod tree_page;
 
 pub use assumed::assumed_meta;
-pub use bbolt_meta::{bbolt_page_size, bbolt_slot};
+pub use bbolt_meta::{bbolt_page_size, bbolt_slot, has_meta_header};
 pub use bucket_value::{HEAD_LEN, Head, Inline};
 pub use bytes::fnv1a;
 pub use element::{Branch, ELEMENT_LEN, Leaf, MAX_KEY_LEN, MAX_VALUE_LEN};

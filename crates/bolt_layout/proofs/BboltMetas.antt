@@ -1,7 +1,7 @@
--- Bbolt takes the active meta of a layout, and finds all of its pages in the file.
+-- Bbolt takes the active meta of a layout, accepts the headers of both meta pages, and finds all pages in the file.
 use Rattle.std.proofs.Common.{rules, ◌≡◌, ◌∙◌, ◌==◌, ◌||◌, ◌*◌, ◌<◌, ◌≤◌, ◌/◌, ℕ, Bool, true, false, List, [], Some, ap, length, refl, sym, arith}
 use Rattle.std.proofs.{Math.Nat.mul-div_cancel, lemmas.Bool.le-leb}
-use Rattle.bolt_layout.proofs.Words.{eq-eqb, IsMeta, IsPageSize, Layout, le-ltb, layout_mark, layout_meta, layout_of, lt-ltb, Meta, mul-le-mul_right, One, size_bounds, Tree}
+use Rattle.bolt_layout.proofs.Words.{eq-eqb, IsMeta, IsPageSize, Layout, le-ltb, layout_mark, layout_meta, layout_of, lt-ltb, Meta, meta_header_written, mul-le-mul_right, One, size_bounds, Tree}
 use Rattle.bolt_layout.proofs.Soundness.{IsLaidOut}
 use Rattle.bolt_check.specs.BboltFileFindings.{file_findings}
 use Rattle.bolt_format.specs.{BboltMetas.bbolt_page_size, BboltMetas.bbolt_slot, BboltMetas.bbolt_txid, BboltMetas.is_bbolt_meta}
@@ -38,7 +38,9 @@ layout_file_findings which page_size tree sequence size laid =
     let exact = laid.long in
     let wide : 4 * page_size ≤ mark * page_size = mul-le-mul_right page_size (omega arith) in
     let stand = laid.file in
+    let zero_header = meta_header_written file stand.behind_first 0 0 _ stand.first_bytes (omega arith) (omega arith) in
+    let one_header = meta_header_written file stand.behind_second page_size 1 _ stand.second_bytes (omega arith) (omega arith) in
     let slot = slot_one file page_size _ _ (omega arith) stand.first stand.second refl (omega arith) in
     let page : (bbolt_page_size file == page_size) ≡ true = eq-eqb (bbolt_page_size file) page_size (size_to_bbolt file _ stand.first) in
     let whole : length file / page_size ≡ mark = ap (λ (n : ℕ). n / page_size) exact ∙ mul-div_cancel mark (omega arith) in
-    rw (slot, page, whole, le-ltb mark mark (omega arith)) refl
+    rw (slot, page, zero_header, one_header, whole, le-ltb mark mark (omega arith)) refl

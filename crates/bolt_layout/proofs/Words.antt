@@ -5,7 +5,7 @@ pub use Rattle.bolt_check.specs.Keys.{Key, is_below, is_from, key_cmp, key_lt, k
 pub use Rattle.bolt_check.specs.{Nodes.Entry, Nodes.InlinePage, Nodes.Node, Nodes.Nodes, Nodes.inline_page, Nodes.leaf_entry, Nodes.node_of, Sound.HasSoundTrees}
 pub use Rattle.bolt_check.specs.Ways.{At_inline, At_page, PageSpot, Spot, bucket_spots, follow, reached, root_spot}
 unfoldable pub use Rattle.bolt_check.specs.Nodes.{node_at}
-pub use Rattle.bolt_format.proofs.Exports.{first_of-both, part_next, part_read, part_within, largest_page, size_bounds, head_written, header_written, length-header_bytes, chosen_of, length-meta_bytes, meta_written}
+pub use Rattle.bolt_format.proofs.Exports.{first_of-both, part_next, part_read, part_within, largest_page, size_bounds, head_written, header_written, length-header_bytes, chosen_of, length-meta_bytes, meta_header_written, meta_written}
 unfoldable pub use Rattle.bolt_format.specs.{Bytes.fnv_of, Bytes.fnv_step, Elements.leaf_elements, Elements.leaves_fault, Elements.value_fault}
 unfoldable pub use Rattle.bolt_format.specs.Pages.{page_at, page_fault, span_fault}
 unfoldable pub use Rattle.bolt_format.specs.Encoded.{branch_header, head_bytes, header_bytes, leaf_header, meta_bytes, meta_record, number_bytes}

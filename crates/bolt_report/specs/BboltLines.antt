@@ -1,7 +1,7 @@
 -- What bbolt fails on: docs/COMMANDS.md, "Faults".
 use Rattle.std.specs.Prelude.{◌+◌, ℕ, List, ◌++◌, codes, decimal, flat_map, length}
 use Rattle.bolt_check.specs.declared.bbolt_file.FileFinding.{FileFinding}
-use Rattle.bolt_check.specs.declared.bbolt_file.FileFinding.TheVariants.{LargeTxid, NotTaken, PastEnd}
+use Rattle.bolt_check.specs.declared.bbolt_file.FileFinding.TheVariants.{LargeTxid, NotMetaPage, NotTaken, PastEnd}
 use Rattle.bolt_check.specs.declared.finding.Finding.{Finding}
 use Rattle.bolt_format.specs.declared.meta.Slot.{Slot}
 use Rattle.bolt_report.specs.{FaultWords.count_line, FaultWords.finding_text, FaultWords.pages_sentence, MetaLines.slot_number}
@@ -14,6 +14,7 @@ meta_sentence slot words = codes "meta " ++ decimal (slot_number slot) ++ codes 
 abbrev pub file_finding_text : FileFinding → List ℕ
 file_finding_text (NotTaken slot) = line (meta_sentence slot (codes "not taken by bbolt"))
 file_finding_text (LargeTxid slot) = line (meta_sentence slot (codes "txid too large for bbolt"))
+file_finding_text (NotMetaPage slot) = line (pages_sentence (slot_number slot) (slot_number slot) (codes "not a meta page for bbolt"))
 file_finding_text (PastEnd first last) = line (pages_sentence first last (codes "past the end of the file"))
 
 -- the line of each finding of the file as a whole, that of each on its ways, and how many there are

@@ -47,6 +47,10 @@ fn put_file_finding<S: Sink>(finding: FileFinding, sink: &mut S) -> Result<(), S
     match finding {
         FileFinding::NotTaken(slot) => put_of_meta(slot, b"not taken by bbolt", sink),
         FileFinding::LargeTxid(slot) => put_of_meta(slot, b"txid too large for bbolt", sink),
+        FileFinding::NotMetaPage(slot) => {
+            let page = slot_number(slot);
+            put_of_pages(page, page, b"not a meta page for bbolt", b"\n", sink)
+        }
         FileFinding::PastEnd(first, last) => {
             put_of_pages(first, last, b"past the end of the file", b"\n", sink)
         }
