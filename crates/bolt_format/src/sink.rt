@@ -51,12 +51,11 @@ pub trait Sink {
     }
 }
 
-/// A sink that keeps its bytes in memory. It may fail after a number of bytes. If memory can't grow,
-/// that is a failure too.
+/// A sink that keeps its bytes in memory. It fails if memory can't grow. There is no other bound that it
+/// could fail at.
 #[derive(Drop)]
 pub struct MemSink {
     items: Vec<u8>,
-    fuse: usize,
     failures: u64,
 }
 
@@ -66,18 +65,8 @@ impl MemSink {
         ensures taken { ⟦<MemSink as Sink>⟧.taken result ≡ Some [] }
         ensures sound { ⟦<MemSink as Sink>⟧.failed result ≡ 0 }
     {
-        MemSink::with_fuse(alloc, usize::MAX)
-    }
-
-    /// An empty sink that accepts `fuse` bytes in all and fails at the next one, after it has
-    /// accepted what still fits. Tests use it to see what a failure leaves behind.
-    pub fn with_fuse(alloc: Global, fuse: usize) -> Self
-        ensures taken { ⟦<MemSink as Sink>⟧.taken result ≡ Some [] }
-        ensures sound { ⟦<MemSink as Sink>⟧.failed result ≡ 0 }
-    {
         MemSink {
             items: Vec::new(alloc),
-            fuse,
             failures: 0,
         }
     }
@@ -99,9 +88,7 @@ impl Sink for MemSink {
         if self.failures > 0 {
             return Err(SinkFault);
         }
-        let room = self.fuse.saturating_sub(self.items.len());
-        let (front, rest) = bytes.split_at(room.min(bytes.len()));
-        if self.items.extend_from_slice(front).is_err() || !rest.is_empty() {
+        if self.items.extend_from_slice(bytes).is_err() {
             self.failures = 1;
             return Err(SinkFault);
         }

@@ -22,29 +22,29 @@ struct Whole<'a> {
 impl Whole<'_> {
     /// Standard output fails after this many bytes. What fits stays, the failure is reported, and a
     /// copy is whole.
-    fn fail_output(&self, fuse: usize) -> Result<(), Fault> {
-        let ran = self.task.run_to([fuse, NEVER, NEVER]);
-        let taken = self.ran.out.bytes().get(..fuse).unwrap_or(b"");
+    fn fail_output(&self, room: usize) -> Result<(), Fault> {
+        let ran = self.task.run_to([room, NEVER, NEVER]);
+        let taken = self.ran.out.bytes().get(..room).unwrap_or(b"");
         let is_right = ran.is(1, taken, WRITE_FAILED)
             && ran.target.bytes() == self.ran.target.bytes();
-        require(is_right, "standard output that fails", fuse)
+        require(is_right, "standard output that fails", room)
     }
 
     /// The copy fails after this many bytes. What fits stays, nothing is printed, and the failure is
     /// reported.
-    fn fail_copy(&self, fuse: usize) -> Result<(), Fault> {
-        let ran = self.task.run_to([NEVER, NEVER, fuse]);
-        let is_taken = self.ran.target.bytes().get(..fuse) == Some(ran.target.bytes());
+    fn fail_copy(&self, room: usize) -> Result<(), Fault> {
+        let ran = self.task.run_to([NEVER, NEVER, room]);
+        let is_taken = self.ran.target.bytes().get(..room) == Some(ran.target.bytes());
         let is_right = ran.is(1, b"", WRITE_FAILED) && is_taken && ran.target.failures() > 0;
-        require(is_right, "a copy that fails", fuse)
+        require(is_right, "a copy that fails", room)
     }
 
     /// Standard error fails after this many bytes. What fits stays, and nothing else changes.
-    fn fail_error(&self, fuse: usize) -> Result<(), Fault> {
-        let ran = self.task.run_to([NEVER, fuse, NEVER]);
-        let taken = self.ran.err.bytes().get(..fuse).unwrap_or(b"");
+    fn fail_error(&self, room: usize) -> Result<(), Fault> {
+        let ran = self.task.run_to([NEVER, room, NEVER]);
+        let taken = self.ran.err.bytes().get(..room).unwrap_or(b"");
         let is_right = ran.is(self.ran.code, self.ran.out.bytes(), taken);
-        require(is_right, "standard error that fails", fuse)
+        require(is_right, "standard error that fails", room)
     }
 
     /// Standard output and standard error fail. The status is 1.
@@ -146,14 +146,14 @@ fn fail_each(whole: &Whole<'_>, text: &mut Text) -> Result<(), Fault> {
         ..
     } = whole.ran;
     let (out, copy, err) = (out.bytes().len(), target.bytes().len(), err.bytes().len());
-    for fuse in 0..out {
-        whole.fail_output(fuse)?;
+    for room in 0..out {
+        whole.fail_output(room)?;
     }
-    for fuse in 0..copy {
-        whole.fail_copy(fuse)?;
+    for room in 0..copy {
+        whole.fail_copy(room)?;
     }
-    for fuse in 0..err {
-        whole.fail_error(fuse)?;
+    for room in 0..err {
+        whole.fail_error(room)?;
     }
     whole.fail_both()?;
     text.numbers(&[out as u64, copy as u64, err as u64]);

@@ -42,6 +42,7 @@ mod cursors;
 mod deeds;
 mod failures;
 mod fault;
+mod full_sink;
 mod log;
 mod memory;
 mod pagers;

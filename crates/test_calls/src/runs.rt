@@ -1,9 +1,10 @@
 //! What a job comes to on a file in memory.
 
 use crate::fault::Fault;
+use crate::full_sink::FullSink;
 use crate::words::{Input, Text};
 use bolt_cli::{Job, read_words, run};
-use bolt_format::{MemSink, Sink};
+use bolt_format::Sink;
 use std::alloc::Global;
 use std::convert::AsStr;
 
@@ -47,12 +48,12 @@ impl Task<'_> {
         self.run_to([usize::MAX; 3])
     }
 
-    /// A run over sinks for standard output, standard error and the copy, which fail after these many
+    /// A run over sinks for standard output, standard error and the copy, which are full after these many
     /// bytes.
-    pub fn run_to(self, fuses: [usize; 3]) -> Ran {
-        let mut out = MemSink::with_fuse(self.alloc, fuses[0]);
-        let mut err = MemSink::with_fuse(self.alloc, fuses[1]);
-        let mut target = MemSink::with_fuse(self.alloc, fuses[2]);
+    pub fn run_to(self, rooms: [usize; 3]) -> Ran {
+        let mut out = FullSink::new(self.alloc, rooms[0]);
+        let mut err = FullSink::new(self.alloc, rooms[1]);
+        let mut target = FullSink::new(self.alloc, rooms[2]);
         let code = self.status_of(&mut out, &mut err, &mut target);
         Ran {
             out,
@@ -77,9 +78,9 @@ impl Task<'_> {
 /// What a run wrote, and its status.
 #[derive(Drop)]
 pub struct Ran {
-    pub out: MemSink,
-    pub err: MemSink,
-    pub target: MemSink,
+    pub out: FullSink,
+    pub err: FullSink,
+    pub target: FullSink,
     pub code: u8,
 }
 

@@ -1,6 +1,7 @@
 //! Sinks, to which pieces are written, and a writer that fails.
 
 use crate::fault::Fault;
+use crate::full_sink::FullSink;
 use crate::words::{Input, Text, bytes_of, number};
 use bolt_format::{MemSink, Sink, WriteSink};
 use std::alloc::Global;
@@ -114,8 +115,8 @@ fn outcome(is_taken: bool, before: u64, failures: u64) -> &'static [u8] {
     }
 }
 
-/// The sink that a word names, with a number: over a `Vec` or a cursor of one; in memory, `fuse` with
-/// room for this many bytes; or over a writer that refuses the call of this number in some way. Of which
+/// The sink that a word names, with a number: over a `Vec` or a cursor of one; in memory; `full` after
+/// this many bytes; or over a writer that refuses the call of this number in some way. Of which
 /// pieces it accepts, how many calls the writer had, and all bytes.
 pub fn puts(input: Input<'_>, text: &mut Text) -> Result<(), Fault> {
     let Input { alloc, file, words } = input;
@@ -136,7 +137,12 @@ pub fn puts(input: Input<'_>, text: &mut Text) -> Result<(), Fault> {
             Ok(())
         }
         "memory" => pieces.put_in_memory(MemSink::new(alloc), text),
-        "fuse" => pieces.put_in_memory(MemSink::with_fuse(alloc, count), text),
+        "full" => {
+            let mut sink = FullSink::new(alloc, count);
+            pieces.put(&mut sink, text)?;
+            pieces.add(sink.bytes(), text);
+            Ok(())
+        }
         way => put_refused(pieces, Halting::new(alloc, count, refusal_of(way)?), text),
     }
 }
