@@ -5,7 +5,7 @@ import re
 
 FUNCTION = re.compile(r"^( *)(?:pub(?:\([a-z]+\))? )?(?:const )?fn (\w+)", re.M)
 # The head of an `impl` of a type's own functions, or of a trait for a type.
-IMPL = re.compile(r"^impl(?:<.*?>)? (?:([A-Z]\w*)(?:<[^{]*?>)? for )?&?(?:'\w+ )?(?:mut )?([A-Z]\w*)", re.M)
+IMPL = re.compile(r"^impl(?:<.*?>)? (?:([A-Z]\w*)(<[^{]*?>)? for )?&?(?:'\w+ )?(?:mut )?([A-Z]\w*)", re.M)
 TRAIT = re.compile(r"^(?:pub )?trait (\w+)", re.M)
 
 
@@ -29,7 +29,10 @@ def end_of(source, head):
 
 
 def owner_of(source, place):
-    """What an indented function is one of: a type, a trait, or a type and the trait that it implements."""
-    heads = [(it.start(), it[2] + (it[1] or "")) for it in IMPL.finditer(source, 0, place)]
+    """What an indented function is one of: a type, a trait, or a type and the trait that it implements, with its types."""
+    heads = [
+        (it.start(), "".join([it[3], it[1] or "", *re.findall(r"[A-Z]\w*", it[2] or "")]))
+        for it in IMPL.finditer(source, 0, place)
+    ]
     heads += [(it.start(), it[1]) for it in TRAIT.finditer(source, 0, place)]
     return max(heads)[1]
