@@ -7,7 +7,7 @@ TRY_ETCD = env PYTHONPATH=tools/format:tools/usage python3 -B tools/etcd/try_etc
 PROGRAM = crates/luntsegi/out/luntsegi
 CALLS = crates/test_calls/out/test_calls
 
-.PHONY: build calls help toolchain quick fmt demo set-up peers cases examples programs manual installed failures memory work bbolt etcd huge fuzz fuzz-wrong mutants test bench install dist deb clean
+.PHONY: build calls help toolchain quick fmt demo set-up peers cases examples programs manual installed failures memory work bbolt bbolt-long etcd huge fuzz fuzz-wrong mutants test times bench install dist deb clean
 
 # Proves the libraries and the program, and builds it.
 build:
@@ -102,7 +102,6 @@ bbolt: $(PROGRAM) peers
 
 # The same with 3,000 random files and the newest bbolt, and the files that its own tests leave behind. SEED=N repeats the
 # random files of another run.
-.PHONY: bbolt-long
 bbolt-long: $(PROGRAM) peers
 	$(NEWEST_BBOLT) tools/bbolt/try.sh $(PROGRAM) 30 3000 $(SEED)
 	$(NEWEST_BBOLT) python3 -B tools/bbolt/own_tests.py $(PROGRAM) out/bbolt out/own_tests
@@ -152,7 +151,6 @@ test: toolchain set-up peers
 
 # Runs the gate with one check at a time and every proof anew, and writes what share of the whole each part takes to
 # tools/try/times.txt. Nothing else should run meanwhile.
-.PHONY: times
 times:
 	$(MAKE) test JOBS=1 ANEW=--anew TIMES=--write
 
