@@ -3,8 +3,8 @@
 #
 #     fetch.sh
 #
-# apt-get, with a list of its own, downloads packages, which are unpacked into out/peers/bbolt/root (bbolt's source with its
-# own command, and Go) and out/peers/etcd/root. A file `version` beside each says what it is, and out/peers/bbolt/bbolt is
+# apt-get, with a list of its own, downloads packages, which are unpacked into out/peers/bbolt/tree (bbolt's source with its
+# own command, and Go) and out/peers/etcd/tree. A file `version` beside each says what it is, and out/peers/bbolt/bbolt is
 # bbolt's own command. What is there isn't fetched again: remove out/peers for newer ones. Of what can't be fetched one
 # line is printed; the status is 0, since the comparisons then use what is installed. Other systems than Debian have
 # nothing else.
@@ -40,7 +40,7 @@ update_lists() {
 unpack() (
 	folder=$1
 	shift
-	mkdir -p "$folder/root" && cd "$folder/root" && apt apt-get download "$@" || exit
+	mkdir -p "$folder/tree" && cd "$folder/tree" && apt apt-get download "$@" || exit
 	for package in *.deb; do
 		dpkg-deb -x "$package" . || exit
 	done
@@ -78,11 +78,11 @@ fetch_bbolt() {
 # Debian's package has bbolt's library alone; its source has the command.
 build_command() {
 	(cd "$1" && apt apt-get source --download-only golang-github-coreos-bbolt && tar xf ./*.orig.tar.*) || return
-	gopath=$1/root/usr/share/gocode
+	gopath=$1/tree/usr/share/gocode
 	source=$gopath/src/go.etcd.io/bbolt
 	cp -r "$1"/bbolt-*/cmd "$source/" || return
 	rm -r "$1"/bbolt-* "$1"/*.orig.tar.* "$1"/*.debian.tar.* "$1"/*.dsc
-	goroot=$(echo "$1"/root/usr/lib/go-*)
+	goroot=$(echo "$1"/tree/usr/lib/go-*)
 	(cd "$source/cmd/bbolt" && PATH=$goroot/bin:$PATH GOROOT=$goroot GOPATH=$gopath GO111MODULE=off GOTOOLCHAIN=local \
 		GOCACHE=$cache go build -o "$1/bbolt" .)
 }

@@ -21,12 +21,12 @@ installed=$(dpkg-query -W -f '${Version}' $package 2>/dev/null | tools/peers/ups
 use_fetched() {
 	PEER=$fetched
 	if [ "$peer" = bbolt ]; then
-		GOROOT=$(echo "$folder"/root/usr/lib/go-*)
-		BBOLT_GOPATH=$folder/root/usr/share/gocode
+		GOROOT=$(echo "$folder"/tree/usr/lib/go-*)
+		BBOLT_GOPATH=$folder/tree/usr/share/gocode
 		PATH=$GOROOT/bin:$PATH
 		export GOROOT BBOLT_GOPATH
 	else
-		PATH=$folder/root/usr/bin:$PATH
+		PATH=$folder/tree/usr/bin:$PATH
 	fi
 }
 
