@@ -3,9 +3,8 @@ use Rattle.std.proofs.Common.{◌≡◌, ◌∙◌, ℕ, zero, suc, ◌<◌, ◌
 use Rattle.std.proofs.{lemmas.Bool.cond_both, lemmas.Fmt.digits_is_IsNumeral, lemmas.List.FromFn.get_or-map-range_with_len}
 use Rattle.std.specs.{Fmt.digit_glyph, Fmt.digits, Fmt.digits_onto, List.range_with_len, Str.Parse.digits_value}
 use Rattle.std.specs.Prelude.{if◌then◌else◌}
-use Rattle.hex.specs.Hex.{encode_lower}
 use Rattle.json.proofs.{Printed.Decimals.IsNumber-decimal, Printed.Tokens.print_from-append, Printed.Trees.document-print}
-use Rattle.json.specs.{Json.Json, Json.document, Json.member, Json.no_members, Json.object, Json.string, Print.escape, Print.escape_byte, Print.print_from, Token.Token}
+use Rattle.json.specs.{Json.Json, Json.document, Json.no_members, Print.escape, Print.escape_byte, Print.print_from, Token.Token}
 use Rattle.json.specs.Tree.{HasNumbers, MembersHaveNumbers, json_tokens, members_depth, members_tokens}
 use Rattle.bolt_text.proofs.Exports.{Reads, digits_read, items_read, numeral_back}
 use Rattle.bolt_text.specs.{Forms.digits_json, Forms.item_json, Forms.json_text, JsonReadings.digits_of, JsonReadings.item_in_json, Lines.line}
@@ -47,9 +46,6 @@ Closes shown = (bytes : List ℕ) (later : List Token) → print_from false (jso
 
 digits_close : Closes digits_json
 digits_close bytes later = print_from-append false (json_tokens (digits_json bytes)) later
-
-abbrev hex_object : List ℕ → Json
-hex_object bytes = object (member (codes "hex") (string (encode_lower bytes)) no_members)
 
 items_close : Closes item_json
 items_close bytes later = grind (arith, cond_both, print_from-append)

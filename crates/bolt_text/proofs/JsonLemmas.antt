@@ -1,11 +1,11 @@
 -- JSON lines are read back.
 use Rattle.std.proofs.Common.{rules, ◌≡◌, ◌∙◌, ℕ, ◌<◌, ◌≤◌, ◌^◌, List, [], ◌∷◌, Option, Some, arith, ap, codes, option_and_then, option_map, refl}
 use Rattle.std.proofs.{lemmas.Bool.cond_both, lemmas.Fmt.decimal_is_IsNumeral}
-use Rattle.bolt_text.proofs.Vocabulary.{decimal, digits_json, encode_lower, end_json, is_utf8, IsBytes, item_json, json_text, Member, parts_json, Path, Value}
+use Rattle.bolt_text.proofs.Vocabulary.{decimal, digits_json, end_json, is_utf8, IsBytes, item_json, json_text, Member, parts_json, Path, Value}
 use Rattle.std.specs.{Result.result_ok, Str.Parse.digits_value}
 use Rattle.hex.proofs.HexLemmas.{decode_of-encode_lower}
 use Rattle.json.proofs.{Printed.Decimals.IsNumber-decimal, Printed.Trees.document-print}
-use Rattle.json.specs.Json.{Items, Json, array, document, member, no_members, object, string}
+use Rattle.json.specs.Json.{Items, Json, array, document, member}
 use Rattle.json.specs.Tree.{HasNumbers, ItemsHaveNumbers, MembersHaveNumbers, depth, items_depth, members_depth}
 use Rattle.bolt_tree.specs.Entries.{Bucket, Item}
 use Rattle.bolt_text.specs.JsonLines.{member_json}
@@ -23,9 +23,6 @@ digits_back bytes h = ap result_ok (decode_of-encode_lower bytes h)
 
 pub digits_read : Reads digits_json digits_of
 digits_read = record { back = digits_back; numbers = λ bytes. tt; shallow = λ bytes. omega arith }
-
-abbrev hex_object : List ℕ → Json
-hex_object bytes = object (member (codes "hex") (string (encode_lower bytes)) no_members)
 
 pub items_read : Reads item_json item_in_json
 items_read = grind (arith, cond_both, is_utf8, digits_back)
