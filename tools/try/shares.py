@@ -20,6 +20,10 @@ class Times:
     minutes: float
     loop: float
 
+    def loops(self):
+        """How many loops take as long as the whole: a figure that depends less on the machine than minutes."""
+        return 60 * self.minutes / self.loop
+
 
 def write_times(file, times):
     whole = sum(times.parts.values())
@@ -43,8 +47,8 @@ def compare(recorded, times):
     done = {it: taken for it, taken in times.parts.items() if it in recorded.parts}
     known = sum(recorded.parts[it] for it in done)
     print(
-        f"the gate took {times.minutes / times.loop:,.0f} times its loop a minute; recorded are"
-        f" {recorded.minutes / recorded.loop:,.0f}, of which {known:.0f} in a hundred were done now"
+        f"the gate took as long as {times.loops():,.0f} loops; recorded are {recorded.loops():,.0f}, of which"
+        f" {known:.0f} in a hundred were done now"
     )
     if known < ENOUGH:
         print("that is too little to compare shares")
