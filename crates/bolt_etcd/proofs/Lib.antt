@@ -1,5 +1,6 @@
 mod ByName
 mod CompactionsAdded
+mod CrcSums
 mod Currents
 mod Decisions
 mod EtcdCompacts

@@ -2,6 +2,8 @@ pub mod Among
 pub mod CheckLines
 pub mod Compacted
 pub mod Compactions
+pub mod Crc32c
+pub mod CrcStates
 pub mod Current
 pub mod EtcdCompactions
 pub mod FaultsLeft

@@ -6,6 +6,7 @@ mod check_lines;
 mod check_texts;
 mod collected;
 mod compaction;
+mod crc32c;
 mod current;
 pub mod laws;
 mod missing;
