@@ -5,12 +5,14 @@ pub mod Compactions
 pub mod Crc32c
 pub mod CrcStates
 pub mod Current
+pub mod CurrentKeys
 pub mod EtcdCompactions
 pub mod FaultsLeft
 pub mod FewTransactions
 pub mod Follows
 pub mod ForHistories
 pub mod ForNames
+pub mod HashKv
 pub mod HeldNames
 pub mod Histories
 pub mod Marks
@@ -30,10 +32,12 @@ pub mod RevisionKeys
 pub mod RevisionMarks
 pub mod Revisions
 pub mod RevisionsLeft
+pub mod ShownNumbered
 pub mod ShownRecords
 pub mod ShownOthers
 pub mod ShownRevisions
 pub mod SnapshotFaults
+pub mod Statuses
 pub mod StoreBuckets
 pub mod StoreFaults
 pub mod Stores

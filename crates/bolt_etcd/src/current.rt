@@ -2,7 +2,7 @@
 ghost use Rattle.std.specs.Prelude.{◌≡◌, IfOk, length, map};
 ghost use Rattle.bolt_check.specs.Counts.{counted};
 ghost use Rattle.std.specs.List.Sorted.{IsPermutation, IsSorted};
-ghost use Rattle.bolt_etcd.specs.Current.{AreNewest, HaveOwnKeys, name_cmp};
+ghost use Rattle.bolt_etcd.specs.Current.{AreNewest, HaveOwnKeys, name_cmp, stored_key_cmp};
 ghost use Rattle.bolt_etcd.specs.{ShownRevisions.shown_revision, Stores.others, Stores.revisions};
 ghost use Rattle.bolt_tree.specs.EntriesLeft.{ForBucket};
 ghost use Rattle.bolt_etcd.specs.ForNames.{AreCurrentAt};
@@ -73,4 +73,20 @@ fn by_name(a: &Revision<'_>, b: &Revision<'_>) -> Ordering
     ensures { result ≡ name_cmp (shown_revision a.now) (shown_revision b.now) }
 {
     a.name().cmp(b.name())
+}
+
+/// Sorts revisions by their keys.
+pub(crate) fn sort_by_key(revisions: &mut Vec<Revision<'_>>)
+    ensures same { IsPermutation (map shown_revision revisions.old.items)
+        (map shown_revision revisions.new.items) }
+    ensures sorted { IsSorted stored_key_cmp (map shown_revision revisions.new.items) }
+{
+    sort_roughly(revisions);
+    revisions.sort_unstable_by(by_key);
+}
+
+fn by_key(a: &Revision<'_>, b: &Revision<'_>) -> Ordering
+    ensures { result ≡ stored_key_cmp (shown_revision a.now) (shown_revision b.now) }
+{
+    a.stored_key().cmp(b.stored_key())
 }

@@ -18,6 +18,7 @@ mod part_lines;
 mod revision_lines;
 mod size_lines;
 mod stats_lines;
+mod status_lines;
 #[cfg(test)]
 mod store_tests;
 
@@ -39,3 +40,4 @@ pub use part_lines::{list, list_members_part, put_list_part};
 pub use revision_lines::RevisionWriter;
 pub use size_lines::put_sizes;
 pub use stats_lines::stats_text;
+pub use status_lines::put_status;

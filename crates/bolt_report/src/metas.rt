@@ -1,7 +1,7 @@
 //! A meta as a text, and a slot without one.
 ghost use Rattle.std.specs.Prelude.{◌≡◌, codes};
 ghost use Rattle.bolt_format.specs.{Endings.ending, Wrote.Wrote};
-ghost use Rattle.bolt_report.specs.FigureForms.{named_line, number_text};
+ghost use Rattle.bolt_report.specs.FigureForms.{named_line, number_or};
 ghost use Rattle.bolt_report.specs.MetaLines.{freelist_of, info_text, slot_fault_text, slot_number};
 ghost use Rattle.bolt_text.specs.Pieces.{piece_text};
 
@@ -59,7 +59,7 @@ fn put_json<S: Sink>(slot: Slot, meta: &Meta, sink: &mut S) -> Result<(), SinkFa
             Piece::Field(b",\"root\":", meta.root),
             Piece::Field(b",\"sequence\":", meta.root_sequence),
             Piece::Bytes(b",\"freelist\":"),
-            freelist_value(freelist_of(meta.freelist)),
+            number_or(freelist_of(meta.freelist), b"null"),
             Piece::Field(b",\"high_water\":", meta.high_water),
             Piece::Bytes(b"}\n"),
         ],
@@ -111,12 +111,12 @@ fn freelist_line(id: Option<u64>) -> Piece<'static>
     }
 }
 
-/// The freelist as JSON.
-fn freelist_value(id: Option<u64>) -> Piece<'static>
-    ensures { piece_text result ≡ number_text id }
+/// A number, if there is one, or else this text.
+pub(crate) fn number_or(n: Option<u64>, none: &'static [u8]) -> Piece<'static>
+    ensures { piece_text result ≡ number_or none.now n }
 {
-    match id {
-        Some(id) => Piece::Number(id),
-        None => Piece::Bytes(b"null"),
+    match n {
+        Some(n) => Piece::Number(n),
+        None => Piece::Bytes(none),
     }
 }

@@ -1,0 +1,116 @@
+//! etcd's HashKV: the sum of what a store has at a transaction. A member that runs reports it by `etcdctl endpoint hashkv`.
+ghost use Rattle.std.specs.Prelude.{◌≡◌, ◌&&◌, filter, map, nat_lt, not, option_map};
+ghost use Rattle.bolt_etcd.specs.CurrentKeys.{any_current_by, begins_with, is_current_by, nameless_key, without_first};
+ghost use Rattle.bolt_etcd.specs.HashKv.{hash_kv, is_current_at, is_left_out};
+ghost use Rattle.bolt_etcd.specs.{Numbered.numbered, ShownRevisions.shown_revision, Stores.revisions};
+ghost use Rattle.bolt_tree.specs.EntriesLeft.{ForBucket};
+
+use crate::crc32c::Crc32c;
+use crate::numbered::Numbered;
+use crate::revision::Revision;
+use crate::revisions::Revisions;
+use bolt_tree::Bucket;
+
+/// What is summed first.
+const BUCKET: &[u8] = b"key";
+
+/// Which revisions and marks are summed.
+#[derive(Clone, Copy)]
+pub(crate) struct Hashed<'s, 'a> {
+    /// The transaction up to which they are.
+    pub up_to: u64,
+    /// That of the last compaction.
+    pub compacted: u64,
+    /// The newest revision of each name, if it isn't a deletion, in the order of their keys.
+    pub current: &'s [Revision<'a>],
+    /// The key of the newest revision or mark with the name without bytes, if it isn't a deletion.
+    pub nameless: Option<&'a [u8]>,
+}
+
+impl<'s, 'a> Hashed<'s, 'a> {
+    /// The sum of those in a bucket. Goes over all its entries once, and needs no memory.
+    pub(crate) fn sum(self, bucket: &Bucket<'a>) -> u32
+        requires current { ForBucket bucket.now (λ entries.
+            map shown_revision self.current.now
+            ≡ filter (is_current_at self.up_to (revisions entries)) (revisions entries)) }
+        requires nameless { ForBucket bucket.now (λ entries.
+            option_map (λ key. key.now) self.nameless ≡ nameless_key self.up_to (numbered entries)) }
+        ensures { ForBucket bucket.now (λ entries.
+            result ≡ hash_kv self.entry.up_to self.entry.compacted entries) }
+    {
+        let any = self.has_current();
+        let mut sum = Crc32c::new();
+        sum.update(BUCKET);
+        let mut listed = self.current;
+        let mut pass = Revisions::of(bucket);
+        'rest: while let Some(entry) = pass.advance() {
+            let is_listed = take_first(&mut listed, entry.key);
+            if let Some(numbered) = Numbered::of(&entry) {
+                let is_current = self.is_current(&numbered, is_listed);
+                if self.includes(&numbered, is_current, any) {
+                    sum.update(numbered.stored_key);
+                    sum.update(numbered.value);
+                }
+            }
+        }
+        sum.finish()
+    }
+
+    /// Whether any revision or mark is current.
+    fn has_current(&self) -> bool
+        ensures { result ≡ any_current_by (option_map (λ key. key.now) self.now.nameless)
+            (map shown_revision self.now.current.now) }
+    {
+        if self.nameless.is_some() {
+            return true;
+        }
+        'rest: for revision in self.current {
+            if !revision.name().is_empty() {
+                return true;
+            }
+        }
+        false
+    }
+
+    /// Whether it is current, if it is listed among those that are.
+    fn is_current(&self, numbered: &Numbered<'_>, is_listed: bool) -> bool
+        ensures { result ≡ is_current_by (option_map (λ key. key.now) self.now.nameless) is_listed
+            numbered.now.name.now numbered.now.stored_key.now }
+    {
+        if !numbered.name.is_empty() {
+            return is_listed;
+        }
+        match self.nameless {
+            Some(key) => key == numbered.stored_key,
+            None => false,
+        }
+    }
+
+    /// Whether it is summed, if it is current, and if any is.
+    fn includes(&self, numbered: &Numbered<'_>, is_current: bool, any_current: bool) -> bool
+        ensures { result ≡ (not (nat_lt self.now.up_to numbered.now.key.main)
+            && not (is_left_out self.now.compacted numbered.now.key is_current any_current)) }
+    {
+        let key = numbered.key;
+        if key.main > self.up_to || key.deleted && key.main == self.compacted {
+            return false;
+        }
+        key.main > self.compacted || is_current || !any_current
+    }
+}
+
+/// Takes the first of these away, if it has this key, and returns whether it has.
+fn take_first(listed: &mut &[Revision<'_>], key: &[u8]) -> bool
+    ensures has { result ≡ begins_with key.now (map shown_revision listed.old.now) }
+    ensures left { map shown_revision listed.new.now
+        ≡ without_first key.now (map shown_revision listed.old.now) }
+{
+    let Some((first, later)) = listed.split_first() else {
+        return false;
+    };
+    if first.stored_key() != key {
+        return false;
+    }
+    *listed = later;
+    true
+}

@@ -1,0 +1,163 @@
+//! What etcd would report of a store.
+ghost use Rattle.std.specs.Prelude.{◌≡◌, IfOk, codes, if◌then◌else◌, length, max, option_map};
+ghost use Rattle.bolt_check.specs.Counts.{counted};
+ghost use Rattle.bolt_etcd.specs.{CurrentKeys.nameless_key, CurrentKeys.nameless_with, Numbered.numbered, RevisionMarks.is_mark};
+ghost use Rattle.bolt_etcd.specs.{StoreBuckets.ForStore, Stores.revisions};
+ghost use Rattle.bolt_etcd.specs.Statuses.{meta_number, newest_main};
+ghost use Rattle.bolt_tree.specs.EntriesLeft.{ForBucket};
+
+use crate::collected::Collected;
+use crate::compaction::store_compacted;
+use crate::current::{keep_newest, sort_by_key};
+use crate::hash_kv::Hashed;
+use crate::numbered::Numbered;
+use crate::revisions::Revisions;
+use bolt_tree::{Bucket, NoMemory};
+use byteorder::{BigEndian, ByteOrder};
+use std::alloc::Global;
+
+/// What etcd would report of a store at a transaction (docs/COMMANDS.md, "etcd-status").
+#[derive(Clone, Copy, Debug, PartialEq, Eq)]
+pub struct Status {
+    /// The number of the last transaction.
+    pub revision: u64,
+    /// The greatest number of a transaction that a revision or a mark has, or 0.
+    pub newest: u64,
+    /// The transaction up to which the store was compacted, or 0.
+    pub compacted: u64,
+    /// The number of keys that there are.
+    pub keys: u64,
+    /// The number of revisions. It saturates at 2^64 - 1.
+    pub revisions: u64,
+    /// The index in etcd's log up to which the store has it.
+    pub consistent_index: Option<u64>,
+    /// The term of that entry of the log.
+    pub term: Option<u64>,
+    /// The HashKV of the store, unless it has entries that aren't revisions.
+    pub hash: Option<u32>,
+    /// The number of these. It saturates at 2^64 - 1.
+    pub others: u64,
+}
+
+impl Status {
+    ghost use Rattle.bolt_etcd.specs.Statuses.{status_of};
+
+    /// Finds what etcd would report of the store with this root bucket and this bucket `key`. Keys and
+    /// the hash are those of no later transaction than `up_to`. Goes over the entries of `keys` four times.
+    /// Keeps 56 bytes for each revision of no later transaction.
+    ///
+    /// # Errors
+    ///
+    /// `NoMemory` if memory runs out for these.
+    pub fn find(
+        alloc: Global,
+        root: &Bucket<'_>,
+        keys: &Bucket<'_>,
+        up_to: u64,
+    ) -> Result<Status, NoMemory>
+        ensures { IfOk result (λ status.
+            ForStore root.now (λ store.
+            ForBucket keys.now (λ entries. status ≡ status_of up_to store entries))) }
+    {
+        let compacted = store_compacted(root).unwrap_or(0);
+        let numbers = Numbers::count(keys, up_to);
+        let Collected {
+            revisions: mut current,
+            others,
+        } = Collected::of(alloc, keys, up_to)?;
+        keep_newest(&mut current);
+        sort_by_key(&mut current);
+        let hashed = Hashed {
+            up_to,
+            compacted,
+            current: &current,
+            nameless: numbers.nameless,
+        };
+        Ok(Status {
+            revision: numbers.newest.max(compacted).max(1),
+            newest: numbers.newest,
+            compacted,
+            keys: current.len() as u64,
+            revisions: numbers.revisions,
+            consistent_index: meta_number(root, b"consistent_index"),
+            term: meta_number(root, b"term"),
+            hash: if others == 0 {
+                Some(hashed.sum(keys))
+            } else {
+                None
+            },
+            others,
+        })
+    }
+}
+
+/// The number in the eight bytes of a value in the bucket `meta`, the highest first, if it has such a value.
+fn meta_number(root: &Bucket<'_>, key: &[u8]) -> Option<u64>
+    ensures { ForStore root.now (λ store.
+        result ≡ meta_number key.now (store.bucket (codes "meta"))) }
+{
+    let meta = root.bucket(b"meta")?;
+    let value = meta.get(key)?;
+    if value.len() == 8 {
+        Some(BigEndian::read_u64(value))
+    } else {
+        None
+    }
+}
+
+/// What is counted of the revisions and the marks of a bucket.
+#[derive(Clone, Copy)]
+struct Numbers<'a> {
+    newest: u64,
+    revisions: u64,
+    nameless: Option<&'a [u8]>,
+}
+
+impl<'a> Numbers<'a> {
+    /// Of a bucket, with the nameless one of no later transaction.
+    fn count(bucket: &Bucket<'a>, up_to: u64) -> Numbers<'a>
+        ensures newest { ForBucket bucket.now (λ entries.
+            result.newest ≡ newest_main (numbered entries)) }
+        ensures revisions { ForBucket bucket.now (λ entries.
+            result.revisions ≡ counted 0 (length (revisions entries))) }
+        ensures nameless { ForBucket bucket.now (λ entries.
+            option_map (λ key. key.now) result.nameless ≡ nameless_key up_to (numbered entries)) }
+    {
+        let mut numbers = Numbers {
+            newest: 0,
+            revisions: 0,
+            nameless: None,
+        };
+        let mut pass = Revisions::of(bucket);
+        'rest: while let Some(entry) = pass.advance() {
+            if let Some(numbered) = Numbered::of(&entry) {
+                numbers.add(&numbered, up_to);
+            }
+        }
+        numbers
+    }
+
+    /// Counts one more.
+    fn add(&mut self, numbered: &Numbered<'a>, up_to: u64)
+        ensures newest { self.new.newest ≡ max self.old.newest numbered.now.key.main }
+        ensures revisions { self.new.revisions
+            ≡ (if is_mark numbered.now.key numbered.now.value.now then self.old.revisions
+            else counted self.old.revisions 1) }
+        ensures nameless { option_map (λ key. key.now) self.new.nameless
+            ≡ nameless_with up_to numbered.now.key numbered.now.name.now numbered.now.stored_key.now
+            (option_map (λ key. key.now) self.old.nameless) }
+    {
+        let main = numbered.key.main;
+        self.newest = self.newest.max(main);
+        if !numbered.is_mark() {
+            self.revisions = self.revisions.saturating_add(1);
+        }
+        if main <= up_to && numbered.name.is_empty() {
+            self.nameless = if numbered.key.deleted {
+                None
+            } else {
+                Some(numbered.stored_key)
+            };
+        }
+    }
+}
