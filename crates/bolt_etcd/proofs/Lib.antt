@@ -1,6 +1,7 @@
 mod ByName
 mod CompactionsAdded
 mod CrcSums
+mod CurrentOnes
 mod Currents
 mod Decisions
 mod EtcdCompacts
@@ -26,6 +27,7 @@ mod NewestOfNames
 mod NoFaults
 mod NothingFound
 mod NumberSteps
+mod NumberedShown
 mod OtherCounts
 mod OtherSteps
 mod PassSteps
@@ -40,6 +42,7 @@ mod StatesKept
 mod StoreExists
 mod StoreLemmas
 mod StoredRevisions
+mod SumOfEntries
 mod SumOrders
 mod TakenAway
 mod TakenNames

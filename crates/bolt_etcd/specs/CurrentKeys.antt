@@ -1,9 +1,9 @@
 -- How it is known of a revision or a mark whether it is current: by a list of the current revisions, and if it is of the name without bytes, which is
 -- that of marks too, by the key of the current one of that name.
-use Rattle.std.specs.Prelude.{ℕ, ◌==◌, ◌&&◌, ◌||◌, Bool, false, List, [], ◌∷◌, length, nat_lt, not, Option, Some, None, option_map, if◌then◌else◌}
+use Rattle.std.specs.Prelude.{ℕ, ◌==◌, ◌&&◌, ◌||◌, Bool, false, List, [], ◌∷◌, length, not, Option, Some, None, option_map, if◌then◌else◌}
 use Rattle.std.specs.{List.list_any, Option.is_some, Str.bytes_eq}
 use Rattle.bolt_check.specs.Keys.{Key}
-use Rattle.bolt_etcd.specs.{HashKv.held_by, Newest.newest, Newest.until, Revisions.RevisionView, Revisions.name_of, declared.revision_key.RevisionKey.RevisionKey}
+use Rattle.bolt_etcd.specs.{HashKv.held_by, Histories.held, Newest.is_until, Newest.newest, Newest.until, Revisions.RevisionView, Revisions.name_of}
 
 abbrev pub is_nameless : List ℕ → Bool
 is_nameless name = length name == 0
@@ -12,9 +12,10 @@ is_nameless name = length name == 0
 abbrev pub nameless_key : (up_to : ℕ) → List RevisionView → Option Key
 nameless_key up_to rs = option_map (λ r. r.stored_key) (held_by (newest [] (until up_to rs)))
 
--- the same, if it was this key up to a revision or a mark
-abbrev pub nameless_with : (up_to : ℕ) → RevisionKey → (name : List ℕ) → Key → Option Key → Option Key
-nameless_with up_to k name key before = if not (nat_lt up_to k.main) && is_nameless name then (if k.deleted then None else Some key) else before
+-- the same after one more, if it was this key before
+abbrev pub nameless_with : (up_to : ℕ) → Option RevisionView → Option Key → Option Key
+nameless_with up_to None before = before
+nameless_with up_to (Some r) before = if is_until up_to r && is_nameless (name_of r) then option_map (λ x. x.stored_key) (held r) else before
 
 abbrev pub is_this : Key → Option Key → Bool
 is_this key None = false

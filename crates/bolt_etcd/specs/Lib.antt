@@ -42,6 +42,7 @@ pub mod StoreBuckets
 pub mod StoreFaults
 pub mod Stores
 pub mod SumOrder
+pub mod SumSteps
 pub mod Taken
 pub mod Told
 pub mod ToldRevisions

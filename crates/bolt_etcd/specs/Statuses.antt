@@ -11,6 +11,11 @@ abbrev pub newest_main : List RevisionView → ℕ
 newest_main [] = 0
 newest_main (r ∷ rs) = max r.key.main (newest_main rs)
 
+-- that, after one more
+abbrev pub newest_with : Option RevisionView → ℕ → ℕ
+newest_with None before = before
+newest_with (Some r) before = max before r.key.main
+
 -- the transaction of the last compaction, or 0 if nobody knows
 abbrev pub or_zero : Option ℕ → ℕ
 or_zero None = 0

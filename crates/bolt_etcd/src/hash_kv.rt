@@ -1,6 +1,10 @@
 //! etcd's HashKV: the sum of what a store has at a transaction. A member that runs reports it by `etcdctl endpoint hashkv`.
-ghost use Rattle.std.specs.Prelude.{◌≡◌, ◌&&◌, filter, map, nat_lt, not, option_map};
+ghost use Rattle.std.specs.Prelude.{◌≡◌, ◌&&◌, List, filter, map, nat_lt, not, option_map};
 ghost use Rattle.bolt_etcd.specs.CurrentKeys.{any_current_by, begins_with, is_current_by, nameless_key, without_first};
+ghost use Rattle.bolt_etcd.specs.SumSteps.{KnowsCurrent, sum_with};
+ghost use Rattle.bolt_etcd.specs.CrcStates.{crc_state};
+ghost use Rattle.bolt_format.specs.Elements.{LeafElement};
+ghost use Rattle.bolt_tree.specs.ShownEntries.{shown_entry};
 ghost use Rattle.bolt_etcd.specs.HashKv.{hash_kv, is_current_at, is_left_out};
 ghost use Rattle.bolt_etcd.specs.{Numbered.numbered, ShownRevisions.shown_revision, Stores.revisions};
 ghost use Rattle.bolt_tree.specs.EntriesLeft.{ForBucket};
@@ -9,7 +13,7 @@ use crate::crc32c::Crc32c;
 use crate::numbered::Numbered;
 use crate::revision::Revision;
 use crate::revisions::Revisions;
-use bolt_tree::Bucket;
+use bolt_tree::{Bucket, Entry};
 
 /// What is summed first.
 const BUCKET: &[u8] = b"key";
@@ -44,16 +48,28 @@ impl<'s, 'a> Hashed<'s, 'a> {
         let mut listed = self.current;
         let mut pass = Revisions::of(bucket);
         'rest: while let Some(entry) = pass.advance() {
-            let is_listed = take_first(&mut listed, entry.key);
-            if let Some(numbered) = Numbered::of(&entry) {
-                let is_current = self.is_current(&numbered, is_listed);
-                if self.includes(&numbered, is_current, any) {
-                    sum.update(numbered.stored_key);
-                    sum.update(numbered.value);
-                }
-            }
+            let (is_listed, later) = take_first(listed, entry.key);
+            listed = later;
+            self.add(&entry, is_listed, any, &mut sum);
         }
         sum.finish()
+    }
+
+    /// Adds an entry to a sum, if it is summed. It is listed among the current ones, or not, and any is current, or none.
+    fn add(&self, entry: &Entry<'_>, is_listed: bool, any_current: bool, sum: &mut Crc32c)
+        ensures { (entries : List LeafElement)
+            → KnowsCurrent self.now entries (shown_entry entry.now) is_listed any_current
+            → crc_state sum.new ≡ sum_with self.now.up_to self.now.compacted (numbered entries)
+            (shown_entry entry.now) (crc_state sum.old) }
+    {
+        let Some(numbered) = Numbered::of(entry) else {
+            return;
+        };
+        let is_current = self.is_current(&numbered, is_listed);
+        if self.includes(&numbered, is_current, any_current) {
+            sum.update(numbered.stored_key);
+            sum.update(numbered.value);
+        }
     }
 
     /// Whether any revision or mark is current.
@@ -99,18 +115,14 @@ impl<'s, 'a> Hashed<'s, 'a> {
     }
 }
 
-/// Takes the first of these away, if it has this key, and returns whether it has.
-fn take_first(listed: &mut &[Revision<'_>], key: &[u8]) -> bool
-    ensures has { result ≡ begins_with key.now (map shown_revision listed.old.now) }
-    ensures left { map shown_revision listed.new.now
-        ≡ without_first key.now (map shown_revision listed.old.now) }
+/// Whether the first of these has this key, and those that are left then: without it, if it has.
+fn take_first<'s, 'a>(listed: &'s [Revision<'a>], key: &[u8]) -> (bool, &'s [Revision<'a>])
+    ensures has { result.0 ≡ begins_with key.now (map shown_revision listed.now) }
+    ensures left { map shown_revision result.1.now
+        ≡ without_first key.now (map shown_revision listed.now) }
 {
-    let Some((first, later)) = listed.split_first() else {
-        return false;
-    };
-    if first.stored_key() != key {
-        return false;
+    match listed.split_first() {
+        Some((first, later)) if first.stored_key() == key => (true, later),
+        _ => (false, listed),
     }
-    *listed = later;
-    true
 }

@@ -1,10 +1,11 @@
 //! What etcd would report of a store.
-ghost use Rattle.std.specs.Prelude.{◌≡◌, IfOk, codes, if◌then◌else◌, length, max, option_map};
+ghost use Rattle.std.specs.Prelude.{◌≡◌, IfOk, codes, length, option_map};
+ghost use Rattle.std.specs.Option.{option_to_list};
 ghost use Rattle.bolt_check.specs.Counts.{counted};
-ghost use Rattle.bolt_etcd.specs.{CurrentKeys.nameless_key, CurrentKeys.nameless_with, Numbered.numbered, RevisionMarks.is_mark};
+ghost use Rattle.bolt_etcd.specs.{CurrentKeys.nameless_key, CurrentKeys.nameless_with, Numbered.numbered, Numbered.numbered_of, Revisions.revision_of};
 ghost use Rattle.bolt_etcd.specs.{StoreBuckets.ForStore, Stores.revisions};
-ghost use Rattle.bolt_etcd.specs.Statuses.{meta_number, newest_main};
-ghost use Rattle.bolt_tree.specs.EntriesLeft.{ForBucket};
+ghost use Rattle.bolt_etcd.specs.Statuses.{meta_number, newest_main, newest_with};
+ghost use Rattle.bolt_tree.specs.{EntriesLeft.ForBucket, ShownEntries.shown_entry};
 
 use crate::collected::Collected;
 use crate::compaction::store_compacted;
@@ -12,7 +13,7 @@ use crate::current::{keep_newest, sort_by_key};
 use crate::hash_kv::Hashed;
 use crate::numbered::Numbered;
 use crate::revisions::Revisions;
-use bolt_tree::{Bucket, NoMemory};
+use bolt_tree::{Bucket, Entry, NoMemory};
 use byteorder::{BigEndian, ByteOrder};
 use std::alloc::Global;
 
@@ -130,23 +131,24 @@ impl<'a> Numbers<'a> {
         };
         let mut pass = Revisions::of(bucket);
         'rest: while let Some(entry) = pass.advance() {
-            if let Some(numbered) = Numbered::of(&entry) {
-                numbers.add(&numbered, up_to);
-            }
+            numbers.add(&entry, up_to);
         }
         numbers
     }
 
-    /// Counts one more.
-    fn add(&mut self, numbered: &Numbered<'a>, up_to: u64)
-        ensures newest { self.new.newest ≡ max self.old.newest numbered.now.key.main }
+    /// Counts one more entry, if it is a revision or a mark.
+    fn add(&mut self, entry: &Entry<'a>, up_to: u64)
+        ensures newest { self.new.newest
+            ≡ newest_with (numbered_of (shown_entry entry.now)) self.old.newest }
         ensures revisions { self.new.revisions
-            ≡ (if is_mark numbered.now.key numbered.now.value.now then self.old.revisions
-            else counted self.old.revisions 1) }
+            ≡ counted self.old.revisions (length (option_to_list (revision_of (shown_entry entry.now)))) }
         ensures nameless { option_map (λ key. key.now) self.new.nameless
-            ≡ nameless_with up_to numbered.now.key numbered.now.name.now numbered.now.stored_key.now
+            ≡ nameless_with up_to (numbered_of (shown_entry entry.now))
             (option_map (λ key. key.now) self.old.nameless) }
     {
+        let Some(numbered) = Numbered::of(entry) else {
+            return;
+        };
         let main = numbered.key.main;
         self.newest = self.newest.max(main);
         if !numbered.is_mark() {
