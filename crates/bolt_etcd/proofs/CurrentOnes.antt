@@ -1,8 +1,8 @@
 -- Which revisions and marks are current, and how the code knows it: by the list of the current revisions, and by the key of the current one of the name
 -- without bytes.
 use Rattle.std.proofs.Common.{◌≡◌, ◌≢◌, ◌∙◌, ◌⊎◌, inl, inr, ℕ, Bool, true, false, List, [], ◌∷◌, ◌==◌, ◌&&◌, ◌||◌, ap, arith, cond, filter, length, not, Option, Some, None, refl, rules, subst, sym}
-use Rattle.std.proofs.{lemmas.Bool.and_parts, lemmas.Bool.cases_Bool, lemmas.Bool.cond-false, lemmas.Bool.cond-true, lemmas.Bool.false_from_ne_true, lemmas.Option.same_Some, lemmas.Cmp.nat_list_cmp_total, lemmas.Cmp.on_total, lemmas.Cmp.tied_itself, lemmas.List.nil_from_length, lemmas.List.Sorted.Contains-permutation, lemmas.List.Sorted.IsPermutation-sym, lemmas.Slice.Eq.bytes_eq-Decides}
-use Rattle.std.specs.{Cmp.IsTotalOrder, Cmp.Lexicographic.same_text, List.Contains, List.Sorted.IsPermutation, List.Sorted.IsSorted, List.cons_option, List.last_or, List.list_any, Option.is_some, Option.option_map, Ordering.eq_by_cmp, Ordering.is_eq, Str.bytes_eq, declared.cmp.Ordering.Ordering}
+use Rattle.std.proofs.{lemmas.Bool.and_parts, lemmas.Bool.cases_Bool, lemmas.Bool.cond-false, lemmas.Bool.cond-true, lemmas.Bool.false_from_ne_true, lemmas.Option.same_Some, lemmas.Cmp.nat_list_cmp_total, lemmas.Cmp.on_total, lemmas.Cmp.tied_itself, lemmas.List.nil_from_length, lemmas.List.MinMax.ranks_by, lemmas.List.Sorted.Contains-permutation, lemmas.List.Sorted.IsPermutation-sym, lemmas.Slice.Eq.bytes_eq-Decides}
+use Rattle.std.specs.{Cmp.IsStrictWeakOrder, Cmp.IsTotalOrder, Cmp.Lexicographic.same_text, List.Contains, List.Sorted.IsPermutation, List.Sorted.IsSorted, List.cons_option, List.last_or, List.list_any, Option.is_some, Option.option_map, Ordering.eq_by_cmp, Ordering.is_eq, Ordering.is_lt, Str.bytes_eq, declared.cmp.Ordering.Ordering}
 use Rattle.std.specs.declared.cmp.Ordering.TheVariants.{Equal, Less}
 use Rattle.bolt_format.specs.Elements.{LeafElement}
 use Rattle.bolt_check.specs.Keys.{Key, key_cmp}
@@ -12,6 +12,7 @@ use Rattle.bolt_etcd.specs.Current.{AreNewest, IsCurrent, IsNewest, name_sum_cmp
 use Rattle.bolt_etcd.specs.CurrentKeys.{any_current_by, begins_with, is_current_by, is_nameless, is_this, nameless_key, without_first}
 use Rattle.bolt_etcd.specs.{EtcdCompactions.is_same_revision, HashKv.held_by, HashKv.is_current_at, HashKv.passes, Histories.held, Newest.is_named, Newest.is_until, Newest.newest, Newest.until}
 use Rattle.bolt_etcd.specs.{Numbered.numbered, Numbered.numbered_in, Numbered.numbered_of, RevisionKeys.revision_key, RevisionMarks.is_mark, Revisions.revision_in, Revisions.value_of, Wire.◌>>=◌, declared.revision_key.RevisionKey.RevisionKey, Revisions.RevisionView, Revisions.name_of, Revisions.revision_of, Stores.revisions}
+use Rattle.bolt_etcd.specs.{ShownRevisions.shown_revision, declared.revision.Revision.Revision}
 use Rattle.bolt_etcd.proofs.Currents.{current_newest, from_entry, own_keys, stored_key_is}
 use Rattle.bolt_etcd.proofs.{LastOnes.last_in, MarkLaws.mark_has_number, MarkLaws.mark_is_no_revision, NameOrders.sums_total, SortedOnce.sorted_in, StoreLemmas.itself}
 
@@ -60,6 +61,12 @@ held_some x r is = grind (arith, same_Some)
 
 total_keys : IsTotalOrder stored_key_cmp
 total_keys = on_total (λ (r : RevisionView). r.stored_key) nat_list_cmp_total
+
+abbrev pub code_by_key : Revision → Revision → Bool
+code_by_key a b = is_lt (stored_key_cmp (shown_revision a) (shown_revision b))
+
+pub code_key_ranks : IsStrictWeakOrder code_by_key
+code_key_ranks = ranks_by total_keys shown_revision
 
 module _ (rs : List RevisionView) (up_to : ℕ) (rises : Rises stored_key_cmp rs) where
   until_rises : Rises stored_key_cmp (until up_to rs)
@@ -175,7 +182,7 @@ module _ (name : List ℕ) (some : name ≢ []) (up_to : ℕ) where
 
 -- ---- how the code knows what is current
 
-bytes_some : (b : ℕ) (name : List ℕ) → is_nameless (b ∷ name) ≡ false
+pub bytes_some : (b : ℕ) (name : List ℕ) → is_nameless (b ∷ name) ≡ false
 bytes_some b name = search rules
 
 module _ (up_to : ℕ) (es : List LeafElement) where
@@ -259,9 +266,9 @@ module _ (p : RevisionView → Bool) (e : LeafElement) (later : List LeafElement
       let less = rises.0 f there in
       let tied = tied_itself nat_list_cmp_total e.key in
       false_from_ne_true (bytes_eq r.stored_key e.key) (λ same.
-        let key : f.key ≡ e.key = sym (stored_key_is (entry_view f) r found) ∙ same_text r.stored_key e.key (sym same) in
-        let itself_less : key_cmp e.key e.key ≡ Less = subst (λ (k : Key). key_cmp e.key k ≡ Less) key less in
-        cc)
+      let key : f.key ≡ e.key = sym (stored_key_is (entry_view f) r found) ∙ same_text r.stored_key e.key (sym same) in
+      let itself_less : key_cmp e.key e.key ≡ Less = subst (λ (k : Key). key_cmp e.key k ≡ Less) key less in
+      cc)
 
   no_first : IsFirst others false
   no_first = go others refl

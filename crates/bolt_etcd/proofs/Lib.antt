@@ -1,5 +1,6 @@
 mod ByName
 mod CompactionsAdded
+mod CountedNumbers
 mod CrcSums
 mod CurrentOnes
 mod Currents

@@ -1,5 +1,5 @@
 -- etcd's HashKV: the sum of what the bucket `key` has at a transaction.
-use Rattle.std.specs.Prelude.{ℕ, ◌==◌, ◌&&◌, ◌||◌, Bool, false, List, ◌++◌, codes, filter, flat_map, nat_lt, not, Option, Some, None}
+use Rattle.std.specs.Prelude.{ℕ, ◌==◌, ◌&&◌, ◌||◌, Bool, false, List, [], ◌∷◌, ◌++◌, codes, filter, flat_map, nat_lt, not, Option, Some, None}
 use Rattle.std.specs.List.{list_any}
 use Rattle.bolt_format.specs.Elements.{LeafElement}
 use Rattle.bolt_tree.specs.Entries.{entry_view}
@@ -33,3 +33,8 @@ summed up_to compacted entries = filter (λ e. passes (is_summed up_to compacted
 -- the sum of `key`, and then of the key and the value of each of these entries
 unfoldable pub hash_kv : (up_to compacted : ℕ) → List LeafElement → ℕ
 hash_kv up_to compacted entries = crc_of (codes "key" ++ flat_map (λ e. e.key ++ e.value) (summed up_to compacted entries))
+
+-- it is unknown if there are entries that aren't revisions
+abbrev pub hash_unless : (others : List LeafElement) → ℕ → Option ℕ
+hash_unless [] hash = Some hash
+hash_unless (e ∷ others) hash = None

@@ -3,7 +3,7 @@ use Rattle.std.specs.Prelude.{ℕ, ◌==◌, List, [], ◌∷◌, codes, filter,
 use Rattle.byteorder.specs.Endian.{big_number}
 use Rattle.bolt_format.specs.Elements.{LeafElement}
 use Rattle.bolt_check.specs.{Counts.counted, Keys.Key}
-use Rattle.bolt_etcd.specs.{Compacted.value_under, HashKv.hash_kv, HashKv.is_current_at, Numbered.numbered, Revisions.RevisionView, StoreBuckets.StoreView}
+use Rattle.bolt_etcd.specs.{Compacted.value_under, HashKv.hash_kv, HashKv.hash_unless, HashKv.is_current_at, Numbered.numbered, Revisions.RevisionView, StoreBuckets.StoreView}
 use Rattle.bolt_etcd.specs.{StoreFaults.store_compacted, Stores.others, Stores.revisions, declared.status.Status.Status}
 
 -- the greatest number of a transaction, or 0
@@ -15,6 +15,11 @@ newest_main (r ∷ rs) = max r.key.main (newest_main rs)
 abbrev pub newest_with : Option RevisionView → ℕ → ℕ
 newest_with None before = before
 newest_with (Some r) before = max before r.key.main
+
+-- a number of revisions, after one more
+abbrev pub revisions_with : Option RevisionView → ℕ → ℕ
+revisions_with None before = before
+revisions_with (Some r) before = counted before 1
 
 -- the transaction of the last compaction, or 0 if nobody knows
 abbrev pub or_zero : Option ℕ → ℕ
@@ -28,11 +33,6 @@ number_of_eight value = if length value == 8 then Some (big_number 8 value) else
 -- in a value under a key in the bucket `meta`
 abbrev pub meta_number : Key → Option (List LeafElement) → Option ℕ
 meta_number key meta = option_and_then (λ entries. option_and_then number_of_eight (value_under key entries)) meta
-
--- by whether there are entries that aren't revisions
-abbrev pub hash_unless : (others : List LeafElement) → ℕ → Option ℕ
-hash_unless [] hash = Some hash
-hash_unless (e ∷ others) hash = None
 
 -- The store's bucket `key` has these entries. Keys and the hash are those of no later transaction.
 abbrev pub status_of : (up_to : ℕ) → StoreView → List LeafElement → Status

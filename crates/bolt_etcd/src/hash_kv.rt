@@ -1,12 +1,13 @@
 //! etcd's HashKV: the sum of what a store has at a transaction. A member that runs reports it by `etcdctl endpoint hashkv`.
-ghost use Rattle.std.specs.Prelude.{◌≡◌, ◌&&◌, List, filter, map, nat_lt, not, option_map};
+ghost use Rattle.std.specs.Prelude.{◌≡◌, ◌&&◌, List, filter, length, map, nat_lt, not, option_map};
 ghost use Rattle.bolt_etcd.specs.CurrentKeys.{any_current_by, begins_with, is_current_by, nameless_key, without_first};
 ghost use Rattle.bolt_etcd.specs.SumSteps.{KnowsCurrent, sum_with};
 ghost use Rattle.bolt_etcd.specs.CrcStates.{crc_state};
 ghost use Rattle.bolt_format.specs.Elements.{LeafElement};
 ghost use Rattle.bolt_tree.specs.ShownEntries.{shown_entry};
-ghost use Rattle.bolt_etcd.specs.HashKv.{hash_kv, is_current_at, is_left_out};
-ghost use Rattle.bolt_etcd.specs.{Numbered.numbered, ShownRevisions.shown_revision, Stores.revisions};
+ghost use Rattle.bolt_etcd.specs.HashKv.{hash_kv, hash_unless, is_current_at, is_left_out};
+ghost use Rattle.bolt_etcd.specs.{Numbered.numbered, ShownRevisions.shown_revision, Stores.others, Stores.revisions};
+ghost use Rattle.bolt_check.specs.Counts.{counted};
 ghost use Rattle.bolt_tree.specs.EntriesLeft.{ForBucket};
 
 use crate::crc32c::Crc32c;
@@ -53,6 +54,25 @@ impl<'s, 'a> Hashed<'s, 'a> {
             self.add(&entry, is_listed, any, &mut sum);
         }
         sum.finish()
+    }
+
+    /// The sum of those in a bucket, unless so many of its entries aren't revisions.
+    pub(crate) fn sum_unless(self, number: u64, bucket: &Bucket<'a>) -> Option<u32>
+        requires others { ForBucket bucket.now (λ entries.
+            number ≡ counted 0 (length (others entries))) }
+        requires current { ForBucket bucket.now (λ entries.
+            map shown_revision self.current.now
+            ≡ filter (is_current_at self.up_to (revisions entries)) (revisions entries)) }
+        requires nameless { ForBucket bucket.now (λ entries.
+            option_map (λ key. key.now) self.nameless ≡ nameless_key self.up_to (numbered entries)) }
+        ensures { ForBucket bucket.now (λ entries.
+            result ≡ hash_unless (others entries)
+            (hash_kv self.entry.up_to self.entry.compacted entries)) }
+    {
+        match number {
+            0 => Some(self.sum(bucket)),
+            _ => None,
+        }
     }
 
     /// Adds an entry to a sum, if it is summed. It is listed among the current ones, or not, and any is current, or none.

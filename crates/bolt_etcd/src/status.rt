@@ -1,15 +1,13 @@
 //! What etcd would report of a store.
-ghost use Rattle.std.specs.Prelude.{◌≡◌, IfOk, codes, length, option_map};
-ghost use Rattle.std.specs.Option.{option_to_list};
+ghost use Rattle.std.specs.Prelude.{◌≡◌, IfOk, codes, if◌then◌else◌, length, option_and_then, option_map};
 ghost use Rattle.bolt_check.specs.Counts.{counted};
-ghost use Rattle.bolt_etcd.specs.{CurrentKeys.nameless_key, CurrentKeys.nameless_with, Numbered.numbered, Numbered.numbered_of, Revisions.revision_of};
+ghost use Rattle.bolt_etcd.specs.{Compacted.value_under, CurrentKeys.nameless_key, CurrentKeys.nameless_with, Numbered.numbered, Numbered.numbered_of, RevisionMarks.is_mark, Revisions.revision_of};
 ghost use Rattle.bolt_etcd.specs.{StoreBuckets.ForStore, Stores.revisions};
-ghost use Rattle.bolt_etcd.specs.Statuses.{meta_number, newest_main, newest_with};
+ghost use Rattle.bolt_etcd.specs.Statuses.{meta_number, newest_main, newest_with, number_of_eight, or_zero, revisions_with};
 ghost use Rattle.bolt_tree.specs.{EntriesLeft.ForBucket, ShownEntries.shown_entry};
 
-use crate::collected::Collected;
 use crate::compaction::store_compacted;
-use crate::current::{keep_newest, sort_by_key};
+use crate::current::current_by_key;
 use crate::hash_kv::Hashed;
 use crate::numbered::Numbered;
 use crate::revisions::Revisions;
@@ -60,50 +58,55 @@ impl Status {
             ForStore root.now (λ store.
             ForBucket keys.now (λ entries. status ≡ status_of up_to store entries))) }
     {
-        let compacted = store_compacted(root).unwrap_or(0);
+        let compacted = or_zero(store_compacted(root));
         let numbers = Numbers::count(keys, up_to);
-        let Collected {
-            revisions: mut current,
-            others,
-        } = Collected::of(alloc, keys, up_to)?;
-        keep_newest(&mut current);
-        sort_by_key(&mut current);
+        let current = current_by_key(alloc, keys, up_to)?;
         let hashed = Hashed {
             up_to,
             compacted,
-            current: &current,
+            current: &current.revisions,
             nameless: numbers.nameless,
         };
         Ok(Status {
-            revision: numbers.newest.max(compacted).max(1),
+            revision: numbers.newest.max(compacted.max(1)),
             newest: numbers.newest,
             compacted,
-            keys: current.len() as u64,
+            keys: current.revisions.len() as u64,
             revisions: numbers.revisions,
             consistent_index: meta_number(root, b"consistent_index"),
             term: meta_number(root, b"term"),
-            hash: if others == 0 {
-                Some(hashed.sum(keys))
-            } else {
-                None
-            },
-            others,
+            hash: hashed.sum_unless(current.others, keys),
+            others: current.others,
         })
     }
 }
 
-/// The number in the eight bytes of a value in the bucket `meta`, the highest first, if it has such a value.
+/// The transaction of the last compaction, or 0 if nobody knows.
+fn or_zero(compacted: Option<u64>) -> u64
+    ensures { result ≡ or_zero compacted }
+{
+    compacted.unwrap_or(0)
+}
+
+/// The number under a key in the bucket `meta`, if there is one.
 fn meta_number(root: &Bucket<'_>, key: &[u8]) -> Option<u64>
     ensures { ForStore root.now (λ store.
         result ≡ meta_number key.now (store.bucket (codes "meta"))) }
 {
     let meta = root.bucket(b"meta")?;
-    let value = meta.get(key)?;
-    if value.len() == 8 {
-        Some(BigEndian::read_u64(value))
-    } else {
-        None
+    number_under(&meta, key)
+}
+
+/// The number in eight bytes, the highest first, under a key in a bucket, if it has such a value.
+fn number_under(bucket: &Bucket<'_>, key: &[u8]) -> Option<u64>
+    ensures { ForBucket bucket.now (λ entries.
+        result ≡ option_and_then number_of_eight (value_under key.now entries)) }
+{
+    let value = bucket.get(key)?;
+    if value.len() != 8 {
+        return None;
     }
+    Some(BigEndian::read_u64(value))
 }
 
 /// What is counted of the revisions and the marks of a bucket.
@@ -141,7 +144,7 @@ impl<'a> Numbers<'a> {
         ensures newest { self.new.newest
             ≡ newest_with (numbered_of (shown_entry entry.now)) self.old.newest }
         ensures revisions { self.new.revisions
-            ≡ counted self.old.revisions (length (option_to_list (revision_of (shown_entry entry.now)))) }
+            ≡ revisions_with (revision_of (shown_entry entry.now)) self.old.revisions }
         ensures nameless { option_map (λ key. key.now) self.new.nameless
             ≡ nameless_with up_to (numbered_of (shown_entry entry.now))
             (option_map (λ key. key.now) self.old.nameless) }
@@ -151,9 +154,7 @@ impl<'a> Numbers<'a> {
         };
         let main = numbered.key.main;
         self.newest = self.newest.max(main);
-        if !numbered.is_mark() {
-            self.revisions = self.revisions.saturating_add(1);
-        }
+        self.revisions = with_revision(self.revisions, &numbered);
         if main <= up_to && numbered.name.is_empty() {
             self.nameless = if numbered.key.deleted {
                 None
@@ -161,5 +162,17 @@ impl<'a> Numbers<'a> {
                 Some(numbered.stored_key)
             };
         }
+    }
+}
+
+/// The number of revisions with this one, unless it is a mark. It saturates at 2^64 - 1.
+fn with_revision(revisions: u64, numbered: &Numbered<'_>) -> u64
+    ensures { result ≡ (if is_mark numbered.now.key numbered.now.value.now then revisions
+        else counted revisions 1) }
+{
+    if numbered.is_mark() {
+        revisions
+    } else {
+        revisions.saturating_add(1)
     }
 }

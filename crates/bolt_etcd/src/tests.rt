@@ -1,6 +1,6 @@
 //! Entries that etcd 3.4.23 wrote.
 
-use crate::{Record, Revision};
+use crate::{Crc32c, Record, Revision};
 use bolt_tree::{Entry, Item};
 use std::test::Fail;
 
@@ -54,4 +54,14 @@ fn a_deletion_ends_in_t(rt: HostRuntime) -> Result<(), Fail> {
     assert_eq!(rt; key.sub, 0);
     assert!(rt; key.deleted);
     Ok(())
+}
+
+#[test]
+fn a_crc_32c_of_parts_is_that_of_all(rt: HostRuntime) {
+    let mut sum = Crc32c::new();
+    assert_eq!(rt; sum.finish(), 0);
+    sum.update(b"1234");
+    sum.update(b"");
+    sum.update(b"56789");
+    assert_eq!(rt; sum.finish(), 0xE306_9283);
 }

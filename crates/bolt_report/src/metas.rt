@@ -1,5 +1,5 @@
 //! A meta as a text, and a slot without one.
-ghost use Rattle.std.specs.Prelude.{◌≡◌, codes};
+ghost use Rattle.std.specs.Prelude.{◌≡◌, ◌++◌, codes};
 ghost use Rattle.bolt_format.specs.{Endings.ending, Wrote.Wrote};
 ghost use Rattle.bolt_report.specs.FigureForms.{named_line, number_or};
 ghost use Rattle.bolt_report.specs.MetaLines.{freelist_of, info_text, slot_fault_text, slot_number};
@@ -40,7 +40,7 @@ fn put_lines<S: Sink>(slot: Slot, meta: &Meta, sink: &mut S) -> Result<(), SinkF
             Piece::Figure(b"txid", meta.txid),
             Piece::Figure(b"root", meta.root),
             Piece::Figure(b"sequence", meta.root_sequence),
-            freelist_line(freelist_of(meta.freelist)),
+            line_or(b"freelist", b"freelist none\n", freelist_of(meta.freelist)),
             Piece::Figure(b"high water", meta.high_water),
         ],
         sink,
@@ -101,13 +101,14 @@ fn freelist_of(id: u64) -> Option<u64>
     if id == NO_FREELIST { None } else { Some(id) }
 }
 
-/// The line of the freelist.
-fn freelist_line(id: Option<u64>) -> Piece<'static>
-    ensures { piece_text result ≡ named_line (codes "freelist") id }
+/// The line of a figure that may have no number; `none` is its line then.
+pub(crate) fn line_or(name: &'static [u8], none: &'static [u8], n: Option<u64>) -> Piece<'static>
+    requires { none.now ≡ name.now ++ codes " none\n" }
+    ensures { piece_text result ≡ named_line name.now n }
 {
-    match id {
-        Some(id) => Piece::Figure(b"freelist", id),
-        None => Piece::Bytes(b"freelist none\n"),
+    match n {
+        Some(n) => Piece::Figure(name, n),
+        None => Piece::Bytes(none),
     }
 }
 

@@ -3,7 +3,7 @@ ghost use Rattle.std.specs.Prelude.{◌≡◌};
 ghost use Rattle.bolt_format.specs.{Endings.ending, Wrote.Wrote};
 ghost use Rattle.bolt_report.specs.StatusLines.{status_text};
 
-use crate::metas::number_or;
+use crate::metas::{line_or, number_or};
 use bolt_etcd::Status;
 use bolt_format::{Sink, SinkFault};
 use bolt_text::{FigureForm, Piece, put_pieces};
@@ -22,6 +22,7 @@ pub fn put_status<S: Sink>(status: &Status, form: FigureForm, sink: &mut S) -> R
     }
 }
 
+#[tactic(auto, unfolding(crate::specs::StatusLines::status_text))]
 fn put_lines<S: Sink>(status: &Status, sink: &mut S) -> Result<(), SinkFault>
     ensures { Wrote S.Sink sink.old sink.new (status_text FigureForm.Lines status.now)
         (ending result) }
@@ -33,13 +34,13 @@ fn put_lines<S: Sink>(status: &Status, sink: &mut S) -> Result<(), SinkFault>
             Piece::Figure(b"compacted", status.compacted),
             Piece::Figure(b"keys", status.keys),
             Piece::Figure(b"revisions", status.revisions),
-            Piece::Bytes(b"consistent index "),
-            number_or(status.consistent_index, b"none"),
-            Piece::Bytes(b"\nterm "),
-            number_or(status.term, b"none"),
-            Piece::Bytes(b"\nhash "),
-            number_or(hash_number(status), b"none"),
-            Piece::Bytes(b"\n"),
+            line_or(
+                b"consistent index",
+                b"consistent index none\n",
+                status.consistent_index,
+            ),
+            line_or(b"term", b"term none\n", status.term),
+            line_or(b"hash", b"hash none\n", hash_number(status)),
         ],
         sink,
     )
