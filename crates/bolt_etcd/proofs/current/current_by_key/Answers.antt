@@ -1,6 +1,6 @@
 use Rattle.std.proofs.Common.{List, map, subst, sym}
 use Rattle.bolt_tree.specs.Order.{Rises}
-use Rattle.bolt_etcd.specs.{Current.AreNewest, Current.stored_key_cmp, Newest.is_until, Newest.until, Revisions.RevisionView, ShownRevisions.shown_revision, Stores.revisions}
+use Rattle.bolt_etcd.specs.{Current.AreNewest, Current.stored_key_cmp, Newest.is_until, Revisions.RevisionView, ShownRevisions.shown_revision, Stores.revisions}
 use Rattle.bolt_etcd.proofs.{CurrentOnes.current_list, Currents.own_keys, Currents.revisions_rise}
 use Rattle.bolt_tree.proofs.Exports.{filter_rises}
 use Rattle.bolt_etcd.proofs.current.current_by_key.Goals as goal

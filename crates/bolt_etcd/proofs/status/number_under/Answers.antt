@@ -1,4 +1,4 @@
-use Rattle.std.proofs.Common.{◌≡◌, ◌∙◌, ◌==◌, List, Option, Some, ap, eq-eqb, length, option_map, sym, ℕ, option_and_then}
+use Rattle.std.proofs.Common.{◌∙◌, ◌==◌, Some, ap, eq-eqb, length, option_map, sym, option_and_then}
 use Rattle.std.proofs.lemmas.Bool.{cond-false, cond-true, ne_eqb}
 use Rattle.bolt_etcd.specs.Statuses.{number_of_eight}
 use Rattle.bolt_etcd.proofs.StoreLemmas.{value_at}

@@ -1,10 +1,9 @@
 use Rattle.std.proofs.Common.{◌≡◌, ◌∙◌, List, ap, codes, filter, map, subst, sym, ℕ}
 use Rattle.std.specs.Option.{option_map}
-use Rattle.bolt_check.specs.Keys.{Key}
 use Rattle.bolt_format.specs.Elements.{LeafElement}
-use Rattle.bolt_tree.specs.{Entries.EntryView, Entries.entry_cmp, Entries.entry_view, Order.Rises, ShownEntries.shown_entry}
+use Rattle.bolt_tree.specs.{Entries.EntryView, Entries.entry_cmp, Order.Rises, ShownEntries.shown_entry}
 use Rattle.bolt_etcd.specs.{Crc32c.crc_begin, Crc32c.crc_end, Crc32c.crc_from, Crc32c.crc_of, CrcStates.crc_state, CurrentKeys.begins_with, CurrentKeys.without_first, HashKv.hash_kv, HashKv.is_current_at, HashKv.passes}
-use Rattle.bolt_etcd.specs.{Numbered.numbered, Passes.ShowsFirst, Revisions.RevisionView, Revisions.revision_of, RevisionsLeft.ahead_of, ShownRevisions.shown_revision, Stores.revisions, SumSteps.KnowsCurrent, SumSteps.sum_with}
+use Rattle.bolt_etcd.specs.{Numbered.numbered, Passes.ShowsFirst, Revisions.revision_of, RevisionsLeft.ahead_of, ShownRevisions.shown_revision, Stores.revisions, SumSteps.KnowsCurrent, SumSteps.sum_with}
 use Rattle.bolt_etcd.proofs.{CurrentOnes.any_current, CurrentOnes.is_first, RevisionSteps.goes_none, RevisionSteps.moved_to, RevisionSteps.number_falls}
 use Rattle.bolt_etcd.proofs.SumOfEntries.{sum_step, summed_bytes, taken_both}
 use Rattle.bolt_etcd.proofs.hash_kv.Hashed.sum.Goals as goal

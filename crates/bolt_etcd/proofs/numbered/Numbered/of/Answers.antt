@@ -1,5 +1,5 @@
-use Rattle.std.proofs.Common.{◌∙◌, ap, refl, sym, rules}
-use Rattle.bolt_tree.specs.{Entries.Item, ShownEntries.shown_entry}
+use Rattle.std.proofs.Common.{refl, rules}
+use Rattle.bolt_tree.specs.{ShownEntries.shown_entry}
 use Rattle.bolt_etcd.specs.ShownRecords.{shown_record}
 use Rattle.bolt_etcd.proofs.NumberedShown.{shows}
 use Rattle.bolt_etcd.proofs.numbered.Numbered.of.Goals as goal

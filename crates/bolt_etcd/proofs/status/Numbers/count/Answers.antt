@@ -1,5 +1,5 @@
 use Rattle.std.proofs.Common.{◌≡◌, ◌∙◌, List, None, ap, arith, length, max, sym}
-use Rattle.std.specs.{List.cons_option, Option.option_map}
+use Rattle.std.specs.{Option.option_map}
 use Rattle.bolt_check.specs.Counts.{counted}
 use Rattle.bolt_format.specs.Elements.{LeafElement}
 use Rattle.bolt_tree.specs.{Entries.EntryView, Entries.entry_view, ShownEntries.shown_entry}
