@@ -142,12 +142,12 @@ class Comparisons:
 
     def compare_status(self, file, answers):
         """Compares the figures of the store, and its hash at some revisions."""
-        self.want_same(f"hashes of etcd {file}", [*answers.keys_at][1:], [it for it in answers.hashes if it != answers.compacted])
-        for revision, made in answers.hashes.items():
-            self.want_same(f"etcd-status --at {revision} {file}", made, self.status(file, "--at", revision)["hash"])
+        for revision, theirs in answers.hashes.items():
+            figures = self.status(file, "--at", revision)
+            self.want_same(f"etcd-status --at {revision} {file}", theirs, (figures["hash"], figures["compacted"]))
         figures = self.status(file)
-        theirs = (answers.last, answers.compacted, len(answers.keys), answers.hashes[answers.last])
-        ours = tuple(figures[name] for name in ("revision", "compacted", "keys", "hash"))
+        theirs = (answers.last, len(answers.keys), *answers.hashes[answers.last])
+        ours = tuple(figures[name] for name in ("revision", "keys", "hash", "compacted"))
         self.want_same(f"etcd-status {file}", theirs, ours)
 
     def status(self, file, *words):
@@ -174,5 +174,4 @@ class Comparisons:
         self.want_same_lists(what, before.revisions, after.revisions)
         for revision, keys in before.keys_at.items():
             self.want_same_lists(f"{what} at {revision}", keys, after.keys_at[revision])
-        for revision in before.hashes.keys() & after.hashes.keys():
-            self.want_same(f"{what}: the hash at {revision}", before.hashes[revision], after.hashes[revision])
+        self.want_same(f"{what}: hashes", before.hashes, after.hashes)

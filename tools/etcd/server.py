@@ -201,9 +201,7 @@ class Server:
         run_etcdctl("--endpoints", f"{HOST}:{self.port}", "snapshot", "save", path)
 
     def hash_kv(self, revision):
-        """The HashKV at a revision by etcdctl, and the last compaction that the server had when it made this sum.
-
-        At the revision of that compaction there may be none."""
+        """The HashKV at a revision by etcdctl, and the last compaction that the server had when it made this sum."""
         words = ("endpoint", "hashkv", "--rev", str(revision), "-w", "json")
         (answer,) = json.loads(run_etcdctl("--endpoints", f"{HOST}:{self.port}", *words))
         return answer["HashKV"]["hash"], answer["HashKV"]["compact_revision"]

@@ -17,7 +17,7 @@ Of each file
 - `etcd-revisions` prints all revisions after the compaction;
 - `etcd-get` prints some values, and finds no deleted key;
 - `etcd-status` prints the last revision, the compaction, the number of keys, and the hash that `etcdctl endpoint hashkv`
-  prints, now and at ten revisions: not at that of the compaction, if the server made that hash before it;
+  prints, now and at ten revisions after the compaction;
 - `etcd-check` finds nothing.
 
 Copies of the second file lose pages of the bucket `key`: its root page, every second branch, some leaves, and their
