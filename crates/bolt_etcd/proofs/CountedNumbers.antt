@@ -1,11 +1,11 @@
 -- What is counted of revisions and marks, entry by entry.
-use Rattle.std.proofs.Common.{◌≡◌, ◌∙◌, ◌<◌, ◌+◌, ◌^◌, ◌&&◌, ℕ, Bool, true, false, List, [], ◌∷◌, ap, arith, cond, filter, inl, inr, if◌then◌else◌, length, max, Option, Some, None, refl, sym}
+use Rattle.std.proofs.Common.{◌≡◌, ◌∙◌, ◌<◌, ◌^◌, ◌&&◌, ℕ, Bool, false, List, [], ◌∷◌, ap, arith, filter, inl, inr, if◌then◌else◌, length, max, Option, Some, None, refl, sym}
 use Rattle.std.proofs.lemmas.Bool.{cases_Bool}
 use Rattle.std.specs.{List.cons_option, List.last_or, Option.option_map, Str.bytes_eq}
 use Rattle.bolt_check.specs.{Counts.counted, Keys.Key}
 use Rattle.bolt_tree.proofs.Exports.{counted_more, filter_both}
 use Rattle.bolt_tree.specs.Entries.{Bucket, EntryView, Item, Value}
-use Rattle.bolt_etcd.specs.{CurrentKeys.is_nameless, CurrentKeys.nameless_key, CurrentKeys.nameless_with, HashKv.held_by, Newest.is_named, Newest.is_until, Newest.newest, Newest.until, Numbered.numbered_in, Numbered.numbered_of, RevisionKeys.revision_key, RevisionMarks.is_mark}
+use Rattle.bolt_etcd.specs.{CurrentKeys.is_nameless, CurrentKeys.nameless_key, CurrentKeys.nameless_with, HashKv.held_by, Newest.is_named, Newest.is_until, Newest.newest, Numbered.numbered_in, Numbered.numbered_of, RevisionKeys.revision_key, RevisionMarks.is_mark}
 use Rattle.bolt_etcd.specs.{Revisions.revision_in, Revisions.revision_of, Revisions.value_of, ShownRevisions.bytes_of_item, ShownRevisions.value_bytes, Wire.◌>>=◌, declared.revision_key.RevisionKey.RevisionKey}
 use Rattle.bolt_etcd.proofs.{Currents.bind_some, CurrentOnes.bytes_some, CurrentOnes.kinds, MarkLaws.mark_is_no_revision}
 use Rattle.bolt_etcd.specs.{Revisions.RevisionView, Revisions.name_of, Statuses.newest_main, Statuses.newest_with, Statuses.revisions_with}

@@ -1,14 +1,14 @@
 -- Which revisions and marks are current, and how the code knows it: by the list of the current revisions, and by the key of the current one of the name
 -- without bytes.
-use Rattle.std.proofs.Common.{◌≡◌, ◌≢◌, ◌∙◌, ◌⊎◌, inl, inr, ℕ, Bool, true, false, List, [], ◌∷◌, ◌==◌, ◌&&◌, ◌||◌, ap, arith, cond, filter, length, not, Option, Some, None, refl, rules, subst, sym}
-use Rattle.std.proofs.{lemmas.Bool.and_parts, lemmas.Bool.cases_Bool, lemmas.Bool.cond-false, lemmas.Bool.cond-true, lemmas.Bool.false_from_ne_true, lemmas.Option.same_Some, lemmas.Cmp.nat_list_cmp_total, lemmas.Cmp.on_total, lemmas.Cmp.tied_itself, lemmas.List.nil_from_length, lemmas.List.MinMax.ranks_by, lemmas.List.Sorted.Contains-permutation, lemmas.List.Sorted.IsPermutation-sym, lemmas.Slice.Eq.bytes_eq-Decides}
+use Rattle.std.proofs.Common.{◌≡◌, ◌≢◌, ◌∙◌, ◌⊎◌, inl, inr, ℕ, Bool, true, false, List, [], ◌∷◌, ◌&&◌, ◌||◌, ap, arith, cond, filter, not, Option, Some, None, refl, rules, subst, sym}
+use Rattle.std.proofs.{lemmas.Bool.cases_Bool, lemmas.Bool.cond-false, lemmas.Bool.cond-true, lemmas.Bool.false_from_ne_true, lemmas.Option.same_Some, lemmas.Cmp.nat_list_cmp_total, lemmas.Cmp.on_total, lemmas.Cmp.tied_itself, lemmas.List.MinMax.ranks_by, lemmas.List.Sorted.Contains-permutation, lemmas.List.Sorted.IsPermutation-sym}
 use Rattle.std.specs.{Cmp.IsStrictWeakOrder, Cmp.IsTotalOrder, Cmp.Lexicographic.same_text, List.Contains, List.Sorted.IsPermutation, List.Sorted.IsSorted, List.cons_option, List.last_or, List.list_any, Option.is_some, Option.option_map, Ordering.eq_by_cmp, Ordering.is_eq, Ordering.is_lt, Str.bytes_eq, declared.cmp.Ordering.Ordering}
 use Rattle.std.specs.declared.cmp.Ordering.TheVariants.{Equal, Less}
 use Rattle.bolt_format.specs.Elements.{LeafElement}
 use Rattle.bolt_check.specs.Keys.{Key, key_cmp}
 use Rattle.bolt_tree.proofs.Exports.{contains_cases, contains_head, contains_none, contains_tail, filter_both, filter_rises, gives_from, gives_has, key_exact, kept, kept_from, rises_once}
 use Rattle.bolt_tree.specs.{Entries.Bucket, Entries.EntryView, Entries.Item, Entries.Value, Entries.entry_cmp, Entries.entry_view, Order.Rises}
-use Rattle.bolt_etcd.specs.Current.{AreNewest, IsCurrent, IsNewest, name_sum_cmp, stored_key_cmp}
+use Rattle.bolt_etcd.specs.Current.{AreNewest, IsCurrent, name_sum_cmp, stored_key_cmp}
 use Rattle.bolt_etcd.specs.CurrentKeys.{any_current_by, begins_with, is_current_by, is_nameless, is_this, nameless_key, without_first}
 use Rattle.bolt_etcd.specs.{EtcdCompactions.is_same_revision, HashKv.held_by, HashKv.is_current_at, HashKv.passes, Histories.held, Newest.is_named, Newest.is_until, Newest.newest, Newest.until}
 use Rattle.bolt_etcd.specs.{Numbered.numbered, Numbered.numbered_in, Numbered.numbered_of, RevisionKeys.revision_key, RevisionMarks.is_mark, Revisions.revision_in, Revisions.value_of, Wire.◌>>=◌, declared.revision_key.RevisionKey.RevisionKey, Revisions.RevisionView, Revisions.name_of, Revisions.revision_of, Stores.revisions}

@@ -1,8 +1,8 @@
 -- What the code has of a revision or a mark is what its entry says.
-use Rattle.std.proofs.Common.{◌≡◌, Bool, true, false, List, ℕ, Option, Some, None, ap, refl}
-use Rattle.bolt_tree.specs.Entries.{EntryView, Item, Value}
-use Rattle.bolt_etcd.specs.{Numbered.numbered_of, Records.RecordView, Records.record_of, RevisionKeys.revision_key, Revisions.RevisionView, Revisions.record_content, Revisions.value_of}
-use Rattle.bolt_etcd.specs.{ShownNumbered.Shows, ShownRevisions.value_bytes, declared.numbered.Numbered.Numbered, declared.revision_key.RevisionKey.RevisionKey}
+use Rattle.std.proofs.Common.{◌≡◌, Bool, true, false, List, ℕ, Some, refl}
+use Rattle.bolt_tree.specs.Entries.{EntryView, Value}
+use Rattle.bolt_etcd.specs.{Numbered.numbered_of, Records.RecordView, Records.record_of, RevisionKeys.revision_key, Revisions.RevisionView, Revisions.record_content}
+use Rattle.bolt_etcd.specs.{ShownNumbered.Shows, declared.numbered.Numbered.Numbered, declared.revision_key.RevisionKey.RevisionKey}
 
 same_name : (deleted : Bool) (r : RecordView) → r.name ≡ (record_content deleted r).name
 same_name true r = refl

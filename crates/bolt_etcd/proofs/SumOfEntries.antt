@@ -1,5 +1,5 @@
 -- The sum over entries: each step adds those that are summed.
-use Rattle.std.proofs.Common.{◌≡◌, ◌∙◌, ℕ, Bool, true, false, List, [], ◌∷◌, ◌++◌, ◌&&◌, ap, append_assoc, cond, inl, inr, filter, flat_map, nat_lt, not, Option, Some, None, refl, sym}
+use Rattle.std.proofs.Common.{◌≡◌, ◌∙◌, ℕ, Bool, true, false, List, [], ◌∷◌, ◌++◌, ◌&&◌, ap, append_assoc, inl, inr, filter, flat_map, nat_lt, not, Option, Some, None, refl, sym}
 use Rattle.std.proofs.lemmas.Bool.{cases_Bool, cond-false, cond-true}
 use Rattle.std.specs.Option.{option_map}
 use Rattle.bolt_format.specs.Elements.{LeafElement}

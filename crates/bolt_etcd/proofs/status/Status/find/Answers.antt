@@ -1,4 +1,4 @@
-use Rattle.std.proofs.Common.{◌≡◌, ◌∙◌, ap, ap₂, filter, length, max, sym, ℕ}
+use Rattle.std.proofs.Common.{◌∙◌, ap, ap₂, length, max, sym, ℕ}
 use Rattle.std.proofs.lemmas.List.{length-map}
 use Rattle.bolt_etcd.specs.{HashKv.hash_kv, HashKv.hash_unless, ShownRevisions.shown_revision, Statuses.or_zero, Stores.others}
 use Rattle.bolt_etcd.proofs.status.Status.find.Goals as goal
