@@ -1,7 +1,7 @@
 # Completion for bash: the commands of luntsegi, their options and values, and file names.
 
 # ---- made from help by tools/usage/words.py
-_luntsegi_commands=(info page pages check buckets keys get stats list compact load etcd-revisions etcd-keys etcd-get etcd-check etcd-repair help)
+_luntsegi_commands=(info page pages check buckets keys get stats list compact load etcd-revisions etcd-keys etcd-get etcd-check etcd-status etcd-repair help)
 
 # The options of a command or, without one, of the program.
 _luntsegi_options() {
@@ -22,6 +22,7 @@ _luntsegi_options() {
         etcd-keys) echo "--at --prefix --values --parts --form --meta --assume-meta -h --help" ;;
         etcd-get) echo "--at -n --no-newline --parts --form --meta --assume-meta -h --help" ;;
         etcd-check) echo "--meta --assume-meta -h --help" ;;
+        etcd-status) echo "--at --form --meta --assume-meta -h --help" ;;
         etcd-repair) echo "-o --page-size --etcd-snapshot --meta --assume-meta -h --help" ;;
     esac
 }
@@ -29,8 +30,8 @@ _luntsegi_options() {
 # The values of a command's option that has only a few.
 _luntsegi_values() {
     case "$1 $2" in
-        "info --form" | "stats --form") echo "lines json" ;;
-        "info --meta" | "check --meta" | "buckets --meta" | "keys --meta" | "get --meta" | "stats --meta" | "list --meta" | "compact --meta" | "etcd-revisions --meta" | "etcd-keys --meta" | "etcd-get --meta" | "etcd-check --meta" | "etcd-repair --meta") echo "0 1" ;;
+        "info --form" | "stats --form" | "etcd-status --form") echo "lines json" ;;
+        "info --meta" | "check --meta" | "buckets --meta" | "keys --meta" | "get --meta" | "stats --meta" | "list --meta" | "compact --meta" | "etcd-revisions --meta" | "etcd-keys --meta" | "etcd-get --meta" | "etcd-check --meta" | "etcd-status --meta" | "etcd-repair --meta") echo "0 1" ;;
         "buckets --form" | "keys --form" | "get --form" | "etcd-revisions --form" | "etcd-keys --form" | "etcd-get --form") echo "printable hex bytes text mixed json json-hex" ;;
         "buckets --parts" | "keys --parts" | "get --parts" | "stats --parts" | "list --parts" | "etcd-revisions --parts" | "etcd-keys --parts" | "etcd-get --parts") echo "text hex mixed" ;;
         "list --form") echo "hex json json-hex" ;;

@@ -24,12 +24,12 @@ SIZE = 4000
 MOST_MORE_REQUESTS = 12
 FOR_LOST_BRANCH = 10
 # How many bytes each revision takes, and each found page while the list of them grows.
-OF_REVISION = {"etcd-revisions": 0, "etcd-get": 0, "etcd-keys": 56, "etcd-check": 56, "etcd-repair": 112}
+OF_REVISION = {"etcd-revisions": 0, "etcd-get": 0, "etcd-keys": 56, "etcd-check": 56, "etcd-status": 56, "etcd-repair": 112}
 OF_FOUND_PAGE = 72
 # Large blocks are rounded up to pages of memory.
 SLACK = 2 * 4096
 # Of these stores no key is `none`, buckets that every store has are missing, and pages are lost.
-STATUS = {"etcd-revisions": 0, "etcd-keys": 0, "etcd-get": 1, "etcd-check": 1, "etcd-repair": 1}
+STATUS = {"etcd-revisions": 0, "etcd-keys": 0, "etcd-get": 1, "etcd-check": 1, "etcd-status": 0, "etcd-repair": 1}
 
 
 class Store:

@@ -13,6 +13,7 @@ STORE_COMMANDS = [
     "etcd-keys FILE",
     "etcd-get FILE none",
     "etcd-check FILE",
+    "etcd-status FILE",
 ]
 REPAIR = "etcd-repair FILE -o OUT"
 VALUE = 30

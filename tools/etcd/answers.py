@@ -38,6 +38,8 @@ class Answers:
     keys_at: dict[int, list[Revision]]
     # The revisions after the compaction, in order, deletions too.
     revisions: list[Revision]
+    # The hash of the store at some revisions after the compaction, with the compaction that the server reports beside it.
+    hashes: dict[int, tuple[int, int]]
 
 
 def base64_text(data):
@@ -81,14 +83,19 @@ def revisions_after(server, compacted, last):
     return revisions
 
 
+def some_between(first, last, count):
+    """This many numbers from the first to the last."""
+    return [first + (last - first) * step // (count - 1) for step in range(count)]
+
+
 def ask(server, compacted, count):
-    """What etcd reports: all keys now and at `count` revisions from the compaction to the last, and all revisions."""
+    """What etcd reports: keys and hashes at `count` revisions from the compaction to the last, and all revisions."""
     last = last_revision(server)
-    at = [compacted + (last - compacted) * step // (count - 1) for step in range(count)]
     return Answers(
         compacted,
         last,
         keys_at(server, 0),
-        {revision: keys_at(server, revision) for revision in at},
+        {revision: keys_at(server, revision) for revision in some_between(compacted, last, count)},
         revisions_after(server, compacted, last),
+        {revision: server.hash_kv(revision) for revision in some_between(compacted + 1, last, count)},
     )

@@ -111,6 +111,7 @@ class Comparisons:
         self.want_same(f"etcd-check {file}", Ended(0, b"OK\n", b""), self.run("etcd-check", file))
         self.compare_keys(file, answers)
         self.compare_revisions(file, answers)
+        self.compare_status(file, answers)
         for name, one in self.some_of({one.name: one for one in answers.keys}):
             self.want_same(f"etcd-get {file}: {one!r}", Ended(0, one.value, b""), self.get(file, name))
         middle = sorted(answers.keys_at)[len(answers.keys_at) // 2]
@@ -139,6 +140,23 @@ class Comparisons:
         ours = self.lines("etcd-revisions", "--values", "--form", "json-hex", "--from", after, file)
         self.want_same_lists(f"etcd-revisions --from {after} {file}", number_subs(answers.revisions), ours)
 
+    def compare_status(self, file, answers):
+        """Compares the figures of the store, and its hash at some revisions."""
+        for revision, theirs in answers.hashes.items():
+            figures = self.status(file, "--at", revision)
+            self.want_same(f"etcd-status --at {revision} {file}", theirs, (figures["hash"], figures["compacted"]))
+        figures = self.status(file)
+        theirs = (answers.last, len(answers.keys), *answers.hashes[answers.last])
+        ours = tuple(figures[name] for name in ("revision", "keys", "hash", "compacted"))
+        self.want_same(f"etcd-status {file}", theirs, ours)
+
+    def status(self, file, *words):
+        """The figures of a store, by their names."""
+        ended = self.run("etcd-status", "--form", "json", file, *words)
+        if ended.status != 0 or ended.err:
+            raise Difference(f"etcd-status {file} {words}: {ended!r}")
+        return json.loads(ended.out)
+
     def some_of(self, named):
         """Some names with what they stand for."""
         names = sorted(named)
@@ -156,3 +174,4 @@ class Comparisons:
         self.want_same_lists(what, before.revisions, after.revisions)
         for revision, keys in before.keys_at.items():
             self.want_same_lists(f"{what} at {revision}", keys, after.keys_at[revision])
+        self.want_same(f"{what}: hashes", before.hashes, after.hashes)

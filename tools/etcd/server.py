@@ -43,7 +43,7 @@ def free_ports(count):
 
 
 def run_etcdctl(*words):
-    """Runs etcdctl, which must succeed."""
+    """What etcdctl prints, which must succeed."""
     command = ["etcdctl", *words]
     try:
         ended = subprocess.run(
@@ -53,6 +53,7 @@ def run_etcdctl(*words):
         raise EtcdFault(f"{command} doesn't end") from None
     if ended.returncode != 0:
         raise EtcdFault(f"{command} fails: {ended.stderr[-300:]}")
+    return ended.stdout
 
 
 @contextmanager
@@ -204,6 +205,12 @@ class Server:
     def save_snapshot(self, path):
         """Saves a snapshot by etcdctl."""
         run_etcdctl("--endpoints", f"{HOST}:{self.port}", "snapshot", "save", path)
+
+    def hash_kv(self, revision):
+        """The HashKV at a revision by etcdctl, and the last compaction that the server had when it made this sum."""
+        words = ("endpoint", "hashkv", "--rev", str(revision), "-w", "json")
+        (answer,) = json.loads(run_etcdctl("--endpoints", f"{HOST}:{self.port}", *words))
+        return answer["HashKV"]["hash"], answer["HashKV"]["compact_revision"]
 
 
 def restore_snapshot(path, folder):

@@ -7,7 +7,7 @@ It starts a server on loopback and makes random writes: puts, deletions, transac
 it has the server compact its store, and writes more. These files are compared with what etcd reports:
 
 - a snapshot that etcdctl saves of the running server;
-- the file of the stopped server, after more writes;
+- the file of the stopped server, after more writes, and again after a restart;
 - the file of a second server, which starts from the copy of that file that `compact --for-bbolt --etcd-snapshot` makes.
   It must first report of the copy what the first server did. Then it has more writes and another compaction.
 
@@ -16,6 +16,8 @@ Of each file
 - `etcd-keys` prints exactly the keys that etcd reports, now and at ten revisions;
 - `etcd-revisions` prints all revisions after the compaction;
 - `etcd-get` prints some values, and finds no deleted key;
+- `etcd-status` prints the last revision, the compaction, the number of keys, and the hash that `etcdctl endpoint hashkv`
+  prints, now and at ten revisions after the compaction;
 - `etcd-check` finds nothing.
 
 Copies of the second file lose pages of the bucket `key`: its root page, every second branch, some leaves, and half of
@@ -82,7 +84,11 @@ def try_member(writer, comparisons, steps):
         last = ask(server, compacted, REVISIONS_ASKED)
     comparisons.compare_file(snapshot, saved)
     comparisons.compare_file(server.file, last)
-    return server, last
+    with server:
+        again = ask(server, compacted, REVISIONS_ASKED)
+    comparisons.compare_answers("etcd reports something else after a restart", last, again)
+    comparisons.compare_file(server.file, again)
+    return server, again
 
 
 def try_copy(writer, comparisons, steps, file, before):

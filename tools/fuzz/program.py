@@ -27,6 +27,10 @@ MAP_LINE = rb"\d+ +[MFBL+.]{1,64}\n"
 ROW = rb"\d+ +(?:meta|freelist|branch|leaf|free) +\d* +\d* *\n"
 PAST_END = rb"(?:\d+ free pages past the end of the file\n)?"
 
+# What etcd would report. Of a store with entries that aren't revisions there is no hash.
+STATUS = (
+    rb"revision \d+\nnewest \d+\ncompacted \d+\nkeys \d+\nrevisions \d+\nconsistent index (?:\d+|none)\nterm (?:\d+|none)\nhash %b\n"
+)
 # What each command prints if it succeeds; names, keys and values are compared whole.
 TEXTS = {
     "info": rb"page size \d+\nmeta [01]\ntxid \d+\nroot \d+\nsequence \d+\n"
@@ -35,6 +39,7 @@ TEXTS = {
     "pages": rb"(?:%b(?:%b)*|(?:%b)+)%b" % (TABLE, ROW, MAP_LINE, PAST_END),
     "check": rb"OK\n",
     "etcd-check": rb"OK\n",
+    "etcd-status": STATUS % rb"\d+",
     "stats": b"".join(figure.encode() + rb" \d+\n" for figure in FIGURES),
     "list": rb"(?:%b)*" % ENTRY,
     "compact": rb"\d+ -> \d+ bytes\n",
@@ -77,6 +82,7 @@ FAULTS = {
     "etcd-revisions": REFUSED + rb"|bucket not found",
     "etcd-keys": REFUSED + rb"|bucket not found|revision compacted",
     "etcd-get": REFUSED + rb"|bucket not found|revision compacted|key not found",
+    "etcd-status": REFUSED + rb"|bucket not found|revision compacted",
     "list": REFUSED + rb"|bucket not found|lost\+found exists",
     "compact": REFUSED + rb"|lost\+found exists|" + BAD_HASH,
     "etcd-repair": REFUSED + rb"|key is not a bucket",
@@ -93,6 +99,7 @@ FAILED = {
     "etcd-revisions": (rb"(?s:.*)", OTHERS),
     "etcd-keys": (rb"(?s:.*)", OTHERS),
     "etcd-get": (rb"(?s:.*)", OTHERS),
+    "etcd-status": (STATUS % b"none", OTHERS),
     "check --all": (rb"(?:%b)?(?:%b|%b\d+ errors found\n)|%b\d+ errors found\n" % (OTHER_META, FINDINGS, LOSSES, OTHER_META), b""),
     **{f"{command} --recover": (rb"(?s:.*)", LOST) for command in ("buckets", "keys", "get")},
     "list --recover": (TEXTS["list"] + b"|" + JSON_TEXTS["list"], LOST),

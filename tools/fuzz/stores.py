@@ -10,6 +10,8 @@ READING = (
     ["etcd-keys", "--at", "1"],
     ["etcd-get", "a"],
     ["etcd-get", "a", "--at", "1"],
+    ["etcd-status"],
+    ["etcd-status", "--at", "1"],
 )
 
 

@@ -40,6 +40,7 @@ MAY_BEGIN = {
     "etcd-keys": ("json",),
     "etcd-get": ("json",),
     "etcd-check": None,
+    "etcd-status": (),
     "etcd-repair": (),
 }
 

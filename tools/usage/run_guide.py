@@ -113,6 +113,7 @@ NOT_RUN = {
     "etcdctl snapshot restore": PART,
     "etcdctl snapshot save": PART,
     "etcdctl put": PART,
+    "etcdctl endpoint hashkv --rev 50 -w json": "no server has that file; `make etcd` compares such hashes",
     "etcdctl del": PART,
     "etcdutl snapshot restore": "it needs etcd 3.5",
     "grep -v '^7573657273[ /]'": PART,

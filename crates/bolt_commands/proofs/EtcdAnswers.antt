@@ -55,18 +55,18 @@ module _ (file : List ℕ) (choice : MetaChoice) (s : Store) (of : IsStoreRead f
       let (entries, at, are) = fits_some s.root s.keys (own.0.bucket (codes "key")) (fits s.root (codes "key") (Some s.keys) (own.0.bucket (codes "key")) of.keys (here.buckets (codes "key"))) in
       (entries, at, subst (λ (c : Checked). AreEntries (entries_of c) (bucket_start s.keys) entries) (sym of.checked) are)
 
-  module _ {S : Type 0} {sink : Ghosts S} {old new : S} (P : List LeafElement → Answer → Type 0) (ending : JobEnding) where
-    pub keys_answer : PrintsAnswer sink old new (P keys.0) ending
+  module _ {S : Type 0} {sink : Ghosts S} {old new : S} (ending : JobEnding) where
+    pub keys_answer : (P : List LeafElement → Answer → Type 0) → PrintsAnswer sink old new (P keys.0) ending
         → PrintsAnswer sink old new (IsReadAnswer file choice (IsStoreAnswer file (λ store. OfKeys (store.bucket (codes "key")) P))) ending
-    keys_answer put = answer_as put (λ answer is. inl (meta, of.under, (own.0, own.1, rw keys.1 is)))
+    keys_answer P put = answer_as put (λ answer is. inl (meta, of.under, (own.0, own.1, rw keys.1 is)))
 
-    pub answer_at : (at : Option ℕ) → is_compacted at (store_compacted own.0) ≡ false → PrintsAnswer sink old new (P keys.0) ending
-        → PrintsAnswer sink old new (IsReadAnswer file choice (IsStoreAnswer file (λ store. IsAnswerAt at store P))) ending
-    answer_at at kept put = answer_as put (λ answer is. inl (meta, of.under, (own.0, own.1, rw (keys.1, kept) is)))
+    pub answer_at : (P : StoreView → List LeafElement → Answer → Type 0) (at : Option ℕ) → is_compacted at (store_compacted own.0) ≡ false → PrintsAnswer sink old new (P own.0 keys.0) ending
+        → PrintsAnswer sink old new (IsReadAnswer file choice (IsStoreAnswer file (λ store. IsAnswerAt at store (P store)))) ending
+    answer_at P at kept put = answer_as put (λ answer is. inl (meta, of.under, (own.0, own.1, rw (keys.1, kept) is)))
 
-  pub compacted_answer : {S : Type 0} {sink : Ghosts S} (old : S) (P : List LeafElement → Answer → Type 0) (ending : JobEnding) (at : Option ℕ) → is_compacted at (store_compacted own.0) ≡ true
-      → (why : Failure) → why ≡ failure.Compacted → IsErrAnd ending (λ said. said ≡ why)
-      → PrintsAnswer sink old old (IsReadAnswer file choice (IsStoreAnswer file (λ store. IsAnswerAt at store P))) ending
+  pub compacted_answer : {S : Type 0} {sink : Ghosts S} (old : S) (P : StoreView → List LeafElement → Answer → Type 0) (ending : JobEnding) (at : Option ℕ)
+      → is_compacted at (store_compacted own.0) ≡ true → (why : Failure) → why ≡ failure.Compacted → IsErrAnd ending (λ said. said ≡ why)
+      → PrintsAnswer sink old old (IsReadAnswer file choice (IsStoreAnswer file (λ store. IsAnswerAt at store (P store)))) ending
   compacted_answer old P ending at gone why is said = answer_nothing why ending (rw is (inl (meta, of.under, (own.0, own.1, rw (keys.1, gone) refl)))) said
 
   -- the keys that there are at a transaction

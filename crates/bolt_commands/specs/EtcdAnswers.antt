@@ -2,16 +2,16 @@
 use Rattle.std.specs.Prelude.{◌≡◌, ◌-◌, ◌^◌, ◌⊎◌, ℕ, zero, suc, nat_lt, List, ◌++◌, Bool, true, false, codes, length, Option, Some, None, Ok, Err}
 use Rattle.bolt_check.specs.{declared.check_fault.CheckFault.CheckFault, Counts.counted}
 use Rattle.bolt_format.specs.{Elements.LeafElement, declared.meta.Meta.Meta}
-use Rattle.bolt_report.specs.{FaultWords.count_line, RevisionLines.named_with, RevisionLines.revision_lines}
+use Rattle.bolt_report.specs.{FaultWords.count_line, RevisionLines.named_with, RevisionLines.revision_lines, StatusLines.status_text}
 use Rattle.bolt_tree.specs.Entries.{IsEntry, Root_page}
 use Rattle.bolt_commands.specs.{FileFaults.no_faults, Answers.Answer, Answers.IsEndedOrCut, Answers.IsShownAndEnded, Answers.IsShownOrCut, Answers.JobEnding, Answers.refused}
 use Rattle.bolt_commands.specs.{CheckAnswers.check_refusal, FilesRead.IsReadAnswer, FilesRead.IsReadUnder, FilesRead.IsRefusedUnder, KeyAnswers.value_shown}
 use Rattle.bolt_commands.specs.declared.failure.Failure.TheVariants as failure
 use Rattle.bolt_etcd.specs.{Current.AreCurrent, Newest.newest, Newest.until, Newest.value_if, Revisions.RevisionView, StoreBuckets.IsStore, StoreBuckets.StoreView}
-use Rattle.bolt_etcd.specs.{StoreFaults.store_compacted, StoreFaults.store_lines, Stores.entries_from, Stores.others, Stores.revisions}
+use Rattle.bolt_etcd.specs.{Statuses.status_of, StoreFaults.store_compacted, StoreFaults.store_lines, Stores.entries_from, Stores.others, Stores.revisions}
 use Rattle.std.specs.{Int.to_be_bytes, Int.w64, List.concat}
 use Rattle.bolt_job.specs.{declared.etcd_jobs.EtcdCheckJob.EtcdCheckJob, declared.etcd_jobs.EtcdGetJob.EtcdGetJob, declared.etcd_jobs.EtcdKeysJob.EtcdKeysJob}
-use Rattle.bolt_job.specs.declared.etcd_jobs.EtcdRevisionsJob.{EtcdRevisionsJob}
+use Rattle.bolt_job.specs.{declared.etcd_jobs.EtcdRevisionsJob.EtcdRevisionsJob, declared.etcd_jobs.EtcdStatusJob.EtcdStatusJob}
 use Rattle.bolt_job.specs.declared.job.Job.TheVariants as job
 
 -- what is under the root bucket
@@ -75,6 +75,10 @@ IsValueText job ending (Some value) answer = IsShownAndEnded job.form (value_sho
 abbrev pub IsHeldText : EtcdGetJob → List LeafElement → Answer → Type 0
 IsHeldText job entries answer = IsValueText job (entries_ending entries) (value_if (newest job.name.items (until (up_to job.at) (revisions entries)))) answer
 
+-- what etcd would report of a store at a transaction
+abbrev pub IsStatusText : EtcdStatusJob → StoreView → List LeafElement → Answer → Type 0
+IsStatusText job store entries answer = answer ≡ record { out = status_text job.form (status_of (up_to job.at) store entries); ending = entries_ending entries }
+
 -- after the lines of so many errors, and the status
 abbrev pub errors_end : ℕ → List ℕ
 errors_end zero = codes "OK\n"
@@ -102,6 +106,9 @@ IsEtcdKeysPrint job file answer = IsReadAnswer file job.meta (IsStoreAnswer file
 
 abbrev pub IsEtcdGetPrint : EtcdGetJob → List ℕ → Answer → Type 0
 IsEtcdGetPrint job file answer = IsReadAnswer file job.meta (IsStoreAnswer file (λ store. IsAnswerAt job.at store (IsHeldText job))) answer
+
+abbrev pub IsEtcdStatusPrint : EtcdStatusJob → List ℕ → Answer → Type 0
+IsEtcdStatusPrint job file answer = IsReadAnswer file job.meta (IsStoreAnswer file (λ store. IsAnswerAt job.at store (IsStatusText job store))) answer
 
 -- what `check` finds, or what is wrong with the store
 abbrev pub IsEtcdCheckPrint : EtcdCheckJob → List ℕ → Answer → Type 0

@@ -15,7 +15,7 @@ use Rattle.bolt_job.specs.{declared.choices.MetaChoice.TheVariants.Active, decla
 use Rattle.bolt_commands.specs.{CopyLayouts.layout_for, Failures.unloaded, FileFaults.AreCopyFaults, GoodCopies.IsGoodCopy, SnapshotAnswers.copy_of, declared.failure.Failure.Failure}
 use Rattle.bolt_commands.specs.{declared.file_faults.FileFaults.FileFaults, Answers.Answer, Answers.JobEnding, Answers.WritesAnswer, Answers.done, CheckAnswers.IsCheckAnswer}
 use Rattle.bolt_commands.specs.CopyAnswers.{StopsShort, copy_page_size, copy_report, hash_refusal, lengths_line}
-use Rattle.bolt_commands.specs.EtcdAnswers.{IsEtcdCheckPrint, IsEtcdGetPrint, IsEtcdKeysPrint, IsEtcdRevisionsPrint}
+use Rattle.bolt_commands.specs.EtcdAnswers.{IsEtcdCheckPrint, IsEtcdGetPrint, IsEtcdKeysPrint, IsEtcdRevisionsPrint, IsEtcdStatusPrint}
 use Rattle.bolt_commands.specs.{FilesRead.IsReadAnswer, FilesRead.IsReadTo, FilesRead.IsUnreadTo, KeyAnswers.IsBucketsPrint, KeyAnswers.IsGetPrint, KeyAnswers.IsKeysPrint, ListAnswers.IsListPrint}
 use Rattle.bolt_commands.specs.{PageAnswers.IsInfoAnswer, PageAnswers.IsPageAnswer, PageAnswers.IsPagesAnswer, RepairAnswers.IsRestored, RepairAnswers.IsUnrestored, RepairAnswers.repair_report}
 use Rattle.bolt_commands.specs.StatsAnswers.{IsStatsPrint}
@@ -116,5 +116,6 @@ module _ {O T : Type 0} (out_taken : O → Option (List ℕ)) (out_failed : O �
   DoesJob file (job.EtcdKeys j) = Prints (IsEtcdKeysPrint j file)
   DoesJob file (job.EtcdGet j) = Prints (IsEtcdGetPrint j file)
   DoesJob file (job.EtcdCheck j) = Prints (IsEtcdCheckPrint j file)
+  DoesJob file (job.EtcdStatus j) = Prints (IsEtcdStatusPrint j file)
   DoesJob file (job.EtcdRepair j) = MakesRepair file j.meta j.page_size j.snapshot
   DoesJob file (job.Load j) = Loads file j.page_size.bytes j.sequence (layout_for j.kind) (is_snapshot j.kind)

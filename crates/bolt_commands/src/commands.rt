@@ -9,6 +9,7 @@ mod etcd_get_command;
 mod etcd_keys_command;
 mod etcd_repair_command;
 mod etcd_revisions_command;
+mod etcd_status_command;
 mod get_command;
 mod info_command;
 mod keys_command;
@@ -48,6 +49,7 @@ pub(crate) fn do_job<O: Sink, T: Sink>(
         Job::EtcdKeys(job) => etcd_keys_command::do_etcd_keys(input, job, out),
         Job::EtcdGet(job) => etcd_get_command::do_etcd_get(input, job, out),
         Job::EtcdCheck(job) => etcd_check_command::do_etcd_check(input, job, out),
+        Job::EtcdStatus(job) => etcd_status_command::do_etcd_status(input, job, out),
         Job::EtcdRepair(job) => etcd_repair_command::do_etcd_repair(input, job, out, target),
     }
 }

@@ -111,7 +111,7 @@ module _ (rs : List RevisionView) where
     pub own_keys : HaveOwnKeys rs
     own_keys a b has also same = one_of nat_list_cmp_total (λ (r : RevisionView). r.stored_key) rs a b rises has also same
 
-    current_newest : (r : RevisionView) → IsCurrent rs r ↔ IsNewest rs r
+    pub current_newest : (r : RevisionView) → IsCurrent rs r ↔ IsNewest rs r
     unfolding newest
     current_newest r = (
       λ (last, live). greatest_newest r (last_greatest name_of (λ r. r.stored_key) sums_cmp sums_total sums_tie (is_named (name_of r)) rs r rises last) live,

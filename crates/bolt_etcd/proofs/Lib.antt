@@ -1,5 +1,8 @@
 mod ByName
 mod CompactionsAdded
+mod CountedNumbers
+mod CrcSums
+mod CurrentOnes
 mod Currents
 mod Decisions
 mod EtcdCompacts
@@ -25,6 +28,7 @@ mod NewestOfNames
 mod NoFaults
 mod NothingFound
 mod NumberSteps
+mod NumberedShown
 mod OtherCounts
 mod OtherSteps
 mod PassSteps
@@ -39,6 +43,7 @@ mod StatesKept
 mod StoreExists
 mod StoreLemmas
 mod StoredRevisions
+mod SumOfEntries
 mod SumOrders
 mod TakenAway
 mod TakenNames

@@ -1,9 +1,9 @@
 //! Which keys there are at a revision, and what each is.
-ghost use Rattle.std.specs.Prelude.{◌≡◌, IfOk, length, map};
+ghost use Rattle.std.specs.Prelude.{◌≡◌, IfOk, filter, length, map};
 ghost use Rattle.bolt_check.specs.Counts.{counted};
 ghost use Rattle.std.specs.List.Sorted.{IsPermutation, IsSorted};
-ghost use Rattle.bolt_etcd.specs.Current.{AreNewest, HaveOwnKeys, name_cmp};
-ghost use Rattle.bolt_etcd.specs.{ShownRevisions.shown_revision, Stores.others, Stores.revisions};
+ghost use Rattle.bolt_etcd.specs.Current.{AreNewest, HaveOwnKeys, name_cmp, stored_key_cmp};
+ghost use Rattle.bolt_etcd.specs.{HashKv.is_current_at, ShownRevisions.shown_revision, Stores.others, Stores.revisions};
 ghost use Rattle.bolt_tree.specs.EntriesLeft.{ForBucket};
 ghost use Rattle.bolt_etcd.specs.ForNames.{AreCurrentAt};
 
@@ -73,4 +73,42 @@ fn by_name(a: &Revision<'_>, b: &Revision<'_>) -> Ordering
     ensures { result ≡ name_cmp (shown_revision a.now) (shown_revision b.now) }
 {
     a.name().cmp(b.name())
+}
+
+/// Collects the newest revision of each name at a transaction, if it isn't a deletion, in the order of their keys. Goes over
+/// all entries of the bucket twice. Keeps 56 bytes for each revision of no later transaction than `up_to`.
+pub(crate) fn current_by_key<'a>(
+    alloc: Global,
+    bucket: &Bucket<'a>,
+    up_to: u64,
+) -> Result<Collected<'a>, NoMemory>
+    ensures current { IfOk result (λ current. ForBucket bucket.now (λ entries.
+        map shown_revision current.revisions.items
+        ≡ filter (is_current_at up_to (revisions entries)) (revisions entries))) }
+    ensures others { IfOk result (λ current.
+        ForBucket bucket.now (λ entries. current.others ≡ counted 0 (length (others entries)))) }
+{
+    let Collected {
+        mut revisions,
+        others,
+    } = Collected::of(alloc, bucket, up_to)?;
+    keep_newest(&mut revisions);
+    sort_by_key(&mut revisions);
+    Ok(Collected { revisions, others })
+}
+
+/// Sorts revisions by their keys.
+fn sort_by_key(revisions: &mut Vec<Revision<'_>>)
+    ensures same { IsPermutation (map shown_revision revisions.old.items)
+        (map shown_revision revisions.new.items) }
+    ensures sorted { IsSorted stored_key_cmp (map shown_revision revisions.new.items) }
+{
+    sort_roughly(revisions);
+    revisions.sort_unstable_by(by_key);
+}
+
+fn by_key(a: &Revision<'_>, b: &Revision<'_>) -> Ordering
+    ensures { result ≡ stored_key_cmp (shown_revision a.now) (shown_revision b.now) }
+{
+    a.stored_key().cmp(b.stored_key())
 }

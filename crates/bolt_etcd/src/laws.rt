@@ -4,7 +4,7 @@ ghost use Rattle.std.specs.Option.{is_some};
 ghost use Rattle.bolt_check.specs.Keys.{key_cmp};
 ghost use Rattle.bolt_format.specs.{Bytes.IsBytes, Elements.LeafElement};
 ghost use Rattle.bolt_tree.specs.{Entries.EntryView, Entries.IsEntry, Order.Rises};
-ghost use Rattle.bolt_etcd.specs.{Current.AreCurrent, Current.stored_key_cmp, NameFaults.AreByName, NameFaults.name_faults, StoreBuckets.IsStore, StoreBuckets.StoreView};
+ghost use Rattle.bolt_etcd.specs.{Crc32c.crc_of, Current.AreCurrent, Current.stored_key_cmp, NameFaults.AreByName, NameFaults.name_faults, StoreBuckets.IsStore, StoreBuckets.StoreView};
 ghost use Rattle.bolt_etcd.specs.{Revisions.RevisionView, Told.IsMissing, Told.IsTold};
 ghost use Rattle.bolt_etcd.specs.{EtcdCompactions.etcd_keeps, Histories.history, FewTransactions.deletion_of_a, FewTransactions.first_a, FewTransactions.first_b, FewTransactions.second_a, FewTransactions.second_b, FewTransactions.few_transactions};
 ghost use Rattle.bolt_etcd.specs.{HeldNames.AreHeld, Histories.state_at, Newest.until, Taken.IsShownBy, Taken.IsTaken, Taken.TellsOneBefore, ToldRevisions.IsMissingRevision, ToldRevisions.IsToldRevision};
@@ -151,4 +151,9 @@ pub fn keys_are_what_names_held()
     ensures { ForCompacted (λ ts compacted rs. (at : ℕ) (current : List RevisionView)
         → compacted ≤ at
         → AreCurrent (until at rs) current ↔ AreHeld (state_at at ts) current) }
+{}
+
+/// The check value of CRC-32C: the sum of the digits from 1 to 9.
+pub fn crc_32c_has_its_check_value()
+    ensures { crc_of (codes "123456789") ≡ 0xE3069283 }
 {}

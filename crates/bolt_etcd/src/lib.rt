@@ -6,24 +6,29 @@ mod check_lines;
 mod check_texts;
 mod collected;
 mod compaction;
+mod crc32c;
 mod current;
+mod hash_kv;
 pub mod laws;
 mod missing;
 mod name_faults;
 mod name_order;
 mod name_tag;
 mod newest;
+mod numbered;
 mod other;
 mod record;
 mod revision;
 mod revision_key;
 mod revisions;
 mod snapshot;
+mod status;
 mod store_faults;
 mod wire;
 
 pub use crate::collected::Collected;
 pub use crate::compaction::{compacted, compacted_by, store_compacted};
+pub use crate::crc32c::Crc32c;
 pub use crate::current::{Current, keep_newest};
 pub use crate::missing::{Missing, MissingNumbers};
 pub use crate::name_faults::{NameFault, NameFaults};
@@ -37,4 +42,5 @@ pub use crate::snapshot::{
     HASH_LEN, SnapshotFault, hashed_blocks_are_a_snapshot, put_snapshot_fault, snapshot_fault,
     trailing_bytes_change_nothing,
 };
+pub use crate::status::Status;
 pub use crate::store_faults::put_store_faults;

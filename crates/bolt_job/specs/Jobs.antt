@@ -1,7 +1,7 @@
 -- A job: what it asks for, by that of its command; its files, and how much of FILE it needs (docs/COMMANDS.md).
 use Rattle.std.specs.Prelude.{Bool, true, false, Option, Some, None, string_bytes}
 use Rattle.bolt_text.specs.Lines.{Text}
-use Rattle.bolt_job.specs.PlainWords.{Asked, buckets_of, check_of, compact_of, etcd_check_of, etcd_get_of, etcd_keys_of, etcd_repair_of, etcd_revisions_of, get_of, info_of, keys_asked, list_of, load_of, page_of, pages_asked, stats_of}
+use Rattle.bolt_job.specs.PlainWords.{Asked, buckets_of, check_of, compact_of, etcd_check_of, etcd_get_of, etcd_keys_of, etcd_repair_of, etcd_revisions_of, etcd_status_of, get_of, info_of, keys_asked, list_of, load_of, page_of, pages_asked, stats_of}
 use Rattle.bolt_job.specs.declared.job.Job.{Job}
 use Rattle.bolt_job.specs.declared.job.Job.TheVariants as job
 
@@ -21,6 +21,7 @@ asked_of (job.EtcdRevisions j) = etcd_revisions_of j
 asked_of (job.EtcdKeys j) = etcd_keys_of j
 asked_of (job.EtcdGet j) = etcd_get_of j
 asked_of (job.EtcdCheck j) = etcd_check_of j
+asked_of (job.EtcdStatus j) = etcd_status_of j
 asked_of (job.EtcdRepair j) = etcd_repair_of j
 
 -- the FILE that is asked for
@@ -40,6 +41,7 @@ file_name (job.EtcdRevisions j) = string_bytes j.file
 file_name (job.EtcdKeys j) = string_bytes j.file
 file_name (job.EtcdGet j) = string_bytes j.file
 file_name (job.EtcdCheck j) = string_bytes j.file
+file_name (job.EtcdStatus j) = string_bytes j.file
 file_name (job.EtcdRepair j) = string_bytes j.file
 
 -- the OUT, if one is asked for

@@ -10,6 +10,7 @@ use Rattle.bolt_job.specs.{PathWords.◌>>=◌, PathWords.each_part, PathWords.h
 use Rattle.bolt_job.specs.{declared.choices.BucketsShown.TheVariants.Names, declared.choices.BucketsShown.TheVariants.Sizes, declared.choices.CopyKind.CopyKind, declared.choices.Extent.Extent}
 use Rattle.bolt_job.specs.{declared.choices.MetaChoice.MetaChoice, declared.choices.PageSize.PageSize, declared.etcd_jobs.EtcdCheckJob.EtcdCheckJob, declared.etcd_jobs.EtcdGetJob.EtcdGetJob}
 use Rattle.bolt_job.specs.{declared.etcd_jobs.EtcdKeysJob.EtcdKeysJob, declared.etcd_jobs.EtcdRepairJob.EtcdRepairJob, declared.etcd_jobs.EtcdRevisionsJob.EtcdRevisionsJob}
+use Rattle.bolt_job.specs.declared.etcd_jobs.EtcdStatusJob.{EtcdStatusJob}
 use Rattle.bolt_job.specs.{declared.page_commands.CheckJob.CheckJob, declared.page_commands.InfoJob.InfoJob, declared.page_commands.PageJob.PageJob, declared.page_commands.PagesJob.PagesJob}
 use Rattle.bolt_job.specs.{declared.bucket_commands.BucketsJob.BucketsJob, declared.bucket_commands.GetJob.GetJob, declared.bucket_commands.KeysJob.KeysJob, declared.bucket_commands.ListJob.ListJob}
 use Rattle.bolt_job.specs.{declared.bucket_commands.StatsJob.StatsJob, declared.writing_commands.CompactJob.CompactJob, declared.writing_commands.LoadJob.LoadJob}
@@ -66,6 +67,7 @@ pub data Asked : Type 0 where
   etcd_keys : Text → AskedMeta → (prefix : Key) → (revision : Option ℕ) → Form → (values : Bool) → Asked
   etcd_get : Text → AskedMeta → (name : Key) → (revision : Option ℕ) → Form → (no_newline : Bool) → Asked
   etcd_check : Text → AskedMeta → Asked
+  etcd_status : Text → AskedMeta → (revision : Option ℕ) → FigureForm → Asked
   etcd_repair : (file : Text) → AskedMeta → (target : Text) → (page_size : Option ℕ) → (snapshot : Bool) → Asked
 
 -- the path that the code owns
@@ -127,6 +129,9 @@ etcd_get_of j = etcd_get (string_bytes j.file) (meta_in j.meta) j.name.items j.a
 
 abbrev pub etcd_check_of : EtcdCheckJob → Asked
 etcd_check_of j = etcd_check (string_bytes j.file) (meta_in j.meta)
+
+abbrev pub etcd_status_of : EtcdStatusJob → Asked
+etcd_status_of j = etcd_status (string_bytes j.file) (meta_in j.meta) j.at j.form
 
 abbrev pub etcd_repair_of : EtcdRepairJob → Asked
 etcd_repair_of j = etcd_repair (string_bytes j.file) (meta_in j.meta) (string_bytes j.target) (size_in j.page_size) j.snapshot
@@ -333,6 +338,11 @@ asks_etcd_get values =
 abbrev pub asks_etcd_check : Values → Result Asked Text
 asks_etcd_check values = meta_by values >>= λ meta. file_by values >>= λ file. Ok (etcd_check file meta)
 
+abbrev pub asks_etcd_status : Values → Result Asked Text
+asks_etcd_status values =
+    meta_by values >>= λ meta. figure_form_by (given values (codes "form")) >>= λ form. revision_asked (given values (codes "at")) >>= λ revision. file_by values >>= λ file.
+    Ok (etcd_status file meta revision form)
+
 abbrev pub asks_etcd_repair : Values → Result Asked Text
 asks_etcd_repair values =
     meta_by values >>= λ meta. page_size_by (given values (codes "page-size")) >>= λ size. text_by (codes "output") values >>= λ target. file_by values >>= λ file.
@@ -368,6 +378,7 @@ commands =
     ∷ command (codes "etcd-keys") (option (codes "at") ∷ option (codes "prefix") ∷ switch (codes "values") ∷ option (codes "parts") ∷ option (codes "form") ∷ metas) asks_etcd_keys
     ∷ command (codes "etcd-get") (needed (operand (codes "NAME")) ∷ option (codes "at") ∷ by_letter 110 (switch (codes "no-newline")) ∷ option (codes "parts") ∷ option (codes "form") ∷ metas) asks_etcd_get
     ∷ command (codes "etcd-check") metas asks_etcd_check
+    ∷ command (codes "etcd-status") (option (codes "at") ∷ option (codes "form") ∷ metas) asks_etcd_status
     ∷ command (codes "etcd-repair") (output ∷ option (codes "page-size") ∷ switch (codes "etcd-snapshot") ∷ metas) asks_etcd_repair
     ∷ []
 

@@ -1,17 +1,17 @@
 //! The commands that read what etcd keeps in its file, and put back what is found of it: which arguments each has and their help, its job, and how that
 //! is read. A job's names are copied last: until then there is nothing to drop if a word can't be read.
 ghost use Rattle.bolt_job.specs.CommandLine.{ReadsAs};
-ghost use Rattle.bolt_job.specs.PlainWords.{asks_etcd_check, asks_etcd_get, asks_etcd_keys, asks_etcd_repair, asks_etcd_revisions, etcd_check_of, etcd_get_of, etcd_keys_of, etcd_repair_of, etcd_revisions_of};
+ghost use Rattle.bolt_job.specs.PlainWords.{asks_etcd_check, asks_etcd_get, asks_etcd_keys, asks_etcd_repair, asks_etcd_revisions, asks_etcd_status, etcd_check_of, etcd_get_of, etcd_keys_of, etcd_repair_of, etcd_revisions_of, etcd_status_of};
 ghost use Rattle.bolt_job.specs.Private.CommandLines.{values_of};
 
 use crate::bucket_commands::{FORM, NO_NEWLINE};
 use crate::choices::{MetaChoice, PageSize};
 use crate::command_line::{Argument, Flag, Syntax};
 use crate::line::Line;
-use crate::page_commands::{ASSUME_META, FILE, META};
+use crate::page_commands::{ASSUME_META, FIGURE_FORM, FILE, META};
 use crate::refusal::Refusal;
 use crate::writing_commands::{OUTPUT, PAGE_SIZE};
-use bolt_text::Form;
+use bolt_text::{FigureForm, Form};
 
 const NAME: Argument = Argument {
     name: "NAME",
@@ -223,6 +223,34 @@ pub(crate) fn read_etcd_check(line: &Line<'_, '_>) -> Result<EtcdCheckJob, Refus
 {
     Ok(EtcdCheckJob {
         meta: line.meta()?,
+        file: line.text("FILE")?,
+    })
+}
+
+/// Print what etcd would report of the store in a file.
+#[derive(Drop)]
+pub struct EtcdStatusJob {
+    pub file: String,
+    pub meta: MetaChoice,
+    pub form: FigureForm,
+    /// The transaction. Without one it is the last.
+    pub at: Option<u64>,
+}
+
+pub(crate) static ETCD_STATUS: Syntax = Syntax {
+    name: "etcd-status",
+    about: "Print what etcd would report of the file: its revision, its number of keys and its hash",
+    arguments: &[FILE, AT_REVISION, FIGURE_FORM, META, ASSUME_META],
+    note: None,
+};
+
+pub(crate) fn read_etcd_status(line: &Line<'_, '_>) -> Result<EtcdStatusJob, Refusal>
+    ensures { ReadsAs etcd_status_of (asks_etcd_status (values_of line.now)) result }
+{
+    Ok(EtcdStatusJob {
+        meta: line.meta()?,
+        form: line.figure_form()?,
+        at: line.revision("at")?,
         file: line.text("FILE")?,
     })
 }

@@ -12,9 +12,9 @@ use crate::bucket_commands::{
 };
 use crate::command_line::Syntax;
 use crate::etcd_jobs::{
-    ETCD_CHECK, ETCD_GET, ETCD_KEYS, ETCD_REPAIR, ETCD_REVISIONS, EtcdCheckJob, EtcdGetJob,
-    EtcdKeysJob, EtcdRepairJob, EtcdRevisionsJob, read_etcd_check, read_etcd_get, read_etcd_keys,
-    read_etcd_repair, read_etcd_revisions,
+    ETCD_CHECK, ETCD_GET, ETCD_KEYS, ETCD_REPAIR, ETCD_REVISIONS, ETCD_STATUS, EtcdCheckJob,
+    EtcdGetJob, EtcdKeysJob, EtcdRepairJob, EtcdRevisionsJob, EtcdStatusJob, read_etcd_check,
+    read_etcd_get, read_etcd_keys, read_etcd_repair, read_etcd_revisions, read_etcd_status,
 };
 use crate::line::Line;
 use crate::page_commands::{
@@ -42,6 +42,7 @@ pub enum Job {
     EtcdKeys(EtcdKeysJob),
     EtcdGet(EtcdGetJob),
     EtcdCheck(EtcdCheckJob),
+    EtcdStatus(EtcdStatusJob),
     EtcdRepair(EtcdRepairJob),
 }
 
@@ -69,6 +70,7 @@ impl Job {
             Job::EtcdKeys(job) => job.file.as_str(),
             Job::EtcdGet(job) => job.file.as_str(),
             Job::EtcdCheck(job) => job.file.as_str(),
+            Job::EtcdStatus(job) => job.file.as_str(),
             Job::EtcdRepair(job) => job.file.as_str(),
         }
     }
@@ -97,7 +99,7 @@ impl Job {
 
 /// The commands, in the order of help. Each is a `static` of its own, since the check of a table takes the
 /// square of its length.
-pub(crate) fn commands<'a>() -> [&'a Syntax; 16]
+pub(crate) fn commands<'a>() -> [&'a Syntax; 17]
     ensures { map (λ syntax. line_of syntax.now) result ≡ lines }
 {
     [
@@ -116,6 +118,7 @@ pub(crate) fn commands<'a>() -> [&'a Syntax; 16]
         &ETCD_KEYS,
         &ETCD_GET,
         &ETCD_CHECK,
+        &ETCD_STATUS,
         &ETCD_REPAIR,
     ]
 }
@@ -140,6 +143,7 @@ pub(crate) fn read_command(name: &str, line: &Line<'_, '_>) -> Result<Job, Refus
         "etcd-keys" => Ok(Job::EtcdKeys(read_etcd_keys(line)?)),
         "etcd-get" => Ok(Job::EtcdGet(read_etcd_get(line)?)),
         "etcd-check" => Ok(Job::EtcdCheck(read_etcd_check(line)?)),
+        "etcd-status" => Ok(Job::EtcdStatus(read_etcd_status(line)?)),
         "etcd-repair" => Ok(Job::EtcdRepair(read_etcd_repair(line)?)),
         _ => Err(Refusal::Word("command missing")),
     }

@@ -15,7 +15,9 @@ mod writing_commands;
 
 pub use bucket_commands::{BucketsJob, GetJob, KeysJob, ListJob, StatsJob};
 pub use choices::{AssumedMeta, BucketsShown, CopyKind, Extent, MetaChoice, PageSize};
-pub use etcd_jobs::{EtcdCheckJob, EtcdGetJob, EtcdKeysJob, EtcdRepairJob, EtcdRevisionsJob};
+pub use etcd_jobs::{
+    EtcdCheckJob, EtcdGetJob, EtcdKeysJob, EtcdRepairJob, EtcdRevisionsJob, EtcdStatusJob,
+};
 pub use job::Job;
 pub use job_words::read_words;
 pub use page_commands::{CheckJob, InfoJob, PageJob, PagesJob};

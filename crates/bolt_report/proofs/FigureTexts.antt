@@ -4,18 +4,34 @@ use Rattle.bolt_report.proofs.Words.{bytes_allocated, bytes_used, decimal, end_o
 use Rattle.std.specs.Prelude.{fold}
 use Rattle.json.proofs.Printed.Tokens.{print_from-append}
 use Rattle.json.specs.{Json.Json, Print.ends}
-use Rattle.bolt_report.specs.{FigureForms.figures_text, FigureForms.number_text, SizeLines.size_members}
+use Rattle.bolt_report.specs.{FigureForms.figures_text, FigureForms.number_or, SizeLines.size_members}
 use Rattle.bolt_text.specs.Forms.{is_json, item_text, json_in}
 use Rattle.bolt_text.specs.declared.forms.FigureForm.TheVariants as figure_form
 use Rattle.bolt_text.specs.declared.forms.Form.TheVariants as form
 
 -- of a meta, of which the freelist may have no number
 pub meta_object : (page_size slot txid root sequence high_water : ℕ) (freelist : Option ℕ) → codes "{\"page_size\":" ++ (decimal page_size ++ (codes ",\"meta\":" ++ (decimal slot ++ (codes ",\"txid\":" ++ (decimal txid
-    ++ (codes ",\"root\":" ++ (decimal root ++ (codes ",\"sequence\":" ++ (decimal sequence ++ (codes ",\"freelist\":" ++ (number_text freelist ++ (codes ",\"high_water\":" ++ (decimal high_water ++ (codes "}\n" ++ []))))))))))))))
+    ++ (codes ",\"root\":" ++ (decimal root ++ (codes ",\"sequence\":" ++ (decimal sequence ++ (codes ",\"freelist\":" ++ (number_or (codes "null") freelist ++ (codes ",\"high_water\":" ++ (decimal high_water ++ (codes "}\n" ++ []))))))))))))))
     ≡ figures_text figure_form.Json ((codes "page size", Some page_size) ∷ (codes "meta", Some slot) ∷ (codes "txid", Some txid) ∷ (codes "root", Some root) ∷ (codes "sequence", Some sequence) ∷ (codes "freelist", freelist) ∷ (codes "high water", Some high_water) ∷ [])
 unfolding print_from escape_byte
 meta_object page_size slot txid root sequence high_water None = simp append_assoc
 meta_object page_size slot txid root sequence high_water (Some n) = simp append_assoc
+
+-- of a store, of which three figures may have no number
+pub status_object : (revision newest compacted keys revisions : ℕ) (index term hash : Option ℕ) → codes "{\"revision\":" ++ (decimal revision ++ (codes ",\"newest\":" ++ (decimal newest ++ (codes ",\"compacted\":" ++ (decimal compacted ++ (codes ",\"keys\":" ++ (decimal keys
+    ++ (codes ",\"revisions\":" ++ (decimal revisions ++ (codes ",\"consistent_index\":" ++ (number_or (codes "null") index ++ (codes ",\"term\":" ++ (number_or (codes "null") term
+    ++ (codes ",\"hash\":" ++ (number_or (codes "null") hash ++ (codes "}\n" ++ []))))))))))))))))
+    ≡ figures_text figure_form.Json ((codes "revision", Some revision) ∷ (codes "newest", Some newest) ∷ (codes "compacted", Some compacted) ∷ (codes "keys", Some keys) ∷ (codes "revisions", Some revisions)
+    ∷ (codes "consistent index", index) ∷ (codes "term", term) ∷ (codes "hash", hash) ∷ [])
+unfolding print_from escape_byte
+status_object revision newest compacted keys revisions None None None = simp append_assoc
+status_object revision newest compacted keys revisions None None (Some h) = simp append_assoc
+status_object revision newest compacted keys revisions None (Some t) None = simp append_assoc
+status_object revision newest compacted keys revisions None (Some t) (Some h) = simp append_assoc
+status_object revision newest compacted keys revisions (Some i) None None = simp append_assoc
+status_object revision newest compacted keys revisions (Some i) None (Some h) = simp append_assoc
+status_object revision newest compacted keys revisions (Some i) (Some t) None = simp append_assoc
+status_object revision newest compacted keys revisions (Some i) (Some t) (Some h) = simp append_assoc
 
 -- ---- the sizes of a bucket, and its name
 

@@ -22,10 +22,10 @@ abbrev pub number_json : Option ℕ → json.Json
 number_json (Some n) = number (decimal n)
 number_json None = null
 
--- the text of the latter
-abbrev pub number_text : Option ℕ → List ℕ
-number_text (Some n) = decimal n
-number_text None = codes "null"
+-- its number as a text, or this one if there is none
+abbrev pub number_or : List ℕ → Option ℕ → List ℕ
+number_or none (Some n) = decimal n
+number_or none None = none
 
 -- figures, and then other members of an object
 abbrev pub figures_then : List Named → Members → Members

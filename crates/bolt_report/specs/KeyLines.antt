@@ -1,8 +1,8 @@
 -- The keys of a bucket as a text: docs/COMMANDS.md, "What is printed".
 use Rattle.std.specs.Prelude.{ℕ, List, [], filter, flat_map, if◌then◌else◌}
 use Rattle.bolt_format.specs.Elements.{LeafElement}
-use Rattle.bolt_tree.specs.{Buckets.bucket_checked, Buckets.bucket_start, Cursors.cursor_checked, Cursors.cursor_start, EntriesLeft.ForEntries}
-use Rattle.bolt_tree.specs.{declared.bucket.Bucket.Bucket, declared.cursor.Cursor.Cursor}
+use Rattle.bolt_tree.specs.{Cursors.cursor_checked, Cursors.cursor_start, EntriesLeft.ForEntries}
+use Rattle.bolt_tree.specs.{declared.cursor.Cursor.Cursor}
 use Rattle.bolt_text.specs.{Forms.value_text, declared.forms.Form.Form}
 
 -- the keys of all entries, a line for each

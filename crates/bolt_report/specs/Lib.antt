@@ -19,4 +19,5 @@ pub mod RevisionLines
 pub mod RevisionObjects
 pub mod SizeLines
 pub mod StatsLines
+pub mod StatusLines
 pub mod WriterLines

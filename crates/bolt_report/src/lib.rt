@@ -18,6 +18,7 @@ mod part_lines;
 mod revision_lines;
 mod size_lines;
 mod stats_lines;
+mod status_lines;
 
 pub use at_path::{AtPath, look_up};
 pub use bbolt_lines::put_bbolt_findings;
@@ -37,3 +38,4 @@ pub use part_lines::{list, list_members_part, put_list_part};
 pub use revision_lines::RevisionWriter;
 pub use size_lines::put_sizes;
 pub use stats_lines::stats_text;
+pub use status_lines::put_status;

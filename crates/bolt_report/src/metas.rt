@@ -1,7 +1,7 @@
 //! A meta as a text, and a slot without one.
-ghost use Rattle.std.specs.Prelude.{◌≡◌, codes};
+ghost use Rattle.std.specs.Prelude.{◌≡◌, ◌++◌, codes};
 ghost use Rattle.bolt_format.specs.{Endings.ending, Wrote.Wrote};
-ghost use Rattle.bolt_report.specs.FigureForms.{named_line, number_text};
+ghost use Rattle.bolt_report.specs.FigureForms.{named_line, number_or};
 ghost use Rattle.bolt_report.specs.MetaLines.{freelist_of, info_text, slot_fault_text, slot_number};
 ghost use Rattle.bolt_text.specs.Pieces.{piece_text};
 
@@ -40,7 +40,7 @@ fn put_lines<S: Sink>(slot: Slot, meta: &Meta, sink: &mut S) -> Result<(), SinkF
             Piece::Figure(b"txid", meta.txid),
             Piece::Figure(b"root", meta.root),
             Piece::Figure(b"sequence", meta.root_sequence),
-            freelist_line(freelist_of(meta.freelist)),
+            line_or(b"freelist", b"freelist none\n", freelist_of(meta.freelist)),
             Piece::Figure(b"high water", meta.high_water),
         ],
         sink,
@@ -59,7 +59,7 @@ fn put_json<S: Sink>(slot: Slot, meta: &Meta, sink: &mut S) -> Result<(), SinkFa
             Piece::Field(b",\"root\":", meta.root),
             Piece::Field(b",\"sequence\":", meta.root_sequence),
             Piece::Bytes(b",\"freelist\":"),
-            freelist_value(freelist_of(meta.freelist)),
+            number_or(freelist_of(meta.freelist), b"null"),
             Piece::Field(b",\"high_water\":", meta.high_water),
             Piece::Bytes(b"}\n"),
         ],
@@ -101,22 +101,23 @@ fn freelist_of(id: u64) -> Option<u64>
     if id == NO_FREELIST { None } else { Some(id) }
 }
 
-/// The line of the freelist.
-fn freelist_line(id: Option<u64>) -> Piece<'static>
-    ensures { piece_text result ≡ named_line (codes "freelist") id }
+/// The line of a figure that may have no number; `none` is its line then.
+pub(crate) fn line_or(name: &'static [u8], none: &'static [u8], n: Option<u64>) -> Piece<'static>
+    requires { none.now ≡ name.now ++ codes " none\n" }
+    ensures { piece_text result ≡ named_line name.now n }
 {
-    match id {
-        Some(id) => Piece::Figure(b"freelist", id),
-        None => Piece::Bytes(b"freelist none\n"),
+    match n {
+        Some(n) => Piece::Figure(name, n),
+        None => Piece::Bytes(none),
     }
 }
 
-/// The freelist as JSON.
-fn freelist_value(id: Option<u64>) -> Piece<'static>
-    ensures { piece_text result ≡ number_text id }
+/// A number, if there is one, or else this text.
+pub(crate) fn number_or(n: Option<u64>, none: &'static [u8]) -> Piece<'static>
+    ensures { piece_text result ≡ number_or none.now n }
 {
-    match id {
-        Some(id) => Piece::Number(id),
-        None => Piece::Bytes(b"null"),
+    match n {
+        Some(n) => Piece::Number(n),
+        None => Piece::Bytes(none),
     }
 }

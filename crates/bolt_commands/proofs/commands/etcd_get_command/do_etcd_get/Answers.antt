@@ -13,7 +13,7 @@ returns-in_err-refuse_compacted g c =
     let s = c.in_ok-store.store in
     let of = c.in_ok-store.ensures.found in
     let refused = c.in_err-refuse_compacted.ensures.refused in
-    compacted_answer _ _ s of _ (IsHeldText c.args.job.now) _ c.args.job.now.at (refused.1 (own _ _ s of).0 (here _ _ s of)) _ refused.0 c.from_residual-in_err-refuse_compacted.ensures.1
+    compacted_answer _ _ s of _ (λ store. IsHeldText c.args.job.now) _ c.args.job.now.at (refused.1 (own _ _ s of).0 (here _ _ s of)) _ refused.0 c.from_residual-in_err-refuse_compacted.ensures.1
 
 pub returns-in_default : goal.returns-in_default
 returns-in_default g c =
@@ -24,7 +24,7 @@ returns-in_default g c =
     let kept = c.in_ok-refuse_compacted.ensures.kept (own _ _ s of).0 (here _ _ s of) in
     let found = rw (c.as_slice.ensures.value, c.up_to.ensures) at (c.find-newest.ensures.revision entries are) in
     let none = ap value_if (sym found) ∙ sym c.value.ensures ∙ ap (option_map (λ value. value.now)) c.in_default.is in
-    answer_at _ _ s of (IsHeldText job) (Err NoKey) job.at kept (answer_nothing NoKey (Err NoKey) (rw none refl) refl)
+    answer_at _ _ s of (Err NoKey) (λ store. IsHeldText job) job.at kept (answer_nothing NoKey (Err NoKey) (rw none refl) refl)
 
 pub returns : goal.returns
 returns g c =
@@ -36,4 +36,4 @@ returns g c =
     let found = rw (c.as_slice.ensures.value, c.up_to.ensures) at (c.find-newest.ensures.revision entries are) in
     let some = ap value_if (sym found) ∙ sym c.value.ensures ∙ ap (option_map (λ value. value.now)) c.in-Some.is in
     let put = short_put (job.form ≡ Json) (value_shown job.form job.no_newline c.in-Some.value.now) (entries_ending entries) c.put_value.result c.put_value.ensures.written c.put_value.ensures.short c.put_value.ensures.fault in
-    rw (c.end_value.ensures, c.find-newest.ensures.others entries are) (answer_at _ _ s of (IsHeldText job) _ job.at kept (answer_as put (λ answer shown. rw some shown)))
+    rw (c.end_value.ensures, c.find-newest.ensures.others entries are) (answer_at _ _ s of _ (λ store. IsHeldText job) job.at kept (answer_as put (λ answer shown. rw some shown)))

@@ -13,7 +13,7 @@ returns-in_err-refuse_compacted g c =
     let s = c.in_ok-store.store in
     let of = c.in_ok-store.ensures.found in
     let refused = c.in_err-refuse_compacted.ensures.refused in
-    compacted_answer _ _ s of _ (IsCurrentText c.args.job.now) _ c.args.job.now.at (refused.1 (own _ _ s of).0 (here _ _ s of)) _ refused.0 c.from_residual-in_err-refuse_compacted.ensures.1
+    compacted_answer _ _ s of _ (λ store. IsCurrentText c.args.job.now) _ c.args.job.now.at (refused.1 (own _ _ s of).0 (here _ _ s of)) _ refused.0 c.from_residual-in_err-refuse_compacted.ensures.1
 
 pub returns : goal.returns
 returns g c =
@@ -27,4 +27,4 @@ returns g c =
     let knows = known_of c.put_current.result _ c.put_current.ensures.others (λ m all. all entries are) in
     let put = counted_ended text entries c.put_current.result written knows c.put_current.ensures.fault in
     let kept = c.in_ok-refuse_compacted.ensures.kept (own _ _ s of).0 (here _ _ s of) in
-    rw c.end_revisions.ensures (answer_at _ _ s of (IsCurrentText job) _ job.at kept (answer_as put (λ answer ended. (current, is, ended))))
+    rw c.end_revisions.ensures (answer_at _ _ s of _ (λ store. IsCurrentText job) job.at kept (answer_as put (λ answer ended. (current, is, ended))))

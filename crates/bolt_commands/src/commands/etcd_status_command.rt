@@ -1,0 +1,30 @@
+//! The command `etcd-status`.
+ghost use Rattle.std.specs.Prelude.{◌≡◌};
+ghost use Rattle.bolt_commands.specs.{EtcdAnswers.IsEtcdStatusPrint, EtcdAnswers.others_ending, EtcdAnswers.up_to, Private.Endings.end_written, Private.Printing.PrintsAnswer};
+
+use crate::etcd_store::{end_others, read_store, refuse_compacted, up_to};
+use crate::failure::Outcome;
+use crate::opening::Input;
+use bolt_etcd::Status;
+use bolt_format::{Sink, SinkFault};
+use bolt_job::EtcdStatusJob;
+use bolt_report::put_status;
+
+/// Writes what etcd would report of the store in a file.
+pub(crate) fn do_etcd_status<O: Sink>(input: Input<'_>, job: &EtcdStatusJob, out: &mut O) -> Outcome
+    ensures { PrintsAnswer O.Sink out.old out.new
+        (IsEtcdStatusPrint job.now input.entry.file.now) result }
+{
+    let store = read_store(input, job.meta)?;
+    refuse_compacted(&store.root, job.at)?;
+    let status = Status::find(input.alloc, &store.root, &store.keys, up_to(job.at))?;
+    end_status(put_status(&status, job.form, out), status.others)
+}
+
+/// How a job ends that wrote figures.
+fn end_status(put: Result<(), SinkFault>, others: u64) -> Outcome
+    ensures { result ≡ end_written put (others_ending others) }
+{
+    put?;
+    end_others(others)
+}

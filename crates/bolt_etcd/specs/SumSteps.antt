@@ -1,0 +1,18 @@
+-- A step of the sum over entries.
+use Rattle.std.specs.Prelude.{◌≡◌, ℕ, Bool, List, option_map, if◌then◌else◌}
+use Rattle.std.specs.List.{list_any}
+use Rattle.bolt_format.specs.Elements.{LeafElement}
+use Rattle.bolt_tree.specs.Entries.{EntryView}
+use Rattle.bolt_etcd.specs.{Crc32c.crc_from, CurrentKeys.nameless_key, HashKv.is_current_at, HashKv.is_summed, HashKv.passes, Numbered.numbered, Numbered.numbered_of}
+use Rattle.bolt_etcd.specs.{Revisions.RevisionView, Revisions.revision_of, ShownRevisions.value_bytes, Stores.revisions, declared.hash_kv.Hashed.Hashed}
+
+-- among these entries it is known of one whether it is listed as current, and of all whether any is current
+pub record KnowsCurrent (h : Hashed) (entries : List LeafElement) (entry : EntryView) (is_listed any_current : Bool) : Type 0 where
+  pub nameless : option_map (λ key. key.now) h.nameless ≡ nameless_key h.up_to (numbered entries)
+  pub listed : is_listed ≡ passes (is_current_at h.up_to (revisions entries)) (revision_of entry)
+  pub any : any_current ≡ list_any (is_current_at h.up_to (numbered entries)) (numbered entries)
+
+-- the state of the sum after one more entry, of the revisions and marks rs
+abbrev pub sum_with : (up_to compacted : ℕ) → (rs : List RevisionView) → EntryView → ℕ → ℕ
+sum_with up_to compacted rs entry state =
+    if passes (is_summed up_to compacted rs) (numbered_of entry) then crc_from (crc_from state entry.key) (value_bytes entry) else state
