@@ -4,6 +4,7 @@
 #![tactic(auto)]
 
 mod bucket_key;
+mod first_leaf;
 mod found;
 mod found_leaves;
 mod found_members;
@@ -15,6 +16,8 @@ mod losses;
 mod lost_and_found;
 mod recover_fault;
 mod recovery;
+mod state;
+mod states;
 mod steps;
 
 pub use found::Found;
@@ -24,3 +27,5 @@ pub use losses::{Loss, Lost};
 pub use lost_and_found::LostAndFound;
 pub use recover_fault::RecoverFault;
 pub use recovery::Recovery;
+pub use state::{Figures, Place, State};
+pub use states::{States, find_states};
