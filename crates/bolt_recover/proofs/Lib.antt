@@ -1,6 +1,7 @@
 mod CourseOrder
 mod CourseSurveys
 mod CourseTrees
+mod Counted
 mod Courses
 mod Existing
 pub mod Exports

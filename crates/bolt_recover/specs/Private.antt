@@ -4,6 +4,7 @@ pub mod Frames
 pub mod Joining
 pub mod LeavesLeft
 pub mod Merging
+pub mod Counting
 pub mod Courses
 pub mod Tests
 pub mod TreesLeft

@@ -1,10 +1,10 @@
 -- The states of a file, and what is left of each: docs/RECOVERY.md, "States".
-use Rattle.std.specs.Prelude.{◌≡◌, ◌≢◌, ◌≤◌, ◌<◌, ◌↔◌, ◌⊎◌, ◌*◌, ◌-◌, ◌^◌, ℕ, Bool, true, false, List, [], ◌∷◌, Contains, None, Option, Some, length, min}
-use Rattle.std.specs.{List.count_by, List.flat_map}
+use Rattle.std.specs.Prelude.{◌≡◌, ◌≢◌, ◌≤◌, ◌<◌, ◌↔◌, ◌⊎◌, ◌+◌, ◌*◌, ◌-◌, ◌^◌, ℕ, Bool, true, false, List, [], ◌∷◌, Contains, length, min}
+use Rattle.std.specs.{List.count_by, List.flat_map, Ordering.nat_cmp, Ordering.ordering_then, declared.cmp.Ordering.Ordering}
 use Rattle.bolt_check.specs.{Counts.saturated, Keys.Key, declared.finding.Finding.Finding}
 use Rattle.bolt_format.specs.{Assumed.assumed_meta, Metas.IsInSlot, declared.meta.Meta.Meta, declared.meta.Slot.Slot}
-use Rattle.bolt_tree.specs.{Entries.Bucket, Entries.Value, Listing.Member}
-use Rattle.bolt_recover.specs.{Losses.LossView, Recovered.ForRecovered, Recoveries.ForLosses, Refusals.KeepsRoot, Refusals.LosesRoot}
+use Rattle.bolt_tree.specs.{Entries.Bucket, Entries.Value, Listing.Member, Order.Rises}
+use Rattle.bolt_recover.specs.{Recovered.ForRecovered, Recoveries.ForLosses, Refusals.KeepsRoot, Refusals.LosesRoot}
 
 -- ---- what a listing has
 
@@ -44,13 +44,22 @@ abbrev pub counted32 : ℕ → ℕ
 counted32 n = min n (2 ^ 32 - 1)
 
 -- The figures of a listing: how many buckets the root bucket has, and the first and the last of their names; how many buckets there are in all, and
--- how many values.
-pub record HasFigures (listing : List Member) (buckets : ℕ) (first last : Key) (all_buckets values : ℕ) : Type 0 where
-  pub buckets : buckets ≡ counted32 (length (root_buckets listing))
-  pub first : first ≡ first_name (root_buckets listing)
-  pub last : last ≡ last_name (root_buckets listing)
-  pub all_buckets : all_buckets ≡ counted32 (count_by is_bucket listing)
-  pub values : values ≡ saturated (count_by is_value listing)
+-- how many values. Counts of buckets are at most 2^32 - 1, that of values 2^64 - 1.
+pub record FiguresView : Type 0 where
+  pub buckets : ℕ
+  pub first : Key
+  pub last : Key
+  pub all_buckets : ℕ
+  pub values : ℕ
+
+abbrev pub figures_of : List Member → FiguresView
+figures_of listing = record {
+  buckets = counted32 (length (root_buckets listing));
+  first = first_name (root_buckets listing);
+  last = last_name (root_buckets listing);
+  all_buckets = counted32 (count_by is_bucket listing);
+  values = saturated (count_by is_value listing);
+}
 
 -- ---- the states
 
@@ -81,22 +90,36 @@ IsState file page_size place = IsNamed file place ⊎ IsRootPage file page_size 
 
 -- ---- what is told of a state
 
--- A state whose root page is kept, with the number of losses and the figures of what is recovered. Counts of losses and of buckets are at most
--- 2^32 - 1, that of values 2^64 - 1.
+-- A state whose root page is kept, with the number of losses, at most 2^32 - 1, and the figures of what is recovered.
 pub record StateView : Type 0 where
   pub place : Place
   pub losses : ℕ
-  pub buckets : ℕ
-  pub first : Key
-  pub last : Key
-  pub all_buckets : ℕ
-  pub values : ℕ
+  pub figures : FiguresView
 
 pub record IsKept (file : List ℕ) (s : StateView) : Type 0 where
   pub root : KeepsRoot file (meta_at file s.place)
   pub losses : ForLosses file (meta_at file s.place) (λ losses. s.losses ≡ counted32 (length losses))
-  pub figures : ForRecovered file (meta_at file s.place) (λ listing. HasFigures listing s.buckets s.first s.last s.all_buckets s.values)
+  pub figures : ForRecovered file (meta_at file s.place) (λ listing. s.figures ≡ figures_of listing)
 
 -- the root page is lost, and everything with it
 abbrev pub IsLost : List ℕ → Place → Type 0
 IsLost file place = ∥ ((x : Finding) × LosesRoot file (meta_at file place) x) ∥₁
+
+-- the number of entries: values and buckets
+abbrev pub entries_of : FiguresView → ℕ
+entries_of f = saturated (f.values + f.all_buckets)
+
+abbrev pub place_cmp : Place → Place → Ordering
+place_cmp a b = ordering_then (nat_cmp a.page_size b.page_size) (nat_cmp a.root b.root)
+
+-- fewer losses come first, then more entries, then smaller page sizes and page numbers
+abbrev pub state_cmp : StateView → StateView → Ordering
+state_cmp a b =
+    ordering_then (nat_cmp a.losses b.losses) (ordering_then (nat_cmp (entries_of b.figures) (entries_of a.figures)) (place_cmp a.place b.place))
+
+-- The states of a file: those whose root page is kept, and those whose root page is lost. Each is there once, in order.
+pub record AreStates (file : List ℕ) (page_size : ℕ) (kept : List StateView) (lost : List Place) : Type 0 where
+  pub kept_rise : Rises state_cmp kept
+  pub kept_exact : (s : StateView) → Contains kept s ↔ (IsState file page_size s.place × IsKept file s)
+  pub lost_rise : Rises place_cmp lost
+  pub lost_exact : (place : Place) → Contains lost place ↔ (IsState file page_size place × IsLost file place)

@@ -4,6 +4,7 @@
 #![tactic(auto)]
 
 mod bucket_key;
+mod counting;
 mod first_leaf;
 mod found;
 mod found_leaves;

@@ -1,4 +1,7 @@
 //! A state of a file: what is left of it under a page size and a root page.
+ghost use Rattle.std.specs.Prelude.{◌≡◌, ◌==◌, ◌+◌, [], if◌then◌else◌};
+ghost use Rattle.bolt_tree.specs.{Paths.path_of, ShownEntries.item_view};
+ghost use Rattle.bolt_recover.specs.{Private.Counting.figures_after, ShownStates.AreFiguresOf, ShownStates.figures_view, States.counted32};
 
 use bolt_tree::Item;
 
@@ -19,7 +22,9 @@ pub struct Figures<'a> {
 
 impl<'a> Figures<'a> {
     /// Those of an empty listing.
-    pub(crate) fn none() -> Figures<'a> {
+    pub(crate) fn none() -> Figures<'a>
+        ensures { AreFiguresOf [] result }
+    {
         Figures {
             buckets: 0,
             first: &[],
@@ -30,7 +35,10 @@ impl<'a> Figures<'a> {
     }
 
     /// Adds the next member of the listing.
-    pub(crate) fn add(&mut self, path: &[&'a [u8]], item: &Item<'a>) {
+    pub(crate) fn add(&mut self, path: &[&'a [u8]], item: &Item<'a>)
+        ensures { figures_view self.new
+            ≡ figures_after (figures_view self.old) (path_of path.now, item_view item.now) }
+    {
         match item {
             Item::Value(_) => self.values = self.values.saturating_add(1),
             Item::Bucket { .. } => {
@@ -43,7 +51,12 @@ impl<'a> Figures<'a> {
     }
 
     /// Adds the next bucket of the root bucket.
-    fn add_name(&mut self, name: &'a [u8]) {
+    fn add_name(&mut self, name: &'a [u8])
+        ensures { figures_view self.new ≡ record (figures_view self.old) {
+            buckets = counted32 (self.old.buckets + 1);
+            first = if self.old.buckets == 0 then name.now else self.old.first.now;
+            last = name.now } }
+    {
         if self.buckets == 0 {
             self.first = name;
         }

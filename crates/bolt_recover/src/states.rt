@@ -1,11 +1,11 @@
 //! The states of a file, the likeliest first.
 
+use crate::counting::count_recovered;
 use crate::first_leaf::may_be_root;
 use crate::recovery::Recovery;
-use crate::state::{Figures, Place, State};
+use crate::state::{Place, State};
 use bolt_check::{CheckFault, NoMemory};
 use bolt_format::{Meta, Slot, assumed_meta, slot_meta};
-use bolt_tree::Item;
 use std::alloc::Global;
 use std::cmp::Ordering;
 
@@ -104,7 +104,7 @@ fn meta_at(file: &[u8], place: Place) -> Meta {
 
 fn named_state(alloc: Global, file: &[u8], place: Place) -> Result<Option<State<'_>>, NoMemory> {
     match Recovery::under(alloc, file, meta_at(file, place)) {
-        Ok(mut recovery) => Ok(recovery.count(false)?.map(|figures| State {
+        Ok(mut recovery) => Ok(count_recovered(&mut recovery, false)?.map(|figures| State {
             place,
             losses: few(recovery.losses().len()),
             figures,
@@ -125,7 +125,7 @@ fn bucket_state(alloc: Global, file: &[u8], place: Place) -> Result<Option<State
     }
     match Recovery::under(alloc, file, meta) {
         Ok(mut recovery) => {
-            let Some(figures) = recovery.count(true)? else {
+            let Some(figures) = count_recovered(&mut recovery, true)? else {
                 return Ok(None);
             };
             if figures.buckets == 0 {
@@ -139,26 +139,6 @@ fn bucket_state(alloc: Global, file: &[u8], place: Place) -> Result<Option<State
         }
         Err(CheckFault::Structure(_)) => Ok(None),
         Err(_) => Err(NoMemory),
-    }
-}
-
-impl<'a> Recovery<'a> {
-    fn count(&mut self, stop: bool) -> Result<Option<Figures<'a>>, NoMemory> {
-        let mut figures = Figures::none();
-        while let Some(item) = self.next()? {
-            if stop && is_root_value(self.path(), &item) {
-                return Ok(None);
-            }
-            figures.add(self.path(), &item);
-        }
-        Ok(Some(figures))
-    }
-}
-
-fn is_root_value(path: &[&[u8]], item: &Item<'_>) -> bool {
-    match item {
-        Item::Value(_) => path.len() == 1,
-        Item::Bucket { .. } => false,
     }
 }
 
