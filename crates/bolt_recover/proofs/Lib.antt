@@ -1,7 +1,7 @@
+mod Counted
 mod CourseOrder
 mod CourseSurveys
 mod CourseTrees
-mod Counted
 mod Courses
 mod Existing
 pub mod Exports
@@ -18,6 +18,7 @@ mod MembersInBuckets
 mod PageNames
 mod Recovering
 mod Refused
+mod RootLeaf
 mod Searched
 mod SiteFacts
 mod SiteKeys
@@ -25,6 +26,10 @@ mod SiteSteps
 mod Skipping
 mod SoundListing
 mod SoundWalks
+mod StatesGrow
+mod StatesKept
+mod StatesOrder
+mod StatesTried
 mod StepLemmas
 mod SurveyIsOne
 mod TaskLists

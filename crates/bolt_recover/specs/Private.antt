@@ -6,5 +6,6 @@ pub mod LeavesLeft
 pub mod Merging
 pub mod Counting
 pub mod Courses
+pub mod StatesTried
 pub mod Tests
 pub mod TreesLeft

@@ -1,9 +1,9 @@
 -- The states of a file, and what is left of each: docs/RECOVERY.md, "States".
-use Rattle.std.specs.Prelude.{◌≡◌, ◌≢◌, ◌≤◌, ◌<◌, ◌↔◌, ◌⊎◌, ◌+◌, ◌*◌, ◌-◌, ◌^◌, ℕ, Bool, true, false, List, [], ◌∷◌, Contains, length, min}
-use Rattle.std.specs.{List.count_by, List.flat_map, Ordering.nat_cmp, Ordering.ordering_then, declared.cmp.Ordering.Ordering}
+use Rattle.std.specs.Prelude.{◌≡◌, ◌≢◌, ◌==◌, ◌&&◌, ◌≤◌, ◌<◌, ◌↔◌, ◌⊎◌, ◌+◌, ◌*◌, ◌-◌, ◌^◌, ℕ, Bool, true, false, List, [], ◌∷◌, Contains, length, min}
+use Rattle.std.specs.{List.count_by, List.flat_map, List.Sorted.IsSortedBy, Ordering.is_lt, Ordering.nat_cmp, Ordering.ordering_then, declared.cmp.Ordering.Ordering}
 use Rattle.bolt_check.specs.{Counts.saturated, Keys.Key, declared.finding.Finding.Finding}
 use Rattle.bolt_format.specs.{Assumed.assumed_meta, Metas.IsInSlot, declared.meta.Meta.Meta, declared.meta.Slot.Slot}
-use Rattle.bolt_tree.specs.{Entries.Bucket, Entries.Value, Listing.Member, Order.Rises}
+use Rattle.bolt_tree.specs.{Entries.Bucket, Entries.Value, Listing.Member}
 use Rattle.bolt_recover.specs.{Recovered.ForRecovered, Recoveries.ForLosses, Refusals.KeepsRoot, Refusals.LosesRoot}
 
 -- ---- what a listing has
@@ -117,9 +117,17 @@ abbrev pub state_cmp : StateView → StateView → Ordering
 state_cmp a b =
     ordering_then (nat_cmp a.losses b.losses) (ordering_then (nat_cmp (entries_of b.figures) (entries_of a.figures)) (place_cmp a.place b.place))
 
--- The states of a file: those whose root page is kept, and those whose root page is lost. Each is there once, in order.
+abbrev pub is_place : Place → Place → Bool
+is_place a b = (a.page_size == b.page_size) && (a.root == b.root)
+
+-- exactly those of which this holds, and at most one at each place
+pub record AreExactly {X : Type 0} (at : X → Place) (Is : X → Type 0) (xs : List X) : Type 0 where
+  pub exact : (x : X) → Contains xs x ↔ Is x
+  pub once : (place : Place) → count_by (λ x. is_place place (at x)) xs ≤ 1
+
+-- The states of a file: those whose root page is kept, and the places of those whose root page is lost. Each is there once, in order.
 pub record AreStates (file : List ℕ) (page_size : ℕ) (kept : List StateView) (lost : List Place) : Type 0 where
-  pub kept_rise : Rises state_cmp kept
-  pub kept_exact : (s : StateView) → Contains kept s ↔ (IsState file page_size s.place × IsKept file s)
-  pub lost_rise : Rises place_cmp lost
-  pub lost_exact : (place : Place) → Contains lost place ↔ (IsState file page_size place × IsLost file place)
+  pub kept_are : AreExactly (λ (s : StateView). s.place) (λ s. IsState file page_size s.place × IsKept file s) kept
+  pub kept_sorted : IsSortedBy (λ a b. is_lt (state_cmp a b)) kept
+  pub lost_are : AreExactly (λ (place : Place). place) (λ place. IsState file page_size place × IsLost file place) lost
+  pub lost_sorted : IsSortedBy (λ a b. is_lt (place_cmp a b)) lost

@@ -20,6 +20,7 @@ mod recovery;
 mod state;
 mod states;
 mod steps;
+mod valid_metas;
 
 pub use found::Found;
 pub use joined::Joined;
@@ -30,3 +31,4 @@ pub use recover_fault::RecoverFault;
 pub use recovery::Recovery;
 pub use state::{Figures, Place, State};
 pub use states::{States, find_states};
+pub use valid_metas::ValidMetas;
