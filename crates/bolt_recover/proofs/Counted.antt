@@ -1,10 +1,10 @@
 -- What was counted of a listing, and one member more.
-use Rattle.std.proofs.Common.{append_assoc, ◌&&◌, ◌≡◌, ◌≢◌, ◌∙◌, ◌==◌, ◌+◌, ◌<◌, ℕ, Bool, true, false, IsTrue, List, [], ◌∷◌, ◌++◌, length, refl, ap, sym, arith, if◌then◌else◌, cond}
+use Rattle.std.proofs.Common.{append_assoc, ◌&&◌, ◌≡◌, ◌≢◌, ◌∙◌, ◌==◌, ◌+◌, ℕ, Bool, true, false, IsTrue, List, [], ◌∷◌, ◌++◌, length, refl, ap, sym, arith, if◌then◌else◌, cond}
 use Rattle.std.proofs.lemmas.{Grind.flat_map-append, List.append-nil, List.length-append}
 use Rattle.std.specs.List.{count_by}
-use Rattle.bolt_recover.proofs.Words.{Bucket, Item, Key, Member, Path, Value, counted, sum_by-append, sum_by-cons}
+use Rattle.bolt_recover.proofs.Words.{Bucket, Item, Key, Member, Path, Value, sum_by-append, sum_by-cons}
 use Rattle.bolt_recover.specs.Private.Counting.{figures_after}
-use Rattle.bolt_recover.specs.States.{FiguresView, counted32, figures_of, first_name, is_bucket, is_root_value, is_value, last_name, root_bucket, root_buckets}
+use Rattle.bolt_recover.specs.States.{FiguresView, counted32, figures_of, first_name, is_root_value, last_name, root_bucket, root_buckets}
 
 count_more : (p : Member → Bool) (xs : List Member) (m : Member) → count_by p (xs ++ m ∷ []) ≡ count_by p xs + cond (p m) 1 0
 count_more p xs m = let sum = sum_by-append (λ (x : Member). cond (p x) 1 0) xs (m ∷ []) in omega (arith, sum)

@@ -1,9 +1,9 @@
 -- A leaf as the root page: what is recovered has its elements in the root bucket.
-use Rattle.std.proofs.Common.{◌≡◌, ◌≢◌, ◌∙◌, ◌⊎◌, ℕ, inl, inr, true, false, Bool, List, [], ◌∷◌, map, Option, Some, None, Result, Ok, Err, length, slice_get, refl, sym, ap, subst, arith, cond}
+use Rattle.std.proofs.Common.{◌≡◌, ◌≢◌, ◌∙◌, ◌⊎◌, ℕ, inl, inr, true, false, List, [], ◌∷◌, map, Option, Some, None, Ok, refl, sym, ap, subst, arith, cond}
 use Rattle.std.specs.List.{count_by}
 use Rattle.bolt_check.specs.Nodes.{node_of, node_seen}
 use Rattle.bolt_format.specs.{Pages.PageView, Pages.page_fault, TreePages.is_tree_kind, declared.header.Kind.Kind}
-use Rattle.bolt_recover.proofs.Words.{At_page, Contains, contains_cases, contains_head, contains_none, Finding, Gives, Has, IsClaimedIn, IsMetaPage, IsRecovered, IsSurvey, item_of, KeepsRoot, LeafElement, leaf_entry, leaves_of, Member, Meta, Node, node_at, page_at, passes_fewer, Path, reached, root_site, root_spot, same_Some, Site, site_at, follow_sites, step_site, next_site, Spot, sum_by-cons, SurveyedWay, way_kept}
+use Rattle.bolt_recover.proofs.Words.{At_page, Contains, contains_cases, contains_head, contains_none, Finding, Gives, Has, IsClaimedIn, IsMetaPage, IsRecovered, IsSurvey, item_of, KeepsRoot, LeafElement, leaf_entry, leaves_of, Member, Meta, Node, node_at, page_at, passes_fewer, reached, root_site, root_spot, same_Some, Site, site_at, follow_sites, step_site, Spot, sum_by-cons, SurveyedWay, way_kept}
 use Rattle.bolt_check.proofs.Exports.{node_shown}
 use Rattle.bolt_check.specs.ShownNodes.{shown_node}
 use Rattle.bolt_format.specs.{TreePages.leaves_on, TreePages.shown_page, declared.tree_page.LeafPage.LeafPage, declared.tree_page.TreePage.TheVariants.Leaf}

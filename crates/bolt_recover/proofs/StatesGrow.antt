@@ -1,5 +1,5 @@
 -- Lists of exactly what is at some places, of which no two are at the same.
-use Rattle.std.proofs.Common.{◌≡◌, ◌∙◌, ◌⊎◌, ◌↔◌, ◌≤◌, ◌==◌, ◌&&◌, ◌+◌, ℕ, inl, inr, Bool, true, false, List, [], ◌∷◌, ◌++◌, refl, sym, ap, subst, arith, cond}
+use Rattle.std.proofs.Common.{◌≡◌, ◌∙◌, ◌⊎◌, ◌≤◌, ℕ, inl, inr, Bool, true, false, List, [], ◌∷◌, ◌++◌, refl, sym, ap, subst, arith, cond}
 use Rattle.std.proofs.lemmas.List.Sorted.{Contains-permutation, IsPermutation-sym, sum_by-IsPermutation}
 use Rattle.std.specs.List.{Sorted.IsPermutation, count_by}
 use Rattle.bolt_recover.proofs.Words.{Contains, Contains-append_cases, Contains-append_left, Contains-append_right, contains_cases, contains_head, contains_none, contains_tail, sum_by-append, sum_by-cons}

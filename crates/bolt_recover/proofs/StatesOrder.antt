@@ -1,7 +1,7 @@
 -- The order of states tells any two apart.
-use Rattle.std.proofs.Common.{◌≡◌, ◌∙◌, ℕ, Bool, ap, sym, is_lt}
+use Rattle.std.proofs.Common.{◌∙◌, Bool, ap, sym, is_lt}
 use Rattle.std.proofs.lemmas.{Cmp.nat_cmp_total, Cmp.on_total, Cmp.then_total, List.MinMax.ranks_by}
-use Rattle.std.specs.{Cmp.IsStrictWeakOrder, Cmp.IsTotalOrder, Ordering.nat_cmp, Ordering.ordering_reverse, declared.cmp.Ordering.Ordering}
+use Rattle.std.specs.{Cmp.IsStrictWeakOrder, Cmp.IsTotalOrder, Ordering.ordering_reverse, declared.cmp.Ordering.Ordering}
 use Rattle.bolt_recover.specs.ShownStates.{place_view, state_view}
 use Rattle.bolt_recover.specs.States.{Place, StateView, entries_of, place_cmp, state_cmp}
 use Rattle.bolt_recover.specs.declared.state.State.{State}

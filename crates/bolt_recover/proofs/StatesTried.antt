@@ -1,10 +1,10 @@
 -- The places that were tried so far.
-use Rattle.std.proofs.Common.{◌≡◌, ◌∙◌, ◌⊎◌, ◌↔◌, ◌<◌, ◌≤◌, ◌+◌, ◌*◌, ◌||◌, ◌++◌, inl, inr, ℕ, suc, if◌then◌else◌, Bool, true, false, Option, Some, None, List, [], ◌∷◌, length, refl, sym, ap, subst, arith}
+use Rattle.std.proofs.Common.{◌≡◌, ◌∙◌, ◌⊎◌, ◌↔◌, ◌<◌, ◌+◌, ◌||◌, ◌++◌, inl, inr, ℕ, if◌then◌else◌, Bool, true, false, Option, Some, None, List, [], ◌∷◌, refl, sym, ap, subst, arith}
 use Rattle.bolt_format.specs.{Metas.IsInSlot, declared.meta.Slot.Slot, declared.meta.Slot.TheVariants.One, declared.meta.Slot.TheVariants.Zero}
-use Rattle.bolt_recover.proofs.Words.{Contains, Contains-append_cases, Contains-append_left, Contains-append_right, Meta, cases_Bool, cases_lt, contains_cases, contains_head, contains_none, false≢true}
+use Rattle.bolt_recover.proofs.Words.{Contains, Contains-append_cases, Contains-append_left, Contains-append_right, Meta, cases_lt, contains_cases, contains_head, contains_none, false≢true}
 use Rattle.bolt_recover.proofs.StatesGrow.{place_is, place_self}
-use Rattle.bolt_recover.specs.ShownStates.{AreValidMetas, IsValidMeta, leads_to, other_meta, place_list}
-use Rattle.bolt_recover.specs.States.{HasBucketsAlone, IsNamed, IsRootPage, IsState, Place, is_place, meta_at}
+use Rattle.bolt_recover.specs.ShownStates.{IsValidMeta, leads_to, other_meta, place_list}
+use Rattle.bolt_recover.specs.States.{IsNamed, IsRootPage, IsState, Place, is_place}
 use Rattle.bolt_recover.specs.Private.StatesTried.{IsTried}
 
 abbrev place_from : Meta → Place

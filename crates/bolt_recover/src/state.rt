@@ -53,9 +53,10 @@ impl<'a> Figures<'a> {
     /// Adds the next bucket of the root bucket.
     fn add_name(&mut self, name: &'a [u8])
         ensures { figures_view self.new ≡ record (figures_view self.old) {
-            buckets = counted32 (self.old.buckets + 1);
-            first = if self.old.buckets == 0 then name.now else self.old.first.now;
-            last = name.now } }
+          buckets = counted32 (self.old.buckets + 1);
+          first = if self.old.buckets == 0 then name.now else self.old.first.now;
+          last = name.now;
+        } }
     {
         if self.buckets == 0 {
             self.first = name;

@@ -219,7 +219,11 @@ fn with_buckets(state: Option<State<'_>>) -> Option<State<'_>>
 fn few(n: usize) -> u32
     ensures { result ≡ counted32 n }
 {
-    if n > u32::MAX as usize { u32::MAX } else { n as u32 }
+    if n > u32::MAX as usize {
+        u32::MAX
+    } else {
+        n as u32
+    }
 }
 
 /// Fewer losses first, then more entries, then by place.

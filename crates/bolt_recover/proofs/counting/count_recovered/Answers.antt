@@ -1,4 +1,4 @@
-use Rattle.std.proofs.Common.{◌≡◌, ◌∙◌, ◌++◌, [], ◌∷◌, List, IsTrue, append_assoc, ap, arith, false, sym, true}
+use Rattle.std.proofs.Common.{◌∙◌, ◌++◌, [], ◌∷◌, ap, sym}
 use Rattle.std.proofs.lemmas.List.{append-nil}
 use Rattle.bolt_recover.proofs.Counted.{added, one_on, root_value_there, root_values_more, unwanted, wanted}
 use Rattle.bolt_recover.proofs.Words.{item_view, path_of}
@@ -7,12 +7,14 @@ use Rattle.bolt_recover.proofs.counting.count_recovered.Goals as goal
 
 pub returns-then-is_unwanted-clause-count : goal.returns-then-is_unwanted-clause-count
 returns-then-is_unwanted-clause-count c =
-    let (alone, value) = unwanted _ _ (rw c.path.ensures at (sym c.is_unwanted.ensures ∙ c.if-is_unwanted.true)) in
-    (alone, λ listing is.
-    let (done, all, figures, none) = c.members.invariant.counted listing is in
-    let given = (rw (c.members.invariant.file, c.members.invariant.meta) at (rw c.in-Some.is at c.in_ok-item.ensures.given)) listing is in
-    let whole = all ∙ ap (λ rest. done ++ rest) given in
-    rw whole (root_value_there done _ _ value))
+    let (alone, value) = unwanted _ _ (rw c.path.ensures at (sym c.is_unwanted.ensures ∙ c.if-is_unwanted.true)) in (
+      alone,
+      λ listing is.
+          let (done, all, figures, none) = c.members.invariant.counted listing is in
+          let given = (rw (c.members.invariant.file, c.members.invariant.meta) at (rw c.in-Some.is at c.in_ok-item.ensures.given)) listing is in
+          let whole = all ∙ ap (λ rest. done ++ rest) given in
+          rw whole (root_value_there done _ _ value),
+    )
 
 pub members-preserved : goal.members-preserved
 members-preserved c = record {
@@ -21,8 +23,7 @@ members-preserved c = record {
   counted = λ listing is.
       let (done, all, figures, none) = c.members.invariant.counted listing is in
       let given = (rw (c.members.invariant.file, c.members.invariant.meta) at (rw c.in-Some.is at c.in_ok-item.ensures.given)) listing is in
-      let wants = rw c.path.ensures at (sym c.if-is_unwanted.false ∙ c.is_unwanted.ensures) in
-      (
+      let wants = rw c.path.ensures at (sym c.if-is_unwanted.false ∙ c.is_unwanted.ensures) in (
         done ++ _ ∷ [],
         one_on listing done _ _ _ all given,
         added done (figures_view c.members.figures) (figures_view c.add.new.self) (path_of c.path-in-Some.result.now) (recovery_path c.next.new.self) (item_view c.in-Some.item) c.add.ensures c.path-in-Some.ensures figures,

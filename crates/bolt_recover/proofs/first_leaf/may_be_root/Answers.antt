@@ -1,4 +1,3 @@
-use Rattle.std.proofs.Common.{◌≡◌, ◌∙◌, ap, sym}
 use Rattle.bolt_recover.proofs.RootLeaf.{no_page, no_tree_page, not_root}
 use Rattle.bolt_recover.proofs.first_leaf.may_be_root.Goals as goal
 

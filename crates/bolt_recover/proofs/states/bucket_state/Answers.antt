@@ -1,5 +1,5 @@
-use Rattle.std.proofs.Common.{◌≡◌, ◌∙◌}
-use Rattle.bolt_recover.proofs.StatesKept.{bucket_at, lost_alone}
+use Rattle.std.proofs.Common.{◌∙◌}
+use Rattle.bolt_recover.proofs.StatesKept.{bucket_at}
 use Rattle.bolt_recover.specs.ShownStates.{place_view}
 use Rattle.bolt_recover.proofs.states.bucket_state.Goals as goal
 

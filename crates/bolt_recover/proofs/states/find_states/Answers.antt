@@ -1,4 +1,4 @@
-use Rattle.std.proofs.Common.{◌≡◌, ap, is_lt, map, rules}
+use Rattle.std.proofs.Common.{◌≡◌, ap, is_lt, rules}
 use Rattle.std.proofs.lemmas.List.Sorted.{IsPermutation-map, answers_always}
 use Rattle.bolt_recover.proofs.Words.{Contains}
 use Rattle.bolt_recover.proofs.{StatesGrow.moved, StatesGrow.stay}

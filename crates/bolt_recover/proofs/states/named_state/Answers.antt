@@ -1,4 +1,4 @@
-use Rattle.std.proofs.Common.{◌≡◌, ◌∙◌}
+use Rattle.std.proofs.Common.{◌∙◌}
 use Rattle.bolt_recover.proofs.Words.{IfOk-weaker, merely}
 use Rattle.bolt_recover.proofs.StatesKept.{counted_state}
 use Rattle.bolt_recover.specs.ShownStates.{place_view}

@@ -1,4 +1,4 @@
-use Rattle.std.proofs.Common.{◌≡◌, ◌∙◌, ap, length, refl, sym}
+use Rattle.std.proofs.Common.{◌∙◌, ap, length, refl, sym}
 use Rattle.std.proofs.lemmas.List.{length-map}
 use Rattle.bolt_recover.proofs.Words.{loss_view}
 use Rattle.bolt_recover.specs.States.{counted32}

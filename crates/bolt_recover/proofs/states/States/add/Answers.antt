@@ -1,4 +1,4 @@
-use Rattle.std.proofs.Common.{◌≡◌, ◌∙◌, ◌++◌, ◌∷◌, [], List, ap, subst, sym, map}
+use Rattle.std.proofs.Common.{◌∙◌, ◌++◌, ◌∷◌, [], ap, subst, map}
 use Rattle.std.proofs.lemmas.List.{map-append}
 use Rattle.bolt_recover.proofs.Words.{KeepsRoot}
 use Rattle.bolt_recover.specs.{ShownStates.place_view, ShownStates.state_view, States.meta_at}

@@ -1,5 +1,5 @@
-use Rattle.std.proofs.Common.{◌≡◌, ◌∙◌, [], ◌∷◌, ap, subst, sym}
-use Rattle.bolt_recover.proofs.Words.{Contains, contains_head, on_ok_weaker}
+use Rattle.std.proofs.Common.{◌≡◌, ◌∙◌, [], ◌∷◌, ap, sym}
+use Rattle.bolt_recover.proofs.Words.{contains_head, on_ok_weaker}
 use Rattle.bolt_recover.specs.ShownStates.{place_list, place_view}
 use Rattle.bolt_recover.specs.States.{Place}
 use Rattle.bolt_recover.proofs.states.States.add_meta.Goals as goal

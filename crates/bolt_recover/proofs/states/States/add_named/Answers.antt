@@ -1,4 +1,4 @@
-use Rattle.std.proofs.Common.{◌≡◌, ◌↔◌, ◌++◌, [], inl, subst, sym}
+use Rattle.std.proofs.Common.{◌↔◌, ◌++◌, [], inl, subst, sym}
 use Rattle.bolt_recover.proofs.Words.{Contains, Meta, contains_none, on_ok_weaker}
 use Rattle.bolt_recover.proofs.StatesTried.{lists_apart, lists_named, none_before}
 use Rattle.bolt_recover.specs.{ShownStates.place_list, States.IsNamed, States.Place}

@@ -1,4 +1,4 @@
-use Rattle.std.proofs.Common.{◌≡◌, ◌∙◌, ◌⊎◌, ◌++◌, ◌+◌, [], ◌∷◌, List, inl, inr, refl, sym, subst, arith}
+use Rattle.std.proofs.Common.{◌∙◌, ◌++◌, ◌+◌, [], ◌∷◌, inl, inr, refl, sym, subst, arith}
 use Rattle.bolt_recover.proofs.Words.{Contains, Contains-append_left, on_ok_weaker}
 use Rattle.bolt_recover.proofs.StatesKept.{is_last, last_there}
 use Rattle.bolt_recover.proofs.StatesTried.{less, more, names_named, not_named}
@@ -37,8 +37,11 @@ returns-in-None-clause-tried c =
     let file = c.args.file.now in
     let place = place_view c.args.place in
     let none = rw c.in-None.is at c.in_ok-state.ensures in
-    let (places, are, tried) = c.requires.tried in
-    (places, are, λ p. (
-      λ has. more file place p ((tried p).0 has),
-      λ is. (tried p).1 (elim (less file place p is) [ inl old ↦ old | inr new ↦ absurd (none (subst (λ q. HasBucketsAlone file (meta_at file q)) (sym new.0) new.1.3)) ]),
-    ))
+    let (places, are, tried) = c.requires.tried in (
+      places,
+      are,
+      λ p. (
+        λ has. more file place p ((tried p).0 has),
+        λ is. (tried p).1 (elim (less file place p is) [ inl old ↦ old | inr new ↦ absurd (none (subst (λ q. HasBucketsAlone file (meta_at file q)) (sym new.0) new.1.3)) ]),
+      ),
+    )

@@ -1,4 +1,4 @@
-use Rattle.std.proofs.Common.{◌≡◌, ◌<◌, ◌≤◌, arith}
+use Rattle.std.proofs.Common.{arith}
 use Rattle.bolt_recover.proofs.StatesTried.{all_tried}
 use Rattle.bolt_recover.proofs.states.States.add_pages.Goals as goal
 
