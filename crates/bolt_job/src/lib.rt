@@ -20,7 +20,7 @@ pub use etcd_jobs::{
 };
 pub use job::Job;
 pub use job_words::read_words;
-pub use page_commands::{CheckJob, InfoJob, PageJob, PagesJob};
+pub use page_commands::{CheckJob, InfoJob, PageJob, PagesJob, StatesJob};
 pub use path_words::path_slices;
 pub use refusal::Refusal;
 pub use writing_commands::{CompactJob, LoadJob};

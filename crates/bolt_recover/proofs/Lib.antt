@@ -1,3 +1,4 @@
+mod Counted
 mod CourseOrder
 mod CourseSurveys
 mod CourseTrees
@@ -17,6 +18,7 @@ mod MembersInBuckets
 mod PageNames
 mod Recovering
 mod Refused
+mod RootLeaf
 mod Searched
 mod SiteFacts
 mod SiteKeys
@@ -24,6 +26,10 @@ mod SiteSteps
 mod Skipping
 mod SoundListing
 mod SoundWalks
+mod StatesGrow
+mod StatesKept
+mod StatesOrder
+mod StatesTried
 mod StepLemmas
 mod SurveyIsOne
 mod TaskLists

@@ -4,6 +4,8 @@ pub mod Frames
 pub mod Joining
 pub mod LeavesLeft
 pub mod Merging
+pub mod Counting
 pub mod Courses
+pub mod StatesTried
 pub mod Tests
 pub mod TreesLeft

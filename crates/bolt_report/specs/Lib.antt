@@ -18,6 +18,7 @@ pub mod PartLines
 pub mod RevisionLines
 pub mod RevisionObjects
 pub mod SizeLines
+pub mod StateLines
 pub mod StatsLines
 pub mod StatusLines
 pub mod WriterLines
