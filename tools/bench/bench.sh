@@ -7,11 +7,11 @@
 # buckets in the root bucket, and 256 MB with values of 100 KB. Then times compact copies of the first and the last of
 # these, of 256 MB that are mostly free pages, and of 50,000 buckets one within another; and what is recovered of the
 # first, also with a thousand lost leaves. Then what is lost and found: of the first, of the same with a thousand lost
-# leaves and a lost branch, and of two files that list a million free pages and half as many. Then what `etcd-repair`
-# puts back into two stores of etcd with 149,000 revisions, whose values have 600 and 60 bytes, if half of their
-# branches are lost and if all are. All files have pages of 4,096 bytes, as bbolt makes them on most machines. Listings
-# of the first and of the third are loaded. If Go and bbolt's source are there, bbolt's library does the same on the
-# first two. make has made the files in out.
+# leaves and a lost branch, and of two files that list a million free pages and half as many. Then etcd's commands on two
+# stores of etcd with 149,000 revisions, whose values have 600 and 60 bytes, and what `etcd-repair` puts back into them,
+# if half of their branches are lost and if all are. All files have pages of 4,096 bytes, as bbolt makes them on most
+# machines. Listings of the first and of the third are loaded. If Go and bbolt's source are there, bbolt's library does
+# the same on the first two. make has made the files in out.
 set -eux
 program=$1
 bbolt=out/bbolt
@@ -30,6 +30,8 @@ time_with time_copies out/large.db out/long.db out/sparse.db out/very_deep.db
 time_with time_loads out/large.db out/long.db
 time_with time_recovery out/large.db out/lost_leaves.db 1000
 time_with time_found out/large.db out/lost_branch.db out/half_freed.db out/freed.db
+time_with time_commands out/store.db check etcd-keys etcd-status
+time_with time_commands out/short.db check etcd-keys etcd-status
 time_with time_repairs out/store.db out/store_half.db out/store_all.db
 time_with time_repairs out/short.db out/short_half.db out/short_all.db
 tools/bbolt/build.sh
