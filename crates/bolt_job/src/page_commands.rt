@@ -102,7 +102,7 @@ const LOST_AND_FOUND: Argument = Argument {
 const STATES_PAGE_SIZE: Argument = Argument {
     name: "page-size",
     flag: Flag::Long,
-    value: Some("P"),
+    value: Some("N"),
     help: "The page size of the pages that are tried, in bytes [default: that of the active meta, or 4096]",
     required: false,
 };
