@@ -1,8 +1,8 @@
 -- The way to the first leaf of the root bucket: what was kept on it.
-use Rattle.std.proofs.Common.{◌≡◌, ◌≢◌, ◌∙◌, ◌⊎◌, ◌<◌, ◌≤◌, ◌+◌, ◌++◌, inl, inr, ℕ, true, false, List, [], ◌∷◌, Option, Some, None, Ok, length, slice_get, refl, sym, ap, subst, arith}
+use Rattle.std.proofs.Common.{◌≡◌, ◌∙◌, ◌⊎◌, ◌≤◌, ◌+◌, ◌++◌, inl, inr, ℕ, true, false, List, [], ◌∷◌, Option, Some, None, Ok, refl, sym, ap, subst, arith}
 use Rattle.bolt_check.specs.{Findings.PagePasses, Ways.PageSpot, Ways.SpanOf}
-use Rattle.bolt_format.specs.{TreePages.leaves_on, TreePages.shown_page, declared.tree_page.LeafPage.LeafPage, declared.tree_page.TreePage.TheVariants.Leaf, declared.tree_page.TreePage.TheVariants.Branch, declared.tree_page.BranchPage.BranchPage}
-use Rattle.bolt_recover.proofs.Words.{At_page, Before, Contains, Finding, Gives, Has, IsClaimedIn, IsMetaPage, IsOpen, IsRecovered, IsSurvey, item_of, LeafElement, leaves_of, Member, Meta, Node, node_at, Nodes, page_at, passes_fewer, Reach, reached, same_Some, Site, site_at, SpanAt, SpanHas, Spot, SurveyedWay, way_kept}
+use Rattle.bolt_format.specs.{TreePages.shown_page, declared.tree_page.LeafPage.LeafPage, declared.tree_page.TreePage.TheVariants.Leaf, declared.tree_page.TreePage.TheVariants.Branch, declared.tree_page.BranchPage.BranchPage}
+use Rattle.bolt_recover.proofs.Words.{At_page, Before, Contains, Finding, Gives, Has, IsClaimedIn, IsMetaPage, IsSurvey, item_of, LeafElement, leaves_of, Meta, node_at, page_at, reached, same_Some, site_at, SpanAt, SpanHas, Spot, SurveyedWay, way_kept}
 use Rattle.bolt_recover.proofs.{Existing.has_recovered, RootLeaf.value_counted, SiteFacts.site_further, SiteFacts.spot_is, SurveyIsOne.gives_one}
 use Rattle.bolt_check.specs.{ShownNodes.shown_node, ShownSpots.page_spot, declared.spot.PageSpot.PageSpot as CodePageSpot}
 use Rattle.bolt_check.specs.declared.spot.Spot.TheVariants as spots

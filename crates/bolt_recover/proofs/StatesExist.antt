@@ -1,6 +1,6 @@
 -- Each place of a state has one: its root page is kept or lost.
-use Rattle.std.proofs.Common.{◌≡◌, ◌⊎◌, inl, inr, ℕ, List, [], Option, Some, None, length, refl, sym, ap, subst, arith}
-use Rattle.bolt_recover.proofs.Words.{At_page, Contains, Finding, Gives, IsClaimedIn, IsMetaPage, KeepsRoot, LosesRoot, Meta, merely, node_at, passes_fewer, reached, root_spot, same_Some, Spot, SurveyedWay, tests_same}
+use Rattle.std.proofs.Common.{◌≡◌, ◌⊎◌, inl, inr, ℕ, List, [], Option, Some, None, length, refl, sym, ap, subst}
+use Rattle.bolt_recover.proofs.Words.{At_page, Finding, Gives, IsClaimedIn, IsMetaPage, KeepsRoot, LosesRoot, Meta, merely, node_at, passes_fewer, reached, root_spot, same_Some, Spot, SurveyedWay, tests_same}
 use Rattle.bolt_recover.proofs.{Existing.has_losses, Existing.has_recovered, Existing.has_survey, Existing.one_recovered, Recovering.one_losses, RootLeaf.only_metas}
 use Rattle.bolt_recover.specs.States.{AreStates, IsAmong, IsKept, IsState, Place, StateView, counted32, figures_of, meta_at}
 

@@ -1,5 +1,5 @@
-use Rattle.std.proofs.Common.{◌≡◌, ◌∙◌, ◌+◌, ◌++◌, [], ◌∷◌, ℕ, List, Some, ap, arith, sym, subst}
-use Rattle.bolt_format.specs.TreePages.{leaves_on, shown_page}
+use Rattle.std.proofs.Common.{◌≡◌, ◌+◌, arith}
+use Rattle.bolt_format.specs.TreePages.{shown_page}
 use Rattle.bolt_recover.proofs.FirstWays.{leaf_says, branch_says, look_kept}
 use Rattle.bolt_recover.proofs.first_leaf.look_at.Goals as goal
 

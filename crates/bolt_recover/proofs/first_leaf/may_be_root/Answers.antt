@@ -1,4 +1,4 @@
-use Rattle.std.proofs.Common.{◌≡◌, refl}
+use Rattle.std.proofs.Common.{refl}
 use Rattle.bolt_recover.proofs.RootLeaf.{not_root}
 use Rattle.bolt_recover.proofs.first_leaf.may_be_root.Goals as goal
 
