@@ -20,6 +20,7 @@ from stores import STORES
 COMMANDS = [
     "stats FILE",
     "pages FILE",
+    "states FILE",
     "list FILE --recover",
     "keys FILE a --recover",
     "get FILE a 00000 --recover",

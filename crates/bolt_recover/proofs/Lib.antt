@@ -5,6 +5,7 @@ mod CourseTrees
 mod Courses
 mod Existing
 pub mod Exports
+mod FirstWays
 mod FoundAll
 mod FoundExists
 mod FoundLemmas
@@ -26,6 +27,7 @@ mod SiteSteps
 mod Skipping
 mod SoundListing
 mod SoundWalks
+mod StatesExist
 mod StatesGrow
 mod StatesKept
 mod StatesOrder

@@ -35,6 +35,9 @@ module _ (file : List ℕ) (meta : Meta) where
   unfolding node_at
   no_tree_page view at not keeps = other_kind view.kind view keeps.node not (ap (λ (o : Option PageView). node_seen o (page_fault file meta meta.root)) (sym at) ∙ keeps.page)
 
+  pub only_metas : (survey : List SurveyedWay) (n : ℕ) → IsClaimedIn (node_at file meta) (reached (node_at file meta) meta.root) survey [] n → IsMetaPage n
+  only_metas survey n h = grind arith
+
   -- the empty way is kept
   root_kept : KeepsRoot file meta → (survey : List SurveyedWay) → IsSurvey file meta survey → Has survey (way_kept [])
   root_kept keeps survey is =
@@ -45,9 +48,6 @@ module _ (file : List ℕ) (meta : Meta) where
       let passes = passes_fewer (node_at file meta) IsMetaPage before (At_page (root_spot meta.root)) (λ n h. only_metas survey n h) keeps in
       let none = gives_one (node_at file meta) before (At_page (root_spot meta.root)) found None (subst (λ (s : Spot). Gives (node_at file meta) before s found) (sym same) gives) passes in
       subst (λ (f : Option Finding). Has survey (record { way = []; found = f })) none has
-    where
-      only_metas : (survey : List SurveyedWay) (n : ℕ) → IsClaimedIn (node_at file meta) (reached (node_at file meta) meta.root) survey [] n → IsMetaPage n
-      only_metas survey n h = grind arith
 
   -- an element of the root page is a member
   pub element_there : KeepsRoot file meta → (l : List Member) → IsRecovered file meta l → (e : LeafElement) → Contains (leaves_of (page_at file meta meta.root)) e

@@ -1,4 +1,5 @@
 -- What private contracts and proofs cite, and no public one.
+pub mod FirstWays
 pub mod FoundLeft
 pub mod Frames
 pub mod Joining

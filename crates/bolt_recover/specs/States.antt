@@ -131,3 +131,7 @@ pub record AreStates (file : List ℕ) (page_size : ℕ) (kept : List StateView)
   pub kept_sorted : IsSortedBy (λ a b. is_lt (state_cmp a b)) kept
   pub lost_are : AreExactly (λ (place : Place). place) (λ place. IsState file page_size place × IsLost file place) lost
   pub lost_sorted : IsSortedBy (λ a b. is_lt (place_cmp a b)) lost
+
+-- there is a state at this place
+abbrev pub IsAmong : (kept : List StateView) → (lost : List Place) → Place → Type 0
+IsAmong kept lost place = ((s : StateView) × Contains kept s × (s.place ≡ place)) ⊎ Contains lost place
