@@ -112,6 +112,7 @@ NOT_RUN = {
     "etcdctl member add": MEMBERS,
     "etcdctl snapshot restore": PART,
     "etcdctl snapshot save": PART,
+    "etcdctl snapshot status": PART,
     "etcdctl put": PART,
     "etcdctl endpoint hashkv --rev 50 -w json": "no server has that file; `make etcd` compares such hashes",
     "etcdctl del": PART,

@@ -9,6 +9,7 @@ mod EtcdCompacts
 pub mod Exports
 mod FaultsOfNames
 mod Fields
+mod HashOfAll
 mod HistoryNumbers
 mod HistorySteps
 mod HistoryUntil

@@ -7,6 +7,7 @@ abbrev pub reversed : ℕ → ℕ → ℕ
 reversed zero number = 0
 reversed (suc n) number = number % 2 * 2 ^ n + reversed n (number / 2)
 
+-- Castagnoli's polynomial, as it is taken away from a state
 unfoldable pub crc_polynomial : ℕ
 crc_polynomial = reversed 32 0x1EDC6F41
 
@@ -35,6 +36,7 @@ crc_begin = 2 ^ 32 - 1
 abbrev pub crc_end : ℕ → ℕ
 crc_end state = bit_xor state (2 ^ 32 - 1)
 
+-- the CRC-32C of bytes
 unfoldable pub crc_of : List ℕ → ℕ
 crc_of bytes = crc_end (crc_from crc_begin bytes)
 

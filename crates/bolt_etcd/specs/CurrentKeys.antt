@@ -5,6 +5,7 @@ use Rattle.std.specs.{List.list_any, Option.is_some, Str.bytes_eq}
 use Rattle.bolt_check.specs.Keys.{Key}
 use Rattle.bolt_etcd.specs.{HashKv.held_by, Histories.held, Newest.is_until, Newest.newest, Newest.until, Revisions.RevisionView, Revisions.name_of}
 
+-- the name without bytes
 abbrev pub is_nameless : List ℕ → Bool
 is_nameless name = length name == 0
 
@@ -17,10 +18,12 @@ abbrev pub nameless_with : (up_to : ℕ) → Option RevisionView → Option Key 
 nameless_with up_to None before = before
 nameless_with up_to (Some r) before = if is_until up_to r && is_nameless (name_of r) then option_map (λ x. x.stored_key) (held r) else before
 
+-- whether a key is the one that is known, if any is
 abbrev pub is_this : Key → Option Key → Bool
 is_this key None = false
 is_this key (Some other) = bytes_eq other key
 
+-- whether a revision or a mark with a name and a key is current, and whether any is
 abbrev pub is_current_by : Option Key → (is_listed : Bool) → (name : List ℕ) → Key → Bool
 is_current_by nameless is_listed name key = if is_nameless name then is_this key nameless else is_listed
 

@@ -4,7 +4,8 @@ ghost use Rattle.std.specs.Option.{is_some};
 ghost use Rattle.bolt_check.specs.Keys.{key_cmp};
 ghost use Rattle.bolt_format.specs.{Bytes.IsBytes, Elements.LeafElement};
 ghost use Rattle.bolt_tree.specs.{Entries.EntryView, Entries.IsEntry, Order.Rises};
-ghost use Rattle.bolt_etcd.specs.{Crc32c.crc_of, Current.AreCurrent, Current.stored_key_cmp, NameFaults.AreByName, NameFaults.name_faults, StoreBuckets.IsStore, StoreBuckets.StoreView};
+ghost use Rattle.bolt_etcd.specs.{Crc32c.crc_of, HashKv.hash_kv, Numbered.numbered, Statuses.newest_main};
+ghost use Rattle.bolt_etcd.specs.{Current.AreCurrent, Current.stored_key_cmp, NameFaults.AreByName, NameFaults.name_faults, StoreBuckets.IsStore, StoreBuckets.StoreView};
 ghost use Rattle.bolt_etcd.specs.{Revisions.RevisionView, Told.IsMissing, Told.IsTold};
 ghost use Rattle.bolt_etcd.specs.{EtcdCompactions.etcd_keeps, Histories.history, FewTransactions.deletion_of_a, FewTransactions.first_a, FewTransactions.first_b, FewTransactions.second_a, FewTransactions.second_b, FewTransactions.few_transactions};
 ghost use Rattle.bolt_etcd.specs.{HeldNames.AreHeld, Histories.state_at, Newest.until, Taken.IsShownBy, Taken.IsTaken, Taken.TellsOneBefore, ToldRevisions.IsMissingRevision, ToldRevisions.IsToldRevision};
@@ -156,4 +157,12 @@ pub fn keys_are_what_names_held()
 /// The check value of CRC-32C: the sum of the digits from 1 to 9.
 pub fn crc_32c_has_its_check_value()
     ensures { crc_of (codes "123456789") ≡ 0xE3069283 }
+{}
+
+/// At each transaction that isn't before the newest one, HashKV is the same.
+#[tactic(auto, using(crate::proofs::HashOfAll::same_hash))]
+pub fn the_hash_of_all_is_that_at_the_newest_revision()
+    ensures { (compacted : ℕ) (entries : List LeafElement) (a b : ℕ)
+        → newest_main (numbered entries) ≤ a → newest_main (numbered entries) ≤ b
+        → hash_kv a compacted entries ≡ hash_kv b compacted entries }
 {}

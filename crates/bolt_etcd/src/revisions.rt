@@ -4,11 +4,11 @@ ghost use Rattle.std.specs.{Int.to_be_bytes, Int.w64, Option.option_map};
 ghost use Rattle.bolt_tree.specs.{BucketViews.bucket_in, CursorBounds.OpensGap, CursorBounds.OpensSeek, Buckets.bucket_checked, Buckets.bucket_start, ShownEntries.shown_entry};
 ghost use Rattle.bolt_etcd.specs.{ShownRevisions.shown_revision, Stores.entries_from, Numbered.numbered_of, RevisionKeys.IsSpelled, ShownOthers.shown_other};
 
+use crate::numbered::Numbered;
 use crate::other::{Other, others_in};
-use crate::record::Record;
 use crate::revision::Revision;
 use crate::revision_key::RevisionKey;
-use bolt_tree::{Bucket, Cursor, Entry, Item};
+use bolt_tree::{Bucket, Cursor, Entry};
 
 /// A pass over the revisions of a bucket, in the order of their keys. It keeps nothing of those that
 /// it has returned, and needs no memory.
@@ -163,15 +163,10 @@ impl<'a> Revisions<'a> {
 }
 
 /// The key of an entry that is a revision or a mark.
-#[tactic(auto, unfolding(crate::specs::Numbered::numbered_of))]
 fn number_of(entry: &Entry<'_>) -> Option<RevisionKey>
     ensures key { result ≡ option_map (λ r. r.key) (numbered_of (shown_entry entry.now)) }
     ensures numbers { IfSome result IsSpelled }
 {
-    let Item::Value(value) = entry.item else {
-        return None;
-    };
-    let key = RevisionKey::read(entry.key)?;
-    Record::decode(value)?;
-    Some(key)
+    let numbered = Numbered::of(entry)?;
+    Some(numbered.key)
 }
