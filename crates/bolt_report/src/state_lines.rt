@@ -55,11 +55,7 @@ fn put_all_lost<S: Sink>(
 }
 
 #[tactic(auto, using(bolt_format::proofs::Exports::wrote), unfolding(crate::specs::StateLines::kept_line))]
-fn put_kept<S: Sink>(
-    state: &State<'_>,
-    metas: &ValidMetas,
-    sink: &mut S,
-) -> Result<(), SinkFault>
+fn put_kept<S: Sink>(state: &State<'_>, metas: &ValidMetas, sink: &mut S) -> Result<(), SinkFault>
     ensures { Wrote S.Sink sink.old sink.new (kept_line metas.now (state_view state.now))
         (ending result) }
 {
@@ -69,11 +65,7 @@ fn put_kept<S: Sink>(
 }
 
 #[tactic(auto, using(bolt_format::proofs::Exports::wrote), unfolding(crate::specs::StateLines::lost_line))]
-fn put_lost_state<S: Sink>(
-    place: Place,
-    metas: &ValidMetas,
-    sink: &mut S,
-) -> Result<(), SinkFault>
+fn put_lost_state<S: Sink>(place: Place, metas: &ValidMetas, sink: &mut S) -> Result<(), SinkFault>
     ensures { Wrote S.Sink sink.old sink.new (lost_line metas.now (place_view place))
         (ending result) }
 {
@@ -96,11 +88,7 @@ fn put_place<S: Sink>(place: Place, sink: &mut S) -> Result<(), SinkFault>
 }
 
 #[tactic(auto, using(bolt_format::proofs::Exports::wrote))]
-fn put_figures<S: Sink>(
-    losses: u32,
-    figures: &Figures<'_>,
-    sink: &mut S,
-) -> Result<(), SinkFault>
+fn put_figures<S: Sink>(losses: u32, figures: &Figures<'_>, sink: &mut S) -> Result<(), SinkFault>
     ensures { Wrote S.Sink sink.old sink.new (figures_words losses (figures_view figures.now))
         (ending result) }
 {
