@@ -1,7 +1,7 @@
 # Completion for bash: the commands of luntsegi, their options and values, and file names.
 
 # ---- made from help by tools/usage/words.py
-_luntsegi_commands=(info page pages check buckets keys get stats list compact load etcd-revisions etcd-keys etcd-get etcd-check etcd-repair help)
+_luntsegi_commands=(info page pages check states buckets keys get stats list compact load etcd-revisions etcd-keys etcd-get etcd-check etcd-repair help)
 
 # The options of a command or, without one, of the program.
 _luntsegi_options() {
@@ -11,6 +11,7 @@ _luntsegi_options() {
         page) echo "--assume-meta -h --help" ;;
         pages) echo "--map -h --help" ;;
         check) echo "--all --lost-and-found --for-bbolt --etcd-snapshot --meta --assume-meta -h --help" ;;
+        states) echo "--page-size -h --help" ;;
         buckets) echo "--sizes --form --parts --recover --meta --assume-meta -h --help" ;;
         keys) echo "--prefix --form --parts --recover --meta --assume-meta -h --help" ;;
         get) echo "-n --no-newline --form --parts --recover --meta --assume-meta -h --help" ;;
@@ -40,7 +41,7 @@ _luntsegi_values() {
 # Whether an option has a value.
 _luntsegi_has_value() {
     case $1 in
-        --form | --meta | --assume-meta | --parts | --prefix | --from | -o | --page-size | --sequence | --at) return 0 ;;
+        --form | --meta | --assume-meta | --page-size | --parts | --prefix | --from | -o | --sequence | --at) return 0 ;;
         *) return 1 ;;
     esac
 }

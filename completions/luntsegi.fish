@@ -45,13 +45,14 @@ complete -c luntsegi -n __luntsegi_wants_file -F
 # ---- made from help by tools/usage/words.py
 # Whether an option has a value.
 function __luntsegi_has_value
-    contains -- $argv[1] --form --meta --assume-meta --parts --prefix --from -o --page-size --sequence --at
+    contains -- $argv[1] --form --meta --assume-meta --page-size --parts --prefix --from -o --sequence --at
 end
 
 complete -c luntsegi -n __luntsegi_wants_command -a info -d 'Print the active meta'
 complete -c luntsegi -n __luntsegi_wants_command -a page -d 'Print one page'
 complete -c luntsegi -n __luntsegi_wants_command -a pages -d 'Print what each page is for, and count free pages past the end of the file'
 complete -c luntsegi -n __luntsegi_wants_command -a check -d 'Check whether the file is sound'
+complete -c luntsegi -n __luntsegi_wants_command -a states -d 'Print what can still be read of a damaged file, under each root page that it may have, the likeliest first'
 complete -c luntsegi -n __luntsegi_wants_command -a buckets -d 'Print the names of the buckets in a bucket'
 complete -c luntsegi -n __luntsegi_wants_command -a keys -d 'Print the keys of a bucket, and the names of the buckets in it'
 complete -c luntsegi -n __luntsegi_wants_command -a get -d 'Print the value of a key'
@@ -69,7 +70,7 @@ complete -c luntsegi -n __luntsegi_wants_first -s h -l help -d 'Print help'
 complete -c luntsegi -n __luntsegi_wants_first -s V -l version -d 'Print version'
 complete -c luntsegi -n '__luntsegi_is info stats' -l form -x -a 'lines json' -d 'How to print the figures'
 complete -c luntsegi -n '__luntsegi_is info' -l meta -x -a '0 1' -d 'Print the meta in slot 0 or 1, active or not'
-complete -c luntsegi -n '__luntsegi_is info page pages check buckets keys get stats list compact load etcd-revisions etcd-keys etcd-get etcd-check etcd-repair' -s h -l help -d 'Print help'
+complete -c luntsegi -n '__luntsegi_is info page pages check states buckets keys get stats list compact load etcd-revisions etcd-keys etcd-get etcd-check etcd-repair' -s h -l help -d 'Print help'
 complete -c luntsegi -n '__luntsegi_is page check buckets keys get stats list compact etcd-revisions etcd-keys etcd-get etcd-check etcd-repair' -l assume-meta -x -d 'Read the file as under a meta with page size and root page A, such as 4096:3, and ignore its metas and freelist'
 complete -c luntsegi -n '__luntsegi_is pages' -l map -d 'Print a map instead'
 complete -c luntsegi -n '__luntsegi_is check' -l all -d 'Go on after the first error of the trees, and say what is lost with each'
@@ -77,6 +78,7 @@ complete -c luntsegi -n '__luntsegi_is check' -l lost-and-found -d 'As with --al
 complete -c luntsegi -n '__luntsegi_is check' -l for-bbolt -d 'Also check that bbolt can write into it'
 complete -c luntsegi -n '__luntsegi_is check' -l etcd-snapshot -d 'First check that the file ends with the SHA-256 of what is before it, as an etcd snapshot does'
 complete -c luntsegi -n '__luntsegi_is check buckets keys get stats list compact etcd-revisions etcd-keys etcd-get etcd-check etcd-repair' -l meta -x -a '0 1' -d 'Read the file under the meta in slot 0 or 1, active or not, and ignore the freelist'
+complete -c luntsegi -n '__luntsegi_is states' -l page-size -x -d 'The page size of the pages that are tried, in bytes'
 complete -c luntsegi -n '__luntsegi_is buckets' -l sizes -d 'Also print each bucket\'s number of keys, its bytes used and its bytes allocated, with all buckets in it'
 complete -c luntsegi -n '__luntsegi_is buckets keys get etcd-revisions etcd-keys etcd-get' -l form -x -a 'printable hex bytes text mixed json json-hex' -d 'How to print names, keys and values'
 complete -c luntsegi -n '__luntsegi_is buckets keys get stats list' -l parts -x -a 'text hex mixed' -d 'How the path is written'

@@ -22,9 +22,9 @@ time_with() {
 	python3 -B tools/bench/"$tool".py "$program" "$@"
 }
 
-time_with time_commands out/large.db info check buckets pages stats list "list --form json" "list --form json-hex" \
+time_with time_commands out/large.db info check states buckets pages stats list "list --form json" "list --form json-hex" \
 	"keys bucket-0" "get bucket-0 $entry"
-time_with time_commands out/wide.db info check buckets pages stats list
+time_with time_commands out/wide.db info check states buckets pages stats list
 time_with time_commands out/long.db info check buckets pages stats list "list --form json" "list --form json-hex"
 time_with time_copies out/large.db out/long.db out/sparse.db out/very_deep.db
 time_with time_loads out/large.db out/long.db

@@ -4,10 +4,10 @@
     count_growth.py PROGRAM
 
 Each command is run on a file of a size, on one of twice the size, and on one of four times: with more entries, with
-more buckets beside each other and one within another, with more pages that are lost, with more free ids, with more
-of etcd's revisions, and with more of them that are found though all branches are lost, or half of them. The
-second step takes about twice the instructions of the first, and would take four times as many if the work grew with
-the square of the size. The status is 1 if that is so."""
+more buckets beside each other and one within another, with more pages that are lost, with more free ids, with more root
+pages of states, with more of etcd's revisions, and with more of them that are found though all branches are lost, or
+half of them. The second step takes about twice the instructions of the first, and would take four times as many if the
+work grew with the square of the size. The status is 1 if that is so."""
 
 import os
 import sys
@@ -20,6 +20,7 @@ from stores import STORES
 COMMANDS = [
     "stats FILE",
     "pages FILE",
+    "states FILE",
     "list FILE --recover",
     "keys FILE a --recover",
     "get FILE a 00000 --recover",
@@ -62,12 +63,18 @@ def freed(size):
     return [f"meta mark={size + 4}", f"pages {size + 4}", "leaf 3 a=v", f"free 2 4-{size + 3}"]
 
 
+def roots(size):
+    return [f"meta mark={size + 3}", f"pages {size + 3}", "inline 0 k=v", *(f"leaf {number} b@0" for number in range(3, size + 3))]
+
+
 def write_shape(shape, size, path):
     with open(path, "wb") as file:
         file.write(make("\n".join(shape(size))))
 
 
 SIZES = {entries: 20, buckets: 10, deep: 200, lost: 60, freed: 120}
+# Each page is the root page of a state.
+ROOTS = 60
 STORE_SIZE = 2000
 
 
@@ -101,6 +108,7 @@ def try_store(program, shape, commands):
 def main():
     program = os.path.abspath(sys.argv[1])
     results = [good for shape, size in SIZES.items() for good in try_shape(program, shape, size)]
+    results += try_sizes(program, roots, ["states FILE"], lambda times, path: write_shape(roots, times * ROOTS, path))
     results += [good for shape, commands in STORES.items() for good in try_store(program, shape, commands)]
     sys.exit(0 if all(results) else 1)
 

@@ -27,6 +27,7 @@ PAGES = 70001
 TABLES = {
     "check FILE": (1, 1),
     "check FILE --all": (1, 1),
+    "states FILE": (1, 1),
     "list FILE --recover": (1, 1),
     "get FILE 00000 --recover": (1, 1),
     "keys FILE 00000 --recover": (1, 1),

@@ -14,6 +14,7 @@ from program import want
 from recoveries import compare_pages_lost, compare_recovery, compare_refused
 from results import entries_of, info_of, read, shown_tree
 from snapshots import compare_hash, compare_snapshot
+from states import compare_states
 from stores import READING, compare_store, compare_unread_store
 
 UNDER_ALL = ("pages", "buckets", "stats", "list")
@@ -123,6 +124,7 @@ def compare(file):
         compare_limits(file)
         compare_recovery(file, checked)
     compare_assumed(file)
+    compare_states(file)
     if listing is not None:
         compare_pages_lost(file, listing)
     want(read(file.path) == before, "the file was changed")

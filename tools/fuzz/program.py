@@ -22,6 +22,10 @@ FIGURES = [
     "buckets", "inline buckets", "inline used", "keys", "depth", "branch pages", "branch overflow",
     "branch allocated", "branch used", "leaf pages", "leaf overflow", "leaf allocated", "leaf used",
 ]
+STATE = (
+    rb"\d+:\d+ (?:everything lost|\d+ pages lost, \d+ buckets(?: from %b+%b to %b+%b)?, \d+ keys)"
+    rb"(?:; meta 0, txid \d+)?(?:; meta 1, txid \d+)?\n"
+) % (HEX, NAME, HEX, NAME)
 TABLE = rb"ID       TYPE       ITEMS  OVRFLW\n={8} ={10} ={6} ={6}\n"
 MAP_LINE = rb"\d+ +[MFBL+.]{1,64}\n"
 ROW = rb"\d+ +(?:meta|freelist|branch|leaf|free) +\d* +\d* *\n"
@@ -34,6 +38,7 @@ TEXTS = {
     "page": rb"page \d+\ntype (?:branch|leaf|meta|freelist)\nitems \d+\noverflow \d+\n(?:%b)*" % ITEM,
     "pages": rb"(?:%b(?:%b)*|(?:%b)+)%b" % (TABLE, ROW, MAP_LINE, PAST_END),
     "check": rb"OK\n",
+    "states": rb"(?:%b)+" % STATE,
     "etcd-check": rb"OK\n",
     "stats": b"".join(figure.encode() + rb" \d+\n" for figure in FIGURES),
     "list": rb"(?:%b)*" % ENTRY,
@@ -70,6 +75,7 @@ STORE_FAULT = (
 FAULTS = {
     "page": FINDING,
     "pages": REFUSED,
+    "states": rb"no state found",
     "buckets": REFUSED + rb"|bucket not found" + MAYBE_LOST,
     "keys": REFUSED + rb"|bucket not found" + MAYBE_LOST,
     "get": REFUSED + rb"|(?:bucket|key) not found" + MAYBE_LOST,

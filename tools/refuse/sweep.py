@@ -29,6 +29,7 @@ MAY_BEGIN = {
     "page": (),
     "pages": (),
     "check": (),
+    "states": (),
     "buckets": ("--sizes", "json", "--recover"),
     "keys": ("json", "--recover"),
     "get": ("json", "--recover"),

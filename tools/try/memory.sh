@@ -20,7 +20,7 @@ sweep() {
 	python3 -B tools/refuse/sweep.py "$program" out/refuse.so memory "$@"
 }
 
-sweep 1 $nested info "page 3" pages check buckets stats list "list --from 62/62" "keys b b" "get b x" \
+sweep 1 $nested info "page 3" pages check states buckets stats list "list --from 62/62" "keys b b" "get b x" \
 	"compact -o OUT" "pages --map" "buckets --sizes" "buckets b b --sizes" "list --form json" "list --form json-hex" \
 	"list b b" "list b b --form json --from 62/62/62" "keys b b --form json" "compact -o OUT --etcd-snapshot"
 with_lines printing.txt not_printing.txt -- sweep 1 $app "compact -o OUT --page-size 1024" \

@@ -99,6 +99,7 @@ SENTENCES = Section(
         "cp -a /var/lib/etcd saved": "0 $",
         "ls -l FILE": "0 -.*etcd.db\n$",
         "luntsegi check --all FILE": "0 OK\n$",
+        "luntsegi states FILE": r"0 4096:4 0 pages lost, 10 buckets .*\n",
         "luntsegi page FILE NUMBER": "0 page 5\ntype leaf\n",
         "printf blobs | od -An -v -tx1": "0  62 6c 6f 62 73\n$",
         "printf theme | od -An -v -tx1": "0  74 68 65 6d 65\n$",

@@ -37,4 +37,4 @@ pub use role_table::{Role, Roles};
 pub use sound::{check, check_roles, check_slot, check_under};
 pub use sound_roles::roles;
 pub use spot::{BucketSpot, PageSpot, Spot};
-pub use visit::MAX_DEPTH;
+pub use visit::{MAX_DEPTH, test_page};

@@ -54,6 +54,33 @@ pub(crate) fn visit<'a>(
     Ok(node)
 }
 
+/// Tests a page that a way leads to, but not whether its span was claimed before.
+///
+/// # Errors
+///
+/// The first finding of the other tests.
+#[tactic(auto, using(crate::proofs::Lawful::early_passes))]
+pub fn test_page<'a>(
+    file: &'a [u8],
+    meta: &Meta,
+    spot: &PageSpot<'_>,
+) -> Result<TreePage<'a>, Finding>
+    ensures found { IfErr result
+        (PageTests (node_at file.now meta.now) (λ n. ⊥) (page_spot spot.now)) }
+    ensures page { IfOk result (IsPageAt file.now meta.now spot.now.number) }
+    ensures node { IfOk result (IsNodeAt (node_at file.now meta.now) spot.now.number) }
+    ensures passes { OnOk result
+        (PagePasses (node_at file.now meta.now) (λ n. ⊥) (page_spot spot.now)) }
+    ensures shallow { OnOk result (spot.now.depth ≤ 64) }
+{
+    if usize::from(spot.depth) > MAX_DEPTH {
+        return Err(Finding::of_page(Finding::TOO_DEEP, spot.number));
+    }
+    let node = open(file, meta, spot.number)?;
+    test_node(&node, spot)?;
+    Ok(node)
+}
+
 /// Opens page `id` as a node.
 ///
 /// # Errors

@@ -13,7 +13,7 @@ use Rattle.bolt_etcd.specs.SnapshotFaults.{snapshot_fault_text}
 use Rattle.bolt_text.specs.declared.report_fault.ReportFault.{ReportFault}
 use Rattle.bolt_text.specs.declared.report_fault.ReportFault.TheVariants as report
 use Rattle.bolt_commands.specs.{Shortfalls.shortfall_text, declared.failure.Failure.Failure}
-use Rattle.bolt_commands.specs.declared.failure.Failure.TheVariants.{BucketMaybeLost, Compacted, Exists, File, Hash, KeyMaybeLost, Line, Lost, Memory, Metas, NoBucket, NoKey, NotABucket, Others, Page, TooLarge, TooManyPages, Write}
+use Rattle.bolt_commands.specs.declared.failure.Failure.TheVariants.{BucketMaybeLost, Compacted, Exists, File, Hash, KeyMaybeLost, Line, Lost, Memory, Metas, NoBucket, NoKey, NoState, NotABucket, Others, Page, TooLarge, TooManyPages, Write}
 
 abbrev pub failure_text : Failure → List ℕ
 failure_text (Metas fault) = meta_fault_text fault
@@ -21,6 +21,7 @@ failure_text (File finding) = codes "file refused: " ++ finding_text finding
 failure_text (Page fault) = page_fault_text fault
 failure_text NoBucket = codes "bucket not found\n"
 failure_text NoKey = codes "key not found\n"
+failure_text NoState = codes "no state found\n"
 failure_text (BucketMaybeLost lost) = codes "bucket not found; " ++ shortfall_text lost
 failure_text (KeyMaybeLost lost) = codes "key not found; " ++ shortfall_text lost
 failure_text Memory = codes "out of memory\n"

@@ -18,7 +18,7 @@ use Rattle.bolt_commands.specs.CopyAnswers.{StopsShort, copy_page_size, copy_rep
 use Rattle.bolt_commands.specs.EtcdAnswers.{IsEtcdCheckPrint, IsEtcdGetPrint, IsEtcdKeysPrint, IsEtcdRevisionsPrint}
 use Rattle.bolt_commands.specs.{FilesRead.IsReadAnswer, FilesRead.IsReadTo, FilesRead.IsUnreadTo, KeyAnswers.IsBucketsPrint, KeyAnswers.IsGetPrint, KeyAnswers.IsKeysPrint, ListAnswers.IsListPrint}
 use Rattle.bolt_commands.specs.{PageAnswers.IsInfoAnswer, PageAnswers.IsPageAnswer, PageAnswers.IsPagesAnswer, RepairAnswers.IsRestored, RepairAnswers.IsUnrestored, RepairAnswers.repair_report}
-use Rattle.bolt_commands.specs.StatsAnswers.{IsStatsPrint}
+use Rattle.bolt_commands.specs.{StatesAnswers.IsStatesPrint, StatsAnswers.IsStatsPrint}
 use Rattle.bolt_commands.specs.declared.failure.Failure.TheVariants as failure
 use Rattle.bolt_etcd.specs.{declared.snapshot.SnapshotFault.SnapshotFault, Newest.newest, Stores.revisions}
 use Rattle.bolt_job.specs.declared.job.Job.TheVariants as job
@@ -106,6 +106,7 @@ module _ {O T : Type 0} (out_taken : O → Option (List ℕ)) (out_failed : O �
   DoesJob file (job.Page j) = Prints (IsPageAnswer file j.meta j.id)
   DoesJob file (job.Pages j) = Prints (IsReadAnswer file Active (IsPagesAnswer file j.map))
   DoesJob file (job.Check j) = Prints (IsCheckAnswer j.extent j.snapshot j.for_bbolt file j.meta)
+  DoesJob file (job.States j) = Prints (IsStatesPrint j file)
   DoesJob file (job.Buckets j) = Prints (IsBucketsPrint j file)
   DoesJob file (job.Stats j) = Prints (IsStatsPrint j file)
   DoesJob file (job.Keys j) = Prints (IsKeysPrint j file)

@@ -19,4 +19,5 @@ pub mod Private
 pub mod RepairAnswers
 pub mod Shortfalls
 pub mod SnapshotAnswers
+pub mod StatesAnswers
 pub mod StatsAnswers

@@ -16,6 +16,7 @@ mod list_command;
 mod load_command;
 mod page_command;
 mod pages_command;
+mod states_command;
 mod stats_command;
 
 use crate::failure::Outcome;
@@ -37,6 +38,7 @@ pub(crate) fn do_job<O: Sink, T: Sink>(
         Job::Page(job) => page_command::do_page(input, job, out),
         Job::Pages(job) => pages_command::do_pages(input, job, out),
         Job::Check(job) => check_command::do_check(input, job, out),
+        Job::States(job) => states_command::do_states(input, job, out),
         Job::Buckets(job) => buckets_command::do_buckets(input, job, out),
         Job::Stats(job) => stats_command::do_stats(input, job, out),
         Job::Keys(job) => keys_command::do_keys(input, job, out),

@@ -26,6 +26,8 @@ pub enum Failure {
     NoBucket,
     /// The path that was asked for has no value.
     NoKey,
+    /// The file has no state: no meta is valid, and no page can be the root page of one.
+    NoState,
     /// The path leads to no bucket that is recovered, but this may be lacking.
     BucketMaybeLost(Shortfall),
     /// No value at the path is recovered, but this may be lacking.

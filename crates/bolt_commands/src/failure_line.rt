@@ -31,6 +31,7 @@ fn put_failure_text<E: Sink>(failure: &Failure, err: &mut E) -> Result<(), SinkF
         Failure::Page(fault) => put_page_fault(fault, err),
         Failure::NoBucket => put(b"bucket not found\n", err),
         Failure::NoKey => put(b"key not found\n", err),
+        Failure::NoState => put(b"no state found\n", err),
         Failure::BucketMaybeLost(lost) => put_missing_file(b"bucket not found; ", *lost, err),
         Failure::KeyMaybeLost(lost) => put_missing_file(b"key not found; ", *lost, err),
         Failure::Memory => put(b"out of memory\n", err),

@@ -1,7 +1,7 @@
 -- A job: what it asks for, by that of its command; its files, and how much of FILE it needs (docs/COMMANDS.md).
 use Rattle.std.specs.Prelude.{Bool, true, false, Option, Some, None, string_bytes}
 use Rattle.bolt_text.specs.Lines.{Text}
-use Rattle.bolt_job.specs.PlainWords.{Asked, buckets_of, check_of, compact_of, etcd_check_of, etcd_get_of, etcd_keys_of, etcd_repair_of, etcd_revisions_of, get_of, info_of, keys_asked, list_of, load_of, page_of, pages_asked, stats_of}
+use Rattle.bolt_job.specs.PlainWords.{Asked, buckets_of, check_of, compact_of, etcd_check_of, etcd_get_of, etcd_keys_of, etcd_repair_of, etcd_revisions_of, get_of, info_of, keys_asked, list_of, load_of, page_of, pages_asked, states_of, stats_of}
 use Rattle.bolt_job.specs.declared.job.Job.{Job}
 use Rattle.bolt_job.specs.declared.job.Job.TheVariants as job
 
@@ -10,6 +10,7 @@ asked_of (job.Info j) = info_of j
 asked_of (job.Page j) = page_of j
 asked_of (job.Pages j) = pages_asked j
 asked_of (job.Check j) = check_of j
+asked_of (job.States j) = states_of j
 asked_of (job.Buckets j) = buckets_of j
 asked_of (job.Keys j) = keys_asked j
 asked_of (job.Get j) = get_of j
@@ -29,6 +30,7 @@ file_name (job.Info j) = string_bytes j.file
 file_name (job.Page j) = string_bytes j.file
 file_name (job.Pages j) = string_bytes j.file
 file_name (job.Check j) = string_bytes j.file
+file_name (job.States j) = string_bytes j.file
 file_name (job.Buckets j) = string_bytes j.file
 file_name (job.Keys j) = string_bytes j.file
 file_name (job.Get j) = string_bytes j.file

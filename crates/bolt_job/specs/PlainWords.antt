@@ -10,7 +10,7 @@ use Rattle.bolt_job.specs.{PathWords.◌>>=◌, PathWords.each_part, PathWords.h
 use Rattle.bolt_job.specs.{declared.choices.BucketsShown.TheVariants.Names, declared.choices.BucketsShown.TheVariants.Sizes, declared.choices.CopyKind.CopyKind, declared.choices.Extent.Extent}
 use Rattle.bolt_job.specs.{declared.choices.MetaChoice.MetaChoice, declared.choices.PageSize.PageSize, declared.etcd_jobs.EtcdCheckJob.EtcdCheckJob, declared.etcd_jobs.EtcdGetJob.EtcdGetJob}
 use Rattle.bolt_job.specs.{declared.etcd_jobs.EtcdKeysJob.EtcdKeysJob, declared.etcd_jobs.EtcdRepairJob.EtcdRepairJob, declared.etcd_jobs.EtcdRevisionsJob.EtcdRevisionsJob}
-use Rattle.bolt_job.specs.{declared.page_commands.CheckJob.CheckJob, declared.page_commands.InfoJob.InfoJob, declared.page_commands.PageJob.PageJob, declared.page_commands.PagesJob.PagesJob}
+use Rattle.bolt_job.specs.{declared.page_commands.CheckJob.CheckJob, declared.page_commands.InfoJob.InfoJob, declared.page_commands.PageJob.PageJob, declared.page_commands.PagesJob.PagesJob, declared.page_commands.StatesJob.StatesJob}
 use Rattle.bolt_job.specs.{declared.bucket_commands.BucketsJob.BucketsJob, declared.bucket_commands.GetJob.GetJob, declared.bucket_commands.KeysJob.KeysJob, declared.bucket_commands.ListJob.ListJob}
 use Rattle.bolt_job.specs.{declared.bucket_commands.StatsJob.StatsJob, declared.writing_commands.CompactJob.CompactJob, declared.writing_commands.LoadJob.LoadJob}
 use Rattle.clap.specs.Words.{Rule, new_rule}
@@ -55,6 +55,7 @@ pub data Asked : Type 0 where
   page : Text → AskedMeta → ℕ → Asked
   pages : Text → (map : Bool) → Asked
   check : Text → AskedMeta → Extent → (snapshot for_bbolt : Bool) → Asked
+  states : Text → (page_size : Option ℕ) → Asked
   buckets : Text → AskedMeta → Path → Form → BucketsShown → Asked
   keys : Text → AskedMeta → Path → (prefix : Key) → Form → (recover : Bool) → Asked
   get : Text → AskedMeta → Path → Form → (no_newline recover : Bool) → Asked
@@ -94,6 +95,9 @@ pages_asked j = pages (string_bytes j.file) j.map
 
 abbrev pub check_of : CheckJob → Asked
 check_of j = check (string_bytes j.file) (meta_in j.meta) j.extent j.snapshot j.for_bbolt
+
+abbrev pub states_of : StatesJob → Asked
+states_of j = states (string_bytes j.file) (size_in j.page_size)
 
 abbrev pub buckets_of : BucketsJob → Asked
 buckets_of j = buckets (string_bytes j.file) (meta_in j.meta) (owned_path j.path.items) j.form j.shown
@@ -285,6 +289,9 @@ asks_check values =
     meta_by values >>= λ meta. file_by values >>= λ file.
     Ok (check file meta (extent_in (codes "all") values) (is_given (given values (codes "etcd-snapshot"))) (is_given (given values (codes "for-bbolt"))))
 
+abbrev pub asks_states : Values → Result Asked Text
+asks_states values = page_size_by (given values (codes "page-size")) >>= λ size. file_by values >>= λ file. Ok (states file size)
+
 abbrev pub asks_buckets : Values → Result Asked Text
 asks_buckets values =
     meta_by values >>= λ meta. form_by (given values (codes "form")) >>= λ form. shown_by (is_given (given values (codes "sizes"))) (recover_in values) >>= λ shown.
@@ -357,6 +364,7 @@ commands =
     ∷ command (codes "page") (needed (operand (codes "ID")) ∷ option (codes "assume-meta") ∷ []) asks_page
     ∷ command (codes "pages") (switch (codes "map") ∷ []) asks_pages
     ∷ command (codes "check") (switch (codes "all") ∷ switch (codes "lost-and-found") ∷ switch (codes "for-bbolt") ∷ switch (codes "etcd-snapshot") ∷ metas) asks_check
+    ∷ command (codes "states") (option (codes "page-size") ∷ []) asks_states
     ∷ command (codes "buckets") (parts ∷ switch (codes "sizes") ∷ option (codes "form") ∷ option (codes "parts") ∷ switch (codes "recover") ∷ metas) asks_buckets
     ∷ command (codes "keys") (needed parts ∷ option (codes "prefix") ∷ option (codes "form") ∷ option (codes "parts") ∷ switch (codes "recover") ∷ metas) asks_keys
     ∷ command (codes "get") (needed parts ∷ by_letter 110 (switch (codes "no-newline")) ∷ option (codes "form") ∷ option (codes "parts") ∷ switch (codes "recover") ∷ metas) asks_get

@@ -18,8 +18,8 @@ use crate::etcd_jobs::{
 };
 use crate::line::Line;
 use crate::page_commands::{
-    CHECK, CheckJob, INFO, InfoJob, PAGE, PAGES, PageJob, PagesJob, read_check, read_info,
-    read_page_job, read_pages,
+    CHECK, CheckJob, INFO, InfoJob, PAGE, PAGES, PageJob, PagesJob, STATES, StatesJob, read_check,
+    read_info, read_page_job, read_pages, read_states,
 };
 use crate::refusal::Refusal;
 use crate::writing_commands::{COMPACT, CompactJob, LOAD, LoadJob, read_compact, read_load};
@@ -31,6 +31,7 @@ pub enum Job {
     Page(PageJob),
     Pages(PagesJob),
     Check(CheckJob),
+    States(StatesJob),
     Buckets(BucketsJob),
     Stats(StatsJob),
     Keys(KeysJob),
@@ -58,6 +59,7 @@ impl Job {
             Job::Page(job) => job.file.as_str(),
             Job::Pages(job) => job.file.as_str(),
             Job::Check(job) => job.file.as_str(),
+            Job::States(job) => job.file.as_str(),
             Job::Buckets(job) => job.file.as_str(),
             Job::Stats(job) => job.file.as_str(),
             Job::Keys(job) => job.file.as_str(),
@@ -97,7 +99,7 @@ impl Job {
 
 /// The commands, in the order of help. Each is a `static` of its own, since the check of a table takes the
 /// square of its length.
-pub(crate) fn commands<'a>() -> [&'a Syntax; 16]
+pub(crate) fn commands<'a>() -> [&'a Syntax; 17]
     ensures { map (λ syntax. line_of syntax.now) result ≡ lines }
 {
     [
@@ -105,6 +107,7 @@ pub(crate) fn commands<'a>() -> [&'a Syntax; 16]
         &PAGE,
         &PAGES,
         &CHECK,
+        &STATES,
         &BUCKETS,
         &KEYS,
         &GET,
@@ -129,6 +132,7 @@ pub(crate) fn read_command(name: &str, line: &Line<'_, '_>) -> Result<Job, Refus
         "page" => Ok(Job::Page(read_page_job(line)?)),
         "pages" => Ok(Job::Pages(read_pages(line)?)),
         "check" => Ok(Job::Check(read_check(line)?)),
+        "states" => Ok(Job::States(read_states(line)?)),
         "buckets" => Ok(Job::Buckets(read_buckets(line)?)),
         "keys" => Ok(Job::Keys(read_keys(line)?)),
         "get" => Ok(Job::Get(read_get(line)?)),

@@ -18,7 +18,7 @@ pub use choices::{AssumedMeta, BucketsShown, CopyKind, Extent, MetaChoice, PageS
 pub use etcd_jobs::{EtcdCheckJob, EtcdGetJob, EtcdKeysJob, EtcdRepairJob, EtcdRevisionsJob};
 pub use job::Job;
 pub use job_words::read_words;
-pub use page_commands::{CheckJob, InfoJob, PageJob, PagesJob};
+pub use page_commands::{CheckJob, InfoJob, PageJob, PagesJob, StatesJob};
 pub use path_words::path_slices;
 pub use refusal::Refusal;
 pub use writing_commands::{CompactJob, LoadJob};

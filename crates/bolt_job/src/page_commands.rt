@@ -1,10 +1,10 @@
 //! The commands that print pages and what is wrong with a file: which arguments each has and their help, its job,
 //! and how that is read. A job's names are copied last: until then there is nothing to drop if a word can't be read.
 ghost use Rattle.bolt_job.specs.CommandLine.{ReadsAs};
-ghost use Rattle.bolt_job.specs.PlainWords.{asks_check, asks_info, asks_page, asks_pages, check_of, info_of, page_of, pages_asked};
+ghost use Rattle.bolt_job.specs.PlainWords.{asks_check, asks_info, asks_page, asks_pages, asks_states, check_of, info_of, page_of, pages_asked, states_of};
 ghost use Rattle.bolt_job.specs.Private.CommandLines.{values_of};
 
-use crate::choices::{Extent, MetaChoice};
+use crate::choices::{Extent, MetaChoice, PageSize};
 use crate::command_line::{Argument, Flag, Syntax};
 use crate::line::Line;
 use crate::refusal::Refusal;
@@ -96,6 +96,14 @@ const LOST_AND_FOUND: Argument = Argument {
     flag: Flag::Long,
     value: None,
     help: "As with --all, and name each intact leaf that nothing leads to, if something is lost",
+    required: false,
+};
+
+const STATES_PAGE_SIZE: Argument = Argument {
+    name: "page-size",
+    flag: Flag::Long,
+    value: Some("N"),
+    help: "The page size of the pages that are tried, in bytes [default: that of the active meta, or 4096]",
     required: false,
 };
 
@@ -208,6 +216,30 @@ pub(crate) fn read_check(line: &Line<'_, '_>) -> Result<CheckJob, Refusal>
         extent: line.extent("all"),
         snapshot: line.is_given("etcd-snapshot"),
         for_bbolt: line.is_given("for-bbolt"),
+        file: line.text("FILE")?,
+    })
+}
+
+/// Print what can still be read of a file, under each root page that it may have.
+#[derive(Drop)]
+pub struct StatesJob {
+    pub file: String,
+    /// The page size of the pages that are tried. Without one it is that of the active meta.
+    pub page_size: Option<PageSize>,
+}
+
+pub(crate) static STATES: Syntax = Syntax {
+    name: "states",
+    about: "Print what can still be read of a damaged file, under each root page that it may have, the likeliest first",
+    arguments: &[FILE, STATES_PAGE_SIZE],
+    note: None,
+};
+
+pub(crate) fn read_states(line: &Line<'_, '_>) -> Result<StatesJob, Refusal>
+    ensures { ReadsAs states_of (asks_states (values_of line.now)) result }
+{
+    Ok(StatesJob {
+        page_size: line.page_size()?,
         file: line.text("FILE")?,
     })
 }

@@ -1,9 +1,11 @@
+mod Counted
 mod CourseOrder
 mod CourseSurveys
 mod CourseTrees
 mod Courses
 mod Existing
 pub mod Exports
+mod FirstWays
 mod FoundAll
 mod FoundExists
 mod FoundLemmas
@@ -17,6 +19,7 @@ mod MembersInBuckets
 mod PageNames
 mod Recovering
 mod Refused
+mod RootLeaf
 mod Searched
 mod SiteFacts
 mod SiteKeys
@@ -24,6 +27,11 @@ mod SiteSteps
 mod Skipping
 mod SoundListing
 mod SoundWalks
+mod StatesExist
+mod StatesGrow
+mod StatesKept
+mod StatesOrder
+mod StatesTried
 mod StepLemmas
 mod SurveyIsOne
 mod TaskLists

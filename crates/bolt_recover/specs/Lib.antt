@@ -16,5 +16,7 @@ pub mod Recoveries
 pub mod Refusals
 pub mod ShownFound
 pub mod ShownLosses
+pub mod ShownStates
+pub mod States
 pub mod Surveys
 pub mod TheRecovered

@@ -1,7 +1,7 @@
 //! What the definitions of recovery imply.
 ghost use Rattle.std.specs.List.{Contains, count_by};
 ghost use Rattle.std.specs.Prelude.{◌≡◌, ◌<◌, ◌⊎◌, ◌*◌, ◌^◌, ◌∷◌, ℕ, [], List, filter, is_some, length, not};
-ghost use Rattle.bolt_format.specs.{Bytes.IsBytes, declared.meta.Meta.Meta};
+ghost use Rattle.bolt_format.specs.{Bytes.IsBytes, Metas.IsInSlot, declared.meta.Meta.Meta, declared.meta.Slot.Slot};
 ghost use Rattle.bolt_check.specs.{Lists.Has, LoneLeaves.IsListedFree, LoneLeaves.IsLoneLeaf, Nodes.node_at, Ones.AtMostOne, Sound.HasSoundTrees, Sound.IsFirstFinding};
 ghost use Rattle.bolt_check.specs.{declared.finding.Finding.Finding};
 ghost use Rattle.bolt_tree.specs.{Entries.Bucket, Listing.IsListing, Listing.Member, Listing.member_cmp, Order.Rises, Tree.Tree, Tree.listing_of};
@@ -12,6 +12,7 @@ ghost use Rattle.bolt_recover.specs.{Losses.AreLosses, Losses.LossView, Losses.l
 ghost use Rattle.bolt_recover.specs.{Recovered.AreInTheirBuckets, Recovered.IsRecovered, Recoveries.recovery_file};
 ghost use Rattle.bolt_recover.specs.Surveys.{IsSurvey, LosesNothing, SurveyedWay, lost, ForSurveys, ForLostWays, LosesNothingBefore, ForSurvey};
 ghost use Rattle.bolt_recover.specs.{Sites.AtSite, TheRecovered.the_recovered};
+ghost use Rattle.bolt_recover.specs.States.{AreStates, IsAmong, IsState, Place, StateView};
 
 use crate::joined::Joined;
 use crate::recovery::Recovery;
@@ -158,6 +159,23 @@ pub fn no_intact_leaf_is_left_behind()
         → (k : ℕ) × Spans file meta n k
         × (IsKeptPage file meta survey k ⊎ IsFoundPage file meta found k)) }
 {}
+
+/// Each state of a file is there, with its root page kept or lost: what is found by `find_states` leaves none out.
+pub fn each_state_is_found()
+    ensures { (file : List ℕ) (page_size : ℕ) (kept : List StateView) (lost : List Place)
+        (place : Place) → AreStates file page_size kept lost → IsState file page_size place
+        → IsAmong kept lost place }
+{}
+
+/// So is that of each valid meta.
+pub fn each_meta_has_a_state()
+    ensures { (file : List ℕ) (page_size : ℕ) (kept : List StateView) (lost : List Place)
+        (slot : Slot) (meta : Meta) → AreStates file page_size kept lost
+        → IsInSlot file slot meta
+        → IsAmong kept lost (record { page_size = meta.page_size; root = meta.root }) }
+{
+    each_state_is_found();
+}
 
 /// A file has at most one joined listing.
 pub fn joined_listing_is_one()

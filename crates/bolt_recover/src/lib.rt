@@ -4,6 +4,8 @@
 #![tactic(auto)]
 
 mod bucket_key;
+mod counting;
+mod first_leaf;
 mod found;
 mod found_leaves;
 mod found_members;
@@ -15,7 +17,10 @@ mod losses;
 mod lost_and_found;
 mod recover_fault;
 mod recovery;
+mod state;
+mod states;
 mod steps;
+mod valid_metas;
 
 pub use found::Found;
 pub use joined::Joined;
@@ -24,3 +29,6 @@ pub use losses::{Loss, Lost};
 pub use lost_and_found::LostAndFound;
 pub use recover_fault::RecoverFault;
 pub use recovery::Recovery;
+pub use state::{Figures, Place, State};
+pub use states::{States, find_states};
+pub use valid_metas::ValidMetas;

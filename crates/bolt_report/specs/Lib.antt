@@ -18,5 +18,6 @@ pub mod PartLines
 pub mod RevisionLines
 pub mod RevisionObjects
 pub mod SizeLines
+pub mod StateLines
 pub mod StatsLines
 pub mod WriterLines

@@ -17,6 +17,7 @@ mod page_table;
 mod part_lines;
 mod revision_lines;
 mod size_lines;
+mod state_lines;
 mod stats_lines;
 #[cfg(test)]
 mod store_tests;
@@ -38,4 +39,5 @@ pub use page_table::{pages, put_page_table};
 pub use part_lines::{list, list_members_part, put_list_part};
 pub use revision_lines::RevisionWriter;
 pub use size_lines::put_sizes;
+pub use state_lines::put_states;
 pub use stats_lines::stats_text;

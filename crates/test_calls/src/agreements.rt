@@ -16,6 +16,8 @@ enum Kind {
     Reader,
     /// It checks the file to a greater extent than `check`.
     Check,
+    /// It prints the states of any file.
+    States,
     /// It lists what the copy after it has.
     List,
     /// It does so, and what it lists beside the bucket of found pages is what the listing before has.
@@ -30,7 +32,7 @@ const FOUND: &[u8] = b"6c6f73742b666f756e64";
 /// Commands that are tried on each file: first `check`, then `list`. There is no page 4. A copy comes after
 /// the listing to the same extent, and that of what is joined after that of what is recovered. The file
 /// has no bucket `key`, so nothing goes back into it.
-static TRIALS: [(Kind, &[&str]); 20] = [
+static TRIALS: [(Kind, &[&str]); 21] = [
     (Kind::Check, &["check", "FILE"]),
     (Kind::Reader, &["list", "FILE"]),
     (Kind::Copy, &["compact", "-o", "OUT", "FILE"]),
@@ -47,6 +49,7 @@ static TRIALS: [(Kind, &[&str]); 20] = [
     ),
     (Kind::Check, &["check", "--all", "FILE"]),
     (Kind::Check, &["check", "--lost-and-found", "FILE"]),
+    (Kind::States, &["states", "FILE"]),
     (Kind::Page, &["page", "FILE", "0"]),
     (Kind::Page, &["page", "FILE", "1"]),
     (Kind::Page, &["page", "FILE", "2"]),
@@ -119,6 +122,7 @@ impl Trials<'_> {
             Kind::Page => is_page(&ran, check.err.bytes()),
             Kind::Reader => is_read(&ran, check),
             Kind::Check => ran.code == 1 || check.code == 0,
+            Kind::States => has_states(&ran, check),
             Kind::List => true,
             Kind::Joined => is_joined(ran.out.bytes(), listed.out.bytes()),
             Kind::Copy => self.is_copied(&ran, listed),
@@ -156,6 +160,14 @@ fn is_joined(joined: &[u8], recovered: &[u8]) -> bool {
         rest = after;
     }
     rest.is_empty()
+}
+
+/// `states` prints a line. Only of a file without a valid meta it may print none, and says so.
+fn has_states(ran: &Ran, check: &Ran) -> bool {
+    if ran.code == 0 {
+        return !ran.out.bytes().is_empty() && ran.err.bytes().is_empty();
+    }
+    ran.is(1, b"", b"error: no state found\n") && !check.err.bytes().is_empty()
 }
 
 /// `page` prints a page, or refuses it; if the file has this fault, it reports the same.

@@ -1,0 +1,36 @@
+-- The order of states tells any two apart.
+use Rattle.std.proofs.Common.{◌∙◌, Bool, ap, sym, is_lt}
+use Rattle.std.proofs.lemmas.{Cmp.nat_cmp_total, Cmp.on_total, Cmp.then_total, List.MinMax.ranks_by}
+use Rattle.std.specs.{Cmp.IsStrictWeakOrder, Cmp.IsTotalOrder, Ordering.ordering_reverse, declared.cmp.Ordering.Ordering}
+use Rattle.bolt_recover.specs.ShownStates.{place_view, state_view}
+use Rattle.bolt_recover.specs.States.{Place, StateView, entries_of, place_cmp, state_cmp}
+use Rattle.bolt_recover.specs.declared.state.State.{State}
+use Rattle.bolt_recover.specs.declared.state.Place as code
+
+flip_total : {K : Type 0} {R : K → K → Ordering} → IsTotalOrder R → IsTotalOrder (λ x y. R y x)
+flip_total total = record {
+  antisymm = λ x y. total.antisymm y x;
+  trans = λ x y z a b. total.trans z y x b a;
+  congr = λ x y z e. total.antisymm z x ∙ ap ordering_reverse (total.congr x y z (total.antisymm x y ∙ ap ordering_reverse e)) ∙ sym (total.antisymm z y);
+}
+
+place_total : IsTotalOrder place_cmp
+place_total = then_total (on_total (λ (p : Place). p.page_size) nat_cmp_total) (on_total (λ (p : Place). p.root) nat_cmp_total)
+
+state_total : IsTotalOrder state_cmp
+state_total =
+    then_total (on_total (λ (s : StateView). s.losses) nat_cmp_total)
+    (then_total (flip_total (on_total (λ (s : StateView). entries_of s.figures) nat_cmp_total)) (on_total (λ (s : StateView). s.place) place_total))
+
+-- as the code has them
+abbrev pub code_state_lt : State → State → Bool
+code_state_lt a b = is_lt (state_cmp (state_view a) (state_view b))
+
+pub state_ranks : IsStrictWeakOrder code_state_lt
+state_ranks = ranks_by state_total state_view
+
+abbrev pub code_place_lt : code.Place → code.Place → Bool
+code_place_lt a b = is_lt (place_cmp (place_view a) (place_view b))
+
+pub place_ranks : IsStrictWeakOrder code_place_lt
+place_ranks = ranks_by place_total place_view
