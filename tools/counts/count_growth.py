@@ -26,8 +26,9 @@ COMMANDS = [
     "get FILE a 00000 --recover",
     "compact FILE --lost-and-found --for-bbolt -o OUT",
 ]
-# The text of a listing has the whole path on each line, so it grows with the square of the depth.
-LEFT_OUT = ("deep", "list FILE --recover")
+# The text of a listing has the whole path on each line, so it grows with the square of the depth. And each page of such a
+# file can be the root page of a state, whose recovery is as long as the rest of the file is deep.
+LEFT_OUT = {("deep", "list FILE --recover"), ("deep", "states FILE")}
 MOST_GROWTH = 2.8
 
 
@@ -97,7 +98,7 @@ def try_sizes(program, shape, commands, write):
 
 
 def try_shape(program, shape, size):
-    tried = [words for words in COMMANDS if (shape.__name__, words) != LEFT_OUT]
+    tried = [words for words in COMMANDS if (shape.__name__, words) not in LEFT_OUT]
     return try_sizes(program, shape, tried, lambda times, path: write_shape(shape, times * size, path))
 
 
