@@ -138,8 +138,8 @@ set-up:
 
 # The merge gate: every proof from nothing, the built programs, the mutants, what these targets try, the same random
 # files each time, and rounds beside bbolt and etcd, the newest and then the installed ones. The prover keeps freed
-# memory for 10 s: fewer page faults. It ends with its processor minutes, and fails if a large part takes twice its share
-# of tools/try/times.txt.
+# memory for 10 s: fewer page faults. It ends with its processor minutes, and fails if a large proof takes twice its
+# share of tools/try/times.txt.
 test: toolchain set-up peers
 	MIMALLOC_PURGE_DELAY=10000 python3 -B tools/try/gate.py $(TIMES) tools/try/times.txt "rt ci: RT_JOBS=$(JOBS) rt ci $(ANEW)" \
 		"mutants: JOBS=$(JOBS) python3 -B tools/mutants/try_mutants.py --over-gate" \

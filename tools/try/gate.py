@@ -5,7 +5,7 @@
 
 Before the first command, after it and at the end a loop is timed for two seconds, so that a slow hour can be told from
 a slow change. The gate ends at the first command that fails, and its status is that command's. If all pass, it compares
-each part's share of the whole with that of the file TIMES (`shares.py`), and fails if the share of a large part doubled.
+each part's share of the whole with that of the file TIMES (`shares.py`), and fails if the share of a large proof doubled.
 With --write it writes the file in place of that."""
 
 import resource
@@ -13,7 +13,7 @@ import subprocess
 import sys
 import time
 
-from processors import Watch
+from processors import MUTANTS, Watch
 from shares import Times, compare, read_times, write_times
 
 STEPS = 500_000
@@ -38,21 +38,22 @@ def processor_seconds():
 
 
 def run_all(commands, loops, watch):
-    """Runs the commands until one fails, and returns its status, and the seconds of each part. After the first one the
-    loop is timed."""
-    parts = {}
+    """Runs the commands until one fails, and returns its status, the seconds of each part, and which parts are proofs. After
+    the first one the loop is timed."""
+    parts, proofs = {}, set()
     for name, _, command in (it.partition(": ") for it in commands):
         print(command, flush=True)
         begin = processor_seconds()
         status = subprocess.run(command, shell=True).returncode
         checks = watch.taken()
         parts.update(checks)
+        proofs.update(it for it in checks if not it.endswith(MUTANTS))
         parts[name] = max(0, processor_seconds() - begin - sum(checks.values()))
         if status:
-            return status if status > 0 else 128 - status, parts
+            return status if status > 0 else 128 - status, parts, proofs
         if len(loops) == 1:
             loops.append(time_loop())
-    return 0, parts
+    return 0, parts, frozenset(proofs)
 
 
 def main(words):
@@ -61,10 +62,10 @@ def main(words):
     file, *commands = words[is_written:]
     loops = [time_loop()]
     with Watch() as watch:
-        status, parts = run_all(commands, loops, watch)
+        status, parts, proofs = run_all(commands, loops, watch)
     loops.append(time_loop())
     minutes, clock = processor_seconds() / 60, (time.monotonic() - begin) / 60
-    times = Times(parts, minutes, sum(loops) / len(loops))
+    times = Times(parts, proofs, minutes, sum(loops) / len(loops))
     faults = []
     if not status and is_written:
         write_times(file, times)

@@ -4,6 +4,8 @@ import os
 import threading
 
 EACH = 0.2
+# How the name of a part ends that is a check of mutants.
+MUTANTS = " mutants"
 TICKS = os.sysconf("SC_CLK_TCK")
 
 
@@ -68,5 +70,5 @@ def part_of(number):
     if "--crate-name" not in words:
         return None
     crate = words[words.index("--crate-name") + 1]
-    kinds = [" tests" for it in words if it == "--test"] + [" mutants" for it in words if it.startswith("--only")][:1]
+    kinds = [" tests" for it in words if it == "--test"] + [MUTANTS for it in words if it.startswith("--only")][:1]
     return "".join([crate, *kinds])

@@ -2,10 +2,10 @@
 
 import dataclasses
 
-# A part whose share grew so many times is a fault, if it is that large, in hundredths of the whole.
+# A proof whose share grew so many times is a fault, if it is that large, in hundredths of what was done.
 GROWTH, LARGE = 2, 3
 # Less than so many hundredths of the recorded gate tell nothing.
-ENOUGH = 50
+ENOUGH = 30
 HEAD = (
     "# What each part of the gate takes, in hundredths of the whole: the proof of a crate, its tests, its mutants, or a target.\n"
     "# `make times` writes this file.\n"
@@ -14,9 +14,11 @@ HEAD = (
 
 @dataclasses.dataclass(frozen=True)
 class Times:
-    """The processor seconds of each part, the minutes of the whole, and the seconds of the loop."""
+    """The processor seconds of each part, which of the parts are proofs of crates and of their tests, the minutes of the
+    whole, and the seconds of the loop."""
 
     parts: dict
+    proofs: frozenset
     minutes: float
     loop: float
 
@@ -39,11 +41,12 @@ def read_times(file):
         lines = it.read().splitlines()
     words = next(it for it in lines if "processor minutes" in it).split()
     parts = dict(reversed(it.split(" ", 1)) for it in lines if not it.startswith("#"))
-    return Times({part: float(share) for part, share in parts.items()}, float(words[1]), float(words[-2]))
+    return Times({part: float(share) for part, share in parts.items()}, frozenset(), float(words[1]), float(words[-2]))
 
 
 def compare(recorded, times):
-    """Prints how the whole compares, and returns a line for each large part whose share of what was done grew too much."""
+    """Prints how the whole compares, and returns a line for each large proof whose share of what was done grew too much.
+    Proofs that are kept of an earlier run aren't done."""
     done = {it: taken for it, taken in times.parts.items() if it in recorded.parts}
     known = sum(recorded.parts[it] for it in done)
     print(
@@ -55,10 +58,10 @@ def compare(recorded, times):
         return []
     whole = sum(done.values())
     faults = []
-    for part, taken in sorted(times.parts.items()):
-        share = 100 * taken / whole
+    for part in sorted(times.proofs):
+        share = 100 * times.parts[part] / whole
         before = 100 * recorded.parts[part] / known if part in done else None
         if share >= LARGE and (before is None or share >= GROWTH * before):
             was = "isn't recorded" if before is None else f"was {before:.1f}"
-            faults.append(f"SLOW: {part} takes {share:.1f} in a hundred, and {was}: find out why, or write them anew (make times)")
+            faults.append(f"SLOW: the proof of {part} takes {share:.1f} in a hundred, and {was}: find out why, or write them anew (make times)")
     return faults
