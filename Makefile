@@ -158,7 +158,7 @@ times:
 LOST_STORES = out/store_half.db out/store_all.db out/short_half.db out/short_all.db
 
 # Times the installed program on large files and, if it can be built, bbolt's library.
-bench: $(PROGRAM) out/luntsegi.1 peers out/measured out/large.db out/wide.db out/long.db out/sparse.db out/very_deep.db out/lost_leaves.db \
+bench: $(PROGRAM) out/luntsegi.1 peers out/measured out/large.db out/leaves.db out/wide.db out/long.db out/sparse.db out/very_deep.db out/lost_leaves.db \
 		out/lost_branch.db out/half_freed.db out/freed.db $(LOST_STORES)
 	$(MAKE) --no-print-directory -s install PREFIX=out/installed
 	$(NEWEST_BBOLT) tools/bench/bench.sh out/installed/bin/luntsegi
@@ -172,7 +172,7 @@ out/refuse.so: tools/refuse/refuse.c
 	$(CC) -O2 -Wall -shared -fPIC -o $@ $<
 
 # Files that a tool makes, each with these words after its name.
-MADE = large wide listed_long long sparse deep nested very_deep half_freed freed store short
+MADE = large leaves wide listed_long long sparse deep nested very_deep half_freed freed store short
 out/listed_long.db: WORDS = 5000
 out/nested.db: WORDS = 60
 out/very_deep.db: WORDS = 50000 4096
@@ -180,7 +180,8 @@ out/half_freed.db: WORDS = 500000
 out/freed.db: WORDS = 1000000
 out/store.db: WORDS = 600
 out/short.db: WORDS = 60
-out/large.db: tools/bench/make_large.py
+out/leaves.db: WORDS = 3200000 1024
+out/large.db out/leaves.db: tools/bench/make_large.py
 out/wide.db out/listed_long.db: tools/bench/make_wide.py
 out/long.db: tools/bench/make_long.py
 out/sparse.db: tools/bench/make_sparse.py

@@ -76,7 +76,7 @@ complete -c luntsegi -n '__luntsegi_is page check buckets keys get stats list co
 complete -c luntsegi -n '__luntsegi_is pages' -l map -d 'Print a map instead'
 complete -c luntsegi -n '__luntsegi_is check' -l all -d 'Go on after the first error of the trees, and say what is lost with each'
 complete -c luntsegi -n '__luntsegi_is check' -l lost-and-found -d 'As with --all, and name each intact leaf that nothing leads to, if something is lost'
-complete -c luntsegi -n '__luntsegi_is check' -l for-bbolt -d 'Also check that bbolt can write into it'
+complete -c luntsegi -n '__luntsegi_is check' -l for-bbolt -d 'Also look for all that bbolt is known to fail on when it writes to the file'
 complete -c luntsegi -n '__luntsegi_is check' -l etcd-snapshot -d 'First check that the file ends with the SHA-256 of what is before it, as an etcd snapshot does'
 complete -c luntsegi -n '__luntsegi_is check buckets keys get stats list compact etcd-revisions etcd-keys etcd-get etcd-check etcd-status etcd-repair' -l meta -x -a '0 1' -d 'Read the file under the meta in slot 0 or 1, active or not, and ignore the freelist'
 complete -c luntsegi -n '__luntsegi_is states' -l page-size -x -d 'The page size of the pages that are tried, in bytes'

@@ -13,8 +13,8 @@
 //	bbolt stats FILE              the lines of luntsegi stats that bbolt counts in the same way
 //	bbolt compact FILE OUT BYTES  bbolt's own compact, with so many bytes in a transaction
 //	bbolt change SEED N FILE      N random transactions; status 3 if bbolt panics
-//	bbolt empty ORDER FILE        deletes every key and every bucket, a transaction each, and always the first or the
-//	                              last one that is left; status 3 if bbolt panics
+//	bbolt empty ORDER FILE        deletes every key, those of nested buckets too, and every bucket, a transaction each,
+//	                              and always the first or the last one that is left; status 3 if bbolt panics
 //	bbolt try SEED FILE FOLDER    everything that a file has to bear, on copies in a folder; status 3 if bbolt panics
 package main
 
@@ -348,30 +348,39 @@ func orPanic(do func() error) error {
 	return do()
 }
 
-// empty deletes one key of a bucket after another, until none is left, and then the bucket.
+// empty deletes the next key that is left, again and again: those of nested buckets too, and each bucket when it is empty.
 func empty(db *bolt.DB, next move) error {
 	for {
-		left := 0
+		left := false
 		err := db.Update(func(tx *bolt.Tx) error {
-			names := buckets(tx)
-			left = len(names)
-			if left == 0 {
+			name, _ := next(tx.Cursor())
+			left = name != nil
+			if !left {
 				return nil
 			}
-			bucket := tx.Bucket(names[0])
-			key, value := next(bucket.Cursor())
-			switch {
-			case key == nil:
-				return tx.DeleteBucket(names[0])
-			case value == nil:
-				return bucket.DeleteBucket(key)
-			}
-			return bucket.Delete(key)
+			return deleteNext(tx, tx.Bucket(name), name, next)
 		})
-		if err != nil || left == 0 {
+		if err != nil || !left {
 			return err
 		}
 	}
+}
+
+// parent is what a bucket is in: the root bucket, or another one.
+type parent interface {
+	DeleteBucket(name []byte) error
+}
+
+// deleteNext deletes the next value in a bucket or, if it is empty, the bucket.
+func deleteNext(above parent, bucket *bolt.Bucket, name []byte, next move) error {
+	key, value := next(bucket.Cursor())
+	switch {
+	case key == nil:
+		return above.DeleteBucket(name)
+	case value == nil:
+		return deleteNext(bucket, bucket.Bucket(key), key, next)
+	}
+	return bucket.Delete(key)
 }
 
 // change makes a number of random transactions.

@@ -1,9 +1,9 @@
 #!/usr/bin/env python3
 """Makes a large sound database file, for `make bench`.
 
-    make_large.py FILE [ENTRIES]
+    make_large.py FILE [ENTRIES [PAGE_SIZE]]
 
-The format is that of docs/FORMAT.md. The default is a million entries, in a file of about 256 MiB.
+The format is that of docs/FORMAT.md. The default is a million entries on pages of 4,096 bytes, in a file of about 256 MiB.
 They are in a few buckets, in leaves that are filled in key order, below branches of three levels.
 After the pages of each bucket a few pages are free.
 """
@@ -25,17 +25,17 @@ FILLING = bytes(range(256)) * 2
 class Pages:
     """Writes pages one after another, and keeps the numbers of the free ones."""
 
-    def __init__(self, out):
-        self.out = out
+    def __init__(self, out, page_size=PAGE_SIZE):
+        self.out, self.page_size = out, page_size
         self.next = FIRST_PAGE
         self.free = []
 
     def put_at(self, number, flags, count, body):
         """Writes a page with the further pages that it needs, and returns their number."""
-        overflow = (HEADER.size + len(body) - 1) // PAGE_SIZE
+        overflow = (HEADER.size + len(body) - 1) // self.page_size
         span = HEADER.pack(number, flags, count, overflow) + body
-        self.out.seek(number * PAGE_SIZE)
-        self.out.write(span.ljust((overflow + 1) * PAGE_SIZE, b"\0"))
+        self.out.seek(number * self.page_size)
+        self.out.write(span.ljust((overflow + 1) * self.page_size, b"\0"))
         return overflow
 
     def put(self, flags, count, body):
@@ -81,11 +81,11 @@ def branch_body(elements):
     return b"".join(table + data)
 
 
-def runs(elements, length_of):
+def runs(elements, length_of, page_size):
     """The elements in runs, each as long as a page takes."""
     run, length = [], HEADER.size
     for element in elements:
-        if length + length_of(element) > PAGE_SIZE:
+        if length + length_of(element) > page_size:
             yield run
             run, length = [], HEADER.size
         run.append(element)
@@ -95,14 +95,14 @@ def runs(elements, length_of):
 
 def put_leaves(pages, elements):
     """What leads to the leaves: their first keys and their numbers."""
-    for run in runs(elements, leaf_length):
+    for run in runs(elements, leaf_length, pages.page_size):
         first_key = run[0][1]
         yield first_key, pages.put(LEAF, len(run), leaf_body(run))
 
 
 def put_branches(pages, children):
     """What leads to the branches above these children."""
-    for run in runs(children, branch_length):
+    for run in runs(children, branch_length, pages.page_size):
         first_key = run[0][0]
         yield first_key, pages.put(BRANCH, len(run), branch_body(run))
 
@@ -135,11 +135,11 @@ def buckets(pages, count):
 
 def put_meta(pages, number, root, freelist=FREELIST_PAGE):
     """A meta page; its number is its transaction too."""
-    pages.put_at(number, META, 0, meta_record(PAGE_SIZE, root, freelist, pages.next, number))
+    pages.put_at(number, META, 0, meta_record(pages.page_size, root, freelist, pages.next, number))
 
 
-def make(out, count):
-    pages = Pages(out)
+def make(out, count, page_size):
+    pages = Pages(out, page_size)
     root = put_bucket(pages, buckets(pages, count))
     free = struct.pack("<%dQ" % len(pages.free), *pages.free)
     pages.put_at(FREELIST_PAGE, FREELIST, len(pages.free), free)
@@ -148,9 +148,10 @@ def make(out, count):
 
 
 def main():
-    count = int(sys.argv[2]) if len(sys.argv) > 2 else 1_000_000
-    with open(sys.argv[1], "wb") as out:
-        make(out, count)
+    name, *numbers = sys.argv[1:]
+    count, page_size = [*map(int, numbers), *(1_000_000, PAGE_SIZE)[len(numbers) :]]
+    with open(name, "wb") as out:
+        make(out, count, page_size)
 
 
 if __name__ == "__main__":

@@ -10,6 +10,7 @@
 | tools/fuzz/program.py | each command, with what it may report |
 | tools/fuzz | each option, in a comparison |
 | MAY_BEGIN of tools/refuse/sweep.py | each command, and no word that it doesn't have |
+| the end of each command's help | its exit status, and an example that isn't refused |
 
 --help is left out. A line is printed for each that is missing. The status is 1 then."""
 
@@ -19,7 +20,7 @@ import sys
 
 sys.path[:0] = ["tools/fuzz", "tools/refuse", "tests"]
 
-from help_words import HELP, read  # noqa: E402
+from help_words import HELP, REFUSED, Reader  # noqa: E402
 from program import FAULTS, TEXTS  # noqa: E402
 from sweep import MAY_BEGIN  # noqa: E402
 
@@ -86,9 +87,19 @@ def unknown(commands):
             yield f"MAY_BEGIN of tools/refuse/sweep.py has {name} with {sorted(others)}, which help doesn't have"
 
 
+def lacks_example(reader, commands):
+    for command in commands:
+        end = re.search(r"\n\nExit status: .*\n\nExample: luntsegi (.*)\n$", reader.help_text(command.name))
+        words = end[1].split() if end else []
+        if words[:1] != [command.name] or reader.run(*words)[0] == REFUSED:
+            yield f"help of {command.name} lacks the exit status or a right example"
+
+
 def main():
-    commands = [it for it in read(sys.argv[1]).commands if it.name != HELP]
-    found = dict.fromkeys([*lacks_command(commands), *lacks_option(commands), *unknown(commands)])
+    reader = Reader(sys.argv[1])
+    commands = [it for it in reader.read().commands if it.name != HELP]
+    lacks = [lacks_command(commands), lacks_option(commands), lacks_example(reader, commands), unknown(commands)]
+    found = dict.fromkeys(line for lines in lacks for line in lines)
     print("".join(f"{it}\n" for it in found), end="")
     sys.exit(1 if found else 0)
 

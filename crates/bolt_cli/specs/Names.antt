@@ -1,4 +1,4 @@
--- Names of files, as standard error has them: docs/COMMANDS.md, "Faults".
+-- Names of files, as standard error has them: docs/COMMANDS.md, "Errors".
 use Rattle.std.specs.Prelude.{◌==◌, ◌&&◌, ℕ, List, [], ◌∷◌, Bool, false, true, flat_map, not, if◌then◌else◌}
 use Rattle.std.specs.{Char.encode_utf8, Char.is_control, Char.Escape.escape_default, Str.chars}
 

@@ -1,4 +1,4 @@
--- What `states` answers: docs/COMMANDS.md, "States".
+-- What `states` answers: docs/COMMANDS.md, "states".
 use Rattle.std.specs.Prelude.{◌≡◌, ◌⊎◌, ℕ, List, [], Option, None, Some}
 use Rattle.bolt_format.specs.{Metas.HasActive, Metas.HasNoActive, declared.meta.Meta.Meta, declared.meta.MetaFault.MetaFault}
 use Rattle.bolt_job.specs.{declared.choices.PageSize.PageSize, declared.page_commands.StatesJob.StatesJob}

@@ -1,4 +1,4 @@
--- What `stats` answers: docs/COMMANDS.md, "What is printed".
+-- What `stats` answers: docs/COMMANDS.md, "stats".
 use Rattle.std.specs.Prelude.{◌≡◌, ◌-◌, ◌⊎◌, ℕ, List, [], ◌∷◌, Bool, true, false}
 use Rattle.bolt_format.specs.{Elements.LeafElement, declared.meta.Meta.Meta}
 use Rattle.bolt_report.specs.StatsLines.{stats_text}

@@ -1,4 +1,4 @@
--- What is wrong with a store, line by line: docs/COMMANDS.md, "What etcd-check prints".
+-- What is wrong with a store, line by line: docs/COMMANDS.md, "etcd-check".
 use Rattle.std.specs.Prelude.{ℕ, false, List, [], ◌∷◌, ◌++◌, ◌==◌, codes, decimal, if◌then◌else◌}
 use Rattle.std.specs.Fmt.{digits}
 use Rattle.bolt_text.specs.{Forms.item_text, declared.forms.Form.TheVariants.Hex, declared.forms.Form.TheVariants.Printable}

@@ -1,4 +1,4 @@
--- What is wrong with a store, as lines: docs/COMMANDS.md, "What etcd-check prints".
+-- What is wrong with a store, as lines: docs/COMMANDS.md, "etcd-check".
 use Rattle.std.specs.Prelude.{ℕ, Bool, false, List, [], ◌∷◌, ◌++◌, codes, flat_map, map, Option, Some, None}
 use Rattle.std.specs.Option.{option_map}
 use Rattle.bolt_format.specs.Elements.{LeafElement}

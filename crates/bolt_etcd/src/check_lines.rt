@@ -1,4 +1,4 @@
-//! Writes what is wrong with a store, line by line (docs/COMMANDS.md, "What etcd-check prints").
+//! Writes what is wrong with a store, line by line (docs/COMMANDS.md, "etcd-check").
 ghost use Rattle.std.specs.Prelude.{[], if◌then◌else◌};
 ghost use Rattle.std.specs.List.{concat};
 ghost use Rattle.bolt_format.specs.{Endings.ending, Wrote.Wrote};

@@ -15,7 +15,7 @@ use bolt_tree::{Bucket, Entry, NoMemory};
 use byteorder::{BigEndian, ByteOrder};
 use std::alloc::Global;
 
-/// What etcd would report of a store at a transaction (docs/COMMANDS.md, "What etcd-status prints").
+/// What etcd would report of a store at a transaction (docs/COMMANDS.md, "etcd-status").
 #[derive(Clone, Copy, Debug, PartialEq, Eq)]
 pub struct Status {
     /// The number of the last transaction.

@@ -1,4 +1,4 @@
--- The forms that a command line names, each by its word: docs/COMMANDS.md, "Words".
+-- The forms that a command line names, each by its word: docs/COMMANDS.md, "Arguments".
 use Rattle.std.specs.Prelude.{List, [], ◌∷◌, ◌++◌, Option, Some, None, Result, Ok, Err, codes, if◌then◌else◌, map}
 use Rattle.std.specs.Str.{bytes_eq}
 use Rattle.bolt_text.specs.{declared.forms.FigureForm.FigureForm, declared.forms.Form.Form, declared.forms.ListForm.ListForm, Lines.Text}

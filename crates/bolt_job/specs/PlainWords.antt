@@ -1,4 +1,4 @@
--- What the words of a command line ask for: docs/COMMANDS.md, "Words".
+-- What the words of a command line ask for: docs/COMMANDS.md, "Arguments".
 use Rattle.std.specs.Prelude.{◌==◌, ◌&&◌, ◌^◌, ℕ, Bool, true, false, List, [], ◌∷◌, Option, Some, None, Result, Ok, Err, Vec, codes, map, option_map, string_bytes, if◌then◌else◌, nat_lt}
 use Rattle.std.specs.{List.after_first, List.before_first, List.list_any, Str.bytes_eq}
 use Rattle.bolt_tree.specs.Paths.{Key, Path}

@@ -1,4 +1,4 @@
--- How an operand or an option is described to `clap`: docs/COMMANDS.md, "Words".
+-- How an operand or an option is described to `clap`: docs/COMMANDS.md, "Arguments".
 use Rattle.std.specs.Prelude.{ℕ, true, [], ◌∷◌, Some, codes}
 use Rattle.clap.specs.{Words.Rule, declared.builder.action.ArgAction.TheVariants.Append, declared.builder.action.ArgAction.TheVariants.Set}
 use Rattle.bolt_text.specs.Lines.{Text}

@@ -130,7 +130,8 @@ pub(crate) static BUCKETS: Syntax = Syntax {
         META,
         ASSUME_META,
     ],
-    note: None,
+    note: "Exit status: 0 if all names are printed, 1 after an error or if pages are lost, 2 if the command line is wrong.\n\n\
+        Example: luntsegi buckets --sizes my.db",
 };
 
 pub(crate) fn read_buckets(line: &Line<'_, '_>) -> Result<BucketsJob, Refusal>
@@ -170,7 +171,8 @@ pub(crate) static KEYS: Syntax = Syntax {
         META,
         ASSUME_META,
     ],
-    note: None,
+    note: "Exit status: 0 if all keys are printed, 1 after an error or if pages are lost, 2 if the command line is wrong.\n\n\
+        Example: luntsegi keys my.db users",
 };
 
 pub(crate) fn read_keys(line: &Line<'_, '_>) -> Result<KeysJob, Refusal>
@@ -212,7 +214,8 @@ pub(crate) static GET: Syntax = Syntax {
         META,
         ASSUME_META,
     ],
-    note: None,
+    note: "Exit status: 0 if the value is printed, 1 after an error or if pages are lost, 2 if the command line is wrong.\n\n\
+        Example: luntsegi get my.db users alice",
 };
 
 pub(crate) fn read_get(line: &Line<'_, '_>) -> Result<GetJob, Refusal>
@@ -242,7 +245,8 @@ pub(crate) static STATS: Syntax = Syntax {
     name: "stats",
     about: "Print figures of all buckets, or of one and all in it: their number, keys, depth and pages",
     arguments: &[FILE, BUCKET_IN, FIGURE_FORM, PARTS, META, ASSUME_META],
-    note: None,
+    note: "Exit status: 0 if the figures are printed, 1 after an error, 2 if the command line is wrong.\n\n\
+        Example: luntsegi stats my.db users",
 };
 
 pub(crate) fn read_stats(line: &Line<'_, '_>) -> Result<StatsJob, Refusal>
@@ -282,7 +286,8 @@ pub(crate) static LIST: Syntax = Syntax {
         META,
         ASSUME_META,
     ],
-    note: None,
+    note: "Exit status: 0 if all lines are printed, 1 after an error or if pages are lost, 2 if the command line is wrong.\n\n\
+        Example: luntsegi list --form json my.db",
 };
 
 pub(crate) fn read_list(line: &Line<'_, '_>) -> Result<ListJob, Refusal>

@@ -41,8 +41,8 @@ pub(crate) struct Syntax {
     pub about: &'static str,
     /// Operands in their order, and options in that of help. On a command line options come anywhere.
     pub arguments: &'static [Argument],
-    /// What help prints after the options.
-    pub note: Option<&'static str>,
+    /// What help prints after the options: what the exit status says, and an example.
+    pub note: &'static str,
 }
 
 /// The version that `--version` prints.
@@ -82,11 +82,9 @@ fn without_value<'a>(arg: Arg<'a>) -> Arg<'a>
 fn bare_command<'a>(alloc: Global, syntax: &'a Syntax) -> Command<'a>
     ensures { IsCommand (new_app syntax.now.name.now) result }
 {
-    let command = Command::new(alloc, syntax.name).about(syntax.about);
-    match syntax.note {
-        Some(note) => command.after_help(note),
-        None => command,
-    }
+    Command::new(alloc, syntax.name)
+        .about(syntax.about)
+        .after_help(syntax.note)
 }
 
 fn command<'a>(alloc: Global, syntax: &'a Syntax) -> Result<Command<'a>, AllocError>

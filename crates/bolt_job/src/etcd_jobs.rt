@@ -8,10 +8,18 @@ use crate::bucket_commands::{FORM, NO_NEWLINE};
 use crate::choices::{MetaChoice, PageSize};
 use crate::command_line::{Argument, Flag, Syntax};
 use crate::line::Line;
-use crate::page_commands::{ASSUME_META, FIGURE_FORM, FILE, META};
+use crate::page_commands::{ASSUME_META, FIGURE_FORM, META};
 use crate::refusal::Refusal;
 use crate::writing_commands::{OUTPUT, PAGE_SIZE};
 use bolt_text::{FigureForm, Form};
+
+const ETCD_FILE: Argument = Argument {
+    name: "FILE",
+    flag: Flag::Operand,
+    value: Some("FILE"),
+    help: "etcd's file (member/snap/db in its data folder) or a snapshot, which is never written to",
+    required: true,
+};
 
 const NAME: Argument = Argument {
     name: "NAME",
@@ -94,7 +102,7 @@ pub(crate) static ETCD_REVISIONS: Syntax = Syntax {
     name: "etcd-revisions",
     about: "Print the revisions of etcd's keys: each write and each deletion, in order",
     arguments: &[
-        FILE,
+        ETCD_FILE,
         FROM_REVISION,
         NAME_PREFIX,
         VALUES,
@@ -103,7 +111,8 @@ pub(crate) static ETCD_REVISIONS: Syntax = Syntax {
         META,
         ASSUME_META,
     ],
-    note: None,
+    note: "Exit status: 0 if all revisions are printed, 1 after an error, 2 if the command line is wrong.\n\n\
+        Example: luntsegi etcd-revisions --prefix /registry/pods/ member/snap/db",
 };
 
 pub(crate) fn read_etcd_revisions(line: &Line<'_, '_>) -> Result<EtcdRevisionsJob, Refusal>
@@ -136,7 +145,7 @@ pub(crate) static ETCD_KEYS: Syntax = Syntax {
     name: "etcd-keys",
     about: "Print etcd's keys, as they are or as they were at a revision",
     arguments: &[
-        FILE,
+        ETCD_FILE,
         AT_REVISION,
         NAME_PREFIX,
         VALUES,
@@ -145,7 +154,8 @@ pub(crate) static ETCD_KEYS: Syntax = Syntax {
         META,
         ASSUME_META,
     ],
-    note: None,
+    note: "Exit status: 0 if all keys are printed, 1 after an error, 2 if the command line is wrong.\n\n\
+        Example: luntsegi etcd-keys --at 1000 member/snap/db",
 };
 
 pub(crate) fn read_etcd_keys(line: &Line<'_, '_>) -> Result<EtcdKeysJob, Refusal>
@@ -179,7 +189,7 @@ pub(crate) static ETCD_GET: Syntax = Syntax {
     name: "etcd-get",
     about: "Print the value of one of etcd's keys, as it is or as it was at a revision",
     arguments: &[
-        FILE,
+        ETCD_FILE,
         NAME,
         AT_REVISION,
         NO_NEWLINE,
@@ -188,7 +198,8 @@ pub(crate) static ETCD_GET: Syntax = Syntax {
         META,
         ASSUME_META,
     ],
-    note: None,
+    note: "Exit status: 0 if the value is printed, 1 after an error or without such a key, 2 if the command line is wrong.\n\n\
+        Example: luntsegi etcd-get member/snap/db /registry/pods/default/web",
 };
 
 pub(crate) fn read_etcd_get(line: &Line<'_, '_>) -> Result<EtcdGetJob, Refusal>
@@ -214,8 +225,9 @@ pub struct EtcdCheckJob {
 pub(crate) static ETCD_CHECK: Syntax = Syntax {
     name: "etcd-check",
     about: "Check whether the file is sound, and then whether etcd's records in it are whole",
-    arguments: &[FILE, META, ASSUME_META],
-    note: None,
+    arguments: &[ETCD_FILE, META, ASSUME_META],
+    note: "Exit status: 0 if nothing is wrong, 1 if something is or FILE can't be read, 2 if the command line is wrong.\n\n\
+        Example: luntsegi etcd-check member/snap/db",
 };
 
 pub(crate) fn read_etcd_check(line: &Line<'_, '_>) -> Result<EtcdCheckJob, Refusal>
@@ -240,8 +252,9 @@ pub struct EtcdStatusJob {
 pub(crate) static ETCD_STATUS: Syntax = Syntax {
     name: "etcd-status",
     about: "Print what etcd would report of the file: its revision, its number of keys and its hash",
-    arguments: &[FILE, AT_REVISION, FIGURE_FORM, META, ASSUME_META],
-    note: None,
+    arguments: &[ETCD_FILE, AT_REVISION, FIGURE_FORM, META, ASSUME_META],
+    note: "Exit status: 0 if the figures are printed, 1 after an error, 2 if the command line is wrong.\n\n\
+        Example: luntsegi etcd-status --at 1000 member/snap/db",
 };
 
 pub(crate) fn read_etcd_status(line: &Line<'_, '_>) -> Result<EtcdStatusJob, Refusal>
@@ -272,14 +285,15 @@ pub(crate) static ETCD_REPAIR: Syntax = Syntax {
     name: "etcd-repair",
     about: "Write a copy of a damaged file, with the revisions of etcd's keys that are found put back",
     arguments: &[
-        FILE,
+        ETCD_FILE,
         OUTPUT,
         PAGE_SIZE,
         REPAIRED_SNAPSHOT,
         META,
         ASSUME_META,
     ],
-    note: None,
+    note: "Exit status: 0 if nothing is lost, 1 if something is or OUT isn't whole, 2 if the command line is wrong.\n\n\
+        Example: luntsegi etcd-repair --etcd-snapshot -o repaired.db damaged.db",
 };
 
 pub(crate) fn read_etcd_repair(line: &Line<'_, '_>) -> Result<EtcdRepairJob, Refusal>

@@ -49,7 +49,36 @@ fn refusal_of(alloc: Global, error: &Error) -> Result<Refusal, AllocError>
         ErrorKind::OutOfMemory => Ok(Refusal::Memory),
         ErrorKind::DisplayHelp => Ok(Refusal::Help(format!(in alloc; "{error}")?)),
         ErrorKind::DisplayVersion => Ok(Refusal::Version(format!(in alloc; "{error}")?)),
-        _ => Ok(Refusal::Usage(format!(in alloc; "{error}")?)),
+        _ => Ok(Refusal::Usage(usage_text(alloc, error)?)),
+    }
+}
+
+/// What `clap` says of a line that it refuses, with a tip only if that helps.
+fn usage_text(alloc: Global, error: &Error) -> Result<String, AllocError> {
+    let text = format!(in alloc; "{error}")?;
+    let Some((what, rest)) = text.split_once("\n\n  tip: ") else {
+        return Ok(text);
+    };
+    let Some((tip, usage)) = rest.split_once("\n\nUsage: ") else {
+        return Ok(text);
+    };
+    match better_tip(what, tip, usage) {
+        Some(tip) => format!(in alloc; "{what}\n\n  tip: {tip}\n\nUsage: {usage}"),
+        None => format!(in alloc; "{what}\n\nUsage: {usage}"),
+    }
+}
+
+/// A tip that names what there is. That of `clap`, to write an unknown option as an operand, only leads to the next
+/// refusal; and it knows no command like `version`.
+fn better_tip<'a>(what: &str, tip: &'a str, usage: &str) -> Option<&'a str> {
+    if what == "error: unrecognized subcommand 'version'" {
+        Some("'--version' prints the version")
+    } else if what == "error: unexpected argument '--recover' found" && usage.contains(" check ") {
+        Some("'--all' goes on after the first error")
+    } else if tip.starts_with("to pass ") {
+        None
+    } else {
+        Some(tip)
     }
 }
 

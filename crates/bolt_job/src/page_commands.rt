@@ -71,7 +71,7 @@ const CHECK_FOR_BBOLT: Argument = Argument {
     name: "for-bbolt",
     flag: Flag::Long,
     value: None,
-    help: "Also check that bbolt can write into it: no branch of one child, value in the root bucket or key of more than 32768 bytes",
+    help: "Also look for all that bbolt is known to fail on when it writes to the file (man luntsegi, FOR BBOLT, has the list)",
     required: false,
 };
 
@@ -119,7 +119,8 @@ pub(crate) static INFO: Syntax = Syntax {
     name: "info",
     about: "Print the active meta: page size, transaction id, root, freelist, high-water mark",
     arguments: &[FILE, FIGURE_FORM, INFO_META],
-    note: None,
+    note: "Exit status: 0 if the meta is printed, 1 if no meta is valid or FILE can't be read, 2 if the command line is wrong.\n\n\
+        Example: luntsegi info my.db",
 };
 
 pub(crate) fn read_info(line: &Line<'_, '_>) -> Result<InfoJob, Refusal>
@@ -144,7 +145,8 @@ pub(crate) static PAGE: Syntax = Syntax {
     name: "page",
     about: "Print one page: its type and its items, keys and values in hex",
     arguments: &[FILE, ID, ASSUME_META],
-    note: None,
+    note: "Exit status: 0 if the page is printed, 1 if it is refused or FILE can't be read, 2 if the command line is wrong.\n\n\
+        Example: luntsegi page my.db 3",
 };
 
 pub(crate) fn read_page_job(line: &Line<'_, '_>) -> Result<PageJob, Refusal>
@@ -169,7 +171,8 @@ pub(crate) static PAGES: Syntax = Syntax {
     name: "pages",
     about: "Print what each page is for, and count free pages past the end of the file",
     arguments: &[FILE, MAP],
-    note: None,
+    note: "Exit status: 0 if the pages are printed, 1 if the file isn't sound or can't be read, 2 if the command line is wrong.\n\n\
+        Example: luntsegi pages --map my.db",
 };
 
 pub(crate) fn read_pages(line: &Line<'_, '_>) -> Result<PagesJob, Refusal>
@@ -205,7 +208,8 @@ pub(crate) static CHECK: Syntax = Syntax {
         META,
         ASSUME_META,
     ],
-    note: None,
+    note: "Exit status: 0 if nothing is wrong, 1 if something is or FILE can't be read, 2 if the command line is wrong.\n\n\
+        Example: luntsegi check --all my.db",
 };
 
 pub(crate) fn read_check(line: &Line<'_, '_>) -> Result<CheckJob, Refusal>
@@ -232,7 +236,8 @@ pub(crate) static STATES: Syntax = Syntax {
     name: "states",
     about: "Print what can still be read of a damaged file, under each root page that it may have, the likeliest first",
     arguments: &[FILE, STATES_PAGE_SIZE],
-    note: None,
+    note: "Exit status: 0 if a state is found, 1 if none is or FILE can't be read, 2 if the command line is wrong.\n\n\
+        Example: luntsegi states damaged.db",
 };
 
 pub(crate) fn read_states(line: &Line<'_, '_>) -> Result<StatesJob, Refusal>

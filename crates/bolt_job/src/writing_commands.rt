@@ -67,10 +67,6 @@ const COPY_SNAPSHOT: Argument = Argument {
     required: false,
 };
 
-const COPY_NOTE: &str = "Use --for-bbolt if bbolt or etcd will write to OUT. bbolt assumes that \
-    each branch page has at least two children, and can panic when it deletes below one that has a \
-    single child. Without the option OUT may have such pages.";
-
 /// Write a compact copy to another file.
 #[derive(Drop)]
 pub struct CompactJob {
@@ -98,7 +94,11 @@ pub(crate) static COMPACT: Syntax = Syntax {
         META,
         ASSUME_META,
     ],
-    note: Some(COPY_NOTE),
+    note: "Use --for-bbolt if bbolt or etcd will write to OUT. bbolt assumes that each branch page has at \
+        least two children, and can panic when it deletes below one that has a single child. Without the \
+        option OUT may have such pages.\n\n\
+        Exit status: 0 if OUT has everything, 1 if something is lost or OUT isn't whole, 2 if the command line is wrong.\n\n\
+        Example: luntsegi compact --for-bbolt -o new.db my.db",
 };
 
 pub(crate) fn read_compact(line: &Line<'_, '_>) -> Result<CompactJob, Refusal>
@@ -138,7 +138,11 @@ pub(crate) static LOAD: Syntax = Syntax {
         COPY_SNAPSHOT,
         SEQUENCE,
     ],
-    note: Some(COPY_NOTE),
+    note: "Use --for-bbolt if bbolt or etcd will write to OUT. bbolt assumes that each branch page has at \
+        least two children, and can panic when it deletes below one that has a single child. Without the \
+        option OUT may have such pages.\n\n\
+        Exit status: 0 if OUT has everything, 1 after an error, 2 if the command line is wrong.\n\n\
+        Example: luntsegi load --for-bbolt -o new.db my.list",
 };
 
 pub(crate) fn read_load(line: &Line<'_, '_>) -> Result<LoadJob, Refusal>

@@ -1,4 +1,4 @@
--- What is reported of a line that isn't right: docs/COMMANDS.md, "Faults".
+-- What is reported of a line that isn't right: docs/COMMANDS.md, "Errors".
 use Rattle.std.specs.Prelude.{◌++◌, ℕ, List, codes}
 use Rattle.std.specs.Fmt.{decimal}
 use Rattle.bolt_load.specs.{declared.load_fault.LineFault.LineFault, declared.load_fault.LoadFault.LoadFault}

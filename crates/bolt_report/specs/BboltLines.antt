@@ -1,4 +1,4 @@
--- What bbolt fails on: docs/COMMANDS.md, "Faults".
+-- What bbolt fails on: docs/COMMANDS.md, "Errors".
 use Rattle.std.specs.Prelude.{◌+◌, ℕ, List, ◌++◌, codes, decimal, flat_map, length}
 use Rattle.bolt_check.specs.declared.bbolt_file.FileFinding.{FileFinding}
 use Rattle.bolt_check.specs.declared.bbolt_file.FileFinding.TheVariants.{LargeTxid, NotMetaPage, NotTaken, PastEnd}

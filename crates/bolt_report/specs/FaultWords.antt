@@ -1,4 +1,4 @@
--- The words of faults: docs/COMMANDS.md, "Faults".
+-- The words of faults: docs/COMMANDS.md, "Errors".
 use Rattle.std.specs.Prelude.{◌==◌, ◌+◌, ℕ, List, [], ◌∷◌, ◌++◌, codes, decimal, flat_map, if◌then◌else◌, length}
 use Rattle.bolt_format.specs.declared.page_fault.PageFault.{PageFault}
 use Rattle.bolt_format.specs.declared.page_fault.TheConstants.PageFault.{RANGE, CUT, ID, PAGE_KIND, ELEMENT_CUT, DATA_ORDER, KEY_LENGTH, VALUE_LENGTH, LEAF_FLAGS, BUCKET_SHORT, INLINE_PAGE, INLINE_NESTED}

@@ -1,4 +1,4 @@
--- The keys of a bucket as a text: docs/COMMANDS.md, "What is printed".
+-- The keys of a bucket as a text: docs/COMMANDS.md, "keys".
 use Rattle.std.specs.Prelude.{ℕ, List, [], filter, flat_map, if◌then◌else◌}
 use Rattle.bolt_format.specs.Elements.{LeafElement}
 use Rattle.bolt_tree.specs.{Cursors.cursor_checked, Cursors.cursor_start, EntriesLeft.ForEntries}

@@ -1,4 +1,4 @@
--- The keys of a bucket that begin with given bytes: docs/COMMANDS.md, "What is printed".
+-- The keys of a bucket that begin with given bytes: docs/COMMANDS.md, "keys".
 use Rattle.std.specs.Prelude.{◌≡◌, ◌==◌, ◌+◌, ℕ, suc, Bool, List, filter, length}
 use Rattle.std.specs.List.{starts_with}
 use Rattle.bolt_format.specs.Elements.{LeafElement}

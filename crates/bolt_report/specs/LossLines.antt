@@ -1,4 +1,4 @@
--- The lines of losses: docs/COMMANDS.md, "What is printed".
+-- The lines of losses: docs/COMMANDS.md, "Recovery".
 use Rattle.std.specs.Prelude.{ℕ, List, [], ◌∷◌, ◌++◌, Option, Some, None, codes, flat_map, length}
 use Rattle.std.specs.{Borrow.Bor, Option.option_map}
 use Rattle.bolt_check.specs.Keys.{Key}

@@ -1,4 +1,4 @@
--- The seven figures of a meta, and the line of a slot without one: docs/COMMANDS.md, "What is printed".
+-- The seven figures of a meta, and the line of a slot without one: docs/COMMANDS.md, "info".
 use Rattle.std.specs.Prelude.{◌==◌, ℕ, List, [], ◌∷◌, ◌++◌, Option, Some, None, codes, decimal, if◌then◌else◌}
 use Rattle.bolt_format.specs.{declared.meta.Meta.Meta, declared.meta.MetaFault.MetaFault, declared.meta.Slot.Slot}
 use Rattle.bolt_format.specs.{declared.meta.Slot.TheVariants.Zero, declared.meta.Slot.TheVariants.One, declared.meta.TheConstants.NO_FREELIST}

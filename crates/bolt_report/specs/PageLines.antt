@@ -1,4 +1,4 @@
--- A page as a text: docs/COMMANDS.md, "What is printed".
+-- A page as a text: docs/COMMANDS.md, "page".
 use Rattle.std.specs.Prelude.{ℕ, List, [], ◌++◌, codes, decimal, flat_map, length, if◌then◌else◌, Option, Some, None}
 use Rattle.std.specs.Option.{option_map}
 use Rattle.hex.specs.Hex.{encode_lower}

@@ -1,4 +1,4 @@
--- The map of all pages of a file: docs/COMMANDS.md, "What is printed".
+-- The map of all pages of a file: docs/COMMANDS.md, "pages".
 -- What is promised of it is promised for the roles of the pages; each page below the mark has exactly one.
 use Rattle.std.specs.Prelude.{◌*◌, ◌-◌, ℕ, List, ◌++◌, codes, count_by, decimal, flat_map, length, map, min}
 use Rattle.std.specs.{Int.div_ceil, List.range_with_len}

@@ -1,4 +1,4 @@
--- Revisions as lines: docs/COMMANDS.md, "What etcd keeps".
+-- Revisions as lines: docs/COMMANDS.md, "etcd-revisions".
 use Rattle.std.specs.Prelude.{ℕ, Bool, false, List, [], ◌++◌, codes, decimal, filter, flat_map, ◌==◌, length, if◌then◌else◌}
 use Rattle.std.specs.{Fmt.digits, List.starts_with}
 use Rattle.bolt_text.specs.{Forms.is_json, Forms.item_text, declared.forms.Form.Form}

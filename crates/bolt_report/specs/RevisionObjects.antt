@@ -1,4 +1,4 @@
--- A revision as a JSON object, and what a reader finds in it: docs/COMMANDS.md, "What etcd keeps".
+-- A revision as a JSON object, and what a reader finds in it: docs/COMMANDS.md, "etcd-revisions".
 use Rattle.std.specs.Prelude.{◌≡◌, ℕ, ◌<◌, ◌^◌, Bool, List, Option, Some, None, codes, decimal, length, option_and_then, option_map, false, if◌then◌else◌}
 use Rattle.std.specs.{Fmt.digits, Str.Parse.digits_value}
 use Rattle.hex.specs.Hex.{IsBytes}

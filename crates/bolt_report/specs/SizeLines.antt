@@ -1,4 +1,4 @@
--- The sizes of the buckets in a bucket as a text: docs/COMMANDS.md, "What is printed".
+-- The sizes of the buckets in a bucket as a text: docs/COMMANDS.md, "buckets".
 use Rattle.std.specs.Prelude.{◌≡◌, ℕ, ◌+◌, ◌++◌, List, [], ◌∷◌, Some, codes, decimal, filter, flat_map, map, if◌then◌else◌}
 use Rattle.std.specs.List.{AllByRecursion}
 use Rattle.json.specs.Json as json

@@ -1,4 +1,4 @@
--- The lines of the states of a file: docs/COMMANDS.md, "States".
+-- The lines of the states of a file: docs/COMMANDS.md, "states".
 use Rattle.std.specs.Prelude.{◌==◌, ℕ, List, [], ◌++◌, Option, None, Some, codes, decimal, flat_map, if◌then◌else◌}
 use Rattle.bolt_check.specs.Keys.{Key}
 use Rattle.bolt_format.specs.{declared.meta.Meta.Meta, declared.meta.Slot.Slot, declared.meta.Slot.TheVariants.One, declared.meta.Slot.TheVariants.Zero}

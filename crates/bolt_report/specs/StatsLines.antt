@@ -1,4 +1,4 @@
--- The figures of buckets as a text: docs/COMMANDS.md, "What is printed".
+-- The figures of buckets as a text: docs/COMMANDS.md, "stats".
 use Rattle.std.specs.Prelude.{ℕ, List, [], ◌∷◌, Some, codes}
 use Rattle.bolt_stats.specs.declared.figures.Stats.{Stats}
 use Rattle.bolt_text.specs.declared.forms.FigureForm.{FigureForm}

@@ -1,4 +1,4 @@
--- The eight figures of a store: docs/COMMANDS.md, "What etcd keeps".
+-- The eight figures of a store: docs/COMMANDS.md, "etcd-status".
 use Rattle.std.specs.Prelude.{ℕ, List, [], ◌∷◌, Some, codes}
 use Rattle.bolt_etcd.specs.declared.status.Status.{Status}
 use Rattle.bolt_report.specs.FigureForms.{Named, figures_text}

@@ -14,7 +14,7 @@ use bolt_text::{Piece, put_pieces};
 /// The number of pages on a line of the map.
 const LINE_PAGES: u64 = 64;
 
-/// Writes a map of all pages of a file by their roles (docs/COMMANDS.md, "What is printed"): a
+/// Writes a map of all pages of a file by their roles (docs/COMMANDS.md, "pages"): a
 /// character for each page that begins in the file below the high-water mark, 64 a line, and the
 /// number of free pages past the end of the file. Needs no memory.
 ///

@@ -9,7 +9,7 @@ use crate::fault_lines::meta_fault_line;
 use bolt_format::{Meta, MetaFault, NO_FREELIST, Sink, SinkFault, Slot};
 use bolt_text::{FigureForm, Piece, put_pieces};
 
-/// Writes the seven figures of a meta and its slot in a form (docs/COMMANDS.md, "What is printed").
+/// Writes the seven figures of a meta and its slot in a form (docs/COMMANDS.md, "info").
 ///
 /// # Errors
 ///

@@ -23,7 +23,7 @@ struct PageWithIds<'a> {
     ids: Option<FreeIds<'a>>,
 }
 
-/// Writes what page `id` of a file shows under a meta (docs/COMMANDS.md, "What is printed").
+/// Writes what page `id` of a file shows under a meta (docs/COMMANDS.md, "page").
 ///
 /// # Errors
 ///

@@ -29,7 +29,7 @@ pub fn pages<S: Sink>(alloc: Global, checked: Checked<'_>, sink: &mut S) -> Resu
     Ok(())
 }
 
-/// Writes the table of all pages of a file by their roles (docs/COMMANDS.md, "What is printed"): a
+/// Writes the table of all pages of a file by their roles (docs/COMMANDS.md, "pages"): a
 /// line for each page that begins in the file below the high-water mark, except the later pages of
 /// a span, and the number of free pages past the end of the file. Needs no memory.
 ///

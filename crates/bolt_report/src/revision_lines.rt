@@ -13,7 +13,7 @@ use bolt_text::{Form, ItemWriter, Piece, ReportFault, put, put_pieces};
 use bolt_tree::Bucket;
 use std::alloc::Global;
 
-/// Writes revisions as lines (docs/COMMANDS.md, "What etcd keeps"): names and values in a form, and
+/// Writes revisions as lines (docs/COMMANDS.md, "etcd-revisions"): names and values in a form, and
 /// values only if they are wanted. Only `Json` needs memory, which is kept from line to line.
 #[derive(Drop)]
 pub struct RevisionWriter {

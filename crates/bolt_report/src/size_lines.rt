@@ -13,7 +13,7 @@ use bolt_tree::Bucket;
 use std::alloc::Global;
 
 /// Writes the sizes of those entries of a bucket that are buckets, a line for each, in byte order
-/// (docs/COMMANDS.md, "What is printed"): the number of keys, the bytes used, the bytes allocated,
+/// (docs/COMMANDS.md, "buckets"): the number of keys, the bytes used, the bytes allocated,
 /// and its name in a form, or all of it as an object if the form is JSON. The figures are those of
 /// the bucket with all buckets in it. Inline buckets count as allocated what they use. A sum above
 /// 2^64 - 1 saturates there.

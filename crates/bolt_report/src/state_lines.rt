@@ -10,7 +10,7 @@ use bolt_format::{Meta, Sink, SinkFault, Slot};
 use bolt_recover::{Figures, Place, State, States, ValidMetas};
 use bolt_text::{Piece, put, put_pieces};
 
-/// Writes the line of each state of a file (docs/COMMANDS.md, "States").
+/// Writes the line of each state of a file (docs/COMMANDS.md, "states").
 ///
 /// # Errors
 ///

@@ -6,7 +6,7 @@ use bolt_format::{Sink, SinkFault};
 use bolt_stats::Stats;
 use bolt_text::{FigureForm, Piece, put_pieces};
 
-/// Writes the thirteen figures in a form (docs/COMMANDS.md, "What is printed").
+/// Writes the thirteen figures in a form (docs/COMMANDS.md, "stats").
 ///
 /// # Errors
 ///

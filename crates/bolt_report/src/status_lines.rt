@@ -8,7 +8,7 @@ use bolt_etcd::Status;
 use bolt_format::{Sink, SinkFault};
 use bolt_text::{FigureForm, Piece, put_pieces};
 
-/// Writes the eight figures of a store in a form (docs/COMMANDS.md, "What etcd-status prints").
+/// Writes the eight figures of a store in a form (docs/COMMANDS.md, "etcd-status").
 ///
 /// # Errors
 ///

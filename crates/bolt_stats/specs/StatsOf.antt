@@ -1,4 +1,4 @@
--- The figures of a bucket with all buckets below it: docs/COMMANDS.md, "What is printed".
+-- The figures of a bucket with all buckets below it: docs/COMMANDS.md, "stats".
 -- They are sums over the set of its ways, stated as the rising list of exactly these.
 use Rattle.std.specs.Prelude.{◌≡◌, ℕ, ◌+◌, List, sum_by, Option, Some, None}
 use Rattle.bolt_format.specs.{Elements.LeafElement, Pages.page_at, declared.meta.Meta.Meta}

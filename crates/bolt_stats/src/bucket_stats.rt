@@ -17,7 +17,7 @@ use bolt_format::{BranchPage, Leaf, LeafPage, TreePage, head, known};
 use bolt_tree::{At, Bucket};
 use std::alloc::{AllocError, Global};
 
-/// The figures of a bucket with all buckets in it (docs/COMMANDS.md, "What is printed").
+/// The figures of a bucket with all buckets in it (docs/COMMANDS.md, "stats").
 ///
 /// # Errors
 ///

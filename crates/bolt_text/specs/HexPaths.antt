@@ -1,4 +1,4 @@
--- Words in hexadecimal, two digits of either case for each byte: docs/COMMANDS.md, "Words".
+-- Words in hexadecimal, two digits of either case for each byte: docs/COMMANDS.md, "Arguments".
 use Rattle.std.specs.Prelude.{◌==◌, ℕ, List, [], ◌∷◌, Option, Some, None, length, option_and_then, option_map, if◌then◌else◌}
 use Rattle.std.specs.{List.slice_split, Result.result_ok}
 use Rattle.hex.specs.Hex.{decode_of}

@@ -1,4 +1,4 @@
--- The text of a listing as JSON: docs/COMMANDS.md, "What is printed".
+-- The text of a listing as JSON: docs/COMMANDS.md, "list".
 -- A line for each member: an object with its path, and then with its value or its sequence.
 use Rattle.std.specs.Prelude.{ℕ, List, [], ◌∷◌, codes, decimal}
 use Rattle.hex.specs.Hex.{encode_lower}

@@ -1,4 +1,4 @@
--- The forms of a listing: docs/COMMANDS.md, "What is printed".
+-- The forms of a listing: docs/COMMANDS.md, "list".
 use Rattle.std.specs.Prelude.{ℕ, List, flat_map}
 use Rattle.bolt_tree.specs.Listing.{Member}
 use Rattle.bolt_text.specs.{Forms.digits_json, Forms.item_json, JsonLines.json_line, ListLines.member_line, declared.forms.ListForm.ListForm}

@@ -1,4 +1,4 @@
--- The text of a listing: docs/COMMANDS.md, "What is printed".
+-- The text of a listing: docs/COMMANDS.md, "list".
 -- A line for each member: its path, and then its value or its sequence.
 use Rattle.std.specs.Prelude.{ℕ, List, ◌++◌, codes, decimal, flat_map, map}
 use Rattle.std.specs.List.{join_with_byte}

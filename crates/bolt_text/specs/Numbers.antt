@@ -1,4 +1,4 @@
--- Numbers in decimal: docs/COMMANDS.md, "Words".
+-- Numbers in decimal: docs/COMMANDS.md, "Arguments".
 use Rattle.std.specs.Prelude.{◌&&◌, ◌-◌, ◌*◌, ◌+◌, ◌^◌, ℕ, Bool, [], ◌∷◌, Option, Some, None, length, nat_lt, if◌then◌else◌}
 use Rattle.std.specs.Str.{all_ascii_digits}
 use Rattle.bolt_text.specs.Lines.{Text}

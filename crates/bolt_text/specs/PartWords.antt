@@ -1,4 +1,4 @@
--- Words that stand for the parts of a path: docs/COMMANDS.md, "Words".
+-- Words that stand for the parts of a path: docs/COMMANDS.md, "Arguments".
 use Rattle.std.specs.Prelude.{Option, Some, codes, drop, take, if◌then◌else◌}
 use Rattle.std.specs.Str.{bytes_eq}
 use Rattle.bolt_check.specs.Keys.{Key}

@@ -43,7 +43,7 @@ impl MemberLines {
     }
 
     /// Writes the line of a member: its path, and then its value or the sequence of its bucket
-    /// (docs/COMMANDS.md, "What is printed"). The form stays.
+    /// (docs/COMMANDS.md, "list"). The form stays.
     ///
     /// # Errors
     ///
