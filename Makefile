@@ -7,7 +7,7 @@ TRY_ETCD = env PYTHONPATH=tools/format:tools/usage python3 -B tools/etcd/try_etc
 PROGRAM = crates/luntsegi/out/luntsegi
 CALLS = crates/test_calls/out/test_calls
 
-.PHONY: build calls help toolchain quick fmt demo set-up peers cases examples programs manual installed failures memory work bbolt bbolt-long etcd huge fuzz fuzz-wrong mutants test times bench install dist deb clean
+.PHONY: build calls help toolchain quick wrong-definitions fmt demo set-up peers cases examples programs manual installed failures memory work bbolt bbolt-long etcd huge fuzz fuzz-wrong mutants test times bench install dist deb clean
 
 # Proves the libraries and the program, and builds it.
 build:
@@ -26,7 +26,7 @@ $(CALLS):
 # Lists the targets, each with what it does.
 help:
 	@awk '/^# / { about = about " " substr($$0, 3); next } \
-		/^[a-z-]+:/ && about { sub(/:$$/, "", $$1); sub(/\. .*/, ".", about); printf "%-13s%s\n", $$1, about } \
+		/^[a-z-]+:/ && about { sub(/:$$/, "", $$1); sub(/\. .*/, ".", about); printf "%-19s%s\n", $$1, about } \
 		{ about = "" }' $(firstword $(MAKEFILE_LIST))
 
 # These run the toolchain's command, as `make test` does. Without it they end with one line that says so.
@@ -38,6 +38,10 @@ toolchain:
 # Tries the program without its proofs, in three minutes after any edit. It says what that doesn't show.
 quick:
 	PYTHONPATH=tests:tools/fuzz:tools/format python3 -B tools/quick/quick.py out/try
+
+# Marks each text that is printed, and tries whether a test case notices it. It isn't part of the gate.
+wrong-definitions: toolchain
+	python3 -B tools/quick/wrong_definitions.py out/marked
 
 # Formats every crate. The gate refuses a file that isn't formatted.
 fmt:

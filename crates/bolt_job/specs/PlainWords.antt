@@ -1,5 +1,5 @@
 -- What the words of a command line ask for: docs/COMMANDS.md, "Arguments".
-use Rattle.std.specs.Prelude.{◌==◌, ◌&&◌, ◌^◌, ℕ, Bool, true, false, List, [], ◌∷◌, Option, Some, None, Result, Ok, Err, Vec, codes, map, option_map, string_bytes, if◌then◌else◌, nat_lt}
+use Rattle.std.specs.Prelude.{◌==◌, ◌&&◌, ◌^◌, ℕ, Bool, true, false, List, [], ◌∷◌, ◌++◌, Option, Some, None, Result, Ok, Err, Vec, codes, map, option_map, string_bytes, if◌then◌else◌, nat_lt}
 use Rattle.std.specs.{List.after_first, List.before_first, List.list_any, Str.bytes_eq}
 use Rattle.bolt_tree.specs.Paths.{Key, Path}
 use Rattle.bolt_format.specs.{Metas.page_sizes, declared.meta.Slot.Slot, declared.meta.Slot.TheVariants.One, declared.meta.Slot.TheVariants.Zero}
@@ -279,78 +279,78 @@ abbrev asks_at : Values → (AskedMeta → Form → Path → Result Asked Text) 
 asks_at values wanted = meta_by values >>= λ meta. form_by (given values (codes "form")) >>= λ form. path_by values >>= λ path. wanted meta form path
 
 -- of several words that can't be read the first one that is read here is wrong
-abbrev pub asks_info : Values → Result Asked Text
+unfoldable pub asks_info : Values → Result Asked Text
 asks_info values =
     slot_by (given values (codes "meta")) >>= λ slot. figure_form_by (given values (codes "form")) >>= λ form. file_by values >>= λ file. Ok (info file slot form)
 
-abbrev pub asks_page : Values → Result Asked Text
+unfoldable pub asks_page : Values → Result Asked Text
 asks_page values = meta_by values >>= λ meta. id_by values >>= λ id. file_by values >>= λ file. Ok (page file meta id)
 
-abbrev pub asks_pages : Values → Result Asked Text
+unfoldable pub asks_pages : Values → Result Asked Text
 asks_pages values = file_by values >>= λ file. Ok (pages file (is_given (given values (codes "map"))))
 
-abbrev pub asks_check : Values → Result Asked Text
+unfoldable pub asks_check : Values → Result Asked Text
 asks_check values =
     meta_by values >>= λ meta. file_by values >>= λ file.
     Ok (check file meta (extent_in (codes "all") values) (is_given (given values (codes "etcd-snapshot"))) (is_given (given values (codes "for-bbolt"))))
 
-abbrev pub asks_states : Values → Result Asked Text
+unfoldable pub asks_states : Values → Result Asked Text
 asks_states values = page_size_by (given values (codes "page-size")) >>= λ size. file_by values >>= λ file. Ok (states file size)
 
-abbrev pub asks_buckets : Values → Result Asked Text
+unfoldable pub asks_buckets : Values → Result Asked Text
 asks_buckets values =
     meta_by values >>= λ meta. form_by (given values (codes "form")) >>= λ form. shown_by (is_given (given values (codes "sizes"))) (recover_in values) >>= λ shown.
     path_by values >>= λ path. file_by values >>= λ file. Ok (buckets file meta path form shown)
 
-abbrev pub asks_keys : Values → Result Asked Text
+unfoldable pub asks_keys : Values → Result Asked Text
 asks_keys values = asks_at values (λ meta form path. prefix_by values >>= λ prefix. file_by values >>= λ file. Ok (keys file meta path prefix form (recover_in values)))
 
-abbrev pub asks_get : Values → Result Asked Text
+unfoldable pub asks_get : Values → Result Asked Text
 asks_get values = asks_at values (λ meta form path. file_by values >>= λ file. Ok (get file meta path form (is_given (given values (codes "no-newline"))) (recover_in values)))
 
-abbrev pub asks_stats : Values → Result Asked Text
+unfoldable pub asks_stats : Values → Result Asked Text
 asks_stats values =
     meta_by values >>= λ meta. figure_form_by (given values (codes "form")) >>= λ form. path_by values >>= λ path. file_by values >>= λ file. Ok (stats file meta form path)
 
-abbrev pub asks_list : Values → Result Asked Text
+unfoldable pub asks_list : Values → Result Asked Text
 asks_list values =
     meta_by values >>= λ meta. list_form_by (given values (codes "form")) >>= λ form. path_by values >>= λ path. hex_path_by (given values (codes "from")) >>= λ from.
     file_by values >>= λ file. Ok (list file meta form path from (extent_in (codes "recover") values))
 
-abbrev pub asks_compact : Values → Result Asked Text
+unfoldable pub asks_compact : Values → Result Asked Text
 asks_compact values =
     meta_by values >>= λ meta. page_size_by (given values (codes "page-size")) >>= λ size. text_by (codes "output") values >>= λ target. file_by values >>= λ file.
     Ok (compact file meta target size (kind_in values) (extent_in (codes "recover") values))
 
-abbrev pub asks_load : Values → Result Asked Text
+unfoldable pub asks_load : Values → Result Asked Text
 asks_load values =
     sequence_by (given values (codes "sequence")) >>= λ sequence. load_size_by (given values (codes "page-size")) >>= λ size. text_by (codes "output") values >>= λ target.
     file_by values >>= λ file. Ok (load file target sequence size (kind_in values))
 
-abbrev pub asks_etcd_revisions : Values → Result Asked Text
+unfoldable pub asks_etcd_revisions : Values → Result Asked Text
 asks_etcd_revisions values =
     meta_by values >>= λ meta. form_by (given values (codes "form")) >>= λ form. prefix_by values >>= λ prefix. revision_asked (given values (codes "from")) >>= λ from.
     file_by values >>= λ file. Ok (etcd_revisions file meta prefix from form (is_given (given values (codes "values"))))
 
-abbrev pub asks_etcd_keys : Values → Result Asked Text
+unfoldable pub asks_etcd_keys : Values → Result Asked Text
 asks_etcd_keys values =
     meta_by values >>= λ meta. form_by (given values (codes "form")) >>= λ form. prefix_by values >>= λ prefix. revision_asked (given values (codes "at")) >>= λ revision.
     file_by values >>= λ file. Ok (etcd_keys file meta prefix revision form (is_given (given values (codes "values"))))
 
-abbrev pub asks_etcd_get : Values → Result Asked Text
+unfoldable pub asks_etcd_get : Values → Result Asked Text
 asks_etcd_get values =
     meta_by values >>= λ meta. form_by (given values (codes "form")) >>= λ form. name_by values >>= λ name. revision_asked (given values (codes "at")) >>= λ revision.
     file_by values >>= λ file. Ok (etcd_get file meta name revision form (is_given (given values (codes "no-newline"))))
 
-abbrev pub asks_etcd_check : Values → Result Asked Text
+unfoldable pub asks_etcd_check : Values → Result Asked Text
 asks_etcd_check values = meta_by values >>= λ meta. file_by values >>= λ file. Ok (etcd_check file meta)
 
-abbrev pub asks_etcd_status : Values → Result Asked Text
+unfoldable pub asks_etcd_status : Values → Result Asked Text
 asks_etcd_status values =
     meta_by values >>= λ meta. figure_form_by (given values (codes "form")) >>= λ form. revision_asked (given values (codes "at")) >>= λ revision. file_by values >>= λ file.
     Ok (etcd_status file meta revision form)
 
-abbrev pub asks_etcd_repair : Values → Result Asked Text
+unfoldable pub asks_etcd_repair : Values → Result Asked Text
 asks_etcd_repair values =
     meta_by values >>= λ meta. page_size_by (given values (codes "page-size")) >>= λ size. text_by (codes "output") values >>= λ target. file_by values >>= λ file.
     Ok (etcd_repair file meta target size (is_given (given values (codes "etcd-snapshot"))))
@@ -367,28 +367,50 @@ pub record Command : Type 0 where
 abbrev command : Text → List Rule → (Values → Result Asked Text) → Command
 command name others asks = record { name = name; rules = needed (operand (codes "FILE")) ∷ others; asks = asks }
 
--- `-n` (110) is also written by its name
-abbrev pub commands : List Command
-commands =
+-- the commands that print pages and what is wrong with a file
+abbrev page_commands : List Command
+page_commands =
     command (codes "info") (option (codes "form") ∷ option (codes "meta") ∷ []) asks_info
     ∷ command (codes "page") (needed (operand (codes "ID")) ∷ option (codes "assume-meta") ∷ []) asks_page
     ∷ command (codes "pages") (switch (codes "map") ∷ []) asks_pages
     ∷ command (codes "check") (switch (codes "all") ∷ switch (codes "lost-and-found") ∷ switch (codes "for-bbolt") ∷ switch (codes "etcd-snapshot") ∷ metas) asks_check
     ∷ command (codes "states") (option (codes "page-size") ∷ []) asks_states
-    ∷ command (codes "buckets") (parts ∷ switch (codes "sizes") ∷ option (codes "form") ∷ option (codes "parts") ∷ switch (codes "recover") ∷ metas) asks_buckets
+    ∷ []
+
+-- those that print what is in a bucket; `-n` (110) is also written by its name
+abbrev bucket_commands : List Command
+bucket_commands =
+    command (codes "buckets") (parts ∷ switch (codes "sizes") ∷ option (codes "form") ∷ option (codes "parts") ∷ switch (codes "recover") ∷ metas) asks_buckets
     ∷ command (codes "keys") (needed parts ∷ option (codes "prefix") ∷ option (codes "form") ∷ option (codes "parts") ∷ switch (codes "recover") ∷ metas) asks_keys
     ∷ command (codes "get") (needed parts ∷ by_letter 110 (switch (codes "no-newline")) ∷ option (codes "form") ∷ option (codes "parts") ∷ switch (codes "recover") ∷ metas) asks_get
     ∷ command (codes "stats") (parts ∷ option (codes "form") ∷ option (codes "parts") ∷ metas) asks_stats
     ∷ command (codes "list") (parts ∷ option (codes "from") ∷ option (codes "form") ∷ option (codes "parts") ∷ switch (codes "recover") ∷ switch (codes "lost-and-found") ∷ metas) asks_list
-    ∷ command (codes "compact") (output ∷ option (codes "page-size") ∷ switch (codes "for-bbolt") ∷ switch (codes "etcd-snapshot") ∷ switch (codes "recover") ∷ switch (codes "lost-and-found") ∷ metas) asks_compact
+    ∷ []
+
+-- those that write a file
+abbrev writing_commands : List Command
+writing_commands =
+    command (codes "compact") (output ∷ option (codes "page-size") ∷ switch (codes "for-bbolt") ∷ switch (codes "etcd-snapshot") ∷ switch (codes "recover") ∷ switch (codes "lost-and-found") ∷ metas) asks_compact
     ∷ command (codes "load") (output ∷ option (codes "page-size") ∷ switch (codes "for-bbolt") ∷ switch (codes "etcd-snapshot") ∷ option (codes "sequence") ∷ []) asks_load
-    ∷ command (codes "etcd-revisions") (option (codes "from") ∷ option (codes "prefix") ∷ switch (codes "values") ∷ option (codes "parts") ∷ option (codes "form") ∷ metas) asks_etcd_revisions
+    ∷ []
+
+-- those for etcd's file
+abbrev pub etcd_commands : List Command
+etcd_commands =
+    command (codes "etcd-revisions") (option (codes "from") ∷ option (codes "prefix") ∷ switch (codes "values") ∷ option (codes "parts") ∷ option (codes "form") ∷ metas) asks_etcd_revisions
     ∷ command (codes "etcd-keys") (option (codes "at") ∷ option (codes "prefix") ∷ switch (codes "values") ∷ option (codes "parts") ∷ option (codes "form") ∷ metas) asks_etcd_keys
     ∷ command (codes "etcd-get") (needed (operand (codes "NAME")) ∷ option (codes "at") ∷ by_letter 110 (switch (codes "no-newline")) ∷ option (codes "parts") ∷ option (codes "form") ∷ metas) asks_etcd_get
     ∷ command (codes "etcd-check") metas asks_etcd_check
     ∷ command (codes "etcd-status") (option (codes "at") ∷ option (codes "form") ∷ metas) asks_etcd_status
     ∷ command (codes "etcd-repair") (output ∷ option (codes "page-size") ∷ switch (codes "etcd-snapshot") ∷ metas) asks_etcd_repair
     ∷ []
+
+-- all but the commands of pages, and all
+abbrev pub later_commands : List Command
+later_commands = bucket_commands ++ writing_commands ++ etcd_commands
+
+abbrev pub commands : List Command
+commands = page_commands ++ later_commands
 
 abbrev pub lines : List (Text × List Rule)
 lines = map (λ (c : Command). (c.name, c.rules)) commands

@@ -134,6 +134,7 @@ pub(crate) static BUCKETS: Syntax = Syntax {
         Example: luntsegi buckets --sizes my.db",
 };
 
+#[tactic(auto, unfolding(crate::specs::PlainWords::asks_buckets))]
 pub(crate) fn read_buckets(line: &Line<'_, '_>) -> Result<BucketsJob, Refusal>
     ensures { ReadsAs buckets_of (asks_buckets (values_of line.now)) result }
 {
@@ -175,6 +176,7 @@ pub(crate) static KEYS: Syntax = Syntax {
         Example: luntsegi keys my.db users",
 };
 
+#[tactic(auto, unfolding(crate::specs::PlainWords::asks_keys))]
 pub(crate) fn read_keys(line: &Line<'_, '_>) -> Result<KeysJob, Refusal>
     ensures { ReadsAs keys_asked (asks_keys (values_of line.now)) result }
 {
@@ -218,6 +220,7 @@ pub(crate) static GET: Syntax = Syntax {
         Example: luntsegi get my.db users alice",
 };
 
+#[tactic(auto, unfolding(crate::specs::PlainWords::asks_get))]
 pub(crate) fn read_get(line: &Line<'_, '_>) -> Result<GetJob, Refusal>
     ensures { ReadsAs get_of (asks_get (values_of line.now)) result }
 {
@@ -249,6 +252,7 @@ pub(crate) static STATS: Syntax = Syntax {
         Example: luntsegi stats my.db users",
 };
 
+#[tactic(auto, unfolding(crate::specs::PlainWords::asks_stats))]
 pub(crate) fn read_stats(line: &Line<'_, '_>) -> Result<StatsJob, Refusal>
     ensures { ReadsAs stats_of (asks_stats (values_of line.now)) result }
 {
@@ -290,6 +294,7 @@ pub(crate) static LIST: Syntax = Syntax {
         Example: luntsegi list --form json my.db",
 };
 
+#[tactic(auto, unfolding(crate::specs::PlainWords::asks_list))]
 pub(crate) fn read_list(line: &Line<'_, '_>) -> Result<ListJob, Refusal>
     ensures { ReadsAs list_of (asks_list (values_of line.now)) result }
 {

@@ -115,6 +115,7 @@ pub(crate) static ETCD_REVISIONS: Syntax = Syntax {
         Example: luntsegi etcd-revisions --prefix /registry/pods/ member/snap/db",
 };
 
+#[tactic(auto, unfolding(crate::specs::PlainWords::asks_etcd_revisions))]
 pub(crate) fn read_etcd_revisions(line: &Line<'_, '_>) -> Result<EtcdRevisionsJob, Refusal>
     ensures { ReadsAs etcd_revisions_of (asks_etcd_revisions (values_of line.now)) result }
 {
@@ -158,6 +159,7 @@ pub(crate) static ETCD_KEYS: Syntax = Syntax {
         Example: luntsegi etcd-keys --at 1000 member/snap/db",
 };
 
+#[tactic(auto, unfolding(crate::specs::PlainWords::asks_etcd_keys))]
 pub(crate) fn read_etcd_keys(line: &Line<'_, '_>) -> Result<EtcdKeysJob, Refusal>
     ensures { ReadsAs etcd_keys_of (asks_etcd_keys (values_of line.now)) result }
 {
@@ -202,6 +204,7 @@ pub(crate) static ETCD_GET: Syntax = Syntax {
         Example: luntsegi etcd-get member/snap/db /registry/pods/default/web",
 };
 
+#[tactic(auto, unfolding(crate::specs::PlainWords::asks_etcd_get))]
 pub(crate) fn read_etcd_get(line: &Line<'_, '_>) -> Result<EtcdGetJob, Refusal>
     ensures { ReadsAs etcd_get_of (asks_etcd_get (values_of line.now)) result }
 {
@@ -230,6 +233,7 @@ pub(crate) static ETCD_CHECK: Syntax = Syntax {
         Example: luntsegi etcd-check member/snap/db",
 };
 
+#[tactic(auto, unfolding(crate::specs::PlainWords::asks_etcd_check))]
 pub(crate) fn read_etcd_check(line: &Line<'_, '_>) -> Result<EtcdCheckJob, Refusal>
     ensures { ReadsAs etcd_check_of (asks_etcd_check (values_of line.now)) result }
 {
@@ -257,6 +261,7 @@ pub(crate) static ETCD_STATUS: Syntax = Syntax {
         Example: luntsegi etcd-status --at 1000 member/snap/db",
 };
 
+#[tactic(auto, unfolding(crate::specs::PlainWords::asks_etcd_status))]
 pub(crate) fn read_etcd_status(line: &Line<'_, '_>) -> Result<EtcdStatusJob, Refusal>
     ensures { ReadsAs etcd_status_of (asks_etcd_status (values_of line.now)) result }
 {
@@ -296,6 +301,7 @@ pub(crate) static ETCD_REPAIR: Syntax = Syntax {
         Example: luntsegi etcd-repair --etcd-snapshot -o repaired.db damaged.db",
 };
 
+#[tactic(auto, unfolding(crate::specs::PlainWords::asks_etcd_repair))]
 pub(crate) fn read_etcd_repair(line: &Line<'_, '_>) -> Result<EtcdRepairJob, Refusal>
     ensures { ReadsAs etcd_repair_of (asks_etcd_repair (values_of line.now)) result }
 {

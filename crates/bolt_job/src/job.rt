@@ -2,7 +2,7 @@
 //! command line ask for.
 ghost use Rattle.std.specs.Prelude.{◌≡◌, map};
 ghost use Rattle.bolt_job.specs.CommandLine.{ReadsAs};
-ghost use Rattle.bolt_job.specs.{Jobs.asked_of, PlainWords.asked, PlainWords.lines};
+ghost use Rattle.bolt_job.specs.{Jobs.asked_of, PlainWords.asked, PlainWords.asked_among, PlainWords.etcd_commands, PlainWords.later_commands, PlainWords.lines};
 ghost use Rattle.bolt_job.specs.Private.CommandLines.{values_of};
 ghost use Rattle.bolt_job.specs.Syntaxes.{line_of};
 
@@ -136,6 +136,15 @@ pub(crate) fn read_command(name: &str, line: &Line<'_, '_>) -> Result<Job, Refus
         "pages" => Ok(Job::Pages(read_pages(line)?)),
         "check" => Ok(Job::Check(read_check(line)?)),
         "states" => Ok(Job::States(read_states(line)?)),
+        _ => read_later_command(name, line),
+    }
+}
+
+/// The job of a command that prints no pages.
+fn read_later_command(name: &str, line: &Line<'_, '_>) -> Result<Job, Refusal>
+    ensures { ReadsAs asked_of (asked_among later_commands name.now (values_of line.now)) result }
+{
+    match name {
         "buckets" => Ok(Job::Buckets(read_buckets(line)?)),
         "keys" => Ok(Job::Keys(read_keys(line)?)),
         "get" => Ok(Job::Get(read_get(line)?)),
@@ -143,6 +152,15 @@ pub(crate) fn read_command(name: &str, line: &Line<'_, '_>) -> Result<Job, Refus
         "list" => Ok(Job::List(read_list(line)?)),
         "compact" => Ok(Job::Compact(read_compact(line)?)),
         "load" => Ok(Job::Load(read_load(line)?)),
+        _ => read_etcd_command(name, line),
+    }
+}
+
+/// The job of a command for etcd's file.
+fn read_etcd_command(name: &str, line: &Line<'_, '_>) -> Result<Job, Refusal>
+    ensures { ReadsAs asked_of (asked_among etcd_commands name.now (values_of line.now)) result }
+{
+    match name {
         "etcd-revisions" => Ok(Job::EtcdRevisions(read_etcd_revisions(line)?)),
         "etcd-keys" => Ok(Job::EtcdKeys(read_etcd_keys(line)?)),
         "etcd-get" => Ok(Job::EtcdGet(read_etcd_get(line)?)),

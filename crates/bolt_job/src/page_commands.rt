@@ -123,6 +123,7 @@ pub(crate) static INFO: Syntax = Syntax {
         Example: luntsegi info my.db",
 };
 
+#[tactic(auto, unfolding(crate::specs::PlainWords::asks_info))]
 pub(crate) fn read_info(line: &Line<'_, '_>) -> Result<InfoJob, Refusal>
     ensures { ReadsAs info_of (asks_info (values_of line.now)) result }
 {
@@ -149,6 +150,7 @@ pub(crate) static PAGE: Syntax = Syntax {
         Example: luntsegi page my.db 3",
 };
 
+#[tactic(auto, unfolding(crate::specs::PlainWords::asks_page))]
 pub(crate) fn read_page_job(line: &Line<'_, '_>) -> Result<PageJob, Refusal>
     ensures { ReadsAs page_of (asks_page (values_of line.now)) result }
 {
@@ -175,6 +177,7 @@ pub(crate) static PAGES: Syntax = Syntax {
         Example: luntsegi pages --map my.db",
 };
 
+#[tactic(auto, unfolding(crate::specs::PlainWords::asks_pages))]
 pub(crate) fn read_pages(line: &Line<'_, '_>) -> Result<PagesJob, Refusal>
     ensures { ReadsAs pages_asked (asks_pages (values_of line.now)) result }
 {
@@ -212,6 +215,7 @@ pub(crate) static CHECK: Syntax = Syntax {
         Example: luntsegi check --all my.db",
 };
 
+#[tactic(auto, unfolding(crate::specs::PlainWords::asks_check))]
 pub(crate) fn read_check(line: &Line<'_, '_>) -> Result<CheckJob, Refusal>
     ensures { ReadsAs check_of (asks_check (values_of line.now)) result }
 {
@@ -240,6 +244,7 @@ pub(crate) static STATES: Syntax = Syntax {
         Example: luntsegi states damaged.db",
 };
 
+#[tactic(auto, unfolding(crate::specs::PlainWords::asks_states))]
 pub(crate) fn read_states(line: &Line<'_, '_>) -> Result<StatesJob, Refusal>
     ensures { ReadsAs states_of (asks_states (values_of line.now)) result }
 {

@@ -101,6 +101,7 @@ pub(crate) static COMPACT: Syntax = Syntax {
         Example: luntsegi compact --for-bbolt -o new.db my.db",
 };
 
+#[tactic(auto, unfolding(crate::specs::PlainWords::asks_compact))]
 pub(crate) fn read_compact(line: &Line<'_, '_>) -> Result<CompactJob, Refusal>
     ensures { ReadsAs compact_of (asks_compact (values_of line.now)) result }
 {
@@ -145,6 +146,7 @@ pub(crate) static LOAD: Syntax = Syntax {
         Example: luntsegi load --for-bbolt -o new.db my.list",
 };
 
+#[tactic(auto, unfolding(crate::specs::PlainWords::asks_load))]
 pub(crate) fn read_load(line: &Line<'_, '_>) -> Result<LoadJob, Refusal>
     ensures { ReadsAs load_of (asks_load (values_of line.now)) result }
 {
