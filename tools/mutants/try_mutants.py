@@ -1,7 +1,7 @@
 #!/usr/bin/env python3
 """Tests that the prover refuses the mutants of the crates: crates/CRATE/mutants/NAME.edit.
 
-    try_mutants.py [--over-gate] [CRATE..]
+    try_mutants.py [--over-gate | --each] [CRATE..]
 
 It tries those of all crates, or of the crates that are named. `mutant.py` says what is in a file. Mutants of one crate that
 change different functions are tried by one check: each function is proved from the contracts of those that it calls, so a
@@ -10,9 +10,11 @@ refused so are tried again without the others, at last alone. It fails unless ea
 that it took away, and each NAME.twin, which means the same, is proved.
 
 The libraries below a crate are those that `rt lib` makes; with --over-gate those that `rt ci` made just before, as far as
-it left them, and mutants that take long are left out. JOBS says how many crates are tried side by side."""
+it left them, and mutants that take long are left out. With --each it tries each mutant from nothing, one at a time, and prints
+the processor seconds that this took. JOBS says how many crates are tried side by side."""
 
 import os
+import resource
 import subprocess
 import sys
 import tempfile
@@ -62,10 +64,26 @@ def try_together(toolchain, crate, mutants, seed):
     return results
 
 
+def processor_seconds():
+    used = resource.getrusage(resource.RUSAGE_CHILDREN)
+    return used.ru_utime + used.ru_stime
+
+
+def try_each(toolchain, crate, mutants):
+    """The same with the processor seconds of each mutant, tried from nothing."""
+    results = []
+    for mutant in mutants:
+        begin = processor_seconds()
+        with tempfile.TemporaryDirectory(prefix="mutants-seed-") as seed:
+            found = try_together(toolchain, crate, [mutant], seed)
+        results += [(is_well, f"{processor_seconds() - begin:6.1f} s {line}") for is_well, line in found]
+    return results
+
+
 def main(words):
     toolchain = Toolchain.find(TOP)
-    over_gate = "--over-gate" in words
-    crates = [it for it in words if it != "--over-gate"] or [*toolchain.below]
+    over_gate, each = "--over-gate" in words, "--each" in words
+    crates = [it for it in words if it not in ("--over-gate", "--each")] or [*toolchain.below]
     unknown = [it for it in crates if it not in toolchain.below]
     if unknown:
         sys.exit(f"mutants: {unknown[0]} is no crate")
@@ -76,9 +94,9 @@ def main(words):
     crates = [it for it in crates if mutants[it]]
     build_libraries(toolchain, crates, over_gate)
     crates.sort(key=lambda it: -len(mutants[it]))
-    with ThreadPoolExecutor(int(os.environ.get("JOBS") or 1)) as lanes:
+    with ThreadPoolExecutor(1 if each else int(os.environ.get("JOBS") or 1)) as lanes:
         results = []
-        for found in lanes.map(lambda it: try_crate(toolchain, it, mutants[it]), crates):
+        for found in lanes.map(lambda it: (try_each if each else try_crate)(toolchain, it, mutants[it]), crates):
             print("\n".join(line[:240] for _, line in found), flush=True)
             results += found
     passed = sum(is_well for is_well, _ in results)

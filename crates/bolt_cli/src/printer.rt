@@ -1,6 +1,6 @@
 //! Standard output, which notes when its reader has left.
 ghost use Rattle.std.specs.Prelude.{◌≡◌, ◌||◌, false};
-ghost use Rattle.std.specs.Io.KnownBytes.{WriteAppends};
+ghost use Rattle.std.specs.Io.KnownBytes.{Keeps, WriteAppends};
 ghost use Rattle.std.specs.Io.{WritesAtMost};
 ghost use Rattle.bolt_cli.specs.SystemFaults.{finds_no_reader, output_fault};
 
@@ -56,7 +56,10 @@ impl<W: Write + Drop> Write for Printer<W> {
         written
     }
 
-    fn flush(&mut self) -> io::Result<()> {
+    fn flush(&mut self) -> io::Result<()>
+        ensures bytes { Keeps (W.contents self.old.writer) (W.contents self.new.writer) }
+        ensures reader { self.new.reader_left ≡ self.old.reader_left }
+    {
         self.writer.flush()
     }
 }
