@@ -9,7 +9,9 @@ it has the server compact its store, and writes more. These files are compared w
 - a snapshot that etcdctl saves of the running server;
 - the file of the stopped server, after more writes, and again after a restart;
 - the file of a second server, which starts from the copy of that file that `compact --for-bbolt --etcd-snapshot` makes.
-  It must first report of the copy what the first server did. Then it has more writes and another compaction.
+  It must first report of the copy what the first server did. Then it has more writes and another compaction;
+- the file of a third server, which starts from that copy with revisions that go on a million ahead (`--bump-revision` of
+  etcdutl, if it has that), after more writes.
 
 Of each file
 
@@ -41,6 +43,7 @@ import signal
 import sys
 
 from answers import ask
+from bumped import compare_bumped
 from compare import Comparisons, Difference
 from repairs import Repairs
 from server import EtcdFault, Server, restore_snapshot
@@ -121,6 +124,7 @@ def try_all(words):
     server, last = try_member(writer, comparisons, words.keys)
     try_repairs(writer, comparisons, words.keys, server.file, last)
     revisions = try_copy(writer, comparisons, words.keys, server.file, last)
+    compare_bumped(writer, comparisons, FOLDER, server.file, words.keys, REVISIONS_ASKED)
     runs = try_guide(comparisons, in_folder("guide"))
     counts = f"{comparisons.files} files, {comparisons.count} comparisons, {runs} runs of the guide's lines"
     return f"etcd: {server.version}, {revisions} revisions, {counts}"
