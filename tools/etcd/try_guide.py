@@ -11,6 +11,7 @@ from compare import Difference
 from damage import Store
 from guide import BY_ETCD, ENABLE, HASHES, REQUESTS, Room, WrongLine, add_programs, plain_blocks, refuse_unknown
 from members import Members
+from messages import Messages
 from repairs import read_file, write_file
 from server import HOST, NO_LOGIN, EtcdFault, Server
 
@@ -118,6 +119,7 @@ class Guide:
             raise Difference("etcd's log: the early state isn't older than two .snap files")
         self.start_anew()
         self.start_cluster(store)
+        self.count += Messages(self, early).try_all()
         return self.count
 
     def make_files(self):
