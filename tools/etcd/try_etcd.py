@@ -44,6 +44,7 @@ import sys
 
 from answers import ask
 from compare import Comparisons, Difference
+from prefixes import compare_prefixes
 from repairs import Repairs
 from server import EtcdFault, Server, restore_snapshot
 from try_guide import try_guide
@@ -121,6 +122,7 @@ def try_all(words):
     comparisons = Comparisons(words.program, random.Random(words.seed))
     writer = Writer(random.Random(words.seed), words.keys)
     server, last = try_member(writer, comparisons, words.keys)
+    compare_prefixes(comparisons, server.file)
     try_repairs(writer, comparisons, words.keys, server.file, last)
     revisions = try_copy(writer, comparisons, words.keys, server.file, last)
     runs = try_guide(comparisons, in_folder("guide"))
