@@ -16,7 +16,7 @@ Each file in which `check --for-bbolt` finds nothing, bbolt empties key by key, 
 nothing in what bbolt wrote. In N random sound files (--random) it finds nothing either: bbolt drains each in four orders,
 fills it, compacts it and backs it up, and its own check and the content are compared after each step, and when the file
 is opened again. For each of the ten things that are found there is a small file that makes bbolt fail, of this or another
-version.
+version, and for each message of bbolt that docs/GUIDE.md explains one of which this version prints it, if it has it.
 """
 
 import argparse
@@ -26,6 +26,7 @@ import shutil
 import subprocess
 import sys
 
+from messages import try_messages
 from random_files import try_failing, try_random
 
 KINDS = ["wide", "nested", "inline", "long", "churn"]
@@ -230,6 +231,7 @@ def main():
         compare_file(programs, file, words.folder)
     count = compare_panics(programs, made[KINDS.index("long")], words.folder)
     failing = try_failing(programs, words.folder, words.version)
+    messages = try_messages(words.bbolt, words.folder, words.version)
     drawn = try_random(programs, words.folder, words.random, words.seed)
     for file in made:
         change_file(programs, programs.copy_for_bbolt(file, file + ".copy"), words.rounds)
@@ -240,7 +242,7 @@ def main():
           f"bbolt and what is loaded of them after each of {words.rounds} rounds of {STEPS} transactions; {count} of {RUNS} runs on a "
           f"branch of one child panic, and none on the copy for bbolt; it fails on {failing} small files that "
           f"check --for-bbolt finds, and bears {words.random} random ones of {drawn} in which it finds nothing; every key deleted "
-          f"from {emptied} copies of the guide")
+          f"from {emptied} copies of the guide; {messages} messages that the guide explains are printed")
 
 
 if __name__ == "__main__":

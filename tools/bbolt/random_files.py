@@ -112,9 +112,14 @@ def try_random(programs, folder, count, seed):
     return drawn
 
 
+def is_since(version):
+    """Whether a version is of that release or a later one."""
+    return tuple(map(int, version.split(".")[:2])) >= RELEASE
+
+
 def borne_by(version):
     """The small files that bbolt of this version bears."""
-    return BORNE_SINCE if tuple(map(int, version.split(".")[:2])) >= RELEASE else BORNE_BEFORE
+    return BORNE_SINCE if is_since(version) else BORNE_BEFORE
 
 
 def try_failing(programs, folder, version):

@@ -10,7 +10,7 @@ from server import Server, restore_snapshot
 
 # At how many revisions the keys are compared.
 REVISIONS_ASKED = 5
-# The last of the guide's lines there adds the bucket `meta`, without which etcd 3.5 restores nothing.
+# The last but one of the guide's blocks there adds the bucket `meta`, without which etcd 3.5 restores nothing.
 ADDED_META = "etcd after a recovery"
 
 
@@ -76,8 +76,8 @@ class Repairs:
         if b"meta" in self.comparisons.run("buckets", repaired).out.splitlines():
             return repaired
         added = os.path.abspath(repaired) + ".meta"
-        words = {"new.snapshot": os.path.abspath(repaired), "with_meta.snapshot": added}
-        Room(self.folder, self.programs, words).run(plain_blocks()[ADDED_META][-1], {})
+        words = {"RESCUE/new.snapshot": os.path.abspath(repaired), "RESCUE/with_meta.snapshot": added}
+        Room(self.folder, self.programs, words).run(plain_blocks()[ADDED_META][-2], {})
         return added
 
     def serve(self, damage, folder, steps):

@@ -180,9 +180,13 @@ class Server:
             self.process.wait(END_SECONDS)
         self.process = None
 
+    def wait_until_stored(self):
+        """Waits until the server has stored what it was sent."""
+        time.sleep(STORE_SECONDS)
+
     def kill(self):
         """Kills the server when it has stored what it was sent."""
-        time.sleep(STORE_SECONDS)
+        self.wait_until_stored()
         self.process.kill()
         self.process.wait(END_SECONDS)
 

@@ -28,7 +28,9 @@ another compaction. If all leaves are found, it reports what the first server di
 leaves that are left.
 
 The lines of docs/GUIDE.md for etcd are run on files of another server: after the recipe of etcd's log a server has the
-keys that it had before, and the new cluster those of the repaired copy. Nobody reads them without logging in.
+keys that it had before, and the new cluster those of the repaired copy. Nobody reads them without logging in. Three
+members that are restored from the snapshot of the new cluster have one hash, that of the snapshot. etcd prints each of
+its messages that the guide explains.
 
 The same seed makes the same writes. At a difference both sides are shown, the status is 1, and the files stay in
 out/etcd. The run ends after `--seconds`, and the servers end with it, whatever happens. Without etcd or etcdctl nothing
@@ -45,6 +47,7 @@ import sys
 from answers import ask
 from bumped import compare_bumped
 from compare import Comparisons, Difference
+from prefixes import compare_prefixes
 from repairs import Repairs
 from server import EtcdFault, Server, restore_snapshot
 from try_guide import try_guide
@@ -122,6 +125,7 @@ def try_all(words):
     comparisons = Comparisons(words.program, random.Random(words.seed))
     writer = Writer(random.Random(words.seed), words.keys)
     server, last = try_member(writer, comparisons, words.keys)
+    compare_prefixes(comparisons, server.file)
     try_repairs(writer, comparisons, words.keys, server.file, last)
     revisions = try_copy(writer, comparisons, words.keys, server.file, last)
     compare_bumped(writer, comparisons, FOLDER, server.file, words.keys, REVISIONS_ASKED)

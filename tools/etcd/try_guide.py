@@ -1,4 +1,5 @@
-"""Runs the lines of docs/GUIDE.md for an etcd server: the recipe of the log, and the new cluster of a repaired copy."""
+"""Runs the lines of docs/GUIDE.md for an etcd server: the recipe of the log, and the new cluster of a repaired copy, first
+of one member and then of three."""
 
 import os
 import re
@@ -8,7 +9,9 @@ import shutil
 from answers import base64_text, keys_at
 from compare import Difference
 from damage import Store
-from guide import BY_ETCD, SPANS_BY_ETCD, Room, WrongLine, add_programs, plain_blocks, refuse_unknown
+from guide import BY_ETCD, ENABLE, HASHES, REQUESTS, Room, WrongLine, add_programs, plain_blocks, refuse_unknown
+from members import Members
+from messages import Messages
 from repairs import read_file, write_file
 from server import HOST, NO_LOGIN, EtcdFault, Server
 
@@ -20,15 +23,20 @@ ENTRIES = 50
 NAME, PASSWORD = "root", "secret"
 FILE = "member/snap/db"
 OK = "0 OK\n$"
-# The first is run once the user is there, the others by the user of the new cluster.
-ENABLE, *REQUESTS = SPANS_BY_ETCD
+# The data folder that the guide names.
+DATA = "/var/lib/etcd"
 # The status and the text that are wanted of lines. Pages that etcd has freed may have the revisions that were lost.
 WANTED = {
-    "luntsegi etcd-repair --etcd-snapshot -o new.snapshot FILE": "1 page .*; lost: bucket 6b6579 \\(key\\), .* put back, ",
-    "luntsegi etcd-check new.snapshot": r"0 OK\n$|1 .* errors found\n$",
-    "luntsegi check --for-bbolt --etcd-snapshot new.snapshot": OK,
-    "luntsegi get --recover FILE auth authEnabled": r"1 01\nerror: pages lost: 1\n$",
-    "luntsegi get --meta 1 FILE meta consistent_index": r"0 [0-9a-f]{16}\n$",
+    "luntsegi etcd-repair --etcd-snapshot --assume-meta STATE -o RESCUE/new.snapshot FILE > RESCUE/lost; tail RESCUE/lost": (
+        "0 page .*; lost: bucket 6b6579 \\(key\\), .* put back, "
+    ),
+    "luntsegi etcd-check RESCUE/new.snapshot > RESCUE/records; grep '[0-9]: missing' RESCUE/records | tail -n 1": (
+        r"0 (revisions? [^ ]+( to [^ ]+)?: missing\n)?$"
+    ),
+    "luntsegi check --for-bbolt --etcd-snapshot RESCUE/new.snapshot": OK,
+    "luntsegi get RESCUE/new.snapshot auth authEnabled": "0 01\n$",
+    "luntsegi states member/snap/db": r"0 \d+:\d+ 0 pages lost, ",
+    "luntsegi get --assume-meta STATE member/snap/db meta consistent_index": r"0 [0-9a-f]{16}\n$",
     "luntsegi check --for-bbolt new.db": OK,
 }
 
@@ -61,15 +69,13 @@ def served_keys(server):
 
 
 def lose_root(store):
-    """The file without the newest root page, the words that name the older state, and what is wanted of its check."""
-    damage = store.zeroed("the newest root page", [store.newest_root])
-    return damage.data, f"--meta {1 - store.newest_meta}", OK
+    """The file without the newest root page."""
+    return store.zeroed("the newest root page", [store.newest_root]).data
 
 
 def lose_meta(store):
-    """The same without the newest meta."""
-    damage = store.zeroed("the newest meta", [store.newest_meta])
-    return damage.data, "", rf"1 meta {store.newest_meta}: [^\n]*\n1 errors found\n$"
+    """The file without the newest meta."""
+    return store.zeroed("the newest meta", [store.newest_meta]).data
 
 
 class Guide:
@@ -107,11 +113,13 @@ class Guide:
         add_programs(self.path("programs"), self.comparisons.program)
         early, last = self.make_files()
         store = Store(last)
-        self.heal("newest_root", *lose_root(store))
-        self.heal("newest_meta", *lose_meta(store))
-        if self.heal("early", *lose_root(Store(early))) < 2:
+        self.heal("newest_root", lose_root(store))
+        self.heal("newest_meta", lose_meta(store))
+        if self.heal("early", lose_root(Store(early))) < 2:
             raise Difference("etcd's log: the early state isn't older than two .snap files")
-        self.start_cluster(store.zeroed("a leaf", [store.leaves[1]]).data)
+        self.start_anew()
+        self.start_cluster(store)
+        self.count += Messages(self, early).try_all()
         return self.count
 
     def make_files(self):
@@ -128,22 +136,44 @@ class Guide:
             server.kill()
         return early, read_file(server.file)
 
-    def heal(self, name, data, meta, wanted):
-        """Follows the recipe of the log in a copy of the data folder, with this file. Returns how many `.snap` files
-        were moved."""
-        shutil.copytree(self.path("member"), self.path(name))
-        write_file(os.path.join(self.path(name), FILE), data)
-        room = self.room(name, {"FILE": FILE, "--meta 1": meta})
-        [check], index, move, place = self.log
-        self.run(room, [check], {check: wanted})
+    def copied(self, name):
+        """Copies the data folder as the guide does. Returns a room in the copy, and what `states` prints there."""
+        rescue = self.path(name)
+        os.mkdir(rescue)
+        folder = os.path.join(rescue, "log")
+        words = {DATA: self.path("damaged"), "RESCUE": rescue}
+        *_, states = self.run(self.room(self.folder, words), self.log[0])
+        return folder, states
+
+    def heal(self, name, data):
+        """Follows the recipe of the log for a data folder with this file. Returns how many `.snap` files were moved."""
+        self.damage(data)
+        folder, states = self.copied(name)
+        words = {"STATE": re.search(r"(?m)^(\S+) 0 pages lost, .*; meta ", states)[1]}
+        _, index, move, place, _ = self.log
         moved = 0
-        while snapshot := self.newer_snapshot(self.run(room, index)):
-            self.run(self.room(name, {"NAME": snapshot}), move)
+        while snapshot := self.newer_snapshot(self.run(self.room(folder, words), index)):
+            self.run(self.room(folder, {"NAME": snapshot}), move)
             moved += 1
-        self.run(room, place)
-        with Server(self.path(name)) as server:
-            self.comparisons.want_same_lists(f"the keys of {name} with its log", self.keys, served_keys(server))
+        self.run(self.room(folder, words), place)
+        self.compare_keys(folder, f"the keys of {name} with its log")
         return moved
+
+    def damage(self, data):
+        """Makes a data folder with this file."""
+        shutil.rmtree(self.path("damaged"), ignore_errors=True)
+        shutil.copytree(self.path("member"), self.path("damaged"))
+        write_file(os.path.join(self.path("damaged"), FILE), data)
+
+    def compare_keys(self, folder, what):
+        with Server(folder) as server:
+            self.comparisons.want_same_lists(what, self.keys, served_keys(server))
+
+    def start_anew(self):
+        """Has etcd make the file from its log alone."""
+        folder, _ = self.copied("anew")
+        self.run(self.room(folder, {}), self.log[-1])
+        self.compare_keys(folder, "the keys of the log alone")
 
     def newer_snapshot(self, printed):
         """The newest `.snap` file, if it is newer than the state. Both numbers are printed."""
@@ -151,22 +181,44 @@ class Guide:
         name = re.fullmatch(r"member/snap/(.*)\.snap", listed.splitlines()[-1])[1]
         return name if int(name.split("-")[1], 16) > int(index, 16) else None
 
-    def start_cluster(self, data):
+    def start_cluster(self, store):
         """Follows the recipe after a recovery: the new cluster has the keys of the copy, and its user must log in."""
-        os.mkdir(self.path("recovery"))
-        write_file(self.path("lost.db"), data)
-        folder = self.path("served")
-        room = self.room("recovery", {"FILE": self.path("lost.db"), "NEW_FOLDER": folder})
-        repair, login, (restore, start), _ = self.recovery
+        rescue, folder = self.path("rescue"), self.path("served")
+        os.mkdir(rescue)
+        write_file(self.path("lost.db"), store.zeroed("a leaf", [store.leaves[1]]).data)
+        state = f"{store.page_size}:{store.newest_root}"
+        words = {"FILE": self.path("lost.db"), "RESCUE": rescue, "STATE": state, "NEW_FOLDER": folder}
+        repair, login, (restore, start), _, several = self.recovery
+        room = self.room(self.folder, words)
         self.run(room, [*repair, *login, restore])
-        shown = ("etcd-keys", "--values", "--form", "json-hex", os.path.join(room.folder, "new.snapshot"))
+        shown = ("etcd-keys", "--values", "--form", "json-hex", os.path.join(rescue, "new.snapshot"))
         keys = [one for _, one in self.comparisons.lines(*shown)]
         self.count += 1
         with Server(folder, shlex.split(room.replaced(start))) as server:
             self.comparisons.want_same_lists("the keys of the new cluster", keys, served_keys(server))
-            self.run(self.client_room(server, {"FILE": self.path("saved")}), REQUESTS)
+            self.run(self.client_room(server, self.request_words(server)), REQUESTS)
+            self.run(self.client_room(server, {"RESCUE": rescue}), several[:1])
         found = self.comparisons.get(self.path("saved"), b"single9")
         self.comparisons.want_same("the snapshot of the new cluster", (0, b"v49"), (found.status, found.out))
+        self.start_members(rescue, several[1:])
+
+    def request_words(self, server):
+        """What the words of requests stand for: a file, and the one member, with an address that another one can reach."""
+        [member] = server.request("cluster/member/list", {})["members"]
+        return {"FILE": self.path("saved"), "ID": f"{int(member['ID']):x}", "URL": f"http://{HOST}:{server.port}"}
+
+    def start_members(self, rescue, restore):
+        """Restores the snapshot on three machines. All members then print the hash that the snapshot has."""
+        members = Members(self.folder)
+        for one in members.all:
+            self.run(self.room(self.folder, {"RESCUE": rescue} | members.words(one)), restore)
+        with members.running():
+            first = members.all[0]
+            first.log_in(NAME, PASSWORD)
+            [printed] = self.run(self.client_room(first), [HASHES])
+        hashes = [int(line.split(", ")[1]) for line in printed.splitlines()]
+        own = self.comparisons.status(os.path.join(rescue, "fixed.db"))["hash"]
+        self.comparisons.want_same("the hashes of three members", [own] * len(members.all), hashes)
 
 
 def try_guide(comparisons, folder):

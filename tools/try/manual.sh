@@ -3,8 +3,8 @@
 #
 #     manual.sh PROGRAM
 #
-# If mandoc is installed, it must find nothing in the manual page. What documents and sources refer to must exist; the files
-# of tools/usage/broken show that what is broken is found.
+# If mandoc is installed, it must find nothing in the manual page. The guide must stay short. What documents and sources
+# refer to must exist; the files of tools/usage/broken show that what is broken is found.
 set -eux
 program=$1
 if command -v mandoc >/dev/null; then mandoc -Tlint -Wwarning out/luntsegi.1; fi
@@ -12,6 +12,7 @@ python3 -B tools/usage/words.py --check "$program"
 python3 -B tools/usage/compare_completions.py "$program"
 PYTHONPATH=tests:tools/format python3 -B tools/usage/check_lists.py "$program"
 python3 -B tools/usage/check_kept.py tools/usage/kept.txt
+python3 -B tools/usage/check_length.py
 set +x
 echo "check_links.py on all documents, and on the sources that refer to them" >&2
 python3 -B tools/usage/check_links.py README.md docs/*.md crates/*/README.md \

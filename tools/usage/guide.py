@@ -4,20 +4,52 @@ They have no `$ ` before them, but words that stand for something, such as FILE.
 
 import os
 import re
+import shutil
 import subprocess
 import tempfile
+from dataclasses import dataclass, field
 
 from run_examples import blocks
 
 GUIDE = "docs/GUIDE.md"
 # The headings whose lines tools/etcd/try_guide.py runs, since they need a server.
 BY_ETCD = ["etcd after a recovery", "etcd's log"]
-# It runs these, too, which are in sentences.
-SPANS_BY_ETCD = [
-    "etcdctl auth enable",
+# It runs these, too, which are in sentences: when the user is there, by the user of the new cluster, on three members, and
+# where etcd's quota is used up.
+ENABLE = "etcdctl auth enable"
+REQUESTS = [
     "etcdctl endpoint health",
     "etcdctl put single9 v49",
     "etcdctl snapshot save FILE",
+    "etcdctl member update ID --peer-urls=URL",
+]
+HASHES = "etcdctl endpoint hashkv --cluster"
+MAKE_ROOM = ["etcdctl compact REVISION", "etcdctl defrag", "etcdctl alarm disarm"]
+SPANS_BY_ETCD = [ENABLE, *REQUESTS, HASHES, *MAKE_ROOM]
+# The heading of the tables of messages, and what they explain: tools/bbolt/messages.py and tools/etcd/messages.py have
+# them printed. The last table has those of this program.
+MESSAGES = "What a program printed"
+MESSAGES_BY_BBOLT = [
+    "invalid database",
+    "checksum error",
+    "version mismatch",
+    "file size too small",
+    "page N already freed",
+    "invalid page type",
+    "Page expected to be: N, but self identifies as M",
+    "unexpected fault address",
+    "SIGBUS",
+    "parent must have at least 2 children",
+    "failed to get all reachable pages",
+]
+MESSAGES_BY_ETCD = [
+    "failed to unmarshal mvccpb.KeyValue",
+    "cannot unmarshal event",
+    "range failed to find revision pair",
+    "range cannot find rev",
+    "failed to find database snapshot file",
+    "snapshot file integrity check failed",
+    "mvcc: database space exceeded",
 ]
 # What a command in a sentence begins with.
 PROGRAMS = r"(?:luntsegi|etcdctl|etcdutl|systemctl|man|cp|mv|rm|ls|dd|grep|sort|sed|printf|flock) "
@@ -53,6 +85,20 @@ def spans():
     return [span for span in dict.fromkeys(re.findall(r"`([^`\n]+)`", sentences)) if re.match(PROGRAMS, span)]
 
 
+def messages():
+    """The texts of bbolt and of etcd that the guide explains: those in the first column of its first two tables."""
+    body = re.search(rf"(?ms)^#+ {MESSAGES}\n(.*?)^#", read_guide())[1]
+    tables = re.findall(r"(?m)(?:^\|.*\n)+", body)[:2]
+    return [
+        text for table in tables for row in table.splitlines()[2:] for text in re.findall("`([^`]+)`", row.split(" | ")[0])
+    ]
+
+
+def text_pattern(message):
+    """The pattern of a message, in which N and M are numbers."""
+    return re.compile(re.sub(r"\b[NM]\b", r"\\d+", re.escape(message)))
+
+
 def refuse_unknown(wanted, lines):
     """Refuses a table that wants something of a line that the guide doesn't have there."""
     unknown = set(wanted) - set(lines)
@@ -61,13 +107,35 @@ def refuse_unknown(wanted, lines):
 
 
 def add_programs(folder, program):
-    """Makes a folder of the programs that aren't as on the machine: `luntsegi`, and `systemctl`, which does nothing."""
+    """Makes a folder of the programs that aren't as on the machine: `luntsegi`; `systemctl`, which does nothing; and
+    `etcdutl`, if etcd is too old to have it: then etcdctl does the same."""
     os.mkdir(folder)
     os.symlink(os.path.abspath(program), os.path.join(folder, "luntsegi"))
-    systemctl = os.path.join(folder, "systemctl")
-    with open(systemctl, "w", encoding="utf-8") as file:
-        file.write('#!/bin/sh\n[ "$*" = "stop SERVICE" ]\n')
-    os.chmod(systemctl, 0o755)
+    add_script(os.path.join(folder, "systemctl"), '[ "$*" = "stop SERVICE" ]')
+    if not shutil.which("etcdutl"):
+        add_script(os.path.join(folder, "etcdutl"), 'exec etcdctl "$@"')
+
+
+def add_script(path, line):
+    with open(path, "w", encoding="utf-8") as file:
+        file.write(f"#!/bin/sh\n{line}\n")
+    os.chmod(path, 0o755)
+
+
+@dataclass(frozen=True)
+class Section:
+    """What is run under a heading."""
+
+    # The example that FILE is a copy of, and which of its pages are overwritten with zeros.
+    example: str
+    lost_pages: tuple[int, ...] = ()
+    # What STATE stands for.
+    state: str = ""
+    # The lines of which a status and a text are wanted: a pattern that they begin with.
+    wanted: dict[str, str] = field(default_factory=dict)
+    # What is run before the lines and, to see what they have done, after them.
+    before: list[str] = field(default_factory=list)
+    after: list[str] = field(default_factory=list)
 
 
 class Room:

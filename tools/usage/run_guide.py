@@ -12,76 +12,62 @@ import os
 import shutil
 import sys
 import tempfile
-from dataclasses import dataclass, field
 
+from damages import DAMAGED, DAMAGES
 from guide import (
     BY_ETCD,
     GUIDE,
+    MESSAGES_BY_BBOLT,
+    MESSAGES_BY_ETCD,
     SPANS_BY_ETCD,
     Room,
+    Section,
     WrongLine,
     add_programs,
+    messages,
     plain_blocks,
     refuse_unknown,
     spans,
 )
 
 PAGE_BYTES = 4096
-
-
-@dataclass(frozen=True)
-class Section:
-    """What is run under a heading."""
-
-    # The example that FILE is a copy of, and which of its pages is overwritten with zeros.
-    example: str
-    lost_page: int | None = None
-    # The lines of which a status and a text are wanted: a pattern that they begin with.
-    wanted: dict[str, str] = field(default_factory=dict)
-    # What is run before the lines and, to see what they have done, after them.
-    before: list[str] = field(default_factory=list)
-    after: list[str] = field(default_factory=list)
-
-
-LOST = "1 page 2: wrong page number; lost: bucket 626c6f6273 \\(blobs\\)\n"
+BLOBS_LOST = "page 2: wrong page number; lost: bucket 626c6f6273 \\(blobs\\)\n"
 SECTIONS = {
-    "My file is damaged": Section(
-        "nofreelist.db",
-        lost_page=2,
-        wanted={
-            "luntsegi check --all FILE": LOST + "1 errors found\n$",
-            "luntsegi compact --recover --for-bbolt -o new.db FILE": LOST + "122880 -> 16384 bytes\n$",
-            "luntsegi buckets --sizes new.db": "0 0 16 16 blobs\n$",
-            "luntsegi info FILE | grep meta": "0 meta 1\n$",
-            "luntsegi check --all --meta 0 FILE": "0 OK\n$",
-            "luntsegi compact --recover --for-bbolt --meta 0 -o older.db FILE": "0 122880 -> 86016 bytes\n$",
-            "luntsegi check --lost-and-found FILE": LOST + "page 4: nothing leads to it; found: 2 entries",
-            "luntsegi compact --lost-and-found --for-bbolt -o found.db FILE": LOST + ".*; found: .* bytes\n$",
-        },
-        after=[
-            "cmp FILE saved.db",
-            '[ "$(stat -c %a .)" = 700 ]',
-            "for copy in new.db older.db found.db; do luntsegi check --for-bbolt $copy | grep -x OK || exit; done",
-            "luntsegi buckets found.db lost+found | grep -x 0000000000000004",
-        ],
-    ),
     "Put a copy back into service": Section(
         "etcd.db",
         wanted={
-            "luntsegi check --for-bbolt new.db": "0 OK\n$",
-            "luntsegi etcd-check new.db": "0 OK\n$",
+            "luntsegi check --for-bbolt RESCUE/new.db": "0 OK\n$",
+            "luntsegi etcd-check RESCUE/new.db": "0 OK\n$",
         },
         # A copy with a branch of one child, on which bbolt fails.
         before=[
-            "cp FILE first.db && chmod 640 FILE && luntsegi list FILE > listing && echo 7a bucket 0 >> listing",
+            "mkdir RESCUE && cp FILE first.db && chmod 640 FILE && luntsegi list FILE > listing && echo 7a bucket 0 >> listing",
             "for key in 61 62 63; do echo 7a/$(printf $key%.0s $(seq 500)) = 78 >> listing; done",
-            "luntsegi load --page-size 1024 -o rescued.db listing",
-            "! luntsegi check --for-bbolt rescued.db",
+            "luntsegi load --page-size 1024 -o RESCUE/plain.db listing",
+            "! luntsegi check --for-bbolt RESCUE/plain.db",
         ],
         after=[
             "cmp FILE.damaged first.db",
             "luntsegi list FILE | cmp - listing",
             '[ "$(stat -c %a FILE)" = 640 ]',
+        ],
+    ),
+    "Lost and found": Section(
+        "nofreelist.db",
+        lost_pages=(2,),
+        state="4096:3",
+        wanted={
+            "luntsegi check --lost-and-found --assume-meta STATE FILE > RESCUE/found; head RESCUE/found": (
+                f"0 {BLOBS_LOST}page 4: nothing leads to it; found: 2 entries"
+            ),
+            "luntsegi compact --lost-and-found --for-bbolt --assume-meta STATE -o RESCUE/found.db FILE": (
+                f"1 {BLOBS_LOST}.*; found: .* bytes\n$"
+            ),
+        },
+        before=["mkdir RESCUE"],
+        after=[
+            "luntsegi check --for-bbolt RESCUE/found.db | grep -x OK",
+            "luntsegi buckets RESCUE/found.db lost+found | grep -x 0000000000000004",
         ],
     ),
     "What is in it?": Section(
@@ -96,15 +82,17 @@ SECTIONS = {
 SENTENCES = Section(
     "etcd.db",
     wanted={
-        "cp -a /var/lib/etcd saved": "0 $",
+        "cp -a /var/lib/etcd RESCUE/etcd": "0 $",
         "ls -l FILE": "0 -.*etcd.db\n$",
         "luntsegi check --all FILE": "0 OK\n$",
-        "luntsegi states FILE": r"0 4096:4 0 pages lost, 10 buckets .*\n",
         "luntsegi page FILE NUMBER": "0 page 5\ntype leaf\n",
         "printf blobs | od -An -v -tx1": "0  62 6c 6f 62 73\n$",
         "printf theme | od -An -v -tx1": "0  74 68 65 6d 65\n$",
+        "printf '%016x5f%016x' 53 0": "0 00000000000000355f0000000000000000$",
+        "printf '%d\\n' 0x0000000000000002": "0 2\n$",
     },
-    after=["cmp FILE saved/etcd.db"],
+    before=["mkdir RESCUE"],
+    after=["cmp FILE RESCUE/etcd/etcd.db"],
 )
 PART = "a part of a command line"
 MEMBERS = "it needs a cluster of several members"
@@ -119,7 +107,7 @@ NOT_RUN = {
     "etcdctl del": PART,
     "etcdutl snapshot restore": "it needs etcd 3.5",
     "grep -v '^7573657273[ /]'": PART,
-    "sort -u": PART,
+    "sort -s -u -k 1,1": PART,
     "man luntsegi": "the page isn't installed; `make manual` lints it",
 }
 
@@ -127,9 +115,9 @@ NOT_RUN = {
 def copy_example(section, path):
     """Makes the file that a section is about."""
     shutil.copy(os.path.join("examples", section.example), path)
-    if section.lost_page is not None:
-        with open(path, "r+b") as file:
-            file.seek(section.lost_page * PAGE_BYTES)
+    with open(path, "r+b") as file:
+        for page in section.lost_pages:
+            file.seek(page * PAGE_BYTES)
             file.write(bytes(PAGE_BYTES))
 
 
@@ -140,7 +128,14 @@ def run_section(section, lines, program):
         os.mkdir(os.path.join(folder, "data"))
         file = os.path.join(folder, "data", section.example)
         copy_example(section, file)
-        words = {"FILE": file, "NUMBER": "5", "/var/lib/etcd": os.path.dirname(file)}
+        words = {
+            "FILE": file,
+            "RESCUE": os.path.join(folder, "rescue"),
+            "STATE": section.state,
+            "EXAMPLES": os.path.abspath("examples"),
+            "NUMBER": "5",
+            "/var/lib/etcd": os.path.dirname(file),
+        }
         room = Room(folder, os.path.join(folder, "programs"), words)
         room.run([*section.before, *lines, *section.after], section.wanted)
 
@@ -153,9 +148,11 @@ def can_run(line):
 def parts():
     """Each section with its lines. The commands in sentences come last."""
     found, in_sentences = plain_blocks(), spans()
-    refuse_difference("headings", [*SECTIONS, *BY_ETCD], found)
+    refuse_difference("headings", [DAMAGED, *SECTIONS, *BY_ETCD], found)
+    refuse_difference("messages", [*MESSAGES_BY_BBOLT, *MESSAGES_BY_ETCD], messages())
     refuse_difference("commands in sentences", [*SENTENCES.wanted, *NOT_RUN, *SPANS_BY_ETCD], in_sentences)
-    for heading, section in SECTIONS.items():
+    pairs = [(DAMAGED, section) for section in DAMAGES] + list(SECTIONS.items())
+    for heading, section in pairs:
         yield section, [line for block in found[heading] for line in block]
     yield SENTENCES, [line for line in in_sentences if line in SENTENCES.wanted]
 
