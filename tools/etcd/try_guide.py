@@ -5,6 +5,7 @@ import os
 import re
 import shlex
 import shutil
+import time
 
 from answers import base64_text, keys_at
 from compare import Difference
@@ -19,6 +20,8 @@ from server import HOST, NO_LOGIN, EtcdFault, Server
 PUTS = 125
 VALUE_BYTES = 200
 ENTRIES = 50
+# How long a member may lag behind the others.
+LAG_SECONDS = 10
 # The one user.
 NAME, PASSWORD = "root", "secret"
 FILE = "member/snap/db"
@@ -215,10 +218,21 @@ class Guide:
         with members.running():
             first = members.all[0]
             first.log_in(NAME, PASSWORD)
-            [printed] = self.run(self.client_room(first), [HASHES])
+            printed = self.hashes_by(first)
         hashes = [int(line.split(", ")[1]) for line in printed.splitlines()]
         own = self.comparisons.status(os.path.join(rescue, "fixed.db"))["hash"]
         self.comparisons.want_same("the hashes of three members", [own] * len(members.all), hashes)
+
+    def hashes_by(self, member):
+        """What etcdctl prints of all members. One that lags doesn't know yet that it has logged in."""
+        end = time.monotonic() + LAG_SECONDS
+        while True:
+            try:
+                return self.run(self.client_room(member), [HASHES])[0]
+            except WrongLine as fault:
+                if "invalid auth token" not in str(fault) or time.monotonic() > end:
+                    raise
+                time.sleep(0.2)
 
 
 def try_guide(comparisons, folder):
