@@ -150,8 +150,8 @@ test: toolchain set-up peers
 		$(foreach target,cases examples programs manual installed failures memory work,"$(target): make $(target)") \
 		"fuzz: $(MAKER) tools/fuzz/fuzz.py $(PROGRAM) --seed 1 --files 36" \
 		"bbolt: $(NEWEST_BBOLT) tools/bbolt/try.sh $(PROGRAM) 3" "other bbolt: $(OTHER_BBOLT) tools/bbolt/try.sh $(PROGRAM) 1 60" \
-		"etcd: $(NEWEST_ETCD) $(TRY_ETCD) $(PROGRAM) --seed 1 --keys 300 --seconds 150" \
-		"other etcd: $(OTHER_ETCD) $(TRY_ETCD) $(PROGRAM) --seed 1 --keys 100 --seconds 150"
+		"etcd: $(NEWEST_ETCD) $(TRY_ETCD) $(PROGRAM) --seed 1 --keys 300 --seconds 240" \
+		"other etcd: $(OTHER_ETCD) $(TRY_ETCD) $(PROGRAM) --seed 1 --keys 100 --seconds 240"
 
 # Runs the gate with one check at a time and every proof anew, and writes what share of the whole each part takes to
 # tools/try/times.txt. Nothing else should run meanwhile.

@@ -16,10 +16,12 @@ class Member(Server):
         super().__init__(folder)
         self.name = name
         self.peer_url = peer_url
+        # Of a new member: what it reads of its cluster.
+        self.joins = {}
 
     def settings(self, client_url, _):
-        """What etcd reads of the environment. The cluster is in its file."""
-        return {
+        """What etcd reads of the environment. The cluster is in its file, unless it is new."""
+        return self.joins | {
             "ETCD_NAME": self.name,
             "ETCD_DATA_DIR": self.folder,
             "ETCD_LISTEN_CLIENT_URLS": client_url,
@@ -61,6 +63,17 @@ class Members:
             stack.close()
             raise
         return stack
+
+    def start_new(self, one):
+        """Starts a member that was added without a data folder, and waits until it serves."""
+        cluster = ",".join(f"{it.name}={it.peer_url}" for it in self.all)
+        one.joins = {
+            "ETCD_INITIAL_CLUSTER": cluster,
+            "ETCD_INITIAL_CLUSTER_STATE": "existing",
+            "ETCD_INITIAL_ADVERTISE_PEER_URLS": one.peer_url,
+        }
+        one.start()
+        self.wait_for(one)
 
     def wait_for(self, one):
         """Waits until a member serves keys, for which there has to be a quorum. Whether it asks for a login is the same."""

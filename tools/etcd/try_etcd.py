@@ -29,8 +29,8 @@ leaves that are left.
 
 The lines of docs/GUIDE.md for etcd are run on files of another server: after the recipe of etcd's log a server has the
 keys that it had before, and the new cluster those of the repaired copy. Nobody reads them without logging in. Three
-members that are restored from the snapshot of the new cluster have one hash, that of the snapshot. etcd prints each of
-its messages that the guide explains.
+members that are restored from the snapshot of the new cluster have one hash, that of the snapshot, also after one of
+them lost its data and was replaced. etcd prints each of its messages that the guide explains.
 
 The same seed makes the same writes. At a difference both sides are shown, the status is 1, and the files stay in
 out/etcd. The run ends after `--seconds`, and the servers end with it, whatever happens. Without etcd or etcdctl nothing

@@ -1,15 +1,28 @@
 """Runs the lines of docs/GUIDE.md for an etcd server: the recipe of the log, and the new cluster of a repaired copy, first
-of one member and then of three."""
+of one member and then of three, one of which is replaced."""
 
 import os
 import re
 import shlex
 import shutil
+import time
 
 from answers import base64_text, keys_at
 from compare import Difference
 from damage import Store
-from guide import BY_ETCD, ENABLE, HASHES, REQUESTS, Room, WrongLine, add_programs, plain_blocks, refuse_unknown
+from guide import (
+    ADD,
+    BY_ETCD,
+    ENABLE,
+    HASHES,
+    REMOVE,
+    REQUESTS,
+    Room,
+    WrongLine,
+    add_programs,
+    plain_blocks,
+    refuse_unknown,
+)
 from members import Members
 from messages import Messages
 from repairs import read_file, write_file
@@ -19,6 +32,8 @@ from server import HOST, NO_LOGIN, EtcdFault, Server
 PUTS = 125
 VALUE_BYTES = 200
 ENTRIES = 50
+# How long members may lag, or not yet count as connected.
+LAG_SECONDS = 20
 # The one user.
 NAME, PASSWORD = "root", "secret"
 FILE = "member/snap/db"
@@ -212,13 +227,40 @@ class Guide:
         members = Members(self.folder)
         for one in members.all:
             self.run(self.room(self.folder, {"RESCUE": rescue} | members.words(one)), restore)
-        with members.running():
-            first = members.all[0]
-            first.log_in(NAME, PASSWORD)
-            [printed] = self.run(self.client_room(first), [HASHES])
-        hashes = [int(line.split(", ")[1]) for line in printed.splitlines()]
         own = self.comparisons.status(os.path.join(rescue, "fixed.db"))["hash"]
-        self.comparisons.want_same("the hashes of three members", [own] * len(members.all), hashes)
+        wanted = [own] * len(members.all)
+        with members.running():
+            first, *_, last = members.all
+            first.log_in(NAME, PASSWORD)
+            self.comparisons.want_same("the hashes of three members", wanted, self.hashes_by(first))
+            self.replace_member(members, first, last)
+            self.comparisons.want_same("the hashes with a new member", wanted, self.hashes_by(first))
+
+    def replace_member(self, members, first, lost):
+        """A member loses its data folder. The others have a majority, and so it joins them as a new one."""
+        [number] = [it["ID"] for it in first.request("cluster/member/list", {})["members"] if it["name"] == lost.name]
+        lost.stop()
+        shutil.rmtree(lost.folder)
+        self.run_again(first, f"{REMOVE} {int(number):x}", "unhealthy cluster")
+        self.run_again(first, f"{ADD} {lost.name} --peer-urls={lost.peer_url}", "unhealthy cluster")
+        members.start_new(lost)
+
+    def hashes_by(self, member):
+        """The hashes that etcdctl prints of all members. One that lags doesn't know yet that it has logged in."""
+        printed = self.run_again(member, HASHES, "invalid auth token")
+        return [int(line.split(", ")[1]) for line in printed.splitlines()]
+
+    def run_again(self, member, line, refusal):
+        """What a line prints, which may be refused for some seconds."""
+        end = time.monotonic() + LAG_SECONDS
+        self.count += 1
+        while True:
+            try:
+                return self.client_room(member).run([line], {})[0]
+            except WrongLine as fault:
+                if refusal not in str(fault) or time.monotonic() > end:
+                    raise
+                time.sleep(0.2)
 
 
 def try_guide(comparisons, folder):

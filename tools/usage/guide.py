@@ -14,8 +14,8 @@ from run_examples import blocks
 GUIDE = "docs/GUIDE.md"
 # The headings whose lines tools/etcd/try_guide.py runs, since they need a server.
 BY_ETCD = ["etcd after a recovery", "etcd's log"]
-# It runs these, too, which are in sentences: when the user is there, by the user of the new cluster, on three members, and
-# where etcd's quota is used up.
+# It runs these, too, which are in sentences: when the user is there, by the user of the new cluster, on three members (with
+# the member to remove and to add), and where etcd's quota is used up.
 ENABLE = "etcdctl auth enable"
 REQUESTS = [
     "etcdctl endpoint health",
@@ -24,8 +24,9 @@ REQUESTS = [
     "etcdctl member update ID --peer-urls=URL",
 ]
 HASHES = "etcdctl endpoint hashkv --cluster"
+REMOVE, ADD = "etcdctl member remove", "etcdctl member add"
 MAKE_ROOM = ["etcdctl compact REVISION", "etcdctl defrag", "etcdctl alarm disarm"]
-SPANS_BY_ETCD = [ENABLE, *REQUESTS, HASHES, *MAKE_ROOM]
+SPANS_BY_ETCD = [ENABLE, *REQUESTS, HASHES, REMOVE, ADD, *MAKE_ROOM]
 # The heading of the tables of messages, and what they explain: tools/bbolt/messages.py and tools/etcd/messages.py have
 # them printed. The last table has those of this program.
 MESSAGES = "What a program printed"

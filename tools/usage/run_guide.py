@@ -95,10 +95,7 @@ SENTENCES = Section(
     after=["cmp FILE RESCUE/etcd/etcd.db"],
 )
 PART = "a part of a command line"
-MEMBERS = "it needs a cluster of several members"
 NOT_RUN = {
-    "etcdctl member remove": MEMBERS,
-    "etcdctl member add": MEMBERS,
     "etcdctl snapshot restore": PART,
     "etcdctl snapshot save": PART,
     "etcdctl snapshot status": PART,
