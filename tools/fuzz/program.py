@@ -91,7 +91,7 @@ FAULTS = {
     "etcd-status": REFUSED + rb"|bucket not found|revision compacted",
     "list": REFUSED + rb"|bucket not found|lost\+found exists",
     "compact": REFUSED + rb"|lost\+found exists|" + BAD_HASH,
-    "etcd-repair": REFUSED + rb"|key is not a bucket",
+    "etcd-repair": REFUSED + rb"|key is not a bucket|bucket not found",
     "load": rb"line \d+: (?:not a line of a listing|path not rising|no bucket above|cut off)",
 }
 

@@ -1,13 +1,13 @@
 -- The copy of the repaired listing, and what is then reported of it.
-use Rattle.std.proofs.Common.{◌≡◌, ◌≢◌, ℕ, List, [], Bool, Option, Result, Err, Ok, inl, inr, length, refl, subst, sym}
-use Rattle.bolt_commands.proofs.Vocabulary.{CopiesListing, WritesAnswer, JobEnding, Failure, Finding, Ghosts, IsAskedBlueprint, IsSearchOf, LostAndFound, Member, Meta, MetaChoice, PageSize, AreCopyFaults, FileFaults, all_lost, blueprint_layout, copy_page_size, everything, is_snapshot, layout_for, layout_of_listing}
+use Rattle.std.proofs.Common.{◌≡◌, ℕ, List, [], Bool, Option, Result, Err, Ok, inl, inr, length, refl, subst, sym}
+use Rattle.bolt_commands.proofs.Vocabulary.{CopiesListing, WritesAnswer, JobEnding, Failure, Ghosts, IsAskedBlueprint, IsSearchOf, LostAndFound, Member, Meta, MetaChoice, PageSize, AreCopyFaults, FileFaults, all_lost, blueprint_layout, copy_page_size, is_snapshot, layout_for, layout_of_listing}
 use Rattle.bolt_commands.proofs.CopyAnswers.{copy_asked, listing_done, listing_failed}
 use Rattle.bolt_bulk.specs.declared.blueprint.Blueprint.{Blueprint}
 use Rattle.bolt_job.specs.{MetaChoices.IsMetaOf, declared.choices.CopyKind.CopyKind, declared.choices.Extent.TheVariants.LostAndFound as Joins}
 use Rattle.bolt_layout.specs.declared.Layout.TheVariants.{Balanced}
 use Rattle.bolt_recover.specs.Lost.{IsAllLost}
-use Rattle.bolt_repair.specs.{FullRepairs.IsFullRepair, RepairedMerges.repair_back, RepairedMerges.repair_is_made, Repaired.IsRepaired, Repaired.repaired_listing, declared.repair.Repair.Repair}
-use Rattle.bolt_recover.specs.declared.recover_fault.RecoverFault.TheVariants.{Memory}
+use Rattle.bolt_repair.specs.{FullRepairs.IsFullRepair, RepairedMerges.repair_back, RepairedMerges.repair_is_made, Repaired.HasStore, Repaired.IsRepaired, Repaired.repaired_listing, declared.repair.Repair.Repair}
+use Rattle.bolt_repair.specs.declared.repair_fault.RepairFault.TheVariants.{Memory}
 use Rattle.bolt_commands.specs.{JobAnswers.WritesRestored, Private.Opened.IsUnsearched, RepairAnswers.IsRestored, RepairAnswers.IsUnrestored, RepairAnswers.repair_report}
 
 -- a file that isn't searched isn't repaired
@@ -24,7 +24,7 @@ listing_asked kind size meta blueprint result layout asked (made, copy, same) = 
 -- The repair of a file that was searched. It names the file and its meta in its own way.
 module _ (file : List ℕ) (choice : MetaChoice) (both : LostAndFound) (repair : Repair) (own : List ℕ) (meta : Meta) (searched : IsSearchOf file choice both) (same_file : own ≡ file) (same_meta : meta ≡ both.meta)
     (full : IsFullRepair own meta (repair_back repair) (repair_is_made repair) repair.left_out)
-    (some : (x : Finding) → all_lost both ≡ everything x → repair_back repair ≢ []) (back : ℕ) (counts : back ≡ length (repair_back repair)) where
+    (store : repair_back repair ≡ [] → HasStore full.repair.recovered) (back : ℕ) (counts : back ≡ length (repair_back repair)) where
   -- the repaired listing
   abbrev pub the_repaired : List Member
   the_repaired = repaired_listing full.repair.recovered (repair_is_made repair) (repair_back repair)
@@ -44,7 +44,7 @@ module _ (file : List ℕ) (choice : MetaChoice) (both : LostAndFound) (repair :
         repairs = full;
         lists = refl;
         counts = counts;
-        some = some;
+        store = store;
       }))
 
   -- its copy is whole and reported, or it isn't whole and nothing is

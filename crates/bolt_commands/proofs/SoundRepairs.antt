@@ -8,9 +8,9 @@ use Rattle.bolt_recover.specs.Found.{AreFound}
 use Rattle.bolt_tree.specs.Entries.{EntryView, Value}
 use Rattle.bolt_tree.proofs.Exports.{contains_head, contains_none}
 use Rattle.bolt_repair.specs.{FullRepairs.AreCandidateKeys, FullRepairs.IsLeftOut, RepairRefusals.IsRepairRefusal, Repaired.elements_on, Repairs.store_path}
-use Rattle.bolt_recover.specs.declared.recover_fault.RecoverFault.{RecoverFault}
-use Rattle.bolt_recover.specs.declared.recover_fault.RecoverFault.TheVariants as recover
-use Rattle.bolt_commands.specs.{Alike.IsUnrepairable, Failures.unlisted, RepairAnswers.IsRestored, RepairAnswers.IsUnrestored}
+use Rattle.bolt_repair.specs.declared.repair_fault.RepairFault.{RepairFault}
+use Rattle.bolt_repair.specs.declared.repair_fault.RepairFault.TheVariants as faults
+use Rattle.bolt_commands.specs.{Alike.IsUnrepairable, Failures.unrestored, RepairAnswers.IsRestored, RepairAnswers.IsUnrestored}
 
 -- ---- nothing is a candidate if nothing is found
 
@@ -40,14 +40,15 @@ module _ (b : Below) (file : List ℕ) (meta : Meta) (trees : HasSoundTrees file
         none.1,
       )
 
-  unrepairable : (fault : RecoverFault) (why : Failure) → IsRepairRefusal file meta fault → why ≡ unlisted fault → IsUnrepairable file meta why
-  unrepairable (recover.Rootless x) why (loses, none) same = absurd (∥∥₁_elim loses (hlevel props) (keeps_not_loses file meta trees meta x refl))
-  unrepairable recover.NotABucket why (value, has) same =
+  unrepairable : (fault : RepairFault) (why : Failure) → IsRepairRefusal file meta fault → why ≡ unrestored fault → IsUnrepairable file meta why
+  unrepairable (faults.Rootless x) why (loses, none) same = absurd (∥∥₁_elim loses (hlevel props) (keeps_not_loses file meta trees meta x refl))
+  unrepairable faults.NoBucket why (keeps, lacks, none) same =
+      let (listing, lists) = b.has_listing file meta trees in
+      inr (inl (same, λ item holds. lacks listing (b.recovered file meta listing trees lists) item ((lists.exact store_path item).1 holds)))
+  unrepairable faults.NotABucket why (value, has) same =
       let (listing, lists) = b.has_listing file meta trees in
       inl (same, (value, (lists.exact store_path (Value value)).0 (has listing (b.recovered file meta listing trees lists))))
-  unrepairable recover.Exists why none same = absurd none
-  unrepairable recover.TooLarge why none same = absurd none
-  unrepairable recover.Memory why is same = inr same
+  unrepairable faults.Memory why is same = inr (inr same)
 
   pub none_unrestored : (choice : MetaChoice) → IsMetaOf file choice meta → (why : Failure) → IsUnrestored file choice why → IsUnrepairable file meta why
   none_unrestored choice shown why (inl (other, fault, is, refusal, same)) =

@@ -6,9 +6,9 @@ use Rattle.bolt_layout.specs.{Copies.layout_of_listing, declared.Layout.Layout, 
 use Rattle.bolt_repair.specs.Repairs.{store_path}
 use Rattle.bolt_recover.specs.Losses.{parts}
 use Rattle.bolt_text.specs.declared.forms.ListForm.{ListForm}
-use Rattle.bolt_tree.specs.{Entries.Value, Listing.IsListing, Listing.Member, Paths.Path}
+use Rattle.bolt_tree.specs.{Entries.Item, Entries.Value, Listing.IsListing, Listing.Member, Paths.Path}
 use Rattle.bolt_commands.specs.{Answers.Answer, Answers.JobEnding, CopyAnswers.copy_page_size, CopyAnswers.hash_refusal, FilesRead.HoldsIn, JobAnswers.DoesJob, JobAnswers.MakesCopy, JobAnswers.MakesRepair, JobAnswers.WritesCopy, JobAnswers.WritesNone, KeyAnswers.IsBucketsShown, KeyAnswers.IsKeysShown, KeyAnswers.IsValueShown, ListAnswers.IsListedAnswer, RepairAnswers.repair_report}
-use Rattle.bolt_commands.specs.{FileFaults.AreCopyFaults, SnapshotAnswers.bad_hash, declared.file_faults.FileFaults.FileFaults, declared.failure.Failure.Failure, declared.failure.Failure.TheVariants.Memory, declared.failure.Failure.TheVariants.NotABucket}
+use Rattle.bolt_commands.specs.{FileFaults.AreCopyFaults, SnapshotAnswers.bad_hash, declared.file_faults.FileFaults.FileFaults, declared.failure.Failure.Failure, declared.failure.Failure.TheVariants.Memory, declared.failure.Failure.TheVariants.NoBucket, declared.failure.Failure.TheVariants.NotABucket}
 use Rattle.bolt_job.specs.MetaChoices.{IsMetaOf}
 use Rattle.bolt_job.specs.declared.bucket_commands.{BucketsJob.BucketsJob, GetJob.GetJob, KeysJob.KeysJob}
 use Rattle.bolt_job.specs.declared.choices.BucketsShown.TheVariants.{Names}
@@ -70,10 +70,11 @@ GetsAlike file wanted named = (job : GetJob) (answer : Answer) → IsValueShown 
 
 -- ---- `etcd-repair`
 
--- Nothing is written: `key` is a value in the root bucket, or memory ran out.
+-- Nothing is written: `key` is a value in the root bucket, or nothing there, or memory ran out.
 abbrev pub IsUnrepairable : List ℕ → Meta → Failure → Type 0
 IsUnrepairable file meta why =
-    ((why ≡ NotABucket) × ((value : List ℕ) × HoldsIn file meta store_path (Value value))) ⊎ (why ≡ Memory)
+    ((why ≡ NotABucket) × ((value : List ℕ) × HoldsIn file meta store_path (Value value)))
+    ⊎ (((why ≡ NoBucket) × ((item : Item) → HoldsIn file meta store_path item → ⊥)) ⊎ (why ≡ Memory))
 
 -- Nothing goes back or stays out: The copy is that of the file's own listing, for bbolt.
 abbrev pub RepairsNothing : {O T : Type 0} (out : Ghosts O) (target : Ghosts T) → List ℕ → Meta → MetaChoice → Type 0

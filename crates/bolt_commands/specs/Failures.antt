@@ -8,6 +8,8 @@ use Rattle.bolt_load.specs.{LoadFaultWords.line_fault_words, declared.load_fault
 use Rattle.bolt_load.specs.declared.load_fault.LoadFault.TheVariants as load
 use Rattle.bolt_recover.specs.declared.recover_fault.RecoverFault.{RecoverFault}
 use Rattle.bolt_recover.specs.declared.recover_fault.RecoverFault.TheVariants as recover
+use Rattle.bolt_repair.specs.declared.repair_fault.RepairFault.{RepairFault}
+use Rattle.bolt_repair.specs.declared.repair_fault.RepairFault.TheVariants as repair
 use Rattle.bolt_report.specs.FaultWords.{finding_text, meta_fault_text, page_fault_text}
 use Rattle.bolt_etcd.specs.SnapshotFaults.{snapshot_fault_text}
 use Rattle.bolt_text.specs.declared.report_fault.ReportFault.{ReportFault}
@@ -57,13 +59,20 @@ abbrev pub unloaded : LoadFault → Failure
 unloaded load.Memory = Memory
 unloaded (load.Line number fault) = Line number fault
 
--- the failure if there is no joined or no repaired listing
+-- the failure if there is no joined listing
 abbrev pub unlisted : RecoverFault → Failure
 unlisted (recover.Rootless x) = File x
 unlisted recover.Exists = Exists
 unlisted recover.NotABucket = NotABucket
 unlisted recover.TooLarge = TooManyPages
 unlisted recover.Memory = Memory
+
+-- the failure if a file isn't repaired
+abbrev pub unrestored : RepairFault → Failure
+unrestored (repair.Rootless x) = File x
+unrestored repair.NoBucket = NoBucket
+unrestored repair.NotABucket = NotABucket
+unrestored repair.Memory = Memory
 
 -- the failure of a job whose file is refused; of the findings of the accounts the first is reported
 abbrev pub IsFailureOf : CheckFault → Failure → Type 0

@@ -1,6 +1,6 @@
 //! Why a job isn't done, and how it ends.
 ghost use Rattle.std.specs.Prelude.{◌≡◌, Ok};
-ghost use Rattle.bolt_commands.specs.{Failures.IsFailureOf, Failures.copied, Failures.reported, Failures.unlisted, Failures.unloaded, FilesRead.lost_ending, Private.Endings.end_written, Private.Endings.ending_by};
+ghost use Rattle.bolt_commands.specs.{Failures.IsFailureOf, Failures.copied, Failures.reported, Failures.unlisted, Failures.unloaded, Failures.unrestored, FilesRead.lost_ending, Private.Endings.end_written, Private.Endings.ending_by};
 ghost use Rattle.bolt_commands.specs.declared.failure.Failure.TheVariants as failure;
 
 use crate::shortfall::Shortfall;
@@ -10,6 +10,7 @@ use bolt_etcd::SnapshotFault;
 use bolt_format::{MetaFault, PageFault, SinkFault};
 use bolt_load::{LineFault, LoadFault};
 use bolt_recover::RecoverFault;
+use bolt_repair::RepairFault;
 use bolt_report::ReportFault;
 use std::alloc::AllocFailed;
 
@@ -22,7 +23,7 @@ pub enum Failure {
     File(Finding),
     /// The page that was asked for is refused.
     Page(PageFault),
-    /// The path that was asked for leads to no bucket.
+    /// The path that was asked for leads to no bucket, or there is no bucket `key` to repair.
     NoBucket,
     /// The path that was asked for has no value.
     NoKey,
@@ -135,6 +136,19 @@ impl From<RecoverFault> for Failure {
             RecoverFault::NotABucket => Failure::NotABucket,
             RecoverFault::TooLarge => Failure::TooManyPages,
             RecoverFault::Memory => Failure::Memory,
+        }
+    }
+}
+
+impl From<RepairFault> for Failure {
+    ghost from_gives = { λ fault result. result ≡ unrestored fault };
+
+    fn from(fault: RepairFault) -> Failure {
+        match fault {
+            RepairFault::Rootless(finding) => Failure::File(finding),
+            RepairFault::NoBucket => Failure::NoBucket,
+            RepairFault::NotABucket => Failure::NotABucket,
+            RepairFault::Memory => Failure::Memory,
         }
     }
 }

@@ -1,16 +1,17 @@
 -- The repair of a file that was searched.
-use Rattle.std.proofs.Common.{◌≡◌, ◌∙◌, ◌-◌, ◌≤◌, ◌&&◌, ◌==◌, ◌++◌, ℕ, Bool, true, false, List, [], ◌∷◌, Some, arith, length, map, not, refl, sym, ap, ap₂, subst}
-use Rattle.std.proofs.{Math.Logic.∥∥₁_elim, Math.Logic.∥∥₁_map, Props.props, lemmas.Bool.eqb-true, lemmas.Bool.ne_eqb, lemmas.List.Elements.All-head, lemmas.List.Elements.All-tail}
+use Rattle.std.proofs.Common.{◌≡◌, ◌↔◌, ◌-◌, ◌≤◌, ◌&&◌, ◌++◌, ℕ, Bool, true, false, List, [], ◌∷◌, Option, Some, None, arith, length, map, not, refl, sym, ap, ap₂, subst}
+use Rattle.std.proofs.{Math.Logic.∥∥₁_elim, Math.Logic.∥∥₁_map, Props.props, lemmas.List.Elements.All-head, lemmas.List.Elements.All-tail}
 use Rattle.std.proofs.lemmas.List.{length-map}
 use Rattle.std.specs.{Borrow.Bor, List.All, Option.option_map}
 use Rattle.bolt_format.specs.{Elements.LeafElement, Pages.page_at, TreePages.leaves_on, declared.meta.Meta.Meta}
 use Rattle.bolt_check.specs.{Keys.Key, declared.finding.Finding.Finding}
-use Rattle.bolt_tree.specs.{Listing.Member, ShownEntries.item_view}
+use Rattle.bolt_tree.specs.{Entries.Bucket, Entries.Item, Entries.Value, Listing.Member, ShownEntries.item_view}
 use Rattle.bolt_recover.proofs.Exports.{has_recovered}
-use Rattle.bolt_recover.specs.{Losses.everything, Lost.IsAllLost, LostAndFound.all_lost, Found.found_numbers, Recovered.ForRecovered, Recovered.IsRecovered, Refusals.LosesRoot, ShownFound.IsFoundView}
+use Rattle.bolt_recover.specs.{Losses.LostView, Losses.everything, Losses.parts, Lost.IsAllLost, LostAndFound.all_lost, Found.found_numbers, Recovered.ForRecovered, Recovered.IsRecovered, Refusals.LosesRoot, ShownFound.IsFoundView}
 use Rattle.bolt_recover.specs.{Sites.leaves_of, declared.found.Found.Found, declared.lost_and_found.LostAndFound.LostAndFound}
 use Rattle.bolt_etcd.specs.{declared.revision.Revision.Revision, ShownRevisions.entry_of, ShownRevisions.shown_revision, Among.without, Compacted.compacted_by}
 use Rattle.bolt_repair.specs.{Candidates.AreCandidates, Candidates.found_elements, FullRepairs.IsFullRepair, Repaired.IsRepair, Repaired.elements_on, Repaired.lacks_bucket}
+use Rattle.bolt_repair.specs.RepairRefusals.{IsRepairRefusal, LacksStore, PutsNoneBack, left_with}
 use Rattle.bolt_repair.specs.{RecoveredStores.IsRecoveredStore, RecoveredStores.IsStoreNoted, Undisputed.AreKeys, Undisputed.AreUndisputed, WhatGoesBack.ArePutBack}
 use Rattle.bolt_repair.specs.declared.recovered_store.RecoveredStore.{RecoveredStore}
 use Rattle.bolt_repair.proofs.WholeRepairs.{back_least, full_repair, is_nil, repair}
@@ -22,26 +23,40 @@ elements_found file meta (f ∷ found) views =
     let here : leaves_of (page_at file meta f.number) ≡ leaves_on f.page = ap leaves_of (All-head (IsFoundView file meta) f found views).page in
     ap₂ (λ (a b : List LeafElement). a ++ b) here (elements_found file meta found (All-tail (IsFoundView file meta) f found views))
 
-pub loses_root : (both : LostAndFound) (x : Finding) → all_lost both ≡ everything x → ∥ LosesRoot both.file.now both.meta x ∥₁
+loses_root : (both : LostAndFound) (x : Finding) → all_lost both ≡ everything x → ∥ LosesRoot both.file.now both.meta x ∥₁
 unfolding all_lost
 loses_root both x is = ∥∥₁_map both.searched (λ searched. subst (IsAllLost both.file.now both.meta) is searched.lost)
 
-nil_mapped : (es : List Revision) → (length es == 0) ≡ is_nil (map entry_of es)
-nil_mapped [] = refl
-nil_mapped (e ∷ es) = ne_eqb (length (e ∷ es)) 0 (λ same. omega (arith, same))
+-- Whether nothing goes back and the bucket is lacking. If not, it is made exactly if it is lacking.
+abbrev pub HasNothing : (nothing lacks : Bool) → List Revision → Type 0
+HasNothing nothing lacks es = (nothing ≡ true) ↔ ((lacks ≡ true) × (es ≡ []))
 
-pub none_left : (es : List Revision) (empty : Bool) (len : ℕ) → empty ≡ (len == 0) → len ≡ length es → empty ≡ true → map entry_of es ≡ []
-none_left [] empty len is long is_true = refl
-none_left (e ∷ es) empty len is long is_true = absurd (let none = eqb-true len 0 (sym is ∙ is_true) in omega (arith, none, long))
+pub made_if : (es : List Revision) (nothing lacks : Bool) → HasNothing nothing lacks es → nothing ≡ false → lacks ≡ (lacks && not (is_nil (map entry_of es)))
+made_if es nothing false says is = refl
+made_if [] nothing true says is = absurd (let wrong : nothing ≡ true = says.1 (refl, refl) in cc)
+made_if (e ∷ es) nothing true says is = refl
 
--- the bucket is made, or it isn't, since it is there
-module _ (es : List Revision) (made lacks : Bool) where
-  pub made_if : (empty : Bool) (len : ℕ) → made ≡ not empty → empty ≡ (len == 0) → len ≡ length es → lacks ≡ true → made ≡ (lacks && not (is_nil (map entry_of es)))
-  made_if empty len is so long is_true =
-      is ∙ ap not (so ∙ ap (λ (n : ℕ). n == 0) long ∙ nil_mapped es) ∙ sym (ap (λ (b : Bool). b && not (is_nil (map entry_of es))) is_true)
+bucket_under : (under : Option Item) (lacks : Bool) → lacks_bucket under ≡ Some lacks → lacks ≡ false → (sequence : ℕ) × (under ≡ Some (Bucket sequence))
+bucket_under None lacks is lacking = cc
+bucket_under (Some (Bucket sequence)) lacks is lacking = (sequence, refl)
+bucket_under (Some (Value value)) lacks is lacking = cc
 
-  pub not_made : made ≡ lacks → lacks ≡ false → made ≡ (lacks && not (is_nil (map entry_of es)))
-  not_made is is_false = is ∙ is_false ∙ sym (ap (λ (b : Bool). b && not (is_nil (map entry_of es))) is_false)
+pub has_bucket : (es : List Revision) (nothing lacks : Bool) → HasNothing nothing lacks es → nothing ≡ false → map entry_of es ≡ [] → (under : Option Item) → lacks_bucket under ≡ Some lacks
+    → (sequence : ℕ) × (under ≡ Some (Bucket sequence))
+has_bucket es nothing false says is none under under_is = bucket_under under false under_is refl
+has_bucket [] nothing true says is none under under_is = absurd (let wrong : nothing ≡ true = says.1 (refl, refl) in cc)
+has_bucket (e ∷ es) nothing true says is none under under_is = absurd (cc)
+
+pub none_under : (under : Option Item) → lacks_bucket under ≡ Some true → (item : Item) → under ≡ Some item → ⊥
+none_under None is item at = cc
+none_under (Some (Bucket sequence)) is item at = cc
+none_under (Some (Value value)) is item at = cc
+
+pub refused : (both : LostAndFound) → PutsNoneBack both.file.now both.meta → ForRecovered both.file.now both.meta LacksStore → (v : LostView) → all_lost both ≡ v
+    → IsRepairRefusal both.file.now both.meta (left_with v)
+unfolding all_lost
+refused both none lacks (everything x) is = (loses_root both x is, none)
+refused both none lacks (parts losses) is = (∥∥₁_map both.searched (λ searched. (subst (IsAllLost both.file.now both.meta) is searched.lost).0), lacks, none)
 
 abbrev now : Bor Key → Key
 now key = key.now

@@ -2,16 +2,28 @@
 use Rattle.std.specs.Prelude.{ℕ, false, List, []}
 use Rattle.std.specs.List.{Contains}
 use Rattle.bolt_format.specs.declared.meta.Meta.{Meta}
-use Rattle.bolt_tree.specs.Entries.{Value}
-use Rattle.bolt_recover.specs.{Recovered.ForRecovered, Refusals.LosesRoot, declared.recover_fault.RecoverFault.RecoverFault}
-use Rattle.bolt_repair.specs.{Repaired.IsRepair, Repairs.store_path}
-use Rattle.bolt_recover.specs.declared.recover_fault.RecoverFault.TheVariants.{Exists, Memory, NotABucket, Rootless, TooLarge}
+use Rattle.bolt_tree.specs.{Entries.Item, Entries.Value, Listing.Member}
+use Rattle.bolt_recover.specs.{Losses.LostView, Losses.everything, Losses.parts, Recovered.ForRecovered, Refusals.KeepsRoot, Refusals.LosesRoot}
+use Rattle.bolt_repair.specs.{Repaired.IsRepair, Repairs.store_path, declared.repair_fault.RepairFault.RepairFault}
+use Rattle.bolt_repair.specs.declared.repair_fault.RepairFault.TheVariants.{Memory, NoBucket, NotABucket, Rootless}
 
--- The root page is lost and nothing goes back, or the recovered root bucket has a value under the name of the bucket. Nothing is said of
--- memory.
-abbrev pub IsRepairRefusal : List ℕ → Meta → RecoverFault → Type 0
-IsRepairRefusal file meta (Rootless x) = ∥ LosesRoot file meta x ∥₁ × ∥ IsRepair file meta [] false ∥₁
-IsRepairRefusal file meta Exists = ⊥
+-- nothing goes back
+abbrev pub PutsNoneBack : List ℕ → Meta → Type 0
+PutsNoneBack file meta = ∥ IsRepair file meta [] false ∥₁
+
+-- nothing is under the name of the bucket
+abbrev pub LacksStore : List Member → Type 0
+LacksStore recovered = (item : Item) → Contains recovered (store_path, item) → ⊥
+
+-- Nothing goes back, and the root page is lost, or it is kept and the recovered root bucket has nothing under the name of the bucket. Or it has a
+-- value there. Nothing is said of memory.
+abbrev pub IsRepairRefusal : List ℕ → Meta → RepairFault → Type 0
+IsRepairRefusal file meta (Rootless x) = ∥ LosesRoot file meta x ∥₁ × PutsNoneBack file meta
+IsRepairRefusal file meta NoBucket = ∥ KeepsRoot file meta ∥₁ × ForRecovered file meta LacksStore × PutsNoneBack file meta
 IsRepairRefusal file meta NotABucket = (value : List ℕ) × ForRecovered file meta (λ recovered. Contains recovered (store_path, Value value))
-IsRepairRefusal file meta TooLarge = ⊥
 IsRepairRefusal file meta Memory = Unit {0}
+
+-- why there is no bucket, if nothing goes back into it
+abbrev pub left_with : LostView → RepairFault
+left_with (everything x) = Rootless x
+left_with (parts losses) = NoBucket

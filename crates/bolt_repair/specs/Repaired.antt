@@ -16,6 +16,10 @@ lacks_bucket None = Some true
 lacks_bucket (Some (Bucket sequence)) = Some false
 lacks_bucket (Some (Value value)) = None
 
+-- the bucket is there
+abbrev pub HasStore : List Member → Type 0
+HasStore recovered = (sequence : ℕ) × Contains recovered (store_path, Bucket sequence)
+
 -- Whether the bucket is made: if something goes back, and it isn't there.
 abbrev pub MakesStore : List Member → List EntryView → Bool → Type 0
 MakesStore recovered [] true = ⊥

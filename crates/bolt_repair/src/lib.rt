@@ -7,8 +7,10 @@ pub mod laws;
 mod put_back;
 mod recovered_store;
 mod repair;
+mod repair_fault;
 mod repaired;
 mod undisputed;
 
 pub use crate::repair::Repair;
+pub use crate::repair_fault::RepairFault;
 pub use crate::repaired::Repaired;

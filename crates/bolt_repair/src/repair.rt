@@ -1,18 +1,19 @@
 //! What goes back into the bucket `key` of a damaged file, and the search for it.
-ghost use Rattle.std.specs.Prelude.{◌≡◌, ◌≢◌, ◌↔◌, [], All, IfErr, IfOk, OnOk, false, map, not, true};
+ghost use Rattle.std.specs.Prelude.{◌≡◌, ◌↔◌, [], All, IfErr, IfOk, OnOk, false, map, not, true};
 ghost use Rattle.std.specs.{Bool.OnFalse, List.Contains, List.Sorted.IsSorted, Option.option_map};
-ghost use Rattle.bolt_check.specs.{declared.finding.Finding.Finding, Keys.key_cmp};
-ghost use Rattle.bolt_recover.specs.{LostAndFound.all_lost, Losses.everything};
-ghost use Rattle.bolt_repair.specs.{Repaired.IsRepair, RepairRefusals.IsRepairRefusal, Candidates.whole_cmp, Repaired.lacks_bucket, Undisputed.AreUndisputed, Undisputed.HaveKeys, WhatGoesBack.ArePutBack, WhatGoesBack.AreTheNewest, WhatGoesBack.goes_back, WhatGoesBack.old_revisions};
+ghost use Rattle.bolt_check.specs.Keys.{key_cmp};
+ghost use Rattle.bolt_recover.specs.Recovered.{ForRecovered};
+ghost use Rattle.bolt_repair.specs.{Repaired.HasStore, Repaired.IsRepair, RepairRefusals.IsRepairRefusal, Candidates.whole_cmp, Repaired.lacks_bucket, Undisputed.AreUndisputed, Undisputed.HaveKeys, WhatGoesBack.ArePutBack, WhatGoesBack.AreTheNewest, WhatGoesBack.goes_back, WhatGoesBack.old_revisions};
 ghost use Rattle.bolt_tree.specs.{Order.Rises, ShownEntries.item_view};
 ghost use Rattle.bolt_etcd.specs.{Among.among, Among.without, Newest.is_until, ShownRevisions.entry_of, ShownRevisions.shown_revision};
 
 use crate::candidates::{candidates_of, has_key};
 use crate::recovered_store::RecoveredStore;
+use crate::repair_fault::RepairFault;
 use crate::undisputed::keep_undisputed;
 use bolt_check::NoMemory;
 use bolt_etcd::{Revision, compacted_by, keep_newest};
-use bolt_recover::{Lost, LostAndFound, RecoverFault};
+use bolt_recover::LostAndFound;
 use bolt_tree::Item;
 use std::alloc::Global;
 
@@ -38,33 +39,32 @@ impl<'a> Repair<'a> {
     ///
     /// # Errors
     ///
-    /// `Rootless` if the root page is lost and nothing goes back; `NotABucket` if the recovered root bucket
-    /// has a value `key`; `Memory` if memory runs out.
-    pub fn find(alloc: Global, both: &'a LostAndFound<'_>) -> Result<Repair<'a>, RecoverFault>
+    /// `NotABucket` if the recovered root bucket has a value `key`. If it has nothing there and nothing
+    /// goes back, `Rootless` if the root page is lost, and otherwise `NoBucket`. `Memory` if memory runs
+    /// out.
+    pub fn find(alloc: Global, both: &'a LostAndFound<'_>) -> Result<Repair<'a>, RepairFault>
         ensures file { IfOk result (λ repair. repair_file repair ≡ both.now.file.now) }
         ensures meta { IfOk result (λ repair. repair_meta repair ≡ both.now.meta) }
         ensures back { IfOk result (λ repair. IsWholeRepair repair) }
-        ensures some { IfOk result (λ repair.
-            (x : Finding) → all_lost both.now ≡ everything x → repair_back repair ≢ []) }
+        ensures store { IfOk result (λ repair. repair_back repair ≡ []
+            → ForRecovered (repair_file repair) (repair_meta repair) HasStore) }
         ensures refused { IfErr result (IsRepairRefusal both.now.file.now both.now.meta) }
     {
         let mut back = candidates_of(alloc, both.found.as_slice())?;
         let store = RecoveredStore::of(alloc, both, back.as_slice())?;
         let Some(is_lacking) = lacks_bucket(store.bucket) else {
-            return Err(RecoverFault::NotABucket);
+            return Err(RepairFault::NotABucket);
         };
         let compacted = compacted_by(store.compaction);
         let keys = keep_agreed(&mut back, store.met);
         keep_what_goes_back(store.kept, &mut back, compacted)?;
-        if let Lost::Everything(finding) = both.lost()
-            && back.is_empty()
-        {
-            return Err(RecoverFault::Rootless(finding));
+        if has_nothing(is_lacking, back.as_slice()) {
+            return Err(RepairFault::of(both.lost()));
         }
         Ok(Repair {
             both,
             left_out: (keys - back.len()) as u64,
-            is_made: is_lacking && !back.is_empty(),
+            is_made: is_lacking,
             back,
         })
     }
@@ -79,6 +79,13 @@ fn lacks_bucket(under: Option<Item<'_>>) -> Option<bool>
         Some(Item::Bucket { .. }) => Some(false),
         Some(Item::Value(_)) => None,
     }
+}
+
+/// Whether the bucket is lacking, and there is nothing to make it for.
+fn has_nothing(is_lacking: bool, back: &[Revision<'_>]) -> bool
+    ensures { (result ≡ true) ↔ ((is_lacking ≡ true) × (back.now ≡ [])) }
+{
+    is_lacking && back.is_empty()
 }
 
 /// Keeps the candidates that are agreed: the recovered bucket doesn't have their keys (those that it

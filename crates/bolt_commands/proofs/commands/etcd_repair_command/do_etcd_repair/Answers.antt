@@ -3,7 +3,7 @@ use Rattle.std.proofs.Common.{◌∙◌, inl, inr, refl, sym}
 use Rattle.std.proofs.lemmas.List.{length-map}
 use Rattle.bolt_commands.proofs.{Doing.ends_as, RepairAnswers.is_repaired, RepairAnswers.repair_done, RepairAnswers.repair_failed, RepairAnswers.unsearched_unrestored, Vocabulary.∥∥₁_map}
 use Rattle.bolt_repair.specs.{FullRepairs.IsFullRepair, RepairedMembers.repair_file, RepairedMembers.repair_meta, RepairedMerges.repair_back, RepairedMerges.repair_is_made}
-use Rattle.bolt_recover.specs.declared.recover_fault.RecoverFault.TheVariants.{Memory}
+use Rattle.bolt_repair.specs.declared.repair_fault.RepairFault.TheVariants.{Memory}
 use Rattle.bolt_commands.proofs.commands.etcd_repair_command.do_etcd_repair.Goals as goal
 
 pub returns-in_err-both : goal.returns-in_err-both
@@ -28,8 +28,8 @@ returns-in_err-copy g c =
     elim c.in_err-copy.ensures [
       | inl copies ↦ inl (∥∥₁_map found.back (λ (full : IsFullRepair (repair_file repair) (repair_meta repair) (repair_back repair) (repair_is_made repair) repair.left_out).
           let from = found.file ∙ searched.bytes in
-          let is = is_repaired file choice both repair _ _ searched from found.meta full found.some _ refl in
-          repair_failed file choice both repair _ _ searched from found.meta full found.some _ refl g.O.Sink _ c.kind_of-kind.result _ _ _ c.kind_of-kind.ensures.snapshot c.kind_of-kind.ensures.layout
+          let is = is_repaired file choice both repair _ _ searched from found.meta full (λ none. found.store none _ full.repair.recovers) _ refl in
+          repair_failed file choice both repair _ _ searched from found.meta full (λ none. found.store none _ full.repair.recovers) _ refl g.O.Sink _ c.kind_of-kind.result _ _ _ c.kind_of-kind.ensures.snapshot c.kind_of-kind.ensures.layout
           c.blueprint_of-blueprint.ensures _ faults _ _ (copies _ is) ends))
       | inr (same, is) ↦ inr (_, inl (_, Memory, searched.under, tt, refl), (refl, same, ends ∙ is))
     ]
@@ -48,8 +48,8 @@ returns g c =
       | inl copies ↦ inl (∥∥₁_map found.back (λ (full : IsFullRepair (repair_file repair) (repair_meta repair) (repair_back repair) (repair_is_made repair) repair.left_out).
           let from = found.file ∙ searched.bytes in
           let counts = c.len.ensures ∙ repair.back.ok.0 ∙ sym (length-map _ _) in
-          let is = is_repaired file choice both repair _ _ searched from found.meta full found.some _ counts in
-          repair_done file choice both repair _ _ searched from found.meta full found.some _ counts g.O.Sink _ c.kind_of-kind.result _ _ _ c.kind_of-kind.ensures.snapshot c.kind_of-kind.ensures.layout
+          let is = is_repaired file choice both repair _ _ searched from found.meta full (λ none. found.store none _ full.repair.recovers) _ counts in
+          repair_done file choice both repair _ _ searched from found.meta full (λ none. found.store none _ full.repair.recovers) _ counts g.O.Sink _ c.kind_of-kind.result _ _ _ c.kind_of-kind.ensures.snapshot c.kind_of-kind.ensures.layout
           c.blueprint_of-blueprint.ensures _ faults _ _ (copies _ is) told))
       | inr (same, is) ↦ absurd (cc)
     ]

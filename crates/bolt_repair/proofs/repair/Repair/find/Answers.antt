@@ -1,15 +1,15 @@
 -- What is found, looked at beside the recovered listing.
-use Rattle.std.proofs.Common.{◌≡◌, ◌∙◌, ◌-◌, ◌≤◌, ◌&&◌, not, ap, false, subst, sym, vec_len, List, arith, map, length}
-use Rattle.bolt_etcd.specs.ShownRevisions.{entry_of}
+use Rattle.std.proofs.Common.{◌≡◌, ◌∙◌, ◌-◌, ◌≤◌, ◌&&◌, not, ap, false, Some, subst, sym, vec_len, List, arith, map, length}
+use Rattle.bolt_etcd.specs.{ShownRevisions.entry_of, declared.revision.Revision.Revision}
 use Rattle.bolt_tree.proofs.Exports.{key_total}
 use Rattle.bolt_etcd.proofs.Exports.{rises_sorted}
-use Rattle.bolt_repair.proofs.FoundRepairs.{loses_root, made_if, none_left, not_made, searched_full, searched_least, searched_repair}
-use Rattle.bolt_repair.proofs.{WholeRepairs.is_nil, WholeRepairs.value_under, repair.Repair.find.Goals.else-is_lacking, repair.Repair.find.Goals.then-is_lacking}
+use Rattle.bolt_repair.proofs.FoundRepairs.{HasNothing, has_bucket, made_if, none_under, refused, searched_full, searched_least, searched_repair}
+use Rattle.bolt_repair.proofs.{WholeRepairs.is_nil, WholeRepairs.value_under}
 use Rattle.std.proofs.lemmas.Bool.{and_right}
 use Rattle.std.specs.Option.{option_map}
-use Rattle.bolt_tree.specs.{Entries.EntryView, Entries.Value, ShownEntries.item_view}
+use Rattle.bolt_tree.specs.{Entries.Bucket, Entries.EntryView, Entries.Value, ShownEntries.item_view}
 use Rattle.bolt_recover.specs.ShownLosses.{lost_view}
-use Rattle.bolt_repair.specs.Repaired.{IsRepair}
+use Rattle.bolt_repair.specs.{Repaired.IsRepair, RepairRefusals.IsRepairRefusal}
 use Rattle.bolt_recover.proofs.Exports.{has_recovered}
 use Rattle.bolt_repair.proofs.repair.Repair.find.Goals as goal
 
@@ -29,44 +29,46 @@ keep_agreed-keys-requires-clause-sorted c =
 pub invariant_of-result : goal.invariant_of-result
 invariant_of-result c =
     let back = c.keep_what_goes_back.new.agreed in
-    let long : vec_len back ≡ length back.items = omega arith in
-    let made : c.if-is_lacking.result ≡ (c.in-Some.is_lacking && not (is_nil (map entry_of back.items))) =
-    elim c.if-is_lacking.branch [
-      | then-is_lacking w ↦ made_if back.items c.if-is_lacking.result c.in-Some.is_lacking _ _ w.result-is w.is_empty-then-is_lacking.ensures long w.if-is_lacking.true
-      | else-is_lacking w ↦ not_made back.items c.if-is_lacking.result c.in-Some.is_lacking w.result-is w.if-is_lacking.false
-    ] in
+    let says = subst (HasNothing c.has_nothing.result c.in-Some.is_lacking) c.as_slice-3.ensures.value c.has_nothing.ensures in
     record {
       goes_back =
           searched_repair c.args.both.now _ c.as_slice.ensures.value _ _ _ _ c.as_slice-2.ensures.value c.in_ok-store.store _ c.compacted_by-compacted.ensures c.in_ok-back.ensures
-          c.in_ok-store.ensures c.keep_agreed-keys.ensures.agreed c.in_ok-keep_what_goes_back.ensures c.in-Some.is_lacking (sym c.lacks_bucket.ensures ∙ c.in-Some.is) c.if-is_lacking.result made;
+          c.in_ok-store.ensures c.keep_agreed-keys.ensures.agreed c.in_ok-keep_what_goes_back.ensures c.in-Some.is_lacking (sym c.lacks_bucket.ensures ∙ c.in-Some.is) c.in-Some.is_lacking
+          (made_if back.items _ _ says c.if-has_nothing.false);
     }
 
-pub returns-2-clause-back : goal.returns-2-clause-back
-returns-2-clause-back c =
+pub returns-clause-back : goal.returns-clause-back
+returns-clause-back c =
     let back = c.keep_what_goes_back.new.agreed in
     let long : vec_len back ≡ length back.items = omega arith in
-    let made : c.if-is_lacking.result ≡ (c.in-Some.is_lacking && not (is_nil (map entry_of back.items))) =
-    elim c.if-is_lacking.branch [
-      | then-is_lacking w ↦ made_if back.items c.if-is_lacking.result c.in-Some.is_lacking _ _ w.result-is w.is_empty-then-is_lacking.ensures long w.if-is_lacking.true
-      | else-is_lacking w ↦ not_made back.items c.if-is_lacking.result c.in-Some.is_lacking w.result-is w.if-is_lacking.false
-    ] in
+    let says = subst (HasNothing c.has_nothing.result c.in-Some.is_lacking) c.as_slice-3.ensures.value c.has_nothing.ensures in
     let (keys, are, number) = c.keep_agreed-keys.ensures.keys in
     searched_full c.args.both.now _ c.as_slice.ensures.value _ _ _ _ c.as_slice-2.ensures.value c.in_ok-store.store _ c.compacted_by-compacted.ensures c.in_ok-back.ensures
-    c.in_ok-store.ensures c.keep_agreed-keys.ensures.agreed c.in_ok-keep_what_goes_back.ensures c.in-Some.is_lacking (sym c.lacks_bucket.ensures ∙ c.in-Some.is) c.if-is_lacking.result made
-    keys are (c.keep_agreed-keys.result - c.len.result) (let same = c.len.ensures in omega (arith, number, same, long))
+    c.in_ok-store.ensures c.keep_agreed-keys.ensures.agreed c.in_ok-keep_what_goes_back.ensures c.in-Some.is_lacking (sym c.lacks_bucket.ensures ∙ c.in-Some.is) c.in-Some.is_lacking
+    (made_if back.items _ _ says c.if-has_nothing.false) keys are (c.keep_agreed-keys.result - c.len.result) (let same = c.len.ensures in omega (arith, number, same, long))
 
-pub returns-clause-refused : goal.returns-clause-refused
-returns-clause-refused c =
+pub returns-clause-store : goal.returns-clause-store
+returns-clause-store c = λ none listing is.
     let back = c.keep_what_goes_back.new.agreed in
-    let long : vec_len back ≡ length back.items = omega arith in
-    let none = none_left back.items _ _ c.is_empty.ensures long c.if-is_empty.true in
-    let made : false ≡ (c.in-Some.is_lacking && not (is_nil (map entry_of back.items))) = sym (and_right c.in-Some.is_lacking _ (ap not (ap is_nil none))) in
+    let says = subst (HasNothing c.has_nothing.result c.in-Some.is_lacking) c.as_slice-3.ensures.value c.has_nothing.ensures in
+    let (sequence, under) = has_bucket back.items _ _ says c.if-has_nothing.false none (option_map item_view c.in_ok-store.store.bucket) (sym c.lacks_bucket.ensures ∙ c.in-Some.is) in
+    (sequence, ((c.in_ok-store.ensures listing is).bucket (Bucket sequence)).1 under)
+
+pub returns-then-has_nothing-clause-refused : goal.returns-then-has_nothing-clause-refused
+returns-then-has_nothing-clause-refused c =
+    let both = c.args.both.now in
+    let back = c.keep_what_goes_back.new.agreed in
+    let says = subst (HasNothing c.has_nothing.result c.in-Some.is_lacking) c.as_slice-3.ensures.value c.has_nothing.ensures in
+    let (lacks, none) = says.0 c.if-has_nothing.true in
+    let empty = ap (λ (es : List Revision). map entry_of es) none in
+    let made : false ≡ (c.in-Some.is_lacking && not (is_nil (map entry_of back.items))) = sym (and_right c.in-Some.is_lacking _ (ap not (ap is_nil empty))) in
+    let under = sym c.lacks_bucket.ensures ∙ c.in-Some.is in
     let repair =
     searched_repair c.args.both.now _ c.as_slice.ensures.value _ _ _ _ c.as_slice-2.ensures.value c.in_ok-store.store _ c.compacted_by-compacted.ensures c.in_ok-back.ensures
-    c.in_ok-store.ensures c.keep_agreed-keys.ensures.agreed c.in_ok-keep_what_goes_back.ensures c.in-Some.is_lacking (sym c.lacks_bucket.ensures ∙ c.in-Some.is) false made in (
-      loses_root c.args.both.now c.in-Everything.finding (sym c.lost.ensures ∙ ap lost_view c.in-Everything.is),
-      subst (λ (es : List EntryView). ∥ IsRepair c.args.both.now.file.now c.args.both.now.meta es false ∥₁) none repair,
-    )
+    c.in_ok-store.ensures c.keep_agreed-keys.ensures.agreed c.in_ok-keep_what_goes_back.ensures c.in-Some.is_lacking under false made in
+    subst (IsRepairRefusal both.file.now both.meta) (sym c.of-then-has_nothing.ensures)
+    (refused both (subst (λ (es : List EntryView). ∥ IsRepair both.file.now both.meta es false ∥₁) empty repair)
+    (λ listing is item has. none_under _ (under ∙ ap Some lacks) item (((c.in_ok-store.ensures listing is).bucket item).0 has)) (lost_view c.lost.result) (sym c.lost.ensures))
 
 pub returns-in_default-clause-refused : goal.returns-in_default-clause-refused
 returns-in_default-clause-refused c =
