@@ -63,6 +63,9 @@ FOUND = rb"(?:page \d+: nothing leads to it; found: \d+ entries, \d+ of them buc
     HEX, NAME, HEX, NAME,
 )
 FINDINGS = rb"(?:(?:%b|%b)\n)+\d+ errors found\n" % (FOR_BBOLT, FINDING)
+# What `check` finds, or what is lost, and the gaps of what is kept.
+GAPS = rb"(?:page \d+: gap (?:before|after) %b+%b\n)*" % (HEX, NAME)
+FAULTY = rb"(?:(?:(?:%b|%b)\n)*|%b)%b" % (FOR_BBOLT, FINDING, LOSSES, GAPS)
 META_FAULT = rb"file too short|invalid database|version mismatch|checksum error|page size refused"
 META_LINE = rb"meta [01]: (?:%b)" % META_FAULT
 OTHER_META = META_LINE + rb"\n"
@@ -106,11 +109,11 @@ FAILED = {
     "etcd-keys": (rb"(?s:.*)", OTHERS),
     "etcd-get": (rb"(?s:.*)", OTHERS),
     "etcd-status": (STATUS % b"none", OTHERS),
-    "check --all": (rb"(?:%b)?(?:%b|%b\d+ errors found\n)|%b\d+ errors found\n" % (OTHER_META, FINDINGS, LOSSES, OTHER_META), b""),
+    "check --all": (rb"(?:%b)?%b[1-9]\d* errors found\n" % (OTHER_META, FAULTY), b""),
     **{f"{command} --recover": (rb"(?s:.*)", LOST) for command in ("buckets", "keys", "get")},
     "list --recover": (TEXTS["list"] + b"|" + JSON_TEXTS["list"], LOST),
     "compact --recover": (rb"(?:%b\n)?(?:%b)?(?:%b)?%b" % (BAD_HASH, OTHER_META, LOSSES, TEXTS["compact"]), b""),
-    "check --lost-and-found": (rb"(?:%b)?(?:%b|%b%b\d+ errors found\n)|%b\d+ errors found\n" % (OTHER_META, FINDINGS, LOSSES, FOUND, OTHER_META), b""),
+    "check --lost-and-found": (rb"(?:%b)?%b%b[1-9]\d* errors found\n" % (OTHER_META, FAULTY, FOUND), b""),
     "list --lost-and-found": (TEXTS["list"], LOST),
     "etcd-repair": (rb"(?:%b\n)?(?:%b)?(?:%b)?\d+ revisions put back, \d+ left out\n%b" % (BAD_HASH, OTHER_META, LOSSES, TEXTS["compact"]), b""),
     "compact --lost-and-found": (rb"(?:%b\n)?(?:%b)?(?:%b)?%b%b" % (BAD_HASH, OTHER_META, LOSSES, FOUND, TEXTS["compact"]), b""),

@@ -4,6 +4,7 @@ import os
 import re
 
 from found import compare_found, compare_repaired
+from gaps import GAP, gaps_below, without_gaps
 from listings import paths_between
 from options import buckets_of, lines_of_json, part_of
 from program import Result, want
@@ -82,9 +83,23 @@ def compare_refused(file, words, fault):
     want(read(copy) == b"", "the copy of what is refused isn't empty")
 
 
+def place_under(file, words):
+    """The page size and the root page of the meta that the words name."""
+    option, value = words
+    if option == "--assume-meta":
+        return [int(number) for number in value.split(":")]
+    lines = file.text("info", *words).decode().splitlines()
+    numbers = dict(line.rsplit(" ", 1) for line in lines)
+    return int(numbers["page size"]), int(numbers["root"])
+
+
 def compare_whole(file, words):
     """The trees are sound: --recover prints and writes what --meta does."""
-    want(file.text("check", "--all", *words) == b"OK\n", "check --all finds something in sound trees")
+    gaps = list(gaps_below(read(file.path), *place_under(file, words)))
+    wanted = "\n".join([*gaps, f"{len(gaps)} errors found" if gaps else "OK", ""]).encode()
+    for extent in ("--all", "--lost-and-found"):
+        result = file.run("check", extent, *words)
+        want((result.out, result.err) == (wanted, b""), "of sound trees check", extent, "prints", result, "and not", wanted)
     listed = file.run("list", "--recover", *words)
     want(same(listed, file.run("list", *words)), "list --recover", *words)
     compare_recovered_buckets(file, words, listed, entries_of(listed.out))
@@ -154,7 +169,7 @@ def compare_copies(file, words, lines, listing):
 
 def compare_lost(file, words, finding):
     """The trees aren't sound: what is lost, what is listed and what is copied belong together."""
-    lines = lines_of(file.run("check", "--all", *words))
+    lines = without_gaps(lines_of(file.run("check", "--all", *words)))
     losses = [Loss(line) for line in lines]
     want(losses[0].finding == finding, "the first loss is", lines[0], "and check finds", finding)
     if any(loss.is_all for loss in losses):
@@ -192,11 +207,22 @@ def compare_under(file, words):
         compare_lost(file, words, finding)
 
 
+def with_gaps(checked, under):
+    """What `check` prints, and then the gaps that `check --all` prints under the meta, which is all it finds there; or its
+    losses and gaps."""
+    if under.is_ok():
+        return checked
+    lines = under.out.splitlines(keepends=True)[:-1]
+    if checked.is_ok() or not all(GAP.match(line) for line in lines):
+        return under
+    found = checked.out.splitlines(keepends=True)[:-1] + lines
+    return Result(1, b"".join(found) + b"%d errors found\n" % len(found), b"")
+
+
 def compare_all(file, slot, checked):
     """`check --all` is `check` if nothing is lost, and otherwise what it is with --meta. What is wrong with the meta that
     isn't in use comes first, and is counted."""
-    under = file.run("check", "--all", "--meta", slot)
-    of_pages = checked if under.is_ok() else under
+    of_pages = with_gaps(checked, file.run("check", "--all", "--meta", slot))
     result, other = file.run("check", "--all"), file.run("info", "--meta", 1 - slot)
     if other.is_ok():
         want(same(result, of_pages), "check --all isn't that of its meta")
@@ -252,7 +278,7 @@ def compare_pages_lost(file, listing):
     words = ["--meta", info["meta"]]
     compare_under(damaged, words)
     checked = damaged.run("check", "--all", *words)
-    losses = [] if checked.is_ok() else [Loss(line) for line in lines_of(checked)]
+    losses = [] if checked.is_ok() else [Loss(line) for line in without_gaps(lines_of(checked))]
     if not losses or any(loss.is_all or loss.page not in zeroed for loss in losses):
         return
     whole, left = entries_of(listing), entries_of(damaged.run("list", "--recover", *words).out)

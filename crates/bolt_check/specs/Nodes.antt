@@ -1,13 +1,14 @@
 -- What the rules of soundness see of a page: a branch or a leaf with its entries, or why it is none. docs/SOUND.md, "Structure".
 use Rattle.std.specs.Prelude.{◌≤◌, ℕ, ◌+◌, Bool, true, false, List, [], map, Option, Some, None, Result, Ok, Err}
-use Rattle.bolt_format.specs.{Elements.BranchElement, Elements.LeafElement, Elements.head_root, Elements.inline_elements, Elements.inline_number, Pages.PageView, Pages.page_at, Pages.page_fault}
+use Rattle.bolt_format.specs.{Elements.BranchElement, Elements.LeafElement, Elements.head_root, Elements.inline_elements, Elements.inline_number, Gaps.GapView, Gaps.inline_gap, Pages.PageView, Pages.page_at, Pages.page_fault}
 use Rattle.bolt_format.specs.{declared.meta.Meta.Meta, declared.header.Kind.Kind, declared.page_fault.TheConstants.PageFault.PAGE_KIND}
 use Rattle.bolt_format.specs.declared.header.Kind.TheVariants as kind
 
--- The page of an inline bucket: the page number in its header, and its keys.
+-- The page of an inline bucket: the page number in its header, its keys, and its first gap, if it has one.
 pub record InlinePage : Type 0 where
   pub number : ℕ
   pub keys : List (List ℕ)
+  pub gap : Option GapView
 
 -- An entry leads to a page. If the page is 0 and the entry is a bucket, it leads to an inline bucket with this page.
 pub record Entry : Type 0 where
@@ -22,7 +23,7 @@ pub record Node : Type 0 where
   pub entries : List Entry
 
 abbrev pub no_page : InlinePage
-no_page = record { number = 0; keys = [] }
+no_page = record { number = 0; keys = []; gap = None }
 
 abbrev pub branch_entry : BranchElement → Entry
 branch_entry e = record { key = e.key; child = e.child; is_bucket = false; inner = no_page }
@@ -32,6 +33,7 @@ abbrev pub inline_page : List ℕ → InlinePage
 inline_page value = record {
   number = inline_number value;
   keys = map (λ (inner : LeafElement). inner.key) (inline_elements value);
+  gap = inline_gap value;
 }
 
 abbrev pub leaf_entry : LeafElement → Entry

@@ -1,7 +1,7 @@
 -- A spot of the code as the definitions have it: docs/SOUND.md, "Ways".
 use Rattle.std.specs.Prelude.{◌≡◌, ℕ, List, map, Option, Some, None}
 use Rattle.std.specs.Borrow.{Bor}
-use Rattle.bolt_format.specs.{ShownInline.shown_inline, Elements.LeafElement, Elements.inline_elements, declared.bucket_value.Inline.Inline}
+use Rattle.bolt_format.specs.{Elements.LeafElement, Elements.inline_elements, Gaps.shown_inline_gap, ShownInline.shown_inline, declared.bucket_value.Inline.Inline}
 use Rattle.bolt_check.specs.{Keys.Key, Nodes.InlinePage, Ways.At_inline, Ways.At_page, Ways.PageSpot, Ways.Spot, declared.spot.PageSpot.PageSpot as CodePageSpot}
 use Rattle.bolt_check.specs.{declared.spot.Spot.Spot as CodeSpot, declared.spot.Spot.TheVariants.Page, declared.spot.Spot.TheVariants.Bucket}
 
@@ -16,7 +16,7 @@ abbrev pub inline_keys : Inline → List Key
 inline_keys page = map (λ (e : LeafElement). e.key) (shown_inline page)
 
 abbrev pub shown_inner : Inline → InlinePage
-shown_inner page = record { number = page.number; keys = inline_keys page }
+shown_inner page = record { number = page.number; keys = inline_keys page; gap = shown_inline_gap page }
 
 abbrev pub spot_at : CodeSpot → Spot
 spot_at (Page spot) = At_page (page_spot spot)

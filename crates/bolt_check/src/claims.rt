@@ -1,6 +1,7 @@
 //! The claimed pages of a file, and the tests of one more page.
-ghost use Rattle.std.specs.Prelude.{◌≡◌, ◌↔◌, ◌<◌, ◌≤◌, ◌^◌, ℕ, IfErr, IfOk, OnErr, OnOk};
-ghost use Rattle.bolt_format.specs.{Bytes.IsBytes};
+ghost use Rattle.std.specs.Prelude.{◌≡◌, ◌↔◌, ◌<◌, ◌≤◌, ◌^◌, ℕ, IfErr, IfOk, IsSome, OnErr, OnOk};
+ghost use Rattle.std.specs.Option.{option_map};
+ghost use Rattle.bolt_format.specs.{Bytes.IsBytes, Gaps.gap_view, Gaps.page_gap, Pages.page_at};
 ghost use Rattle.bolt_check.specs.{Counts.counted, Findings.IsMetaPage, Findings.PagePasses, Findings.PageTests, Private.Freelists.IsUnlisted};
 ghost use Rattle.bolt_check.specs.{Private.Tables.HasRoom, ShownNodes.IsNodeAt, ShownNodes.IsPageAt, ShownSpots.page_spot, TableLengths.table_length};
 ghost use Rattle.bolt_check.specs.Ways.{AddsSpan, At_page};
@@ -10,7 +11,7 @@ use crate::finding::Finding;
 use crate::spot::PageSpot;
 use crate::table::{PageUse, new_table, reset};
 use crate::visit::visit;
-use bolt_format::{Meta, TreePage};
+use bolt_format::{Gap, Meta, TreePage, page_gap};
 use std::alloc::Global;
 
 /// The claimed pages of a file: the two meta pages, and the spans of the visited pages that passed
@@ -109,5 +110,15 @@ impl<'a> Claims<'a> {
     {
         self.visited = self.visited.saturating_add(1);
         visit(self.file, &self.meta, spot, &mut self.table)
+    }
+
+    /// The first gap of page `number`, if it has one. The page is known to be good, as one that was
+    /// visited is.
+    pub fn gap(&self, number: u64) -> Option<Gap<'a>>
+        requires { IsSome (page_at (claims_file self.now) (claims_meta self.now) number) }
+        ensures { option_map gap_view result
+            ≡ page_gap (claims_file self.now) (claims_meta self.now) number }
+    {
+        page_gap(self.file, &self.meta, number)
     }
 }

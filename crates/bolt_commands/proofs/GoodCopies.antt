@@ -2,7 +2,8 @@
 use Rattle.std.proofs.Common.{◌≡◌, ◌∙◌, ◌+◌, ◌*◌, ◌-◌, ◌^◌, ◌%◌, ◌<◌, ◌==◌, ℕ, zero, suc, List, [], ◌∷◌, ◌++◌, map, Bool, true, false, IsTrue, Some, arith, ap}
 use Rattle.std.proofs.Common.{inl, inr, length, length-append, subst, sym, take}
 use Rattle.std.proofs.Math.Nat.{mul-mod_left, mul_assoc}
-use Rattle.bolt_commands.proofs.Vocabulary.{AllByRecursion, HasBothMetas, HasGoodCopies, IsAsked, IsActive, IsGoodCopy, IsListing, IsOfOneTree, IsPageSize, IsSnapshot, IsSound, IsSoundCopy, Layout, Member, Meta, One, RefusesFile, RefusesPrefixes, Slot, cases_lt, cut_hash_fault, eqb-true, finding, hash_fault, layout_of_listing, length-sha256, list_any, or_cases, page_size_count, page_sizes, range_with_len, sha256, snapshot_of, take-append-le, too_many}
+use Rattle.bolt_commands.proofs.Vocabulary.{AllByRecursion, HasBothMetas, HasGoodCopies, HasNoGaps, IsAsked, IsActive, IsGoodCopy, IsListing, IsOfOneTree, IsPageSize, IsSnapshot, IsSound, IsSoundCopy, Layout, Member, Meta, One, RefusesFile, RefusesPrefixes, Slot, cases_lt, cut_hash_fault, eqb-true, finding, hash_fault, layout_of_listing, length-sha256, list_any, or_cases, page_size_count, page_sizes, range_with_len, sha256, snapshot_of, take-append-le, too_many}
+use Rattle.bolt_commands.proofs.NoGaps.{gaps_more}
 use Rattle.bolt_check.specs.declared.check_fault.CheckFault.TheVariants as check
 use Rattle.bolt_format.specs.{declared.page_fault.TheConstants.PageFault.CUT, declared.meta.MetaFault.TheVariants.Cut}
 use Rattle.bolt_layout.specs.{Layout.layout_mark, Layout.layout_meta, Layout.layout_of, Layout.layout_root, Storable.IsStorable}
@@ -39,6 +40,8 @@ pub record Laws : Type 0 where
       → length (layout_of which page_size tree sequence) ≡ layout_mark which page_size tree * page_size
   pub prefixes : (which : Layout) (page_size : ℕ) (tree : Tree) (sequence : ℕ) → IsAsked page_size tree sequence
       → length (layout_of which page_size tree sequence) < 2 ^ 63 → RefusesPrefixes (layout_of which page_size tree sequence) (layout_root which page_size tree)
+  pub whole : (which : Layout) (page_size : ℕ) (tree : Tree) (sequence : ℕ) → IsAsked page_size tree sequence
+      → length (layout_of which page_size tree sequence) < 2 ^ 63 → HasNoGaps (layout_of which page_size tree sequence) (layout_meta which page_size tree sequence 1)
   pub metas_more : (file more : List ℕ) → HasBothMetas file → HasBothMetas (file ++ more)
   pub chosen_more : (file more : List ℕ) (slot : Slot) (meta : Meta) (accounts : Bool) → HasAllPages file meta → IsSound file meta accounts → IsActive file slot meta
       → IsActive (file ++ more) slot meta
@@ -67,6 +70,9 @@ module _ (laws : Laws) (listing : List Member) (sequence : ℕ) (one : IsOfOneTr
   copy_sound : IsSoundCopy which page_size (tree_of listing) sequence listing
   copy_sound = laws.sound which listing page_size sequence one size fits few
 
+  no_gaps : HasNoGaps layout own_meta
+  no_gaps = laws.whole which page_size (tree_of listing) sequence (record { size = size; storable = one.storable; sequence_fits = fits }) few
+
   refuses : (n : ℕ) → n < length layout → RefusesFile (take n layout)
   refuses n less =
       let cuts = laws.prefixes which page_size (tree_of listing) sequence (record { size = size; storable = one.storable; sequence_fits = fits }) few in
@@ -77,7 +83,7 @@ module _ (laws : Laws) (listing : List Member) (sequence : ℕ) (one : IsOfOneTr
 
   good : (snapshot : Bool) → IsGoodCopy snapshot layout listing
   good false = record {
-    accepted = (One, own_meta, copy_sound.chosen, copy_sound.sound, copy_sound.lists);
+    accepted = (One, own_meta, copy_sound.chosen, copy_sound.sound, copy_sound.lists, no_gaps);
     metas = copy_sound.metas;
     hash = λ asked. absurd (cc);
     cut_layout = refuses;
@@ -90,6 +96,7 @@ module _ (laws : Laws) (listing : List Member) (sequence : ℕ) (one : IsOfOneTr
       laws.chosen_more layout (sha256 layout) One own_meta true all_pages copy_sound.sound copy_sound.chosen,
       laws.sound_more layout (sha256 layout) own_meta true all_pages copy_sound.sound,
       laws.listing_more layout (sha256 layout) own_meta listing all_pages copy_sound.lists,
+      gaps_more layout (sha256 layout) own_meta all_pages copy_sound.sound.trees no_gaps,
     );
     metas = laws.metas_more layout (sha256 layout) copy_sound.metas;
     hash = λ asked. laws.snapshot layout blocks;

@@ -15,6 +15,7 @@ pub mod ListedLoads
 pub mod LoadAnswers
 pub mod LostAnswers
 pub mod NeededBytes
+pub mod NoGaps
 pub mod OpenedReads
 pub mod OtherMetas
 mod PageAnswers

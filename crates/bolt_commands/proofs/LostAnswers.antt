@@ -1,50 +1,63 @@
 -- The answers of `check --all` and `check --lost-and-found`.
-use Rattle.std.proofs.Common.{◌≡◌, ◌≢◌, ◌∷◌, ℕ, Bool, List, [], true, false, inl, inr, map, refl, sym}
-use Rattle.bolt_commands.proofs.Vocabulary.{Answer, AnswersLost, Extent, Failure, FileFaults, Sound, FoundView, IsCheckAnswerAfter, IsFoundAnswer, IsLostAnswer, IsLostKnown, MayRunOut, IsOpened, IsUnopened, Losses, LostView, MetaChoice, Opened, everything, false≢true, found_view, is_nothing, lost_and_found_answer, opened_found, opened_lost, opened_meta, parts}
-use Rattle.bolt_commands.proofs.OpenedReads.{found_opened, opened_under}
+use Rattle.std.proofs.Common.{◌≡◌, ◌≢◌, ◌∷◌, ℕ, Bool, List, [], true, false, inl, inr, map, refl, subst, sym}
+use Rattle.bolt_commands.proofs.Vocabulary.{all_lost, Answer, AnswersLost, AreGaps, Extent, Failure, FileFaults, ForGaps, ForLosses, Sound, FoundView, IsCheckAnswerAfter, IsFoundAnswer, IsLostAnswer, IsMetaOf, IsSearchOf, IsUnopened, Losses, LossView, LostAndFound as Search, LostView, Meta, MetaChoice, PageGapView, everything, false≢true, found_view, is_nothing, lost_and_found_answer, parts}
+use Rattle.bolt_commands.proofs.FoundAnswers.{are_pages}
 use Rattle.bolt_check.specs.declared.check_fault.CheckFault.TheVariants as check
 use Rattle.bolt_commands.specs.Private.Checks.{unopened}
 use Rattle.bolt_job.specs.declared.choices.Extent.TheVariants.{LostAndFound}
+use Rattle.bolt_recover.proofs.Exports.{has_gaps, no_gaps}
+use Rattle.bolt_recover.specs.Refusals.{KeepsRoot}
+
+-- all gaps
+pub all_gaps : (file : List ℕ) (meta : Meta) (gaps : List PageGapView) → ForGaps file meta (λ all. gaps ≡ all) → AreGaps file meta gaps
+all_gaps file meta gaps known = let (all, are) = has_gaps file meta in subst (AreGaps file meta) (sym (known all are)) are
 
 module _ (for_bbolt : Bool) (faults : FileFaults) (file : List ℕ) (choice : MetaChoice) where
   -- nothing is lost, or something is
-  pub none_lost : (lost : LostView) (found : List FoundView) → is_nothing lost ≡ true → (answer : Answer) → IsFoundAnswer for_bbolt faults file choice answer
-      → AnswersLost for_bbolt faults file choice lost found answer
-  none_lost (parts []) found none answer is = is
-  none_lost lost found none answer is = absurd (false≢true none)
+  pub none_lost : (lost : LostView) (gaps : List PageGapView) (found : List FoundView) → is_nothing lost ≡ true → (answer : Answer)
+      → IsFoundAnswer for_bbolt faults file choice gaps answer → AnswersLost for_bbolt faults file choice lost gaps found answer
+  none_lost (parts []) gaps found none answer is = is
+  none_lost lost gaps found none answer is = absurd (false≢true none)
 
-  pub some_lost : (lost : LostView) (found : List FoundView) → is_nothing lost ≡ false → AnswersLost for_bbolt faults file choice lost found (lost_and_found_answer faults lost found)
-  some_lost (everything x) found some = refl
-  some_lost (parts []) found some = absurd (false≢true (sym some))
-  some_lost (parts (loss ∷ losses)) found some = refl
+  pub some_lost : (lost : LostView) (gaps : List PageGapView) (found : List FoundView) → is_nothing lost ≡ false
+      → AnswersLost for_bbolt faults file choice lost gaps found (lost_and_found_answer faults lost gaps found)
+  some_lost (everything x) gaps found some = refl
+  some_lost (parts []) gaps found some = absurd (false≢true (sym some))
+  some_lost (parts (loss ∷ losses)) gaps found some = refl
 
-  module _ (extent : Extent) (beyond : extent ≢ Sound) where
-    -- to any extent but the first
-    pub lost_answer : (answer : Answer) → IsLostAnswer extent for_bbolt faults file choice answer → IsCheckAnswerAfter extent for_bbolt faults file choice answer
-    lost_answer = to extent beyond
-      where
-        to : (e : Extent) → e ≢ Sound → (answer : Answer) → IsLostAnswer e for_bbolt faults file choice answer → IsCheckAnswerAfter e for_bbolt faults file choice answer
-        to Sound other answer is = absurd (other refl)
-        to Losses other answer is = is
-        to LostAndFound other answer is = is
+  -- of a file that is recovered, or searched
+  pub recovered_lost : (meta : Meta) (losses : List LossView) (gaps : List PageGapView) (answer : Answer) → IsMetaOf file choice meta → KeepsRoot file meta
+      → ForLosses file meta (λ all. losses ≡ all) → ForGaps file meta (λ all. gaps ≡ all) → AnswersLost for_bbolt faults file choice (parts losses) gaps [] answer
+      → IsLostAnswer Losses for_bbolt faults file choice answer
+  recovered_lost meta losses gaps answer under keeps lost known answers = inl (meta, parts losses, gaps, [], under, (keeps, lost), all_gaps file meta gaps known, refl, answers)
 
-    -- of what is opened, when all that is lost is known
-    pub opened_answer : (before after : Opened) → IsOpened extent file choice before → IsLostKnown before after → (answer : Answer)
-        → AnswersLost for_bbolt faults file choice (opened_lost after) (map found_view (opened_found before)) answer → IsCheckAnswerAfter extent for_bbolt faults file choice answer
-    opened_answer before after to known answer is =
-        lost_answer answer (inl (opened_meta before, opened_lost after, map found_view (opened_found before), opened_under extent file choice before to, known extent file choice to beyond, found_opened extent file choice before to, is))
+  pub searched_lost : (both : Search) (gaps : List PageGapView) (answer : Answer) → IsSearchOf file choice both → ForGaps file both.meta (λ all. gaps ≡ all)
+      → AnswersLost for_bbolt faults file choice (all_lost both) gaps (map found_view both.found.items) answer → IsLostAnswer LostAndFound for_bbolt faults file choice answer
+  searched_lost both gaps answer is known answers =
+      inl (
+        both.meta,
+        all_lost both,
+        gaps,
+        map found_view both.found.items,
+        is.under,
+        is.lost,
+        all_gaps file both.meta gaps known,
+        are_pages file both.meta both.found.items is.found is.views,
+        answers,
+      )
 
-  -- memory runs out of an opened file
-  pub may_run_out : (extent : Extent) (o : Opened) → IsOpened extent file choice o → MayRunOut extent file choice
-  may_run_out Sound o to = tt
-  may_run_out Losses o to = tt
-  may_run_out LostAndFound o to = (opened_meta o, opened_under LostAndFound file choice o to)
+  -- to any extent but the first
+  pub lost_answer : (extent : Extent) → extent ≢ Sound → (answer : Answer) → IsLostAnswer extent for_bbolt faults file choice answer
+      → IsCheckAnswerAfter extent for_bbolt faults file choice answer
+  lost_answer Sound beyond answer is = absurd (beyond refl)
+  lost_answer Losses beyond answer is = is
+  lost_answer LostAndFound beyond answer is = is
 
   -- the file isn't opened
   pub unopened_lost : (extent : Extent) (why : Failure) → extent ≢ Sound → IsUnopened extent file choice why → IsLostAnswer extent for_bbolt faults file choice (unopened faults why)
   unopened_lost Sound why beyond is = absurd (beyond refl)
   unopened_lost Losses why beyond (check.Open fault, none, is) = rw is (inr (inl (fault, none, refl)))
-  unopened_lost Losses why beyond (check.Structure x, (meta, under, loses), is) = rw is (inl (meta, everything x, [], under, loses, refl, refl))
+  unopened_lost Losses why beyond (check.Structure x, (meta, under, loses), is) = rw is (inl (meta, everything x, [], [], under, loses, no_gaps file meta x loses, refl, refl))
   unopened_lost Losses why beyond (check.Accounts findings, none, is) = absurd none
   unopened_lost Losses why beyond (check.Memory, none, is) = rw is (inr (inr (tt, refl)))
   unopened_lost LostAndFound why beyond (inl (fault, none, is)) = rw is (inr (inl (fault, none, refl)))

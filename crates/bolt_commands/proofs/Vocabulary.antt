@@ -17,7 +17,7 @@ pub use Rattle.bolt_commands.specs.{FileFaults.AreCopyFaults, FileFaults.IsMetas
 pub use Rattle.bolt_commands.specs.{declared.shortfall.Shortfall.Shortfall, GoodCopies.HasGoodCopies, GoodCopies.IsGoodCopy, GoodCopies.RefusesFile}
 pub use Rattle.bolt_commands.specs.Private.Copying.{CompactsTo, CopiesJoined, CopiesListing, CopiesRead, CopiesTo, IsAskedBlueprint, blueprint_layout, job_layout}
 pub use Rattle.bolt_commands.specs.Private.Endings.{MayFail, ending_by, end_written, failing}
-pub use Rattle.bolt_commands.specs.Private.Opened.{HasNoBucket, IsOpenedBucket, IsJoinedOf, IsLostKnown, IsOpened, IsRecoveryOf, IsSearchOf, IsSoundOf, IsUnopened, IsUnread, opened_found, opened_lost, opened_meta}
+pub use Rattle.bolt_commands.specs.Private.Opened.{HasNoBucket, IsOpenedBucket, IsJoinedOf, IsOpened, IsRecoveryOf, IsSearchOf, IsSoundOf, IsUnopened, IsUnread, opened_found, opened_lost, opened_meta}
 pub use Rattle.bolt_commands.specs.{SnapshotAnswers.bad_hash, SnapshotAnswers.copy_of, SnapshotAnswers.hash_found, CopyEnds.EndsCopy, Hashes.HashesSince, declared.failure.Failure.Failure}
 pub use Rattle.bolt_commands.specs.{declared.file_faults.FileFaults.FileFaults, declared.opened.Opened.Opened}
 pub use Rattle.bolt_commands.specs.Private.Printing.{PrintsAnswer, PutsJoined, PutsListing, PutsPart, finds, job_part, sound_part}
@@ -35,12 +35,14 @@ pub use Rattle.bolt_layout.specs.{Copies.IsAsked, Copies.IsOfOneTree, Copies.IsS
 pub use Rattle.bolt_load.specs.LineFaults.{IsListingText, IsLoadFault}
 pub use Rattle.bolt_text.specs.{LineMembers.text_members, declared.report_fault.ReportFault.ReportFault, ReportEndings.report_ending, ListForms.listing_lines, declared.forms.ListForm.ListForm}
 pub use Rattle.bolt_text.specs.{declared.forms.Form.TheVariants.Json, declared.forms.FigureForm.FigureForm}
-pub use Rattle.bolt_recover.proofs.Exports.{has_losses, has_recovered}
+pub use Rattle.bolt_layout.specs.NoGaps.{HasNoGaps}
+pub use Rattle.bolt_recover.proofs.Exports.{has_gaps, has_losses, has_recovered}
+pub use Rattle.bolt_recover.specs.Gaps.{AreGaps, ForGaps, PageGapView, gaps_of, page_gap_view}
 pub use Rattle.bolt_recover.specs.JoinedMembers.{ForJoined, joined_file, joined_left, joined_meta}
 pub use Rattle.bolt_recover.specs.Losses.{AreLosses, LossView, LostView, everything, is_nothing, loss_at, losses_of, parts}
 pub use Rattle.bolt_recover.specs.{Sites.Site, Sites.leaves_of, Sites.site_at, Recovered.ForRecovered, Recovered.IsRecovered}
 pub use Rattle.bolt_recover.specs.Recoveries.{ForLosses, recovery_file, recovery_left, recovery_losses, recovery_meta, recovery_work}
-pub use Rattle.bolt_recover.specs.{ShownLosses.lost_view, Joined.IsJoined, LostAndFound.all_lost, declared.found.Found.Found, declared.lost_and_found.LostAndFound.LostAndFound}
+pub use Rattle.bolt_recover.specs.{ShownLosses.loss_view, ShownLosses.lost_view, Joined.IsJoined, LostAndFound.all_lost, declared.found.Found.Found, declared.lost_and_found.LostAndFound.LostAndFound}
 pub use Rattle.bolt_report.specs.{FoundLines.FoundView, FoundLines.IsFoundLeaf, FoundLines.counted_lost_text, FoundLines.found_view, KeyLines.buckets_text, KeyLines.keys_text}
 pub use Rattle.bolt_stats.specs.{Figures.add_stats, declared.figures.Stats.Stats}
 pub use Rattle.bolt_etcd.specs.SnapshotFaults.{IsSnapshot, cut_hash_fault, hash_fault, snapshot_of}

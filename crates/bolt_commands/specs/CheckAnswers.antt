@@ -4,8 +4,8 @@ use Rattle.bolt_check.specs.{BboltFileFindings.file_findings, BboltFindings.AreB
 use Rattle.bolt_check.specs.{declared.finding.Finding.Finding, ShownFindings.findings_in}
 use Rattle.bolt_check.specs.declared.check_fault.CheckFault.TheVariants as check
 use Rattle.bolt_format.specs.{Metas.IsActive, declared.meta.Meta.Meta, declared.meta.MetaFault.MetaFault, declared.meta.Slot.Slot}
-use Rattle.bolt_recover.specs.{Losses.LostView, Losses.parts, Lost.IsAllLost}
-use Rattle.bolt_report.specs.{BboltLines.bbolt_findings_text, FaultWords.findings_text, FoundLines.FoundView, FoundLines.counted_lost_text}
+use Rattle.bolt_recover.specs.{Gaps.AreGaps, Gaps.PageGapView, Losses.LostView, Losses.parts, Lost.IsAllLost}
+use Rattle.bolt_report.specs.{BboltLines.bbolt_findings_text, FoundLines.FoundView, FoundLines.counted_lost_text, GapLines.findings_text}
 use Rattle.bolt_commands.specs.{FileFaults.AreFileFaults, FileFaults.errors_in, FileFaults.fault_lines, FileFaults.is_fine, declared.file_faults.FileFaults.FileFaults}
 use Rattle.bolt_commands.specs.{Answers.Answer, Answers.done, Answers.refused, FilesRead.AreFoundTo, FilesRead.IsReadUnder, FilesRead.IsRefusedUnder}
 use Rattle.bolt_job.specs.{MetaChoices.HasNoMetaOf, MetaChoices.IsMetaOf, declared.choices.Extent.Extent, declared.choices.Extent.TheVariants.LostAndFound, declared.choices.Extent.TheVariants.Sound}
@@ -13,24 +13,29 @@ use Rattle.bolt_job.specs.declared.choices.MetaChoice.{MetaChoice}
 use Rattle.bolt_job.specs.declared.choices.MetaChoice.TheVariants.{Active, Assumed, InSlot}
 use Rattle.bolt_commands.specs.declared.failure.Failure.TheVariants as failure
 
--- what was found goes to standard output; what is wrong with the file apart from its pages comes first, and each of that is an error too
-abbrev pub found : FileFaults → List Finding → Answer
-found faults findings = record { out = fault_lines faults ++ findings_text (errors_in faults) findings; ending = Ok 1 }
+-- what was found goes to standard output; what is wrong with the file apart from its pages comes first, gaps come last, and each of that is an
+-- error too
+abbrev pub found : FileFaults → List Finding → List PageGapView → Answer
+found faults findings gaps = record { out = fault_lines faults ++ findings_text (errors_in faults) findings gaps; ending = Ok 1 }
 
--- nothing else is wrong
-abbrev pub none_found : FileFaults → Answer
-none_found faults = if is_fine faults then done (codes "OK\n") else found faults []
+-- nothing is wrong with a file whose trees are sound
+abbrev pub is_right : FileFaults → List PageGapView → Bool
+is_right faults [] = is_fine faults
+is_right faults (gap ∷ gaps) = false
+
+abbrev pub none_found : FileFaults → List PageGapView → Answer
+none_found faults gaps = if is_right faults gaps then done (codes "OK\n") else found faults [] gaps
 
 -- or what bbolt fails on
-abbrev pub all_found : FileFaults → List FileFinding → List Finding → Answer
-all_found faults [] [] = none_found faults
-all_found faults of_file on_ways = record { out = bbolt_findings_text of_file on_ways; ending = Ok 1 }
+abbrev pub all_found : FileFaults → List PageGapView → List FileFinding → List Finding → Answer
+all_found faults gaps [] [] = none_found faults gaps
+all_found faults gaps of_file on_ways = record { out = bbolt_findings_text of_file on_ways; ending = Ok 1 }
 
-abbrev pub check_refusal : FileFaults → CheckFault → Answer
-check_refusal faults (check.Open fault) = record { out = fault_lines faults; ending = Err (failure.Metas fault) }
-check_refusal faults (check.Structure x) = found faults (x ∷ [])
-check_refusal faults (check.Accounts findings) = found faults (findings_in findings)
-check_refusal faults check.Memory = refused failure.Memory
+abbrev pub check_refusal : FileFaults → List PageGapView → CheckFault → Answer
+check_refusal faults gaps (check.Open fault) = record { out = fault_lines faults; ending = Err (failure.Metas fault) }
+check_refusal faults gaps (check.Structure x) = found faults (x ∷ []) gaps
+check_refusal faults gaps (check.Accounts findings) = found faults (findings_in findings) gaps
+check_refusal faults gaps check.Memory = refused failure.Memory
 
 -- what bbolt fails on in the file as a whole is looked for under its active meta alone
 abbrev pub AreOfFile : MetaChoice → List ℕ → List FileFinding → Type 0
@@ -43,38 +48,38 @@ abbrev pub AreFoundFor : (for_bbolt : Bool) → List ℕ → MetaChoice → Meta
 AreFoundFor true file choice meta of_file on_ways = AreOfFile choice file of_file × ∥ AreBboltFindings (node_at file meta) meta.root on_ways ∥₁
 AreFoundFor false file choice meta of_file on_ways = (of_file ≡ []) × (on_ways ≡ [])
 
--- it is looked for if nothing else is wrong
-abbrev pub IsFoundAnswer : (for_bbolt : Bool) → FileFaults → List ℕ → MetaChoice → Answer → Type 0
-IsFoundAnswer for_bbolt faults file choice answer =
+-- it is looked for if nothing else is wrong; these are the gaps, if they were looked for
+abbrev pub IsFoundAnswer : (for_bbolt : Bool) → FileFaults → List ℕ → MetaChoice → List PageGapView → Answer → Type 0
+IsFoundAnswer for_bbolt faults file choice gaps answer =
     ((meta : Meta) × (of_file : List FileFinding) × (on_ways : List Finding) × IsReadUnder file choice meta
-    × AreFoundFor (for_bbolt && is_fine faults) file choice meta of_file on_ways × (answer ≡ all_found faults of_file on_ways))
-    ⊎ ((fault : CheckFault) × IsRefusedUnder file choice fault × (answer ≡ check_refusal faults fault))
+    × AreFoundFor (for_bbolt && is_right faults gaps) file choice meta of_file on_ways × (answer ≡ all_found faults gaps of_file on_ways))
+    ⊎ ((fault : CheckFault) × IsRefusedUnder file choice fault × (answer ≡ check_refusal faults gaps fault))
 
--- each loss and each page that is found; what is wrong with the file apart from its pages comes first
-abbrev pub lost_and_found_answer : FileFaults → LostView → List FoundView → Answer
-lost_and_found_answer faults lost found = record { out = fault_lines faults ++ counted_lost_text (errors_in faults) lost found; ending = Ok 1 }
+-- each loss, each gap and each page that is found; what is wrong with the file apart from its pages comes first
+abbrev pub lost_and_found_answer : FileFaults → LostView → List PageGapView → List FoundView → Answer
+lost_and_found_answer faults lost gaps found = record { out = fault_lines faults ++ counted_lost_text (errors_in faults) lost gaps found; ending = Ok 1 }
 
--- if nothing is lost, what `check` writes
-abbrev pub AnswersLost : (for_bbolt : Bool) → FileFaults → List ℕ → MetaChoice → LostView → List FoundView → Answer → Type 0
-AnswersLost for_bbolt faults file choice (parts []) found answer = IsFoundAnswer for_bbolt faults file choice answer
-AnswersLost for_bbolt faults file choice lost found answer = answer ≡ lost_and_found_answer faults lost found
+-- if nothing is lost, what `check` writes, and the gaps
+abbrev pub AnswersLost : (for_bbolt : Bool) → FileFaults → List ℕ → MetaChoice → LostView → List PageGapView → List FoundView → Answer → Type 0
+AnswersLost for_bbolt faults file choice (parts []) gaps found answer = IsFoundAnswer for_bbolt faults file choice gaps answer
+AnswersLost for_bbolt faults file choice lost gaps found answer = answer ≡ lost_and_found_answer faults lost gaps found
 
 -- memory may run out; where pages are looked for, only of a file that has the meta
 abbrev pub MayRunOut : Extent → List ℕ → MetaChoice → Type 0
 MayRunOut LostAndFound file choice = (meta : Meta) × IsMetaOf file choice meta
 MayRunOut extent file choice = Unit {0}
 
--- all that is lost and found under the meta that is chosen; or there is none; or memory ran out
+-- all that is lost and found, and the gaps of all that is kept, under the meta that is chosen; or there is none; or memory ran out
 abbrev pub IsLostAnswer : Extent → (for_bbolt : Bool) → FileFaults → List ℕ → MetaChoice → Answer → Type 0
 IsLostAnswer extent for_bbolt faults file choice answer =
-    ((meta : Meta) × (lost : LostView) × (found : List FoundView) × IsMetaOf file choice meta × IsAllLost file meta lost × AreFoundTo extent file meta found
-    × AnswersLost for_bbolt faults file choice lost found answer)
-    ⊎ ((fault : MetaFault) × HasNoMetaOf file choice fault × (answer ≡ check_refusal faults (check.Open fault)))
+    ((meta : Meta) × (lost : LostView) × (gaps : List PageGapView) × (found : List FoundView) × IsMetaOf file choice meta × IsAllLost file meta lost × AreGaps file meta gaps
+    × AreFoundTo extent file meta found × AnswersLost for_bbolt faults file choice lost gaps found answer)
+    ⊎ ((fault : MetaFault) × HasNoMetaOf file choice fault × (answer ≡ check_refusal faults [] (check.Open fault)))
     ⊎ (MayRunOut extent file choice × (answer ≡ refused failure.Memory))
 
 -- `check` to any extent of a file of which is known what else is wrong with it
 abbrev pub IsCheckAnswerAfter : Extent → (for_bbolt : Bool) → FileFaults → List ℕ → MetaChoice → Answer → Type 0
-IsCheckAnswerAfter Sound for_bbolt faults file choice answer = IsFoundAnswer for_bbolt faults file choice answer
+IsCheckAnswerAfter Sound for_bbolt faults file choice answer = IsFoundAnswer for_bbolt faults file choice [] answer
 IsCheckAnswerAfter extent for_bbolt faults file choice answer = IsLostAnswer extent for_bbolt faults file choice answer
 
 -- the same of any file, and of a snapshot

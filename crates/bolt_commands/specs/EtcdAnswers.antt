@@ -1,5 +1,5 @@
 -- What the commands answer that read what etcd keeps: docs/COMMANDS.md, "What etcd keeps".
-use Rattle.std.specs.Prelude.{◌≡◌, ◌-◌, ◌^◌, ◌⊎◌, ℕ, zero, suc, nat_lt, List, ◌++◌, Bool, true, false, codes, length, Option, Some, None, Ok, Err}
+use Rattle.std.specs.Prelude.{◌≡◌, ◌-◌, ◌^◌, ◌⊎◌, ℕ, zero, suc, nat_lt, List, [], ◌++◌, Bool, true, false, codes, length, Option, Some, None, Ok, Err}
 use Rattle.bolt_check.specs.{declared.check_fault.CheckFault.CheckFault, Counts.counted}
 use Rattle.bolt_format.specs.{Elements.LeafElement, declared.meta.Meta.Meta}
 use Rattle.bolt_report.specs.{FaultWords.count_line, RevisionLines.named_with, RevisionLines.revision_lines, StatusLines.status_text}
@@ -114,4 +114,4 @@ IsEtcdStatusPrint job file answer = IsReadAnswer file job.meta (IsStoreAnswer fi
 abbrev pub IsEtcdCheckPrint : EtcdCheckJob → List ℕ → Answer → Type 0
 IsEtcdCheckPrint job file answer =
     ((meta : Meta) × IsReadUnder file job.meta meta × IsStoreAnswer file IsStoreText meta answer)
-    ⊎ ((fault : CheckFault) × IsRefusedUnder file job.meta fault × (answer ≡ check_refusal no_faults fault))
+    ⊎ ((fault : CheckFault) × IsRefusedUnder file job.meta fault × (answer ≡ check_refusal no_faults [] fault))

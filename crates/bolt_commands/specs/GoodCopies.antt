@@ -4,21 +4,21 @@ use Rattle.bolt_bulk.specs.Compacting.{too_many}
 use Rattle.bolt_check.specs.{Sound.IsRefused, Sound.IsSound, declared.check_fault.CheckFault.CheckFault}
 use Rattle.bolt_check.specs.declared.check_fault.CheckFault.TheVariants as check
 use Rattle.bolt_format.specs.{Metas.HasBothMetas, Metas.IsActive, Metas.IsPageSize, declared.meta.Meta.Meta, declared.meta.Slot.Slot}
-use Rattle.bolt_layout.specs.{Copies.layout_of_listing, declared.Layout.Layout}
+use Rattle.bolt_layout.specs.{NoGaps.HasNoGaps, Copies.layout_of_listing, declared.Layout.Layout}
 use Rattle.bolt_etcd.specs.SnapshotFaults.{IsSnapshot, cut_hash_fault}
 use Rattle.bolt_tree.specs.Listing.{IsListing, Member}
 use Rattle.bolt_commands.specs.SnapshotAnswers.{copy_of, hash_found}
 
--- `check` accepts a file that holds these bytes, and its listing is this one
+-- `check` accepts a file that holds these bytes, its listing is this one, and none of its pages has a gap
 abbrev pub AcceptsListing : List ℕ → List Member → Type 0
-AcceptsListing file listing = (slot : Slot) × (meta : Meta) × IsActive file slot meta × IsSound file meta true × IsListing file meta listing
+AcceptsListing file listing = (slot : Slot) × (meta : Meta) × IsActive file slot meta × IsSound file meta true × IsListing file meta listing × HasNoGaps file meta
 
 -- `check` refuses a file that holds these bytes, and not for want of memory
 abbrev pub RefusesFile : List ℕ → Type 0
 RefusesFile file = (fault : CheckFault) × (fault ≢ check.Memory) × IsRefused file fault
 
 pub record IsGoodCopy (snapshot : Bool) (layout : List ℕ) (listing : List Member) : Type 0 where
-  -- `check` accepts the copy, hash and all, and it has this listing
+  -- `check` accepts the copy, hash and all, and it has this listing, and no gap
   pub accepted : AcceptsListing (copy_of snapshot layout) listing
   -- both of its metas are valid
   pub metas : HasBothMetas (copy_of snapshot layout)

@@ -14,7 +14,8 @@ use bolt_etcd::{hashed_blocks_are_a_snapshot, trailing_bytes_change_nothing};
 use bolt_format::Sink;
 use bolt_format::laws::{active_meta_is_one, metas_lie_in_a_prefix, slot_meta_is_one};
 use bolt_layout::laws::{
-    a_copy_lists_the_same, a_files_listing_is_of_one_tree, layout_has_length, prefixes_are_refused,
+    a_copy_lists_the_same, a_files_listing_is_of_one_tree, layout_has_length, layouts_have_no_gaps,
+    prefixes_are_refused,
 };
 use bolt_load::{
     a_files_listing_is_of_bytes, a_listings_text_is_read_back, a_right_text_has_no_fault,
@@ -45,6 +46,7 @@ pub fn whole_copies_are_good()
 {
     a_copy_lists_the_same();
     layout_has_length();
+    layouts_have_no_gaps();
     prefixes_are_refused();
     trailing_bytes_change_nothing();
     hashed_blocks_are_a_snapshot();

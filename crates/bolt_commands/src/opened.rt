@@ -1,9 +1,9 @@
 //! What `check`, `list` and `compact` read: a sound file, what is left of a damaged one, or that with what is found of it.
-ghost use Rattle.std.specs.Prelude.{◌≡◌, OnOk};
+ghost use Rattle.std.specs.Prelude.{◌≡◌};
 ghost use Rattle.bolt_recover.specs.ShownLosses.{lost_view};
-ghost use Rattle.bolt_commands.specs.Private.Opened.{IsLostKnown, opened_found, opened_lost, opened_meta};
+ghost use Rattle.bolt_commands.specs.Private.Opened.{opened_found, opened_lost, opened_meta};
 
-use bolt_check::{Checked, NoMemory};
+use bolt_check::Checked;
 use bolt_format::Meta;
 use bolt_recover::{Found, Lost, LostAndFound, Recovery};
 
@@ -28,17 +28,6 @@ impl<'f> Opened<'f> {
             Opened::Recovered(recovery) => recovery.meta(),
             Opened::Searched(both) => both.meta,
         }
-    }
-
-    /// Goes to the end of a damaged file, so that all that is lost of it is known.
-    pub(crate) fn find_lost(&mut self) -> Result<(), NoMemory>
-        ensures found { opened_found self.new ≡ opened_found self.old }
-        ensures lost { OnOk result (IsLostKnown self.old self.new) }
-    {
-        if let Opened::Recovered(recovery) = self {
-            recovery.finish()?;
-        }
-        Ok(())
     }
 
     /// What is lost of the file. Of a recovery, it is known when all members were returned.

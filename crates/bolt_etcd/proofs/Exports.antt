@@ -10,3 +10,4 @@ pub use Rattle.bolt_etcd.proofs.SortedOnce.{current_once, rises_from, rises_sort
 pub use Rattle.bolt_etcd.proofs.StoreExists.{one_store}
 pub use Rattle.bolt_etcd.proofs.StoreLemmas.{fits, fits_some}
 pub use Rattle.bolt_etcd.proofs.StoredRevisions.{has_stored_key, is_revision}
+pub use Rattle.bolt_etcd.proofs.{TrailingAccounts.agree_more, TrailingBytes.bytes_more, TrailingBytes.count_more, TrailingBytes.flags_more}

@@ -26,7 +26,7 @@ faults_from-none fault end free i (suc n) e k low high =
       | inr here ↦ (free, let same : k ≡ i = omega arith in ap (fault free) same ∙ both.0)
     ]
 
-table-none : (bytes : List ℕ) (count : ℕ) → table_fault bytes count ≡ None → element_at count ≤ length bytes
+pub table-none : (bytes : List ℕ) (count : ℕ) → table_fault bytes count ≡ None → element_at count ≤ length bytes
 table-none bytes count e = grind (arith, ltb-false, guard-none)
 
 data-none : (bytes : List ℕ) (free start end : ℕ) → data_fault bytes free start end ≡ None → end ≤ length bytes

@@ -4,6 +4,7 @@ mod EncodedMetas
 pub mod Exports
 mod FaultLemmas
 mod FreeLemmas
+mod GapLemmas
 mod GoodPages
 mod ListLemmas
 mod MetaLemmas

@@ -8,6 +8,7 @@ pub mod ElementsLeft
 pub mod Encoded
 pub mod Endings
 pub mod Freelists
+pub mod Gaps
 pub mod Headers
 pub mod Metas
 pub mod Pages

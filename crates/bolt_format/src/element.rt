@@ -56,7 +56,7 @@ pub(crate) struct LeafPlace {
 
 /// The offset of element `i`, which is also the length of a table of `i` elements with the page
 /// header.
-fn element_offset(i: u16) -> usize
+pub(crate) fn element_offset(i: u16) -> usize
     ensures { result ≡ element_at i }
 {
     HEADER_LEN + ELEMENT_LEN * usize::from(i)
@@ -98,7 +98,7 @@ fn test_data(bytes: &[u8], free: usize, start: usize, end: usize) -> Result<(), 
 
 /// Where the key of branch element `i` is.
 #[tactic(auto, unfolding(crate::specs::Elements::branch_key_start, crate::specs::Elements::branch_key_length))]
-fn branch_place(bytes: &[u8], i: u16) -> BranchPlace
+pub(crate) fn branch_place(bytes: &[u8], i: u16) -> BranchPlace
     requires { element_at (i + 1) ≤ length bytes.now }
     ensures { IsBranchPlace bytes.now i result }
 {
@@ -125,7 +125,7 @@ pub(crate) fn test_branch(bytes: &[u8], free: usize, i: u16) -> Result<usize, u8
 
 /// Where the parts of leaf element `i` are.
 #[tactic(auto, unfolding(crate::specs::Elements::leaf_key_start, crate::specs::Elements::leaf_key_length, crate::specs::Elements::leaf_value_length))]
-fn leaf_place(bytes: &[u8], i: u16) -> LeafPlace
+pub(crate) fn leaf_place(bytes: &[u8], i: u16) -> LeafPlace
     requires { element_at (i + 1) ≤ length bytes.now }
     ensures { IsLeafPlace bytes.now i result }
 {

@@ -1,6 +1,6 @@
 //! Reads the value of a bucket on a page that passed its tests.
 ghost use Rattle.std.specs.Prelude.{◌≡◌};
-ghost use Rattle.bolt_format.specs.{Elements.IsBucketValue, Elements.head_root, Elements.head_sequence, Elements.inline_elements, Elements.inline_number, ShownInline.shown_inline, TreePages.leaf_overflow};
+ghost use Rattle.bolt_format.specs.{Elements.IsBucketValue, Elements.head_root, Elements.head_sequence, Elements.inline_elements, Elements.inline_number, Gaps.inline_gap, Gaps.shown_inline_gap, ShownInline.shown_inline, TreePages.leaf_overflow};
 
 use crate::bucket_value::{HEAD_LEN, Head, Inline};
 use crate::bytes::u64_at;
@@ -29,6 +29,7 @@ pub fn inline(value: &[u8]) -> Inline<'_>
     requires inline { head_root value.now ≡ 0 }
     ensures elements { shown_inline result ≡ inline_elements value.now }
     ensures number { result.number ≡ inline_number value.now }
+    ensures gap { shown_inline_gap result ≡ inline_gap value.now }
     ensures overflow { leaf_overflow result.page ≡ 0 }
 {
     let bytes = &value[HEAD_LEN..];

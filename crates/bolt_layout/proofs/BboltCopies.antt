@@ -37,13 +37,13 @@ module _ (passing : PassingIsSound) (which : Layout) (page_size : ℕ) (tree : T
   laid : IsLaidOut which page_size tree sequence
   laid = laid_out which page_size tree sequence asked.size asked.storable asked.sequence_fits small
 
-  sound : IsSoundLayout which page_size tree sequence
+  pub sound : IsSoundLayout which page_size tree sequence
   sound = layout_sound passing which page_size tree sequence asked.size laid
 
   nodes : AreNodes (node_at file meta) pages
   nodes = nodes_shown file meta pages sound.shown
 
-  placed : (way : List ℕ) (t : PageSpot) → reached (node_at file meta) meta.root way ≡ Some (At_page t) → IsPlaced pages t.number
+  pub placed : (way : List ℕ) (t : PageSpot) → reached (node_at file meta) meta.root way ≡ Some (At_page t) → IsPlaced pages t.number
   placed = placed_way (node_at file meta) (reached (node_at file meta) meta.root) 3 (layout_mark which page_size tree) sound.part pages laid.row nodes
 
   -- its pages are even
@@ -70,7 +70,7 @@ module _ (passing : PassingIsSound) (which : Layout) (page_size : ℕ) (tree : T
         subst (λ (v : PageView). AllByRecursion (IsNeatElement (node_at file meta)) v.leaves) same (neat (ap (λ (v : PageView). v.kind) same ∙ leaf));
   }
 
-  even_spot : (way : List ℕ) (t : Spot) → reached (node_at file meta) meta.root way ≡ Some t → IsEvenSpot (node_at file meta) (leaves_at (node_at file meta) meta.root way (Some t)) t
+  pub even_spot : (way : List ℕ) (t : Spot) → reached (node_at file meta) meta.root way ≡ Some t → IsEvenSpot (node_at file meta) (leaves_at (node_at file meta) meta.root way (Some t)) t
   even_spot = let (height, low, even, each) = pages_even in even_by file meta height low even neat_spot
 
   of_tree : IsTreeOf (IsEntry file meta) (Root_page meta.root) tree

@@ -244,7 +244,7 @@ module _ (file : List ℕ) (meta : Meta) (trees : HasSoundTrees file meta) (tree
 
   way_only : (way : List ℕ) (t : Spot) → reached (node_at file meta) meta.root way ≡ Some t → way_findings (node_at file meta) meta.root way ≡ lone_at (node_at file meta) (Some t)
   way_only way (At_inline host inner) e =
-      let number = eq-eqb inner.number 0 (even way (At_inline host inner) e) in
+      let number = eq-eqb inner.number 0 (even way (At_inline host inner) e).0 in
       ap (λ (o : Option Spot). spot_findings (node_at file meta) (is_in_root (node_at file meta) meta.root way) (leaves_at (node_at file meta) meta.root way o) o) e
       ∙ inline_none host inner (short_any inner.keys (led_by way (At_inline host inner) e)) number
   way_only way (At_page s) e =

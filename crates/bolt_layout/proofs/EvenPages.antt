@@ -1,11 +1,11 @@
 -- The pages of a layout are as bbolt writes them: the leaves of a bucket are at one depth, each page below a branch begins with the key of its
 -- entry, and no inline page has a number.
-use Rattle.std.proofs.Common.{◌≡◌, ◌≢◌, ◌==◌, ℕ, zero, suc, ◌+◌, ◌≤◌, true, false, List, [], ◌∷◌, Ok, ap, map, not, refl, subst, arith}
+use Rattle.std.proofs.Common.{◌≡◌, ◌≢◌, ◌==◌, ℕ, zero, suc, ◌+◌, ◌≤◌, true, false, List, [], ◌∷◌, None, Ok, ap, map, not, refl, subst, arith}
 use Rattle.std.proofs.lemmas.Slice.Eq.{bytes_eq-Decides}
 use Rattle.bolt_layout.proofs.Words.{AllByRecursion, branch_page_view, BranchElement, elements_of, Entry, head_root, Key, keys_of, Laid, leaf_entry, leaf_page_view, LeafElement, Node, node_of, Nodes, numbers_of, page_over, pages_of, Placed}
 use Rattle.bolt_layout.proofs.{LaidPages.AreNodes, LaidPages.limit, ListLemmas.all_append, ListLemmas.all_split, OverRows.IsOver, OverRows.Pieces}
 use Rattle.bolt_check.specs.{BboltFindings.above_first, BboltFindings.begins_otherwise, BboltFindings.first_child, BboltFindings.first_leaf_depth, Nodes.branch_entry}
-use Rattle.bolt_format.specs.{Elements.inline_number, declared.header.Kind.TheVariants.Branch, declared.header.Kind.TheVariants.Leaf}
+use Rattle.bolt_format.specs.{Elements.inline_number, Gaps.inline_gap, declared.header.Kind.TheVariants.Branch, declared.header.Kind.TheVariants.Leaf}
 
 -- page n begins with this key
 abbrev pub BeginsWith : Nodes → (n : ℕ) → Key → Type 0
@@ -20,10 +20,10 @@ IsEven nodes (suc height) n = (node : Node) × (nodes n ≡ Ok node) × (node.is
 abbrev pub IsEvenKid : Nodes → (height : ℕ) → Entry → Type 0
 IsEvenKid nodes height e = IsEven nodes height e.child × BeginsWith nodes e.child e.key
 
--- a bucket that is inline has no page number, and one that isn't has even pages
+-- a bucket that is inline has no page number and no gap, and one that isn't has even pages
 abbrev pub IsNeatElement : Nodes → LeafElement → Type 0
 IsNeatElement nodes e = e.is_bucket ≡ true
-    → ((head_root e.value == 0) ≡ true → inline_number e.value ≡ 0)
+    → ((head_root e.value == 0) ≡ true → (inline_number e.value ≡ 0) × (inline_gap e.value ≡ None))
     × ((head_root e.value == 0) ≡ false → (height : ℕ) × (height ≤ 63) × IsEven nodes height (head_root e.value))
 
 -- and so are all buckets on a leaf

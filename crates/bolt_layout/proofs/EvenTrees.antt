@@ -1,10 +1,10 @@
 -- The buckets of a tree are laid out as bbolt writes them, in their own pages and inline.
-use Rattle.std.proofs.Common.{◌≡◌, ℕ, ◌+◌, ◌^◌, ◌<◌, ◌≤◌, Bool, true, false, List, [], length, refl, subst, sym, arith}
+use Rattle.std.proofs.Common.{◌≡◌, ℕ, ◌+◌, ◌^◌, ◌<◌, ◌≤◌, Bool, true, false, List, [], None, length, refl, subst, sym, arith}
 use Rattle.std.proofs.lemmas.Bool.{leb-true}
 use Rattle.bolt_layout.proofs.Words.{AllByRecursion, and_parts, append-nil, bucket_item, elements_of, end, eq-eqb, HasLengths, head_bytes, head_root, head_written, inline_value, is_inline, items_of, key_cmp, keys_in, Laid, largest_page, Layout, leaf_item, LeafElement, max_items, ne_eqb, Rises, RisesInside, root_over, stored_bucket, Tree, with_bucket, with_value}
 use Rattle.bolt_layout.proofs.{EvenPages.IsEven, EvenPages.IsNeatItem, EvenPages.over_even, InlineLemmas.inline_unnumbered, LaidItems.IsItem, LaidItems.length-elements, LaidPages.limit}
 use Rattle.bolt_layout.proofs.{OverRows.IsOver, TreeItems.inline_read, TreeItems.root_page, TreeItems.root_stands, TreeItems.tree_items, TreeItems.tree_rise}
-use Rattle.bolt_format.specs.Elements.{inline_number}
+use Rattle.bolt_format.specs.{Elements.inline_number, Gaps.inline_gap}
 
 false_true : false ≡ true → ⊥
 false_true e = cc
@@ -16,8 +16,8 @@ inline_few page_size inside items e = grind (arith, and_parts, leb-true)
 value_neat : (key value : List ℕ) → IsNeatItem (leaf_item key value false)
 value_neat key value = record { key = λ n. refl; own = λ nodes n some h shown bucket. absurd (false_true bucket); below = λ nodes n some h shown. tt }
 
-inline_neat : (key value : List ℕ) → head_root value ≡ 0 → inline_number value ≡ 0 → IsNeatItem (leaf_item key value true)
-inline_neat key value root number = grind (arith, eq-eqb)
+inline_neat : (key value : List ℕ) → head_root value ≡ 0 → inline_number value ≡ 0 → inline_gap value ≡ None → IsNeatItem (leaf_item key value true)
+inline_neat key value root number no_gap = grind (arith, eq-eqb)
 
 root_neat : (which : Layout) (page_size : ℕ) (key : List ℕ) (sequence : ℕ) (items : List (Laid LeafElement)) → sequence < 256 ^ 8
     → ((n : ℕ) → (n ≤ ((root_over which page_size items).element n).child) × (((root_over which page_size items).element n).child < n + (root_over which page_size items).numbers))
@@ -48,7 +48,7 @@ stored_neat which page_size key sequence inside sized small narrow lengths rises
     let count = length-elements (items_of which page_size inside) 0 in
     let most = inline_few page_size inside (items_of which page_size inside) e in
     let few : length es < 256 ^ 2 = omega arith in
-    rw e (inline_neat key (inline_value sequence es) read.1 (inline_unnumbered sequence es narrow few))
+    rw e (inline_neat key (inline_value sequence es) read.1 (inline_unnumbered sequence es narrow few) read.6)
 stored_neat which page_size key sequence inside sized small narrow lengths rises all neat false e =
     let items = items_of which page_size inside in
     let (height, low, over) = root_stands which page_size items small all in

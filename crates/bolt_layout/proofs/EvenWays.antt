@@ -1,5 +1,5 @@
 -- Ways through even pages: each leaf is at the depth of the first leaf of its bucket, each page below a branch begins with the key of its entry,
--- and no inline page has a number.
+-- and no inline page has a number or a gap.
 use Rattle.std.proofs.Common.{◌≡◌, ◌∙◌, ◌==◌, ℕ, zero, suc, ◌+◌, ◌≤◌, Bool, true, false, List, [], ◌∷◌, map, Option, Some, None, Result, Ok, ap, cond, refl, slice_get, subst, sym, arith}
 use Rattle.std.proofs.lemmas.Option.{none-some, same_Some, slice_get-map}
 use Rattle.std.specs.Option.{option_map}
@@ -19,7 +19,7 @@ pub record IsEvenPage (nodes : Nodes) (leaves : ℕ) (s : PageSpot) : Type 0 whe
 
 abbrev pub IsEvenSpot : Nodes → (leaves : ℕ) → Spot → Type 0
 IsEvenSpot nodes leaves (At_page s) = IsEvenPage nodes leaves s
-IsEvenSpot nodes leaves (At_inline host inner) = inner.number ≡ 0
+IsEvenSpot nodes leaves (At_inline host inner) = (inner.number ≡ 0) × (inner.gap ≡ None)
 
 abbrev ok : Node → Result Node ℕ
 ok node = Ok node

@@ -3,6 +3,7 @@ use Rattle.std.proofs.Common.{◌≡◌, ◌∙◌, ℕ, suc, ◌+◌, ◌*◌, 
 use Rattle.bolt_layout.proofs.Words.{AllByRecursion, append-nil, count_field, eq-eqb, head_root, head_sequence, head_written, header_bytes, header_written, inline_elements, inline_value, le-ltb, leaf_bytes, leaf_data, leaf_element, leaf_elements, LeafElement, length-append, length-header_bytes, range_with_len, value_fault}
 use Rattle.std.specs.List.{list_any}
 use Rattle.bolt_format.specs.Elements.{head_fault, inline_bytes, inline_fault, inline_number, is_bucket_element}
+use Rattle.bolt_format.specs.Gaps.{inline_gap, leaf_gap}
 use Rattle.bolt_format.specs.declared.header.Kind.TheVariants as kind
 use Rattle.bolt_layout.proofs.LeafLemmas.{IsLeafFit, leaves_written}
 
@@ -30,8 +31,8 @@ no_bucket_in bytes from n es e flat = grind arith
 pub inline_written : (sequence : ℕ) (es : List LeafElement) → sequence < 256 ^ 8 → AllByRecursion IsFlat es → length es < 256 ^ 2
     → 16 * length es + length (leaf_data es) < 0x100000000
     → (value_fault (inline_value sequence es) ≡ None) × (head_root (inline_value sequence es) ≡ 0) × (head_sequence (inline_value sequence es) ≡ sequence)
-    × (inline_elements (inline_value sequence es) ≡ es)
-unfolding value_fault inline_value inline_fault leaf_elements
+    × (inline_elements (inline_value sequence es) ≡ es) × (inline_gap (inline_value sequence es) ≡ None)
+unfolding value_fault inline_value inline_fault inline_gap leaf_elements
 inline_written sequence es sized flat few small =
     let value = inline_value sequence es in
     let bytes = inline_bytes value in
@@ -44,7 +45,8 @@ inline_written sequence es sized flat few small =
     let written = leaves_written head_fault bytes es [] behind (omega arith) (flat_fits head_fault es flat) small in
     let elements : leaf_elements bytes (count_field bytes) ≡ es = ap (leaf_elements bytes) header.0.count ∙ written.0 in
     let room : nat_lt (length bytes) 16 ≡ false = le-ltb (length bytes) 16 (omega arith) in
-    grind (arith, eq-eqb, no_bucket_in)
+    let passes : (value_fault value ≡ None) × (head_root value ≡ 0) × (head_sequence value ≡ sequence) × (inline_elements value ≡ es) = grind (arith, eq-eqb, no_bucket_in) in
+    (passes.0, passes.1, passes.2, passes.3, ap (leaf_gap bytes) header.0.count ∙ written.2)
 
 -- its page has no number
 pub inline_unnumbered : (sequence : ℕ) (es : List LeafElement) → sequence < 256 ^ 8 → length es < 256 ^ 2 → inline_number (inline_value sequence es) ≡ 0

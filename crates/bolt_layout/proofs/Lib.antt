@@ -4,6 +4,7 @@ mod BboltMetas
 mod BboltWays
 mod BranchLemmas
 mod BranchPages
+mod Chains
 mod Cutting
 mod EvenPages
 mod EvenTrees
@@ -22,6 +23,7 @@ mod LeafLemmas
 mod LeafPages
 mod LimitedRows
 mod LimitsFromEnds
+mod NoGaps
 mod ListLemmas
 mod NotMuchLarger
 mod OneCut

@@ -4,6 +4,7 @@ use Rattle.std.proofs.{lemmas.Bool.lt-leb, lemmas.List.drop_at}
 use Rattle.bolt_layout.proofs.Words.{add-mul, AllByRecursion, append-nil, branch_bytes, branch_data, branch_headers, branch_page_view, BranchElement, count_field, eq-eqb, first_of-both, flags_field, freelist_page, header_bytes, header_written, IsHeaderFit, Kind, le-ltb, leaf_bytes, leaf_data, leaf_headers, leaf_page_view, LeafElement, length-append, length-header_bytes, length-replicate, Meta, page_at, page_bytes, page_fault, PageView, part_read, part_within, span_fault, value_fault}
 use Rattle.bolt_layout.proofs.LeafLemmas.{IsLeafFit, leaves_written, length-leaf_headers}
 use Rattle.bolt_layout.proofs.BranchLemmas.{IsBranchFit, branches_written, length-branch_headers}
+use Rattle.bolt_format.specs.Gaps.{gap_of_kind, page_gap}
 use Rattle.bolt_format.specs.{Headers.id_field, Headers.kind_of, Freelists.freelist_fault, Freelists.free_ids_at, Freelists.ids_fault}
 use Rattle.bolt_format.specs.Pages.{content_fault, from_page, page_overflow, span_bytes, view_of}
 use Rattle.bolt_format.specs.declared.header.Kind.TheVariants as kind
@@ -62,16 +63,18 @@ span_written file meta id is n more content rest h room fit below within =
       end = omega arith;
     }
 
--- a page of a file passes its tests and shows this
+-- a page of a file passes its tests, shows this and has no gap
 pub record IsShown (file : List ℕ) (meta : Meta) (id : ℕ) (view : PageView) : Type 0 where
   pub passes : page_fault file meta id ≡ None
   pub shows : page_at file meta id ≡ Some view
+  pub whole : page_gap file meta id ≡ None
 
 -- with the elements of its kind
 shown_with : (file : List ℕ) (meta : Meta) (id n more : ℕ) (is : Kind) (content rest : List ℕ) (view : PageView) → IsSpanRead file meta id is n more content rest
-    → content_fault is n (span_bytes file meta id) ≡ None → view_of is n more (span_bytes file meta id) ≡ view → IsShown file meta id view
-unfolding page_fault page_at
-shown_with file meta id n more is content rest view span good same = grind arith
+    → content_fault is n (span_bytes file meta id) ≡ None → view_of is n more (span_bytes file meta id) ≡ view
+    → gap_of_kind (Some is) n (span_bytes file meta id) ≡ None → IsShown file meta id view
+unfolding page_fault page_at page_gap
+shown_with file meta id n more is content rest view span good same no_gap = record { passes = grind arith; shows = grind arith; whole = rw (span.kind, span.count) no_gap }
 
 -- what a page needs to be written: its number and its overflow have room, and it stands in the file and below the mark
 pub record IsPlaceFit (file : List ℕ) (meta : Meta) (id more : ℕ) : Type 0 where
@@ -106,7 +109,7 @@ leaf_shown file meta id more es rest h place few room small fits =
     let fit : IsHeaderFit id (length es) more = record { id = place.number; count = few; overflow = place.further } in
     let span = span_written file meta id kind.Leaf (length es) more (leaf_bytes es) rest h (omega arith) fit place.below place.within in
     let written = leaves_written value_fault (span_bytes file meta id) es _ span.behind (omega arith) fits small in
-    shown_with file meta id (length es) more kind.Leaf (leaf_bytes es) _ (leaf_page_view more es) span written.1 (ap (leaf_view_of more es) written.0)
+    shown_with file meta id (length es) more kind.Leaf (leaf_bytes es) _ (leaf_page_view more es) span written.1 (ap (leaf_view_of more es) written.0) written.2
 
 -- a branch page
 pub branch_shown : (file : List ℕ) (meta : Meta) (id more : ℕ) (es : List BranchElement) (rest : List ℕ)
@@ -120,7 +123,7 @@ branch_shown file meta id more es rest h place few room small fits =
     let fit : IsHeaderFit id (length es) more = record { id = place.number; count = few; overflow = place.further } in
     let span = span_written file meta id kind.Branch (length es) more (branch_bytes es) rest h (omega arith) fit place.below place.within in
     let written = branches_written (span_bytes file meta id) es _ span.behind (omega arith) fits small in
-    shown_with file meta id (length es) more kind.Branch (branch_bytes es) _ (branch_page_view more es) span written.1 (ap (branch_view_of more es) written.0)
+    shown_with file meta id (length es) more kind.Branch (branch_bytes es) _ (branch_page_view more es) span written.1 (ap (branch_view_of more es) written.0) written.2
 
 -- the freelist without ids
 pub record IsEmptyFreelist (file : List ℕ) (meta : Meta) (id : ℕ) : Type 0 where

@@ -1,5 +1,6 @@
 -- The items of a tree are read back, have room, and are parts of a sound tree of pages.
 use Rattle.bolt_layout.proofs.Parts.{none_some, nothing, IsPart, part_inline}
+use Rattle.bolt_format.specs.Gaps.{inline_gap}
 use Rattle.bolt_layout.proofs.Words.{AllByRecursion, and_parts, append-nil, At_inline, At_page, bucket_item, bucket_spots, common_steps, contains_head, contains_tail, elements_of, end, eq-eqb, finding_of, follow, HasLengths, head_bytes, head_root, head_sequence, head_written, holds_bucket, inline_elements, inline_page, inline_finding, inline_value, is_inline, IsBelow, items_of, Key, key_cmp, keys_in, keys_of, Laid, largest_page, Layout, leaf_data, leaf_entry, leaf_item, LeafElement, length-append, length-header_bytes, max_items, ne_eqb, Nodes, Rises, RisesInside, root_over, root_spot, run_size, size_of, Spot, stored_bucket, Tree, value_fault, with_bucket, with_value}
 use Rattle.bolt_layout.proofs.{InlineLemmas.IsFlat, InlineLemmas.inline_written, SpanLemmas.length-leaf_bytes, KeyLaws.IsBelowItem, KeyLaws.IsWithin, KeyLaws.ItemsRise, ListLemmas.all_weaker}
 use Rattle.bolt_layout.proofs.{OverRows.IsOver, OverRows.root_is_over, LaidPages.limit, LaidItems.IsItem, LaidItems.items_size, LaidItems.length-elements}
@@ -47,6 +48,7 @@ pub inline_read : (which : Layout) (page_size sequence : ℕ) (inside : Tree) �
     × (inline_elements (inline_value sequence (elements_of (items_of which page_size inside) 0)) ≡ elements_of (items_of which page_size inside) 0)
     × (holds_bucket inside ≡ false)
     × (length (inline_value sequence (elements_of (items_of which page_size inside) 0)) ≤ 0x7FFFFFFE)
+    × (inline_gap (inline_value sequence (elements_of (items_of which page_size inside) 0)) ≡ None)
 inline_read which page_size sequence inside small sized lengths all inline =
     let items = items_of which page_size inside in
     let es : List LeafElement = elements_of items 0 in
@@ -60,7 +62,7 @@ inline_read which page_size sequence inside small sized lengths all inline =
     let long = length-elements items 0 in
     let wide = length-inline_value sequence es in
     let written = inline_written sequence es sized flat (omega arith) (omega arith) in
-    (written.0, written.1, written.2, written.3, none, omega arith)
+    (written.0, written.1, written.2, written.3, none, omega arith, written.4)
 
 inline_item : (which : Layout) (page_size : ℕ) (key : List ℕ) (sequence : ℕ) (inside : Tree) → page_size ≤ largest_page → 1 ≤ length key → length key ≤ 0x40000000 → sequence < 256 ^ 8
     → HasLengths inside → AllByRecursion (IsItem page_size) (items_of which page_size inside) → ItemsRise (items_of which page_size inside)

@@ -9,5 +9,6 @@ pub mod Layout
 pub mod Levels
 pub mod Limits
 pub mod Openings
+pub mod NoGaps
 pub mod PageBytes
 pub mod Storable

@@ -8,7 +8,7 @@ ghost use Rattle.bolt_tree.specs.Tree.{IsTreeOf, Tree, listing_of, tree_of};
 ghost use Rattle.bolt_layout.specs.{Copies.ForAsked, Copies.ForStorable, Copies.IsAsked, Copies.IsOfOneTree, Copies.IsSoundCopy, Copies.RefusesPrefixes, Copies.layout_of_listing, Cut.CutIsOne};
 ghost use Rattle.bolt_layout.specs.{ForBbolt.ForBboltFindings, ForBbolt.IsOneChild, Held.most_held, Laid.Laid};
 ghost use Rattle.bolt_layout.specs.Layout.{HasTwoIfBranch, layout_held, layout_mark, layout_meta, layout_of, layout_pages, layout_root};
-ghost use Rattle.bolt_layout.specs.{Levels.IsOverflow, Levels.TopIsAbove, Levels.overflow_of, Storable.IsFitListing, Storable.IsFitMember, Storable.IsStorable};
+ghost use Rattle.bolt_layout.specs.{NoGaps.HasNoGaps, Levels.IsOverflow, Levels.TopIsAbove, Levels.overflow_of, Storable.IsFitListing, Storable.IsFitMember, Storable.IsStorable};
 ghost use Rattle.bolt_layout.specs.{declared.Layout.Layout, declared.Layout.TheVariants.Balanced};
 
 use bolt_check::laws::sound_trees_pass_the_tests;
@@ -64,6 +64,15 @@ pub fn layouts_are_taken_by_bbolt()
 pub fn layouts_are_for_bbolt()
     ensures balanced { ForBboltFindings (λ which findings. which ≡ Balanced → findings ≡ []) }
     ensures plain { ForBboltFindings (λ which findings. AllByRecursion IsOneChild findings) }
+{
+    sound_trees_pass_the_tests();
+}
+
+/// No page of a layout has a gap: each is as bbolt writes it.
+pub fn layouts_have_no_gaps()
+    ensures { ForAsked (λ which page_size tree sequence.
+        HasNoGaps (layout_of which page_size tree sequence)
+        (layout_meta which page_size tree sequence 1)) }
 {
     sound_trees_pass_the_tests();
 }

@@ -1,6 +1,6 @@
 -- What a course visits is a survey, and what it returns are the elements at the kept ways.
 use Rattle.std.proofs.Common.{◌≡◌, ◌∙◌, ◌⊎◌, ◌↔◌, ◌<◌, inl, inr, ℕ, Bool, true, ◌||◌, List, [], ◌∷◌, ◌++◌, Option, Some, None, refl, sym, ap, subst, subst₂, arith, append_assoc, cond}
-use Rattle.bolt_recover.proofs.Words.{after_event, after_events, all_events, append-nil, claimed_after, claims_of, Contains, contains_at, contains_from_has, counted, Each, Event, false≢true, Finding, further, Given, Gives, Has, has_from_contains, has_left, has_right, has_split, is_at_page, IsClaimedIn, IsKeptPage, IsMetaPage, IsOpen, IsRecoveredMember, IsSurvey, Item, item_of, way_kept, LeafElement, loss_at, losses_of, members_at, members_of, Meta, meta_pages, nat_tests, node_at, Nodes, or_cases, or_left, or_right, Outcome, outcome_of, page_ways, Path, Reach, reached, root_site, root_tasks, same_Some, Site, site_at, site_size, span_of, SpanAt, SpanHas, Spot, step_site, sum_by-cons, SurveyedWay, Task, tasks_after, To_give, To_visit, Visited, visit_at, visits_of, Way, RisesBy, Before}
+use Rattle.bolt_recover.proofs.Words.{after_event, after_events, all_events, append-nil, claimed_after, claims_of, Contains, contains_at, contains_from_has, counted, Each, Event, false≢true, Finding, further, gaps_of, Given, Gives, Has, has_from_contains, has_left, has_right, has_split, is_at_page, IsClaimedIn, IsKeptPage, IsMetaPage, IsOpen, IsRecoveredMember, IsSurvey, Item, item_of, kept_gap, way_kept, LeafElement, loss_at, losses_of, members_at, members_of, Meta, meta_pages, nat_tests, node_at, Nodes, or_cases, or_left, or_right, Outcome, outcome_of, page_ways, Path, Reach, reached, root_site, root_tasks, same_Some, Site, site_at, site_size, span_of, SpanAt, SpanHas, Spot, step_site, sum_by-cons, SurveyedWay, Task, tasks_after, To_give, To_visit, Visited, visit_at, visits_of, Way, RisesBy, Before}
 use Rattle.bolt_recover.proofs.{Courses.Course, Courses.course, Courses.Course.done, Courses.Course.give, Courses.Course.visit, CourseOrder.rises_course}
 use Rattle.bolt_recover.proofs.SiteFacts.{leads_within, site_further, site_is, size_enough, slice_of, spot_is, step_spot}
 use Rattle.bolt_recover.proofs.{SurveyIsOne.Earlier, SurveyIsOne.gives_same, SurveyIsOne.in_front, SurveyIsOne.rise, SurveyIsOne.ways, MembersInBuckets.well_at}
@@ -35,21 +35,24 @@ module _ (file : List ℕ) (meta : Meta) where
 
   -- what comes of events is what the survey of their visits says
   pub record Tallied (o : Outcome) (events : List Event) : Type 0 where
-    pub losses : (after_events nodes o events).losses ≡ o.losses ++ losses_of file meta (visits_of events)
-    pub pages : counted (after_events nodes o events).visited 0 ≡ counted o.visited (page_ways reach (visits_of events))
+    pub losses : (after_events file meta o events).losses ≡ o.losses ++ losses_of file meta (visits_of events)
+    pub gaps : (after_events file meta o events).gaps ≡ o.gaps ++ gaps_of file meta (visits_of events)
+    pub pages : counted (after_events file meta o events).visited 0 ≡ counted o.visited (page_ways reach (visits_of events))
 
   tallied : (o : Outcome) (events : List Event) → ((w : Way) (p : Site) (found : Option Finding) → Has events (Visited w p found) → site_at file meta w ≡ Some p) → Tallied o events
-  tallied o [] placed = record { losses = sym (append-nil o.losses); pages = refl }
-  tallied o (Given path e ∷ events) placed = let rest = tallied o events (λ w p found h. placed w p found (inr h)) in record { losses = rest.losses; pages = rest.pages }
+  tallied o [] placed = record { losses = sym (append-nil o.losses); gaps = sym (append-nil o.gaps); pages = refl }
+  tallied o (Given path e ∷ events) placed = let rest = tallied o events (λ w p found h. placed w p found (inr h)) in record { losses = rest.losses; gaps = rest.gaps; pages = rest.pages }
   tallied o (Visited w p found ∷ events) placed =
       let at = placed w p found (inl refl) in
-      let rest = tallied (after_event nodes o (Visited w p found)) events (λ v q f h. placed v q f (inr h)) in
+      let rest = tallied (after_event file meta o (Visited w p found)) events (λ v q f h. placed v q f (inr h)) in
       let here = ap {B = ℕ} (λ (o : Option Spot). cond (is_at_page o) 1 0) (spot_is file meta w p at) in
       let all = sum_by-cons (λ (u : SurveyedWay). cond (is_at_page (reach u.way)) 1 0) (record { way = w; found = found }) (visits_of events) in
       let pages = rest.pages in
       record {
         losses = rest.losses ∙ append_assoc o.losses (loss_at (Some p) found) (losses_of file meta (visits_of events))
             ∙ ap (λ ls. o.losses ++ (ls ++ losses_of file meta (visits_of events))) (ap (λ (q : Option Site). loss_at q found) (sym at));
+        gaps = rest.gaps ∙ append_assoc o.gaps (kept_gap file meta (Some p.spot) found) (gaps_of file meta (visits_of events))
+            ∙ ap (λ (q : Option Spot). o.gaps ++ (kept_gap file meta q found ++ gaps_of file meta (visits_of events))) (sym (spot_is file meta w p at));
         pages = omega (arith, here, all, pages);
       }
 
@@ -87,7 +90,7 @@ module _ (file : List ℕ) (meta : Meta) (survey : List SurveyedWay) where
 
   -- what comes of a course: the tasks are done, and those at the sites that are visited, and the kept visits claim what is claimed at the end
   record Comes (claimed : ℕ → Bool) (tasks : List Task) (events : List Event) : Type 0 where
-    claims : (o : Outcome) → o.claimed ≡ claimed → AreClaims (Has survey) (after_events (nodes file meta) o events).claimed
+    claims : (o : Outcome) → o.claimed ≡ claimed → AreClaims (Has survey) (after_events file meta o events).claimed
     only : Each IsEvent events
     led : Each (Done events) tasks
     kids : (x : Event) → Has events x → Each (Done events) (tasks_of x)
@@ -119,7 +122,7 @@ module _ (file : List ℕ) (meta : Meta) (survey : List SurveyedWay) where
         | inr (v, (has, span)) ↦ elim (has_split front this (way_kept v) has) [ inl before ↦ inl (inr (v, (before, span))) | inr last ↦ elim last [ inl same ↦ inr (v, (sym same, span)) | inr none ↦ absurd none ] ]
       ])
 
-  comes_more : (claimed after : ℕ → Bool) (x : Event) (task : Task) (first tasks : List Task) (events : List Event) → ((o : Outcome) → o.claimed ≡ claimed → (after_event (nodes file meta) o x).claimed ≡ after)
+  comes_more : (claimed after : ℕ → Bool) (x : Event) (task : Task) (first tasks : List Task) (events : List Event) → ((o : Outcome) → o.claimed ≡ claimed → (after_event file meta o x).claimed ≡ after)
       → IsEvent x → Done (x ∷ events) task → tasks_of x ≡ first → Comes after (first ++ tasks) events → Comes claimed (task ∷ tasks) (x ∷ events)
   comes_more claimed after x task first tasks events next is ends own later = grind (arith, done_later, has_right, has_left)
 
@@ -228,9 +231,9 @@ module _ (file : List ℕ) (meta : Meta) where
         subst (λ (m : Path × Item). Contains (members_of (all_events file meta)) m) (λ j. (named j, sym is.is j)) (in_members (all_events file meta) (p.path ++ is.element.key ∷ []) is.element given),
   )
 
-  pub tally : (begun : ℕ) → Tallied file meta (record { losses = []; visited = begun; claimed = meta_pages }) (all_events file meta)
-  tally begun = tallied file meta (record { losses = []; visited = begun; claimed = meta_pages }) (all_events file meta) placed
+  pub tally : (begun : ℕ) → Tallied file meta (record { losses = []; gaps = []; visited = begun; claimed = meta_pages }) (all_events file meta)
+  tally begun = tallied file meta (record { losses = []; gaps = []; visited = begun; claimed = meta_pages }) (all_events file meta) placed
 
   -- the pages that its kept visits take in
-  pub all_claimed : (begun n : ℕ) → ((outcome_of (nodes file meta) begun (all_events file meta)).claimed n ≡ true) ↔ IsKeptPage file meta survey_of n
-  all_claimed begun n = comes.claims (record { losses = []; visited = begun; claimed = meta_pages }) refl n
+  pub all_claimed : (begun n : ℕ) → ((outcome_of file meta begun (all_events file meta)).claimed n ≡ true) ↔ IsKeptPage file meta survey_of n
+  all_claimed begun n = comes.claims (record { losses = []; gaps = []; visited = begun; claimed = meta_pages }) refl n

@@ -1,6 +1,6 @@
--- Each file has a survey, one recovered listing and losses, under each meta: those that all its events show.
+-- Each file has a survey, one recovered listing, losses and gaps, under each meta: those that all its events show.
 use Rattle.std.proofs.Common.{◌≡◌, ℕ, List, refl, subst, sym}
-use Rattle.bolt_recover.proofs.Words.{all_events, AreLosses, IsRecovered, IsRecoveredMember, IsSurvey, losses_of, LossView, Member, member_total, members_of, Meta, rises_once, SurveyedWay}
+use Rattle.bolt_recover.proofs.Words.{all_events, AreGaps, AreLosses, gaps_of, PageGapView, IsRecovered, IsRecoveredMember, IsSurvey, losses_of, LossView, Member, member_total, members_of, Meta, rises_once, SurveyedWay}
 use Rattle.bolt_recover.proofs.{CourseSurveys.all_members, CourseSurveys.survey_of, CourseSurveys.surveyed, CourseTrees.members_rise, SurveyIsOne.same_survey}
 
 pub recovers : (file : List ℕ) (meta : Meta) → IsRecovered file meta (members_of (all_events file meta))
@@ -21,3 +21,6 @@ has_recovered file meta = (members_of (all_events file meta), recovers file meta
 
 pub has_losses : (file : List ℕ) (meta : Meta) → (losses : List LossView) × AreLosses file meta losses
 has_losses file meta = (losses_of file meta (survey_of file meta), (survey_of file meta, surveyed file meta, refl))
+
+pub has_gaps : (file : List ℕ) (meta : Meta) → (gaps : List PageGapView) × AreGaps file meta gaps
+has_gaps file meta = (gaps_of file meta (survey_of file meta), (survey_of file meta, surveyed file meta, refl))

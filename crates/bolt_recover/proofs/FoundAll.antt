@@ -1,8 +1,8 @@
 -- The found pages of a whole file.
 use Rattle.std.proofs.Common.{◌≡◌, ◌∙◌, ◌↔◌, ◌⊎◌, ◌||◌, inl, inr, ℕ, suc, Bool, true, false, arith, List, [], ◌∷◌, Option, Some, None, refl, sym, ap, subst}
-use Rattle.bolt_recover.proofs.Words.{all_events, AreFound, AreKeptPages, AreLosses, At_page, claims_of, Contains, contains_cases, contains_head, contains_none, contains_tail, Event, false≢true, Finding, first_claimed, FoundBelow, Has, HasSoundTrees, IsFoundPage, IsKeptPage, IsListedFree, IsLoneLeaf, IsMetaPage, IsRecovered, IsSurvey, way_kept, LosesNothing, LosesRoot, lost, Member, members_of, Meta, meta_pages, nat_tests, node_at, node_below, root_site, root_spot, SpanAt, SurveyedWay, Visited, visits_of}
+use Rattle.bolt_recover.proofs.Words.{all_events, AreFound, AreGaps, AreKeptPages, AreLosses, At_page, claims_of, Contains, contains_cases, contains_head, contains_none, contains_tail, Event, false≢true, Finding, first_claimed, FoundBelow, Has, HasSoundTrees, IsFoundPage, IsKeptPage, IsListedFree, IsLoneLeaf, IsMetaPage, IsRecovered, IsSurvey, way_kept, LosesNothing, LosesRoot, lost, Member, members_of, Meta, meta_pages, nat_tests, node_at, node_below, PageGapView, root_site, root_spot, SpanAt, SurveyedWay, Visited, visits_of}
 use Rattle.bolt_recover.proofs.{Existing.has_survey, Existing.one_recovered, Existing.recovers, FoundLemmas.found_one, FoundLemmas.found_same, FoundLemmas.passed, LostWays.nothing_lost}
-use Rattle.bolt_recover.proofs.{Tested.IsFirst, Tested.first_is, KeptWays.sound, Recovering.whole, Recovering.whole_claimed, CourseSurveys.claims_in, CourseSurveys.either_or, CourseSurveys.surveyed}
+use Rattle.bolt_recover.proofs.{Tested.IsFirst, Tested.first_is, KeptWays.sound, Recovering.one_gaps, Recovering.whole, Recovering.whole_claimed, CourseSurveys.claims_in, CourseSurveys.either_or, CourseSurveys.surveyed}
 use Rattle.bolt_recover.proofs.{Courses.events_none, Courses.events_visit, SurveyIsOne.gives_same, SurveyIsOne.same_survey}
 
 -- a way of a survey is lost, or none is
@@ -123,3 +123,9 @@ module _ (file : List ℕ) (meta : Meta) (x : Finding) (loses : LosesRoot file m
 
   pub nothing_recovered : (listing : List Member) → IsRecovered file meta listing → listing ≡ []
   nothing_recovered listing is = one_recovered file meta listing [] is (subst (IsRecovered file meta) (ap members_of root_events) (recovers file meta))
+
+  pub no_gaps : AreGaps file meta []
+  no_gaps = (alone, subst (IsSurvey file meta) (ap visits_of root_events) (surveyed file meta), refl)
+
+  pub nothing_kept : (gaps : List PageGapView) → AreGaps file meta gaps → gaps ≡ []
+  nothing_kept gaps are = one_gaps file meta gaps [] are no_gaps

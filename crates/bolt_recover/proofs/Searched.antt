@@ -1,7 +1,7 @@
 -- What is known of a file that was searched.
-use Rattle.std.proofs.Common.{◌≡◌, ◌≢◌, ◌∙◌, ◌<◌, ◌*◌, ◌^◌, true, false, List, [], ◌∷◌, ap, length, subst, sym, arith}
-use Rattle.bolt_recover.proofs.Words.{all_lost, AreJoinable, AreTreesOf, bytes_of, Checked, Contains, contains_cases, contains_head, contains_none, contains_tail, Damaged, everything, Finding, ForRecovered, Found, HasBucketKey, holds_key, IsSearched, LacksBucketKey, LosesRoot, LossView, lost_of, Member, meta_of, or_cases, or_parts, parts, props, Rootless, Sound, ∥∥₁_elim, ∥∥₁_map}
-use Rattle.bolt_recover.proofs.FoundAll.{nothing_recovered}
+use Rattle.std.proofs.Common.{◌≡◌, ◌≢◌, ◌∙◌, ◌<◌, ◌*◌, ◌^◌, true, false, List, [], ◌∷◌, ap, length, map, subst, sym, arith}
+use Rattle.bolt_recover.proofs.Words.{all_lost, AreJoinable, AreTreesOf, bytes_of, Checked, Contains, contains_cases, contains_head, contains_none, contains_tail, Damaged, everything, Finding, ForRecovered, Found, ForGaps, HasBucketKey, holds_key, IsSearched, LacksBucketKey, LosesRoot, LossView, lost_of, Member, meta_of, or_cases, or_parts, page_gap_view, parts, props, Rootless, Sound, ∥∥₁_elim, ∥∥₁_map}
+use Rattle.bolt_recover.proofs.FoundAll.{nothing_kept, nothing_recovered}
 use Rattle.bolt_recover.specs.{Lost.IsAllLost, declared.losses.Damage.Damage, declared.lost_and_found.LostAndFound.LostAndFound, declared.lost_and_found.Trees.Trees}
 use Rattle.bolt_check.specs.{Counts.saturated, Sound.HasSoundTrees}
 use Rattle.bolt_check.proofs.Exports.{checked_trees}
@@ -45,13 +45,16 @@ module _ (both : LostAndFound) where
 
   module _ (damage : Damage) (is : both.trees ≡ Damaged damage) where
     pub has_key : damage.has_bucket_key ≡ true → ForRecovered both.file.now both.meta HasBucketKey
-    has_key same listing recovers = key_held listing (∥∥₁_elim both.searched (hlevel props) (λ searched. sym (left (Damaged damage) is searched listing recovers).0 ∙ same))
+    has_key same listing recovers = key_held listing (∥∥₁_elim both.searched (hlevel props) (λ searched. sym ((left (Damaged damage) is searched).key listing recovers) ∙ same))
 
     pub lacks_key : damage.has_bucket_key ≡ false → ForRecovered both.file.now both.meta LacksBucketKey
-    lacks_key other listing recovers = key_lacks listing (∥∥₁_elim both.searched (hlevel props) (λ searched. sym (left (Damaged damage) is searched listing recovers).0 ∙ other))
+    lacks_key other listing recovers = key_lacks listing (∥∥₁_elim both.searched (hlevel props) (λ searched. sym ((left (Damaged damage) is searched).key listing recovers) ∙ other))
 
     pub number : ForRecovered both.file.now both.meta (λ listing. damage.members ≡ saturated (length listing))
-    number listing recovers = ∥∥₁_elim both.searched (hlevel props) (λ searched. (left (Damaged damage) is searched listing recovers).1)
+    number listing recovers = ∥∥₁_elim both.searched (hlevel props) (λ searched. (left (Damaged damage) is searched).number listing recovers)
+
+    pub gaps_known : ForGaps both.file.now both.meta (λ gaps. map page_gap_view damage.gaps.items ≡ gaps)
+    gaps_known gaps are = ∥∥₁_elim both.searched (hlevel props) (λ searched. (left (Damaged damage) is searched).gaps gaps are)
 
   module _ (x : Finding) (is : both.trees ≡ Rootless x) where
     pub root_lost : ∥ LosesRoot both.file.now both.meta x ∥₁
@@ -59,6 +62,9 @@ module _ (both : LostAndFound) where
 
     pub none_recovered : ForRecovered both.file.now both.meta (λ listing. listing ≡ [])
     none_recovered listing recovers = ∥∥₁_elim root_lost (hlevel props) (λ lost. nothing_recovered both.file.now both.meta x lost listing recovers)
+
+    pub no_gap : ForGaps both.file.now both.meta (λ gaps. [] ≡ gaps)
+    no_gap gaps are = ∥∥₁_elim root_lost (hlevel props) (λ lost. sym (nothing_kept both.file.now both.meta x lost gaps are))
 
     pub lacks_all : ForRecovered both.file.now both.meta LacksBucketKey
     lacks_all listing recovers m has = absurd (contains_none m (subst (λ (ms : List Member). Contains ms m) (none_recovered listing recovers) has))

@@ -19,20 +19,20 @@ value_at file meta path page s n good value = grind (arith, nowhere)
 record Drops (old new : List Event) : Type 0 where
   dropped : List Member
   members : members_of old ≡ dropped ++ members_of new
-  same : (nodes : Nodes) (o : Outcome) → after_events nodes o old ≡ after_events nodes o new
+  same : (file : List ℕ) (meta : Meta) (o : Outcome) → after_events file meta o old ≡ after_events file meta o new
 
 drops_on : (a b c : List Event) → Drops a b → Drops b c → Drops a c
 drops_on a b c first then = record {
   dropped = first.dropped ++ then.dropped;
   members = first.members ∙ ap (λ (ms : List Member). first.dropped ++ ms) then.members ∙ sym (append_assoc first.dropped then.dropped (members_of c));
-  same = λ nodes o. first.same nodes o ∙ then.same nodes o;
+  same = λ file meta o. first.same file meta o ∙ then.same file meta o;
 }
 
 module _ (file : List ℕ) (meta : Meta) (claimed : ℕ → Bool) (way : Way) (p : Site) (rest : List Task) where
   entry_drops : (further : Way) (o : Option LeafElement) (q : Option Site) (more : List Task) → option_map (λ (e : LeafElement). e.is_bucket) o ≡ Some false → q ≡ None
       → Drops (events file meta ((gives_at file meta p.path o ++ visits_at file meta further q) ++ more ++ rest) claimed) (events file meta (more ++ rest) claimed)
   entry_drops further (Some e) None more value none =
-      rw (events_give file meta claimed (p.path ++ e.key ∷ []) e (more ++ rest)) (record { dropped = (p.path ++ e.key ∷ [], item_of e) ∷ []; members = refl; same = λ nodes o. refl })
+      rw (events_give file meta claimed (p.path ++ e.key ∷ []) e (more ++ rest)) (record { dropped = (p.path ++ e.key ∷ [], item_of e) ∷ []; members = refl; same = λ file meta o. refl })
   entry_drops further o q more value none = grind arith
 
   -- from i to j
@@ -41,7 +41,7 @@ module _ (file : List ℕ) (meta : Meta) (claimed : ℕ → Bool) (way : Way) (p
   values_drop zero i j a b to all values =
       let there : j ≡ i = omega (arith, to) in
       let long : a ≡ b = omega (arith, all) in
-      rw (there, long) (record { dropped = []; members = refl; same = λ nodes o. refl })
+      rw (there, long) (record { dropped = []; members = refl; same = λ file meta o. refl })
   values_drop (suc k) i j a b to all values =
       let long : a ≡ suc (k + b) = omega (arith, all) in
       let here = values i (omega arith) (omega (arith, to)) in

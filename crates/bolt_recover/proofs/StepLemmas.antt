@@ -1,9 +1,9 @@
 -- What the steps of a recovering walk leave to be done.
 use Rattle.std.proofs.Common.{◌≡◌, ◌∙◌, ◌≤◌, ◌<◌, ℕ, ◌+◌, ◌-◌, Bool, true, ◌↔◌, List, [], ◌∷◌, ◌++◌, length, map, take, Option, Some, None, slice_get, drop, refl, sym, ap, arith, append_assoc, sum_by, Vec, Global, Bor}
-use Rattle.bolt_recover.proofs.Words.{after_event, ahead_tasks, all_events, append-nil, AreOpenPages, At_page, both_ways, claimed_after, claims_file, claims_meta, claims_nodes, claims_visited, claims_with, Event, loss_of, Passes, Tests, KeptPage, content_elements, content_site, content_size, content_spot, counted, Ends, events, Finding, further, Gives, GivesHead, StepsOn, is_claimed, IsAllLeft, IsContent, IsGoodKeptPage, IsGoodPage, IsMetaPage, AreStepsPlaced, IsShallow, LeafElement, length_entries, length-map, length-take-le, loss_view, loss_at, map-append, members_of, Meta, meta_pages, nat_tests, NextVisit, node_at, open_tasks, OpenPage, option_map, page_tasks, page_visit, page_weight, Path, path_of, root_spot, Site, site_size, site_tasks, spot_at, spot_site, steps_left, steps_path, steps_weight, TreePage, sum_by-append, take-append-drop, take-append-le, tally_of, Task, tasks_after, tasks_left, Visited, Way, way_of, step_site}
+use Rattle.bolt_recover.proofs.Words.{after_event, ahead_tasks, all_events, append-nil, AreOpenPages, At_page, both_ways, claimed_after, claims_file, claims_meta, claims_nodes, claims_visited, claims_with, Event, loss_of, Passes, Tests, KeptPage, content_elements, content_site, content_size, content_spot, counted, Ends, events, Finding, further, Gives, GivesHead, StepsOn, is_claimed, IsAllLeft, IsContent, IsGoodKeptPage, IsGoodPage, IsMetaPage, AreStepsPlaced, IsShallow, kept_gap, LeafElement, length_entries, length-map, length-take-le, loss_view, loss_at, map-append, members_of, Meta, meta_pages, nat_tests, NextVisit, node_at, open_tasks, OpenPage, option_map, page_gap_view, page_tasks, page_visit, page_weight, Path, path_of, root_spot, Site, site_size, site_tasks, spot_at, spot_gap, spot_site, steps_left, steps_path, steps_weight, TreePage, sum_by-append, take-append-drop, take-append-le, tally_of, Task, tasks_after, tasks_left, Visited, Way, way_of, step_site}
 use Rattle.bolt_recover.proofs.{Courses.events_give, Courses.events_none, Courses.events_visit, SurveyIsOne.gives_same}
 use Rattle.bolt_format.specs.TreePages.{page_keys, shown_page}
-use Rattle.bolt_recover.specs.{Private.Frames.IsGoodAt, Private.Frames.IsShallowAt, declared.losses.Loss.Loss, declared.steps.Steps.Steps}
+use Rattle.bolt_recover.specs.{Private.Frames.IsGoodAt, Private.Frames.IsShallowAt, declared.gaps.PageGap.PageGap, declared.losses.Loss.Loss, declared.steps.Steps.Steps}
 use Rattle.bolt_check.specs.{declared.claims.Claims.Claims, declared.spot.Spot.Spot}
 use Rattle.bolt_check.specs.declared.spot.Spot.TheVariants as spots
 use Rattle.std.proofs.Math.Bool.{or-false}
@@ -59,11 +59,11 @@ pub take_below : (m n : ℕ) (path rest : Path) → m ≤ length path → n ≤ 
 take_below m n path rest long le = grind (arith, length-take-le m path, take-append-le n (take m path) rest, take-append-le n (take m path) (drop m path), take-append-drop m path)
 
 -- what is ahead was visited, with these pages open after it
-module _ (s : Steps) (claims : Claims) (stack : Vec OpenPage Global) (losses : Vec Loss Global) (loss_path : Vec (Bor (List ℕ)) Global) (ahead : NextVisit)
+module _ (s : Steps) (claims : Claims) (stack : Vec OpenPage Global) (losses : Vec Loss Global) (gaps : Vec PageGap Global) (loss_path : Vec (Bor (List ℕ)) Global) (ahead : NextVisit)
     (has : AreStepsPlaced s) (is : s.ahead ≡ Some ahead) (file : claims_file claims ≡ claims_file s.claims) (meta : claims_meta claims ≡ claims_meta s.claims)
     (counts : claims_visited claims ≡ counted (claims_visited s.claims) (page_visit (spot_at ahead.spot))) where
   abbrev visited : Steps
-  visited = record s { claims = claims; ahead = None; «open» = stack; losses = losses; loss_path = loss_path }
+  visited = record s { claims = claims; ahead = None; «open» = stack; losses = losses; gaps = gaps; loss_path = loss_path }
 
   abbrev site : Site
   site = spot_site (claims_file s.claims) (claims_meta s.claims) (take ahead.path_len (steps_path s)) ahead.spot
@@ -77,8 +77,9 @@ module _ (s : Steps) (claims : Claims) (stack : Vec OpenPage Global) (losses : V
   goes_visiting : (found : Option Finding) → Finds found → ((n : ℕ) → is_claimed claims n ≡ claimed_after (claims_nodes s.claims) (is_claimed s.claims) (spot_at ahead.spot) found n)
       → open_tasks (claims_file s.claims) (claims_meta s.claims) (steps_path s) [] stack.items [] ≡ tasks_after (claims_file s.claims) (claims_meta s.claims) (way_of s.open.items) site found ++ rest
       → map loss_view losses.items ≡ map loss_view s.losses.items ++ loss_at (Some site) found
+      → map page_gap_view gaps.items ≡ map page_gap_view s.gaps.items ++ kept_gap (claims_file s.claims) (claims_meta s.claims) (Some (spot_at ahead.spot)) found
       → AreOpenPages (claims_file s.claims) (claims_meta s.claims) 0 stack.items (length (steps_path s)) → sum_by page_weight stack.items ≤ 65537 + sum_by page_weight s.open.items → StepsOn s visited
-  goes_visiting found gives after tasks lost placed weight =
+  goes_visiting found gives after tasks lost gapped placed weight =
       let event = Visited (way_of s.open.items) site found in
       let old_file = claims_file s.claims in let old_meta = claims_meta s.claims in
       let claimed : is_claimed claims ≡ claimed_after (claims_nodes s.claims) (is_claimed s.claims) (spot_at ahead.spot) found = λ i n. after n i in
@@ -86,7 +87,7 @@ module _ (s : Steps) (claims : Claims) (stack : Vec OpenPage Global) (losses : V
       ap (λ (o : Option NextVisit). events old_file old_meta (ahead_tasks old_file old_meta (steps_path s) (way_of s.open.items) o rest) (is_claimed s.claims)) is
       ∙ events_visit old_file old_meta (is_claimed s.claims) (way_of s.open.items) site found rest gives
       ∙ ap (λ (es : List Event). event ∷ es) (rw (file, meta, claimed, tasks) refl) in
-      let tally : tally_of visited ≡ after_event (claims_nodes s.claims) (tally_of s) event = λ i. record { losses = lost i; visited = counts i; claimed = claimed i } in
+      let tally : tally_of visited ≡ after_event old_file old_meta (tally_of s) event = λ i. record { losses = lost i; gaps = gapped i; visited = counts i; claimed = claimed i } in
       let long = ap length left in
       record {
         on = record {
@@ -102,27 +103,29 @@ module _ (s : Steps) (claims : Claims) (stack : Vec OpenPage Global) (losses : V
 
   -- it is lost
   pub goes_lost : (x : Finding) → Tests (claims_nodes s.claims) (λ n. is_claimed s.claims n ≡ true) (spot_at ahead.spot) x → ((n : ℕ) → is_claimed claims n ≡ is_claimed s.claims n)
-      → stack.items ≡ s.open.items → map loss_view losses.items ≡ map loss_view s.losses.items ++ loss_of site x ∷ [] → StepsOn s visited
-  goes_lost x tests same stays lost =
+      → stack.items ≡ s.open.items → map loss_view losses.items ≡ map loss_view s.losses.items ++ loss_of site x ∷ [] → gaps.items ≡ s.gaps.items → StepsOn s visited
+  goes_lost x tests same stays lost same_gaps =
       let are = rw is at has.pages in
       let within = rw is at has.within in
       let weight = ap (sum_by page_weight) stays in
       goes_visiting (Some x) tests (λ n. same n ∙ sym (or-false (is_claimed s.claims n))) (rw stays refl) lost
+      (ap (map page_gap_view) same_gaps ∙ sym (append-nil (map page_gap_view s.gaps.items)))
       (rw stays (are_open_up (claims_file s.claims) (claims_meta s.claims) 0 s.open.items ahead.path_len (length (steps_path s)) are within)) (omega (arith, weight))
 
   -- it is open
   pub goes_in : (content : KeptPage) (count : ℕ) → Passes (claims_nodes s.claims) (λ n. is_claimed s.claims n ≡ true) (spot_at ahead.spot)
       → IsContent (claims_file s.claims) (claims_meta s.claims) ahead.spot content
       → ((n : ℕ) → is_claimed claims n ≡ claims_with s.claims (spot_at ahead.spot) n) → count ≡ content_size content → count < 65536
-      → stack.items ≡ s.open.items ++ record { content = content; path_len = ahead.path_len; count = count; next = 0 } ∷ [] → losses.items ≡ s.losses.items → StepsOn s visited
-  goes_in content count passes opens after long fits pushed kept =
+      → stack.items ≡ s.open.items ++ record { content = content; path_len = ahead.path_len; count = count; next = 0 } ∷ [] → losses.items ≡ s.losses.items
+      → map page_gap_view gaps.items ≡ map page_gap_view s.gaps.items ++ spot_gap (claims_file s.claims) (claims_meta s.claims) (spot_at ahead.spot) → StepsOn s visited
+  goes_in content count passes opens after long fits pushed kept noted =
       let page : OpenPage = record { content = content; path_len = ahead.path_len; count = count; next = 0 } in
       let are = rw is at has.pages in
       let within = rw is at has.within in
       let weight = ap (sum_by page_weight) pushed ∙ sum_by-append page_weight s.open.items (page ∷ []) in
       goes_visiting None passes after
       (rw pushed (opened (claims_file s.claims) (claims_meta s.claims) (steps_path s) s.open.items ahead.spot content ahead.path_len count opens long))
-      (ap (map loss_view) kept ∙ sym (append-nil (map loss_view s.losses.items)))
+      (ap (map loss_view) kept ∙ sym (append-nil (map loss_view s.losses.items))) noted
       (rw pushed (are_open_push (claims_file s.claims) (claims_meta s.claims) 0 s.open.items page (length (steps_path s)) are
       (record { content = opens.good; count = long; fits = fits; taken = omega arith }) within)) (omega (arith, weight, fits))
 
@@ -199,19 +202,20 @@ root_gives claims found metas h = grind (arith, gives_same)
 abbrev pub root_visit : Meta → NextVisit
 root_visit meta = record { spot = spots.Page (record { number = meta.root; depth = 1; lower = None; upper = None }); path_len = 0 }
 
-pub begins : (s : Steps) (claims : Claims) (stack : Vec OpenPage Global) (loss_path : Vec (Bor (List ℕ)) Global) (content : KeptPage) (count : ℕ)
-    → s.ahead ≡ Some (root_visit (claims_meta s.claims)) → s.open.items ≡ [] → s.losses.items ≡ [] → ((n : ℕ) → (is_claimed s.claims n ≡ true) ↔ IsMetaPage n)
+pub begins : (s : Steps) (claims : Claims) (stack : Vec OpenPage Global) (gaps : Vec PageGap Global) (loss_path : Vec (Bor (List ℕ)) Global) (content : KeptPage) (count : ℕ)
+    → s.ahead ≡ Some (root_visit (claims_meta s.claims)) → s.open.items ≡ [] → s.losses.items ≡ [] → s.gaps.items ≡ [] → ((n : ℕ) → (is_claimed s.claims n ≡ true) ↔ IsMetaPage n)
     → claims_file claims ≡ claims_file s.claims → claims_meta claims ≡ claims_meta s.claims → claims_visited claims ≡ counted (claims_visited s.claims) 1
     → Passes (claims_nodes s.claims) (λ n. is_claimed s.claims n ≡ true) (At_page (root_spot (claims_meta s.claims).root))
     → IsContent (claims_file s.claims) (claims_meta s.claims) (root_visit (claims_meta s.claims)).spot content
     → ((n : ℕ) → is_claimed claims n ≡ claims_with s.claims (At_page (root_spot (claims_meta s.claims).root)) n) → count ≡ content_size content → count < 65536
     → stack.items ≡ record { content = content; path_len = 0; count = count; next = 0 } ∷ []
-    → IsAllLeft (claims_file s.claims) (claims_meta s.claims) (claims_visited s.claims) (record s { claims = claims; ahead = None; «open» = stack; loss_path = loss_path })
-begins s claims stack loss_path content count is none lost metas file meta counts passes opens after long fits pushed =
+    → map page_gap_view gaps.items ≡ map page_gap_view s.gaps.items ++ spot_gap (claims_file s.claims) (claims_meta s.claims) (At_page (root_spot (claims_meta s.claims).root))
+    → IsAllLeft (claims_file s.claims) (claims_meta s.claims) (claims_visited s.claims) (record s { claims = claims; ahead = None; «open» = stack; gaps = gaps; loss_path = loss_path })
+begins s claims stack gaps loss_path content count is none lost no_gaps metas file meta counts passes opens after long fits pushed noted =
     let claimed : is_claimed s.claims ≡ meta_pages = λ i n. of_metas (is_claimed s.claims) metas n i in
-    let goes = goes_in s claims stack s.losses loss_path (root_visit (claims_meta s.claims)) (rw (is, none) (record { pages = omega arith; within = omega arith })) is file meta counts
-    content count passes opens after long fits (pushed ∙ rw none refl) refl in
+    let goes = goes_in s claims stack s.losses gaps loss_path (root_visit (claims_meta s.claims)) (rw (is, none) (record { pages = omega arith; within = omega arith })) is file meta counts
+    content count passes opens after long fits (pushed ∙ rw none refl) refl noted in
     let left : steps_left s ≡ all_events (claims_file s.claims) (claims_meta s.claims) = rw (is, none, claimed) refl in
-    let tally : tally_of s ≡ record { losses = []; visited = claims_visited s.claims; claimed = meta_pages } =
-    λ i. record { losses = map loss_view (lost i); visited = claims_visited s.claims; claimed = claimed i } in
+    let tally : tally_of s ≡ record { losses = []; gaps = []; visited = claims_visited s.claims; claimed = meta_pages } =
+    λ i. record { losses = map loss_view (lost i); gaps = map page_gap_view (no_gaps i); visited = claims_visited s.claims; claimed = claimed i } in
     record { members = goes.members ∙ ap members_of left; outcome = grind (arith, left, tally, goes.on.outcome) }

@@ -24,6 +24,7 @@ unfoldable pub use Rattle.bolt_format.specs.{Pages.page_at}
 pub use Rattle.bolt_recover.specs.Found.{AreFound, FoundBelow, IsFoundNext, IsFoundPage, found_numbers}
 pub use Rattle.bolt_recover.specs.Joined.{HasBucketKey, IsElement, IsFoundMember, IsInnerMember, IsJoined, LacksBucketKey, LeavesRoom, found_tree, inside_of}
 pub use Rattle.bolt_recover.specs.Joined.{is_found_path, joined_listing, lost_and_found, put_bucket, tree_of_elements}
+pub use Rattle.bolt_recover.specs.Gaps.{AreGaps, ForGaps, PageGapView, gaps_of, kept_gap, page_gap_view, spot_gap}
 pub use Rattle.bolt_recover.specs.KeptPages.{AreKeptPages, IsKeptPage}
 pub use Rattle.bolt_recover.specs.Losses.{AreLosses, LossView, everything, loss_at, loss_of, losses_of, lower_of, parts, upper_of}
 pub use Rattle.bolt_recover.specs.{PageKeys.last_digits, PageKeys.page_key, PageWays.ArePageWays, PageWays.is_at_page, PageWays.page_ways}
@@ -53,7 +54,7 @@ pub use Rattle.bolt_recover.specs.declared.lost_and_found.Trees.TheVariants.{Dam
 pub use Rattle.bolt_recover.specs.{declared.steps.NextVisit.NextVisit}
 unfoldable pub use Rattle.bolt_recover.specs.JoinedMembers.{joined_file, joined_left, joined_meta, joined_path}
 unfoldable pub use Rattle.bolt_recover.specs.LostAndFound.{all_lost}
-unfoldable pub use Rattle.bolt_recover.specs.Recoveries.{recovery_begun, recovery_claimed, recovery_file, recovery_left, recovery_losses, recovery_meta}
+unfoldable pub use Rattle.bolt_recover.specs.Recoveries.{recovery_begun, recovery_claimed, recovery_file, recovery_gaps, recovery_left, recovery_losses, recovery_meta}
 unfoldable pub use Rattle.bolt_recover.specs.Recoveries.{recovery_visited, recovery_work}
 pub use Rattle.bolt_tree.proofs.Exports.{contains_at, filter_all, filter_none, contains_cases, contains_head, contains_none, contains_tail, rises_once, before_longer, key_same, key_total, same_front, lists_once, member_total}
 pub use Rattle.bolt_tree.specs.Entries.{Bucket, Inline_page, IsEntry, Item, Root_page, ShowsEntry, Start, Value, item_of, start_of}

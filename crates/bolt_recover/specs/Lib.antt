@@ -1,4 +1,5 @@
 pub mod Found
+pub mod Gaps
 pub mod Joined
 pub mod JoinRefusals
 pub mod JoinedMembers

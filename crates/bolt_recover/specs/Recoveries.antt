@@ -4,7 +4,7 @@ use Rattle.std.specs.Option.{option_map}
 use Rattle.bolt_format.specs.declared.meta.Meta.{Meta}
 use Rattle.bolt_check.specs.{Claims.claims_file, Claims.claims_visited, Claims.is_claimed, Counts.counted}
 use Rattle.bolt_tree.specs.{Listing.Member, Paths.Path, ShownEntries.item_view, Walks.GivesNext, declared.entry.Item.Item}
-use Rattle.bolt_recover.specs.{Losses.AreLosses, Losses.LossView, PageWays.ForPageWays, Private.Frames.members_left, Private.Frames.steps_path, Recovered.ForRecovered, ShownLosses.loss_view}
+use Rattle.bolt_recover.specs.{Gaps.ForGaps, Gaps.PageGapView, Gaps.page_gap_view, Losses.AreLosses, Losses.LossView, PageWays.ForPageWays, Private.Frames.members_left, Private.Frames.steps_path, Recovered.ForRecovered, ShownLosses.loss_view}
 use Rattle.bolt_recover.specs.declared.recovery.Recovery.{Recovery}
 
 unfoldable pub recovery_file : Recovery → List ℕ
@@ -40,6 +40,10 @@ recovery_claimed recovery = is_claimed recovery.steps.claims
 unfoldable pub recovery_losses : Recovery → List LossView
 recovery_losses recovery = map loss_view recovery.steps.losses.items
 
+-- the gaps that it has reported so far
+unfoldable pub recovery_gaps : Recovery → List PageGapView
+recovery_gaps recovery = map page_gap_view recovery.steps.gaps.items
+
 -- The first member of the recovered listing that was left is given, with its path, and the others are left; or none was left, and none is.
 abbrev pub GivesRecovered : Recovery → Recovery → Option Item → Type 0
 GivesRecovered old new given =
@@ -72,6 +76,10 @@ ForLosses file meta P = (losses : List LossView) → AreLosses file meta losses 
 -- all losses are reported
 abbrev pub HasReportedAll : Recovery → Recovery → Type 0
 HasReportedAll old new = ForLosses (recovery_file old) (recovery_meta old) (λ losses. recovery_losses new ≡ losses)
+
+-- all gaps are reported
+abbrev pub HasReportedGaps : Recovery → Recovery → Type 0
+HasReportedGaps old new = ForGaps (recovery_file old) (recovery_meta old) (λ gaps. recovery_gaps new ≡ gaps)
 
 -- these are the first of all losses
 abbrev pub AreFirst : List LossView → List LossView → Type 0

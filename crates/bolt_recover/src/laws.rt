@@ -6,6 +6,7 @@ ghost use Rattle.bolt_check.specs.{Lists.Has, LoneLeaves.IsListedFree, LoneLeave
 ghost use Rattle.bolt_check.specs.{declared.finding.Finding.Finding};
 ghost use Rattle.bolt_tree.specs.{Entries.Bucket, Listing.IsListing, Listing.Member, Listing.member_cmp, Order.Rises, Tree.Tree, Tree.listing_of};
 ghost use Rattle.bolt_recover.specs.Found.{AreFound, IsFoundPage, ForFoundPages, Spans};
+ghost use Rattle.bolt_recover.specs.Gaps.{AreGaps, PageGapView};
 ghost use Rattle.bolt_recover.specs.Joined.{IsFoundMember, IsJoined, LacksBucketKey, LeavesRoom, is_found_path, lost_and_found};
 ghost use Rattle.bolt_recover.specs.{JoinedMembers.ForJoined, JoinedMembers.joined_file, JoinedMembers.joined_meta, KeptPages.IsKeptPage};
 ghost use Rattle.bolt_recover.specs.{Losses.AreLosses, Losses.LossView, Losses.loss_of, Losses.losses_of, PageWays.ArePageWays};
@@ -230,4 +231,12 @@ pub fn joined_members_rise(joined: &Joined<'_>)
 /// The file of the members of a joined listing is bytes.
 pub fn the_file_of_joined_members_is_bytes(joined: &Joined<'_>)
     ensures { IsBytes (joined_file joined.now) }
+{}
+
+/// A file has exactly one list of gaps.
+#[tactic(auto, using(crate::proofs::Existing::has_gaps))]
+pub fn each_file_has_its_gaps()
+    ensures some { (file : List ℕ) (meta : Meta) → (gaps : List PageGapView)
+        × AreGaps file meta gaps }
+    ensures one { (file : List ℕ) (meta : Meta) → AtMostOne (AreGaps file meta) }
 {}

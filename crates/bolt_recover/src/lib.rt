@@ -9,6 +9,7 @@ mod first_leaf;
 mod found;
 mod found_leaves;
 mod found_members;
+mod gaps;
 mod joined;
 mod kept;
 mod kept_page;
@@ -23,6 +24,7 @@ mod steps;
 mod valid_metas;
 
 pub use found::Found;
+pub use gaps::PageGap;
 pub use joined::Joined;
 pub use kept::{Kept, LostRoot};
 pub use losses::{Loss, Lost};

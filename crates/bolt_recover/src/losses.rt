@@ -4,6 +4,7 @@ ghost use Rattle.bolt_check.specs.ShownSpots.{spot_at};
 ghost use Rattle.bolt_tree.specs.Paths.{path_of};
 ghost use Rattle.bolt_recover.specs.{Losses.is_nothing, Losses.loss_on, ShownLosses.loss_view, ShownLosses.lost_view};
 
+use crate::gaps::PageGap;
 use bolt_check::{Finding, Spot};
 
 /// A lost page, or the lost page of an inline bucket, with everything below it (docs/RECOVERY.md,
@@ -65,6 +66,8 @@ impl Lost<'_> {
 #[derive(Drop)]
 pub(crate) struct Damage<'a> {
     pub losses: Vec<Loss<'a>>,
+    /// The gaps of the kept pages.
+    pub gaps: Vec<PageGap<'a>>,
     /// Whether the recovered root bucket has an entry with the key of the bucket of what is found.
     pub has_bucket_key: bool,
     /// How many members are recovered. Saturates at 2^64 - 1.

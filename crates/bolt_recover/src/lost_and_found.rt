@@ -1,14 +1,15 @@
 //! What is lost of a file, and what is found of it though nothing leads to it.
 ghost use Rattle.std.specs.List.{All};
 ghost use Rattle.std.specs.Option.{IfNone};
-ghost use Rattle.std.specs.Prelude.{◌≡◌, ◌<◌, IfOk, IfSome, length};
+ghost use Rattle.std.specs.Prelude.{◌≡◌, ◌<◌, IfOk, IfSome, false, length, map};
 ghost use Rattle.bolt_check.specs.{Counts.saturated, Sound.HasSoundTrees, declared.finding.Finding.Finding};
 ghost use Rattle.bolt_format.specs.Bytes.{IsBytes};
 ghost use Rattle.bolt_recover.specs.{Found.AreFound, Found.found_numbers, Lost.IsAllLost, Private.TreesLeft.IsSearched, Recovered.ForRecovered, ShownFound.IsFoundView};
-ghost use Rattle.bolt_recover.specs.{Refusals.LosesRoot, ShownLosses.lost_view};
+ghost use Rattle.bolt_recover.specs.{Gaps.ForGaps, Gaps.page_gap_view, Losses.is_nothing, Refusals.LosesRoot, ShownLosses.lost_view};
 
 use crate::found::Found;
 use crate::found_leaves::find_leaves;
+use crate::gaps::PageGap;
 use crate::losses::{Damage, Lost};
 use crate::recovery::Recovery;
 use bolt_check::{CheckFault, Checked, Claims, Finding, Leftovers, NoMemory, check_under};
@@ -118,6 +119,18 @@ impl<'a> LostAndFound<'a> {
             Trees::Sound(_) => None,
             Trees::Damaged(damage) => Some(damage.members),
             Trees::Rootless(_) => Some(0),
+        }
+    }
+
+    /// The gaps of the kept pages, if something is lost. Those of sound trees aren't looked for.
+    pub fn gaps(&self) -> &[PageGap<'a>]
+        ensures { is_nothing (all_lost self.now) ≡ false
+            → ForGaps self.now.file.now self.now.meta (λ gaps. map page_gap_view result.now ≡ gaps) }
+    {
+        match &self.trees {
+            Trees::Sound(_) => &[],
+            Trees::Damaged(damage) => damage.gaps.as_slice(),
+            Trees::Rootless(_) => &[],
         }
     }
 

@@ -6,11 +6,12 @@ ghost use Rattle.bolt_check.specs.Sound.{HasSoundTrees};
 ghost use Rattle.bolt_tree.specs.{Listing.Member, Paths.path_of};
 ghost use Rattle.bolt_recover.specs.{KeptPages.AreKeptPages, Private.Frames.StepsAreOn, Private.Frames.AreStepsPlaced, Recovered.ForRecovered, Recovered.IsRecovered};
 ghost use Rattle.bolt_recover.specs.Refusals.{IsRefusedRoot, KeepsRoot};
-ghost use Rattle.bolt_recover.specs.ShownLosses.{loss_view};
+ghost use Rattle.bolt_recover.specs.{Gaps.page_gap_view, ShownLosses.loss_view};
 
 use crate::bucket_key::compare_first;
 use crate::found::Found;
 use crate::found_leaves::find_leaves;
+use crate::gaps::PageGap;
 use crate::losses::{Damage, Loss};
 use crate::steps::Steps;
 use bolt_check::{CheckFault, Claims, Leftovers, NoMemory};
@@ -34,11 +35,11 @@ pub struct Recovery<'a> {
     ghost root: { ∥ KeepsRoot (claims_file steps.claims) meta ∥₁ },
 }
 
-#[tactic(auto, unfolding(crate::specs::Recoveries::recovery_begun, crate::specs::Recoveries::recovery_claimed, crate::specs::Recoveries::recovery_file, crate::specs::Recoveries::recovery_left, crate::specs::Recoveries::recovery_losses, crate::specs::Recoveries::recovery_meta, crate::specs::Recoveries::recovery_path, crate::specs::Recoveries::recovery_visited, crate::specs::Recoveries::recovery_work))]
+#[tactic(auto, unfolding(crate::specs::Recoveries::recovery_begun, crate::specs::Recoveries::recovery_claimed, crate::specs::Recoveries::recovery_file, crate::specs::Recoveries::recovery_gaps, crate::specs::Recoveries::recovery_left, crate::specs::Recoveries::recovery_losses, crate::specs::Recoveries::recovery_meta, crate::specs::Recoveries::recovery_path, crate::specs::Recoveries::recovery_visited, crate::specs::Recoveries::recovery_work))]
 impl<'a> Recovery<'a> {
     ghost use Rattle.bolt_recover.specs.{Private.Joining.TellsBucketKey, Private.TreesLeft.IsSearched};
     ghost use Rattle.bolt_recover.specs.declared.lost_and_found.Trees.TheVariants as Trees;
-    ghost use Rattle.bolt_recover.specs.Recoveries.{AreFirst, ForLosses, GivesRecovered, HasReportedAll, HasVisitedAll, LeavesNone, LeavesRecovered, LeavesRest, recovery_begun, recovery_claimed, recovery_file, recovery_left, recovery_losses, recovery_meta, recovery_path, recovery_visited, recovery_work};
+    ghost use Rattle.bolt_recover.specs.Recoveries.{AreFirst, ForLosses, GivesRecovered, HasReportedAll, HasReportedGaps, HasVisitedAll, LeavesNone, LeavesRecovered, LeavesRest, recovery_begun, recovery_claimed, recovery_file, recovery_gaps, recovery_left, recovery_losses, recovery_meta, recovery_path, recovery_visited, recovery_work};
 
     /// A walk under a meta that is handed in. The metas of the file are ignored.
     ///
@@ -117,6 +118,7 @@ impl<'a> Recovery<'a> {
         ensures begun { recovery_begun self.new ≡ recovery_begun self.old }
         ensures visited { IfOk result (λ given. IfNone given (HasVisitedAll self.old self.new)) }
         ensures all { IfOk result (λ given. IfNone given (HasReportedAll self.old self.new)) }
+        ensures gaps { IfOk result (λ given. IfNone given (HasReportedGaps self.old self.new)) }
         ensures kept { IfOk result (λ given.
             IfNone given (AreKeptPages (recovery_file self.old) (recovery_meta self.old)
             (recovery_claimed self.new))) }
@@ -145,6 +147,7 @@ impl<'a> Recovery<'a> {
         ensures path { OnOk result (recovery_path self.new ≡ []) }
         ensures visited { OnOk result (HasVisitedAll self.old self.new) }
         ensures all { OnOk result (HasReportedAll self.old self.new) }
+        ensures gaps { OnOk result (HasReportedGaps self.old self.new) }
         ensures kept { OnOk result
             (AreKeptPages (recovery_file self.old) (recovery_meta self.old)
             (recovery_claimed self.new)) }
@@ -188,6 +191,7 @@ impl<'a> Recovery<'a> {
         Ok((
             Damage {
                 losses: steps.losses,
+                gaps: steps.gaps,
                 has_bucket_key,
                 members,
             },
@@ -210,6 +214,7 @@ impl<'a> Recovery<'a> {
             ForRecovered (recovery_file self.old) (recovery_meta self.old) (λ listing.
             members ≡ saturated (length listing))) }
         ensures all { OnOk result (HasReportedAll self.old self.new) }
+        ensures gaps { OnOk result (HasReportedGaps self.old self.new) }
         ensures kept { OnOk result
             (AreKeptPages (recovery_file self.old) (recovery_meta self.old)
             (recovery_claimed self.new)) }
@@ -239,6 +244,14 @@ impl<'a> Recovery<'a> {
             (AreFirst (recovery_losses self.now)) }
     {
         self.steps.losses.as_slice()
+    }
+
+    /// The gaps of the kept pages so far, in the order of ways. Once `next` has returned `None`, these
+    /// are all gaps.
+    pub fn gaps(&self) -> &[PageGap<'a>]
+        ensures { map page_gap_view result.now ≡ recovery_gaps self.now }
+    {
+        self.steps.gaps.as_slice()
     }
 }
 

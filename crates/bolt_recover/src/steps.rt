@@ -4,9 +4,11 @@ ghost use Rattle.std.specs.Option.{option_map};
 ghost use Rattle.bolt_check.specs.{Claims.claims_file, Claims.claims_meta, Claims.claims_visited, Claims.is_claimed, Counts.counted, Findings.IsMetaPage};
 ghost use Rattle.bolt_check.specs.declared.spot.Spot.TheVariants as spots;
 ghost use Rattle.bolt_format.specs.Elements.{IsBucketValue};
-ghost use Rattle.bolt_recover.specs.Private.Frames.{Advances, StepsOn, IsAllLeft, AreStepsPlaced, Skips, TakesStep, TakesBucket, loss_ahead, steps_path};
+ghost use Rattle.bolt_recover.specs.Gaps.{page_gap_view, spot_gap};
+ghost use Rattle.bolt_recover.specs.Private.Frames.{Advances, StepsOn, IsAllLeft, IsGoodKeptPage, content_spot, AreStepsPlaced, Skips, TakesStep, TakesBucket, loss_ahead, steps_path};
 ghost use Rattle.bolt_recover.specs.{Refusals.IsRefusedRoot, Refusals.KeepsRoot, ShownLosses.loss_view};
 
+use crate::gaps::PageGap;
 use crate::kept_page::{KeptPage, OpenPage};
 use crate::losses::Loss;
 use bolt_check::{CheckFault, Claims, Finding, NoMemory, PageSpot, Spot};
@@ -57,6 +59,8 @@ pub(crate) struct Steps<'a> {
     /// The path of the last element that was returned.
     pub path: Vec<&'a [u8]>,
     pub losses: Vec<Loss<'a>>,
+    /// The gaps of the pages that were kept.
+    pub gaps: Vec<PageGap<'a>>,
     /// Room for the path of one more loss.
     pub loss_path: Vec<&'a [u8]>,
 }
@@ -72,6 +76,18 @@ fn root_of<'a>(meta: &Meta) -> Spot<'a>
         lower: None,
         upper: None,
     })
+}
+
+/// Adds the first gap of a kept page, if it has one. There is room for it.
+fn note_gap<'a>(claims: &Claims<'a>, content: &KeptPage<'a>, gaps: &mut Vec<PageGap<'a>>)
+    requires good { IsGoodKeptPage (claims_file claims.now) (claims_meta claims.now) content.now }
+    requires room { vec_len gaps.old < vec_capacity gaps.old }
+    ensures { map page_gap_view gaps.new.items ≡ map page_gap_view gaps.old.items
+        ++ spot_gap (claims_file claims.now) (claims_meta claims.now) (content_spot content.now) }
+{
+    if let Some(gap) = content.gap(claims) {
+        gaps.push_reserved(gap);
+    }
 }
 
 impl<'a> Steps<'a> {
@@ -101,6 +117,9 @@ impl<'a> Steps<'a> {
         let content = KeptPage::visit(&mut claims, root)?;
         let mut open = Vec::new(alloc);
         open.reserve(1)?;
+        let mut gaps = Vec::new(alloc);
+        gaps.reserve(1)?;
+        note_gap(&claims, &content, &mut gaps);
         open.push_reserved(OpenPage {
             content,
             path_len: 0,
@@ -114,6 +133,7 @@ impl<'a> Steps<'a> {
             open,
             path: Vec::new(alloc),
             losses: Vec::new(alloc),
+            gaps,
             loss_path: Vec::new(alloc),
         })
     }
@@ -122,7 +142,7 @@ impl<'a> Steps<'a> {
     ///
     /// # Errors
     ///
-    /// `NoMemory` if there is no room for an open page. Then nothing has changed.
+    /// `NoMemory` if there is no room for an open page and a gap. Then nothing has changed.
     pub fn restart(&mut self) -> Result<(), NoMemory>
         requires { ∥ KeepsRoot (claims_file self.old.claims) (claims_meta self.old.claims) ∥₁ }
         ensures file { claims_file self.new.claims ≡ claims_file self.old.claims }
@@ -135,10 +155,13 @@ impl<'a> Steps<'a> {
         ensures all { OnOk result
             (IsAllLeft (claims_file self.old.claims) (claims_meta self.old.claims)
             (claims_visited self.old.claims) self.new) }
-        ensures rest { OnErr result (self.new ≡ record self.old { «open» = self.new.open }) }
+        ensures rest { OnErr result
+            (self.new ≡ record self.old { «open» = self.new.open; gaps = self.new.gaps }) }
         ensures same { OnErr result (self.new.open.items ≡ self.old.open.items) }
+        ensures same_gaps { OnErr result (self.new.gaps.items ≡ self.old.gaps.items) }
     {
         self.open.reserve(1)?;
+        self.gaps.reserve(1)?;
         self.claims.restart();
         let root = root_of(&self.claims.meta());
         let content = match KeptPage::visit(&mut self.claims, root) {
@@ -155,6 +178,8 @@ impl<'a> Steps<'a> {
         });
         self.path.clear();
         self.losses.clear();
+        self.gaps.clear();
+        note_gap(&self.claims, &content, &mut self.gaps);
         Ok(())
     }
 
@@ -190,6 +215,7 @@ impl<'a> Steps<'a> {
         };
         self.open.reserve(1)?;
         self.losses.reserve(1)?;
+        self.gaps.reserve(1)?;
         self.loss_path.clear();
         self.loss_path.reserve(ahead.path_len)?;
         let content = match KeptPage::visit(&mut self.claims, ahead.spot) {
@@ -199,6 +225,7 @@ impl<'a> Steps<'a> {
                 return Ok(());
             }
         };
+        note_gap(&self.claims, &content, &mut self.gaps);
         self.open.push_reserved(OpenPage {
             content,
             path_len: ahead.path_len,

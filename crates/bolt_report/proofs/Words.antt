@@ -11,11 +11,12 @@ unfoldable pub use Rattle.bolt_format.specs.Pages.{page_at}
 unfoldable pub use Rattle.bolt_format.specs.ShownGoodPages.{shown}
 pub use Rattle.bolt_format.specs.ShownIds.{shown_ids}
 pub use Rattle.bolt_format.specs.declared.meta.Meta.{Meta}
-pub use Rattle.bolt_recover.specs.ShownLosses.{loss_view}
+pub use Rattle.bolt_recover.specs.{Gaps.page_gap_view, ShownLosses.loss_view}
 pub use Rattle.bolt_report.specs.BboltLines.{file_finding_text}
 pub use Rattle.bolt_report.specs.FaultWords.{finding_text}
 pub use Rattle.bolt_report.specs.FoundLines.{bucket_count, found_view}
 unfoldable pub use Rattle.bolt_report.specs.FoundLines.{found_line}
+unfoldable pub use Rattle.bolt_report.specs.GapLines.{gap_line}
 pub use Rattle.bolt_report.specs.KeyLines.{bucket_name, keys_text}
 pub use Rattle.bolt_report.specs.KeyPrefixes.{has_key_prefix, with_prefix}
 unfoldable pub use Rattle.bolt_report.specs.LossLines.{loss_text}

@@ -1,5 +1,5 @@
 -- The words of faults: docs/COMMANDS.md, "Errors".
-use Rattle.std.specs.Prelude.{◌==◌, ◌+◌, ℕ, List, [], ◌∷◌, ◌++◌, codes, decimal, flat_map, if◌then◌else◌, length}
+use Rattle.std.specs.Prelude.{◌==◌, ℕ, List, [], ◌∷◌, ◌++◌, codes, decimal, if◌then◌else◌}
 use Rattle.bolt_format.specs.declared.page_fault.PageFault.{PageFault}
 use Rattle.bolt_format.specs.declared.page_fault.TheConstants.PageFault.{RANGE, CUT, ID, PAGE_KIND, ELEMENT_CUT, DATA_ORDER, KEY_LENGTH, VALUE_LENGTH, LEAF_FLAGS, BUCKET_SHORT, INLINE_PAGE, INLINE_NESTED}
 use Rattle.bolt_format.specs.declared.meta.MetaFault.{MetaFault}
@@ -93,7 +93,3 @@ finding_text finding = line (finding_sentence finding)
 -- how many findings there are
 abbrev pub count_line : ℕ → List ℕ
 count_line count = decimal count ++ codes " errors found\n"
-
--- the line of each finding, and then how many errors there are with those before
-abbrev pub findings_text : (earlier : ℕ) → List Finding → List ℕ
-findings_text earlier findings = flat_map finding_text findings ++ count_line (earlier + length findings)

@@ -3,8 +3,8 @@ use Rattle.std.specs.Prelude.{◌≢◌, ◌+◌, ◌-◌, ℕ, List, [], ◌++�
 use Rattle.std.specs.List.{filter}
 use Rattle.bolt_format.specs.{Elements.LeafElement, TreePages.leaves_on}
 use Rattle.bolt_check.specs.Keys.{Key}
-use Rattle.bolt_recover.specs.{Losses.LostView, declared.found.Found.Found}
-use Rattle.bolt_report.specs.{FaultWords.count_line, LossLines.lost_count, LossLines.lost_lines}
+use Rattle.bolt_recover.specs.{Gaps.PageGapView, Losses.LostView, declared.found.Found.Found}
+use Rattle.bolt_report.specs.{FaultWords.count_line, GapLines.gaps_text, LossLines.lost_count, LossLines.lost_lines}
 use Rattle.bolt_text.specs.{Lines.line, NamedPaths.named_key}
 
 -- a leaf page by its number and its elements
@@ -39,6 +39,7 @@ found_text found = flat_map found_line found
 abbrev pub lost_text : LostView → List FoundView → List ℕ
 lost_text lost found = lost_lines lost ++ found_text found
 
--- and then how many losses there are, with the errors before
-abbrev pub counted_lost_text : (earlier : ℕ) → LostView → List FoundView → List ℕ
-counted_lost_text earlier lost found = lost_lines lost ++ (found_text found ++ count_line (earlier + lost_count lost))
+-- the lines of the losses, of the gaps and of the found pages, and then how many losses and gaps there are, with the errors before
+abbrev pub counted_lost_text : (earlier : ℕ) → LostView → List PageGapView → List FoundView → List ℕ
+counted_lost_text earlier lost gaps found =
+    lost_lines lost ++ (gaps_text gaps ++ (found_text found ++ count_line (earlier + lost_count lost + length gaps)))

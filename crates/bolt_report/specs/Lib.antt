@@ -3,6 +3,7 @@ pub mod FaultWords
 pub mod FigureForms
 pub mod FigureReadings
 pub mod FoundLines
+pub mod GapLines
 pub mod HeldAtPaths
 pub mod KeyLines
 pub mod KeyPrefixes

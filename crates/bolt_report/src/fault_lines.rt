@@ -1,7 +1,7 @@
 //! The lines of faults and findings.
-ghost use Rattle.std.specs.Prelude.{◌≡◌, ◌≤◌, ◌++◌, flat_map};
+ghost use Rattle.std.specs.Prelude.{◌≡◌, ◌++◌, flat_map};
 ghost use Rattle.bolt_format.specs.{Endings.ending, Wrote.Wrote};
-ghost use Rattle.bolt_report.specs.FaultWords.{count_line, finding_sentence, finding_text, finding_words, findings_text, meta_fault_text, page_fault_text, page_fault_words, pages_sentence};
+ghost use Rattle.bolt_report.specs.FaultWords.{count_line, finding_sentence, finding_text, finding_words, meta_fault_text, page_fault_text, page_fault_words, pages_sentence};
 
 use bolt_check::Finding;
 use bolt_format::{MetaFault, PageFault, Sink, SinkFault};
@@ -46,24 +46,6 @@ pub fn finding_text<S: Sink>(finding: &Finding, sink: &mut S) -> Result<(), Sink
     ensures { Wrote S.Sink sink.old sink.new (finding_text finding.now) (ending result) }
 {
     put_sentence(finding, b"\n", sink)
-}
-
-/// Writes the line of each finding, and then the line with the number of errors, such as `2 errors
-/// found`. The lines of `earlier` errors were written before, two at most.
-///
-/// # Errors
-///
-/// `SinkFault` if the sink failed. It has then accepted a prefix of the text.
-pub fn put_findings<S: Sink>(
-    findings: &[Finding],
-    earlier: u64,
-    sink: &mut S,
-) -> Result<(), SinkFault>
-    requires { earlier ≤ 2 }
-    ensures { Wrote S.Sink sink.old sink.new (findings_text earlier findings.now) (ending result) }
-{
-    put_each_finding(findings, sink)?;
-    put_error_count(earlier + findings.len() as u64, sink)
 }
 
 #[tactic(auto, using(bolt_text::proofs::Exports::elements))]

@@ -2,15 +2,17 @@
 ghost use Rattle.std.specs.Prelude.{◌≡◌, map, ◌≤◌, ◌++◌};
 ghost use Rattle.std.specs.List.{All};
 ghost use Rattle.bolt_format.specs.{Endings.ending, Wrote.Wrote, TreePages.leaves_on};
-ghost use Rattle.bolt_recover.specs.ShownLosses.{loss_view, lost_view};
+ghost use Rattle.bolt_recover.specs.{Gaps.page_gap_view, ShownLosses.loss_view, ShownLosses.lost_view};
 ghost use Rattle.bolt_tree.specs.Paths.{path_of};
 ghost use Rattle.bolt_text.specs.Lines.{line};
+ghost use Rattle.bolt_report.specs.FaultWords.{count_line};
 ghost use Rattle.bolt_report.specs.LossLines.{bounds_line, bucket_words, loss_text, losses_text, lost_count, lost_lines};
 ghost use Rattle.bolt_report.specs.FoundLines.{IsFoundLeaf, bucket_count, counted_lost_text, found_line, found_text, found_view, lost_text};
 
 use crate::fault_lines::{put_error_count, put_sentence};
+use crate::gap_lines::put_gaps;
 use bolt_format::{LeafPage, Sink, SinkFault};
-use bolt_recover::{Found, Loss, Lost};
+use bolt_recover::{Found, Loss, Lost, PageGap};
 use bolt_text::{Piece, put, put_pieces};
 
 /// Writes the line of each loss, or the one that says that everything is lost.
@@ -111,27 +113,45 @@ pub fn put_lost<S: Sink>(lost: Lost<'_>, found: &[Found<'_>], sink: &mut S) -> R
     put_all_found(found, sink)
 }
 
-/// Writes what `lost_text` writes, and then the line with the number of errors, as `2 errors found`:
-/// one for each loss, and one if everything is lost. The lines of `earlier` errors were written before,
-/// two at most.
+/// Writes the line of each loss, or the one that says that everything is lost, those of the gaps and of
+/// the found pages, and then the line with the number of errors, as `2 errors found`: one for each loss
+/// and each gap, and one if everything is lost. The lines of `earlier` errors were written before, two
+/// at most.
 ///
 /// # Errors
 ///
 /// `SinkFault` if the sink failed. It has then accepted a prefix of the text.
+#[tactic(auto, using(bolt_format::proofs::Exports::wrote))]
 pub fn put_counted_lost<S: Sink>(
     lost: Lost<'_>,
+    gaps: &[PageGap<'_>],
     found: &[Found<'_>],
     earlier: u64,
     sink: &mut S,
 ) -> Result<(), SinkFault>
     requires few { earlier ≤ 2 }
     requires leaves { All IsFoundLeaf found.now }
-    ensures { Wrote S.Sink sink.old sink.new
-        (counted_lost_text earlier (lost_view lost.entry) (map found_view found.now))
-        (ending result) }
+    ensures { Wrote S.Sink sink.old sink.new (counted_lost_text earlier (lost_view lost.entry)
+        (map page_gap_view gaps.now) (map found_view found.now)) (ending result) }
 {
-    put_lost(lost, found, sink)?;
-    put_error_count(earlier + lost_count(lost), sink)
+    put_lost_lines(lost, sink)?;
+    put_gaps(gaps, sink)?;
+    put_counted_found(found, earlier + lost_count(lost) + gaps.len() as u64, sink)
+}
+
+/// Writes the line of each found page, and then the line with the number of errors.
+#[tactic(auto, using(bolt_format::proofs::Exports::wrote))]
+fn put_counted_found<S: Sink>(
+    found: &[Found<'_>],
+    errors: u64,
+    sink: &mut S,
+) -> Result<(), SinkFault>
+    requires { All IsFoundLeaf found.now }
+    ensures { Wrote S.Sink sink.old sink.new
+        (found_text (map found_view found.now) ++ count_line errors) (ending result) }
+{
+    put_all_found(found, sink)?;
+    put_error_count(errors, sink)
 }
 
 #[tactic(auto, using(bolt_text::proofs::Exports::elements))]

@@ -81,11 +81,6 @@ opened_found (opened.Sound checked) = []
 opened_found (opened.Recovered recovery) = []
 opened_found (opened.Searched both) = both.found.items
 
--- all that is lost is known, if that was looked for
-abbrev pub IsLostKnown : (before after : Opened) → Type 0
-IsLostKnown before after =
-    (extent : Extent) (file : List ℕ) (choice : MetaChoice) → IsOpened extent file choice before → extent ≢ Sound → IsAllLost file (opened_meta before) (opened_lost after)
-
 -- why a file isn't searched: it has no such meta, or memory ran out
 abbrev pub IsUnsearched : List ℕ → MetaChoice → Failure → Type 0
 IsUnsearched file choice why =

@@ -21,7 +21,7 @@ pub(crate) fn do_etcd_check<O: Sink>(input: Input<'_>, job: &EtcdCheckJob, out: 
 {
     let checked = match input.check(job.meta) {
         Ok(checked) => checked,
-        Err(fault) => return put_refusal(&fault, FileFaults::none(), out),
+        Err(fault) => return put_refusal(&fault, &[], FileFaults::none(), out),
     };
     let errors = put_store_faults(input.alloc, &Bucket::root(checked), out)?;
     put_end(errors, out)?;

@@ -4,7 +4,7 @@ use Rattle.std.specs.List.{flat_map}
 use Rattle.bolt_format.specs.{Elements.LeafElement, declared.meta.Meta.Meta}
 use Rattle.bolt_check.specs.{Counts.counted, Nodes.Node, Nodes.Nodes, Nodes.node_at, Ways.At_inline, Ways.At_page, Ways.Spot, declared.finding.Finding.Finding}
 use Rattle.bolt_tree.specs.{Entries.item_of, Listing.Member, Paths.Path}
-use Rattle.bolt_recover.specs.{Losses.LossView, Losses.loss_at, PageWays.is_at_page, Private.Tests.test, Sites.Site, Sites.root_site, Sites.step_site, Surveys.SurveyedWay}
+use Rattle.bolt_recover.specs.{Gaps.PageGapView, Gaps.kept_gap, Losses.LossView, Losses.loss_at, PageWays.is_at_page, Private.Tests.test, Sites.Site, Sites.root_site, Sites.step_site, Surveys.SurveyedWay}
 
 abbrev pub Way : Type 0
 Way = List ℕ
@@ -52,9 +52,10 @@ span_of nodes s (Some x) n = false
 abbrev pub claimed_after : Nodes → (ℕ → Bool) → Spot → Option Finding → ℕ → Bool
 claimed_after nodes claimed s found n = claimed n || span_of nodes s found n
 
--- what comes of events: the losses, in order, the number of visits of pages, and the claimed pages
+-- what comes of events: the losses and the gaps, in order, the number of visits of pages, and the claimed pages
 pub record Outcome : Type 0 where
   pub losses : List LossView
+  pub gaps : List PageGapView
   pub visited : ℕ
   pub claimed : ℕ → Bool
 
@@ -62,21 +63,22 @@ pub record Outcome : Type 0 where
 abbrev pub page_visit : Spot → ℕ
 page_visit s = if is_at_page (Some s) then 1 else 0
 
-abbrev pub after_event : Nodes → Outcome → Event → Outcome
-after_event nodes o (Given path e) = o
-after_event nodes o (Visited way p found) = record {
+abbrev pub after_event : List ℕ → Meta → Outcome → Event → Outcome
+after_event file meta o (Given path e) = o
+after_event file meta o (Visited way p found) = record {
   losses = o.losses ++ loss_at (Some p) found;
+  gaps = o.gaps ++ kept_gap file meta (Some p.spot) found;
   visited = counted o.visited (page_visit p.spot);
-  claimed = claimed_after nodes o.claimed p.spot found;
+  claimed = claimed_after (node_at file meta) o.claimed p.spot found;
 }
 
-abbrev pub after_events : Nodes → Outcome → List Event → Outcome
-after_events nodes o [] = o
-after_events nodes o (event ∷ events) = after_events nodes (after_event nodes o event) events
+abbrev pub after_events : List ℕ → Meta → Outcome → List Event → Outcome
+after_events file meta o [] = o
+after_events file meta o (event ∷ events) = after_events file meta (after_event file meta o event) events
 
 -- of all events of a file, if so many visits were made before
-abbrev pub outcome_of : Nodes → ℕ → List Event → Outcome
-outcome_of nodes begun events = after_events nodes (record { losses = []; visited = begun; claimed = meta_pages }) events
+abbrev pub outcome_of : List ℕ → Meta → ℕ → List Event → Outcome
+outcome_of file meta begun events = after_events file meta (record { losses = []; gaps = []; visited = begun; claimed = meta_pages }) events
 
 -- the members that are returned
 abbrev pub members_at : Event → List Member

@@ -8,7 +8,7 @@ use Rattle.bolt_check.specs.{Claims.claims_file, Claims.claims_meta, Claims.clai
 use Rattle.bolt_check.specs.{ShownSpots.spot_at, Ways.Spot, declared.claims.Claims.Claims, declared.finding.Finding.Finding, declared.spot.Spot.Spot as CodeSpot}
 use Rattle.bolt_check.specs.declared.spot.Spot.TheVariants as spots
 use Rattle.bolt_tree.specs.{Entries.item_of, Listing.Member, Paths.Path, Paths.path_of}
-use Rattle.bolt_recover.specs.{Losses.LossView, Losses.loss_on, Sites.Site, Sites.leaves_of, Sites.step_site}
+use Rattle.bolt_recover.specs.{Gaps.page_gap_view, Losses.LossView, Losses.loss_on, Sites.Site, Sites.leaves_of, Sites.step_site}
 use Rattle.bolt_recover.specs.Private.Courses.{Event, Outcome, Task, To_visit, Way, after_events, all_events, claimed_after, events, further, members_of, outcome_of, tasks_from}
 use Rattle.bolt_recover.specs.{ShownLosses.loss_view, declared.kept_page.KeptPage.KeptPage, declared.kept_page.OpenPage.OpenPage, declared.steps.NextVisit.NextVisit, declared.steps.Steps.Steps}
 use Rattle.bolt_recover.specs.{declared.steps.Taken.Taken, declared.steps.Taken.TheVariants.End, declared.steps.Taken.TheVariants.Leaf, declared.steps.Taken.TheVariants.Nothing}
@@ -130,10 +130,10 @@ members_left steps = members_of (steps_left steps)
 
 -- what came of them so far, and what will have come of them at the end
 abbrev pub tally_of : Steps → Outcome
-tally_of steps = record { losses = map loss_view steps.losses.items; visited = claims_visited steps.claims; claimed = is_claimed steps.claims }
+tally_of steps = record { losses = map loss_view steps.losses.items; gaps = map page_gap_view steps.gaps.items; visited = claims_visited steps.claims; claimed = is_claimed steps.claims }
 
 abbrev pub outcome_left : Steps → Outcome
-outcome_left steps = after_events (claims_nodes steps.claims) (tally_of steps) (steps_left steps)
+outcome_left steps = after_events (claims_file steps.claims) (claims_meta steps.claims) (tally_of steps) (steps_left steps)
 
 abbrev pub AreStepsPlaced : Steps → Type 0
 AreStepsPlaced steps = HasOpen (claims_file steps.claims) (claims_meta steps.claims) (length (steps_path steps)) steps.ahead steps.open.items
@@ -141,7 +141,7 @@ AreStepsPlaced steps = HasOpen (claims_file steps.claims) (claims_meta steps.cla
 -- the whole file is left, but that the root page is visited, if so many visits were made before
 pub record IsAllLeft (file : List ℕ) (meta : Meta) (begun : ℕ) (steps : Steps) : Type 0 where
   pub members : members_left steps ≡ members_of (all_events file meta)
-  pub outcome : outcome_left steps ≡ outcome_of (node_at file meta) begun (all_events file meta)
+  pub outcome : outcome_left steps ≡ outcome_of file meta begun (all_events file meta)
 
 -- How much there is to do at most: a page holds fewer than 65536 elements.
 abbrev pub page_weight : OpenPage → ℕ
@@ -200,4 +200,4 @@ Advances old new None = Ends old new
 -- Steps over a file under this meta, begun after so many visits: in the end, all that comes of the file will have come of them.
 pub record StepsAreOn (steps : Steps) (under : Meta) (begun : ℕ) : Type 0 where
   pub meta : claims_meta steps.claims ≡ under
-  pub comes : outcome_left steps ≡ outcome_of (node_at (claims_file steps.claims) under) begun (all_events (claims_file steps.claims) under)
+  pub comes : outcome_left steps ≡ outcome_of (claims_file steps.claims) under begun (all_events (claims_file steps.claims) under)

@@ -3,8 +3,8 @@ use Rattle.std.specs.Prelude.{◌≡◌, ℕ, List, [], length, map}
 use Rattle.std.specs.List.{All}
 use Rattle.bolt_format.specs.declared.meta.Meta.{Meta}
 use Rattle.bolt_check.specs.{CheckedFiles.bytes_of, CheckedFiles.meta_of, Counts.saturated}
-use Rattle.bolt_recover.specs.{Found.AreFound, Found.found_numbers, Losses.LostView, Losses.everything, Losses.parts, Lost.IsAllLost, Private.Joining.TellsBucketKey, Recovered.ForRecovered}
-use Rattle.bolt_recover.specs.{ShownFound.IsFoundView, ShownLosses.loss_view, declared.found.Found.Found, declared.lost_and_found.Trees.Trees}
+use Rattle.bolt_recover.specs.{Found.AreFound, Found.found_numbers, Gaps.ForGaps, Gaps.page_gap_view, Losses.LostView, Losses.everything, Losses.parts, Lost.IsAllLost, Private.Joining.TellsBucketKey, Recovered.ForRecovered}
+use Rattle.bolt_recover.specs.{ShownFound.IsFoundView, ShownLosses.loss_view, declared.found.Found.Found, declared.losses.Damage.Damage, declared.lost_and_found.Trees.Trees}
 use Rattle.bolt_recover.specs.declared.lost_and_found.Trees.TheVariants.{Damaged, Rootless, Sound}
 
 abbrev pub lost_of : Trees → LostView
@@ -12,10 +12,16 @@ lost_of (Sound checked) = parts []
 lost_of (Damaged damage) = parts (map loss_view damage.losses.items)
 lost_of (Rootless x) = everything x
 
+-- what is known of damaged trees beside what is lost
+pub record IsDamage (file : List ℕ) (meta : Meta) (damage : Damage) : Type 0 where
+  pub key : ForRecovered file meta (λ listing. TellsBucketKey listing damage.has_bucket_key)
+  pub number : ForRecovered file meta (λ listing. damage.members ≡ saturated (length listing))
+  pub gaps : ForGaps file meta (λ gaps. map page_gap_view damage.gaps.items ≡ gaps)
+
 -- what is known of them beside what is lost; if they are sound, nothing is found
 abbrev pub AreTreesOf : List ℕ → Meta → List Found → Trees → Type 0
 AreTreesOf file meta found (Sound checked) = (bytes_of checked ≡ file) × (meta_of checked ≡ meta) × (found ≡ [])
-AreTreesOf file meta found (Damaged damage) = ForRecovered file meta (λ listing. TellsBucketKey listing damage.has_bucket_key × (damage.members ≡ saturated (length listing)))
+AreTreesOf file meta found (Damaged damage) = IsDamage file meta damage
 AreTreesOf file meta found (Rootless x) = Unit {0}
 
 -- A search of the file under this meta leads to these trees and found pages.

@@ -6,6 +6,7 @@ returns c = good_copies (record {
   sound = c.a_copy_lists_the_same.ensures;
   long = c.layout_has_length.ensures;
   prefixes = c.prefixes_are_refused.ensures;
+  whole = c.layouts_have_no_gaps.ensures;
   metas_more = c.trailing_bytes_change_nothing.ensures.metas;
   chosen_more = c.trailing_bytes_change_nothing.ensures.chosen;
   sound_more = c.trailing_bytes_change_nothing.ensures.sound;

@@ -1,7 +1,6 @@
--- Nothing is lost, or something is; or the file isn't opened, or memory ran out.
-use Rattle.std.proofs.Common.{◌∙◌, ap, inr, refl, sym}
-use Rattle.bolt_commands.proofs.{Vocabulary.is_nothing, Doing.answer_as, Doing.answer_nothing, OpenedReads.found_leaves}
-use Rattle.bolt_commands.proofs.LostAnswers.{lost_answer, may_run_out, none_lost, opened_answer, some_lost, unopened_lost}
+-- The file is opened to the extent that is asked for, or it isn't opened.
+use Rattle.std.proofs.Common.{subst, sym}
+use Rattle.bolt_commands.proofs.{Vocabulary.Extent, Vocabulary.IsCheckAnswerAfter, Doing.answer_as, LostAnswers.lost_answer, LostAnswers.unopened_lost}
 use Rattle.bolt_commands.proofs.commands.check_command.check_lost.Goals as goal
 
 pub returns-in-Err : goal.returns-in-Err
@@ -10,30 +9,23 @@ returns-in-Err g c =
     let is = unopened_lost checking.for_bbolt checking.faults checking.input.file.now checking.choice c.args.extent c.in-Err.failure c.requires c.in-Err.ensures.refused in
     record { answer = _; is = lost_answer checking.for_bbolt checking.faults checking.input.file.now checking.choice c.args.extent c.requires _ is; does = c.put_unopened.ensures }
 
-pub returns-in_err-find_lost : goal.returns-in_err-find_lost
-returns-in_err-find_lost g c =
-    let checking = c.args.checking in
-    let run_out = may_run_out checking.for_bbolt checking.faults checking.input.file.now checking.choice c.args.extent c.in-Ok.opened c.in-Ok.ensures.opened in
-    answer_nothing _ _ (lost_answer checking.for_bbolt checking.faults checking.input.file.now checking.choice c.args.extent c.requires _ (inr (inr (run_out, refl)))) c.from_residual.ensures.1
+pub check_recovered-requires : goal.check_recovered-requires
+check_recovered-requires g c = (rw c.in-Recovered.is at c.in-Ok.ensures.opened).1
 
-pub returns-then-is_nothing : goal.returns-then-is_nothing
-returns-then-is_nothing g c =
+pub returns-in-Recovered : goal.returns-in-Recovered
+returns-in-Recovered g c =
     let checking = c.args.checking in
-    let none = ap is_nothing (sym c.lost-lost.ensures) ∙ sym c.is_nothing.ensures ∙ c.if-is_nothing.true in
-    answer_as c.check_sound.ensures (λ answer found.
-    opened_answer checking.for_bbolt checking.faults checking.input.file.now checking.choice c.args.extent c.requires c.in-Ok.opened c.find_lost.new.self c.in-Ok.ensures.opened c.in_ok-find_lost.ensures.lost answer
-    (none_lost checking.for_bbolt checking.faults checking.input.file.now checking.choice _ _ none answer found))
+    let to = (rw c.in-Recovered.is at c.in-Ok.ensures.opened).0 in
+    answer_as c.check_recovered.ensures (λ answer is. subst (λ (e : Extent). IsCheckAnswerAfter e checking.for_bbolt checking.faults checking.input.file.now checking.choice answer) (sym to) is)
 
-pub put_lost_after-requires : goal.put_lost_after-requires
-put_lost_after-requires g c = rw (c.found.ensures ∙ c.in_ok-find_lost.ensures.found) (found_leaves _ _ _ c.in-Ok.opened c.in-Ok.ensures.opened)
+pub check_searched-requires : goal.check_searched-requires
+check_searched-requires g c = (rw c.in-Searched.is at c.in-Ok.ensures.opened).1
 
-pub returns : goal.returns
-returns g c =
+pub returns-in-Searched : goal.returns-in-Searched
+returns-in-Searched g c =
     let checking = c.args.checking in
-    let some = ap is_nothing (sym c.lost-lost.ensures) ∙ sym c.is_nothing.ensures ∙ c.if-is_nothing.false in
-    record {
-      answer = _;
-      is = opened_answer checking.for_bbolt checking.faults checking.input.file.now checking.choice c.args.extent c.requires c.in-Ok.opened c.find_lost.new.self c.in-Ok.ensures.opened c.in_ok-find_lost.ensures.lost _
-          (some_lost checking.for_bbolt checking.faults checking.input.file.now checking.choice _ _ some);
-      does = rw (c.lost-lost.ensures, c.found.ensures ∙ c.in_ok-find_lost.ensures.found) at c.put_lost_after.ensures;
-    }
+    let to = (rw c.in-Searched.is at c.in-Ok.ensures.opened).0 in
+    answer_as c.check_searched.ensures (λ answer is. subst (λ (e : Extent). IsCheckAnswerAfter e checking.for_bbolt checking.faults checking.input.file.now checking.choice answer) (sym to) is)
+
+pub returns-in-Sound : goal.returns-in-Sound
+returns-in-Sound g c = absurd (c.requires (rw c.in-Sound.is at c.in-Ok.ensures.opened).0)

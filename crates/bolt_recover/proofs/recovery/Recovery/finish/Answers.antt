@@ -50,3 +50,6 @@ returns-clause-path c =
     let self = c.loop-self.self in
     let given = rw c.in_default.is at c.in_ok-next.ensures.given in
     (given _ (recovers (recovery_file self) (recovery_meta self))).2
+
+pub returns-clause-gaps : goal.returns-clause-gaps
+returns-clause-gaps c = rw (← c.loop-self.invariant.file, ← c.loop-self.invariant.meta) (rw c.in_default.is at c.in_ok-next.ensures.gaps)

@@ -1,11 +1,11 @@
 -- Something is lost, since the trees aren't sound.
 use Rattle.std.proofs.Common.{◌≡◌, ◌∙◌, List, true, subst₂, ℕ}
-use Rattle.bolt_recover.proofs.Words.{All, FoundBelow, is_taken, IsFoundView, Meta, found_numbers, recovery_claimed, recovery_file, recovery_losses, recovery_meta}
+use Rattle.bolt_recover.proofs.Words.{All, FoundBelow, is_taken, IsFoundView, Meta, found_numbers, recovery_claimed, recovery_file, recovery_gaps, recovery_losses, recovery_meta}
 use Rattle.bolt_recover.proofs.FoundAll.{found_damaged}
 use Rattle.bolt_recover.proofs.recovery.Recovery.found.Goals as goal
 
 pub returns : goal.returns
-unfolding recovery_claimed recovery_file recovery_losses recovery_meta
+unfolding recovery_claimed recovery_file recovery_gaps recovery_losses recovery_meta
 returns c =
     let self = c.look_through.new.self in
     let rest = c.new.result in
@@ -16,7 +16,7 @@ returns c =
     let same_file = c.new.ensures.file ∙ finished.file in
     let same_meta = c.new.ensures.meta ∙ finished.under in
     record {
-      left = λ listing is. (finished.has listing is, finished.number listing is);
+      left = record { key = finished.has; number = finished.number; gaps = finished.gaps };
       lost = (c.requires.root, finished.all);
       are_found =
           found_damaged file meta (recovery_claimed self) (is_taken rest) (found_numbers items) finished.kept c.new.ensures.taken c.requires.damaged

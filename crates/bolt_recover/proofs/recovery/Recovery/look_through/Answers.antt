@@ -13,3 +13,6 @@ returns-clause-number c = λ listing is.
     let left = (rw (c.loop-self.invariant.file, c.loop-self.invariant.meta) at (rw c.in_default.is at c.in_ok-next.ensures.given)) listing is in
     let number = rw left.0 at (c.loop-self.invariant.number listing is) in
     omega (arith, number, c.loop-self.invariant.small)
+
+pub returns-clause-gaps : goal.returns-clause-gaps
+returns-clause-gaps c = rw (← c.loop-self.invariant.file, ← c.loop-self.invariant.meta) (rw c.in_default.is at c.in_ok-next.ensures.gaps)

@@ -1,6 +1,6 @@
 use Rattle.std.proofs.Common.{arith}
-use Rattle.bolt_recover.proofs.Words.{recovery_begun, recovery_claimed, recovery_file, recovery_losses, recovery_meta, recovery_visited, visited_fits, ∥∥₁_elim}
-use Rattle.bolt_recover.proofs.Recovering.{claimed_ended, placed_prop, reported_ended, visited_ended}
+use Rattle.bolt_recover.proofs.Words.{recovery_begun, recovery_claimed, recovery_file, recovery_gaps, recovery_losses, recovery_meta, recovery_visited, visited_fits, ∥∥₁_elim}
+use Rattle.bolt_recover.proofs.Recovering.{claimed_ended, gaps_ended, placed_prop, reported_ended, visited_ended}
 use Rattle.bolt_recover.proofs.recovery.Recovery.next.Goals as goal
 
 pub advance-requires : goal.advance-requires
@@ -20,3 +20,7 @@ returns-in-None-clause-visited c = λ ways are.
 pub returns-in-None-clause-kept : goal.returns-in-None-clause-kept
 unfolding recovery_claimed recovery_file recovery_meta
 returns-in-None-clause-kept c = claimed_ended c.args.self.now.on (rw c.in-None.is at c.in_ok-leaf.ensures.given)
+
+pub returns-in-None-clause-gaps : goal.returns-in-None-clause-gaps
+unfolding recovery_file recovery_gaps recovery_meta
+returns-in-None-clause-gaps c = gaps_ended c.args.self.now.on (rw c.in-None.is at c.in_ok-leaf.ensures.given)

@@ -14,10 +14,11 @@ returns-clause-all c =
     let visit = rw (c.root_of-root.ensures, c.meta.ensures) at c.in_ok-content.ensures in
     let empty = c.reserve.ensures.items ∙ c.new-open.ensures.items in
     begins
-    (record { alloc = c.args.alloc; claims = c.args.claims; ahead = Some (root_visit (claims_meta c.args.claims)); «open» = c.reserve.new.self; path = c.new.result; losses = c.new-2.result; loss_path = c.new-3.result })
-    c.visit.new.claims c.push_reserved.new.self c.new-3.result c.in_ok-content.content c.count.result
-    refl empty c.new-2.ensures.items c.requires visit.file visit.meta visit.visited visit.passes visit.content visit.claims c.count.ensures (omega arith)
+    (record { alloc = c.args.alloc; claims = c.args.claims; ahead = Some (root_visit (claims_meta c.args.claims)); «open» = c.reserve.new.self; path = c.new.result; losses = c.new-2.result; gaps = c.reserve-2.new.self; loss_path = c.new-3.result })
+    c.visit.new.claims c.push_reserved.new.self c.note_gap.new.gaps c.new-3.result c.in_ok-content.content c.count.result
+    refl empty c.new-2.ensures.items (c.reserve-2.ensures.items ∙ c.new-gaps.ensures.items) c.requires visit.file visit.meta visit.visited visit.passes visit.content visit.claims c.count.ensures (omega arith)
     (c.push_reserved.ensures.items ∙ ap (λ (ps : List OpenPage). ps ++ page ∷ []) empty)
+    (rw (visit.file, visit.meta, visit.content.spot) at c.note_gap.ensures)
 
 pub returns-clause-root : goal.returns-clause-root
 returns-clause-root c = root_gives c.args.claims None c.requires (rw (c.root_of-root.ensures, c.meta.ensures) at c.in_ok-content.ensures.passes)

@@ -22,7 +22,8 @@ returns-clause-all c =
     let visit = rw (c.root_of-root.ensures, c.meta.ensures) at c.in-Ok.ensures in
     rw (← c.restart.ensures.file, ← c.restart.ensures.meta, ← c.restart.ensures.visited)
     (begins
-    (record { alloc = old.alloc; claims = claims; ahead = Some (root_visit (claims_meta claims)); «open» = c.clear.new.self; path = c.clear-2.new.self; losses = c.clear-3.new.self; loss_path = old.loss_path })
-    c.visit.new.claims c.push_reserved.new.self old.loss_path c.in-Ok.content c.count.result
-    refl c.clear.ensures.items c.clear-3.ensures.items c.restart.ensures.metas visit.file visit.meta visit.visited visit.passes visit.content visit.claims c.count.ensures (omega arith)
-    (c.push_reserved.ensures.items ∙ ap (λ (ps : List OpenPage). ps ++ page ∷ []) c.clear.ensures.items))
+    (record { alloc = old.alloc; claims = claims; ahead = Some (root_visit (claims_meta claims)); «open» = c.clear.new.self; path = c.clear-2.new.self; losses = c.clear-3.new.self; gaps = c.clear-4.new.self; loss_path = old.loss_path })
+    c.visit.new.claims c.push_reserved.new.self c.note_gap.new.gaps old.loss_path c.in-Ok.content c.count.result
+    refl c.clear.ensures.items c.clear-3.ensures.items c.clear-4.ensures.items c.restart.ensures.metas visit.file visit.meta visit.visited visit.passes visit.content visit.claims c.count.ensures (omega arith)
+    (c.push_reserved.ensures.items ∙ ap (λ (ps : List OpenPage). ps ++ page ∷ []) c.clear.ensures.items)
+    (rw (visit.file, visit.meta, visit.content.spot) at c.note_gap.ensures))
