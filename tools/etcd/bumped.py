@@ -39,7 +39,7 @@ def compare_bumped(writer, comparisons, folder, file, steps, count):
         raise Difference(f"compact {file}: {ended!r}")
     restore_ahead(snapshot, bumped)
     with Server(bumped) as server:
-        writer.write_to(server, steps)
+        writer.fork().write_to(server, steps)
         _, compacted = server.hash_kv(last_revision(server))
         if compacted < int(AHEAD):
             raise EtcdFault(f"etcd is compacted at {compacted} after {AHEAD} more revisions")
