@@ -31,8 +31,8 @@ const FOUND: &[u8] = b"6c6f73742b666f756e64";
 
 /// Commands that are tried on each file: first `check`, then `list`. There is no page 4. A copy comes after
 /// the listing to the same extent, and that of what is joined after that of what is recovered. The file
-/// has no bucket `key`, so nothing goes back into it.
-static TRIALS: [(Kind, &[&str]); 21] = [
+/// has no bucket `key`, so `etcd-repair` isn't among them.
+static TRIALS: [(Kind, &[&str]); 20] = [
     (Kind::Check, &["check", "FILE"]),
     (Kind::Reader, &["list", "FILE"]),
     (Kind::Copy, &["compact", "-o", "OUT", "FILE"]),
@@ -41,7 +41,6 @@ static TRIALS: [(Kind, &[&str]); 21] = [
         Kind::Copy,
         &["compact", "-o", "OUT", "--for-bbolt", "--recover", "FILE"],
     ),
-    (Kind::Copy, &["etcd-repair", "-o", "OUT", "FILE"]),
     (Kind::Joined, &["list", "--lost-and-found", "FILE"]),
     (
         Kind::Copy,
