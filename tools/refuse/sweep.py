@@ -117,8 +117,8 @@ class Command:
         return self.lines.get(err) if status == 1 and is_begun and is_taken else None
 
     def is_whole(self, full, result):
-        """Whether memory ran out, and OUT is whole nevertheless."""
-        return self.call == "memory" and result[0] == 1 and full[3] is not None and result[3] == full[3]
+        """Whether memory ran out, and OUT is whole nevertheless. A file that is refused has none."""
+        return self.call == "memory" and result[0] == 1 and full[3] not in (None, b"") and result[3] == full[3]
 
 
 def most_whole(full):
