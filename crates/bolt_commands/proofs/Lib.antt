@@ -1,6 +1,7 @@
 pub mod AtPaths
 pub mod CopyAnswers
 pub mod CopyChecks
+pub mod CopyFindings
 pub mod CutTexts
 pub mod Doing
 pub mod EntryAnswers

@@ -1,12 +1,12 @@
 -- What holds of a copy that is whole: docs/LAYOUT.md, "What holds of both layouts", and docs/COMMANDS.md, "Snapshots".
 use Rattle.std.specs.Prelude.{◌≡◌, ◌≢◌, ◌≤◌, ◌<◌, ◌-◌, ℕ, List, Bool, true, IsTrue, Some, length, take}
 use Rattle.bolt_bulk.specs.Compacting.{too_many}
-use Rattle.bolt_check.specs.{Sound.IsRefused, Sound.IsSound, declared.check_fault.CheckFault.CheckFault}
+use Rattle.bolt_check.specs.{BboltFindings.AreBboltFindings, Nodes.node_at, Sound.IsRefused, Sound.IsSound, declared.check_fault.CheckFault.CheckFault, declared.finding.Finding.Finding}
 use Rattle.bolt_check.specs.declared.check_fault.CheckFault.TheVariants as check
 use Rattle.bolt_format.specs.{Metas.HasBothMetas, Metas.IsActive, Metas.IsPageSize, declared.meta.Meta.Meta, declared.meta.Slot.Slot}
-use Rattle.bolt_layout.specs.{NoGaps.HasNoGaps, Copies.layout_of_listing, declared.Layout.Layout}
+use Rattle.bolt_layout.specs.{NoGaps.HasNoGaps, Copies.IsAsked, Copies.IsOfOneTree, Copies.layout_of_listing, Layout.layout_meta, Layout.layout_of, Layout.layout_root, declared.Layout.Layout}
 use Rattle.bolt_etcd.specs.SnapshotFaults.{IsSnapshot, cut_hash_fault}
-use Rattle.bolt_tree.specs.Listing.{IsListing, Member}
+use Rattle.bolt_tree.specs.{Listing.IsListing, Listing.Member, Tree.tree_of}
 use Rattle.bolt_commands.specs.SnapshotAnswers.{copy_of, hash_found}
 
 -- `check` accepts a file that holds these bytes, its listing is this one, and none of its pages has a gap
@@ -32,6 +32,13 @@ pub record IsGoodCopy (snapshot : Bool) (layout : List ℕ) (listing : List Memb
 -- this holds of each good copy
 abbrev pub ForGoodCopies : (Bool → List ℕ → Type 0) → Type 0
 ForGoodCopies P = (snapshot : Bool) (layout : List ℕ) (listing : List Member) → IsGoodCopy snapshot layout listing → P snapshot (copy_of snapshot layout)
+
+-- This holds of what bbolt fails on along the ways of each copy of a listing, hash and all, if its layout has fewer than 2^63 bytes.
+abbrev pub ForCopyFindings : (Layout → List Finding → Type 0) → Type 0
+ForCopyFindings P = (which : Layout) (snapshot : Bool) (listing : List Member) (page_size sequence : ℕ) → IsOfOneTree listing → IsAsked page_size (tree_of listing) sequence
+    → length (layout_of which page_size (tree_of listing) sequence) < too_many → (findings : List Finding)
+    → AreBboltFindings (node_at (copy_of snapshot (layout_of which page_size (tree_of listing) sequence)) (layout_meta which page_size (tree_of listing) sequence 1))
+    (layout_root which page_size (tree_of listing)) findings → P which findings
 
 -- each copy of this listing that has fewer than 2^63 bytes is a good one
 abbrev pub HasGoodCopies : List Member → (sequence : ℕ) → Type 0

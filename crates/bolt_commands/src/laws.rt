@@ -1,11 +1,12 @@
 //! What the definitions of answers imply.
 ghost use Rattle.std.specs.Prelude.{◌≡◌, ◌<◌, ◌^◌, ℕ, true, List, [], Ok};
 ghost use Rattle.bolt_format.specs.{Metas.ForMetasPrefix, declared.meta.Meta.Meta};
-ghost use Rattle.bolt_layout.specs.Copies.{IsOfOneTree};
+ghost use Rattle.std.specs.List.{AllByRecursion};
+ghost use Rattle.bolt_layout.specs.{Copies.IsOfOneTree, ForBbolt.IsOfLayout};
 ghost use Rattle.hex.specs.Hex.{IsBytes};
 ghost use Rattle.bolt_tree.specs.Listing.{IsListing, Member};
 ghost use Rattle.bolt_commands.specs.{Alike.BucketsAlike, Alike.CopiesAlike, Alike.DoesAlike, Alike.GetsAlike, Alike.KeysAlike, Alike.ListsAlike, Alike.ForSoundTrees, Alike.OfSoundTrees, Alike.RepairsNothing, Alike.UnderSoundTrees, Answers.Answer, FilesRead.IsReadUnder, ListAnswers.IsListedAnswer};
-ghost use Rattle.bolt_commands.specs.{CheckedCopies.FailsCutOff, CheckedCopies.LoadsAs, CheckedCopies.PassesCheck, GoodCopies.ForGoodCopies, GoodCopies.HasGoodCopies};
+ghost use Rattle.bolt_commands.specs.{CheckedCopies.FailsCutOff, CheckedCopies.LoadsAs, CheckedCopies.PassesCheck, GoodCopies.ForCopyFindings, GoodCopies.ForGoodCopies, GoodCopies.HasGoodCopies};
 ghost use Rattle.bolt_job.specs.{Jobs.needs_metas_alone, declared.job.Job.Job, declared.choices.MetaChoice.MetaChoice};
 ghost use Rattle.bolt_text.specs.declared.forms.ListForm.TheVariants as form;
 ghost use Rattle.bolt_job.specs.declared.choices.Extent.TheVariants as extent;
@@ -14,8 +15,8 @@ use bolt_etcd::{hashed_blocks_are_a_snapshot, trailing_bytes_change_nothing};
 use bolt_format::Sink;
 use bolt_format::laws::{active_meta_is_one, metas_lie_in_a_prefix, slot_meta_is_one};
 use bolt_layout::laws::{
-    a_copy_lists_the_same, a_files_listing_is_of_one_tree, layout_has_length, layouts_have_no_gaps,
-    prefixes_are_refused,
+    a_copy_lists_the_same, a_files_listing_is_of_one_tree, layout_has_length,
+    layouts_fail_on_what_they_hold, layouts_have_no_gaps, prefixes_are_refused,
 };
 use bolt_load::{
     a_files_listing_is_of_bytes, a_listings_text_is_read_back, a_right_text_has_no_fault,
@@ -50,6 +51,16 @@ pub fn whole_copies_are_good()
     prefixes_are_refused();
     trailing_bytes_change_nothing();
     hashed_blocks_are_a_snapshot();
+}
+
+/// What bbolt fails on along the ways of a copy, hash and all, its listing brings: values in the root
+/// bucket, and values under keys of more than 32,768 bytes. A copy that isn't for bbolt adds branches of
+/// one child.
+pub fn copies_fail_on_what_they_hold()
+    ensures { ForCopyFindings (λ which findings. AllByRecursion (IsOfLayout which) findings) }
+{
+    layouts_fail_on_what_they_hold();
+    layout_has_length();
 }
 
 /// Of a good copy `check` prints that it is sound, to any extent, and with `--etcd-snapshot`

@@ -1,13 +1,16 @@
 -- Bbolt can write into the balanced layout of a listing without a value in the root bucket or under a key that is too large, and fails on branches of
 -- one child alone of the plain one.
-use Rattle.std.proofs.Common.{◌≡◌, ◌∙◌, ◌<◌, ◌≤◌, ◌^◌, ℕ, false, List, [], ◌∷◌, ◌++◌, Option, Some, ap, inl, inr, length, subst, sym, arith}
+use Rattle.std.proofs.Common.{◌≡◌, ◌∙◌, ◌<◌, ◌≤◌, ◌^◌, ℕ, true, false, List, [], ◌∷◌, ◌++◌, Option, Some, ap, inl, inr, length, refl, subst, sym, arith}
 use Rattle.bolt_layout.proofs.Words.{AllByRecursion, At_page, Balanced, Contains, Contains-append_left, Contains-append_right, contains_head, contains_tail, end, IsAsked, IsEntry, IsTreeOf, items_of, Key, Layout, layout_mark, layout_meta, layout_of, layout_pages, layout_root, listing_below, Member, Meta, node_at, page_at, PageSpot, PageView, Path, Placed, Plain, reached, Root_page, root_of, root_over, size_bounds, Spot, Tree, tree_of, with_bucket, with_value}
-use Rattle.bolt_layout.proofs.{BboltWays.all_lone, BboltWays.none_found, BboltWays.only_found, EvenPages.IsEven, EvenPages.IsNeat, EvenPages.IsNeatElement, EvenPages.over_even, EvenTrees.tree_neat}
+use Rattle.bolt_layout.proofs.{BboltWays.all_lone, BboltWays.none_found, BboltWays.not_lone, BboltWays.only_found, BboltWays.what_is_brought, EvenPages.IsEven, EvenPages.IsNeat, EvenPages.IsNeatElement, EvenPages.over_even, EvenTrees.tree_neat}
 use Rattle.bolt_layout.proofs.{EvenWays.IsEvenSpot, EvenWays.IsNeatSpot, EvenWays.even_by, LaidPages.AreNodes, PlacedWays.IsPlaced, PlacedWays.placed_way}
 use Rattle.bolt_layout.proofs.{Soundness.IsLaidOut, Soundness.IsSoundLayout, Soundness.PassingIsSound, Soundness.laid_out, Soundness.layout_sound, Soundness.nodes_shown, SoundCopies.layout_tree}
 use Rattle.bolt_layout.proofs.{SpanLemmas.IsShown, TreeItems.root_stands, TreeItems.tree_items, TwoChildren.layout_twos}
-use Rattle.bolt_layout.specs.{ForBbolt.HasShortKeys, ForBbolt.HoldsBuckets, ForBbolt.IsForBbolt, ForBbolt.IsOneChild, Copies.IsOfOneTree, Layout.HasTwoIfBranch}
-use Rattle.bolt_check.specs.{BboltFindings.AreBboltFindings, BboltFindings.is_too_large, BboltFindings.leaves_at, declared.finding.Finding.Finding}
+use Rattle.bolt_layout.specs.{ForBbolt.HasShortKeys, ForBbolt.HoldsBuckets, ForBbolt.IsForBbolt, ForBbolt.IsOfLayout, ForBbolt.IsOneChild, Copies.IsOfOneTree, Layout.HasTwoIfBranch}
+use Rattle.bolt_check.proofs.Exports.{branch_node}
+use Rattle.bolt_check.specs.{BboltFindings.AreBboltFindings, BboltFindings.has_one_child, BboltFindings.is_too_large, BboltFindings.leaves_at, Findings.finding, declared.finding.Finding.Finding}
+use Rattle.bolt_check.specs.declared.finding.TheConstants.Finding.{LARGE_KEY, ONE_CHILD, ROOT_VALUE}
+use Rattle.bolt_format.specs.declared.header.Kind.TheVariants as kind
 use Rattle.bolt_tree.specs.Entries.{Value}
 
 -- ---- what is known of the pages that were placed
@@ -82,6 +85,38 @@ module _ (passing : PassingIsSound) (which : Layout) (page_size : ℕ) (tree : T
       subst (AllByRecursion IsOneChild) (sym (only_found file meta sound.trees tree of_tree short holds even_spot findings are))
       (all_lone (node_at file meta) (reached (node_at file meta) meta.root) are.tour)
 
+  -- each of these holds of what is found
+  tree_brought : (P : Finding → Type 0) → ((page : ℕ) → P (finding ROOT_VALUE page)) → ((page : ℕ) → P (finding LARGE_KEY page))
+      → ((way : List ℕ) (s : PageSpot) (view : PageView) → reached (node_at file meta) meta.root way ≡ Some (At_page s) → page_at file meta s.number ≡ Some view → view.kind ≡ kind.Branch
+      → has_one_child (branch_node view) ≡ true → P (finding ONE_CHILD s.number))
+      → (findings : List Finding) → AreBboltFindings (node_at file meta) meta.root findings → AllByRecursion P findings
+  tree_brought = what_is_brought file meta sound.trees even_spot
+
+-- branches have two children in a balanced layout
+module _ (passing : PassingIsSound) (page_size : ℕ) (tree : Tree) (sequence : ℕ) (asked : IsAsked page_size tree sequence)
+    (small : length (layout_of Balanced page_size tree sequence) < 2 ^ 63) where
+  two_on_branches : (way : List ℕ) (s : PageSpot) (view : PageView)
+      → reached (node_at (layout_of Balanced page_size tree sequence) (layout_meta Balanced page_size tree sequence 1)) (layout_root Balanced page_size tree) way ≡ Some (At_page s)
+      → page_at (layout_of Balanced page_size tree sequence) (layout_meta Balanced page_size tree sequence 1) s.number ≡ Some view → view.kind ≡ kind.Branch → 2 ≤ length view.branches
+  two_on_branches way s view e at branch =
+      let file = layout_of Balanced page_size tree sequence in
+      let meta = layout_meta Balanced page_size tree sequence 1 in
+      let sound : IsSoundLayout Balanced page_size tree sequence = sound passing Balanced page_size tree sequence asked small in
+      let (p, two, same) = placed_of HasTwoIfBranch file meta (layout_pages Balanced page_size tree) sound.shown (layout_twos page_size tree) s.number view
+      (placed passing Balanced page_size tree sequence asked small way s e) at in
+      subst (λ (v : PageView). 2 ≤ length v.branches) same (two (ap (λ (v : PageView). v.kind) same ∙ branch))
+
+-- what is found in a layout, its listing brings; or it is a branch of one child of a plain one
+pub layout_brought : (passing : PassingIsSound) (which : Layout) (page_size : ℕ) (tree : Tree) (sequence : ℕ) (asked : IsAsked page_size tree sequence)
+    (small : length (layout_of which page_size tree sequence) < 2 ^ 63) → (findings : List Finding)
+    → AreBboltFindings (node_at (layout_of which page_size tree sequence) (layout_meta which page_size tree sequence 1)) (layout_root which page_size tree) findings
+    → AllByRecursion (IsOfLayout which) findings
+layout_brought passing Plain page_size tree sequence asked small =
+    tree_brought passing Plain page_size tree sequence asked small (IsOfLayout Plain) (λ page. inr (inl refl)) (λ page. inr (inr refl)) (λ way s view e at branch one. inl refl)
+layout_brought passing Balanced page_size tree sequence asked small =
+    tree_brought passing Balanced page_size tree sequence asked small (IsOfLayout Balanced) (λ page. inl refl) (λ page. inr refl) (λ way s view e at branch one.
+    let two = not_lone view (two_on_branches passing page_size tree sequence asked small way s view e at branch) in absurd (cc))
+
 -- and none in a balanced layout
 tree_for_bbolt : (passing : PassingIsSound) (page_size : ℕ) (tree : Tree) (sequence : ℕ) (asked : IsAsked page_size tree sequence)
     (small : length (layout_of Balanced page_size tree sequence) < 2 ^ 63) → HasShortKeys tree → HoldsBuckets tree → (findings : List Finding)
@@ -91,11 +126,7 @@ tree_for_bbolt passing page_size tree sequence asked small short holds findings 
     let meta = layout_meta Balanced page_size tree sequence 1 in
     let sound : IsSoundLayout Balanced page_size tree sequence = sound passing Balanced page_size tree sequence asked small in
     none_found file meta sound.trees tree (of_tree passing Balanced page_size tree sequence asked small) short holds (even_spot passing Balanced page_size tree sequence asked small)
-    (λ way s view e at branch.
-    let (p, two, same) = placed_of HasTwoIfBranch file meta (layout_pages Balanced page_size tree) sound.shown (layout_twos page_size tree) s.number view
-    (placed passing Balanced page_size tree sequence asked small way s e) at in
-    subst (λ (v : PageView). 2 ≤ length v.branches) same (two (ap (λ (v : PageView). v.kind) same ∙ branch)))
-    findings are
+    (two_on_branches passing page_size tree sequence asked small) findings are
 
 pub balanced_for_bbolt : (passing : PassingIsSound) (which : Layout) → which ≡ Balanced → (page_size : ℕ) (tree : Tree) (sequence : ℕ) (asked : IsAsked page_size tree sequence)
     (small : length (layout_of which page_size tree sequence) < 2 ^ 63) → HasShortKeys tree → HoldsBuckets tree → (findings : List Finding)

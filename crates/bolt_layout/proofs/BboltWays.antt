@@ -1,5 +1,5 @@
--- What bbolt fails on in a file whose pages are even, and whose tree has short keys and buckets alone in its root bucket: branches of one child,
--- and nothing else.
+-- What bbolt fails on in a file whose pages are even: values in the root bucket, large keys and branches of one child. If its tree has short keys, and
+-- buckets alone in its root bucket, branches of one child alone.
 use Rattle.std.proofs.Common.{◌≡◌, ◌∙◌, ◌==◌, ◌&&◌, ◌≤◌, ℕ, Bool, true, false, List, [], ◌∷◌, ◌++◌, Option, Some, None, Ok, Err, Result, ap, ap₂, append-nil, cond, flat_map, inl, inr, length, map, not, refl, slice_get, subst, sym, arith}
 use Rattle.std.specs.{List.list_any, Option.option_map}
 use Rattle.std.specs.Prelude.{is_some}
@@ -9,8 +9,8 @@ use Rattle.bolt_layout.proofs.{EvenWays.IsEvenSpot, EvenWays.leaf_is_first, Even
 use Rattle.bolt_layout.specs.ForBbolt.{HasShortKeys, HoldsBuckets, IsOneChild}
 use Rattle.bolt_check.proofs.Exports.{a_branch, a_leaf, branch_node, leaf_node, tree_page, follow_some, leads_follow}
 use Rattle.bolt_check.specs.BboltFindings.{AreBboltFindings, begins_otherwise, finding_if, has_one_child, has_other_first_key, inline_findings, is_in_root, is_large_value, is_too_large, is_value, leaves_at, node_findings, seen_findings, spot_findings, way_findings}
-use Rattle.bolt_check.specs.declared.finding.TheConstants.Finding.{FIRST_KEY, LARGE_KEY, LEAF_DEPTH, ONE_CHILD, ROOT_VALUE}
-use Rattle.bolt_check.specs.{Findings.keys_of, Lists.Has, Nodes.branch_entry, Shape.child_at, Shape.child_in, Shape.child_of, Shape.leads}
+use Rattle.bolt_check.specs.declared.finding.TheConstants.Finding.{FIRST_KEY, INLINE_NUMBER, LARGE_KEY, LEAF_DEPTH, ONE_CHILD, ROOT_VALUE}
+use Rattle.bolt_check.specs.{Findings.finding, Findings.keys_of, Lists.Has, Nodes.branch_entry, Shape.child_at, Shape.child_in, Shape.child_of, Shape.leads}
 use Rattle.bolt_check.specs.{Ways.bucket_spots, Ways.child_spot, Ways.step, Ways.step_entry, Ways.upper_from, declared.finding.Finding.Finding}
 use Rattle.bolt_format.proofs.Exports.{bucket_value, flat_inline}
 use Rattle.bolt_format.specs.Elements.{IsBucketValue}
@@ -192,6 +192,82 @@ first_alone : (first : List Finding) (b c d e : Bool) (w x y z number : ℕ) →
     → first ++ (finding_if b w number ++ (finding_if c x number ++ (finding_if d y number ++ finding_if e z number))) ≡ first
 first_alone first b c d e w x y z number b_not c_not d_not e_not = rw (b_not, c_not, d_not, e_not) (append-nil first)
 
+-- the first key of an even page is that of its entry
+module _ (file : List ℕ) (meta : Meta) where
+  begins_so : (s : PageSpot) (node : Node) (leaves : ℕ) → node_at file meta s.number ≡ Ok node → IsEvenSpot (node_at file meta) leaves (At_page s) → has_other_first_key s.lower node ≡ false
+  begins_so s node leaves at stands = by s.lower refl
+    where
+      by : (lower : Option Key) → s.lower ≡ lower → has_other_first_key lower node ≡ false
+      by None same = refl
+      by (Some key) same =
+          let (own, is, begins) = stands.begins key same in
+          let alike : own ≡ node = same_node own node (sym is ∙ at) in
+          subst (λ (n : Node). begins_otherwise key (keys_of n.entries) ≡ false) alike begins
+
+-- ---- of any tree: values in the root bucket, large keys, and branches of one child
+
+if_found : (P : Finding → Type 0) (b : Bool) (code page : ℕ) (rest : List Finding) → (b ≡ true → P (finding code page)) → AllByRecursion P rest → AllByRecursion P (finding_if b code page ++ rest)
+if_found P true code page rest is all = (is refl, all)
+if_found P false code page rest is all = all
+
+unless : (P : Finding → Type 0) (b : Bool) (code page : ℕ) → b ≡ false → AllByRecursion P (finding_if b code page)
+unless P true code page is = absurd (cc)
+unless P false code page is = tt
+
+brought : (P : Finding → Type 0) (one in_root large other deep : Bool) (page : ℕ) → (one ≡ true → P (finding ONE_CHILD page)) → P (finding ROOT_VALUE page) → P (finding LARGE_KEY page) → other ≡ false
+    → deep ≡ false
+    → AllByRecursion P (finding_if one ONE_CHILD page ++ (finding_if in_root ROOT_VALUE page ++ (finding_if large LARGE_KEY page ++ (finding_if other FIRST_KEY page ++ finding_if deep LEAF_DEPTH page))))
+brought P one in_root large other deep page is_one is_root is_large other_not deep_not =
+    if_found P one ONE_CHILD page _ is_one
+    (if_found P in_root ROOT_VALUE page _ (λ found. is_root)
+    (if_found P large LARGE_KEY page _ (λ found. is_large)
+    (if_found P other FIRST_KEY page _ (λ found. absurd (cc)) (unless P deep LEAF_DEPTH page deep_not))))
+
+-- each of these holds of what is found
+module _ (file : List ℕ) (meta : Meta) (trees : HasSoundTrees file meta)
+    (even : (way : List ℕ) (t : Spot) → reached (node_at file meta) meta.root way ≡ Some t → IsEvenSpot (node_at file meta) (leaves_at (node_at file meta) meta.root way (Some t)) t)
+    (P : Finding → Type 0) (of_root : (page : ℕ) → P (finding ROOT_VALUE page)) (of_key : (page : ℕ) → P (finding LARGE_KEY page))
+    (of_one : (way : List ℕ) (s : PageSpot) (view : PageView) → reached (node_at file meta) meta.root way ≡ Some (At_page s) → page_at file meta s.number ≡ Some view → view.kind ≡ kind.Branch
+    → has_one_child (branch_node view) ≡ true → P (finding ONE_CHILD s.number)) where
+  way_brought : (way : List ℕ) (t : Spot) → reached (node_at file meta) meta.root way ≡ Some t → AllByRecursion P (way_findings (node_at file meta) meta.root way)
+  way_brought way (At_inline host inner) e =
+      let number = eq-eqb inner.number 0 (even way (At_inline host inner) e).0 in
+      subst (AllByRecursion P)
+      (sym (ap (λ (o : Option Spot). spot_findings (node_at file meta) (is_in_root (node_at file meta) meta.root way) (leaves_at (node_at file meta) meta.root way o) o) e))
+      (if_found P (list_any is_too_large inner.keys) LARGE_KEY host _ (λ found. of_key host) (unless P (not (inner.number == 0)) INLINE_NUMBER host (ap not number)))
+  way_brought way (At_page s) e =
+      let good = (trees.good way s e).1 in
+      let in_root = is_in_root (node_at file meta) meta.root way in
+      let leaves = leaves_at (node_at file meta) meta.root way (Some (At_page s)) in
+      let stands = even way (At_page s) e in
+      subst (AllByRecursion P) (sym (ap (λ (o : Option Spot). spot_findings (node_at file meta) in_root (leaves_at (node_at file meta) meta.root way o) o) e))
+      (elim (tree_page file meta s.number good.0 good.1) [
+        | a_leaf view at leaf shown ↦
+            let depth = eq-eqb s.depth leaves (leaf_is_first file meta s (leaf_node view) leaves shown refl stands) in
+            subst (λ (r : Result Node ℕ). AllByRecursion P (seen_findings in_root leaves s r)) (sym shown)
+            (brought P false _ _ _ _ s.number (λ found. absurd (cc)) (of_root s.number) (of_key s.number) (begins_so file meta s (leaf_node view) leaves shown stands) (ap not depth))
+        | a_branch view at branch shown ↦
+            subst (λ (r : Result Node ℕ). AllByRecursion P (seen_findings in_root leaves s r)) (sym shown)
+            (brought P (has_one_child (branch_node view)) _ false _ false s.number (of_one way s view e at branch) (of_root s.number) (of_key s.number)
+            (begins_so file meta s (branch_node view) leaves shown stands) refl)
+      ])
+
+  all_brought : (ways : List (List ℕ)) → ((way : List ℕ) → Has ways way → (t : Spot) × (reached (node_at file meta) meta.root way ≡ Some t))
+      → AllByRecursion P (flat_map (way_findings (node_at file meta) meta.root) ways)
+  all_brought [] only = tt
+  all_brought (way ∷ ways) only =
+      let (t, e) = only way (inl refl) in
+      all_append P (way_findings (node_at file meta) meta.root way) _ (way_brought way t e) (all_brought ways (λ v h. only v (inr h)))
+
+  pub what_is_brought : (findings : List Finding) → AreBboltFindings (node_at file meta) meta.root findings → AllByRecursion P findings
+  what_is_brought findings are = subst (AllByRecursion P) (sym are.all) (all_brought are.tour (λ way h. are.whole.only way h))
+
+-- a branch of two children
+pub not_lone : (view : PageView) → 2 ≤ length view.branches → has_one_child (branch_node view) ≡ false
+not_lone view two = grind (arith, ne_eqb, length-map)
+
+-- ---- of a tree with short keys, and buckets alone in its root bucket
+
 module _ (file : List ℕ) (meta : Meta) (trees : HasSoundTrees file meta) (tree : Tree) (is : IsTreeOf (IsEntry file meta) (Root_page meta.root) tree) (short : HasShortKeys tree)
     (holds : HoldsBuckets tree) (even : (way : List ℕ) (t : Spot) → reached (node_at file meta) meta.root way ≡ Some t → IsEvenSpot (node_at file meta) (leaves_at (node_at file meta) meta.root way (Some t)) t) where
   abbrev HasTwoOnBranches : Type 0
@@ -217,17 +293,6 @@ module _ (file : List ℕ) (meta : Meta) (trees : HasSoundTrees file meta) (tree
       let led = l ∙ ap Some (same_page way s n e l) in
       buckets_any view.leaves (λ x has. shows_buckets file meta tree es shows holds x ((are.exact x).1 (leaf_is file meta s view x at leaf has meta.root way led)))
 
-  -- the first key of a page is that of its entry
-  begins_so : (s : PageSpot) (node : Node) (leaves : ℕ) → node_at file meta s.number ≡ Ok node → IsEvenSpot (node_at file meta) leaves (At_page s) → has_other_first_key s.lower node ≡ false
-  begins_so s node leaves at stands = by s.lower refl
-    where
-      by : (lower : Option Key) → s.lower ≡ lower → has_other_first_key lower node ≡ false
-      by None same = refl
-      by (Some key) same =
-          let (own, is, begins) = stands.begins key same in
-          let alike : own ≡ node = same_node own node (sym is ∙ at) in
-          subst (λ (n : Node). begins_otherwise key (keys_of n.entries) ≡ false) alike begins
-
   leaf_only : (way : List ℕ) (s : PageSpot) (view : PageView) (leaves : ℕ) → reached (node_at file meta) meta.root way ≡ Some (At_page s) → page_at file meta s.number ≡ Some view
       → view.kind ≡ kind.Leaf → node_at file meta s.number ≡ Ok (leaf_node view) → IsEvenSpot (node_at file meta) leaves (At_page s)
       → node_findings (is_in_root (node_at file meta) meta.root way) leaves s (leaf_node view) ≡ []
@@ -236,11 +301,11 @@ module _ (file : List ℕ) (meta : Meta) (trees : HasSoundTrees file meta) (tree
       let large = large_any view.leaves (λ x has. bucket_short file meta (Root_page root) x bucket (leaf_is file meta s view x at leaf has root address led)) in
       let values = buckets_alone way s view e at leaf (leads (node_at file meta) (Some meta.root) way) refl in
       let depth = eq-eqb s.depth leaves (leaf_is_first file meta s (leaf_node view) leaves shown refl stands) in
-      first_alone [] _ _ _ _ ROOT_VALUE LARGE_KEY FIRST_KEY LEAF_DEPTH s.number values large (begins_so s (leaf_node view) leaves shown stands) (ap not depth)
+      first_alone [] _ _ _ _ ROOT_VALUE LARGE_KEY FIRST_KEY LEAF_DEPTH s.number values large (begins_so file meta s (leaf_node view) leaves shown stands) (ap not depth)
 
   branch_only : (s : PageSpot) (view : PageView) (in_root : Bool) (leaves : ℕ) → node_at file meta s.number ≡ Ok (branch_node view) → IsEvenSpot (node_at file meta) leaves (At_page s)
       → node_findings in_root leaves s (branch_node view) ≡ finding_if (has_one_child (branch_node view)) ONE_CHILD s.number
-  branch_only s view in_root leaves shown stands = grind (arith, first_alone, and_false)
+  branch_only s view in_root leaves shown stands = let begins = begins_so file meta s (branch_node view) leaves shown stands in grind (arith, first_alone, and_false, begins)
 
   way_only : (way : List ℕ) (t : Spot) → reached (node_at file meta) meta.root way ≡ Some t → way_findings (node_at file meta) meta.root way ≡ lone_at (node_at file meta) (Some t)
   way_only way (At_inline host inner) e =
@@ -308,6 +373,6 @@ lone_code s (Ok node) = by (has_one_child node)
 lone_codes : (nodes : Nodes) (o : Option Spot) → AllByRecursion IsOneChild (lone_at nodes o)
 lone_codes nodes o = grind (arith, lone_code)
 
-pub all_lone : (nodes : Nodes) (reach : List ℕ → Option Spot) (ways : List (List ℕ)) → AllByRecursion IsOneChild (flat_map (λ (way : List ℕ). lone_at nodes (reach way)) ways)
-all_lone nodes reach [] = tt
-all_lone nodes reach (way ∷ ways) = all_append IsOneChild (lone_at nodes (reach way)) _ (lone_codes nodes (reach way)) (all_lone nodes reach ways)
+pub all_lone : (at : Nodes) (reach : List ℕ → Option Spot) (ways : List (List ℕ)) → AllByRecursion IsOneChild (flat_map (λ (way : List ℕ). lone_at at (reach way)) ways)
+all_lone at reach [] = tt
+all_lone at reach (way ∷ ways) = all_append IsOneChild (lone_at at (reach way)) _ (lone_codes at (reach way)) (all_lone at reach ways)

@@ -1,5 +1,5 @@
 -- Data that follows other data has no gap.
-use Rattle.std.proofs.Common.{◌≡◌, ◌∙◌, ℕ, zero, suc, ◌+◌, false, Option, None, not, refl, sym, ap, subst, add-one}
+use Rattle.std.proofs.Common.{◌≡◌, ◌∙◌, ℕ, zero, suc, ◌+◌, false, None, not, refl, sym, ap, subst, add-one}
 use Rattle.std.specs.List.{find, range_with_len}
 use Rattle.bolt_layout.proofs.Words.{eq-eqb}
 use Rattle.bolt_format.specs.Gaps.{is_elsewhere, written_start}

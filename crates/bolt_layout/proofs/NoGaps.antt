@@ -1,9 +1,9 @@
 -- The pages of a layout have no gap.
-use Rattle.std.proofs.Common.{◌≡◌, ◌∙◌, ◌<◌, ◌^◌, ℕ, List, [], ◌∷◌, Option, Some, None, ap, inl, inr, length, sym}
-use Rattle.bolt_layout.proofs.Words.{AllByRecursion, At_inline, At_page, IsAsked, Layout, layout_meta, layout_of, layout_pages, Meta, node_at, Placed, reached, Spot, Tree}
+use Rattle.std.proofs.Common.{◌≡◌, ◌∙◌, ◌<◌, ◌^◌, ℕ, List, [], ◌∷◌, None, ap, inl, inr, length, sym}
+use Rattle.bolt_layout.proofs.Words.{AllByRecursion, At_inline, At_page, IsAsked, Layout, layout_meta, layout_of, layout_pages, Meta, Placed, Tree}
 use Rattle.bolt_layout.proofs.{BboltCopies.even_spot, BboltCopies.placed, BboltCopies.sound, PlacedWays.IsPlaced, Soundness.PassingIsSound, SpanLemmas.IsShown}
 use Rattle.bolt_format.specs.Gaps.{page_gap}
-use Rattle.bolt_layout.specs.NoGaps.{HasNoGap, HasNoGaps}
+use Rattle.bolt_layout.specs.NoGaps.{HasNoGaps}
 
 -- of a page that was placed
 whole_of : (file : List ℕ) (meta : Meta) (pages : List Placed) → AllByRecursion (λ (p : Placed). IsShown file meta p.number p.view) pages

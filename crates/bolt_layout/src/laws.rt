@@ -6,7 +6,7 @@ ghost use Rattle.bolt_check.specs.{BboltFileFindings.file_findings, Sound.HasSou
 ghost use Rattle.bolt_tree.specs.{Entries.IsEntry, Entries.Item, Entries.Root_page, Listing.IsListing, Listing.Member, Paths.Holds, Paths.Path};
 ghost use Rattle.bolt_tree.specs.Tree.{IsTreeOf, Tree, listing_of, tree_of};
 ghost use Rattle.bolt_layout.specs.{Copies.ForAsked, Copies.ForStorable, Copies.IsAsked, Copies.IsOfOneTree, Copies.IsSoundCopy, Copies.RefusesPrefixes, Copies.layout_of_listing, Cut.CutIsOne};
-ghost use Rattle.bolt_layout.specs.{ForBbolt.ForBboltFindings, ForBbolt.IsOneChild, Held.most_held, Laid.Laid};
+ghost use Rattle.bolt_layout.specs.{ForBbolt.ForBboltFindings, ForBbolt.ForLayoutFindings, ForBbolt.IsOfLayout, ForBbolt.IsOneChild, Held.most_held, Laid.Laid};
 ghost use Rattle.bolt_layout.specs.Layout.{HasTwoIfBranch, layout_held, layout_mark, layout_meta, layout_of, layout_pages, layout_root};
 ghost use Rattle.bolt_layout.specs.{NoGaps.HasNoGaps, Levels.IsOverflow, Levels.TopIsAbove, Levels.overflow_of, Storable.IsFitListing, Storable.IsFitMember, Storable.IsStorable};
 ghost use Rattle.bolt_layout.specs.{declared.Layout.Layout, declared.Layout.TheVariants.Balanced};
@@ -64,6 +64,14 @@ pub fn layouts_are_taken_by_bbolt()
 pub fn layouts_are_for_bbolt()
     ensures balanced { ForBboltFindings (λ which findings. which ≡ Balanced → findings ≡ []) }
     ensures plain { ForBboltFindings (λ which findings. AllByRecursion IsOneChild findings) }
+{
+    sound_trees_pass_the_tests();
+}
+
+/// What bbolt fails on along the ways of a layout, its listing brings: values in the root bucket, and
+/// values under keys of more than 32,768 bytes. The plain layout adds branches of one child.
+pub fn layouts_fail_on_what_they_hold()
+    ensures { ForLayoutFindings (λ which listing findings. AllByRecursion (IsOfLayout which) findings) }
 {
     sound_trees_pass_the_tests();
 }

@@ -112,12 +112,21 @@ module _ (file : List ℕ) (meta : Meta) (x : Finding) (loses : LosesRoot file m
       (gives_same (node_at file meta) IsMetaPage (λ n. meta_pages n ≡ true) (At_page (root_spot meta.root)) (Some x) (λ n low. grind (arith, nat_tests)) (λ n is. grind (arith, nat_tests)) loses)
       ∙ ap (λ (es : List Event). Visited [] (root_site file meta) (Some x) ∷ es) (events_none file meta _)
 
+  alone_surveys : IsSurvey file meta alone
+  alone_surveys = subst (IsSurvey file meta) (ap visits_of root_events) (surveyed file meta)
+
+  pub loses_root : (survey : List SurveyedWay) → IsSurvey file meta survey → LosesNothing survey → ⊥
+  loses_root survey is none =
+      let all : LosesNothing alone = subst LosesNothing (same_survey file meta survey alone is alone_surveys) none in
+      let wrong : Some x ≡ None = all (lost [] x) (inl refl) in
+      cc
+
   not_kept : (way : List ℕ) → Has alone (way_kept way) → ⊥
   not_kept way h = grind arith
 
   pub found_rootless : (taken : ℕ → Bool) (found : List ℕ) → ((n : ℕ) → (taken n ≡ true) ↔ IsMetaPage n)
       → FoundBelow file meta (λ n. taken n ≡ true) meta.high_water found → AreFound file meta found
-  found_rootless taken found metas below = are_some file meta found alone [] x (subst (IsSurvey file meta) (ap visits_of root_events) (surveyed file meta)) (inl refl)
+  found_rootless taken found metas below = are_some file meta found alone [] x alone_surveys (inl refl)
       (found_same file meta (λ n. taken n ≡ true) (IsKeptPage file meta alone) (λ k was. inl ((metas k).0 was))
       (λ k is. elim is [ inl low ↦ (metas k).1 low | inr (v, (there, span)) ↦ absurd (not_kept v there) ]) meta.high_water found below)
 
@@ -125,7 +134,7 @@ module _ (file : List ℕ) (meta : Meta) (x : Finding) (loses : LosesRoot file m
   nothing_recovered listing is = one_recovered file meta listing [] is (subst (IsRecovered file meta) (ap members_of root_events) (recovers file meta))
 
   pub no_gaps : AreGaps file meta []
-  no_gaps = (alone, subst (IsSurvey file meta) (ap visits_of root_events) (surveyed file meta), refl)
+  no_gaps = (alone, alone_surveys, refl)
 
   pub nothing_kept : (gaps : List PageGapView) → AreGaps file meta gaps → gaps ≡ []
   nothing_kept gaps are = one_gaps file meta gaps [] are no_gaps

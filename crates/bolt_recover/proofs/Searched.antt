@@ -1,7 +1,7 @@
 -- What is known of a file that was searched.
 use Rattle.std.proofs.Common.{◌≡◌, ◌≢◌, ◌∙◌, ◌<◌, ◌*◌, ◌^◌, true, false, List, [], ◌∷◌, ap, length, map, subst, sym, arith}
 use Rattle.bolt_recover.proofs.Words.{all_lost, AreJoinable, AreTreesOf, bytes_of, Checked, Contains, contains_cases, contains_head, contains_none, contains_tail, Damaged, everything, Finding, ForRecovered, Found, ForGaps, HasBucketKey, holds_key, IsSearched, LacksBucketKey, LosesRoot, LossView, lost_of, Member, meta_of, or_cases, or_parts, page_gap_view, parts, props, Rootless, Sound, ∥∥₁_elim, ∥∥₁_map}
-use Rattle.bolt_recover.proofs.FoundAll.{nothing_kept, nothing_recovered}
+use Rattle.bolt_recover.proofs.{Existing.has_survey, FoundAll.loses_root, FoundAll.nothing_kept, FoundAll.nothing_recovered, KeptWays.none_lost}
 use Rattle.bolt_recover.specs.{Lost.IsAllLost, declared.losses.Damage.Damage, declared.lost_and_found.LostAndFound.LostAndFound, declared.lost_and_found.Trees.Trees}
 use Rattle.bolt_check.specs.{Counts.saturated, Sound.HasSoundTrees}
 use Rattle.bolt_check.proofs.Exports.{checked_trees}
@@ -56,12 +56,20 @@ module _ (both : LostAndFound) where
     pub gaps_known : ForGaps both.file.now both.meta (λ gaps. map page_gap_view damage.gaps.items ≡ gaps)
     gaps_known gaps are = ∥∥₁_elim both.searched (hlevel props) (λ searched. (left (Damaged damage) is searched).gaps gaps are)
 
+    pub damaged : HasSoundTrees both.file.now both.meta → ⊥
+    damaged sound = ∥∥₁_elim both.searched (hlevel props) (λ searched. (left (Damaged damage) is searched).unsound sound)
+
   module _ (x : Finding) (is : both.trees ≡ Rootless x) where
     pub root_lost : ∥ LosesRoot both.file.now both.meta x ∥₁
     root_lost = ∥∥₁_map both.searched (λ searched. subst (IsAllLost both.file.now both.meta) (ap lost_of is) searched.lost)
 
     pub none_recovered : ForRecovered both.file.now both.meta (λ listing. listing ≡ [])
     none_recovered listing recovers = ∥∥₁_elim root_lost (hlevel props) (λ lost. nothing_recovered both.file.now both.meta x lost listing recovers)
+
+    pub rootless : HasSoundTrees both.file.now both.meta → ⊥
+    rootless sound =
+        let (survey, is_survey) = has_survey both.file.now both.meta in
+        ∥∥₁_elim root_lost (hlevel props) (λ lost. loses_root both.file.now both.meta x lost survey is_survey (none_lost both.file.now both.meta survey sound is_survey))
 
     pub no_gap : ForGaps both.file.now both.meta (λ gaps. [] ≡ gaps)
     no_gap gaps are = ∥∥₁_elim root_lost (hlevel props) (λ lost. sym (nothing_kept both.file.now both.meta x lost gaps are))

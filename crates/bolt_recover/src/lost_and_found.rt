@@ -114,6 +114,8 @@ impl<'a> LostAndFound<'a> {
         ensures number { IfSome result (λ members.
             ForRecovered self.now.file.now self.now.meta (λ listing. members ≡ saturated (length listing))) }
         ensures sound { IfNone result (∥ HasSoundTrees self.now.file.now self.now.meta ∥₁) }
+        ensures damaged { IfSome result (λ members.
+            HasSoundTrees self.now.file.now self.now.meta → ⊥) }
     {
         match &self.trees {
             Trees::Sound(_) => None,

@@ -1,8 +1,9 @@
 -- What the recovered listing says of a store.
-use Rattle.std.specs.Prelude.{◌≡◌, ◌↔◌, ℕ, List, ◌∷◌, ◌++◌, [], Option, Some, map}
+use Rattle.std.specs.Prelude.{◌≡◌, ◌↔◌, ◌<◌, ◌≤◌, ℕ, List, ◌∷◌, ◌++◌, [], Option, Some, length, map}
 use Rattle.std.specs.{Borrow.Bor, List.Contains, Option.option_map, Option.option_to_list}
 use Rattle.std.specs.declared.cmp.Ordering.TheVariants.{Less}
-use Rattle.bolt_check.specs.Keys.{Key, key_cmp}
+use Rattle.bolt_check.specs.{Counts.counted, Counts.saturated, Keys.Key, Keys.key_cmp, Sound.HasSoundTrees}
+use Rattle.bolt_recover.specs.{Recovered.ForRecovered, declared.lost_and_found.LostAndFound.LostAndFound}
 use Rattle.bolt_tree.specs.{Entries.EntryView, Entries.Item, Entries.Value, InBuckets.entry_in, Listing.Member, Listing.member_cmp, Order.Rises, Paths.Path, ShownEntries.item_view}
 use Rattle.bolt_repair.specs.{Candidates.HasKey, Repairs.IsKept, Repairs.compaction_path, Repairs.store_path}
 use Rattle.bolt_etcd.specs.{Revisions.RevisionView, Revisions.revision_of, ShownRevisions.shown_revision}
@@ -26,6 +27,11 @@ abbrev pub IsStoreNoted : List Member → List EntryView → RecoveredStore → 
 IsStoreNoted members candidates store =
     IsRecoveredStore members candidates (option_map item_view store.bucket) (option_map (λ (value : Bor (List ℕ)). value.now) store.compaction)
     (map shown_revision store.kept.items) (map (λ (key : Bor (List ℕ)). key.now) store.met.items)
+
+-- There is room for each member that is recovered of a damaged file, and for the candidates, if there are any.
+abbrev pub HasRoomFor : LostAndFound → (candidates room : ℕ) → Type 0
+HasRoomFor both candidates room = 0 < candidates → (HasSoundTrees both.file.now both.meta → ⊥)
+    → ForRecovered both.file.now both.meta (λ listing. counted (saturated (length listing)) candidates ≤ room)
 
 -- a member comes after these
 abbrev pub ComesAfter : List Member → Member → Type 0

@@ -1,8 +1,8 @@
 //! What the recovered listing says of a store.
-ghost use Rattle.std.specs.Prelude.{◌≡◌, [], IfOk, OnOk, map};
+ghost use Rattle.std.specs.Prelude.{◌≡◌, [], IfOk, OnOk, length, map, vec_capacity};
 ghost use Rattle.bolt_tree.specs.{Order.Rises, Paths.path_of, ShownEntries.item_view, ShownEntries.shown_entry};
 ghost use Rattle.bolt_recover.specs.Recovered.{ForRecovered};
-ghost use Rattle.bolt_repair.specs.{Candidates.whole_cmp, RecoveredStores.KeepsRevision, RecoveredStores.IsStorePath};
+ghost use Rattle.bolt_repair.specs.{Candidates.whole_cmp, RecoveredStores.HasRoomFor, RecoveredStores.KeepsRevision, RecoveredStores.IsStorePath};
 ghost use Rattle.bolt_etcd.specs.{ShownRevisions.entry_of, ShownRevisions.shown_revision};
 
 use crate::candidates::{add_key, has_candidate};
@@ -114,7 +114,9 @@ fn room_for_kept<'a>(
     both: &LostAndFound<'a>,
     candidates: &[Revision<'a>],
 ) -> Result<Vec<Revision<'a>>, NoMemory>
-    ensures { IfOk result (λ room. room.items ≡ []) }
+    ensures items { IfOk result (λ room. room.items ≡ []) }
+    ensures room { IfOk result (λ room.
+        HasRoomFor both.now (length candidates.now) (vec_capacity room)) }
 {
     if candidates.is_empty() {
         return Ok(Vec::new(alloc));

@@ -16,7 +16,7 @@ returns c =
     let same_file = c.new.ensures.file ∙ finished.file in
     let same_meta = c.new.ensures.meta ∙ finished.under in
     record {
-      left = record { key = finished.has; number = finished.number; gaps = finished.gaps };
+      left = record { key = finished.has; number = finished.number; gaps = finished.gaps; unsound = c.requires.damaged };
       lost = (c.requires.root, finished.all);
       are_found =
           found_damaged file meta (recovery_claimed self) (is_taken rest) (found_numbers items) finished.kept c.new.ensures.taken c.requires.damaged
