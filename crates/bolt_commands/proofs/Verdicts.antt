@@ -1,8 +1,8 @@
 -- What a check of a file comes to.
-use Rattle.std.proofs.Common.{◌≡◌, ◌≢◌, ◌&&◌, ◌∙◌, ℕ, Bool, true, false, List, [], ◌∷◌, Ok, Err, ap, codes, inl, inr, refl, sym}
+use Rattle.std.proofs.Common.{◌≡◌, ◌≢◌, ◌&&◌, ℕ, Bool, true, false, List, [], ◌∷◌, Ok, ap, arith, codes, inl, inr, refl, subst}
 use Rattle.bolt_check.specs.declared.bbolt_file.FileFinding.{FileFinding}
 use Rattle.bolt_check.specs.declared.check_fault.CheckFault.TheVariants as check
-use Rattle.bolt_commands.proofs.Vocabulary.{Answer, CheckFault, FileFaults, Failure, Finding, Ghosts, IsFoundAnswer, IsReadUnder, IsRefusedUnder, JobEnding, Meta, MetaChoice, PageGapView, check_refusal, done, false≢true, found}
+use Rattle.bolt_commands.proofs.Vocabulary.{Answer, CheckFault, FileFaults, Failure, Finding, Ghosts, IsFoundAnswer, IsReadUnder, IsRefusedUnder, JobEnding, Meta, MetaChoice, PageGapView, PrintsAnswer, check_refusal, done, false≢true, found}
 use Rattle.bolt_commands.proofs.Doing.{answer_as}
 use Rattle.bolt_commands.specs.{Answers.status_of, CheckAnswers.AreFoundFor, CheckAnswers.all_found, CheckAnswers.is_right, FileFaults.is_fine, FileFaults.no_faults}
 use Rattle.bolt_commands.specs.Private.Checks.{ComesTo, IsVerdict, IsWrong, unopened}
@@ -31,7 +31,12 @@ unopened_wrong faults (failure.File x) = refl
 unopened_wrong faults why = refl
 
 pub not_done : (ending : JobEnding) → status_of ending ≡ 1 → ending ≢ Ok 0
-not_done ending wrong done = let none : 1 ≡ 0 = sym wrong ∙ ap status_of done in absurd (cc)
+not_done ending wrong done = let none = ap status_of done in absurd (omega (arith, wrong, none))
+
+-- nothing was written before
+pub after_nothing : {S : Type 0} {sink : Ghosts S} {old middle new : S} {IsWanted : Answer → Type 0} {ending : JobEnding} → middle ≡ old → PrintsAnswer sink middle new IsWanted ending
+    → PrintsAnswer sink old new IsWanted ending
+after_nothing {S = S} {sink = sink} {new = new} {IsWanted = IsWanted} {ending = ending} same put = subst (λ (s : S). PrintsAnswer sink s new IsWanted ending) same put
 
 module _ (faults : FileFaults) (file : List ℕ) (choice : MetaChoice) where
   -- ---- a sound file

@@ -109,9 +109,9 @@ fn check_recovered<'f, O: Sink>(
     requires { IsRecoveryOf checking.input.file.now checking.choice recovery }
     ensures { ChecksLost O.Sink out.old out.new Extent.Losses checking.entry result }
 {
-    if let Err(NoMemory) = recovery.finish() {
+    let Ok(()) = recovery.finish() else {
         return Verdict::Wrong(Err(Failure::Memory));
-    }
+    };
     let lost = Lost::Parts(recovery.losses());
     let gaps = recovery.gaps();
     if lost.is_nothing() {

@@ -1,6 +1,7 @@
 -- What a check of a file comes to, of which is known what else is wrong with it.
 use Rattle.std.specs.Prelude.{◌≡◌, List, [], true}
-use Rattle.bolt_check.specs.declared.{check_fault.CheckFault.TheVariants as check, checked.Checked.Checked}
+use Rattle.bolt_check.specs.declared.checked.Checked.{Checked}
+use Rattle.bolt_check.specs.declared.check_fault.CheckFault.TheVariants as check
 use Rattle.bolt_recover.specs.{Gaps.PageGapView, Losses.everything}
 use Rattle.bolt_format.specs.declared.sink.Sink.{Ghosts}
 use Rattle.bolt_commands.specs.{Answers.Answer, Answers.refused, Answers.status_of, CheckAnswers.IsCheckAnswerAfter, CheckAnswers.IsFoundAnswer, CheckAnswers.IsLostAnswer, CheckAnswers.check_refusal, CheckAnswers.lost_and_found_answer}

@@ -7,8 +7,8 @@ use Rattle.bolt_commands.proofs.Verdicts.{comes_as}
 use Rattle.bolt_commands.specs.declared.failure.Failure.TheVariants.{Memory}
 use Rattle.bolt_commands.proofs.verdict.check_recovered.Goals as goal
 
-pub returns-in-Err : goal.returns-in-Err
-returns-in-Err g c = record { is = answer_nothing Memory _ (inr (inr (tt, refl)), refl) refl }
+pub returns-in_default : goal.returns-in_default
+returns-in_default g c = record { is = answer_nothing Memory _ (inr (inr (tt, refl)), refl) refl }
 
 pub returns-then-is_nothing : goal.returns-then-is_nothing
 returns-then-is_nothing g c =
@@ -16,8 +16,8 @@ returns-then-is_nothing g c =
     let file = checking.input.file.now in
     let r = c.requires in
     let none = sym c.is_nothing.ensures ∙ c.if-is_nothing.true in
-    let ends = rw r.bytes at c.finish.ensures.all in
-    let whole = rw r.bytes at c.finish.ensures.gaps in
+    let ends = rw r.bytes at c.in-Ok.ensures.all in
+    let whole = rw r.bytes at c.in-Ok.ensures.gaps in
     comes_as c.check_sound.ensures (λ answer found.
     recovered_lost checking.for_bbolt checking.faults file checking.choice (recovery_meta c.args.recovery) (map loss_view c.losses.result.now) (map page_gap_view c.gaps-gaps.result.now) answer
     r.under.0 r.under.1 (λ all are. c.losses.ensures.losses ∙ ends all are) (λ all are. c.gaps-gaps.ensures ∙ whole all are)
@@ -29,8 +29,8 @@ returns g c =
     let file = checking.input.file.now in
     let r = c.requires in
     let some = sym c.is_nothing.ensures ∙ c.if-is_nothing.false in
-    let ends = rw r.bytes at c.finish.ensures.all in
-    let whole = rw r.bytes at c.finish.ensures.gaps in
+    let ends = rw r.bytes at c.in-Ok.ensures.all in
+    let whole = rw r.bytes at c.in-Ok.ensures.gaps in
     record {
       is = record {
         answer = _;

@@ -4,16 +4,16 @@ use Rattle.bolt_commands.proofs.{Vocabulary.meta_of, Vocabulary.page_gap_view, V
 use Rattle.bolt_commands.specs.CheckAnswers.{is_right}
 use Rattle.bolt_commands.proofs.verdict.check_sound.Goals as goal
 
-pub returns-then-is_right-in-Ok : goal.returns-then-is_right-in-Ok
-returns-then-is_right-in-Ok g c =
+pub returns-then-is_right : goal.returns-then-is_right
+returns-then-is_right g c =
     let checking = c.args.checking in
     let gaps = map page_gap_view c.args.gaps.now in
     let right : is_right checking.faults gaps ≡ true = sym c.is_right.ensures ∙ c.if-is_right.true in
     let (fine, wanted) = right_gaps checking.faults checking.input.file.now checking.choice checking.for_bbolt gaps right in
     record { is = (refl, record { sound = record { bytes = c.in-Ok.ensures.bytes; under = c.in-Ok.ensures.sound }; fine = fine; wanted = wanted }) }
 
-pub returns-in-Ok : goal.returns-in-Ok
-returns-in-Ok g c =
+pub returns-else-is_right : goal.returns-else-is_right
+returns-else-is_right g c =
     let checking = c.args.checking in
     let gaps = map page_gap_view c.args.gaps.now in
     let wrong : is_right checking.faults gaps ≡ false = sym c.is_right.ensures ∙ c.if-is_right.false in

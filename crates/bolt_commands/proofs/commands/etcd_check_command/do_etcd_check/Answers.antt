@@ -1,6 +1,6 @@
 -- Nothing is wrong, and the store is looked at; or what is wrong was written.
 use Rattle.std.proofs.Common.{List, inl, inr, subst, sym, ℕ}
-use Rattle.bolt_commands.proofs.{Vocabulary.Answer, Vocabulary.HasSoundTrees, Vocabulary.meta_of, Doing.answer_as, ReadFiles.own_trees, Verdicts.not_done, Verdicts.right_done}
+use Rattle.bolt_commands.proofs.{Vocabulary.Answer, Vocabulary.HasSoundTrees, Vocabulary.meta_of, Doing.answer_as, ReadFiles.own_trees, Verdicts.after_nothing, Verdicts.not_done, Verdicts.right_done}
 use Rattle.bolt_commands.specs.EtcdAnswers.{IsStoreAnswer, IsStoreText}
 use Rattle.bolt_commands.proofs.commands.etcd_check_command.do_etcd_check.Goals as goal
 
@@ -14,7 +14,7 @@ returns-in-Right g c =
     let right = c.in-Right.ensures.is.1 in
     let sound = right.sound in
     let meta = meta_of c.in-Right.checked in
-    answer_as c.put_store.ensures (λ answer store.
+    answer_as (after_nothing c.in-Right.ensures.is.0 c.put_store.ensures) (λ answer store.
     inl (
       meta,
       (_, c.find.ensures, right.wanted _ (right_done c.find.result c.args.input.file.now c.args.job.now.meta meta right.fine sound.under)),
