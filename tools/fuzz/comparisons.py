@@ -116,7 +116,7 @@ def compare(file):
         kind = "refused"
         compare_unsound(file, checked)
     if not checked.is_ok():
-        compare_unread_store(file, checked)
+        compare_unread_store(file, file.run("check", "--all"))
         compare_refused_for_bbolt(file, checked)
     compare_hash(file)
     compare_hash(file, "--all")

@@ -104,7 +104,7 @@ LOST = rb"error: %b\n" % SHORTFALL
 # What is printed with status 1, on standard output and on standard error.
 FAILED = {
     "check": (FINDINGS, b""),
-    "etcd-check": (rb"%b|(?:(?:%b)\n)+\d+ errors found\n" % (FINDINGS, STORE_FAULT), b""),
+    "etcd-check": (rb"(?:(?:%b)?%b|(?:(?:%b)\n)+)[1-9]\d* errors found\n" % (OTHER_META, FAULTY, STORE_FAULT), b""),
     "etcd-revisions": (rb"(?s:.*)", OTHERS),
     "etcd-keys": (rb"(?s:.*)", OTHERS),
     "etcd-get": (rb"(?s:.*)", OTHERS),

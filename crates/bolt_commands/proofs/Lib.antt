@@ -30,4 +30,5 @@ pub mod SoundReads
 pub mod SoundRecovery
 pub mod SoundRepairs
 pub mod StatsAnswers
+pub mod Verdicts
 pub mod Vocabulary

@@ -1,15 +1,16 @@
 -- What the commands answer that read what etcd keeps: docs/COMMANDS.md, "What etcd keeps".
-use Rattle.std.specs.Prelude.{◌≡◌, ◌-◌, ◌^◌, ◌⊎◌, ℕ, zero, suc, nat_lt, List, [], ◌++◌, Bool, true, false, codes, length, Option, Some, None, Ok, Err}
-use Rattle.bolt_check.specs.{declared.check_fault.CheckFault.CheckFault, Counts.counted}
+use Rattle.std.specs.Prelude.{◌≡◌, ◌≢◌, ◌-◌, ◌^◌, ◌⊎◌, ℕ, zero, suc, nat_lt, List, [], ◌++◌, Bool, true, false, codes, length, Option, Some, None, Ok, Err}
+use Rattle.bolt_check.specs.Counts.{counted}
 use Rattle.bolt_format.specs.{Elements.LeafElement, declared.meta.Meta.Meta}
 use Rattle.bolt_report.specs.{FaultWords.count_line, RevisionLines.named_with, RevisionLines.revision_lines, StatusLines.status_text}
 use Rattle.bolt_tree.specs.Entries.{IsEntry, Root_page}
-use Rattle.bolt_commands.specs.{FileFaults.no_faults, Answers.Answer, Answers.IsEndedOrCut, Answers.IsShownAndEnded, Answers.IsShownOrCut, Answers.JobEnding, Answers.refused}
-use Rattle.bolt_commands.specs.{CheckAnswers.check_refusal, FilesRead.IsReadAnswer, FilesRead.IsReadUnder, FilesRead.IsRefusedUnder, KeyAnswers.value_shown}
+use Rattle.bolt_commands.specs.Answers.{Answer, IsEndedOrCut, IsShownAndEnded, IsShownOrCut, JobEnding, done, refused}
+use Rattle.bolt_commands.specs.{CheckAnswers.IsCheckAnswer, FilesRead.IsReadAnswer, FilesRead.IsReadUnder, KeyAnswers.value_shown}
 use Rattle.bolt_commands.specs.declared.failure.Failure.TheVariants as failure
 use Rattle.bolt_etcd.specs.{Current.AreCurrent, Newest.newest, Newest.until, Newest.value_if, Revisions.RevisionView, StoreBuckets.IsStore, StoreBuckets.StoreView}
 use Rattle.bolt_etcd.specs.{Statuses.status_of, StoreFaults.store_compacted, StoreFaults.store_lines, Stores.entries_from, Stores.others, Stores.revisions}
 use Rattle.std.specs.{Int.to_be_bytes, Int.w64, List.concat}
+use Rattle.bolt_job.specs.declared.{choices.Extent.TheVariants.Losses, choices.MetaChoice.MetaChoice}
 use Rattle.bolt_job.specs.{declared.etcd_jobs.EtcdCheckJob.EtcdCheckJob, declared.etcd_jobs.EtcdGetJob.EtcdGetJob, declared.etcd_jobs.EtcdKeysJob.EtcdKeysJob}
 use Rattle.bolt_job.specs.{declared.etcd_jobs.EtcdRevisionsJob.EtcdRevisionsJob, declared.etcd_jobs.EtcdStatusJob.EtcdStatusJob}
 use Rattle.bolt_job.specs.declared.job.Job.TheVariants as job
@@ -110,8 +111,12 @@ IsEtcdGetPrint job file answer = IsReadAnswer file job.meta (IsStoreAnswer file 
 abbrev pub IsEtcdStatusPrint : EtcdStatusJob → List ℕ → Answer → Type 0
 IsEtcdStatusPrint job file answer = IsReadAnswer file job.meta (IsStoreAnswer file (λ store. IsAnswerAt job.at store (IsStatusText job store))) answer
 
--- what `check` finds, or what is wrong with the store
+-- what `check --all` answers
+abbrev pub IsCheckAllAnswer : List ℕ → MetaChoice → Answer → Type 0
+IsCheckAllAnswer file choice answer = IsCheckAnswer Losses false false file choice answer
+
+-- If `check --all` answers `OK`, this is an answer of the store. Otherwise it is what `check --all` answers.
 abbrev pub IsEtcdCheckPrint : EtcdCheckJob → List ℕ → Answer → Type 0
 IsEtcdCheckPrint job file answer =
-    ((meta : Meta) × IsReadUnder file job.meta meta × IsStoreAnswer file IsStoreText meta answer)
-    ⊎ ((fault : CheckFault) × IsRefusedUnder file job.meta fault × (answer ≡ check_refusal no_faults [] fault))
+    ((meta : Meta) × IsCheckAllAnswer file job.meta (done (codes "OK\n")) × IsReadUnder file job.meta meta × IsStoreAnswer file IsStoreText meta answer)
+    ⊎ (IsCheckAllAnswer file job.meta answer × (answer.ending ≢ Ok 0))

@@ -7,7 +7,7 @@ ghost use Rattle.bolt_job.specs.CopyKinds.{is_snapshot};
 
 use bolt_etcd::{SnapshotFault, put_snapshot_fault, snapshot_fault};
 use bolt_format::{MetaFault, Sink, SinkFault, Slot, choose, slot_meta};
-use bolt_job::{CheckJob, CopyKind, Extent, MetaChoice};
+use bolt_job::{CopyKind, Extent, MetaChoice};
 use bolt_report::put_slot_fault;
 
 /// What is wrong with a file apart from its pages.
@@ -37,13 +37,18 @@ impl FileFaults {
         self.hash.is_none() && self.other.is_none()
     }
 
-    /// What a check looks at before the pages of the file.
-    pub(crate) fn find(file: &[u8], job: &CheckJob) -> FileFaults
-        ensures { AreFileFaults job.now.extent job.now.snapshot file.now job.now.meta result }
+    /// What a check to this extent looks at before the pages of the file.
+    pub(crate) fn find(
+        file: &[u8],
+        extent: Extent,
+        snapshot: bool,
+        choice: MetaChoice,
+    ) -> FileFaults
+        ensures { AreFileFaults extent snapshot file.now choice result }
     {
         FileFaults {
-            hash: hash_found(job.snapshot, file),
-            other: metas_fault(job.extent, file, job.meta),
+            hash: hash_found(snapshot, file),
+            other: metas_fault(extent, file, choice),
         }
     }
 

@@ -17,6 +17,7 @@ mod opening;
 mod recovered_names;
 mod shortfall;
 mod value_text;
+mod verdict;
 
 use crate::commands::do_job;
 use crate::failure_line::put_failure;

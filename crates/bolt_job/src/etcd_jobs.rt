@@ -218,7 +218,7 @@ pub(crate) fn read_etcd_get(line: &Line<'_, '_>) -> Result<EtcdGetJob, Refusal>
     })
 }
 
-/// Check a file as `check` does, and then etcd's records.
+/// Check a file as `check --all` does, and then etcd's records.
 #[derive(Drop)]
 pub struct EtcdCheckJob {
     pub file: String,
@@ -227,7 +227,7 @@ pub struct EtcdCheckJob {
 
 pub(crate) static ETCD_CHECK: Syntax = Syntax {
     name: "etcd-check",
-    about: "Check whether the file is sound, and then whether etcd's records in it are whole",
+    about: "Check the file as check --all does, and then whether etcd's records in it are whole",
     arguments: &[ETCD_FILE, META, ASSUME_META],
     note: "Exit status: 0 if nothing is wrong, 1 if something is or FILE can't be read, 2 if the command line is wrong.\n\n\
         Example: luntsegi etcd-check member/snap/db",

@@ -87,7 +87,7 @@ const ALL: Argument = Argument {
     name: "all",
     flag: Flag::Long,
     value: None,
-    help: "Go on after the first error of the trees, and say what is lost with each",
+    help: "Go on after the first error of the trees, say what is lost with each, and look for gaps in pages and a damaged other meta",
     required: false,
 };
 

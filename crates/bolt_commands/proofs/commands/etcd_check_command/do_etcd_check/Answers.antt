@@ -1,41 +1,26 @@
-use Rattle.std.proofs.Common.{Err, Ok, ◌++◌, ℕ, inl, length, refl}
-use Rattle.std.specs.List.{concat}
-use Rattle.bolt_check.specs.Counts.{counted}
-use Rattle.bolt_etcd.specs.{StoreBuckets.IsStore, StoreFaults.store_lines}
-use Rattle.bolt_tree.specs.BucketViews.{entries_of}
-use Rattle.bolt_commands.specs.{EtcdAnswers.errors_end, EtcdAnswers.errors_status, declared.failure.Failure.TheVariants.Write}
-use Rattle.bolt_commands.proofs.{Vocabulary.Wrote-then, Vocabulary.bucket_checked, Vocabulary.bucket_start, Vocabulary.meta_of, Doing.answer_as, Doing.answer_put, Doing.ends_as}
-use Rattle.bolt_commands.proofs.{EtcdAnswers.first_cut, EtcdAnswers.has_store, ReadFiles.read_trees}
+-- Nothing is wrong, and the store is looked at; or what is wrong was written.
+use Rattle.std.proofs.Common.{List, inl, inr, subst, sym, ℕ}
+use Rattle.bolt_commands.proofs.{Vocabulary.Answer, Vocabulary.HasSoundTrees, Vocabulary.meta_of, Doing.answer_as, ReadFiles.own_trees, Verdicts.after_nothing, Verdicts.not_done, Verdicts.right_done}
+use Rattle.bolt_commands.specs.EtcdAnswers.{IsStoreAnswer, IsStoreText}
 use Rattle.bolt_commands.proofs.commands.etcd_check_command.do_etcd_check.Goals as goal
 
-pub returns-in_err-errors : goal.returns-in_err-errors
-returns-in_err-errors g c =
-    let read = c.in-Ok.ensures in
-    let (store, is) = has_store c.args.input.file.now (meta_of c.in-Ok.checked) (read_trees _ _ _ read.sound) in
-    let here : IsStore (entries_of (bucket_checked c.root.result)) (bucket_start c.root.result) store = rw (c.root.ensures.checked, c.root.ensures.start, read.bytes) is in
-    let n = counted 0 (length (store_lines store)) in
-    let put = c.in_err-errors.ensures in
-    rw (ends_as _ _ c.from_residual.ensures.1)
-    (answer_as (first_cut (concat (store_lines store)) (errors_end n) (Ok (errors_status n)) _ (put.written store here) put.fault) (λ answer cut. inl (_, read.sound, (store, is, cut))))
+pub put_store-requires : goal.put_store-requires
+put_store-requires g c =
+    let sound = c.in-Right.ensures.is.1.sound in
+    own_trees c.args.input.file.now c.args.job.now.meta c.in-Right.checked sound.bytes sound.under
 
-pub returns-in_err-put_end : goal.returns-in_err-put_end
-returns-in_err-put_end g c =
-    let read = c.in-Ok.ensures in
-    let (store, is) = has_store c.args.input.file.now (meta_of c.in-Ok.checked) (read_trees _ _ _ read.sound) in
-    let here : IsStore (entries_of (bucket_checked c.root.result)) (bucket_start c.root.result) store = rw (c.root.ensures.checked, c.root.ensures.start, read.bytes) is in
-    let n = counted 0 (length (store_lines store)) in
-    let put = c.in_ok-errors.ensures in
-    let wrote = Wrote-then (put.written store here) (rw (put.number store here) at c.in_err-put_end.ensures) in
-    rw (ends_as _ Write c.from_residual-in_err-put_end.ensures.1)
-    (answer_put {A = ℕ} (record { out = concat (store_lines store) ++ errors_end n; ending = Ok (errors_status n) }) (Err c.in_err-put_end.field-0.0) (inl (_, read.sound, (store, is, inl refl))) wrote)
+pub returns-in-Right : goal.returns-in-Right
+returns-in-Right g c =
+    let right = c.in-Right.ensures.is.1 in
+    let sound = right.sound in
+    let meta = meta_of c.in-Right.checked in
+    answer_as (after_nothing c.in-Right.ensures.is.0 c.put_store.ensures) (λ answer store.
+    inl (
+      meta,
+      (_, c.find.ensures, right.wanted _ (right_done c.find.result c.args.input.file.now c.args.job.now.meta meta right.fine sound.under)),
+      sound.under,
+      subst (λ (file : List ℕ). IsStoreAnswer file IsStoreText meta answer) sound.bytes store,
+    ))
 
-pub returns : goal.returns
-returns g c =
-    let read = c.in-Ok.ensures in
-    let (store, is) = has_store c.args.input.file.now (meta_of c.in-Ok.checked) (read_trees _ _ _ read.sound) in
-    let here : IsStore (entries_of (bucket_checked c.root.result)) (bucket_start c.root.result) store = rw (c.root.ensures.checked, c.root.ensures.start, read.bytes) is in
-    let n = counted 0 (length (store_lines store)) in
-    let put = c.in_ok-errors.ensures in
-    let wrote = Wrote-then (put.written store here) (rw (put.number store here) at c.in_ok-put_end.ensures) in
-    rw (c.status_after.ensures, put.number store here)
-    (answer_put (record { out = concat (store_lines store) ++ errors_end n; ending = Ok (errors_status n) }) (Ok c.in_ok-put_end.field-0) (inl (_, read.sound, (store, is, inl refl))) wrote)
+pub returns-in-Wrong : goal.returns-in-Wrong
+returns-in-Wrong g c = answer_as c.in-Wrong.ensures.is (λ answer is. inr ((_, c.find.ensures, is.0), not_done answer.ending is.1))

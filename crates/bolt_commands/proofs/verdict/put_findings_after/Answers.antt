@@ -3,7 +3,7 @@ use Rattle.std.proofs.Common.{inl, inr, map, refl}
 use Rattle.bolt_commands.proofs.{Vocabulary.Wrote-stop, Vocabulary.Wrote-then, Vocabulary.errors_in, Doing.ends_as}
 use Rattle.bolt_recover.specs.Gaps.{page_gap_view}
 use Rattle.bolt_report.specs.GapLines.{findings_text}
-use Rattle.bolt_commands.proofs.commands.check_command.put_findings_after.Goals as goal
+use Rattle.bolt_commands.proofs.verdict.put_findings_after.Goals as goal
 
 pub returns-in_err-earlier : goal.returns-in_err-earlier
 returns-in_err-earlier g c =

@@ -1,8 +1,8 @@
 -- Something is lost, or nothing is.
-use Rattle.std.proofs.Common.{◌∙◌, ap, map, sym}
+use Rattle.std.proofs.Common.{◌∙◌, ap, map, refl, sym}
 use Rattle.bolt_commands.proofs.Vocabulary.{all_lost, is_nothing, page_gap_view}
 use Rattle.bolt_commands.proofs.{FoundAnswers.are_leaves, LostAnswers.searched_lost, LostAnswers.some_lost}
-use Rattle.bolt_commands.proofs.commands.check_command.check_searched.Goals as goal
+use Rattle.bolt_commands.proofs.verdict.check_searched.Goals as goal
 
 pub check_whole-requires-clause-whole : goal.check_whole-requires-clause-whole
 check_whole-requires-clause-whole g c = ap is_nothing (sym c.lost-lost.ensures) ∙ sym c.is_nothing.ensures ∙ c.if-is_nothing.true
@@ -20,8 +20,13 @@ returns g c =
     let some = ap is_nothing (sym c.lost-lost.ensures) ∙ sym c.is_nothing.ensures ∙ c.if-is_nothing.false in
     let whole = rw is.bytes at (c.gaps-gaps.ensures some) in
     record {
-      answer = _;
-      is = searched_lost checking.for_bbolt checking.faults file checking.choice both (map page_gap_view c.gaps-gaps.result.now) _ is whole
-          (some_lost checking.for_bbolt checking.faults file checking.choice (all_lost both) _ _ some);
-      does = rw (c.lost-lost.ensures, c.as_slice-found.ensures.value) at c.put_lost_after.ensures;
+      is = record {
+        answer = _;
+        is = (
+          searched_lost checking.for_bbolt checking.faults file checking.choice both (map page_gap_view c.gaps-gaps.result.now) _ is whole
+              (some_lost checking.for_bbolt checking.faults file checking.choice (all_lost both) _ _ some),
+          refl,
+        );
+        does = rw (c.lost-lost.ensures, c.as_slice-found.ensures.value) at c.put_lost_after.ensures;
+      };
     }

@@ -1,7 +1,7 @@
 -- What is wrong apart from the pages, and then the text of what is lost and found.
 use Rattle.std.proofs.Common.{inl, inr, map, refl}
 use Rattle.bolt_commands.proofs.{Vocabulary.Wrote-stop, Vocabulary.Wrote-then, Vocabulary.counted_lost_text, Vocabulary.errors_in, Vocabulary.found_view, Vocabulary.lost_view, Vocabulary.page_gap_view, Doing.ends_as}
-use Rattle.bolt_commands.proofs.commands.check_command.put_lost_after.Goals as goal
+use Rattle.bolt_commands.proofs.verdict.put_lost_after.Goals as goal
 
 pub returns-in_err-earlier : goal.returns-in_err-earlier
 returns-in_err-earlier g c =

@@ -1,0 +1,246 @@
+//! What is wrong with a file, to the extent that is asked for: `check` and `etcd-check` write it.
+ghost use Rattle.std.specs.Prelude.{◌≡◌, ◌≢◌, ◌<◌, [], IfOk, map, true};
+ghost use Rattle.std.specs.List.{All};
+ghost use Rattle.bolt_recover.specs.{Gaps.ForGaps, Gaps.page_gap_view, Losses.is_nothing, LostAndFound.all_lost, Recoveries.recovery_gaps, ShownLosses.lost_view};
+ghost use Rattle.bolt_commands.specs.{Answers.WritesAnswer, CheckAnswers.check_refusal, CheckAnswers.found, CheckAnswers.is_right, CheckAnswers.lost_and_found_answer};
+ghost use Rattle.bolt_commands.specs.{Private.Checks.ChecksGaps, Private.Checks.ChecksLost, Private.Checks.ChecksTo, Private.Checks.unopened, Private.Opened.IsRecoveryOf, Private.Opened.IsSearchOf};
+ghost use Rattle.bolt_report.specs.FoundLines.{IsFoundLeaf, found_view};
+ghost use Rattle.bolt_check.specs.declared.check_fault.CheckFault.TheVariants as check;
+
+use crate::failure::{Failure, Outcome};
+use crate::file_faults::{FileFaults, put_file_faults};
+use crate::opened::Opened;
+use crate::opening::Input;
+use bolt_check::{CheckFault, Checked, Finding, NoMemory};
+use bolt_format::{Meta, MetaFault, Sink};
+use bolt_job::{Extent, MetaChoice};
+use bolt_recover::{Found, Lost, LostAndFound, PageGap, Recovery};
+use bolt_report::{put_counted_lost, put_findings};
+use std::slice;
+
+/// What is checked.
+#[derive(Clone, Copy)]
+pub(crate) struct Checking<'f> {
+    pub input: Input<'f>,
+    /// The meta that is chosen.
+    pub choice: MetaChoice,
+    /// What is wrong with the file apart from its pages, which is written first.
+    pub faults: FileFaults,
+    /// Whether it is then looked for what bbolt fails on when it writes into the file.
+    pub for_bbolt: bool,
+}
+
+/// What a check comes to.
+#[derive(Clone, Copy)]
+pub(crate) enum Verdict<'f> {
+    /// Nothing is wrong with the file, and nothing was written.
+    Right(Checked<'f>),
+    /// What is wrong was written, and the job ends so.
+    Wrong(Outcome),
+}
+
+/// Checks a file to an extent. It writes what is wrong with it apart from its pages, and then the
+/// findings, or each loss, or also each page that is found; and the gaps of what is kept, if all of the
+/// file is asked for.
+pub(crate) fn check_to<'f, O: Sink>(
+    checking: Checking<'f>,
+    extent: Extent,
+    out: &mut O,
+) -> Verdict<'f>
+    ensures { ChecksTo O.Sink out.old out.new extent checking.entry result }
+{
+    match extent {
+        Extent::Sound => check_sound(checking, &[], out),
+        _ => check_lost(checking, extent, out),
+    }
+}
+
+/// Checks that the file is sound and that its pages have no gaps, of which these are known. It writes
+/// the first finding of its trees, those of its accounts, or nothing but the gaps.
+fn check_sound<'f, O: Sink>(
+    checking: Checking<'f>,
+    gaps: &[PageGap<'_>],
+    out: &mut O,
+) -> Verdict<'f>
+    ensures { ChecksGaps O.Sink out.old out.new (map page_gap_view gaps.now) checking.entry result }
+{
+    match checking.input.check(checking.choice) {
+        Ok(checked) => {
+            if is_right(checking.faults, gaps) {
+                return Verdict::Right(checked);
+            }
+            Verdict::Wrong(put_findings_after(&[], gaps, checking.faults, out))
+        }
+        Err(fault) => Verdict::Wrong(put_refusal(&fault, gaps, checking.faults, out)),
+    }
+}
+
+/// Whether nothing is wrong with a file whose trees are sound, and whose pages have these gaps.
+fn is_right(faults: FileFaults, gaps: &[PageGap<'_>]) -> bool
+    ensures { result ≡ is_right faults (map page_gap_view gaps.now) }
+{
+    gaps.is_empty() && faults.is_fine()
+}
+
+/// Writes each loss, each gap and, if they are looked for, each page that is found; if nothing is lost,
+/// the findings and each gap.
+fn check_lost<'f, O: Sink>(checking: Checking<'f>, extent: Extent, out: &mut O) -> Verdict<'f>
+    requires { extent ≢ Extent.Sound }
+    ensures { ChecksTo O.Sink out.old out.new extent checking.entry result }
+{
+    let opened = match checking.input.open(checking.choice, extent) {
+        Ok(opened) => opened,
+        Err(failure) => return Verdict::Wrong(put_unopened(failure, checking.faults, out)),
+    };
+    match opened {
+        Opened::Recovered(recovery) => check_recovered(checking, recovery, out),
+        Opened::Searched(both) => check_searched(checking, &both, out),
+        // It isn't opened so.
+        Opened::Sound(_) => check_sound(checking, &[], out),
+    }
+}
+
+/// The same of a file that is recovered.
+fn check_recovered<'f, O: Sink>(
+    checking: Checking<'f>,
+    mut recovery: Recovery<'_>,
+    out: &mut O,
+) -> Verdict<'f>
+    requires { IsRecoveryOf checking.input.file.now checking.choice recovery }
+    ensures { ChecksLost O.Sink out.old out.new Extent.Losses checking.entry result }
+{
+    let Ok(()) = recovery.finish() else {
+        return Verdict::Wrong(Err(Failure::Memory));
+    };
+    let lost = Lost::Parts(recovery.losses());
+    let gaps = recovery.gaps();
+    if lost.is_nothing() {
+        return check_sound(checking, gaps, out);
+    }
+    Verdict::Wrong(put_lost_after(lost, gaps, &[], checking.faults, out))
+}
+
+/// The same of a file that was searched.
+fn check_searched<'f, O: Sink>(
+    checking: Checking<'f>,
+    both: &LostAndFound<'_>,
+    out: &mut O,
+) -> Verdict<'f>
+    requires { IsSearchOf checking.input.file.now checking.choice both.now }
+    ensures { ChecksLost O.Sink out.old out.new Extent.LostAndFound checking.entry result }
+{
+    let lost = both.lost();
+    if lost.is_nothing() {
+        return check_whole(checking, both, out);
+    }
+    let gaps = both.gaps();
+    let found = both.found.as_slice();
+    Verdict::Wrong(put_lost_after(lost, gaps, found, checking.faults, out))
+}
+
+/// The same of a file that was searched, and that lost nothing.
+fn check_whole<'f, O: Sink>(
+    checking: Checking<'f>,
+    both: &LostAndFound<'_>,
+    out: &mut O,
+) -> Verdict<'f>
+    requires search { IsSearchOf checking.input.file.now checking.choice both.now }
+    requires whole { is_nothing (all_lost both.now) ≡ true }
+    ensures { ChecksLost O.Sink out.old out.new Extent.LostAndFound checking.entry result }
+{
+    let Ok(recovery) = find_gaps(checking.input, both.meta) else {
+        return Verdict::Wrong(Err(Failure::Memory));
+    };
+    check_sound(checking, recovery.gaps(), out)
+}
+
+/// A recovery of a file under a meta, which has come to all of its gaps.
+fn find_gaps<'f>(input: Input<'f>, meta: Meta) -> Result<Recovery<'f>, NoMemory>
+    requires { 0 < meta.page_size }
+    ensures { IfOk result (λ recovery. ForGaps input.entry.file.now meta (λ gaps.
+        recovery_gaps recovery ≡ gaps)) }
+{
+    // Nothing is lost of the file, so only memory can be refused.
+    let Ok(mut recovery) = Recovery::under(input.alloc, input.file, meta) else {
+        return Err(NoMemory);
+    };
+    recovery.finish()?;
+    Ok(recovery)
+}
+
+/// Writes why nothing is recovered.
+fn put_unopened<O: Sink>(failure: Failure, faults: FileFaults, out: &mut O) -> Outcome
+    ensures { WritesAnswer O.taken O.failed out.old out.new (unopened faults failure) result }
+{
+    match failure {
+        Failure::Metas(fault) => put_unread(fault, faults, out),
+        Failure::File(finding) => put_lost_after(Lost::Everything(finding), &[], &[], faults, out),
+        _ => Err(failure),
+    }
+}
+
+/// Writes the findings that a file is refused for, and its gaps.
+fn put_refusal<O: Sink>(
+    fault: &CheckFault,
+    gaps: &[PageGap<'_>],
+    faults: FileFaults,
+    out: &mut O,
+) -> Outcome
+    ensures { WritesAnswer O.taken O.failed out.old out.new
+        (check_refusal faults (map page_gap_view gaps.now) fault.now) result }
+{
+    match fault {
+        CheckFault::Open(fault) => put_unread(*fault, faults, out),
+        CheckFault::Structure(finding) => {
+            put_findings_after(slice::from_ref(finding), gaps, faults, out)
+        }
+        CheckFault::Accounts(findings) => put_findings_after(
+            findings.as_slice(),
+            gaps,
+            faults,
+            out,
+        ),
+        CheckFault::Memory => Err(Failure::Memory),
+    }
+}
+
+/// Writes what else is wrong with a file that has no valid meta. The failure says that.
+fn put_unread<O: Sink>(fault: MetaFault, faults: FileFaults, out: &mut O) -> Outcome
+    ensures { WritesAnswer O.taken O.failed out.old out.new
+        (check_refusal faults [] (check.Open fault)) result }
+{
+    put_file_faults(faults, out)?;
+    Err(Failure::Metas(fault))
+}
+
+fn put_findings_after<O: Sink>(
+    findings: &[Finding],
+    gaps: &[PageGap<'_>],
+    faults: FileFaults,
+    out: &mut O,
+) -> Outcome
+    ensures { WritesAnswer O.taken O.failed out.old out.new
+        (found faults findings.now (map page_gap_view gaps.now)) result }
+{
+    let earlier = put_file_faults(faults, out)?;
+    put_findings(findings, gaps, earlier, out)?;
+    Ok(1)
+}
+
+/// Writes what is lost, each gap and each page that is found, after what is wrong with the file apart
+/// from its pages.
+fn put_lost_after<O: Sink>(
+    lost: Lost<'_>,
+    gaps: &[PageGap<'_>],
+    found: &[Found<'_>],
+    faults: FileFaults,
+    out: &mut O,
+) -> Outcome
+    requires { All IsFoundLeaf found.now }
+    ensures { WritesAnswer O.taken O.failed out.old out.new (lost_and_found_answer faults
+        (lost_view lost.entry) (map page_gap_view gaps.now) (map found_view found.now)) result }
+{
+    let earlier = put_file_faults(faults, out)?;
+    put_counted_lost(lost, gaps, found, earlier, out)?;
+    Ok(1)
+}
