@@ -15,7 +15,7 @@ members-init c =
         [],
         c.in_ok-kept.ensures.all listing is,
         subst (λ (keys : List (Bor (List ℕ))). IsRecoveredStore [] candidates None None (map shown_revision c.in_ok-room.room.items) (map now keys)) (sym c.new.ensures.items)
-            (subst (λ (rs : List Revision). IsRecoveredStore [] candidates None None (map shown_revision rs) []) (sym c.in_ok-room.ensures) (no_members_noted candidates)),
+            (subst (λ (rs : List Revision). IsRecoveredStore [] candidates None None (map shown_revision rs) []) (sym c.in_ok-room.ensures.items) (no_members_noted candidates)),
       );
     }
 
