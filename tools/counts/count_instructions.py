@@ -12,7 +12,8 @@ The call `keys_with_prefix` is handed one, and its contract bounds what is opene
 
 Nor can one say that a command makes its call once. So what `keys`, `buckets`, `get` and each form of `list` take above
 `check` is compared with what their call takes above that of the check: a command that does anything twice takes about
-twice as much. And `check --all` of a file whose last page is lost is compared with `check` of the whole file.
+twice as much. And `check --all` of a file whose last page is lost, which looks for gaps too, is compared with
+`check` of the whole file.
 
 The status is 1 if that isn't so."""
 
@@ -28,7 +29,7 @@ BUCKETS, LONG = 4000, 300_000
 # What else two runs may differ by, in hundredths.
 SLACK = 2
 # How much more a command may take than its call, in hundredths; and `check --all`, which also looks for the buckets among the
-# entries, than `check`.
+# entries and for gaps, than `check`.
 MOST_ABOVE_CALL, MOST_ABOVE_CHECK = 15, 10
 # The words of each command and of its call, which reads the same.
 CALL_OF = {

@@ -32,3 +32,4 @@ pub mod SoundRepairs
 pub mod StatsAnswers
 pub mod Verdicts
 pub mod Vocabulary
+pub mod WrittenPages

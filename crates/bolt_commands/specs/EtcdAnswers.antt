@@ -1,5 +1,5 @@
 -- What the commands answer that read what etcd keeps: docs/COMMANDS.md, "What etcd keeps".
-use Rattle.std.specs.Prelude.{◌≡◌, ◌≢◌, ◌-◌, ◌^◌, ◌⊎◌, ℕ, zero, suc, nat_lt, List, [], ◌++◌, Bool, true, false, codes, length, Option, Some, None, Ok, Err}
+use Rattle.std.specs.Prelude.{◌≡◌, ◌≢◌, ◌-◌, ◌^◌, ◌⊎◌, ℕ, zero, suc, nat_lt, List, ◌++◌, Bool, true, false, codes, length, Option, Some, None, Ok, Err}
 use Rattle.bolt_check.specs.Counts.{counted}
 use Rattle.bolt_format.specs.{Elements.LeafElement, declared.meta.Meta.Meta}
 use Rattle.bolt_report.specs.{FaultWords.count_line, RevisionLines.named_with, RevisionLines.revision_lines, StatusLines.status_text}

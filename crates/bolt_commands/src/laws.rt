@@ -1,13 +1,14 @@
 //! What the definitions of answers imply.
-ghost use Rattle.std.specs.Prelude.{◌≡◌, ◌<◌, ◌^◌, ℕ, true, List, [], Ok};
+ghost use Rattle.std.specs.Prelude.{◌≡◌, ◌<◌, ◌^◌, ℕ, true, List, [], Ok, codes};
 ghost use Rattle.bolt_format.specs.{Metas.ForMetasPrefix, declared.meta.Meta.Meta};
 ghost use Rattle.std.specs.List.{AllByRecursion};
-ghost use Rattle.bolt_layout.specs.{Copies.IsOfOneTree, ForBbolt.IsOfLayout};
+ghost use Rattle.bolt_layout.specs.{AsWritten.IsAsWritten, Copies.IsOfOneTree, ForBbolt.IsOfLayout};
 ghost use Rattle.hex.specs.Hex.{IsBytes};
 ghost use Rattle.bolt_tree.specs.Listing.{IsListing, Member};
 ghost use Rattle.bolt_commands.specs.{Alike.BucketsAlike, Alike.CopiesAlike, Alike.DoesAlike, Alike.GetsAlike, Alike.KeysAlike, Alike.ListsAlike, Alike.ForSoundTrees, Alike.OfSoundTrees, Alike.RepairsNothing, Alike.UnderSoundTrees, Answers.Answer, FilesRead.IsReadUnder, ListAnswers.IsListedAnswer};
+ghost use Rattle.bolt_commands.specs.{Answers.done, EtcdAnswers.IsCheckAllAnswer};
 ghost use Rattle.bolt_commands.specs.{CheckedCopies.FailsCutOff, CheckedCopies.LoadsAs, CheckedCopies.PassesCheck, GoodCopies.ForCopyFindings, GoodCopies.ForGoodCopies, GoodCopies.HasGoodCopies};
-ghost use Rattle.bolt_job.specs.{Jobs.needs_metas_alone, declared.job.Job.Job, declared.choices.MetaChoice.MetaChoice};
+ghost use Rattle.bolt_job.specs.{MetaChoices.IsMetaOf, Jobs.needs_metas_alone, declared.job.Job.Job, declared.choices.MetaChoice.MetaChoice};
 ghost use Rattle.bolt_text.specs.declared.forms.ListForm.TheVariants as form;
 ghost use Rattle.bolt_job.specs.declared.choices.Extent.TheVariants as extent;
 
@@ -16,14 +17,16 @@ use bolt_format::Sink;
 use bolt_format::laws::{active_meta_is_one, metas_lie_in_a_prefix, slot_meta_is_one};
 use bolt_layout::laws::{
     a_copy_lists_the_same, a_files_listing_is_of_one_tree, layout_has_length,
-    layouts_fail_on_what_they_hold, layouts_have_no_gaps, prefixes_are_refused,
+    layouts_fail_on_what_they_hold, layouts_have_no_gaps, pages_without_gaps_are_as_written,
+    prefixes_are_refused,
 };
 use bolt_load::{
     a_files_listing_is_of_bytes, a_listings_text_is_read_back, a_right_text_has_no_fault,
 };
 use bolt_recover::laws::{
-    each_file_has_found_pages, nothing_lost_finds_nothing, sound_trees_lose_nothing,
-    sound_trees_recover_their_listing, sound_trees_recover_what_they_list,
+    each_file_has_found_pages, nothing_lost_finds_nothing, nothing_lost_keeps_each_way,
+    nothing_lost_means_sound_trees, sound_trees_lose_nothing, sound_trees_recover_their_listing,
+    sound_trees_recover_what_they_list,
 };
 use bolt_repair::laws::sound_trees_are_not_repaired;
 use bolt_text::laws::hex_lines_are_the_listing_text;
@@ -71,6 +74,20 @@ pub fn good_copies_pass_the_check()
 {
     active_meta_is_one();
     sound_trees_lose_nothing();
+}
+
+/// If `check --all` prints `OK`, each page of the trees is what is written for its elements, and so is the
+/// page of each inline bucket, but for the number and the overflow in its header. Any bytes may follow
+/// the data of the elements.
+pub fn a_right_file_is_as_written()
+    ensures { (file : List ℕ) (choice : MetaChoice) → IsBytes file
+        → IsCheckAllAnswer file choice (done (codes "OK\n"))
+        → (meta : Meta) × IsMetaOf file choice meta × IsAsWritten file meta }
+{
+    nothing_lost_keeps_each_way();
+    nothing_lost_means_sound_trees();
+    sound_trees_lose_nothing();
+    pages_without_gaps_are_as_written();
 }
 
 /// If `list` prints a whole file, `load` of what it prints writes the copy of the file's listing, as

@@ -1,3 +1,4 @@
+mod AsWritten
 mod BalancedRows
 mod BboltCopies
 mod BboltMetas
@@ -9,6 +10,7 @@ mod Cutting
 mod EvenPages
 mod EvenTrees
 mod EvenWays
+mod ElementsThere
 pub mod Exports
 mod Faces
 mod FileTrees
@@ -26,6 +28,7 @@ mod LimitsFromEnds
 mod NoGaps
 mod ListLemmas
 mod NotMuchLarger
+mod NumbersThere
 mod OneCut
 mod OpenedBuckets
 mod OverRows

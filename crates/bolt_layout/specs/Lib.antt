@@ -1,3 +1,4 @@
+pub mod AsWritten
 pub mod Copies
 pub mod Cut
 pub mod Divisions

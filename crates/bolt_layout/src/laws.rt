@@ -1,10 +1,12 @@
 //! What holds of the layout of a tree: docs/LAYOUT.md, "What holds of both layouts".
-ghost use Rattle.std.specs.Prelude.{◌≡◌, ◌≤◌, ◌<◌, ◌*◌, ◌^◌, ℕ, List, [], length};
+ghost use Rattle.std.specs.Prelude.{◌≡◌, ◌≤◌, ◌<◌, ◌*◌, ◌^◌, ℕ, List, [], None, length};
 ghost use Rattle.std.specs.List.{AllByRecursion};
+ghost use Rattle.bolt_format.specs.{Elements.IsBucketValue, Elements.head_root, Gaps.inline_gap, Gaps.page_gap};
 ghost use Rattle.bolt_format.specs.{Elements.BranchElement, Elements.LeafElement, Bytes.IsBytes, Metas.IsPageSize, declared.meta.Meta.Meta, declared.meta.Slot.TheVariants.One};
 ghost use Rattle.bolt_check.specs.{BboltFileFindings.file_findings, Sound.HasSoundTrees};
 ghost use Rattle.bolt_tree.specs.{Entries.IsEntry, Entries.Item, Entries.Root_page, Listing.IsListing, Listing.Member, Paths.Holds, Paths.Path};
 ghost use Rattle.bolt_tree.specs.Tree.{IsTreeOf, Tree, listing_of, tree_of};
+ghost use Rattle.bolt_layout.specs.AsWritten.{IsAsWritten, IsInlineAsWritten, IsPageAsWritten};
 ghost use Rattle.bolt_layout.specs.{Copies.ForAsked, Copies.ForStorable, Copies.IsAsked, Copies.IsOfOneTree, Copies.IsSoundCopy, Copies.RefusesPrefixes, Copies.layout_of_listing, Cut.CutIsOne};
 ghost use Rattle.bolt_layout.specs.{ForBbolt.ForBboltFindings, ForBbolt.ForLayoutFindings, ForBbolt.IsOfLayout, ForBbolt.IsOneChild, Held.most_held, Laid.Laid};
 ghost use Rattle.bolt_layout.specs.Layout.{HasTwoIfBranch, layout_held, layout_mark, layout_meta, layout_of, layout_pages, layout_root};
@@ -84,6 +86,20 @@ pub fn layouts_have_no_gaps()
 {
     sound_trees_pass_the_tests();
 }
+
+/// A page without a gap is what is written for its elements, whatever follows their data: its header, the
+/// headers of its elements, and their data. So is the page of an inline bucket, but for the number and
+/// the overflow in its header, which may be any. In a file of sound trees without a gap each page of the
+/// trees is so.
+pub fn pages_without_gaps_are_as_written()
+    ensures page { (file : List ℕ) (meta : Meta) (id : ℕ) → IsBytes file
+        → IsPageSize meta.page_size → page_gap file meta id ≡ None
+        → IsPageAsWritten file meta id }
+    ensures inline { (value : List ℕ) → IsBytes value → IsBucketValue value → head_root value ≡ 0
+        → inline_gap value ≡ None → IsInlineAsWritten value }
+    ensures file { (file : List ℕ) (meta : Meta) → IsBytes file → IsPageSize meta.page_size
+        → HasSoundTrees file meta → HasNoGaps file meta → IsAsWritten file meta }
+{}
 
 /// A layout that is cut short anywhere is refused.
 pub fn prefixes_are_refused()

@@ -1,8 +1,8 @@
 //! What the definitions of recovery imply.
 ghost use Rattle.std.specs.List.{Contains, count_by};
-ghost use Rattle.std.specs.Prelude.{◌≡◌, ◌<◌, ◌⊎◌, ◌*◌, ◌^◌, ◌∷◌, ℕ, [], List, filter, is_some, length, not};
+ghost use Rattle.std.specs.Prelude.{◌≡◌, ◌<◌, ◌⊎◌, ◌*◌, ◌^◌, ◌∷◌, ℕ, [], List, Some, filter, is_some, length, not};
 ghost use Rattle.bolt_format.specs.{Bytes.IsBytes, Metas.IsInSlot, declared.meta.Meta.Meta, declared.meta.Slot.Slot};
-ghost use Rattle.bolt_check.specs.{Lists.Has, LoneLeaves.IsListedFree, LoneLeaves.IsLoneLeaf, Nodes.node_at, Ones.AtMostOne, Sound.HasSoundTrees, Sound.IsFirstFinding};
+ghost use Rattle.bolt_check.specs.{Lists.Has, LoneLeaves.IsListedFree, LoneLeaves.IsLoneLeaf, Nodes.node_at, Ones.AtMostOne, Sound.HasSoundTrees, Sound.IsFirstFinding, Ways.Spot, Ways.reached};
 ghost use Rattle.bolt_check.specs.{declared.finding.Finding.Finding};
 ghost use Rattle.bolt_tree.specs.{Entries.Bucket, Listing.IsListing, Listing.Member, Listing.member_cmp, Order.Rises, Tree.Tree, Tree.listing_of};
 ghost use Rattle.bolt_recover.specs.Found.{AreFound, IsFoundPage, ForFoundPages, Spans};
@@ -11,7 +11,7 @@ ghost use Rattle.bolt_recover.specs.Joined.{IsFoundMember, IsJoined, LacksBucket
 ghost use Rattle.bolt_recover.specs.{JoinedMembers.ForJoined, JoinedMembers.joined_file, JoinedMembers.joined_meta, KeptPages.IsKeptPage};
 ghost use Rattle.bolt_recover.specs.{Losses.AreLosses, Losses.LossView, Losses.loss_of, Losses.losses_of, PageWays.ArePageWays};
 ghost use Rattle.bolt_recover.specs.{Recovered.AreInTheirBuckets, Recovered.IsRecovered, Recoveries.recovery_file};
-ghost use Rattle.bolt_recover.specs.Surveys.{IsSurvey, LosesNothing, SurveyedWay, lost, ForSurveys, ForLostWays, LosesNothingBefore, ForSurvey};
+ghost use Rattle.bolt_recover.specs.Surveys.{IsSurvey, LosesNothing, SurveyedWay, lost, way_kept, ForSurveys, ForLostWays, LosesNothingBefore, ForSurvey};
 ghost use Rattle.bolt_recover.specs.{Sites.AtSite, TheRecovered.the_recovered};
 ghost use Rattle.bolt_recover.specs.States.{AreStates, IsAmong, IsState, Place, StateView};
 
@@ -88,6 +88,13 @@ pub fn nothing_lost_means_sound_trees()
         → HasSoundTrees file meta) }
     ensures losses { (file : List ℕ) (meta : Meta) → AreLosses file meta []
         → HasSoundTrees file meta }
+{}
+
+/// If nothing is lost, each way that leads somewhere is kept.
+#[tactic(auto, using(crate::proofs::KeptWays::all_kept))]
+pub fn nothing_lost_keeps_each_way()
+    ensures { ForSurveys (λ file meta survey. LosesNothing survey → (way : List ℕ) (spot : Spot)
+        → reached (node_at file meta) meta.root way ≡ Some spot → Has survey (way_kept way)) }
 {}
 
 /// Each lost way has one loss, that of the site that it leads to. There are as many losses as lost
