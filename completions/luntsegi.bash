@@ -24,7 +24,7 @@ _luntsegi_options() {
         etcd-get) echo "--at -n --no-newline --parts --form --meta --assume-meta -h --help" ;;
         etcd-check) echo "--meta --assume-meta -h --help" ;;
         etcd-status) echo "--at --form --meta --assume-meta -h --help" ;;
-        etcd-repair) echo "-o --page-size --etcd-snapshot --meta --assume-meta -h --help" ;;
+        etcd-repair) echo "-o --page-size --etcd-snapshot --search --meta --assume-meta -h --help" ;;
     esac
 }
 

@@ -102,4 +102,5 @@ complete -c luntsegi -n '__luntsegi_is etcd-revisions etcd-keys' -l parts -x -a 
 complete -c luntsegi -n '__luntsegi_is etcd-keys etcd-get etcd-status' -l at -x -d 'Read etcd\'s keys as they were at revision R, in decimal, below 2^63'
 complete -c luntsegi -n '__luntsegi_is etcd-get' -l parts -x -a 'text hex mixed' -d 'How NAME is written'
 complete -c luntsegi -n '__luntsegi_is etcd-repair' -l etcd-snapshot -d 'Write a snapshot that etcd restores'
+complete -c luntsegi -n '__luntsegi_is etcd-repair' -l search -d 'Also look for revisions if nothing is lost'
 # ---- end

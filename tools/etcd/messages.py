@@ -6,10 +6,9 @@ import subprocess
 
 from answers import base64_text, last_revision
 from compare import Difference
-from damage import KEY_BYTES, Store
-from file_format import VALUE_FLAGS
+from damage import KEY_BYTES, Store, spoiled
+from files import read_file, write_file
 from guide import MAKE_ROOM, MESSAGES_BY_ETCD, refuse_unknown
-from repairs import read_file, write_file
 from server import START_SECONDS, EtcdFault, Server
 
 FILE = os.path.join("member", "snap", "db")
@@ -18,8 +17,6 @@ UNSOUND = os.path.join("examples", "leaked.db")
 # The quota and the length of each value: the quota is more than the length of a new file.
 QUOTA, VALUE_BYTES = 2_000_000, 100_000
 STATUS = "etcdutl snapshot status FILE"
-# What begins no record.
-NO_RECORD = b"\xff\xff"
 # The texts of each message: some releases of etcd have the first, some the second.
 UNREAD = ["cannot unmarshal event", "failed to unmarshal mvccpb.KeyValue"]
 NOT_FOUND = ["range cannot find rev", "range failed to find revision pair"]
@@ -37,12 +34,6 @@ def want_text(texts, printed, what):
 
 def text_of(path):
     return read_file(path).decode(errors="replace")
-
-
-def last_put(data):
-    """The key and the record of a file's last revision."""
-    store = Store(data)
-    return list(store.elements(store.leaves[-1], VALUE_FLAGS))[-1]
 
 
 class SmallServer(Server):
@@ -63,8 +54,9 @@ class Messages:
 
     def try_all(self):
         last = read_file(os.path.join(self.guide.path("member"), FILE))
-        key, record = last_put(last)
-        unread = last.replace(key + record, key + NO_RECORD + record[len(NO_RECORD) :])
+        store = Store(last)
+        key, record = store.last(store.leaves[-1])
+        unread = last.replace(key + record, key + spoiled(record))
         want_text(UNREAD, self.end_with("unread", unread), "etcd with an entry that is no record")
         want_text(NO_SNAPSHOT, self.end_with("no_snapshot", self.early), "etcd with an early state")
         self.change_while_it_runs()

@@ -23,9 +23,14 @@ Of each file
 - `etcd-check` finds nothing.
 
 Copies of the second file lose pages of the bucket `key`: its root page, every second branch, some leaves, and half of
-them with the end of the file. A server starts from the copy of each that `etcd-repair --etcd-snapshot` makes, and has more writes and
-another compaction. If all leaves are found, it reports what the first server did. If not, its keys are those of the
-leaves that are left.
+them with the end of the file. A server starts from the copy of each that `etcd-repair --etcd-snapshot` makes, and has
+more writes and another compaction. If all leaves are found, it reports what the first server did. If not, each key whose
+newest revision is on a leaf that is left is as before, and each that differs is one of which the repair said so: revisions
+up to that one may be missing.
+
+The same is so of a store of 3,000 keys that has records that etcd can't read, that lost its newest root page, the ends of
+transactions, or an early leaf, or whose bucket begins at one of its leaves (that is repaired with `--search`). If etcd has
+freed pages with keys that were deleted before the compaction, these keys are back; none is of a later revision than that.
 
 The lines of docs/GUIDE.md for etcd are run on files of another server: after the recipe of etcd's log a server has the
 keys that it had before, and the new cluster those of the repaired copy. Nobody reads them without logging in. Three
@@ -47,6 +52,7 @@ import sys
 from answers import ask
 from bumped import compare_bumped
 from compare import Comparisons, Difference
+from large import try_large
 from prefixes import compare_prefixes
 from repairs import Repairs
 from server import EtcdFault, Server, restore_snapshot
@@ -127,6 +133,7 @@ def try_all(words):
     server, last = try_member(writer, comparisons, words.keys)
     compare_prefixes(comparisons, server.file)
     try_repairs(writer, comparisons, words.keys, server.file, last)
+    try_large(comparisons, random.Random(words.seed), in_folder("large"))
     revisions = try_copy(writer, comparisons, words.keys, server.file, last)
     compare_bumped(writer, comparisons, FOLDER, server.file, words.keys, REVISIONS_ASKED)
     runs = try_guide(comparisons, in_folder("guide"))

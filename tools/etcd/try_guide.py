@@ -10,6 +10,7 @@ import time
 from answers import base64_text, keys_at
 from compare import Difference
 from damage import Store
+from files import read_file, write_file
 from guide import (
     ADD,
     BY_ETCD,
@@ -25,7 +26,6 @@ from guide import (
 )
 from members import Members
 from messages import Messages
-from repairs import read_file, write_file
 from server import HOST, NO_LOGIN, EtcdFault, Server
 
 # How many keys are put before each end of the server, and after how many entries of its log it makes a `.snap` file.
@@ -43,7 +43,7 @@ DATA = "/var/lib/etcd"
 # The status and the text that are wanted of lines. Pages that etcd has freed may have the revisions that were lost.
 WANTED = {
     "luntsegi etcd-repair --etcd-snapshot --assume-meta STATE -o RESCUE/new.snapshot FILE > RESCUE/lost; tail RESCUE/lost": (
-        "0 page .*; lost: bucket 6b6579 \\(key\\), .* put back, "
+        r"0 page .*; lost: bucket 6b6579 \(key\), .*\nrevisions up to \d+ may be missing\n\d+ revisions put back, "
     ),
     "luntsegi etcd-check RESCUE/new.snapshot > RESCUE/records; grep '[0-9]: missing' RESCUE/records | tail -n 1": (
         r"0 (revisions? [^ ]+( to [^ ]+)?: missing\n)?$"
@@ -203,7 +203,7 @@ class Guide:
         write_file(self.path("lost.db"), store.zeroed("a leaf", [store.leaves[1]]).data)
         state = f"{store.page_size}:{store.newest_root}"
         words = {"FILE": self.path("lost.db"), "RESCUE": rescue, "STATE": state, "NEW_FOLDER": folder}
-        repair, login, (restore, start), _, several = self.recovery
+        repair, login, (restore, start), several = self.recovery
         room = self.room(self.folder, words)
         self.run(room, [*repair, *login, restore])
         shown = ("etcd-keys", "--values", "--form", "json-hex", os.path.join(rescue, "new.snapshot"))

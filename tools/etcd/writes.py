@@ -46,6 +46,13 @@ def draw_value(draw):
     return draw.randbytes(draw.randint(4_096, 30_000))
 
 
+def commit(server, draw, puts, deletions):
+    """A transaction of these, in a random order."""
+    parts = [{"request_put": put} for put in puts] + [{"request_delete_range": one} for one in deletions]
+    draw.shuffle(parts)
+    server.request("kv/txn", {"success": parts})
+
+
 class Writer:
     """Makes the writes that a random generator draws, of `count` names."""
 
@@ -68,7 +75,7 @@ class Writer:
         self.server = server
         for first in range(0, len(self.names), NAMES_IN_FIRST):
             names = self.frequent_first[first : first + NAMES_IN_FIRST]
-            self.commit([self.drawn_put(name) for name in names], [])
+            commit(server, self.draw, [self.drawn_put(name) for name in names], [])
 
     def write_to(self, server, steps):
         """Makes random requests to this server."""
@@ -97,13 +104,7 @@ class Writer:
         deleted = {name for name in names if self.draw.randrange(5) == 0}
         puts = [self.drawn_put(name) for name in names if name not in deleted]
         puts.append({"key": base64_text(COUNTER), "value": base64_text(draw_value(self.draw))})
-        self.commit(puts, [{"key": base64_text(name)} for name in sorted(deleted)])
-
-    def commit(self, puts, deletions):
-        """A transaction of these, in a random order."""
-        parts = [{"request_put": put} for put in puts] + [{"request_delete_range": one} for one in deletions]
-        self.draw.shuffle(parts)
-        self.server.request("kv/txn", {"success": parts})
+        commit(self.server, self.draw, puts, [{"key": base64_text(name)} for name in sorted(deleted)])
 
     def delete(self):
         """A deletion of one name, which may not be there."""

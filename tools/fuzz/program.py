@@ -49,7 +49,7 @@ TEXTS = {
     "list": rb"(?:%b)*" % ENTRY,
     "compact": rb"\d+ -> \d+ bytes\n",
     "load": rb"\d+ -> \d+ bytes\n",
-    "etcd-repair": rb"0 revisions put back, 0 left out\n\d+ -> \d+ bytes\n",
+    "etcd-repair": rb"\d+ revisions put back, \d+ left out\n\d+ -> \d+ bytes\n",
 }
 # And what it prints as JSON.
 JSON_TEXTS = {
@@ -100,6 +100,11 @@ FAULTS = {
 
 OTHERS = rb"error: not revisions: [1-9]\d*\n"
 LOST = rb"error: %b\n" % SHORTFALL
+# The entries that a repair doesn't copy, and which revisions may be missing.
+NOT_COPIED = (
+    rb"(?:(?:key [0-9a-f]*: not a revision|revision \d+\.\d+: not a record); not copied\n)*"
+    rb"(?:revisions up to \d+ may be missing\n|any revision may be missing\n)?"
+)
 
 # What is printed with status 1, on standard output and on standard error.
 FAILED = {
@@ -115,7 +120,7 @@ FAILED = {
     "compact --recover": (rb"(?:%b\n)?(?:%b)?(?:%b)?%b" % (BAD_HASH, OTHER_META, LOSSES, TEXTS["compact"]), b""),
     "check --lost-and-found": (rb"(?:%b)?%b%b[1-9]\d* errors found\n" % (OTHER_META, FAULTY, FOUND), b""),
     "list --lost-and-found": (TEXTS["list"], LOST),
-    "etcd-repair": (rb"(?:%b\n)?(?:%b)?(?:%b)?\d+ revisions put back, \d+ left out\n%b" % (BAD_HASH, OTHER_META, LOSSES, TEXTS["compact"]), b""),
+    "etcd-repair": (rb"(?:%b\n)?(?:%b)?(?:%b)?%b\d+ revisions put back, \d+ left out\n%b" % (BAD_HASH, OTHER_META, LOSSES, NOT_COPIED, TEXTS["compact"]), b""),
     "compact --lost-and-found": (rb"(?:%b\n)?(?:%b)?(?:%b)?%b%b" % (BAD_HASH, OTHER_META, LOSSES, FOUND, TEXTS["compact"]), b""),
 }
 

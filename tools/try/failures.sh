@@ -27,6 +27,7 @@ bash tools/streams/try_reading.sh "$program" "$PWD/out/refuse.so" $app
 with_lines printing.txt not_printing.txt -- sweep write 1 $app
 sweep write 1 $leaked check list
 with_lines etcd.txt -- sweep write 1 $etcd
+sweep write 200 $etcd "etcd-repair -o OUT --search"
 sweep write 10 $app "compact -o OUT" "compact -o OUT --etcd-snapshot --page-size 1024"
 sweep once 1 $app list "buckets --sizes"
 sweep once 6000 out/listed_long.db list

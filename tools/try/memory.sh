@@ -25,7 +25,7 @@ sweep 1 $nested info "page 3" pages check states buckets stats list "list --from
 	"list b b" "list b b --form json --from 62/62/62" "keys b b --form json" "compact -o OUT --etcd-snapshot"
 with_lines printing.txt not_printing.txt -- sweep 1 $app "compact -o OUT --page-size 1024" \
 	"compact -o OUT --etcd-snapshot"
-with_lines etcd.txt -- sweep 1 examples/etcd.db "etcd-keys --form json --values"
+with_lines etcd.txt -- sweep 1 examples/etcd.db "etcd-keys --form json --values" "etcd-repair -o OUT --search"
 sweep 1 examples/app.list "load -o OUT" "load -o OUT --for-bbolt --page-size 1024 --sequence 7" \
 	"load -o OUT --etcd-snapshot"
 sweep 1 examples/leaked.db check "list --meta 1" "compact -o OUT --meta 1"

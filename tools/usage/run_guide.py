@@ -88,8 +88,6 @@ SENTENCES = Section(
         "luntsegi page FILE NUMBER": "0 page 5\ntype leaf\n",
         "printf blobs | od -An -v -tx1": "0  62 6c 6f 62 73\n$",
         "printf theme | od -An -v -tx1": "0  74 68 65 6d 65\n$",
-        "printf '%016x5f%016x' 53 0": "0 00000000000000355f0000000000000000$",
-        "printf '%d\\n' 0x0000000000000002": "0 2\n$",
     },
     before=["mkdir RESCUE"],
     after=["cmp FILE RESCUE/etcd/etcd.db"],

@@ -57,12 +57,12 @@ module _ {O T : Type 0} (out : Ghosts O) (target : Ghosts T) (out_old out_new : 
       inl (meta, listing, lost, found, read, faults, are, unless snapshot listing layout (copy_report faults lost found (length file)) ending (hash_refusal extent faults.hash) copies)
   copied file choice size which snapshot extent ending (inr (why, unread, (same, untouched_target, is))) = inr (why, unread, (untouched same, untouched_target, is))
 
-  restored : (file : List ℕ) (choice : MetaChoice) (size : Option PageSize) (snapshot : Bool) (ending : JobEnding)
-      → WritesRestored out.taken out.failed out_old out_new target.taken target.failed target_old target_new file choice size snapshot ending
-      → WritesRestored buffered_text buffered_failures (buffered_of [] 0) (buffered_of text failures) target.taken target.failed target_old target_new file choice size snapshot ending
-  restored file choice size snapshot ending (meta, listing, lost, back, left_out, is, faults, are, writes) =
+  restored : (file : List ℕ) (choice : MetaChoice) (size : Option PageSize) (snapshot search : Bool) (ending : JobEnding)
+      → WritesRestored out.taken out.failed out_old out_new target.taken target.failed target_old target_new file choice size snapshot search ending
+      → WritesRestored buffered_text buffered_failures (buffered_of [] 0) (buffered_of text failures) target.taken target.failed target_old target_new file choice size snapshot search ending
+  restored file choice size snapshot search ending (meta, listing, lost, others, back, left_out, is, faults, are, writes) =
       let layout = layout_of_listing Balanced (copy_page_size size meta) listing meta.root_sequence in
-      (meta, listing, lost, back, left_out, is, faults, are, written snapshot listing layout (repair_report faults lost back left_out (length file)) ending writes)
+      (meta, listing, lost, others, back, left_out, is, faults, are, written snapshot listing layout (repair_report faults lost others back left_out (length file)) ending writes)
 
   pub buffered_job : (file : List ℕ) (j : Job) (ending : JobEnding)
       → DoesJob out.taken out.failed out_old out_new target.taken target.failed target_old target_new file j ending
@@ -73,7 +73,7 @@ module _ {O T : Type 0} (out : Ghosts O) (target : Ghosts T) (out_old out_new : 
     | inr (fault, is, (same, target, ends)) ↦ inr (fault, is, (untouched same, target, ends))
   ]
   buffered_job file (job.EtcdRepair j) ending does = elim does [
-    | inl made ↦ inl (∥∥₁_map made (restored file j.meta j.page_size j.snapshot ending))
+    | inl made ↦ inl (∥∥₁_map made (restored file j.meta j.page_size j.snapshot j.search ending))
     | inr (why, is, (same, target, ends)) ↦ inr (why, is, (untouched same, target, ends))
   ]
   buffered_job file j ending (answer, is, does, same) = (answer, is, does_buffered answer ending does, same)

@@ -1,5 +1,5 @@
 -- What bbolt fails on in a copy is what it fails on in its layout: no page has the hash.
-use Rattle.std.proofs.Common.{◌≡◌, ◌*◌, ◌++◌, ℕ, List, true, false, arith, length, subst}
+use Rattle.std.proofs.Common.{◌≡◌, ◌*◌, ◌++◌, ℕ, true, false, arith, length, subst}
 use Rattle.std.specs.List.{AllByRecursion}
 use Rattle.bolt_commands.proofs.Vocabulary.{IsPageSize, Layout, Meta, sha256}
 use Rattle.bolt_check.proofs.Exports.{same_nodes}

@@ -6,14 +6,14 @@ use Rattle.bolt_bulk.specs.declared.blueprint.Blueprint.{Blueprint}
 use Rattle.bolt_job.specs.{MetaChoices.IsMetaOf, declared.choices.CopyKind.CopyKind, declared.choices.Extent.TheVariants.LostAndFound as Joins}
 use Rattle.bolt_layout.specs.declared.Layout.TheVariants.{Balanced}
 use Rattle.bolt_recover.specs.Lost.{IsAllLost}
-use Rattle.bolt_repair.specs.{FullRepairs.IsFullRepair, RepairedMerges.repair_back, RepairedMerges.repair_is_made, Repaired.HasStore, Repaired.IsRepaired, Repaired.repaired_listing, declared.repair.Repair.Repair}
+use Rattle.bolt_repair.specs.{FullRepairs.IsFullRepair, RepairedMerges.repair_back, RepairedMerges.repair_made, RepairedMerges.repair_unread, Readable.unread, Repaired.HasStore, Repaired.IsRepaired, Repaired.repaired_listing, declared.repair.Repair.Repair}
 use Rattle.bolt_repair.specs.declared.repair_fault.RepairFault.TheVariants.{Memory}
 use Rattle.bolt_commands.specs.{JobAnswers.WritesRestored, Private.Opened.IsUnsearched, RepairAnswers.IsRestored, RepairAnswers.IsUnrestored, RepairAnswers.repair_report}
 
 -- a file that isn't searched isn't repaired
-pub unsearched_unrestored : (file : List ℕ) (choice : MetaChoice) (why : Failure) → IsUnsearched file choice why → IsUnrestored file choice why
-unsearched_unrestored file choice why (inl none) = inr none
-unsearched_unrestored file choice why (inr (meta, under, is)) = inl (meta, Memory, under, tt, is)
+pub unsearched_unrestored : (file : List ℕ) (choice : MetaChoice) (why : Failure) → IsUnsearched file choice why → (search : Bool) → IsUnrestored file choice search why
+unsearched_unrestored file choice why (inl none) search = inr none
+unsearched_unrestored file choice why (inr (meta, under, is)) search = inl (meta, Memory, under, tt, is)
 
 -- the copy of the blueprint that is asked for, which is for bbolt
 listing_asked : {T : Type 0} {target : Ghosts T} {old new : T} {listing : List Member} {snapshot : Bool} (kind : CopyKind) (size : Option PageSize) (meta : Meta) (blueprint : Blueprint) (result : Result ℕ Failure)
@@ -22,27 +22,28 @@ listing_asked : {T : Type 0} {target : Ghosts T} {old new : T} {listing : List M
 listing_asked kind size meta blueprint result layout asked (made, copy, same) = (made, rw layout at (copy_asked asked copy), same)
 
 -- The repair of a file that was searched. It names the file and its meta in its own way.
-module _ (file : List ℕ) (choice : MetaChoice) (both : LostAndFound) (repair : Repair) (own : List ℕ) (meta : Meta) (searched : IsSearchOf file choice both) (same_file : own ≡ file) (same_meta : meta ≡ both.meta)
-    (full : IsFullRepair own meta (repair_back repair) (repair_is_made repair) repair.left_out)
-    (store : repair_back repair ≡ [] → HasStore full.repair.recovered) (back : ℕ) (counts : back ≡ length (repair_back repair)) where
+module _ (file : List ℕ) (choice : MetaChoice) (search : Bool) (both : LostAndFound) (repair : Repair) (own : List ℕ) (meta : Meta) (searched : IsSearchOf file choice both) (same_file : own ≡ file) (same_meta : meta ≡ both.meta)
+    (full : IsFullRepair own meta search (repair_back repair) (repair_made repair) repair.left_out)
+    (store : repair_back repair ≡ [] → HasStore full.repair.recovered) (leaves : repair_unread repair ≡ unread full.repair.recovered) (back : ℕ) (counts : back ≡ length (repair_back repair)) where
   -- the repaired listing
   abbrev pub the_repaired : List Member
-  the_repaired = repaired_listing full.repair.recovered (repair_is_made repair) (repair_back repair)
+  the_repaired = repaired_listing full.repair.recovered (repair_made repair) (repair_back repair)
 
-  pub is_repaired : IsRepaired own meta the_repaired
-  is_repaired = record { back = repair_back repair; is_made = repair_is_made repair; repair = full.repair; repaired = refl }
+  pub is_repaired : IsRepaired own meta search the_repaired
+  is_repaired = record { back = repair_back repair; made = repair_made repair; repair = full.repair; repaired = refl }
 
-  is_restored : IsRestored file choice both.meta the_repaired (all_lost both) back repair.left_out
+  is_restored : IsRestored file choice search both.meta the_repaired (all_lost both) (repair_unread repair) back repair.left_out
   is_restored =
-      subst (λ (m : Meta). IsRestored file choice m the_repaired (all_lost both) back repair.left_out) same_meta
-      (subst (λ (f : List ℕ). IsRestored f choice meta the_repaired (all_lost both) back repair.left_out) same_file
+      subst (λ (m : Meta). IsRestored file choice search m the_repaired (all_lost both) (repair_unread repair) back repair.left_out) same_meta
+      (subst (λ (f : List ℕ). IsRestored f choice search meta the_repaired (all_lost both) (repair_unread repair) back repair.left_out) same_file
       (record {
         under = subst (λ (f : List ℕ). IsMetaOf f choice meta) (sym same_file) (subst (λ (m : Meta). IsMetaOf file choice m) (sym same_meta) searched.under);
         loses = subst (λ (f : List ℕ). IsAllLost f meta (all_lost both)) (sym same_file) (subst (λ (m : Meta). IsAllLost file m (all_lost both)) (sym same_meta) searched.lost);
         entries = repair_back repair;
-        is_made = repair_is_made repair;
+        made = repair_made repair;
         repairs = full;
         lists = refl;
+        leaves = leaves;
         counts = counts;
         store = store;
       }))
@@ -56,14 +57,14 @@ module _ (file : List ℕ) (choice : MetaChoice) (both : LostAndFound) (repair :
     copy_of_repaired result copy = listing_asked kind size both.meta blueprint result layout asked (rw same_kind at copy)
 
     pub repair_failed : (why : Failure) → CopiesListing target old new (blueprint_layout blueprint the_repaired) the_repaired (is_snapshot kind) (Err why) → ending ≡ Err why
-        → WritesRestored out.taken out.failed out_old out_old target.taken target.failed old new file choice size snapshot ending
+        → WritesRestored out.taken out.failed out_old out_old target.taken target.failed old new file choice size snapshot search ending
     repair_failed why copy ends =
-        let report = repair_report faults (all_lost both) back repair.left_out (length file) in
-        (both.meta, the_repaired, all_lost both, back, repair.left_out, is_restored, faults, are, listing_failed out out_old report ending why (copy_of_repaired (Err why) copy) ends)
+        let report = repair_report faults (all_lost both) (repair_unread repair) back repair.left_out (length file) in
+        (both.meta, the_repaired, all_lost both, repair_unread repair, back, repair.left_out, is_restored, faults, are, listing_failed out out_old report ending why (copy_of_repaired (Err why) copy) ends)
 
     pub repair_done : {out_new : O} (count : ℕ) → CopiesListing target old new (blueprint_layout blueprint the_repaired) the_repaired (is_snapshot kind) (Ok count)
-        → WritesAnswer out.taken out.failed out_old out_new (repair_report faults (all_lost both) back repair.left_out (length file) count) ending
-        → WritesRestored out.taken out.failed out_old out_new target.taken target.failed old new file choice size snapshot ending
+        → WritesAnswer out.taken out.failed out_old out_new (repair_report faults (all_lost both) (repair_unread repair) back repair.left_out (length file) count) ending
+        → WritesRestored out.taken out.failed out_old out_new target.taken target.failed old new file choice size snapshot search ending
     repair_done count copy does =
-        let report = repair_report faults (all_lost both) back repair.left_out (length file) in
-        (both.meta, the_repaired, all_lost both, back, repair.left_out, is_restored, faults, are, listing_done out out_old report ending count (copy_of_repaired (Ok count) copy) does)
+        let report = repair_report faults (all_lost both) (repair_unread repair) back repair.left_out (length file) in
+        (both.meta, the_repaired, all_lost both, repair_unread repair, back, repair.left_out, is_restored, faults, are, listing_done out out_old report ending count (copy_of_repaired (Ok count) copy) does)

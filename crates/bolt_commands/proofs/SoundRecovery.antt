@@ -1,6 +1,6 @@
 -- With sound trees, `--recover` does what is done without it under the same meta, if the accounts don't count there, and `--lost-and-found`
 -- does what `--recover` does.
-use Rattle.std.proofs.Common.{◌≡◌, ◌≢◌, ◌↔◌, ◌*◌, ◌<◌, ◌^◌, ℕ, Bool, List, [], Option, ap, arith, inl, inr, length, refl, rules, subst, sym, ◌∙◌}
+use Rattle.std.proofs.Common.{◌≡◌, ◌≢◌, ◌↔◌, ◌*◌, ◌<◌, ◌^◌, ℕ, Bool, false, List, [], Option, ap, arith, inl, inr, length, refl, rules, subst, sym, ◌∙◌}
 use Rattle.bolt_commands.proofs.Vocabulary.{Active, Answer, AreLosses, Assumed, CheckFault, JobEnding, Extent, Failure, Sound, FoundView, HasSoundTrees, InSlot, IsActive, IsFailureOf, IsInSlot, IsListedAnswer, IsListing, IsMetaOf, IsMetasFault, IsReadTo, IsReadUnder, IsRecovered, IsSalvaged, IsUnreadTo, Layout, ListForm, LossView, Losses, LostView, MakesCopy, Member, Meta, MetaChoice, MetaFault, PageSize, Path, Slot, bad_hash, everything, has_losses, hash_refusal, parts, props, unlisted, ∥∥₁_elim}
 use Rattle.bolt_check.specs.declared.check_fault.CheckFault.TheVariants as check
 use Rattle.bolt_commands.specs.declared.failure.Failure.TheVariants as failure
@@ -10,7 +10,8 @@ use Rattle.bolt_commands.proofs.{ReadFiles.no_accounts, ReadFiles.read_meta, Sou
 use Rattle.bolt_job.specs.declared.choices.Extent.TheVariants.{LostAndFound}
 use Rattle.bolt_recover.specs.{Found.AreFound, JoinRefusals.IsJoinRefusal, Lost.IsAllLost, declared.recover_fault.RecoverFault.RecoverFault}
 use Rattle.bolt_recover.specs.declared.recover_fault.RecoverFault.TheVariants as recover
-use Rattle.bolt_repair.specs.Repaired.{IsRepaired}
+use Rattle.bolt_repair.specs.{Readable.readable, Repaired.IsRepaired, Repaired.MakesMeta, Repairs.meta_path}
+use Rattle.bolt_tree.specs.{InBuckets.members_in, Merges.merge}
 
 -- what the laws of the crates below say
 pub record Below : Type 0 where
@@ -23,7 +24,8 @@ pub record Below : Type 0 where
   pub has_found : (file : List ℕ) (meta : Meta) → (found : List ℕ) × AreFound file meta found
   pub none_found : (file : List ℕ) (meta : Meta) (found : List ℕ) → AreLosses file meta [] → AreFound file meta found → found ≡ []
   pub has_listing : (file : List ℕ) (meta : Meta) → HasSoundTrees file meta → (listing : List Member) × IsListing file meta listing
-  pub unrepaired : (file : List ℕ) (meta : Meta) (listing : List Member) → HasSoundTrees file meta → IsRepaired file meta listing → IsListing file meta listing
+  pub unrepaired : (file : List ℕ) (meta : Meta) (listing repaired : List Member) → HasSoundTrees file meta → IsListing file meta listing → IsRepaired file meta false repaired
+      → (is_made : Bool) × MakesMeta listing is_made × (repaired ≡ merge (readable listing) (members_in is_made meta_path []))
 
 pub names_one : Below → (file : List ℕ) (choice : MetaChoice) (meta : Meta) → IsMetaOf file choice meta → NamesOne file choice meta
 names_one b file Active meta (slot, chosen) other (another, is) = (b.chosen_is_one file slot meta chosen another other is).1

@@ -3,10 +3,10 @@ use Rattle.std.specs.Prelude.{◌≡◌, ◌≢◌, ◌↔◌, ◌⊎◌, ◌*�
 use Rattle.bolt_check.specs.Sound.{HasSoundTrees}
 use Rattle.bolt_format.specs.{Metas.HasBothMetas, declared.meta.Meta.Meta, declared.sink.Sink.Ghosts}
 use Rattle.bolt_layout.specs.{Copies.layout_of_listing, declared.Layout.Layout, declared.Layout.TheVariants.Balanced}
-use Rattle.bolt_repair.specs.Repairs.{store_path}
+use Rattle.bolt_repair.specs.{Readable.readable, Readable.unread, Repaired.MakesMeta, Repairs.meta_path, Repairs.store_path}
 use Rattle.bolt_recover.specs.Losses.{parts}
 use Rattle.bolt_text.specs.declared.forms.ListForm.{ListForm}
-use Rattle.bolt_tree.specs.{Entries.Item, Entries.Value, Listing.IsListing, Listing.Member, Paths.Path}
+use Rattle.bolt_tree.specs.{Entries.Item, Entries.Value, InBuckets.members_in, Listing.IsListing, Listing.Member, Merges.merge, Paths.Path}
 use Rattle.bolt_commands.specs.{Answers.Answer, Answers.JobEnding, CopyAnswers.copy_page_size, CopyAnswers.hash_refusal, FilesRead.HoldsIn, JobAnswers.DoesJob, JobAnswers.MakesCopy, JobAnswers.MakesRepair, JobAnswers.WritesCopy, JobAnswers.WritesNone, KeyAnswers.IsBucketsShown, KeyAnswers.IsKeysShown, KeyAnswers.IsValueShown, ListAnswers.IsListedAnswer, RepairAnswers.repair_report}
 use Rattle.bolt_commands.specs.{FileFaults.AreCopyFaults, SnapshotAnswers.bad_hash, declared.file_faults.FileFaults.FileFaults, declared.failure.Failure.Failure, declared.failure.Failure.TheVariants.Memory, declared.failure.Failure.TheVariants.NoBucket, declared.failure.Failure.TheVariants.NotABucket}
 use Rattle.bolt_job.specs.MetaChoices.{IsMetaOf}
@@ -76,13 +76,18 @@ IsUnrepairable file meta why =
     ((why ≡ NotABucket) × ((value : List ℕ) × HoldsIn file meta store_path (Value value)))
     ⊎ (((why ≡ NoBucket) × ((item : Item) → HoldsIn file meta store_path item → ⊥)) ⊎ (why ≡ Memory))
 
--- Nothing goes back or stays out: The copy is that of the file's own listing, for bbolt.
+-- what etcd can read of a listing, with an empty bucket `meta` if it is made
+abbrev pub read_listing : (is_made : Bool) → List Member → List Member
+read_listing is_made listing = merge (readable listing) (members_in is_made meta_path [])
+
+-- Nothing goes back or stays out: The copy is that of what etcd can read of the file's own listing, for bbolt, with a bucket `meta`.
 abbrev pub RepairsNothing : {O T : Type 0} (out : Ghosts O) (target : Ghosts T) → List ℕ → Meta → MetaChoice → Type 0
 RepairsNothing {O} {T} out target file meta choice =
     (out_old out_new : O) (target_old target_new : T) (size : Option PageSize) (snapshot : Bool) (ending : JobEnding)
-    → MakesRepair out.taken out.failed out_old out_new target.taken target.failed target_old target_new file choice size snapshot ending
-    → ∥ ((listing : List Member) × IsListing file meta listing × (faults : FileFaults) × AreCopyFaults LostAndFound snapshot file choice faults
-    × WritesCopy out.taken out.failed out_old out_new target.taken target.failed target_old target_new snapshot listing
-    (layout_of_listing Balanced (copy_page_size size meta) listing meta.root_sequence) (repair_report faults (parts []) 0 0 (length file)) ending) ∥₁
+    → MakesRepair out.taken out.failed out_old out_new target.taken target.failed target_old target_new file choice size snapshot false ending
+    → ∥ ((listing : List Member) × IsListing file meta listing × (is_made : Bool) × MakesMeta listing is_made × (faults : FileFaults) × AreCopyFaults LostAndFound snapshot file choice faults
+    × WritesCopy out.taken out.failed out_old out_new target.taken target.failed target_old target_new snapshot (read_listing is_made listing)
+    (layout_of_listing Balanced (copy_page_size size meta) (read_listing is_made listing) meta.root_sequence) (repair_report faults (parts []) (unread listing) 0 0 (length file))
+    ending) ∥₁
     ⊎ ((why : Failure) × IsUnrepairable file meta why
     × WritesNone out.taken out.failed out_old out_new target.taken target.failed target_old target_new why ending)

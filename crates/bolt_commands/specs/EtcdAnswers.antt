@@ -13,7 +13,6 @@ use Rattle.std.specs.{Int.to_be_bytes, Int.w64, List.concat}
 use Rattle.bolt_job.specs.declared.{choices.Extent.TheVariants.Losses, choices.MetaChoice.MetaChoice}
 use Rattle.bolt_job.specs.{declared.etcd_jobs.EtcdCheckJob.EtcdCheckJob, declared.etcd_jobs.EtcdGetJob.EtcdGetJob, declared.etcd_jobs.EtcdKeysJob.EtcdKeysJob}
 use Rattle.bolt_job.specs.{declared.etcd_jobs.EtcdRevisionsJob.EtcdRevisionsJob, declared.etcd_jobs.EtcdStatusJob.EtcdStatusJob}
-use Rattle.bolt_job.specs.declared.job.Job.TheVariants as job
 
 -- what is under the root bucket
 abbrev pub IsStoreOf : List ℕ → Meta → StoreView → Type 0

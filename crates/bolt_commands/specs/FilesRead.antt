@@ -1,5 +1,5 @@
 -- What a command reads of a file: a sound one, what is recovered of a damaged one, or that with what is found; and why it reads none.
-use Rattle.std.specs.Prelude.{◌≡◌, ◌≢◌, ◌-◌, ◌⊎◌, ℕ, List, [], Bool, true, false, IsTrue, length, map, take, Option, Some, None, Ok, Err}
+use Rattle.std.specs.Prelude.{◌≡◌, ◌≢◌, ◌⊎◌, ℕ, List, [], Bool, true, false, IsTrue, map, Option, Some, None, Ok, Err}
 use Rattle.bolt_check.specs.{AccountFindings.AreAccountFindings, Sound.HasRightAccounts, Sound.HasSoundTrees, Sound.IsFirstFinding, Sound.IsUsed, declared.check_fault.CheckFault.CheckFault}
 use Rattle.bolt_check.specs.{declared.finding.Finding.Finding, ShownFindings.findings_in}
 use Rattle.bolt_check.specs.declared.check_fault.CheckFault.TheVariants as check
@@ -15,7 +15,6 @@ use Rattle.bolt_job.specs.declared.choices.Extent.TheVariants.{Losses, LostAndFo
 use Rattle.bolt_job.specs.declared.choices.MetaChoice.{MetaChoice}
 use Rattle.bolt_job.specs.declared.choices.MetaChoice.TheVariants.{Active, Assumed, InSlot}
 use Rattle.bolt_commands.specs.declared.failure.Failure.TheVariants as failure
-use Rattle.bolt_etcd.specs.Newest.{newest}
 
 -- a path leads from the root bucket to this one; and what it holds
 abbrev pub LeadsTo : List ℕ → Meta → Path → Start → Type 0

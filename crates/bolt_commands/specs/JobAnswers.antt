@@ -1,5 +1,5 @@
 -- What a job does: what standard output and the target accept, and how it ends.
-use Rattle.std.specs.Prelude.{◌≡◌, ◌<◌, ◌-◌, ◌^◌, ◌⊎◌, ℕ, List, [], ◌∷◌, Bool, length, map, Option, Some, None, Err}
+use Rattle.std.specs.Prelude.{◌≡◌, ◌<◌, ◌⊎◌, ℕ, List, [], ◌∷◌, Bool, length, Option, Some, None, Err}
 use Rattle.std.specs.Io.KnownBytes.{Appends}
 use Rattle.bolt_bulk.specs.Compacting.{too_many}
 use Rattle.bolt_layout.specs.{Copies.layout_of_listing, declared.Layout.Layout, declared.Layout.TheVariants.Balanced}
@@ -8,7 +8,6 @@ use Rattle.bolt_load.specs.{LineFaults.IsListingText, LineFaults.IsLoadFault, de
 use Rattle.bolt_text.specs.LineMembers.{text_members}
 use Rattle.bolt_recover.specs.Losses.{LostView}
 use Rattle.bolt_report.specs.FoundLines.{FoundView}
-use Rattle.bolt_stats.specs.declared.figures.Stats.{Stats}
 use Rattle.bolt_tree.specs.Listing.{Member}
 use Rattle.bolt_job.specs.{CopyKinds.is_snapshot, declared.choices.Extent.Extent, declared.choices.Extent.TheVariants.LostAndFound, declared.job.Job.Job, declared.choices.MetaChoice.MetaChoice}
 use Rattle.bolt_job.specs.{declared.choices.MetaChoice.TheVariants.Active, declared.choices.PageSize.PageSize}
@@ -20,7 +19,7 @@ use Rattle.bolt_commands.specs.{FilesRead.IsReadAnswer, FilesRead.IsReadTo, File
 use Rattle.bolt_commands.specs.{PageAnswers.IsInfoAnswer, PageAnswers.IsPageAnswer, PageAnswers.IsPagesAnswer, RepairAnswers.IsRestored, RepairAnswers.IsUnrestored, RepairAnswers.repair_report}
 use Rattle.bolt_commands.specs.{StatesAnswers.IsStatesPrint, StatsAnswers.IsStatsPrint}
 use Rattle.bolt_commands.specs.declared.failure.Failure.TheVariants as failure
-use Rattle.bolt_etcd.specs.{declared.snapshot.SnapshotFault.SnapshotFault, Newest.newest, Stores.revisions}
+use Rattle.bolt_etcd.specs.{Others.OtherView, declared.snapshot.SnapshotFault.SnapshotFault}
 use Rattle.bolt_job.specs.declared.job.Job.TheVariants as job
 
 -- standard output and the target, each from its state `old` to `new`
@@ -68,18 +67,19 @@ module _ {O T : Type 0} (out_taken : O → Option (List ℕ)) (out_failed : O �
       ⊎ ((why : Failure) × IsUnreadTo extent file choice why × WritesNone why ending)
 
   -- the copy of the repaired listing, and what is reported of it
-  abbrev pub WritesRestored : List ℕ → MetaChoice → Option PageSize → (snapshot : Bool) → JobEnding → Type 0
-  WritesRestored file choice size snapshot ending =
-      (meta : Meta) × (listing : List Member) × (lost : LostView) × (back left_out : ℕ) × IsRestored file choice meta listing lost back left_out
+  abbrev pub WritesRestored : List ℕ → MetaChoice → Option PageSize → (snapshot search : Bool) → JobEnding → Type 0
+  WritesRestored file choice size snapshot search ending =
+      (meta : Meta) × (listing : List Member) × (lost : LostView) × (others : List OtherView) × (back left_out : ℕ)
+      × IsRestored file choice search meta listing lost others back left_out
       × (faults : FileFaults) × AreCopyFaults LostAndFound snapshot file choice faults
-      × WritesCopy snapshot listing (layout_of_listing Balanced (copy_page_size size meta) listing meta.root_sequence) (repair_report faults lost back left_out (length file)) ending
+      × WritesCopy snapshot listing (layout_of_listing Balanced (copy_page_size size meta) listing meta.root_sequence) (repair_report faults lost others back left_out (length file)) ending
 
   -- `etcd-repair`: The target accepts the balanced layout of the repaired listing at the copy's page size, and for a snapshot then its hash: a good
-  -- copy of that listing. Then it is reported if the file has a hash that isn't right, if the newest state may be lost, what is lost, and how many
-  -- revisions go back. Or there is no repaired listing, or memory ran out, and neither is touched.
-  abbrev pub MakesRepair : List ℕ → MetaChoice → Option PageSize → (snapshot : Bool) → JobEnding → Type 0
-  MakesRepair file choice size snapshot ending =
-      ∥ WritesRestored file choice size snapshot ending ∥₁ ⊎ ((why : Failure) × IsUnrestored file choice why × WritesNone why ending)
+  -- copy of that listing. Then it is reported if the file has a hash that isn't right, if the newest state may be lost, what is lost, what isn't copied,
+  -- which revisions may be missing, and how many go back. Or there is no repaired listing, or memory ran out, and neither is touched.
+  abbrev pub MakesRepair : List ℕ → MetaChoice → Option PageSize → (snapshot search : Bool) → JobEnding → Type 0
+  MakesRepair file choice size snapshot search ending =
+      ∥ WritesRestored file choice size snapshot search ending ∥₁ ⊎ ((why : Failure) × IsUnrestored file choice search why × WritesNone why ending)
 
   -- `load`: The target accepts the layout that is asked for of the listing that the lines of the file tell, with this root sequence, and for a
   -- snapshot then its hash: a good copy of that listing. Or a line isn't right, or memory ran out, and neither is touched.
@@ -118,5 +118,5 @@ module _ {O T : Type 0} (out_taken : O → Option (List ℕ)) (out_failed : O �
   DoesJob file (job.EtcdGet j) = Prints (IsEtcdGetPrint j file)
   DoesJob file (job.EtcdCheck j) = Prints (IsEtcdCheckPrint j file)
   DoesJob file (job.EtcdStatus j) = Prints (IsEtcdStatusPrint j file)
-  DoesJob file (job.EtcdRepair j) = MakesRepair file j.meta j.page_size j.snapshot
+  DoesJob file (job.EtcdRepair j) = MakesRepair file j.meta j.page_size j.snapshot j.search
   DoesJob file (job.Load j) = Loads file j.page_size.bytes j.sequence (layout_for j.kind) (is_snapshot j.kind)

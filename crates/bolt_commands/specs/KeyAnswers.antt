@@ -1,11 +1,11 @@
 -- What `buckets`, `keys` and `get` answer: docs/COMMANDS.md, "What is printed".
-use Rattle.std.specs.Prelude.{◌≡◌, ◌-◌, ◌⊎◌, Contains, ℕ, List, [], Bool, true, false, Option, Some, None, Err, if◌then◌else◌}
+use Rattle.std.specs.Prelude.{◌≡◌, ◌⊎◌, Contains, ℕ, List, [], Bool, true, false, Option, Some, None, Err, if◌then◌else◌}
 use Rattle.bolt_format.specs.{Elements.LeafElement, declared.meta.Meta.Meta}
-use Rattle.bolt_recover.specs.Losses.{LostView, parts}
+use Rattle.bolt_recover.specs.Losses.{LostView}
 use Rattle.bolt_report.specs.{KeyLines.buckets_text, KeyLines.keys_text, MemberNames.WantedNames, MemberNames.begins_so, MemberNames.names_bucket, MemberNames.names_text, KeyPrefixes.with_prefix}
 use Rattle.bolt_report.specs.SizeLines.{AreSized, Sized, sizes_text}
 use Rattle.bolt_text.specs.{Forms.value_text, Forms.item_text, declared.forms.Form.Form}
-use Rattle.bolt_tree.specs.{Entries.AreEntries, Entries.IsEntry, Entries.Start, Entries.Value, Listing.Member, ListingParts.has_bucket, Paths.Names, Paths.Path}
+use Rattle.bolt_tree.specs.{Entries.AreEntries, Entries.IsEntry, Entries.Start, Entries.Value, Listing.Member, ListingParts.has_bucket, Paths.Path}
 use Rattle.bolt_commands.specs.{declared.shortfall.Shortfall.Shortfall, declared.failure.Failure.Failure}
 use Rattle.bolt_commands.specs.Answers.{Answer, IsEndedOrCut, IsShownAndEnded, IsShownText, IsWholeOrShort, JobEnding, refused}
 use Rattle.bolt_commands.specs.FilesRead.{HoldsIn, IsLackingTo, IsReadAnswer, IsReadTo, IsUnreadTo, LeadsNowhere, LeadsTo, lost_ending}
@@ -14,7 +14,6 @@ use Rattle.bolt_job.specs.{declared.choices.BucketsShown.BucketsShown, declared.
 use Rattle.bolt_job.specs.{declared.bucket_commands.GetJob.GetJob, declared.bucket_commands.KeysJob.KeysJob, declared.choices.MetaChoice.MetaChoice, PlainWords.owned_path}
 use Rattle.bolt_job.specs.declared.choices.BucketsShown.TheVariants as shown
 use Rattle.bolt_commands.specs.declared.failure.Failure.TheVariants as failure
-use Rattle.bolt_job.specs.declared.job.Job.TheVariants as job
 
 -- a text of the entries of the bucket that the path leads to; or it leads to none
 abbrev pub IsEntriesAnswer : List ℕ → Path → Form → (List LeafElement → List ℕ) → Meta → Answer → Type 0

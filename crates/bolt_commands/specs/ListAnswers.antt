@@ -1,5 +1,5 @@
 -- What `list` answers: docs/COMMANDS.md, "What is printed".
-use Rattle.std.specs.Prelude.{◌≡◌, ◌-◌, ◌⊎◌, ℕ, List, Option, Err, if◌then◌else◌}
+use Rattle.std.specs.Prelude.{◌≡◌, ◌⊎◌, ℕ, List, Option, Err, if◌then◌else◌}
 use Rattle.bolt_format.specs.declared.meta.Meta.{Meta}
 use Rattle.bolt_recover.specs.Losses.{LostView}
 use Rattle.bolt_report.specs.FoundLines.{FoundView}
@@ -9,7 +9,6 @@ use Rattle.bolt_commands.specs.{declared.shortfall.Shortfall.Shortfall, declared
 use Rattle.bolt_commands.specs.FilesRead.{IsLackingTo, IsReadTo, IsUnreadTo, lost_ending}
 use Rattle.bolt_job.specs.{declared.choices.Extent.Extent, declared.bucket_commands.ListJob.ListJob, declared.choices.MetaChoice.MetaChoice, PlainWords.owned_path}
 use Rattle.bolt_commands.specs.declared.failure.Failure.TheVariants as failure
-use Rattle.bolt_job.specs.declared.job.Job.TheVariants as job
 
 -- a line for each member of a listing at and below the bucket at a path that doesn't come before another path
 abbrev pub listing_part_text : ListForm → (path from : Path) → List Member → List ℕ

@@ -28,7 +28,7 @@ use bolt_recover::laws::{
     nothing_lost_means_sound_trees, sound_trees_lose_nothing, sound_trees_recover_their_listing,
     sound_trees_recover_what_they_list,
 };
-use bolt_repair::laws::sound_trees_are_not_repaired;
+use bolt_repair::laws::sound_trees_put_nothing_back;
 use bolt_text::laws::hex_lines_are_the_listing_text;
 use bolt_tree::laws::{all_is_below_the_root, sound_trees_have_a_listing};
 
@@ -111,8 +111,8 @@ pub fn loading_a_listing_copies_it<O: Sink, T: Sink>()
 /// the same meta, chosen so that its accounts don't count: by its slot, or as an assumed one. There are
 /// two exceptions: a snapshot that is to be made of a file with a hash that isn't right, and names of
 /// which memory runs out before all are written. And with `--lost-and-found`, `list` and `compact` do
-/// exactly what they do with `--recover`. `etcd-repair` writes what `compact` writes for bbolt, and puts
-/// nothing back.
+/// exactly what they do with `--recover`. `etcd-repair` without a search
+/// in any case puts nothing back, and copies for bbolt what etcd can read.
 pub fn recovering_sound_trees_reads_them<O: Sink, T: Sink>()
     ensures list { UnderSoundTrees (ListsAlike extent.Losses extent.Sound) }
     ensures compact { UnderSoundTrees (CopiesAlike O.Sink T.Sink extent.Losses extent.Sound) }
@@ -130,5 +130,5 @@ pub fn recovering_sound_trees_reads_them<O: Sink, T: Sink>()
     each_file_has_found_pages();
     nothing_lost_finds_nothing();
     sound_trees_have_a_listing();
-    sound_trees_are_not_repaired();
+    sound_trees_put_nothing_back();
 }

@@ -69,7 +69,7 @@ pub data Asked : Type 0 where
   etcd_get : Text → AskedMeta → (name : Key) → (revision : Option ℕ) → Form → (no_newline : Bool) → Asked
   etcd_check : Text → AskedMeta → Asked
   etcd_status : Text → AskedMeta → (revision : Option ℕ) → FigureForm → Asked
-  etcd_repair : (file : Text) → AskedMeta → (target : Text) → (page_size : Option ℕ) → (snapshot : Bool) → Asked
+  etcd_repair : (file : Text) → AskedMeta → (target : Text) → (page_size : Option ℕ) → (snapshot search : Bool) → Asked
 
 -- the path that the code owns
 abbrev pub owned_path : {Z : Type 0} → List (Vec ℕ Z) → Path
@@ -138,7 +138,7 @@ abbrev pub etcd_status_of : EtcdStatusJob → Asked
 etcd_status_of j = etcd_status (string_bytes j.file) (meta_in j.meta) j.at j.form
 
 abbrev pub etcd_repair_of : EtcdRepairJob → Asked
-etcd_repair_of j = etcd_repair (string_bytes j.file) (meta_in j.meta) (string_bytes j.target) (size_in j.page_size) j.snapshot
+etcd_repair_of j = etcd_repair (string_bytes j.file) (meta_in j.meta) (string_bytes j.target) (size_in j.page_size) j.snapshot j.search
 
 -- the words that a line gives by each name
 abbrev pub Values : Type 0
@@ -353,7 +353,7 @@ asks_etcd_status values =
 unfoldable pub asks_etcd_repair : Values → Result Asked Text
 asks_etcd_repair values =
     meta_by values >>= λ meta. page_size_by (given values (codes "page-size")) >>= λ size. text_by (codes "output") values >>= λ target. file_by values >>= λ file.
-    Ok (etcd_repair file meta target size (is_given (given values (codes "etcd-snapshot"))))
+    Ok (etcd_repair file meta target size (is_given (given values (codes "etcd-snapshot"))) (is_given (given values (codes "search"))))
 
 -- ---- the commands
 
@@ -402,7 +402,7 @@ etcd_commands =
     ∷ command (codes "etcd-get") (needed (operand (codes "NAME")) ∷ option (codes "at") ∷ by_letter 110 (switch (codes "no-newline")) ∷ option (codes "parts") ∷ option (codes "form") ∷ metas) asks_etcd_get
     ∷ command (codes "etcd-check") metas asks_etcd_check
     ∷ command (codes "etcd-status") (option (codes "at") ∷ option (codes "form") ∷ metas) asks_etcd_status
-    ∷ command (codes "etcd-repair") (output ∷ option (codes "page-size") ∷ switch (codes "etcd-snapshot") ∷ metas) asks_etcd_repair
+    ∷ command (codes "etcd-repair") (output ∷ option (codes "page-size") ∷ switch (codes "etcd-snapshot") ∷ switch (codes "search") ∷ metas) asks_etcd_repair
     ∷ []
 
 -- all but the commands of pages, and all

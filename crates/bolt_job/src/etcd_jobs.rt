@@ -85,6 +85,14 @@ const REPAIRED_SNAPSHOT: Argument = Argument {
     required: false,
 };
 
+const SEARCH: Argument = Argument {
+    name: "search",
+    flag: Flag::Long,
+    value: None,
+    help: "Also look for revisions if nothing is lost: for a file that is sound, but leads to only a part of what it had",
+    required: false,
+};
+
 /// Print the revisions of etcd's keys, those of names that begin with a prefix.
 #[derive(Drop)]
 pub struct EtcdRevisionsJob {
@@ -284,6 +292,8 @@ pub struct EtcdRepairJob {
     pub page_size: Option<PageSize>,
     /// Whether the copy ends with its hash.
     pub snapshot: bool,
+    /// Whether to look for revisions even if nothing is lost.
+    pub search: bool,
 }
 
 pub(crate) static ETCD_REPAIR: Syntax = Syntax {
@@ -294,10 +304,11 @@ pub(crate) static ETCD_REPAIR: Syntax = Syntax {
         OUTPUT,
         PAGE_SIZE,
         REPAIRED_SNAPSHOT,
+        SEARCH,
         META,
         ASSUME_META,
     ],
-    note: "Exit status: 0 if nothing is lost, 1 if something is or OUT isn't whole, 2 if the command line is wrong.\n\n\
+    note: "Exit status: 0 if nothing is lost and all can be read, 1 if not or OUT isn't whole, 2 if the command line is wrong.\n\n\
         Example: luntsegi etcd-repair --etcd-snapshot -o repaired.db damaged.db",
 };
 
@@ -309,6 +320,7 @@ pub(crate) fn read_etcd_repair(line: &Line<'_, '_>) -> Result<EtcdRepairJob, Ref
         meta: line.meta()?,
         page_size: line.page_size()?,
         snapshot: line.is_given("etcd-snapshot"),
+        search: line.is_given("search"),
         target: line.text("output")?,
         file: line.text("FILE")?,
     })

@@ -1,6 +1,6 @@
 -- The found pages of a whole file.
 use Rattle.std.proofs.Common.{◌≡◌, ◌∙◌, ◌↔◌, ◌⊎◌, ◌||◌, inl, inr, ℕ, suc, Bool, true, false, arith, List, [], ◌∷◌, Option, Some, None, refl, sym, ap, subst}
-use Rattle.bolt_recover.proofs.Words.{all_events, AreFound, AreGaps, AreKeptPages, AreLosses, At_page, claims_of, Contains, contains_cases, contains_head, contains_none, contains_tail, Event, false≢true, Finding, first_claimed, FoundBelow, Has, HasSoundTrees, IsFoundPage, IsKeptPage, IsListedFree, IsLoneLeaf, IsMetaPage, IsRecovered, IsSurvey, way_kept, LosesNothing, LosesRoot, lost, Member, members_of, Meta, meta_pages, nat_tests, node_at, node_below, PageGapView, root_site, root_spot, SpanAt, SurveyedWay, Visited, visits_of}
+use Rattle.bolt_recover.proofs.Words.{all_events, AreFound, AreFoundAnyway, AreGaps, AreKeptPages, AreLosses, At_page, claims_of, Contains, contains_cases, contains_head, contains_none, contains_tail, Event, false≢true, Finding, first_claimed, FoundBelow, Has, HasSoundTrees, IsFoundPage, IsKeptPage, IsListedFree, IsLoneLeaf, IsMetaPage, IsRecovered, IsSurvey, way_kept, LosesNothing, LosesRoot, lost, Member, members_of, Meta, meta_pages, nat_tests, node_at, node_below, PageGapView, root_site, root_spot, SpanAt, SurveyedWay, Visited, visits_of}
 use Rattle.bolt_recover.proofs.{Existing.has_survey, Existing.one_recovered, Existing.recovers, FoundLemmas.found_one, FoundLemmas.found_same, FoundLemmas.passed, LostWays.nothing_lost}
 use Rattle.bolt_recover.proofs.{Tested.IsFirst, Tested.first_is, KeptWays.sound, Recovering.one_gaps, Recovering.whole, Recovering.whole_claimed, CourseSurveys.claims_in, CourseSurveys.either_or, CourseSurveys.surveyed}
 use Rattle.bolt_recover.proofs.{Courses.events_none, Courses.events_visit, SurveyIsOne.gives_same, SurveyIsOne.same_survey}
@@ -26,14 +26,24 @@ module _ (file : List ℕ) (meta : Meta) where
       → FoundBelow file meta (IsKeptPage file meta survey) meta.high_water found → AreFound file meta found
   are_some found survey way x is has below = grind arith
 
+  pub found_anyway : (claimed taken : ℕ → Bool) (found : List ℕ) → AreKeptPages file meta claimed → ((n : ℕ) → taken n ≡ claimed n)
+      → FoundBelow file meta (λ n. taken n ≡ true) meta.high_water found → AreFoundAnyway file meta found
+  found_anyway claimed taken found are same below =
+      let (survey, is) = has_survey file meta in
+      record {
+        survey = survey;
+        surveys = is;
+        all = found_same file meta (λ n. taken n ≡ true) (IsKeptPage file meta survey)
+            (λ k was. (are survey is k).0 (sym (same k) ∙ was)) (λ k was. same k ∙ (are survey is k).1 was) meta.high_water found below;
+      }
+
   pub found_damaged : (claimed taken : ℕ → Bool) (found : List ℕ) → AreKeptPages file meta claimed → ((n : ℕ) → taken n ≡ claimed n) → (HasSoundTrees file meta → ⊥)
       → FoundBelow file meta (λ n. taken n ≡ true) meta.high_water found → AreFound file meta found
   found_damaged claimed taken found are same damaged below =
-      let (survey, is) = has_survey file meta in
-      elim (lost_or_none survey) [
-        | inl none ↦ absurd (damaged (sound file meta survey is none))
-        | inr (way, x, gone) ↦ are_some found survey way x is gone (found_same file meta (λ n. taken n ≡ true) (IsKeptPage file meta survey)
-            (λ k was. (are survey is k).0 (sym (same k) ∙ was)) (λ k was. same k ∙ (are survey is k).1 was) meta.high_water found below)
+      let anyway = found_anyway claimed taken found are same below in
+      elim (lost_or_none anyway.survey) [
+        | inl none ↦ absurd (damaged (sound file meta anyway.survey anyway.surveys none))
+        | inr (way, x, gone) ↦ are_some found anyway.survey way x anyway.surveys gone anyway.all
       ]
 
   -- the found pages next to the kept ones of the survey

@@ -47,7 +47,7 @@ module _ (file : List ℕ) (meta : Meta) where
       (λ next. (lone_same nodes either was n (λ k h. (same k).0 h) next.leaf, next.unlisted))
       (decide.and (lone_decided nodes (in_either file meta found) n) (decide.not (ids_decided n (freelist_fault_of file meta) (free_ids_of file meta) refl refl)))
 
-  below_exists : (survey : List SurveyedWay) → IsSurvey file meta survey → (mark : ℕ) → (found : List ℕ) × FoundBelow file meta (IsKeptPage file meta survey) mark found
+  pub below_exists : (survey : List SurveyedWay) → IsSurvey file meta survey → (mark : ℕ) → (found : List ℕ) × FoundBelow file meta (IsKeptPage file meta survey) mark found
   below_exists survey is zero = ([], refl)
   below_exists survey is (suc n) =
       let (found, below) = below_exists survey is n in

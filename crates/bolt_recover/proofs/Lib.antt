@@ -25,6 +25,7 @@ mod SiteFacts
 mod SiteKeys
 mod SiteSteps
 mod Skipping
+mod Sought
 mod SoundListing
 mod SoundWalks
 mod StatesExist

@@ -21,7 +21,7 @@ pub use Rattle.bolt_check.specs.declared.finding.Finding.{Finding}
 pub use Rattle.bolt_format.specs.{ElementPlaces.leaf_view, Elements.LeafElement, Elements.head_root, Elements.head_sequence, Elements.inline_elements}
 pub use Rattle.bolt_format.specs.{declared.meta.Meta.Meta}
 unfoldable pub use Rattle.bolt_format.specs.{Pages.page_at}
-pub use Rattle.bolt_recover.specs.Found.{AreFound, FoundBelow, IsFoundNext, IsFoundPage, found_numbers}
+pub use Rattle.bolt_recover.specs.Found.{AreFound, AreFoundAnyway, AreSought, FoundBelow, IsFoundNext, IsFoundPage, found_numbers}
 pub use Rattle.bolt_recover.specs.Joined.{HasBucketKey, IsElement, IsFoundMember, IsInnerMember, IsJoined, LacksBucketKey, LeavesRoom, found_tree, inside_of}
 pub use Rattle.bolt_recover.specs.Joined.{is_found_path, joined_listing, lost_and_found, put_bucket, tree_of_elements}
 pub use Rattle.bolt_recover.specs.Gaps.{AreGaps, ForGaps, PageGapView, gaps_of, kept_gap, page_gap_view, spot_gap}

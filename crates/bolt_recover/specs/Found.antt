@@ -1,5 +1,5 @@
 -- The pages that are found though nothing leads to them: docs/RECOVERY.md, "Found pages".
-use Rattle.std.specs.Prelude.{◌≡◌, ℕ, zero, suc, ◌⊎◌, List, [], ◌∷◌, ◌++◌, Contains, map}
+use Rattle.std.specs.Prelude.{◌≡◌, ℕ, zero, suc, ◌⊎◌, Bool, true, false, List, [], ◌∷◌, ◌++◌, Contains, map}
 use Rattle.bolt_format.specs.declared.meta.Meta.{Meta}
 use Rattle.bolt_check.specs.{Lists.Has, LoneLeaves.IsListedFree, LoneLeaves.IsLoneLeaf, Nodes.node_at, Ways.At_page, Ways.SpanAt, Ways.root_spot, declared.finding.Finding.Finding}
 use Rattle.bolt_recover.specs.{KeptPages.IsKeptPage, Surveys.IsSurvey, Surveys.LosesNothing, Surveys.SurveyedWay, Surveys.lost, declared.found.Found.Found}
@@ -28,6 +28,17 @@ module _ (file : List ℕ) (meta : Meta) where
     pub surveys : IsSurvey file meta survey
     pub none : LosesNothing survey → found ≡ []
     pub some : (way : List ℕ) (x : Finding) → Has survey (lost way x) → FoundBelow (IsKeptPage file meta survey) meta.high_water found
+
+-- The found pages of a file under a meta if they are looked for in any case.
+pub record AreFoundAnyway (file : List ℕ) (meta : Meta) (found : List ℕ) : Type 0 where
+  pub survey : List SurveyedWay
+  pub surveys : IsSurvey file meta survey
+  pub all : FoundBelow file meta (IsKeptPage file meta survey) meta.high_water found
+
+-- The pages that a search finds: in any case, or only if a way is lost.
+abbrev pub AreSought : List ℕ → Meta → (anyway : Bool) → List ℕ → Type 0
+AreSought file meta true found = AreFoundAnyway file meta found
+AreSought file meta false found = AreFound file meta found
 
 -- page k lies in the span of page n
 abbrev pub Spans : List ℕ → Meta → (n k : ℕ) → Type 0

@@ -1,15 +1,15 @@
 //! What the definitions of recovery imply.
 ghost use Rattle.std.specs.List.{Contains, count_by};
-ghost use Rattle.std.specs.Prelude.{◌≡◌, ◌<◌, ◌⊎◌, ◌*◌, ◌^◌, ◌∷◌, ℕ, [], List, Some, filter, is_some, length, not};
+ghost use Rattle.std.specs.Prelude.{◌≡◌, ◌<◌, ◌⊎◌, ◌*◌, ◌^◌, ◌∷◌, ℕ, Bool, [], List, Some, false, filter, is_some, length, not};
 ghost use Rattle.bolt_format.specs.{Bytes.IsBytes, Metas.IsInSlot, declared.meta.Meta.Meta, declared.meta.Slot.Slot};
 ghost use Rattle.bolt_check.specs.{Lists.Has, LoneLeaves.IsListedFree, LoneLeaves.IsLoneLeaf, Nodes.node_at, Ones.AtMostOne, Sound.HasSoundTrees, Sound.IsFirstFinding, Ways.Spot, Ways.reached};
 ghost use Rattle.bolt_check.specs.{declared.finding.Finding.Finding};
 ghost use Rattle.bolt_tree.specs.{Entries.Bucket, Listing.IsListing, Listing.Member, Listing.member_cmp, Order.Rises, Tree.Tree, Tree.listing_of};
-ghost use Rattle.bolt_recover.specs.Found.{AreFound, IsFoundPage, ForFoundPages, Spans};
+ghost use Rattle.bolt_recover.specs.Found.{AreFound, AreFoundAnyway, AreSought, IsFoundPage, ForFoundPages, Spans};
 ghost use Rattle.bolt_recover.specs.Gaps.{AreGaps, PageGapView};
 ghost use Rattle.bolt_recover.specs.Joined.{IsFoundMember, IsJoined, LacksBucketKey, LeavesRoom, is_found_path, lost_and_found};
 ghost use Rattle.bolt_recover.specs.{JoinedMembers.ForJoined, JoinedMembers.joined_file, JoinedMembers.joined_meta, KeptPages.IsKeptPage};
-ghost use Rattle.bolt_recover.specs.{Losses.AreLosses, Losses.LossView, Losses.loss_of, Losses.losses_of, PageWays.ArePageWays};
+ghost use Rattle.bolt_recover.specs.{Losses.AreLosses, Losses.LossView, Losses.LostView, Losses.is_nothing, Losses.loss_of, Losses.losses_of, Lost.IsAllLost, PageWays.ArePageWays};
 ghost use Rattle.bolt_recover.specs.{Recovered.AreInTheirBuckets, Recovered.IsRecovered, Recoveries.recovery_file};
 ghost use Rattle.bolt_recover.specs.Surveys.{IsSurvey, LosesNothing, SurveyedWay, lost, way_kept, ForSurveys, ForLostWays, LosesNothingBefore, ForSurvey};
 ghost use Rattle.bolt_recover.specs.{Sites.AtSite, TheRecovered.the_recovered};
@@ -139,6 +139,28 @@ pub fn found_pages_are_one()
 #[tactic(auto, using(crate::proofs::FoundExists::has_found))]
 pub fn each_file_has_found_pages()
     ensures { (file : List ℕ) (meta : Meta) → (found : List ℕ) × AreFound file meta found }
+{}
+
+/// A file has one list of the pages that a search finds.
+#[tactic(auto, using(crate::proofs::Sought::one_sought))]
+pub fn sought_pages_are_one()
+    ensures { (file : List ℕ) (meta : Meta) (anyway : Bool)
+        → AtMostOne (AreSought file meta anyway) }
+{}
+
+/// Each file has pages that a search finds: one list, which may be empty.
+#[tactic(auto, using(crate::proofs::Sought::has_sought))]
+pub fn each_file_has_sought_pages()
+    ensures { (file : List ℕ) (meta : Meta) (anyway : Bool)
+        → (found : List ℕ) × AreSought file meta anyway found }
+{}
+
+/// If something is lost, the same pages are found as if they were looked for in any case.
+#[tactic(auto, using(crate::proofs::Sought::found_anyway_if_lost))]
+pub fn a_loss_is_searched_for_in_any_case()
+    ensures { (file : List ℕ) (meta : Meta) (lost : LostView) (found : List ℕ)
+        → IsAllLost file meta lost → is_nothing lost ≡ false → AreFound file meta found
+        → AreFoundAnyway file meta found }
 {}
 
 /// If nothing is lost, nothing is found.

@@ -1,10 +1,10 @@
 //! What is lost of a file, and what is found of it though nothing leads to it.
 ghost use Rattle.std.specs.List.{All};
 ghost use Rattle.std.specs.Option.{IfNone};
-ghost use Rattle.std.specs.Prelude.{◌≡◌, ◌<◌, IfOk, IfSome, false, length, map};
+ghost use Rattle.std.specs.Prelude.{◌≡◌, ◌<◌, IfOk, IfSome, false, length, map, true};
 ghost use Rattle.bolt_check.specs.{Counts.saturated, Sound.HasSoundTrees, declared.finding.Finding.Finding};
 ghost use Rattle.bolt_format.specs.Bytes.{IsBytes};
-ghost use Rattle.bolt_recover.specs.{Found.AreFound, Found.found_numbers, Lost.IsAllLost, Private.TreesLeft.IsSearched, Recovered.ForRecovered, ShownFound.IsFoundView};
+ghost use Rattle.bolt_recover.specs.{Found.AreFound, Found.AreFoundAnyway, Found.found_numbers, Lost.IsAllLost, Private.TreesLeft.IsSearched, Recovered.ForRecovered, ShownFound.IsFoundView};
 ghost use Rattle.bolt_recover.specs.{Gaps.ForGaps, Gaps.page_gap_view, Losses.is_nothing, Refusals.LosesRoot, ShownLosses.lost_view};
 
 use crate::found::Found;
@@ -107,6 +107,26 @@ impl<'a> LostAndFound<'a> {
             }
             Err(_) => Err(NoMemory),
         }
+    }
+
+    /// Finds the intact leaves that nothing leads to of a file that lost nothing (docs/RECOVERY.md,
+    /// "Found pages"). It needs what a recovery needs, and room for what is found.
+    ///
+    /// # Errors
+    ///
+    /// `NoMemory` if memory runs out.
+    pub fn search_anyway(&self, alloc: Global) -> Result<Vec<Found<'a>>, NoMemory>
+        requires { is_nothing (all_lost self.now) ≡ true }
+        ensures found { IfOk result (λ found.
+            AreFoundAnyway self.now.file.now self.now.meta (found_numbers found.items)) }
+        ensures views { IfOk result (λ found.
+            All (IsFoundView self.now.file.now self.now.meta) found.items) }
+    {
+        // Nothing is lost of the file, so only memory can be refused.
+        let Ok(recovery) = Recovery::under(alloc, self.file, self.meta) else {
+            return Err(NoMemory);
+        };
+        recovery.unreached()
     }
 
     /// How many members are recovered, if the trees aren't sound. Saturates at 2^64 - 1.

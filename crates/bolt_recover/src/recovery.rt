@@ -1,4 +1,5 @@
 //! A walk over everything that is kept of a damaged file.
+ghost use Rattle.std.specs.List.{All};
 ghost use Rattle.std.specs.Option.{IfNone};
 ghost use Rattle.std.specs.Prelude.{◌≡◌, ◌<◌, ◌≤◌, ◌^◌, [], IfErr, IfOk, IfSome, List, OnErr, OnOk, length, map};
 ghost use Rattle.bolt_check.specs.{Claims.claims_file, Claims.claims_meta, Counts.counted, Counts.saturated};
@@ -6,7 +7,7 @@ ghost use Rattle.bolt_check.specs.Sound.{HasSoundTrees};
 ghost use Rattle.bolt_tree.specs.{Listing.Member, Paths.path_of};
 ghost use Rattle.bolt_recover.specs.{KeptPages.AreKeptPages, Private.Frames.StepsAreOn, Private.Frames.AreStepsPlaced, Recovered.ForRecovered, Recovered.IsRecovered};
 ghost use Rattle.bolt_recover.specs.Refusals.{IsRefusedRoot, KeepsRoot};
-ghost use Rattle.bolt_recover.specs.{Gaps.page_gap_view, ShownLosses.loss_view};
+ghost use Rattle.bolt_recover.specs.{Found.AreFoundAnyway, Found.found_numbers, Gaps.page_gap_view, ShownFound.IsFoundView, ShownLosses.loss_view};
 
 use crate::bucket_key::compare_first;
 use crate::found::Found;
@@ -197,6 +198,26 @@ impl<'a> Recovery<'a> {
             },
             found,
         ))
+    }
+
+    /// Drops what is left, and finds the intact leaves that nothing leads to, even if nothing is lost. It
+    /// needs room for what is found, and no second table.
+    ///
+    /// # Errors
+    ///
+    /// `NoMemory` if memory runs out.
+    pub(crate) fn unreached(mut self) -> Result<Vec<Found<'a>>, NoMemory>
+        requires { ForRecovered (recovery_file self) (recovery_meta self) (λ listing.
+            recovery_left self listing ≡ listing) }
+        ensures found { IfOk result (λ found.
+            AreFoundAnyway (recovery_file self.entry) (recovery_meta self.entry)
+            (found_numbers found.items)) }
+        ensures views { IfOk result (λ found.
+            All (IsFoundView (recovery_file self.entry) (recovery_meta self.entry)) found.items) }
+    {
+        self.look_through()?;
+        let steps = self.steps;
+        find_leaves(steps.alloc, Leftovers::new(steps.claims))
     }
 
     /// Drops what is left. Returns whether the root bucket has an entry with the key of the bucket of what

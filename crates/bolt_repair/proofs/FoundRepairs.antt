@@ -1,16 +1,16 @@
 -- The repair of a file that was searched.
-use Rattle.std.proofs.Common.{◌≡◌, ◌↔◌, ◌-◌, ◌≤◌, ◌&&◌, ◌++◌, ℕ, Bool, true, false, List, [], ◌∷◌, Option, Some, None, arith, length, map, not, refl, sym, ap, ap₂, subst}
+use Rattle.std.proofs.Common.{◌≡◌, ◌↔◌, ◌∙◌, ◌-◌, ◌≤◌, ◌&&◌, ◌++◌, ℕ, Bool, true, false, List, [], ◌∷◌, Option, Some, None, arith, length, map, not, refl, sym, ap, ap₂, subst}
 use Rattle.std.proofs.{Math.Logic.∥∥₁_elim, Math.Logic.∥∥₁_map, Props.props, lemmas.List.Elements.All-head, lemmas.List.Elements.All-tail}
 use Rattle.std.proofs.lemmas.List.{length-map}
 use Rattle.std.specs.{Borrow.Bor, List.All, Option.option_map}
 use Rattle.bolt_format.specs.{Elements.LeafElement, Pages.page_at, TreePages.leaves_on, declared.meta.Meta.Meta}
 use Rattle.bolt_check.specs.{Keys.Key, declared.finding.Finding.Finding}
-use Rattle.bolt_tree.specs.{Entries.Bucket, Entries.Item, Entries.Value, Listing.Member, ShownEntries.item_view}
+use Rattle.bolt_tree.specs.{Entries.Bucket, Entries.EntryView, Entries.Item, Entries.Value, Listing.Member, Order.Rises, ShownEntries.item_view}
 use Rattle.bolt_recover.proofs.Exports.{has_recovered}
-use Rattle.bolt_recover.specs.{Losses.LostView, Losses.everything, Losses.parts, Lost.IsAllLost, LostAndFound.all_lost, Found.found_numbers, Recovered.ForRecovered, Recovered.IsRecovered, Refusals.LosesRoot, ShownFound.IsFoundView}
+use Rattle.bolt_recover.specs.{Losses.LostView, Losses.everything, Losses.is_nothing, Losses.parts, Lost.IsAllLost, LostAndFound.all_lost, Found.AreFound, Found.AreFoundAnyway, Found.AreSought, Found.found_numbers, Recovered.ForRecovered, Recovered.IsRecovered, Refusals.LosesRoot, ShownFound.IsFoundView}
 use Rattle.bolt_recover.specs.{Sites.leaves_of, declared.found.Found.Found, declared.lost_and_found.LostAndFound.LostAndFound}
 use Rattle.bolt_etcd.specs.{declared.revision.Revision.Revision, ShownRevisions.entry_of, ShownRevisions.shown_revision, Among.without, Compacted.compacted_by}
-use Rattle.bolt_repair.specs.{Candidates.AreCandidates, Candidates.found_elements, FullRepairs.IsFullRepair, Repaired.IsRepair, Repaired.elements_on, Repaired.lacks_bucket}
+use Rattle.bolt_repair.specs.{Candidates.AreCandidates, Candidates.AreSearched, Candidates.found_elements, Candidates.whole_cmp, FullRepairs.IsFullRepair, Readable.readable, Repaired.IsRepair, Repaired.MakesMeta, Repaired.elements_on, Repaired.lacks_bucket, Repairs.HasMeta}
 use Rattle.bolt_repair.specs.RepairRefusals.{IsRepairRefusal, LacksStore, PutsNoneBack, left_with}
 use Rattle.bolt_repair.specs.{RecoveredStores.IsRecoveredStore, RecoveredStores.IsStoreNoted, Undisputed.AreKeys, Undisputed.AreUndisputed, WhatGoesBack.ArePutBack}
 use Rattle.bolt_repair.specs.declared.recovered_store.RecoveredStore.{RecoveredStore}
@@ -52,17 +52,63 @@ none_under None is item at = cc
 none_under (Some (Bucket sequence)) is item at = cc
 none_under (Some (Value value)) is item at = cc
 
-pub refused : (both : LostAndFound) → PutsNoneBack both.file.now both.meta → ForRecovered both.file.now both.meta LacksStore → (v : LostView) → all_lost both ≡ v
-    → IsRepairRefusal both.file.now both.meta (left_with v)
+pub refused : (both : LostAndFound) (search : Bool) → PutsNoneBack both.file.now both.meta search → ForRecovered both.file.now both.meta LacksStore → (v : LostView) → all_lost both ≡ v
+    → IsRepairRefusal both.file.now both.meta search (left_with v)
 unfolding all_lost
-refused both none lacks (everything x) is = (loses_root both x is, none)
-refused both none lacks (parts losses) is = (∥∥₁_map both.searched (λ searched. (subst (IsAllLost both.file.now both.meta) is searched.lost).0), lacks, none)
+refused both search none lacks (everything x) is = (loses_root both x is, none)
+refused both search none lacks (parts losses) is = (∥∥₁_map both.searched (λ searched. (subst (IsAllLost both.file.now both.meta) is searched.lost).0), lacks, none)
 
 abbrev now : Bor Key → Key
 now key = key.now
 
-module _ (both : LostAndFound) (pages : List Found) (on : pages ≡ both.found.items) (all listed left back : List Revision) (same : listed ≡ all) (store : RecoveredStore)
-    (compacted : ℕ) (at : compacted ≡ compacted_by (option_map now store.compaction)) (candidates : AreCandidates (found_elements pages) (map entry_of all))
+-- the bucket `meta` is made if nothing was noted under its name
+meta_if : (recovered : List Member) (has : Bool) → (has ≡ true) ↔ HasMeta recovered → MakesMeta recovered (not has)
+meta_if recovered true says = says.0 refl
+meta_if recovered false says = λ there. let wrong : false ≡ true = says.1 there in cc
+
+-- ---- the candidates
+
+-- on pages that were looked for though nothing is lost
+pub searched_anyway : (both : LostAndFound) (search : Bool) (found : List Found) (es : List EntryView) → search ≡ true → AreFoundAnyway both.file.now both.meta (found_numbers found)
+    → All (IsFoundView both.file.now both.meta) found → AreCandidates (found_elements found) es → AreSearched both search es
+searched_anyway both search found es is are views candidates =
+    let file = both.file.now in
+    let meta = both.meta in
+    ∣ (
+      found_numbers found,
+      subst (λ (b : Bool). AreSought file meta b (found_numbers found)) (sym is) are,
+      subst (λ (elements : List LeafElement). AreCandidates elements es) (sym (elements_found file meta found views)) candidates,
+    ) ∣₁
+
+-- If something is lost, the pages were found as if they were looked for in any case.
+abbrev FindsAnyway : Type 0
+FindsAnyway = (file : List ℕ) (meta : Meta) (lost : LostView) (found : List ℕ) → IsAllLost file meta lost → is_nothing lost ≡ false → AreFound file meta found → AreFoundAnyway file meta found
+
+lost_sought : FindsAnyway → (both : LostAndFound) (search : Bool) → IsAllLost both.file.now both.meta (all_lost both) → AreFound both.file.now both.meta (found_numbers both.found.items)
+    → (search ≡ true → is_nothing (all_lost both) ≡ false) → AreSought both.file.now both.meta search (found_numbers both.found.items)
+lost_sought anyway both true loses are some = anyway both.file.now both.meta (all_lost both) (found_numbers both.found.items) loses (some refl) are
+lost_sought anyway both false loses are some = are
+
+-- on pages that were found since something is lost
+pub searched_lost : FindsAnyway → (both : LostAndFound) (search : Bool) (found : List Found) (es : List EntryView) → found ≡ both.found.items → (search ≡ true → is_nothing (all_lost both) ≡ false)
+    → AreCandidates (found_elements found) es → AreSearched both search es
+unfolding all_lost
+searched_lost anyway both search found es at some candidates = ∥∥₁_map both.searched (λ searched. (
+  found_numbers both.found.items,
+  lost_sought anyway both search searched.lost searched.are_found some,
+  subst (λ (elements : List LeafElement). AreCandidates elements es) (ap found_elements at ∙ sym (elements_found both.file.now both.meta both.found.items searched.views)) candidates,
+))
+
+rises_prop : (es : List EntryView) → IsProp (Rises whole_cmp es)
+rises_prop [] = hlevel props
+rises_prop (e ∷ es) = hlevel (rises_prop es, props)
+
+-- candidates stand by key and value
+pub searched_rise : (both : LostAndFound) (search : Bool) (es : List EntryView) → AreSearched both search es → Rises whole_cmp es
+searched_rise both search es are = ∥∥₁_elim are (rises_prop es) (λ (found, sought, on_pages). on_pages.rises)
+
+module _ (both : LostAndFound) (search : Bool) (all listed left back : List Revision) (same : listed ≡ all) (store : RecoveredStore)
+    (compacted : ℕ) (at : compacted ≡ compacted_by (option_map now store.compaction)) (candidates : AreSearched both search (map entry_of all))
     (stores : ForRecovered both.file.now both.meta (λ recovered. IsStoreNoted recovered (map entry_of listed) store))
     (agree : AreUndisputed (without (map now store.met.items) (map entry_of all)) (map entry_of left))
     (put : ArePutBack compacted (map shown_revision store.kept.items) (map entry_of left) (map entry_of back)) where
@@ -72,32 +118,29 @@ module _ (both : LostAndFound) (pages : List Found) (on : pages ≡ both.found.i
   is_recovered : IsRecovered both.file.now both.meta recovered
   is_recovered = (has_recovered both.file.now both.meta).1
 
-  on_all : AreCandidates (found_elements both.found.items) (map entry_of all)
-  on_all = subst (λ (ps : List Found). AreCandidates (found_elements ps) (map entry_of all)) on candidates
+  stored : IsRecoveredStore (readable recovered) (map entry_of all) (option_map item_view store.bucket) (option_map now store.compaction) (map shown_revision store.kept.items) (map now store.met.items)
+  stored = (subst (λ (es : List Revision). IsStoreNoted recovered (map entry_of es) store) same (stores recovered is_recovered)).store
 
-  on_pages : All (IsFoundView both.file.now both.meta) both.found.items → AreCandidates (elements_on both.file.now both.meta (found_numbers both.found.items)) (map entry_of all)
-  on_pages views = subst (λ (es : List LeafElement). AreCandidates es (map entry_of all)) (sym (elements_found both.file.now both.meta both.found.items views)) on_all
-
-  stored : IsRecoveredStore recovered (map entry_of all) (option_map item_view store.bucket) (option_map now store.compaction) (map shown_revision store.kept.items) (map now store.met.items)
-  stored = subst (λ (es : List Revision). IsStoreNoted recovered (map entry_of es) store) same (stores recovered is_recovered)
+  makes_it : MakesMeta recovered (not store.has_meta)
+  makes_it = meta_if recovered store.has_meta (stores recovered is_recovered).meta
 
   put_back : ArePutBack (compacted_by (option_map now store.compaction)) (map shown_revision store.kept.items) (map entry_of left) (map entry_of back)
   put_back = subst (λ (n : ℕ). ArePutBack n (map shown_revision store.kept.items) (map entry_of left) (map entry_of back)) at put
 
   pub searched_least : (keys : List Key) → AreKeys (without (map now store.met.items) (map entry_of all)) keys → length back ≤ length keys
-  searched_least keys are = ∥∥₁_elim both.searched (hlevel props) (λ searched.
+  searched_least keys are = ∥∥₁_elim candidates (hlevel props) (λ (found, sought, on_pages).
       let long = length-map back entry_of in
-      let few = back_least both.file.now both.meta (found_numbers both.found.items) searched.are_found (map entry_of all) (map entry_of left) (map entry_of back) (map now store.met.items) _ _ _ (on_pages searched.views) agree recovered is_recovered stored put_back keys are in
+      let few = back_least both.file.now both.meta search found sought (map entry_of all) (map entry_of left) (map entry_of back) (map now store.met.items) _ _ _ on_pages agree recovered is_recovered stored put_back (not store.has_meta) makes_it keys are in
       omega (arith, long, few))
 
   module _ (lacks : Bool) (is_lacking : lacks_bucket (option_map item_view store.bucket) ≡ Some lacks) (is_made : Bool) (made : is_made ≡ (lacks && not (is_nil (map entry_of back)))) where
-    pub searched_repair : ∥ IsRepair both.file.now both.meta (map entry_of back) is_made ∥₁
-    searched_repair = ∥∥₁_map both.searched (λ searched.
-        repair both.file.now both.meta (found_numbers both.found.items) searched.are_found (map entry_of all) (map entry_of left) (map entry_of back) (map now store.met.items) _ _ _ (on_pages searched.views) agree recovered is_recovered stored put_back
-        lacks is_lacking is_made made)
+    pub searched_repair : ∥ IsRepair both.file.now both.meta search (map entry_of back) (record { store = is_made; meta = not store.has_meta }) ∥₁
+    searched_repair = ∥∥₁_map candidates (λ (found, sought, on_pages).
+        repair both.file.now both.meta search found sought (map entry_of all) (map entry_of left) (map entry_of back) (map now store.met.items) _ _ _ on_pages agree recovered is_recovered stored put_back
+        (not store.has_meta) makes_it lacks is_lacking is_made made)
 
     pub searched_full : (keys : List Key) → AreKeys (without (map now store.met.items) (map entry_of all)) keys → (left_out : ℕ) → left_out ≡ length keys - length back
-        → ∥ IsFullRepair both.file.now both.meta (map entry_of back) is_made left_out ∥₁
-    searched_full keys are left_out number = ∥∥₁_map both.searched (λ searched.
-        full_repair both.file.now both.meta (found_numbers both.found.items) searched.are_found (map entry_of all) (map entry_of left) (map entry_of back) (map now store.met.items) _ _ _ (on_pages searched.views) agree recovered is_recovered stored put_back
-        lacks is_lacking is_made made keys are left_out (let long = length-map back entry_of in omega (arith, long, number)))
+        → ∥ IsFullRepair both.file.now both.meta search (map entry_of back) (record { store = is_made; meta = not store.has_meta }) left_out ∥₁
+    searched_full keys are left_out number = ∥∥₁_map candidates (λ (found, sought, on_pages).
+        full_repair both.file.now both.meta search found sought (map entry_of all) (map entry_of left) (map entry_of back) (map now store.met.items) _ _ _ on_pages agree recovered is_recovered stored put_back
+        (not store.has_meta) makes_it lacks is_lacking is_made made keys are left_out (let long = length-map back entry_of in omega (arith, long, number)))

@@ -1,4 +1,5 @@
 pub mod Alones
+pub mod BoundLemmas
 pub mod CandidateLemmas
 pub mod FoundRepairs
 pub mod KeySearches
@@ -7,11 +8,14 @@ pub mod KeysAmong
 pub mod NewestUntil
 pub mod NotedMembers
 pub mod OneRepair
+pub mod ReadableLemmas
+pub mod ReadablePaths
+pub mod ReadingLemmas
 pub mod RepairExists
 pub mod RepairLaws
 pub mod RepairedListings
 pub mod RestoredStores
 pub mod SortedChoice
-pub mod StorePaths
+pub mod StrippedLemmas
 pub mod WholeOrder
 pub mod WholeRepairs

@@ -4,16 +4,16 @@ use Rattle.std.proofs.{lemmas.Cmp.tied_itself, lemmas.List.MinMax.ranks_by, lemm
 use Rattle.std.specs.{List.Contains, List.dedup, Option.option_to_list, Ordering.is_lt, declared.cmp.Ordering.TheVariants.Equal}
 use Rattle.bolt_format.specs.{Elements.LeafElement, declared.meta.Meta.Meta}
 use Rattle.bolt_check.specs.Keys.{Key}
-use Rattle.bolt_recover.specs.{Found.AreFound, Recovered.IsRecovered}
+use Rattle.bolt_recover.specs.{Found.AreSought, Recovered.IsRecovered}
 use Rattle.bolt_tree.proofs.Exports.{key_exact, key_total, kept_from, shows_from, shows_has}
 use Rattle.bolt_tree.specs.{Entries.Bucket, Entries.EntryView, Entries.Item, Entries.Value, Entries.entry_view, Listing.Member, Listing.member_cmp, Order.Rises, Paths.Path}
 use Rattle.bolt_etcd.specs.{Among.without, Compacted.compacted_by, Revisions.RevisionView, Revisions.revision_of}
 use Rattle.bolt_repair.specs.Candidates.{AreCandidates, HasKey, candidates_in, is_candidate, is_same_entry, whole_cmp}
-use Rattle.bolt_repair.specs.{FullRepairs.IsFullRepair, FullRepairs.LacksStoreValue, Repaired.IsRepaired, Repaired.elements_on, Repaired.lacks_bucket, Repaired.repaired_listing}
-use Rattle.bolt_repair.specs.{Repairs.compaction_path, Repairs.store_path, RecoveredStores.ComesAfter, RecoveredStores.IsRecoveredStore, Undisputed.AreKeys, Undisputed.AreUndisputed}
+use Rattle.bolt_repair.specs.{FullRepairs.IsFullRepair, FullRepairs.LacksStoreValue, Readable.is_readable, Readable.readable, Repaired.IsRepaired, Repaired.Made, Repaired.MakesMeta, Repaired.elements_on, Repaired.lacks_bucket, Repaired.repaired_listing}
+use Rattle.bolt_repair.specs.{Repairs.compaction_path, Repairs.meta_path, Repairs.store_path, RecoveredStores.ComesAfter, RecoveredStores.IsRecoveredStore, Undisputed.AreKeys, Undisputed.AreUndisputed}
 use Rattle.bolt_repair.specs.WhatGoesBack.{ArePutBack, goes_back, old_revisions}
 use Rattle.bolt_etcd.proofs.Exports.{dec_each, dec_equal, dec_if, dec_key, dec_path, dec_some, newest_exists, sorted_exists}
-use Rattle.bolt_repair.proofs.{KeysAmong.without_has, OneRepair.view_total, SortedChoice.sorted_choice, SortedChoice.sorted_elements}
+use Rattle.bolt_repair.proofs.{KeysAmong.without_has, OneRepair.readable_rises, OneRepair.view_total, SortedChoice.sorted_choice, SortedChoice.sorted_elements}
 use Rattle.bolt_repair.proofs.NotedMembers.{bucket_there, compaction_noted, key_not_wanted, key_noted, next_member, no_members_noted, nothing_there, store_noted}
 use Rattle.bolt_repair.proofs.{WholeOrder.merged_are_candidates, WholeOrder.same_whole, WholeOrder.whole_total, WholeRepairs.full_repair, WholeRepairs.is_nil}
 
@@ -138,27 +138,36 @@ lacks_or_has None never = (true, refl)
 lacks_or_has (Some (Bucket sequence)) never = (false, refl)
 lacks_or_has (Some (Value value)) never = absurd (never value refl)
 
+-- whether something is under `meta` can be decided
+meta_made : (recovered : List Member) → (made : Bool) × MakesMeta recovered made
+meta_made recovered = by (dec_some (λ (m : Member). m.0 ≡ meta_path) (λ m. dec_path m.0 meta_path) recovered)
+  where
+    by : Dec ((m : Member) × Contains recovered m × (m.0 ≡ meta_path)) → (made : Bool) × MakesMeta recovered made
+    by (yes (m, has, at)) = (false, (m.1, subst (λ (p : Path). Contains recovered (p, m.1)) at has))
+    by (no never) = (true, λ (item, has). never ((meta_path, item), has, refl))
+
 -- ---- the repair
 
-module _ (file : List ℕ) (meta : Meta) (found : List ℕ) (are_found : AreFound file meta found) (recovered : List Member) (recovers : IsRecovered file meta recovered)
+module _ (file : List ℕ) (meta : Meta) (search : Bool) (found : List ℕ) (are_found : AreSought file meta search found) (recovered : List Member) (recovers : IsRecovered file meta recovered)
     (lacks_value : LacksStoreValue recovered) where
-  pub has_full_repair : (back : List EntryView) × (is_made : Bool) × (left_out : ℕ) × IsFullRepair file meta back is_made left_out
+  pub has_full_repair : (back : List EntryView) × (made : Made) × (left_out : ℕ) × IsFullRepair file meta search back made left_out
   has_full_repair =
       let (all, candidates) = candidates_exist (elements_on file meta found) in
-      let (under, noted, revisions, met, store) = store_exists all recovered recovers.rises in
+      let (under, noted, revisions, met, store) = store_exists all (readable recovered) (readable_rises recovered recovers.rises) in
       let left = without met all in
       let (keys, are_keys) = keys_exist left in
       let (agreed, agree) = undisputed_exist left (λ e has.
       (kept_from is_candidate (map entry_view (elements_on file meta found)) e ((candidates.exact e).0 ((without_has met all e).0 has).0)).1) in
       let (back, put) = put_back_exists (compacted_by noted) revisions agreed in
-      let (lacks, is_lacking) = lacks_or_has under (λ value e. lacks_value value ((store.bucket (Value value)).1 e)) in (
+      let (lacks, is_lacking) = lacks_or_has under (λ value e. lacks_value value (kept_from (λ (m : Member). is_readable m.0 m.1) recovered (store_path, Value value) ((store.bucket (Value value)).1 e)).0) in
+      let (meta_is_made, makes) = meta_made recovered in (
         back,
-        lacks && not (is_nil back),
+        record { store = lacks && not (is_nil back); meta = meta_is_made },
         length keys - length back,
-        full_repair file meta found are_found all agreed back met under noted revisions candidates agree recovered recovers store put lacks is_lacking _ refl keys are_keys _ refl,
+        full_repair file meta search found are_found all agreed back met under noted revisions candidates agree recovered recovers store put meta_is_made makes lacks is_lacking _ refl keys are_keys _ refl,
       )
 
-  pub has_repaired : (listing : List Member) × IsRepaired file meta listing
+  pub has_repaired : (listing : List Member) × IsRepaired file meta search listing
   has_repaired =
-      let (back, is_made, left_out, full) = has_full_repair in
-      (repaired_listing full.repair.recovered is_made back, record { back = back; is_made = is_made; repair = full.repair; repaired = refl })
+      let (back, made, left_out, full) = has_full_repair in
+      (repaired_listing full.repair.recovered made back, record { back = back; made = made; repair = full.repair; repaired = refl })

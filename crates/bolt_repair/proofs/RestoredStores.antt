@@ -1,17 +1,18 @@
 -- The repaired listing of a compacted store that lost revisions which are found is the listing before.
 use Rattle.std.proofs.Common.{◌≡◌, ◌∙◌, ◌≤◌, inl, inr, ℕ, Bool, true, false, List, [], ◌∷◌, ◌++◌, Some, ap, arith, codes, length, map, refl, subst, sym}
 use Rattle.std.specs.declared.cmp.Ordering.TheVariants.{Less}
-use Rattle.std.proofs.lemmas.{Bool.cases_lt, List.same_from_push}
+use Rattle.std.proofs.lemmas.{Bool.cases_lt, Bool.true_from_ne_false, List.same_from_push}
 use Rattle.std.specs.List.{Contains}
 use Rattle.bolt_format.specs.{Elements.LeafElement, declared.meta.Meta.Meta}
 use Rattle.bolt_check.specs.{Keys.Key, Keys.key_cmp, Ones.AtMostOne}
-use Rattle.bolt_tree.specs.{Entries.Bucket, Entries.EntryView, Entries.Item, Entries.Value, Entries.entry_view, InBuckets.entry_in, InBuckets.members_in, Listing.Member, Listing.member_cmp, Merges.HasBucket, Merges.HaveParents, Order.Rises, Paths.Path, Tree.Tree, Tree.listing_of}
-use Rattle.bolt_tree.proofs.Exports.{entry_of, tree_has_parents, contains_head, contains_tail, irreflexive, rises_once, shows_has, merge_members, key_total, member_total}
+use Rattle.bolt_tree.specs.{Entries.Bucket, Entries.EntryView, Entries.Item, Entries.Value, Entries.entry_view, InBuckets.entry_in, InBuckets.members_in, Listing.Member, Listing.member_cmp, Merges.HasBucket, Merges.HaveParents, Merges.merge, Order.Rises, Paths.Path, Tree.Tree, Tree.listing_of}
+use Rattle.bolt_tree.proofs.Exports.{entry_of, tree_has_parents, contains_head, contains_tail, irreflexive, rises_once, shows_has, filter_all, merge_members, merge_none, key_total, member_total}
 use Rattle.bolt_recover.proofs.Exports.{one_recovered}
 use Rattle.bolt_recover.specs.Found.{AreFound}
 use Rattle.bolt_etcd.specs.{Misplaced.is_misplaced, Revisions.RevisionView, Revisions.revision_of}
 use Rattle.bolt_repair.specs.LostRevisions.{IsCompactedStore, IsRecoveredOrFound, LosesRevisions}
-use Rattle.bolt_repair.specs.{Repaired.IsRepaired, Repaired.MakesStore, Repaired.elements_on, Repaired.repaired_listing, Repairs.AreBack, Repairs.GoesBack, Repairs.IsAgreed, Repairs.IsCandidate, Repairs.IsCompactedAt, Repairs.IsNewestUpTo, Repairs.compaction_path, Repairs.store_path}
+use Rattle.bolt_repair.specs.{Readable.is_readable, Readable.readable, Repaired.IsRepaired, Repaired.MakesMeta, Repaired.MakesStore, Repaired.elements_on, Repairs.AreBack, Repairs.GoesBack, Repairs.HasMeta, Repairs.IsAgreed, Repairs.IsCandidate, Repairs.IsCompactedAt, Repairs.IsNewestUpTo, Repairs.compaction_path, Repairs.meta_path, Repairs.store_path}
+use Rattle.bolt_repair.proofs.{ReadablePaths.bucket_at, ReadablePaths.readable_entry, ReadablePaths.revision_read, ReadablePaths.unreadable_in, RepairedListings.parents_of, RepairedListings.with_back}
 use Rattle.bolt_repair.proofs.OneRepair.{member_once, one_compacted}
 use Rattle.bolt_repair.proofs.WholeOrder.{same_view}
 
@@ -26,6 +27,14 @@ no_bucket e item is = let f : length (store_path ++ e.key ∷ []) ≡ 1 = ap (λ
 
 no_compaction : (e : EntryView) (item : Item) → entry_in store_path e ≡ (compaction_path, item) → ⊥
 no_compaction e item is = let f : length (codes "key") ≡ length (codes "meta") = ap (λ (m : Member). length (first_key m.0)) is in omega (arith, f)
+
+no_meta : (e : EntryView) (item : Item) → entry_in store_path e ≡ (meta_path, item) → ⊥
+no_meta e item is = let f : length (store_path ++ e.key ∷ []) ≡ 1 = ap (λ (m : Member). length m.0) is in omega (arith, f)
+
+-- a bucket is no revision
+no_revision : (key : Key) (sequence : ℕ) (r : RevisionView) → revision_of (record { key = key; item = Bucket sequence }) ≡ Some r → ⊥
+unfolding revision_of
+no_revision key sequence r is = cc
 
 -- ---- entries of the bucket
 
@@ -127,13 +136,13 @@ module _ (listing recovered : List Member) (found : List LeafElement) (compacted
   back_listed of back are false makes m has = entry_listed back are m has
 
   repaired_listed : (tree : Tree) × (listing ≡ listing_of tree) → (back : List EntryView) → AreBack compacted recovered found back → (is_made : Bool) → MakesStore recovered back is_made → (m : Member)
-      → Contains (repaired_listing recovered is_made back) m → Contains listing m
+      → Contains (with_back recovered is_made back) m → Contains listing m
   repaired_listed of back are is_made makes m has = elim ((merge_members recovered (members_in is_made store_path back) m).0 has) [
     | inl old ↦ (loses.exact m).1 (inl old)
     | inr new ↦ back_listed of back are is_made makes m new
   ]
 
-  listed_repaired : (back : List EntryView) → AreBack compacted recovered found back → (is_made : Bool) → (m : Member) → Contains listing m → Contains (repaired_listing recovered is_made back) m
+  listed_repaired : (back : List EntryView) → AreBack compacted recovered found back → (is_made : Bool) → (m : Member) → Contains listing m → Contains (with_back recovered is_made back) m
   listed_repaired back are is_made m has =
       let more = members_in is_made store_path back in
       elim ((loses.exact m).0 has) [
@@ -143,9 +152,9 @@ module _ (listing recovered : List Member) (found : List LeafElement) (compacted
       ]
 
   pub restored : (tree : Tree) × (listing ≡ listing_of tree) → (back : List EntryView) → AreBack compacted recovered found back → (is_made : Bool) → MakesStore recovered back is_made
-      → Rises member_cmp (repaired_listing recovered is_made back) → repaired_listing recovered is_made back ≡ listing
+      → Rises member_cmp (with_back recovered is_made back) → with_back recovered is_made back ≡ listing
   restored of back are is_made makes order =
-      rises_once member_total (repaired_listing recovered is_made back) listing order rises (repaired_listed of back are is_made makes) (listed_repaired back are is_made)
+      rises_once member_total (with_back recovered is_made back) listing order rises (repaired_listed of back are is_made makes) (listed_repaired back are is_made)
 
   -- ---- the compaction
 
@@ -159,7 +168,39 @@ module _ (listing recovered : List Member) (found : List LeafElement) (compacted
   pub same_compacted : (n : ℕ) → IsCompactedAt recovered n → IsCompactedAt listing compacted → n ≡ compacted
   same_compacted n is was = one_compacted listing rises n compacted (compaction_listed n is) was
 
-module _ (file : List ℕ) (meta : Meta) (listing repaired : List Member) (l : LosesRevisions file meta listing) (is : IsRepaired file meta repaired)
+  -- ---- all that is recovered can be read, and something is under `meta`
+
+  recovered_readable : HaveParents listing listing → (m : Member) → Contains recovered m → is_readable m.0 m.1 ≡ true
+  recovered_readable parents m has = true_from_ne_false (is_readable m.0 m.1) (λ unread.
+      let there = (loses.exact m).1 (inl has) in
+      let (key, rest, at) = unreadable_in m.0 m.1 unread in
+      by key rest at there unread)
+    where
+      revision_there : (key : Key) (item : Item) → Contains listing (store_path ++ key ∷ [], item) → is_readable (store_path ++ key ∷ []) item ≡ true
+      revision_there key item there =
+          let e = entry key item in
+          let (r, is, in_place) = store.revisions e there in
+          (readable_entry e (revision_read e r is)).0
+
+      by : (key : Key) (rest : Path) → m.0 ≡ codes "key" ∷ key ∷ rest → Contains listing m → is_readable m.0 m.1 ≡ false → ⊥
+      by key [] at there unread =
+          let right = revision_there key m.1 (subst (λ (p : Path). Contains listing (p, m.1)) at there) in
+          let wrong = sym (ap (λ (p : Path). is_readable p m.1) at) ∙ unread in cc
+      by key (next ∷ rest) at there unread =
+          let (sequence, bucket) = bucket_at listing parents m.0 m.1 there (store_path ++ key ∷ []) next rest at (λ e. cc) in
+          let (r, is, in_place) = store.revisions (entry key (Bucket sequence)) bucket in
+          no_revision key sequence r is
+
+  pub all_read : HaveParents listing listing → readable recovered ≡ recovered
+  all_read parents = filter_all (λ (m : Member). is_readable m.0 m.1) recovered (recovered_readable parents)
+
+  pub meta_recovered : HasMeta listing → HasMeta recovered
+  meta_recovered (item, has) = elim ((loses.exact (meta_path, item)).0 has) [
+    | inl old ↦ (item, old)
+    | inr (element, there, same) ↦ absurd (no_meta (entry_view element) item same)
+  ]
+
+module _ (file : List ℕ) (meta : Meta) (listing repaired : List Member) (l : LosesRevisions file meta listing) (is : IsRepaired file meta false repaired)
     (found_one : AtMostOne (AreFound file meta)) (of : (tree : Tree) × (listing ≡ listing_of tree)) (order : Rises member_cmp repaired) where
   abbrev on : List ℕ → List LeafElement
   on = elements_on file meta
@@ -169,10 +210,21 @@ module _ (file : List ℕ) (meta : Meta) (listing repaired : List Member) (l : L
       subst (λ (ns : List ℕ). IsRecoveredOrFound listing is.repair.recovered (on ns)) (found_one l.found is.repair.found l.are_found is.repair.are_found)
       (subst (λ (ms : List Member). IsRecoveredOrFound listing ms (on l.found)) (one_recovered file meta l.recovered is.repair.recovered l.recovers is.repair.recovers) l.loses)
 
+  read : readable is.repair.recovered ≡ is.repair.recovered
+  read = all_read listing is.repair.recovered (on is.repair.found) l.compacted l.listed.rises loses l.store (parents_of listing of)
+
+  -- the bucket `meta` isn't made
+  none_made : (made : Bool) → MakesMeta is.repair.recovered made → members_in made meta_path [] ≡ []
+  none_made true lacks = absurd (lacks (meta_recovered listing is.repair.recovered (on is.repair.found) l.compacted l.listed.rises loses l.store l.has_meta))
+  none_made false has = refl
+
   pub comes_back : repaired ≡ listing
   comes_back =
       let r = is.repair in
-      let at = same_compacted listing r.recovered (on r.found) l.compacted l.listed.rises loses l.store r.compacted r.is_compacted l.is_compacted in
-      let are = subst (λ (n : ℕ). AreBack n r.recovered (on r.found) is.back) at r.are_back in
-      is.repaired
-      ∙ restored listing r.recovered (on r.found) l.compacted l.listed.rises loses l.store of is.back are is.is_made r.makes (subst (Rises member_cmp) is.repaired order)
+      let at = same_compacted listing r.recovered (on r.found) l.compacted l.listed.rises loses l.store r.compacted (subst (λ (ms : List Member). IsCompactedAt ms r.compacted) read r.is_compacted) l.is_compacted in
+      let are = subst (λ (n : ℕ). AreBack n r.recovered (on r.found) is.back) at (subst (λ (ms : List Member). AreBack r.compacted ms (on r.found) is.back) read r.are_back) in
+      let makes = subst (λ (ms : List Member). MakesStore ms is.back is.made.store) read r.makes in
+      let same : repaired ≡ with_back r.recovered is.made.store is.back =
+      is.repaired ∙ ap (merge (with_back (readable r.recovered) is.made.store is.back)) (none_made is.made.meta r.makes_meta) ∙ merge_none (with_back (readable r.recovered) is.made.store is.back)
+      ∙ ap (λ (ms : List Member). with_back ms is.made.store is.back) read in
+      same ∙ restored listing r.recovered (on r.found) l.compacted l.listed.rises loses l.store of is.back are is.made.store makes (subst (Rises member_cmp) same order)

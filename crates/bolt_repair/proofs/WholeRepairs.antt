@@ -6,17 +6,18 @@ use Rattle.std.proofs.lemmas.Option.{same_Some}
 use Rattle.std.specs.List.{Contains, filter_map}
 use Rattle.bolt_format.specs.{Elements.LeafElement, declared.meta.Meta.Meta}
 use Rattle.bolt_check.specs.Keys.{Key, key_cmp}
-use Rattle.bolt_recover.specs.{Found.AreFound, Recovered.IsRecovered}
+use Rattle.bolt_recover.specs.{Found.AreSought, Recovered.IsRecovered}
 use Rattle.bolt_tree.proofs.Exports.{kept, key_total, filter_rises, kept_from, gives_from, gives_has, shows_from, shows_has, fewer, rises_mapped}
 use Rattle.bolt_tree.specs.{Entries.Bucket, Entries.EntryView, Entries.Item, Entries.Value, Entries.entry_view, InBuckets.view_cmp, Listing.Member, Listing.member_cmp, Order.Rises}
 use Rattle.bolt_etcd.specs.{Among.without, Among.among, Compacted.compacted_by, Current.HaveOwnKeys, Current.IsNewest, Newest.is_until, Revisions.RevisionView, Revisions.revision_of}
 use Rattle.bolt_repair.specs.{Candidates.AreCandidates, Candidates.is_candidate, Candidates.is_in_place, FullRepairs.AreCandidateKeys, FullRepairs.IsFullRepair}
-use Rattle.bolt_repair.specs.Repaired.{IsRepair, MakesStore, elements_on, lacks_bucket}
+use Rattle.bolt_repair.specs.Readable.{is_readable, readable}
+use Rattle.bolt_repair.specs.Repaired.{IsRepair, MakesMeta, MakesStore, elements_on, lacks_bucket}
 use Rattle.bolt_repair.specs.Repairs.{AreBack, GoesBack, IsAgreed, IsCandidate, IsCompactedAt, IsKept, IsNewestUpTo, store_path}
 use Rattle.bolt_repair.specs.{RecoveredStores.IsRecoveredStore, Undisputed.AreKeys, Undisputed.AreUndisputed}
 use Rattle.bolt_repair.specs.WhatGoesBack.{ArePutBack, goes_back, is_old, old_revisions}
 use Rattle.bolt_etcd.proofs.Exports.{stored_key_is, until_early}
-use Rattle.bolt_repair.proofs.{KeysAmong.among_has, KeysAmong.among_true, KeysAmong.without_has, OneRepair.member_once, WholeOrder.in_place, WholeOrder.same_view}
+use Rattle.bolt_repair.proofs.{KeysAmong.among_has, KeysAmong.among_true, KeysAmong.without_has, OneRepair.member_once, OneRepair.readable_rises, WholeOrder.in_place, WholeOrder.same_view}
 
 until_at : (compacted : ℕ) (r : RevisionView) → is_until compacted r ≡ true → r.key.main ≤ compacted
 until_at compacted r until = ltb-false compacted r.key.main (not-true (nat_lt compacted r.key.main) until)
@@ -244,34 +245,37 @@ module _ (recovered : List Member) (found : List LeafElement) (all : List EntryV
 
 -- ---- the repair of a file
 
-module _ (file : List ℕ) (meta : Meta) (found : List ℕ) (are_found : AreFound file meta found) (all agreed back : List EntryView) (met : List Key) (under : Option Item) (noted : Option (List ℕ)) (revisions : List RevisionView)
+module _ (file : List ℕ) (meta : Meta) (search : Bool) (found : List ℕ) (are_found : AreSought file meta search found) (all agreed back : List EntryView) (met : List Key) (under : Option Item) (noted : Option (List ℕ)) (revisions : List RevisionView)
     (candidates : AreCandidates (elements_on file meta found) all) (agree : AreUndisputed (without met all) agreed) (recovered : List Member) (recovers : IsRecovered file meta recovered)
-    (store : IsRecoveredStore recovered all under noted revisions met) (put : ArePutBack (compacted_by noted) revisions agreed back) where
+    (store : IsRecoveredStore (readable recovered) all under noted revisions met) (put : ArePutBack (compacted_by noted) revisions agreed back)
+    (meta_is_made : Bool) (makes_it : MakesMeta recovered meta_is_made) where
   abbrev elements : List LeafElement
   elements = elements_on file meta found
 
   pub back_least : (keys : List Key) → AreKeys (without met all) keys → length back ≤ length keys
-  back_least keys are = back_fewer recovered elements all met under noted revisions candidates store agreed agree recovers.rises (compacted_by noted) back put keys are
+  back_least keys are = back_fewer (readable recovered) elements all met under noted revisions candidates store agreed agree (readable_rises recovered recovers.rises) (compacted_by noted) back put keys are
 
   module _ (lacks : Bool) (is_lacking : lacks_bucket under ≡ Some lacks) (is_made : Bool) (made : is_made ≡ (lacks && not (is_nil back))) where
-    pub repair : IsRepair file meta back is_made
+    pub repair : IsRepair file meta search back (record { store = is_made; meta = meta_is_made })
     repair = record {
       recovered = recovered;
       recovers = recovers;
       found = found;
       are_found = are_found;
       compacted = compacted_by noted;
-      is_compacted = compacted_at recovered elements all met under noted revisions candidates store;
-      are_back = are_back recovered elements all met under noted revisions candidates store agreed agree recovers.rises (compacted_by noted) back put;
-      makes = subst (MakesStore recovered back) (sym made) (makes recovered elements all met under noted revisions candidates store lacks is_lacking back);
+      is_compacted = compacted_at (readable recovered) elements all met under noted revisions candidates store;
+      are_back = are_back (readable recovered) elements all met under noted revisions candidates store agreed agree (readable_rises recovered recovers.rises) (compacted_by noted) back put;
+      makes = subst (MakesStore (readable recovered) back) (sym made) (makes (readable recovered) elements all met under noted revisions candidates store lacks is_lacking back);
+      makes_meta = makes_it;
     }
 
-    pub full_repair : (keys : List Key) → AreKeys (without met all) keys → (left_out : ℕ) → left_out ≡ length keys - length back → IsFullRepair file meta back is_made left_out
+    pub full_repair : (keys : List Key) → AreKeys (without met all) keys → (left_out : ℕ) → left_out ≡ length keys - length back → IsFullRepair file meta search back (record { store = is_made; meta = meta_is_made }) left_out
     unfolding repair
     full_repair keys are left_out number =
         let few = back_least keys are in
         record {
           repair = repair;
-          left = (keys, candidate_keys recovered elements all met under noted revisions candidates store keys are, omega (arith, few, number));
-          bucket = no_value recovered elements all met under noted revisions candidates store lacks is_lacking;
+          left = (keys, candidate_keys (readable recovered) elements all met under noted revisions candidates store keys are, omega (arith, few, number));
+          bucket = λ value has. no_value (readable recovered) elements all met under noted revisions candidates store lacks is_lacking value
+              (kept (λ (m : Member). is_readable m.0 m.1) recovered (store_path, Value value) has refl);
         }

@@ -1,10 +1,11 @@
 -- Which elements of found pages are candidates, as far as the recovered listing isn't looked at.
-use Rattle.std.specs.Prelude.{◌&&◌, ◌≡◌, ◌↔◌, Bool, false, List, filter, flat_map, map, not, Option, Some, None, if◌then◌else◌}
+use Rattle.std.specs.Prelude.{◌&&◌, ◌≡◌, ◌↔◌, ℕ, Bool, false, List, filter, flat_map, map, not, Option, Some, None, if◌then◌else◌}
 use Rattle.std.specs.{List.Contains, Option.is_some, Ordering.ordering_then, Str.bytes_eq, declared.cmp.Ordering.Ordering}
 use Rattle.bolt_format.specs.{Elements.LeafElement, TreePages.leaves_on}
 use Rattle.bolt_check.specs.Keys.{Key, key_cmp}
-use Rattle.bolt_recover.specs.declared.found.Found.{Found}
+use Rattle.bolt_recover.specs.{Found.AreSought, declared.found.Found.Found, declared.lost_and_found.LostAndFound.LostAndFound}
 use Rattle.bolt_tree.specs.{Entries.EntryView, Entries.entry_view, Order.Rises}
+use Rattle.bolt_repair.specs.Repaired.{elements_on}
 use Rattle.bolt_etcd.specs.{Misplaced.is_misplaced, RevisionKeys.revision_key, Revisions.RevisionView, Revisions.revision_of, ShownRevisions.value_bytes}
 
 abbrev pub is_in_place : Option RevisionView → Bool
@@ -41,6 +42,11 @@ is_same_entry a b = bytes_eq a.key b.key && bytes_eq (value_bytes a) (value_byte
 pub record AreCandidates (elements : List LeafElement) (es : List EntryView) : Type 0 where
   pub rises : Rises whole_cmp es
   pub exact : (e : EntryView) → Contains es e ↔ Contains (candidates_in elements) e
+
+-- The candidates on the pages that a search of a file finds, in any case or only if something is lost.
+abbrev pub AreSearched : LostAndFound → (search : Bool) → List EntryView → Type 0
+AreSearched both search es =
+    ∥ ((found : List ℕ) × AreSought both.file.now both.meta search found × AreCandidates (elements_on both.file.now both.meta found) es) ∥₁
 
 -- an entry has this key
 abbrev pub HasKey : List EntryView → Key → Type 0

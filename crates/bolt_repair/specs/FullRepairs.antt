@@ -5,7 +5,7 @@ use Rattle.bolt_format.specs.{Elements.LeafElement, declared.meta.Meta.Meta}
 use Rattle.bolt_check.specs.Keys.{Key, key_cmp}
 use Rattle.bolt_tree.specs.{Entries.EntryView, Entries.Value, Listing.Member, Order.Rises}
 use Rattle.bolt_etcd.specs.Revisions.{RevisionView}
-use Rattle.bolt_repair.specs.{Repaired.IsRepair, Repaired.elements_on, Repairs.IsCandidate, Repairs.store_path}
+use Rattle.bolt_repair.specs.{Readable.readable, Repaired.IsRepair, Repaired.Made, Repaired.elements_on, Repairs.IsCandidate, Repairs.store_path}
 
 -- a candidate has this key
 abbrev pub IsCandidateKey : List Member → List LeafElement → Key → Type 0
@@ -25,7 +25,7 @@ abbrev pub LacksStoreValue : List Member → Type 0
 LacksStoreValue recovered = (value : List ℕ) → Contains recovered (store_path, Value value) → ⊥
 
 -- What goes back into the bucket, which is no value, and how many keys of candidates don't.
-pub record IsFullRepair (file : List ℕ) (meta : Meta) (back : List EntryView) (is_made : Bool) (left_out : ℕ) : Type 0 where
-  pub repair : IsRepair file meta back is_made
-  pub left : IsLeftOut repair.recovered (elements_on file meta repair.found) back left_out
+pub record IsFullRepair (file : List ℕ) (meta : Meta) (search : Bool) (back : List EntryView) (made : Made) (left_out : ℕ) : Type 0 where
+  pub repair : IsRepair file meta search back made
+  pub left : IsLeftOut (readable repair.recovered) (elements_on file meta repair.found) back left_out
   pub bucket : LacksStoreValue repair.recovered

@@ -6,7 +6,7 @@ use Rattle.bolt_check.specs.Sound.{HasSoundTrees}
 use Rattle.bolt_tree.specs.{Entries.EntryView, Entries.entry_view, InBuckets.entry_in, Listing.IsListing, Listing.Member}
 use Rattle.bolt_recover.specs.{Found.AreFound, Recovered.IsRecovered}
 use Rattle.bolt_etcd.specs.{Misplaced.is_misplaced, Revisions.RevisionView, Revisions.name_of, Revisions.revision_of}
-use Rattle.bolt_repair.specs.{Repaired.elements_on, Repairs.IsCompactedAt, Repairs.store_path}
+use Rattle.bolt_repair.specs.{Repaired.elements_on, Repairs.HasMeta, Repairs.IsCompactedAt, Repairs.store_path}
 
 -- an entry of the bucket of the revisions, which is this revision
 abbrev pub IsRevisionIn : List Member → EntryView → RevisionView → Type 0
@@ -37,6 +37,7 @@ pub record LosesRevisions (file : List ℕ) (meta : Meta) (listing : List Member
   pub compacted : ℕ
   pub is_compacted : IsCompactedAt listing compacted
   pub store : IsCompactedStore compacted listing
+  pub has_meta : HasMeta listing
   pub recovered : List Member
   pub recovers : IsRecovered file meta recovered
   pub found : List ℕ

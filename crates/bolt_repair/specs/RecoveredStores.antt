@@ -1,13 +1,13 @@
 -- What the recovered listing says of a store.
-use Rattle.std.specs.Prelude.{◌≡◌, ◌↔◌, ◌<◌, ◌≤◌, ℕ, List, ◌∷◌, ◌++◌, [], Option, Some, length, map}
+use Rattle.std.specs.Prelude.{◌≡◌, ◌↔◌, ◌<◌, ◌≤◌, ℕ, true, List, ◌∷◌, ◌++◌, [], Option, Some, length, map}
 use Rattle.std.specs.{Borrow.Bor, List.Contains, Option.option_map, Option.option_to_list}
 use Rattle.std.specs.declared.cmp.Ordering.TheVariants.{Less}
 use Rattle.bolt_check.specs.{Counts.counted, Counts.saturated, Keys.Key, Keys.key_cmp, Sound.HasSoundTrees}
 use Rattle.bolt_recover.specs.{Recovered.ForRecovered, declared.lost_and_found.LostAndFound.LostAndFound}
-use Rattle.bolt_tree.specs.{Entries.EntryView, Entries.Item, Entries.Value, InBuckets.entry_in, Listing.Member, Listing.member_cmp, Order.Rises, Paths.Path, ShownEntries.item_view}
-use Rattle.bolt_repair.specs.{Candidates.HasKey, Repairs.IsKept, Repairs.compaction_path, Repairs.store_path}
-use Rattle.bolt_etcd.specs.{Revisions.RevisionView, Revisions.revision_of, ShownRevisions.shown_revision}
-use Rattle.bolt_repair.specs.declared.recovered_store.{StorePath.StorePath, StorePath.TheVariants.Compaction, StorePath.TheVariants.InStore, StorePath.TheVariants.Other, StorePath.TheVariants.Store, RecoveredStore.RecoveredStore}
+use Rattle.bolt_tree.specs.{Entries.EntryView, Entries.Item, Entries.Value, InBuckets.entry_in, Listing.Member, Listing.member_cmp, Order.Rises, ShownEntries.item_view}
+use Rattle.bolt_repair.specs.{Candidates.HasKey, Readable.readable, Readable.unread, Repairs.HasMeta, Repairs.IsKept, Repairs.compaction_path, Repairs.store_path}
+use Rattle.bolt_etcd.specs.{Revisions.RevisionView, Revisions.revision_of, ShownOthers.shown_other, ShownRevisions.shown_revision}
+use Rattle.bolt_repair.specs.declared.recovered_store.RecoveredStore.{RecoveredStore}
 
 -- an entry of the recovered bucket has this key
 abbrev pub HasKeptKey : List Member → Key → Type 0
@@ -22,11 +22,12 @@ pub record IsRecoveredStore (recovered : List Member) (candidates : List EntryVi
   pub rises : Rises key_cmp keys
   pub met : (key : Key) → Contains keys key ↔ (HasKey candidates key × HasKeptKey recovered key)
 
--- what the code notes is so of these members
-abbrev pub IsStoreNoted : List Member → List EntryView → RecoveredStore → Type 0
-IsStoreNoted members candidates store =
-    IsRecoveredStore members candidates (option_map item_view store.bucket) (option_map (λ (value : Bor (List ℕ)). value.now) store.compaction)
-    (map shown_revision store.kept.items) (map (λ (key : Bor (List ℕ)). key.now) store.met.items)
+-- What the code notes is so of these members, in the bucket `key` of those that etcd can read.
+pub record IsStoreNoted (members : List Member) (candidates : List EntryView) (noted : RecoveredStore) : Type 0 where
+  pub store : IsRecoveredStore (readable members) candidates (option_map item_view noted.bucket) (option_map (λ (value : Bor (List ℕ)). value.now) noted.compaction)
+      (map shown_revision noted.kept.items) (map (λ (key : Bor (List ℕ)). key.now) noted.met.items)
+  pub unread : map shown_other noted.unread.items ≡ unread members
+  pub meta : (noted.has_meta ≡ true) ↔ HasMeta members
 
 -- There is room for each member that is recovered of a damaged file, and for the candidates, if there are any.
 abbrev pub HasRoomFor : LostAndFound → (candidates room : ℕ) → Type 0
@@ -44,10 +45,3 @@ NotesMember candidates m old new = (before : List Member) → ComesAfter before 
 -- if there are candidates, the revision that the entry is comes after these, if it is one
 abbrev pub KeepsRevision : List EntryView → EntryView → (old new : List RevisionView) → Type 0
 KeepsRevision candidates entry old new = (e : EntryView) → Contains candidates e → new ≡ old ++ option_to_list (revision_of entry)
-
--- where a path leads, as far as a store is concerned
-abbrev pub IsStorePath : Path → StorePath → Type 0
-IsStorePath path Store = path ≡ store_path
-IsStorePath path (InStore key) = path ≡ store_path ++ key.now ∷ []
-IsStorePath path Compaction = path ≡ compaction_path
-IsStorePath path Other = (path ≡ store_path → ⊥) × ((key : Key) → path ≡ store_path ++ key ∷ [] → ⊥) × (path ≡ compaction_path → ⊥)

@@ -1,15 +1,15 @@
 -- Why a file isn't repaired: docs/RECOVERY.md, "The repaired listing".
-use Rattle.std.specs.Prelude.{ℕ, false, List, []}
+use Rattle.std.specs.Prelude.{ℕ, Bool, List, []}
 use Rattle.std.specs.List.{Contains}
 use Rattle.bolt_format.specs.declared.meta.Meta.{Meta}
 use Rattle.bolt_tree.specs.{Entries.Item, Entries.Value, Listing.Member}
 use Rattle.bolt_recover.specs.{Losses.LostView, Losses.everything, Losses.parts, Recovered.ForRecovered, Refusals.KeepsRoot, Refusals.LosesRoot}
-use Rattle.bolt_repair.specs.{Repaired.IsRepair, Repairs.store_path, declared.repair_fault.RepairFault.RepairFault}
+use Rattle.bolt_repair.specs.{Repaired.IsRepair, Repaired.Made, Repairs.store_path, declared.repair_fault.RepairFault.RepairFault}
 use Rattle.bolt_repair.specs.declared.repair_fault.RepairFault.TheVariants.{Memory, NoBucket, NotABucket, Rootless}
 
 -- nothing goes back
-abbrev pub PutsNoneBack : List ℕ → Meta → Type 0
-PutsNoneBack file meta = ∥ IsRepair file meta [] false ∥₁
+abbrev pub PutsNoneBack : List ℕ → Meta → (search : Bool) → Type 0
+PutsNoneBack file meta search = ∥ ((made : Made) × IsRepair file meta search [] made) ∥₁
 
 -- nothing is under the name of the bucket
 abbrev pub LacksStore : List Member → Type 0
@@ -17,11 +17,11 @@ LacksStore recovered = (item : Item) → Contains recovered (store_path, item) �
 
 -- Nothing goes back, and the root page is lost, or it is kept and the recovered root bucket has nothing under the name of the bucket. Or it has a
 -- value there. Nothing is said of memory.
-abbrev pub IsRepairRefusal : List ℕ → Meta → RepairFault → Type 0
-IsRepairRefusal file meta (Rootless x) = ∥ LosesRoot file meta x ∥₁ × PutsNoneBack file meta
-IsRepairRefusal file meta NoBucket = ∥ KeepsRoot file meta ∥₁ × ForRecovered file meta LacksStore × PutsNoneBack file meta
-IsRepairRefusal file meta NotABucket = (value : List ℕ) × ForRecovered file meta (λ recovered. Contains recovered (store_path, Value value))
-IsRepairRefusal file meta Memory = Unit {0}
+abbrev pub IsRepairRefusal : List ℕ → Meta → (search : Bool) → RepairFault → Type 0
+IsRepairRefusal file meta search (Rootless x) = ∥ LosesRoot file meta x ∥₁ × PutsNoneBack file meta search
+IsRepairRefusal file meta search NoBucket = ∥ KeepsRoot file meta ∥₁ × ForRecovered file meta LacksStore × PutsNoneBack file meta search
+IsRepairRefusal file meta search NotABucket = (value : List ℕ) × ForRecovered file meta (λ recovered. Contains recovered (store_path, Value value))
+IsRepairRefusal file meta search Memory = Unit {0}
 
 -- why there is no bucket, if nothing goes back into it
 abbrev pub left_with : LostView → RepairFault

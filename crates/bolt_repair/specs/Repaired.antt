@@ -3,8 +3,8 @@ use Rattle.std.specs.Prelude.{◌≡◌, ℕ, Bool, List, [], ◌∷◌, None, O
 use Rattle.std.specs.List.{Contains}
 use Rattle.bolt_format.specs.{Elements.LeafElement, Pages.page_at, declared.meta.Meta.Meta}
 use Rattle.bolt_tree.specs.{Entries.Bucket, Entries.EntryView, Entries.Item, Entries.Value, InBuckets.members_in, Listing.Member, Merges.merge}
-use Rattle.bolt_recover.specs.{Found.AreFound, Recovered.IsRecovered, Sites.leaves_of}
-use Rattle.bolt_repair.specs.Repairs.{AreBack, IsCompactedAt, store_path}
+use Rattle.bolt_recover.specs.{Found.AreSought, Recovered.IsRecovered, Sites.leaves_of}
+use Rattle.bolt_repair.specs.{Readable.readable, Repairs.AreBack, Repairs.HasMeta, Repairs.IsCompactedAt, Repairs.meta_path, Repairs.store_path}
 
 -- the elements of these pages
 abbrev pub elements_on : List ℕ → Meta → List ℕ → List LeafElement
@@ -27,28 +27,40 @@ MakesStore recovered [] false = Unit {0}
 MakesStore recovered (e ∷ back) true = (item : Item) → Contains recovered (store_path, item) → ⊥
 MakesStore recovered (e ∷ back) false = (sequence : ℕ) × Contains recovered (store_path, Bucket sequence)
 
--- These entries go back into the bucket of a file under a meta, which is made for them, or is there.
-pub record IsRepair (file : List ℕ) (meta : Meta) (back : List EntryView) (is_made : Bool) : Type 0 where
+-- Whether the bucket `meta` is made: if nothing is there.
+abbrev pub MakesMeta : List Member → Bool → Type 0
+MakesMeta recovered true = HasMeta recovered → ⊥
+MakesMeta recovered false = HasMeta recovered
+
+-- what is made: the bucket of the revisions, and the bucket `meta`
+pub record Made : Type 0 where
+  pub store : Bool
+  pub meta : Bool
+
+-- These entries go back into the bucket of a file under a meta, beside what is recovered and can be read. The buckets are made, or are there. With
+-- `search` pages are looked for even if nothing is lost.
+pub record IsRepair (file : List ℕ) (meta : Meta) (search : Bool) (back : List EntryView) (made : Made) : Type 0 where
   pub recovered : List Member
   pub recovers : IsRecovered file meta recovered
   pub found : List ℕ
-  pub are_found : AreFound file meta found
+  pub are_found : AreSought file meta search found
   pub compacted : ℕ
-  pub is_compacted : IsCompactedAt recovered compacted
-  pub are_back : AreBack compacted recovered (elements_on file meta found) back
-  pub makes : MakesStore recovered back is_made
+  pub is_compacted : IsCompactedAt (readable recovered) compacted
+  pub are_back : AreBack compacted (readable recovered) (elements_on file meta found) back
+  pub makes : MakesStore (readable recovered) back made.store
+  pub makes_meta : MakesMeta recovered made.meta
 
--- the recovered listing, with what goes back in its bucket
-abbrev pub repaired_listing : List Member → Bool → List EntryView → List Member
-repaired_listing recovered is_made back = merge recovered (members_in is_made store_path back)
+-- What is recovered and can be read, with what goes back in its bucket, and with an empty bucket `meta` if it is made.
+abbrev pub repaired_listing : List Member → Made → List EntryView → List Member
+repaired_listing recovered made back = merge (merge (readable recovered) (members_in made.store store_path back)) (members_in made.meta meta_path [])
 
 -- the repaired listing of a file under a meta
-pub record IsRepaired (file : List ℕ) (meta : Meta) (listing : List Member) : Type 0 where
+pub record IsRepaired (file : List ℕ) (meta : Meta) (search : Bool) (listing : List Member) : Type 0 where
   pub back : List EntryView
-  pub is_made : Bool
-  pub repair : IsRepair file meta back is_made
-  pub repaired : listing ≡ repaired_listing repair.recovered is_made back
+  pub made : Made
+  pub repair : IsRepair file meta search back made
+  pub repaired : listing ≡ repaired_listing repair.recovered made back
 
 -- What is promised of the repaired listing is promised for each; there is at most one (`laws`).
-abbrev pub ForRepaired : List ℕ → Meta → (List Member → Type 0) → Type 0
-ForRepaired file meta P = (listing : List Member) → IsRepaired file meta listing → P listing
+abbrev pub ForRepaired : List ℕ → Meta → (search : Bool) → (List Member → Type 0) → Type 0
+ForRepaired file meta search P = (listing : List Member) → IsRepaired file meta search listing → P listing

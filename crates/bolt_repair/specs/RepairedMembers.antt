@@ -1,9 +1,9 @@
 -- What the members of the repaired listing show.
-use Rattle.std.specs.Prelude.{ℕ, List, length}
+use Rattle.std.specs.Prelude.{ℕ, Bool, List, length}
 use Rattle.bolt_format.specs.declared.meta.Meta.{Meta}
 use Rattle.bolt_tree.specs.{Listing.Member, Merging.merged_left, Merging.merged_path, Merging.merged_work, Paths.Path}
-use Rattle.bolt_recover.specs.KeptMembers.{kept_left, kept_path, kept_work}
-use Rattle.bolt_repair.specs.{FullRepairs.IsFullRepair, PutBackMembers.put_back_left, PutBackMembers.put_back_path, RepairedMerges.both_listings, RepairedMerges.repair_back, RepairedMerges.repair_is_made, declared.put_back.PutBack.PutBack, declared.repair.Repair.Repair, declared.repaired.Repaired.Repaired}
+use Rattle.bolt_repair.specs.ReadableLeft.{readable_left, readable_path, readable_work}
+use Rattle.bolt_repair.specs.{FullRepairs.IsFullRepair, PutBackMembers.put_back_left, PutBackMembers.put_back_path, RepairedMerges.all_listings, RepairedMerges.repair_back, RepairedMerges.repair_made, declared.put_back.PutBack.PutBack, declared.repair.Repair.Repair, declared.repaired.Repaired.Repaired}
 
 -- the file that is repaired, and the meta that it is read under
 abbrev pub repair_file : Repair → List ℕ
@@ -12,9 +12,13 @@ repair_file repair = repair.both.now.file.now
 abbrev pub repair_meta : Repair → Meta
 repair_meta repair = repair.both.now.meta
 
+-- Whether pages are looked for though nothing is lost.
+abbrev pub repair_search : Repair → Bool
+repair_search repair = repair.search
+
 -- it is all that goes back, and says how many candidates don't
 abbrev pub IsWholeRepair : Repair → Type 0
-IsWholeRepair repair = ∥ IsFullRepair (repair_file repair) (repair_meta repair) (repair_back repair) (repair_is_made repair) repair.left_out ∥₁
+IsWholeRepair repair = ∥ IsFullRepair (repair_file repair) (repair_meta repair) repair.search (repair_back repair) (repair_made repair) repair.left_out ∥₁
 
 unfoldable pub repaired_file : Repaired → List ℕ
 repaired_file repaired = repair_file repaired.repair.now
@@ -22,15 +26,26 @@ repaired_file repaired = repair_file repaired.repair.now
 unfoldable pub repaired_meta : Repaired → Meta
 repaired_meta repaired = repair_meta repaired.repair.now
 
+unfoldable pub repaired_search : Repaired → Bool
+repaired_search repaired = repaired.repair.now.search
+
+-- what is put back of a listing
+abbrev put_left : PutBack → List Member → List Member
+put_left it listing = put_back_left it
+
+abbrev put_work : PutBack → ℕ
+put_work it = length (put_back_left it)
+
 -- The part of the repaired listing that is left. (There is one listing, so it is the same of each.)
 unfoldable pub repaired_left : Repaired → List Member → List Member
 repaired_left repaired listing =
-    merged_left kept_path kept_left put_back_path (λ (it : PutBack) (listing : List Member). put_back_left it) repaired.members (both_listings repaired.repair.now)
+    merged_left (merged_path readable_path put_back_path) (merged_left readable_path readable_left put_back_path put_left) put_back_path put_left repaired.members
+    (all_listings repaired.repair.now)
 
 -- how much it has to do at most, until it has returned everything
 unfoldable pub repaired_work : Repaired → ℕ
-repaired_work repaired = merged_work kept_work (λ (it : PutBack). length (put_back_left it)) repaired.members
+repaired_work repaired = merged_work (merged_work readable_work put_work) put_work repaired.members
 
 -- the path of the last member that it returned
 unfoldable pub repaired_path : Repaired → Path
-repaired_path repaired = merged_path kept_path put_back_path repaired.members
+repaired_path repaired = merged_path (merged_path readable_path put_back_path) put_back_path repaired.members

@@ -11,9 +11,17 @@ use Rattle.bolt_etcd.specs.{Compacted.compacted_by, Misplaced.is_misplaced, Revi
 abbrev pub store_path : Path
 store_path = codes "key" ∷ []
 
--- where the last compaction is noted
+-- the bucket in which the last compaction is noted
+abbrev pub meta_path : Path
+meta_path = codes "meta" ∷ []
+
+-- where it is noted
 abbrev pub compaction_path : Path
 compaction_path = codes "meta" ∷ codes "scheduledCompactRev" ∷ []
+
+-- something is under the name of that bucket
+abbrev pub HasMeta : List Member → Type 0
+HasMeta recovered = (item : Item) × Contains recovered (meta_path, item)
 
 -- The recovered listing says so of the transaction of the last compaction.
 abbrev pub IsCompactedAt : List Member → ℕ → Type 0

@@ -1,37 +1,16 @@
 //! What the recovered listing says of a store.
-ghost use Rattle.std.specs.Prelude.{◌≡◌, [], IfOk, OnOk, length, map, vec_capacity};
-ghost use Rattle.bolt_tree.specs.{Order.Rises, Paths.path_of, ShownEntries.item_view, ShownEntries.shown_entry};
+ghost use Rattle.std.specs.Prelude.{◌≡◌, ◌++◌, ◌∷◌, [], IfOk, OnOk, length, map, vec_capacity};
+ghost use Rattle.bolt_tree.specs.{InBuckets.entry_in, Order.Rises, Paths.path_of, ShownEntries.item_view, ShownEntries.shown_entry};
 ghost use Rattle.bolt_recover.specs.Recovered.{ForRecovered};
-ghost use Rattle.bolt_repair.specs.{Candidates.whole_cmp, RecoveredStores.HasRoomFor, RecoveredStores.KeepsRevision, RecoveredStores.IsStorePath};
+ghost use Rattle.bolt_repair.specs.{Candidates.whole_cmp, RecoveredStores.HasRoomFor, RecoveredStores.KeepsRevision, Repairs.store_path};
 ghost use Rattle.bolt_etcd.specs.{ShownRevisions.entry_of, ShownRevisions.shown_revision};
 
 use crate::candidates::{add_key, has_candidate};
-use bolt_etcd::Revision;
+use crate::store_path::{StorePath, store_path_of};
+use bolt_etcd::{Other, Revision};
 use bolt_recover::{Kept, LostAndFound};
 use bolt_tree::{Entry, Item, Members, NoMemory};
 use std::alloc::{AllocError, Global};
-
-/// The bucket of the revisions.
-const STORE: &[u8] = b"key";
-
-/// The bucket in which the last compaction is noted.
-const META: &[u8] = b"meta";
-
-/// The key under which it is noted.
-const SCHEDULED: &[u8] = b"scheduledCompactRev";
-
-/// Where a path leads.
-#[derive(Clone, Copy)]
-enum StorePath<'a> {
-    /// To the bucket `key` itself, or what is there in its place.
-    Store,
-    /// To an entry of the bucket `key`, with this key.
-    InStore(&'a [u8]),
-    /// To what notes the last compaction.
-    Compaction,
-    /// Elsewhere.
-    Other,
-}
 
 /// What the recovered listing says of a store.
 #[derive(Drop)]
@@ -44,6 +23,10 @@ pub(crate) struct RecoveredStore<'a> {
     pub kept: Vec<Revision<'a>>,
     /// The keys in the bucket `key` that candidates have too, by rising key.
     pub met: Vec<&'a [u8]>,
+    /// The entries of the bucket `key` that are neither revisions nor marks, by rising key.
+    pub unread: Vec<Other<'a>>,
+    /// Whether something is under `meta` in the root bucket.
+    pub has_meta: bool,
     /// Where the last key was looked up among the candidates.
     at: usize,
 }
@@ -68,6 +51,8 @@ impl<'a> RecoveredStore<'a> {
             compaction: None,
             kept: room,
             met: Vec::new(alloc),
+            unread: Vec::new(alloc),
+            has_meta: false,
             at: 0,
         };
         let mut kept = Kept::of(alloc, both)?;
@@ -90,18 +75,30 @@ impl<'a> RecoveredStore<'a> {
     {
         match store_path_of(path) {
             StorePath::Store => self.bucket = Some(item),
-            StorePath::InStore(key) => {
-                keep_revision(&mut self.kept, candidates, &Entry { key, item })?;
-                if has_candidate(candidates, &mut self.at, key) {
-                    add_key(&mut self.met, key)?;
-                }
-            }
+            StorePath::InStore(key) => self.note_entry(&Entry { key, item }, candidates)?,
+            StorePath::Meta => self.has_meta = true,
             StorePath::Compaction => {
                 if let Item::Value(value) = item {
                     self.compaction = Some(value);
                 }
             }
-            StorePath::Other => {}
+            StorePath::Below | StorePath::Other => {}
+        }
+        Ok(())
+    }
+
+    /// Notes an entry of the bucket `key`.
+    fn note_entry(&mut self, entry: &Entry<'a>, candidates: &[Revision<'a>]) -> Result<(), NoMemory>
+        requires { Rises whole_cmp (map entry_of candidates.now) }
+        ensures { OnOk result (NotesMember (map entry_of candidates.now)
+            (entry_in store_path (shown_entry entry.now)) self.old self.new) }
+    {
+        if let Some(other) = Other::of(entry) {
+            return add_other(&mut self.unread, other);
+        }
+        keep_revision(&mut self.kept, candidates, entry)?;
+        if has_candidate(candidates, &mut self.at, entry.key) {
+            add_key(&mut self.met, entry.key)?;
         }
         Ok(())
     }
@@ -126,18 +123,6 @@ fn room_for_kept<'a>(
     Ok(Vec::with_capacity(alloc, room.saturating_add(candidates.len()))?)
 }
 
-/// Where a path leads.
-fn store_path_of<'a>(path: &[&'a [u8]]) -> StorePath<'a>
-    ensures { IsStorePath (path_of path.now) result }
-{
-    match path {
-        [bucket] if *bucket == STORE => StorePath::Store,
-        [bucket, key] if *bucket == STORE => StorePath::InStore(key),
-        [bucket, key] if *bucket == META && *key == SCHEDULED => StorePath::Compaction,
-        _ => StorePath::Other,
-    }
-}
-
 /// Keeps an entry of the bucket `key` if it is a revision, and there are candidates.
 fn keep_revision<'a>(
     revisions: &mut Vec<Revision<'a>>,
@@ -154,4 +139,14 @@ fn keep_revision<'a>(
         revisions.push(revision)?;
     }
     Ok(())
+}
+
+/// Adds an entry that is neither a revision nor a mark.
+fn add_other<'a>(others: &mut Vec<Other<'a>>, other: Other<'a>) -> Result<(), NoMemory>
+    ensures { OnOk result (others.new.items ≡ others.old.items ++ other.entry ∷ []) }
+{
+    match others.push(other) {
+        Ok(()) => Ok(()),
+        Err(_) => Err(NoMemory),
+    }
 }

@@ -3,7 +3,7 @@ ghost use Rattle.std.specs.Prelude.{◌≡◌, ◌↔◌, [], All, IfErr, IfOk, 
 ghost use Rattle.std.specs.{Bool.OnFalse, List.Contains, List.Sorted.IsSorted, Option.option_map};
 ghost use Rattle.bolt_check.specs.Keys.{key_cmp};
 ghost use Rattle.bolt_recover.specs.Recovered.{ForRecovered};
-ghost use Rattle.bolt_repair.specs.{Repaired.HasStore, Repaired.IsRepair, RepairRefusals.IsRepairRefusal, Candidates.whole_cmp, Repaired.lacks_bucket, Undisputed.AreUndisputed, Undisputed.HaveKeys, WhatGoesBack.ArePutBack, WhatGoesBack.AreTheNewest, WhatGoesBack.goes_back, WhatGoesBack.old_revisions};
+ghost use Rattle.bolt_repair.specs.{Candidates.AreSearched, Repaired.HasStore, Repaired.IsRepair, RepairRefusals.IsRepairRefusal, Readable.unread, Candidates.whole_cmp, Repaired.lacks_bucket, Undisputed.AreUndisputed, Undisputed.HaveKeys, WhatGoesBack.ArePutBack, WhatGoesBack.AreTheNewest, WhatGoesBack.goes_back, WhatGoesBack.old_revisions};
 ghost use Rattle.bolt_tree.specs.{Order.Rises, ShownEntries.item_view};
 ghost use Rattle.bolt_etcd.specs.{Among.among, Among.without, Newest.is_until, ShownRevisions.entry_of, ShownRevisions.shown_revision};
 
@@ -12,8 +12,9 @@ use crate::recovered_store::RecoveredStore;
 use crate::repair_fault::RepairFault;
 use crate::undisputed::keep_undisputed;
 use bolt_check::NoMemory;
-use bolt_etcd::{Revision, compacted_by, keep_newest};
+use bolt_etcd::{Other, Revision, compacted_by, keep_newest};
 use bolt_recover::LostAndFound;
+use bolt_recover::laws::a_loss_is_searched_for_in_any_case;
 use bolt_tree::Item;
 use std::alloc::Global;
 
@@ -22,35 +23,52 @@ use std::alloc::Global;
 #[derive(Drop)]
 pub struct Repair<'a> {
     pub(crate) both: &'a LostAndFound<'a>,
+    /// Whether pages were looked for though nothing may be lost.
+    pub(crate) search: bool,
     /// The revisions that go back, by rising key.
     pub back: Vec<Revision<'a>>,
     /// The number of keys of candidates that don't go back.
     pub left_out: u64,
-    /// Whether the bucket is made for them.
+    /// The entries of the recovered bucket `key` that are neither revisions nor marks, by rising key. They
+    /// aren't kept.
+    pub unread: Vec<Other<'a>>,
+    /// Whether the bucket is made for what goes back.
     pub(crate) is_made: bool,
-    ghost goes_back: { ∥ IsRepair both.now.file.now both.now.meta (map entry_of back.items) is_made ∥₁ },
+    /// Whether the bucket `meta` is made.
+    pub(crate) makes_meta: bool,
+    ghost goes_back: { ∥ IsRepair both.now.file.now both.now.meta search (map entry_of back.items)
+        (record { store = is_made; meta = makes_meta }) ∥₁ },
 }
 
 impl<'a> Repair<'a> {
-    ghost use Rattle.bolt_repair.specs.{RepairedMembers.IsWholeRepair, RepairedMembers.repair_file, RepairedMembers.repair_meta, RepairedMerges.repair_back};
+    ghost use Rattle.bolt_repair.specs.{RepairedMembers.IsWholeRepair, RepairedMembers.repair_file, RepairedMembers.repair_meta, RepairedMembers.repair_search, RepairedMerges.repair_back, RepairedMerges.repair_unread};
 
-    /// Finds what goes back. Goes over what is recovered once. If there are candidates, it needs 112 bytes for
-    /// each of them and 56 for each recovered member.
+    /// Finds what goes back, and what can't be read. With `search` it looks for pages even if nothing is
+    /// lost. Goes over what is recovered once. If there are candidates, it needs 112 bytes for each of them
+    /// and 56 for each recovered member; and up to 96 bytes for each entry that can't be read.
     ///
     /// # Errors
     ///
     /// `NotABucket` if the recovered root bucket has a value `key`. If it has nothing there and nothing
     /// goes back, `Rootless` if the root page is lost, and otherwise `NoBucket`. `Memory` if memory runs
     /// out.
-    pub fn find(alloc: Global, both: &'a LostAndFound<'_>) -> Result<Repair<'a>, RepairFault>
+    pub fn find(
+        alloc: Global,
+        both: &'a LostAndFound<'_>,
+        search: bool,
+    ) -> Result<Repair<'a>, RepairFault>
         ensures file { IfOk result (λ repair. repair_file repair ≡ both.now.file.now) }
         ensures meta { IfOk result (λ repair. repair_meta repair ≡ both.now.meta) }
+        ensures search { IfOk result (λ repair. repair_search repair ≡ search) }
         ensures back { IfOk result (λ repair. IsWholeRepair repair) }
         ensures store { IfOk result (λ repair. repair_back repair ≡ []
             → ForRecovered (repair_file repair) (repair_meta repair) HasStore) }
-        ensures refused { IfErr result (IsRepairRefusal both.now.file.now both.now.meta) }
+        ensures unread { IfOk result (λ repair.
+            ForRecovered (repair_file repair) (repair_meta repair) (λ recovered.
+            repair_unread repair ≡ unread recovered)) }
+        ensures refused { IfErr result (IsRepairRefusal both.now.file.now both.now.meta search) }
     {
-        let mut back = candidates_of(alloc, both.found.as_slice())?;
+        let mut back = find_candidates(alloc, both, search)?;
         let store = RecoveredStore::of(alloc, both, back.as_slice())?;
         let Some(is_lacking) = lacks_bucket(store.bucket) else {
             return Err(RepairFault::NotABucket);
@@ -63,11 +81,31 @@ impl<'a> Repair<'a> {
         }
         Ok(Repair {
             both,
+            search,
             left_out: (keys - back.len()) as u64,
+            unread: store.unread,
             is_made: is_lacking,
+            makes_meta: !store.has_meta,
             back,
         })
     }
+}
+
+/// The candidates on the found pages. If nothing is lost, pages are looked for only if that is asked.
+fn find_candidates<'a>(
+    alloc: Global,
+    both: &LostAndFound<'a>,
+    search: bool,
+) -> Result<Vec<Revision<'a>>, NoMemory>
+    ensures { IfOk result (λ candidates.
+        AreSearched both.now search (map entry_of candidates.items)) }
+{
+    a_loss_is_searched_for_in_any_case();
+    if search && both.lost().is_nothing() {
+        let unreached = both.search_anyway(alloc)?;
+        return candidates_of(alloc, unreached.as_slice());
+    }
+    candidates_of(alloc, both.found.as_slice())
 }
 
 /// Whether nothing is under the bucket's name. Returns `None` if a value is.

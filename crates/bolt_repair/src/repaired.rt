@@ -1,33 +1,39 @@
-//! The members of the repaired listing: those that are recovered, merged with what goes back.
+//! The members of the repaired listing: those that are recovered and can be read, merged with what goes
+//! back and with the bucket `meta` if it is made.
 ghost use Rattle.std.specs.Prelude.{◌≡◌, [], IfOk, List};
 ghost use Rattle.bolt_repair.specs.{RepairedMerges.ReadsRepaired, Repaired.IsRepaired};
 ghost use Rattle.bolt_tree.specs.Listing.{Member};
 
 use crate::put_back::PutBack;
+use crate::readable_members::ReadableMembers;
 use crate::repair::Repair;
+use crate::store_path::{META, STORE};
 use bolt_check::NoMemory;
-use bolt_recover::Kept;
-use bolt_recover::laws::{found_pages_are_one, the_recovered_listing_is_recovered};
+use bolt_etcd::Revision;
+use bolt_recover::laws::{
+    recovered_listing_is_of_a_tree, sought_pages_are_one, the_recovered_listing_is_recovered,
+};
 use bolt_tree::{Item, Members, Merged};
 use std::alloc::Global;
 
 /// The members of the repaired listing of a file, in the order of paths (docs/RECOVERY.md, "The
-/// repaired listing"): those that are recovered, and in the bucket `key` what goes back. A member
-/// costs constant work, and no memory beyond that of the recovery.
+/// repaired listing"): those that are recovered and that etcd can read, in the bucket `key` what goes
+/// back, and the bucket `meta` if it is made. A member costs constant work, and no memory beyond that
+/// of the recovery.
 #[derive(Drop)]
 pub struct Repaired<'a> {
-    members: Merged<'a, Kept<'a>, PutBack<'a>>,
+    members: Merged<'a, Merged<'a, ReadableMembers<'a>, PutBack<'a>>, PutBack<'a>>,
     repair: &'a Repair<'a>,
     ghost reads: { ∥ ReadsRepaired members repair.now ∥₁ },
 }
 
-#[tactic(auto, unfolding(crate::specs::RepairedMembers::repaired_file, crate::specs::RepairedMembers::repaired_left, crate::specs::RepairedMembers::repaired_meta, crate::specs::RepairedMembers::repaired_path))]
+#[tactic(auto, unfolding(crate::specs::RepairedMembers::repaired_file, crate::specs::RepairedMembers::repaired_left, crate::specs::RepairedMembers::repaired_meta, crate::specs::RepairedMembers::repaired_path, crate::specs::RepairedMembers::repaired_search))]
 impl<'a> Repaired<'a> {
     ghost use Rattle.bolt_repair.specs.Repaired.{ForRepaired};
-    ghost use Rattle.bolt_repair.specs.RepairedMembers.{repair_file, repair_meta, repaired_file, repaired_left, repaired_meta, repaired_path};
+    ghost use Rattle.bolt_repair.specs.RepairedMembers.{repair_file, repair_meta, repair_search, repaired_file, repaired_left, repaired_meta, repaired_path, repaired_search};
 
     /// The members of the repaired listing of the file that was searched. It needs what `Kept::of`
-    /// needs, and room for one path.
+    /// needs, and room for two paths.
     ///
     /// # Errors
     ///
@@ -35,29 +41,33 @@ impl<'a> Repaired<'a> {
     pub fn new(alloc: Global, repair: &'a Repair<'a>) -> Result<Repaired<'a>, NoMemory>
         ensures file { IfOk result (λ repaired. repaired_file repaired ≡ repair_file repair.now) }
         ensures meta { IfOk result (λ repaired. repaired_meta repaired ≡ repair_meta repair.now) }
+        ensures search { IfOk result (λ repaired. repaired_search repaired ≡ repair_search repair.now) }
         ensures all { IfOk result (λ repaired.
-            ForRepaired (repair_file repair.now) (repair_meta repair.now) (λ listing.
-            repaired_left repaired listing ≡ listing)) }
+            ForRepaired (repair_file repair.now) (repair_meta repair.now) (repair_search repair.now)
+            (λ listing. repaired_left repaired listing ≡ listing)) }
         ensures path { IfOk result (λ repaired. repaired_path repaired ≡ []) }
     {
-        found_pages_are_one();
+        sought_pages_are_one();
+        recovered_listing_is_of_a_tree();
         the_recovered_listing_is_recovered();
-        let kept = Kept::of(alloc, repair.both)?;
-        let back = PutBack::new(alloc, &[b"key"], repair.is_made, repair.back.as_slice())?;
+        let kept = ReadableMembers::of(alloc, repair.both)?;
+        let back = PutBack::new(alloc, &[STORE], repair.is_made, repair.back.as_slice())?;
+        let nothing: &'a [Revision<'a>] = &[];
+        let meta = PutBack::new(alloc, &[META], repair.makes_meta, nothing)?;
         Ok(Repaired {
-            members: Merged::new(kept, back),
+            members: Merged::new(Merged::new(kept, back), meta),
             repair,
         })
     }
 }
 
-#[tactic(auto, unfolding(crate::specs::RepairedMembers::repaired_file, crate::specs::RepairedMembers::repaired_left, crate::specs::RepairedMembers::repaired_meta, crate::specs::RepairedMembers::repaired_path, crate::specs::RepairedMembers::repaired_work))]
+#[tactic(auto, unfolding(crate::specs::RepairedMembers::repaired_file, crate::specs::RepairedMembers::repaired_left, crate::specs::RepairedMembers::repaired_meta, crate::specs::RepairedMembers::repaired_path, crate::specs::RepairedMembers::repaired_search, crate::specs::RepairedMembers::repaired_work))]
 impl<'a> Members<'a> for Repaired<'a> {
-    ghost use Rattle.bolt_repair.specs.RepairedMembers.{repaired_file, repaired_left, repaired_meta, repaired_path, repaired_work};
+    ghost use Rattle.bolt_repair.specs.RepairedMembers.{repaired_file, repaired_left, repaired_meta, repaired_path, repaired_search, repaired_work};
 
     ghost Whole = { List Member };
 
-    ghost reads = { λ repaired listing. IsRepaired (repaired_file repaired) (repaired_meta repaired) listing };
+    ghost reads = { λ repaired listing. IsRepaired (repaired_file repaired) (repaired_meta repaired) (repaired_search repaired) listing };
 
     ghost listing = { λ listing. listing };
 
@@ -80,7 +90,8 @@ impl<'a> Members<'a> for Repaired<'a> {
     }
 
     fn restart(&mut self, alloc: Global) -> Result<(), NoMemory> {
-        found_pages_are_one();
+        sought_pages_are_one();
+        recovered_listing_is_of_a_tree();
         the_recovered_listing_is_recovered();
         self.members.restart(alloc)
     }

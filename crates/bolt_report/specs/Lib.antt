@@ -22,4 +22,5 @@ pub mod SizeLines
 pub mod StateLines
 pub mod StatsLines
 pub mod StatusLines
+pub mod UnreadLines
 pub mod WriterLines

@@ -21,6 +21,7 @@ mod size_lines;
 mod state_lines;
 mod stats_lines;
 mod status_lines;
+mod unread_lines;
 
 pub use at_path::{AtPath, look_up};
 pub use bbolt_lines::put_bbolt_findings;
@@ -41,3 +42,4 @@ pub use size_lines::put_sizes;
 pub use state_lines::put_states;
 pub use stats_lines::stats_text;
 pub use status_lines::put_status;
+pub use unread_lines::put_unread;

@@ -1,8 +1,7 @@
 -- What the functions of `buckets`, `keys` and `get` with `--recover` promise.
-use Rattle.std.specs.Prelude.{◌≡◌, Contains, IfSome, List, ℕ, Bool, Option, Some, None, Result, Ok, Err, if◌then◌else◌}
+use Rattle.std.specs.Prelude.{List, ℕ, Bool, Option, Some, None, Result, Ok, Err, if◌then◌else◌}
 use Rattle.std.specs.Borrow.{Bor}
-use Rattle.std.specs.Option.{IfNone}
-use Rattle.bolt_tree.specs.{Entries.Value, Listing.Member, ListingParts.has_bucket, Paths.Path}
+use Rattle.bolt_tree.specs.{ListingParts.has_bucket}
 use Rattle.bolt_job.specs.PlainWords.{owned_path}
 use Rattle.bolt_report.specs.MemberNames.{is_wanted}
 use Rattle.bolt_commands.specs.{Answers.Answer, Answers.JobEnding, FilesRead.lost_ending, KeyAnswers.IsNamesAnswer, KeyAnswers.IsRecoveredAnswer, KeyAnswers.no_bucket, KeyAnswers.no_key}

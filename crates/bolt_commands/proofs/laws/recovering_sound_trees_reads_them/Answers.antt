@@ -1,10 +1,14 @@
-use Rattle.std.proofs.Common.{inl, inr, refl, subst}
+use Rattle.std.proofs.Common.{ℕ, List, false, inl, inr, length, refl, subst}
 use Rattle.std.proofs.Math.Logic.{∥∥₁_map}
 use Rattle.bolt_format.specs.declared.meta.Meta.{Meta}
 use Rattle.bolt_commands.proofs.{EntryNames.bucket_items, SoundNames.gets_the_same, SoundNames.names_the_same}
 use Rattle.bolt_commands.proofs.SoundRecovery.{Below, copies_the_same, finds_alike, lists_the_same, names_one, recovers_alike}
-use Rattle.bolt_commands.proofs.SoundRepairs.{none_restored, none_unrestored}
-use Rattle.bolt_commands.specs.RepairAnswers.{IsRestored}
+use Rattle.bolt_commands.proofs.SoundRepairs.{none_restored, none_unrestored, same_repair}
+use Rattle.bolt_commands.specs.{CopyAnswers.copy_page_size, JobAnswers.WritesCopy, RepairAnswers.IsRestored, RepairAnswers.repair_report}
+use Rattle.bolt_etcd.specs.Others.{OtherView}
+use Rattle.bolt_layout.specs.{Copies.layout_of_listing, declared.Layout.TheVariants.Balanced}
+use Rattle.bolt_recover.specs.Losses.{LostView}
+use Rattle.bolt_tree.specs.Listing.{Member}
 use Rattle.bolt_job.specs.PlainWords.{owned_path}
 use Rattle.bolt_report.specs.{KeyPrefixes.has_key_prefix, MemberNames.begins_so, MemberNames.names_bucket}
 use Rattle.bolt_commands.proofs.laws.recovering_sound_trees_reads_them.Goals as goal
@@ -20,7 +24,7 @@ returns g c =
       has_found = c.each_file_has_found_pages.ensures;
       none_found = c.nothing_lost_finds_nothing.ensures;
       has_listing = c.sound_trees_have_a_listing.ensures;
-      unrepaired = c.sound_trees_are_not_repaired.ensures;
+      unrepaired = c.sound_trees_put_nothing_back.ensures;
     } in record {
       list = λ file meta trees wanted named shown shown_named hides alone. lists_the_same (recovers_alike below file meta trees wanted named shown shown_named hides alone);
       compact = λ file meta trees wanted named shown shown_named hides alone out_old out_new target_old target_new size layout snapshot ending same.
@@ -37,11 +41,14 @@ returns g c =
           out_old out_new target_old target_new size layout snapshot ending same;
       repair = λ file meta trees choice shown out_old out_new target_old target_new size snapshot ending does. elim does [
         | inl made ↦ inl (∥∥₁_map made (λ m.
-            let (other, listing, lost, back, left_out, is, faults, are, writes) = m in
+            let (other, listing, lost, others, back, left_out, is, faults, are, writes) = m in
             let one = names_one below file choice meta shown other is.under in
-            let at = subst (λ (m : Meta). IsRestored file choice m listing lost back left_out) one is in
-            let (lists, none, no_back, none_left) = none_restored below file meta trees choice listing lost back left_out at in
-            (listing, lists, faults, are, rw (one, none, no_back, none_left) at writes)))
+            let at = subst (λ (m : Meta). IsRestored file choice false m listing lost others back left_out) one is in
+            let (own, lists, is_made, makes, same, leaves, none, no_back, none_left) = none_restored below file meta trees choice listing lost others back left_out at in
+            let copies = λ (listing : List Member) (lost : LostView) (others : List OtherView) (back left_out : ℕ).
+            WritesCopy g.O.Sink.taken g.O.Sink.failed out_old out_new g.T.Sink.taken g.T.Sink.failed target_old target_new snapshot listing
+            (layout_of_listing Balanced (copy_page_size size meta) listing meta.root_sequence) (repair_report faults lost others back left_out (length file)) ending in
+            (own, lists, is_made, makes, faults, are, same_repair copies same leaves none no_back none_left (rw one at writes))))
         | inr (why, is, none) ↦ inr (why, none_unrestored below file meta trees choice shown why is, none)
       ];
     }

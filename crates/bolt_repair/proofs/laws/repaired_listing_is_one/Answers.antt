@@ -2,4 +2,4 @@ use Rattle.bolt_repair.proofs.OneRepair.{one_repaired}
 use Rattle.bolt_repair.proofs.laws.repaired_listing_is_one.Goals as goal
 
 pub returns : goal.returns
-returns c = λ file meta. one_repaired file meta (c.found_pages_are_one.ensures file meta)
+returns c = λ file meta search. one_repaired file meta search (c.sought_pages_are_one.ensures file meta search)

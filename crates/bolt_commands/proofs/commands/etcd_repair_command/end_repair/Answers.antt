@@ -11,4 +11,4 @@ returns-in_err-put_repair_report g c =
 pub returns : goal.returns
 returns g c =
     let put = c.in_ok-put_repair_report.ensures in
-    inl (put.appends, put.failures, ap Ok c.status_of.ensures)
+    inl (put.appends, put.failures, ap Ok c.repair_status.ensures)

@@ -1,0 +1,115 @@
+//! The members that are recovered and that etcd can read.
+ghost use Rattle.std.specs.Option.{option_map};
+ghost use Rattle.std.specs.Prelude.{◌≡◌, ◌↔◌, ◌<◌, [], IfOk, IfSome, List, OnErr, false};
+ghost use Rattle.std.proofs.Props.{props};
+ghost use Rattle.bolt_tree.specs.{Listing.Member, ShownEntries.item_view};
+ghost use Rattle.bolt_recover.specs.{KeptMembers.kept_left, KeptMembers.kept_path, KeptMembers.kept_work, Recovered.ForRecovered, Recovered.IsRecovered};
+ghost use Rattle.bolt_repair.specs.Stripped.{GivesReadable, KeepsPath, PassesOver, ReadsKept, strip};
+
+use crate::store_path::{NearPath, is_readable};
+use bolt_recover::{Kept, LostAndFound};
+use bolt_tree::{Item, Members, NoMemory};
+use std::alloc::Global;
+
+/// The members that are recovered of a file, without those that etcd can't read: in the bucket `key` what
+/// is neither a revision nor a mark. They come after the bucket or an entry in it. The path of that is
+/// kept while they are passed over, in which memory may run out.
+#[derive(Drop)]
+pub(crate) struct ReadableMembers<'a> {
+    kept: Kept<'a>,
+    /// The path of the last member, if it is that of the bucket `key` or of an entry in it.
+    near: Option<NearPath<'a>>,
+    /// Whether members were passed over since.
+    has_passed: bool,
+    ghost same: { has_passed ≡ false → KeepsPath near (kept_path kept) } by { Prim.hlevel props },
+}
+
+#[tactic(auto, unfolding(crate::specs::ReadableLeft::readable_left, crate::specs::ReadableLeft::readable_path))]
+impl<'a> ReadableMembers<'a> {
+    ghost use Rattle.bolt_repair.specs.ReadableLeft.{readable_file, readable_left, readable_meta, readable_path};
+
+    /// Those of a file that was searched. It needs what `Kept::of` needs.
+    ///
+    /// # Errors
+    ///
+    /// `NoMemory` if memory runs out.
+    pub fn of(alloc: Global, both: &LostAndFound<'a>) -> Result<ReadableMembers<'a>, NoMemory>
+        ensures file { IfOk result (λ members. readable_file members ≡ both.now.file.now) }
+        ensures meta { IfOk result (λ members. readable_meta members ≡ both.now.meta) }
+        ensures all { IfOk result (λ members. ForRecovered both.now.file.now both.now.meta (λ listing.
+            readable_left members listing ≡ strip false listing)) }
+        ensures path { IfOk result (λ members. readable_path members ≡ []) }
+    {
+        let kept = Kept::of(alloc, both)?;
+        Ok(ReadableMembers {
+            kept,
+            near: None,
+            has_passed: false,
+        })
+    }
+}
+
+#[tactic(auto, unfolding(crate::specs::ReadableLeft::readable_left, crate::specs::ReadableLeft::readable_path))]
+impl<'a> Members<'a> for ReadableMembers<'a> {
+    ghost use Rattle.bolt_repair.specs.ReadableLeft.{readable_file, readable_left, readable_meta, readable_path, readable_work};
+
+    ghost Whole = { List Member };
+
+    ghost reads = { λ members listing. IsRecovered (readable_file members) (readable_meta members) listing };
+
+    ghost listing = { λ listing. strip false listing };
+
+    ghost left = { λ members listing. readable_left members listing };
+
+    ghost work_left = { λ members. readable_work members };
+
+    ghost last_path = { λ members. readable_path members };
+
+    ghost ends_as = { λ members end. Unit {0} };
+
+    fn next(&mut self) -> Result<Option<Item<'a>>, NoMemory> {
+        let item = next_readable(&mut self.kept, &mut self.has_passed, self.near.is_some())?;
+        self.near = NearPath::of(self.kept.path());
+        self.has_passed = false;
+        Ok(item)
+    }
+
+    fn path(&self) -> &[&'a [u8]] {
+        match &self.near {
+            Some(near) if self.has_passed => near.parts(),
+            _ => self.kept.path(),
+        }
+    }
+
+    fn restart(&mut self, alloc: Global) -> Result<(), NoMemory> {
+        self.near = None;
+        self.has_passed = false;
+        self.kept.restart(alloc)
+    }
+}
+
+/// Returns the first member that is left, without those that etcd can't read if they come after the bucket
+/// `key` or an entry in it. Says whether it passed over one.
+fn next_readable<'a>(
+    kept: &mut Kept<'a>,
+    has_passed: &mut bool,
+    is_near: bool,
+) -> Result<Option<Item<'a>>, NoMemory>
+    ensures reads { (whole : List Member) → ReadsKept kept.new whole ↔ ReadsKept kept.old whole }
+    ensures given { IfOk result (λ given. (whole : List Member) → ReadsKept kept.old whole
+        → GivesReadable is_near (kept_left kept.old whole) (kept_left kept.new whole)
+        (kept_path kept.new) (option_map item_view given)) }
+    ensures fewer { IfOk result (λ given. IfSome given (λ _. kept_work kept.new < kept_work kept.old)) }
+    ensures same { OnErr result ((whole : List Member) → ReadsKept kept.old whole
+        → strip is_near (kept_left kept.new whole) ≡ strip is_near (kept_left kept.old whole)) }
+    ensures passed { OnErr result (PassesOver is_near has_passed.old has_passed.new
+        (kept_path kept.old) (kept_path kept.new)) }
+{
+    'rest: while let Some(item) = kept.next()? {
+        if !is_near || is_readable(kept.path(), item) {
+            return Ok(Some(item));
+        }
+        *has_passed = true;
+    }
+    Ok(None)
+}

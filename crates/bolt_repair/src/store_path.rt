@@ -1,0 +1,119 @@
+//! Where a path leads, as far as a store is concerned, and which members etcd can read.
+ghost use Rattle.std.specs.Prelude.{◌≡◌, ◌≤◌, ◌∷◌, []};
+ghost use Rattle.bolt_tree.specs.{Paths.path_of, ShownEntries.item_view};
+ghost use Rattle.bolt_repair.specs.{Readable.is_readable, StorePaths.IsStorePath};
+
+use bolt_etcd::Other;
+use bolt_tree::{Entry, Item};
+
+/// The bucket of the revisions.
+pub(crate) const STORE: &[u8] = b"key";
+
+/// The bucket in which the last compaction is noted.
+pub(crate) const META: &[u8] = b"meta";
+
+/// The key under which it is noted.
+const SCHEDULED: &[u8] = b"scheduledCompactRev";
+
+/// Where a path leads.
+#[derive(Clone, Copy)]
+pub(crate) enum StorePath<'a> {
+    /// To the bucket `key` itself, or what is there in its place.
+    Store,
+    /// To an entry of the bucket `key`, with this key.
+    InStore(&'a [u8]),
+    /// Into a bucket in the bucket `key`.
+    Below,
+    /// To the bucket `meta` itself, or what is there in its place.
+    Meta,
+    /// To what notes the last compaction.
+    Compaction,
+    /// Elsewhere.
+    Other,
+}
+
+/// Where a path leads.
+pub(crate) fn store_path_of<'a>(path: &[&'a [u8]]) -> StorePath<'a>
+    ensures { IsStorePath (path_of path.now) result }
+{
+    match path {
+        [name] => root_entry(name),
+        [bucket, key] => bucket_entry(bucket, key),
+        [bucket, ..] if *bucket == STORE => StorePath::Below,
+        _ => StorePath::Other,
+    }
+}
+
+/// Where the path of an entry of the root bucket leads.
+fn root_entry<'a>(name: &[u8]) -> StorePath<'a>
+    ensures { IsStorePath (name.now ∷ []) result }
+{
+    if name == STORE {
+        StorePath::Store
+    } else if name == META {
+        StorePath::Meta
+    } else {
+        StorePath::Other
+    }
+}
+
+/// Where the path of an entry of a bucket in the root bucket leads.
+fn bucket_entry<'a>(bucket: &[u8], key: &'a [u8]) -> StorePath<'a>
+    ensures { IsStorePath (bucket.now ∷ key.now ∷ []) result }
+{
+    if bucket == STORE {
+        StorePath::InStore(key)
+    } else if bucket == META && key == SCHEDULED {
+        StorePath::Compaction
+    } else {
+        StorePath::Other
+    }
+}
+
+/// Whether etcd can read a member: in the bucket `key` it is a revision or a mark.
+pub(crate) fn is_readable<'a>(path: &[&'a [u8]], item: Item<'a>) -> bool
+    ensures { result ≡ is_readable (path_of path.now) (item_view item.entry) }
+{
+    match store_path_of(path) {
+        StorePath::InStore(key) => Other::of(&Entry { key, item }).is_none(),
+        StorePath::Below => false,
+        _ => true,
+    }
+}
+
+/// The path of the bucket `key`, or of an entry in it.
+#[derive(Clone, Copy)]
+pub(crate) struct NearPath<'a> {
+    /// It has the first of these.
+    parts: [&'a [u8]; 2],
+    length: usize,
+    ghost short: { length ≤ 2 },
+}
+
+impl<'a> NearPath<'a> {
+    ghost use Rattle.bolt_repair.specs.NearPaths.{IsNear, near_path};
+
+    /// The path, if it is such a one.
+    pub fn of(path: &[&'a [u8]]) -> Option<NearPath<'a>>
+        ensures { IsNear (path_of path.now) result }
+    {
+        match store_path_of(path) {
+            StorePath::Store => Some(NearPath {
+                parts: [STORE; 2],
+                length: 1,
+            }),
+            StorePath::InStore(key) => Some(NearPath {
+                parts: [STORE, key],
+                length: 2,
+            }),
+            _ => None,
+        }
+    }
+
+    /// Its parts.
+    pub fn parts(&self) -> &[&'a [u8]]
+        ensures { path_of result.now ≡ near_path self.now }
+    {
+        &self.parts[..self.length]
+    }
+}
