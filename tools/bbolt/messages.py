@@ -14,6 +14,8 @@ from random_files import is_since  # noqa: E402
 
 ONE_BUCKET = "meta mark=6\npages 6\nleaf 3 b>4/0\nleaf 4 k=v\n"
 SECONDS = 20
+# bbolt finds the pages that can be reached in one thread and panics in another, which may come too late.
+TRIES = 20
 ALL, BEFORE, SINCE = (False, True), (False,), (True,)
 # Of each message: the file, the command of main.go that bbolt prints it at, and whether bbolt before and since a release
 # does.
@@ -61,8 +63,7 @@ def try_messages(bbolt, folder, version):
         file = os.path.join(folder, "message.db")
         with open(file, "wb") as out:
             out.write(make(text))
-        found = printed(bbolt, command, file)
-        if not text_pattern(message).search(found):
-            sys.exit(f"{file}: bbolt {version} prints no {message!r} at {command}:\n{found[:1000]}")
+        if not any(text_pattern(message).search(printed(bbolt, command, file)) for _ in range(TRIES)):
+            sys.exit(f"{file}: bbolt {version} prints no {message!r} at {command}, {TRIES} times")
         count += 1
     return count
