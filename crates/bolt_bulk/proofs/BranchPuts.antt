@@ -1,12 +1,15 @@
 -- A branch page, written piece by piece.
 use Rattle.std.proofs.Common.{◌≡◌, ℕ, ◌+◌, ◌-◌, ◌*◌, List, [], ◌∷◌, ◌++◌, length, map, refl, arith, append_assoc}
 use Rattle.std.proofs.lemmas.List.{append-nil, length-append, length-map}
-use Rattle.bolt_format.specs.{ElementPlaces.branch_view, declared.element.Branch.Branch, Encoded.branch_header, Encoded.header_bytes, Endings.Ending, Wrote.Wrote, declared.sink.Sink.Ghosts}
-use Rattle.bolt_layout.specs.{Layout.placed_bytes, Levels.overflow_of, PageBytes.branch_bytes, PageBytes.branch_data, PageBytes.branch_headers, PageBytes.page_bytes}
+use Rattle.bolt_format.specs.{ElementPlaces.branch_view, declared.element.Branch.Branch, Encoded.branch_header, Encoded.header_bytes, Endings.Ending}
+use Rattle.bolt_format.specs.{Wrote.Wrote, declared.sink.Sink.Ghosts}
+use Rattle.bolt_layout.specs.{Layout.placed_bytes, Levels.overflow_of, PageBytes.branch_bytes, PageBytes.branch_data, PageBytes.branch_headers}
+use Rattle.bolt_layout.specs.{PageBytes.page_bytes}
 use Rattle.bolt_layout.proofs.Exports.{length-branch_headers}
 use Rattle.bolt_format.proofs.Exports.{length-header_bytes}
 use Rattle.bolt_format.specs.declared.header.Kind.TheVariants as kind
-use Rattle.bolt_bulk.specs.{Private.IsSizedRun, Private.data_of, Private.data_size, Private.heads_from, Private.run_page, Private.run_view, declared.branch_run.BranchRun.BranchRun}
+use Rattle.bolt_bulk.specs.{Private.IsSizedRun, Private.data_of, Private.data_size, Private.heads_from, Private.run_page, Private.run_view}
+use Rattle.bolt_bulk.specs.{declared.branch_run.BranchRun.BranchRun}
 use Rattle.bolt_bulk.proofs.FilledTexts.{zeros, filled_pieces}
 
 abbrev pub head_of : ℕ → ℕ → ℕ → Branch → List ℕ
@@ -35,9 +38,11 @@ branch_size [] = refl
 branch_size (x ∷ xs) = grind (arith, branch_size xs, length-append)
 
 -- The page over a run, in the pieces that are written.
-pub branch_run_wrote : {S : Type 0} {sink : Ghosts S} {old new : S} (page_size number : ℕ) (run : BranchRun) {end : Ending} → IsSizedRun (run_view run)
+pub branch_run_wrote : {S : Type 0} {sink : Ghosts S} {old new : S} (page_size number : ℕ) (run : BranchRun) {end : Ending}
+    → IsSizedRun (run_view run)
     → Wrote sink old new (header_bytes number kind.Branch (length run.elements.items) (overflow_of page_size run.size)
-    ++ ((heads_from head_of key_of no_length 0 run.elements.items ++ data_of key_of no_value run.elements.items) ++ zeros ((1 + overflow_of page_size run.size) * page_size - run.size))) end
+    ++ ((heads_from head_of key_of no_length 0 run.elements.items ++ data_of key_of no_value run.elements.items)
+    ++ zeros ((1 + overflow_of page_size run.size) * page_size - run.size))) end
     → Wrote sink old new (placed_bytes page_size (run_page page_size (run_view run) number ∷ [])) end
 unfolding page_bytes branch_bytes
 branch_run_wrote page_size number run sized wrote =

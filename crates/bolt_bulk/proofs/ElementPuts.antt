@@ -1,5 +1,6 @@
 -- The headers of a page's elements, written one after another.
-use Rattle.std.proofs.Common.{◌≡◌, ◌∙◌, ℕ, ◌+◌, ◌*◌, ◌<◌, ◌≤◌, List, [], ◌∷◌, ◌++◌, length, drop, get_or, Result, Ok, Err, ap, arith, append_assoc, append-nil, sym}
+use Rattle.std.proofs.Common.{◌≡◌, ◌∙◌, ℕ, ◌+◌, ◌*◌, ◌<◌, ◌≤◌, List, [], ◌∷◌, ◌++◌, length, drop, get_or, Result, Ok, Err, ap, arith, append_assoc}
+use Rattle.std.proofs.Common.{append-nil, sym}
 use Rattle.std.proofs.lemmas.List.{drop_all, drop_more, length-drop}
 use Rattle.std.specs.List.{AllByRecursion}
 use Rattle.std.specs.Prelude.{IsErr}
@@ -12,7 +13,8 @@ next_is : {X : Type 0} (xs : List X) (i : ℕ) (x : X) → i < length xs → x �
 next_is xs i x h is = drop_more xs i x h ∙ ap (λ y. y ∷ drop (i + 1) xs) (sym is)
 
 -- the data that are left
-pub data_left : {X : Type 0} (key value : X → List ℕ) (xs : List X) (i : ℕ) (x : X) → i < length xs → x ≡ get_or xs i x → data_of key value (drop i xs) ≡ key x ++ (value x ++ data_of key value (drop (i + 1) xs))
+pub data_left : {X : Type 0} (key value : X → List ℕ) (xs : List X) (i : ℕ) (x : X) → i < length xs → x ≡ get_or xs i x
+    → data_of key value (drop i xs) ≡ key x ++ (value x ++ data_of key value (drop (i + 1) xs))
 data_left key value xs i x h is = ap (data_of key value) (next_is xs i x h is)
 
 -- where nothing is asked of an element
@@ -32,12 +34,15 @@ module _ {X : Type 0} (head : ℕ → ℕ → ℕ → X → List ℕ) (key : X �
     pub place : pos ≡ 16 * length (drop i xs) + before
     pub room : before + data_size key value_length (drop i xs) ≡ data_size key value_length xs
 
-module _ {S X : Type 0} {head : ℕ → ℕ → ℕ → X → List ℕ} {key : X → List ℕ} {value_length : X → ℕ} {sink : Ghosts S} {old mid : S} {buffer : List ℕ} {xs : List X} {i pos : ℕ}
+module _ {S X : Type 0} {head : ℕ → ℕ → ℕ → X → List ℕ} {key : X → List ℕ} {value_length : X → ℕ} {sink : Ghosts S} {old mid : S} {buffer : List ℕ}
+    {xs : List X} {i pos : ℕ}
     (put : HeadsPut head key value_length sink old mid buffer xs i pos) where
-  pub heads_stop : {new : S} {A E B F : Type 0} {kept : List ℕ} {e : E} (result : Result B F) → Buffers {A = A} sink mid new buffer kept (Err e) → IsErr result
+  pub heads_stop : {new : S} {A E B F : Type 0} {kept : List ℕ} {e : E} (result : Result B F) → Buffers {A = A} sink mid new buffer kept (Err e)
+      → IsErr result
       → Wrote sink old new (heads_from head key value_length 0 xs) (page_ending result)
   heads_stop {kept = kept} result gathers err =
-      front_return _ result put.front gathers.puts (gathered_left buffer kept gathers.put (heads_from head key value_length put.before (drop i xs)) gathers.parts) err
+      front_return _ result put.front gathers.puts
+      (gathered_left buffer kept gathers.put (heads_from head key value_length put.before (drop i xs)) gathers.parts) err
 
   -- what is known of the next header
   pub record NextHead (x : X) : Type 0 where
@@ -48,10 +53,13 @@ module _ {S X : Type 0} {head : ℕ → ℕ → ℕ → X → List ℕ} {key : X
     pub heads_next : NextHead x
     heads_next = grind (arith, next_is, length-drop, put.place, put.room)
 
-    pub heads_more : {new : S} {A E : Type 0} {kept after : List ℕ} {a : A} (next : ℕ) → next + 16 ≡ pos + (length (key x) + value_length x) → after ≡ kept ++ head pos (length (key x)) (value_length x) x
+    pub heads_more : {new : S} {A E : Type 0} {kept after : List ℕ} {a : A} (next : ℕ) → next + 16 ≡ pos + (length (key x) + value_length x)
+        → after ≡ kept ++ head pos (length (key x)) (value_length x) x
         → Buffers {A = A} {E = E} sink mid new buffer kept (Ok a) → HeadsPut head key value_length sink old new after xs (i + 1) next
-    heads_more {kept = kept} {after = after} next step pushed gathers = let at = next_is xs i x h is in grind (arith, gathered_left, append_assoc, front_more, at, put.place, put.room)
+    heads_more {kept = kept} {after = after} next step pushed gathers =
+        let at = next_is xs i x h is in grind (arith, gathered_left, append_assoc, front_more, at, put.place, put.room)
 
   -- if all headers are in the buffer or were written, the buffer is what is left
-  pub heads_all : {new : S} {end : Ending} → length xs ≤ i → Wrote sink mid new buffer end → Wrote sink old new (heads_from head key value_length 0 xs) end
+  pub heads_all : {new : S} {end : Ending} → length xs ≤ i → Wrote sink mid new buffer end
+      → Wrote sink old new (heads_from head key value_length 0 xs) end
   heads_all h rest = grind (arith, drop_all, append-nil, Wrote-then)

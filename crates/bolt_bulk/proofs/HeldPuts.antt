@@ -7,7 +7,8 @@ use Rattle.bolt_format.proofs.Exports.{length-head_bytes, length-header_bytes}
 use Rattle.bolt_layout.specs.{Layout.placed_bytes, Levels.overflow_of, PageBytes.leaf_bytes, PageBytes.leaf_data, PageBytes.page_bytes}
 use Rattle.bolt_layout.proofs.Exports.{length-leaf_headers}
 use Rattle.bolt_bulk.specs.{declared.held.Held.Held, declared.held.Stored.Stored, declared.leaf_run.LeafRun.LeafRun}
-use Rattle.bolt_bulk.specs.Private.{data_size, HoldsLeaves, held_view, held_views, IsLeafRun, IsStored, leaf_page, leaf_run_view, page_size_of, stored_length, stored_value}
+use Rattle.bolt_bulk.specs.Private.{data_size, HoldsLeaves, held_view, held_views, IsLeafRun, IsStored, leaf_page, leaf_run_view, page_size_of}
+use Rattle.bolt_bulk.specs.Private.{stored_length, stored_value}
 use Rattle.bolt_bulk.specs.declared.held.Stored.TheVariants as stored
 use Rattle.bolt_bulk.proofs.{FilledTexts.zeros, FilledTexts.filled_pieces, HeldRuns.length-inline_value}
 use Rattle.bolt_bulk.proofs.LeafPuts.{AreLong, elements_text, key_by, leaf_elements, leaf_size}
@@ -25,16 +26,19 @@ held_long : (inlined : List Leaf) (items : List Held) → HoldsLeaves inlined it
 held_long inlined [] all = tt
 held_long inlined (item ∷ items) all = (stored_long inlined item.stored all.0.1, held_long inlined items all.1)
 
-pub held_data : (inlined : List Leaf) (items : List Held) → HoldsLeaves inlined items → data_size (key_by (held_view inlined)) held_length items ≡ length (leaf_data (held_views inlined items))
+pub held_data : (inlined : List Leaf) (items : List Held) → HoldsLeaves inlined items
+    → data_size (key_by (held_view inlined)) held_length items ≡ length (leaf_data (held_views inlined items))
 held_data inlined items all = leaf_size (held_view inlined) held_length items (held_long inlined items all)
 
 -- The page over a run, in the pieces that are written.
-run_pieces : {S : Type 0} {sink : Ghosts S} {old new : S} {end : Ending} (page_size number : ℕ) (run : LeafRun) → run.size ≡ page_size_of run.inlined.items run.items.items
+run_pieces : {S : Type 0} {sink : Ghosts S} {old new : S} {end : Ending} (page_size number : ℕ) (run : LeafRun)
+    → run.size ≡ page_size_of run.inlined.items run.items.items
     → Wrote sink old new (header_bytes number kind.Leaf (length run.items.items) (overflow_of page_size run.size)
     ++ (leaf_bytes (held_views run.inlined.items run.items.items) ++ zeros ((1 + overflow_of page_size run.size) * page_size - run.size))) end
     → Wrote sink old new (placed_bytes page_size (leaf_page page_size (leaf_run_view run) number ∷ [])) end
 unfolding page_bytes leaf_bytes
-run_pieces page_size number run sized wrote = grind (arith, length-map, length-header_bytes, length-leaf_headers, zeros, filled_pieces, append-nil, append_assoc)
+run_pieces page_size number run sized wrote =
+    grind (arith, length-map, length-header_bytes, length-leaf_headers, zeros, filled_pieces, append-nil, append_assoc)
 
 pub leaf_run_wrote : {S : Type 0} {sink : Ghosts S} {old new : S} {end : Ending} (page_size number : ℕ) (run : LeafRun) → IsLeafRun run
     → Wrote sink old new (header_bytes number kind.Leaf (length run.items.items) (overflow_of page_size run.size)

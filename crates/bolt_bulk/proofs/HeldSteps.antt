@@ -3,8 +3,11 @@ use Rattle.std.proofs.Common.{◌≡◌, ◌∙◌, ℕ, ◌+◌, ◌≤◌, Opt
 use Rattle.std.proofs.{lemmas.List.length-append, lemmas.List.length-map, lemmas.List.Sums.sum_by-cons}
 use Rattle.bolt_format.specs.{ElementPlaces.branch_view, Elements.BranchElement, Elements.LeafElement}
 use Rattle.bolt_layout.specs.Laid.{Laid, elements_of, held_in}
-use Rattle.bolt_bulk.specs.Private.{AreOpenRuns, AreUppers, AreWaiting, bucket_runs, climb, close, end_of, BucketFrame, held_frames, held_item, held_on, held_open, held_over, held_so_far, items_above, items_around, items_in, Known, length_frames, length_open, length_over, making_room, Open, pushing, run_view, runs_above, taking, Upper}
-use Rattle.bolt_bulk.specs.{declared.branch_run.BranchRun.BranchRun, declared.bucket_runs.BucketRuns.BucketRuns, declared.waiting_bucket.WaitingBucket.WaitingBucket}
+use Rattle.bolt_bulk.specs.Private.{AreOpenRuns, AreUppers, AreWaiting, bucket_runs, climb, close, end_of, BucketFrame, held_frames, held_item}
+use Rattle.bolt_bulk.specs.Private.{held_on, held_open, held_over, held_so_far, items_above, items_around, items_in, Known, length_frames}
+use Rattle.bolt_bulk.specs.Private.{length_open, length_over, making_room, Open, pushing, run_view, runs_above, taking, Upper}
+use Rattle.bolt_bulk.specs.{declared.branch_run.BranchRun.BranchRun, declared.bucket_runs.BucketRuns.BucketRuns}
+use Rattle.bolt_bulk.specs.{declared.waiting_bucket.WaitingBucket.WaitingBucket}
 use Rattle.bolt_check.specs.Counts.{saturated}
 use Rattle.bolt_layout.proofs.Exports.{length-elements}
 
@@ -40,9 +43,11 @@ frames_max (frame ∷ frames) inner = omega (arith, open_max, frames_max frames 
 joined : (run : List (Laid BranchElement)) (q : Laid BranchElement) → 1 ≤ q.held → held_on (run ++ q ∷ []) 0 ≡ held_on run q.held
 joined run q some = on_push run q 0 ∙ ap (λ (n : ℕ). held_on run n) (let e : max q.held (1 + 0) ≡ q.held = omega arith in e)
 
-climbed : (page_size : ℕ) (new : Option ℕ) (key : List ℕ) (q : Laid BranchElement) (uppers : List Upper) → 1 ≤ q.held → held_over (climb page_size new key q uppers) 0 ≡ held_over uppers q.held
+climbed : (page_size : ℕ) (new : Option ℕ) (key : List ℕ) (q : Laid BranchElement) (uppers : List Upper) → 1 ≤ q.held
+    → held_over (climb page_size new key q uppers) 0 ≡ held_over uppers q.held
 climbed page_size new key q [] some = omega arith
-climbed page_size new key q (upper ∷ uppers) some = let above = λ (up : Laid BranchElement) (high : 1 ≤ up.held). climbed page_size new key up uppers high in grind (arith, joined, on_page, on_max)
+climbed page_size new key q (upper ∷ uppers) some =
+    let above = λ (up : Laid BranchElement) (high : 1 ≤ up.held). climbed page_size new key up uppers high in grind (arith, joined, on_page, on_max)
 
 made : (page_size : ℕ) (state : Open) (key : List ℕ) (size : ℕ) → held_open (making_room page_size state key size) 0 ≡ held_open state 0
 made page_size state key size = grind (arith, on_page, climbed)
@@ -50,7 +55,8 @@ made page_size state key size = grind (arith, on_page, climbed)
 -- and so does the end of a bucket
 closed : (page_size : ℕ) (q : Laid BranchElement) (uppers : List Upper) → 1 ≤ q.held → (close page_size q uppers).held ≡ held_over uppers q.held
 closed page_size q [] some = refl
-closed page_size q (upper ∷ uppers) some = let above = λ (up : Laid BranchElement) (high : 1 ≤ up.held). closed page_size up uppers high in grind (arith, joined, on_page, on_max, above)
+closed page_size q (upper ∷ uppers) some =
+    let above = λ (up : Laid BranchElement) (high : 1 ≤ up.held). closed page_size up uppers high in grind (arith, joined, on_page, on_max, above)
 
 pub end_held : (page_size : ℕ) (state : Open) → (state.run ≡ [] → state.uppers ≡ []) → (end_of page_size state).held ≡ held_open state 0
 end_held page_size state begun = grind (arith, on_page, closed)
@@ -62,8 +68,10 @@ pushed : (frames : List BucketFrame) (state : Open) (item : Laid LeafElement)
     → held_so_far frames (pushing state item) ≡ max (held_frames frames (held_open state item.held)) (length_frames frames + length_open (pushing state item))
 pushed frames state item = grind (arith, on_push, open_max, frames_max, length-append)
 
-pub takes_held : (page_size : ℕ) (frames : List BucketFrame) (state : Open) (item : Laid LeafElement) (before after : ℕ) → item.held ≡ 0 → before ≡ saturated (held_so_far frames state)
-    → after ≡ max before (saturated (length_frames frames + length_open (taking page_size state item))) → after ≡ saturated (held_so_far frames (taking page_size state item))
+pub takes_held : (page_size : ℕ) (frames : List BucketFrame) (state : Open) (item : Laid LeafElement) (before after : ℕ) → item.held ≡ 0
+    → before ≡ saturated (held_so_far frames state)
+    → after ≡ max before (saturated (length_frames frames + length_open (taking page_size state item)))
+    → after ≡ saturated (held_so_far frames (taking page_size state item))
 takes_held page_size frames state item before after flat old counted =
     let room : Open = making_room page_size state item.key item.size in
     let same = made page_size state item.key item.size in
@@ -71,7 +79,8 @@ takes_held page_size frames state item before after flat old counted =
     grind arith
 
 -- a bucket that ended joins
-pub leaves_held : (page_size : ℕ) (frame : BucketFrame) (frames : List BucketFrame) (state : Open) (before after : ℕ) → (state.run ≡ [] → state.uppers ≡ []) → before ≡ saturated (held_so_far (frame ∷ frames) state)
+pub leaves_held : (page_size : ℕ) (frame : BucketFrame) (frames : List BucketFrame) (state : Open) (before after : ℕ)
+    → (state.run ≡ [] → state.uppers ≡ []) → before ≡ saturated (held_so_far (frame ∷ frames) state)
     → after ≡ max before (saturated (length_frames frames + length_open (pushing frame.state (held_item frame (end_of page_size state)))))
     → after ≡ saturated (held_so_far frames (pushing frame.state (held_item frame (end_of page_size state))))
 leaves_held page_size frame frames state before after begun old counted = grind (arith, end_held, pushed)
@@ -80,23 +89,29 @@ leaves_held page_size frame frames state before after begun old counted = grind 
 flat_run : {E : Type 0} (run : List (Laid E)) → held_in run ≤ length run → held_on run 0 ≡ length run
 flat_run run flat = let e = on_page run in let m = on_max run 0 in omega arith
 
-pub enters_held : (page_size : ℕ) (known : Known) (frame : BucketFrame) (frames : List BucketFrame) (state : Open) (key : List ℕ) (size : ℕ) (run : List (Laid LeafElement)) (before after : ℕ) → frame.state ≡ making_room page_size state key size
+pub enters_held : (page_size : ℕ) (known : Known) (frame : BucketFrame) (frames : List BucketFrame) (state : Open) (key : List ℕ) (size : ℕ)
+    (run : List (Laid LeafElement)) (before after : ℕ)
+    → frame.state ≡ making_room page_size state key size
     → held_in run ≤ length run → before ≡ saturated (held_so_far frames state)
-    → after ≡ max before (saturated (length_frames (frame ∷ frames) + length_open (record { uppers = []; run = run; known = known }))) → after ≡ saturated (held_so_far (frame ∷ frames) (record { uppers = []; run = run; known = known }))
+    → after ≡ max before (saturated (length_frames (frame ∷ frames) + length_open (record { uppers = []; run = run; known = known })))
+    → after ≡ saturated (held_so_far (frame ∷ frames) (record { uppers = []; run = run; known = known }))
 enters_held page_size known frame frames state key size run before after room flat old counted =
     let same = ap (λ (s : Open). held_open s 0) room ∙ made page_size state key size in
     grind (arith, flat_run, open_max, frames_max)
 
 -- ---- what the code counts
 
-pub run_length : (run : BranchRun) (pages : List (Laid BranchElement)) (n : ℕ) → (run_view run).elements ≡ elements_of pages n → length run.elements.items ≡ length pages
-run_length run pages n same = omega (arith, length-map run.elements.items branch_view, ap (λ (es : List BranchElement). length es) same, length-elements pages n)
+pub run_length : (run : BranchRun) (pages : List (Laid BranchElement)) (n : ℕ) → (run_view run).elements ≡ elements_of pages n
+    → length run.elements.items ≡ length pages
+run_length run pages n same =
+    omega (arith, length-map run.elements.items branch_view, ap (λ (es : List BranchElement). length es) same, length-elements pages n)
 
 above_length : (runs : List BranchRun) (uppers : List Upper) (b : ℕ) → AreUppers (runs_above runs) uppers b → items_above runs ≡ length_over uppers
 above_length (run ∷ runs) (upper ∷ uppers) b are = omega (arith, run_length, sum_by-cons, above_length runs uppers b are.1)
 above_length runs uppers b are = grind arith
 
-pub items_length : (bucket : BucketRuns) (next b : ℕ) (state : Open) → AreOpenRuns (bucket_runs bucket next) state b → items_in bucket ≡ length_open state
+pub items_length : (bucket : BucketRuns) (next b : ℕ) (state : Open) → AreOpenRuns (bucket_runs bucket next) state b
+    → items_in bucket ≡ length_open state
 items_length bucket next b state runs = grind (arith, above_length, length-map, length-elements)
 
 pub around_length : (ws : List WaitingBucket) (frames : List BucketFrame) → AreWaiting ws frames → items_around ws ≡ length_frames frames

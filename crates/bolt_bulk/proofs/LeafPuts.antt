@@ -2,7 +2,8 @@
 use Rattle.std.proofs.Common.{◌≡◌, ℕ, ◌+◌, List, [], ◌∷◌, ◌++◌, length, map, refl, arith}
 use Rattle.std.proofs.lemmas.List.{length-append, length-map}
 use Rattle.std.specs.List.{AllByRecursion}
-use Rattle.bolt_format.specs.{ElementPlaces.leaf_view, Elements.LeafElement, Encoded.header_bytes, Encoded.leaf_header, Encoded.head_bytes, declared.element.Leaf.Leaf}
+use Rattle.bolt_format.specs.{ElementPlaces.leaf_view, Elements.LeafElement, Encoded.header_bytes, Encoded.leaf_header, Encoded.head_bytes}
+use Rattle.bolt_format.specs.{declared.element.Leaf.Leaf}
 use Rattle.bolt_layout.specs.PageBytes.{inline_value, leaf_bytes, leaf_data, leaf_headers}
 use Rattle.bolt_format.specs.declared.header.Kind.TheVariants as kind
 use Rattle.bolt_bulk.specs.Private.{data_of, data_size, heads_from}

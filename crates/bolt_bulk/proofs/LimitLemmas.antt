@@ -1,6 +1,7 @@
 -- The limits of rows: those of other rows stay, and those of a bucket are noted row by row.
 use Rattle.std.proofs.{lemmas.Grind.common_steps, lemmas.Bool.cases_lt, lemmas.List.drop_all, lemmas.Map.Lookups.exact_unsigned}
-use Rattle.std.proofs.Common.{◌≡◌, ◌∙◌, ◌<◌, ◌≤◌, ◌+◌, ◌-◌, ℕ, suc, Bool, false, Option, Some, None, List, [], ◌∷◌, length, drop, refl, sym, ap, inl, inr, arith}
+use Rattle.std.proofs.Common.{◌≡◌, ◌∙◌, ◌<◌, ◌≤◌, ◌+◌, ◌-◌, ℕ, suc, Bool, false, Option, Some, None, List, [], ◌∷◌, length, drop, refl, sym, ap, inl}
+use Rattle.std.proofs.Common.{inr, arith}
 use Rattle.std.specs.{BTreeMap.BTreeMap, BTreeMap.Updates, BTreeMap.get, Ordering.is_eq}
 use Rattle.bolt_layout.specs.Limits.{limit_at, limits_from_ends}
 use Rattle.bolt_bulk.specs.{Private.IsOtherRow, Private.limit_in, Private.row_cmp, declared.limits.Limits.Limits}
@@ -8,12 +9,14 @@ use Rattle.bolt_bulk.specs.{Private.IsOtherRow, Private.limit_in, Private.row_cm
 apart : (bucket level b l : ℕ) → IsOtherRow bucket level b l → is_eq (row_cmp (bucket, level) (b, l)) ≡ false
 apart bucket level b l other = grind (arith, exact_unsigned)
 
-pub others_stay : (old new : BTreeMap (ℕ × ℕ) ℕ) (bucket level allowed : ℕ) → Updates row_cmp old new (bucket, level) (Some allowed) → (b l : ℕ) → IsOtherRow bucket level b l
+pub others_stay : (old new : BTreeMap (ℕ × ℕ) ℕ) (bucket level allowed : ℕ) → Updates row_cmp old new (bucket, level) (Some allowed) → (b l : ℕ)
+    → IsOtherRow bucket level b l
     → get row_cmp new (b, l) ≡ get row_cmp old (b, l)
 others_stay old new bucket level allowed updates b l other = updates.2 (b, l) (apart bucket level b l other)
 
 -- One row after another gets its limit.
-noted_step : (rows : List (ℕ × ℕ)) (lost loses : Bool) (i : ℕ) (row : ℕ × ℕ) (limit : Option ℕ) (old new : ℕ → Option ℕ) → drop i rows ≡ row ∷ drop (i + 1) rows
+noted_step : (rows : List (ℕ × ℕ)) (lost loses : Bool) (i : ℕ) (row : ℕ × ℕ) (limit : Option ℕ) (old new : ℕ → Option ℕ)
+    → drop i rows ≡ row ∷ drop (i + 1) rows
     → ((rest : List (ℕ × ℕ)) → limits_from_ends lost (row ∷ rest) ≡ limit ∷ limits_from_ends loses rest)
     → ((k : ℕ) → k < i → old k ≡ limit_at (limits_from_ends false rows) k) → ((k : ℕ) → i ≤ k → old k ≡ None)
     → ((k : ℕ) → limit_at (limits_from_ends false rows) (i + k) ≡ limit_at (limits_from_ends lost (drop i rows)) k)
@@ -61,12 +64,15 @@ pub record Noting (old now : Limits) (bucket : ℕ) (rows : List (ℕ × ℕ)) (
   pub rest : (k : ℕ) → limit_at (limits_from_ends false rows) (i + k) ≡ limit_at (limits_from_ends lost (drop i rows)) k
   pub others : (b k : ℕ) → (b ≡ bucket → ⊥) → limit_in now b k ≡ limit_in old b k
 
-pub noting_more : (old now new : Limits) (bucket : ℕ) (rows : List (ℕ × ℕ)) (lost loses : Bool) (i : ℕ) (row : ℕ × ℕ) (limit : Option ℕ) → drop i rows ≡ row ∷ drop (i + 1) rows
+pub noting_more : (old now new : Limits) (bucket : ℕ) (rows : List (ℕ × ℕ)) (lost loses : Bool) (i : ℕ) (row : ℕ × ℕ) (limit : Option ℕ)
+    → drop i rows ≡ row ∷ drop (i + 1) rows
     → ((rest : List (ℕ × ℕ)) → limits_from_ends lost (row ∷ rest) ≡ limit ∷ limits_from_ends loses rest) → Noting old now bucket rows lost i
-    → (limit_in now bucket i ≡ None → limit_in new bucket i ≡ limit) → ((b k : ℕ) → IsOtherRow bucket i b k → limit_in new b k ≡ limit_in now b k) → Noting old new bucket rows loses (i + 1)
+    → (limit_in now bucket i ≡ None → limit_in new bucket i ≡ limit) → ((b k : ℕ) → IsOtherRow bucket i b k → limit_in new b k ≡ limit_in now b k)
+    → Noting old new bucket rows loses (i + 1)
 noting_more old now new bucket rows lost loses i row limit at step is here others =
     let noted = λ (fresh : (k : ℕ) → limit_in old bucket k ≡ None).
-    noted_step rows lost loses i row limit (limit_in now bucket) (limit_in new bucket) at step (is.below fresh) (is.above fresh) is.rest (here (is.above fresh i (omega arith))) (λ k other. others bucket k (inr other)) in
+    noted_step rows lost loses i row limit (limit_in now bucket) (limit_in new bucket) at step (is.below fresh) (is.above fresh) is.rest
+    (here (is.above fresh i (omega arith))) (λ k other. others bucket k (inr other)) in
     record {
       below = λ fresh. (noted fresh).0;
       above = λ fresh. (noted fresh).1;

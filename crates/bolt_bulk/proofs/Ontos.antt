@@ -21,11 +21,14 @@ pub values_held : (entries : List LeafElement) → held_in (value_items entries)
 values_held [] = omega arith
 values_held (e ∷ entries) = let ih = values_held entries in omega arith
 
-pub onto_items : (which : Layout) (page_size : ℕ) (entries : List LeafElement) (tree : Tree) → items_of which page_size (onto entries tree) ≡ value_items entries ++ items_of which page_size tree
+pub onto_items : (which : Layout) (page_size : ℕ) (entries : List LeafElement) (tree : Tree)
+    → items_of which page_size (onto entries tree) ≡ value_items entries ++ items_of which page_size tree
 onto_items which page_size [] tree = refl
-onto_items which page_size (e ∷ entries) tree = ap (λ (items : List (Laid LeafElement)). leaf_item e.key e.value false ∷ items) (onto_items which page_size entries tree)
+onto_items which page_size (e ∷ entries) tree =
+    ap (λ (items : List (Laid LeafElement)). leaf_item e.key e.value false ∷ items) (onto_items which page_size entries tree)
 
-pub onto_push : (entries : List LeafElement) (e : LeafElement) (tree : Tree) → onto (entries ++ e ∷ []) tree ≡ onto entries (with_value e.key e.value tree)
+pub onto_push : (entries : List LeafElement) (e : LeafElement) (tree : Tree)
+    → onto (entries ++ e ∷ []) tree ≡ onto entries (with_value e.key e.value tree)
 onto_push [] e tree = refl
 onto_push (x ∷ entries) e tree = ap (λ (t : Tree). with_value x.key x.value t) (onto_push entries e tree)
 
@@ -42,7 +45,8 @@ pub onto_size : (which : Layout) (page_size : ℕ) (entries : List LeafElement) 
 onto_size which page_size [] tree = omega arith
 onto_size which page_size (e ∷ entries) tree = grind (arith, common_steps, sum_by-cons, length-append, onto_size which page_size entries tree)
 
-pub onto_count : (which : Layout) (page_size : ℕ) (entries : List LeafElement) (tree : Tree) → length (items_of which page_size (onto entries tree)) ≡ length entries + length (items_of which page_size tree)
+pub onto_count : (which : Layout) (page_size : ℕ) (entries : List LeafElement) (tree : Tree)
+    → length (items_of which page_size (onto entries tree)) ≡ length entries + length (items_of which page_size tree)
 onto_count which page_size [] tree = omega arith
 onto_count which page_size (e ∷ entries) tree = let ih = onto_count which page_size entries tree in omega arith
 
@@ -81,5 +85,6 @@ value_too_large which page_size entries key value after large = grind (arith, co
 
 -- and one that holds a bucket isn't
 pub bucket_has_root : (which : Layout) (page_size : ℕ) (entries : List LeafElement) (key : List ℕ) (sequence : ℕ) (inside after : Tree)
-    → is_inline page_size (onto entries (with_bucket key sequence inside after)) (items_of which page_size (onto entries (with_bucket key sequence inside after))) ≡ false
+    → is_inline page_size (onto entries (with_bucket key sequence inside after))
+    (items_of which page_size (onto entries (with_bucket key sequence inside after))) ≡ false
 bucket_has_root which page_size entries key sequence inside after = rw (onto_holds entries (with_bucket key sequence inside after)) refl

@@ -3,19 +3,29 @@ use Rattle.std.proofs.{lemmas.Grind.common_steps, lemmas.Result.err_from_is_err_
 use Rattle.bolt_layout.proofs.Exports.{all_append}
 use Rattle.std.specs.Prelude.{IsErrAnd}
 use Rattle.std.specs.List.{AllByRecursion}
-use Rattle.std.proofs.Common.{◌≡◌, ◌≢◌, ◌∙◌, ℕ, suc, true, ◌+◌, ◌≤◌, List, [], ◌∷◌, ◌++◌, length, map, None, Result, Ok, Err, refl, sym, ap, subst, arith, append_assoc}
+use Rattle.std.proofs.Common.{◌≡◌, ◌≢◌, ◌∙◌, ℕ, suc, true, ◌+◌, ◌≤◌, List, [], ◌∷◌, ◌++◌, length, map, None, Result, Ok, Err, refl, sym, ap, subst}
+use Rattle.std.proofs.Common.{arith, append_assoc}
 use Rattle.bolt_check.specs.{Keys.Key, Counts.saturated}
 use Rattle.bolt_format.specs.{declared.sink.Sink.Ghosts}
-use Rattle.bolt_tree.specs.{Entries.Item, Listing.Member, Paths.Path, Tree.Tree, Tree.end, Tree.listing_below, Tree.listing_of, Tree.with_bucket, Tree.with_value}
-use Rattle.bolt_layout.specs.{Laid.Placed, Layout.first_page, Layout.layout_held, Layout.layout_mark, Layout.layout_pages, Layout.layout_root, Layout.placed_bytes, Storable.HasLengths}
-use Rattle.bolt_layout.specs.{Openings.leaf_pages, Openings.opened_in, declared.Layout.Layout, declared.Layout.TheVariants.Balanced, declared.Layout.TheVariants.Plain, Items.items_of}
-use Rattle.bolt_bulk.specs.Private.{AreComingAround, AreOpenRuns, bucket_end_next, bucket_runs, BucketEnds, BucketRunsView, pass_depth, EndsPass, FitLimits, BucketFrame, HasLeft, HasNoted, held_so_far, PassIsAt, HasMemberLengths, PassIsOn, Known, last_part, Parent, parent_of, limit_in, limits_by, limits_with, no_leaves, nothing_open, Open, open_in, runs_end, runs_end_put, Steps, Wanted}
-use Rattle.bolt_bulk.specs.{declared.page_setup.PageSetup.PageSetup, declared.bulk_fault.BulkFault.BulkFault, declared.pass.Ended.Ended, declared.pass.Pass.Pass}
+use Rattle.bolt_tree.specs.{Entries.Item, Listing.Member, Paths.Path, Tree.Tree, Tree.end, Tree.listing_below, Tree.listing_of, Tree.with_bucket}
+use Rattle.bolt_tree.specs.{Tree.with_value}
+use Rattle.bolt_layout.specs.{Laid.Placed, Layout.first_page, Layout.layout_held, Layout.layout_high_water, Layout.layout_pages, Layout.layout_root}
+use Rattle.bolt_layout.specs.{Layout.placed_bytes, Storable.HasLengths}
+use Rattle.bolt_layout.specs.{Openings.leaf_pages, Openings.opened_in, declared.Layout.Layout, declared.Layout.TheVariants.Balanced}
+use Rattle.bolt_layout.specs.{declared.Layout.TheVariants.Plain, Items.items_of}
+use Rattle.bolt_bulk.specs.Private.{AreComingAround, AreOpenRuns, bucket_end_next, bucket_runs, BucketEnds, BucketRunsView, pass_depth, EndsPass}
+use Rattle.bolt_bulk.specs.Private.{FitLimits, BucketFrame, HasLeft, HasNoted, held_so_far, PassIsAt, HasMemberLengths, PassIsOn, Known, last_part}
+use Rattle.bolt_bulk.specs.Private.{Parent, parent_of, limit_in, limits_by, limits_with, no_leaves, nothing_open, Open, open_in, runs_end}
+use Rattle.bolt_bulk.specs.Private.{runs_end_put, Steps, Wanted}
+use Rattle.bolt_bulk.specs.{declared.page_setup.PageSetup.PageSetup, declared.bulk_fault.BulkFault.BulkFault, declared.pass.Ended.Ended}
+use Rattle.bolt_bulk.specs.{declared.pass.Pass.Pass}
 use Rattle.bolt_bulk.specs.declared.noted_limits.NotedLimits.{NotedLimits}
 use Rattle.bolt_bulk.proofs.{PassSteps.pass_begins, PassSteps.pass_ends, HeldSteps.end_held}
-use Rattle.bolt_bulk.proofs.{Members.all_left, Members.left_after, Members.next_entry, Members.next_short, Members.none_at_all, Members.with_item, KeptRuns.nothing_runs, KeptRuns.runs_ended}
+use Rattle.bolt_bulk.proofs.{Members.all_left, Members.left_after, Members.next_entry, Members.next_short, Members.none_at_all, Members.with_item}
+use Rattle.bolt_bulk.proofs.{KeptRuns.nothing_runs, KeptRuns.runs_ended}
 use Rattle.bolt_bulk.proofs.{OpenRunLemmas.ends, Openings.all_coming, Openings.root_notes, PassAt.on_of, PassLeft.depth_parents}
-use Rattle.bolt_bulk.proofs.{Tables.none_noted, Tables.noted_leaves, Tables.opened_most, Tables.table_fits, PutsLemmas.bytes-append, PutsLemmas.pages_some, PutsLemmas.short_then}
+use Rattle.bolt_bulk.proofs.{Tables.none_noted, Tables.noted_leaves, Tables.opened_most, Tables.table_fits, PutsLemmas.bytes-append}
+use Rattle.bolt_bulk.proofs.{PutsLemmas.pages_some, PutsLemmas.short_then}
 use Rattle.bolt_format.proofs.Exports.{Wrote-then}
 
 -- ---- the next member
@@ -31,7 +41,8 @@ pub record HasNext (wanted : Wanted) (pass : Pass) (key : Key) (item : Item) (me
   pub at : PassIsAt wanted pass parents (with_item key item inside after) put
   pub members_are : left_after parents key item inside after ≡ members
 
-pub has_next : (wanted : Wanted) (pass : Pass) (path : Path) (key : Key) (item : Item) (members : List Member) (put : List Placed) → HasLeft wanted pass ((path, item) ∷ members) put → pass_depth pass ≤ length path → last_part path ≡ key
+pub has_next : (wanted : Wanted) (pass : Pass) (path : Path) (key : Key) (item : Item) (members : List Member) (put : List Placed)
+    → HasLeft wanted pass ((path, item) ∷ members) put → pass_depth pass ≤ length path → last_part path ≡ key
     → HasNext wanted pass key item members put
 has_next wanted pass path key item members put has deep last =
     let d = depth_parents wanted pass has.parents has.left put has.at in
@@ -40,7 +51,8 @@ has_next wanted pass path key item members put has deep last =
     grind (arith, last_pushed, with_item, left_after)
 
 -- The members of the listing of a tree that can be stored fit.
-one_part : (path : Path) (key : Key) → length key ≤ 1073741824 → (1 ≤ length (path ++ key ∷ [])) × (length (last_part (path ++ key ∷ [])) ≤ 1073741824)
+one_part : (path : Path) (key : Key) → length key ≤ 1073741824
+    → (1 ≤ length (path ++ key ∷ [])) × (length (last_part (path ++ key ∷ [])) ≤ 1073741824)
 one_part path key short = grind (arith, length-append, last_pushed)
 
 pub members_fit : (path : Path) (tree : Tree) → HasLengths tree → AllByRecursion HasMemberLengths (listing_below path tree)
@@ -48,13 +60,17 @@ members_fit path end lengths = tt
 members_fit path (with_value key value after) (key_fits, value_fits, others) =
     let (some, last) = one_part path key key_fits.1 in ((some, last, value_fits), members_fit path after others)
 members_fit path (with_bucket key sequence inside after) (key_fits, sequence_fits, inner, others) =
-    let (some, last) = one_part path key key_fits.1 in
-    ((some, last, tt), all_append HasMemberLengths (listing_below (path ++ key ∷ []) inside) (listing_below path after) (members_fit (path ++ key ∷ []) inside inner) (members_fit path after others))
+    let (some, last) = one_part path key key_fits.1 in (
+      (some, last, tt),
+      all_append HasMemberLengths (listing_below (path ++ key ∷ []) inside) (listing_below path after) (members_fit (path ++ key ∷ []) inside inner)
+          (members_fit path after others),
+    )
 
 -- ---- the beginning
 
 pub has_begun : (wanted : Wanted) (pass : Pass) → pass.waiting.items ≡ [] → pass.pending ≡ None
-    → bucket_runs pass.bucket pass.next ≡ record { leaves = no_leaves; uppers = []; limits = record { all = pass.limits; bucket = 0 }; next = first_page } → pass.most ≡ 0 → pass.opened ≡ 1
+    → bucket_runs pass.bucket pass.next ≡ record { leaves = no_leaves; uppers = []; limits = record { all = pass.limits; bucket = 0 }; next = first_page }
+    → pass.most ≡ 0 → pass.opened ≡ 1
     → pass.noted.notes ≡ wanted.notes → ((bucket level : ℕ) → limit_in pass.noted.limits bucket level ≡ None)
     → FitLimits wanted.which wanted.tree pass.setup.page_size (limits_by pass) → HasLeft wanted pass (listing_of wanted.tree) []
 has_begun wanted pass none nothing runs fresh first asked unnoted fit =
@@ -67,7 +83,11 @@ has_begun wanted pass none nothing runs fresh first asked unnoted fit =
         frames = [];
         state = nothing_open known;
         rest = wanted.tree;
-        on = record { under = pass_begins wanted.which P known wanted.tree refl fit.root; kept = subst (λ (r : BucketRunsView). AreOpenRuns r (nothing_open known) first_page) (sym runs) (nothing_runs known first_page); put_is = refl };
+        on = record {
+          under = pass_begins wanted.which P known wanted.tree refl fit.root;
+          kept = subst (λ (r : BucketRunsView). AreOpenRuns r (nothing_open known) first_page) (sym runs) (nothing_runs known first_page);
+          put_is = refl;
+        };
         waits = rw none tt;
         pends = rw nothing (refl, refl);
         held = omega arith;
@@ -98,13 +118,17 @@ no_pending pass h = grind arith
 pub record HasEnd (wanted : Wanted) (pass : Pass) (put : List Placed) : Type 0 where
   pub pages : layout_pages wanted.which pass.setup.page_size wanted.tree ≡ put ++ runs_end_put pass.setup.page_size (bucket_runs pass.bucket pass.next)
   pub root : runs_end pass.setup.page_size (bucket_runs pass.bucket pass.next) ≡ layout_root wanted.which pass.setup.page_size wanted.tree
-  pub mark : bucket_end_next pass.setup.page_size (bucket_runs pass.bucket pass.next) ≡ layout_mark wanted.which pass.setup.page_size wanted.tree
+  pub high_water : bucket_end_next pass.setup.page_size (bucket_runs pass.bucket pass.next) ≡ layout_high_water wanted.which pass.setup.page_size wanted.tree
   pub held : pass.most ≡ saturated (layout_held wanted.which pass.setup.page_size wanted.tree)
   pub noted : (noted : NotedLimits) → BucketEnds pass.noted noted pass.bucket.uppers → wanted.notes ≡ true → wanted.which ≡ Plain
-      → layout_mark wanted.which pass.setup.page_size wanted.tree ≤ 18446744073709551615 → FitLimits Balanced wanted.tree pass.setup.page_size (limits_with noted.limits)
+      → layout_high_water wanted.which pass.setup.page_size wanted.tree ≤ 18446744073709551615
+      → FitLimits Balanced wanted.tree pass.setup.page_size (limits_with noted.limits)
 
-root_ended : (page_size : ℕ) (wanted : Wanted) (state : Open) (runs : BucketRunsView) (put : List Placed) → PassIsOn wanted.which page_size wanted.tree [] state [] runs put
-    → (layout_pages wanted.which page_size wanted.tree ≡ put ++ runs_end_put page_size runs) × (runs_end page_size runs ≡ layout_root wanted.which page_size wanted.tree) × (bucket_end_next page_size runs ≡ layout_mark wanted.which page_size wanted.tree)
+root_ended : (page_size : ℕ) (wanted : Wanted) (state : Open) (runs : BucketRunsView) (put : List Placed)
+    → PassIsOn wanted.which page_size wanted.tree [] state [] runs put
+    → (layout_pages wanted.which page_size wanted.tree ≡ put ++ runs_end_put page_size runs)
+    × (runs_end page_size runs ≡ layout_root wanted.which page_size wanted.tree)
+    × (bucket_end_next page_size runs ≡ layout_high_water wanted.which page_size wanted.tree)
     × (held_so_far [] state ≡ layout_held wanted.which page_size wanted.tree)
 root_ended page_size wanted state runs put on =
     let ended = runs_ended page_size runs state first_page on.kept in
@@ -118,19 +142,23 @@ has_end wanted pass put has shallow =
     let at = subst (λ (t : Tree). PassIsAt wanted pass [] t put) left (subst (λ (ls : List Parent). PassIsAt wanted pass ls has.left put) none has.at) in
     let (same, on, coming) = on_of at (no_pending pass shallow) in
     let frames = no_frames at.frames same in
-    let (pages, root, mark, held) = root_ended pass.setup.page_size wanted at.state (bucket_runs pass.bucket pass.next) put
-    (subst (λ (fs : List BucketFrame). PassIsOn wanted.which pass.setup.page_size wanted.tree fs at.state [] (bucket_runs pass.bucket pass.next) put) frames on) in
+    let (pages, root, high_water, held) = root_ended pass.setup.page_size wanted at.state (bucket_runs pass.bucket pass.next) put
+    (subst (λ (fs : List BucketFrame). PassIsOn wanted.which pass.setup.page_size wanted.tree fs at.state [] (bucket_runs pass.bucket pass.next) put)
+    frames on) in
     record {
       pages = pages;
       root = root;
-      mark = mark;
+      high_water = high_water;
       held = at.held ∙ ap saturated (ap (λ (fs : List BucketFrame). held_so_far fs at.state) frames ∙ held);
       noted = λ noted ended asked which fits.
           let P : ℕ = pass.setup.page_size in
-          let last = noted_leaves pass.bucket [] (subst (λ (fs : List BucketFrame). HasNoted wanted P pass.noted at.opened (open_in at.state fs)) frames at.noted) coming on ended in
+          let last =
+          noted_leaves pass.bucket [] (subst (λ (fs : List BucketFrame). HasNoted wanted P pass.noted at.opened (open_in at.state fs)) frames at.noted)
+          coming on ended in
           let all = subst (λ (fs : List BucketFrame). AreComingAround wanted P (limits_by pass) (at.opened + 0) fs) frames coming.around in
           let most = opened_most wanted P (limits_by pass) (at.opened + 0) at.frames coming.around in
-          let count : suc (opened_in wanted.which P wanted.tree) ≡ suc (opened_in Plain P wanted.tree) = ap (λ (w : Layout). suc (opened_in w P wanted.tree)) which in
+          let count : suc (opened_in wanted.which P wanted.tree) ≡ suc (opened_in Plain P wanted.tree) =
+          ap (λ (w : Layout). suc (opened_in w P wanted.tree)) which in
           table_fits P wanted.tree noted.limits at.opened (last.table asked which fits) (omega arith) (omega arith);
     }
 
@@ -144,15 +172,19 @@ rest_some page_size [] some = absurd (omega arith)
 rest_some page_size (page ∷ pages) some = pages_some page_size page pages
 
 -- what the sink has accepted, in other words
-pub ends_to : {S : Type 0} {wanted : Wanted} {sink : Ghosts S} {setup : PageSetup} {old mid new : S} {put : List Placed} {result : Result Ended BulkFault} → mid ≡ new → EndsPass wanted sink old mid setup put result → EndsPass wanted sink old new setup put result
+pub ends_to : {S : Type 0} {wanted : Wanted} {sink : Ghosts S} {setup : PageSetup} {old mid new : S} {put : List Placed} {result : Result Ended BulkFault}
+    → mid ≡ new → EndsPass wanted sink old mid setup put result → EndsPass wanted sink old new setup put result
 ends_to {S} {wanted} {sink} {setup} {old} {put = put} {result = result} same ends = subst (λ (s : S). EndsPass wanted sink old s setup put result) same ends
 
-module _ {S : Type 0} {wanted : Wanted} {sink : Ghosts S} {setup : PageSetup} {old new : S} {put : List Placed} {At : List Placed → Type 0} {result : Result Ended BulkFault} where
+module _ {S : Type 0} {wanted : Wanted} {sink : Ghosts S} {setup : PageSetup} {old new : S} {put : List Placed} {At : List Placed → Type 0}
+    {result : Result Ended BulkFault} where
   -- a step failed on the way
-  pub ends_early : {A : Type 0} {e : BulkFault} → IsErrAnd result (λ f. f ≡ e) → Steps {A = A} wanted sink old new setup put At (Err e) → EndsPass wanted sink old new setup put result
+  pub ends_early : {A : Type 0} {e : BulkFault} → IsErrAnd result (λ f. f ≡ e) → Steps {A = A} wanted sink old new setup put At (Err e)
+      → EndsPass wanted sink old new setup put result
   ends_early same steps = let e = err_from_is_err_and result same in rw (e.1, e.2) (grind (arith, bytes-append, append_assoc, rest_some, some_more))
 
   -- after steps that went well
-  pub ends_after : {A : Type 0} {later : PageSetup} {mid : S} {x : A} → later ≡ setup → Steps wanted sink old mid setup put At (Ok x) → ((all : List Placed) → At all → EndsPass wanted sink mid new later all result)
+  pub ends_after : {A : Type 0} {later : PageSetup} {mid : S} {x : A} → later ≡ setup → Steps wanted sink old mid setup put At (Ok x)
+      → ((all : List Placed) → At all → EndsPass wanted sink mid new later all result)
       → EndsPass wanted sink old new setup put result
   ends_after {mid} later_is one two = grind (arith, bytes-append, append_assoc, Wrote-then, short_then)

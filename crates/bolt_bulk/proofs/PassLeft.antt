@@ -14,19 +14,23 @@ waiting_frames : (waiting : List WaitingBucket) (frames : List BucketFrame) → 
 waiting_frames (w ∷ waiting) (frame ∷ frames) (runs, key, sequence, others) = let ih = waiting_frames waiting frames others in omega arith
 waiting_frames waiting frames are = grind arith
 
-pub depth_parents : (wanted : Wanted) (pass : Pass) (parents : List Parent) (left : Tree) (put : List Placed) → PassIsAt wanted pass parents left put → pass_depth pass ≡ suc (length parents)
+pub depth_parents : (wanted : Wanted) (pass : Pass) (parents : List Parent) (left : Tree) (put : List Placed) → PassIsAt wanted pass parents left put
+    → pass_depth pass ≡ suc (length parents)
 depth_parents wanted pass parents left put is = grind (arith, waiting_frames, length-reverse, length-map)
 
-pub left_same : {wanted : Wanted} {pass : Pass} {members others : List Member} {put : List Placed} → members ≡ others → HasLeft wanted pass members put → HasLeft wanted pass others put
+pub left_same : {wanted : Wanted} {pass : Pass} {members others : List Member} {put : List Placed} → members ≡ others
+    → HasLeft wanted pass members put → HasLeft wanted pass others put
 left_same {wanted} {pass} {put = put} same has = subst (λ (ms : List Member). HasLeft wanted pass ms put) same has
 
 -- nothing was done yet
-pub steps_begun : {S : Type 0} {sink : Ghosts S} {wanted : Wanted} {pass : Pass} {members : List Member} {put : List Placed} {old : S} → HasLeft wanted pass members put
+pub steps_begun : {S : Type 0} {sink : Ghosts S} {wanted : Wanted} {pass : Pass} {members : List Member} {put : List Placed} {old : S}
+    → HasLeft wanted pass members put
     → Steps {A = ⊤} wanted sink old old pass.setup put (HasLeft wanted pass members) (Ok tt)
 steps_begun has = steps_none (Ok tt) has.at tt has
 
 -- The next member is further out, or there is none: the innermost bucket has no more.
-no_more : (depth : ℕ) (parents : List Parent) (left : Tree) (members : List Member) → left_in parents left ≡ members → IsNoDeeper depth members → depth < suc (length parents) → left ≡ end
+no_more : (depth : ℕ) (parents : List Parent) (left : Tree) (members : List Member) → left_in parents left ≡ members → IsNoDeeper depth members
+    → depth < suc (length parents) → left ≡ end
 no_more depth parents left members is shallow deep = grind (arith, none_at_all, none_further)
 
 some_parent : (parents : List Parent) → 1 < suc (length parents) → (parent : Parent) × (others : List Parent) × (parents ≡ parent ∷ others)
@@ -39,13 +43,15 @@ pub record HasEnded (wanted : Wanted) (pass : Pass) (members : List Member) (put
   pub at : PassIsAt wanted pass (parent ∷ parents) end put
   pub members_are : left_in parents parent.after ≡ members
 
-pub has_ended : (depth : ℕ) (wanted : Wanted) (pass : Pass) (members : List Member) (put : List Placed) → HasLeft wanted pass members put → IsNoDeeper depth members → 1 ≤ depth → depth < pass_depth pass
+pub has_ended : (depth : ℕ) (wanted : Wanted) (pass : Pass) (members : List Member) (put : List Placed) → HasLeft wanted pass members put
+    → IsNoDeeper depth members → 1 ≤ depth → depth < pass_depth pass
     → HasEnded wanted pass members put
 has_ended depth wanted pass members put has shallow some deep =
     let d = depth_parents wanted pass has.parents has.left put has.at in
     grind (arith, no_more, some_parent)
 
 -- a bucket was left
-pub left_out : (wanted : Wanted) (pass : Pass) (parent : Parent) (parents : List Parent) (members : List Member) (put : List Placed) → left_in parents parent.after ≡ members → PassIsAt wanted pass parents parent.after put
+pub left_out : (wanted : Wanted) (pass : Pass) (parent : Parent) (parents : List Parent) (members : List Member) (put : List Placed)
+    → left_in parents parent.after ≡ members → PassIsAt wanted pass parents parent.after put
     → HasLeft wanted pass members put
 left_out wanted pass parent parents members put is at = record { parents = parents; left = parent.after; at = at; members_are = is }

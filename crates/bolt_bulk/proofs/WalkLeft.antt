@@ -18,7 +18,8 @@ module _ {M W : Type 0} (reads : M → W → Type 0) (left : M → W → List Me
   GivesFirst first old new path item = (whole : W) → reads first whole → left old whole ≡ (path, item) ∷ left new whole
 
   -- The first of the members that are left fits,
-  pub first_fits : (first old new : M) (path : Path) (item : Item) → ∥ ((whole : W) × reads first whole) ∥₁ → AllFit first old → GivesFirst first old new path item
+  pub first_fits : (first old new : M) (path : Path) (item : Item) → ∥ ((whole : W) × reads first whole) ∥₁ → AllFit first old
+      → GivesFirst first old new path item
       → (1 ≤ length path) × (length (last_part path) ≤ 1073741824) × HasItemLength item
   first_fits first old new path item some fit next = ∥∥₁_elim some (fit_prop path item) (λ is.
       ∥∥₁_elim (fit is.0 is.1) (fit_prop path item) (λ all. (subst (AllByRecursion HasMemberLengths) (next is.0 is.1) all).0))
@@ -32,7 +33,8 @@ module _ {M W : Type 0} (reads : M → W → Type 0) (left : M → W → List Me
   whole_fits {listing} members all whole is = grind (arith, listing_fits)
 
   -- the same members from their beginning
-  pub whole_again : {listing : W → List Member} {ends_as : M → M → Type 0} (old new : M) → IsAgain reads listing left ends_as old new → IsWholeListing reads listing left old
+  pub whole_again : {listing : W → List Member} {ends_as : M → M → Type 0} (old new : M) → IsAgain reads listing left ends_as old new
+      → IsWholeListing reads listing left old
       → IsWholeListing reads listing left new
   whole_again old new again all = record {
     some = ∥∥₁_map all.some (λ is. (is.0, (again.same is.0).1 is.1));

@@ -5,11 +5,11 @@ use Rattle.bolt_bulk.specs.declared.bulk_fault.BulkFault.{BulkFault}
 use Rattle.bolt_bulk.specs.declared.bulk_fault.BulkFault.TheVariants.{Memory, Sink, TooLarge}
 
 -- the fault is Sink exactly if the sink failed
-abbrev pub fault_ending : BulkFault → Ending
-fault_ending Memory = halted
-fault_ending TooLarge = halted
-fault_ending Sink = broken
+abbrev pub bulk_fault_ending : BulkFault → Ending
+bulk_fault_ending Memory = halted
+bulk_fault_ending TooLarge = halted
+bulk_fault_ending Sink = broken
 
 abbrev pub bulk_ending : {A : Type 0} → Result A BulkFault → Ending
 bulk_ending (Ok x) = whole
-bulk_ending (Err e) = fault_ending e
+bulk_ending (Err e) = bulk_fault_ending e

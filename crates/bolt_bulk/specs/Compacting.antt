@@ -5,8 +5,10 @@ use Rattle.std.specs.Io.KnownBytes.{Appends, Keeps}
 use Rattle.bolt_format.specs.Sinks.{AppendsProperPrefix}
 use Rattle.bolt_check.specs.{CheckedFiles.bytes_of, CheckedFiles.meta_of, declared.checked.Checked.Checked}
 use Rattle.bolt_tree.specs.{Listing.IsListing, Listing.Member, Tree.tree_of}
-use Rattle.bolt_layout.specs.{Copies.IsSoundCopy, Copies.RefusesPrefixes, Copies.layout_of_listing, Held.most_held, Layout.layout_held, Layout.layout_mark, Layout.layout_root, declared.Layout.Layout}
-use Rattle.bolt_bulk.specs.{declared.bulk_fault.BulkFault.BulkFault, declared.bulk_fault.PlanFault.PlanFault, declared.members_copy.Done.Done, declared.members_copy.Plan.Plan}
+use Rattle.bolt_layout.specs.{Copies.IsSoundCopy, Copies.RefusesPrefixes, Copies.layout_of_listing, Held.most_held, Layout.layout_held}
+use Rattle.bolt_layout.specs.{Layout.layout_high_water, Layout.layout_root, declared.Layout.Layout}
+use Rattle.bolt_bulk.specs.{declared.bulk_fault.BulkFault.BulkFault, declared.bulk_fault.PlanFault.PlanFault, declared.members_copy.Done.Done}
+use Rattle.bolt_bulk.specs.{declared.members_copy.Plan.Plan}
 use Rattle.bolt_bulk.specs.declared.bulk_fault.BulkFault.TheVariants as bulk
 use Rattle.bolt_bulk.specs.declared.bulk_fault.PlanFault.TheVariants as planned
 
@@ -18,7 +20,7 @@ too_many = 2 ^ 63
 -- or more, or memory ran out.
 pub record Plans (which : Layout) (page_size sequence : ℕ) (listing : List Member) (result : Result Plan PlanFault) : Type 0 where
   pub root : IfOk result (λ plan. plan.root ≡ layout_root which page_size (tree_of listing))
-  pub high_water : IfOk result (λ plan. plan.high_water ≡ layout_mark which page_size (tree_of listing))
+  pub high_water : IfOk result (λ plan. plan.high_water ≡ layout_high_water which page_size (tree_of listing))
   pub fits : OnOk result (length (layout_of_listing which page_size listing sequence) < too_many)
   pub large : IfErr result (λ fault. fault ≡ planned.TooLarge → too_many ≤ length (layout_of_listing which page_size listing sequence))
 

@@ -6,7 +6,7 @@ use bolt_layout::Layout;
 /// What a copy looks like, apart from its members.
 #[derive(Clone, Copy)]
 pub struct Blueprint {
-    /// Its layout.
+    /// The layout that is asked for.
     pub layout: Layout,
     /// The size of its pages.
     pub page_size: u64,

@@ -2,7 +2,8 @@
 ghost use Rattle.std.specs.Prelude.{◌≡◌, ◌+◌, ◌<◌, ◌≤◌, true, false, IfErr, OnOk, length};
 ghost use Rattle.bolt_format.specs.{ElementPlaces.branch_view};
 ghost use Rattle.bolt_layout.specs.Limits.{one_less};
-ghost use Rattle.bolt_bulk.specs.Private.{ClosesRun, IsPushed, IsSameWriter, IsSizedRun, IsStanding, key_size, length_end, longest_key, no_run, one_closed, run_has_room, run_kept, run_page, run_push, run_stays, run_view, TakesPage, WritesPage};
+ghost use Rattle.bolt_bulk.specs.Private.{ClosesRun, IsPushed, IsSameWriter, IsSizedRun, IsStanding, key_size, length_end, longest_key, no_run};
+ghost use Rattle.bolt_bulk.specs.Private.{one_closed, run_has_room, run_kept, run_page, run_push, run_stays, run_view, TakesPage, WritesPage};
 ghost use Rattle.bolt_bulk.specs.declared.bulk_fault.BulkFault.TheVariants as fault;
 
 use crate::bulk_fault::BulkFault;

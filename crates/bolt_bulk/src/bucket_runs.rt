@@ -2,7 +2,10 @@
 ghost use Rattle.std.specs.Prelude.{◌≡◌, ◌+◌, ◌<◌, ◌≤◌, true, false, ℕ, IfErr, IfOk, OnOk, length, map, vec_capacity, vec_len};
 ghost use Rattle.std.specs.List.{AllByRecursion};
 ghost use Rattle.bolt_format.specs.{ElementLengths.IsValueLength, ElementPlaces.leaf_view, declared.element.Leaf.Leaf};
-ghost use Rattle.bolt_bulk.specs.Private.{bucket_runs, ClosesBucket, EndsInner, entries_size, first_run, HasRoomFor, held_size, held_view, inline_element, inline_size, inlined_by, IsHeld, IsOpenBucket, IsSameWriter, items_in, leaves_have_room, leaf_run_view, length_end, longest_key, MakesRoom, no_leaves, pending_element, Pushes, TakesItem, value_element, value_item, values_run};
+ghost use Rattle.bolt_bulk.specs.Private.{bucket_runs, ClosesBucket, EndsInner, entries_size, first_run, HasRoomFor, held_size, held_view};
+ghost use Rattle.bolt_bulk.specs.Private.{inline_element, inline_size, inlined_by, IsHeld, IsOpenBucket, IsSameWriter, items_in, leaves_have_room};
+ghost use Rattle.bolt_bulk.specs.Private.{leaf_run_view, length_end, longest_key, MakesRoom, no_leaves, pending_element, Pushes, TakesItem};
+ghost use Rattle.bolt_bulk.specs.Private.{value_element, value_item, values_run};
 ghost use Rattle.bolt_check.specs.Counts.{saturated};
 ghost use Rattle.bolt_bulk.specs.declared.bulk_fault.BulkFault.TheVariants as fault;
 

@@ -6,7 +6,7 @@ ghost use Rattle.bolt_format.specs.{ElementPlaces.leaf_view, Encoded.leaf_header
 ghost use Rattle.bolt_layout.specs.PageBytes.{inline_value, leaf_data};
 
 use crate::page_elements::{Element, put_elements};
-use crate::page_pieces::put;
+use crate::page_pieces::put_unless_empty;
 use bolt_format::{
     ELEMENT_LEN, HEAD_LEN, Kind, Leaf, Sink, SinkFault, bucket_head, leaf_header, page_header,
 };
@@ -66,8 +66,8 @@ impl<'a> Stored<'a> {
         ensures { WritesText S.Sink sink.old sink.new (stored_value inlined.now self.now) result }
     {
         match *self {
-            Stored::Value(value) => put(value, sink),
-            Stored::Root { page, sequence } => put(&bucket_head(page, sequence), sink),
+            Stored::Value(value) => put_unless_empty(value, sink),
+            Stored::Root { page, sequence } => put_unless_empty(&bucket_head(page, sequence), sink),
             Stored::Inline {
                 sequence,
                 first,
@@ -121,8 +121,8 @@ fn put_inline_value<S: Sink>(
     ensures { WritesText S.Sink sink.old sink.new
         (inline_value sequence (map leaf_view entries.now)) result }
 {
-    put(&bucket_head(0, sequence), sink)?;
+    put_unless_empty(&bucket_head(0, sequence), sink)?;
     let header = page_header(0, Kind::Leaf, entries.len() as u16, 0);
-    put(&header, sink)?;
+    put_unless_empty(&header, sink)?;
     put_elements(entries, &[], sink)
 }

@@ -6,7 +6,7 @@ ghost use Rattle.bolt_tree.specs.{FileListings.ForListing, Walks.left_of, Walks.
 ghost use Rattle.bolt_bulk.specs.{WholeListings.IsWholeJoined, WholeListings.IsWholeRecovery, WholeListings.IsWholeWalk, Private.ForFitting};
 ghost use Rattle.bolt_format.specs.Metas.{IsPageSize};
 ghost use Rattle.bolt_layout.specs.{Copies.IsOfOneTree, Copies.IsSoundCopy, Copies.RefusesPrefixes, Copies.layout_of_listing, Held.most_held};
-ghost use Rattle.bolt_layout.specs.{Layout.layout_held, Layout.layout_mark, Layout.layout_root, declared.Layout.Layout};
+ghost use Rattle.bolt_layout.specs.{Layout.layout_held, Layout.layout_high_water, Layout.layout_root, declared.Layout.Layout};
 
 use bolt_layout::laws::{
     a_copy_lists_the_same, a_files_listing_is_of_one_tree, a_fit_listing_is_of_one_tree,
@@ -68,7 +68,7 @@ fn fits(n: u64)
 pub(crate) fn a_listing_has_one_layout(page_size: u64, sequence: u64)
     requires { IsPageSize page_size }
     ensures length { (which : Layout) (listing : List Member) → ∥ IsOfOneTree listing ∥₁
-        → length (layout_of_listing which page_size listing sequence) ≡ layout_mark which page_size (tree_of listing) * page_size }
+        → length (layout_of_listing which page_size listing sequence) ≡ layout_high_water which page_size (tree_of listing) * page_size }
     ensures accepted { ForFitting page_size sequence
         (λ which listing. ∥ IsSoundCopy which page_size (tree_of listing) sequence listing ∥₁) }
     ensures held { ForFitting page_size sequence (λ which listing.

@@ -2,14 +2,14 @@
 ghost use Rattle.std.specs.Prelude.{◌≡◌, ◌≤◌, IfOk, List, OnOk, length, ◌↔◌, None};
 ghost use Rattle.bolt_tree.specs.Listing.{Member};
 ghost use Rattle.bolt_bulk.specs.{Compacting.CopiesEach, Compacting.PlansEach, WholeListings.IsAgain, WholeListings.IsWholeListing};
-ghost use Rattle.bolt_bulk.specs.Private.{FindsLimits, first_pages, FitAll, FitOne, PassesOver, PutsMembers, WritesText};
+ghost use Rattle.bolt_bulk.specs.Private.{FindsLimits, first_pages, FitAll, FitOne, PassesOverMembers, PutsMembers, WritesText};
 ghost use Rattle.bolt_layout.specs.{PageBytes.copy_meta, PageBytes.filled, declared.Layout.TheVariants.Balanced};
 
 use crate::blueprint::Blueprint;
 use crate::bulk_fault::{BulkFault, PlanFault};
 use crate::laws::a_listing_has_one_layout;
 use crate::limits::Limits;
-use crate::page_pieces::{put, put_zeros};
+use crate::page_pieces::{put_unless_empty, put_zeros};
 use crate::page_setup::{PageSetup, noting_setup_of, setup_of};
 use crate::pass::{Ended, Pass};
 use bolt_format::{Kind, Meta, Sink, SinkFault, meta_page, page_header};
@@ -171,7 +171,7 @@ fn put_filled<S: Sink>(bytes: &[u8], page_size: usize, sink: &mut S) -> Result<(
     requires { length bytes.now ≤ page_size }
     ensures { WritesText S.Sink sink.old sink.new (filled page_size bytes.now) result }
 {
-    put(bytes, sink)?;
+    put_unless_empty(bytes, sink)?;
     put_zeros(page_size - bytes.len(), sink)
 }
 
@@ -199,10 +199,10 @@ fn pass_over<'a, M: Members<'a>>(
     notes: bool,
     members: &mut M,
 ) -> Result<Ended, PlanFault>
-    requires room { 3 ≤ setup.highest_mark }
+    requires room { 3 ≤ setup.greatest_high_water }
     requires whole { IsWholeListing M.reads M.listing M.left members.old }
     requires fit { FitOne M.reads M.listing members.old setup.page_size limits.now }
-    ensures ends { PassesOver M.reads M.listing members.old setup limits.now notes result }
+    ensures ends { PassesOverMembers M.reads M.listing members.old setup limits.now notes result }
     ensures again { OnOk result (IsAgain M.reads M.listing M.left M.ends_as members.old members.new) }
 {
     match put_pages(setup, limits, notes, members, &mut NoSink) {
@@ -225,7 +225,7 @@ fn put_pages<'a, M: Members<'a>, S: Sink>(
     members: &mut M,
     sink: &mut S,
 ) -> Result<Ended, BulkFault>
-    requires room { 3 ≤ setup.highest_mark }
+    requires room { 3 ≤ setup.greatest_high_water }
     requires whole { IsWholeListing M.reads M.listing M.left members.old }
     ensures pages { PutsMembers S.Sink sink.old sink.new M.reads M.listing members.old setup limits.now notes
         result }

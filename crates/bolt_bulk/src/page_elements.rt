@@ -5,7 +5,7 @@ ghost use Rattle.std.specs.List.{AllByRecursion};
 ghost use Rattle.bolt_format.specs.{Encoded.branch_header, Encoded.leaf_header, declared.element.Leaf.Leaf};
 ghost use Rattle.bolt_bulk.specs.Private.{Buffers, data_of, data_size, heads_from, length_end, WritesText};
 
-use crate::page_pieces::put;
+use crate::page_pieces::put_unless_empty;
 use arrayvec::ArrayVec;
 use bolt_format::{Branch, ELEMENT_LEN, Leaf, Sink, SinkFault, branch_header, leaf_header};
 
@@ -17,10 +17,10 @@ type Buffer = ArrayVec<u8, BUFFER_LEN>;
 /// An element of a page, as a run keeps it. The value of one may depend on a list: the entries of
 /// all inline buckets of the run.
 pub(crate) trait Element {
-    /// Its header, by the distance from there to its key, and the lengths of its key and value.
+    /// An element's header, by the distance from there to its key, and the lengths of its key and value.
     ghost head: { ℕ → ℕ → ℕ → Self → List ℕ };
 
-    /// Its key.
+    /// An element's key.
     ghost key: { Self → List ℕ };
 
     /// How many bytes its value has.
@@ -29,14 +29,14 @@ pub(crate) trait Element {
     /// Whether the list has what it needs.
     ghost is_held: { List Leaf → Self → Type 0 };
 
-    /// Its value.
+    /// An element's value.
     ghost value: { List Leaf → Self → List ℕ };
 
-    /// Its header.
+    /// An element's header.
     fn header(&self, pos: u32, key_len: u32, value_len: u32) -> [u8; ELEMENT_LEN]
         ensures { result ≡ head pos key_len value_len self.now };
 
-    /// Its key.
+    /// An element's key.
     fn key(&self) -> &[u8]
         ensures { result.now ≡ key self.now };
 
@@ -77,11 +77,11 @@ impl Element for Leaf<'_> {
     }
 
     fn put_value<S: Sink>(&self, _inlined: &[Leaf<'_>], sink: &mut S) -> Result<(), SinkFault> {
-        put(self.value, sink)
+        put_unless_empty(self.value, sink)
     }
 }
 
-/// Its data is its key alone.
+/// The data of a branch's element is its key alone.
 impl Element for Branch<'_> {
     ghost head = { λ pos key value branch. branch_header pos key branch.child };
 
@@ -122,7 +122,7 @@ fn put_full<S: Sink>(buffer: &mut Buffer, sink: &mut S) -> Result<(), SinkFault>
     if buffer.len() + ELEMENT_LEN <= BUFFER_LEN {
         return Ok(());
     }
-    let done = put(buffer.as_slice(), sink);
+    let done = put_unless_empty(buffer.as_slice(), sink);
     buffer.clear();
     done
 }
@@ -143,7 +143,7 @@ fn put_headers<E: Element, S: Sink>(elements: &[E], sink: &mut S) -> Result<(), 
         buffer.try_extend_from_slice(&header).unwrap();
         pos = pos - ELEMENT_LEN + key + value;
     }
-    put(buffer.as_slice(), sink)
+    put_unless_empty(buffer.as_slice(), sink)
 }
 
 /// Writes the data of elements.
@@ -157,7 +157,7 @@ fn put_data<E: Element, S: Sink>(
         (data_of E.key (E.value inlined.now) elements.now) result }
 {
     for element in elements {
-        put(element.key(), sink)?;
+        put_unless_empty(element.key(), sink)?;
         element.put_value(inlined, sink)?;
     }
     Ok(())

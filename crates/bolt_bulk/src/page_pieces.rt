@@ -9,7 +9,7 @@ static ZEROS: [u8; 4096] = [0; 4096];
 
 /// Writes bytes in one piece. If there are none, the sink isn't called, so a call that fails leaves
 /// something out.
-pub(crate) fn put<S: Sink>(bytes: &[u8], sink: &mut S) -> Result<(), SinkFault>
+pub(crate) fn put_unless_empty<S: Sink>(bytes: &[u8], sink: &mut S) -> Result<(), SinkFault>
     ensures { WritesText S.Sink sink.old sink.new bytes.now result }
 {
     if bytes.is_empty() {
@@ -25,7 +25,7 @@ pub(crate) fn put_zeros<S: Sink>(count: usize, sink: &mut S) -> Result<(), SinkF
     let mut left = count;
     while left > 0 {
         let size = left.min(ZEROS.len());
-        put(&ZEROS[..size], sink)?;
+        put_unless_empty(&ZEROS[..size], sink)?;
         left -= size;
     }
     Ok(())

@@ -18,24 +18,24 @@ pub(crate) struct PageSetup {
     /// The size of a page in bytes.
     pub page_size: usize,
     /// The highest high-water mark that the copy may have.
-    pub highest_mark: u64,
+    pub greatest_high_water: u64,
     ghost low: { 1024 ≤ page_size },
     ghost high: { page_size ≤ 33554432 },
-    ghost fits: { highest_mark ≤ 18446744073709551615 },
+    ghost fits: { greatest_high_water ≤ 18446744073709551615 },
 }
 
 /// The setup of a copy at this page size.
 pub(crate) fn setup_of(alloc: Global, page_size: u64) -> PageSetup
     requires { IsPageSize page_size }
     ensures page_size { result.page_size ≡ page_size }
-    ensures highest_mark { result.highest_mark ≡ 9223372036854775807 / page_size }
-    ensures room { 3 ≤ result.highest_mark }
-    ensures bytes { result.highest_mark * result.page_size < 9223372036854775808 }
+    ensures greatest_high_water { result.greatest_high_water ≡ 9223372036854775807 / page_size }
+    ensures room { 3 ≤ result.greatest_high_water }
+    ensures bytes { result.greatest_high_water * result.page_size < 9223372036854775808 }
 {
     PageSetup {
         alloc,
         page_size: page_size as usize,
-        highest_mark: MAX_LEN / page_size,
+        greatest_high_water: MAX_LEN / page_size,
     }
 }
 
@@ -44,13 +44,13 @@ pub(crate) fn setup_of(alloc: Global, page_size: u64) -> PageSetup
 pub(crate) fn noting_setup_of(alloc: Global, page_size: u64) -> PageSetup
     requires { IsPageSize page_size }
     ensures page_size { result.page_size ≡ page_size }
-    ensures highest_mark { result.highest_mark ≡ 28 * (9223372036854775807 / page_size) }
-    ensures room { 3 ≤ result.highest_mark }
+    ensures greatest_high_water { result.greatest_high_water ≡ 28 * (9223372036854775807 / page_size) }
+    ensures room { 3 ≤ result.greatest_high_water }
 {
     PageSetup {
         alloc,
         page_size: page_size as usize,
-        highest_mark: 28 * (MAX_LEN / page_size),
+        greatest_high_water: 28 * (MAX_LEN / page_size),
     }
 }
 

@@ -5,7 +5,7 @@ ghost use Rattle.bolt_layout.specs.Levels.{overflow_of};
 ghost use Rattle.bolt_bulk.specs.declared.bulk_fault.BulkFault.TheVariants as fault;
 
 use crate::bulk_fault::BulkFault;
-use crate::page_pieces::put;
+use crate::page_pieces::put_unless_empty;
 use crate::page_setup::{PageSetup, overflow};
 use bolt_format::{Kind, Sink, SinkFault, page_header};
 
@@ -16,7 +16,7 @@ pub(crate) struct PageWriter<'w, S> {
     /// The number of the next page.
     pub next: u64,
     pub sink: &'w mut S,
-    ghost within: { next ≤ setup.highest_mark },
+    ghost within: { next ≤ setup.greatest_high_water },
 }
 
 impl<S: Sink> PageWriter<'_, S> {
@@ -27,12 +27,12 @@ impl<S: Sink> PageWriter<'_, S> {
     pub(crate) fn number_after(&self, size: usize) -> Result<u64, BulkFault>
         requires { 0 < size }
         ensures number { IfOk result (λ n. n ≡ next_after self.now size) }
-        ensures within { IfOk result (λ n. n ≤ self.now.setup.highest_mark) }
-        ensures large { IfErr result (λ _. self.now.setup.highest_mark < next_after self.now size) }
+        ensures within { IfOk result (λ n. n ≤ self.now.setup.greatest_high_water) }
+        ensures large { IfErr result (λ _. self.now.setup.greatest_high_water < next_after self.now size) }
         ensures fault { IfErr result (λ e. e ≡ fault.TooLarge) }
     {
         let further = overflow(self.setup.page_size, size) as u64;
-        if further >= self.setup.highest_mark - self.next {
+        if further >= self.setup.greatest_high_water - self.next {
             return Err(BulkFault::TooLarge);
         }
         Ok(self.next + (1 + further))
@@ -59,7 +59,7 @@ impl<S: Sink> PageWriter<'_, S> {
     {
         let further = overflow(self.setup.page_size, size);
         let header = page_header(self.next, kind, count as u16, further as u32);
-        put(&header, self.sink)?;
+        put_unless_empty(&header, self.sink)?;
         Ok((1 + further) * self.setup.page_size - size)
     }
 }

@@ -73,13 +73,14 @@ pub(crate) struct Pass<'a> {
 impl<'a> Pass<'a> {
     ghost use Rattle.bolt_format.specs.ElementLengths.{IsValueLength};
     ghost use Rattle.bolt_tree.specs.{Paths.path_of, ShownEntries.item_view};
-    ghost use Rattle.bolt_bulk.specs.Private.{BeginsAll, BeginsBucket, Counts, pass_depth, EndsAll, EntersBucket, GoesOn, HasMemberLengths, IsReady, items_by, KeepsValue, LeavesBucket, LeavesTo, longest_key, OpensPending, TakesMember, TakesValue};
+    ghost use Rattle.bolt_bulk.specs.Private.{BeginsAll, BeginsBucket, Counts, pass_depth, EndsAll, EntersBucket, GoesOn, HasMemberLengths, IsReady};
+    ghost use Rattle.bolt_bulk.specs.Private.{items_by, KeepsValue, LeavesBucket, LeavesTo, longest_key, OpensPending, TakesMember, TakesValue};
     ghost use Rattle.bolt_check.specs.Counts.{saturated};
 
     /// A pass before the first page. If `notes` is set, it notes the limits of the balanced
     /// layout's rows.
     pub(crate) fn new(setup: PageSetup, limits: &'a Limits, notes: bool) -> Pass<'a>
-        requires { 3 ≤ setup.highest_mark }
+        requires { 3 ≤ setup.greatest_high_water }
         ensures setup { result.setup ≡ setup }
         ensures ready { IsReady result }
         ensures at { BeginsAll limits.now notes setup.page_size result }

@@ -1,13 +1,15 @@
 -- The accounts depend on which pages are used and on what the freelist shows, and not on how that is said or in which file it is.
 use Rattle.std.proofs.Common.{arith, ◌≡◌, ◌≢◌, ◌∙◌, ◌↔◌, ℕ, List, None, refl, sym}
-use Rattle.bolt_check.proofs.Words.{AreAccountFindings, bad, Finding, free_ids_of, freelist_fault_of, HasAccounts, IsFree, IsFreelistFinding, IsInFreelist, IsInUse, Meta, NO_FREELIST, page_overflow, shared, times_in}
+use Rattle.bolt_check.proofs.Words.{AreAccountFindings, bad, Finding, free_ids_of, freelist_fault_of, HasAccounts, IsFree, IsFreelistFinding}
+use Rattle.bolt_check.proofs.Words.{IsInFreelist, IsInUse, Meta, NO_FREELIST, page_overflow, shared, times_in}
 use Rattle.bolt_check.proofs.AccountLemmas.{IsAlike, alike_back, finding_along}
 
 -- the freelists of two files show the same under a meta
 pub record SameFreelist (file other : List ℕ) (meta : Meta) : Type 0 where
   pub fault : freelist_fault_of other meta ≡ freelist_fault_of file meta
   pub ids : freelist_fault_of file meta ≡ None → free_ids_of other meta ≡ free_ids_of file meta
-  pub overflow : meta.freelist ≢ NO_FREELIST → freelist_fault_of file meta ≡ None → page_overflow other meta meta.freelist ≡ page_overflow file meta meta.freelist
+  pub overflow : meta.freelist ≢ NO_FREELIST → freelist_fault_of file meta ≡ None
+      → page_overflow other meta meta.freelist ≡ page_overflow file meta meta.freelist
 
 pub own_freelist : (file : List ℕ) (meta : Meta) → SameFreelist file file meta
 own_freelist file meta = record { fault = refl; ids = λ _. refl; overflow = λ _ _. refl }
@@ -15,15 +17,17 @@ own_freelist file meta = record { fault = refl; ids = λ _. refl; overflow = λ 
 pub freelist_back : (file other : List ℕ) (meta : Meta) → SameFreelist file other meta → SameFreelist other file meta
 freelist_back file other meta same = grind arith
 
-in_freelist_along : (file other : List ℕ) (meta : Meta) → SameFreelist file other meta → (n : ℕ) → IsInFreelist file meta n → IsInFreelist other meta n
+in_freelist_along : (file other : List ℕ) (meta : Meta) → SameFreelist file other meta → (n : ℕ) → IsInFreelist file meta n
+    → IsInFreelist other meta n
 in_freelist_along file other meta same n is = grind arith
 
 in_use_along : (file other : List ℕ) (meta : Meta) → SameFreelist file other meta → (used also : ℕ → Type 0) → ((n : ℕ) → used n → also n)
     → (n : ℕ) → IsInUse file meta used n → IsInUse other meta also n
 in_use_along file other meta same used also to n h = grind arith
 
-free_along : (mark : ℕ) (in_use also : ℕ → Type 0) → ((n : ℕ) → also n → in_use n) → (n : ℕ) → IsFree mark in_use n → IsFree mark also n
-free_along mark in_use also back n free = record { above_metas = free.above_metas; below = free.below; unused = λ is. free.unused (back n is) }
+free_along : (high_water : ℕ) (in_use also : ℕ → Type 0) → ((n : ℕ) → also n → in_use n) → (n : ℕ) → IsFree high_water in_use n
+    → IsFree high_water also n
+free_along high_water in_use also back n free = record { above_metas = free.above_metas; below = free.below; unused = λ is. free.unused (back n is) }
 
 pub has_accounts_along : (file other : List ℕ) (meta : Meta) → SameFreelist file other meta → (used also : ℕ → Type 0) → ((n : ℕ) → used n ↔ also n)
     → HasAccounts file meta used → HasAccounts other meta also

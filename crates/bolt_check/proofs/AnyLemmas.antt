@@ -15,7 +15,8 @@ large_is_value : (entries : List Entry) → (list_any is_value entries && list_a
 large_is_value [] = refl
 large_is_value (e ∷ entries) = by e.is_bucket refl (large_is_value entries)
   where
-    by : (is_bucket : Bool) → e.is_bucket ≡ is_bucket → (list_any is_value entries && list_any is_large_value entries) ≡ list_any is_large_value entries
+    by : (is_bucket : Bool) → e.is_bucket ≡ is_bucket
+        → (list_any is_value entries && list_any is_large_value entries) ≡ list_any is_large_value entries
         → (list_any is_value (e ∷ entries) && list_any is_large_value (e ∷ entries)) ≡ list_any is_large_value (e ∷ entries)
     by true is rest = rw is rest
     by false is rest = rw is refl

@@ -1,7 +1,8 @@
 -- What a checked file is known to be.
 use Rattle.std.proofs.Common.{◌≡◌, ℕ, List, Some, subst}
-use Rattle.bolt_check.proofs.Words.{At_page, bytes_of, Checked, HasSoundTrees, IsOnWay, IsSome, Meta, meta_of, node_at, page_at, PageSpot, props, ∥∥₁_elim, ∥∥₁_map}
-use Rattle.bolt_check.proofs.MarkLemmas.{node_shown}
+use Rattle.bolt_check.proofs.Words.{At_page, bytes_of, Checked, HasSoundTrees, IsOnWay, IsSome, Meta, meta_of, node_at, page_at, PageSpot, props}
+use Rattle.bolt_check.proofs.Words.{∥∥₁_elim, ∥∥₁_map}
+use Rattle.bolt_check.proofs.HighWaterLemmas.{node_shown}
 use Rattle.bolt_check.specs.Ways.{reached}
 
 -- a way leads to a good page
@@ -19,6 +20,9 @@ pub with_trees : (checked : Checked) (P : Type 0) → IsProp P → (HasSoundTree
 with_trees checked P prop f = ∥∥₁_elim (checked_trees checked) prop f
 
 -- a page that a way leads to is good
-pub good_on_way : (checked : Checked) (number : ℕ) → ∥ ((depth : ℕ) × IsOnWay (bytes_of checked) (meta_of checked) number depth) ∥₁ → IsSome (page_at (bytes_of checked) (meta_of checked) number)
-good_on_way checked number on = ∥∥₁_elim on (Prim.hlevel props) (λ (depth, w). with_trees checked (IsSome (page_at (bytes_of checked) (meta_of checked) number)) (Prim.hlevel props) (λ trees.
+pub good_on_way : (checked : Checked) (number : ℕ) → ∥ ((depth : ℕ) × IsOnWay (bytes_of checked) (meta_of checked) number depth) ∥₁
+    → IsSome (page_at (bytes_of checked) (meta_of checked) number)
+good_on_way checked number on =
+    ∥∥₁_elim on (Prim.hlevel props)
+    (λ (depth, w). with_trees checked (IsSome (page_at (bytes_of checked) (meta_of checked) number)) (Prim.hlevel props) (λ trees.
     subst (λ (n : ℕ). IsSome (page_at (bytes_of checked) (meta_of checked) n)) w.is (good_page (bytes_of checked) (meta_of checked) w.way w.spot trees w.led)))

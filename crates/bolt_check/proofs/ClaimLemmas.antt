@@ -1,6 +1,7 @@
 -- Claiming page after page.
 use Rattle.std.proofs.Common.{◌≡◌, ◌≢◌, ◌∙◌, ℕ, ◌+◌, ◌<◌, ◌≤◌, ◌^◌, ◌⊎◌, List, None, length, inl, inr, sym, ap, arith}
-use Rattle.bolt_check.proofs.Words.{claims_file, ClaimsFreelist, false≢true, freelist_fault_of, HasRoom, is_used, IsClaimed, IsInFreelist, IsUnclaimed, Meta, NO_FREELIST, page_overflow, PageUse, times_of, use_at}
+use Rattle.bolt_check.proofs.Words.{claims_file, ClaimsFreelist, false≢true, freelist_fault_of, HasRoom, is_used, IsClaimed, IsInFreelist}
+use Rattle.bolt_check.proofs.Words.{IsUnclaimed, Meta, NO_FREELIST, page_overflow, PageUse, times_of, use_at}
 use Rattle.bolt_check.proofs.{FreelistLemmas.freelist_within, Spans.outside, Spans.still_unlisted}
 use Rattle.bolt_format.specs.Bytes.{IsBytes}
 use Rattle.bolt_check.specs.{Claims.claims_visited, Counts.counted, declared.claims.Claims.Claims, declared.table.PageUse.TheVariants.Used}

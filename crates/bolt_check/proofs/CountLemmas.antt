@@ -44,7 +44,9 @@ times_once (x ∷ xs) zero up h first next =
     let t = times_here x x xs refl in omega (arith, t, none)
 times_once (x ∷ xs) (suc i) up h first next =
     let below = first 0 (omega arith) in
-    let rest = times_once xs i (λ a b d order l. up (suc a) (suc b) d (omega arith) (omega arith)) (omega arith) (λ k l. first (suc k) (omega arith)) (λ l e. next (omega arith) e) in
+    let rest =
+    times_once xs i (λ a b d order l. up (suc a) (suc b) d (omega arith) (omega arith)) (omega arith) (λ k l. first (suc k) (omega arith))
+    (λ l e. next (omega arith) e) in
     times_there x (get_or xs i 0) xs (λ e. omega (arith, below, e)) ∙ rest
 
 -- and at least twice, where it is

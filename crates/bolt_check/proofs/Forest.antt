@@ -1,6 +1,8 @@
 -- The spots that are still to be visited, as ways: the first number of a way picks the spot, the rest leads on from it.
-use Rattle.std.proofs.Common.{rules, ◌≡◌, ℕ, zero, suc, ◌<◌, ◌⊎◌, inl, inr, Bool, List, [], ◌∷◌, ◌++◌, Option, Some, None, Ok, slice_get, refl, sym, ap, subst, arith, ◌∙◌}
-use Rattle.bolt_check.proofs.Words.{InlinePage, At_inline, At_page, Before, Entry, Finding, follow, forest, IsClaimedBefore, IsClean, IsCovered, IsFirst, Node, Nodes, PageSpot, places, somes, Spot, step, step_entry, Tests}
+use Rattle.std.proofs.Common.{rules, ◌≡◌, ℕ, zero, suc, ◌<◌, ◌⊎◌, inl, inr, Bool, List, [], ◌∷◌, ◌++◌, Option, Some, None, Ok, slice_get, refl, sym}
+use Rattle.std.proofs.Common.{ap, subst, arith, ◌∙◌}
+use Rattle.bolt_check.proofs.Words.{InlinePage, At_inline, At_page, Before, Entry, Finding, follow, forest, IsClaimedBefore, IsClean, IsCovered}
+use Rattle.bolt_check.proofs.Words.{IsFirst, Node, Nodes, PageSpot, places, somes, Spot, step, step_entry, Tests}
 use Rattle.bolt_check.proofs.{Judging.tests_same, Visiting.Visits}
 
 pub follow_none : (nodes : Nodes) (way : List ℕ) → follow nodes None way ≡ None
@@ -94,10 +96,12 @@ lift_same : (nodes : Nodes) (s : Spot) (rest : List Spot) (os : List (Option Spo
 lift_same nodes s rest os fits [] t e = absurd (nothing_is t e)
 lift_same nodes s rest os fits (k ∷ v) t e = reach_way nodes s rest os fits (where_is os k) v ∙ (reach_kid nodes rest os k v ∙ e)
 
-lift_after : (nodes : Nodes) (rest : List Spot) (os : List (Option Spot)) (b : List ℕ) (t : Spot) → forest nodes (somes os ++ rest) b ≡ Some t → Before (0 ∷ []) (lift os b)
+lift_after : (nodes : Nodes) (rest : List Spot) (os : List (Option Spot)) (b : List ℕ) (t : Spot) → forest nodes (somes os ++ rest) b ≡ Some t
+    → Before (0 ∷ []) (lift os b)
 lift_after nodes rest os b t e = grind arith
 
-all_at : (nodes : Nodes) (rest : List Spot) (os : List (Option Spot)) (x : ℕ ⊎ ℕ) (v : List ℕ) (t : Spot) → follow nodes (at_place os rest x) v ≡ Some t
+all_at : (nodes : Nodes) (rest : List Spot) (os : List (Option Spot)) (x : ℕ ⊎ ℕ) (v : List ℕ) (t : Spot)
+    → follow nodes (at_place os rest x) v ≡ Some t
     → (b : List ℕ) × ((way_of x v ≡ lift os b) × (forest nodes (somes os ++ rest) b ≡ Some t))
 all_at nodes rest os x v t e =
     let u = follow_some nodes (at_place os rest x) v t e in
@@ -146,7 +150,8 @@ only_start : (nodes : Nodes) (c : ℕ → Type 0) (spots : List Spot) (n : ℕ) 
 only_start nodes c spots n h = grind arith
 
 -- a visit that found something
-pub found_step : (nodes : Nodes) (c : ℕ → Type 0) (s : Spot) (rest : List Spot) (x : Finding) → Tests nodes c s x → IsFirst nodes (forest nodes (s ∷ rest)) c x
+pub found_step : (nodes : Nodes) (c : ℕ → Type 0) (s : Spot) (rest : List Spot) (x : Finding) → Tests nodes c s x
+    → IsFirst nodes (forest nodes (s ∷ rest)) c x
 found_step nodes c s rest x m = record {
   way = 0 ∷ [];
   spot = s;

@@ -1,7 +1,9 @@
 -- The span of a freelist whose page is good.
 use Rattle.std.proofs.Common.{arith, ◌≡◌, ◌≢◌, ◌∙◌, ◌==◌, ℕ, ◌+◌, ◌*◌, ◌<◌, ◌≤◌, List, Some, None, length, refl, sym}
-use Rattle.bolt_check.proofs.Words.{cond-false, first_of-none, freelist_fault, freelist_fault_of, Meta, ne_eqb, NO_FREELIST, page_at, page_fault, page_overflow, span_within}
-use Rattle.bolt_format.specs.{Headers.count_field, Headers.flags_field, Headers.kind_of, Pages.from_page, Pages.span_bytes, Pages.span_fault, Pages.view_of}
+use Rattle.bolt_check.proofs.Words.{cond-false, first_of-none, freelist_fault, freelist_fault_of, Meta, ne_eqb, NO_FREELIST, page_at, page_fault}
+use Rattle.bolt_check.proofs.Words.{page_overflow, span_within}
+use Rattle.bolt_format.specs.{Headers.count_field, Headers.flags_field, Headers.kind_of, Pages.from_page, Pages.span_bytes, Pages.span_fault}
+use Rattle.bolt_format.specs.{Pages.view_of}
 use Rattle.bolt_format.specs.declared.header.Kind.TheVariants as kind
 
 module _ (file : List ℕ) (meta : Meta) (written : meta.freelist ≢ NO_FREELIST) (good : freelist_fault_of file meta ≡ None) where
@@ -18,7 +20,8 @@ module _ (file : List ℕ) (meta : Meta) (written : meta.freelist ≢ NO_FREELIS
 
   -- it is a good page,
   pub freelist_page : page_at file meta meta.freelist
-      ≡ Some (view_of kind.Freelist (count_field (from_page file meta meta.freelist)) (page_overflow file meta meta.freelist) (span_bytes file meta meta.freelist))
+      ≡ Some (view_of kind.Freelist (count_field (from_page file meta meta.freelist)) (page_overflow file meta meta.freelist)
+      (span_bytes file meta meta.freelist))
   unfolding page_at page_fault
   freelist_page = rw (own_span, own_kind) refl
 

@@ -6,7 +6,8 @@ use Rattle.bolt_check.specs.Findings.{twice}
 page_same : (nodes : Nodes) (a b : ℕ → Type 0) (s : PageSpot) (x : Finding) → ((n : ℕ) → a n → b n) → ((n : ℕ) → b n → a n)
     → PageTests nodes a s x → PageTests nodes b s x
 page_same nodes a b s x to from (early e) = early e
-page_same nodes a b s x to from (twice node e p l k) = twice node e p (record { in_span = l.in_span; was = to x.page l.was; lowest = λ k i h m. l.lowest k i h (from k m) }) k
+page_same nodes a b s x to from (twice node e p l k) =
+    twice node e p (record { in_span = l.in_span; was = to x.page l.was; lowest = λ k i h m. l.lowest k i h (from k m) }) k
 page_same nodes a b s x to from (late node e p f c) = late node e p (λ n i m. f n i (from n m)) c
 
 pub tests_same : (nodes : Nodes) (a b : ℕ → Type 0) (s : Spot) (x : Finding) → ((n : ℕ) → a n → b n) → ((n : ℕ) → b n → a n)

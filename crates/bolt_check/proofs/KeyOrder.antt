@@ -9,7 +9,8 @@ three_none : (x y z : ℕ) (a b c : Bool) → (if not a then Some x else (if not
     → (a ≡ true) × (b ≡ true) × (c ≡ true)
 three_none x y z a b c e = grind arith
 
-pub key_each : (before lower upper : Option Key) (keys : List Key) → keys_order_fault before lower upper keys ≡ None → (j : ℕ) (q : Key) → slice_get keys j ≡ Some q
+pub key_each : (before lower upper : Option Key) (keys : List Key) → keys_order_fault before lower upper keys ≡ None → (j : ℕ) (q : Key)
+    → slice_get keys j ≡ Some q
     → (is_above before q ≡ true) × (is_from lower q ≡ true) × (is_below upper q ≡ true)
 key_each before lower upper [] e j q g = absurd (none-some q g)
 key_each before lower upper (p ∷ keys) e zero q g = grind (arith, first_of-none, three_none)
@@ -48,7 +49,8 @@ next_from : (lower upper : Option Key) (p q : Key) (keys : List Key) → is_from
 next_from lower upper p q keys from rest false falls = rw falls refl
 next_from lower upper p q keys from rest true rises = grind (arith, from_more, lt_not_back)
 
-lower_once : (lower upper : Option Key) (p : Key) (keys : List Key) → is_from lower p ≡ true → keys_order_fault (Some p) lower upper keys ≡ keys_order_fault (Some p) None upper keys
+lower_once : (lower upper : Option Key) (p : Key) (keys : List Key) → is_from lower p ≡ true
+    → keys_order_fault (Some p) lower upper keys ≡ keys_order_fault (Some p) None upper keys
 lower_once lower upper p [] from = refl
 lower_once lower upper p (q ∷ keys) from = next_from lower upper p q keys from (lower_once lower upper q keys) (key_lt p q) refl
 

@@ -26,5 +26,6 @@ pub some_tree : (o : Option TreePage) (k : Kind) → is_tree_kind k ≡ true →
 some_tree None k is not = absurd (cc)
 some_tree (Some page) k is not = refl
 
-pub opened_as : (o : Option TreePage) (page branch : TreePage) (view : PageView) → o ≡ Some page → page ≡ branch → IfSome o (λ (p : TreePage). shown_page p ≡ view) → shown_page branch ≡ view
+pub opened_as : (o : Option TreePage) (page branch : TreePage) (view : PageView) → o ≡ Some page → page ≡ branch
+    → IfSome o (λ (p : TreePage). shown_page p ≡ view) → shown_page branch ≡ view
 opened_as o page branch view of is shows = rw (← is) (rw of at shows)

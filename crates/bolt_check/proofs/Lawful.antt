@@ -1,17 +1,24 @@
 -- If the shape holds, the tests find nothing.
 use Rattle.std.proofs.{lemmas.Grind.common_steps, lemmas.Option.cond_some}
-use Rattle.std.proofs.Common.{◌≡◌, ◌≢◌, ℕ, suc, ◌≤◌, Bool, true, false, not, ◌&&◌, ◌==◌, if◌then◌else◌, nat_lt, List, [], ◌∷◌, ◌++◌, length, Option, Some, None, Ok, slice_get, ap, refl, subst, arith}
-use Rattle.bolt_check.proofs.Words.{At_inline, At_page, bucket_spot, child_spot, early_finding, Entry, Finding, follow, HasShape, HasSoundTrees, is_below, is_from, IsClaimedBefore, IsClean, IsFirstFinding, IsMetaPage, Key, key_lt, keys_of, keys_order_fault, leads, Meta, nat_tests, Node, node_finding, Nodes, PageSpot, Passes, root_spot, same_Some, SpanHas, Spot, step, step_entry, upper_from}
-use Rattle.bolt_check.proofs.{WayOrder.before_irreflexive, Forest.follow_some, Forest.nothing_is, Judging.passes_silent, KeyOrder.key_passes, Shaping.snoc_reached}
+use Rattle.std.proofs.Common.{◌≡◌, ◌≢◌, ℕ, suc, ◌≤◌, Bool, true, false, not, ◌&&◌, ◌==◌, if◌then◌else◌, nat_lt, List, [], ◌∷◌, ◌++◌, length, Option}
+use Rattle.std.proofs.Common.{Some, None, Ok, slice_get, ap, refl, subst, arith}
+use Rattle.bolt_check.proofs.Words.{At_inline, At_page, bucket_spot, child_spot, early_finding, Entry, Finding, follow, HasShape, HasSoundTrees}
+use Rattle.bolt_check.proofs.Words.{is_below, is_from, IsClaimedBefore, IsClean, IsFirstFinding, IsMetaPage, Key, key_lt, keys_of, keys_order_fault}
+use Rattle.bolt_check.proofs.Words.{leads, Meta, nat_tests, Node, node_finding, Nodes, PageSpot, Passes, root_spot, same_Some, SpanHas, Spot, step}
+use Rattle.bolt_check.proofs.Words.{step_entry, upper_from}
+use Rattle.bolt_check.proofs.{WayOrder.before_irreflexive, Forest.follow_some, Forest.nothing_is, Judging.passes_silent, KeyOrder.key_passes}
+use Rattle.bolt_check.proofs.{Shaping.snoc_reached}
 use Rattle.bolt_check.specs.Ways.{reached}
 
 -- the bounds of a spot hold of all keys below it in its bucket
 abbrev pub Bounded : Nodes → Spot → Type 0
-Bounded nodes (At_page s) = (address : List ℕ) (below j : ℕ) (key : Key) (under : Node) → leads nodes (Some s.number) address ≡ Some below → nodes below ≡ Ok under
+Bounded nodes (At_page s) =
+    (address : List ℕ) (below j : ℕ) (key : Key) (under : Node) → leads nodes (Some s.number) address ≡ Some below → nodes below ≡ Ok under
     → slice_get (keys_of under.entries) j ≡ Some key → (is_from s.lower key ≡ true) × (is_below s.upper key ≡ true)
 Bounded nodes (At_inline host inner) = Unit {0}
 
-upper_is : (next : Option Entry) (upper : Option Key) (key : Key) → ((n : Entry) → next ≡ Some n → key_lt key n.key ≡ true) → is_below upper key ≡ true → is_below (upper_from next upper) key ≡ true
+upper_is : (next : Option Entry) (upper : Option Key) (key : Key) → ((n : Entry) → next ≡ Some n → key_lt key n.key ≡ true)
+    → is_below upper key ≡ true → is_below (upper_from next upper) key ≡ true
 upper_is next upper key h e = grind arith
 
 bucket_bounded : (nodes : Nodes) (host : ℕ) (e : Entry) (b : Bool) → Bounded nodes (if b then At_inline host e.inner else At_page (root_spot e.child))
@@ -53,7 +60,8 @@ module _ (nodes : Nodes) (root : ℕ) (shape : HasShape nodes root) where
 not_empty : (leaf : Bool) (entries : List Entry) → (leaf ≡ false → entries ≢ []) → (not leaf && (length entries == 0)) ≡ false
 not_empty leaf entries h = grind (arith, common_steps)
 
-content_none : (node : Node) (s : PageSpot) → (node.is_leaf ≡ false → node.entries ≢ []) → keys_order_fault None s.lower s.upper (keys_of node.entries) ≡ None → node_finding node s ≡ None
+content_none : (node : Node) (s : PageSpot) → (node.is_leaf ≡ false → node.entries ≢ [])
+    → keys_order_fault None s.lower s.upper (keys_of node.entries) ≡ None → node_finding node s ≡ None
 content_none node s filled keys = rw (not_empty node.is_leaf node.entries filled, keys) refl
 
 pub early_passes : (nodes : Nodes) (s : PageSpot) (node : Node) → s.depth ≤ 64 → nodes s.number ≡ Ok node → early_finding nodes s ≡ None

@@ -1,5 +1,6 @@
 -- The depth of the first leaf of a bucket, which is handed down from its root page, is that at the way to the bucket's root page.
-use Rattle.std.proofs.Common.{◌≡◌, ◌∙◌, ℕ, suc, ◌+◌, ◌-◌, ◌≤◌, ◌⊎◌, inl, inr, Bool, List, [], ◌∷◌, Option, Some, None, Result, Ok, Err, ap, cond, length, refl, slice_get, sym, take, arith}
+use Rattle.std.proofs.Common.{◌≡◌, ◌∙◌, ℕ, suc, ◌+◌, ◌-◌, ◌≤◌, ◌⊎◌, inl, inr, Bool, List, [], ◌∷◌, Option, Some, None, Result, Ok, Err, ap, cond}
+use Rattle.std.proofs.Common.{length, refl, slice_get, sym, take, arith}
 use Rattle.bolt_check.proofs.Words.{At_inline, At_page, Entry, follow, Node, ne_eqb, Nodes, none-some, PageSpot, root_spot, Spot, step, step_entry}
 use Rattle.bolt_check.proofs.Forest.{follow_none}
 use Rattle.bolt_check.specs.{BboltFindings.bucket_way, BboltFindings.first_leaf_depth, BboltFindings.leaf_depth, Ways.reached, Ways.step_at}
@@ -22,7 +23,8 @@ bucket_kid : (bucket small : Bool) (host : ℕ) (e : Entry) (k : PageSpot)
     → cond bucket (Some (cond small (At_inline host e.inner) (At_page (root_spot e.child)))) None ≡ Some (At_page k) → k.depth ≡ 1
 bucket_kid bucket small host e k h = grind (arith, none-some)
 
-entry_kid : (is_leaf : Bool) (s k : PageSpot) (e next : Option Entry) → step_entry is_leaf s e next ≡ Some (At_page k) → (k.depth ≡ suc s.depth) ⊎ (k.depth ≡ 1)
+entry_kid : (is_leaf : Bool) (s k : PageSpot) (e next : Option Entry) → step_entry is_leaf s e next ≡ Some (At_page k)
+    → (k.depth ≡ suc s.depth) ⊎ (k.depth ≡ 1)
 entry_kid is_leaf s k e next h = grind (arith, none-some, bucket_kid)
 
 node_kid : (r : Result Node ℕ) (s k : PageSpot) (i : ℕ) → step_at r s i ≡ Some (At_page k) → (k.depth ≡ suc s.depth) ⊎ (k.depth ≡ 1)
@@ -62,23 +64,27 @@ module _ (nodes : Nodes) where
           → Stays k (page_leaves nodes above s) way t ⊎ Leaves k (page_leaves nodes above s) way t → Stays s above (i ∷ way) t ⊎ Leaves s above (i ∷ way) t
       by_kid k q (inl child) (inl (deep, same)) = inl (
         omega (arith, child, deep),
-        ap (λ (o : Option Spot). leaves_along nodes (page_leaves nodes above s) o way) q ∙ same ∙ child_leaves (page_leaves nodes above s) k (omega (arith, child, low)),
+        ap (λ (o : Option Spot). leaves_along nodes (page_leaves nodes above s) o way) q ∙ same
+            ∙ child_leaves (page_leaves nodes above s) k (omega (arith, child, low)),
       )
       by_kid k q (inr root) (inl (deep, same)) = inr (
         omega (arith, root, deep),
         ap (λ (o : Option Spot). leaves_along nodes (page_leaves nodes above s) o way) q ∙ same ∙ root_leaves (page_leaves nodes above s) k root
-            ∙ sym (ap (λ (w : List ℕ). leaf_depth nodes (follow nodes (Some (At_page s)) w)) (take_some (length (i ∷ way) + 1 - t.depth) 0 i way (omega (arith, root, deep)))
+            ∙ sym (ap (λ (w : List ℕ). leaf_depth nodes (follow nodes (Some (At_page s)) w))
+            (take_some (length (i ∷ way) + 1 - t.depth) 0 i way (omega (arith, root, deep)))
             ∙ ap (leaf_depth nodes) q),
       )
       by_kid k q kind (inr (less, same)) = inr (
         omega (arith, less),
         ap (λ (o : Option Spot). leaves_along nodes (page_leaves nodes above s) o way) q ∙ same
-            ∙ sym (ap (λ (w : List ℕ). leaf_depth nodes (follow nodes (Some (At_page s)) w)) (take_some (length (i ∷ way) + 1 - t.depth) (length way + 1 - t.depth) i way (omega (arith, less)))
+            ∙ sym (ap (λ (w : List ℕ). leaf_depth nodes (follow nodes (Some (At_page s)) w))
+            (take_some (length (i ∷ way) + 1 - t.depth) (length way + 1 - t.depth) i way (omega (arith, less)))
             ∙ ap (λ (o : Option Spot). leaf_depth nodes (follow nodes o (bucket_way way t.depth))) q),
       )
 
       by : (o : Option Spot) → step nodes (Some (At_page s)) i ≡ o
-          → ((k : PageSpot) → 1 ≤ k.depth → follow nodes (Some (At_page k)) way ≡ Some (At_page t) → Stays k (page_leaves nodes above s) way t ⊎ Leaves k (page_leaves nodes above s) way t)
+          → ((k : PageSpot) → 1 ≤ k.depth → follow nodes (Some (At_page k)) way ≡ Some (At_page t)
+          → Stays k (page_leaves nodes above s) way t ⊎ Leaves k (page_leaves nodes above s) way t)
           → Stays s above (i ∷ way) t ⊎ Leaves s above (i ∷ way) t
       by o q further = grind (arith, none-some, follow_none, inline_ends, node_kid, by_kid)
 

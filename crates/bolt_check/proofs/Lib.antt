@@ -21,7 +21,7 @@ mod LeafDepths
 mod LeafLemmas
 mod ListedIds
 mod Lists
-mod MarkLemmas
+mod HighWaterLemmas
 mod NodeLemmas
 mod Orderings
 mod PageLemmas

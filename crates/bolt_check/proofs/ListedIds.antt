@@ -1,5 +1,6 @@
 -- Ids listed one after another.
-use Rattle.std.proofs.Common.{rules, ◌≡◌, ◌≢◌, ◌∙◌, ◌==◌, ℕ, ◌+◌, ◌<◌, Bool, List, [], ◌∷◌, ◌++◌, Some, slice_get, length, get_or, cond, take, filter, min, sym, arith}
+use Rattle.std.proofs.Common.{rules, ◌≡◌, ◌≢◌, ◌∙◌, ◌==◌, ℕ, ◌+◌, ◌<◌, Bool, List, [], ◌∷◌, ◌++◌, Some, slice_get, length, get_or, cond, take, filter}
+use Rattle.std.proofs.Common.{min, sym, arith}
 use Rattle.std.proofs.{lemmas.List.Elements.filter_more, lemmas.List.Sums.sum_by_more, lemmas.Option.slice_get-get_or}
 use Rattle.bolt_check.proofs.Words.{eq-eqb, times_in}
 
@@ -11,7 +12,8 @@ pub times_more : (ids : List ℕ) (i id n before : ℕ) → i < length ids → s
     → min 2 (before + cond (id == n) 1 0) ≡ min 2 (times_in (take (i + 1) ids) n)
 times_more ids i id n before h e b = grind (arith, sum_by_more, id_at)
 
-pub past_more : (p : ℕ → Bool) (ids : List ℕ) (i id : ℕ) (before : List ℕ) → i < length ids → slice_get ids i ≡ Some id → before ≡ filter p (take i ids)
+pub past_more : (p : ℕ → Bool) (ids : List ℕ) (i id : ℕ) (before : List ℕ) → i < length ids → slice_get ids i ≡ Some id
+    → before ≡ filter p (take i ids)
     → before ++ cond (p id) (id ∷ []) [] ≡ filter p (take (i + 1) ids)
 past_more p ids i id before h e b = grind (arith, filter_more p ids i 0 h, id_at ids i id h e)
 

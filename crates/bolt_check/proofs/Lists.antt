@@ -1,5 +1,6 @@
 -- Lists: members, lists that rise by a relation, and that two such lists with the same members are one. For the crates above too.
-use Rattle.std.proofs.Common.{rules, ◌≡◌, ℕ, zero, suc, ◌+◌, ◌<◌, ◌⊎◌, inl, inr, List, [], ◌∷◌, ◌++◌, length, Some, slice_get, get_or, map, refl, sym, ap, subst, arith, ◌∙◌}
+use Rattle.std.proofs.Common.{rules, ◌≡◌, ℕ, zero, suc, ◌+◌, ◌<◌, ◌⊎◌, inl, inr, List, [], ◌∷◌, ◌++◌, length, Some, slice_get, get_or, map, refl, sym}
+use Rattle.std.proofs.Common.{ap, subst, arith, ◌∙◌}
 use Rattle.std.proofs.lemmas.Option.{get_or_from_slice_get, none-some, slice_get-get_or, slice_get_within}
 use Rattle.std.specs.List.{AllPairs, Contains, flat_map}
 pub use Rattle.bolt_check.specs.Lists.{Each, Has, RisesBy}
@@ -35,7 +36,8 @@ module _ {X : Type 0} where
   pub has_from_contains : (xs : List X) (x : X) → Contains xs x → Has xs x
   has_from_contains xs x (k, within, is) = at_has xs k x (slice_get-get_or xs k x within ∙ ap (λ (z : X). Some z) is)
 
-  pub rises_append : (R : X → X → Type 0) (xs ys : List X) → RisesBy R xs → RisesBy R ys → ((x y : X) → Has xs x → Has ys y → R x y) → RisesBy R (xs ++ ys)
+  pub rises_append : (R : X → X → Type 0) (xs ys : List X) → RisesBy R xs → RisesBy R ys → ((x y : X) → Has xs x → Has ys y → R x y)
+      → RisesBy R (xs ++ ys)
   rises_append R [] ys a b c = b
   rises_append R (x ∷ xs) ys a b c =
       (λ y h. elim (has_split xs ys y h) [ inl l ↦ a.0 y l | inr r ↦ c x y (inl refl) r ], rises_append R xs ys a.1 b (λ z y h k. c z y (inr h) k))
@@ -57,12 +59,16 @@ module _ {X : Type 0} where
   rises_weaker R S [] f a = tt
   rises_weaker R S (x ∷ xs) f a = (λ y h. f x y (a.0 y h), rises_weaker R S xs f a.1)
 
-  pub rises_from_gets : (R : X → X → Type 0) (xs : List X) → ((i j : ℕ) (a b : X) → i < j → slice_get xs i ≡ Some a → slice_get xs j ≡ Some b → R a b) → RisesBy R xs
+  pub rises_from_gets : (R : X → X → Type 0) (xs : List X) → ((i j : ℕ) (a b : X) → i < j → slice_get xs i ≡ Some a → slice_get xs j ≡ Some b → R a b)
+      → RisesBy R xs
   rises_from_gets R [] h = tt
-  rises_from_gets R (x ∷ xs) h =
-      (λ y k. let p = has_at xs y k in h 0 (suc p.0) x y (omega arith) refl p.1, rises_from_gets R xs (λ i j a b lt g k. h (suc i) (suc j) a b (omega arith) g k))
+  rises_from_gets R (x ∷ xs) h = (
+    λ y k. let p = has_at xs y k in h 0 (suc p.0) x y (omega arith) refl p.1,
+    rises_from_gets R xs (λ i j a b lt g k. h (suc i) (suc j) a b (omega arith) g k),
+  )
 
-  pub rises_gets : (R : X → X → Type 0) (xs : List X) (i j : ℕ) (a b : X) → RisesBy R xs → i < j → slice_get xs i ≡ Some a → slice_get xs j ≡ Some b → R a b
+  pub rises_gets : (R : X → X → Type 0) (xs : List X) (i j : ℕ) (a b : X) → RisesBy R xs → i < j → slice_get xs i ≡ Some a → slice_get xs j ≡ Some b
+      → R a b
   rises_gets R (x ∷ xs) (suc i) (suc j) a b r l g h = rises_gets R xs i j a b r.1 (omega arith) g h
   rises_gets R xs i j a b r l g h = grind (arith, none-some, at_has)
 
@@ -73,7 +79,8 @@ module _ {X : Type 0} where
 
   -- the same over pairs of places
   pub pairs_from_rises : (R : X → X → Type 0) (xs : List X) → RisesBy R xs → AllPairs R xs
-  pairs_from_rises R xs a = λ i j d h k. rises_gets R xs i j (get_or xs i d) (get_or xs j d) a h (slice_get-get_or xs i d (omega (arith, h, k))) (slice_get-get_or xs j d k)
+  pairs_from_rises R xs a =
+      λ i j d h k. rises_gets R xs i j (get_or xs i d) (get_or xs j d) a h (slice_get-get_or xs i d (omega (arith, h, k))) (slice_get-get_or xs j d k)
 
   pub rises_from_pairs : (R : X → X → Type 0) (xs : List X) → AllPairs R xs → RisesBy R xs
   rises_from_pairs R xs a = search (rules, rises_from_gets, get_or_from_slice_get, slice_get_within)

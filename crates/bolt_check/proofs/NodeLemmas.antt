@@ -1,20 +1,25 @@
 -- The entries of a page as a node.
 use Rattle.std.proofs.Common.{◌≡◌, ◌∙◌, ℕ, suc, ◌+◌, ◌≤◌, false, List, Option, None, Some, Ok, Err, refl, length, ap, arith, slice_get, sym}
 use Rattle.std.proofs.{lemmas.List.length-map, lemmas.Option.slice_get_past, lemmas.Simd.map-map}
-use Rattle.bolt_check.proofs.Words.{At_page, branch_entry, BranchElement, Entry, Key, keys_of, Kind, Meta, node_at, node_of, node_seen, page_at, page_fault, PageView, leaf_entry, LeafElement, PageSpot, shown_node, slice_get-map, step_on, TreePage, upper_from}
+use Rattle.bolt_check.proofs.Words.{At_page, branch_entry, BranchElement, Entry, Key, keys_of, Kind, Meta, node_at, node_of, node_seen, page_at}
+use Rattle.bolt_check.proofs.Words.{page_fault, PageView, leaf_entry, LeafElement, PageSpot, shown_node, slice_get-map, step_on, TreePage, upper_from}
 use Rattle.bolt_check.proofs.TreePages.{node_is}
-use Rattle.bolt_format.specs.{TreePages.branches_on, TreePages.is_tree_kind, TreePages.leaves_on, TreePages.page_keys, TreePages.shown_page, declared.page_fault.TheConstants.PageFault.PAGE_KIND}
+use Rattle.bolt_format.specs.{TreePages.branches_on, TreePages.is_tree_kind, TreePages.leaves_on, TreePages.page_keys, TreePages.shown_page}
+use Rattle.bolt_format.specs.{declared.page_fault.TheConstants.PageFault.PAGE_KIND}
 use Rattle.bolt_format.specs.{declared.tree_page.BranchPage.BranchPage, declared.tree_page.LeafPage.LeafPage}
 use Rattle.bolt_format.specs.declared.tree_page.TreePage.TheVariants.{Branch, Leaf}
 use Rattle.bolt_format.specs.declared.header.Kind.TheVariants as kind
 use Rattle.bolt_check.specs.Ways.{bucket_spots}
 
 -- the node of a page of the file that is a branch or a leaf
-pub node_shown : (file : List ℕ) (meta : Meta) (id : ℕ) (view : PageView) (page : TreePage) → page_at file meta id ≡ Some view → shown_page page ≡ view
+pub node_shown : (file : List ℕ) (meta : Meta) (id : ℕ) (view : PageView) (page : TreePage) → page_at file meta id ≡ Some view
+    → shown_page page ≡ view
     → node_at file meta id ≡ Ok (shown_node page)
 unfolding shown_node
-node_shown file meta id view (Branch page) at is = node_is file meta id view kind.Branch at (ap (λ (v : PageView). v.kind) (sym is)) ∙ ap (node_of kind.Branch) (sym is)
-node_shown file meta id view (Leaf page) at is = node_is file meta id view kind.Leaf at (ap (λ (v : PageView). v.kind) (sym is)) ∙ ap (node_of kind.Leaf) (sym is)
+node_shown file meta id view (Branch page) at is =
+    node_is file meta id view kind.Branch at (ap (λ (v : PageView). v.kind) (sym is)) ∙ ap (node_of kind.Branch) (sym is)
+node_shown file meta id view (Leaf page) at is =
+    node_is file meta id view kind.Leaf at (ap (λ (v : PageView). v.kind) (sym is)) ∙ ap (node_of kind.Leaf) (sym is)
 
 other_kind : (k : Kind) (view : PageView) → is_tree_kind k ≡ false → node_of k view ≡ Err PAGE_KIND
 other_kind k view not = grind arith
@@ -23,7 +28,8 @@ pub node_refused : (file : List ℕ) (meta : Meta) (id : ℕ) (view : PageView) 
     → node_at file meta id ≡ Err PAGE_KIND
 node_refused file meta id view at not = node_is file meta id view view.kind at refl ∙ other_kind view.kind view not
 
-pub node_faulty : (file : List ℕ) (meta : Meta) (id fault : ℕ) → page_at file meta id ≡ None → page_fault file meta id ≡ Some fault → node_at file meta id ≡ Err fault
+pub node_faulty : (file : List ℕ) (meta : Meta) (id fault : ℕ) → page_at file meta id ≡ None → page_fault file meta id ≡ Some fault
+    → node_at file meta id ≡ Err fault
 unfolding node_at
 node_faulty file meta id fault at is = ap (λ (o : Option PageView). node_seen o (page_fault file meta id)) at ∙ ap (node_seen None) is
 
@@ -61,7 +67,8 @@ unfolding shown_node
 upper-last page i upper h = grind (arith, slice_get_past, length-map)
 
 -- where an element leads
-pub step-branch : (page : BranchPage) (s : PageSpot) (i : ℕ) (e : Entry) (upper : Option Key) → slice_get (shown_node (Branch page)).entries i ≡ Some e
+pub step-branch : (page : BranchPage) (s : PageSpot) (i : ℕ) (e : Entry) (upper : Option Key)
+    → slice_get (shown_node (Branch page)).entries i ≡ Some e
     → upper ≡ upper_from (slice_get (shown_node (Branch page)).entries (suc i)) s.upper
     → step_on (shown_node (Branch page)) s i ≡ Some (At_page (record { number = e.child; depth = s.depth + 1; lower = Some e.key; upper = upper }))
 unfolding shown_node

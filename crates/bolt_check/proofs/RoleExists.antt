@@ -1,7 +1,8 @@
 -- In a sound file each page below the mark has a role: the tour says whether a way leads to it.
 use Rattle.std.proofs.lemmas.Grind.{common_steps}
 use Rattle.std.proofs.Common.{ℕ, ◌<◌, ◌⊎◌, inl, inr, List, [], ◌∷◌, Option, Result, refl, sym, arith}
-use Rattle.bolt_check.proofs.Words.{cases_eq, cases_lt, Has, HasRightAccounts, HasRole, HasSoundTrees, IsInFreelist, IsTour, Meta, Node, node_at, Nodes, Reach, Role, SpanHas, SpanOf, Spot}
+use Rattle.bolt_check.proofs.Words.{cases_eq, cases_lt, Has, HasRightAccounts, HasRole, HasSoundTrees, IsInFreelist, IsTour, Meta, Node, node_at}
+use Rattle.bolt_check.proofs.Words.{Nodes, Reach, Role, SpanHas, SpanOf, Spot}
 use Rattle.bolt_check.proofs.{Judging.span_spot, RoleOnce.Used, RoleOnce.used_role, TourSums.bucket_tour, TourLemmas.Ways}
 use Rattle.bolt_check.specs.Ways.{reached}
 use Rattle.bolt_check.specs.declared.role_table.Role.TheVariants as role

@@ -1,15 +1,16 @@
 -- The role of a page, from the table of uses.
 use Rattle.std.proofs.lemmas.Grind.{common_steps}
 use Rattle.std.proofs.Common.{◌≡◌, ℕ, ◌<◌, ◌≤◌, ◌↔◌, inl, inr, true, List, refl, arith}
-use Rattle.bolt_check.proofs.Words.{ClaimsUses, HasRightAccounts, HasRole, HasUse, IsClaimed, IsMetaUse, IsNoted, IsSound, IsUsed, Meta, NO_FREELIST, node_at, PageUse, use_at}
+use Rattle.bolt_check.proofs.Words.{ClaimsUses, HasRightAccounts, HasRole, HasUse, IsClaimed, IsMetaUse, IsNoted, IsSound, IsUsed, Meta, NO_FREELIST}
+use Rattle.bolt_check.proofs.Words.{node_at, PageUse, use_at}
 use Rattle.bolt_check.specs.{Private.RoleTables.AreUses, Private.RoleTables.role_by, Ways.reached}
 
 module _ (file : List ℕ) (meta : Meta) (table : List PageUse) (are : AreUses file meta table) where
   role_of : (n : ℕ) (u : PageUse) → n < meta.high_water → meta.high_water ≤ NO_FREELIST → use_at table n ≡ u → HasRole file meta n (role_by meta n u)
-  role_of n u below mark e = grind arith
+  role_of n u below high_water e = grind arith
 
   pub right_role : (n : ℕ) → n < meta.high_water → meta.high_water ≤ NO_FREELIST → HasRole file meta n (role_by meta n (use_at table n))
-  right_role n below mark = role_of n (use_at table n) below mark refl
+  right_role n below high_water = role_of n (use_at table n) below high_water refl
 
 pub page_positive : (file : List ℕ) (meta : Meta) → IsSound file meta true → 0 < meta.page_size
 page_positive file meta sound = grind (arith, common_steps)

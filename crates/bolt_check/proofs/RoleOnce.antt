@@ -1,6 +1,8 @@
 -- In a sound file a page has at most one role: where it is in use determines the role, and it is free if it isn't in use.
-use Rattle.std.proofs.Common.{◌≡◌, ◌∙◌, ℕ, ◌<◌, ◌==◌, ◌⊎◌, inl, inr, Bool, true, false, List, Option, Some, Result, Ok, Err, cond, sym, ap, refl, arith}
-use Rattle.bolt_check.proofs.Words.{At_page, eq-eqb, HasRightAccounts, HasRole, HasSoundTrees, IsFirstPage, IsFree, IsInUse, IsUsed, Meta, ne_eqb, Node, node_at, Nodes, Reach, Role, SpanHas, Spot}
+use Rattle.std.proofs.Common.{◌≡◌, ◌∙◌, ℕ, ◌<◌, ◌==◌, ◌⊎◌, inl, inr, Bool, true, false, List, Option, Some, Result, Ok, Err, cond, sym, ap, refl}
+use Rattle.std.proofs.Common.{arith}
+use Rattle.bolt_check.proofs.Words.{At_page, eq-eqb, HasRightAccounts, HasRole, HasSoundTrees, IsFirstPage, IsFree, IsInUse, IsUsed, Meta, ne_eqb}
+use Rattle.bolt_check.proofs.Words.{Node, node_at, Nodes, Reach, Role, SpanHas, Spot}
 use Rattle.bolt_check.specs.Ways.{reached}
 use Rattle.bolt_check.specs.declared.role_table.Role.TheVariants as role
 

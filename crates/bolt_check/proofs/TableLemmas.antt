@@ -1,13 +1,16 @@
 -- Claiming lowers the count of what is unclaimed, and listing an id claims nothing.
 use Rattle.std.proofs.{lemmas.Grind.common_steps, lemmas.List.get_or_past, lemmas.List.set_past, lemmas.List.Sums.sum_by-set}
-use Rattle.std.proofs.Common.{◌≡◌, ◌↔◌, ◌∙◌, ℕ, ◌<◌, ◌≤◌, List, length, min, set, arith, cond, not, true, inl, inr, ap, get_or, get_or-set_other, get_or-set_same, refl, sym}
-use Rattle.bolt_check.proofs.Words.{cases_eq, cases_lt, first_use, get_or_default, is_used, IsUnclaimed, le-ltb, lt-ltb, PageUse, times_of, unclaimed, Unused, use_at}
+use Rattle.std.proofs.Common.{◌≡◌, ◌↔◌, ◌∙◌, ℕ, ◌<◌, ◌≤◌, List, length, min, set, arith, cond, not, true, inl, inr, ap, get_or, get_or-set_other}
+use Rattle.std.proofs.Common.{get_or-set_same, refl, sym}
+use Rattle.bolt_check.proofs.Words.{cases_eq, cases_lt, first_use, get_or_default, is_used, IsUnclaimed, le-ltb, lt-ltb, PageUse, times_of, unclaimed}
+use Rattle.bolt_check.proofs.Words.{Unused, use_at}
 use Rattle.bolt_check.specs.declared.table.PageUse.TheVariants.{Used}
 
 abbrev weight : PageUse → ℕ
 weight page_use = cond (not (is_used page_use)) 1 0
 
-pub unclaimed_fewer : (t : List PageUse) (i : ℕ) (u : PageUse) → is_used u ≡ true → i < length t → IsUnclaimed t i → unclaimed (set t i u) < unclaimed t
+pub unclaimed_fewer : (t : List PageUse) (i : ℕ) (u : PageUse) → is_used u ≡ true → i < length t → IsUnclaimed t i
+    → unclaimed (set t i u) < unclaimed t
 unclaimed_fewer t i u used h e = grind (arith, sum_by-set)
 
 pub unclaimed_set : (t : List PageUse) (i : ℕ) → unclaimed (set t i Used) ≤ unclaimed t
@@ -17,7 +20,8 @@ unclaimed_set t i =
       | inr h ↦ rw (set_past t i Used h) (omega arith)
     ]
 
-pub used_kept : (t : List PageUse) (i : ℕ) (u : PageUse) → i < length t → is_used u ≡ is_used (get_or t i Unused) → (n : ℕ) → is_used (use_at (set t i u) n) ≡ is_used (use_at t n)
+pub used_kept : (t : List PageUse) (i : ℕ) (u : PageUse) → i < length t → is_used u ≡ is_used (get_or t i Unused) → (n : ℕ)
+    → is_used (use_at (set t i u) n) ≡ is_used (use_at t n)
 used_kept t i u inside same n =
     elim (cases_eq n i) [
       | inl here ↦ ap (λ k. is_used (use_at (set t i u) k)) here ∙ ap is_used (get_or-set_same t i u (first_use i) inside) ∙ same

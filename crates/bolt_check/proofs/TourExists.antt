@@ -1,8 +1,10 @@
 -- Each visit removes a page number from those that are left.
 use Rattle.std.proofs.Common.{◌≡◌, ◌≢◌, ◌∙◌, ℕ, zero, suc, ◌<◌, inl, inr, List, [], ◌∷◌, ◌++◌, length, Option, Some, Ok, refl, sym, ap, subst, arith}
 use Rattle.std.proofs.lemmas.List.{append_cancel_left}
-use Rattle.bolt_check.proofs.Words.{At_page, Before, cases_eq, follow, Has, HasSoundTrees, Meta, Node, node_at, Nodes, PageSpot, Reach, root_spot, Spot}
-use Rattle.bolt_check.proofs.{MarkLemmas.node_below, Visiting.Visits, Visiting.one_of, WayFacts.follow_append, WayFacts.one_way, WayOrder.before_irreflexive}
+use Rattle.bolt_check.proofs.Words.{At_page, Before, cases_eq, follow, Has, HasSoundTrees, Meta, Node, node_at, Nodes, PageSpot, Reach, root_spot}
+use Rattle.bolt_check.proofs.Words.{Spot}
+use Rattle.bolt_check.proofs.{HighWaterLemmas.node_below, Visiting.Visits, Visiting.one_of, WayFacts.follow_append, WayFacts.one_way}
+use Rattle.bolt_check.proofs.{WayOrder.before_irreflexive}
 use Rattle.bolt_check.specs.Ways.{reached}
 
 -- the page numbers that are left, without one
@@ -47,7 +49,8 @@ module _ (nodes : Nodes) {left : List ℕ} {old : Reach} (fits : Fits nodes left
   fits_visited {new = new} {f = f} v = fits_along left new f v.same (one_of v) (λ b t e h. h)
 
   -- after a page's visit it isn't left
-  pub fits_page : {new : Reach} {first : List ℕ} {f : List ℕ → List ℕ} (s : PageSpot) → Visits old new (Some (At_page s)) first f → (h : Has left s.number)
+  pub fits_page : {new : Reach} {first : List ℕ} {f : List ℕ → List ℕ} (s : PageSpot) → Visits old new (Some (At_page s)) first f
+      → (h : Has left s.number)
       → Fits nodes (without s.number left h) new
   fits_page {new = new} {first = first} {f = f} s v h = fits_along (without s.number left h) new f v.same (one_of v)
       (λ b t e. still s.number t.number left h (λ same.

@@ -1,12 +1,14 @@
 -- Tours: there is at most one, and a visit puts a way before those of what is left.
 use Rattle.std.proofs.Common.{arith, ◌≡◌, ℕ, inl, inr, List, [], ◌∷◌, map, Option, Some, None, refl, sym, subst}
-use Rattle.bolt_check.proofs.{Words.Before, Words.Has, Words.IsTour, Words.none-some, Words.Reach, Words.Spot, Visiting.Visits, Lists.has_map, Lists.map_has, Lists.one_list, WayOrder.before_strict}
+use Rattle.bolt_check.proofs.{Words.Before, Words.Has, Words.IsTour, Words.none-some, Words.Reach, Words.Spot, Visiting.Visits, Lists.has_map}
+use Rattle.bolt_check.proofs.{Lists.map_has, Lists.one_list, WayOrder.before_strict}
 use Rattle.bolt_check.specs.Lists.{RisesBy}
 
 abbrev pub Ways : Type 0
 Ways = List (List ℕ)
 
-pub rises_map : (f : List ℕ → List ℕ) (ways : Ways) → ((a b : List ℕ) → Has ways a → Has ways b → Before a b → Before (f a) (f b)) → RisesBy Before ways
+pub rises_map : (f : List ℕ → List ℕ) (ways : Ways) → ((a b : List ℕ) → Has ways a → Has ways b → Before a b → Before (f a) (f b))
+    → RisesBy Before ways
     → RisesBy Before (map f ways)
 rises_map f [] up h = tt
 rises_map f (v ∷ ways) up h = (

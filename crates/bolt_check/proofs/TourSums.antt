@@ -1,8 +1,11 @@
 -- A sum over the tour of a bucket, page by page: a page's own, and those of the pages that it leads to.
 use Rattle.std.proofs.{lemmas.Grind.common_steps, lemmas.List.Sums.sum_by-append}
-use Rattle.std.proofs.Common.{◌≡◌, ◌∙◌, ◌==◌, ℕ, zero, suc, ◌+◌, ◌≤◌, inl, inr, Bool, true, false, List, [], ◌∷◌, ◌++◌, Option, Some, None, Result, Ok, cond, length, map, sum_by, refl, sym, ap, subst, arith}
-use Rattle.bolt_check.proofs.Words.{InlinePage, At_inline, At_page, Entry, forest, Has, HasSoundTrees, IsSome, IsTour, Meta, Node, node_at, Nodes, page_at, PageSpot, places, Reach, root_spot, somes, Spot, sum_by-cons}
-use Rattle.bolt_check.proofs.{Forest.forest_empty, Forest.inline_visits, Forest.page_visits, Forest.root_visits, Forest.tail, Lists.has_left, Lists.has_right, MarkLemmas.node_shown}
+use Rattle.std.proofs.Common.{◌≡◌, ◌∙◌, ◌==◌, ℕ, zero, suc, ◌+◌, ◌≤◌, inl, inr, Bool, true, false, List, [], ◌∷◌, ◌++◌, Option, Some, None, Result}
+use Rattle.std.proofs.Common.{Ok, cond, length, map, sum_by, refl, sym, ap, subst, arith}
+use Rattle.bolt_check.proofs.Words.{InlinePage, At_inline, At_page, Entry, forest, Has, HasSoundTrees, IsSome, IsTour, Meta, Node, node_at, Nodes}
+use Rattle.bolt_check.proofs.Words.{page_at, PageSpot, places, Reach, root_spot, somes, Spot, sum_by-cons}
+use Rattle.bolt_check.proofs.{Forest.forest_empty, Forest.inline_visits, Forest.page_visits, Forest.root_visits, Forest.tail, Lists.has_left}
+use Rattle.bolt_check.proofs.{Lists.has_right, HighWaterLemmas.node_shown}
 use Rattle.bolt_check.proofs.TourExists.{Fits, bucket_fits, fits_page, fits_visited, numbers, shorter, without}
 use Rattle.bolt_check.proofs.{TourLemmas.Ways, TourLemmas.tour_map, TourLemmas.tour_step, Visiting.Visits}
 use Rattle.bolt_check.specs.{Subtrees.Enough, Subtrees.kid_pages, Subtrees.kids_at, Subtrees.root_page, Subtrees.weight, Ways.reached}
@@ -22,14 +25,16 @@ pages_append (At_page s ∷ a) b = ap (λ (l : List ℕ). s.number ∷ l) (pages
 pages_append (At_inline host inner ∷ a) b = pages_append a b
 
 somes_bucket : (bucket small : Bool) (host : ℕ) (e : Entry) (os : List (Option Spot))
-    → pages_of (somes (cond bucket (Some (cond small (At_inline host e.inner) (At_page (root_spot e.child)))) None ∷ os)) ≡ cond bucket (cond small [] (e.child ∷ [])) [] ++ pages_of (somes os)
+    → pages_of (somes (cond bucket (Some (cond small (At_inline host e.inner) (At_page (root_spot e.child)))) None ∷ os))
+    ≡ cond bucket (cond small [] (e.child ∷ [])) [] ++ pages_of (somes os)
 somes_bucket bucket small host e os = grind arith
 
 -- the pages that a page leads to are those of its kids
 pub pages_of_kids : (is_leaf : Bool) (s : PageSpot) (entries : List Entry) → pages_of (somes (places is_leaf s entries)) ≡ kid_pages is_leaf entries
 pages_of_kids is_leaf s [] = refl
 pages_of_kids false s (e ∷ entries) = ap (λ (l : List ℕ). e.child ∷ l) (pages_of_kids false s entries)
-pages_of_kids true s (e ∷ entries) = somes_bucket e.is_bucket (e.child == 0) s.number e (places true s entries) ∙ ap (λ (l : List ℕ). root_page e ++ l) (pages_of_kids true s entries)
+pages_of_kids true s (e ∷ entries) =
+    somes_bucket e.is_bucket (e.child == 0) s.number e (places true s entries) ∙ ap (λ (l : List ℕ). root_page e ++ l) (pages_of_kids true s entries)
 
 sum_same : (f g : ℕ → ℕ) (xs : List ℕ) → ((m : ℕ) → Has xs m → f m ≡ g m) → sum_by f xs ≡ sum_by g xs
 sum_same f g [] same = refl
@@ -46,11 +51,13 @@ module _ (nodes : Nodes) where
   weight_more own zero n h = absurd h
   weight_more own (suc k) n (node, page, kids) =
       let same : sum_by (weight nodes own (suc k)) (kids_at (nodes n)) ≡ sum_by (weight nodes own k) (kids_at (nodes n))
-      = sum_same (weight nodes own (suc k)) (weight nodes own k) (kids_at (nodes n)) (λ m i. weight_more own k m (kids m (subst (λ (r : Result Node ℕ). Has (kids_at r) m) page i))) in
+      = sum_same (weight nodes own (suc k)) (weight nodes own k) (kids_at (nodes n))
+      (λ m i. weight_more own k m (kids m (subst (λ (r : Result Node ℕ). Has (kids_at r) m) page i))) in
       ap (λ (w : ℕ). own n + w) same
 
   -- the pages that a page leads to
-  pub enough_kids : (k n : ℕ) (node : Node) → nodes n ≡ Ok node → Enough nodes k n → (m : ℕ) → Has (kid_pages node.is_leaf node.entries) m → Enough nodes k m
+  pub enough_kids : (k n : ℕ) (node : Node) → nodes n ≡ Ok node → Enough nodes k n → (m : ℕ) → Has (kid_pages node.is_leaf node.entries) m
+      → Enough nodes k m
   enough_kids zero n node page h m i = absurd h
   enough_kids (suc k) n node page (other, is, kids) m i =
       enough_more k m (kids m (subst (λ (x : Node). Has (kid_pages x.is_leaf x.entries) m) (one_node node other (sym page ∙ is)) i))
@@ -58,12 +65,15 @@ module _ (nodes : Nodes) where
       one_node : (a b : Node) → result_of a ≡ result_of b → a ≡ b
       one_node a b e = cc
 
-  pub weight_kids : (own : ℕ → ℕ) (k n : ℕ) (node : Node) → nodes n ≡ Ok node → Enough nodes k n → weight nodes own k n ≡ own n + sum_by (weight nodes own k) (kid_pages node.is_leaf node.entries)
+  pub weight_kids : (own : ℕ → ℕ) (k n : ℕ) (node : Node) → nodes n ≡ Ok node → Enough nodes k n
+      → weight nodes own k n ≡ own n + sum_by (weight nodes own k) (kid_pages node.is_leaf node.entries)
   weight_kids own zero n node page h = absurd h
   weight_kids own (suc k) n node page (other, is, kids) =
       let at : kids_at (nodes n) ≡ kid_pages node.is_leaf node.entries = ap kids_at page in
       let low : (m : ℕ) → Has (kids_at (nodes n)) m → Enough nodes k m = λ m i. kids m (subst (λ (r : Result Node ℕ). Has (kids_at r) m) is i) in
-      ap (λ (w : ℕ). own n + w) (sum_same (weight nodes own k) (weight nodes own (suc k)) (kids_at (nodes n)) (λ m i. sym (weight_more own k m (low m i))) ∙ ap (sum_by (weight nodes own (suc k))) at)
+      ap (λ (w : ℕ). own n + w)
+      (sum_same (weight nodes own k) (weight nodes own (suc k)) (kids_at (nodes n)) (λ m i. sym (weight_more own k m (low m i)))
+      ∙ ap (sum_by (weight nodes own (suc k))) at)
 
   -- what a spot adds: a page its own, an inline bucket nothing
   abbrev pub spot_weight : (ℕ → ℕ) → Option Spot → ℕ
@@ -71,7 +81,8 @@ module _ (nodes : Nodes) where
   spot_weight own (Some (At_page s)) = own s.number
   spot_weight own (Some (At_inline host inner)) = 0
 
-  sum_map : (f : List ℕ → List ℕ) (g h : List ℕ → ℕ) (ways : Ways) → ((way : List ℕ) → Has ways way → g (f way) ≡ h way) → sum_by g (map f ways) ≡ sum_by h ways
+  sum_map : (f : List ℕ → List ℕ) (g h : List ℕ → ℕ) (ways : Ways) → ((way : List ℕ) → Has ways way → g (f way) ≡ h way)
+      → sum_by g (map f ways) ≡ sum_by h ways
   sum_map f g h [] same = refl
   sum_map f g h (w ∷ ways) same =
       let rest = sum_map f g h ways (λ x i. same x (inr i)) in let here = same w (inl refl) in
@@ -123,7 +134,8 @@ module _ (nodes : Nodes) where
         (all, (_, tour_step v tour is (At_inline host inner) refl, omega (arith, first, sum)))
 
     -- spots that fit, by the pages that are left
-    along : (n : ℕ) → ((p : ℕ) → n ≡ suc p → (left : List ℕ) (spots : List Spot) → length left ≤ p → Fits nodes left (forest nodes spots) → Summed p spots)
+    along : (n : ℕ)
+        → ((p : ℕ) → n ≡ suc p → (left : List ℕ) (spots : List Spot) → length left ≤ p → Fits nodes left (forest nodes spots) → Summed p spots)
         → (left : List ℕ) (spots : List Spot) → length left ≤ n → Fits nodes left (forest nodes spots) → Summed n spots
     along n below left [] le fits = grind (arith, forest_empty)
     along n below left (At_inline host inner ∷ rest) le fits =
@@ -157,7 +169,8 @@ length-numbers zero = refl
 length-numbers (suc k) = let h = length-numbers k in omega (arith, h)
 
 -- a bucket of sound trees, wherever a way leads to its root page: the mark is enough steps, and each sum over its tour is that over its pages
-pub bucket_sum : (file : List ℕ) (meta : Meta) → HasSoundTrees file meta → (way : List ℕ) (root : ℕ) → reached (node_at file meta) meta.root way ≡ Some (At_page (root_spot root)) → (own : ℕ → ℕ)
+pub bucket_sum : (file : List ℕ) (meta : Meta) → HasSoundTrees file meta → (way : List ℕ) (root : ℕ)
+    → reached (node_at file meta) meta.root way ≡ Some (At_page (root_spot root)) → (own : ℕ → ℕ)
     → Enough (node_at file meta) meta.high_water root × ((tour : Ways) × IsTour (reached (node_at file meta) root) tour
     × (sum_by (λ way. spot_weight (node_at file meta) own (reached (node_at file meta) root way)) tour ≡ weight (node_at file meta) own meta.high_water root))
 bucket_sum file meta trees way root leads own =
@@ -165,7 +178,8 @@ bucket_sum file meta trees way root leads own =
     (bucket_fits file meta trees way root leads)
 
 -- so it has a tour
-pub bucket_tour : (file : List ℕ) (meta : Meta) → HasSoundTrees file meta → (way : List ℕ) (root : ℕ) → reached (node_at file meta) meta.root way ≡ Some (At_page (root_spot root))
+pub bucket_tour : (file : List ℕ) (meta : Meta) → HasSoundTrees file meta → (way : List ℕ) (root : ℕ)
+    → reached (node_at file meta) meta.root way ≡ Some (At_page (root_spot root))
     → (tour : Ways) × IsTour (reached (node_at file meta) root) tour
 bucket_tour file meta trees way root leads = let (_, (tour, is, _)) = bucket_sum file meta trees way root leads (λ n. 0) in (tour, is)
 

@@ -1,12 +1,14 @@
 -- Which spots are still to be read: ways lead to each of them, and all pages below them are good, of which fewer are left after each step.
-use Rattle.std.proofs.Common.{◌≡◌, ◌∙◌, ◌&&◌, ℕ, ◌+◌, ◌≤◌, inl, inr, true, List, [], ◌∷◌, ◌++◌, Some, Result, Ok, Err, ap, not, refl, subst, sum_by, arith}
+use Rattle.std.proofs.Common.{◌≡◌, ◌∙◌, ◌&&◌, ℕ, ◌+◌, ◌≤◌, inl, inr, true, List, [], ◌∷◌, ◌++◌, Some, Result, Ok, Err, ap, not, refl, subst, sum_by}
+use Rattle.std.proofs.Common.{arith}
 use Rattle.std.proofs.lemmas.List.Sums.{sum_by-append}
-use Rattle.bolt_check.proofs.Words.{InlinePage, At_inline, At_page, forest, Has, HasSoundTrees, kids, Meta, Node, node_at, Nodes, PageSpot, places, props, root_spot, somes, Spot, sum_by-cons, ∥∥₁_elim}
+use Rattle.bolt_check.proofs.Words.{InlinePage, At_inline, At_page, forest, Has, HasSoundTrees, kids, Meta, Node, node_at, Nodes, PageSpot, places}
+use Rattle.bolt_check.proofs.Words.{props, root_spot, somes, Spot, sum_by-cons, ∥∥₁_elim}
 use Rattle.bolt_check.proofs.{Pendings.unread_push, Forest.inline_visits, Forest.lift, Forest.page_visits, Forest.root_visits, Lists.has_split}
 use Rattle.bolt_check.proofs.TourSums.{bucket_sum, enough_kids, enough_node, pages_append, pages_of, pages_of_kids, weight_kids}
 use Rattle.bolt_check.proofs.UnreadWays.{spots_in, spots_kids}
 use Rattle.bolt_check.specs.{Subtrees.Enough, Subtrees.kid_pages, Subtrees.weight, Ways.reached}
-use Rattle.bolt_check.specs.Private.Unread.{IsReadable, Unread, mark, most_kids, page_leaves, unread_at, unread_kids, unread_of}
+use Rattle.bolt_check.specs.Private.Unread.{IsReadable, Unread, tagged, most_kids, page_leaves, unread_view, unread_kids, unread_of}
 use Rattle.bolt_check.specs.declared.for_bbolt.UnreadSpot.{UnreadSpot}
 
 -- each spot is one that a way leads to, and so many steps are enough below each page
@@ -56,7 +58,8 @@ module _ (nodes : Nodes) (root steps : ℕ) where
         let whole = sum_by-cons w s.number (pages_of rest) in
         omega (arith, here, both, whole)
 
-  pub inline_reached : (host : ℕ) (inner : InlinePage) (rest : List Spot) → AreReached nodes root steps (At_inline host inner ∷ rest) → AreReached nodes root steps rest
+  pub inline_reached : (host : ℕ) (inner : InlinePage) (rest : List Spot) → AreReached nodes root steps (At_inline host inner ∷ rest)
+      → AreReached nodes root steps rest
   inline_reached host inner rest r = grind (arith, inline_visits nodes host inner rest)
 
   -- the root page of the file
@@ -64,14 +67,16 @@ module _ (nodes : Nodes) (root steps : ℕ) where
   root_reached enough = grind (arith, root_visits nodes (At_page (root_spot root)))
 
   -- after a step
-  pub step_reached : (u : Unread) (rest after : List Unread) → after ≡ unread_kids nodes u ++ rest → AreReached nodes root steps (spots_in (u ∷ rest)) → AreReached nodes root steps (spots_in after)
+  pub step_reached : (u : Unread) (rest after : List Unread) → after ≡ unread_kids nodes u ++ rest → AreReached nodes root steps (spots_in (u ∷ rest))
+      → AreReached nodes root steps (spots_in after)
   unfolding kids
   step_reached u rest after e r = by u.spot refl (rw e refl)
     where
       by : (spot : Spot) → u.spot ≡ spot → after ≡ unread_kids nodes u ++ rest → AreReached nodes root steps (spots_in after)
       by (At_page s) is same =
           let (node, page) = enough_node nodes steps s.number ((rw is at r).good s.number (inl refl)) in
-          rw (same, is, page, spots_kids (u.in_root && not node.is_leaf) (page_leaves nodes u.above s) rest (somes (places node.is_leaf s node.entries))) (page_reached s node page (spots_in rest) (rw is at r))
+          rw (same, is, page, spots_kids (u.in_root && not node.is_leaf) (page_leaves nodes u.above s) rest (somes (places node.is_leaf s node.entries)))
+          (page_reached s node page (spots_in rest) (rw is at r))
       by (At_inline host inner) is same = rw (same, is) (inline_reached host inner (spots_in rest) (rw is at r))
 
   -- less is left
@@ -84,7 +89,8 @@ module _ (nodes : Nodes) (root steps : ℕ) where
       by (At_page s) is =
           let (node, page) = enough_node nodes steps s.number ((rw is at r).good s.number (inl refl)) in
           let left = page_left s node page (spots_in rest) ((rw is at r).good s.number (inl refl)) in
-          rw (e, is, page, spots_kids (u.in_root && not node.is_leaf) (page_leaves nodes u.above s) rest (somes (places node.is_leaf s node.entries))) (omega (arith, left))
+          rw (e, is, page, spots_kids (u.in_root && not node.is_leaf) (page_leaves nodes u.above s) rest (somes (places node.is_leaf s node.entries)))
+          (omega (arith, left))
       by (At_inline host inner) is = rw (e, is) (omega arith)
 
 -- a good page has a node
@@ -94,9 +100,9 @@ node_of_page (Err fault) good = absurd (∥∥₁_elim good (Prim.hlevel props) 
 
 -- at the start the root page alone is left
 pub first_reached : (file : List ℕ) (meta : Meta) → HasSoundTrees file meta
-    → AreReached (node_at file meta) meta.root meta.high_water (spots_in (mark true 0 (At_page (root_spot meta.root)) ∷ []))
+    → AreReached (node_at file meta) meta.root meta.high_water (spots_in (tagged true 0 (At_page (root_spot meta.root)) ∷ []))
 first_reached file meta trees = root_reached (node_at file meta) meta.root meta.high_water (bucket_sum file meta trees [] meta.root refl (λ n. 0)).0
 
 -- the topmost was taken away
-pub unread_pop : (items rest : List UnreadSpot) (u : UnreadSpot) → items ≡ rest ++ u ∷ [] → unread_of items ≡ unread_at u ∷ unread_of rest
+pub unread_pop : (items rest : List UnreadSpot) (u : UnreadSpot) → items ≡ rest ++ u ∷ [] → unread_of items ≡ unread_view u ∷ unread_of rest
 unread_pop items rest u e = rw e (unread_push rest u)

@@ -2,9 +2,13 @@
 use Rattle.std.proofs.Common.{◌≡◌, ℕ, ◌-◌, ◌↔◌, inl, List, [], ◌∷◌, ◌++◌, None, Result, Ok, Vec, Global, length, take, drop, ap, arith}
 use Rattle.std.proofs.lemmas.List.{take_at}
 use Rattle.std.specs.Prelude.{IfErr, IsErrAnd}
-use Rattle.bolt_check.proofs.Words.{InlinePage, At_inline, At_page, Carries, Finding, forest, inline_finding, IsClaimed, IsClean, IsCovered, IsFirst, IsMetaPage, IsMetaUse, IsNoted, IsSearchFault, kids, Node, Nodes, PagePasses, PageSpot, PageUse, Reach, root_spot, Spot, spot_at, spots_of}
-use Rattle.bolt_check.proofs.{Forest.clean_end, Forest.covered_end, Forest.inline_visits, Forest.page_visits, Forest.root_visits, Pendings.spots_push, Visiting.carries}
-use Rattle.bolt_check.specs.{Private.Pending.ClaimsSpan, Ways.reached, declared.check_fault.CheckFault.CheckFault, declared.spot.Spot.Spot as CodeSpot}
+use Rattle.bolt_check.proofs.Words.{InlinePage, At_inline, At_page, Carries, Finding, forest, inline_finding, IsClaimed, IsClean, IsCovered, IsFirst}
+use Rattle.bolt_check.proofs.Words.{IsMetaPage, IsMetaUse, IsNoted, IsSearchFault, kids, Node, Nodes, PagePasses, PageSpot, PageUse, Reach, root_spot}
+use Rattle.bolt_check.proofs.Words.{Spot, spot_at, spots_of}
+use Rattle.bolt_check.proofs.{Forest.clean_end, Forest.covered_end, Forest.inline_visits, Forest.page_visits, Forest.root_visits, Pendings.spots_push}
+use Rattle.bolt_check.proofs.{Visiting.carries}
+use Rattle.bolt_check.specs.{Private.Pending.ClaimsSpan, Ways.reached, declared.check_fault.CheckFault.CheckFault}
+use Rattle.bolt_check.specs.{declared.spot.Spot.Spot as CodeSpot}
 
 -- the beginning of the search: the root alone, and the metas claimed
 pub begin_carries : (nodes : Nodes) (root : ℕ) (items : List CodeSpot) (table : List PageUse) → spots_of items ≡ At_page (root_spot root) ∷ []
@@ -48,7 +52,8 @@ pub stored : (table : Vec PageUse Global) (lent new : List PageUse) → lent ≡
 stored table lent new was long = take_at new (drop (length new) table.items) table.len (omega (arith, long, ap length was, table.ok.0))
 
 -- a fault reported of what is left is reported of the whole
-pub reported_back : (nodes : Nodes) (old new : Reach) (c d : ℕ → Type 0) (fault : CheckFault) → ((x : Finding) → IsFirst nodes new d x → IsFirst nodes old c x)
+pub reported_back : (nodes : Nodes) (old new : Reach) (c d : ℕ → Type 0) (fault : CheckFault)
+    → ((x : Finding) → IsFirst nodes new d x → IsFirst nodes old c x)
     → IsSearchFault nodes new d fault → IsSearchFault nodes old c fault
 reported_back nodes old new c d fault f h = grind arith
 

@@ -1,7 +1,8 @@
 -- A search for findings goes on from what a visited spot leads to.
 use Rattle.std.proofs.Common.{arith, ◌≡◌, ℕ, ◌⊎◌, inl, inr, List, Option, Some, None}
 use Rattle.bolt_check.proofs.Words.{Before, Carries, HasUse, IsClaimedBefore, IsCovered, Nodes, PageUse, Passes, Reach, SpanHas, Spot, Tests}
-use Rattle.bolt_check.proofs.{WayOrder.before_irreflexive, WayOrder.before_strict, WayOrder.before_total, Judging.tests_same, Judging.passes_fewer, Judging.passes_silent, Judging.span_spot}
+use Rattle.bolt_check.proofs.{WayOrder.before_irreflexive, WayOrder.before_strict, WayOrder.before_total, Judging.tests_same, Judging.passes_fewer}
+use Rattle.bolt_check.proofs.{Judging.passes_silent, Judging.span_spot}
 use Rattle.bolt_check.specs.Private.Carries.{Takes}
 
 -- the ways of `old` are `first`, if o is a spot, and after it and in the same order those of `new`
@@ -81,7 +82,8 @@ module _ (nodes : Nodes) {old new : Reach} {o : Option Spot} {first : List ℕ} 
       uses_to_old : (n : ℕ) (u : PageUse) → HasUse nodes new b n u → HasUse nodes old a n u
       uses_to_old n u h = grind arith
 
-pub carries_on : (nodes : Nodes) {x y z : Reach} {c d e : ℕ → Type 0} {k l m : ℕ → PageUse → Type 0} → Carries nodes x c k y d l → Carries nodes y d l z e m
+pub carries_on : (nodes : Nodes) {x y z : Reach} {c d e : ℕ → Type 0} {k l m : ℕ → PageUse → Type 0} → Carries nodes x c k y d l
+    → Carries nodes y d l z e m
     → Carries nodes x c k z e m
 carries_on nodes p q = record {
   clean = λ h. p.clean (q.clean h);

@@ -1,6 +1,9 @@
 -- Ways, addresses and the pages that they lead to, for the crates above too.
-use Rattle.std.proofs.Common.{◌≡◌, ◌∙◌, ℕ, suc, true, false, List, [], ◌∷◌, ◌++◌, map, Option, Some, None, Result, Ok, slice_get, refl, sym, ap, subst, arith}
-use Rattle.bolt_check.proofs.Words.{At_page, child_at, child_in, child_spot, Entry, follow, HasShape, keys_of, Kind, leads, leaf_entry, Meta, Node, node_at, node_of, node_seen, Nodes, none-some, option_map, page_at, page_fault, PageSpot, PageView, same_Some, slice_get-map, SpanHas, SpanOf, Spot, step, upper_from}
+use Rattle.std.proofs.Common.{◌≡◌, ◌∙◌, ℕ, suc, true, false, List, [], ◌∷◌, ◌++◌, map, Option, Some, None, Result, Ok, slice_get, refl, sym, ap}
+use Rattle.std.proofs.Common.{subst, arith}
+use Rattle.bolt_check.proofs.Words.{At_page, child_at, child_in, child_spot, Entry, follow, HasShape, keys_of, Kind, leads, leaf_entry, Meta, Node}
+use Rattle.bolt_check.proofs.Words.{node_at, node_of, node_seen, Nodes, none-some, option_map, page_at, page_fault, PageSpot, PageView, same_Some}
+use Rattle.bolt_check.proofs.Words.{slice_get-map, SpanHas, SpanOf, Spot, step, upper_from}
 use Rattle.bolt_format.specs.declared.header.Kind.TheVariants as kind
 use Rattle.bolt_check.specs.{Ways.reached}
 
@@ -14,7 +17,8 @@ pub key_at : (entries : List Entry) (i : ℕ) (e : Entry) → slice_get entries 
 key_at entries i e h = slice_get-map (λ (e : Entry). e.key) entries i ∙ ap (option_map (λ (e : Entry). e.key)) h
 
 -- a step to a child of a branch
-pub step_child : (nodes : Nodes) (s : PageSpot) (i : ℕ) (node : Node) (e : Entry) → nodes s.number ≡ Ok node → node.is_leaf ≡ false → slice_get node.entries i ≡ Some e
+pub step_child : (nodes : Nodes) (s : PageSpot) (i : ℕ) (node : Node) (e : Entry) → nodes s.number ≡ Ok node → node.is_leaf ≡ false
+    → slice_get node.entries i ≡ Some e
     → step nodes (Some (At_page s)) i ≡ Some (At_page (child_spot s e (upper_from (slice_get node.entries (suc i)) s.upper)))
 step_child nodes s i node e q leaf g = rw (q, leaf, g) refl
 

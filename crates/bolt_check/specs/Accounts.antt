@@ -1,7 +1,8 @@
 -- Does the freelist have exactly the free pages? docs/SOUND.md, "Accounts". Throughout, `used` says of a page that it is a meta page or in
 -- the span of a page that a way leads to.
 use Rattle.std.specs.Prelude.{◌≡◌, ◌≢◌, ◌≤◌, ◌<◌, ◌==◌, ◌⊎◌, ◌+◌, ℕ, List, Some, None, count_by}
-use Rattle.bolt_format.specs.{Freelists.free_ids_of, Freelists.freelist_fault_of, Pages.page_overflow, declared.meta.Meta.Meta, declared.meta.TheConstants.NO_FREELIST}
+use Rattle.bolt_format.specs.{Freelists.free_ids_of, Freelists.freelist_fault_of, Pages.page_overflow, declared.meta.Meta.Meta}
+use Rattle.bolt_format.specs.{declared.meta.TheConstants.NO_FREELIST}
 
 -- page n lies in the span of the freelist, which is a good page whose ids fit
 pub record IsInFreelist (file : List ℕ) (meta : Meta) (n : ℕ) : Type 0 where
@@ -19,9 +20,9 @@ abbrev pub IsLowestShared : List ℕ → Meta → (ℕ → Type 0) → ℕ → T
 IsLowestShared file meta used n = IsInFreelist file meta n × used n × ((k : ℕ) → IsInFreelist file meta k → used k → n ≤ k)
 
 -- page n is free, if these pages are in use
-pub record IsFree (mark : ℕ) (in_use : ℕ → Type 0) (n : ℕ) : Type 0 where
+pub record IsFree (high_water : ℕ) (in_use : ℕ → Type 0) (n : ℕ) : Type 0 where
   pub above_metas : 2 ≤ n
-  pub below : n < mark
+  pub below : n < high_water
   pub unused : in_use n → ⊥
 
 -- how often each page is listed
@@ -29,10 +30,10 @@ abbrev pub times_in : List ℕ → ℕ → ℕ
 times_in ids n = count_by (λ id. id == n) ids
 
 -- what is listed is free, each page once, and each free page is listed
-pub record ListsFree (mark : ℕ) (in_use : ℕ → Type 0) (times : ℕ → ℕ) : Type 0 where
-  pub free : (n : ℕ) → 1 ≤ times n → IsFree mark in_use n
+pub record ListsFree (high_water : ℕ) (in_use : ℕ → Type 0) (times : ℕ → ℕ) : Type 0 where
+  pub free : (n : ℕ) → 1 ≤ times n → IsFree high_water in_use n
   pub once : (n : ℕ) → times n ≤ 1
-  pub listed : (n : ℕ) → IsFree mark in_use n → 1 ≤ times n
+  pub listed : (n : ℕ) → IsFree high_water in_use n → 1 ≤ times n
 
 -- If a freelist was written, its page is good and its ids fit, its span shares no page with those that are used, and its ids are the free pages.
 pub record HasAccounts (file : List ℕ) (meta : Meta) (used : ℕ → Type 0) : Type 0 where

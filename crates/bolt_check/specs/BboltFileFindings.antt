@@ -1,6 +1,7 @@
 -- What bbolt fails on in a file as a whole, though the file is sound under its active meta: docs/SOUND.md, "For bbolt".
 use Rattle.std.specs.Prelude.{◌==◌, ◌&&◌, ◌++◌, ◌-◌, ◌/◌, ◌^◌, ℕ, Bool, true, false, List, [], ◌∷◌, Option, None, Some, length, nat_le, nat_lt, not}
-use Rattle.bolt_format.specs.{BboltMetas.bbolt_page_size, BboltMetas.bbolt_slot, BboltMetas.has_meta_header, declared.meta.Meta.Meta, declared.meta.Slot.Slot}
+use Rattle.bolt_format.specs.{BboltMetas.bbolt_page_size, BboltMetas.bbolt_slot, BboltMetas.has_meta_header, declared.meta.Meta.Meta}
+use Rattle.bolt_format.specs.{declared.meta.Slot.Slot}
 use Rattle.bolt_format.specs.declared.meta.Slot.TheVariants.{One, Zero}
 use Rattle.bolt_check.specs.declared.bbolt_file.FileFinding.{FileFinding}
 use Rattle.bolt_check.specs.declared.bbolt_file.FileFinding.TheVariants.{LargeTxid, NotMetaPage, NotTaken, PastEnd}
@@ -16,7 +17,7 @@ is_slot One (Some One) = true
 abbrev pub takes : List ℕ → Slot → (page_size : ℕ) → Bool
 takes file slot page_size = is_slot slot (bbolt_slot file) && bbolt_page_size file == page_size
 
--- this finding, if that holds
+-- the list of one finding if a condition holds, and otherwise the empty list
 abbrev pub file_finding_if : Bool → FileFinding → List FileFinding
 file_finding_if true x = x ∷ []
 file_finding_if false x = []

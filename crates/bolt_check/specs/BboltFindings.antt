@@ -1,7 +1,9 @@
 -- What bbolt fails on when it writes into a file, though the trees of the file are sound: docs/SOUND.md, "For bbolt".
-use Rattle.std.specs.Prelude.{◌≡◌, ◌==◌, ◌&&◌, ◌++◌, ◌+◌, ◌-◌, ℕ, zero, suc, Bool, true, false, List, [], ◌∷◌, Option, Some, None, Result, Ok, Err, flat_map, if◌then◌else◌, is_some, length, nat_lt, not, take}
+use Rattle.std.specs.Prelude.{◌≡◌, ◌==◌, ◌&&◌, ◌++◌, ◌+◌, ◌-◌, ℕ, zero, suc, Bool, true, false, List, [], ◌∷◌, Option, Some, None, Result, Ok, Err}
+use Rattle.std.specs.Prelude.{flat_map, if◌then◌else◌, is_some, length, nat_lt, not, take}
 use Rattle.std.specs.{List.list_any, Str.bytes_eq}
-use Rattle.bolt_check.specs.{Findings.finding, Findings.keys_of, Keys.Key, Nodes.Entry, Nodes.InlinePage, Nodes.Node, Nodes.Nodes, Shape.leads, Tours.IsTour}
+use Rattle.bolt_check.specs.{Findings.finding, Findings.keys_of, Keys.Key, Nodes.Entry, Nodes.InlinePage, Nodes.Node, Nodes.Nodes, Shape.leads}
+use Rattle.bolt_check.specs.{Tours.IsTour}
 use Rattle.bolt_check.specs.{Ways.At_inline, Ways.At_page, Ways.PageSpot, Ways.Spot, Ways.reached, declared.finding.Finding.Finding}
 use Rattle.bolt_check.specs.declared.finding.TheConstants.Finding.{FIRST_KEY, INLINE_NUMBER, LARGE_KEY, LEAF_DEPTH, ONE_CHILD, ROOT_VALUE}
 
@@ -42,7 +44,7 @@ abbrev pub first_child : List Entry → Option ℕ
 first_child [] = None
 first_child (e ∷ entries) = Some e.child
 
--- one more than the depth below the first child of a branch
+-- the depth of a branch: one more than the depth below its first child
 abbrev pub above_first : (ℕ → ℕ) → Option ℕ → ℕ
 above_first depth None = 1
 above_first depth (Some child) = suc (depth child)
@@ -56,7 +58,7 @@ unfoldable pub first_leaf_depth : Nodes → (branches : ℕ) → ℕ → ℕ
 first_leaf_depth nodes zero number = 1
 first_leaf_depth nodes (suc branches) number = node_depth (first_leaf_depth nodes branches) (nodes number)
 
--- of a bucket with its root page here; in sound trees no leaf is below more than 63 branches
+-- the depth of the first leaf of a bucket with its root page here; in sound trees no leaf is below more than 63 branches
 abbrev pub leaf_depth : Nodes → Option Spot → ℕ
 leaf_depth nodes (Some (At_page s)) = first_leaf_depth nodes 63 s.number
 leaf_depth nodes (Some (At_inline host inner)) = 1
@@ -91,7 +93,7 @@ abbrev pub seen_findings : (in_root : Bool) → (leaves : ℕ) → PageSpot → 
 seen_findings in_root leaves s (Ok node) = node_findings in_root leaves s node
 seen_findings in_root leaves s (Err fault) = []
 
--- and at what a way leads to
+-- what bbolt fails on at the spot that a way leads to
 abbrev pub spot_findings : Nodes → (in_root : Bool) → (leaves : ℕ) → Option Spot → List Finding
 spot_findings nodes in_root leaves None = []
 spot_findings nodes in_root leaves (Some (At_page s)) = seen_findings in_root leaves s (nodes s.number)

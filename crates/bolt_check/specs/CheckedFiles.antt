@@ -12,7 +12,7 @@ meta_of checked = checked.meta
 unfoldable pub has_accounts : Checked → Bool
 has_accounts checked = checked.accounts
 
--- its pages as nodes
+-- the pages of a checked file as nodes
 abbrev pub checked_nodes : Checked → Nodes
 checked_nodes checked = node_at (bytes_of checked) (meta_of checked)
 

@@ -1,16 +1,17 @@
 -- What the claimed pages show.
 use Rattle.std.specs.Prelude.{◌≡◌, ℕ, Bool, true, List, length}
 use Rattle.bolt_format.specs.declared.meta.Meta.{Meta}
-use Rattle.bolt_check.specs.{Nodes.Nodes, Nodes.node_at, Private.Tables.is_used, Private.Tables.unclaimed, Private.Tables.use_at, declared.claims.Claims.Claims}
+use Rattle.bolt_check.specs.{Nodes.Nodes, Nodes.node_at, Private.Tables.is_used, Private.Tables.unclaimed, Private.Tables.use_at}
+use Rattle.bolt_check.specs.{declared.claims.Claims.Claims}
 
--- the file whose pages they are, and the meta that it is read under
+-- the file whose pages are claimed, and the meta that it is read under
 unfoldable pub claims_file : Claims → List ℕ
 claims_file claims = claims.file.now
 
 unfoldable pub claims_meta : Claims → Meta
 claims_meta claims = claims.meta
 
--- its pages as nodes
+-- the pages of the claims' file as nodes
 abbrev pub claims_nodes : Claims → Nodes
 claims_nodes claims = node_at (claims_file claims) (claims_meta claims)
 

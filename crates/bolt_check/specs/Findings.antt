@@ -1,7 +1,8 @@
 -- What the tests of the structure find, and which finding is the first: docs/SOUND.md, "Structure".
 use Rattle.std.specs.Prelude.{◌≡◌, ℕ, ◌<◌, ◌⊎◌, not, ◌&&◌, List, length, map, Option, Some, None, Result, Ok, Err, if◌then◌else◌, nat_lt, ◌==◌}
 use Rattle.bolt_check.specs.{Keys.Key, Keys.keys_order_fault, Nodes.Entry, Nodes.IsInSpan, Nodes.Node, Nodes.Nodes}
-use Rattle.bolt_check.specs.{Ways.At_inline, Ways.At_page, Ways.Before, Ways.PageSpot, Ways.Reach, Ways.SpanHas, Ways.Spot, declared.finding.Finding.Finding}
+use Rattle.bolt_check.specs.{Ways.At_inline, Ways.At_page, Ways.Before, Ways.PageSpot, Ways.Reach, Ways.SpanHas, Ways.Spot}
+use Rattle.bolt_check.specs.{declared.finding.Finding.Finding}
 use Rattle.bolt_check.specs.declared.finding.TheConstants.Finding.{EMPTY_BRANCH, TOO_DEEP, TWICE}
 
 -- a finding of one page

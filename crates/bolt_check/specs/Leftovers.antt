@@ -1,7 +1,8 @@
 -- What the leftovers of a file show.
 use Rattle.std.specs.Prelude.{◌≡◌, ◌==◌, ℕ, Bool, true, List, length, not}
 use Rattle.bolt_format.specs.declared.meta.Meta.{Meta}
-use Rattle.bolt_check.specs.{Nodes.Nodes, Nodes.node_at, Private.Tables.is_used, Private.Tables.times_of, Private.Tables.use_at, declared.leftovers.Leftovers.Leftovers}
+use Rattle.bolt_check.specs.{Nodes.Nodes, Nodes.node_at, Private.Tables.is_used, Private.Tables.times_of, Private.Tables.use_at}
+use Rattle.bolt_check.specs.{declared.leftovers.Leftovers.Leftovers}
 
 -- the file, and the meta that it is read under
 unfoldable pub leftovers_file : Leftovers → List ℕ
@@ -24,7 +25,7 @@ is_taken leftovers n = is_used (use_at leftovers.table.items n)
 abbrev pub HasTaken : Leftovers → ℕ → Type 0
 HasTaken leftovers n = is_taken leftovers n ≡ true
 
--- whether it is noted as listed
+-- whether page n is noted as listed
 unfoldable pub is_listed : Leftovers → ℕ → Bool
 is_listed leftovers n = not (times_of (use_at leftovers.table.items n) == 0)
 

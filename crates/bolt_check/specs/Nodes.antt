@@ -1,6 +1,7 @@
 -- What the rules of soundness see of a page: a branch or a leaf with its entries, or why it is none. docs/SOUND.md, "Structure".
 use Rattle.std.specs.Prelude.{◌≤◌, ℕ, ◌+◌, Bool, true, false, List, [], map, Option, Some, None, Result, Ok, Err}
-use Rattle.bolt_format.specs.{Elements.BranchElement, Elements.LeafElement, Elements.head_root, Elements.inline_elements, Elements.inline_number, Gaps.GapView, Gaps.inline_gap, Pages.PageView, Pages.page_at, Pages.page_fault}
+use Rattle.bolt_format.specs.{Elements.BranchElement, Elements.LeafElement, Elements.head_root, Elements.inline_elements, Elements.inline_number}
+use Rattle.bolt_format.specs.{Gaps.GapView, Gaps.inline_gap, Pages.PageView, Pages.page_at, Pages.page_fault}
 use Rattle.bolt_format.specs.{declared.meta.Meta.Meta, declared.header.Kind.Kind, declared.page_fault.TheConstants.PageFault.PAGE_KIND}
 use Rattle.bolt_format.specs.declared.header.Kind.TheVariants as kind
 

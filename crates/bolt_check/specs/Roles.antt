@@ -1,7 +1,8 @@
 -- What each page below the mark is for: docs/SOUND.md, "Roles".
 use Rattle.std.specs.Prelude.{◌≡◌, ◌<◌, ◌⊎◌, ℕ, Bool, true, false, List, Ok, Some}
 use Rattle.bolt_format.specs.declared.meta.Meta.{Meta}
-use Rattle.bolt_check.specs.{Accounts.IsFree, Accounts.IsInFreelist, Accounts.IsInUse, Nodes.IsInSpan, Nodes.Node, Nodes.Nodes, Nodes.node_at, OnWays.reach_of, Sound.IsUsed}
+use Rattle.bolt_check.specs.{Accounts.IsFree, Accounts.IsInFreelist, Accounts.IsInUse, Nodes.IsInSpan, Nodes.Node, Nodes.Nodes, Nodes.node_at}
+use Rattle.bolt_check.specs.{OnWays.reach_of, Sound.IsUsed}
 use Rattle.bolt_check.specs.{Ways.At_page, Ways.PageSpot, Ways.Reach, declared.role_table.Role.Role}
 use Rattle.bolt_check.specs.declared.role_table.Role.TheVariants as role
 

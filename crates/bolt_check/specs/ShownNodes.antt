@@ -20,11 +20,11 @@ shown_node page = record {
   entries = entries_on page;
 }
 
--- this page is node n
+-- a page of the code is node n
 abbrev pub IsNodeAt : Nodes → ℕ → TreePage → Type 0
 IsNodeAt nodes n page = nodes n ≡ Ok (shown_node page)
 
--- and it is page n of the file
+-- a page of the code is page n of the file
 abbrev pub IsPageAt : List ℕ → Meta → ℕ → TreePage → Type 0
 IsPageAt file meta n page = page_at file meta n ≡ Some (shown_page page)
 

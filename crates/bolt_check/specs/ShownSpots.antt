@@ -1,8 +1,10 @@
 -- A spot of the code as the definitions have it: docs/SOUND.md, "Ways".
 use Rattle.std.specs.Prelude.{◌≡◌, ℕ, List, map, Option, Some, None}
 use Rattle.std.specs.Borrow.{Bor}
-use Rattle.bolt_format.specs.{Elements.LeafElement, Elements.inline_elements, Gaps.shown_inline_gap, ShownInline.shown_inline, declared.bucket_value.Inline.Inline}
-use Rattle.bolt_check.specs.{Keys.Key, Nodes.InlinePage, Ways.At_inline, Ways.At_page, Ways.PageSpot, Ways.Spot, declared.spot.PageSpot.PageSpot as CodePageSpot}
+use Rattle.bolt_format.specs.{Elements.LeafElement, Elements.inline_elements, Gaps.shown_inline_gap, ShownInline.shown_inline}
+use Rattle.bolt_format.specs.{declared.bucket_value.Inline.Inline}
+use Rattle.bolt_check.specs.{Keys.Key, Nodes.InlinePage, Ways.At_inline, Ways.At_page, Ways.PageSpot, Ways.Spot}
+use Rattle.bolt_check.specs.{declared.spot.PageSpot.PageSpot as CodePageSpot}
 use Rattle.bolt_check.specs.{declared.spot.Spot.Spot as CodeSpot, declared.spot.Spot.TheVariants.Page, declared.spot.Spot.TheVariants.Bucket}
 
 abbrev pub bound_of : Option (Bor (List ℕ)) → Option (List ℕ)

@@ -1,7 +1,9 @@
 -- Sound files, and what is reported of the others: docs/SOUND.md.
 use Rattle.std.specs.Prelude.{◌≢◌, ℕ, List, [], Bool, true, false, IsTrue}
-use Rattle.bolt_format.specs.{Metas.HasNoActive, Metas.HasNoneInSlot, Metas.IsActive, Metas.IsInSlot, declared.meta.Meta.Meta, declared.meta.Slot.Slot}
-use Rattle.bolt_check.specs.{Accounts.HasAccounts, Findings.IsClean, Findings.IsCovered, Findings.IsFirst, Findings.IsMetaPage, Nodes.node_at, OnWays.reach_of, Shape.HasShape}
+use Rattle.bolt_format.specs.{Metas.HasNoActive, Metas.HasNoneInSlot, Metas.IsActive, Metas.IsInSlot, declared.meta.Meta.Meta}
+use Rattle.bolt_format.specs.{declared.meta.Slot.Slot}
+use Rattle.bolt_check.specs.{Accounts.HasAccounts, Findings.IsClean, Findings.IsCovered, Findings.IsFirst, Findings.IsMetaPage, Nodes.node_at}
+use Rattle.bolt_check.specs.{OnWays.reach_of, Shape.HasShape}
 use Rattle.bolt_check.specs.{AccountFindings.AreAccountFindings, ShownFindings.findings_in, declared.check_fault.CheckFault.CheckFault}
 use Rattle.bolt_check.specs.declared.check_fault.CheckFault.TheVariants.{Accounts, Memory, Open, Structure}
 use Rattle.bolt_check.specs.declared.finding.Finding.{Finding}

@@ -17,12 +17,12 @@ kids_at (Ok node) = kid_pages node.is_leaf node.entries
 kids_at (Err fault) = []
 
 module _ (nodes : Nodes) where
-  -- so many steps are enough below page n, and all pages there are good
+  -- `k` steps are enough to go down from page n, and all pages there are good
   abbrev pub Enough : ℕ → ℕ → Type 0
   Enough zero n = ⊥
   Enough (suc k) n = (node : Node) × (nodes n ≡ Ok node) × ((m : ℕ) → Has (kid_pages node.is_leaf node.entries) m → Enough k m)
 
-  -- the sum over page n and all pages below it, that are so many steps deep
+  -- the sum over page n and all pages below it, `k` steps deep
   abbrev pub weight : (ℕ → ℕ) → ℕ → ℕ → ℕ
   weight own zero n = 0
   weight own (suc k) n = own n + sum_by (weight own k) (kids_at (nodes n))

@@ -1,5 +1,6 @@
 -- Ways from the root page: docs/SOUND.md, "Ways". A way is a list of entry numbers; it leads to a page or an inline bucket.
-use Rattle.std.specs.Prelude.{◌≡◌, ℕ, suc, ◌<◌, ◌⊎◌, ◌↔◌, ◌==◌, Bool, true, false, List, [], ◌∷◌, Option, Some, None, Result, Ok, Err, if◌then◌else◌, slice_get}
+use Rattle.std.specs.Prelude.{◌≡◌, ℕ, suc, ◌<◌, ◌⊎◌, ◌↔◌, ◌==◌, Bool, true, false, List, [], ◌∷◌, Option, Some, None, Result, Ok, Err, if◌then◌else◌}
+use Rattle.std.specs.Prelude.{slice_get}
 use Rattle.bolt_check.specs.{Keys.Key, Nodes.Entry, Nodes.InlinePage, Nodes.IsInSpan, Nodes.Node, Nodes.Nodes}
 
 -- A page that a way leads to: its number, its depth, and the bounds of its keys. The root page of a bucket has depth 1.

@@ -78,14 +78,14 @@ fn claim_freelist(file: &[u8], meta: &Meta, table: &mut [PageUse]) -> Option<u64
 fn test_ids(
     alloc: Global,
     ids: FreeIds<'_>,
-    mark: u64,
+    high_water: u64,
     table: &mut [PageUse],
 ) -> Result<Vec<Finding>, AllocError>
     requires unlisted { IsUnlisted table.old }
     requires metas { (n : ℕ) → n < 2 → IsClaimed table.old n }
     requires wide { 2 ≤ length table.old }
-    requires below { length table.old ≤ mark }
-    ensures reported { IfOk result (λ reported. AreAllFindings mark (IsClaimed table.old)
+    requires below { length table.old ≤ high_water }
+    ensures reported { IfOk result (λ reported. AreAllFindings high_water (IsClaimed table.old)
         (times_in (shown_ids ids.entry)) reported.items) }
     ensures used { OnOk result (KeepsUsed table.old table.new) }
     ensures kept { OnOk result ((n : ℕ) → times_in (shown_ids ids.entry) n ≡ 0
@@ -97,7 +97,7 @@ fn test_ids(
     let freelist = Freelist {
         table,
         past: &past,
-        mark,
+        high_water,
     };
     all_findings(alloc, &freelist)
 }

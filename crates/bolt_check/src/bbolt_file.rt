@@ -89,14 +89,14 @@ fn add_meta_page(
 
 /// Adds a finding, if there is one.
 fn add_file_finding_if(
-    is_found: bool,
+    is_wrong: bool,
     finding: FileFinding,
     findings: &mut Vec<FileFinding>,
 ) -> Result<(), AllocError>
     ensures { OnOk result (findings.new.items
-        ≡ findings.old.items ++ file_finding_if is_found finding) }
+        ≡ findings.old.items ++ file_finding_if is_wrong finding) }
 {
-    if is_found {
+    if is_wrong {
         findings.push(finding)?;
     }
     Ok(())

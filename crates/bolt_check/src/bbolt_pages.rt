@@ -2,8 +2,10 @@
 //! The page is known to be good.
 ghost use Rattle.std.specs.Prelude.{◌≡◌, ◌==◌, ◌&&◌, ◌++◌, OnOk, map, not};
 ghost use Rattle.std.specs.List.{list_any};
-ghost use Rattle.bolt_check.specs.BboltFindings.{finding_if, has_large_value, has_one_child, has_other_first_key, has_value, inline_findings, is_large_value, is_too_large, is_value, node_findings};
-ghost use Rattle.bolt_check.specs.{Nodes.leaf_entry, ShownNodes.shown_node, ShownSpots.bound_of, ShownSpots.inline_keys, ShownSpots.page_spot, ShownSpots.shown_inner};
+ghost use Rattle.bolt_check.specs.BboltFindings.{finding_if, has_large_value, has_one_child, has_other_first_key, has_value, inline_findings};
+ghost use Rattle.bolt_check.specs.BboltFindings.{is_large_value, is_too_large, is_value, node_findings};
+ghost use Rattle.bolt_check.specs.{Nodes.leaf_entry, ShownNodes.shown_node, ShownSpots.bound_of, ShownSpots.inline_keys, ShownSpots.page_spot};
+ghost use Rattle.bolt_check.specs.{ShownSpots.shown_inner};
 ghost use Rattle.bolt_format.specs.TreePages.{leaves_on};
 
 use crate::finding::Finding;
@@ -60,15 +62,15 @@ pub(crate) fn find_in_bucket(
 
 /// Adds a finding of a page, if there is one.
 fn add_if(
-    is_found: bool,
+    is_wrong: bool,
     code: u8,
     number: u64,
     findings: &mut Vec<Finding>,
 ) -> Result<(), AllocError>
     ensures { OnOk result (findings.new.items
-        ≡ findings.old.items ++ finding_if is_found code number) }
+        ≡ findings.old.items ++ finding_if is_wrong code number) }
 {
-    if is_found {
+    if is_wrong {
         findings.push(Finding::of_page(code, number))?;
     }
     Ok(())

@@ -35,7 +35,8 @@ pub struct Claims<'a> {
 
 #[tactic(auto, unfolding(crate::specs::Claims::claims_file, crate::specs::Claims::claims_length, crate::specs::Claims::claims_meta, crate::specs::Claims::claims_visited, crate::specs::Claims::is_claimed, crate::specs::Claims::pages_left))]
 impl<'a> Claims<'a> {
-    ghost use Rattle.bolt_check.specs.Claims.{HasClaimed, claims_file, claims_length, claims_meta, claims_nodes, claims_visited, is_claimed, pages_left};
+    ghost use Rattle.bolt_check.specs.Claims.{HasClaimed, claims_file, claims_length, claims_meta, claims_nodes, claims_visited, is_claimed};
+    ghost use Rattle.bolt_check.specs.Claims.{pages_left};
 
     /// A table in which only the meta pages are claimed. No page was visited.
     ///

@@ -14,7 +14,7 @@ pub struct Findings {
 impl Findings {
     ghost use Rattle.bolt_check.specs.ShownFindings.{findings_in};
 
-    /// These findings, if there is one.
+    /// The findings in a list, if there is any.
     pub(crate) fn of(items: Vec<Finding>) -> Option<Findings>
         ensures { MatchOption result (items.items ≡ []) (λ findings. findings_in findings
             ≡ items.items) }

@@ -4,7 +4,8 @@
 ghost use Rattle.std.specs.Prelude.{◌≡◌, ◌<◌, ◌≤◌, ◌&&◌, ◌+◌, ◌++◌, ◌∷◌, [], true, IfOk, OnOk, not, vec_len};
 ghost use Rattle.bolt_check.specs.{BboltFindings.AreBboltFindings, CheckedFiles.checked_nodes, CheckedFiles.meta_of, ShownNodes.shown_node};
 ghost use Rattle.bolt_check.specs.{ShownSpots.page_spot, ShownSpots.spot_at};
-ghost use Rattle.bolt_check.specs.Private.Unread.{IsGoodDown, IsReadable, mark, marked_kids, most_kids, own_findings, page_leaves, unread_at, unread_kids, unread_of};
+ghost use Rattle.bolt_check.specs.Private.Unread.{IsGoodDown, IsReadable, tagged, tagged_kids, most_kids, own_findings, page_leaves, unread_view};
+ghost use Rattle.bolt_check.specs.Private.Unread.{unread_kids, unread_of};
 ghost use Rattle.bolt_check.specs.Ways.{At_page, root_spot};
 
 use crate::bbolt_pages::{find_at_page, find_in_bucket};
@@ -51,7 +52,7 @@ pub fn bbolt_findings(alloc: Global, checked: Checked<'_>) -> Result<Vec<Finding
 /// What is still to be read at the start: the root page of the root bucket alone.
 fn new_unread<'a>(alloc: Global, root: u64) -> Result<Vec<UnreadSpot<'a>>, AllocError>
     ensures { IfOk result (λ unread. unread_of unread.items
-        ≡ mark true 0 (At_page (root_spot root)) ∷ []) }
+        ≡ tagged true 0 (At_page (root_spot root)) ∷ []) }
 {
     let mut unread = Vec::new(alloc);
     unread.push(UnreadSpot {
@@ -78,9 +79,9 @@ fn read<'a>(
     requires { ∥ IsReadable (checked_nodes checked.now) (meta_of checked.now).high_water
         (spot_at next.spot) ∥₁ }
     ensures found { OnOk result (findings.new.items
-        ≡ findings.old.items ++ own_findings (checked_nodes checked.now) (unread_at next.entry)) }
+        ≡ findings.old.items ++ own_findings (checked_nodes checked.now) (unread_view next.entry)) }
     ensures kids { OnOk result (unread_of unread.new.items
-        ≡ unread_kids (checked_nodes checked.now) (unread_at next.entry) ++ unread_of unread.old.items) }
+        ≡ unread_kids (checked_nodes checked.now) (unread_view next.entry) ++ unread_of unread.old.items) }
     ensures few { OnOk result
         (vec_len unread.new ≤ vec_len unread.old + most_kids (spot_at next.entry.spot)) }
 {
@@ -131,7 +132,7 @@ fn push_unread<'a>(
 ) -> Result<(), AllocError>
     requires { spot.now.depth ≤ 64 }
     ensures kids { OnOk result (unread_of unread.new.items
-        ≡ marked_kids in_root leaves (shown_node page.now) (page_spot spot.now)
+        ≡ tagged_kids in_root leaves (shown_node page.now) (page_spot spot.now)
         ++ unread_of unread.old.items) }
     ensures few { OnOk result (vec_len unread.new < vec_len unread.old + 65536) }
 {

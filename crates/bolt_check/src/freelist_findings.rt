@@ -1,7 +1,9 @@
 //! What is wrong with the pages that the freelist lists, and with those that it lacks, in the order
 //! of the pages.
 ghost use Rattle.std.specs.Prelude.{◌≡◌, ◌≤◌, ◌<◌, ◌+◌, ◌++◌, ◌↔◌, [], IfOk, IsTrue, OnOk, length};
-ghost use Rattle.bolt_check.specs.Private.Freelists.{AreAllFindings, AreFindingsBelow, HasFindingsTo, IsBeyondTo, IsPastTo, IsSettled, is_in_use, is_repeated, listed_times, meta_findings, page_findings, repeat_findings, interval_findings, use_findings};
+ghost use Rattle.bolt_check.specs.Private.Freelists.{AreAllFindings, AreFindingsBelow, HasFindingsTo, IsBeyondTo, IsPastTo, IsSettled, is_in_use};
+ghost use Rattle.bolt_check.specs.Private.Freelists.{is_repeated, listed_times, meta_findings, page_findings, repeat_findings, interval_findings};
+ghost use Rattle.bolt_check.specs.Private.Freelists.{use_findings};
 
 use crate::finding::Finding;
 use crate::listed_pages::Freelist;
@@ -142,13 +144,13 @@ fn push_id(
 ) -> Result<u64, AllocError>
     requires settled { IsSettled freelist.now }
     requires place { i < length freelist.now.past.now }
-    requires within { from ≤ freelist.now.mark }
+    requires within { from ≤ freelist.now.high_water }
     requires reported { IsPastTo freelist.now from i findings.old.items }
-    ensures within { IfOk result (λ next. next ≤ freelist.now.mark) }
+    ensures within { IfOk result (λ next. next ≤ freelist.now.high_water) }
     ensures reported { IfOk result (λ next. IsPastTo freelist.now next (i + 1) findings.new.items) }
 {
     let id = freelist.past[i];
-    if id < from || freelist.mark <= id {
+    if id < from || freelist.high_water <= id {
         return Ok(from);
     }
     push_interval(findings, from, id)?;
@@ -167,9 +169,9 @@ fn push_past(
     requires start { start ≤ length freelist.now.table.now }
     requires reported { HasFindingsTo freelist.now start
         (length freelist.now.table.now) findings.old.items }
-    ensures within { IfOk result (λ from. from ≤ freelist.now.mark) }
+    ensures within { IfOk result (λ from. from ≤ freelist.now.high_water) }
     ensures reported { IfOk result
-        (λ from. HasFindingsTo freelist.now from freelist.now.mark findings.new.items) }
+        (λ from. HasFindingsTo freelist.now from freelist.now.high_water findings.new.items) }
 {
     let mut from = start;
     for i in 0..freelist.past.len() {
@@ -192,7 +194,7 @@ fn push_high_id(
     ensures { IfOk result (λ next. IsBeyondTo freelist.now next (i + 1) findings.new.items) }
 {
     let id = freelist.past[i];
-    if id < freelist.mark || id <= last {
+    if id < freelist.high_water || id <= last {
         return Ok(last);
     }
     findings.push(Finding::of_page(Finding::FREE_RANGE, id))?;
@@ -203,9 +205,9 @@ fn push_high_id(
 #[tactic(auto, using(crate::proofs::FreelistSteps::beyond_start))]
 fn push_beyond(freelist: &Freelist<'_>, findings: &mut Vec<Finding>) -> Result<(), AllocError>
     requires settled { IsSettled freelist.now }
-    requires reported { AreFindingsBelow freelist.now.mark (is_in_use freelist.now)
-        (listed_times freelist.now) freelist.now.mark findings.old.items }
-    ensures { OnOk result (AreAllFindings freelist.now.mark (is_in_use freelist.now)
+    requires reported { AreFindingsBelow freelist.now.high_water (is_in_use freelist.now)
+        (listed_times freelist.now) freelist.now.high_water findings.old.items }
+    ensures { OnOk result (AreAllFindings freelist.now.high_water (is_in_use freelist.now)
         (listed_times freelist.now) findings.new.items) }
 {
     let mut last = 0;
@@ -221,13 +223,13 @@ pub(crate) fn all_findings(
     freelist: &Freelist<'_>,
 ) -> Result<Vec<Finding>, AllocError>
     requires { IsSettled freelist.now }
-    ensures { IfOk result (λ reported. AreAllFindings freelist.now.mark (is_in_use freelist.now)
+    ensures { IfOk result (λ reported. AreAllFindings freelist.now.high_water (is_in_use freelist.now)
         (listed_times freelist.now) reported.items) }
 {
     let mut findings = Vec::new(alloc);
     let past_table = push_table(freelist, &mut findings)?;
     let from = push_past(freelist, past_table, &mut findings)?;
-    push_interval(&mut findings, from, freelist.mark)?;
+    push_interval(&mut findings, from, freelist.high_water)?;
     push_beyond(freelist, &mut findings)?;
     Ok(findings)
 }

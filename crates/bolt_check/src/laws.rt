@@ -5,10 +5,12 @@ ghost use Rattle.bolt_format.specs.{Elements.BranchElement, Elements.LeafElement
 ghost use Rattle.bolt_format.specs.declared.header.Kind.TheVariants as kind;
 ghost use Rattle.bolt_format.specs.declared.meta.Meta.{Meta};
 ghost use Rattle.bolt_check.specs.{Nodes.node_at, Ones.AtMostOne, OnWays.IsOnWay, OnWays.reach_of, Roles.AreRoles, Roles.HasRole};
-ghost use Rattle.bolt_check.specs.declared.finding.TheConstants.Finding.{ABOVE_NEXT, BELOW_PARENT, EMPTY_BRANCH, FREED_TWICE, FREE_RANGE, ORDER, REACHED_FREED, TOO_DEEP, TWICE, UNREACHABLE};
+ghost use Rattle.bolt_check.specs.declared.finding.TheConstants.Finding.{ABOVE_NEXT, BELOW_PARENT, EMPTY_BRANCH, FREED_TWICE, FREE_RANGE, ORDER};
+ghost use Rattle.bolt_check.specs.declared.finding.TheConstants.Finding.{REACHED_FREED, TOO_DEEP, TWICE, UNREACHABLE};
 ghost use Rattle.bolt_check.specs.declared.finding.TheConstants.Finding.{FIRST_KEY, INLINE_NUMBER, LARGE_KEY, LEAF_DEPTH, ONE_CHILD, ROOT_VALUE};
 ghost use Rattle.bolt_check.specs.Sound.{AreFindingsOfAccounts, HasRightAccounts, HasSoundTrees, IsFirstFinding, PassesTests};
-ghost use Rattle.bolt_check.specs.{Tours.IsTour, Ways.At_page, Ways.Reach, Ways.reached, Ways.root_spot, declared.finding.Finding.Finding, declared.role_table.Role.Role};
+ghost use Rattle.bolt_check.specs.{Tours.IsTour, Ways.At_page, Ways.Reach, Ways.reached, Ways.root_spot, declared.finding.Finding.Finding};
+ghost use Rattle.bolt_check.specs.{declared.role_table.Role.Role};
 
 /// The codes of findings, which callers may keep, are these.
 pub fn codes_of_findings_are_fixed()

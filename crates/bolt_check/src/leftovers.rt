@@ -3,7 +3,8 @@ ghost use Rattle.std.specs.Option.{IfNone};
 ghost use Rattle.std.specs.Prelude.{◌≡◌, ◌↔◌, ◌≤◌, ◌<◌, ℕ, false, true, IfSome, Ok, length};
 ghost use Rattle.bolt_format.specs.declared.tree_page.TreePage.TheVariants as page;
 ghost use Rattle.bolt_check.specs.{Claims.claims_file, Claims.claims_meta, Claims.is_claimed, LoneLeaves.IsListedFree, LoneLeaves.IsLoneLeaf};
-ghost use Rattle.bolt_check.specs.{Nodes.Node, Nodes.node_at, Private.LeafTests.IsFilledLeaf, Private.Freelists.IsUnlisted, Private.Freelists.KeepsUsed};
+ghost use Rattle.bolt_check.specs.{Nodes.Node, Nodes.node_at, Private.LeafTests.IsFilledLeaf, Private.Freelists.IsUnlisted};
+ghost use Rattle.bolt_check.specs.{Private.Freelists.KeepsUsed};
 ghost use Rattle.bolt_check.specs.Private.Pending.{ClaimsSpan};
 ghost use Rattle.bolt_check.specs.Private.Tables.{HasRoom, IsClaimed, IsUnclaimed, times_of, use_at};
 ghost use Rattle.bolt_check.specs.{ShownNodes.IsNodeAt, ShownNodes.IsPageAt, Ways.AddsSpan, Ways.At_page, Ways.root_spot};
@@ -28,7 +29,8 @@ pub struct Leftovers<'a> {
 
 #[tactic(auto, unfolding(crate::specs::Claims::claims_file, crate::specs::Claims::claims_meta, crate::specs::Claims::is_claimed, crate::specs::Leftovers::leftovers_file, crate::specs::Leftovers::leftovers_length, crate::specs::Leftovers::leftovers_meta, crate::specs::Leftovers::is_listed, crate::specs::Leftovers::is_taken))]
 impl<'a> Leftovers<'a> {
-    ghost use Rattle.bolt_check.specs.Leftovers.{HasListed, HasTaken, is_listed, is_taken, leftovers_file, leftovers_length, leftovers_meta, leftovers_nodes};
+    ghost use Rattle.bolt_check.specs.Leftovers.{HasListed, HasTaken, is_listed, is_taken, leftovers_file, leftovers_length, leftovers_meta};
+    ghost use Rattle.bolt_check.specs.Leftovers.{leftovers_nodes};
 
     /// What was not claimed. Pages that the freelist lists are noted, if one was written and is good.
     pub fn new(claims: Claims<'a>) -> Leftovers<'a>

@@ -15,7 +15,7 @@ pub(crate) struct Freelist<'a> {
     pub table: &'a [PageUse],
     pub past: &'a [u64],
     /// The high-water mark.
-    pub mark: u64,
+    pub high_water: u64,
 }
 
 /// The use of a page that is listed once more.

@@ -1,6 +1,7 @@
 //! Roles: what each page of a file is for, as a table of uses says it.
 ghost use Rattle.std.specs.Prelude.{◌≡◌, ◌<◌};
-ghost use Rattle.bolt_check.specs.{CheckedFiles.in_checked, CheckedFiles.meta_of, Private.RoleTables.AreUses, Private.RoleTables.role_by, Private.Tables.use_at};
+ghost use Rattle.bolt_check.specs.{CheckedFiles.in_checked, CheckedFiles.meta_of, Private.RoleTables.AreUses, Private.RoleTables.role_by};
+ghost use Rattle.bolt_check.specs.{Private.Tables.use_at};
 ghost use Rattle.bolt_check.specs.Roles.{HasRole};
 
 use crate::checked::Checked;
@@ -32,14 +33,14 @@ impl<'a> Roles<'a> {
         requires { id < (meta_of (roles_checked self.now)).high_water }
         ensures { ∥ in_checked HasRole (roles_checked self.now) id result ∥₁ }
     {
-        // The proof needs `mark() < 2^64`, which the prover knows of a call's result but not of a
+        // The proof needs `high_water() < 2^64`, which the prover knows of a call's result but not of a
         // field behind a reference.
-        let _mark = self.mark();
+        let _high_water = self.high_water();
         role_by(&self.checked.meta, id, page_use(&self.table, id))
     }
 
     /// The high-water mark.
-    fn mark(&self) -> u64
+    fn high_water(&self) -> u64
         ensures { result ≡ self.now.checked.meta.high_water }
     {
         self.checked.meta.high_water
@@ -80,7 +81,7 @@ fn role_by(meta: &Meta, id: u64, page_use: PageUse) -> Role
 /// What a page below the high-water mark is for (docs/SOUND.md, "Roles").
 #[derive(Clone, Copy, Debug, PartialEq, Eq)]
 pub enum Role {
-    /// One of the two meta pages.
+    /// A meta page.
     Meta,
     /// The first page of a branch that a way leads to.
     Branch,

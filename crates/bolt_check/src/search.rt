@@ -3,7 +3,8 @@
 ghost use Rattle.std.specs.Prelude.{◌≡◌, ◌<◌, ◌≤◌, ◌+◌, ◌*◌, ◌++◌, ◌∷◌, [], IfErr, IfOk, OnOk, Ok, length, vec_len};
 ghost use Rattle.bolt_check.specs.{Findings.IsMetaPage, Nodes.node_at, OnWays.reach_of, Private.Freelists.IsUnlisted, Sound.PassesTests};
 ghost use Rattle.bolt_check.specs.{Private.Pending.CarriesPending, Private.Pending.kids, Private.Pending.spots_of};
-ghost use Rattle.bolt_check.specs.{Private.RoleTables.ClaimsUsed, Private.RoleTables.NotesUses, Private.SearchFaults.IsPendingFault, Private.SearchFaults.IsSearchFault};
+ghost use Rattle.bolt_check.specs.{Private.RoleTables.ClaimsUsed, Private.RoleTables.NotesUses, Private.SearchFaults.IsPendingFault};
+ghost use Rattle.bolt_check.specs.{Private.SearchFaults.IsSearchFault};
 ghost use Rattle.bolt_check.specs.{Private.Tables.HasRoom, Private.Tables.unclaimed, TableLengths.table_length};
 ghost use Rattle.bolt_check.specs.{ShownNodes.shown_node, ShownSpots.page_spot, Ways.At_page, Ways.root_spot};
 

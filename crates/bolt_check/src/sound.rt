@@ -62,7 +62,7 @@ pub fn check_roles<'a>(alloc: Global, file: &'a [u8]) -> Result<Roles<'a>, Check
 }
 
 /// Tests the trees and the accounts of a file under a meta. Returns what its pages are used for.
-#[tactic(auto, using(crate::proofs::MarkLemmas::table_wide))]
+#[tactic(auto, using(crate::proofs::HighWaterLemmas::table_wide))]
 pub(crate) fn test_file(alloc: Global, file: &[u8], meta: &Meta) -> Result<Vec<PageUse>, CheckFault>
     requires { 0 < meta.now.page_size }
     ensures trees { OnOk result (HasSoundTrees file.now meta.now) }

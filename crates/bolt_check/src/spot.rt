@@ -1,8 +1,11 @@
 //! What a way leads to and is still to be visited: a page or an inline bucket.
 ghost use Rattle.std.specs.Prelude.{◌≡◌, ◌<◌, ◌≤◌, IfSome, IsTrue, suc, Some, length, slice_get};
 ghost use Rattle.std.specs.{Result.result_err, Option.option_map};
-ghost use Rattle.bolt_check.specs.{Findings.inline_finding, ShownSpots.inline_keys, Nodes.leaf_entry, ShownNodes.shown_node, ShownSpots.IsInner, ShownSpots.bound_of, ShownSpots.page_spot, ShownSpots.spot_at, Ways.At_page, Ways.bucket_spots, Ways.step_on, Ways.upper_from};
-ghost use Rattle.bolt_format.specs.{ElementPlaces.leaf_view, Elements.IsBucketValue, Elements.LeafElement, TreePages.branches_on, TreePages.page_keys, TreePages.shown_page};
+ghost use Rattle.bolt_check.specs.{Findings.inline_finding, ShownSpots.inline_keys, Nodes.leaf_entry, ShownNodes.shown_node, ShownSpots.IsInner};
+ghost use Rattle.bolt_check.specs.{ShownSpots.bound_of, ShownSpots.page_spot, ShownSpots.spot_at, Ways.At_page, Ways.bucket_spots, Ways.step_on};
+ghost use Rattle.bolt_check.specs.{Ways.upper_from};
+ghost use Rattle.bolt_format.specs.{ElementPlaces.leaf_view, Elements.IsBucketValue, Elements.LeafElement, TreePages.branches_on};
+ghost use Rattle.bolt_format.specs.{TreePages.page_keys, TreePages.shown_page};
 ghost use Rattle.bolt_format.specs.declared.tree_page.TreePage.TheVariants as page;
 
 use crate::finding::Finding;
@@ -14,9 +17,9 @@ use bolt_format::{BranchPage, Inline, Leaf, TreePage, head, inline};
 pub struct PageSpot<'a> {
     /// The number of the page.
     pub number: u64,
-    /// Its depth: 1 for the root page of its bucket.
+    /// The page's depth: 1 for the root page of its bucket.
     pub depth: u8,
-    /// None of its keys may be below this one.
+    /// No key of the page may be below this one.
     pub lower: Option<&'a [u8]>,
     /// All of its keys must be below this one.
     pub upper: Option<&'a [u8]>,

@@ -13,7 +13,7 @@ use std::alloc::{AllocError, Global};
 #[derive(Clone, Copy)]
 #[repr(u8)]
 pub(crate) enum PageUse {
-    /// Neither used nor listed so far.
+    /// A page that is neither used nor listed so far.
     Unused,
     /// A branch that a way leads to.
     Branch,

@@ -6,7 +6,8 @@ ghost use Rattle.bolt_format.specs.{Pages.IsInFile, TreePages.page_keys, TreePag
 ghost use Rattle.bolt_check.specs.{Findings.PagePasses, Findings.PageTests, Findings.node_finding, Keys.keys_order_fault, Nodes.node_at};
 ghost use Rattle.bolt_check.specs.{Private.Freelists.IsUnlisted, Private.Pending.ClaimsSpan, Private.Uses.use_of};
 ghost use Rattle.bolt_check.specs.Private.Tables.{HasRoom, IsClaimed, IsUnclaimed, unclaimed, use_at};
-ghost use Rattle.bolt_check.specs.{ShownNodes.IsFaultAt, ShownNodes.IsNodeAt, ShownNodes.IsPageAt, ShownNodes.shown_node, ShownSpots.bound_of, ShownSpots.page_spot, Ways.At_page};
+ghost use Rattle.bolt_check.specs.{ShownNodes.IsFaultAt, ShownNodes.IsNodeAt, ShownNodes.IsPageAt, ShownNodes.shown_node, ShownSpots.bound_of};
+ghost use Rattle.bolt_check.specs.{ShownSpots.page_spot, Ways.At_page};
 
 use crate::finding::Finding;
 use crate::keys::test_key;

@@ -1,6 +1,9 @@
 -- What a job does, whatever its standard output and its target are.
 use Rattle.std.proofs.Common.{◌≡◌, ◌<◌, ◌∙◌, ap, inl, inr, ℕ, List, [], Option, None, Some, Bool, length, refl, subst, sym}
-use Rattle.bolt_cli.proofs.Vocabulary.{Answer, CopiesUnless, WritesAnswer, DoesJob, JobEnding, Extent, Ghosts, Job, Layout, MakesCopy, Member, MetaChoice, PageSize, WritesCopy, WritesRestored, copy_page_size, copy_report, done, buffered_failures, buffered_of, buffered_text, hash_refusal, layout_of_listing, lengths_line, repair_report, target_name, text_members, ∥∥₁_map}
+use Rattle.bolt_cli.proofs.Vocabulary.{Answer, CopiesUnless, WritesAnswer, DoesJob, JobEnding, Extent, Ghosts, Job, Layout, MakesCopy, Member}
+use Rattle.bolt_cli.proofs.Vocabulary.{MetaChoice, PageSize, WritesCopy, WritesRestored, copy_page_size, copy_report, done, buffered_failures}
+use Rattle.bolt_cli.proofs.Vocabulary.{buffered_of, buffered_text, hash_refusal, layout_of_listing, lengths_line, repair_report, target_name}
+use Rattle.bolt_cli.proofs.Vocabulary.{text_members, ∥∥₁_map}
 use Rattle.bolt_job.specs.declared.job.Job.TheVariants as job
 use Rattle.bolt_layout.specs.declared.Layout.TheVariants.{Balanced}
 
@@ -36,7 +39,8 @@ module _ {O T : Type 0} (out : Ghosts O) (target : Ghosts T) (out_old out_new : 
 
   written : (snapshot : Bool) (listing : List Member) (layout : List ℕ) (answer : ℕ → Answer) (ending : JobEnding)
       → WritesCopy out.taken out.failed out_old out_new target.taken target.failed target_old target_new snapshot listing layout answer ending
-      → WritesCopy buffered_text buffered_failures (buffered_of [] 0) (buffered_of text failures) target.taken target.failed target_old target_new snapshot listing layout answer ending
+      → WritesCopy buffered_text buffered_failures (buffered_of [] 0) (buffered_of text failures) target.taken target.failed target_old target_new snapshot
+      listing layout answer ending
   written snapshot listing layout answer ending (inl (small, good, put, sound, does)) = inl (small, good, put, sound, does_buffered _ ending does)
   written snapshot listing layout answer ending (inr (failure, stops, same, is)) = inr (failure, stops, untouched same, is)
 
@@ -45,24 +49,47 @@ module _ {O T : Type 0} (out : Ghosts O) (target : Ghosts T) (out_old out_new : 
         → CopiesUnless out.taken out.failed out_old out_new target.taken target.failed target_old target_new hash
         (WritesCopy out.taken out.failed out_old out_new target.taken target.failed target_old target_new snapshot listing layout answer) ending
         → CopiesUnless buffered_text buffered_failures (buffered_of [] 0) (buffered_of text failures) target.taken target.failed target_old target_new hash
-        (WritesCopy buffered_text buffered_failures (buffered_of [] 0) (buffered_of text failures) target.taken target.failed target_old target_new snapshot listing layout answer) ending
+        (WritesCopy buffered_text buffered_failures (buffered_of [] 0) (buffered_of text failures) target.taken target.failed target_old target_new snapshot
+        listing layout answer) ending
     unless (Some fault) (same, untouched_target, is) = (untouched same, untouched_target, is)
     unless None writes = written snapshot listing layout answer ending writes
 
   copied : (file : List ℕ) (choice : MetaChoice) (size : Option PageSize) (which : Layout) (snapshot : Bool) (extent : Extent) (ending : JobEnding)
       → MakesCopy out.taken out.failed out_old out_new target.taken target.failed target_old target_new file choice size which snapshot extent ending
-      → MakesCopy buffered_text buffered_failures (buffered_of [] 0) (buffered_of text failures) target.taken target.failed target_old target_new file choice size which snapshot extent ending
+      → MakesCopy buffered_text buffered_failures (buffered_of [] 0) (buffered_of text failures) target.taken target.failed target_old target_new file
+      choice size which snapshot extent ending
   copied file choice size which snapshot extent ending (inl (meta, listing, lost, found, read, faults, are, copies)) =
       let layout = layout_of_listing which (copy_page_size size meta) listing meta.root_sequence in
-      inl (meta, listing, lost, found, read, faults, are, unless snapshot listing layout (copy_report faults lost found (length file)) ending (hash_refusal extent faults.hash) copies)
-  copied file choice size which snapshot extent ending (inr (why, unread, (same, untouched_target, is))) = inr (why, unread, (untouched same, untouched_target, is))
+      inl (
+        meta,
+        listing,
+        lost,
+        found,
+        read,
+        faults,
+        are,
+        unless snapshot listing layout (copy_report faults lost found (length file)) ending (hash_refusal extent faults.hash) copies,
+      )
+  copied file choice size which snapshot extent ending (inr (why, unread, (same, untouched_target, is))) =
+      inr (why, unread, (untouched same, untouched_target, is))
 
   restored : (file : List ℕ) (choice : MetaChoice) (size : Option PageSize) (snapshot search : Bool) (ending : JobEnding)
       → WritesRestored out.taken out.failed out_old out_new target.taken target.failed target_old target_new file choice size snapshot search ending
-      → WritesRestored buffered_text buffered_failures (buffered_of [] 0) (buffered_of text failures) target.taken target.failed target_old target_new file choice size snapshot search ending
+      → WritesRestored buffered_text buffered_failures (buffered_of [] 0) (buffered_of text failures) target.taken target.failed target_old target_new file
+      choice size snapshot search ending
   restored file choice size snapshot search ending (meta, listing, lost, others, back, left_out, is, faults, are, writes) =
-      let layout = layout_of_listing Balanced (copy_page_size size meta) listing meta.root_sequence in
-      (meta, listing, lost, others, back, left_out, is, faults, are, written snapshot listing layout (repair_report faults lost others back left_out (length file)) ending writes)
+      let layout = layout_of_listing Balanced (copy_page_size size meta) listing meta.root_sequence in (
+        meta,
+        listing,
+        lost,
+        others,
+        back,
+        left_out,
+        is,
+        faults,
+        are,
+        written snapshot listing layout (repair_report faults lost others back left_out (length file)) ending writes,
+      )
 
   pub buffered_job : (file : List ℕ) (j : Job) (ending : JobEnding)
       → DoesJob out.taken out.failed out_old out_new target.taken target.failed target_old target_new file j ending

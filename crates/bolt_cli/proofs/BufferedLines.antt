@@ -12,7 +12,8 @@ appended None text put = absurd put
 pub buffered_line : {S : Type 0} (taken : S → Option (List ℕ)) (failed : S → ℕ) (old new : S) (ending : JobEnding)
     → taken old ≡ Some [] → failed old ≡ 0 → Reports taken failed old new ending → IsBufferedLine ending (taken new) (failed new)
 buffered_line taken failed old new (Ok status) empty sound same = (ap taken same ∙ empty, ap failed same ∙ sound)
-buffered_line taken failed old new (Err failure) empty sound (inl (put, same)) = inl (appended (taken new) (failure_line failure) (rw empty at put), same ∙ sound)
+buffered_line taken failed old new (Err failure) empty sound (inl (put, same)) =
+    inl (appended (taken new) (failure_line failure) (rw empty at put), same ∙ sound)
 buffered_line taken failed old new (Err failure) empty sound (inr (less, part)) = inr less
 
 module _ {T O : Type 0} (text : List ℕ) (failures : ℕ) where

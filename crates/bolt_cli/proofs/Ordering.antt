@@ -1,10 +1,15 @@
 -- Each run does its deeds in order.
-use Rattle.std.proofs.Common.{◌≡◌, ◌≢◌, ◌∙◌, ◌⊎◌, sym, inl, inr, arith, ℕ, zero, suc, List, [], ◌∷◌, Bool, true, false, Option, Some, None, Ok, Err, refl, rules}
-use Rattle.bolt_cli.proofs.Vocabulary.{Asks, Choose, Closed, Closes, Deed, DoesAsked, Dropped, Ended, JobEnding, Ends, Fails, FailsGathered, FailsLacking, FailsUnended, Ghosts, Goes, IsReported, IsRun, Job, Lacked, Made, Opened, PrintsBuffered, PrintsText, Read, ReadFirst, ReadOn, Reads, ReadsMetas, ReadsRest, Refusal, Refuses, Said, Shows, Text, WritesOut, needs_metas_alone, string_bytes, target_name}
+use Rattle.std.proofs.Common.{◌≡◌, ◌≢◌, ◌∙◌, ◌⊎◌, sym, inl, inr, arith, ℕ, zero, suc, List, [], ◌∷◌, Bool, true, false, Option, Some, None, Ok, Err}
+use Rattle.std.proofs.Common.{refl, rules}
+use Rattle.bolt_cli.proofs.Vocabulary.{Asks, Choose, Closed, Closes, Deed, DoesAsked, Dropped, Ended, JobEnding, Ends, Fails, FailsGathered}
+use Rattle.bolt_cli.proofs.Vocabulary.{FailsLacking, FailsUnended, Ghosts, Goes, IsReported, IsRun, Job, Lacked, Made, Opened, PrintsBuffered}
+use Rattle.bolt_cli.proofs.Vocabulary.{PrintsText, Read, ReadFirst, ReadOn, Reads, ReadsMetas, ReadsRest, Refusal, Refuses, Said, Shows, Text}
+use Rattle.bolt_cli.proofs.Vocabulary.{WritesOut, needs_metas_alone, string_bytes, target_name}
 use Rattle.bolt_cli.specs.{Orders.HasNone, Orders.is_made, Orders.is_read, Sources.is_changed}
 use Rattle.bolt_cli.proofs.Sentences.{IsOrdered, MakesOfRead, MakesOnly, makes_none, none_made_of_read}
 use Rattle.bolt_job.specs.declared.refusal.Refusal.TheVariants as refusal
-use Rattle.bolt_cli.specs.{declared.outside.OutputFault.TheVariants.ReaderLeft, declared.outside.OutputFault.TheVariants.Failed, declared.outside.Source.Source}
+use Rattle.bolt_cli.specs.{declared.outside.OutputFault.TheVariants.ReaderLeft, declared.outside.OutputFault.TheVariants.Failed}
+use Rattle.bolt_cli.specs.{declared.outside.Source.Source}
 
 -- ---- what is left to do
 
@@ -17,7 +22,8 @@ IsSaid deeds code wanted = ⊥
 -- This is in order, by itself and once OUT is on the disk. FILE isn't read, and no OUT is made.
 pub record Prints {T O : Type 0} (deeds : List (Deed T O)) (code : ℕ) : Type 0 where
   pub ordered : IsOrdered deeds code
-  pub after_out : (name : List ℕ) (permissions : ℕ) (target ended : T) (done : Unit {0}) → IsOrdered (Made name permissions (Ok target) ∷ Ended ended (Ok done) ∷ deeds) code
+  pub after_out : (name : List ℕ) (permissions : ℕ) (target ended : T) (done : Unit {0})
+      → IsOrdered (Made name permissions (Ok target) ∷ Ended ended (Ok done) ∷ deeds) code
   pub none_read : HasNone is_read deeds
   pub none_made : HasNone is_made deeds
 
@@ -57,21 +63,25 @@ module _ {T O : Type 0} where
   unopened fault (Lacked failures line ∷ []) code is = let some = not_0 code is in search rules
   unopened fault deeds code is = absurd is
 
-  unprinted : (before output : O) (deeds : List (Deed T O)) (code : ℕ) → IsSaid deeds code 1 → Prints (Opened (Ok before) ∷ Closed output (Err Failed) ∷ deeds) code
+  unprinted : (before output : O) (deeds : List (Deed T O)) (code : ℕ) → IsSaid deeds code 1
+      → Prints (Opened (Ok before) ∷ Closed output (Err Failed) ∷ deeds) code
   unprinted before output (Said text ∷ []) code is = let some = not_0 code is in search rules
   unprinted before output (Lacked failures line ∷ []) code is = let some = not_0 code is in search rules
   unprinted before output deeds code is = absurd is
 
-  reader_left : (before output : O) (deeds : List (Deed T O)) (code : ℕ) → deeds ≡ [] → code ≡ 1 → Prints (Opened (Ok before) ∷ Closed output (Err ReaderLeft) ∷ deeds) code
+  reader_left : (before output : O) (deeds : List (Deed T O)) (code : ℕ) → deeds ≡ [] → code ≡ 1
+      → Prints (Opened (Ok before) ∷ Closed output (Err ReaderLeft) ∷ deeds) code
   reader_left before output [] code none is = let some = not_0 code is in search rules
   reader_left before output (deed ∷ deeds) code none is = absurd (cc)
 
-  dropped : (before output : O) (deeds : List (Deed T O)) (code : ℕ) → IsSaid deeds code 1 → Prints (Opened (Ok before) ∷ Dropped output Failed ∷ deeds) code
+  dropped : (before output : O) (deeds : List (Deed T O)) (code : ℕ) → IsSaid deeds code 1
+      → Prints (Opened (Ok before) ∷ Dropped output Failed ∷ deeds) code
   dropped before output (Said text ∷ []) code is = let some = not_0 code is in search rules
   dropped before output (Lacked failures line ∷ []) code is = let some = not_0 code is in search rules
   dropped before output deeds code is = absurd is
 
-  dropped_left : (before output : O) (deeds : List (Deed T O)) (code : ℕ) → deeds ≡ [] → code ≡ 1 → Prints (Opened (Ok before) ∷ Dropped output ReaderLeft ∷ deeds) code
+  dropped_left : (before output : O) (deeds : List (Deed T O)) (code : ℕ) → deeds ≡ [] → code ≡ 1
+      → Prints (Opened (Ok before) ∷ Dropped output ReaderLeft ∷ deeds) code
   dropped_left before output [] code none is = let some = not_0 code is in search rules
   dropped_left before output (deed ∷ deeds) code none is = absurd (cc)
 
@@ -114,7 +124,8 @@ module _ {T O : Type 0} where
   unmade name permissions fault (Lacked failures line ∷ []) code is = let some = not_0 code is in search rules
   unmade name permissions fault deeds code is = absurd is
 
-  unread : (out : Option Text) (name : List ℕ) (fault : _) (deeds : List (Deed T O)) (code : ℕ) → IsSaid deeds code 1 → Asked out (Read name (Err fault) ∷ deeds) code
+  unread : (out : Option Text) (name : List ℕ) (fault : _) (deeds : List (Deed T O)) (code : ℕ) → IsSaid deeds code 1
+      → Asked out (Read name (Err fault) ∷ deeds) code
   unread out name fault (Said text ∷ []) code is = let some = not_0 code is in search rules
   unread out name fault (Lacked failures line ∷ []) code is = let some = not_0 code is in search rules
   unread out name fault deeds code is = absurd is
@@ -131,7 +142,8 @@ module _ {T O : Type 0} where
   unread_rest out first count fault (Lacked failures line ∷ []) code is = let some = not_0 code is in search rules
   unread_rest out first count fault deeds code is = absurd is
 
-  read : (out : Option Text) (name : List ℕ) (source : Source) (deeds : List (Deed T O)) (code : ℕ) → Going out deeds code → Asked out (Read name (Ok source) ∷ deeds) code
+  read : (out : Option Text) (name : List ℕ) (source : Source) (deeds : List (Deed T O)) (code : ℕ) → Going out deeds code
+      → Asked out (Read name (Ok source) ∷ deeds) code
   read out name source deeds code going = let is = going.ordered in let makes = going.makes in search rules
 
   read_first : (out : Option Text) (name : List ℕ) (count : ℕ) (first : List ℕ) (deeds : List (Deed T O)) (code : ℕ) → Going out deeds code
@@ -153,7 +165,8 @@ Choose-either true first second chosen = first chosen
 Choose-either false first second chosen = second chosen
 
 module _ {T O : Type 0} (output_taken : O → Option (List ℕ)) (output_failed : O → ℕ) where
-  closes : (before after : O) (ending : JobEnding) (deeds : List (Deed T O)) (code : ℕ) → Closes output_taken output_failed after ending deeds code → Prints (Opened (Ok before) ∷ deeds) code
+  closes : (before after : O) (ending : JobEnding) (deeds : List (Deed T O)) (code : ℕ) → Closes output_taken output_failed after ending deeds code
+      → Prints (Opened (Ok before) ∷ deeds) code
   closes before after ending (Closed output (Ok done) ∷ deeds) code are = reported before output done ending deeds code are.2
   closes before after ending (Closed output (Err ReaderLeft) ∷ deeds) code (is, sound, (none, failed)) = reader_left before output deeds code none failed
   closes before after ending (Closed output (Err Failed) ∷ deeds) code (is, sound, fails) = unprinted before output deeds code (Fails-said _ deeds code fails)
@@ -161,25 +174,31 @@ module _ {T O : Type 0} (output_taken : O → Option (List ℕ)) (output_failed 
   closes before after ending (Dropped output Failed ∷ deeds) code (is, less, fails) = dropped before output deeds code (Fails-said _ deeds code fails)
   closes before after ending deeds code are = absurd are
 
-  prints : (text : List ℕ) (ending : JobEnding) (deeds : List (Deed T O)) (code : ℕ) → PrintsText output_taken output_failed text ending deeds code → Prints deeds code
+  prints : (text : List ℕ) (ending : JobEnding) (deeds : List (Deed T O)) (code : ℕ) → PrintsText output_taken output_failed text ending deeds code
+      → Prints deeds code
   prints text ending (Opened (Ok before) ∷ deeds) code (fresh, after, takes, is) = closes before after ending deeds code is
   prints text ending (Opened (Err fault) ∷ deeds) code are = unopened fault deeds code (Fails-said _ deeds code are)
   prints text ending deeds code are = absurd are
 
-  pub shows : (file : List ℕ) (job : Job) (deeds : List (Deed T O)) (code : ℕ) → Shows output_taken output_failed file job deeds code → Prints deeds code
+  pub shows : (file : List ℕ) (job : Job) (deeds : List (Deed T O)) (code : ℕ) → Shows output_taken output_failed file job deeds code
+      → Prints deeds code
   shows file job (Opened (Ok before) ∷ deeds) code (fresh, after, ending, does, is) = closes before after ending deeds code is
   shows file job (Opened (Err fault) ∷ deeds) code are = unopened fault deeds code (Fails-said _ deeds code are)
   shows file job deeds code are = absurd are
 
   module _ (out : Option Text) (job : Job) where
-    reads_rest : (first : List ℕ) (deeds : List (Deed T O)) (code : ℕ) → ReadsRest output_taken output_failed job first deeds code → Going out deeds code
-    reads_rest first (ReadOn begun count (Ok bytes) ∷ deeds) code (is, end, are) = read_on out begun count bytes deeds code (going out deeds code (shows bytes job deeds code are))
-    reads_rest first (ReadOn begun count (Err fault) ∷ deeds) code (is, end, fails) = unread_rest out begun count fault deeds code (FailsGathered-said _ deeds code fails)
+    reads_rest : (first : List ℕ) (deeds : List (Deed T O)) (code : ℕ) → ReadsRest output_taken output_failed job first deeds code
+        → Going out deeds code
+    reads_rest first (ReadOn begun count (Ok bytes) ∷ deeds) code (is, end, are) =
+        read_on out begun count bytes deeds code (going out deeds code (shows bytes job deeds code are))
+    reads_rest first (ReadOn begun count (Err fault) ∷ deeds) code (is, end, fails) =
+        unread_rest out begun count fault deeds code (FailsGathered-said _ deeds code fails)
     reads_rest first deeds code are = absurd are
 
     reads_metas : (deeds : List (Deed T O)) (code : ℕ) → ReadsMetas output_taken output_failed job deeds code → Asked out deeds code
     reads_metas (ReadFirst name count (Ok first) ∷ deeds) code (is, at_most, are) = read_first out name count first deeds code (reads_rest first deeds code are)
-    reads_metas (ReadFirst name count (Err fault) ∷ deeds) code (is, at_most, fails) = unopened_file out name count fault deeds code (FailsGathered-said _ deeds code fails)
+    reads_metas (ReadFirst name count (Err fault) ∷ deeds) code (is, at_most, fails) =
+        unopened_file out name count fault deeds code (FailsGathered-said _ deeds code fails)
     reads_metas deeds code are = absurd are
 
   prints_buffered : (failures : ℕ) (text : List ℕ) (ending : JobEnding) (deeds : List (Deed T O)) (code : ℕ)
@@ -199,8 +218,10 @@ module _ {T O : Type 0} (target : Ghosts T) (output : Ghosts O) where
 
   pub goes : (out : Option Text) (source : Source) (job : Job) (deeds : List (Deed T O)) (code : ℕ)
       → Goes target output out source job deeds code → Going out deeds code
-  goes (Some out) source job (Made name permissions (Ok made) ∷ deeds) code (is, bits, fresh, are) = rw (← is) (writes name permissions made source.bytes.items job deeds code are)
-  goes (Some out) source job (Made name permissions (Err fault) ∷ deeds) code (is, bits, fails) = rw (← is) (unmade name permissions fault deeds code (FailsGathered-said _ deeds code fails))
+  goes (Some out) source job (Made name permissions (Ok made) ∷ deeds) code (is, bits, fresh, are) =
+      rw (← is) (writes name permissions made source.bytes.items job deeds code are)
+  goes (Some out) source job (Made name permissions (Err fault) ∷ deeds) code (is, bits, fails) =
+      rw (← is) (unmade name permissions fault deeds code (FailsGathered-said _ deeds code fails))
   goes (Some out) source job deeds code are = absurd are
   goes None source job deeds code are = going None deeds code (shows output.taken output.failed source.bytes.items job deeds code are)
 
@@ -208,7 +229,8 @@ module _ {T O : Type 0} (target : Ghosts T) (output : Ghosts O) where
   reads zero job (Said text ∷ []) code (is, one) = let some = not_0 code one in search rules
   reads zero job deeds code fails = absurd fails.0
   reads (suc left) job (Read name (Ok source) ∷ deeds) code (is, are) =
-      read (target_name job) name source deeds code (Choose-either (is_changed source) (λ again. later (reads left job deeds code again)) (goes (target_name job) source job deeds code) are)
+      read (target_name job) name source deeds code
+      (Choose-either (is_changed source) (λ again. later (reads left job deeds code again)) (goes (target_name job) source job deeds code) are)
   reads (suc left) job (Read name (Err fault) ∷ deeds) code (is, fails) = unread (target_name job) name fault deeds code (FailsGathered-said _ deeds code fails)
   reads (suc left) job deeds code are = absurd are
 
@@ -238,4 +260,9 @@ run_ordered target output words deeds code (inl (job, asks, are)) =
     record { ordered = asked.ordered; of_read = asked.of_read; refused = λ none. absurd (none job asks); asked = inl (job, asks, asked.makes) }
 run_ordered target output words deeds code (inr (why, is, are)) =
     let prints = refuses target output why deeds code are in
-    record { ordered = prints.ordered; of_read = none_made_of_read deeds prints.none_made; refused = λ none. (prints.none_read, prints.none_made); asked = inr prints.none_made }
+    record {
+      ordered = prints.ordered;
+      of_read = none_made_of_read deeds prints.none_made;
+      refused = λ none. (prints.none_read, prints.none_made);
+      asked = inr prints.none_made;
+    }

@@ -2,12 +2,17 @@
 use Rattle.std.proofs.Common.{◌≡◌, inl, inr, ap, sym, ℕ, zero, suc, List, [], ◌∷◌, ◌++◌, Bool, true, false, Option, Some, None, Ok, Err, refl, subst}
 use Rattle.std.proofs.lemmas.Option.{same_Some}
 use Rattle.std.specs.Io.KnownBytes.{IsAtEnd}
-use Rattle.bolt_cli.proofs.Vocabulary.{Appends, Choose, Closed, Deed, DoesAsked, DoesJob, Dropped, Ended, JobEnding, Fails, FailsGathered, FailsLacking, FailsUnended, Ghosts, Goes, IsReported, IsRun, Job, Lacked, Made, Opened, PrintsBuffered, PrintsText, Read, ReadFirst, ReadOn, Reads, ReadsMetas, Said, Shows, Text, WritesOut, buffered_failures, buffered_of, buffered_text, needs_metas_alone, target_name}
+use Rattle.bolt_cli.proofs.Vocabulary.{Appends, Choose, Closed, Deed, DoesAsked, DoesJob, Dropped, Ended, JobEnding, Fails, FailsGathered}
+use Rattle.bolt_cli.proofs.Vocabulary.{FailsLacking, FailsUnended, Ghosts, Goes, IsReported, IsRun, Job, Lacked, Made, Opened, PrintsBuffered}
+use Rattle.bolt_cli.proofs.Vocabulary.{PrintsText, Read, ReadFirst, ReadOn, Reads, ReadsMetas, Said, Shows, Text, WritesOut, buffered_failures}
+use Rattle.bolt_cli.proofs.Vocabulary.{buffered_of, buffered_text, needs_metas_alone, target_name}
 use Rattle.bolt_cli.proofs.BufferedJobs.{buffered_job}
 use Rattle.bolt_cli.proofs.MetasAlone.{metas_have_no_target}
 use Rattle.bolt_cli.proofs.Ordering as ordering
-use Rattle.bolt_cli.specs.{Orders.HasNone, Orders.is_read, Printed.AnswersTo, Printed.PrintsAnswers, Printed.ShowsAll, Printed.last_read, Runs.IsUnprinted, Sources.is_changed}
-use Rattle.bolt_cli.specs.{Runs.Buffered, declared.outside.OutputFault.OutputFault, declared.outside.OutputFault.TheVariants.ReaderLeft, declared.outside.OutputFault.TheVariants.Failed, declared.outside.Source.Source}
+use Rattle.bolt_cli.specs.{Orders.HasNone, Orders.is_read, Printed.AnswersTo, Printed.PrintsAnswers, Printed.ShowsAll, Printed.last_read}
+use Rattle.bolt_cli.specs.{Runs.IsUnprinted, Sources.is_changed}
+use Rattle.bolt_cli.specs.{Runs.Buffered, declared.outside.OutputFault.OutputFault, declared.outside.OutputFault.TheVariants.ReaderLeft}
+use Rattle.bolt_cli.specs.{declared.outside.OutputFault.TheVariants.Failed, declared.outside.Source.Source}
 
 -- ---- what is closed well
 
@@ -24,7 +29,8 @@ module _ {T O : Type 0} where
   closed_at Is (Closed other (Ok fine) ∷ before) printed done after is = closed_at Is before printed done after is.1
   closed_at Is (deed ∷ before) printed done after is = closed_at Is before printed done after is
 
-  closed_as : (Was Is : O → Type 0) → ((printed : O) → Was printed → Is printed) → (deeds : List (Deed T O)) → ForClosed Was deeds → ForClosed Is deeds
+  closed_as : (Was Is : O → Type 0) → ((printed : O) → Was printed → Is printed) → (deeds : List (Deed T O)) → ForClosed Was deeds
+      → ForClosed Is deeds
   closed_as Was Is step [] was = tt
   closed_as Was Is step (Closed printed (Ok done) ∷ deeds) was = (step printed was.0, closed_as Was Is step deeds was.1)
   closed_as Was Is step (deed ∷ deeds) was = closed_as Was Is step deeds was
@@ -65,7 +71,8 @@ start_is : (taken : Option (List ℕ)) (text : List ℕ) → taken ≡ Some text
 start_is (Some bytes) text is none = ap Some none
 start_is None text is none = absurd (cc)
 
-whole_is : (before after : Option (List ℕ)) (text piece : List ℕ) → before ≡ Some [] → after ≡ Some text → Appends before after piece → after ≡ Some piece
+whole_is : (before after : Option (List ℕ)) (text piece : List ℕ) → before ≡ Some [] → after ≡ Some text → Appends before after piece
+    → after ≡ Some piece
 whole_is (Some bytes) (Some all) text piece empty is put = rw (same_Some bytes [] empty) at (ap Some put)
 whole_is (Some bytes) None text piece empty is put = absurd put
 whole_is None after text piece empty is put = absurd (cc)
@@ -76,14 +83,25 @@ module _ {T O : Type 0} (target : Ghosts T) (output : Ghosts O) (all : ShowsAll 
 
   -- standard output has what this job answers for this file
   abbrev HasAnswer : Option Text → Job → (file : List ℕ) → O → Type 0
-  HasAnswer out job file printed = (text : List ℕ) × (ending : JobEnding) × (output.taken printed ≡ Some text) × AnswersTo target output out job file text ending
+  HasAnswer out job file printed =
+      (text : List ℕ) × (ending : JobEnding) × (output.taken printed ≡ Some text) × AnswersTo target output out job file text ending
 
-  shows : (file : List ℕ) (job : Job) (deeds : List (Deed T O)) (code : ℕ) → Shows output.taken output.failed file job deeds code → ForClosed (HasAnswer None job file) deeds
+  shows : (file : List ℕ) (job : Job) (deeds : List (Deed T O)) (code : ℕ) → Shows output.taken output.failed file job deeds code
+      → ForClosed (HasAnswer None job file) deeds
   shows file job (Opened (Ok before) ∷ Closed printed (Ok done) ∷ deeds) code (begun, after, ending, does, (is, sound, rest)) =
       let same = rw (← is) at does in
-      let (text, holds) = all printed in
-      ((text, ending, holds, buffered_job output (record { taken = λ _. None; failed = λ _. 0 }) before printed tt tt (fresh before begun.0) begun.1 holds sound file job ending same), reported _ ending deeds code rest)
-  shows file job (Opened (Ok before) ∷ Closed printed (Err fault) ∷ deeds) code (begun, after, ending, does, (is, sound, rest)) = unprinted _ fault deeds code rest
+      let (text, holds) = all printed in (
+        (
+          text,
+          ending,
+          holds,
+          buffered_job output (record { taken = λ _. None; failed = λ _. 0 }) before printed tt tt (fresh before begun.0) begun.1 holds sound file job
+              ending same,
+        ),
+        reported _ ending deeds code rest,
+      )
+  shows file job (Opened (Ok before) ∷ Closed printed (Err fault) ∷ deeds) code (begun, after, ending, does, (is, sound, rest)) =
+      unprinted _ fault deeds code rest
   shows file job (Opened (Ok before) ∷ Dropped printed fault ∷ deeds) code (begun, after, ending, does, (is, less, rest)) = unprinted _ fault deeds code rest
   shows file job (Opened (Ok before) ∷ deeds) code (begun, after, ending, does, closes) = absurd closes
   shows file job (Opened (Err fault) ∷ deeds) code is = fails _ _ deeds code is
@@ -92,16 +110,20 @@ module _ {T O : Type 0} (target : Ghosts T) (output : Ghosts O) (all : ShowsAll 
   prints : (piece : List ℕ) (ending : JobEnding) (deeds : List (Deed T O)) (code : ℕ) → PrintsText output.taken output.failed piece ending deeds code
       → ForClosed (λ printed. output.taken printed ≡ Some piece) deeds
   prints piece ending (Opened (Ok before) ∷ Closed printed (Ok done) ∷ deeds) code (begun, after, takes, (is, sound, rest)) =
-      let put = rw (← is) at takes in
-      (whole_is (output.taken before) (output.taken printed) (all printed).0 piece (fresh before begun.0) (all printed).1 (put.0 sound), reported _ ending deeds code rest)
-  prints piece ending (Opened (Ok before) ∷ Closed printed (Err fault) ∷ deeds) code (begun, after, takes, (is, sound, rest)) = unprinted _ fault deeds code rest
+      let put = rw (← is) at takes in (
+        whole_is (output.taken before) (output.taken printed) (all printed).0 piece (fresh before begun.0) (all printed).1 (put.0 sound),
+        reported _ ending deeds code rest,
+      )
+  prints piece ending (Opened (Ok before) ∷ Closed printed (Err fault) ∷ deeds) code (begun, after, takes, (is, sound, rest)) =
+      unprinted _ fault deeds code rest
   prints piece ending (Opened (Ok before) ∷ Dropped printed fault ∷ deeds) code (begun, after, takes, (is, less, rest)) = unprinted _ fault deeds code rest
   prints piece ending (Opened (Ok before) ∷ deeds) code (begun, after, takes, closes) = absurd closes
   prints piece ending (Opened (Err fault) ∷ deeds) code is = fails _ _ deeds code is
   prints piece ending deeds code is = absurd is
 
   prints_buffered : (failures : ℕ) (piece : List ℕ) (ending : JobEnding) (deeds : List (Deed T O)) (code : ℕ)
-      → PrintsBuffered output.taken output.failed failures piece ending deeds code → ForClosed (λ printed. (output.taken printed ≡ Some piece) × (failures ≡ 0)) deeds
+      → PrintsBuffered output.taken output.failed failures piece ending deeds code
+      → ForClosed (λ printed. (output.taken printed ≡ Some piece) × (failures ≡ 0)) deeds
   prints_buffered zero piece ending deeds code is = closed_as _ _ (λ printed whole. (whole, refl)) deeds (prints piece ending deeds code is)
   prints_buffered (suc more) piece ending deeds code is = lacks _ deeds code is
 
@@ -114,7 +136,8 @@ module _ {T O : Type 0} (target : Ghosts T) (output : Ghosts O) (all : ShowsAll 
         let same : buffered ≡ buffered_of buffered.text 0 = ap (buffered_of buffered.text) sound in
         (buffered.text, ending, whole, (made, after, rw same at does))
 
-    writes : (made : T) (deeds : List (Deed T O)) (code : ℕ) → WritesOut target output made file job deeds code → ForClosed (HasAnswer (Some out) job file) deeds
+    writes : (made : T) (deeds : List (Deed T O)) (code : ℕ) → WritesOut target output made file job deeds code
+        → ForClosed (HasAnswer (Some out) job file) deeds
     writes made (Ended after (Ok done) ∷ deeds) code (buffered, ending, does, are) =
         closed_as _ _ (answered made after buffered ending does) deeds (prints_buffered buffered.failures buffered.text ending deeds code are)
     writes made (Ended after (Err fault) ∷ deeds) code (buffered, ending, does, are) = fails_unended _ ending deeds code are
@@ -143,12 +166,15 @@ module _ {T O : Type 0} (target : Ghosts T) (output : Ghosts O) (all : ShowsAll 
   HasLast out job deeds printed = (file : List ℕ) × (last_read deeds ≡ Some file) × HasAnswer target output all out job file printed
 
   -- FILE isn't read after that
-  goes_none_read : (out : Option Text) (source : Source) (job : Job) (deeds : List (Deed T O)) (code : ℕ) → Goes target output out source job deeds code → HasNone is_read deeds
-  goes_none_read (Some out) source job (Made name permissions made ∷ deeds) code are = (ordering.goes target output (Some out) source job (Made name permissions made ∷ deeds) code are).ordered.reads_first.0
+  goes_none_read : (out : Option Text) (source : Source) (job : Job) (deeds : List (Deed T O)) (code : ℕ)
+      → Goes target output out source job deeds code → HasNone is_read deeds
+  goes_none_read (Some out) source job (Made name permissions made ∷ deeds) code are =
+      (ordering.goes target output (Some out) source job (Made name permissions made ∷ deeds) code are).ordered.reads_first.0
   goes_none_read (Some out) source job deeds code are = absurd are
   goes_none_read None source job deeds code are = (ordering.shows output.taken output.failed source.bytes.items job deeds code are).none_read
 
-  reads : (left : ℕ) (job : Job) (deeds : List (Deed T O)) (code : ℕ) → Reads target output left job deeds code → ForClosed (HasLast (target_name job) job deeds) deeds
+  reads : (left : ℕ) (job : Job) (deeds : List (Deed T O)) (code : ℕ) → Reads target output left job deeds code
+      → ForClosed (HasLast (target_name job) job deeds) deeds
   reads zero job deeds code is = fails _ _ deeds code is
   reads (suc left) job (Read name (Ok source) ∷ deeds) code (same, are) = by (is_changed source) (reads left job deeds code) are
     where
@@ -157,7 +183,8 @@ module _ {T O : Type 0} (target : Ghosts T) (output : Ghosts O) (all : ShowsAll 
           → ForClosed (HasLast (target_name job) job (Read name (Ok source) ∷ deeds)) deeds
       by true later again = closed_as _ _ (λ printed (file, last, answer). (file, rw last refl, answer)) deeds (later again)
       by false later goes_on =
-          let last : last_read (Read name (Ok source) ∷ deeds) ≡ Some source.bytes.items = rw (last_none deeds (goes_none_read (target_name job) source job deeds code goes_on)) refl in
+          let last : last_read (Read name (Ok source) ∷ deeds) ≡ Some source.bytes.items =
+          rw (last_none deeds (goes_none_read (target_name job) source job deeds code goes_on)) refl in
           closed_as _ _ (λ printed answer. (source.bytes.items, last, answer)) deeds (goes target output all (target_name job) source job deeds code goes_on)
   reads (suc left) job (Read name (Err fault) ∷ deeds) code (same, is) = fails_gathered _ _ deeds code is
   reads (suc left) job deeds code are = absurd are
@@ -169,21 +196,27 @@ module _ {T O : Type 0} (target : Ghosts T) (output : Ghosts O) (all : ShowsAll 
       rw (last_none deeds (ordering.shows output.taken output.failed bytes job deeds code are).none_read) refl in
       subst (λ (out : Option Text). ForClosed (HasLast out job (ReadFirst name count (Ok first) ∷ ReadOn begun more (Ok bytes) ∷ deeds)) deeds) (sym none)
       (closed_as _ _ (λ printed answer. (bytes, last, answer)) deeds (shows target output all bytes job deeds code are))
-  metas job none (ReadFirst name count (Ok first) ∷ ReadOn begun more (Err fault) ∷ deeds) code (same, most, (again, end, is)) = fails_gathered _ _ deeds code is
+  metas job none (ReadFirst name count (Ok first) ∷ ReadOn begun more (Err fault) ∷ deeds) code (same, most, (again, end, is)) =
+      fails_gathered _ _ deeds code is
   metas job none (ReadFirst name count (Ok first) ∷ deeds) code (same, most, are) = absurd are
   metas job none (ReadFirst name count (Err fault) ∷ deeds) code (same, most, is) = fails_gathered _ _ deeds code is
   metas job none deeds code are = absurd are
 
-  asked : (job : Job) (deeds : List (Deed T O)) (code : ℕ) → DoesAsked target output job deeds code → ForClosed (HasLast (target_name job) job deeds) deeds
+  asked : (job : Job) (deeds : List (Deed T O)) (code : ℕ) → DoesAsked target output job deeds code
+      → ForClosed (HasLast (target_name job) job deeds) deeds
   asked job deeds code are = by (needs_metas_alone job) refl are
     where
-      by : (alone : Bool) → needs_metas_alone job ≡ alone → Choose alone (ReadsMetas output.taken output.failed job deeds code) (Reads target output 3 job deeds code)
+      by : (alone : Bool) → needs_metas_alone job ≡ alone
+          → Choose alone (ReadsMetas output.taken output.failed job deeds code) (Reads target output 3 job deeds code)
           → ForClosed (HasLast (target_name job) job deeds) deeds
       by true is metas_are = metas job (metas_have_no_target job is) deeds code metas_are
       by false is reads_are = reads 3 job deeds code reads_are
 
-  pub answers_printed : (words : List Text) (deeds : List (Deed T O)) (code : ℕ) → IsRun target output words deeds code → PrintsAnswers target output words deeds
+  pub answers_printed : (words : List Text) (deeds : List (Deed T O)) (code : ℕ) → IsRun target output words deeds code
+      → PrintsAnswers target output words deeds
   answers_printed words deeds code (inl (job, asks, are)) before printed done after split =
-      let (file, last, (text, ending, holds, answers)) = closed_at (HasLast (target_name job) job deeds) before printed done after (subst (ForClosed (HasLast (target_name job) job deeds)) split (asked job deeds code are)) in
+      let (file, last, (text, ending, holds, answers)) =
+      closed_at (HasLast (target_name job) job deeds) before printed done after
+      (subst (ForClosed (HasLast (target_name job) job deeds)) split (asked job deeds code are)) in
       inl (job, file, text, ending, asks, last, holds, answers)
   answers_printed words deeds code (inr (refusal, is, are)) before printed done after split = inr (refusal, is)

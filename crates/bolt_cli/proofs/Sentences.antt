@@ -2,7 +2,8 @@
 use Rattle.std.proofs.Common.{◌≡◌, ℕ, List, [], ◌∷◌, ◌++◌, Bool, true, false, Option, Some, Result, refl, subst, not, ◌&&◌, ◌||◌}
 use Rattle.bolt_cli.proofs.Vocabulary.{Choose, Deed, Made, Text}
 use Rattle.bolt_cli.specs.declared.outside.CreateFault.{CreateFault}
-use Rattle.bolt_cli.specs.Orders.{AfterEach, BeforeEach, HasNone, HasOne, MakesOnce, OpensOnce, SucceedsOnlyWithoutFailures, has_failed, has_no_reader, is_closed, is_ended, is_made, is_opened, is_read, is_said, was_ended, was_made, was_opened, was_read}
+use Rattle.bolt_cli.specs.Orders.{AfterEach, BeforeEach, HasNone, HasOne, MakesOnce, OpensOnce, SucceedsOnlyWithoutFailures, has_failed}
+use Rattle.bolt_cli.specs.Orders.{has_no_reader, is_closed, is_ended, is_made, is_opened, is_read, is_said, was_ended, was_made, was_opened, was_read}
 use Rattle.std.specs.Prelude.{IsTrue}
 use Rattle.std.specs.List.{list_any}
 
@@ -24,14 +25,16 @@ module _ {D : Type 0} where
   Before is_kind is_other (deed ∷ after) = (is_kind deed ≡ false) × Choose (is_other deed) (Unit {0}) (Before is_kind is_other after)
 
   module _ (is_kind : D → Bool) where
-    after_at : (Are : List D → Type 0) (before : List D) (deed : D) (after : List D) → After is_kind Are (before ++ deed ∷ after) → IsTrue (is_kind deed) → Are after
+    after_at : (Are : List D → Type 0) (before : List D) (deed : D) (after : List D) → After is_kind Are (before ++ deed ∷ after)
+        → IsTrue (is_kind deed) → Are after
     after_at Are [] deed after are kind = rw kind at are.0
     after_at Are (first ∷ before) deed after are kind = after_at Are before deed after are.1 kind
 
     pub after_each : (Are : List D → Type 0) (deeds : List D) → After is_kind Are deeds → AfterEach is_kind Are deeds
     after_each Are deeds are before deed after is kind = after_at Are before deed after (subst (After is_kind Are) is are) kind
 
-    before_at : (is_other : D → Bool) (before : List D) (deed : D) (after : List D) → Before is_kind is_other (before ++ deed ∷ after) → IsTrue (is_kind deed)
+    before_at : (is_other : D → Bool) (before : List D) (deed : D) (after : List D) → Before is_kind is_other (before ++ deed ∷ after)
+        → IsTrue (is_kind deed)
         → IsTrue (list_any is_other before)
     before_at is_other [] deed after are kind = absurd (let other = are.0 in cc)
     before_at is_other (first ∷ before) deed after are kind = either (is_other first) _ are.1 (λ later. before_at is_other before deed after later kind)

@@ -17,13 +17,13 @@ pub data Deed (T O : Type 0) : Type 0 where
   Ended : T → Result (Unit {0}) EndFault → Deed T O
   -- standard output is lent: before this nothing can be printed
   Opened : Result O OpenFault → Deed T O
-  -- it comes back, and what is gathered is printed
+  -- standard output comes back, and what is gathered is printed
   Closed : O → Result (Unit {0}) OutputFault → Deed T O
-  -- it comes back after a failure, and what is gathered isn't printed
+  -- standard output comes back after a failure, and what is gathered isn't printed
   Dropped : O → OutputFault → Deed T O
   -- a text goes to standard error
   Said : (text : List ℕ) → Deed T O
-  -- this line goes there in place of a text for which there was no memory: the sink that it was put to has failed so often
+  -- a line goes to standard error in place of a text for which there was no memory: the sink that the text was put to has failed `failures` times
   Lacked : (failures : ℕ) (line : List ℕ) → Deed T O
 
 -- whatever the deeds were before, these were added

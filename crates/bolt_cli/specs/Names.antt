@@ -9,10 +9,10 @@ shown_char has_lines c = if is_control c && not (has_lines && (c == 10)) then es
 abbrev pub shown_text : (has_lines : Bool) → List ℕ → List ℕ
 shown_text has_lines text = flat_map encode_utf8 (flat_map (shown_char has_lines) (chars text))
 
--- in the line of a fault
+-- a name in the line of a fault
 abbrev pub shown_name : List ℕ → List ℕ
 shown_name name = shown_text false name
 
--- in a text of several lines
+-- a text of several lines
 abbrev pub shown_lines : List ℕ → List ℕ
 shown_lines text = shown_text true text

@@ -1,7 +1,8 @@
 -- The order of the deeds of a run, whatever its words and its job are: a definition for each sentence.
 use Rattle.std.specs.Prelude.{◌≡◌, ◌≤◌, ℕ, List, [], ◌∷◌, ◌++◌, Bool, true, false, IsTrue, not, ◌&&◌, Some, Result, Ok, Err, length}
 use Rattle.std.specs.List.{filter, list_any}
-use Rattle.bolt_cli.specs.{Deeds.Deed, Deeds.Read, Deeds.ReadFirst, Deeds.ReadOn, Deeds.Made, Deeds.Ended, Deeds.Opened, Deeds.Closed, Deeds.Dropped, Deeds.Said, Deeds.Lacked, Runs.IsRun}
+use Rattle.bolt_cli.specs.{Deeds.Deed, Deeds.Read, Deeds.ReadFirst, Deeds.ReadOn, Deeds.Made, Deeds.Ended, Deeds.Opened, Deeds.Closed, Deeds.Dropped}
+use Rattle.bolt_cli.specs.{Deeds.Said, Deeds.Lacked, Runs.IsRun}
 use Rattle.bolt_cli.specs.{declared.outside.CreateFault.CreateFault, declared.outside.OutputFault.TheVariants.ReaderLeft}
 use Rattle.bolt_job.specs.{CommandLine.Asks, Jobs.target_name, declared.job.Job.Job}
 use Rattle.bolt_format.specs.declared.sink.Sink.{Ghosts}
@@ -45,7 +46,7 @@ module _ {T O : Type 0} where
   was_read (ReadOn first count (Ok bytes)) = true
   was_read deed = false
 
-  -- there is an OUT now
+  -- OUT was made
   abbrev pub was_made : Deed T O → Bool
   was_made (Made name permissions (Ok target)) = true
   was_made deed = false
@@ -55,7 +56,7 @@ module _ {T O : Type 0} where
   was_ended (Ended target (Ok done)) = true
   was_ended deed = false
 
-  -- there is a standard output now
+  -- standard output was opened
   abbrev pub was_opened : Deed T O → Bool
   was_opened (Opened (Ok output)) = true
   was_opened deed = false
@@ -121,7 +122,7 @@ module _ {T O : Type 0} where
   abbrev pub OpensOnce : List (Deed T O) → Type 0
   OpensOnce = HasAtMostOne is_opened
 
-  -- If it is opened, it is closed or dropped, once.
+  -- If standard output is opened, it is closed or dropped, once.
   abbrev pub ClosesWhatIsOpened : List (Deed T O) → Type 0
   ClosesWhatIsOpened = AfterEach was_opened (HasOne is_closed)
 
@@ -166,15 +167,15 @@ module _ {T O : Type 0} where
 -- ---- of which runs they are said
 
 module _ {T O : Type 0} (target : Ghosts T) (output : Ghosts O) where
-  -- this holds of the deeds of each run and its status
+  -- a property holds of the deeds of each run and its status
   abbrev pub ForEachRun : (List (Deed T O) → ℕ → Type 0) → Type 0
   ForEachRun Holds =
       (words : List Text) (deeds : List (Deed T O)) (code : ℕ) → IsRun target output words deeds code → Holds deeds code
 
-  -- this holds of the words and the deeds of each run
+  -- a property holds of the words and the deeds of each run
   abbrev pub ForWords : (List Text → List (Deed T O) → Type 0) → Type 0
   ForWords Holds = (words : List Text) (deeds : List (Deed T O)) (code : ℕ) → IsRun target output words deeds code → Holds words deeds
 
-  -- this holds of the deeds of each run
+  -- a property holds of the deeds of each run
   abbrev pub ForDeeds : (List (Deed T O) → Type 0) → Type 0
   ForDeeds Holds = ForEachRun (λ deeds code. Holds deeds)

@@ -25,7 +25,8 @@ module _ {T O : Type 0} (target : Ghosts T) (output : Ghosts O) where
   -- a job writes this text to a sink that has room for it, and ends so; with an OUT, it writes that too
   abbrev pub AnswersTo : Option Text → Job → (file text : List ℕ) → JobEnding → Type 0
   AnswersTo (Some out) job file text ending =
-      (before after : T) × DoesJob buffered_text buffered_failures (buffered_of [] 0) (buffered_of text 0) target.taken target.failed before after file job ending
+      (before after : T) × DoesJob buffered_text buffered_failures (buffered_of [] 0) (buffered_of text 0) target.taken target.failed before after
+      file job ending
   AnswersTo None job file text ending =
       DoesJob {T = Unit {0}} buffered_text buffered_failures (buffered_of [] 0) (buffered_of text 0) (λ _. None) (λ _. 0) tt tt file job ending
 

@@ -1,13 +1,17 @@
 -- Which deeds the program does, in which order, and its status after them: docs/COMMANDS.md, "What a run writes".
-use Rattle.std.specs.Prelude.{◌≡◌, ◌<◌, ◌+◌, ◌⊎◌, ℕ, zero, suc, List, [], ◌∷◌, ◌++◌, Bool, true, false, Option, Some, None, Result, Ok, Err, codes, string_bytes}
+use Rattle.std.specs.Prelude.{◌≡◌, ◌<◌, ◌+◌, ◌⊎◌, ℕ, zero, suc, List, [], ◌∷◌, ◌++◌, Bool, true, false, Option, Some, None, Result, Ok, Err, codes}
+use Rattle.std.specs.Prelude.{string_bytes}
 use Rattle.std.specs.Io.KnownBytes.{Appends, IsAtEnd}
 use Rattle.bolt_format.specs.{Metas.IsMetasEnd, Sinks.AppendsPrefix, declared.sink.Sink.Ghosts}
 use Rattle.bolt_commands.specs.{Answers.JobEnding, Answers.status_of, JobAnswers.DoesJob, Failures.failure_line}
 use Rattle.bolt_commands.specs.declared.failure.Failure.TheVariants.{Memory, Write}
-use Rattle.bolt_job.specs.{CommandLine.Asks, CommandLine.IsRefusalOf, Jobs.needs_metas_alone, Jobs.file_name, Jobs.target_name, declared.job.Job.Job, declared.refusal.Refusal.Refusal}
+use Rattle.bolt_job.specs.{CommandLine.Asks, CommandLine.IsRefusalOf, Jobs.needs_metas_alone, Jobs.file_name, Jobs.target_name, declared.job.Job.Job}
+use Rattle.bolt_job.specs.{declared.refusal.Refusal.Refusal}
 use Rattle.bolt_cli.specs.Deeds.{Deed, Does, Read, ReadFirst, ReadOn, Made, Ended, Opened, Closed, Dropped, Said, Lacked}
-use Rattle.bolt_cli.specs.{Names.shown_lines, Names.shown_name, Sources.is_changed, declared.outside.CreateFault.CreateFault, declared.outside.ReadFault.ReadFault, declared.outside.EndFault.EndFault}
-use Rattle.bolt_cli.specs.{declared.outside.OutputFault.OutputFault, declared.outside.OutputFault.TheVariants.ReaderLeft, declared.outside.OutputFault.TheVariants.Failed}
+use Rattle.bolt_cli.specs.{Names.shown_lines, Names.shown_name, Sources.is_changed, declared.outside.CreateFault.CreateFault}
+use Rattle.bolt_cli.specs.{declared.outside.ReadFault.ReadFault, declared.outside.EndFault.EndFault}
+use Rattle.bolt_cli.specs.{declared.outside.OutputFault.OutputFault, declared.outside.OutputFault.TheVariants.ReaderLeft}
+use Rattle.bolt_cli.specs.{declared.outside.OutputFault.TheVariants.Failed}
 use Rattle.bolt_cli.specs.declared.outside.Source.{Source}
 use Rattle.bolt_text.specs.Lines.{Text}
 use Rattle.bolt_job.specs.declared.refusal.Refusal.TheVariants as refusal
@@ -24,9 +28,9 @@ unmade_line name create.Exists = error_line (codes "output exists")
 unmade_line name create.Refused = codes "error: cannot make " ++ (shown_name name ++ codes "\n")
 unmade_line name create.Memory = failure_line Memory
 
-abbrev pub unread_line : Text → ReadFault → List ℕ
-unread_line name read.Refused = codes "error: cannot read " ++ (shown_name name ++ codes "\n")
-unread_line name read.Memory = failure_line Memory
+abbrev pub unread_file_line : Text → ReadFault → List ℕ
+unread_file_line name read.Refused = codes "error: cannot read " ++ (shown_name name ++ codes "\n")
+unread_file_line name read.Memory = failure_line Memory
 
 -- what a sink holds of this text, if it has failed so often
 abbrev pub HoldsUnless : Option (List ℕ) → (failures : ℕ) → List ℕ → Type 0
@@ -39,7 +43,8 @@ IsBufferedLine (Err failure) taken failures = HoldsUnless taken failures (failur
 
 -- Some deeds were added, and with the status after them they are so, for each ending of a job of which this is buffered for standard error and
 -- this is the status.
-abbrev pub DoesBuffered : {O D : Type 0} → (done : O → List D → Type 0) → (old new : O) → (after : ℕ) → Option (List ℕ) → (failures : ℕ) → (code : ℕ) → (JobEnding → List D → ℕ → Type 0) → Type 0
+abbrev pub DoesBuffered : {O D : Type 0} → (done : O → List D → Type 0) → (old new : O) → (after : ℕ) → Option (List ℕ) → (failures : ℕ) → (code : ℕ)
+    → (JobEnding → List D → ℕ → Type 0) → Type 0
 DoesBuffered done old new after taken failures code Are =
     (ending : JobEnding) → IsBufferedLine ending taken failures → code ≡ status_of ending → Does done old new after (Are ending)
 
@@ -78,7 +83,7 @@ module _ {O : Type 0} (output_taken : O → Option (List ℕ)) (output_failed : 
   ShowsJob before after file job ending = DoesJob {T = Unit {0}} output_taken output_failed before after (λ _. None) (λ _. 0) tt tt file job ending
 
 module _ {T O : Type 0} where
-  -- this text goes to standard error, and nothing comes after it
+  -- the line goes to standard error, and nothing comes after it
   abbrev pub Ends : List ℕ → List (Deed T O) → Type 0
   Ends line (Said text ∷ []) = text ≡ line
   Ends line deeds = ⊥
@@ -91,7 +96,7 @@ module _ {T O : Type 0} where
   FailsLacking (Lacked failures line ∷ []) code = (0 < failures) × (line ≡ failure_line Memory) × (code ≡ 1)
   FailsLacking deeds code = ⊥
 
-  -- this line, which is gathered in memory, goes there, unless a request for memory was refused
+  -- the line, which is gathered in memory, goes to standard error, unless a request for memory was refused
   abbrev pub FailsGathered : List ℕ → List (Deed T O) → ℕ → Type 0
   FailsGathered line deeds code = Fails line deeds code ⊎ FailsLacking deeds code
 
@@ -124,14 +129,16 @@ module _ {T O : Type 0} (output_taken : O → Option (List ℕ)) (output_failed 
 
   -- standard output is opened, takes the text, and is closed
   abbrev pub PrintsText : List ℕ → JobEnding → List (Deed T O) → ℕ → Type 0
-  PrintsText text ending (Opened (Ok before) ∷ deeds) code = IsFresh output_taken output_failed before × (after : O) × Takes output_taken output_failed text before after × Closes after ending deeds code
+  PrintsText text ending (Opened (Ok before) ∷ deeds) code =
+      IsFresh output_taken output_failed before × (after : O) × Takes output_taken output_failed text before after × Closes after ending deeds code
   PrintsText text ending (Opened (Err fault) ∷ deeds) code = Fails (failure_line Memory) deeds code
   PrintsText text ending deeds code = ⊥
 
   -- standard output is opened, the job is done on it, and it is closed
   abbrev pub Shows : List ℕ → Job → List (Deed T O) → ℕ → Type 0
   Shows file job (Opened (Ok before) ∷ deeds) code =
-      IsFresh output_taken output_failed before × (after : O) × (ending : JobEnding) × ShowsJob output_taken output_failed before after file job ending × Closes after ending deeds code
+      IsFresh output_taken output_failed before × (after : O) × (ending : JobEnding) × ShowsJob output_taken output_failed before after file job ending
+      × Closes after ending deeds code
   Shows file job (Opened (Err fault) ∷ deeds) code = Fails (failure_line Memory) deeds code
   Shows file job deeds code = ⊥
 
@@ -149,20 +156,22 @@ module _ {T O : Type 0} (output_taken : O → Option (List ℕ)) (output_failed 
   ReadsRest job first (ReadOn begun count (Ok bytes) ∷ deeds) code =
       (begun ≡ first) × IsMetasEnd first (80 + count) × Shows bytes job deeds code
   ReadsRest job first (ReadOn begun count (Err fault) ∷ deeds) code =
-      (begun ≡ first) × IsMetasEnd first (80 + count) × FailsGathered (unread_line (file_name job) fault) deeds code
+      (begun ≡ first) × IsMetasEnd first (80 + count) × FailsGathered (unread_file_line (file_name job) fault) deeds code
   ReadsRest job first deeds code = ⊥
 
   abbrev pub ReadsMetas : Job → List (Deed T O) → ℕ → Type 0
   ReadsMetas job (ReadFirst name count (Ok first) ∷ deeds) code = (name ≡ file_name job) × (count ≡ 80) × ReadsRest job first deeds code
   ReadsMetas job (ReadFirst name count (Err fault) ∷ deeds) code =
-      (name ≡ file_name job) × (count ≡ 80) × FailsGathered (unread_line (file_name job) fault) deeds code
+      (name ≡ file_name job) × (count ≡ 80) × FailsGathered (unread_file_line (file_name job) fault) deeds code
   ReadsMetas job deeds code = ⊥
 
 module _ {T O : Type 0} (target : Ghosts T) (output : Ghosts O) where
   -- the job is done on OUT, while what it prints is buffered, and then OUT is ended
   abbrev pub WritesOut : T → List ℕ → Job → List (Deed T O) → ℕ → Type 0
   WritesOut before file job (Ended after result ∷ deeds) code =
-      (buffered : Buffered) × (ending : JobEnding) × DoesJob buffered_text buffered_failures (buffered_of [] 0) buffered target.taken target.failed before after file job ending × IsEnded output.taken output.failed result buffered ending deeds code
+      (buffered : Buffered) × (ending : JobEnding)
+      × DoesJob buffered_text buffered_failures (buffered_of [] 0) buffered target.taken target.failed before after file job ending
+      × IsEnded output.taken output.failed result buffered ending deeds code
   WritesOut before file job deeds code = ⊥
 
   -- OUT is made, with FILE's permission bits, and the job is done on it
@@ -183,7 +192,7 @@ module _ {T O : Type 0} (target : Ghosts T) (output : Ghosts O) where
   Reads zero job deeds code = Fails (error_line (codes "file changed while it was read")) deeds code
   Reads (suc left) job (Read name (Ok source) ∷ deeds) code =
       (name ≡ file_name job) × Choose (is_changed source) (Reads left job deeds code) (Goes (target_name job) source job deeds code)
-  Reads (suc left) job (Read name (Err fault) ∷ deeds) code = (name ≡ file_name job) × FailsGathered (unread_line (file_name job) fault) deeds code
+  Reads (suc left) job (Read name (Err fault) ∷ deeds) code = (name ≡ file_name job) × FailsGathered (unread_file_line (file_name job) fault) deeds code
   Reads (suc left) job deeds code = ⊥
 
   -- as much of FILE is read as the job needs, and it is done

@@ -3,7 +3,8 @@ ghost use Rattle.std.specs.Prelude.{◌≡◌, ◌<◌, ◌++◌, List, ℕ, cod
 ghost use Rattle.bolt_commands.specs.Answers.{JobEnding};
 ghost use Rattle.bolt_commands.specs.Answers.{status_of};
 ghost use Rattle.bolt_cli.specs.{Deeds.Does, Deeds.joined, Gathered.GathersPiece, Names.shown_name};
-ghost use Rattle.bolt_cli.specs.Runs.{DoesBuffered, Ends, Fails, FailsGathered, FailsLacking, HoldsUnless, IsBufferedLine, IsReported, RefusesUsage, error_line};
+ghost use Rattle.bolt_cli.specs.Runs.{DoesBuffered, Ends, Fails, FailsGathered, FailsLacking, HoldsUnless, IsBufferedLine, IsReported, RefusesUsage};
+ghost use Rattle.bolt_cli.specs.Runs.{error_line};
 
 use crate::names::{put_escaped_lines, put_escaped_name, put_plain};
 use crate::outside::Outside;

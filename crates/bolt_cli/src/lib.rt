@@ -2,6 +2,7 @@
 #![tactic(auto)]
 
 mod faults;
+pub mod laws;
 mod names;
 mod outside;
 mod printer;
@@ -13,8 +14,9 @@ pub use bolt_job::{
     Job, KeysJob, ListJob, LoadJob, MetaChoice, PageJob, PageSize, PagesJob, Refusal, StatsJob,
     read_words,
 };
+pub use laws::{answers_are_printed, runs_are_in_order};
 pub use outside::{
     CreateFault, EndFault, OpenFault, OutputFault, Outside, ReadFault, Source, Stamp,
 };
 pub use printer::Printer;
-pub use whole_run::{answers_are_printed, refuse, run_program, runs_are_in_order};
+pub use whole_run::{refuse, run_program};

@@ -149,7 +149,7 @@ impl From<io::Error> for ReadFault {
 /// Why OUT can't be made.
 #[derive(Clone, Copy, Debug)]
 pub enum CreateFault {
-    /// It exists.
+    /// The file exists.
     Exists,
     /// The file system refused it.
     Refused,

@@ -1,12 +1,11 @@
-//! A whole run of the program: from its words to its status. And a law: its deeds are in order.
+//! A whole run of the program: from its words to its status.
 ghost use Rattle.std.specs.Prelude.{◌≡◌, ℕ, List, None, Some, map, string_bytes};
 ghost use Rattle.bolt_commands.specs.Answers.{JobEnding};
-ghost use Rattle.bolt_cli.specs.Printed.{PrintsAnswers, ShowsAll};
-ghost use Rattle.bolt_cli.specs.{Deeds.Does, Orders.ForDeeds, Orders.ForEachRun, Orders.ForWords};
-ghost use Rattle.bolt_cli.specs.Orders.{ClosesWhatIsOpened, CopiesBeforeOpening, EndsWhatIsMade, FailsWithStatus1, MakesAfterReading, MakesAskedOut, MakesOnce, OpensOnce, ReadsFirst, RefusesBeforeReading, SaysFailures, SaysLast, StopsAfterFailures, StopsWithoutReader, SucceedsOnlyWithoutFailures};
+ghost use Rattle.bolt_cli.specs.{Deeds.Does};
 ghost use Rattle.bolt_job.specs.Jobs.{target_name};
-ghost use Rattle.bolt_cli.specs.Runs.{Closes, DoesAsked, DoesBuffered, FailsGathered, FailsUnended, Goes, IsBufferedLine, IsRun, IsUnprinted, Makes, PrintsBuffered, PrintsText, Reads, ReadsMetas, ReadsRest, Refuses, Shows, WritesOut};
-ghost use Rattle.bolt_cli.specs.Runs.{unmade_line, unread_line};
+ghost use Rattle.bolt_cli.specs.Runs.{Closes, DoesAsked, DoesBuffered, FailsGathered, FailsUnended, Goes, IsBufferedLine, IsRun, IsUnprinted, Makes};
+ghost use Rattle.bolt_cli.specs.Runs.{PrintsBuffered, PrintsText, Reads, ReadsMetas, ReadsRest, Refuses, Shows, WritesOut};
+ghost use Rattle.bolt_cli.specs.Runs.{unmade_line, unread_file_line};
 
 use crate::faults::{
     FAILED, NO_MEMORY, UNWRITTEN, end_with, fail, fail_lacking, fail_naming, refuse_usage,
@@ -117,7 +116,7 @@ fn read_file<O: Outside>(outside: &mut O, alloc: Global, job: &Job, left: u32) -
 
 fn report_unread<O: Outside>(outside: &mut O, alloc: Global, fault: ReadFault, name: &str) -> u8
     ensures { Does O.done outside.old outside.new result
-        (FailsGathered (unread_line name.now fault)) }
+        (FailsGathered (unread_file_line name.now fault)) }
 {
     match fault {
         ReadFault::Refused => fail_naming(outside, alloc, b"error: cannot read ", name),
@@ -272,29 +271,3 @@ fn report_unprinted<O: Outside>(outside: &mut O, fault: OutputFault) -> u8
         OutputFault::Failed => fail(outside, &[UNWRITTEN]),
     }
 }
-
-/// A run does its deeds in order: a clause for each sentence of `specs/Orders`.
-pub fn runs_are_in_order<O: Outside>()
-    ensures reads_first { ForDeeds O.Target.Sink O.Output.Sink ReadsFirst }
-    ensures makes_after_reading { ForDeeds O.Target.Sink O.Output.Sink MakesAfterReading }
-    ensures makes_once { ForDeeds O.Target.Sink O.Output.Sink MakesOnce }
-    ensures ends_what_is_made { ForDeeds O.Target.Sink O.Output.Sink EndsWhatIsMade }
-    ensures opens_once { ForDeeds O.Target.Sink O.Output.Sink OpensOnce }
-    ensures closes_what_is_opened { ForDeeds O.Target.Sink O.Output.Sink ClosesWhatIsOpened }
-    ensures copies_before_opening { ForDeeds O.Target.Sink O.Output.Sink CopiesBeforeOpening }
-    ensures says_last { ForDeeds O.Target.Sink O.Output.Sink SaysLast }
-    ensures stops_after_failures { ForDeeds O.Target.Sink O.Output.Sink StopsAfterFailures }
-    ensures says_failures { ForDeeds O.Target.Sink O.Output.Sink SaysFailures }
-    ensures stops_without_reader { ForDeeds O.Target.Sink O.Output.Sink StopsWithoutReader }
-    ensures succeeds { ForEachRun O.Target.Sink O.Output.Sink SucceedsOnlyWithoutFailures }
-    ensures fails_with_1 { ForEachRun O.Target.Sink O.Output.Sink FailsWithStatus1 }
-    ensures refuses_before_reading { ForWords O.Target.Sink O.Output.Sink RefusesBeforeReading }
-    ensures makes_asked_out { ForWords O.Target.Sink O.Output.Sink MakesAskedOut }
-{}
-
-/// Standard output has what the job answers for the bytes of FILE that were read, if it is closed well. Of
-/// a standard output that shows what it has taken.
-pub fn answers_are_printed<O: Outside>()
-    ensures { ShowsAll O.Target.Sink O.Output.Sink
-        → ForWords O.Target.Sink O.Output.Sink (PrintsAnswers O.Target.Sink O.Output.Sink) }
-{}

@@ -1,8 +1,13 @@
 -- What a path leads to in a sound file, and what it holds.
-use Rattle.std.proofs.Common.{◌≡◌, ◌∙◌, ◌⊎◌, ◌++◌, ◌-◌, ◌+◌, List, [], ◌∷◌, ℕ, Some, None, Result, Ok, Err, IfErr, Vec, drop, get_or, inl, inr, length, take}
+use Rattle.std.proofs.Common.{◌≡◌, ◌∙◌, ◌⊎◌, ◌++◌, ◌-◌, ◌+◌, List, [], ◌∷◌, ℕ, Some, None, Result, Ok, Err, IfErr, Vec, drop, get_or, inl, inr}
+use Rattle.std.proofs.Common.{length, take}
 use Rattle.std.proofs.Common.{refl, sym, ap, subst, rules, arith, ◌<◌}
-use Rattle.bolt_commands.proofs.Vocabulary.{AreEntries, Bucket, Checked, Failure, ForEntries, HasSoundTrees, HoldsIn, HoldsNone, IsBucketAt, IsErrAnd, IsValueAt, Item, Key, LeadsTo, LeafElement, Path, Start, Value, bucket_checked, bucket_start, bytes_of, drop_more, entries_of, held_down, held_up, length-append, map-append, meta_of, names_push, parents_of, owned_path, props, root_start, start_of, take-append-drop, take-append_seam, ∥∥₁_elim, ∥∥₁_map}
-use Rattle.bolt_tree.proofs.Exports.{all_entries, checked_entries, held_once, held_or_none, item_known, named_once, named_or_none, names_no_further, start_known}
+use Rattle.bolt_commands.proofs.Vocabulary.{AreEntries, Bucket, Checked, Failure, ForEntries, HasSoundTrees, HoldsIn, HoldsNone, IsBucketAt, IsErrAnd}
+use Rattle.bolt_commands.proofs.Vocabulary.{IsValueAt, Item, Key, LeadsTo, LeafElement, Path, Start, Value, bucket_checked, bucket_start, bytes_of}
+use Rattle.bolt_commands.proofs.Vocabulary.{drop_more, entries_of, held_down, held_up, length-append, map-append, meta_of, names_push, parents_of}
+use Rattle.bolt_commands.proofs.Vocabulary.{owned_path, props, root_start, start_of, take-append-drop, take-append_seam, ∥∥₁_elim, ∥∥₁_map}
+use Rattle.bolt_tree.proofs.Exports.{all_entries, checked_entries, held_once, held_or_none, item_known, named_once, named_or_none, names_no_further}
+use Rattle.bolt_tree.proofs.Exports.{start_known}
 use Rattle.bolt_commands.specs.declared.failure.Failure.TheVariants as failure
 use Rattle.bolt_job.proofs.Exports.{made_more}
 
@@ -17,11 +22,13 @@ module _ (checked : Checked) where
   HoldsAt path item = HoldsIn (bytes_of checked) (meta_of checked) path item
 
   -- one part more
-  pub leads_further : (path : Path) (key : Key) (bucket : Start) (inner : Bucket) → ∥ LeadsIn path bucket ∥₁ → IsBucketAt Entry bucket key (Some inner)
+  pub leads_further : (path : Path) (key : Key) (bucket : Start) (inner : Bucket) → ∥ LeadsIn path bucket ∥₁
+      → IsBucketAt Entry bucket key (Some inner)
       → ∥ LeadsIn (path ++ key ∷ []) (bucket_start inner) ∥₁
   leads_further path key bucket inner known found =
       ∥∥₁_elim known (hlevel props) (λ names. ∥∥₁_map found (λ (e, is, k, b, start, sequence).
-      subst (λ (s : Start). LeadsIn (path ++ key ∷ []) s) (sym start) (subst (λ (x : Key). LeadsIn (path ++ x ∷ []) (start_of e.value)) k (names_push Entry (root_start checked) path bucket e names is b))))
+      subst (λ (s : Start). LeadsIn (path ++ key ∷ []) s) (sym start)
+      (subst (λ (x : Key). LeadsIn (path ++ x ∷ []) (start_of e.value)) k (names_push Entry (root_start checked) path bucket e names is b))))
 
   pub leads_nowhere : (path : Path) (key : Key) (rest : Path) (bucket : Start) → ∥ LeadsIn path bucket ∥₁ → IsBucketAt Entry bucket key None
       → (there : Start) → LeadsIn (path ++ key ∷ rest) there → ⊥
@@ -31,23 +38,28 @@ module _ (checked : Checked) where
 
   -- ---- if trees are sound, what is only known to be can be named
 
-  known_one : {X : Type 0} (P : X → Type 0) → ((x : X) × P x) ⊎ ((x : X) → P x → ⊥) → ((a b : X) → P a → P b → a ≡ b) → ((a b : X) → ∥ a ≡ b ∥₁ → a ≡ b)
+  known_one : {X : Type 0} (P : X → Type 0) → ((x : X) × P x) ⊎ ((x : X) → P x → ⊥) → ((a b : X) → P a → P b → a ≡ b)
+      → ((a b : X) → ∥ a ≡ b ∥₁ → a ≡ b)
       → (x : X) → ∥ P x ∥₁ → P x
   known_one P (inl (there, is)) once same x known = subst P (same there x (∥∥₁_map known (λ here. once there x is here))) is
   known_one P (inr none) once same x known = absurd (∥∥₁_elim known (hlevel props) (λ here. none x here))
 
-  pub lead_named : (path : Path) (bucket : Start) → HasSoundTrees (bytes_of checked) (meta_of checked) → ∥ LeadsIn path bucket ∥₁ → LeadsIn path bucket
+  pub lead_named : (path : Path) (bucket : Start) → HasSoundTrees (bytes_of checked) (meta_of checked) → ∥ LeadsIn path bucket ∥₁
+      → LeadsIn path bucket
   lead_named path bucket trees known =
       let all = all_entries (bytes_of checked) (meta_of checked) trees in
-      known_one (LeadsIn path) (named_or_none Entry (root_start checked) path all) (λ a b. named_once Entry (root_start checked) path a b all) start_known bucket known
+      known_one (LeadsIn path) (named_or_none Entry (root_start checked) path all) (λ a b. named_once Entry (root_start checked) path a b all) start_known
+      bucket known
 
   pub held_at : (path : Path) (item : Item) → HasSoundTrees (bytes_of checked) (meta_of checked) → ∥ HoldsAt path item ∥₁ → HoldsAt path item
   held_at path item trees known =
       let all = all_entries (bytes_of checked) (meta_of checked) trees in
-      known_one (HoldsAt path) (held_or_none Entry (root_start checked) path all) (λ a b. held_once Entry (root_start checked) path a b all) item_known item known
+      known_one (HoldsAt path) (held_or_none Entry (root_start checked) path all) (λ a b. held_once Entry (root_start checked) path a b all)
+      item_known item known
 
   -- what is promised of the entries of the bucket that a path leads to
-  pub at_path : (path : Path) (bucket : Bucket) (P : List LeafElement → Type 0) → HasSoundTrees (bytes_of checked) (meta_of checked) → bucket_checked bucket ≡ checked
+  pub at_path : (path : Path) (bucket : Bucket) (P : List LeafElement → Type 0) → HasSoundTrees (bytes_of checked) (meta_of checked)
+      → bucket_checked bucket ≡ checked
       → ∥ LeadsIn path (bucket_start bucket) ∥₁ → ForEntries (bucket_checked bucket) (bucket_start bucket) P
       → (start : Start) × (entries : List LeafElement) × LeadsIn path start × AreEntries Entry start entries × P entries
   at_path path bucket P trees is known promised =
@@ -102,13 +114,16 @@ module _ (checked : Checked) where
         → (said ≡ failure.NoBucket) × ((bucket : Start) → LeadsIn checked (owned_path parents) bucket → ⊥)
         → IsErrAnd result (λ reason. reason ≡ said) → IfErr result (IsReason (owned_path path))
     reason_named said (Ok x) refused is = tt
-    reason_named said (Err reason) (no_bucket, none) is = inr (is ∙ no_bucket, λ bucket names. none bucket (subst (λ (p : Path). LeadsIn checked p bucket) parents_in names))
+    reason_named said (Err reason) (no_bucket, none) is =
+        inr (is ∙ no_bucket, λ bucket names. none bucket (subst (λ (p : Path). LeadsIn checked p bucket) parents_in names))
 
-    pub value_at : (bucket : Bucket) (value : List ℕ) → bucket_checked bucket ≡ checked → ∥ LeadsIn checked (owned_path parents) (bucket_start bucket) ∥₁
+    pub value_at : (bucket : Bucket) (value : List ℕ) → bucket_checked bucket ≡ checked
+        → ∥ LeadsIn checked (owned_path parents) (bucket_start bucket) ∥₁
         → IsValueAt (entries_of (bucket_checked bucket)) (bucket_start bucket) key.items (Some value) → ∥ HoldsAt checked (owned_path path) (Value value) ∥₁
     value_at bucket value same known found =
         ∥∥₁_elim known (hlevel props) (λ names. ∥∥₁_map (rw same at found) (λ (e, is, k, is_value, held).
-        rw last_part (held_up (entries_of checked) (root_start checked) (owned_path parents) (bucket_start bucket) key.items [] (Value value) names (e, is, k, rw is_value (ap Value held)))))
+        rw last_part (held_up (entries_of checked) (root_start checked) (owned_path parents) (bucket_start bucket) key.items [] (Value value) names
+        (e, is, k, rw is_value (ap Value held)))))
 
     pub none_at : (bucket : Bucket) → bucket_checked bucket ≡ checked → ∥ LeadsIn checked (owned_path parents) (bucket_start bucket) ∥₁
         → IsValueAt (entries_of (bucket_checked bucket)) (bucket_start bucket) key.items None → IsReason (owned_path path) failure.NoKey
@@ -116,6 +131,8 @@ module _ (checked : Checked) where
         let here = rw same at none in
         let empty : (value : List ℕ) → HoldsAt checked (owned_path path) (Value value) → ⊥ = λ value held.
         ∥∥₁_elim known (hlevel props) (λ names. ∥∥₁_elim (checked_entries checked) (hlevel props) (λ all.
-        let (e, is, k, item) = held_down (entries_of checked) (root_start checked) (owned_path parents) (bucket_start bucket) key.items [] (Value value) all names (rw last_part at held) in
+        let (e, is, k, item) =
+        held_down (entries_of checked) (root_start checked) (owned_path parents) (bucket_start bucket) key.items [] (Value value) all names
+        (rw last_part at held) in
         let bad = rw (here e is k) at item in absurd (search (rules, bad)))) in
         inl (refl, empty, (bucket_start bucket, rw parents_in known))

@@ -5,16 +5,18 @@ use Rattle.bolt_commands.proofs.Vocabulary.{IsPageSize, Layout, Meta, sha256}
 use Rattle.bolt_check.proofs.Exports.{same_nodes}
 use Rattle.bolt_check.specs.{BboltFindings.AreBboltFindings, Nodes.Nodes}
 use Rattle.bolt_etcd.proofs.Exports.{agree_more}
-use Rattle.bolt_etcd.specs.Marks.{HasAllPages}
-use Rattle.bolt_layout.specs.{ForBbolt.ForLayoutFindings, ForBbolt.IsOfLayout, Layout.layout_mark, Layout.layout_meta, Layout.layout_of, Layout.layout_root, Storable.IsStorable}
+use Rattle.bolt_etcd.specs.Check.WholeFiles.{HasAllPages}
+use Rattle.bolt_layout.specs.{ForBbolt.ForLayoutFindings, ForBbolt.IsOfLayout, Layout.layout_high_water, Layout.layout_meta, Layout.layout_of}
+use Rattle.bolt_layout.specs.{Layout.layout_root, Storable.IsStorable}
 use Rattle.bolt_tree.specs.Tree.{Tree, tree_of}
 use Rattle.bolt_commands.specs.GoodCopies.{ForCopyFindings}
 
 pub copies_brought : ForLayoutFindings (λ which listing findings. AllByRecursion (IsOfLayout which) findings)
     → ((which : Layout) (page_size : ℕ) (tree : Tree) (sequence : ℕ) → IsPageSize page_size → IsStorable tree
-    → length (layout_of which page_size tree sequence) ≡ layout_mark which page_size tree * page_size)
+    → length (layout_of which page_size tree sequence) ≡ layout_high_water which page_size tree * page_size)
     → ForCopyFindings (λ which findings. AllByRecursion (IsOfLayout which) findings)
-copies_brought brought long which false listing page_size sequence one asked small findings are = brought which listing page_size sequence one asked small findings are
+copies_brought brought long which false listing page_size sequence one asked small findings are =
+    brought which listing page_size sequence one asked small findings are
 copies_brought brought long which true listing page_size sequence one asked small findings are =
     let tree = tree_of listing in
     let layout = layout_of which page_size tree sequence in

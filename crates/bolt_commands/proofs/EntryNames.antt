@@ -1,17 +1,21 @@
 -- The names in a bucket of a sound file's listing are the keys of the bucket's entries.
 -- Keys with their items: those of the members with one part more than the bucket's path, and those of the entries. Both rise by key, and they
 -- are the same.
-use Rattle.std.proofs.Common.{◌≡◌, ◌∙◌, ◌++◌, Bool, true, false, List, [], ◌∷◌, None, Option, Some, ap, arith, filter, flat_map, inl, inr, map, refl, rules, subst, sym, ℕ}
+use Rattle.std.proofs.Common.{◌≡◌, ◌∙◌, ◌++◌, Bool, true, false, List, [], ◌∷◌, None, Option, Some, ap, arith, filter, flat_map, inl, inr, map, refl}
+use Rattle.std.proofs.Common.{rules, subst, sym, ℕ}
 use Rattle.std.specs.Prelude.{if◌then◌else◌}
 use Rattle.std.specs.{declared.cmp.Ordering.Ordering, declared.cmp.Ordering.TheVariants.Less, Cmp.IsTotalOrder}
 use Rattle.std.proofs.lemmas.Cmp.{on_total}
 use Rattle.bolt_check.proofs.Exports.{contains_from_has, has_from_contains, has_map, map_has, first_decides}
 use Rattle.bolt_check.specs.Keys.{key_cmp}
-use Rattle.bolt_commands.proofs.Vocabulary.{AreEntries, Contains, HasSoundTrees, IsEntry, IsListing, Item, Key, LeadsTo, LeafElement, Member, Meta, Path, Rises, Root_page, Start, bytes_eq, bytes_eq-Decides, held_down, is_bucket, item_of, keys_text, member_cmp}
+use Rattle.bolt_commands.proofs.Vocabulary.{AreEntries, Contains, HasSoundTrees, IsEntry, IsListing, Item, Key, LeadsTo, LeafElement, Member, Meta}
+use Rattle.bolt_commands.proofs.Vocabulary.{Path, Rises, Root_page, Start, bytes_eq, bytes_eq-Decides, held_down, is_bucket, item_of, keys_text}
+use Rattle.bolt_commands.proofs.Vocabulary.{member_cmp}
 use Rattle.bolt_commands.proofs.ListedBuckets.{has_named}
 use Rattle.bolt_report.specs.MemberNames.{WantedNames, entry_name, key_in, member_name, names_text}
 use Rattle.bolt_text.specs.{Forms.value_text, declared.forms.Form.Form}
-use Rattle.bolt_tree.proofs.Exports.{all_entries, contains_cases, contains_head, contains_none, contains_tail, rises_once, held_here, key_total, same_front}
+use Rattle.bolt_tree.proofs.Exports.{all_entries, contains_cases, contains_head, contains_none, contains_tail, rises_once, held_here, key_total}
+use Rattle.bolt_tree.proofs.Exports.{same_front}
 use Rattle.bolt_tree.specs.{Entries.entry_cmp, Order.IsBelow}
 
 abbrev Named : Type 0
@@ -34,7 +38,8 @@ named_entry e = (e.key, item_of e)
 same_bytes : (a b : Key) → bytes_eq a b ≡ true → a ≡ b
 same_bytes a b e = (bytes_eq-Decides a b).0 e
 
-by_part : (part first : Key) (bucket path : Path) (key : Key) (same : Bool) → bytes_eq part first ≡ same → (if same then key_in bucket path else None) ≡ Some key
+by_part : (part first : Key) (bucket path : Path) (key : Key) (same : Bool) → bytes_eq part first ≡ same
+    → (if same then key_in bucket path else None) ≡ Some key
     → (key_in bucket path ≡ Some key → path ≡ bucket ++ key ∷ []) → first ∷ path ≡ (part ∷ bucket) ++ key ∷ []
 by_part part first bucket path key true e is more = let here = same_bytes part first e in let later = more is in cc
 by_part part first bucket path key false e is more = absurd (search (rules, is))
@@ -64,7 +69,8 @@ module _ (bucket : Path) where
   abbrev there : Named → Member
   there n = (bucket ++ n.0 ∷ [], n.1)
 
-  picked : (m : Member) (ms : List Member) (n : Named) (found : Option Key) → key_in bucket m.0 ≡ found → Contains (pick m.1 found (named_in bucket ms)) n
+  picked : (m : Member) (ms : List Member) (n : Named) (found : Option Key) → key_in bucket m.0 ≡ found
+      → Contains (pick m.1 found (named_in bucket ms)) n
       → (Contains (named_in bucket ms) n → Contains ms (there n)) → Contains (m ∷ ms) (there n)
   picked m ms n None e has more = contains_tail m (there n) ms (more has)
   picked m ms n (Some key) e has more = grind (arith, contains_cases, path_of_key, contains_head, contains_tail)
@@ -89,13 +95,15 @@ module _ (bucket : Path) where
     | inr later ↦ more_named m.1 (key_in bucket m.0) (named_in bucket ms) n (there_named ms n later)
   ]
 
-  below_named : (m : Member) (ms : List Member) (key : Key) → m.0 ≡ bucket ++ key ∷ [] → IsBelow member_cmp m ms → (n : Named) → Contains (named_in bucket ms) n
+  below_named : (m : Member) (ms : List Member) (key : Key) → m.0 ≡ bucket ++ key ∷ [] → IsBelow member_cmp m ms → (n : Named)
+      → Contains (named_in bucket ms) n
       → key_cmp key n.0 ≡ Less
   below_named m ms key path below n has =
       let before = below (there n) (named_there ms n has) in
       first_decides (key_cmp key n.0) (sym (same_front bucket (key ∷ []) (n.0 ∷ [])) ∙ rw path at before)
 
-  pick_rises : (m : Member) (ms : List Member) (found : Option Key) → key_in bucket m.0 ≡ found → IsBelow member_cmp m ms → Rises named_cmp (named_in bucket ms)
+  pick_rises : (m : Member) (ms : List Member) (found : Option Key) → key_in bucket m.0 ≡ found → IsBelow member_cmp m ms
+      → Rises named_cmp (named_in bucket ms)
       → Rises named_cmp (pick m.1 found (named_in bucket ms))
   pick_rises m ms None e below rises = rises
   pick_rises m ms (Some key) e below rises = (below_named m ms key (path_of_key bucket m.0 key e) below, rises)
@@ -116,7 +124,8 @@ entries_rise (e ∷ entries) rises = (
   entries_rise entries rises.1,
 )
 
-module _ (file : List ℕ) (meta : Meta) (trees : HasSoundTrees file meta) (listing : List Member) (lists : IsListing file meta listing) (path : Path) (bucket : Start)
+module _ (file : List ℕ) (meta : Meta) (trees : HasSoundTrees file meta) (listing : List Member) (lists : IsListing file meta listing) (path : Path)
+    (bucket : Start)
     (leads : LeadsTo file meta path bucket) (entries : List LeafElement) (are : AreEntries (IsEntry file meta) bucket entries) where
   abbrev root : Start
   root = Root_page meta.root
@@ -137,7 +146,9 @@ module _ (file : List ℕ) (meta : Meta) (trees : HasSoundTrees file meta) (list
       (there_named path listing (named_entry e) ((lists.exact (path ++ e.key ∷ []) (item_of e)).1 held))
 
   same_named : named_in path listing ≡ map named_entry entries
-  same_named = rises_once named_total (named_in path listing) (map named_entry entries) (named_rises path listing lists.rises) (entries_rise entries are.rises) to_entry from_entry
+  same_named =
+      rises_once named_total (named_in path listing) (map named_entry entries) (named_rises path listing lists.rises) (entries_rise entries are.rises)
+      to_entry from_entry
 
 -- ---- as text
 
@@ -145,7 +156,8 @@ module _ (form : Form) (wanted : WantedNames) where
   abbrev line : Named → List ℕ
   line n = entry_name form wanted n.1 (Some n.0)
 
-  line_more : (item : Item) (found : Option Key) (rest : List Named) → entry_name form wanted item found ++ flat_map line rest ≡ flat_map line (pick item found rest)
+  line_more : (item : Item) (found : Option Key) (rest : List Named)
+      → entry_name form wanted item found ++ flat_map line rest ≡ flat_map line (pick item found rest)
   line_more item None rest = refl
   line_more item (Some key) rest = refl
 
@@ -157,7 +169,8 @@ module _ (form : Form) (wanted : WantedNames) where
 
   module _ (is_named : LeafElement → Bool) (same : (e : LeafElement) → wanted e.key (item_of e) ≡ is_named e) where
     by_test : (e : LeafElement) (entries : List LeafElement) (b : Bool)
-        → (if b then value_text form e.key else []) ++ keys_text form (filter is_named entries) ≡ keys_text form (if b then e ∷ filter is_named entries else filter is_named entries)
+        → (if b then value_text form e.key else []) ++ keys_text form (filter is_named entries)
+        ≡ keys_text form (if b then e ∷ filter is_named entries else filter is_named entries)
     by_test e entries true = refl
     by_test e entries false = refl
 
@@ -166,7 +179,8 @@ module _ (form : Form) (wanted : WantedNames) where
     entries_text (e ∷ entries) = grind (arith, by_test, entries_text entries)
 
     -- The text of the names in the bucket that the path leads to is that of the keys of its entries.
-    pub names_are_keys : (file : List ℕ) (meta : Meta) → HasSoundTrees file meta → (listing : List Member) → IsListing file meta listing → (path : Path) (bucket : Start)
+    pub names_are_keys : (file : List ℕ) (meta : Meta) → HasSoundTrees file meta → (listing : List Member) → IsListing file meta listing
+        → (path : Path) (bucket : Start)
         → LeadsTo file meta path bucket → (entries : List LeafElement) → AreEntries (IsEntry file meta) bucket entries
         → names_text form wanted path listing ≡ keys_text form (filter is_named entries)
     names_are_keys file meta trees listing lists path bucket leads entries are =

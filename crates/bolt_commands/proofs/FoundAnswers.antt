@@ -1,7 +1,8 @@
 -- The pages that are found, and the joined listing.
 use Rattle.std.proofs.Common.{◌≡◌, ℕ, List, [], ◌∷◌, Option, ap, ap₂, map, refl, sym}
 use Rattle.std.proofs.lemmas.List.Elements.{All-head, All-tail}
-use Rattle.bolt_commands.proofs.Vocabulary.{All, AreFoundPages, Found, FoundView, IsFoundLeaf, IsJoined, IsJoinedOf, IsSalvaged, IsSearchOf, LostAndFound, Member, Meta, MetaChoice, all_lost, found_page, found_view, leaves_of}
+use Rattle.bolt_commands.proofs.Vocabulary.{All, AreFoundPages, Found, FoundView, IsFoundLeaf, IsJoined, IsJoinedOf, IsSalvaged, IsSearchOf}
+use Rattle.bolt_commands.proofs.Vocabulary.{LostAndFound, Member, Meta, MetaChoice, all_lost, found_page, found_view, leaves_of}
 use Rattle.bolt_format.specs.Pages.{PageView}
 use Rattle.bolt_recover.specs.{Found.AreFound, Found.found_numbers, ShownFound.IsFoundView, declared.joined.Joined.Joined}
 
@@ -14,9 +15,11 @@ module _ (file : List ℕ) (meta : Meta) where
   views_are : (found : List Found) → All (IsFoundView file meta) found → map found_view found ≡ map (found_page file meta) (found_numbers found)
   views_are [] all = refl
   views_are (f ∷ found) all =
-      ap₂ (λ (v : FoundView) (vs : List FoundView). v ∷ vs) (view_is f (All-head (IsFoundView file meta) f found all)) (views_are found (All-tail (IsFoundView file meta) f found all))
+      ap₂ (λ (v : FoundView) (vs : List FoundView). v ∷ vs) (view_is f (All-head (IsFoundView file meta) f found all))
+      (views_are found (All-tail (IsFoundView file meta) f found all))
 
-  pub are_pages : (found : List Found) → AreFound file meta (found_numbers found) → All (IsFoundView file meta) found → AreFoundPages file meta (map found_view found)
+  pub are_pages : (found : List Found) → AreFound file meta (found_numbers found) → All (IsFoundView file meta) found
+      → AreFoundPages file meta (map found_view found)
   are_pages found are all = (found_numbers found, are, views_are found all)
 
   -- ---- each of them has at least one element
@@ -30,7 +33,8 @@ module _ (file : List ℕ) (meta : Meta) where
 -- ---- the joined listing
 
 -- of a file that was searched
-pub salvaged : {file : List ℕ} {choice : MetaChoice} {both : LostAndFound} {j : Joined} (searched : IsSearchOf file choice both) (joins : IsJoinedOf both j) (listing : List Member)
+pub salvaged : {file : List ℕ} {choice : MetaChoice} {both : LostAndFound} {j : Joined} (searched : IsSearchOf file choice both)
+    (joins : IsJoinedOf both j) (listing : List Member)
     → IsJoined file both.meta listing → IsSalvaged file both.meta listing (all_lost both) (map found_view both.found.items)
 salvaged {file} {both = both} searched joins listing is = record {
   joins = is;

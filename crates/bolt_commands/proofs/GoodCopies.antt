@@ -1,13 +1,18 @@
 -- A copy of a listing that is that of one tree, and its hash: what holds of both.
-use Rattle.std.proofs.Common.{◌≡◌, ◌∙◌, ◌+◌, ◌*◌, ◌-◌, ◌^◌, ◌%◌, ◌<◌, ◌==◌, ℕ, zero, suc, List, [], ◌∷◌, ◌++◌, map, Bool, true, false, IsTrue, Some, arith, ap}
+use Rattle.std.proofs.Common.{◌≡◌, ◌∙◌, ◌+◌, ◌*◌, ◌-◌, ◌^◌, ◌%◌, ◌<◌, ◌==◌, ℕ, zero, suc, List, [], ◌∷◌, ◌++◌, map, Bool, true, false, IsTrue, Some}
+use Rattle.std.proofs.Common.{arith, ap}
 use Rattle.std.proofs.Common.{inl, inr, length, length-append, subst, sym, take}
 use Rattle.std.proofs.Math.Nat.{mul-mod_left, mul_assoc}
-use Rattle.bolt_commands.proofs.Vocabulary.{AllByRecursion, HasBothMetas, HasGoodCopies, HasNoGaps, IsAsked, IsActive, IsGoodCopy, IsListing, IsOfOneTree, IsPageSize, IsSnapshot, IsSound, IsSoundCopy, Layout, Member, Meta, One, RefusesFile, RefusesPrefixes, Slot, cases_lt, cut_hash_fault, eqb-true, finding, hash_fault, layout_of_listing, length-sha256, list_any, or_cases, page_size_count, page_sizes, range_with_len, sha256, snapshot_of, take-append-le, too_many}
+use Rattle.bolt_commands.proofs.Vocabulary.{AllByRecursion, HasBothMetas, HasGoodCopies, HasNoGaps, IsAsked, IsActive, IsGoodCopy, IsListing}
+use Rattle.bolt_commands.proofs.Vocabulary.{IsOfOneTree, IsPageSize, IsSnapshot, IsSound, IsSoundCopy, Layout, Member, Meta, One, RefusesFile}
+use Rattle.bolt_commands.proofs.Vocabulary.{RefusesPrefixes, Slot, cases_lt, cut_hash_fault, eqb-true, finding, hash_fault, layout_of_listing}
+use Rattle.bolt_commands.proofs.Vocabulary.{length-sha256, list_any, or_cases, page_size_count, page_sizes, range_with_len, sha256, snapshot_of}
+use Rattle.bolt_commands.proofs.Vocabulary.{take-append-le, too_many}
 use Rattle.bolt_commands.proofs.NoGaps.{gaps_more}
 use Rattle.bolt_check.specs.declared.check_fault.CheckFault.TheVariants as check
 use Rattle.bolt_format.specs.{declared.page_fault.TheConstants.PageFault.CUT, declared.meta.MetaFault.TheVariants.Cut}
-use Rattle.bolt_layout.specs.{Layout.layout_mark, Layout.layout_meta, Layout.layout_of, Layout.layout_root, Storable.IsStorable}
-use Rattle.bolt_etcd.specs.Marks.{HasAllPages}
+use Rattle.bolt_layout.specs.{Layout.layout_high_water, Layout.layout_meta, Layout.layout_of, Layout.layout_root, Storable.IsStorable}
+use Rattle.bolt_etcd.specs.Check.WholeFiles.{HasAllPages}
 use Rattle.bolt_tree.specs.Tree.{Tree, tree_of}
 
 -- ---- an accepted page size has whole blocks of 512 bytes
@@ -26,10 +31,10 @@ one_has (x ∷ sizes) n all h = elim (or_cases (x == n) (list_any (λ size. size
   | inr rest ↦ one_has sizes n all.1 rest
 ]
 
-blocks_of : (mark size long : ℕ) → IsPageSize size → long ≡ mark * size → long % 512 ≡ 0
-blocks_of mark size long accepted is =
+blocks_of : (high_water size long : ℕ) → IsPageSize size → long ≡ high_water * size → long % 512 ≡ 0
+blocks_of high_water size long accepted is =
     let (blocks, same) = one_has page_sizes size (sizes_have 0 page_size_count) accepted in
-    ap (λ n. n % 512) (is ∙ ap (λ n. mark * n) same ∙ sym (mul_assoc mark blocks 512)) ∙ mul-mod_left (mark * blocks) 512
+    ap (λ n. n % 512) (is ∙ ap (λ n. high_water * n) same ∙ sym (mul_assoc high_water blocks 512)) ∙ mul-mod_left (high_water * blocks) 512
 
 -- ---- the laws that this stands on
 
@@ -37,20 +42,26 @@ pub record Laws : Type 0 where
   pub sound : (which : Layout) (listing : List Member) (page_size sequence : ℕ) → IsOfOneTree listing → IsPageSize page_size → sequence < 2 ^ 64
       → length (layout_of_listing which page_size listing sequence) < 2 ^ 63 → IsSoundCopy which page_size (tree_of listing) sequence listing
   pub long : (which : Layout) (page_size : ℕ) (tree : Tree) (sequence : ℕ) → IsPageSize page_size → IsStorable tree
-      → length (layout_of which page_size tree sequence) ≡ layout_mark which page_size tree * page_size
+      → length (layout_of which page_size tree sequence) ≡ layout_high_water which page_size tree * page_size
   pub prefixes : (which : Layout) (page_size : ℕ) (tree : Tree) (sequence : ℕ) → IsAsked page_size tree sequence
       → length (layout_of which page_size tree sequence) < 2 ^ 63 → RefusesPrefixes (layout_of which page_size tree sequence) (layout_root which page_size tree)
   pub whole : (which : Layout) (page_size : ℕ) (tree : Tree) (sequence : ℕ) → IsAsked page_size tree sequence
-      → length (layout_of which page_size tree sequence) < 2 ^ 63 → HasNoGaps (layout_of which page_size tree sequence) (layout_meta which page_size tree sequence 1)
+      → length (layout_of which page_size tree sequence) < 2 ^ 63
+      → HasNoGaps (layout_of which page_size tree sequence) (layout_meta which page_size tree sequence 1)
   pub metas_more : (file more : List ℕ) → HasBothMetas file → HasBothMetas (file ++ more)
-  pub chosen_more : (file more : List ℕ) (slot : Slot) (meta : Meta) (accounts : Bool) → HasAllPages file meta → IsSound file meta accounts → IsActive file slot meta
+  pub chosen_more : (file more : List ℕ) (slot : Slot) (meta : Meta) (accounts : Bool) → HasAllPages file meta → IsSound file meta accounts
+      → IsActive file slot meta
       → IsActive (file ++ more) slot meta
-  pub sound_more : (file more : List ℕ) (meta : Meta) (accounts : Bool) → HasAllPages file meta → IsSound file meta accounts → IsSound (file ++ more) meta accounts
-  pub listing_more : (file more : List ℕ) (meta : Meta) (listing : List Member) → HasAllPages file meta → IsListing file meta listing → IsListing (file ++ more) meta listing
+  pub sound_more : (file more : List ℕ) (meta : Meta) (accounts : Bool) → HasAllPages file meta → IsSound file meta accounts
+      → IsSound (file ++ more) meta accounts
+  pub listing_more : (file more : List ℕ) (meta : Meta) (listing : List Member) → HasAllPages file meta → IsListing file meta listing
+      → IsListing (file ++ more) meta listing
   pub snapshot : (file : List ℕ) → length file % 512 ≡ 0 → IsSnapshot (snapshot_of file)
-  pub cut : (file : List ℕ) (n : ℕ) → length file % 512 ≡ 0 → n < 32 → hash_fault (take (length file + n) (snapshot_of file)) ≡ Some (cut_hash_fault n)
+  pub cut : (file : List ℕ) (n : ℕ) → length file % 512 ≡ 0 → n < 32
+      → hash_fault (take (length file + n) (snapshot_of file)) ≡ Some (cut_hash_fault n)
 
-module _ (laws : Laws) (listing : List Member) (sequence : ℕ) (one : IsOfOneTree listing) (fits : sequence < 2 ^ 64) (which : Layout) (page_size : ℕ) (size : IsPageSize page_size)
+module _ (laws : Laws) (listing : List Member) (sequence : ℕ) (one : IsOfOneTree listing) (fits : sequence < 2 ^ 64) (which : Layout) (page_size : ℕ)
+    (size : IsPageSize page_size)
     (few : length (layout_of_listing which page_size listing sequence) < too_many) where
   abbrev layout : List ℕ
   layout = layout_of_listing which page_size listing sequence
@@ -58,11 +69,11 @@ module _ (laws : Laws) (listing : List Member) (sequence : ℕ) (one : IsOfOneTr
   abbrev own_meta : Meta
   own_meta = layout_meta which page_size (tree_of listing) sequence 1
 
-  long : length layout ≡ layout_mark which page_size (tree_of listing) * page_size
+  long : length layout ≡ layout_high_water which page_size (tree_of listing) * page_size
   long = laws.long which page_size (tree_of listing) sequence size one.storable
 
   blocks : length layout % 512 ≡ 0
-  blocks = blocks_of (layout_mark which page_size (tree_of listing)) page_size (length layout) size long
+  blocks = blocks_of (layout_high_water which page_size (tree_of listing)) page_size (length layout) size long
 
   all_pages : HasAllPages layout own_meta
   all_pages = record { size = size; long = omega (arith, long) }

@@ -1,7 +1,10 @@
 -- The hash of what a target has accepted.
-use Rattle.std.proofs.Common.{◌≡◌, ◌≢◌, ◌<◌, ◌∙◌, ◌⊎◌, ℕ, zero, suc, List, [], ◌++◌, Option, None, Some, Result, Ok, Err, ap, append_assoc, arith, drop, inl}
+use Rattle.std.proofs.Common.{◌≡◌, ◌≢◌, ◌<◌, ◌∙◌, ◌⊎◌, ℕ, zero, suc, List, [], ◌++◌, Option, None, Some, Result, Ok, Err, ap, append_assoc, arith}
+use Rattle.std.proofs.Common.{drop, inl}
 use Rattle.std.proofs.Common.{inr, length, refl, subst, sym}
-use Rattle.bolt_commands.proofs.Vocabulary.{Appends, Appends-kept, Appends-trans, AppendsProperPrefix, AppendsProperPrefix-second, HashesSince, Holds256, Keeps, OnErr, OnOk, Sha256, cases_lt, drop-append_seam, length-sha256, props, sha256, ∥∥₁_elim, ∥∥₁_map}
+use Rattle.bolt_commands.proofs.Vocabulary.{Appends, Appends-kept, Appends-trans, AppendsProperPrefix, AppendsProperPrefix-second, HashesSince}
+use Rattle.bolt_commands.proofs.Vocabulary.{Holds256, Keeps, OnErr, OnOk, Sha256, cases_lt, drop-append_seam, length-sha256, props, sha256, ∥∥₁_elim}
+use Rattle.bolt_commands.proofs.Vocabulary.{∥∥₁_map}
 
 -- a hash goes on with what the target accepts
 since_more : (start old new : Option (List ℕ)) (hash next : Sha256) (bytes : List ℕ) → ((m : List ℕ) → Holds256 hash m → Holds256 next (m ++ bytes))
@@ -9,7 +12,8 @@ since_more : (start old new : Option (List ℕ)) (hash next : Sha256) (bytes : L
 since_more None old new hash next bytes goes taken since = tt
 since_more (Some xs) None new hash next bytes goes taken since = absurd since
 since_more (Some xs) (Some ys) None hash next bytes goes taken since = absurd taken
-since_more (Some xs) (Some ys) (Some zs) hash next bytes goes taken (m, holds, is) = (m ++ bytes, goes m holds, taken ∙ ap (λ l. l ++ bytes) is ∙ append_assoc xs m bytes)
+since_more (Some xs) (Some ys) (Some zs) hash next bytes goes taken (m, holds, is) =
+    (m ++ bytes, goes m holds, taken ∙ ap (λ l. l ++ bytes) is ∙ append_assoc xs m bytes)
 
 -- whatever the result of a put is, the hash is right as long as the target hasn't failed
 pub since_put : {A E : Type 0} (result : Result A E) (start old new : Option (List ℕ)) (failed_old failed_new : ℕ) (hash next : Sha256) (bytes : List ℕ)
@@ -48,7 +52,8 @@ module _ (old mid new : Option (List ℕ)) (failed : ℕ) (layout : List ℕ) (h
   unhashed : Appends old new layout → AppendsProperPrefix old new (layout ++ sha256 layout)
   unhashed all = record { front = layout; rest = sha256 layout; parts = refl; short = hash_not_empty layout; taken = all }
 
-  pub short_with_hash : (digest ≢ [] → AppendsProperPrefix mid new digest) → (0 < failed → Keeps mid new) → AppendsProperPrefix old new (layout ++ sha256 layout)
+  pub short_with_hash : (digest ≢ [] → AppendsProperPrefix mid new digest) → (0 < failed → Keeps mid new)
+      → AppendsProperPrefix old new (layout ++ sha256 layout)
   short_with_hash put keeps = elim (cases_lt 0 failed) [
     | inl some ↦ unhashed (Appends-kept old mid new layout taken (keeps some))
     | inr none ↦ elim (digest_of old mid layout hash digest ends taken (since (omega (arith, none)))) [

@@ -1,7 +1,10 @@
 -- A listing has the bucket at a path where the path leads to one.
 use Rattle.std.proofs.Common.{arith, ◌≡◌, ◌∙◌, ◌&&◌, ℕ, Bool, true, false, List, [], ◌∷◌, IsTrue, inl, inr, refl, sym, ap}
 use Rattle.std.proofs.lemmas.Bool.Decides.{nat_tests}
-use Rattle.bolt_commands.proofs.Vocabulary.{Contains, Holds, IsEntry, IsListing, Item, Key, LeadsTo, LeafElement, Member, Meta, Names, Path, Root_page, Start, Value, and_parts, bytes_eq, bytes_eq-Decides, cases_Bool, has_bucket, head_sequence, is_bucket, is_bucket_at, item_of, list_any, or_cases, or_left, or_right, pointwise, slice_eq-Decides, start_of}
+use Rattle.bolt_commands.proofs.Vocabulary.{Contains, Holds, IsEntry, IsListing, Item, Key, LeadsTo, LeafElement, Member, Meta, Names, Path}
+use Rattle.bolt_commands.proofs.Vocabulary.{Root_page, Start, Value, and_parts, bytes_eq, bytes_eq-Decides, cases_Bool, has_bucket, head_sequence}
+use Rattle.bolt_commands.proofs.Vocabulary.{is_bucket, is_bucket_at, item_of, list_any, or_cases, or_left, or_right, pointwise, slice_eq-Decides}
+use Rattle.bolt_commands.proofs.Vocabulary.{start_of}
 use Rattle.bolt_tree.specs.Entries.{Bucket}
 use Rattle.bolt_tree.proofs.Exports.{contains_cases, contains_head, contains_none, contains_tail}
 use Rattle.bolt_load.proofs.Exports.{path_itself}
@@ -28,11 +31,13 @@ is_bucket_of : (e : LeafElement) (sequence : ℕ) → item_of e ≡ Bucket seque
 is_bucket_of e sequence is = grind (arith, cases_Bool)
 
 module _ (Entry : Start → LeafElement → Type 0) where
-  held_of : (key : Key) (path : Path) (from bucket : Start) → Names Entry from (key ∷ path) bucket → (sequence : ℕ) × Holds Entry from (key ∷ path) (Bucket sequence)
+  held_of : (key : Key) (path : Path) (from bucket : Start) → Names Entry from (key ∷ path) bucket
+      → (sequence : ℕ) × Holds Entry from (key ∷ path) (Bucket sequence)
   held_of key [] from bucket (e, is, k, b, there) = (head_sequence e.value, (e, is, k, rw b refl))
   held_of key (next ∷ path) from bucket (e, is, k, b, later) = grind (arith, held_of next path (start_of e.value) bucket later)
 
-  named_of : (key : Key) (path : Path) (from : Start) (sequence : ℕ) → Holds Entry from (key ∷ path) (Bucket sequence) → (bucket : Start) × Names Entry from (key ∷ path) bucket
+  named_of : (key : Key) (path : Path) (from : Start) (sequence : ℕ) → Holds Entry from (key ∷ path) (Bucket sequence)
+      → (bucket : Start) × Names Entry from (key ∷ path) bucket
   named_of key [] from sequence (e, is, k, item) = (start_of e.value, (e, is, k, is_bucket_of e sequence item, refl))
   named_of key (next ∷ path) from sequence (e, is, k, b, held) = grind (arith, named_of next path (start_of e.value) sequence held)
 

@@ -1,6 +1,9 @@
 -- What `list` prints of a file is loaded as the listing of the file.
 use Rattle.std.proofs.Common.{◌≡◌, ◌∙◌, ◌<◌, ℕ, Bool, List, [], ◌∷◌, Option, Ok, ap, arith, inl, inr, length, subst, sym}
-use Rattle.bolt_commands.proofs.Vocabulary.{Answer, JobEnding, Sound, HasSoundTrees, IsEndedOrCut, IsListedAnswer, IsListing, IsListingText, IsLoadFault, IsOfOneTree, IsReadUnder, Layout, Loads, LoadsListing, Member, Meta, MetaChoice, Rises, filter_all, listing_lines, member_cmp, not, part_below, listing_part_text, path_cmp, rest_from, text_members}
+use Rattle.bolt_commands.proofs.Vocabulary.{Answer, JobEnding, Sound, HasSoundTrees, IsEndedOrCut, IsListedAnswer, IsListing, IsListingText}
+use Rattle.bolt_commands.proofs.Vocabulary.{IsLoadFault, IsOfOneTree, IsReadUnder, Layout, Loads, LoadsListing, Member, Meta, MetaChoice, Rises}
+use Rattle.bolt_commands.proofs.Vocabulary.{filter_all, listing_lines, member_cmp, not, part_below, listing_part_text, path_cmp, rest_from}
+use Rattle.bolt_commands.proofs.Vocabulary.{text_members}
 use Rattle.bolt_commands.proofs.ReadFiles.{read_trees}
 use Rattle.std.specs.Ordering.{is_lt}
 use Rattle.bolt_format.specs.Bytes.{IsBytes}
@@ -12,10 +15,13 @@ use Rattle.bolt_tree.proofs.Exports.{after_end}
 pub record Below : Type 0 where
   pub below_root : (listing : List Member) → part_below [] listing ≡ listing
   pub hex_lines : (listing : List Member) → listing_lines Hex listing ≡ listing_text listing
-  pub one_tree : (file : List ℕ) (meta : Meta) (listing : List Member) → IsBytes file → HasSoundTrees file meta → IsListing file meta listing → IsOfOneTree listing
+  pub one_tree : (file : List ℕ) (meta : Meta) (listing : List Member) → IsBytes file → HasSoundTrees file meta → IsListing file meta listing
+      → IsOfOneTree listing
   pub of_bytes : (file : List ℕ) (meta : Meta) (listing : List Member) → IsBytes file → IsListing file meta listing → AreOfBytes listing
-  pub right : (listing : List Member) → 0 < length listing → IsOfOneTree listing → Rises member_cmp listing → AreOfBytes listing → IsListingText (listing_text listing)
-  pub read_back : (listing : List Member) → IsOfOneTree listing → Rises member_cmp listing → AreOfBytes listing → text_members (listing_text listing) ≡ listing
+  pub right : (listing : List Member) → 0 < length listing → IsOfOneTree listing → Rises member_cmp listing → AreOfBytes listing
+      → IsListingText (listing_text listing)
+  pub read_back : (listing : List Member) → IsOfOneTree listing → Rises member_cmp listing → AreOfBytes listing
+      → text_members (listing_text listing) ≡ listing
   pub no_text : (number : ℕ) (fault : LineFault) → IsLoadFault (listing_text []) (Line number fault) → (number ≡ 1) × (fault ≡ CutOff)
   pub no_listing : IsListingText (listing_text []) → ⊥
   pub no_fault : (text : Text) (number : ℕ) (fault : LineFault) → IsListingText text → IsLoadFault text (Line number fault) → ⊥
@@ -25,10 +31,12 @@ module _ (below : Below) where
   rest_all listing = filter_all (λ m. not (is_lt (path_cmp m.0 []))) listing (λ m has. ap not (after_end m.0))
 
   whole_text : (listing : List Member) → listing_part_text Hex [] [] listing ≡ listing_text listing
-  whole_text listing = ap (λ part. listing_lines Hex (rest_from [] part)) (below.below_root listing) ∙ ap (listing_lines Hex) (rest_all listing) ∙ below.hex_lines listing
+  whole_text listing =
+      ap (λ part. listing_lines Hex (rest_from [] part)) (below.below_root listing) ∙ ap (listing_lines Hex) (rest_all listing) ∙ below.hex_lines listing
 
   -- what is printed with status 0 is the whole text
-  printed : (listing : List Member) (ending : JobEnding) (answer : Answer) → IsEndedOrCut (listing_part_text Hex [] [] listing) ending answer → answer.ending ≡ Ok 0
+  printed : (listing : List Member) (ending : JobEnding) (answer : Answer) → IsEndedOrCut (listing_part_text Hex [] [] listing) ending answer
+      → answer.ending ≡ Ok 0
       → answer.out ≡ listing_text listing
   printed listing ending answer (inl is) good = ap (λ (a : Answer). a.out) is ∙ whole_text listing
   printed listing ending answer (inr (front, rest, parts, is)) good = absurd (let bad = rw is at good in cc)
@@ -37,12 +45,15 @@ module _ (below : Below) where
     abbrev Told : List Member → List ℕ → Type 0
     Told listing text = (out_old out_new : O) (target_old target_new : T) (page_size sequence : ℕ) (layout : Layout) (snapshot : Bool) (ending : JobEnding)
         → Loads out_taken out_failed out_old out_new target_taken target_failed target_old target_new text page_size sequence layout snapshot ending
-        → LoadsListing out_taken out_failed out_old out_new target_taken target_failed target_old target_new listing text page_size sequence layout snapshot ending
+        → LoadsListing out_taken out_failed out_old out_new target_taken target_failed target_old target_new listing text page_size sequence layout
+        snapshot ending
 
-    told : (member : Member) (listing : List Member) (text : List ℕ) → IsListingText text → text_members text ≡ member ∷ listing → Told (member ∷ listing) text
+    told : (member : Member) (listing : List Member) (text : List ℕ) → IsListingText text → text_members text ≡ member ∷ listing
+        → Told (member ∷ listing) text
     told member listing text right same out_old out_new target_old target_new page_size sequence layout snapshot ending (inl (is, writes)) =
         inl (rw same at writes)
-    told member listing text right same out_old out_new target_old target_new page_size sequence layout snapshot ending (inr (Memory, is, (out, target, ends))) = inr (out, target, inl ends)
+    told member listing text right same out_old out_new target_old target_new page_size sequence layout snapshot ending (inr (Memory, is, (out, target, ends))) =
+        inr (out, target, inl ends)
     told member listing text right same out_old out_new target_old target_new page_size sequence layout snapshot ending (inr (Line number fault, is, (out, target, ends))) =
         absurd (below.no_fault text number fault right is)
 
@@ -55,9 +66,11 @@ module _ (below : Below) where
     told_of : (listing : List Member) → IsOfOneTree listing → Rises member_cmp listing → AreOfBytes listing → Told listing (listing_text listing)
     told_of [] one rises own = told_none
     told_of (member ∷ listing) one rises own =
-        told member listing (listing_text (member ∷ listing)) (below.right (member ∷ listing) (omega arith) one rises own) (below.read_back (member ∷ listing) one rises own)
+        told member listing (listing_text (member ∷ listing)) (below.right (member ∷ listing) (omega arith) one rises own)
+        (below.read_back (member ∷ listing) one rises own)
 
-    pub listed_loads : (file : List ℕ) (choice : MetaChoice) (answer : Answer) → IsBytes file → IsListedAnswer Sound file choice Hex [] [] answer → answer.ending ≡ Ok 0
+    pub listed_loads : (file : List ℕ) (choice : MetaChoice) (answer : Answer) → IsBytes file → IsListedAnswer Sound file choice Hex [] [] answer
+        → answer.ending ≡ Ok 0
         → (meta : Meta) × (listing : List Member) × IsReadUnder file choice meta × IsListing file meta listing × Told listing answer.out
     listed_loads file choice answer bytes (inl (meta, listing, lost, found, (under, lists, none, unfound), lacking, why, ended)) good =
         let one = below.one_tree file meta listing bytes (read_trees file choice meta under) lists in

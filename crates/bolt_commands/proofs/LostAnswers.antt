@@ -1,10 +1,13 @@
 -- The answers of `check --all` and `check --lost-and-found`.
 use Rattle.std.proofs.Common.{◌≡◌, ◌≢◌, ◌∷◌, ℕ, Bool, List, [], true, false, inl, inr, map, refl, subst, sym}
-use Rattle.bolt_commands.proofs.Vocabulary.{all_lost, Answer, AnswersLost, AreGaps, Extent, Failure, FileFaults, ForGaps, ForLosses, Sound, FoundView, IsCheckAnswerAfter, IsFoundAnswer, IsLostAnswer, IsMetaOf, IsSearchOf, IsUnopened, Losses, LossView, LostAndFound as Search, LostView, Meta, MetaChoice, PageGapView, everything, false≢true, found_view, is_nothing, lost_and_found_answer, parts}
+use Rattle.bolt_commands.proofs.Vocabulary.{all_lost, Answer, AnswersLost, AreGaps, Extent, Failure, FileFaults, ForGaps, ForLosses, Sound, FoundView}
+use Rattle.bolt_commands.proofs.Vocabulary.{IsCheckAnswerAfter, IsFindingsAnswer, IsLostAnswer, IsMetaOf, IsSearchOf, IsUnopened, Losses, LossView}
+use Rattle.bolt_commands.proofs.Vocabulary.{LostAndFound, LostView, Meta, MetaChoice, PageGapView, everything, false≢true, found_view}
+use Rattle.bolt_commands.proofs.Vocabulary.{is_nothing, lost_and_found_answer, parts}
 use Rattle.bolt_commands.proofs.FoundAnswers.{are_pages}
 use Rattle.bolt_check.specs.declared.check_fault.CheckFault.TheVariants as check
 use Rattle.bolt_commands.specs.Private.Checks.{unopened}
-use Rattle.bolt_job.specs.declared.choices.Extent.TheVariants.{LostAndFound}
+use Rattle.bolt_job.specs.declared.choices.Extent.TheVariants.{FoundPages}
 use Rattle.bolt_recover.proofs.Exports.{has_gaps, no_gaps}
 use Rattle.bolt_recover.specs.Refusals.{KeepsRoot}
 
@@ -15,7 +18,7 @@ all_gaps file meta gaps known = let (all, are) = has_gaps file meta in subst (Ar
 module _ (for_bbolt : Bool) (faults : FileFaults) (file : List ℕ) (choice : MetaChoice) where
   -- nothing is lost, or something is
   pub none_lost : (lost : LostView) (gaps : List PageGapView) (found : List FoundView) → is_nothing lost ≡ true → (answer : Answer)
-      → IsFoundAnswer for_bbolt faults file choice gaps answer → AnswersLost for_bbolt faults file choice lost gaps found answer
+      → IsFindingsAnswer for_bbolt faults file choice gaps answer → AnswersLost for_bbolt faults file choice lost gaps found answer
   none_lost (parts []) gaps found none answer is = is
   none_lost lost gaps found none answer is = absurd (false≢true none)
 
@@ -26,13 +29,18 @@ module _ (for_bbolt : Bool) (faults : FileFaults) (file : List ℕ) (choice : Me
   some_lost (parts (loss ∷ losses)) gaps found some = refl
 
   -- of a file that is recovered, or searched
-  pub recovered_lost : (meta : Meta) (losses : List LossView) (gaps : List PageGapView) (answer : Answer) → IsMetaOf file choice meta → KeepsRoot file meta
-      → ForLosses file meta (λ all. losses ≡ all) → ForGaps file meta (λ all. gaps ≡ all) → AnswersLost for_bbolt faults file choice (parts losses) gaps [] answer
+  pub recovered_lost : (meta : Meta) (losses : List LossView) (gaps : List PageGapView) (answer : Answer) → IsMetaOf file choice meta
+      → KeepsRoot file meta
+      → ForLosses file meta (λ all. losses ≡ all) → ForGaps file meta (λ all. gaps ≡ all)
+      → AnswersLost for_bbolt faults file choice (parts losses) gaps [] answer
       → IsLostAnswer Losses for_bbolt faults file choice answer
-  recovered_lost meta losses gaps answer under keeps lost known answers = inl (meta, parts losses, gaps, [], under, (keeps, lost), all_gaps file meta gaps known, refl, answers)
+  recovered_lost meta losses gaps answer under keeps lost known answers =
+      inl (meta, parts losses, gaps, [], under, (keeps, lost), all_gaps file meta gaps known, refl, answers)
 
-  pub searched_lost : (both : Search) (gaps : List PageGapView) (answer : Answer) → IsSearchOf file choice both → ForGaps file both.meta (λ all. gaps ≡ all)
-      → AnswersLost for_bbolt faults file choice (all_lost both) gaps (map found_view both.found.items) answer → IsLostAnswer LostAndFound for_bbolt faults file choice answer
+  pub searched_lost : (both : LostAndFound) (gaps : List PageGapView) (answer : Answer) → IsSearchOf file choice both
+      → ForGaps file both.meta (λ all. gaps ≡ all)
+      → AnswersLost for_bbolt faults file choice (all_lost both) gaps (map found_view both.found.items) answer
+      → IsLostAnswer FoundPages for_bbolt faults file choice answer
   searched_lost both gaps answer is known answers =
       inl (
         both.meta,
@@ -51,14 +59,16 @@ module _ (for_bbolt : Bool) (faults : FileFaults) (file : List ℕ) (choice : Me
       → IsCheckAnswerAfter extent for_bbolt faults file choice answer
   lost_answer Sound beyond answer is = absurd (beyond refl)
   lost_answer Losses beyond answer is = is
-  lost_answer LostAndFound beyond answer is = is
+  lost_answer FoundPages beyond answer is = is
 
   -- the file isn't opened
-  pub unopened_lost : (extent : Extent) (why : Failure) → extent ≢ Sound → IsUnopened extent file choice why → IsLostAnswer extent for_bbolt faults file choice (unopened faults why)
+  pub unopened_lost : (extent : Extent) (why : Failure) → extent ≢ Sound → IsUnopened extent file choice why
+      → IsLostAnswer extent for_bbolt faults file choice (unopened faults why)
   unopened_lost Sound why beyond is = absurd (beyond refl)
   unopened_lost Losses why beyond (check.Open fault, none, is) = rw is (inr (inl (fault, none, refl)))
-  unopened_lost Losses why beyond (check.Structure x, (meta, under, loses), is) = rw is (inl (meta, everything x, [], [], under, loses, no_gaps file meta x loses, refl, refl))
+  unopened_lost Losses why beyond (check.Structure x, (meta, under, loses), is) =
+      rw is (inl (meta, everything x, [], [], under, loses, no_gaps file meta x loses, refl, refl))
   unopened_lost Losses why beyond (check.Accounts findings, none, is) = absurd none
   unopened_lost Losses why beyond (check.Memory, none, is) = rw is (inr (inr (tt, refl)))
-  unopened_lost LostAndFound why beyond (inl (fault, none, is)) = rw is (inr (inl (fault, none, refl)))
-  unopened_lost LostAndFound why beyond (inr (meta, under, is)) = rw is (inr (inr ((meta, under), refl)))
+  unopened_lost FoundPages why beyond (inl (fault, none, is)) = rw is (inr (inl (fault, none, refl)))
+  unopened_lost FoundPages why beyond (inr (meta, under, is)) = rw is (inr (inr ((meta, under), refl)))

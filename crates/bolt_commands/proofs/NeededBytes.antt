@@ -1,6 +1,7 @@
 -- A job that shows nothing but metas does the same on any two files with the same metas.
 use Rattle.std.proofs.Common.{◌≡◌, ◌↔◌, inl, inr, ℕ, List, Option, None, Some, true}
-use Rattle.bolt_commands.proofs.Vocabulary.{Answer, DoesJob, JobEnding, FigureForm, HasMetaFault, HasSlotFault, IsActive, IsInSlot, IsInfoAnswer, Job, Meta, MetaFault, Slot}
+use Rattle.bolt_commands.proofs.Vocabulary.{Answer, DoesJob, JobEnding, FigureForm, HasMetaFault, HasSlotFault, IsActive, IsInSlot, IsInfoAnswer, Job}
+use Rattle.bolt_commands.proofs.Vocabulary.{Meta, MetaFault, Slot}
 use Rattle.bolt_job.specs.Jobs.{needs_metas_alone}
 use Rattle.bolt_job.specs.declared.job.Job.TheVariants as job
 
@@ -11,7 +12,8 @@ pub record SameMetas (file other : List ℕ) : Type 0 where
   pub fault : (fault : MetaFault) → HasMetaFault file 0 fault ↔ HasMetaFault other 0 fault
   pub slot_fault : (slot : Slot) (fault : MetaFault) → HasSlotFault file slot fault ↔ HasSlotFault other slot fault
 
-answer_there : (file other : List ℕ) (wanted : Option Slot) (form : FigureForm) (answer : Answer) → SameMetas file other → IsInfoAnswer file wanted form answer
+answer_there : (file other : List ℕ) (wanted : Option Slot) (form : FigureForm) (answer : Answer) → SameMetas file other
+    → IsInfoAnswer file wanted form answer
     → IsInfoAnswer other wanted form answer
 answer_there file other None form answer s (inl (slot, meta, chosen, is)) = inl (slot, meta, (s.chosen slot meta).0 chosen, is)
 answer_there file other (Some named) form answer s (inl (slot, meta, (same, lies), is)) = inl (slot, meta, (same, (s.slot named meta).0 lies), is)

@@ -5,11 +5,11 @@ use Rattle.bolt_check.proofs.Exports.{IsTreePage, a_branch, a_leaf, same_nodes, 
 use Rattle.bolt_check.specs.Nodes.{Nodes}
 use Rattle.bolt_check.specs.Ways.{At_inline, At_page, Spot, reached}
 use Rattle.bolt_etcd.proofs.Exports.{agree_more, bytes_more, count_more, flags_more}
-use Rattle.bolt_etcd.specs.Marks.{HasAllPages}
+use Rattle.bolt_etcd.specs.Check.WholeFiles.{HasAllPages}
 use Rattle.bolt_format.proofs.Exports.{span_passes, span_within}
 use Rattle.bolt_format.specs.{Gaps.page_gap, Pages.PageView, Pages.page_at}
 use Rattle.bolt_layout.specs.NoGaps.{HasNoGap}
-use Rattle.bolt_recover.specs.{Gaps.gap_on, Gaps.kept_gap, Surveys.SurveyedWay}
+use Rattle.bolt_recover.specs.{PageGaps.gap_on, PageGaps.kept_gap, Surveys.SurveyedWay}
 use Rattle.bolt_check.specs.declared.finding.Finding.{Finding}
 
 module _ (file : List ℕ) (meta : Meta) where
@@ -41,7 +41,8 @@ module _ (file more : List ℕ) (meta : Meta) (all : HasAllPages file meta) (tre
   good_more n (a_branch view at is node) = shown_more n view at
 
   pub gaps_more : HasNoGaps file meta → HasNoGaps (file ++ more) meta
-  gaps_more none way spot led = by spot (subst (λ (nodes : Nodes). reached nodes meta.root way ≡ Some spot) (same_nodes file (file ++ more) meta (agree_more file more meta all)) led)
+  gaps_more none way spot led =
+      by spot (subst (λ (nodes : Nodes). reached nodes meta.root way ≡ Some spot) (same_nodes file (file ++ more) meta (agree_more file more meta all)) led)
     where
       by : (s : Spot) → reached (node_at file meta) meta.root way ≡ Some s → HasNoGap (file ++ more) meta s
       by (At_page s) here =

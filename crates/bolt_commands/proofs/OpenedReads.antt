@@ -1,10 +1,13 @@
 -- What is read of what was opened.
 use Rattle.std.proofs.Common.{◌≡◌, ℕ, List, [], Option, Some, inl, inr, map, refl}
 use Rattle.std.proofs.lemmas.List.Elements.{All-nil}
-use Rattle.bolt_commands.proofs.Vocabulary.{AreFoundTo, AreLosses, Checked, Extent, Failure, IsListing, IsMetaOf, IsOpened, IsReadTo, IsRecovered, IsSalvaged, IsUnopened, IsUnreadTo, LossView, LostAndFound, Member, MetaChoice, All, FoundView, IsFoundLeaf, LostView, Meta, Opened, all_lost, found_view, has_listing, hash_refusal, meta_of, opened_found, opened_meta, parts, recovery_meta}
+use Rattle.bolt_commands.proofs.Vocabulary.{AreFoundTo, AreLosses, Checked, Extent, Failure, IsListing, IsMetaOf, IsOpened, IsReadTo, IsRecovered}
+use Rattle.bolt_commands.proofs.Vocabulary.{IsSalvaged, IsUnopened, IsUnreadTo, LossView, LostAndFound, Member, MetaChoice, All, FoundView}
+use Rattle.bolt_commands.proofs.Vocabulary.{IsFoundLeaf, LostView, Meta, Opened, all_lost, found_view, has_listing, hash_refusal, meta_of}
+use Rattle.bolt_commands.proofs.Vocabulary.{opened_found, opened_meta, parts, recovery_meta}
 use Rattle.bolt_commands.proofs.{FoundAnswers.are_leaves, FoundAnswers.are_pages, ReadFiles.read_trees}
-use Rattle.bolt_etcd.specs.declared.snapshot.SnapshotFault.{SnapshotFault}
-use Rattle.bolt_job.specs.declared.choices.Extent.TheVariants.{Losses, LostAndFound as Joins, Sound}
+use Rattle.bolt_etcd.specs.declared.check.snapshot.SnapshotFault.{SnapshotFault}
+use Rattle.bolt_job.specs.declared.choices.Extent.TheVariants.{Losses, FoundPages, Sound}
 use Rattle.bolt_recover.specs.{Found.AreFound, declared.recover_fault.RecoverFault.TheVariants.Memory, declared.recovery.Recovery.Recovery}
 use Rattle.bolt_commands.specs.declared.opened.Opened.TheVariants as opened
 
@@ -24,7 +27,8 @@ module _ {extent : Extent} {file : List ℕ} {choice : MetaChoice} {listing : Li
   searched_read both (to, of) is = rw to (of.under, is)
 
 -- a sound file alone is refused for its hash
-pub refused_read : (extent : Extent) (file : List ℕ) (choice : MetaChoice) (o : Opened) → IsOpened extent file choice o → (hash : Option SnapshotFault) (fault : SnapshotFault)
+pub refused_read : (extent : Extent) (file : List ℕ) (choice : MetaChoice) (o : Opened) → IsOpened extent file choice o
+    → (hash : Option SnapshotFault) (fault : SnapshotFault)
     → hash_refusal extent hash ≡ Some fault
     → (meta : Meta) × (listing : List Member) × (lost : LostView) × (found : List FoundView) × IsReadTo extent file choice meta listing lost found
 refused_read extent file choice (opened.Sound checked) to hash fault is =
@@ -33,7 +37,8 @@ refused_read extent file choice (opened.Recovered recovery) to hash fault is = a
 refused_read extent file choice (opened.Searched both) to hash fault is = absurd (let none = rw to.0 at is in cc)
 
 -- its meta is the one that is chosen
-pub opened_under : (extent : Extent) (file : List ℕ) (choice : MetaChoice) (o : Opened) → IsOpened extent file choice o → IsMetaOf file choice (opened_meta o)
+pub opened_under : (extent : Extent) (file : List ℕ) (choice : MetaChoice) (o : Opened) → IsOpened extent file choice o
+    → IsMetaOf file choice (opened_meta o)
 opened_under extent file choice (opened.Sound checked) to = to.1.under.0
 opened_under extent file choice (opened.Recovered recovery) to = to.1.under.0
 opened_under extent file choice (opened.Searched both) to = to.1.under
@@ -46,15 +51,17 @@ found_opened extent file choice (opened.Recovered recovery) (to, of) = rw to ref
 found_opened extent file choice (opened.Searched both) (to, of) = rw to (are_pages file both.meta both.found.items of.found of.views)
 
 -- they are leaves
-pub found_leaves : (extent : Extent) (file : List ℕ) (choice : MetaChoice) (o : Opened) → IsOpened extent file choice o → All IsFoundLeaf (opened_found o)
+pub found_leaves : (extent : Extent) (file : List ℕ) (choice : MetaChoice) (o : Opened) → IsOpened extent file choice o
+    → All IsFoundLeaf (opened_found o)
 found_leaves extent file choice (opened.Sound checked) to = All-nil IsFoundLeaf
 found_leaves extent file choice (opened.Recovered recovery) to = All-nil IsFoundLeaf
 found_leaves extent file choice (opened.Searched both) to = are_leaves file both.meta both.found.items to.1.views
 
 -- a file that isn't opened isn't read; each has found pages
-pub unopened_unread : ((file : List ℕ) (meta : Meta) → (found : List ℕ) × AreFound file meta found) → (extent : Extent) (file : List ℕ) (choice : MetaChoice) (why : Failure)
+pub unopened_unread : ((file : List ℕ) (meta : Meta) → (found : List ℕ) × AreFound file meta found)
+    → (extent : Extent) (file : List ℕ) (choice : MetaChoice) (why : Failure)
     → IsUnopened extent file choice why → IsUnreadTo extent file choice why
 unopened_unread finds Sound file choice why is = is
 unopened_unread finds Losses file choice why is = is
-unopened_unread finds Joins file choice why (inl none) = inr none
-unopened_unread finds Joins file choice why (inr (meta, under, is)) = let (found, are) = finds file meta in inl (meta, under, (found, Memory, are, tt, is))
+unopened_unread finds FoundPages file choice why (inl none) = inr none
+unopened_unread finds FoundPages file choice why (inr (meta, under, is)) = let (found, are) = finds file meta in inl (meta, under, (found, Memory, are, tt, is))

@@ -1,6 +1,8 @@
 -- What is known of a file that is read, under whatever meta.
 use Rattle.std.proofs.Common.{◌≡◌, ◌<◌, arith, ℕ, List, Result, Ok, Err, IsTrue, ap, inl, inr, refl, subst, sym, true}
-use Rattle.bolt_commands.proofs.Vocabulary.{Active, Assumed, CheckFault, Checked, Failure, HasSoundTrees, InSlot, IsErrAnd, IsFailureOf, IsInSlot, IsMeta, IsMetaOf, IsPageSize, IsReadUnder, Meta, MetaChoice, One, Slot, Zero, bytes_of, meta_of, HasRightAccounts, IsActive, IsRefused, IsRefusedUnder, IsFirstFinding, IsSound, counts_accounts}
+use Rattle.bolt_commands.proofs.Vocabulary.{Active, Assumed, CheckFault, Checked, Failure, HasSoundTrees, InSlot, IsErrAnd, IsFailureOf, IsInSlot}
+use Rattle.bolt_commands.proofs.Vocabulary.{IsMeta, IsMetaOf, IsPageSize, IsReadUnder, Meta, MetaChoice, One, Slot, Zero, bytes_of, meta_of}
+use Rattle.bolt_commands.proofs.Vocabulary.{HasRightAccounts, IsActive, IsRefused, IsRefusedUnder, IsFirstFinding, IsSound, counts_accounts}
 use Rattle.bolt_check.specs.declared.check_fault.CheckFault.TheVariants as check
 use Rattle.bolt_format.proofs.Exports.{size_bounds}
 
@@ -15,7 +17,8 @@ read_meta file choice meta under = under.0
 pub read_active : (file : List ℕ) (slot : Slot) (meta : Meta) → IsActive file slot meta → IsSound file meta true → IsReadUnder file Active meta
 read_active file slot meta chosen sound = ((slot, chosen), sound.trees, sound.right)
 
-active_of : (file : List ℕ) (P : Meta → Type 0) → (slot : Slot) × (meta : Meta) × IsActive file slot meta × P meta → (meta : Meta) × IsMetaOf file Active meta × P meta
+active_of : (file : List ℕ) (P : Meta → Type 0) → (slot : Slot) × (meta : Meta) × IsActive file slot meta × P meta
+    → (meta : Meta) × IsMetaOf file Active meta × P meta
 active_of file P (slot, meta, chosen, rest) = (meta, (slot, chosen), rest)
 
 pub refused_active : (file : List ℕ) (fault : CheckFault) → IsRefused file fault → IsRefusedUnder file Active fault
@@ -25,7 +28,8 @@ refused_active file (check.Accounts findings) (another, other, is, (own, wrong, 
 refused_active file check.Memory is = tt
 
 -- accounts count only under the active meta
-pub no_accounts : (file : List ℕ) (choice : MetaChoice) (meta : Meta) → (choice ≡ Active → ⊥) → IsTrue (counts_accounts choice) → HasRightAccounts file meta
+pub no_accounts : (file : List ℕ) (choice : MetaChoice) (meta : Meta) → (choice ≡ Active → ⊥) → IsTrue (counts_accounts choice)
+    → HasRightAccounts file meta
 no_accounts file Active meta named counts = absurd (named refl)
 no_accounts file (InSlot slot) meta named counts = absurd (cc)
 no_accounts file (Assumed assumed) meta named counts = absurd (cc)

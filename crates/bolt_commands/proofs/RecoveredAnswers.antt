@@ -1,12 +1,16 @@
 -- What is answered of what is recovered of a bucket or at a path.
 use Rattle.std.proofs.Common.{◌≡◌, ◌⊎◌, ℕ, Bool, Err, IfErr, IfOk, List, None, Ok, Option, Result, Some, inl, inr, refl, subst, if◌then◌else◌}
 use Rattle.std.specs.{Borrow.Bor, Option.IfNone, Prelude.IfSome}
-use Rattle.bolt_commands.proofs.Vocabulary.{AreLosses, Contains, JobEnding, Failure, ForLosses, Ghosts, IsErrAnd, IsRecovered, IsRecoveryOf, Json, IsMetasFault, LossView, Losses, MayFail, Member, MetaChoice, MetaFault, OnOk, Path, Shortfall, Slot, PrintsAnswer, ReportFault, Rises, Value, Wrote, ending_by, has_bucket, has_losses, has_recovered, lost_ending, member_cmp, parts, owned_path, recovery_file, recovery_left, recovery_meta, report_ending, reported, shortfall, value_shown}
+use Rattle.bolt_commands.proofs.Vocabulary.{AreLosses, Contains, JobEnding, Failure, ForLosses, Ghosts, IsErrAnd, IsRecovered, IsRecoveryOf, Json}
+use Rattle.bolt_commands.proofs.Vocabulary.{IsMetasFault, LossView, Losses, MayFail, Member, MetaChoice, MetaFault, OnOk, Path, Shortfall, Slot}
+use Rattle.bolt_commands.proofs.Vocabulary.{PrintsAnswer, ReportFault, Rises, Value, Wrote, ending_by, has_bucket, has_losses, has_recovered}
+use Rattle.bolt_commands.proofs.Vocabulary.{shortfall_ending, member_cmp, parts, owned_path, recovery_file, recovery_left, recovery_meta}
+use Rattle.bolt_commands.proofs.Vocabulary.{report_ending, reported, shortfall, value_shown}
 use Rattle.bolt_commands.proofs.{CutTexts.ended_put, CutTexts.short_put, Doing.answer_as, Doing.answer_nothing, OpenedReads.recovered_read}
 use Rattle.bolt_check.specs.declared.check_fault.CheckFault.TheVariants as check
 use Rattle.bolt_commands.specs.Answers.{Answer}
 use Rattle.bolt_commands.specs.KeyAnswers.{IsNamesAnswer, IsRecoveredAnswer, IsRecoveredValue, names_ending, no_bucket, no_key, no_value}
-use Rattle.bolt_report.specs.{HeldAtPaths.HoldsNow, declared.at_path.AtPath.AtPath}
+use Rattle.bolt_report.specs.{AtPaths.HoldsNow, declared.at_path.AtPath.AtPath}
 use Rattle.bolt_commands.specs.{Private.Recovered.bucket_ending, Private.Recovered.value_or_why, declared.failure.Failure.TheVariants.Memory}
 use Rattle.bolt_text.specs.{ReportEndings.HaltsShort, declared.forms.Form.Form}
 use Rattle.bolt_job.specs.declared.bucket_commands.GetJob.{GetJob}
@@ -15,21 +19,26 @@ use Rattle.bolt_report.specs.MemberNames.{WantedNames, names_text}
 use Rattle.bolt_text.specs.declared.report_fault.ReportFault.TheVariants as report
 
 -- memory may run out of any file before anything is written
-pub recovered_none : {S : Type 0} {sink : Ghosts S} {old : S} (file : List ℕ) (choice : MetaChoice) (IsWanted : List Member → Option Shortfall → Answer → Type 0) (result : JobEnding)
+pub recovered_none : {S : Type 0} {sink : Ghosts S} {old : S} (file : List ℕ) (choice : MetaChoice)
+    (IsWanted : List Member → Option Shortfall → Answer → Type 0) (result : JobEnding)
     → IsErrAnd result (λ said. said ≡ Memory) → PrintsAnswer sink old old (IsRecoveredAnswer file choice IsWanted) result
 recovered_none file choice IsWanted result said = answer_nothing Memory result (inr (Memory, (check.Memory, tt, refl), refl)) said
 
-ended_so : (path : Path) (found : Bool) (listing : List Member) (after losses : List LossView) (other : Option (Slot × MetaFault)) → found ≡ has_bucket path listing → after ≡ losses
+ended_so : (path : Path) (found : Bool) (listing : List Member) (after losses : List LossView) (other : Option (Slot × MetaFault))
+    → found ≡ has_bucket path listing → after ≡ losses
     → names_ending path listing (shortfall (parts losses) other) ≡ bucket_ending found (shortfall (parts after) other)
 ended_so path found listing after losses other is lost = rw (is, lost) refl
 
-module _ {file : List ℕ} {choice : MetaChoice} (r : Recovery) (of : IsRecoveryOf file choice r) (other : Option (Slot × MetaFault)) (shown : IsMetasFault Losses file choice other) where
+module _ {file : List ℕ} {choice : MetaChoice} (r : Recovery) (of : IsRecoveryOf file choice r) (other : Option (Slot × MetaFault))
+    (shown : IsMetasFault Losses file choice other) where
   -- what is wanted of the recovered listing and of what it lacks
   pub of_recovery : {S : Type 0} {sink : Ghosts S} {old new : S} (IsWanted : List Member → Option Shortfall → Answer → Type 0) (result : JobEnding)
       (listing : List Member) → IsRecovered file (recovery_meta r) listing → (losses : List LossView) → AreLosses file (recovery_meta r) losses
-      → PrintsAnswer sink old new (IsWanted listing (shortfall (parts losses) other)) result → PrintsAnswer sink old new (IsRecoveredAnswer file choice IsWanted) result
+      → PrintsAnswer sink old new (IsWanted listing (shortfall (parts losses) other)) result
+      → PrintsAnswer sink old new (IsRecoveredAnswer file choice IsWanted) result
   of_recovery IsWanted result listing is losses are put =
-      answer_as put (λ answer wanted. inl (recovery_meta r, listing, parts losses, recovered_read r (refl, of) is are, shortfall (parts losses) other, (other, shown, refl), wanted))
+      answer_as put (λ answer wanted.
+      inl (recovery_meta r, listing, parts losses, recovered_read r (refl, of) is are, shortfall (parts losses) other, (other, shown, refl), wanted))
 
   -- ---- the names in a bucket
 
@@ -43,7 +52,8 @@ module _ {file : List ℕ} {choice : MetaChoice} (r : Recovery) (of : IsRecovery
 
   module _ {S : Type 0} {sink : Ghosts S} {old new : S} (form : Form) (wanted : WantedNames) (path : Path) where
     pub names_answered : (put : Result Bool ReportFault) → MayFail put
-        → ((listing : List Member) → Lists listing → Rises member_cmp (recovery_left r listing) → Wrote sink old new (names_text form wanted path (recovery_left r listing)) (report_ending put))
+        → ((listing : List Member) → Lists listing → Rises member_cmp (recovery_left r listing)
+        → Wrote sink old new (names_text form wanted path (recovery_left r listing)) (report_ending put))
         → IfOk put (λ found. (listing : List Member) → Lists listing → found ≡ has_bucket path (recovery_left r listing))
         → (after : List LossView) → OnOk put (ForLosses (recovery_file r) (recovery_meta r) (λ losses. after ≡ losses))
         → PrintsAnswer sink old new (IsRecoveredAnswer file choice (IsNamesAnswer form wanted path)) (end_of_names put after)
@@ -56,23 +66,27 @@ module _ {file : List ℕ} {choice : MetaChoice} (r : Recovery) (of : IsRecovery
         let has = rw all at (knows own here) in
         let put = ended_put {A = Bool} (names_text form wanted path own) (names_ending path own (shortfall (parts losses) other)) (Ok found) wrote tt in
         of_recovery (IsNamesAnswer form wanted path) _ own is losses are
-        (subst (λ (e : JobEnding). PrintsAnswer sink old new (IsNamesAnswer form wanted path own (shortfall (parts losses) other)) e) (ended_so path found own after losses other has (known losses (rw of.bytes are))) put)
+        (subst (λ (e : JobEnding). PrintsAnswer sink old new (IsNamesAnswer form wanted path own (shortfall (parts losses) other)) e)
+        (ended_so path found own after losses other has (known losses (rw of.bytes are))) put)
     names_answered (Err e) fault puts knows after known =
         let (own, is) = has_recovered file (recovery_meta r) in
         let (losses, are) = has_losses file (recovery_meta r) in
         let here : Lists own = rw of.bytes is in
         let all = of.all own is in
         let wrote = rw all at (puts own here (rw all is.rises)) in
-        of_recovery (IsNamesAnswer form wanted path) _ own is losses are (ended_put {A = Bool} (names_text form wanted path own) (names_ending path own (shortfall (parts losses) other)) (Err e) wrote fault)
+        of_recovery (IsNamesAnswer form wanted path) _ own is losses are
+        (ended_put {A = Bool} (names_text form wanted path own) (names_ending path own (shortfall (parts losses) other)) (Err e) wrote fault)
 
 -- ---- the value at a path
 
-known_value : (value : Option (Bor (List ℕ))) (has : Bool) (lost : Option Shortfall) (P : Bor (List ℕ) → Type 0) (there : Bor (List ℕ)) → IfSome value P
+known_value : (value : Option (Bor (List ℕ))) (has : Bool) (lost : Option Shortfall) (P : Bor (List ℕ) → Type 0) (there : Bor (List ℕ))
+    → IfSome value P
     → Ok there ≡ value_or_why value has lost → P there
 known_value (Some value) has lost P there some same = let is : there ≡ value = cc in rw is some
 known_value None has lost P there some same = absurd (cc)
 
-known_none : (value : Option (Bor (List ℕ))) (has : Bool) (lost : Option Shortfall) (N : Type 0) (why : Failure) → IfNone value N → Err why ≡ value_or_why value has lost
+known_none : (value : Option (Bor (List ℕ))) (has : Bool) (lost : Option Shortfall) (N : Type 0) (why : Failure) → IfNone value N
+    → Err why ≡ value_or_why value has lost
     → N × (why ≡ (if has then no_key lost else no_bucket lost))
 known_none (Some value) has lost N why none same = absurd (cc)
 known_none None has lost N why none same = (none, cc)
@@ -88,9 +102,11 @@ module _ (members : List Member) (path : Path) (at : AtPath) (holds : HoldsNow m
       (none, rw holds.bucket at is)
 
 pub value_put : {S A : Type 0} {sink : Ghosts S} {old new : S} (job : GetJob) (listing : List Member) (lost : Option Shortfall) (value : List ℕ)
-    → Contains listing (owned_path job.path.items, Value value) → (put : Result A ReportFault) → Wrote sink old new (value_shown job.form job.no_newline value) (report_ending put)
+    → Contains listing (owned_path job.path.items, Value value) → (put : Result A ReportFault)
+    → Wrote sink old new (value_shown job.form job.no_newline value) (report_ending put)
     → HaltsShort sink old new (value_shown job.form job.no_newline value) (report_ending put)
     → IfErr put (λ e. (e ≡ report.Sink) ⊎ ((e ≡ report.NoMemory) × (job.form ≡ Json)))
-    → PrintsAnswer sink old new (IsRecoveredValue job listing lost) (ending_by put (lost_ending lost))
+    → PrintsAnswer sink old new (IsRecoveredValue job listing lost) (ending_by put (shortfall_ending lost))
 value_put job listing lost value holds put wrote halts fault =
-    answer_as (short_put (job.form ≡ Json) (value_shown job.form job.no_newline value) (lost_ending lost) put wrote halts fault) (λ answer shown. inl (value, holds, shown))
+    answer_as (short_put (job.form ≡ Json) (value_shown job.form job.no_newline value) (shortfall_ending lost) put wrote halts fault)
+    (λ answer shown. inl (value, holds, shown))

@@ -1,30 +1,39 @@
 -- The copy of the repaired listing, and what is then reported of it.
 use Rattle.std.proofs.Common.{◌≡◌, ℕ, List, [], Bool, Option, Result, Err, Ok, inl, inr, length, refl, subst, sym}
-use Rattle.bolt_commands.proofs.Vocabulary.{CopiesListing, WritesAnswer, JobEnding, Failure, Ghosts, IsAskedBlueprint, IsSearchOf, LostAndFound, Member, Meta, MetaChoice, PageSize, AreCopyFaults, FileFaults, all_lost, blueprint_layout, copy_page_size, is_snapshot, layout_for, layout_of_listing}
+use Rattle.bolt_commands.proofs.Vocabulary.{CopiesListing, WritesAnswer, JobEnding, Failure, Ghosts, IsAskedBlueprint, IsSearchOf, LostAndFound}
+use Rattle.bolt_commands.proofs.Vocabulary.{Member, Meta, MetaChoice, PageSize, AreCopyFaults, FileFaults, all_lost, blueprint_layout, copy_page_size}
+use Rattle.bolt_commands.proofs.Vocabulary.{is_snapshot, layout_for, layout_of_listing}
 use Rattle.bolt_commands.proofs.CopyAnswers.{copy_asked, listing_done, listing_failed}
 use Rattle.bolt_bulk.specs.declared.blueprint.Blueprint.{Blueprint}
-use Rattle.bolt_job.specs.{MetaChoices.IsMetaOf, declared.choices.CopyKind.CopyKind, declared.choices.Extent.TheVariants.LostAndFound as Joins}
+use Rattle.bolt_job.specs.{MetaChoices.IsMetaOf, declared.choices.CopyKind.CopyKind, declared.choices.Extent.TheVariants.FoundPages}
 use Rattle.bolt_layout.specs.declared.Layout.TheVariants.{Balanced}
 use Rattle.bolt_recover.specs.Lost.{IsAllLost}
-use Rattle.bolt_repair.specs.{FullRepairs.IsFullRepair, RepairedMerges.repair_back, RepairedMerges.repair_made, RepairedMerges.repair_unread, Readable.unread, Repaired.HasStore, Repaired.IsRepaired, Repaired.repaired_listing, declared.repair.Repair.Repair}
+use Rattle.bolt_repair.specs.{FullRepairs.IsFullRepair, RepairedMerges.repair_back, RepairedMerges.repair_made, RepairedMerges.repair_unread}
+use Rattle.bolt_repair.specs.{Readable.unread, Repaired.HasStore, Repaired.IsRepaired, Repaired.repaired_listing, declared.repair.Repair.Repair}
 use Rattle.bolt_repair.specs.declared.repair_fault.RepairFault.TheVariants.{Memory}
-use Rattle.bolt_commands.specs.{JobAnswers.WritesRestored, Private.Opened.IsUnsearched, RepairAnswers.IsRestored, RepairAnswers.IsUnrestored, RepairAnswers.repair_report}
+use Rattle.bolt_commands.specs.{JobAnswers.WritesRestored, Private.Opened.IsUnsearched, RepairAnswers.IsRestored, RepairAnswers.IsUnrestored}
+use Rattle.bolt_commands.specs.{RepairAnswers.repair_report}
 
 -- a file that isn't searched isn't repaired
-pub unsearched_unrestored : (file : List ℕ) (choice : MetaChoice) (why : Failure) → IsUnsearched file choice why → (search : Bool) → IsUnrestored file choice search why
+pub unsearched_unrestored : (file : List ℕ) (choice : MetaChoice) (why : Failure) → IsUnsearched file choice why → (search : Bool)
+    → IsUnrestored file choice search why
 unsearched_unrestored file choice why (inl none) search = inr none
 unsearched_unrestored file choice why (inr (meta, under, is)) search = inl (meta, Memory, under, tt, is)
 
 -- the copy of the blueprint that is asked for, which is for bbolt
-listing_asked : {T : Type 0} {target : Ghosts T} {old new : T} {listing : List Member} {snapshot : Bool} (kind : CopyKind) (size : Option PageSize) (meta : Meta) (blueprint : Blueprint) (result : Result ℕ Failure)
-    → layout_for kind ≡ Balanced → IsAskedBlueprint kind size meta blueprint → CopiesListing target old new (blueprint_layout blueprint listing) listing snapshot result
+listing_asked : {T : Type 0} {target : Ghosts T} {old new : T} {listing : List Member} {snapshot : Bool} (kind : CopyKind) (size : Option PageSize)
+    (meta : Meta) (blueprint : Blueprint) (result : Result ℕ Failure)
+    → layout_for kind ≡ Balanced → IsAskedBlueprint kind size meta blueprint
+    → CopiesListing target old new (blueprint_layout blueprint listing) listing snapshot result
     → CopiesListing target old new (layout_of_listing Balanced (copy_page_size size meta) listing meta.root_sequence) listing snapshot result
 listing_asked kind size meta blueprint result layout asked (made, copy, same) = (made, rw layout at (copy_asked asked copy), same)
 
 -- The repair of a file that was searched. It names the file and its meta in its own way.
-module _ (file : List ℕ) (choice : MetaChoice) (search : Bool) (both : LostAndFound) (repair : Repair) (own : List ℕ) (meta : Meta) (searched : IsSearchOf file choice both) (same_file : own ≡ file) (same_meta : meta ≡ both.meta)
+module _ (file : List ℕ) (choice : MetaChoice) (search : Bool) (both : LostAndFound) (repair : Repair) (own : List ℕ) (meta : Meta)
+    (searched : IsSearchOf file choice both) (same_file : own ≡ file) (same_meta : meta ≡ both.meta)
     (full : IsFullRepair own meta search (repair_back repair) (repair_made repair) repair.left_out)
-    (store : repair_back repair ≡ [] → HasStore full.repair.recovered) (leaves : repair_unread repair ≡ unread full.repair.recovered) (back : ℕ) (counts : back ≡ length (repair_back repair)) where
+    (store : repair_back repair ≡ [] → HasStore full.repair.recovered) (leaves : repair_unread repair ≡ unread full.repair.recovered) (back : ℕ)
+    (counts : back ≡ length (repair_back repair)) where
   -- the repaired listing
   abbrev pub the_repaired : List Member
   the_repaired = repaired_listing full.repair.recovered (repair_made repair) (repair_back repair)
@@ -38,7 +47,9 @@ module _ (file : List ℕ) (choice : MetaChoice) (search : Bool) (both : LostAnd
       (subst (λ (f : List ℕ). IsRestored f choice search meta the_repaired (all_lost both) (repair_unread repair) back repair.left_out) same_file
       (record {
         under = subst (λ (f : List ℕ). IsMetaOf f choice meta) (sym same_file) (subst (λ (m : Meta). IsMetaOf file choice m) (sym same_meta) searched.under);
-        loses = subst (λ (f : List ℕ). IsAllLost f meta (all_lost both)) (sym same_file) (subst (λ (m : Meta). IsAllLost file m (all_lost both)) (sym same_meta) searched.lost);
+        loses =
+            subst (λ (f : List ℕ). IsAllLost f meta (all_lost both)) (sym same_file)
+            (subst (λ (m : Meta). IsAllLost file m (all_lost both)) (sym same_meta) searched.lost);
         entries = repair_back repair;
         made = repair_made repair;
         repairs = full;
@@ -49,22 +60,48 @@ module _ (file : List ℕ) (choice : MetaChoice) (search : Bool) (both : LostAnd
       }))
 
   -- its copy is whole and reported, or it isn't whole and nothing is
-  module _ {O T : Type 0} (out : Ghosts O) (out_old : O) {target : Ghosts T} {old new : T} (kind : CopyKind) (size : Option PageSize) (snapshot : Bool) (blueprint : Blueprint)
+  module _ {O T : Type 0} (out : Ghosts O) (out_old : O) {target : Ghosts T} {old new : T} (kind : CopyKind) (size : Option PageSize) (snapshot : Bool)
+      (blueprint : Blueprint)
       (same_kind : is_snapshot kind ≡ snapshot) (layout : layout_for kind ≡ Balanced) (asked : IsAskedBlueprint kind size both.meta blueprint)
-      (faults : FileFaults) (are : AreCopyFaults Joins snapshot file choice faults) (ending : JobEnding) where
-    copy_of_repaired : (result : Result ℕ Failure) → CopiesListing target old new (blueprint_layout blueprint the_repaired) the_repaired (is_snapshot kind) result
-        → CopiesListing target old new (layout_of_listing Balanced (copy_page_size size both.meta) the_repaired both.meta.root_sequence) the_repaired snapshot result
+      (faults : FileFaults) (are : AreCopyFaults FoundPages snapshot file choice faults) (ending : JobEnding) where
+    copy_of_repaired : (result : Result ℕ Failure)
+        → CopiesListing target old new (blueprint_layout blueprint the_repaired) the_repaired (is_snapshot kind) result
+        → CopiesListing target old new (layout_of_listing Balanced (copy_page_size size both.meta) the_repaired both.meta.root_sequence) the_repaired
+        snapshot result
     copy_of_repaired result copy = listing_asked kind size both.meta blueprint result layout asked (rw same_kind at copy)
 
-    pub repair_failed : (why : Failure) → CopiesListing target old new (blueprint_layout blueprint the_repaired) the_repaired (is_snapshot kind) (Err why) → ending ≡ Err why
+    pub repair_failed : (why : Failure)
+        → CopiesListing target old new (blueprint_layout blueprint the_repaired) the_repaired (is_snapshot kind) (Err why) → ending ≡ Err why
         → WritesRestored out.taken out.failed out_old out_old target.taken target.failed old new file choice size snapshot search ending
     repair_failed why copy ends =
-        let report = repair_report faults (all_lost both) (repair_unread repair) back repair.left_out (length file) in
-        (both.meta, the_repaired, all_lost both, repair_unread repair, back, repair.left_out, is_restored, faults, are, listing_failed out out_old report ending why (copy_of_repaired (Err why) copy) ends)
+        let report = repair_report faults (all_lost both) (repair_unread repair) back repair.left_out (length file) in (
+          both.meta,
+          the_repaired,
+          all_lost both,
+          repair_unread repair,
+          back,
+          repair.left_out,
+          is_restored,
+          faults,
+          are,
+          listing_failed out out_old report ending why (copy_of_repaired (Err why) copy) ends,
+        )
 
-    pub repair_done : {out_new : O} (count : ℕ) → CopiesListing target old new (blueprint_layout blueprint the_repaired) the_repaired (is_snapshot kind) (Ok count)
-        → WritesAnswer out.taken out.failed out_old out_new (repair_report faults (all_lost both) (repair_unread repair) back repair.left_out (length file) count) ending
+    pub repair_done : {out_new : O} (count : ℕ)
+        → CopiesListing target old new (blueprint_layout blueprint the_repaired) the_repaired (is_snapshot kind) (Ok count)
+        → WritesAnswer out.taken out.failed out_old out_new
+        (repair_report faults (all_lost both) (repair_unread repair) back repair.left_out (length file) count) ending
         → WritesRestored out.taken out.failed out_old out_new target.taken target.failed old new file choice size snapshot search ending
     repair_done count copy does =
-        let report = repair_report faults (all_lost both) (repair_unread repair) back repair.left_out (length file) in
-        (both.meta, the_repaired, all_lost both, repair_unread repair, back, repair.left_out, is_restored, faults, are, listing_done out out_old report ending count (copy_of_repaired (Ok count) copy) does)
+        let report = repair_report faults (all_lost both) (repair_unread repair) back repair.left_out (length file) in (
+          both.meta,
+          the_repaired,
+          all_lost both,
+          repair_unread repair,
+          back,
+          repair.left_out,
+          is_restored,
+          faults,
+          are,
+          listing_done out out_old report ending count (copy_of_repaired (Ok count) copy) does,
+        )

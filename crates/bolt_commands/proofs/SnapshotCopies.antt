@@ -1,23 +1,30 @@
 -- A copy, and in a snapshot its hash: what the target accepted of both.
-use Rattle.std.proofs.Common.{◌≡◌, ◌≢◌, ◌∙◌, ◌+◌, ◌<◌, ℕ, List, [], Bool, true, false, arith, length, length-append, Option, Result, Ok, Err, ap, inl, inr}
+use Rattle.std.proofs.Common.{◌≡◌, ◌≢◌, ◌∙◌, ◌+◌, ◌<◌, ℕ, List, [], Bool, true, false, arith, length, length-append, Option, Result, Ok, Err, ap, inl}
+use Rattle.std.proofs.Common.{inr}
 use Rattle.std.proofs.Common.{refl, subst, sym, rules}
-use Rattle.bolt_commands.proofs.Vocabulary.{Appends, AppendsProperPrefix, AppendsProperPrefix-first, BulkFault, EndsCopy, HashesSince, Holds256, IsErrAnd, IsOk, Keeps, OnOk, Sha256, StopsShort, cases_lt, copied, copy_of, length-sha256, sha256, too_many}
+use Rattle.bolt_commands.proofs.Vocabulary.{Appends, AppendsProperPrefix, AppendsProperPrefix-first, BulkFault, EndsCopy, HashesSince, Holds256}
+use Rattle.bolt_commands.proofs.Vocabulary.{IsErrAnd, IsOk, Keeps, OnOk, Sha256, StopsShort, cases_lt, copied, copy_of, length-sha256, sha256}
+use Rattle.bolt_commands.proofs.Vocabulary.{too_many}
 use Rattle.bolt_commands.proofs.HashLemmas.{short_with_hash, whole_with_hash}
 use Rattle.bolt_bulk.specs.{Compacting.Copies, declared.members_copy.Done.Done}
 use Rattle.bolt_bulk.specs.declared.bulk_fault.BulkFault.TheVariants as bulk
 
 -- a proper prefix of the layout is one of the copy
-proper_copy : (snapshot : Bool) (old new : Option (List ℕ)) (layout : List ℕ) → AppendsProperPrefix old new layout → AppendsProperPrefix old new (copy_of snapshot layout)
+proper_copy : (snapshot : Bool) (old new : Option (List ℕ)) (layout : List ℕ) → AppendsProperPrefix old new layout
+    → AppendsProperPrefix old new (copy_of snapshot layout)
 proper_copy false old new layout short = short
 proper_copy true old new layout short = AppendsProperPrefix-first old new layout (sha256 layout) short
 
 module _ {T : Type 0} (taken : T → Option (List ℕ)) (failed : T → ℕ) (old mid : T) (layout : List ℕ) where
   -- the layout isn't whole
-  stops_at : (snapshot : Bool) (e : BulkFault) → Copies taken failed old mid layout (Err e) → StopsShort taken failed old mid layout (copy_of snapshot layout) (copied e)
-  stops_at snapshot bulk.Memory a = record { short = proper_copy snapshot (taken old) (taken mid) layout a.short; why = a.other (λ bad. cc); large = λ h. (a.refuses h).1 }
+  stops_at : (snapshot : Bool) (e : BulkFault) → Copies taken failed old mid layout (Err e)
+      → StopsShort taken failed old mid layout (copy_of snapshot layout) (copied e)
+  stops_at snapshot bulk.Memory a =
+      record { short = proper_copy snapshot (taken old) (taken mid) layout a.short; why = a.other (λ bad. cc); large = λ h. (a.refuses h).1 }
   stops_at snapshot bulk.TooLarge a =
       record { short = proper_copy snapshot (taken old) (taken mid) layout a.short; why = (a.large refl, a.other (λ bad. cc)); large = λ h. (a.refuses h).1 }
-  stops_at snapshot bulk.Sink a = record { short = proper_copy snapshot (taken old) (taken mid) layout a.short; why = a.failure refl; large = λ h. (a.refuses h).1 }
+  stops_at snapshot bulk.Sink a =
+      record { short = proper_copy snapshot (taken old) (taken mid) layout a.short; why = a.failure refl; large = λ h. (a.refuses h).1 }
 
   pub layout_stops : (snapshot : Bool) (copy : Result Done BulkFault) (result : Result ℕ BulkFault) (e : BulkFault) → copy ≡ Err e
       → Copies taken failed old mid layout copy → IsErrAnd result (λ f. f ≡ e) → EndsCopy taken failed old mid layout snapshot result
@@ -36,12 +43,14 @@ module _ {T : Type 0} (taken : T → Option (List ℕ)) (failed : T → ℕ) (ol
     -- the copy is its layout
     pub layout_whole : (snapshot : Bool) → snapshot ≡ false → EndsCopy taken failed old mid layout snapshot (Ok done.bytes)
     layout_whole snapshot plain =
-        subst (λ (s : Bool). EndsCopy taken failed old mid layout s (Ok done.bytes)) (sym plain) (record { small = small; all = at_ok.all; sound = at_ok.sound; long = at_ok.bytes })
+        subst (λ (s : Bool). EndsCopy taken failed old mid layout s (Ok done.bytes)) (sym plain)
+        (record { small = small; all = at_ok.all; sound = at_ok.sound; long = at_ok.bytes })
 
     module _ (hash : Sha256) (digest : List ℕ) (ends : (m : List ℕ) → Holds256 hash m → digest ≡ sha256 m)
         (since : failed mid ≡ 0 → ∥ HashesSince (taken old) (taken mid) hash ∥₁) (new : T) where
       -- the layout is whole, and its hash isn't
-      pub hash_stops : (result : Result ℕ BulkFault) → IsErrAnd result (λ f. f ≡ bulk.Sink) → (digest ≢ [] → AppendsProperPrefix (taken mid) (taken new) digest)
+      pub hash_stops : (result : Result ℕ BulkFault) → IsErrAnd result (λ f. f ≡ bulk.Sink)
+          → (digest ≢ [] → AppendsProperPrefix (taken mid) (taken new) digest)
           → (0 < failed mid → Keeps (taken mid) (taken new)) → 0 < failed new → EndsCopy taken failed old new layout true result
       hash_stops (Ok k) gives put keeps fails = absurd gives
       hash_stops (Err f) gives put keeps fails =
@@ -58,7 +67,9 @@ module _ {T : Type 0} (taken : T → Option (List ℕ)) (failed : T → ℕ) (ol
         small = small;
         all = whole_with_hash (taken old) (taken mid) (taken new) (failed mid) layout hash digest ends at_ok.all since put healthy;
         sound = sound ∙ at_ok.sound;
-        long = counts (subst (λ n. n < too_many) (sym at_ok.bytes) small) ∙ ap (λ n. n + 32) at_ok.bytes ∙ omega (arith, length-append layout (sha256 layout), length-sha256 layout);
+        long =
+            counts (subst (λ n. n < too_many) (sym at_ok.bytes) small) ∙ ap (λ n. n + 32) at_ok.bytes
+            ∙ omega (arith, length-append layout (sha256 layout), length-sha256 layout);
       }
 
 -- what holds of a layout that is whole, holds of a copy that is

@@ -1,10 +1,16 @@
 -- With sound trees, `keys`, `buckets` and `get` print with `--recover` what they print without it.
-use Rattle.std.proofs.Common.{◌≡◌, ◌≢◌, ◌∙◌, ◌↔◌, ◌⊎◌, ◌-◌, arith, ℕ, Bool, true, false, List, [], ◌∷◌, Err, None, Option, ap, filter, inl, inr, length, refl, subst, take}
-use Rattle.bolt_commands.proofs.Vocabulary.{Active, Answer, CheckFault, Contains, Failure, HasSoundTrees, HoldsIn, HoldsNone, Holds, IsEntriesAnswer, IsEntry, IsFailureOf, IsListing, IsMetaOf, IsReadAnswer, Key, LeadsTo, LeafElement, Member, Meta, MetaChoice, Names, Path, Root_page, Shortfall, Start, Value, has_bucket, has_listing, item_of, keys_text, parents_of, owned_path, props, refused, start_of, ∥∥₁_elim}
-use Rattle.bolt_commands.proofs.{EntryNames.names_are_keys, ListedBuckets.has_named, ListedBuckets.named_has, ListedBuckets.none_named, ReadFiles.read_meta}
+use Rattle.std.proofs.Common.{◌≡◌, ◌≢◌, ◌∙◌, ◌↔◌, ◌⊎◌, ◌-◌, arith, ℕ, Bool, true, false, List, [], ◌∷◌, Err, None, Option, ap, filter, inl, inr}
+use Rattle.std.proofs.Common.{length, refl, subst, take}
+use Rattle.bolt_commands.proofs.Vocabulary.{Active, Answer, CheckFault, Contains, Failure, HasSoundTrees, HoldsIn, HoldsNone, Holds, IsEntriesAnswer}
+use Rattle.bolt_commands.proofs.Vocabulary.{IsEntry, IsFailureOf, IsListing, IsMetaOf, IsReadAnswer, Key, LeadsTo, LeafElement, Member, Meta}
+use Rattle.bolt_commands.proofs.Vocabulary.{MetaChoice, Names, Path, Root_page, Shortfall, Start, Value, has_bucket, has_listing, item_of, keys_text}
+use Rattle.bolt_commands.proofs.Vocabulary.{parents_of, owned_path, props, refused, start_of, ∥∥₁_elim}
+use Rattle.bolt_commands.proofs.{EntryNames.names_are_keys, ListedBuckets.has_named, ListedBuckets.named_has, ListedBuckets.none_named}
+use Rattle.bolt_commands.proofs.{ReadFiles.read_meta}
 use Rattle.bolt_commands.proofs.{SoundReads.keeps_root, SoundReads.unread, SoundReads.unrecovered, OtherMetas.no_hidden, OtherMetas.none_hidden}
 use Rattle.bolt_commands.proofs.SoundRecovery.{Below, names_one, no_losses, recovers_alike, under}
-use Rattle.bolt_commands.specs.{KeyAnswers.IsGetAnswer, KeyAnswers.IsNamesAnswer, KeyAnswers.IsRecoveredAnswer, KeyAnswers.IsRecoveredValue, KeyAnswers.no_value, Alike.HidesNoState}
+use Rattle.bolt_commands.specs.{KeyAnswers.IsGetAnswer, KeyAnswers.IsNamesAnswer, KeyAnswers.IsRecoveredAnswer, KeyAnswers.IsRecoveredValue}
+use Rattle.bolt_commands.specs.{KeyAnswers.no_value, Alike.HidesNoState}
 use Rattle.bolt_check.specs.declared.check_fault.CheckFault.TheVariants as check
 use Rattle.bolt_commands.specs.declared.failure.Failure.TheVariants as failure
 use Rattle.bolt_job.specs.declared.bucket_commands.GetJob.{GetJob}
@@ -19,7 +25,8 @@ memory_fails fault why same of = subst (λ (f : CheckFault). IsFailureOf f why) 
 -- ---- the names of a listing are those of entries
 
 module _ (file : List ℕ) (meta : Meta) (trees : HasSoundTrees file meta) (listing : List Member) (lists : IsListing file meta listing) (answer : Answer) where
-  module _ (form : Form) (want : WantedNames) (is_named : LeafElement → Bool) (same : (e : LeafElement) → want e.key (item_of e) ≡ is_named e) (path : Path) where
+  module _ (form : Form) (want : WantedNames) (is_named : LeafElement → Bool) (same : (e : LeafElement) → want e.key (item_of e) ≡ is_named e)
+      (path : Path) where
     abbrev IsNames : Type 0
     IsNames = IsNamesAnswer form want path listing None answer
 
@@ -31,28 +38,40 @@ module _ (file : List ℕ) (meta : Meta) (trees : HasSoundTrees file meta) (list
     keys_there whole (inl ended) true e =
         let (bucket, leads) = named_has file meta listing lists path e in
         let (entries, are) = all_entries file meta trees path bucket leads in
-        inl (bucket, entries, leads, are, inl (rw (names_are_keys form want is_named same file meta trees listing lists path bucket leads entries are, e) at ended))
+        inl (
+          bucket,
+          entries,
+          leads,
+          are,
+          inl (rw (names_are_keys form want is_named same file meta trees listing lists path bucket leads entries are, e) at ended),
+        )
     keys_there whole (inl ended) false e =
-        let none : (bucket : Start) → LeadsTo file meta path bucket → ⊥ = λ bucket leads. (let has = has_named file meta listing lists path bucket leads in cc) in
+        let none : (bucket : Start) → LeadsTo file meta path bucket → ⊥ =
+        λ bucket leads. (let has = has_named file meta listing lists path bucket leads in cc) in
         inr (none, rw e at ended)
 
     keys_back : IsKeys → IsNames
     keys_back (inl (bucket, entries, leads, are, shown)) =
-        rw (names_are_keys form want is_named same file meta trees listing lists path bucket leads entries are, has_named file meta listing lists path bucket leads)
+        rw (
+          names_are_keys form want is_named same file meta trees listing lists path bucket leads entries are,
+          has_named file meta listing lists path bucket leads,
+        )
         (elim shown [ inl ended ↦ inl ended | inr (json, (front, rest, split, short, cut)) ↦ inr (front, rest, split, cut) ])
     keys_back (inr (nowhere, none)) = rw (none_named file meta listing lists path nowhere) (inl none)
 
 -- ---- a value of a listing is what its path holds
 
 -- what a path holds, the bucket before its last part has
-held_parent : (Entry : Start → LeafElement → Type 0) (from : Start) (key : Key) (path : Path) (value : List ℕ) → Holds Entry from (key ∷ path) (Value value)
+held_parent : (Entry : Start → LeafElement → Type 0) (from : Start) (key : Key) (path : Path) (value : List ℕ)
+    → Holds Entry from (key ∷ path) (Value value)
     → (bucket : Start) × Names Entry from (take (length path) (key ∷ path)) bucket
 held_parent Entry from key [] value held = (from, refl)
 held_parent Entry from key (next ∷ path) value (e, is, k, b, held) =
     let (bucket, names) = held_parent Entry (start_of e.value) next path value held in
     (bucket, (e, is, k, b, names))
 
-parent_of : (file : List ℕ) (meta : Meta) (path : Path) (value : List ℕ) → HoldsIn file meta path (Value value) → (bucket : Start) × LeadsTo file meta (parents_of path) bucket
+parent_of : (file : List ℕ) (meta : Meta) (path : Path) (value : List ℕ) → HoldsIn file meta path (Value value)
+    → (bucket : Start) × LeadsTo file meta (parents_of path) bucket
 parent_of file meta [] value held = absurd held
 parent_of file meta (key ∷ path) value held =
     let one : length (key ∷ path) - 1 ≡ length path = omega arith in
@@ -62,7 +81,8 @@ module _ (file : List ℕ) (meta : Meta) (listing : List Member) (lists : IsList
   abbrev IsWhy : Path → Failure → Type 0
   IsWhy path reason = HoldsNone file path meta reason
 
-  why_there : (path : Path) → ((value : List ℕ) → Contains listing (path, Value value) → ⊥) → (has : Bool) → has_bucket (parents_of path) listing ≡ has
+  why_there : (path : Path) → ((value : List ℕ) → Contains listing (path, Value value) → ⊥) → (has : Bool)
+      → has_bucket (parents_of path) listing ≡ has
       → IsWhy path (no_value path listing None)
   why_there path none true e =
       let (bucket, leads) = named_has file meta listing lists (parents_of path) e in
@@ -102,14 +122,16 @@ module _ (b : Below) (file : List ℕ) (meta : Meta) (trees : HasSoundTrees file
   recovered_there : (IsWanted : List Member → Option Shortfall → Answer → Type 0) → IsRecoveredAnswer file wanted IsWanted answer
       → ((listing : List Member) × IsListing file meta listing × IsWanted listing None answer) ⊎ (answer ≡ refused failure.Memory)
   recovered_there IsWanted (inl (other, listing, lost, read, lacking, (slot, are, lacks), is)) =
-      let (same, (read_under, lists, none, found)) = (recovers_alike b file meta trees wanted named shown shown_named hides alone).there.read other listing lost [] read in
+      let (same, (read_under, lists, none, found)) =
+      (recovers_alike b file meta trees wanted named shown shown_named hides alone).there.read other listing lost [] read in
       let nothing : lacking ≡ None = lacks ∙ rw (none, none_hidden file wanted hides slot are) refl in
       inl (listing, lists, subst (λ (l : Option Shortfall). IsWanted listing l answer) nothing is)
   recovered_there IsWanted (inr (why, (fault, refused_for, of), is)) =
       let memory = unrecovered file meta trees wanted fault (names_one b file wanted meta shown) shown refused_for in
       inr (is ∙ ap refused (memory_fails fault why memory of))
 
-  recovered_back : (IsWanted : List Member → Option Shortfall → Answer → Type 0) → (listing : List Member) → IsListing file meta listing → IsWanted listing None answer
+  recovered_back : (IsWanted : List Member → Option Shortfall → Answer → Type 0) → (listing : List Member) → IsListing file meta listing
+      → IsWanted listing None answer
       → IsRecoveredAnswer file wanted IsWanted answer
   recovered_back IsWanted listing lists is =
       inl (
@@ -128,18 +150,23 @@ module _ (b : Below) (file : List ℕ) (meta : Meta) (trees : HasSoundTrees file
       )
 
   -- and without it, one of the file, or memory ran out.
-  sound_there : (IsAccepted : Meta → Answer → Type 0) → IsReadAnswer file named IsAccepted answer → IsAccepted meta answer ⊎ (answer ≡ refused failure.Memory)
+  sound_there : (IsAccepted : Meta → Answer → Type 0) → IsReadAnswer file named IsAccepted answer
+      → IsAccepted meta answer ⊎ (answer ≡ refused failure.Memory)
   sound_there IsAccepted (inl (other, read, is)) =
       inl (subst (λ (m : Meta). IsAccepted m answer) (names_one b file named meta shown_named other (read_meta file named other read)) is)
   sound_there IsAccepted (inr (fault, refused_for, (why, of, is))) =
-      let memory = unread file meta trees named fault (names_one b file named meta shown_named) (under b file meta trees wanted named shown shown_named hides alone) refused_for in
+      let memory =
+      unread file meta trees named fault (names_one b file named meta shown_named) (under b file meta trees wanted named shown shown_named hides alone)
+      refused_for in
       inr (is ∙ ap refused (memory_fails fault why memory of))
 
-  sound_back : (IsAccepted : Meta → Answer → Type 0) → IsAccepted meta answer ⊎ (answer ≡ refused failure.Memory) → IsReadAnswer file named IsAccepted answer
+  sound_back : (IsAccepted : Meta → Answer → Type 0) → IsAccepted meta answer ⊎ (answer ≡ refused failure.Memory)
+      → IsReadAnswer file named IsAccepted answer
   sound_back IsAccepted (inl is) = inl (meta, under b file meta trees wanted named shown shown_named hides alone, is)
   sound_back IsAccepted (inr none) = inr (check.Memory, tt, (failure.Memory, refl, none))
 
-  no_memory_there : (IsWanted : List Member → Option Shortfall → Answer → Type 0) → answer ≡ refused failure.Memory → IsRecoveredAnswer file wanted IsWanted answer
+  no_memory_there : (IsWanted : List Member → Option Shortfall → Answer → Type 0) → answer ≡ refused failure.Memory
+      → IsRecoveredAnswer file wanted IsWanted answer
   no_memory_there IsWanted none = inr (failure.Memory, (check.Memory, tt, refl), none)
 
   module _ (form : Form) (want : WantedNames) (is_named : LeafElement → Bool) (same : (e : LeafElement) → want e.key (item_of e) ≡ is_named e) (path : Path)
@@ -149,7 +176,8 @@ module _ (b : Below) (file : List ℕ) (meta : Meta) (trees : HasSoundTrees file
 
     names_there : IsRecoveredAnswer file wanted (IsNamesAnswer form want path) answer → IsReadAnswer file named IsKeysOf answer
     names_there is = elim (recovered_there (IsNamesAnswer form want path) is) [
-      | inl (listing, lists, names) ↦ sound_back IsKeysOf (inl (keys_there file meta trees listing lists answer form want is_named same path whole names (has_bucket path listing) refl))
+      | inl (listing, lists, names) ↦
+          sound_back IsKeysOf (inl (keys_there file meta trees listing lists answer form want is_named same path whole names (has_bucket path listing) refl))
       | inr none ↦ sound_back IsKeysOf (inr none)
     ]
 

@@ -1,6 +1,8 @@
 -- Where the trees are sound for the one meta that a choice names, only memory can be wanting.
 use Rattle.std.proofs.Common.{◌≡◌, ℕ, List, [], inl, refl, subst, sym}
-use Rattle.bolt_commands.proofs.Vocabulary.{Active, Assumed, CheckFault, Finding, HasSoundTrees, InSlot, IsClaimedBefore, IsFirstFinding, IsMetaOf, IsMetaPage, HasRightAccounts, IsReadUnder, IsRefusedUnder, IsUnrecoverableUnder, Meta, MetaChoice, MetaFault, node_at}
+use Rattle.bolt_commands.proofs.Vocabulary.{Active, Assumed, CheckFault, Finding, HasSoundTrees, InSlot, IsClaimedBefore, IsFirstFinding, IsMetaOf}
+use Rattle.bolt_commands.proofs.Vocabulary.{IsMetaPage, HasRightAccounts, IsReadUnder, IsRefusedUnder, IsUnrecoverableUnder, Meta, MetaChoice}
+use Rattle.bolt_commands.proofs.Vocabulary.{MetaFault, node_at}
 use Rattle.bolt_job.specs.MetaChoices.{HasNoMetaOf}
 use Rattle.bolt_check.proofs.Exports.{passes_fewer, passes_silent, shape_passes, sound_reports_nothing}
 use Rattle.bolt_check.specs.Ways.{At_page, reached, root_spot}
@@ -16,7 +18,8 @@ module _ (file : List ℕ) (meta : Meta) (trees : HasSoundTrees file meta) where
   keeps_root =
       let nodes = node_at file meta in
       let root = At_page (root_spot meta.root) in
-      passes_fewer nodes (IsClaimedBefore nodes (reached nodes meta.root) IsMetaPage []) IsMetaPage root (λ n m. inl m) ((shape_passes nodes meta.root trees).passes [] root refl)
+      passes_fewer nodes (IsClaimedBefore nodes (reached nodes meta.root) IsMetaPage []) IsMetaPage root (λ n m. inl m)
+      ((shape_passes nodes meta.root trees).passes [] root refl)
 
   pub keeps_not_loses : (other : Meta) (x : Finding) → other ≡ meta → LosesRoot file other x → ⊥
   keeps_not_loses other x same loses =
@@ -31,14 +34,16 @@ module _ (file : List ℕ) (meta : Meta) (trees : HasSoundTrees file meta) where
   has_meta (InSlot slot) fault lies (has, none) = none meta lies
   has_meta (Assumed assumed) fault same none = none
 
-  pub unrecovered : (choice : MetaChoice) (fault : CheckFault) → NamesOne file choice meta → IsMetaOf file choice meta → IsUnrecoverableUnder file choice fault
+  pub unrecovered : (choice : MetaChoice) (fault : CheckFault) → NamesOne file choice meta → IsMetaOf file choice meta
+      → IsUnrecoverableUnder file choice fault
       → fault ≡ check.Memory
   unrecovered choice (check.Open fault) one shown none = absurd (has_meta choice fault shown none)
   unrecovered choice (check.Structure x) one shown (other, is, loses) = absurd (keeps_not_loses other x (one other is) loses)
   unrecovered choice (check.Accounts findings) one shown none = absurd none
   unrecovered choice check.Memory one shown is = refl
 
-  pub unread : (choice : MetaChoice) (fault : CheckFault) → NamesOne file choice meta → IsReadUnder file choice meta → IsRefusedUnder file choice fault → fault ≡ check.Memory
+  pub unread : (choice : MetaChoice) (fault : CheckFault) → NamesOne file choice meta → IsReadUnder file choice meta
+      → IsRefusedUnder file choice fault → fault ≡ check.Memory
   unread choice (check.Open fault) one under none = absurd (has_meta choice fault under.0 none)
   unread choice (check.Structure x) one under (other, is, first) = absurd (finds_none other x (one other is) first)
   unread choice (check.Accounts findings) one (shown, sound, right) (counts, (other, is, (own, wrong, are, some))) =

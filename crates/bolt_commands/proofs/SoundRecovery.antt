@@ -1,13 +1,19 @@
 -- With sound trees, `--recover` does what is done without it under the same meta, if the accounts don't count there, and `--lost-and-found`
 -- does what `--recover` does.
-use Rattle.std.proofs.Common.{◌≡◌, ◌≢◌, ◌↔◌, ◌*◌, ◌<◌, ◌^◌, ℕ, Bool, false, List, [], Option, ap, arith, inl, inr, length, refl, rules, subst, sym, ◌∙◌}
-use Rattle.bolt_commands.proofs.Vocabulary.{Active, Answer, AreLosses, Assumed, CheckFault, JobEnding, Extent, Failure, Sound, FoundView, HasSoundTrees, InSlot, IsActive, IsFailureOf, IsInSlot, IsListedAnswer, IsListing, IsMetaOf, IsMetasFault, IsReadTo, IsReadUnder, IsRecovered, IsSalvaged, IsUnreadTo, Layout, ListForm, LossView, Losses, LostView, MakesCopy, Member, Meta, MetaChoice, MetaFault, PageSize, Path, Slot, bad_hash, everything, has_losses, hash_refusal, parts, props, unlisted, ∥∥₁_elim}
+use Rattle.std.proofs.Common.{◌≡◌, ◌≢◌, ◌↔◌, ◌*◌, ◌<◌, ◌^◌, ℕ, Bool, false, List, [], Option, ap, arith, inl, inr, length, refl, rules, subst, sym}
+use Rattle.std.proofs.Common.{◌∙◌}
+use Rattle.bolt_commands.proofs.Vocabulary.{Active, Answer, AreLosses, Assumed, CheckFault, JobEnding, Extent, Failure, Sound, FoundView}
+use Rattle.bolt_commands.proofs.Vocabulary.{HasSoundTrees, InSlot, IsActive, IsFailureOf, IsInSlot, IsListedAnswer, IsListing, IsMetaOf, IsMetasFault}
+use Rattle.bolt_commands.proofs.Vocabulary.{IsReadTo, IsReadUnder, IsRecovered, IsSalvaged, IsUnreadTo, Layout, ListForm, LossView, Losses, LostView}
+use Rattle.bolt_commands.proofs.Vocabulary.{MakesCopy, Member, Meta, MetaChoice, MetaFault, PageSize, Path, Slot, bad_hash, everything, has_losses}
+use Rattle.bolt_commands.proofs.Vocabulary.{hash_refusal, parts, props, unlisted, ∥∥₁_elim}
 use Rattle.bolt_check.specs.declared.check_fault.CheckFault.TheVariants as check
 use Rattle.bolt_commands.specs.declared.failure.Failure.TheVariants as failure
 use Rattle.bolt_commands.proofs.OtherMetas.{found_metas, metas_found, no_hidden, none_hidden}
 use Rattle.bolt_commands.specs.Alike.{HidesNoState}
-use Rattle.bolt_commands.proofs.{ReadFiles.no_accounts, ReadFiles.read_meta, SoundReads.NamesOne, SoundReads.has_meta, SoundReads.keeps_not_loses, SoundReads.keeps_root, SoundReads.unread, SoundReads.unrecovered}
-use Rattle.bolt_job.specs.declared.choices.Extent.TheVariants.{LostAndFound}
+use Rattle.bolt_commands.proofs.{ReadFiles.no_accounts, ReadFiles.read_meta, SoundReads.NamesOne, SoundReads.has_meta, SoundReads.keeps_not_loses}
+use Rattle.bolt_commands.proofs.{SoundReads.keeps_root, SoundReads.unread, SoundReads.unrecovered}
+use Rattle.bolt_job.specs.declared.choices.Extent.TheVariants.{FoundPages}
 use Rattle.bolt_recover.specs.{Found.AreFound, JoinRefusals.IsJoinRefusal, Lost.IsAllLost, declared.recover_fault.RecoverFault.RecoverFault}
 use Rattle.bolt_recover.specs.declared.recover_fault.RecoverFault.TheVariants as recover
 use Rattle.bolt_repair.specs.{Readable.readable, Repaired.IsRepaired, Repaired.MakesMeta, Repairs.meta_path}
@@ -15,16 +21,20 @@ use Rattle.bolt_tree.specs.{InBuckets.members_in, Merges.merge}
 
 -- what the laws of the crates below say
 pub record Below : Type 0 where
-  pub chosen_is_one : (file : List ℕ) (slot : Slot) (meta : Meta) → IsActive file slot meta → (other : Slot) (another : Meta) → IsActive file other another
+  pub chosen_is_one : (file : List ℕ) (slot : Slot) (meta : Meta) → IsActive file slot meta → (other : Slot) (another : Meta)
+      → IsActive file other another
       → (other ≡ slot) × (another ≡ meta)
   pub slot_is_one : (file : List ℕ) (slot : Slot) (a b : Meta) → IsInSlot file slot a → IsInSlot file slot b → a ≡ b
-  pub listed : (file : List ℕ) (meta : Meta) (listing : List Member) → HasSoundTrees file meta → IsRecovered file meta listing → IsListing file meta listing
-  pub recovered : (file : List ℕ) (meta : Meta) (listing : List Member) → HasSoundTrees file meta → IsListing file meta listing → IsRecovered file meta listing
+  pub listed : (file : List ℕ) (meta : Meta) (listing : List Member) → HasSoundTrees file meta → IsRecovered file meta listing
+      → IsListing file meta listing
+  pub recovered : (file : List ℕ) (meta : Meta) (listing : List Member) → HasSoundTrees file meta → IsListing file meta listing
+      → IsRecovered file meta listing
   pub none_lost : (file : List ℕ) (meta : Meta) (losses : List LossView) → HasSoundTrees file meta → AreLosses file meta losses → losses ≡ []
   pub has_found : (file : List ℕ) (meta : Meta) → (found : List ℕ) × AreFound file meta found
   pub none_found : (file : List ℕ) (meta : Meta) (found : List ℕ) → AreLosses file meta [] → AreFound file meta found → found ≡ []
   pub has_listing : (file : List ℕ) (meta : Meta) → HasSoundTrees file meta → (listing : List Member) × IsListing file meta listing
-  pub unrepaired : (file : List ℕ) (meta : Meta) (listing repaired : List Member) → HasSoundTrees file meta → IsListing file meta listing → IsRepaired file meta false repaired
+  pub unrepaired : (file : List ℕ) (meta : Meta) (listing repaired : List Member) → HasSoundTrees file meta → IsListing file meta listing
+      → IsRepaired file meta false repaired
       → (is_made : Bool) × MakesMeta listing is_made × (repaired ≡ merge (readable listing) (members_in is_made meta_path []))
 
 pub names_one : Below → (file : List ℕ) (choice : MetaChoice) (meta : Meta) → IsMetaOf file choice meta → NamesOne file choice meta
@@ -81,7 +91,8 @@ module _ (b : Below) (file : List ℕ) (meta : Meta) (trees : HasSoundTrees file
 
   -- ---- what is recovered under one choice is read under the other, of which the accounts don't count
 
-  module _ (wanted named : MetaChoice) (shown : IsMetaOf file wanted meta) (shown_named : IsMetaOf file named meta) (hides : HidesNoState file wanted) (alone : named ≢ Active) where
+  module _ (wanted named : MetaChoice) (shown : IsMetaOf file wanted meta) (shown_named : IsMetaOf file named meta) (hides : HidesNoState file wanted)
+      (alone : named ≢ Active) where
     pub under : IsReadUnder file named meta
     under = (shown_named, trees, no_accounts file named meta alone)
 
@@ -102,8 +113,11 @@ module _ (b : Below) (file : List ℕ) (meta : Meta) (trees : HasSoundTrees file
           (let same = names_one b file named meta shown_named other (read_meta file named other read) in
           let recovered = b.recovered file meta listing trees (subst (λ (m : Meta). IsListing file m listing) same lists) in
           (same, ((shown, keeps_root file meta trees), recovered, ([], no_losses, told), none)));
-      unread = λ why (fault, is, of).
-          (check.Memory, tt, subst (λ (f : CheckFault). IsFailureOf f why) (unread file meta trees named fault (names_one b file named meta shown_named) under is) of);
+      unread = λ why (fault, is, of). (
+        check.Memory,
+        tt,
+        subst (λ (f : CheckFault). IsFailureOf f why) (unread file meta trees named fault (names_one b file named meta shown_named) under is) of,
+      );
       metas = λ other none. rw none (no_hidden file wanted meta shown hides);
     }
 
@@ -113,7 +127,8 @@ module _ (b : Below) (file : List ℕ) (meta : Meta) (trees : HasSoundTrees file
   -- ---- if nothing is lost, nothing is found
 
   module _ (choice : MetaChoice) (shown : IsMetaOf file choice meta) (few : length file < 10 ^ 16 * meta.page_size) where
-    salvaged : (listing : List Member) (lost : LostView) (found : List FoundView) → IsSalvaged file meta listing lost found → IsReadTo Losses file choice meta listing lost found
+    salvaged : (listing : List Member) (lost : LostView) (found : List FoundView) → IsSalvaged file meta listing lost found
+        → IsReadTo Losses file choice meta listing lost found
     salvaged listing lost found is =
         let joins = is.joins in
         let none = b.none_found file meta joins.found no_losses joins.are_found in
@@ -125,15 +140,16 @@ module _ (b : Below) (file : List ℕ) (meta : Meta) (trees : HasSoundTrees file
           rw (b.none_found file meta numbers no_losses are) at pages,
         )
 
-    unsalvaged : (found : List ℕ) (fault : RecoverFault) (why : Failure) → AreFound file meta found → IsJoinRefusal file meta found fault → why ≡ unlisted fault
+    unsalvaged : (found : List ℕ) (fault : RecoverFault) (why : Failure) → AreFound file meta found → IsJoinRefusal file meta found fault
+        → why ≡ unlisted fault
         → why ≡ failure.Memory
     unsalvaged found (recover.Rootless x) why are (none, loses) same = absurd (∥∥₁_elim loses (hlevel props) (keeps_not_loses file meta trees meta x refl))
     unsalvaged found recover.Exists why are (some, has) same = absurd (some (b.none_found file meta found no_losses are))
     unsalvaged found recover.NotABucket why are none same = absurd none
-    unsalvaged found recover.TooLarge why are large same = absurd (omega (arith, few, large))
+    unsalvaged found recover.TooManyPages why are large same = absurd (omega (arith, few, large))
     unsalvaged found recover.Memory why are is same = same
 
-    found_there : Reads file meta LostAndFound Losses choice choice
+    found_there : Reads file meta FoundPages Losses choice choice
     found_there = record {
       read = λ other listing lost found (is, all).
           (let same = names_one b file choice meta shown other is in
@@ -151,13 +167,19 @@ module _ (b : Below) (file : List ℕ) (meta : Meta) (trees : HasSoundTrees file
       metas = found_metas file choice;
     }
 
-    found_back : Reads file meta Losses LostAndFound choice choice
+    found_back : Reads file meta Losses FoundPages choice choice
     found_back = record {
       read = λ other listing lost found ((is, keeps), recovered, (losses, are, told), none).
           (let same = names_one b file choice meta shown other is in
           let empty : lost ≡ parts [] = told ∙ ap parts (b.none_lost file meta losses trees (subst (λ (m : Meta). AreLosses file m losses) same are)) in
           let all : IsSalvaged file meta listing (parts []) [] = record {
-            joins = record { recovered = listing; recovers = subst (λ (m : Meta). IsRecovered file m listing) same recovered; found = []; are_found = no_found; joined = refl };
+            joins = record {
+              recovered = listing;
+              recovers = subst (λ (m : Meta). IsRecovered file m listing) same recovered;
+              found = [];
+              are_found = no_found;
+              joined = refl;
+            };
             loses = (keeps_root file meta trees, λ others are_too. sym (b.none_lost file meta others trees are_too));
             finds = ([], no_found, refl);
             apart = λ some. absurd (some refl);
@@ -168,13 +190,14 @@ module _ (b : Below) (file : List ℕ) (meta : Meta) (trees : HasSoundTrees file
       metas = metas_found file choice;
     }
 
-    pub finds_alike : ReadsAlike file meta LostAndFound Losses choice choice
+    pub finds_alike : ReadsAlike file meta FoundPages Losses choice choice
     finds_alike = record { there = found_there; back = found_back }
 
 -- ---- `list` and `compact`
 
 pub lists_the_same : {file : List ℕ} {meta : Meta} {from to : Extent} {wanted named : MetaChoice} → ReadsAlike file meta from to wanted named
-    → (form : ListForm) (path start : Path) (answer : Answer) → IsListedAnswer from file wanted form path start answer ↔ IsListedAnswer to file named form path start answer
+    → (form : ListForm) (path start : Path) (answer : Answer)
+    → IsListedAnswer from file wanted form path start answer ↔ IsListedAnswer to file named form path start answer
 lists_the_same r form path start answer = (listed r.there form path start answer, listed r.back form path start answer)
 
 pub copies_the_same : {file : List ℕ} {meta : Meta} {from to : Extent} {wanted named : MetaChoice} → ReadsAlike file meta from to wanted named

@@ -1,13 +1,18 @@
 -- The figures of a bucket's buckets, added up entry by entry.
-use Rattle.std.proofs.Common.{◌≡◌, ◌⊎◌, inl, inr, ap, ℕ, Vec, length, List, [], ◌∷◌, None, Option, Some, false, is_some, option_map, refl, sym, subst, true}
-use Rattle.bolt_commands.proofs.Vocabulary.{AddsEntry, AreEntries, Bucket, Checked, EntryView, Failure, FigureForm, ForEntries, HasSoundTrees, HasStats, IsStatsAnswer, IsTotal, LeadsTo, LeafElement, Meta, Path, Root_page, Start, Stats, add_stats, bucket_checked, bucket_start, bytes_of, entries_of, meta_of, no_stats, owned_path, props, refused, ∥∥₁_elim, ∥∥₁_map}
+use Rattle.std.proofs.Common.{◌≡◌, ◌⊎◌, inl, inr, ap, ℕ, Vec, length, List, [], ◌∷◌, None, Option, Some, false, is_some, option_map, refl, sym, subst}
+use Rattle.std.proofs.Common.{true}
+use Rattle.bolt_commands.proofs.Vocabulary.{AddsEntry, AreEntries, Bucket, Checked, EntryView, Failure, FigureForm, ForEntries, HasSoundTrees}
+use Rattle.bolt_commands.proofs.Vocabulary.{HasStats, IsStatsAnswer, IsTotal, LeadsTo, LeafElement, Meta, Path, Root_page, Start, Stats, add_stats}
+use Rattle.bolt_commands.proofs.Vocabulary.{bucket_checked, bucket_start, bytes_of, entries_of, meta_of, no_stats, owned_path, props, refused}
+use Rattle.bolt_commands.proofs.Vocabulary.{∥∥₁_elim, ∥∥₁_map}
 use Rattle.bolt_tree.specs.{Lookups.IsBucketOf, ShownEntries.shown_entry, declared.entry.Entry.Entry}
 use Rattle.bolt_commands.proofs.AtPaths.{at_path, no_parts}
 use Rattle.bolt_stats.specs.StatsOf.{IsStatsOf}
 use Rattle.bolt_commands.specs.declared.failure.Failure.TheVariants as failure
 
 -- an entry that is a bucket adds its figures, and a value none
-pub adds_bucket : (inner : Bucket) (checked : Checked) (own before sum : Stats) (e : LeafElement) → bucket_checked inner ≡ checked → IsBucketOf (Some e) (Some inner)
+pub adds_bucket : (inner : Bucket) (checked : Checked) (own before sum : Stats) (e : LeafElement) → bucket_checked inner ≡ checked
+    → IsBucketOf (Some e) (Some inner)
     → ∥ IsStatsOf (bytes_of (bucket_checked inner)) (meta_of (bucket_checked inner)) (bucket_start inner) own ∥₁ → sum ≡ add_stats before own
     → ∥ AddsEntry (bytes_of checked) (meta_of checked) e before sum ∥₁
 adds_bucket inner checked own before sum e same is stats added = ∥∥₁_map (rw same at stats) (λ own_are. rw added (rw is.0 (own, rw is.1 at own_are, refl)))
@@ -34,9 +39,11 @@ total_more file meta old new e before after total is adds later =
 -- ---- the bucket at a path
 
 -- the figures of the root bucket
-pub root_stats : {Z : Type 0} (path : List (Vec ℕ Z)) (checked : Checked) (root : Bucket) (total : Stats) → length path ≡ 0 → HasSoundTrees (bytes_of checked) (meta_of checked)
+pub root_stats : {Z : Type 0} (path : List (Vec ℕ Z)) (checked : Checked) (root : Bucket) (total : Stats) → length path ≡ 0
+    → HasSoundTrees (bytes_of checked) (meta_of checked)
     → bucket_checked root ≡ checked → bucket_start root ≡ Root_page (meta_of checked).root
-    → ForEntries (bucket_checked root) (bucket_start root) (λ entries. ∥ IsTotal (bytes_of (bucket_checked root)) (meta_of (bucket_checked root)) entries no_stats total ∥₁)
+    → ForEntries (bucket_checked root) (bucket_start root)
+    (λ entries. ∥ IsTotal (bytes_of (bucket_checked root)) (meta_of (bucket_checked root)) entries no_stats total ∥₁)
     → HasStats (bytes_of checked) (owned_path path) (meta_of checked) total
 root_stats path checked root total empty trees is begins promised =
     let Sum : List LeafElement → Type 0 = λ entries. ∥ IsTotal (bytes_of (bucket_checked root)) (meta_of (bucket_checked root)) entries no_stats total ∥₁ in

@@ -7,12 +7,17 @@ use Rattle.bolt_repair.specs.{Readable.readable, Readable.unread, Repaired.Makes
 use Rattle.bolt_recover.specs.Losses.{parts}
 use Rattle.bolt_text.specs.declared.forms.ListForm.{ListForm}
 use Rattle.bolt_tree.specs.{Entries.Item, Entries.Value, InBuckets.members_in, Listing.IsListing, Listing.Member, Merges.merge, Paths.Path}
-use Rattle.bolt_commands.specs.{Answers.Answer, Answers.JobEnding, CopyAnswers.copy_page_size, CopyAnswers.hash_refusal, FilesRead.HoldsIn, JobAnswers.DoesJob, JobAnswers.MakesCopy, JobAnswers.MakesRepair, JobAnswers.WritesCopy, JobAnswers.WritesNone, KeyAnswers.IsBucketsShown, KeyAnswers.IsKeysShown, KeyAnswers.IsValueShown, ListAnswers.IsListedAnswer, RepairAnswers.repair_report}
-use Rattle.bolt_commands.specs.{FileFaults.AreCopyFaults, SnapshotAnswers.bad_hash, declared.file_faults.FileFaults.FileFaults, declared.failure.Failure.Failure, declared.failure.Failure.TheVariants.Memory, declared.failure.Failure.TheVariants.NoBucket, declared.failure.Failure.TheVariants.NotABucket}
+use Rattle.bolt_commands.specs.{Answers.Answer, Answers.JobEnding, CopyAnswers.copy_page_size, CopyAnswers.hash_refusal, FilesRead.HoldsIn}
+use Rattle.bolt_commands.specs.{JobAnswers.DoesJob, JobAnswers.MakesCopy, JobAnswers.MakesRepair, JobAnswers.WritesCopy, JobAnswers.WritesNone}
+use Rattle.bolt_commands.specs.{KeyAnswers.IsBucketsShown, KeyAnswers.IsKeysShown, KeyAnswers.IsValueShown, ListAnswers.IsListedAnswer}
+use Rattle.bolt_commands.specs.{RepairAnswers.repair_report}
+use Rattle.bolt_commands.specs.{FileFaults.AreCopyFaults, SnapshotAnswers.bad_hash, declared.file_faults.FileFaults.FileFaults}
+use Rattle.bolt_commands.specs.{declared.failure.Failure.Failure, declared.failure.Failure.TheVariants.Memory}
+use Rattle.bolt_commands.specs.{declared.failure.Failure.TheVariants.NoBucket, declared.failure.Failure.TheVariants.NotABucket}
 use Rattle.bolt_job.specs.MetaChoices.{IsMetaOf}
 use Rattle.bolt_job.specs.declared.bucket_commands.{BucketsJob.BucketsJob, GetJob.GetJob, KeysJob.KeysJob}
 use Rattle.bolt_job.specs.declared.choices.BucketsShown.TheVariants.{Names}
-use Rattle.bolt_job.specs.{declared.job.Job.Job, declared.choices.Extent.TheVariants.LostAndFound}
+use Rattle.bolt_job.specs.{declared.job.Job.Job, declared.choices.Extent.TheVariants.FoundPages}
 use Rattle.bolt_job.specs.{declared.choices.Extent.Extent, declared.choices.MetaChoice.MetaChoice, declared.choices.PageSize.PageSize}
 use Rattle.bolt_job.specs.declared.choices.MetaChoice.TheVariants.{Active}
 
@@ -28,19 +33,20 @@ DoesAlike {O} {T} out target job one other = (out_old out_new : O) (target_old t
 abbrev pub HidesNoState : List ℕ → MetaChoice → Type 0
 HidesNoState file choice = (choice ≢ Active) ⊎ HasBothMetas file
 
--- This holds of a file under two choices of the same meta, with sound trees under it. The first choice hides no newer state. The second isn't one
--- under which the accounts count.
+-- A property holds of a file under two choices of the same meta, with sound trees under it. The first choice hides no newer state. The second isn't
+-- one under which the accounts count.
 abbrev pub UnderSoundTrees : (List ℕ → (wanted named : MetaChoice) → Type 0) → Type 0
 UnderSoundTrees P = (file : List ℕ) (meta : Meta) → HasSoundTrees file meta → (wanted named : MetaChoice) → IsMetaOf file wanted meta → IsMetaOf file named meta
     → HidesNoState file wanted → named ≢ Active → P file wanted named
 
--- this holds of a file with sound trees under the meta that a choice names
+-- a property holds of a file with sound trees under the meta that a choice names
 abbrev pub ForSoundTrees : (List ℕ → Meta → MetaChoice → Type 0) → Type 0
 ForSoundTrees P = (file : List ℕ) (meta : Meta) → HasSoundTrees file meta → (choice : MetaChoice) → IsMetaOf file choice meta → P file meta choice
 
--- This holds of a file with sound trees under one choice of the meta, if no page number has more than sixteen digits.
+-- A property holds of a file with sound trees under one choice of the meta, if no page number has more than sixteen digits.
 abbrev pub OfSoundTrees : (List ℕ → (wanted named : MetaChoice) → Type 0) → Type 0
-OfSoundTrees P = (file : List ℕ) (meta : Meta) → HasSoundTrees file meta → (choice : MetaChoice) → IsMetaOf file choice meta → length file < 10 ^ 16 * meta.page_size
+OfSoundTrees P =
+    (file : List ℕ) (meta : Meta) → HasSoundTrees file meta → (choice : MetaChoice) → IsMetaOf file choice meta → length file < 10 ^ 16 * meta.page_size
     → P file choice choice
 
 -- `list` prints the same to one extent under one choice as to the other under the other
@@ -48,7 +54,7 @@ abbrev pub ListsAlike : (one other : Extent) → List ℕ → (wanted named : Me
 ListsAlike one other file wanted named = (form : ListForm) (path from : Path) (answer : Answer)
     → IsListedAnswer one file wanted form path from answer ↔ IsListedAnswer other file named form path from answer
 
--- and `compact` does the same, if the hash of a file that isn't right is refused to both extents or to none
+-- `compact` does the same to one extent under one choice as to the other under the other, if both extents refuse a wrong hash, or neither
 abbrev pub CopiesAlike : {O T : Type 0} (out : Ghosts O) (target : Ghosts T) → (one other : Extent) → List ℕ → (wanted named : MetaChoice) → Type 0
 CopiesAlike {O} {T} out target one other file wanted named =
     (out_old out_new : O) (target_old target_new : T) (size : Option PageSize) (layout : Layout) (snapshot : Bool) (ending : JobEnding)
@@ -85,9 +91,11 @@ abbrev pub RepairsNothing : {O T : Type 0} (out : Ghosts O) (target : Ghosts T) 
 RepairsNothing {O} {T} out target file meta choice =
     (out_old out_new : O) (target_old target_new : T) (size : Option PageSize) (snapshot : Bool) (ending : JobEnding)
     → MakesRepair out.taken out.failed out_old out_new target.taken target.failed target_old target_new file choice size snapshot false ending
-    → ∥ ((listing : List Member) × IsListing file meta listing × (is_made : Bool) × MakesMeta listing is_made × (faults : FileFaults) × AreCopyFaults LostAndFound snapshot file choice faults
+    → ∥ ((listing : List Member) × IsListing file meta listing × (is_made : Bool) × MakesMeta listing is_made × (faults : FileFaults)
+    × AreCopyFaults FoundPages snapshot file choice faults
     × WritesCopy out.taken out.failed out_old out_new target.taken target.failed target_old target_new snapshot (read_listing is_made listing)
-    (layout_of_listing Balanced (copy_page_size size meta) (read_listing is_made listing) meta.root_sequence) (repair_report faults (parts []) (unread listing) 0 0 (length file))
+    (layout_of_listing Balanced (copy_page_size size meta) (read_listing is_made listing) meta.root_sequence)
+    (repair_report faults (parts []) (unread listing) 0 0 (length file))
     ending) ∥₁
     ⊎ ((why : Failure) × IsUnrepairable file meta why
     × WritesNone out.taken out.failed out_old out_new target.taken target.failed target_old target_new why ending)

@@ -1,5 +1,5 @@
 -- What the program answers to a command, and what its sinks accept: docs/COMMANDS.md, "What a run writes".
-use Rattle.std.specs.Prelude.{◌≡◌, ◌≢◌, ◌<◌, ◌⊎◌, ℕ, List, [], ◌++◌, Option, Result, Ok, Err}
+use Rattle.std.specs.Prelude.{◌≡◌, ◌≢◌, ◌<◌, ◌-◌, ◌⊎◌, ℕ, List, [], ◌++◌, Option, Result, Ok, Err}
 use Rattle.std.specs.Io.KnownBytes.{Appends}
 use Rattle.bolt_format.specs.Sinks.{AppendsPrefix}
 use Rattle.bolt_text.specs.{declared.forms.Form.Form, declared.forms.Form.TheVariants.Json}
@@ -44,7 +44,7 @@ IsShownAndEnded form text ending answer = (answer ≡ record { out = text; endin
 abbrev pub IsShownText : Form → List ℕ → Answer → Type 0
 IsShownText form text answer = IsShownAndEnded form text (Ok 0) answer
 
--- the same, but the text may be whole if memory ran out
+-- the whole text and this ending; or memory ran out, which JSON alone needs, after a prefix of the text or all of it
 abbrev pub IsShownOrCut : Form → List ℕ → JobEnding → Answer → Type 0
 IsShownOrCut form text ending answer = (answer ≡ record { out = text; ending = ending }) ⊎ ((form ≡ Json) × IsCutAnswer text answer)
 

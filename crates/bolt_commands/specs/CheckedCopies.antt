@@ -3,16 +3,17 @@ use Rattle.std.specs.Prelude.{◌≡◌, ◌≢◌, ◌<◌, ◌⊎◌, ℕ, Boo
 use Rattle.bolt_format.specs.declared.sink.Sink.{Ghosts}
 use Rattle.bolt_layout.specs.declared.Layout.{Layout}
 use Rattle.bolt_tree.specs.Listing.{Member}
-use Rattle.bolt_commands.specs.{Answers.Answer, Answers.JobEnding, Answers.done, Answers.refused, CheckAnswers.IsCheckAnswer, JobAnswers.Loads, JobAnswers.LoadsListing}
+use Rattle.bolt_commands.specs.{Answers.Answer, Answers.JobEnding, Answers.done, Answers.refused, CheckAnswers.IsCheckAnswer, JobAnswers.Loads}
+use Rattle.bolt_commands.specs.{JobAnswers.LoadsListing}
 use Rattle.bolt_commands.specs.declared.failure.Failure.TheVariants.{Memory}
 use Rattle.bolt_job.specs.{declared.choices.Extent.Extent, declared.choices.MetaChoice.TheVariants.Active}
 
--- to any extent, that it is sound, unless memory runs out
+-- `check` to any extent says of the file that it is sound, unless memory runs out
 abbrev pub PassesCheck : (snapshot : Bool) → List ℕ → Type 0
 PassesCheck snapshot file = (extent : Extent) (answer : Answer) → IsCheckAnswer extent snapshot false file Active answer
     → (answer ≡ done (codes "OK\n")) ⊎ (answer ≡ refused Memory)
 
--- and of each proper prefix, that it isn't
+-- `check` says of no proper prefix of the file that it is sound
 abbrev pub FailsCutOff : (snapshot : Bool) → List ℕ → Type 0
 FailsCutOff snapshot file = (n : ℕ) → n < length file → (extent : Extent) (for_bbolt : Bool) (answer : Answer)
     → IsCheckAnswer extent snapshot for_bbolt (take n file) Active answer → answer.ending ≢ Ok 0

@@ -1,14 +1,15 @@
 -- What `compact` and `load` answer, and how a copy stops: docs/COMMANDS.md, "What a run writes".
-use Rattle.std.specs.Prelude.{◌≡◌, ◌<◌, ◌≤◌, ◌&&◌, ℕ, List, ◌++◌, codes, decimal, length, Option, Some, None, Ok, if◌then◌else◌}
+use Rattle.std.specs.Prelude.{◌≡◌, ◌<◌, ◌≤◌, ◌-◌, ◌^◌, ◌&&◌, ℕ, List, ◌++◌, codes, decimal, length, Option, Some, None, Ok, if◌then◌else◌}
 use Rattle.std.specs.Io.KnownBytes.{Keeps}
 use Rattle.bolt_bulk.specs.Compacting.{too_many}
 use Rattle.bolt_format.specs.{Sinks.AppendsProperPrefix, declared.meta.Meta.Meta}
 use Rattle.bolt_recover.specs.Losses.{LostView, is_nothing}
 use Rattle.bolt_report.specs.FoundLines.{FoundView, lost_text}
-use Rattle.bolt_commands.specs.{FileFaults.fault_lines, FileFaults.is_fine, declared.failure.Failure.Failure, declared.file_faults.FileFaults.FileFaults, Answers.Answer}
+use Rattle.bolt_commands.specs.{FileFaults.fault_lines, FileFaults.is_fine, declared.failure.Failure.Failure}
+use Rattle.bolt_commands.specs.{declared.file_faults.FileFaults.FileFaults, Answers.Answer}
 use Rattle.bolt_job.specs.{declared.choices.Extent.Extent, declared.choices.Extent.TheVariants.Sound, declared.choices.PageSize.PageSize}
 use Rattle.bolt_commands.specs.declared.failure.Failure.TheVariants as failure
-use Rattle.bolt_etcd.specs.declared.snapshot.SnapshotFault.{SnapshotFault}
+use Rattle.bolt_etcd.specs.declared.check.snapshot.SnapshotFault.{SnapshotFault}
 
 -- the line with the lengths of the file and of its copy
 abbrev pub lengths_line : (source copy : ℕ) → List ℕ

@@ -12,6 +12,7 @@ pub record IsWholeCopy {T : Type 0} (taken : T → Option (List ℕ)) (failed : 
   pub long : count ≡ length copy
 
 -- the copy with this layout is whole, or it stopped short and the fault says why
-abbrev pub EndsCopy : {T : Type 0} → (taken : T → Option (List ℕ)) (failed : T → ℕ) (old new : T) (layout : List ℕ) (snapshot : Bool) → Result ℕ BulkFault → Type 0
+abbrev pub EndsCopy : {T : Type 0} → (taken : T → Option (List ℕ)) (failed : T → ℕ) (old new : T) (layout : List ℕ) (snapshot : Bool)
+    → Result ℕ BulkFault → Type 0
 EndsCopy taken failed old new layout snapshot (Ok count) = IsWholeCopy taken failed old new layout (copy_of snapshot layout) count
 EndsCopy taken failed old new layout snapshot (Err fault) = StopsShort taken failed old new layout (copy_of snapshot layout) (copied fault)

@@ -1,5 +1,6 @@
 -- What the commands answer that read what etcd keeps: docs/COMMANDS.md, "What etcd keeps".
-use Rattle.std.specs.Prelude.{◌≡◌, ◌≢◌, ◌-◌, ◌^◌, ◌⊎◌, ℕ, zero, suc, nat_lt, List, ◌++◌, Bool, true, false, codes, length, Option, Some, None, Ok, Err}
+use Rattle.std.specs.Prelude.{◌≡◌, ◌≢◌, ◌-◌, ◌^◌, ◌⊎◌, ℕ, zero, suc, nat_lt, List, ◌++◌, Bool, true, false, codes, length, Option, Some, None, Ok}
+use Rattle.std.specs.Prelude.{Err}
 use Rattle.bolt_check.specs.Counts.{counted}
 use Rattle.bolt_format.specs.{Elements.LeafElement, declared.meta.Meta.Meta}
 use Rattle.bolt_report.specs.{FaultWords.count_line, RevisionLines.named_with, RevisionLines.revision_lines, StatusLines.status_text}
@@ -7,12 +8,16 @@ use Rattle.bolt_tree.specs.Entries.{IsEntry, Root_page}
 use Rattle.bolt_commands.specs.Answers.{Answer, IsEndedOrCut, IsShownAndEnded, IsShownOrCut, JobEnding, done, refused}
 use Rattle.bolt_commands.specs.{CheckAnswers.IsCheckAnswer, FilesRead.IsReadAnswer, FilesRead.IsReadUnder, KeyAnswers.value_shown}
 use Rattle.bolt_commands.specs.declared.failure.Failure.TheVariants as failure
-use Rattle.bolt_etcd.specs.{Current.AreCurrent, Newest.newest, Newest.until, Newest.value_if, Revisions.RevisionView, StoreBuckets.IsStore, StoreBuckets.StoreView}
-use Rattle.bolt_etcd.specs.{Statuses.status_of, StoreFaults.store_compacted, StoreFaults.store_lines, Stores.entries_from, Stores.others, Stores.revisions}
+use Rattle.bolt_etcd.specs.{Store.Current.AreCurrent, Store.Newest.newest, Store.Newest.until, Store.Newest.value_if, Wire.Revisions.RevisionView}
+use Rattle.bolt_etcd.specs.{Store.StoreBuckets.IsStore, Store.StoreBuckets.StoreView}
+use Rattle.bolt_etcd.specs.{Store.Statuses.store_status, Check.StoreFaults.store_compacted, Check.StoreFaults.store_lines, Store.Stores.entries_from}
+use Rattle.bolt_etcd.specs.{Store.Stores.others, Store.Stores.revisions}
 use Rattle.std.specs.{Int.to_be_bytes, Int.w64, List.concat}
 use Rattle.bolt_job.specs.declared.{choices.Extent.TheVariants.Losses, choices.MetaChoice.MetaChoice}
-use Rattle.bolt_job.specs.{declared.etcd_jobs.EtcdCheckJob.EtcdCheckJob, declared.etcd_jobs.EtcdGetJob.EtcdGetJob, declared.etcd_jobs.EtcdKeysJob.EtcdKeysJob}
+use Rattle.bolt_job.specs.{declared.etcd_jobs.EtcdCheckJob.EtcdCheckJob, declared.etcd_jobs.EtcdGetJob.EtcdGetJob}
+use Rattle.bolt_job.specs.{declared.etcd_jobs.EtcdKeysJob.EtcdKeysJob}
 use Rattle.bolt_job.specs.{declared.etcd_jobs.EtcdRevisionsJob.EtcdRevisionsJob, declared.etcd_jobs.EtcdStatusJob.EtcdStatusJob}
+use Rattle.bolt_job.specs.declared.job.Job.TheVariants as job
 
 -- what is under the root bucket
 abbrev pub IsStoreOf : List ℕ → Meta → StoreView → Type 0
@@ -31,12 +36,12 @@ others_ending (suc n) = Err (failure.Others (suc n))
 abbrev pub entries_ending : List LeafElement → JobEnding
 entries_ending entries = others_ending (counted 0 (length (others entries)))
 
--- from a transaction on, if one is named: the entries whose keys aren't below its number in eight bytes
+-- the entries from a transaction on, if one is named: those whose keys aren't below its number in eight bytes
 abbrev pub entries_asked : Option ℕ → List LeafElement → List LeafElement
 entries_asked None entries = entries
 entries_asked (Some main) entries = entries_from (to_be_bytes w64 main) entries
 
--- of the revisions of no later transaction, if one is named; no number is above 2^64 - 1
+-- the last transaction whose revisions are asked for: the one that is named, or 2^64 - 1, above which no number is
 abbrev pub up_to : Option ℕ → ℕ
 up_to None = 2 ^ 64 - 1
 up_to (Some main) = main
@@ -52,7 +57,8 @@ UnlessCompacted false IsWanted answer = IsWanted answer
 
 -- an answer of the entries of the bucket `key` at a transaction
 abbrev pub IsAnswerAt : Option ℕ → StoreView → (List LeafElement → Answer → Type 0) → Answer → Type 0
-IsAnswerAt at store IsWanted answer = OfKeys (store.bucket (codes "key")) (λ entries. UnlessCompacted (is_compacted at (store_compacted store)) (IsWanted entries)) answer
+IsAnswerAt at store IsWanted answer =
+    OfKeys (store.bucket (codes "key")) (λ entries. UnlessCompacted (is_compacted at (store_compacted store)) (IsWanted entries)) answer
 
 -- the lines of the revisions whose names begin with a prefix
 abbrev pub IsRevisionsText : EtcdRevisionsJob → List LeafElement → Answer → Type 0
@@ -72,14 +78,15 @@ IsValueText job ending None answer = answer ≡ refused failure.NoKey
 IsValueText job ending (Some value) answer = IsShownAndEnded job.form (value_shown job.form job.no_newline value) ending answer
 
 -- what a key held at a transaction
-abbrev pub IsHeldText : EtcdGetJob → List LeafElement → Answer → Type 0
-IsHeldText job entries answer = IsValueText job (entries_ending entries) (value_if (newest job.name.items (until (up_to job.at) (revisions entries)))) answer
+abbrev pub IsNewestText : EtcdGetJob → List LeafElement → Answer → Type 0
+IsNewestText job entries answer = IsValueText job (entries_ending entries) (value_if (newest job.name.items (until (up_to job.at) (revisions entries)))) answer
 
 -- what etcd would report of a store at a transaction
 abbrev pub IsStatusText : EtcdStatusJob → StoreView → List LeafElement → Answer → Type 0
-IsStatusText job store entries answer = answer ≡ record { out = status_text job.form (status_of (up_to job.at) store entries); ending = entries_ending entries }
+IsStatusText job store entries answer =
+    answer ≡ record { out = status_text job.form (store_status (up_to job.at) store entries); ending = entries_ending entries }
 
--- after the lines of so many errors, and the status
+-- what follows the lines of so many errors, and the status
 abbrev pub errors_end : ℕ → List ℕ
 errors_end zero = codes "OK\n"
 errors_end (suc n) = count_line (suc n)
@@ -99,13 +106,14 @@ abbrev pub IsStoreAnswer : List ℕ → (StoreView → Answer → Type 0) → Me
 IsStoreAnswer file IsWanted meta answer = (store : StoreView) × IsStoreOf file meta store × IsWanted store answer
 
 abbrev pub IsEtcdRevisionsPrint : EtcdRevisionsJob → List ℕ → Answer → Type 0
-IsEtcdRevisionsPrint job file answer = IsReadAnswer file job.meta (IsStoreAnswer file (λ store. OfKeys (store.bucket (codes "key")) (IsRevisionsText job))) answer
+IsEtcdRevisionsPrint job file answer =
+    IsReadAnswer file job.meta (IsStoreAnswer file (λ store. OfKeys (store.bucket (codes "key")) (IsRevisionsText job))) answer
 
 abbrev pub IsEtcdKeysPrint : EtcdKeysJob → List ℕ → Answer → Type 0
 IsEtcdKeysPrint job file answer = IsReadAnswer file job.meta (IsStoreAnswer file (λ store. IsAnswerAt job.at store (IsCurrentText job))) answer
 
 abbrev pub IsEtcdGetPrint : EtcdGetJob → List ℕ → Answer → Type 0
-IsEtcdGetPrint job file answer = IsReadAnswer file job.meta (IsStoreAnswer file (λ store. IsAnswerAt job.at store (IsHeldText job))) answer
+IsEtcdGetPrint job file answer = IsReadAnswer file job.meta (IsStoreAnswer file (λ store. IsAnswerAt job.at store (IsNewestText job))) answer
 
 abbrev pub IsEtcdStatusPrint : EtcdStatusJob → List ℕ → Answer → Type 0
 IsEtcdStatusPrint job file answer = IsReadAnswer file job.meta (IsStoreAnswer file (λ store. IsAnswerAt job.at store (IsStatusText job store))) answer

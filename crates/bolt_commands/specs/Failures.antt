@@ -11,14 +11,16 @@ use Rattle.bolt_recover.specs.declared.recover_fault.RecoverFault.TheVariants as
 use Rattle.bolt_repair.specs.declared.repair_fault.RepairFault.{RepairFault}
 use Rattle.bolt_repair.specs.declared.repair_fault.RepairFault.TheVariants as repair
 use Rattle.bolt_report.specs.FaultWords.{finding_text, meta_fault_text, page_fault_text}
-use Rattle.bolt_etcd.specs.SnapshotFaults.{snapshot_fault_text}
+use Rattle.bolt_etcd.specs.Check.SnapshotFaults.{snapshot_fault_text}
 use Rattle.bolt_text.specs.declared.report_fault.ReportFault.{ReportFault}
 use Rattle.bolt_text.specs.declared.report_fault.ReportFault.TheVariants as report
 use Rattle.bolt_commands.specs.{Shortfalls.shortfall_text, declared.failure.Failure.Failure}
-use Rattle.bolt_commands.specs.declared.failure.Failure.TheVariants.{BucketMaybeLost, Compacted, Exists, File, Hash, KeyMaybeLost, Line, Lost, Memory, Metas, NoBucket, NoKey, NoState, NotABucket, Others, Page, TooLarge, TooManyPages, Write}
+use Rattle.bolt_commands.specs.declared.failure.Failure.TheVariants.{BucketMaybeLost, Compacted, Exists, File, Hash, KeyMaybeLost, Line, Lacking}
+use Rattle.bolt_commands.specs.declared.failure.Failure.TheVariants.{Memory, Open, NoBucket, NoKey, NoState, NotABucket, Others, Page, TooLarge}
+use Rattle.bolt_commands.specs.declared.failure.Failure.TheVariants.{TooManyPages, Write}
 
 abbrev pub failure_text : Failure → List ℕ
-failure_text (Metas fault) = meta_fault_text fault
+failure_text (Open fault) = meta_fault_text fault
 failure_text (File finding) = codes "file refused: " ++ finding_text finding
 failure_text (Page fault) = page_fault_text fault
 failure_text NoBucket = codes "bucket not found\n"
@@ -35,7 +37,7 @@ failure_text Exists = codes "lost+found exists\n"
 failure_text NotABucket = codes "key is not a bucket\n"
 failure_text (Others count) = codes "not revisions: " ++ (decimal count ++ codes "\n")
 failure_text Compacted = codes "revision compacted\n"
-failure_text (Lost lost) = shortfall_text lost
+failure_text (Lacking lost) = shortfall_text lost
 failure_text (Line number fault) = codes "line " ++ ((decimal number ++ codes ": ") ++ (line_fault_words fault ++ codes "\n"))
 
 -- a failure is one line on standard error
@@ -64,7 +66,7 @@ abbrev pub unlisted : RecoverFault → Failure
 unlisted (recover.Rootless x) = File x
 unlisted recover.Exists = Exists
 unlisted recover.NotABucket = NotABucket
-unlisted recover.TooLarge = TooManyPages
+unlisted recover.TooManyPages = TooManyPages
 unlisted recover.Memory = Memory
 
 -- the failure if a file isn't repaired
@@ -76,7 +78,7 @@ unrestored repair.Memory = Memory
 
 -- the failure of a job whose file is refused; of the findings of the accounts the first is reported
 abbrev pub IsFailureOf : CheckFault → Failure → Type 0
-IsFailureOf (check.Open fault) failure = failure ≡ Metas fault
+IsFailureOf (check.Open fault) failure = failure ≡ Open fault
 IsFailureOf (check.Structure x) failure = failure ≡ File x
 IsFailureOf (check.Accounts findings) failure = option_map File (slice_get (findings_in findings) 0) ≡ Some failure
 IsFailureOf check.Memory failure = failure ≡ Memory

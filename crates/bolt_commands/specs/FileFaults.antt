@@ -1,10 +1,12 @@
 -- What is wrong with a file apart from its pages: docs/COMMANDS.md, "Snapshots" and "Both metas".
 use Rattle.std.specs.Prelude.{◌≡◌, ◌⊎◌, ◌&&◌, ◌++◌, ◌+◌, ℕ, List, [], Bool, Option, None, Some, is_none}
-use Rattle.bolt_format.specs.{Metas.HasSlotFault, Metas.IsActive, Metas.IsInSlot, Metas.other_slot, declared.meta.Meta.Meta, declared.meta.MetaFault.MetaFault, declared.meta.Slot.Slot}
+use Rattle.bolt_format.specs.{Metas.HasSlotFault, Metas.IsActive, Metas.IsInSlot, Metas.other_slot, declared.meta.Meta.Meta}
+use Rattle.bolt_format.specs.{declared.meta.MetaFault.MetaFault, declared.meta.Slot.Slot}
 use Rattle.bolt_report.specs.MetaLines.{slot_fault_text}
-use Rattle.bolt_etcd.specs.{SnapshotFaults.snapshot_fault_text, declared.snapshot.SnapshotFault.SnapshotFault}
-use Rattle.bolt_commands.specs.{SnapshotAnswers.bad_hash, SnapshotAnswers.hash_found, declared.file_faults.FileFaults.FileFaults}
-use Rattle.bolt_job.specs.{declared.choices.Extent.Extent, declared.choices.Extent.TheVariants.Losses, declared.choices.Extent.TheVariants.LostAndFound, declared.choices.Extent.TheVariants.Sound}
+use Rattle.bolt_etcd.specs.{Check.SnapshotFaults.snapshot_fault_text, declared.check.snapshot.SnapshotFault.SnapshotFault}
+use Rattle.bolt_commands.specs.{SnapshotAnswers.bad_hash, SnapshotAnswers.asked_hash_fault, declared.file_faults.FileFaults.FileFaults}
+use Rattle.bolt_job.specs.{declared.choices.Extent.Extent, declared.choices.Extent.TheVariants.Losses, declared.choices.Extent.TheVariants.FoundPages}
+use Rattle.bolt_job.specs.{declared.choices.Extent.TheVariants.Sound}
 use Rattle.bolt_job.specs.declared.choices.MetaChoice.{MetaChoice}
 use Rattle.bolt_job.specs.declared.choices.MetaChoice.TheVariants.{Active, Assumed, InSlot}
 
@@ -15,7 +17,7 @@ abbrev pub IsUnusedFault : List ℕ → Slot → Option (Slot × MetaFault) → 
 IsUnusedFault file slot None = (meta : Meta) × IsInSlot file (other_slot slot) meta
 IsUnusedFault file slot (Some (other, fault)) = (other ≡ other_slot slot) × HasSlotFault file other fault × ((meta : Meta) → IsInSlot file other meta → ⊥)
 
--- the same, of a file with an active meta; without one there is nothing more to say
+-- the slot that isn't in use and its fault, in a file with an active meta; without one there is nothing more to say
 abbrev pub IsOtherFault : List ℕ → Option (Slot × MetaFault) → Type 0
 IsOtherFault file other =
     ((slot : Slot) × (meta : Meta) × IsActive file slot meta × IsUnusedFault file slot other)
@@ -27,15 +29,15 @@ IsMetasFault Sound file choice other = other ≡ None
 IsMetasFault Losses file Active other = IsOtherFault file other
 IsMetasFault Losses file (InSlot slot) other = other ≡ None
 IsMetasFault Losses file (Assumed assumed) other = other ≡ None
-IsMetasFault LostAndFound file Active other = IsOtherFault file other
-IsMetasFault LostAndFound file (InSlot slot) other = other ≡ None
-IsMetasFault LostAndFound file (Assumed assumed) other = other ≡ None
+IsMetasFault FoundPages file Active other = IsOtherFault file other
+IsMetasFault FoundPages file (InSlot slot) other = other ≡ None
+IsMetasFault FoundPages file (Assumed assumed) other = other ≡ None
 
 pub record AreFileFaults (extent : Extent) (snapshot : Bool) (file : List ℕ) (choice : MetaChoice) (faults : FileFaults) : Type 0 where
-  pub hash : faults.hash ≡ hash_found snapshot file
+  pub hash : faults.hash ≡ asked_hash_fault snapshot file
   pub metas : IsMetasFault extent file choice faults.other
 
--- of one that is copied: a hash that isn't right is one only if a snapshot is made of the file, and if the file has one
+-- What is wrong with a file that is copied: a wrong hash counts only if a snapshot is made of the file, and if the file has a hash.
 pub record AreCopyFaults (extent : Extent) (snapshot : Bool) (file : List ℕ) (choice : MetaChoice) (faults : FileFaults) : Type 0 where
   pub hash : faults.hash ≡ bad_hash snapshot file
   pub metas : IsMetasFault extent file choice faults.other

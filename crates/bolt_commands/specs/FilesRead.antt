@@ -1,20 +1,26 @@
 -- What a command reads of a file: a sound one, what is recovered of a damaged one, or that with what is found; and why it reads none.
-use Rattle.std.specs.Prelude.{◌≡◌, ◌≢◌, ◌⊎◌, ℕ, List, [], Bool, true, false, IsTrue, map, Option, Some, None, Ok, Err}
-use Rattle.bolt_check.specs.{AccountFindings.AreAccountFindings, Sound.HasRightAccounts, Sound.HasSoundTrees, Sound.IsFirstFinding, Sound.IsUsed, declared.check_fault.CheckFault.CheckFault}
+use Rattle.std.specs.Prelude.{◌≡◌, ◌≢◌, ◌-◌, ◌⊎◌, ℕ, List, [], Bool, true, false, IsTrue, length, map, take, Option, Some, None, Ok, Err}
+use Rattle.bolt_check.specs.{AccountFindings.AreAccountFindings, Sound.HasRightAccounts, Sound.HasSoundTrees, Sound.IsFirstFinding, Sound.IsUsed}
+use Rattle.bolt_check.specs.{declared.check_fault.CheckFault.CheckFault}
 use Rattle.bolt_check.specs.{declared.finding.Finding.Finding, ShownFindings.findings_in}
 use Rattle.bolt_check.specs.declared.check_fault.CheckFault.TheVariants as check
 use Rattle.bolt_format.specs.{Pages.page_at, declared.meta.Meta.Meta, declared.meta.MetaFault.MetaFault, declared.meta.Slot.Slot}
-use Rattle.bolt_recover.specs.{Found.AreFound, JoinRefusals.IsJoinRefusal, Joined.IsJoined, Joined.LacksBucketKey, Losses.AreLosses, Losses.LossView, Losses.LostView, Losses.everything, Losses.parts}
-use Rattle.bolt_recover.specs.{Lost.IsAllLost, Sites.leaves_of, Recovered.ForRecovered, Recovered.IsRecovered, Refusals.IsUnrecoverable, Refusals.KeepsRoot, declared.recover_fault.RecoverFault.RecoverFault}
+use Rattle.bolt_recover.specs.{Found.AreFound, JoinRefusals.IsJoinRefusal, Joined.IsJoined, Joined.LacksBucketKey, Losses.AreLosses, Losses.LossView}
+use Rattle.bolt_recover.specs.{Losses.LostView, Losses.everything, Losses.parts}
+use Rattle.bolt_recover.specs.{Lost.IsAllLost, Sites.leaves_of, Recovered.ForRecovered, Recovered.IsRecovered, Refusals.IsUnrecoverable}
+use Rattle.bolt_recover.specs.{Refusals.KeepsRoot, declared.recover_fault.RecoverFault.RecoverFault}
 use Rattle.bolt_report.specs.FoundLines.{FoundView}
-use Rattle.bolt_tree.specs.{Entries.IsEntry, Entries.Item, Entries.Root_page, Entries.Start, Listing.IsListing, Listing.Member, Paths.Holds, Paths.Names, Paths.Path}
-use Rattle.bolt_commands.specs.{Failures.IsFailureOf, Failures.unlisted, FileFaults.IsMetasFault, Shortfalls.shortfall, declared.shortfall.Shortfall.Shortfall, declared.failure.Failure.Failure}
+use Rattle.bolt_tree.specs.{Entries.IsEntry, Entries.Item, Entries.Root_page, Entries.Start, Listing.IsListing, Listing.Member, Paths.Holds}
+use Rattle.bolt_tree.specs.{Paths.Names, Paths.Path}
+use Rattle.bolt_commands.specs.{Failures.IsFailureOf, Failures.unlisted, FileFaults.IsMetasFault, Shortfalls.shortfall}
+use Rattle.bolt_commands.specs.{declared.shortfall.Shortfall.Shortfall, declared.failure.Failure.Failure}
 use Rattle.bolt_commands.specs.Answers.{Answer, JobEnding, refused}
 use Rattle.bolt_job.specs.{MetaChoices.HasNoMetaOf, MetaChoices.IsMetaOf, declared.choices.Extent.Extent}
-use Rattle.bolt_job.specs.declared.choices.Extent.TheVariants.{Losses, LostAndFound, Sound}
+use Rattle.bolt_job.specs.declared.choices.Extent.TheVariants.{Losses, FoundPages, Sound}
 use Rattle.bolt_job.specs.declared.choices.MetaChoice.{MetaChoice}
 use Rattle.bolt_job.specs.declared.choices.MetaChoice.TheVariants.{Active, Assumed, InSlot}
 use Rattle.bolt_commands.specs.declared.failure.Failure.TheVariants as failure
+use Rattle.bolt_etcd.specs.Store.Newest.{newest}
 
 -- a path leads from the root bucket to this one; and what it holds
 abbrev pub LeadsTo : List ℕ → Meta → Path → Start → Type 0
@@ -41,7 +47,7 @@ counts_accounts (Assumed assumed) = false
 abbrev pub IsReadUnder : List ℕ → MetaChoice → Meta → Type 0
 IsReadUnder file choice meta = IsMetaOf file choice meta × HasSoundTrees file meta × (IsTrue (counts_accounts choice) → HasRightAccounts file meta)
 
--- its trees are sound and its accounts aren't right: these are all findings of them
+-- the trees of a file are sound and its accounts aren't right: the findings are all those of the accounts
 abbrev pub HasWrongAccounts : List ℕ → List Finding → Meta → Type 0
 HasWrongAccounts file findings meta =
     HasSoundTrees file meta × (HasRightAccounts file meta → ⊥) × AreAccountFindings file meta (IsUsed file meta) findings × (findings ≢ [])
@@ -59,7 +65,7 @@ IsReadAnswer file choice IsAccepted answer =
     ((meta : Meta) × IsReadUnder file choice meta × IsAccepted meta answer)
     ⊎ ((fault : CheckFault) × IsRefusedUnder file choice fault × IsFileRefusal fault answer)
 
--- the meta under which it is read, where its root page is kept; or why nothing is recovered
+-- the meta under which a file is recovered: its root page is kept; or why nothing is recovered
 abbrev pub IsRecoveredUnder : List ℕ → MetaChoice → Meta → Type 0
 IsRecoveredUnder file choice meta = IsMetaOf file choice meta × KeepsRoot file meta
 
@@ -72,9 +78,9 @@ found_page file meta n = record { number = n; elements = leaves_of (page_at file
 abbrev pub AreFoundPages : List ℕ → Meta → List FoundView → Type 0
 AreFoundPages file meta found = (numbers : List ℕ) × AreFound file meta numbers × (found ≡ map (found_page file meta) numbers)
 
--- to an extent
+-- the pages that are found if the extent asks for them, and otherwise none
 abbrev pub AreFoundTo : Extent → List ℕ → Meta → List FoundView → Type 0
-AreFoundTo LostAndFound file meta found = AreFoundPages file meta found
+AreFoundTo FoundPages file meta found = AreFoundPages file meta found
 AreFoundTo extent file meta found = found ≡ []
 
 -- the joined listing of a file, what is lost and what is found; if everything is lost, a page is found
@@ -93,26 +99,27 @@ IsUnjoined file meta why =
 abbrev pub IsUnjoinedUnder : List ℕ → MetaChoice → Failure → Type 0
 IsUnjoinedUnder file choice why =
     ((meta : Meta) × IsMetaOf file choice meta × IsUnjoined file meta why)
-    ⊎ ((fault : MetaFault) × HasNoMetaOf file choice fault × (why ≡ failure.Metas fault))
+    ⊎ ((fault : MetaFault) × HasNoMetaOf file choice fault × (why ≡ failure.Open fault))
 
 -- under the meta that is chosen the listing of a sound file, the recovered or the joined one; what is lost of the file, and the pages that are
 -- found of it
 abbrev pub IsReadTo : Extent → List ℕ → MetaChoice → Meta → List Member → LostView → List FoundView → Type 0
 IsReadTo Sound file choice meta listing lost found = IsReadUnder file choice meta × IsListing file meta listing × (lost ≡ parts []) × (found ≡ [])
 IsReadTo Losses file choice meta listing lost found =
-    IsRecoveredUnder file choice meta × IsRecovered file meta listing × ((losses : List LossView) × AreLosses file meta losses × (lost ≡ parts losses)) × (found ≡ [])
-IsReadTo LostAndFound file choice meta listing lost found = IsMetaOf file choice meta × IsSalvaged file meta listing lost found
+    IsRecoveredUnder file choice meta × IsRecovered file meta listing × ((losses : List LossView) × AreLosses file meta losses × (lost ≡ parts losses))
+    × (found ≡ [])
+IsReadTo FoundPages file choice meta listing lost found = IsMetaOf file choice meta × IsSalvaged file meta listing lost found
 
 -- why it isn't read
 abbrev pub IsUnreadTo : Extent → List ℕ → MetaChoice → Failure → Type 0
 IsUnreadTo Sound file choice why = (fault : CheckFault) × IsRefusedUnder file choice fault × IsFailureOf fault why
 IsUnreadTo Losses file choice why = (fault : CheckFault) × IsUnrecoverableUnder file choice fault × IsFailureOf fault why
-IsUnreadTo LostAndFound file choice why = IsUnjoinedUnder file choice why
+IsUnreadTo FoundPages file choice why = IsUnjoinedUnder file choice why
 
 -- if something is lacking, this is reported on standard error
-abbrev pub lost_ending : Option Shortfall → JobEnding
-lost_ending None = Ok 0
-lost_ending (Some lost) = Err (failure.Lost lost)
+abbrev pub shortfall_ending : Option Shortfall → JobEnding
+shortfall_ending None = Ok 0
+shortfall_ending (Some lost) = Err (failure.Lacking lost)
 
 -- what an output to this extent lacks if this is lost: that, and the newest state, if the other meta is refused
 abbrev pub IsLackingTo : Extent → List ℕ → MetaChoice → LostView → Option Shortfall → Type 0

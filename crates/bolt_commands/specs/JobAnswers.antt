@@ -1,25 +1,32 @@
 -- What a job does: what standard output and the target accept, and how it ends.
-use Rattle.std.specs.Prelude.{◌≡◌, ◌<◌, ◌⊎◌, ℕ, List, [], ◌∷◌, Bool, length, Option, Some, None, Err}
+use Rattle.std.specs.Prelude.{◌≡◌, ◌<◌, ◌-◌, ◌^◌, ◌⊎◌, ℕ, List, [], ◌∷◌, Bool, length, map, Option, Some, None, Err}
 use Rattle.std.specs.Io.KnownBytes.{Appends}
 use Rattle.bolt_bulk.specs.Compacting.{too_many}
 use Rattle.bolt_layout.specs.{Copies.layout_of_listing, declared.Layout.Layout, declared.Layout.TheVariants.Balanced}
 use Rattle.bolt_format.specs.declared.meta.Meta.{Meta}
-use Rattle.bolt_load.specs.{LineFaults.IsListingText, LineFaults.IsLoadFault, declared.load_fault.LoadFault.LoadFault, declared.load_fault.LineFault.TheVariants.CutOff}
+use Rattle.bolt_load.specs.{LineFaults.IsListingText, LineFaults.IsLoadFault, declared.load_fault.LoadFault.LoadFault}
+use Rattle.bolt_load.specs.{declared.load_fault.LineFault.TheVariants.CutOff}
 use Rattle.bolt_text.specs.LineMembers.{text_members}
 use Rattle.bolt_recover.specs.Losses.{LostView}
 use Rattle.bolt_report.specs.FoundLines.{FoundView}
+use Rattle.bolt_stats.specs.declared.figures.Stats.{Stats}
 use Rattle.bolt_tree.specs.Listing.{Member}
-use Rattle.bolt_job.specs.{CopyKinds.is_snapshot, declared.choices.Extent.Extent, declared.choices.Extent.TheVariants.LostAndFound, declared.job.Job.Job, declared.choices.MetaChoice.MetaChoice}
+use Rattle.bolt_job.specs.{CopyKinds.is_snapshot, declared.choices.Extent.Extent, declared.choices.Extent.TheVariants.FoundPages}
+use Rattle.bolt_job.specs.{declared.job.Job.Job, declared.choices.MetaChoice.MetaChoice}
 use Rattle.bolt_job.specs.{declared.choices.MetaChoice.TheVariants.Active, declared.choices.PageSize.PageSize}
-use Rattle.bolt_commands.specs.{CopyLayouts.layout_for, Failures.unloaded, FileFaults.AreCopyFaults, GoodCopies.IsGoodCopy, SnapshotAnswers.copy_of, declared.failure.Failure.Failure}
-use Rattle.bolt_commands.specs.{declared.file_faults.FileFaults.FileFaults, Answers.Answer, Answers.JobEnding, Answers.WritesAnswer, Answers.done, CheckAnswers.IsCheckAnswer}
+use Rattle.bolt_commands.specs.{CopyLayouts.layout_for, Failures.unloaded, FileFaults.AreCopyFaults, GoodCopies.IsGoodCopy, SnapshotAnswers.copy_of}
+use Rattle.bolt_commands.specs.{declared.failure.Failure.Failure}
+use Rattle.bolt_commands.specs.{declared.file_faults.FileFaults.FileFaults, Answers.Answer, Answers.JobEnding, Answers.WritesAnswer, Answers.done}
+use Rattle.bolt_commands.specs.{CheckAnswers.IsCheckAnswer}
 use Rattle.bolt_commands.specs.CopyAnswers.{StopsShort, copy_page_size, copy_report, hash_refusal, lengths_line}
 use Rattle.bolt_commands.specs.EtcdAnswers.{IsEtcdCheckPrint, IsEtcdGetPrint, IsEtcdKeysPrint, IsEtcdRevisionsPrint, IsEtcdStatusPrint}
-use Rattle.bolt_commands.specs.{FilesRead.IsReadAnswer, FilesRead.IsReadTo, FilesRead.IsUnreadTo, KeyAnswers.IsBucketsPrint, KeyAnswers.IsGetPrint, KeyAnswers.IsKeysPrint, ListAnswers.IsListPrint}
-use Rattle.bolt_commands.specs.{PageAnswers.IsInfoAnswer, PageAnswers.IsPageAnswer, PageAnswers.IsPagesAnswer, RepairAnswers.IsRestored, RepairAnswers.IsUnrestored, RepairAnswers.repair_report}
+use Rattle.bolt_commands.specs.{FilesRead.IsReadAnswer, FilesRead.IsReadTo, FilesRead.IsUnreadTo, KeyAnswers.IsBucketsPrint, KeyAnswers.IsGetPrint}
+use Rattle.bolt_commands.specs.{KeyAnswers.IsKeysPrint, ListAnswers.IsListPrint}
+use Rattle.bolt_commands.specs.{PageAnswers.IsInfoAnswer, PageAnswers.IsPageAnswer, PageAnswers.IsPagesAnswer, RepairAnswers.IsRestored}
+use Rattle.bolt_commands.specs.{RepairAnswers.IsUnrestored, RepairAnswers.repair_report}
 use Rattle.bolt_commands.specs.{StatesAnswers.IsStatesPrint, StatsAnswers.IsStatsPrint}
 use Rattle.bolt_commands.specs.declared.failure.Failure.TheVariants as failure
-use Rattle.bolt_etcd.specs.{Others.OtherView, declared.snapshot.SnapshotFault.SnapshotFault}
+use Rattle.bolt_etcd.specs.{Wire.Others.OtherView, declared.check.snapshot.SnapshotFault.SnapshotFault, Store.Newest.newest, Store.Stores.revisions}
 use Rattle.bolt_job.specs.declared.job.Job.TheVariants as job
 
 -- standard output and the target, each from its state `old` to `new`
@@ -42,7 +49,8 @@ module _ {O T : Type 0} (out_taken : O → Option (List ℕ)) (out_failed : O �
   -- the target stopped short, standard output isn't touched, and the job ends with the failure
   abbrev pub CopiesInPart : (snapshot : Bool) → (layout : List ℕ) → JobEnding → Type 0
   CopiesInPart snapshot layout ending =
-      (failure : Failure) × StopsShort target_taken target_failed target_old target_new layout (copy_of snapshot layout) failure × (out_new ≡ out_old) × (ending ≡ Err failure)
+      (failure : Failure) × StopsShort target_taken target_failed target_old target_new layout (copy_of snapshot layout) failure × (out_new ≡ out_old)
+      × (ending ≡ Err failure)
 
   abbrev pub WritesCopy : (snapshot : Bool) → (listing : List Member) → (layout : List ℕ) → (ℕ → Answer) → JobEnding → Type 0
   WritesCopy snapshot listing layout answer ending = CopiesWhole snapshot listing layout answer ending ⊎ CopiesInPart snapshot layout ending
@@ -63,7 +71,8 @@ module _ {O T : Type 0} (out_taken : O → Option (List ℕ)) (out_failed : O �
   MakesCopy file choice size which snapshot extent ending =
       ((meta : Meta) × (listing : List Member) × (lost : LostView) × (found : List FoundView) × IsReadTo extent file choice meta listing lost found
       × (faults : FileFaults) × AreCopyFaults extent snapshot file choice faults × CopiesUnless (hash_refusal extent faults.hash)
-      (WritesCopy snapshot listing (layout_of_listing which (copy_page_size size meta) listing meta.root_sequence) (copy_report faults lost found (length file))) ending)
+      (WritesCopy snapshot listing (layout_of_listing which (copy_page_size size meta) listing meta.root_sequence)
+      (copy_report faults lost found (length file))) ending)
       ⊎ ((why : Failure) × IsUnreadTo extent file choice why × WritesNone why ending)
 
   -- the copy of the repaired listing, and what is reported of it
@@ -71,11 +80,13 @@ module _ {O T : Type 0} (out_taken : O → Option (List ℕ)) (out_failed : O �
   WritesRestored file choice size snapshot search ending =
       (meta : Meta) × (listing : List Member) × (lost : LostView) × (others : List OtherView) × (back left_out : ℕ)
       × IsRestored file choice search meta listing lost others back left_out
-      × (faults : FileFaults) × AreCopyFaults LostAndFound snapshot file choice faults
-      × WritesCopy snapshot listing (layout_of_listing Balanced (copy_page_size size meta) listing meta.root_sequence) (repair_report faults lost others back left_out (length file)) ending
+      × (faults : FileFaults) × AreCopyFaults FoundPages snapshot file choice faults
+      × WritesCopy snapshot listing (layout_of_listing Balanced (copy_page_size size meta) listing meta.root_sequence)
+      (repair_report faults lost others back left_out (length file)) ending
 
   -- `etcd-repair`: The target accepts the balanced layout of the repaired listing at the copy's page size, and for a snapshot then its hash: a good
-  -- copy of that listing. Then it is reported if the file has a hash that isn't right, if the newest state may be lost, what is lost, what isn't copied,
+  -- copy of that listing. Then it is reported if the file has a hash that isn't
+  -- right, if the newest state may be lost, what is lost, what isn't copied,
   -- which revisions may be missing, and how many go back. Or there is no repaired listing, or memory ran out, and neither is touched.
   abbrev pub MakesRepair : List ℕ → MetaChoice → Option PageSize → (snapshot search : Bool) → JobEnding → Type 0
   MakesRepair file choice size snapshot search ending =
@@ -86,18 +97,20 @@ module _ {O T : Type 0} (out_taken : O → Option (List ℕ)) (out_failed : O �
   abbrev pub Loads : List ℕ → (page_size sequence : ℕ) → Layout → (snapshot : Bool) → JobEnding → Type 0
   Loads file page_size sequence which snapshot ending =
       (IsListingText file
-      × WritesCopy snapshot (text_members file) (layout_of_listing which page_size (text_members file) sequence) (λ copy. done (lengths_line (length file) copy)) ending)
+      × WritesCopy snapshot (text_members file) (layout_of_listing which page_size (text_members file) sequence)
+      (λ copy. done (lengths_line (length file) copy)) ending)
       ⊎ ((fault : LoadFault) × IsLoadFault file fault × WritesNone (unloaded fault) ending)
 
   -- nothing is written, and the job ends with this failure or for want of memory
   abbrev pub StopsAt : Failure → JobEnding → Type 0
   StopsAt why ending = (out_new ≡ out_old) × (target_new ≡ target_old) × ((ending ≡ Err why) ⊎ (ending ≡ Err failure.Memory))
 
-  -- the same of the text of this listing, which has no line that isn't right; a text without a line is cut off
+  -- `load` of the text of this listing, which has no line that isn't right; a text without a line is cut off
   abbrev pub LoadsListing : List Member → List ℕ → (page_size sequence : ℕ) → Layout → (snapshot : Bool) → JobEnding → Type 0
   LoadsListing [] file page_size sequence which snapshot ending = StopsAt (failure.Line 1 CutOff) ending
   LoadsListing (member ∷ listing) file page_size sequence which snapshot ending =
-      WritesCopy snapshot (member ∷ listing) (layout_of_listing which page_size (member ∷ listing) sequence) (λ copy. done (lengths_line (length file) copy)) ending
+      WritesCopy snapshot (member ∷ listing) (layout_of_listing which page_size (member ∷ listing) sequence)
+      (λ copy. done (lengths_line (length file) copy)) ending
       ⊎ StopsAt failure.Memory ending
 
   -- what a job does, and how it ends

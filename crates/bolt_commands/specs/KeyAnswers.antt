@@ -1,30 +1,37 @@
 -- What `buckets`, `keys` and `get` answer: docs/COMMANDS.md, "What is printed".
-use Rattle.std.specs.Prelude.{◌≡◌, ◌⊎◌, Contains, ℕ, List, [], Bool, true, false, Option, Some, None, Err, if◌then◌else◌}
+use Rattle.std.specs.Prelude.{◌≡◌, ◌-◌, ◌⊎◌, Contains, ℕ, List, [], Bool, true, false, Option, Some, None, Err, if◌then◌else◌}
 use Rattle.bolt_format.specs.{Elements.LeafElement, declared.meta.Meta.Meta}
-use Rattle.bolt_recover.specs.Losses.{LostView}
-use Rattle.bolt_report.specs.{KeyLines.buckets_text, KeyLines.keys_text, MemberNames.WantedNames, MemberNames.begins_so, MemberNames.names_bucket, MemberNames.names_text, KeyPrefixes.with_prefix}
+use Rattle.bolt_recover.specs.Losses.{LostView, parts}
+use Rattle.bolt_report.specs.{KeyLines.buckets_text, KeyLines.keys_text, MemberNames.WantedNames, MemberNames.begins_so, MemberNames.names_bucket}
+use Rattle.bolt_report.specs.{MemberNames.names_text, KeyPrefixes.with_prefix}
 use Rattle.bolt_report.specs.SizeLines.{AreSized, Sized, sizes_text}
 use Rattle.bolt_text.specs.{Forms.value_text, Forms.item_text, declared.forms.Form.Form}
-use Rattle.bolt_tree.specs.{Entries.AreEntries, Entries.IsEntry, Entries.Start, Entries.Value, Listing.Member, ListingParts.has_bucket, Paths.Path}
+use Rattle.bolt_tree.specs.{Entries.AreEntries, Entries.IsEntry, Entries.Start, Entries.Value, Listing.Member, ListingParts.has_bucket, Paths.Names}
+use Rattle.bolt_tree.specs.{Paths.Path}
 use Rattle.bolt_commands.specs.{declared.shortfall.Shortfall.Shortfall, declared.failure.Failure.Failure}
 use Rattle.bolt_commands.specs.Answers.{Answer, IsEndedOrCut, IsShownAndEnded, IsShownText, IsWholeOrShort, JobEnding, refused}
-use Rattle.bolt_commands.specs.FilesRead.{HoldsIn, IsLackingTo, IsReadAnswer, IsReadTo, IsUnreadTo, LeadsNowhere, LeadsTo, lost_ending}
-use Rattle.bolt_report.specs.HeldAtPaths.{parents_of}
-use Rattle.bolt_job.specs.{declared.choices.BucketsShown.BucketsShown, declared.choices.Extent.TheVariants.Losses, declared.bucket_commands.BucketsJob.BucketsJob}
-use Rattle.bolt_job.specs.{declared.bucket_commands.GetJob.GetJob, declared.bucket_commands.KeysJob.KeysJob, declared.choices.MetaChoice.MetaChoice, PlainWords.owned_path}
+use Rattle.bolt_commands.specs.FilesRead.{HoldsIn, IsLackingTo, IsReadAnswer, IsReadTo, IsUnreadTo, LeadsNowhere, LeadsTo, shortfall_ending}
+use Rattle.bolt_report.specs.AtPaths.{parents_of}
+use Rattle.bolt_job.specs.{declared.choices.BucketsShown.BucketsShown, declared.choices.Extent.TheVariants.Losses}
+use Rattle.bolt_job.specs.{declared.bucket_commands.BucketsJob.BucketsJob}
+use Rattle.bolt_job.specs.{declared.bucket_commands.GetJob.GetJob, declared.bucket_commands.KeysJob.KeysJob, declared.choices.MetaChoice.MetaChoice}
+use Rattle.bolt_job.specs.{PlainWords.owned_path}
 use Rattle.bolt_job.specs.declared.choices.BucketsShown.TheVariants as shown
 use Rattle.bolt_commands.specs.declared.failure.Failure.TheVariants as failure
+use Rattle.bolt_job.specs.declared.job.Job.TheVariants as job
 
 -- a text of the entries of the bucket that the path leads to; or it leads to none
 abbrev pub IsEntriesAnswer : List ℕ → Path → Form → (List LeafElement → List ℕ) → Meta → Answer → Type 0
 IsEntriesAnswer file path form text meta answer =
-    ((bucket : Start) × (entries : List LeafElement) × LeadsTo file meta path bucket × AreEntries (IsEntry file meta) bucket entries × IsShownText form (text entries) answer)
+    ((bucket : Start) × (entries : List LeafElement) × LeadsTo file meta path bucket × AreEntries (IsEntry file meta) bucket entries
+    × IsShownText form (text entries) answer)
     ⊎ (LeadsNowhere file meta path × (answer ≡ refused failure.NoBucket))
 
 -- The path holds no value: all of its parts but the last lead to a bucket, or they lead to none.
 abbrev pub HoldsNone : List ℕ → Path → Meta → Failure → Type 0
 HoldsNone file path meta reason =
-    ((reason ≡ failure.NoKey) × ((value : List ℕ) → HoldsIn file meta path (Value value) → ⊥) × ((bucket : Start) × ∥ LeadsTo file meta (parents_of path) bucket ∥₁))
+    ((reason ≡ failure.NoKey) × ((value : List ℕ) → HoldsIn file meta path (Value value) → ⊥)
+    × ((bucket : Start) × ∥ LeadsTo file meta (parents_of path) bucket ∥₁))
     ⊎ ((reason ≡ failure.NoBucket) × LeadsNowhere file meta (parents_of path))
 
 -- how a value is printed: with a line feed or without one
@@ -65,7 +72,7 @@ no_key lost = missing failure.NoKey failure.KeyMaybeLost lost
 
 -- the names that are wanted in a bucket of the listing, and then what is lacking; or the bucket isn't there
 abbrev pub names_ending : Path → List Member → Option Shortfall → JobEnding
-names_ending path listing lost = if has_bucket path listing then lost_ending lost else Err (no_bucket lost)
+names_ending path listing lost = if has_bucket path listing then shortfall_ending lost else Err (no_bucket lost)
 
 abbrev pub IsNamesAnswer : Form → WantedNames → Path → List Member → Option Shortfall → Answer → Type 0
 IsNamesAnswer form wanted path listing lost answer = IsEndedOrCut (names_text form wanted path listing) (names_ending path listing lost) answer
@@ -78,13 +85,16 @@ no_value path listing lost = if has_bucket (parents_of path) listing then no_key
 abbrev pub IsRecoveredValue : GetJob → List Member → Option Shortfall → Answer → Type 0
 IsRecoveredValue job listing lost answer =
     let path = owned_path job.path.items in
-    ((value : List ℕ) × Contains listing (path, Value value) × IsShownAndEnded job.form (value_shown job.form job.no_newline value) (lost_ending lost) answer)
+    ((value : List ℕ) × Contains listing (path, Value value)
+    × IsShownAndEnded job.form (value_shown job.form job.no_newline value) (shortfall_ending lost) answer)
     ⊎ (((value : List ℕ) → Contains listing (path, Value value) → ⊥) × (answer ≡ refused (no_value path listing lost)))
 
 -- the names of the buckets, or of those that are recovered, or their sizes, of a file under a meta
 abbrev pub IsBucketsShown : BucketsShown → List ℕ → MetaChoice → BucketsJob → Answer → Type 0
-IsBucketsShown (shown.Names false) file choice job answer = IsReadAnswer file choice (IsEntriesAnswer file (owned_path job.path.items) job.form (buckets_text job.form)) answer
-IsBucketsShown (shown.Names true) file choice job answer = IsRecoveredAnswer file choice (IsNamesAnswer job.form names_bucket (owned_path job.path.items)) answer
+IsBucketsShown (shown.Names false) file choice job answer =
+    IsReadAnswer file choice (IsEntriesAnswer file (owned_path job.path.items) job.form (buckets_text job.form)) answer
+IsBucketsShown (shown.Names true) file choice job answer =
+    IsRecoveredAnswer file choice (IsNamesAnswer job.form names_bucket (owned_path job.path.items)) answer
 IsBucketsShown shown.Sizes file choice job answer = IsReadAnswer file choice (IsSizesAnswer file (owned_path job.path.items) job.form) answer
 
 abbrev pub IsBucketsPrint : BucketsJob → List ℕ → Answer → Type 0
@@ -93,7 +103,8 @@ IsBucketsPrint job file answer = IsBucketsShown job.shown file job.meta job answ
 -- the keys, or those that are recovered
 abbrev pub IsKeysShown : (recover : Bool) → List ℕ → MetaChoice → KeysJob → Answer → Type 0
 IsKeysShown false file choice job answer =
-    IsReadAnswer file choice (IsEntriesAnswer file (owned_path job.path.items) job.form (λ entries. keys_text job.form (with_prefix job.prefix.items entries))) answer
+    IsReadAnswer file choice
+    (IsEntriesAnswer file (owned_path job.path.items) job.form (λ entries. keys_text job.form (with_prefix job.prefix.items entries))) answer
 IsKeysShown true file choice job answer = IsRecoveredAnswer file choice (IsNamesAnswer job.form (begins_so job.prefix.items) (owned_path job.path.items)) answer
 
 abbrev pub IsKeysPrint : KeysJob → List ℕ → Answer → Type 0

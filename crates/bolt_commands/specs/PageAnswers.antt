@@ -1,9 +1,11 @@
 -- What `info`, `page` and `pages` answer: docs/COMMANDS.md, "What is printed".
-use Rattle.std.specs.Prelude.{◌≡◌, ◌⊎◌, ℕ, List, Bool, true, false, Option, Some, None}
+use Rattle.std.specs.Prelude.{◌≡◌, ◌-◌, ◌⊎◌, ℕ, List, Bool, true, false, map, Option, Some, None}
 use Rattle.bolt_check.specs.{Roles.AreRoles, declared.role_table.Role.Role}
-use Rattle.bolt_format.specs.{Metas.HasNoActive, Metas.HasNoneInSlot, Metas.IsActive, Metas.IsInSlot, declared.page_fault.PageFault.PageFault, declared.meta.Meta.Meta}
+use Rattle.bolt_format.specs.{Metas.HasNoActive, Metas.HasNoneInSlot, Metas.IsActive, Metas.IsInSlot, declared.page_fault.PageFault.PageFault}
+use Rattle.bolt_format.specs.{declared.meta.Meta.Meta}
 use Rattle.bolt_format.specs.{declared.meta.MetaFault.MetaFault, declared.meta.Slot.Slot}
-use Rattle.bolt_report.specs.{MetaLines.info_text, PageMaps.map_text, PageTables.pages_text, PageTexts.page_text, PageTexts.page_text_fault, RevisionLines.named_with}
+use Rattle.bolt_report.specs.{MetaLines.info_text, PageMaps.map_text, PageTables.pages_text, PageTexts.page_text, PageTexts.page_text_fault}
+use Rattle.bolt_report.specs.{RevisionLines.named_with}
 use Rattle.bolt_text.specs.declared.forms.FigureForm.{FigureForm}
 use Rattle.bolt_job.specs.{MetaChoices.HasNoMetaOf, MetaChoices.IsMetaOf, declared.choices.MetaChoice.MetaChoice}
 use Rattle.bolt_commands.specs.declared.failure.Failure.TheVariants as failure
@@ -26,12 +28,12 @@ HasNoMeta file (Some slot) fault = HasNoneInSlot file slot fault
 abbrev pub IsInfoAnswer : List ℕ → Option Slot → FigureForm → Answer → Type 0
 IsInfoAnswer file wanted form answer =
     ((slot : Slot) × (meta : Meta) × IsShownMeta file wanted slot meta × (answer ≡ done (info_text form slot meta)))
-    ⊎ ((fault : MetaFault) × HasNoMeta file wanted fault × (answer ≡ refused (failure.Metas fault)))
+    ⊎ ((fault : MetaFault) × HasNoMeta file wanted fault × (answer ≡ refused (failure.Open fault)))
 
 abbrev pub IsPageAnswer : List ℕ → MetaChoice → ℕ → Answer → Type 0
 IsPageAnswer file choice id answer =
     ((meta : Meta) × IsMetaOf file choice meta × (answer ≡ page_answer (page_text_fault file meta id) (page_text file meta id)))
-    ⊎ ((fault : MetaFault) × HasNoMetaOf file choice fault × (answer ≡ refused (failure.Metas fault)))
+    ⊎ ((fault : MetaFault) × HasNoMetaOf file choice fault × (answer ≡ refused (failure.Open fault)))
 
 -- the table of all pages by their roles, or the map of them
 abbrev pub pages_shown : (as_map : Bool) → List ℕ → Meta → (ℕ → Role) → List ℕ

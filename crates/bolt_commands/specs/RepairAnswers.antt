@@ -2,20 +2,24 @@
 use Rattle.std.specs.Prelude.{◌≡◌, ◌⊎◌, ℕ, Bool, List, [], ◌∷◌, ◌++◌, is_some, codes, decimal, length, Ok}
 use Rattle.bolt_format.specs.{declared.meta.Meta.Meta, declared.meta.MetaFault.MetaFault}
 use Rattle.bolt_recover.specs.{Losses.LostView, Lost.IsAllLost}
-use Rattle.bolt_repair.specs.{FullRepairs.IsFullRepair, RepairRefusals.IsRepairRefusal, Repaired.HasStore, Repaired.repaired_listing, declared.repair_fault.RepairFault.RepairFault}
+use Rattle.bolt_repair.specs.{FullRepairs.IsFullRepair, RepairRefusals.IsRepairRefusal, Repaired.HasStore, Repaired.repaired_listing}
+use Rattle.bolt_repair.specs.{declared.repair_fault.RepairFault.RepairFault}
 use Rattle.bolt_report.specs.{FoundLines.lost_text, UnreadLines.unread_text}
-use Rattle.bolt_etcd.specs.Others.{OtherView}
+use Rattle.bolt_etcd.specs.Wire.Others.{OtherView}
 use Rattle.bolt_repair.specs.{Bounds.repair_bound, Readable.unread, Repaired.Made, declared.bound.Bound.Bound}
 use Rattle.bolt_repair.specs.declared.bound.Bound.TheVariants as bound
 use Rattle.bolt_tree.specs.{Entries.EntryView, Listing.Member}
-use Rattle.bolt_commands.specs.{Failures.unrestored, FileFaults.fault_lines, declared.failure.Failure.Failure, declared.file_faults.FileFaults.FileFaults, Answers.Answer}
+use Rattle.bolt_commands.specs.{Failures.unrestored, FileFaults.fault_lines, declared.failure.Failure.Failure}
+use Rattle.bolt_commands.specs.{declared.file_faults.FileFaults.FileFaults, Answers.Answer}
 use Rattle.bolt_commands.specs.CopyAnswers.{copy_status, lengths_line}
 use Rattle.bolt_job.specs.{MetaChoices.HasNoMetaOf, MetaChoices.IsMetaOf, declared.choices.MetaChoice.MetaChoice}
 use Rattle.bolt_commands.specs.declared.failure.Failure.TheVariants as failure
 
--- The repaired listing of a file under the meta that is chosen, with pages looked for in any case or only if something is lost, what is lost of it, which entries aren't copied, how many revisions go back, and how
+-- The repaired listing of a file under the meta that is chosen, with pages looked for in any case or only if
+-- something is lost, what is lost of it, which entries aren't copied, how many revisions go back, and how
 -- many stay out. If none goes back, the bucket is there.
-pub record IsRestored (file : List ℕ) (choice : MetaChoice) (search : Bool) (meta : Meta) (listing : List Member) (lost : LostView) (others : List OtherView) (back left_out : ℕ) : Type 0 where
+pub record IsRestored (file : List ℕ) (choice : MetaChoice) (search : Bool) (meta : Meta) (listing : List Member) (lost : LostView)
+    (others : List OtherView) (back left_out : ℕ) : Type 0 where
   pub under : IsMetaOf file choice meta
   pub loses : IsAllLost file meta lost
   pub entries : List EntryView
@@ -30,7 +34,7 @@ pub record IsRestored (file : List ℕ) (choice : MetaChoice) (search : Bool) (m
 abbrev pub IsUnrestored : List ℕ → MetaChoice → (search : Bool) → Failure → Type 0
 IsUnrestored file choice search why =
     ((meta : Meta) × (fault : RepairFault) × IsMetaOf file choice meta × IsRepairRefusal file meta search fault × (why ≡ unrestored fault))
-    ⊎ ((fault : MetaFault) × HasNoMetaOf file choice fault × (why ≡ failure.Metas fault))
+    ⊎ ((fault : MetaFault) × HasNoMetaOf file choice fault × (why ≡ failure.Open fault))
 
 -- the line with the numbers of revisions that go back, and of those that stay out
 abbrev pub counts_line : (back left_out : ℕ) → List ℕ

@@ -9,7 +9,9 @@ ghost use Rattle.bolt_layout.specs.Copies.{IsOfOneTree};
 ghost use Rattle.bolt_recover.specs.ShownLosses.{lost_view};
 ghost use Rattle.bolt_report.specs.FoundLines.{IsFoundLeaf};
 ghost use Rattle.bolt_tree.specs.Listing.{Member};
-ghost use Rattle.bolt_commands.specs.{Answers.WritesAnswer, CopyAnswers.copy_status, CopyAnswers.lengths_line, CopyLayouts.layout_for, GoodCopies.HasGoodCopies, Private.Copying.CopiesTo, Private.Copying.ForLayout, Private.Copying.IsAskedBlueprint, Private.Reports.report_answer, Private.Reports.report_text};
+ghost use Rattle.bolt_commands.specs.{Answers.WritesAnswer, CopyAnswers.copy_status, CopyAnswers.lengths_line, CopyLayouts.layout_for};
+ghost use Rattle.bolt_commands.specs.{GoodCopies.HasGoodCopies, Private.Copying.CopiesTo, Private.Copying.ForLayout};
+ghost use Rattle.bolt_commands.specs.{Private.Copying.IsAskedBlueprint, Private.Reports.report_answer, Private.Reports.report_text};
 
 use crate::failure::Outcome;
 use crate::file_faults::{FileFaults, put_file_faults};

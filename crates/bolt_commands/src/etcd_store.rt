@@ -1,7 +1,8 @@
 //! What etcd keeps in a file, and how a command ends that printed some of it.
 ghost use Rattle.std.specs.Prelude.{◌≡◌, IfErr, IfOk, OnOk, false, true};
-ghost use Rattle.bolt_etcd.specs.{StoreBuckets.ForStore, StoreFaults.store_compacted};
-ghost use Rattle.bolt_commands.specs.{EtcdAnswers.is_compacted, EtcdAnswers.others_ending, EtcdAnswers.up_to, Private.Etcd.IsStoreRead, Private.Etcd.IsUnreadStore, Private.Etcd.end_of_revisions, declared.failure.Failure.TheVariants.Compacted};
+ghost use Rattle.bolt_etcd.specs.{Store.StoreBuckets.ForStore, Check.StoreFaults.store_compacted};
+ghost use Rattle.bolt_commands.specs.{EtcdAnswers.is_compacted, EtcdAnswers.others_ending, EtcdAnswers.up_to, Private.Etcd.IsStoreRead};
+ghost use Rattle.bolt_commands.specs.{Private.Etcd.IsUnreadStore, Private.Etcd.end_of_revisions, declared.failure.Failure.TheVariants.Compacted};
 
 use crate::failure::{Failure, Outcome};
 use crate::opening::Input;

@@ -1,6 +1,7 @@
 //! Why a job isn't done, and how it ends.
 ghost use Rattle.std.specs.Prelude.{◌≡◌, Ok};
-ghost use Rattle.bolt_commands.specs.{Failures.IsFailureOf, Failures.copied, Failures.reported, Failures.unlisted, Failures.unloaded, Failures.unrestored, FilesRead.lost_ending, Private.Endings.end_written, Private.Endings.ending_by};
+ghost use Rattle.bolt_commands.specs.{Failures.IsFailureOf, Failures.copied, Failures.reported, Failures.unlisted, Failures.unloaded};
+ghost use Rattle.bolt_commands.specs.{Failures.unrestored, FilesRead.shortfall_ending, Private.Endings.end_written, Private.Endings.ending_by};
 ghost use Rattle.bolt_commands.specs.declared.failure.Failure.TheVariants as failure;
 
 use crate::shortfall::Shortfall;
@@ -18,7 +19,7 @@ use std::alloc::AllocFailed;
 #[derive(Clone, Copy)]
 pub enum Failure {
     /// There is no valid meta.
-    Metas(MetaFault),
+    Open(MetaFault),
     /// The file isn't sound: its first finding.
     File(Finding),
     /// The page that was asked for is refused.
@@ -49,7 +50,7 @@ pub enum Failure {
     /// Standard output or the copy couldn't be written.
     Write,
     /// What is recovered was printed, and it lacks this, or may lack it.
-    Lost(Shortfall),
+    Lacking(Shortfall),
     /// The transaction that was asked for was compacted away.
     Compacted,
     /// What etcd keeps was printed, and this many entries of its bucket `key` aren't revisions.
@@ -80,11 +81,11 @@ pub(crate) fn written(put: Result<(), SinkFault>) -> Outcome
 
 /// How a job ends that put what is wanted of a listing, if that lacks this.
 pub(crate) fn end_listing(lost: Option<Shortfall>) -> Outcome
-    ensures { result ≡ lost_ending lost }
+    ensures { result ≡ shortfall_ending lost }
 {
     match lost {
         None => Ok(0),
-        Some(lost) => Err(Failure::Lost(lost)),
+        Some(lost) => Err(Failure::Lacking(lost)),
     }
 }
 
@@ -105,10 +106,10 @@ impl From<NoMemory> for Failure {
 }
 
 impl From<MetaFault> for Failure {
-    ghost from_gives = { λ fault result. result ≡ failure.Metas fault };
+    ghost from_gives = { λ fault result. result ≡ failure.Open fault };
 
     fn from(fault: MetaFault) -> Failure {
-        Failure::Metas(fault)
+        Failure::Open(fault)
     }
 }
 
@@ -118,7 +119,7 @@ impl From<CheckFault> for Failure {
     /// Of the findings only the first is reported.
     fn from(fault: CheckFault) -> Failure {
         match fault {
-            CheckFault::Open(fault) => Failure::Metas(fault),
+            CheckFault::Open(fault) => Failure::Open(fault),
             CheckFault::Structure(finding) => Failure::File(finding),
             CheckFault::Accounts(findings) => Failure::File(findings.first()),
             CheckFault::Memory => Failure::Memory,
@@ -134,7 +135,7 @@ impl From<RecoverFault> for Failure {
             RecoverFault::Rootless(finding) => Failure::File(finding),
             RecoverFault::Exists => Failure::Exists,
             RecoverFault::NotABucket => Failure::NotABucket,
-            RecoverFault::TooLarge => Failure::TooManyPages,
+            RecoverFault::TooManyPages => Failure::TooManyPages,
             RecoverFault::Memory => Failure::Memory,
         }
     }

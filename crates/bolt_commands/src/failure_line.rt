@@ -26,7 +26,7 @@ fn put_failure_text<E: Sink>(failure: &Failure, err: &mut E) -> Result<(), SinkF
     ensures { Wrote E.Sink err.old err.new (failure_text failure.now) (ending result) }
 {
     match failure {
-        Failure::Metas(fault) => put_meta_fault(*fault, err),
+        Failure::Open(fault) => put_meta_fault(*fault, err),
         Failure::File(finding) => put_file_refused(finding, err),
         Failure::Page(fault) => put_page_fault(fault, err),
         Failure::NoBucket => put(b"bucket not found\n", err),
@@ -41,7 +41,7 @@ fn put_failure_text<E: Sink>(failure: &Failure, err: &mut E) -> Result<(), SinkF
         Failure::NotABucket => put(b"key is not a bucket\n", err),
         Failure::Exists => put(b"lost+found exists\n", err),
         Failure::Write => put(b"write failed\n", err),
-        Failure::Lost(lost) => put_shortfall(*lost, err),
+        Failure::Lacking(lost) => put_shortfall(*lost, err),
         Failure::Others(count) => put_numbered(b"not revisions: ", *count, err),
         Failure::Compacted => put(b"revision compacted\n", err),
         Failure::Line(line, fault) => put_line_fault(*line, *fault, err),

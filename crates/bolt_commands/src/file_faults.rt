@@ -1,8 +1,9 @@
 //! What is wrong with a file apart from its pages.
 ghost use Rattle.std.specs.Prelude.{◌≡◌, ◌≤◌, IfOk};
 ghost use Rattle.bolt_format.specs.{Endings.ending, Wrote.Wrote};
-ghost use Rattle.bolt_commands.specs.FileFaults.{AreCopyFaults, AreFileFaults, IsMetasFault, IsOtherFault, errors_in, fault_lines, hash_lines, is_fine, no_faults, other_meta_lines};
-ghost use Rattle.bolt_commands.specs.SnapshotAnswers.{bad_hash, hash_found};
+ghost use Rattle.bolt_commands.specs.FileFaults.{AreCopyFaults, AreFileFaults, IsMetasFault, IsOtherFault, errors_in, fault_lines, hash_lines};
+ghost use Rattle.bolt_commands.specs.FileFaults.{is_fine, no_faults, other_meta_lines};
+ghost use Rattle.bolt_commands.specs.SnapshotAnswers.{bad_hash, asked_hash_fault};
 ghost use Rattle.bolt_job.specs.CopyKinds.{is_snapshot};
 
 use bolt_etcd::{SnapshotFault, put_snapshot_fault, snapshot_fault};
@@ -47,7 +48,7 @@ impl FileFaults {
         ensures { AreFileFaults extent snapshot file.now choice result }
     {
         FileFaults {
-            hash: hash_found(snapshot, file),
+            hash: asked_hash_fault(snapshot, file),
             other: metas_fault(extent, file, choice),
         }
     }
@@ -83,8 +84,8 @@ fn bad_hash(kind: CopyKind, file: &[u8]) -> Option<SnapshotFault>
 }
 
 /// What is wrong with the hash, if the file is to be a snapshot.
-fn hash_found(snapshot: bool, file: &[u8]) -> Option<SnapshotFault>
-    ensures { result ≡ hash_found snapshot file.now }
+fn asked_hash_fault(snapshot: bool, file: &[u8]) -> Option<SnapshotFault>
+    ensures { result ≡ asked_hash_fault snapshot file.now }
 {
     if snapshot { snapshot_fault(file) } else { None }
 }
@@ -99,7 +100,7 @@ pub(crate) fn metas_fault(
     ensures { IsMetasFault extent file.now choice result }
 {
     match (extent, choice) {
-        (Extent::Losses | Extent::LostAndFound, MetaChoice::Active) => other_fault(file),
+        (Extent::Losses | Extent::FoundPages, MetaChoice::Active) => other_fault(file),
         _ => None,
     }
 }

@@ -74,7 +74,7 @@ pub(crate) fn copy_hashed<C: CopySource + Drop, T: Sink>(
         → EndsCopy T.taken T.failed target.old target.new layout true result.1 }
     ensures end { OnOk result.1 (C.ends_as source result.0) }
 {
-    let Hashed {
+    let HashedCopy {
         source,
         target,
         hash,
@@ -85,7 +85,7 @@ pub(crate) fn copy_hashed<C: CopySource + Drop, T: Sink>(
 
 /// A layout on its target, and its hash.
 #[derive(Drop)]
-struct Hashed<'a, C, T> {
+struct HashedCopy<'a, C, T> {
     source: C,
     target: &'a mut T,
     hash: Sha256,
@@ -98,7 +98,7 @@ fn hash_all<'a, K: Origin, C: CopySource + Drop, T: Sink>(
     source: C,
     blueprint: &Blueprint,
     target: &'a mut T,
-) -> Hashed<'a, C, T>
+) -> HashedCopy<'a, C, T>
     requires whole { C.is_whole source }
     requires name { target.ghost_name ≡ K.name }
     requires start { T.taken target.old ≡ K.start }
@@ -122,7 +122,7 @@ fn hash_all<'a, K: Origin, C: CopySource + Drop, T: Sink>(
         hash,
         of: _,
     } = hashing;
-    Hashed {
+    HashedCopy {
         source,
         target,
         hash,

@@ -5,9 +5,12 @@ ghost use Rattle.std.specs.List.{AllByRecursion};
 ghost use Rattle.bolt_layout.specs.{AsWritten.IsAsWritten, Copies.IsOfOneTree, ForBbolt.IsOfLayout};
 ghost use Rattle.hex.specs.Hex.{IsBytes};
 ghost use Rattle.bolt_tree.specs.Listing.{IsListing, Member};
-ghost use Rattle.bolt_commands.specs.{Alike.BucketsAlike, Alike.CopiesAlike, Alike.DoesAlike, Alike.GetsAlike, Alike.KeysAlike, Alike.ListsAlike, Alike.ForSoundTrees, Alike.OfSoundTrees, Alike.RepairsNothing, Alike.UnderSoundTrees, Answers.Answer, FilesRead.IsReadUnder, ListAnswers.IsListedAnswer};
+ghost use Rattle.bolt_commands.specs.{Alike.BucketsAlike, Alike.CopiesAlike, Alike.DoesAlike, Alike.GetsAlike, Alike.KeysAlike, Alike.ListsAlike};
+ghost use Rattle.bolt_commands.specs.{Alike.ForSoundTrees, Alike.OfSoundTrees, Alike.RepairsNothing, Alike.UnderSoundTrees, Answers.Answer};
+ghost use Rattle.bolt_commands.specs.{FilesRead.IsReadUnder, ListAnswers.IsListedAnswer};
 ghost use Rattle.bolt_commands.specs.{Answers.done, EtcdAnswers.IsCheckAllAnswer};
-ghost use Rattle.bolt_commands.specs.{CheckedCopies.FailsCutOff, CheckedCopies.LoadsAs, CheckedCopies.PassesCheck, GoodCopies.ForCopyFindings, GoodCopies.ForGoodCopies, GoodCopies.HasGoodCopies};
+ghost use Rattle.bolt_commands.specs.{CheckedCopies.FailsCutOff, CheckedCopies.LoadsAs, CheckedCopies.PassesCheck, GoodCopies.ForCopyFindings};
+ghost use Rattle.bolt_commands.specs.{GoodCopies.ForGoodCopies, GoodCopies.HasGoodCopies};
 ghost use Rattle.bolt_job.specs.{MetaChoices.IsMetaOf, Jobs.needs_metas_alone, declared.job.Job.Job, declared.choices.MetaChoice.MetaChoice};
 ghost use Rattle.bolt_text.specs.declared.forms.ListForm.TheVariants as form;
 ghost use Rattle.bolt_job.specs.declared.choices.Extent.TheVariants as extent;
@@ -119,8 +122,8 @@ pub fn recovering_sound_trees_reads_them<O: Sink, T: Sink>()
     ensures keys { UnderSoundTrees KeysAlike }
     ensures buckets { UnderSoundTrees BucketsAlike }
     ensures get { UnderSoundTrees GetsAlike }
-    ensures found_list { OfSoundTrees (ListsAlike extent.LostAndFound extent.Losses) }
-    ensures found_compact { OfSoundTrees (CopiesAlike O.Sink T.Sink extent.LostAndFound extent.Losses) }
+    ensures found_list { OfSoundTrees (ListsAlike extent.FoundPages extent.Losses) }
+    ensures found_compact { OfSoundTrees (CopiesAlike O.Sink T.Sink extent.FoundPages extent.Losses) }
     ensures repair { ForSoundTrees (RepairsNothing O.Sink T.Sink) }
 {
     active_meta_is_one();

@@ -2,7 +2,8 @@
 #![tactic(auto)]
 
 ghost use Rattle.std.specs.Prelude.{◌≡◌};
-ghost use Rattle.bolt_commands.specs.{Answers.Accepts, Answers.JobEnding, Answers.Reports, Answers.status_of, Failures.failure_line, JobAnswers.DoesJob};
+ghost use Rattle.bolt_commands.specs.{Answers.Accepts, Answers.JobEnding, Answers.Reports, Answers.status_of, Failures.failure_line};
+ghost use Rattle.bolt_commands.specs.{JobAnswers.DoesJob};
 
 mod commands;
 mod copies;

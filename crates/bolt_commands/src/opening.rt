@@ -1,9 +1,11 @@
 //! Opens what a command reads: a file under the meta that is chosen, what is left of a damaged one, what is lost and found of it, or a bucket by its path.
 ghost use Rattle.std.specs.Prelude.{◌≡◌, IfErr, IfOk};
 ghost use Rattle.bolt_check.specs.CheckedFiles.{bytes_of, meta_of, in_checked};
-ghost use Rattle.bolt_commands.specs.FilesRead.{IsReadUnder, IsRecoveredUnder, IsRefusedUnder, IsUnjoinedUnder, IsUnrecoverableUnder, LeadsNowhere, LeadsTo};
+ghost use Rattle.bolt_commands.specs.FilesRead.{IsReadUnder, IsRecoveredUnder, IsRefusedUnder, IsUnjoinedUnder, IsUnrecoverableUnder, LeadsNowhere};
+ghost use Rattle.bolt_commands.specs.FilesRead.{LeadsTo};
 ghost use Rattle.bolt_job.specs.PlainWords.{owned_path};
-ghost use Rattle.bolt_commands.specs.Private.Opened.{HasNoBucket, IsOpenedBucket, IsJoinedOf, IsOpened, IsSearchOf, IsUnopened, IsUnread, IsUnsearched};
+ghost use Rattle.bolt_commands.specs.Private.Opened.{HasNoBucket, IsOpenedBucket, IsJoinedOf, IsOpened, IsSearchOf, IsUnopened, IsUnread};
+ghost use Rattle.bolt_commands.specs.Private.Opened.{IsUnsearched};
 ghost use Rattle.bolt_commands.specs.declared.failure.Failure.TheVariants.{NoBucket};
 ghost use Rattle.bolt_recover.specs.{Recovered.ForRecovered, Recoveries.recovery_file, Recoveries.recovery_left, Recoveries.recovery_meta};
 ghost use Rattle.bolt_tree.specs.{Buckets.bucket_checked, Buckets.bucket_start};
@@ -32,7 +34,7 @@ impl<'f> Input<'f> {
         Ok(match extent {
             Extent::Sound => Opened::Sound(self.check(choice)?),
             Extent::Losses => Opened::Recovered(self.recover(choice)?),
-            Extent::LostAndFound => Opened::Searched(self.search(choice)?),
+            Extent::FoundPages => Opened::Searched(self.search(choice)?),
         })
     }
 
@@ -51,7 +53,7 @@ impl<'f> Input<'f> {
         check_under(self.alloc, self.file, meta)
     }
 
-    /// The same, with the failure that is reported if the file is refused.
+    /// The checked file, or the failure that is reported if the file is refused.
     pub(crate) fn read(self, choice: MetaChoice) -> Result<Checked<'f>, Failure>
         ensures bytes { IfOk result (λ checked. bytes_of checked ≡ self.entry.file.now) }
         ensures sound { IfOk result (λ checked.

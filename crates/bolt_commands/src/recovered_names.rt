@@ -1,6 +1,7 @@
 //! The names that `buckets` and `keys` print of what is recovered of a damaged file.
 ghost use Rattle.std.specs.Prelude.{◌≡◌};
-ghost use Rattle.bolt_commands.specs.{KeyAnswers.no_bucket, Private.Printing.PrintsAnswer, Private.Recovered.IsNamesPrint, Private.Recovered.bucket_ending};
+ghost use Rattle.bolt_commands.specs.{KeyAnswers.no_bucket, Private.Printing.PrintsAnswer, Private.Recovered.IsNamesPrint};
+ghost use Rattle.bolt_commands.specs.{Private.Recovered.bucket_ending};
 
 use crate::failure::{Failure, Outcome, end_listing};
 use crate::file_faults::metas_fault;
@@ -9,7 +10,7 @@ use crate::shortfall::Shortfall;
 use bolt_format::Sink;
 use bolt_job::{Extent, MetaChoice, path_slices};
 use bolt_recover::Lost;
-use bolt_report::{Form, Names, NamesIn, list_members_names};
+use bolt_report::{Form, Names, NamesIn, put_member_names};
 
 /// Which names are printed of what is recovered.
 #[derive(Clone, Copy)]
@@ -37,7 +38,7 @@ pub(crate) fn name_recovered<O: Sink>(
         bucket: path.as_slice(),
         names: asked.names,
     };
-    let found = list_members_names(input.alloc, &mut recovery, wanted, asked.form, out)?;
+    let found = put_member_names(input.alloc, &mut recovery, wanted, asked.form, out)?;
     end_names(
         found,
         Shortfall::find(Lost::Parts(recovery.losses()), other),

@@ -16,7 +16,7 @@ pub enum Shortfall {
     Pages(u64),
     /// The newest state, since the meta in the slot that isn't in use is refused.
     State(Slot, MetaFault),
-    /// Both.
+    /// What is on this many lost pages, and the newest state.
     PagesAndState(u64, Slot, MetaFault),
 }
 

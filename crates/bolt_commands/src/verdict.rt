@@ -1,9 +1,12 @@
 //! What is wrong with a file, to the extent that is asked for: `check` and `etcd-check` write it.
 ghost use Rattle.std.specs.Prelude.{◌≡◌, ◌≢◌, ◌<◌, [], IfOk, map, true};
 ghost use Rattle.std.specs.List.{All};
-ghost use Rattle.bolt_recover.specs.{Gaps.ForGaps, Gaps.page_gap_view, Losses.is_nothing, LostAndFound.all_lost, Recoveries.recovery_gaps, ShownLosses.lost_view};
-ghost use Rattle.bolt_commands.specs.{Answers.WritesAnswer, CheckAnswers.check_refusal, CheckAnswers.found, CheckAnswers.is_right, CheckAnswers.lost_and_found_answer};
-ghost use Rattle.bolt_commands.specs.{Private.Checks.ChecksGaps, Private.Checks.ChecksLost, Private.Checks.ChecksTo, Private.Checks.unopened, Private.Opened.IsRecoveryOf, Private.Opened.IsSearchOf};
+ghost use Rattle.bolt_recover.specs.{PageGaps.ForGaps, PageGaps.page_gap_view, Losses.is_nothing, LostAndFound.all_lost, Recoveries.recovery_gaps};
+ghost use Rattle.bolt_recover.specs.{ShownLosses.lost_view};
+ghost use Rattle.bolt_commands.specs.{Answers.WritesAnswer, CheckAnswers.check_refusal, CheckAnswers.findings_answer, CheckAnswers.is_right};
+ghost use Rattle.bolt_commands.specs.{CheckAnswers.lost_and_found_answer};
+ghost use Rattle.bolt_commands.specs.{Private.Checks.ChecksGaps, Private.Checks.ChecksLost, Private.Checks.ChecksTo, Private.Checks.unopened};
+ghost use Rattle.bolt_commands.specs.{Private.Opened.IsRecoveryOf, Private.Opened.IsSearchOf};
 ghost use Rattle.bolt_report.specs.FoundLines.{IsFoundLeaf, found_view};
 ghost use Rattle.bolt_check.specs.declared.check_fault.CheckFault.TheVariants as check;
 
@@ -100,7 +103,7 @@ fn check_lost<'f, O: Sink>(checking: Checking<'f>, extent: Extent, out: &mut O) 
     }
 }
 
-/// The same of a file that is recovered.
+/// Prints what is wrong with a file that is recovered.
 fn check_recovered<'f, O: Sink>(
     checking: Checking<'f>,
     mut recovery: Recovery<'_>,
@@ -120,14 +123,14 @@ fn check_recovered<'f, O: Sink>(
     Verdict::Wrong(put_lost_after(lost, gaps, &[], checking.faults, out))
 }
 
-/// The same of a file that was searched.
+/// Prints what is wrong with a file that was searched.
 fn check_searched<'f, O: Sink>(
     checking: Checking<'f>,
     both: &LostAndFound<'_>,
     out: &mut O,
 ) -> Verdict<'f>
     requires { IsSearchOf checking.input.file.now checking.choice both.now }
-    ensures { ChecksLost O.Sink out.old out.new Extent.LostAndFound checking.entry result }
+    ensures { ChecksLost O.Sink out.old out.new Extent.FoundPages checking.entry result }
 {
     let lost = both.lost();
     if lost.is_nothing() {
@@ -138,7 +141,7 @@ fn check_searched<'f, O: Sink>(
     Verdict::Wrong(put_lost_after(lost, gaps, found, checking.faults, out))
 }
 
-/// The same of a file that was searched, and that lost nothing.
+/// Prints what is wrong with a file that was searched, and that lost nothing.
 fn check_whole<'f, O: Sink>(
     checking: Checking<'f>,
     both: &LostAndFound<'_>,
@@ -146,7 +149,7 @@ fn check_whole<'f, O: Sink>(
 ) -> Verdict<'f>
     requires search { IsSearchOf checking.input.file.now checking.choice both.now }
     requires whole { is_nothing (all_lost both.now) ≡ true }
-    ensures { ChecksLost O.Sink out.old out.new Extent.LostAndFound checking.entry result }
+    ensures { ChecksLost O.Sink out.old out.new Extent.FoundPages checking.entry result }
 {
     let Ok(recovery) = find_gaps(checking.input, both.meta) else {
         return Verdict::Wrong(Err(Failure::Memory));
@@ -173,7 +176,7 @@ fn put_unopened<O: Sink>(failure: Failure, faults: FileFaults, out: &mut O) -> O
     ensures { WritesAnswer O.taken O.failed out.old out.new (unopened faults failure) result }
 {
     match failure {
-        Failure::Metas(fault) => put_unread(fault, faults, out),
+        Failure::Open(fault) => put_faults_without_meta(fault, faults, out),
         Failure::File(finding) => put_lost_after(Lost::Everything(finding), &[], &[], faults, out),
         _ => Err(failure),
     }
@@ -190,7 +193,7 @@ fn put_refusal<O: Sink>(
         (check_refusal faults (map page_gap_view gaps.now) fault.now) result }
 {
     match fault {
-        CheckFault::Open(fault) => put_unread(*fault, faults, out),
+        CheckFault::Open(fault) => put_faults_without_meta(*fault, faults, out),
         CheckFault::Structure(finding) => {
             put_findings_after(slice::from_ref(finding), gaps, faults, out)
         }
@@ -205,12 +208,12 @@ fn put_refusal<O: Sink>(
 }
 
 /// Writes what else is wrong with a file that has no valid meta. The failure says that.
-fn put_unread<O: Sink>(fault: MetaFault, faults: FileFaults, out: &mut O) -> Outcome
+fn put_faults_without_meta<O: Sink>(fault: MetaFault, faults: FileFaults, out: &mut O) -> Outcome
     ensures { WritesAnswer O.taken O.failed out.old out.new
         (check_refusal faults [] (check.Open fault)) result }
 {
     put_file_faults(faults, out)?;
-    Err(Failure::Metas(fault))
+    Err(Failure::Open(fault))
 }
 
 fn put_findings_after<O: Sink>(
@@ -220,7 +223,7 @@ fn put_findings_after<O: Sink>(
     out: &mut O,
 ) -> Outcome
     ensures { WritesAnswer O.taken O.failed out.old out.new
-        (found faults findings.now (map page_gap_view gaps.now)) result }
+        (findings_answer faults findings.now (map page_gap_view gaps.now)) result }
 {
     let earlier = put_file_faults(faults, out)?;
     put_findings(findings, gaps, earlier, out)?;

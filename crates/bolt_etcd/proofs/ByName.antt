@@ -5,9 +5,9 @@ use Rattle.std.specs.{Cmp.IsStrictWeakOrder, List.Sorted.IsPermutation, List.Sor
 use Rattle.bolt_format.specs.Elements.{LeafElement}
 use Rattle.bolt_tree.proofs.Exports.{filter_all, sorted_mapped}
 use Rattle.bolt_tree.specs.Entries.{EntryView}
-use Rattle.bolt_etcd.specs.{NameFaults.AreByName, NameFaults.by_name_cmp, Newest.is_until, Newest.until}
-use Rattle.bolt_etcd.specs.{Revisions.RevisionView, Revisions.revision_of, ShownRevisions.shown_revision, Stores.revisions}
-use Rattle.bolt_etcd.specs.declared.revision.Revision.{Revision}
+use Rattle.bolt_etcd.specs.{Check.NameFaults.AreByName, Check.NameFaults.by_name_cmp, Store.Newest.is_until, Store.Newest.until}
+use Rattle.bolt_etcd.specs.{Wire.Revisions.RevisionView, Wire.Revisions.revision_of, Wire.ShownRevisions.shown_revision, Store.Stores.revisions}
+use Rattle.bolt_etcd.specs.declared.wire.revision.Revision.{Revision}
 use Rattle.bolt_etcd.proofs.{Currents.from_entry, Currents.key_is, Keys.read_fits, SortedOnce.by_name_total}
 
 -- ---- each is of a transaction below 2^63
@@ -29,7 +29,8 @@ code_by_name a b = is_lt (by_name_cmp (shown_revision a) (shown_revision b))
 pub code_ranks : IsStrictWeakOrder code_by_name
 code_ranks = ranks_by by_name_total shown_revision
 
-pub are_by_name : (rs : List RevisionView) (old sorted : List Revision) → map shown_revision old ≡ rs → IsPermutation old sorted → IsSortedBy code_by_name sorted
+pub are_by_name : (rs : List RevisionView) (old sorted : List Revision) → map shown_revision old ≡ rs → IsPermutation old sorted
+    → IsSortedBy code_by_name sorted
     → AreByName rs (map shown_revision sorted)
 are_by_name rs old sorted is moved up = record {
   same = subst (λ (l : List RevisionView). IsPermutation l (map shown_revision sorted)) is (IsPermutation-map shown_revision old sorted moved);

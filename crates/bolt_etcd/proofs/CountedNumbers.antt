@@ -1,29 +1,37 @@
 -- What is counted of revisions and marks, entry by entry.
-use Rattle.std.proofs.Common.{◌≡◌, ◌∙◌, ◌<◌, ◌^◌, ◌&&◌, ℕ, Bool, false, List, [], ◌∷◌, ap, arith, filter, inl, inr, if◌then◌else◌, length, max, Option, Some, None, refl, sym}
+use Rattle.std.proofs.Common.{◌≡◌, ◌∙◌, ◌<◌, ◌^◌, ◌&&◌, ℕ, Bool, false, List, [], ◌∷◌, ap, arith, filter, inl, inr, if◌then◌else◌, length, max}
+use Rattle.std.proofs.Common.{Option, Some, None, refl, sym}
 use Rattle.std.proofs.lemmas.Bool.{cases_Bool}
 use Rattle.std.specs.{List.cons_option, List.last_or, Option.option_map, Str.bytes_eq}
 use Rattle.bolt_check.specs.{Counts.counted, Keys.Key}
 use Rattle.bolt_tree.proofs.Exports.{counted_more, filter_both}
 use Rattle.bolt_tree.specs.Entries.{Bucket, EntryView, Item, Value}
-use Rattle.bolt_etcd.specs.{CurrentKeys.is_nameless, CurrentKeys.nameless_key, CurrentKeys.nameless_with, HashKv.held_by, Newest.is_named, Newest.is_until, Newest.newest, Numbered.numbered_in, Numbered.numbered_of, RevisionKeys.revision_key, RevisionMarks.is_mark}
-use Rattle.bolt_etcd.specs.{Revisions.revision_in, Revisions.revision_of, Revisions.value_of, ShownRevisions.bytes_of_item, ShownRevisions.value_bytes, Wire.◌>>=◌, declared.revision_key.RevisionKey.RevisionKey}
+use Rattle.bolt_etcd.specs.{Store.CurrentKeys.is_nameless, Store.CurrentKeys.nameless_key, Store.CurrentKeys.nameless_with, Store.HashKv.live_in}
+use Rattle.bolt_etcd.specs.{Store.Newest.is_named, Store.Newest.is_until, Store.Newest.newest, Wire.Numbered.numbered_in, Wire.Numbered.numbered_of}
+use Rattle.bolt_etcd.specs.{Wire.RevisionKeys.revision_key, Wire.RevisionKeys.is_mark}
+use Rattle.bolt_etcd.specs.{Wire.Revisions.revision_in, Wire.Revisions.revision_of, Wire.Revisions.value_of, Wire.ShownRevisions.bytes_of_item}
+use Rattle.bolt_etcd.specs.{Wire.ShownRevisions.value_bytes, Wire.Fields.◌>>=◌, declared.wire.revision_key.RevisionKey.RevisionKey}
 use Rattle.bolt_etcd.proofs.{Currents.bind_some, CurrentOnes.bytes_some, CurrentOnes.kinds, MarkLaws.mark_is_no_revision}
-use Rattle.bolt_etcd.specs.{Revisions.RevisionView, Revisions.name_of, Statuses.newest_main, Statuses.newest_with, Statuses.revisions_with}
+use Rattle.bolt_etcd.specs.{Wire.Revisions.RevisionView, Wire.Revisions.name_of, Store.Statuses.newest_main, Store.Statuses.newest_with}
+use Rattle.bolt_etcd.specs.{Store.Statuses.revisions_with}
 
 -- the key of the current one of the name without bytes, after these
 abbrev pub nameless_after : (up_to : ℕ) → Option Key → List RevisionView → Option Key
 nameless_after up_to key [] = key
 nameless_after up_to key (r ∷ rs) = nameless_after up_to (nameless_with up_to (Some r) key) rs
 
-pub nameless_step : (up_to : ℕ) (key : Option Key) (o : Option RevisionView) (rs : List RevisionView) → nameless_after up_to (nameless_with up_to o key) rs ≡ nameless_after up_to key (cons_option o rs)
+pub nameless_step : (up_to : ℕ) (key : Option Key) (o : Option RevisionView) (rs : List RevisionView)
+    → nameless_after up_to (nameless_with up_to o key) rs ≡ nameless_after up_to key (cons_option o rs)
 nameless_step up_to key None rs = refl
 nameless_step up_to key (Some r) rs = refl
 
-pub newest_step : (newest : ℕ) (o : Option RevisionView) (rs : List RevisionView) → max (newest_with o newest) (newest_main rs) ≡ max newest (newest_main (cons_option o rs))
+pub newest_step : (newest : ℕ) (o : Option RevisionView) (rs : List RevisionView)
+    → max (newest_with o newest) (newest_main rs) ≡ max newest (newest_main (cons_option o rs))
 newest_step newest None rs = refl
 newest_step newest (Some r) rs = omega arith
 
-pub revisions_step : (n : ℕ) (o : Option RevisionView) (rs : List RevisionView) → counted (revisions_with o n) (length rs) ≡ counted n (length (cons_option o rs))
+pub revisions_step : (n : ℕ) (o : Option RevisionView) (rs : List RevisionView)
+    → counted (revisions_with o n) (length rs) ≡ counted n (length (cons_option o rs))
 revisions_step n None rs = refl
 revisions_step n (Some r) rs = counted_more n 1 (length rs) ∙ ap (counted n) (omega arith)
 
@@ -33,7 +41,7 @@ revisions_fit n (Some r) fits = omega arith
 
 module _ (up_to : ℕ) where
   abbrev key_of : Option RevisionView → Option Key
-  key_of o = option_map (λ x. x.stored_key) (held_by o)
+  key_of o = option_map (λ x. x.stored_key) (live_in o)
 
   abbrev test : RevisionView → Bool
   test r = is_named [] r && is_until up_to r

@@ -1,11 +1,12 @@
 -- Eight steps of a CRC-32C at once: steps are linear, so a state without its lowest byte is as many places lower, and what is left of the lowest byte
 -- is added.
-use Rattle.std.proofs.Common.{◌≡◌, ◌≢◌, ◌∙◌, ◌⊎◌, ◌<◌, ◌≤◌, ◌+◌, ◌-◌, ◌*◌, ◌/◌, ◌%◌, ◌^◌, inl, inr, ℕ, zero, suc, List, ap, ap₂, arith, drop, length, refl, slice_index, sym}
+use Rattle.std.proofs.Common.{◌≡◌, ◌≢◌, ◌∙◌, ◌⊎◌, ◌<◌, ◌≤◌, ◌+◌, ◌-◌, ◌*◌, ◌/◌, ◌%◌, ◌^◌, inl, inr, ℕ, zero, suc, List, ap, ap₂, arith, drop, length}
+use Rattle.std.proofs.Common.{refl, slice_index, sym}
 use Rattle.std.proofs.lemmas.List.{drop_more}
 use Rattle.std.proofs.lemmas.Nat.{and_mask, xor_mod, xor_shr}
 use Rattle.std.proofs.Math.Nat.{mod-lt, mul_assoc, pow-suc}
 use lib.Bits.{bit_and, bit_xor, xor_assoc, xor_comm, xor_shifted, xor_zero_r}
-use Rattle.bolt_etcd.specs.Crc32c.{IsTable, crc_bit, crc_bits, crc_from, crc_polynomial, crc_step}
+use Rattle.bolt_etcd.specs.Store.Crc32c.{IsTable, crc_bit, crc_bits, crc_from, crc_polynomial, crc_step}
 
 -- one step, which the code makes in two ways
 pub bit_none : (n : ℕ) → n % 2 ≡ 0 → n / 2 ≡ crc_bit n
@@ -29,7 +30,8 @@ bits_end n state all = let none : 8 - n ≡ 0 = omega (arith, all) in sym (ap (�
 
 exchange : (a b c d : ℕ) → bit_xor (bit_xor a b) (bit_xor c d) ≡ bit_xor (bit_xor a c) (bit_xor b d)
 exchange a b c d =
-    xor_assoc a b (bit_xor c d) ∙ ap (bit_xor a) (sym (xor_assoc b c d) ∙ ap (λ (n : ℕ). bit_xor n d) (xor_comm b c) ∙ xor_assoc c b d) ∙ sym (xor_assoc a c (bit_xor b d))
+    xor_assoc a b (bit_xor c d) ∙ ap (bit_xor a) (sym (xor_assoc b c d) ∙ ap (λ (n : ℕ). bit_xor n d) (xor_comm b c) ∙ xor_assoc c b d)
+    ∙ sym (xor_assoc a c (bit_xor b d))
 
 bit_is : (n : ℕ) → (n % 2 ≡ 0) ⊎ (n % 2 ≡ 1)
 bit_is n = two (n % 2) (mod-lt n (omega arith))
@@ -75,7 +77,8 @@ at_once : (x : ℕ) → crc_bits 8 x ≡ bit_xor (crc_bits 8 (x % 256)) (x / 256
 at_once x =
     let low : x % 256 < 2 ^ 8 = omega arith in
     let split : x ≡ bit_xor (x / 256 * 2 ^ 8) (x % 256) = omega (arith, xor_shifted (x / 256) 8 (x % 256) low) in
-    ap (crc_bits 8) split ∙ linear 8 (x / 256 * 2 ^ 8) (x % 256) ∙ ap (λ (high : ℕ). bit_xor high (crc_bits 8 (x % 256))) (zeros 8 (x / 256)) ∙ xor_comm (x / 256) (crc_bits 8 (x % 256))
+    ap (crc_bits 8) split ∙ linear 8 (x / 256 * 2 ^ 8) (x % 256) ∙ ap (λ (high : ℕ). bit_xor high (crc_bits 8 (x % 256))) (zeros 8 (x / 256))
+    ∙ xor_comm (x / 256) (crc_bits 8 (x % 256))
 
 -- a byte's step by what eight steps leave of the lowest byte
 pub step_at_once : (state byte : ℕ) → byte < 256 → bit_xor (crc_bits 8 (bit_xor state byte % 256)) (state / 256) ≡ crc_step state byte

@@ -1,20 +1,32 @@
--- Which revisions and marks are current, and how the code knows it: by the list of the current revisions, and by the key of the current one of the name
+-- Which revisions and marks are current, and how the code knows it: by the
+-- list of the current revisions, and by the key of the current one of the name
 -- without bytes.
-use Rattle.std.proofs.Common.{◌≡◌, ◌≢◌, ◌∙◌, ◌⊎◌, inl, inr, ℕ, Bool, true, false, List, [], ◌∷◌, ◌&&◌, ◌||◌, ap, arith, cond, filter, not, Option, Some, None, refl, rules, subst, sym}
-use Rattle.std.proofs.{lemmas.Bool.cases_Bool, lemmas.Bool.cond-false, lemmas.Bool.cond-true, lemmas.Bool.false_from_ne_true, lemmas.Option.same_Some, lemmas.Cmp.nat_list_cmp_total, lemmas.Cmp.on_total, lemmas.Cmp.tied_itself, lemmas.List.MinMax.ranks_by, lemmas.List.Sorted.Contains-permutation, lemmas.List.Sorted.IsPermutation-sym}
-use Rattle.std.specs.{Cmp.IsStrictWeakOrder, Cmp.IsTotalOrder, Cmp.Lexicographic.same_text, List.Contains, List.Sorted.IsPermutation, List.Sorted.IsSorted, List.cons_option, List.last_or, List.list_any, Option.is_some, Option.option_map, Ordering.eq_by_cmp, Ordering.is_eq, Ordering.is_lt, Str.bytes_eq, declared.cmp.Ordering.Ordering}
+use Rattle.std.proofs.Common.{◌≡◌, ◌≢◌, ◌∙◌, ◌⊎◌, inl, inr, ℕ, Bool, true, false, List, [], ◌∷◌, ◌&&◌, ◌||◌, ap, arith, cond, filter, not, Option}
+use Rattle.std.proofs.Common.{Some, None, refl, rules, subst, sym}
+use Rattle.std.proofs.{lemmas.Bool.cases_Bool, lemmas.Bool.cond-false, lemmas.Bool.cond-true, lemmas.Bool.false_from_ne_true, lemmas.Option.same_Some}
+use Rattle.std.proofs.{lemmas.Cmp.nat_list_cmp_total, lemmas.Cmp.on_total, lemmas.Cmp.tied_itself, lemmas.List.MinMax.ranks_by}
+use Rattle.std.proofs.{lemmas.List.Sorted.Contains-permutation, lemmas.List.Sorted.IsPermutation-sym}
+use Rattle.std.specs.{Cmp.IsStrictWeakOrder, Cmp.IsTotalOrder, Cmp.Lexicographic.same_text, List.Contains, List.Sorted.IsPermutation}
+use Rattle.std.specs.{List.Sorted.IsSorted, List.cons_option, List.last_or, List.list_any, Option.is_some, Option.option_map, Ordering.eq_by_cmp}
+use Rattle.std.specs.{Ordering.is_eq, Ordering.is_lt, Str.bytes_eq, declared.cmp.Ordering.Ordering}
 use Rattle.std.specs.declared.cmp.Ordering.TheVariants.{Equal, Less}
 use Rattle.bolt_format.specs.Elements.{LeafElement}
 use Rattle.bolt_check.specs.Keys.{Key, key_cmp}
-use Rattle.bolt_tree.proofs.Exports.{contains_cases, contains_head, contains_none, contains_tail, filter_both, filter_rises, gives_from, gives_has, key_exact, kept, kept_from, rises_once}
+use Rattle.bolt_tree.proofs.Exports.{contains_cases, contains_head, contains_none, contains_tail, filter_both, filter_rises, gives_from, gives_has}
+use Rattle.bolt_tree.proofs.Exports.{key_exact, kept, kept_from, rises_once}
 use Rattle.bolt_tree.specs.{Entries.Bucket, Entries.EntryView, Entries.Item, Entries.Value, Entries.entry_cmp, Entries.entry_view, Order.Rises}
-use Rattle.bolt_etcd.specs.Current.{AreNewest, IsCurrent, name_sum_cmp, stored_key_cmp}
-use Rattle.bolt_etcd.specs.CurrentKeys.{any_current_by, begins_with, is_current_by, is_nameless, is_this, nameless_key, without_first}
-use Rattle.bolt_etcd.specs.{EtcdCompactions.is_same_revision, HashKv.held_by, HashKv.is_current_at, HashKv.passes, Histories.held, Newest.is_named, Newest.is_until, Newest.newest, Newest.until}
-use Rattle.bolt_etcd.specs.{Numbered.numbered, Numbered.numbered_in, Numbered.numbered_of, RevisionKeys.revision_key, RevisionMarks.is_mark, Revisions.revision_in, Revisions.value_of, Wire.◌>>=◌, declared.revision_key.RevisionKey.RevisionKey, Revisions.RevisionView, Revisions.name_of, Revisions.revision_of, Stores.revisions}
-use Rattle.bolt_etcd.specs.{ShownRevisions.shown_revision, declared.revision.Revision.Revision}
+use Rattle.bolt_etcd.specs.Store.Current.{AreNewest, IsCurrent, name_sum_cmp, stored_key_cmp}
+use Rattle.bolt_etcd.specs.Store.CurrentKeys.{any_current_by, begins_with_key, is_current_by, is_nameless, is_this, nameless_key, without_first}
+use Rattle.bolt_etcd.specs.{Histories.Compactions.is_same_revision, Store.HashKv.live_in, Store.HashKv.is_current_at, Store.HashKv.passes}
+use Rattle.bolt_etcd.specs.{Histories.Transactions.live_of, Store.Newest.is_named, Store.Newest.is_until, Store.Newest.newest, Store.Newest.until}
+use Rattle.bolt_etcd.specs.{Wire.Numbered.numbered, Wire.Numbered.numbered_in, Wire.Numbered.numbered_of, Wire.RevisionKeys.revision_key}
+use Rattle.bolt_etcd.specs.{Wire.RevisionKeys.is_mark, Wire.Revisions.revision_in, Wire.Revisions.value_of, Wire.Fields.◌>>=◌}
+use Rattle.bolt_etcd.specs.{declared.wire.revision_key.RevisionKey.RevisionKey, Wire.Revisions.RevisionView, Wire.Revisions.name_of}
+use Rattle.bolt_etcd.specs.{Wire.Revisions.revision_of, Store.Stores.revisions}
+use Rattle.bolt_etcd.specs.{Wire.ShownRevisions.shown_revision, declared.wire.revision.Revision.Revision}
 use Rattle.bolt_etcd.proofs.Currents.{current_newest, from_entry, own_keys, stored_key_is}
-use Rattle.bolt_etcd.proofs.{LastOnes.last_in, MarkLaws.mark_has_number, MarkLaws.mark_is_no_revision, NameOrders.sums_total, SortedOnce.sorted_in, StoreLemmas.itself}
+use Rattle.bolt_etcd.proofs.{LastOnes.last_in, MarkLaws.mark_has_number, MarkLaws.mark_is_no_revision, NameOrders.sums_total, SortedOnce.sorted_in}
+use Rattle.bolt_etcd.proofs.{StoreLemmas.itself}
 
 equal_from : (o : Ordering) → is_eq o ≡ true → o ≡ Equal
 equal_from o is = grind arith
@@ -54,7 +66,7 @@ newest_named name rs r is = elim (last_in None (filter (is_named name) rs) r is)
   | inr there ↦ same_text (name_of r) name (sym (kept_from (is_named name) rs r there).1)
 ]
 
-held_some : (x r : RevisionView) → held x ≡ Some r → x ≡ r
+held_some : (x r : RevisionView) → live_of x ≡ Some r → x ≡ r
 held_some x r is = grind (arith, same_Some)
 
 -- ---- the list of the current revisions, by their keys
@@ -72,11 +84,11 @@ module _ (rs : List RevisionView) (up_to : ℕ) (rises : Rises stored_key_cmp rs
   until_rises : Rises stored_key_cmp (until up_to rs)
   until_rises = filter_rises stored_key_cmp (is_until up_to) rs rises
 
-  held_is : (r o : RevisionView) → Contains rs r → Contains rs o → is_same_revision r (held o) ≡ true → (o ≡ r) × (o.key.deleted ≡ false)
+  held_is : (r o : RevisionView) → Contains rs r → Contains rs o → is_same_revision r (live_of o) ≡ true → (o ≡ r) × (o.key.deleted ≡ false)
   held_is r o has also same = cases o.key.deleted refl
     where
       cases : (b : Bool) → o.key.deleted ≡ b → (o ≡ r) × (o.key.deleted ≡ false)
-      cases true is = let none : is_same_revision r (held o) ≡ false = rw is refl in cc
+      cases true is = let none : is_same_revision r (live_of o) ≡ false = rw is refl in cc
       cases false is = (own_keys rs rises o r also has (same_text o.stored_key r.stored_key (sym (rw is at same))), is)
 
   current_is : (r : RevisionView) → Contains rs r → is_current_at up_to rs r ≡ true → IsCurrent (until up_to rs) r
@@ -93,7 +105,8 @@ module _ (rs : List RevisionView) (up_to : ℕ) (rises : Rises stored_key_cmp rs
   is_current r (last, live) = rw (last, live) (itself r.stored_key)
 
   -- the newest of each name, sorted by their keys, are the current ones in the order that they have
-  pub current_list : (found sorted : List RevisionView) → AreNewest (until up_to rs) found → IsPermutation found sorted → IsSorted stored_key_cmp sorted
+  pub current_list : (found sorted : List RevisionView) → AreNewest (until up_to rs) found → IsPermutation found sorted
+      → IsSorted stored_key_cmp sorted
       → sorted ≡ filter (is_current_at up_to rs) rs
   current_list found sorted are moved up =
       rises_once total_keys sorted (filter (is_current_at up_to rs) rs)
@@ -101,7 +114,8 @@ module _ (rs : List RevisionView) (up_to : ℕ) (rises : Rises stored_key_cmp rs
       (filter_rises stored_key_cmp (is_current_at up_to rs) rs rises)
       (λ r has.
       let newest = (are.exact r).0 (Contains-permutation sorted found r (IsPermutation-sym found sorted moved) has) in
-      kept (is_current_at up_to rs) rs r (kept_from (is_until up_to) rs r newest.has).0 (is_current r ((current_newest (until up_to rs) until_rises r).1 newest)))
+      kept (is_current_at up_to rs) rs r (kept_from (is_until up_to) rs r newest.has).0
+      (is_current r ((current_newest (until up_to rs) until_rises r).1 newest)))
       (λ r has.
       let (there, current) = kept_from (is_current_at up_to rs) rs r has in
       Contains-permutation found sorted r moved ((are.exact r).1 ((current_newest (until up_to rs) until_rises r).0 (current_is r there current))))
@@ -110,7 +124,8 @@ module _ (rs : List RevisionView) (up_to : ℕ) (rises : Rises stored_key_cmp rs
       apart x y has also less = elim (cases_Bool (eq_by_cmp stored_key_cmp x y)) [
         | inl same ↦
             let within = λ (r : RevisionView) (there : Contains found r). (kept_from (is_until up_to) rs r ((are.exact r).0 there).has).0 in
-            let one = own_keys rs rises x y (within x has) (within y also) (key_exact x.stored_key y.stored_key (equal_from (key_cmp x.stored_key y.stored_key) same)) in
+            let one =
+            own_keys rs rises x y (within x has) (within y also) (key_exact x.stored_key y.stored_key (equal_from (key_cmp x.stored_key y.stored_key) same)) in
             let tied = tied_itself (on_total name_of sums_total) y in
             let before = subst (λ (r : RevisionView). name_sum_cmp r y ≡ Less) one less in
             absurd (cc)
@@ -128,7 +143,8 @@ by_key key value (Some k) read = elim (cases_Bool (is_mark k value)) [
   | inr none ↦ inl (rw (read, none) refl)
 ]
 
-pub kinds : (v : EntryView) → (revision_of v ≡ numbered_of v) ⊎ ((m : RevisionView) × (numbered_of v ≡ Some m) × (name_of m ≡ []) × (revision_of v ≡ None))
+pub kinds : (v : EntryView)
+    → (revision_of v ≡ numbered_of v) ⊎ ((m : RevisionView) × (numbered_of v ≡ Some m) × (name_of m ≡ []) × (revision_of v ≡ None))
 unfolding numbered_of revision_of
 kinds v = by_item v.item
   where
@@ -159,7 +175,8 @@ module _ (name : List ℕ) (some : name ≢ []) (up_to : ℕ) where
   abbrev test : RevisionView → Bool
   test r = is_named name r && is_until up_to r
 
-  one_more : (o : Option RevisionView) (xs ys : List RevisionView) → filter test xs ≡ filter test ys → filter test (cons_option o xs) ≡ filter test (cons_option o ys)
+  one_more : (o : Option RevisionView) (xs ys : List RevisionView) → filter test xs ≡ filter test ys
+      → filter test (cons_option o xs) ≡ filter test (cons_option o ys)
   one_more None xs ys same = same
   one_more (Some r) xs ys same = ap (λ (zs : List RevisionView). cond (test r) (r ∷ zs) zs) same
 
@@ -178,7 +195,9 @@ module _ (name : List ℕ) (some : name ≢ []) (up_to : ℕ) where
 
   newest_same : (es : List LeafElement) → newest name (until up_to (numbered es)) ≡ newest name (until up_to (revisions es))
   unfolding newest
-  newest_same es = ap (last_or None) (filter_both (is_named name) (is_until up_to) (numbered es) ∙ named_same es ∙ sym (filter_both (is_named name) (is_until up_to) (revisions es)))
+  newest_same es =
+      ap (last_or None) (filter_both (is_named name) (is_until up_to) (numbered es) ∙ named_same es
+      ∙ sym (filter_both (is_named name) (is_until up_to) (revisions es)))
 
 -- ---- how the code knows what is current
 
@@ -187,59 +206,68 @@ bytes_some b name = search rules
 
 module _ (up_to : ℕ) (es : List LeafElement) where
   current_same : (r : RevisionView) → name_of r ≢ [] → is_current_at up_to (numbered es) r ≡ is_current_at up_to (revisions es) r
-  current_same r some = ap (λ (o : Option RevisionView). is_same_revision r (held_by o)) (newest_same (name_of r) some up_to es)
+  current_same r some = ap (λ (o : Option RevisionView). is_same_revision r (live_in o)) (newest_same (name_of r) some up_to es)
 
   this_is : (r : RevisionView) (o : Option RevisionView) → is_this r.stored_key (option_map (λ x. x.stored_key) o) ≡ is_same_revision r o
   this_is r None = refl
   this_is r (Some x) = refl
 
-  module _ (v : EntryView) (r : RevisionView) (nameless : Option Key) (listed : Bool) (found : numbered_of v ≡ Some r) (by_name : nameless ≡ nameless_key up_to (numbered es))
+  module _ (v : EntryView) (r : RevisionView) (nameless : Option Key) (listed : Bool) (found : numbered_of v ≡ Some r)
+      (by_name : nameless ≡ nameless_key up_to (numbered es))
       (by_list : listed ≡ passes (is_current_at up_to (revisions es)) (revision_of v)) where
     known_by : (name : List ℕ) → name_of r ≡ name → is_current_by nameless listed name r.stored_key ≡ is_current_at up_to (numbered es) r
     known_by [] is =
-        ap (is_this r.stored_key) by_name ∙ this_is r (held_by (newest [] (until up_to (numbered es))))
-        ∙ ap (λ (name : List ℕ). is_same_revision r (held_by (newest name (until up_to (numbered es))))) (sym is)
+        ap (is_this r.stored_key) by_name ∙ this_is r (live_in (newest [] (until up_to (numbered es))))
+        ∙ ap (λ (name : List ℕ). is_same_revision r (live_in (newest name (until up_to (numbered es))))) (sym is)
     known_by (b ∷ name) is =
         let some : name_of r ≢ [] = λ none. (let both : b ∷ name ≡ [] = sym is ∙ none in cc) in
-        cond-false (is_nameless (b ∷ name)) _ _ (bytes_some b name) ∙ by_list ∙ ap (passes (is_current_at up_to (revisions es))) (named_revision v r found some) ∙ sym (current_same r some)
+        cond-false (is_nameless (b ∷ name)) _ _ (bytes_some b name) ∙ by_list
+        ∙ ap (passes (is_current_at up_to (revisions es))) (named_revision v r found some) ∙ sym (current_same r some)
 
-    pub known_current : (name key : List ℕ) → name ≡ name_of r → key ≡ r.stored_key → is_current_by nameless listed name key ≡ is_current_at up_to (numbered es) r
+    pub known_current : (name key : List ℕ) → name ≡ name_of r → key ≡ r.stored_key
+        → is_current_by nameless listed name key ≡ is_current_at up_to (numbered es) r
     known_current name key is_name is_key = rw (is_name, is_key) (known_by (name_of r) refl)
 
   -- whether any is
 
-  nameless_held : (r : RevisionView) → held_by (newest [] (until up_to (numbered es))) ≡ Some r → Contains (numbered es) r × (name_of r ≡ [])
+  nameless_held : (r : RevisionView) → live_in (newest [] (until up_to (numbered es))) ≡ Some r → Contains (numbered es) r × (name_of r ≡ [])
   nameless_held r is = go (newest [] (until up_to (numbered es))) refl is
     where
-      go : (o : Option RevisionView) → newest [] (until up_to (numbered es)) ≡ o → held_by o ≡ Some r → Contains (numbered es) r × (name_of r ≡ [])
+      go : (o : Option RevisionView) → newest [] (until up_to (numbered es)) ≡ o → live_in o ≡ Some r → Contains (numbered es) r × (name_of r ≡ [])
       go None last holds = cc
       go (Some x) last holds =
           let same = held_some x r holds in
           let has = newest_in [] (until up_to (numbered es)) x last in
-          subst (λ (y : RevisionView). Contains (numbered es) y × (name_of y ≡ [])) same ((kept_from (is_until up_to) (numbered es) x has).0, newest_named [] (until up_to (numbered es)) x last)
+          subst (λ (y : RevisionView). Contains (numbered es) y × (name_of y ≡ [])) same
+          ((kept_from (is_until up_to) (numbered es) x has).0, newest_named [] (until up_to (numbered es)) x last)
 
-  pub any_current : (nameless : Option Key) (current : List RevisionView) → nameless ≡ nameless_key up_to (numbered es) → current ≡ filter (is_current_at up_to (revisions es)) (revisions es)
+  pub any_current : (nameless : Option Key) (current : List RevisionView) → nameless ≡ nameless_key up_to (numbered es)
+      → current ≡ filter (is_current_at up_to (revisions es)) (revisions es)
       → any_current_by nameless current ≡ list_any (is_current_at up_to (numbered es)) (numbered es)
-  any_current nameless current by_name listed = both_ways _ _ (λ some. to (held_by (newest [] (until up_to (numbered es)))) refl some) from
+  any_current nameless current by_name listed = both_ways _ _ (λ some. to (live_in (newest [] (until up_to (numbered es)))) refl some) from
     where
-      to : (o : Option RevisionView) → held_by (newest [] (until up_to (numbered es))) ≡ o → any_current_by nameless current ≡ true → list_any (is_current_at up_to (numbered es)) (numbered es) ≡ true
+      to : (o : Option RevisionView) → live_in (newest [] (until up_to (numbered es))) ≡ o → any_current_by nameless current ≡ true
+          → list_any (is_current_at up_to (numbered es)) (numbered es) ≡ true
       to (Some x) is some =
           let (has, named) = nameless_held x is in
           any_has (is_current_at up_to (numbered es)) (numbered es) x has (rw (named, is) (itself x.stored_key))
       to None is some =
           let (x, has, named) = any_from (λ (r : RevisionView). not (is_nameless (name_of r))) current (rw (by_name, is) at some) in
           let (there, holds) = kept_from (is_current_at up_to (revisions es)) (revisions es) x (subst (λ (rs : List RevisionView). Contains rs x) listed has) in
-          any_has (is_current_at up_to (numbered es)) (numbered es) x (numbered_too es x there) (current_same x (λ none. (let bad : not (is_nameless (name_of x)) ≡ false = rw none refl in cc)) ∙ holds)
+          any_has (is_current_at up_to (numbered es)) (numbered es) x (numbered_too es x there)
+          (current_same x (λ none. (let bad : not (is_nameless (name_of x)) ≡ false = rw none refl in cc)) ∙ holds)
 
       from : list_any (is_current_at up_to (numbered es)) (numbered es) ≡ true → any_current_by nameless current ≡ true
       from some =
           let (x, has, holds) = any_from (is_current_at up_to (numbered es)) (numbered es) some in
           by_its_name x has holds (name_of x) refl
         where
-          by_its_name : (x : RevisionView) → Contains (numbered es) x → is_current_at up_to (numbered es) x ≡ true → (name : List ℕ) → name_of x ≡ name → any_current_by nameless current ≡ true
-          by_its_name x has holds [] is = held_there (held_by (newest [] (until up_to (numbered es)))) refl (rw is at holds)
+          by_its_name : (x : RevisionView) → Contains (numbered es) x → is_current_at up_to (numbered es) x ≡ true → (name : List ℕ)
+              → name_of x ≡ name → any_current_by nameless current ≡ true
+          by_its_name x has holds [] is = held_there (live_in (newest [] (until up_to (numbered es)))) refl (rw is at holds)
             where
-              held_there : (o : Option RevisionView) → held_by (newest [] (until up_to (numbered es))) ≡ o → is_same_revision x o ≡ true → any_current_by nameless current ≡ true
+              held_there : (o : Option RevisionView) → live_in (newest [] (until up_to (numbered es))) ≡ o → is_same_revision x o ≡ true
+                  → any_current_by nameless current ≡ true
               held_there None none same = cc
               held_there (Some y) is same = rw (by_name, is) refl
           by_its_name x has holds (b ∷ name) is =
@@ -248,7 +276,8 @@ module _ (up_to : ℕ) (es : List LeafElement) where
               let listed_in = gives_has (λ (e : LeafElement). revision_of (entry_view e)) es f x there (named_revision (entry_view f) x found some) in
               let kept_in = kept (is_current_at up_to (revisions es)) (revisions es) x listed_in (sym (current_same x some) ∙ holds) in
               let has_bytes : not (is_nameless (name_of x)) ≡ true = rw (is, bytes_some b name) refl in
-              rw (any_has (λ (r : RevisionView). not (is_nameless (name_of r))) current x (subst (λ (rs : List RevisionView). Contains rs x) (sym listed) kept_in) has_bytes) (or_true (is_some nameless))
+              rw (any_has (λ (r : RevisionView). not (is_nameless (name_of r))) current x
+              (subst (λ (rs : List RevisionView). Contains rs x) (sym listed) kept_in) has_bytes) (or_true (is_some nameless))
 
 -- ---- whether the first of the list is the next entry
 
@@ -257,7 +286,7 @@ module _ (p : RevisionView → Bool) (e : LeafElement) (later : List LeafElement
   others = filter p (revisions later)
 
   abbrev IsFirst : List RevisionView → Bool → Type 0
-  IsFirst listed is_listed = (begins_with e.key listed ≡ is_listed) × (without_first e.key listed ≡ others)
+  IsFirst listed is_listed = (begins_with_key e.key listed ≡ is_listed) × (without_first e.key listed ≡ others)
 
   -- a later revision isn't this entry
   differs : (r : RevisionView) → Contains others r → bytes_eq r.stored_key e.key ≡ false

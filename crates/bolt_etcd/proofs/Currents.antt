@@ -1,16 +1,22 @@
 -- The keys that there are are the newest revisions that aren't deletions.
-use Rattle.std.proofs.Common.{ℕ, ◌≡◌, ◌≢◌, ◌∙◌, ◌++◌, ◌↔◌, Bool, false, List, [], ◌∷◌, filter, map, not, Option, Some, None, Result, refl, sym, ap, subst, arith, if◌then◌else◌}
-use Rattle.std.proofs.{lemmas.Bool.not-true, lemmas.Cmp.nat_list_cmp_total, lemmas.Cmp.on_total, lemmas.List.append_assoc, lemmas.List.map-append, lemmas.List.Kept.IsStrictlySortedBy-filter}
-use Rattle.std.proofs.{lemmas.List.MinMax.ranks_by, lemmas.List.Sorted.Contains-permutation, lemmas.List.Sorted.IsPermutation-sym, lemmas.Slice.Eq.bytes_eq-Decides}
-use Rattle.std.specs.{List.Contains, List.cons_option, List.dedup, List.Sorted.IsPermutation, List.Sorted.IsSorted, Cmp.IsStrictWeakOrder, Cmp.IsTotalOrder}
+use Rattle.std.proofs.Common.{ℕ, ◌≡◌, ◌≢◌, ◌∙◌, ◌++◌, ◌↔◌, Bool, false, List, [], ◌∷◌, filter, map, not, Option, Some, None, Result, refl, sym, ap}
+use Rattle.std.proofs.Common.{subst, arith, if◌then◌else◌}
+use Rattle.std.proofs.{lemmas.Bool.not-true, lemmas.Cmp.nat_list_cmp_total, lemmas.Cmp.on_total, lemmas.List.append_assoc, lemmas.List.map-append}
+use Rattle.std.proofs.{lemmas.List.Kept.IsStrictlySortedBy-filter}
+use Rattle.std.proofs.{lemmas.List.MinMax.ranks_by, lemmas.List.Sorted.Contains-permutation, lemmas.List.Sorted.IsPermutation-sym}
+use Rattle.std.proofs.{lemmas.Slice.Eq.bytes_eq-Decides}
+use Rattle.std.specs.{List.Contains, List.cons_option, List.dedup, List.Sorted.IsPermutation, List.Sorted.IsSorted, Cmp.IsStrictWeakOrder}
+use Rattle.std.specs.{Cmp.IsTotalOrder}
 use Rattle.std.specs.{Ordering.eq_by_cmp, Ordering.is_eq, Ordering.is_lt, Result.is_err, Result.is_ok, Str.bytes_eq, declared.cmp.Ordering.Ordering}
 use Rattle.std.specs.declared.cmp.Ordering.TheVariants.{Less}
 use Rattle.bolt_format.specs.Elements.{LeafElement}
 use Rattle.bolt_tree.proofs.Exports.{kept, filter_mapped, kept_from, dedup_mapped, gives_from, one_of}
 use Rattle.bolt_tree.specs.{Entries.EntryView, Entries.entry_cmp, Entries.entry_view, Order.Rises}
-use Rattle.bolt_etcd.specs.Current.{AreCurrent, AreNewest, HaveOwnKeys, IsCurrent, IsNewest, is_there, name_cmp, name_sum_cmp, stored_key_cmp}
-use Rattle.bolt_etcd.specs.{Newest.is_named, Newest.newest, Revisions.RevisionView, Revisions.name_of, Revisions.revision_in, Revisions.revision_of, Revisions.value_of}
-use Rattle.bolt_etcd.specs.{RevisionKeys.revision_key, ShownRevisions.shown_revision, Stores.revisions, Wire.◌>>=◌, NameOrder.sums_cmp, SumOrder.AreNewestBySum, declared.revision.Revision.Revision}
+use Rattle.bolt_etcd.specs.Store.Current.{AreCurrent, AreNewest, HaveOwnKeys, IsCurrent, IsNewest, is_there, name_cmp, name_sum_cmp, stored_key_cmp}
+use Rattle.bolt_etcd.specs.{Store.Newest.is_named, Store.Newest.newest, Wire.Revisions.RevisionView, Wire.Revisions.name_of}
+use Rattle.bolt_etcd.specs.{Wire.Revisions.revision_in, Wire.Revisions.revision_of, Wire.Revisions.value_of}
+use Rattle.bolt_etcd.specs.{Wire.RevisionKeys.revision_key, Wire.ShownRevisions.shown_revision, Store.Stores.revisions, Wire.Fields.◌>>=◌}
+use Rattle.bolt_etcd.specs.{Store.NameOrder.sums_cmp, Store.SumOrder.AreNewestBySum, declared.wire.revision.Revision.Revision}
 use Rattle.bolt_etcd.proofs.NewestOfNames.{IsGreatest, greatest_kept, kept_greatest, last_from, last_greatest, names_rise, text_ties}
 use Rattle.bolt_etcd.proofs.{NameOrders.sums_tie, NameOrders.sums_total, SortedOnce.rises_from, SortedOnce.sorted_in}
 
@@ -41,10 +47,12 @@ pub key_is : (v : EntryView) (r : RevisionView) → revision_of v ≡ Some r →
 unfolding revision_of
 key_is v r e = let (value, _, inner) = bind_some (value_of v.item) (revision_in v.key) r e in (in_says v.key value r inner).1
 
-pub from_entry : (es : List LeafElement) (r : RevisionView) → Contains (revisions es) r → (f : LeafElement) × Contains es f × (revision_of (entry_view f) ≡ Some r)
+pub from_entry : (es : List LeafElement) (r : RevisionView) → Contains (revisions es) r
+    → (f : LeafElement) × Contains es f × (revision_of (entry_view f) ≡ Some r)
 from_entry es r has = gives_from (λ (e : LeafElement). revision_of (entry_view e)) es r has
 
-rise_step : (o : Option RevisionView) (e : LeafElement) (es : List LeafElement) → revision_of (entry_view e) ≡ o → Rises entry_cmp (e ∷ es) → Rises stored_key_cmp (revisions es)
+rise_step : (o : Option RevisionView) (e : LeafElement) (es : List LeafElement) → revision_of (entry_view e) ≡ o → Rises entry_cmp (e ∷ es)
+    → Rises stored_key_cmp (revisions es)
     → Rises stored_key_cmp (cons_option o (revisions es))
 rise_step None e es is rises later = later
 rise_step (Some r) e es is rises later = (
@@ -94,14 +102,19 @@ module _ (rs : List RevisionView) where
   newest_greatest r n = grind (arith, bytes_eq-Decides, not_less)
 
   -- of revisions sorted by names, the newest first, the first of each name that isn't a deletion
-  pub first_are_newest : (sorted : List RevisionView) → AreNewestBySum rs sorted → HaveOwnKeys rs → AreNewest rs (filter is_there (dedup view_same_name sorted))
+  pub first_are_newest : (sorted : List RevisionView) → AreNewestBySum rs sorted → HaveOwnKeys rs
+      → AreNewest rs (filter is_there (dedup view_same_name sorted))
   first_are_newest sorted are own = record {
-    rises = rises_from (on_total name_of sums_total) _ (IsStrictlySortedBy-filter name_sum_cmp is_there _ (names_rise name_of (λ r. r.stored_key) sums_cmp sums_total sums_tie sorted are.rises));
+    rises =
+        rises_from (on_total name_of sums_total) _
+        (IsStrictlySortedBy-filter name_sum_cmp is_there _ (names_rise name_of (λ r. r.stored_key) sums_cmp sums_total sums_tie sorted are.rises));
     exact = λ r. (
       λ has.
           let (first, live) = kept_from is_there _ r has in
-          greatest_newest r (kept_greatest name_of (λ r. r.stored_key) sums_cmp sums_total sums_tie rs sorted own are.same are.rises r first) (not-true r.key.deleted live),
-      λ n. kept is_there _ r (greatest_kept name_of (λ r. r.stored_key) sums_cmp sums_total sums_tie rs sorted own are.same are.rises r (newest_greatest r n)) (ap not n.there),
+          greatest_newest r (kept_greatest name_of (λ r. r.stored_key) sums_cmp sums_total sums_tie rs sorted own are.same are.rises r first)
+          (not-true r.key.deleted live),
+      λ n. kept is_there _ r
+          (greatest_kept name_of (λ r. r.stored_key) sums_cmp sums_total sums_tie rs sorted own are.same are.rises r (newest_greatest r n)) (ap not n.there),
     );
   }
 
@@ -121,7 +134,8 @@ module _ (rs : List RevisionView) where
     differ : (a b : RevisionView) → name_sum_cmp a b ≡ Less → eq_by_cmp name_cmp a b ≡ false
     differ a b less = sym (text_ties (name_of a) (name_of b)) ∙ sums_tie (name_of a) (name_of b) ∙ ap is_eq less
 
-    pub sorted_are_current : (found current : List RevisionView) → AreNewest rs found → IsPermutation found current → IsSorted name_cmp current → AreCurrent rs current
+    pub sorted_are_current : (found current : List RevisionView) → AreNewest rs found → IsPermutation found current → IsSorted name_cmp current
+        → AreCurrent rs current
     sorted_are_current found current are same by_name = record {
       rises = sorted_in names_total name_sum_cmp found current (λ a b has also less. differ a b less) are.rises same by_name;
       exact = λ r. (
@@ -132,9 +146,11 @@ module _ (rs : List RevisionView) where
 
 -- ---- of the code
 
-pub kept_newest : (old sorted left there : List Revision) → AreNewestBySum (map shown_revision old) (map shown_revision sorted) → left ≡ dedup code_same_name sorted
+pub kept_newest : (old sorted left there : List Revision) → AreNewestBySum (map shown_revision old) (map shown_revision sorted)
+    → left ≡ dedup code_same_name sorted
     → there ≡ filter code_is_there left → HaveOwnKeys (map shown_revision old) → AreNewest (map shown_revision old) (map shown_revision there)
 kept_newest old sorted left there are once live own =
     let shown =
-    ap (map shown_revision) live ∙ filter_mapped shown_revision is_there left ∙ ap (filter is_there) (ap (map shown_revision) once ∙ dedup_mapped shown_revision view_same_name sorted) in
+    ap (map shown_revision) live ∙ filter_mapped shown_revision is_there left
+    ∙ ap (filter is_there) (ap (map shown_revision) once ∙ dedup_mapped shown_revision view_same_name sorted) in
     subst (AreNewest (map shown_revision old)) (sym shown) (first_are_newest (map shown_revision old) (map shown_revision sorted) are own)

@@ -7,10 +7,14 @@ use Rattle.std.specs.{Cmp.IsTotalOrder, Cmp.Lexicographic.same_text, List.Contai
 use Rattle.bolt_check.specs.Keys.{Key}
 use Rattle.bolt_tree.proofs.Exports.{kept as passes, asymmetric, irreflexive, filter_rises, kept_from}
 use Rattle.bolt_tree.specs.Order.{Rises}
-use Rattle.bolt_etcd.specs.{Compactions.IsCompaction, Current.stored_key_cmp, EtcdCompactions.etcd_keeps, EtcdCompactions.is_same_revision}
-use Rattle.bolt_etcd.specs.{Histories.Transaction, Histories.history, Histories.state_at, Newest.is_named, Newest.is_until, Newest.newest, Newest.until, Revisions.RevisionView, Revisions.name_of}
-use Rattle.bolt_etcd.specs.Possible.{ArePossible}
-use Rattle.bolt_etcd.proofs.{HistorySteps.stored_keys_rise, HistorySteps.same_order, HistoryUntil.held_at, HistoryUntil.until_early, LastOnes.last_after, LastOnes.last_in, MissingExact.main_le}
+use Rattle.bolt_etcd.specs.{Histories.Compactions.IsCompaction, Store.Current.stored_key_cmp, Histories.Compactions.etcd_keeps}
+use Rattle.bolt_etcd.specs.{Histories.Compactions.is_same_revision}
+use Rattle.bolt_etcd.specs.{Histories.Transactions.Transaction, Histories.Transactions.history, Histories.Transactions.state_at}
+use Rattle.bolt_etcd.specs.{Store.Newest.is_named, Store.Newest.is_until, Store.Newest.newest, Store.Newest.until, Wire.Revisions.RevisionView}
+use Rattle.bolt_etcd.specs.{Wire.Revisions.name_of}
+use Rattle.bolt_etcd.specs.Histories.Possible.{ArePossible}
+use Rattle.bolt_etcd.proofs.{HistorySteps.stored_keys_rise, HistorySteps.same_order, HistoryUntil.held_at, HistoryUntil.until_early}
+use Rattle.bolt_etcd.proofs.{LastOnes.last_after, LastOnes.last_in, MissingExact.main_le}
 use Rattle.bolt_etcd.proofs.{NameHistories.held_parts, StoreLemmas.itself}
 
 stored_keys_total : IsTotalOrder stored_key_cmp
@@ -49,8 +53,8 @@ module _ (ts : List Transaction) (new : Bool) (compacted : ℕ) (possible : AreP
   keeps_held : (name : Key) (r : RevisionView) → state_at compacted ts name ≡ Some r → keeps r ≡ true
   unfolding newest
   keeps_held name r holds =
-      let held = sym (held_at compacted ts name) ∙ holds in
-      let (last, live) = held_parts (last_or None (own name)) r held in
+      let live_of = sym (held_at compacted ts name) ∙ holds in
+      let (last, live) = held_parts (last_or None (own name)) r live_of in
       elim (last_in None (own name) r last) [
         | inl nowhere ↦ cc
         | inr has ↦
@@ -65,4 +69,4 @@ module _ (ts : List Transaction) (new : Bool) (compacted : ℕ) (possible : AreP
   keeps_newer a b has also same less keep = grind (arith, cases_lt, keeps_later, or_cases, main_le, same_order, ltb-true, is_own, none_after)
 
   pub etcd_compacts : IsCompaction compacted ts (etcd_keeps new compacted (history ts))
-  etcd_compacts = record { later = λ r has lt. keeps_later r lt; held = keeps_held; oldest_first = keeps_newer }
+  etcd_compacts = record { later = λ r has lt. keeps_later r lt; live_of = keeps_held; oldest_first = keeps_newer }

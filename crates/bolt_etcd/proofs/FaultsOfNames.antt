@@ -1,15 +1,20 @@
 -- What is missing of one name is what its revisions alone say, wherever they stand among those of other names.
-use Rattle.std.proofs.Common.{inl, inr, ◌≡◌, ◌∙◌, ◌&&◌, ◌||◌, ℕ, Bool, true, false, List, [], ◌∷◌, cond, filter, not, Option, Some, None, refl, sym, ap, arith}
-use Rattle.std.proofs.{lemmas.Bool.cases_Bool, lemmas.Bool.cond-false, lemmas.Bool.cond-true, lemmas.Bool.cond_both, lemmas.Bool.false_from_ne_true, lemmas.Cmp.nat_list_cmp_total, lemmas.Cmp.tied_itself}
+use Rattle.std.proofs.Common.{inl, inr, ◌≡◌, ◌∙◌, ◌&&◌, ◌||◌, ℕ, Bool, true, false, List, [], ◌∷◌, cond, filter, not, Option, Some, None, refl, sym}
+use Rattle.std.proofs.Common.{ap, arith}
+use Rattle.std.proofs.{lemmas.Bool.cases_Bool, lemmas.Bool.cond-false, lemmas.Bool.cond-true, lemmas.Bool.cond_both, lemmas.Bool.false_from_ne_true}
+use Rattle.std.proofs.{lemmas.Cmp.nat_list_cmp_total, lemmas.Cmp.tied_itself}
 use Rattle.std.proofs.lemmas.List.Sorted.{Contains-permutation, IsPermutation-sym}
-use Rattle.std.specs.{Cmp.IsTotalOrder, Cmp.Lexicographic.same_text, List.Contains, List.Sorted.IsPermutation, Ordering.is_eq, Ordering.ordering_reverse, Ordering.ordering_then, Str.bytes_eq}
+use Rattle.std.specs.{Cmp.IsTotalOrder, Cmp.Lexicographic.same_text, List.Contains, List.Sorted.IsPermutation, Ordering.is_eq}
+use Rattle.std.specs.{Ordering.ordering_reverse, Ordering.ordering_then, Str.bytes_eq}
 use Rattle.std.specs.{declared.cmp.Ordering.Ordering, declared.cmp.Ordering.TheVariants.Equal, declared.cmp.Ordering.TheVariants.Less}
 use Rattle.bolt_check.specs.Keys.{Key, key_cmp}
 use Rattle.bolt_tree.proofs.Exports.{filter_none, kept, contains_head, rises_once, filter_rises, kept_from, rises_as}
 use Rattle.bolt_tree.specs.Order.{IsBelow, Rises}
-use Rattle.bolt_etcd.specs.{Current.stored_key_cmp, Follows.follows, MissingNumbers.is_of_later, NameOrder.sums_cmp, Newest.is_named, SumOrder.AreBySum, Revisions.RevisionView, Revisions.name_of}
-use Rattle.bolt_etcd.specs.NameFaults.{AreByName, NameFaultView, fault_of, is_newest, lacks_one_before, name_faults}
-use Rattle.bolt_etcd.proofs.{NameOrders.sums_tie, NameOrders.sums_total, NewestOfNames.text_ties, SortedOnce.by_name_rises, SortedOnce.named_rises, SortedOnce.named_total, StoreLemmas.itself}
+use Rattle.bolt_etcd.specs.{Store.Current.stored_key_cmp, Check.Follows.follows, Check.MissingNumbers.is_of_later, Store.NameOrder.sums_cmp}
+use Rattle.bolt_etcd.specs.{Store.Newest.is_named, Store.SumOrder.AreBySum, Wire.Revisions.RevisionView, Wire.Revisions.name_of}
+use Rattle.bolt_etcd.specs.Check.NameFaults.{AreByName, NameFaultView, fault_of, is_newest, lacks_one_before, name_faults}
+use Rattle.bolt_etcd.proofs.{NameOrders.sums_tie, NameOrders.sums_total, NewestOfNames.text_ties, SortedOnce.by_name_rises, SortedOnce.named_rises}
+use Rattle.bolt_etcd.proofs.{SortedOnce.named_total, StoreLemmas.itself}
 
 -- ---- revisions of one name stand together
 
@@ -118,7 +123,8 @@ module _ (cmp : Key → Key → Ordering) (total : IsTotalOrder cmp) (ties : (a 
         let (there, passes) = kept_from (is_named name) rs r has in
         kept (is_named name) sorted r (Contains-permutation rs sorted r same there) passes
 
-    by_stored_key : (rs : List RevisionView) → ((r : RevisionView) → Contains rs r → is_named name r ≡ true) → Rises stored_key_cmp rs → Rises ordered rs
+    by_stored_key : (rs : List RevisionView) → ((r : RevisionView) → Contains rs r → is_named name r ≡ true) → Rises stored_key_cmp rs
+        → Rises ordered rs
     by_stored_key rs are = rises_as stored_key_cmp ordered rs (λ a b has also less.
         let tied : by a b ≡ Equal = rw (own a (are a has), own b (are b also)) (tied_itself total name) in
         rw (tied, less) refl)
@@ -131,7 +137,8 @@ module _ (cmp : Key → Key → Ordering) (total : IsTotalOrder cmp) (ties : (a 
         (named_moved sorted rs (IsPermutation-sym rs sorted same)) (named_moved rs sorted same)
 
     -- the faults of a name, of revisions among which those of a name stand together
-    pub faults_of : (compacted : Option ℕ) (granted : ℕ → Bool) (rs sorted : List RevisionView) → Rises stored_key_cmp rs → IsPermutation rs sorted → Rises ordered sorted
+    pub faults_of : (compacted : Option ℕ) (granted : ℕ → Bool) (rs sorted : List RevisionView) → Rises stored_key_cmp rs → IsPermutation rs sorted
+        → Rises ordered sorted
         → filter is_of_name (name_faults compacted granted None sorted) ≡ name_faults compacted granted None (named rs)
     faults_of compacted granted rs sorted rises same up = grind (arith, of_name, same_named)
 
@@ -145,7 +152,8 @@ none_of_any (f ∷ fs) none =
     cc
 
 -- the faults of a name, of revisions that are sorted by name
-pub faults_named : (compacted : Option ℕ) (granted : ℕ → Bool) (rs sorted : List RevisionView) (name : Key) → Rises stored_key_cmp rs → AreByName rs sorted
+pub faults_named : (compacted : Option ℕ) (granted : ℕ → Bool) (rs sorted : List RevisionView) (name : Key) → Rises stored_key_cmp rs
+    → AreByName rs sorted
     → filter (λ (f : NameFaultView). is_named name f.revision) (name_faults compacted granted None sorted)
     ≡ name_faults compacted granted None (filter (is_named name) rs)
 faults_named compacted granted rs sorted name rises is =

@@ -1,6 +1,7 @@
 -- A record, field by field.
 use Rattle.std.proofs.Common.{◌≡◌, ◌∙◌, ℕ, zero, suc, ◌<◌, ◌≤◌, List, [], ◌∷◌, Option, Some, None, length, refl, arith}
-use Rattle.bolt_etcd.specs.{Wire.◌>>=◌, Wire.Field, Wire.field, Wire.fields_up_to, Records.RecordView, Records.empty, Records.record_of, Records.with, Records.with_all}
+use Rattle.bolt_etcd.specs.{Wire.Fields.◌>>=◌, Wire.Fields.Field, Wire.Fields.field, Wire.Fields.fields_up_to, Wire.Records.RecordView}
+use Rattle.bolt_etcd.specs.{Wire.Records.empty, Wire.Records.record_of, Wire.Records.with, Wire.Records.with_all}
 
 -- The fields so far make r. The rest has at most n more.
 pub record Goes (bytes : List ℕ) (r : RecordView) (rest : List ℕ) : Type 0 where
@@ -17,7 +18,8 @@ first_set : (r next : RecordView) (f : Field) (read : Option (List Field)) → w
 first_set r next f None e = refl
 first_set r next f (Some later) e = rw e refl
 
-first_wrong : (r : RecordView) (f : Field) (read : Option (List Field)) → with r f ≡ None → ((read >>= λ later. Some (f ∷ later)) >>= with_all r) ≡ None
+first_wrong : (r : RecordView) (f : Field) (read : Option (List Field)) → with r f ≡ None
+    → ((read >>= λ later. Some (f ∷ later)) >>= with_all r) ≡ None
 first_wrong r f None e = refl
 first_wrong r f (Some later) e = rw e refl
 
@@ -29,7 +31,8 @@ first_of_all zero (b ∷ rest) le lt = absurd (omega arith)
 first_of_all (suc k) (b ∷ rest) le lt = (k, refl, refl)
 
 module _ {bytes : List ℕ} {r : RecordView} where
-  pub steps : (rest after : List ℕ) (f : Field) (next : RecordView) → Goes bytes r rest → length after < length rest → field rest ≡ Some (f, after) → with r f ≡ Some next → Goes bytes next after
+  pub steps : (rest after : List ℕ) (f : Field) (next : RecordView) → Goes bytes r rest → length after < length rest → field rest ≡ Some (f, after)
+      → with r f ≡ Some next → Goes bytes next after
   steps rest after f next g lt e w =
       let p = first_of_all g.n rest g.enough (omega arith) in
       record { n = p.0; enough = omega (arith, p.1, g.enough); same = g.same ∙ rw (p.2, e) (first_set r next f (fields_up_to p.0 after) w) }
@@ -37,7 +40,8 @@ module _ {bytes : List ℕ} {r : RecordView} where
   pub no_field : (rest : List ℕ) → Goes bytes r rest → 0 < length rest → field rest ≡ None → record_of bytes ≡ None
   no_field rest g lt e = let p = first_of_all g.n rest g.enough lt in g.same ∙ rw (p.2, e) refl
 
-  pub wrong_kind : (rest after : List ℕ) (f : Field) → Goes bytes r rest → 0 < length rest → field rest ≡ Some (f, after) → with r f ≡ None → record_of bytes ≡ None
+  pub wrong_kind : (rest after : List ℕ) (f : Field) → Goes bytes r rest → 0 < length rest → field rest ≡ Some (f, after) → with r f ≡ None
+      → record_of bytes ≡ None
   wrong_kind rest after f g lt e w = let p = first_of_all g.n rest g.enough lt in g.same ∙ rw (p.2, e) (first_wrong r f (fields_up_to p.0 after) w)
 
   pub ends : (rest : List ℕ) → Goes bytes r rest → length rest ≡ 0 → record_of bytes ≡ Some r

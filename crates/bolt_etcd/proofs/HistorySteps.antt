@@ -5,9 +5,10 @@ use Rattle.std.specs.{List.Contains, Ordering.nat_cmp, Ordering.ordering_then, d
 use Rattle.std.specs.declared.cmp.Ordering.TheVariants.{Less}
 use Rattle.bolt_tree.proofs.Exports.{contains_cases, contains_none, rises_as}
 use Rattle.bolt_tree.specs.Order.{Rises}
-use Rattle.bolt_etcd.specs.Histories.{State, Transaction, Write, after, after_all, history, history_from, nothing, revision_by, written}
-use Rattle.bolt_etcd.specs.{Current.stored_key_cmp, RevisionKeys.spelling, Revisions.RevisionView, Possible.CanFollow, Possible.CanWrite, Possible.CanWriteAll, Possible.ArePossible, Told.number_cmp}
-use Rattle.bolt_etcd.specs.declared.revision_key.RevisionKey.{RevisionKey}
+use Rattle.bolt_etcd.specs.Histories.Transactions.{State, Transaction, Write, after, after_all, history, history_from, nothing, revision_by, written}
+use Rattle.bolt_etcd.specs.{Store.Current.stored_key_cmp, Wire.RevisionKeys.spelling, Wire.Revisions.RevisionView, Histories.Possible.CanFollow}
+use Rattle.bolt_etcd.specs.{Histories.Possible.CanWrite, Histories.Possible.CanWriteAll, Histories.Possible.ArePossible, Histories.Told.number_cmp}
+use Rattle.bolt_etcd.specs.declared.wire.revision_key.RevisionKey.{RevisionKey}
 use Rattle.bolt_etcd.proofs.KeyNumbers.{less, spellings_cmp}
 
 abbrev pub IsWritten : State → RevisionView → Type 0
@@ -30,7 +31,8 @@ more_go state main sub (w ∷ ws) rest (can, more) go = (
   more_go (after (revision_by state main sub w) state) main (sub + 1) ws rest more (λ n le. go n (omega (arith, le))),
 )
 
-from_go : (state : State) (main sub at : ℕ) (ts : List Transaction) → IsNext main sub (record { main = at; sub = 0; deleted = false }) → CanFollow state at ts
+from_go : (state : State) (main sub at : ℕ) (ts : List Transaction) → IsNext main sub (record { main = at; sub = 0; deleted = false })
+    → CanFollow state at ts
     → Goes state main sub (history_from state at ts)
 from_go state main sub at [] next can = tt
 from_go state main sub at ([] ∷ later) next can = absurd (let lt = can.0 in omega (arith, lt))
@@ -107,7 +109,8 @@ stored_key_is ts possible r has = each (λ (s : RevisionView). s.stored_key ≡ 
 
 pub same_order : (ts : List Transaction) → ArePossible ts → (a b : RevisionView) → Contains (history ts) a → Contains (history ts) b
     → stored_key_cmp a b ≡ number_cmp a b
-same_order ts possible a b has also = rw (stored_key_is ts possible a has, stored_key_is ts possible b also) (spellings_cmp a.key b.key (possible.fits a has) (possible.fits b also))
+same_order ts possible a b has also =
+    rw (stored_key_is ts possible a has, stored_key_is ts possible b also) (spellings_cmp a.key b.key (possible.fits a has) (possible.fits b also))
 
 pub stored_keys_rise : (ts : List Transaction) → ArePossible ts → Rises stored_key_cmp (history ts)
 stored_keys_rise ts possible = grind (arith, rises_as, same_order, numbers_rise, history_rises)

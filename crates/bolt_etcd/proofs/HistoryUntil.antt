@@ -1,11 +1,12 @@
 -- The revisions of a history up to a transaction are those of the transactions up to it.
 use Rattle.std.proofs.Common.{◌<◌, true, false, ◌≡◌, ◌∙◌, ◌≤◌, ◌+◌, ◌-◌, ◌++◌, inl, inr, ℕ, zero, suc, List, [], ◌∷◌, not, take, refl, sym, ap, arith}
-use Rattle.std.proofs.{lemmas.Bool.cases_lt, lemmas.Bool.le-ltb, lemmas.Bool.lt-ltb, lemmas.List.Elements.Contains-append_cases, lemmas.List.Elements.filter-append}
+use Rattle.std.proofs.{lemmas.Bool.cases_lt, lemmas.Bool.le-ltb, lemmas.Bool.lt-ltb, lemmas.List.Elements.Contains-append_cases}
+use Rattle.std.proofs.{lemmas.List.Elements.filter-append}
 use Rattle.std.specs.List.{Contains}
 use Rattle.bolt_check.specs.Keys.{Key}
 use Rattle.bolt_tree.proofs.Exports.{filter_all, filter_none, contains_cases, contains_none}
-use Rattle.bolt_etcd.specs.Histories.{State, Transaction, Write, after, after_all, history, history_from, revision_by, state_at, written}
-use Rattle.bolt_etcd.specs.{Newest.is_until, Newest.newest, Newest.until, Revisions.RevisionView}
+use Rattle.bolt_etcd.specs.Histories.Transactions.{State, Transaction, Write, after, after_all, history, history_from, revision_by, state_at, written}
+use Rattle.bolt_etcd.specs.{Store.Newest.is_until, Store.Newest.newest, Store.Newest.until, Wire.Revisions.RevisionView}
 use Rattle.bolt_etcd.proofs.NameHistories.{held_of, newest_held}
 
 main_written : (state : State) (main sub : ℕ) (ws : List Write) (r : RevisionView) → Contains (written state main sub ws) r → r.key.main ≡ main

@@ -1,14 +1,19 @@
 -- What a compaction keeps of one name: all from a revision on.
 use Rattle.std.proofs.Common.{arith, ◌≡◌, ◌∙◌, ◌<◌, ◌≤◌, ◌++◌, inl, inr, ℕ, Bool, false, List, [], ◌∷◌, filter, Option, Some}
 use Rattle.std.proofs.Common.{None, refl, sym, ap, subst}
-use Rattle.std.proofs.{lemmas.Bool.cases_Bool, lemmas.Bool.cases_lt, lemmas.Bool.cond-false, lemmas.List.append-nil, lemmas.List.Elements.Contains-append_left, lemmas.List.Elements.filter-append}
+use Rattle.std.proofs.{lemmas.Bool.cases_Bool, lemmas.Bool.cases_lt, lemmas.Bool.cond-false, lemmas.List.append-nil}
+use Rattle.std.proofs.{lemmas.List.Elements.Contains-append_left, lemmas.List.Elements.filter-append}
 use Rattle.std.specs.{Cmp.Lexicographic.same_text, List.Contains, List.last_or}
 use Rattle.bolt_check.specs.Keys.{Key}
-use Rattle.bolt_tree.proofs.Exports.{filter_all, filter_none, contains_cases, contains_head, contains_none, contains_tail, filter_rises, kept_from, filters_swap}
+use Rattle.bolt_tree.proofs.Exports.{filter_all, filter_none, contains_cases, contains_head, contains_none, contains_tail, filter_rises, kept_from}
+use Rattle.bolt_tree.proofs.Exports.{filters_swap}
 use Rattle.bolt_tree.specs.Order.{Rises}
-use Rattle.bolt_etcd.specs.{Compactions.IsCompaction, Compactions.kept_revisions, Current.stored_key_cmp, Histories.Transaction, Histories.history}
-use Rattle.bolt_etcd.specs.{Newest.is_named, Newest.is_until, Newest.newest, Newest.until, Revisions.RevisionView, Revisions.name_of, Possible.ArePossible}
-use Rattle.bolt_etcd.proofs.{HistorySteps.stored_keys_rise, HistoryUntil.until_early, HistoryUntil.until_late, HistoryUntil.held_at, LastOnes.last_in, NameHistories.held_of, NameHistories.held_parts}
+use Rattle.bolt_etcd.specs.{Histories.Compactions.IsCompaction, Histories.Compactions.kept_revisions, Store.Current.stored_key_cmp}
+use Rattle.bolt_etcd.specs.{Histories.Transactions.Transaction, Histories.Transactions.history}
+use Rattle.bolt_etcd.specs.{Store.Newest.is_named, Store.Newest.is_until, Store.Newest.newest, Store.Newest.until, Wire.Revisions.RevisionView}
+use Rattle.bolt_etcd.specs.{Wire.Revisions.name_of, Histories.Possible.ArePossible}
+use Rattle.bolt_etcd.proofs.{HistorySteps.stored_keys_rise, HistoryUntil.until_early, HistoryUntil.until_late, HistoryUntil.held_at, LastOnes.last_in}
+use Rattle.bolt_etcd.proofs.{NameHistories.held_of, NameHistories.held_parts}
 
 module _ (compacted : ℕ) (ts : List Transaction) (keeps : RevisionView → Bool) (possible : ArePossible ts) (compaction : IsCompaction compacted ts keeps)
     (name : Key) where
@@ -90,7 +95,7 @@ module _ (compacted : ℕ) (ts : List Transaction) (keeps : RevisionView → Boo
         → o ≡ None
     none_left None later e = refl
     none_left (Some r) later e =
-        let keep = compaction.held name r (held_at compacted ts name ∙ ap held_of (newest_removed later) ∙ e) in
+        let keep = compaction.live_of name r (held_at compacted ts name ∙ ap held_of (newest_removed later) ∙ e) in
         elim (last_in None removed r ((held_parts (last_or None removed) r e).0)) [
           | inl none ↦ cc
           | inr has ↦ (let gone = is.dropped r has in cc)

@@ -1,13 +1,16 @@
 -- Revision keys are in the order of their numbers.
-use Rattle.std.proofs.Common.{◌≡◌, ◌∙◌, ◌<◌, ◌≤◌, ◌+◌, ◌*◌, ◌%◌, ◌^◌, inl, inr, ℕ, zero, suc, Bool, true, false, List, [], ◌∷◌, ◌++◌, nat_cmp, nat_lt, ◌==◌, refl, sym, ap, arith, if◌then◌else◌}
+use Rattle.std.proofs.Common.{◌≡◌, ◌∙◌, ◌<◌, ◌≤◌, ◌+◌, ◌*◌, ◌%◌, ◌^◌, inl, inr, ℕ, zero, suc, Bool, true, false, List, [], ◌∷◌, ◌++◌, nat_cmp, nat_lt}
+use Rattle.std.proofs.Common.{◌==◌, refl, sym, ap, arith, if◌then◌else◌}
 use Rattle.std.proofs.Math.Nat.{mod-eq_of_lt, mod-lt, mul-le-mul_right, one-le-pow}
 use Rattle.std.proofs.lemmas.Bool.{cases_order, cond-false, cond-true, le-ltb, lt-ltb, ne_eqb}
 use Rattle.std.proofs.lemmas.Cmp.{nat_cmp_total, tied_itself}
-use Rattle.std.specs.{Cmp.Lexicographic.slice_cmp, Int.byte_at, Int.bytes_high_first, Ordering.bool_cmp, Ordering.ordering_then, declared.cmp.Ordering.Ordering}
+use Rattle.std.specs.{Cmp.Lexicographic.slice_cmp, Int.byte_at, Int.bytes_high_first, Ordering.bool_cmp, Ordering.ordering_then}
+use Rattle.std.specs.{declared.cmp.Ordering.Ordering}
 use Rattle.std.specs.declared.cmp.Ordering.TheVariants.{Equal, Greater, Less}
 use Rattle.byteorder.specs.{Endian.big_bytes, Numbers.big_from-bytes, Numbers.big_from-cons}
 use Rattle.bolt_check.specs.Keys.{key_cmp}
-use Rattle.bolt_etcd.specs.{RevisionKeys.IsSpelled, RevisionKeys.numbers_cmp, RevisionKeys.spelling, declared.revision_key.RevisionKey.RevisionKey}
+use Rattle.bolt_etcd.specs.{Wire.RevisionKeys.IsSpelled, Wire.RevisionKeys.numbers_cmp, Wire.RevisionKeys.spelling}
+use Rattle.bolt_etcd.specs.{declared.wire.revision_key.RevisionKey.RevisionKey}
 
 pub less : (a b : ℕ) → a < b → nat_cmp a b ≡ Less
 less a b lt = cond-true (nat_lt a b) _ _ (lt-ltb a b lt)
@@ -58,7 +61,8 @@ bytes_cmp (suc n) a b xs ys =
     ∙ ap (λ (o : Ordering). ordering_then o (slice_cmp nat_cmp xs ys))
     (sym (digits_cmp (256 ^ n) (byte_at n a) (a % 256 ^ n) (byte_at n b) (b % 256 ^ n) (below n a) (below n b)) ∙ rw (sym (split n a), sym (split n b)) refl)
 
-eight : (a b : ℕ) (xs ys : List ℕ) → a < 2 ^ 63 → b < 2 ^ 63 → slice_cmp nat_cmp (big_bytes 8 a ++ xs) (big_bytes 8 b ++ ys) ≡ ordering_then (nat_cmp a b) (slice_cmp nat_cmp xs ys)
+eight : (a b : ℕ) (xs ys : List ℕ) → a < 2 ^ 63 → b < 2 ^ 63
+    → slice_cmp nat_cmp (big_bytes 8 a ++ xs) (big_bytes 8 b ++ ys) ≡ ordering_then (nat_cmp a b) (slice_cmp nat_cmp xs ys)
 eight a b xs ys low high =
     bytes_cmp 8 a b xs ys
     ∙ ap (λ (n : ℕ). ordering_then (nat_cmp n (b % 256 ^ 8)) (slice_cmp nat_cmp xs ys)) (mod-eq_of_lt (omega arith))
@@ -74,6 +78,8 @@ ends_cmp false false = refl
 pub spellings_cmp : (a b : RevisionKey) → IsSpelled a → IsSpelled b → key_cmp (spelling a) (spelling b) ≡ numbers_cmp a b
 unfolding spelling
 spellings_cmp a b (main, sub) (main2, sub2) =
-    eight a.main b.main (0x5F ∷ (big_bytes 8 a.sub ++ (if a.deleted then 0x74 ∷ [] else []))) (0x5F ∷ (big_bytes 8 b.sub ++ (if b.deleted then 0x74 ∷ [] else []))) main main2
+    eight a.main b.main (0x5F ∷ (big_bytes 8 a.sub ++ (if a.deleted then 0x74 ∷ [] else [])))
+    (0x5F ∷ (big_bytes 8 b.sub ++ (if b.deleted then 0x74 ∷ [] else []))) main main2
     ∙ ap (ordering_then (nat_cmp a.main b.main))
-    (eight a.sub b.sub (if a.deleted then 0x74 ∷ [] else []) (if b.deleted then 0x74 ∷ [] else []) sub sub2 ∙ ap (ordering_then (nat_cmp a.sub b.sub)) (ends_cmp a.deleted b.deleted))
+    (eight a.sub b.sub (if a.deleted then 0x74 ∷ [] else []) (if b.deleted then 0x74 ∷ [] else []) sub sub2
+    ∙ ap (ordering_then (nat_cmp a.sub b.sub)) (ends_cmp a.deleted b.deleted))

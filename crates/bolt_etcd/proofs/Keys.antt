@@ -1,11 +1,14 @@
 -- How revision keys are spelled: what is spelled is read, and what is read is spelled so.
-use Rattle.std.proofs.Common.{◌≡◌, ◌∙◌, ◌<◌, ◌≤◌, ◌^◌, ◌+◌, ℕ, Bool, true, false, List, [], ◌∷◌, ◌++◌, Some, None, drop, take, length, slice_index, nat_lt, lit<, refl, sym, ap, subst, arith, ◌==◌, ◌&&◌, if◌then◌else◌}
+use Rattle.std.proofs.Common.{◌≡◌, ◌∙◌, ◌<◌, ◌≤◌, ◌^◌, ◌+◌, ℕ, Bool, true, false, List, [], ◌∷◌, ◌++◌, Some, None, drop, take, length, slice_index}
+use Rattle.std.proofs.Common.{nat_lt, lit<, refl, sym, ap, subst, arith, ◌==◌, ◌&&◌, if◌then◌else◌}
 use Rattle.std.proofs.lemmas.Bool.{and_from, and_parts, cases_lt, cond-true, eq-eqb, eqb-true, lt-ltb, ltb-true}
-use Rattle.std.proofs.lemmas.List.{drop-drop, drop_all, drop_at, drop_more, get_or-drop, get_or-take, get_or_at, get_or_past, length-append, length-drop, length-take-le, take-append-drop}
+use Rattle.std.proofs.lemmas.List.{drop-drop, drop_all, drop_at, drop_more, get_or-drop, get_or-take, get_or_at, get_or_past, length-append}
+use Rattle.std.proofs.lemmas.List.{length-drop, length-take-le, take-append-drop}
 use Rattle.std.proofs.{lemmas.Nat.be_bytes_8, lemmas.Option.cond_some}
 use Rattle.byteorder.specs.{Endian.big_bytes, Endian.big_number, Numbers.big_number-reads_back, Numbers.length-bytes_high_first}
 use Rattle.bolt_format.specs.Bytes.{IsBytes}
-use Rattle.bolt_etcd.specs.{RevisionKeys.IsSpelled, RevisionKeys.numbers, RevisionKeys.revision_key, RevisionKeys.spelling, declared.revision_key.RevisionKey.RevisionKey}
+use Rattle.bolt_etcd.specs.{Wire.RevisionKeys.IsSpelled, Wire.RevisionKeys.numbers, Wire.RevisionKeys.revision_key, Wire.RevisionKeys.spelling}
+use Rattle.bolt_etcd.specs.{declared.wire.revision_key.RevisionKey.RevisionKey}
 
 -- ---- what is spelled is read
 
@@ -56,7 +59,8 @@ record Parts (bytes : List ℕ) (k : RevisionKey) : Type 0 where
 parts_of : (bytes : List ℕ) (deleted : Bool) (k : RevisionKey) → numbers bytes deleted ≡ Some k → Parts bytes k × (deleted ≡ k.deleted)
 parts_of bytes deleted k is =
     let (test, same) = cond_some _ _ k is in
-    let (front, high) = and_parts ((slice_index bytes 8 == 0x5F) && nat_lt (big_number 8 bytes) (2 ^ 63)) (nat_lt (big_number 8 (drop 9 bytes)) (2 ^ 63)) test in
+    let (front, high) =
+    and_parts ((slice_index bytes 8 == 0x5F) && nat_lt (big_number 8 bytes) (2 ^ 63)) (nat_lt (big_number 8 (drop 9 bytes)) (2 ^ 63)) test in
     let (mark, low) = and_parts (slice_index bytes 8 == 0x5F) (nat_lt (big_number 8 bytes) (2 ^ 63)) front in
     let main = ap (λ (x : RevisionKey). x.main) same in
     let sub = ap (λ (x : RevisionKey). x.sub) same in (
@@ -104,7 +108,8 @@ pub read_spelled : (bytes : List ℕ) (k : RevisionKey) → IsBytes bytes → re
 unfolding IsReadAs revision_key
 read_spelled bytes k h is = by_tests bytes k _ _ h refl refl is
 
-bounded : (bytes : List ℕ) (k : RevisionKey) (plain deleted : Bool) → (if plain then numbers bytes false else if deleted then numbers bytes true else None) ≡ Some k → IsSpelled k
+bounded : (bytes : List ℕ) (k : RevisionKey) (plain deleted : Bool)
+    → (if plain then numbers bytes false else if deleted then numbers bytes true else None) ≡ Some k → IsSpelled k
 bounded bytes k true deleted is = let (p, flag) = parts_of bytes false k is in p.spelled
 bounded bytes k false true is = let (p, flag) = parts_of bytes true k is in p.spelled
 bounded bytes k false false is = cc

@@ -1,12 +1,13 @@
 -- Which leases a bucket has: a look-up of a lease says whether it has it.
 use Rattle.std.proofs.Common.{arith, ◌≡◌, ◌&&◌, ◌==◌, ℕ, Bool, List, not, Option, Some, None, sym, ap}
-use Rattle.std.proofs.{Math.Logic.∥∥₁_elim, Props.props, lemmas.Bool.and_from, lemmas.Bool.and_parts, lemmas.Bool.false_from_ne_true, lemmas.Bool.not-true}
+use Rattle.std.proofs.{Math.Logic.∥∥₁_elim, Props.props, lemmas.Bool.and_from, lemmas.Bool.and_parts, lemmas.Bool.false_from_ne_true}
+use Rattle.std.proofs.{lemmas.Bool.not-true}
 use Rattle.std.proofs.lemmas.List.Folds.{Any-from_list_any, list_any-from_Any}
 use Rattle.std.specs.{Cmp.Lexicographic.same_text, Int.to_be_bytes, Int.w64, Option.is_some, Option.option_map, Str.bytes_eq}
 use Rattle.bolt_check.specs.declared.checked.Checked.{Checked}
 use Rattle.bolt_format.specs.Elements.{LeafElement}
 use Rattle.bolt_tree.specs.{BucketViews.entries_of, Entries.AreEntries, Entries.Start, Lookups.IsValueAt, declared.bucket.Bucket.Bucket}
-use Rattle.bolt_etcd.specs.{FaultsLeft.ForGranted, NameFaults.has_lease, NameFaults.is_lease}
+use Rattle.bolt_etcd.specs.{Check.ForNames.ForGranted, Check.NameFaults.has_lease, Check.NameFaults.is_lease}
 use Rattle.bolt_etcd.proofs.StoreLemmas.{itself}
 
 -- ---- a look-up
@@ -27,13 +28,15 @@ module _ (checked : Checked) (start : Start) (entries : List LeafElement) (lease
       cc)
 
   -- a revision with this lease lacks it if the look-up finds nothing
-  pub lacks : {X : Type 0} (f : X → List ℕ) (o : Option X) (none : Bool) (asked : List ℕ) → (lease ≡ 0 → ⊥) → asked ≡ key → IsValueAt (entries_of checked) start asked (option_map f o)
+  pub lacks : {X : Type 0} (f : X → List ℕ) (o : Option X) (none : Bool) (asked : List ℕ) → (lease ≡ 0 → ⊥) → asked ≡ key
+      → IsValueAt (entries_of checked) start asked (option_map f o)
       → is_some o ≡ not none → none ≡ (not (lease == 0) && not (has_lease entries lease))
   lacks f o none asked more is found told =
       grind (arith, looked_up (option_map f o) (rw is at found))
 
 -- ---- for whatever leases there are
 
-pub granted_with : (leases : Option Bucket) (P Q R : (ℕ → Bool) → Type 0) → ForGranted leases P → ForGranted leases Q → ((granted : ℕ → Bool) → P granted → Q granted → R granted) → ForGranted leases R
+pub granted_with : (leases : Option Bucket) (P Q R : (ℕ → Bool) → Type 0) → ForGranted leases P → ForGranted leases Q
+    → ((granted : ℕ → Bool) → P granted → Q granted → R granted) → ForGranted leases R
 granted_with None P Q R p q both = both _ p q
 granted_with (Some leases) P Q R p q both = λ entries are. both _ (p entries are) (q entries are)

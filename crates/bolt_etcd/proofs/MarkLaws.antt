@@ -1,8 +1,9 @@
 -- A mark is a record without fields, and no revision.
 use Rattle.std.proofs.Common.{arith, ◌≡◌, ◌∙◌, ℕ, true, List, [], ◌==◌, length, not, Option, Some, None, refl, ap}
 use Rattle.std.proofs.{lemmas.Bool.and_parts, lemmas.Bool.cond-true, lemmas.Bool.eqb-true, lemmas.Bool.not-true, lemmas.List.nil_from_length}
-use Rattle.bolt_etcd.specs.{Numbered.numbered_in, Others.other_at, Others.other_by, Records.empty, Records.record_of, RevisionKeys.revision_key, RevisionMarks.is_mark}
-use Rattle.bolt_etcd.specs.{Revisions.revision_in, declared.revision_key.RevisionKey.RevisionKey}
+use Rattle.bolt_etcd.specs.{Wire.Numbered.numbered_in, Wire.Others.other_at, Wire.Others.other_by, Wire.Records.empty, Wire.Records.record_of}
+use Rattle.bolt_etcd.specs.{Wire.RevisionKeys.revision_key, Wire.RevisionKeys.is_mark}
+use Rattle.bolt_etcd.specs.{Wire.Revisions.revision_in, declared.wire.revision_key.RevisionKey.RevisionKey}
 
 no_fields : record_of [] ≡ Some empty
 unfolding record_of

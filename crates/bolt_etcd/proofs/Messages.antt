@@ -1,14 +1,16 @@
 -- A message is its first field and the message after it, however its length is counted.
-use Rattle.std.proofs.Common.{◌≡◌, ℕ, zero, suc, ◌<◌, ◌≤◌, ◌/◌, ◌%◌, ◌==◌, nat_lt, Bool, true, false, List, [], ◌∷◌, Some, None, length, refl, arith, if◌then◌else◌}
+use Rattle.std.proofs.Common.{◌≡◌, ℕ, zero, suc, ◌<◌, ◌≤◌, ◌/◌, ◌%◌, ◌==◌, nat_lt, Bool, true, false, List, [], ◌∷◌, Some, None, length, refl, arith}
+use Rattle.std.proofs.Common.{if◌then◌else◌}
 use Rattle.std.proofs.lemmas.List.{length-drop}
-use Rattle.bolt_etcd.specs.Wire.{◌>>=◌, Field, Read, field, field_and_later, fields, fields_up_to, first, value, varint, varint_within}
+use Rattle.bolt_etcd.specs.Wire.Fields.{◌>>=◌, Field, Read, field, field_and_later, fields, fields_up_to, first, value, varint, varint_within}
 
 -- fewer than n bytes are left
 abbrev Leaves : {A : Type 0} → ℕ → Read A → Type 0
 Leaves n None = Unit {0}
 Leaves n (Some x) = length x.1 < n
 
-leaves_then : {A B : Type 0} (n : ℕ) (r : Read A) (f : A × List ℕ → Read B) → Leaves n r → ((x : A × List ℕ) → length x.1 < n → Leaves n (f x)) → Leaves n (r >>= f)
+leaves_then : {A B : Type 0} (n : ℕ) (r : Read A) (f : A × List ℕ → Read B) → Leaves n r → ((x : A × List ℕ) → length x.1 < n → Leaves n (f x))
+    → Leaves n (r >>= f)
 leaves_then n None f w h = tt
 leaves_then n (Some x) f w h = h x w
 
@@ -46,9 +48,11 @@ field_leaves : (bytes : List ℕ) → Leaves (length bytes) (field bytes)
 unfolding field
 field_leaves bytes =
     leaves_then (length bytes) (varint bytes) _ (varint_leaves (length bytes) bytes (omega arith))
-    (λ x lt. leaves_if (length bytes) (x.0 / 8 == 0) _ _ tt (leaves_then (length bytes) (value (x.0 % 8) x.1) _ (value_leaves (length bytes) (x.0 % 8) x.1 lt) (λ y h. h)))
+    (λ x lt. leaves_if (length bytes) (x.0 / 8 == 0) _ _ tt
+    (leaves_then (length bytes) (value (x.0 % 8) x.1) _ (value_leaves (length bytes) (x.0 % 8) x.1 lt) (λ y h. h)))
 
-with_rest : (n m : ℕ) (r : Read Field) (limit : ℕ) → Leaves limit r → ((rest : List ℕ) → length rest < limit → fields_up_to n rest ≡ fields_up_to m rest)
+with_rest : (n m : ℕ) (r : Read Field) (limit : ℕ) → Leaves limit r
+    → ((rest : List ℕ) → length rest < limit → fields_up_to n rest ≡ fields_up_to m rest)
     → (r >>= λ f. fields_up_to n f.1 >>= λ later. Some (f.0 ∷ later)) ≡ (r >>= λ f. fields_up_to m f.1 >>= λ later. Some (f.0 ∷ later))
 with_rest n m None limit w h = refl
 with_rest n m (Some f) limit w h = rw (h f.1 w) refl
@@ -70,4 +74,5 @@ first_and_later (b ∷ bytes) lt = rest_alone (field (b ∷ bytes)) (field_leave
     rest_alone : (r : Read Field) → Leaves (length (b ∷ bytes)) r
         → (r >>= λ f. fields_up_to (length bytes) f.1 >>= λ later. Some (f.0 ∷ later)) ≡ (r >>= λ f. fields f.1 >>= λ later. Some (f.0 ∷ later))
     rest_alone None w = refl
-    rest_alone (Some f) w = let e : fields_up_to (length bytes) f.1 ≡ fields f.1 = enough (length bytes) (length f.1) f.1 (omega arith) (omega arith) in rw e refl
+    rest_alone (Some f) w =
+        let e : fields_up_to (length bytes) f.1 ≡ fields f.1 = enough (length bytes) (length f.1) f.1 (omega arith) (omega arith) in rw e refl

@@ -1,13 +1,15 @@
 -- The missing numbers tell exactly the transactions that are missing.
-use Rattle.std.proofs.Common.{◌≡◌, ◌<◌, ◌≤◌, ◌+◌, ◌-◌, ◌⊎◌, ◌↔◌, inl, inr, ℕ, Bool, true, false, List, [], ◌∷◌, ◌++◌, cond, filter, map, max, nat_lt, ◌==◌, Some, None, refl, sym, arith}
+use Rattle.std.proofs.Common.{◌≡◌, ◌<◌, ◌≤◌, ◌+◌, ◌-◌, ◌⊎◌, ◌↔◌, inl, inr, ℕ, Bool, true, false, List, [], ◌∷◌, ◌++◌, cond, filter, map, max, nat_lt}
+use Rattle.std.proofs.Common.{◌==◌, Some, None, refl, sym, arith}
 use Rattle.std.proofs.lemmas.Bool.{cases_order, eqb-true, lt-ltb, ltb-false, ltb-true}
 use Rattle.std.specs.{List.Contains, Option.option_to_list, declared.cmp.Ordering.TheVariants.Less}
 use Rattle.bolt_tree.proofs.Exports.{contains_cases, contains_head, contains_none, contains_tail, filter_rises, kept, kept_from}
 use Rattle.bolt_tree.specs.Order.{Rises}
-use Rattle.bolt_etcd.specs.{Revisions.RevisionView, RevisionKeys.numbers_cmp, Told.HasNoneOf, Told.IsMissing, Told.IsTold, Told.number_cmp}
-use Rattle.bolt_etcd.specs.MissingNumbers.{is_of_later, missing_after, missing_before, missing_numbers, revisions_between, transactions_between}
-use Rattle.bolt_etcd.specs.{declared.missing.Missing.Missing, declared.revision_key.RevisionKey.RevisionKey}
-use Rattle.bolt_etcd.specs.declared.missing.Missing.TheVariants.{Revisions, Transactions}
+use Rattle.bolt_etcd.specs.{Wire.Revisions.RevisionView, Wire.RevisionKeys.numbers_cmp, Histories.Told.HasNoneOf, Histories.Told.IsMissing}
+use Rattle.bolt_etcd.specs.{Histories.Told.IsTold, Histories.Told.number_cmp}
+use Rattle.bolt_etcd.specs.Check.MissingNumbers.{is_of_later, missing_after, missing_before, missing_numbers, revisions_between, transactions_between}
+use Rattle.bolt_etcd.specs.{declared.check.missing.Missing.Missing, declared.wire.revision_key.RevisionKey.RevisionKey}
+use Rattle.bolt_etcd.specs.declared.check.missing.Missing.TheVariants.{Revisions, Transactions}
 
 -- ---- what one gap tells
 
@@ -33,7 +35,8 @@ told_transaction : (t before main : ℕ) (b : Bool) → nat_lt (before + 1) main
 told_transaction t before main b test = (λ told. grind (arith, ltb-true, ltb-false), λ h. grind (arith, ltb-true, ltb-false))
 
 told_before : (t main sub : ℕ) (k : RevisionKey) (b : Bool) → (k.main == main) ≡ b → main ≤ k.main
-    → IsTold t (cond b (option_to_list (revisions_between main sub k.sub)) (option_to_list (transactions_between main k.main) ++ option_to_list (revisions_between k.main 0 k.sub)))
+    → IsTold t (cond b (option_to_list (revisions_between main sub k.sub))
+    (option_to_list (transactions_between main k.main) ++ option_to_list (revisions_between k.main 0 k.sub)))
     ↔ ((main < t) × (t < k.main))
 told_before t main sub k true test le = grind (arith, no_revision, eqb-true)
 told_before t main sub k false test le = grind (arith, told_transaction, told_cases, no_revision, told_first)
@@ -51,7 +54,8 @@ abbrev IsGap : ℕ → List RevisionView → Type 0
 IsGap t rs = (later : RevisionView) × Contains rs later × (t < later.key.main) × HasNoneOf t rs
 
 gap_here : (t : ℕ) (r : RevisionView) (rs : List RevisionView) → Rises number_cmp (r ∷ rs) → t < r.key.main → IsGap t (r ∷ rs)
-gap_here t r rs rises lt = (r, contains_head r rs, lt, λ x has same. grind (arith, contains_cases r x rs has, λ (more : Contains rs x). main_le r.key x.key (rises.0 x more)))
+gap_here t r rs rises lt =
+    (r, contains_head r rs, lt, λ x has same. grind (arith, contains_cases r x rs has, λ (more : Contains rs x). main_le r.key x.key (rises.0 x more)))
 
 gap_later : (t : ℕ) (r : RevisionView) (rs : List RevisionView) → r.key.main < t → IsGap t rs → IsGap t (r ∷ rs)
 gap_later t r rs lt (later, there, before, none) =
@@ -76,7 +80,8 @@ told_exactly t main sub (r ∷ rs) rises from =
       λ (after, gap). elim (cases_order t r.key.main) [
         | inl e ↦ absurd (gap.3 r (contains_head r rs) (sym e))
         | inr (inl lt) ↦ told_first t (missing_before main sub r.key) (missing_after r.key.main (r.key.sub + 1) (keys rs)) (here.1 (after, lt))
-        | inr (inr gt) ↦ told_second t (missing_before main sub r.key) (missing_after r.key.main (r.key.sub + 1) (keys rs)) (rest.1 (gt, gap_rest t r rs gt gap))
+        | inr (inr gt) ↦
+            told_second t (missing_before main sub r.key) (missing_after r.key.main (r.key.sub + 1) (keys rs)) (rest.1 (gt, gap_rest t r rs gt gap))
       ],
     )
 
@@ -92,7 +97,8 @@ module _ (compacted : ℕ) (rs : List RevisionView) where
   pub later_is : (r : RevisionView) → Contains rs r → compacted < r.key.main → Contains above r
   later_is r has lt = kept (is_of_later compacted) rs r has (lt-ltb compacted r.key.main lt)
 
-pub missing_told : (compacted t : ℕ) (rs : List RevisionView) → Rises number_cmp rs → IsTold t (missing_numbers compacted rs) ↔ IsMissing compacted t rs
+pub missing_told : (compacted t : ℕ) (rs : List RevisionView) → Rises number_cmp rs
+    → IsTold t (missing_numbers compacted rs) ↔ IsMissing compacted t rs
 missing_told compacted t rs rises =
     let core =
     told_exactly t (max compacted 1) 0 (above compacted rs) (filter_rises number_cmp (is_of_later compacted) rs rises)

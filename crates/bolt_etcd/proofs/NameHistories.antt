@@ -1,16 +1,19 @@
 -- The revisions of one name in a history: each follows the one before it, and the last one is what the name holds.
-use Rattle.std.proofs.Common.{arith, ◌||◌, ◌≡◌, ◌∙◌, ◌+◌, ℕ, Bool, true, false, List, [], ◌∷◌, filter, Option, Some, None, inl, inr, refl, sym, ap, subst}
-use Rattle.std.proofs.{lemmas.Bool.and_from, lemmas.Bool.cases_Bool, lemmas.Bool.cond-false, lemmas.Bool.cond-true, lemmas.Bool.cond_both, lemmas.Bool.eq-eqb, lemmas.Bool.or_left, lemmas.Option.same_Some}
+use Rattle.std.proofs.Common.{arith, ◌||◌, ◌≡◌, ◌∙◌, ◌+◌, ℕ, Bool, true, false, List, [], ◌∷◌, filter, Option, Some, None, inl, inr, refl, sym, ap}
+use Rattle.std.proofs.Common.{subst}
+use Rattle.std.proofs.{lemmas.Bool.and_from, lemmas.Bool.cases_Bool, lemmas.Bool.cond-false, lemmas.Bool.cond-true, lemmas.Bool.cond_both}
+use Rattle.std.proofs.{lemmas.Bool.eq-eqb, lemmas.Bool.or_left, lemmas.Option.same_Some}
 use Rattle.std.specs.{List.last_or, Option.is_some, Cmp.Lexicographic.same_text}
 use Rattle.bolt_check.specs.Keys.{Key}
-use Rattle.bolt_etcd.specs.{Follows.creates, Follows.follows, Follows.is_next_of, Newest.is_named, Newest.newest, Revisions.RevisionView, Revisions.name_of}
-use Rattle.bolt_etcd.specs.Histories.{Delete, Put, State, after, after_all, held, nothing, revision_by}
+use Rattle.bolt_etcd.specs.{Check.Follows.creates, Check.Follows.follows, Check.Follows.is_next_of, Store.Newest.is_named, Store.Newest.newest}
+use Rattle.bolt_etcd.specs.{Wire.Revisions.RevisionView, Wire.Revisions.name_of}
+use Rattle.bolt_etcd.specs.Histories.Transactions.{Delete, Put, State, after, after_all, live_of, nothing, revision_by}
 use Rattle.bolt_etcd.proofs.HistorySteps.{Goes, IsWritten}
 
 -- what a name holds if this is its last revision
 abbrev pub held_of : Option RevisionView → Option RevisionView
 held_of None = None
-held_of (Some r) = held r
+held_of (Some r) = live_of r
 
 pub held_parts : (o : Option RevisionView) (r : RevisionView) → held_of o ≡ Some r → (o ≡ Some r) × (r.key.deleted ≡ false)
 held_parts None r e = cc
@@ -53,7 +56,7 @@ module _ (name : Key) where
 
   -- ---- what it holds after a revision
 
-  after_own : (state : State) (r : RevisionView) → is_named name r ≡ true → after r state name ≡ held r
+  after_own : (state : State) (r : RevisionView) → is_named name r ≡ true → after r state name ≡ live_of r
   after_own state r own = cond-true (is_named name r) _ _ own
 
   after_other : (state : State) (r : RevisionView) → is_named name r ≡ false → after r state name ≡ state name

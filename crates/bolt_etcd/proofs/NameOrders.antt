@@ -1,12 +1,13 @@
 -- The order of names by their sums tells names apart.
 use Rattle.std.proofs.Common.{◌≡◌, ℕ, List, arith}
-use Rattle.std.proofs.{lemmas.Bool.Decides.same_from_decides, lemmas.Cmp.nat_cmp_total, lemmas.Cmp.nat_list_cmp_total, lemmas.Cmp.on_total, lemmas.Cmp.then_total, lemmas.Cmp.tied_itself}
+use Rattle.std.proofs.{lemmas.Bool.Decides.same_from_decides, lemmas.Cmp.nat_cmp_total, lemmas.Cmp.nat_list_cmp_total, lemmas.Cmp.on_total}
+use Rattle.std.proofs.{lemmas.Cmp.then_total, lemmas.Cmp.tied_itself}
 use Rattle.std.proofs.lemmas.Slice.Eq.{bytes_eq-Decides}
 use Rattle.std.specs.{Cmp.IsTotalOrder, Ordering.is_eq, Ordering.ordering_then, Str.bytes_eq, declared.cmp.Ordering.Ordering}
 use Rattle.std.specs.declared.cmp.Ordering.TheVariants.{Equal}
 use Rattle.bolt_check.specs.Keys.{key_cmp}
 use Rattle.bolt_tree.proofs.Exports.{key_exact}
-use Rattle.bolt_etcd.specs.NameOrder.{name_sum, sums_cmp}
+use Rattle.bolt_etcd.specs.Store.NameOrder.{name_sum, sums_cmp}
 
 pub sums_total : IsTotalOrder sums_cmp
 sums_total = then_total (on_total name_sum nat_cmp_total) nat_list_cmp_total

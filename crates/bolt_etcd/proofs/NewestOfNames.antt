@@ -1,14 +1,18 @@
 -- Of a list that rises by keys, the last of each name is the first of its name in the list sorted by names, the later keys first.
 use Rattle.std.proofs.Common.{◌≡◌, ◌∙◌, inl, inr, ℕ, Bool, true, false, List, [], ◌∷◌, filter, Option, Some, None, refl, sym, ap, subst, arith}
 use Rattle.std.proofs.lemmas.Cmp.{back_total, nat_list_cmp_total, nat_list_eq_equiv, on_equiv, on_total, then_total, tied_itself}
-use Rattle.std.proofs.{lemmas.Bool.cond_both, lemmas.List.Kept.Any-dedup, lemmas.List.Kept.Contains-from_dedup, lemmas.List.Kept.IsStrictlySortedBy-dedup, lemmas.List.MinMax.ranks_by}
+use Rattle.std.proofs.{lemmas.Bool.cond_both, lemmas.List.Kept.Any-dedup, lemmas.List.Kept.Contains-from_dedup}
+use Rattle.std.proofs.{lemmas.List.Kept.IsStrictlySortedBy-dedup, lemmas.List.MinMax.ranks_by}
 use Rattle.std.proofs.{lemmas.List.Sorted.Contains-permutation, lemmas.List.Sorted.IsPermutation-sym, lemmas.Map.Text.is_eq-slice_cmp}
 use Rattle.std.specs.{Cmp.IsEquivalence, Cmp.IsStrictWeakOrder, Cmp.IsTotalOrder, List.Contains, List.dedup, List.dedup_from, List.last_or}
-use Rattle.std.specs.{List.Sorted.IsPermutation, List.Sorted.IsSorted, List.Sorted.IsSortedBy, List.Sorted.IsStrictlySortedBy, Cmp.Lexicographic.same_text}
-use Rattle.std.specs.{Ordering.eq_by_cmp, Ordering.is_eq, Ordering.is_lt, Ordering.ordering_reverse, Ordering.ordering_then, Str.bytes_eq, declared.cmp.Ordering.Ordering}
+use Rattle.std.specs.{List.Sorted.IsPermutation, List.Sorted.IsSorted, List.Sorted.IsSortedBy, List.Sorted.IsStrictlySortedBy}
+use Rattle.std.specs.{Cmp.Lexicographic.same_text}
+use Rattle.std.specs.{Ordering.eq_by_cmp, Ordering.is_eq, Ordering.is_lt, Ordering.ordering_reverse, Ordering.ordering_then, Str.bytes_eq}
+use Rattle.std.specs.{declared.cmp.Ordering.Ordering}
 use Rattle.std.specs.declared.cmp.Ordering.TheVariants.{Less}
 use Rattle.bolt_check.specs.Keys.{key_cmp}
-use Rattle.bolt_tree.proofs.Exports.{Climbs, contains_cases, contains_head, contains_none, contains_tail, filter_rises, kept, kept_from, key_exact, one_of}
+use Rattle.bolt_tree.proofs.Exports.{Climbs, contains_cases, contains_head, contains_none, contains_tail, filter_rises, kept, kept_from, key_exact}
+use Rattle.bolt_tree.proofs.Exports.{one_of}
 use Rattle.bolt_tree.specs.Order.{Rises}
 use Rattle.bolt_check.proofs.Exports.{neither}
 use Rattle.bolt_etcd.proofs.{LastOnes.last_after, LastOnes.last_in, LastOnes.last_there, SortedOnce.rises_from, SortedOnce.sorted_climbs}
@@ -19,7 +23,8 @@ first_less a b e = grind arith
 pub text_ties : (a b : List ℕ) → bytes_eq a b ≡ is_eq (key_cmp a b)
 text_ties a b = sym (is_eq-slice_cmp a b)
 
-module _ {X : Type 0} (name key : X → List ℕ) (cmp : List ℕ → List ℕ → Ordering) (total : IsTotalOrder cmp) (ties : (a b : List ℕ) → bytes_eq a b ≡ is_eq (cmp a b)) where
+module _ {X : Type 0} (name key : X → List ℕ) (cmp : List ℕ → List ℕ → Ordering) (total : IsTotalOrder cmp)
+    (ties : (a b : List ℕ) → bytes_eq a b ≡ is_eq (cmp a b)) where
   abbrev pub by_key : X → X → Ordering
   by_key a b = key_cmp (key a) (key b)
 
@@ -95,7 +100,8 @@ module _ {X : Type 0} (name key : X → List ℕ) (cmp : List ℕ → List ℕ �
   led_by_itself : (x : X) (xs : List X) (y : X) → x ≡ y → IsLed (x ∷ xs) y
   led_by_itself x xs y is = (x, contains_head x xs, ap name is, rw is (ap is_lt (tied_itself newest_total y)))
 
-  led : (k : X) (zs : List X) → Climbs (λ a b. is_lt (newest_first a b)) (k ∷ zs) → (y : X) → Contains (k ∷ zs) y → IsLed (dedup_from same_name k zs) y
+  led : (k : X) (zs : List X) → Climbs (λ a b. is_lt (newest_first a b)) (k ∷ zs) → (y : X) → Contains (k ∷ zs) y
+      → IsLed (dedup_from same_name k zs) y
   led k [] climbs y has = led_by_itself k [] y (elim (contains_cases k y [] has) [ inl is ↦ is | inr none ↦ absurd (contains_none y none) ])
   led k (z ∷ zs) climbs y has =
       cond_both (same_name z k) _ _ (λ kept. IsLed kept y)
@@ -128,7 +134,8 @@ module _ {X : Type 0} (name key : X → List ℕ) (cmp : List ℕ → List ℕ �
   pub names_rise : (ys : List X) → IsSortedBy (λ a b. is_lt (newest_first a b)) ys → IsStrictlySortedBy by_name (dedup same_name ys)
   names_rise ys up = IsStrictlySortedBy-dedup names_total names_ties ys (by_names ys up)
 
-  kept_first : (ys : List X) (x : X) → IsSortedBy (λ a b. is_lt (newest_first a b)) ys → Contains (dedup same_name ys) x → (y : X) → Contains ys y → name y ≡ name x
+  kept_first : (ys : List X) (x : X) → IsSortedBy (λ a b. is_lt (newest_first a b)) ys → Contains (dedup same_name ys) x → (y : X) → Contains ys y
+      → name y ≡ name x
       → is_lt (newest_first y x) ≡ false
   kept_first [] x up has y other named = absurd (contains_none x has)
   kept_first (k ∷ zs) x up has y other named =
@@ -145,7 +152,8 @@ module _ {X : Type 0} (name key : X → List ℕ) (cmp : List ℕ → List ℕ �
   abbrev pub is_named : X → X → Bool
   is_named x y = same_name y x
 
-  module _ (xs ys : List X) (once : (a b : X) → Contains xs a → Contains xs b → key a ≡ key b → a ≡ b) (moved : IsPermutation xs ys) (up : IsSortedBy (λ a b. is_lt (newest_first a b)) ys) where
+  module _ (xs ys : List X) (once : (a b : X) → Contains xs a → Contains xs b → key a ≡ key b → a ≡ b) (moved : IsPermutation xs ys)
+      (up : IsSortedBy (λ a b. is_lt (newest_first a b)) ys) where
     pub kept_greatest : (x : X) → Contains (dedup same_name ys) x → IsGreatest (is_named x) xs x
     kept_greatest x has = record {
       has = Contains-permutation ys xs x (IsPermutation-sym xs ys moved) (Contains-from_dedup same_name ys x has);
@@ -161,4 +169,6 @@ module _ {X : Type 0} (name key : X → List ℕ) (cmp : List ℕ → List ℕ �
         let kept : Contains (dedup same_name ys) w = (k, lt, at) in
         let h = kept_greatest w kept in
         let named = same_text (name x) (name w) (sym same) in
-        subst (Contains (dedup same_name ys)) (once w x h.has g.has (same_key w x (h.greatest x g.has same) (g.greatest w h.has (subst (λ (n : List ℕ). bytes_eq n (name x) ≡ true) named g.passes)))) kept
+        subst (Contains (dedup same_name ys))
+        (once w x h.has g.has
+        (same_key w x (h.greatest x g.has same) (g.greatest w h.has (subst (λ (n : List ℕ). bytes_eq n (name x) ≡ true) named g.passes)))) kept

@@ -3,13 +3,15 @@ use Rattle.std.proofs.Common.{◌≡◌, ◌↔◌, Bool, true, ℕ, List, [], f
 use Rattle.std.proofs.lemmas.List.Sorted.{IsPermutation-map, IsPermutation-trans}
 use Rattle.std.specs.{List.Sorted.IsPermutation}
 use Rattle.bolt_tree.specs.{declared.bucket.Bucket.Bucket, Order.Rises}
-use Rattle.bolt_etcd.specs.{CheckLines.name_fault_lines, Current.stored_key_cmp, FaultsLeft.ForGranted, NameFaults.AreByName, NameFaults.name_faults}
-use Rattle.bolt_etcd.specs.{Revisions.RevisionView, ShownRevisions.shown_revision, StoreFaults.name_lines, SumOrder.AreBySum}
-use Rattle.bolt_etcd.specs.declared.revision.Revision.{Revision}
+use Rattle.bolt_etcd.specs.{Check.CheckLines.name_fault_lines, Store.Current.stored_key_cmp, Check.ForNames.ForGranted, Check.NameFaults.AreByName}
+use Rattle.bolt_etcd.specs.{Check.NameFaults.name_faults}
+use Rattle.bolt_etcd.specs.{Wire.Revisions.RevisionView, Wire.ShownRevisions.shown_revision, Check.StoreFaults.name_lines, Store.SumOrder.AreBySum}
+use Rattle.bolt_etcd.specs.declared.wire.revision.Revision.{Revision}
 use Rattle.bolt_etcd.proofs.{FaultsOfNames.none_by_name, StoreLemmas.granted_map}
 
 -- nor has a store lines of its names
-pub none_lines : (rs : List RevisionView) (slice by_sum : List Revision) (compacted : Option ℕ) (leases : Option Bucket) (b : Bool) → Rises stored_key_cmp rs
+pub none_lines : (rs : List RevisionView) (slice by_sum : List Revision) (compacted : Option ℕ) (leases : Option Bucket) (b : Bool)
+    → Rises stored_key_cmp rs
     → AreBySum rs (map shown_revision by_sum) → slice ≡ by_sum → b ≡ true
     → ForGranted leases (λ granted. (b ≡ true) ↔ (name_faults compacted granted None (map shown_revision slice) ≡ []))
     → ForGranted leases (λ granted. (by_name : List RevisionView) → AreByName rs by_name → name_lines compacted granted by_name ≡ [])
@@ -21,7 +23,8 @@ none_lines rs slice by_sum compacted leases b rises sums same whole none =
     ap (flat_map name_fault_lines) (none_by_name compacted granted rs (map shown_revision by_sum) by_name rises sums is empty)) none
 
 -- sorted by sums and then by name
-pub by_name_after : (rs by_name : List RevisionView) (by_sum rough : List Revision) → AreBySum rs (map shown_revision by_sum) → IsPermutation by_sum rough
+pub by_name_after : (rs by_name : List RevisionView) (by_sum rough : List Revision) → AreBySum rs (map shown_revision by_sum)
+    → IsPermutation by_sum rough
     → AreByName (map shown_revision rough) by_name → AreByName rs by_name
 by_name_after rs by_name by_sum rough sums moved names = record {
   same = IsPermutation-trans _ _ _ sums.same (IsPermutation-trans _ _ _ (IsPermutation-map shown_revision by_sum rough moved) names.same);

@@ -7,14 +7,21 @@ use Rattle.bolt_check.specs.Keys.{Key}
 use Rattle.bolt_format.specs.Elements.{LeafElement}
 use Rattle.bolt_tree.proofs.Exports.{filter_none, filter_same, contains_head, contains_tail, filter_both, filter_rises, kept_from}
 use Rattle.bolt_tree.specs.{Entries.EntryView, Entries.entry_view, Order.Rises}
-use Rattle.bolt_etcd.specs.{CheckLines.name_fault_lines, Compactions.IsCompaction, Compactions.kept_revisions, Current.stored_key_cmp}
-use Rattle.bolt_etcd.specs.{Histories.Delete, Histories.Put, Histories.State, Histories.Transaction, Histories.history, Histories.nothing, Misplaced.is_misplaced, Misplaced.misplaced}
-use Rattle.bolt_etcd.specs.{MissingNumbers.is_of_later, MissingNumbers.keys_above, MissingNumbers.missing_after, MissingNumbers.missing_numbers, NameFaults.name_faults, Numbered.numbered, Numbered.numbered_of}
-use Rattle.bolt_etcd.specs.{Others.OtherView, Others.others_of, Revisions.RevisionView, Revisions.revision_of, Possible.ArePossible, StoreBuckets.StoreView, Stores.revisions}
-use Rattle.bolt_etcd.specs.WholeStores.{GrantsLeases, HoldsExactly}
-use Rattle.bolt_etcd.specs.StoreFaults.{missing_bucket_lines, bucket_names, entry_lines, key_lines, line_without, name_lines, store_granted, store_lines}
+use Rattle.bolt_etcd.specs.{Check.CheckLines.name_fault_lines, Histories.Compactions.IsCompaction, Histories.Compactions.kept_revisions}
+use Rattle.bolt_etcd.specs.{Store.Current.stored_key_cmp}
+use Rattle.bolt_etcd.specs.{Histories.Transactions.Delete, Histories.Transactions.Put, Histories.Transactions.State}
+use Rattle.bolt_etcd.specs.{Histories.Transactions.Transaction, Histories.Transactions.history, Histories.Transactions.nothing}
+use Rattle.bolt_etcd.specs.{Check.Misplaced.is_misplaced, Check.Misplaced.misplaced}
+use Rattle.bolt_etcd.specs.{Check.MissingNumbers.is_of_later, Check.MissingNumbers.keys_above, Check.MissingNumbers.missing_after}
+use Rattle.bolt_etcd.specs.{Check.MissingNumbers.missing_numbers, Check.NameFaults.name_faults, Wire.Numbered.numbered, Wire.Numbered.numbered_of}
+use Rattle.bolt_etcd.specs.{Wire.Others.OtherView, Wire.Others.others_of, Wire.Revisions.RevisionView, Wire.Revisions.revision_of}
+use Rattle.bolt_etcd.specs.{Histories.Possible.ArePossible, Store.StoreBuckets.StoreView, Store.Stores.revisions}
+use Rattle.bolt_etcd.specs.Histories.WholeStores.{GrantsLeases, HoldsExactly}
+use Rattle.bolt_etcd.specs.Check.StoreFaults.{missing_bucket_lines, bucket_names, entry_lines, key_lines, line_without, name_lines, store_granted}
+use Rattle.bolt_etcd.specs.Check.StoreFaults.{store_lines}
 use Rattle.bolt_etcd.proofs.{FaultsOfNames.faults_named, FaultsOfNames.none_of_any, HistoryNumbers.none_missing}
-use Rattle.bolt_etcd.proofs.{HistorySteps.IsWritten, HistorySteps.each, HistorySteps.goes, HistorySteps.stored_keys_rise, OtherCounts.is_numbered, OtherCounts.no_other, WholeNames.no_faults}
+use Rattle.bolt_etcd.proofs.{HistorySteps.IsWritten, HistorySteps.each, HistorySteps.goes, HistorySteps.stored_keys_rise, OtherCounts.is_numbered}
+use Rattle.bolt_etcd.proofs.{OtherCounts.no_other, WholeNames.no_faults}
 
 -- ---- buckets
 

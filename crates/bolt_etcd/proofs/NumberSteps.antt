@@ -1,7 +1,7 @@
 -- What the code has in its hands of an entry, if that has a number, and if it has none.
 use Rattle.std.proofs.Common.{◌≡◌, true, false, Option, Some, None, refl, sym, subst}
 use Rattle.std.specs.Option.{is_some, option_map}
-use Rattle.bolt_etcd.specs.{Revisions.RevisionView, declared.revision_key.RevisionKey.RevisionKey}
+use Rattle.bolt_etcd.specs.{Wire.Revisions.RevisionView, declared.wire.revision_key.RevisionKey.RevisionKey}
 
 abbrev key_of : RevisionView → RevisionKey
 key_of r = r.key

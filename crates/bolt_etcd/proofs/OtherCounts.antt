@@ -5,9 +5,10 @@ use Rattle.std.specs.{List.cons_option, Option.is_some, Option.option_to_list}
 use Rattle.bolt_check.specs.{Counts.counted, Keys.Key}
 use Rattle.bolt_format.specs.Elements.{LeafElement}
 use Rattle.bolt_tree.specs.Entries.{EntryView, entry_view}
-use Rattle.bolt_etcd.specs.{Numbered.numbered_of, Others.OtherView, Others.other_of, Others.others_of, Records.RecordView}
-use Rattle.bolt_etcd.specs.{Revisions.RevisionView, Revisions.record_content, Revisions.revision_of, Stores.others, Wire.◌>>=◌}
-use Rattle.bolt_etcd.specs.declared.revision_key.RevisionKey.{RevisionKey}
+use Rattle.bolt_etcd.specs.{Wire.Numbered.numbered_of, Wire.Others.OtherView, Wire.Others.other_of, Wire.Others.others_of, Wire.Records.RecordView}
+use Rattle.bolt_etcd.specs.{Wire.Revisions.RevisionView, Wire.Revisions.record_content, Wire.Revisions.revision_of, Store.Stores.others}
+use Rattle.bolt_etcd.specs.{Wire.Fields.◌>>=◌}
+use Rattle.bolt_etcd.specs.declared.wire.revision_key.RevisionKey.{RevisionKey}
 
 pub one_of_two : (e : EntryView) → is_some (other_of e) ≡ not (is_some (numbered_of e))
 unfolding other_of numbered_of
@@ -31,14 +32,16 @@ no_other e r is = none_of (other_of e) (one_of_two e ∙ ap (λ (o : Option Revi
 
 -- ---- how many there are
 
-step : (e : LeafElement) (o : Option OtherView) (xs : List OtherView) (es : List LeafElement) → length xs ≡ length es → length (cons_option o xs) ≡ length (cond (is_some o) (e ∷ es) es)
+step : (e : LeafElement) (o : Option OtherView) (xs : List OtherView) (es : List LeafElement) → length xs ≡ length es
+    → length (cons_option o xs) ≡ length (cond (is_some o) (e ∷ es) es)
 step e o xs es same = grind arith
 
 pub as_many : (entries : List LeafElement) → length (others_of entries) ≡ length (others entries)
 as_many [] = refl
 as_many (e ∷ entries) = step e (other_of (entry_view e)) (others_of entries) (others entries) (as_many entries)
 
-pub one_more : (e : LeafElement) (o : Option OtherView) (es : List LeafElement) → length (cond (is_some o) (e ∷ es) es) ≡ length (option_to_list o) + length es
+pub one_more : (e : LeafElement) (o : Option OtherView) (es : List LeafElement)
+    → length (cond (is_some o) (e ∷ es) es) ≡ length (option_to_list o) + length es
 one_more e o es = grind arith
 
 -- if none are counted, there are none

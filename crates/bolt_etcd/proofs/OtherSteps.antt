@@ -2,7 +2,7 @@
 use Rattle.std.proofs.Common.{◌≡◌, true, false, Option, Some, None, sym}
 use Rattle.std.specs.Option.{is_some, option_map}
 use Rattle.std.specs.Prelude.{IfSome}
-use Rattle.bolt_etcd.specs.{Others.OtherView, ShownOthers.shown_other, declared.other.Other.Other}
+use Rattle.bolt_etcd.specs.{Wire.Others.OtherView, Wire.Others.shown_other, declared.wire.other.Other.Other}
 
 pub none_other : (o : Option Other) (v : Option OtherView) → is_some o ≡ false → option_map shown_other o ≡ v → v ≡ None
 none_other None v none is = sym is

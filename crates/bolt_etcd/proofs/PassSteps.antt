@@ -3,8 +3,9 @@ use Rattle.std.proofs.Common.{◌≡◌, ◌∙◌, ◌<◌, ◌≤◌, List, []
 use Rattle.std.specs.List.{cons_option, filter_map}
 use Rattle.bolt_format.specs.Elements.{LeafElement}
 use Rattle.bolt_tree.specs.Entries.{EntryView, entry_view}
-use Rattle.bolt_etcd.specs.{Passes.ShowsFirst, RevisionsLeft.ForPass, RevisionsLeft.ahead_of, RevisionsLeft.number_ahead, RevisionsLeft.pass_checked, RevisionsLeft.pass_start}
-use Rattle.bolt_etcd.specs.declared.revisions.Revisions.{Revisions}
+use Rattle.bolt_etcd.specs.{Private.Passes.ShowsFirst, Store.RevisionsLeft.ForPass, Store.RevisionsLeft.ahead_of, Store.RevisionsLeft.number_ahead}
+use Rattle.bolt_etcd.specs.{Store.RevisionsLeft.pass_checked, Store.RevisionsLeft.pass_start}
+use Rattle.bolt_etcd.specs.declared.store.revisions.Revisions.{Revisions}
 use Rattle.bolt_etcd.proofs.RevisionSteps.{moved_to}
 
 module _ {X : Type 0} (shown_of : EntryView → Option X) where
@@ -18,13 +19,15 @@ module _ {X : Type 0} (shown_of : EntryView → Option X) where
     pub same : ForPass old (λ entries. all_shown (ahead_of old entries) ≡ all_shown (ahead_of here entries))
     pub behind : number_ahead here ≤ number_ahead old
 
-  module _ (old here next : Revisions) (x : Option EntryView) (goes : GoesBy old here) (checked : pass_checked next ≡ pass_checked here) (start : pass_start next ≡ pass_start here)
+  module _ (old here next : Revisions) (x : Option EntryView) (goes : GoesBy old here) (checked : pass_checked next ≡ pass_checked here)
+      (start : pass_start next ≡ pass_start here)
       (first : ForPass here (λ entries. ShowsFirst (ahead_of here entries) (ahead_of next entries) x)) where
     first_here : ForPass old (λ entries. ShowsFirst (ahead_of here entries) (ahead_of next entries) x)
     first_here = moved_to _ _ _ _ (λ entries. ShowsFirst (ahead_of here entries) (ahead_of next entries) x) goes.checked goes.start first
 
     -- one that shows something is the first of those that do
-    pub one_shown : (v : EntryView) (o : Option X) → x ≡ Some v → shown_of v ≡ o → ForPass old (λ entries. all_shown (ahead_of old entries) ≡ cons_option o (all_shown (ahead_of next entries)))
+    pub one_shown : (v : EntryView) (o : Option X) → x ≡ Some v → shown_of v ≡ o
+        → ForPass old (λ entries. all_shown (ahead_of old entries) ≡ cons_option o (all_shown (ahead_of next entries)))
     one_shown v o is found entries are = grind arith
 
     pub goes_by_one : (v : EntryView) → x ≡ Some v → shown_of v ≡ None → number_ahead next < number_ahead here → GoesBy old next

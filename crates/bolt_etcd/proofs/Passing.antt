@@ -5,13 +5,17 @@ use Rattle.std.specs.{List.cons_option, Option.is_some, Option.option_map, Optio
 use Rattle.bolt_check.specs.{CheckedFiles.bytes_of, CheckedFiles.meta_of, Keys.Key}
 use Rattle.bolt_format.specs.Elements.{LeafElement}
 use Rattle.bolt_tree.proofs.Exports.{comes_from, TakesFirst, next_takes, takes, tour_entries}
-use Rattle.bolt_tree.specs.{BucketViews.entries_of, Cursors.cursor_checked, Cursors.cursor_start, Entries.AreEntries, Entries.EntryView, Entries.entry_view}
-use Rattle.bolt_tree.specs.{EntriesLeft.entries_left, FileTrees.file_entries, Places.Past, Places.Place, Places.least_from, Places.next_move, Places.place_in, Places.seek_move}
+use Rattle.bolt_tree.specs.{BucketViews.entries_of, Cursors.cursor_checked, Cursors.cursor_start, Entries.AreEntries, Entries.EntryView}
+use Rattle.bolt_tree.specs.{Entries.entry_view}
+use Rattle.bolt_tree.specs.{EntriesLeft.entries_left, FileTrees.file_entries, Places.Past, Places.Place, Places.least_from, Places.next_move}
+use Rattle.bolt_tree.specs.{Places.place_in, Places.seek_move}
 use Rattle.bolt_tree.specs.{declared.cursor.Cursor.Cursor}
-use Rattle.bolt_etcd.specs.{Others.OtherView, Others.other_of, Passes.ShowsFirst, Revisions.RevisionView, Revisions.revision_of, Stores.entries_from, Stores.others, Stores.revisions}
+use Rattle.bolt_etcd.specs.{Wire.Others.OtherView, Wire.Others.other_of, Private.Passes.ShowsFirst, Wire.Revisions.RevisionView}
+use Rattle.bolt_etcd.specs.{Wire.Revisions.revision_of, Store.Stores.entries_from, Store.Stores.others, Store.Stores.revisions}
 use Rattle.bolt_etcd.proofs.OtherCounts.{no_other, one_more}
 
-shows : (old new : List LeafElement) (x : Option EntryView) (o : Option LeafElement) → x ≡ option_map entry_view o → TakesFirst old new o → (x ≡ None → new ≡ []) → ShowsFirst old new x
+shows : (old new : List LeafElement) (x : Option EntryView) (o : Option LeafElement) → x ≡ option_map entry_view o → TakesFirst old new o
+    → (x ≡ None → new ≡ []) → ShowsFirst old new x
 shows old new x o is taken none = grind (arith, same_Some)
 
 nothing_left : (entries : List LeafElement) (before after : Place) (x : Option EntryView) (o : Option LeafElement) → x ≡ option_map entry_view o
@@ -20,7 +24,8 @@ nothing_left entries before after x o is taken stays none = grind arith
 
 -- after `next`
 pub next_shows : (entries : List LeafElement) (before after : Place) (x : Option EntryView)
-    → (place_in entries after ≡ (next_move entries (place_in entries before)).place) × (x ≡ option_map entry_view (next_move entries (place_in entries before)).answer)
+    → (place_in entries after ≡ (next_move entries (place_in entries before)).place)
+    × (x ≡ option_map entry_view (next_move entries (place_in entries before)).answer)
     → (x ≡ None → after ≡ before) → ShowsFirst (entries_left entries before) (entries_left entries after) x
 next_shows entries before after x (p, a) stays =
     let taken = next_takes entries before after (next_move entries (place_in entries before)).answer (p, refl) in
@@ -50,22 +55,27 @@ passed : (o : Option RevisionView) (r : RevisionView) (rest : List RevisionView)
 passed o r rest is = rw is refl
 
 -- the first of those ahead is a revision
-pub gives : (old new : List LeafElement) (v : EntryView) (r : RevisionView) → ShowsFirst old new (Some v) → revision_of v ≡ Some r → revisions old ≡ r ∷ revisions new
+pub gives : (old new : List LeafElement) (v : EntryView) (r : RevisionView) → ShowsFirst old new (Some v) → revision_of v ≡ Some r
+    → revisions old ≡ r ∷ revisions new
 gives old new v r (e, shown, first) is = ap revisions first ∙ passed (revision_of (entry_view e)) r (revisions new) (sym (ap revision_of shown) ∙ is)
 
 -- or it isn't
 pub passes : (old new : List LeafElement) (v : EntryView) → ShowsFirst old new (Some v) → revision_of v ≡ None → revisions old ≡ revisions new
 passes old new v (e, shown, first) is = ap revisions first ∙ ap (λ (o : Option RevisionView). cons_option o (revisions new)) (sym (ap revision_of shown) ∙ is)
 
-others_if : (o x : Option OtherView) (e : LeafElement) (rest : List LeafElement) → o ≡ x → cond (is_some o) (e ∷ rest) rest ≡ cond (is_some x) (e ∷ rest) rest
+others_if : (o x : Option OtherView) (e : LeafElement) (rest : List LeafElement) → o ≡ x
+    → cond (is_some o) (e ∷ rest) rest ≡ cond (is_some x) (e ∷ rest) rest
 others_if o x e rest is = ap (λ (z : Option OtherView). cond (is_some z) (e ∷ rest) rest) is
 
-pub counts_none : (old new : List LeafElement) (v : EntryView) (r : RevisionView) → ShowsFirst old new (Some v) → revision_of v ≡ Some r → others old ≡ others new
+pub counts_none : (old new : List LeafElement) (v : EntryView) (r : RevisionView) → ShowsFirst old new (Some v) → revision_of v ≡ Some r
+    → others old ≡ others new
 counts_none old new v r (e, shown, first) is = ap others first ∙ others_if _ _ e (others new) (sym (ap other_of shown) ∙ no_other v r is)
 
-pub counts_one : (old new : List LeafElement) (v : EntryView) → ShowsFirst old new (Some v) → length (others old) ≡ length (option_to_list (other_of v)) + length (others new)
+pub counts_one : (old new : List LeafElement) (v : EntryView) → ShowsFirst old new (Some v)
+    → length (others old) ≡ length (option_to_list (other_of v)) + length (others new)
 counts_one old new v (e, shown, first) =
-    ap length (ap others first ∙ others_if (other_of (entry_view e)) (other_of v) e (others new) (sym (ap other_of shown))) ∙ one_more e (other_of v) (others new)
+    ap length (ap others first ∙ others_if (other_of (entry_view e)) (other_of v) e (others new) (sym (ap other_of shown)))
+    ∙ one_more e (other_of v) (others new)
 
 pub fewer : (old new : List LeafElement) (v : EntryView) → ShowsFirst old new (Some v) → length new < length old
 fewer old new v (e, shown, first) = let n = ap length first in omega (arith, n)

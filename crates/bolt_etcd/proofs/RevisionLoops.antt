@@ -3,9 +3,9 @@ use Rattle.std.proofs.Common.{◌≡◌, ◌∙◌, ◌<◌, ◌^◌, ℕ, List,
 use Rattle.bolt_check.specs.Counts.{counted}
 use Rattle.bolt_format.specs.Elements.{LeafElement}
 use Rattle.bolt_tree.specs.{Buckets.bucket_checked, Buckets.bucket_start, declared.bucket.Bucket.Bucket, EntriesLeft.ForBucket}
-use Rattle.bolt_etcd.specs.{Revisions.RevisionView, Stores.others}
-use Rattle.bolt_etcd.specs.RevisionsLeft.{CountsOthers, ForPass, GivesFirst, ahead_of, pass_checked, pass_others, pass_start}
-use Rattle.bolt_etcd.specs.declared.revisions.Revisions.{Revisions}
+use Rattle.bolt_etcd.specs.{Wire.Revisions.RevisionView, Store.Stores.others}
+use Rattle.bolt_etcd.specs.Store.RevisionsLeft.{CountsOthers, ForPass, GivesFirst, ahead_of, pass_checked, pass_others, pass_start}
+use Rattle.bolt_etcd.specs.declared.store.revisions.Revisions.{Revisions}
 use Rattle.bolt_etcd.proofs.RevisionSteps.{moved_to}
 
 -- the pass is over this bucket, and has counted the entries that it has gone over
@@ -22,7 +22,8 @@ module _ (bucket : Bucket) (here next : Revisions) (x : Option RevisionView) (pa
 
   counts_in : ForBucket bucket (λ entries. CountsOthers (ahead_of here entries) (ahead_of next entries) (pass_others here) (pass_others next))
   counts_in =
-      moved_to _ _ _ _ (λ entries. CountsOthers (ahead_of here entries) (ahead_of next entries) (pass_others here) (pass_others next)) passed.checked passed.start counts
+      moved_to _ _ _ _ (λ entries. CountsOthers (ahead_of here entries) (ahead_of next entries) (pass_others here) (pass_others next)) passed.checked
+      passed.start counts
 
   pub passed_more : pass_checked next ≡ pass_checked here → pass_start next ≡ pass_start here → Passed bucket next
   passed_more checked start = record {

@@ -5,11 +5,14 @@ use Rattle.std.specs.Option.{option_to_list}
 use Rattle.bolt_check.specs.{CheckedFiles.bytes_of, CheckedFiles.meta_of, Counts.counted, declared.checked.Checked.Checked}
 use Rattle.bolt_format.specs.Elements.{LeafElement}
 use Rattle.bolt_tree.proofs.Exports.{counted_more}
-use Rattle.bolt_tree.specs.{Buckets.bucket_checked, Buckets.bucket_start, Entries.EntryView, Entries.Start, EntriesLeft.ForEntries, EntriesLeft.ForBucket, FileTrees.file_entries}
+use Rattle.bolt_tree.specs.{Buckets.bucket_checked, Buckets.bucket_start, Entries.EntryView, Entries.Start, EntriesLeft.ForEntries}
+use Rattle.bolt_tree.specs.{EntriesLeft.ForBucket, FileTrees.file_entries}
 use Rattle.bolt_tree.specs.declared.bucket.Bucket.{Bucket}
-use Rattle.bolt_etcd.specs.{Others.other_of, Passes.ShowsFirst, Revisions.RevisionView, Revisions.revision_of, Stores.others, Stores.revisions}
-use Rattle.bolt_etcd.specs.RevisionsLeft.{CountsOthers, ForPass, GivesFirst, OpensOne, ahead_of, begins_with_other, number_ahead, pass_checked, pass_entries, pass_others, pass_start}
-use Rattle.bolt_etcd.specs.declared.revisions.Revisions.{Revisions}
+use Rattle.bolt_etcd.specs.{Wire.Others.other_of, Private.Passes.ShowsFirst, Wire.Revisions.RevisionView, Wire.Revisions.revision_of}
+use Rattle.bolt_etcd.specs.{Store.Stores.others, Store.Stores.revisions}
+use Rattle.bolt_etcd.specs.Store.RevisionsLeft.{CountsOthers, ForPass, GivesFirst, OpensOne, ahead_of, begins_with_other, number_ahead, pass_checked}
+use Rattle.bolt_etcd.specs.Store.RevisionsLeft.{pass_entries, pass_others, pass_start}
+use Rattle.bolt_etcd.specs.declared.store.revisions.Revisions.{Revisions}
 use Rattle.bolt_etcd.proofs.Passing.{are_entries, counts_none, counts_one, fewer, gives, passes}
 
 -- from one pass to another in the same bucket no revision was gone over, and the other entries were counted
@@ -27,8 +30,10 @@ pub moved_to : (a b : Checked) (s t : Start) (P : List LeafElement → Type 0) �
 moved_to a b s t P file start all = subst (λ (q : Start). ForEntries b q P) start (subst (λ (c : Checked). ForEntries c s P) file all)
 
 -- a pass over all of a bucket: what holds of what it has ahead holds of the bucket's entries
-pub over_all : {X : Type 0} (bucket : Bucket) (checked : Checked) (start : Start) (ahead whole : List LeafElement → X) (Q : X → Type 0) → checked ≡ bucket_checked bucket → start ≡ bucket_start bucket
-    → ForEntries checked start (λ entries. ahead entries ≡ whole entries) → ForEntries checked start (λ entries. Q (ahead entries)) → ForBucket bucket (λ entries. Q (whole entries))
+pub over_all : {X : Type 0} (bucket : Bucket) (checked : Checked) (start : Start) (ahead whole : List LeafElement → X) (Q : X → Type 0)
+    → checked ≡ bucket_checked bucket → start ≡ bucket_start bucket
+    → ForEntries checked start (λ entries. ahead entries ≡ whole entries) → ForEntries checked start (λ entries. Q (ahead entries))
+    → ForBucket bucket (λ entries. Q (whole entries))
 over_all bucket checked start ahead whole Q file begins all each = λ entries are.
     subst Q (moved_to _ _ _ _ (λ es. ahead es ≡ whole es) file begins all entries are) (moved_to _ _ _ _ (λ es. Q (ahead es)) file begins each entries are)
 
@@ -46,7 +51,8 @@ module _ (old here next : Revisions) (x : Option EntryView) (goes : Goes old her
   unfolding pass_checked pass_start
   falls v is = ∥∥₁_elim (are_entries old.cursor) (hlevel props) (λ are. fewer _ _ v (rw is at (first_here (pass_entries old) are)))
 
-  pub goes_on : (v : EntryView) (n : ℕ) → x ≡ Some v → revision_of v ≡ None → pass_checked next ≡ pass_checked here → pass_start next ≡ pass_start here
+  pub goes_on : (v : EntryView) (n : ℕ) → x ≡ Some v → revision_of v ≡ None → pass_checked next ≡ pass_checked here
+      → pass_start next ≡ pass_start here
       → n ≡ counted (pass_others here) (length (option_to_list (other_of v))) → Goes old (with_others next n)
   unfolding ahead_of pass_checked pass_others pass_start
   goes_on v n is other file start more = record {
@@ -62,7 +68,8 @@ module _ (old here next : Revisions) (x : Option EntryView) (goes : Goes old her
     behind = let less = falls v is in let before = goes.behind in omega (arith, less, before);
   }
 
-  pub some_given : (v : EntryView) (r : RevisionView) → x ≡ Some v → revision_of v ≡ Some r → ForPass old (λ entries. GivesFirst (ahead_of old entries) (ahead_of next entries) (Some r))
+  pub some_given : (v : EntryView) (r : RevisionView) → x ≡ Some v → revision_of v ≡ Some r
+      → ForPass old (λ entries. GivesFirst (ahead_of old entries) (ahead_of next entries) (Some r))
   some_given v r is found = λ entries are. goes.same entries are ∙ gives _ _ v r (rw is at (first_here entries are)) found
 
   pub some_counts : (v : EntryView) (r : RevisionView) → x ≡ Some v → revision_of v ≡ Some r → pass_others next ≡ pass_others here
@@ -70,7 +77,8 @@ module _ (old here next : Revisions) (x : Option EntryView) (goes : Goes old her
   some_counts v r is found same = grind (arith, counts_none)
 
   -- and so fewer than at first
-  pub number_falls : (v : EntryView) → x ≡ Some v → pass_checked next ≡ pass_checked here → pass_start next ≡ pass_start here → number_ahead next < number_ahead old
+  pub number_falls : (v : EntryView) → x ≡ Some v → pass_checked next ≡ pass_checked here → pass_start next ≡ pass_start here
+      → number_ahead next < number_ahead old
   unfolding number_ahead
   number_falls v is file start =
       let same : pass_entries next ≡ pass_entries old =
@@ -81,13 +89,15 @@ module _ (old here next : Revisions) (x : Option EntryView) (goes : Goes old her
       rw same (omega (arith, less, before))
 
   -- unless the pass has gone over one before, the one that it goes over now is the first
-  pub other_first : (here ≡ old) ⊎ ForPass old (λ entries. begins_with_other (ahead_of old entries) ≡ true) → (v : EntryView) → x ≡ Some v → revision_of v ≡ None
+  pub other_first : (here ≡ old) ⊎ ForPass old (λ entries. begins_with_other (ahead_of old entries) ≡ true) → (v : EntryView) → x ≡ Some v
+      → revision_of v ≡ None
       → ForPass old (λ entries. begins_with_other (ahead_of old entries) ≡ true)
   other_first (inl same) v is other = grind arith
   other_first (inr before) v is other = before
 
 -- if the first of those ahead is a revision, one step was made
-pub opens_first : (old here : Revisions) (n : ℕ) → (here ≡ old) ⊎ ForPass old (λ entries. begins_with_other (ahead_of old entries) ≡ true) → OpensOne here n
+pub opens_first : (old here : Revisions) (n : ℕ) → (here ≡ old) ⊎ ForPass old (λ entries. begins_with_other (ahead_of old entries) ≡ true)
+    → OpensOne here n
     → ForPass old (λ entries. begins_with_other (ahead_of old entries) ≡ false → OpensOne old n)
 opens_first old here n (inl same) opens = λ entries are first. subst (λ (p : Revisions). OpensOne p n) same opens
 opens_first old here n (inr before) opens = λ entries are first. let other = before entries are in absurd (cc)

@@ -6,10 +6,11 @@ use Rattle.std.proofs.lemmas.List.Elements.{Contains-append_cases, Contains-appe
 use Rattle.std.specs.{List.Contains, Option.option_to_list, declared.cmp.Ordering.TheVariants.Less}
 use Rattle.bolt_tree.proofs.Exports.{contains_cases, contains_head, contains_none, contains_tail, filter_rises}
 use Rattle.bolt_tree.specs.Order.{Rises}
-use Rattle.bolt_etcd.specs.{Revisions.RevisionView, Told.number_cmp, ToldRevisions.IsMissingRevision, ToldRevisions.IsToldRevision, ToldRevisions.TellsRevision}
-use Rattle.bolt_etcd.specs.MissingNumbers.{is_of_later, missing_after, missing_before, missing_numbers, revisions_between, transactions_between}
-use Rattle.bolt_etcd.specs.{declared.missing.Missing.Missing, declared.revision_key.RevisionKey.RevisionKey}
-use Rattle.bolt_etcd.specs.declared.missing.Missing.TheVariants.{Revisions, Transactions}
+use Rattle.bolt_etcd.specs.{Wire.Revisions.RevisionView, Histories.Told.number_cmp, Histories.ToldRevisions.IsMissingRevision}
+use Rattle.bolt_etcd.specs.{Histories.ToldRevisions.IsToldRevision, Histories.ToldRevisions.TellsRevision}
+use Rattle.bolt_etcd.specs.Check.MissingNumbers.{is_of_later, missing_after, missing_before, missing_numbers, revisions_between, transactions_between}
+use Rattle.bolt_etcd.specs.{declared.check.missing.Missing.Missing, declared.wire.revision_key.RevisionKey.RevisionKey}
+use Rattle.bolt_etcd.specs.declared.check.missing.Missing.TheVariants.{Revisions, Transactions}
 use Rattle.bolt_etcd.proofs.{MissingExact.above, MissingExact.is_later, MissingExact.keys, MissingExact.later_is}
 
 module _ (t s : ℕ) where
@@ -94,7 +95,8 @@ module _ (t s : ℕ) where
   past_before main sub r after past = grind arith
 
   gap_here : (r : RevisionView) (rs : List RevisionView) → Rises number_cmp (r ∷ rs) → IsIn r.key → IsGap (r ∷ rs)
-  gap_here r rs rises is = (r, contains_head r rs, is, λ x has at same. grind (arith, contains_cases r x rs has, λ (more : Contains rs x). numbers_le r x (rises.0 x more)))
+  gap_here r rs rises is =
+      (r, contains_head r rs, is, λ x has at same. grind (arith, contains_cases r x rs has, λ (more : Contains rs x). numbers_le r x (rises.0 x more)))
 
   gap_later : (r : RevisionView) (rs : List RevisionView) → IsPast r.key.main (r.key.sub + 1) → IsGap rs → IsGap (r ∷ rs)
   gap_later r rs past (later, there, is, none) = (later, contains_tail r later rs there, is, λ x has at same. grind (arith, contains_cases r x rs has, none x))
@@ -160,7 +162,12 @@ module _ (t s : ℕ) where
                 none = λ r has at is. none r (later_is compacted rs r has (omega (arith, lt, same, at))) at is;
               },
           λ m. core.1 (
-            (m.later, later_is compacted rs m.later m.there (let lt = m.after in let e = m.same in omega (arith, lt, e)), (m.same, m.before), λ r has. m.none r (is_later compacted rs r has).0),
+            (
+              m.later,
+              later_is compacted rs m.later m.there (let lt = m.after in let e = m.same in omega (arith, lt, e)),
+              (m.same, m.before),
+              λ r has. m.none r (is_later compacted rs r has).0,
+            ),
             past m.after,
           ),
         )

@@ -1,11 +1,12 @@
 -- The hash is right exactly if the file is a snapshot.
-use Rattle.std.proofs.Common.{◌≡◌, ◌↔◌, ◌∙◌, ◌-◌, ◌%◌, ◌+◌, ◌<◌, ℕ, List, ◌++◌, Bool, true, Option, None, Some, ap, arith, length, length-append, length-take-le, sym, take, take-append-drop}
+use Rattle.std.proofs.Common.{◌≡◌, ◌↔◌, ◌∙◌, ◌-◌, ◌%◌, ◌+◌, ◌<◌, ℕ, List, ◌++◌, Bool, true, Option, None, Some, ap, arith, length, length-append}
+use Rattle.std.proofs.Common.{length-take-le, sym, take, take-append-drop}
 use Rattle.std.proofs.{Math.Seq.drop-append_seam, Math.Seq.take-append_seam, lemmas.Slice.Eq.bytes_eq-Decides}
 use Rattle.std.specs.Str.{bytes_eq}
 use Rattle.sha2.specs.Sha256.{sha256}
 use Rattle.sha2.proofs.Facts256.{length-sha256}
-use Rattle.bolt_etcd.specs.SnapshotFaults.{IsSnapshot, body_of, cut_hash_fault, fault_by, hash_fault, hash_of, snapshot_of}
-use Rattle.bolt_etcd.specs.declared.snapshot.SnapshotFault.{SnapshotFault}
+use Rattle.bolt_etcd.specs.Check.SnapshotFaults.{IsSnapshot, body_of, cut_hash_fault, fault_by, hash_fault, hash_of, snapshot_of}
+use Rattle.bolt_etcd.specs.declared.check.snapshot.SnapshotFault.{SnapshotFault}
 
 -- where the hash begins
 seam : (body : List ℕ) → length (body ++ sha256 body) - 32 ≡ length body
@@ -46,5 +47,6 @@ cut_length body n blocks less = grind (arith, length-append, length-sha256, leng
 cut_by : (n : ℕ) (is_right : Bool) → n < 32 → fault_by n is_right ≡ Some (cut_hash_fault n)
 cut_by n is_right less = grind arith
 
-pub cut_fault : (body : List ℕ) (n : ℕ) → length body % 512 ≡ 0 → n < 32 → hash_fault (take (length body + n) (snapshot_of body)) ≡ Some (cut_hash_fault n)
+pub cut_fault : (body : List ℕ) (n : ℕ) → length body % 512 ≡ 0 → n < 32
+    → hash_fault (take (length body + n) (snapshot_of body)) ≡ Some (cut_hash_fault n)
 cut_fault body n blocks less = grind (arith, cut_length, cut_by)

@@ -5,10 +5,14 @@ use Rattle.std.proofs.{lemmas.Bool.cases_lt, lemmas.Bool.cond-false, lemmas.List
 use Rattle.std.specs.List.{Contains, last_or}
 use Rattle.bolt_check.specs.Keys.{Key}
 use Rattle.bolt_tree.proofs.Exports.{filter_all, kept as passes, contains_none, filters_swap}
-use Rattle.bolt_etcd.specs.{Compactions.IsCompaction, Compactions.kept_revisions, Current.AreCurrent, Current.IsCurrent, HeldNames.AreHeld}
-use Rattle.bolt_etcd.specs.{Histories.Transaction, Histories.history, Histories.state_at, Newest.is_named, Newest.is_until, Newest.newest, Newest.until, Revisions.RevisionView, Revisions.name_of}
-use Rattle.bolt_etcd.specs.Possible.{ArePossible}
-use Rattle.bolt_etcd.proofs.{HistoryUntil.held_at, HistoryUntil.until_early, KeptOfNames.IsCut, KeptOfNames.cut, NameHistories.held_of, NameHistories.held_parts, LastOnes.last_of_both}
+use Rattle.bolt_etcd.specs.{Histories.Compactions.IsCompaction, Histories.Compactions.kept_revisions, Store.Current.AreCurrent}
+use Rattle.bolt_etcd.specs.{Store.Current.IsCurrent, Histories.Transactions.AreOfState}
+use Rattle.bolt_etcd.specs.{Histories.Transactions.Transaction, Histories.Transactions.history, Histories.Transactions.state_at}
+use Rattle.bolt_etcd.specs.{Store.Newest.is_named, Store.Newest.is_until, Store.Newest.newest, Store.Newest.until, Wire.Revisions.RevisionView}
+use Rattle.bolt_etcd.specs.{Wire.Revisions.name_of}
+use Rattle.bolt_etcd.specs.Histories.Possible.{ArePossible}
+use Rattle.bolt_etcd.proofs.{HistoryUntil.held_at, HistoryUntil.until_early, KeptOfNames.IsCut, KeptOfNames.cut, NameHistories.held_of}
+use Rattle.bolt_etcd.proofs.{NameHistories.held_parts, LastOnes.last_of_both}
 
 -- a revision is current exactly if it is what its name holds
 current_is_held : (rs : List RevisionView) (r : RevisionView) → IsCurrent rs r ↔ (held_of (newest (name_of r) rs) ≡ Some r)
@@ -51,7 +55,7 @@ module _ (compacted at : ℕ) (ts : List Transaction) (keeps : RevisionView → 
         λ holds. one.1 (held_kept (name_of r) ∙ holds),
       )
 
-  pub currents_held : (current : List RevisionView) → AreCurrent (until at (kept_revisions keeps ts)) current ↔ AreHeld (state_at at ts) current
+  pub currents_held : (current : List RevisionView) → AreCurrent (until at (kept_revisions keeps ts)) current ↔ AreOfState (state_at at ts) current
   currents_held current = (
     λ are. record {
       rises = are.rises;

@@ -1,18 +1,25 @@
 -- What look-ups in the root bucket say of a store.
-use Rattle.std.proofs.Common.{arith, ◌≡◌, ◌∙◌, ◌++◌, Bool, true, false, ℕ, List, [], ◌∷◌, codes, cond, flat_map, inl, inr, not, Option, Some, None, refl, sym, ap, subst}
-use Rattle.std.proofs.{Math.Logic.∥∥₁_elim, Props.props, lemmas.Bool.and_from, lemmas.Bool.and_parts, lemmas.Bool.not-true, lemmas.Slice.Eq.bytes_eq-Decides}
+use Rattle.std.proofs.Common.{arith, ◌≡◌, ◌∙◌, ◌++◌, Bool, true, false, ℕ, List, [], ◌∷◌, codes, cond, flat_map, inl, inr, not, Option, Some, None}
+use Rattle.std.proofs.Common.{refl, sym, ap, subst}
+use Rattle.std.proofs.{Math.Logic.∥∥₁_elim, Props.props, lemmas.Bool.and_from, lemmas.Bool.and_parts, lemmas.Bool.not-true}
+use Rattle.std.proofs.{lemmas.Slice.Eq.bytes_eq-Decides}
 use Rattle.std.specs.{Cmp.Lexicographic.same_text, List.Contains, List.concat, List.find, Option.is_some, Option.option_map, Str.bytes_eq}
 use Rattle.std.specs.Prelude.{IfSome}
 use Rattle.bolt_check.specs.{Keys.Key, declared.checked.Checked.Checked}
 use Rattle.bolt_format.specs.Elements.{LeafElement}
 use Rattle.bolt_tree.proofs.Exports.{contains_cases, contains_head, contains_none, contains_tail, own_entries, entry_once}
-use Rattle.bolt_tree.specs.{BucketViews.entries_of, Buckets.bucket_checked, Buckets.bucket_start, Entries.AreEntries, Entries.Start, Entries.start_of, Lookups.IsBucketAt, Lookups.IsValueAt}
+use Rattle.bolt_tree.specs.{BucketViews.entries_of, Buckets.bucket_checked, Buckets.bucket_start, Entries.AreEntries, Entries.Start, Entries.start_of}
+use Rattle.bolt_tree.specs.{Lookups.IsBucketAt, Lookups.IsValueAt}
 use Rattle.bolt_tree.specs.{declared.bucket.Bucket.Bucket, Order.Rises, EntriesLeft.ForBucket}
-use Rattle.bolt_etcd.specs.{Current.stored_key_cmp, Compacted.IsCompacted, Compacted.compacted_in, Compacted.is_value_under, Compacted.value_under, CheckLines.name_fault_lines}
-use Rattle.bolt_etcd.specs.{FaultsLeft.ForGranted, FaultsLeft.faults_leases, FaultsLeft.faults_left, NameFaults.AreByName, NameFaults.NameFaultView, NameFaults.name_faults, Revisions.RevisionView}
-use Rattle.bolt_etcd.specs.{StoreBuckets.HasEntriesUnder, StoreBuckets.IsStore, StoreBuckets.StoreView, StoreBuckets.revisions_in, Stores.revisions}
-use Rattle.bolt_etcd.specs.StoreFaults.{missing_bucket_lines, bucket_names, entry_lines, granted_in, key_lines, line_without, name_lines, store_compacted, store_granted, store_lines}
-use Rattle.bolt_etcd.specs.declared.name_faults.NameFaults.{NameFaults}
+use Rattle.bolt_etcd.specs.{Store.Current.stored_key_cmp, Store.Compacted.IsCompacted, Store.Compacted.compacted_in, Store.Compacted.is_value_under}
+use Rattle.bolt_etcd.specs.{Store.Compacted.value_under, Check.CheckLines.name_fault_lines}
+use Rattle.bolt_etcd.specs.{Check.ForNames.ForGranted, Private.FaultsLeft.faults_leases, Private.FaultsLeft.faults_left, Check.NameFaults.AreByName}
+use Rattle.bolt_etcd.specs.{Check.NameFaults.NameFaultView, Check.NameFaults.name_faults, Wire.Revisions.RevisionView}
+use Rattle.bolt_etcd.specs.{Store.StoreBuckets.HasEntriesUnder, Store.StoreBuckets.IsStore, Store.StoreBuckets.StoreView}
+use Rattle.bolt_etcd.specs.{Store.StoreBuckets.revisions_in, Store.Stores.revisions}
+use Rattle.bolt_etcd.specs.Check.StoreFaults.{missing_bucket_lines, bucket_names, entry_lines, granted_in, key_lines, line_without, name_lines}
+use Rattle.bolt_etcd.specs.Check.StoreFaults.{store_compacted, store_granted, store_lines}
+use Rattle.bolt_etcd.specs.declared.check.name_faults.NameFaults.{NameFaults}
 use Rattle.bolt_etcd.proofs.{Currents.revisions_rise, ListedTexts.concat_three, SortedOnce.by_name_once}
 
 -- ---- the first that passes a test
@@ -21,7 +28,8 @@ abbrev pub Finds : {A : Type 0} → (A → Bool) → List A → Option A → Typ
 Finds p xs (Some x) = Contains xs x × (p x ≡ true)
 Finds {A} p xs None = (x : A) → Contains xs x → p x ≡ false
 
-find_step : {A : Type 0} (p : A → Bool) (y : A) (ys : List A) (b : Bool) → p y ≡ b → (o : Option A) → Finds p ys o → Finds p (y ∷ ys) (cond b (Some y) o)
+find_step : {A : Type 0} (p : A → Bool) (y : A) (ys : List A) (b : Bool) → p y ≡ b → (o : Option A) → Finds p ys o
+    → Finds p (y ∷ ys) (cond b (Some y) o)
 find_step p y ys true test o later = (contains_head y ys, test)
 find_step p y ys false test (Some x) later = (contains_tail y x ys later.0, later.1)
 find_step p y ys false test None later = λ x has. elim (contains_cases y x ys has) [ inl is ↦ ap p (sym is) ∙ test | inr more ↦ later x more ]
@@ -39,11 +47,14 @@ module _ (Entry : Start → LeafElement → Type 0) (start : Start) (entries : L
   is_under : (e : LeafElement) → is_value_under key e ≡ true → (e.key ≡ key) × (e.is_bucket ≡ false)
   is_under e passes = let (named, flat) = and_parts (bytes_eq e.key key) (not e.is_bucket) passes in (same_text e.key key (sym named), not-true _ flat)
 
-  value_by : (f : Option LeafElement) → Finds (is_value_under key) entries f → (o : Option (List ℕ)) → IsValueAt Entry start key o → option_map (λ (e : LeafElement). e.value) f ≡ o
+  value_by : (f : Option LeafElement) → Finds (is_value_under key) entries f → (o : Option (List ℕ)) → IsValueAt Entry start key o
+      → option_map (λ (e : LeafElement). e.value) f ≡ o
   value_by None found None at = refl
   value_by (Some e) (has, passes) (Some value) at =
       let (named, flat) = is_under e passes in
-      ap Some (∥∥₁_elim at (hlevel props) (λ (g, there, under, flat', holds). ap (λ (x : LeafElement). x.value) (entry_once Entry start entries are e g ((are.exact e).0 has) there (named ∙ sym under)) ∙ holds))
+      ap Some (∥∥₁_elim at (hlevel props)
+      (λ (g, there, under, flat', holds).
+      ap (λ (x : LeafElement). x.value) (entry_once Entry start entries are e g ((are.exact e).0 has) there (named ∙ sym under)) ∙ holds))
   value_by (Some e) (has, passes) None at =
       let (named, flat) = is_under e passes in
       let bucket = at e ((are.exact e).0 has) named in
@@ -74,7 +85,8 @@ module _ (root : Bucket) where
   Fits (Some inner) None = ⊥
   Fits (Some inner) (Some entries) = AreEntries (entries_of (bucket_checked root)) (bucket_start inner) entries
 
-  pub fits : (name : Key) (o : Option Bucket) (b : Option (List LeafElement)) → IsBucketAt (entries_of (bucket_checked root)) (bucket_start root) name o
+  pub fits : (name : Key) (o : Option Bucket) (b : Option (List LeafElement))
+      → IsBucketAt (entries_of (bucket_checked root)) (bucket_start root) name o
       → HasEntriesUnder (entries_of (bucket_checked root)) (bucket_start root) name b → Fits o b
   fits name None None found has = tt
   fits name None (Some entries) found (e, there, key, bucket, are) = let flat = found e there key in cc
@@ -102,7 +114,8 @@ module _ (root : Bucket) where
   compaction meta n (Some entries) checked are (value, at, is) = grind (arith, value_at)
 
   -- which leases there are
-  pub granted : (leases : Option Bucket) (b : Option (List LeafElement)) (P : (ℕ → Bool) → Type 0) → IfSome leases (λ inner. bucket_checked inner ≡ bucket_checked root)
+  pub granted : (leases : Option Bucket) (b : Option (List LeafElement)) (P : (ℕ → Bool) → Type 0)
+      → IfSome leases (λ inner. bucket_checked inner ≡ bucket_checked root)
       → Fits leases b → ForGranted leases P → P (granted_in b)
   granted None None P checked has all = all
   granted None (Some entries) P checked has all = absurd has
@@ -111,27 +124,35 @@ module _ (root : Bucket) where
 
 -- ---- name by name
 
-pub granted_map : (leases : Option Bucket) (P R : (ℕ → Bool) → Type 0) → ((granted : ℕ → Bool) → P granted → R granted) → ForGranted leases P → ForGranted leases R
+pub granted_map : (leases : Option Bucket) (P R : (ℕ → Bool) → Type 0) → ((granted : ℕ → Bool) → P granted → R granted) → ForGranted leases P
+    → ForGranted leases R
 granted_map None P R each all = each _ all
 granted_map (Some leases) P R each all = λ entries are. each _ (all entries are)
 
-pub same_names : (compacted : Option ℕ) (granted : ℕ → Bool) (left : List NameFaultView) (all by_name : List RevisionView) → left ≡ name_faults compacted granted None all → all ≡ by_name
+pub same_names : (compacted : Option ℕ) (granted : ℕ → Bool) (left : List NameFaultView) (all by_name : List RevisionView)
+    → left ≡ name_faults compacted granted None all → all ≡ by_name
     → flat_map name_fault_lines left ≡ name_lines compacted granted by_name
 same_names compacted granted left all by_name is same = ap (flat_map name_fault_lines) (is ∙ ap (name_faults compacted granted None) same)
 
-pub for_names : (rs : List RevisionView) (compacted : Option ℕ) (leases : Option Bucket) (pass : NameFaults) (all : List RevisionView) (Q : List (List ℕ) → Type 0) → Rises stored_key_cmp rs
+pub for_names : (rs : List RevisionView) (compacted : Option ℕ) (leases : Option Bucket) (pass : NameFaults) (all : List RevisionView)
+    (Q : List (List ℕ) → Type 0)
+    → Rises stored_key_cmp rs
     → faults_leases pass ≡ leases → ((granted : ℕ → Bool) → faults_left pass granted ≡ name_faults compacted granted None all) → AreByName rs all
     → ForGranted (faults_leases pass) (λ granted. Q (flat_map name_fault_lines (faults_left pass granted)))
     → ForGranted leases (λ granted. (by_name : List RevisionView) → AreByName rs by_name → Q (name_lines compacted granted by_name))
 for_names rs compacted leases pass all Q rises from left sorted each =
-    granted_map leases (λ granted. Q (flat_map name_fault_lines (faults_left pass granted))) (λ granted. (by_name : List RevisionView) → AreByName rs by_name → Q (name_lines compacted granted by_name))
-    (λ granted one by_name is. subst Q (same_names compacted granted (faults_left pass granted) all by_name (left granted) (by_name_once rs all by_name rises sorted is)) one)
+    granted_map leases (λ granted. Q (flat_map name_fault_lines (faults_left pass granted)))
+    (λ granted. (by_name : List RevisionView) → AreByName rs by_name → Q (name_lines compacted granted by_name))
+    (λ granted one by_name is.
+    subst Q (same_names compacted granted (faults_left pass granted) all by_name (left granted) (by_name_once rs all by_name rises sorted is)) one)
     (subst (λ (o : Option Bucket). ForGranted o (λ granted. Q (flat_map name_fault_lines (faults_left pass granted)))) from each)
 
 -- of the revisions that were found in a bucket
-pub found_names : (keys : Bucket) (rs : List RevisionView) (leases : Option Bucket) (compacted : Option ℕ) (Q : List (List ℕ) → Type 0) → ForBucket keys (λ entries. rs ≡ revisions entries)
+pub found_names : (keys : Bucket) (rs : List RevisionView) (leases : Option Bucket) (compacted : Option ℕ) (Q : List (List ℕ) → Type 0)
+    → ForBucket keys (λ entries. rs ≡ revisions entries)
     → (Rises stored_key_cmp rs → ForGranted leases (λ granted. (by_name : List RevisionView) → AreByName rs by_name → Q (name_lines compacted granted by_name)))
-    → ForBucket keys (λ entries. ForGranted leases (λ granted. (by_name : List RevisionView) → AreByName (revisions entries) by_name → Q (name_lines compacted granted by_name)))
+    → ForBucket keys (λ entries.
+    ForGranted leases (λ granted. (by_name : List RevisionView) → AreByName (revisions entries) by_name → Q (name_lines compacted granted by_name)))
 found_names keys rs leases compacted Q found all = grind (arith, revisions_rise)
 
 -- ---- the lines of a store that has the bucket `key`
@@ -139,9 +160,11 @@ found_names keys rs leases compacted Q found all = grind (arith, revisions_rise)
 module _ (root keys : Bucket) (compacted : Option ℕ) (store : StoreView) (is : IsStore (entries_of (bucket_checked root)) (bucket_start root) store)
     (there : IsBucketAt (entries_of (bucket_checked root)) (bucket_start root) (codes "key") (Some keys)) (file : bucket_checked keys ≡ bucket_checked root)
     (same : compacted ≡ store_compacted store) where
-  pub key_entries : (entries : List LeafElement) × (store.bucket (codes "key") ≡ Some entries) × AreEntries (entries_of (bucket_checked keys)) (bucket_start keys) entries
+  pub key_entries : (entries : List LeafElement) × (store.bucket (codes "key") ≡ Some entries)
+      × AreEntries (entries_of (bucket_checked keys)) (bucket_start keys) entries
   key_entries =
-      let (entries, at, are) = fits_some root keys (store.bucket (codes "key")) (fits root (codes "key") (Some keys) (store.bucket (codes "key")) there (is.buckets (codes "key"))) in
+      let (entries, at, are) =
+      fits_some root keys (store.bucket (codes "key")) (fits root (codes "key") (Some keys) (store.bucket (codes "key")) there (is.buckets (codes "key"))) in
       (entries, at, subst (λ (c : Checked). AreEntries (entries_of c) (bucket_start keys) entries) (sym file) are)
 
   abbrev pub of_entries : List (List ℕ)
@@ -159,11 +182,15 @@ module _ (root keys : Bucket) (compacted : Option ℕ) (store : StoreView) (is :
   pub entries_hold : (P : List (List ℕ) → Type 0) → ForBucket keys (λ entries. P (entry_lines compacted entries)) → P of_entries
   entries_hold P all = subst (λ (c : Option ℕ). P (entry_lines c key_entries.0)) same (all key_entries.0 key_entries.2)
 
-  pub names_hold : (leases : Option Bucket) (Q : List (List ℕ) → Type 0) → IsBucketAt (entries_of (bucket_checked root)) (bucket_start root) (codes "lease") leases
+  pub names_hold : (leases : Option Bucket) (Q : List (List ℕ) → Type 0)
+      → IsBucketAt (entries_of (bucket_checked root)) (bucket_start root) (codes "lease") leases
       → IfSome leases (λ inner. bucket_checked inner ≡ bucket_checked root)
-      → ForBucket keys (λ entries. ForGranted leases (λ granted. (by_name : List RevisionView) → AreByName (revisions entries) by_name → Q (name_lines compacted granted by_name))) → Q of_names
+      → ForBucket keys (λ entries.
+      ForGranted leases (λ granted. (by_name : List RevisionView) → AreByName (revisions entries) by_name → Q (name_lines compacted granted by_name)))
+      → Q of_names
   names_hold leases Q at checked all =
       subst (λ (c : Option ℕ). Q (name_lines c (store_granted store) store.by_name)) same
-      (granted root leases (store.bucket (codes "lease")) (λ given. (by_name : List RevisionView) → AreByName (revisions key_entries.0) by_name → Q (name_lines compacted given by_name)) checked
+      (granted root leases (store.bucket (codes "lease"))
+      (λ given. (by_name : List RevisionView) → AreByName (revisions key_entries.0) by_name → Q (name_lines compacted given by_name)) checked
       (fits root (codes "lease") leases (store.bucket (codes "lease")) at (is.buckets (codes "lease"))) (all key_entries.0 key_entries.2)
       store.by_name (subst (λ (b : Option (List LeafElement)). AreByName (revisions_in b) store.by_name) key_entries.1 is.sorted))

@@ -1,13 +1,16 @@
 -- What a revision of the code shows is what its key and its value say.
-use Rattle.std.proofs.Common.{◌≡◌, ◌∙◌, ◌≤◌, ◌+◌, ◌++◌, ℕ, Bool, List, [], ◌∷◌, length, Option, Some, None, nat_cmp, refl, sym, ap, arith, if◌then◌else◌}
+use Rattle.std.proofs.Common.{◌≡◌, ◌∙◌, ◌≤◌, ◌+◌, ◌++◌, ℕ, Bool, List, [], ◌∷◌, length, Option, Some, None, nat_cmp, refl, sym, ap, arith}
+use Rattle.std.proofs.Common.{if◌then◌else◌}
 use Rattle.std.proofs.lemmas.List.{length-append}
 use Rattle.std.specs.{Option.option_map, Ordering.ordering_then, declared.cmp.Ordering.Ordering}
 use Rattle.std.specs.declared.cmp.Ordering.TheVariants.{Equal}
 use Rattle.byteorder.specs.{Endian.big_bytes, Endian.big_number, Numbers.big_number-reads_back, Numbers.length-bytes_high_first}
 use Rattle.bolt_check.specs.Keys.{Key, key_cmp}
-use Rattle.bolt_etcd.specs.{RevisionKeys.IsSpelled, RevisionKeys.numbers_cmp, RevisionKeys.revision_key, RevisionKeys.spelling, declared.revision_key.RevisionKey.RevisionKey}
-use Rattle.bolt_etcd.specs.{declared.revision.Revision.Revision, Revisions.RevisionView, Revisions.name_of, Revisions.revision_in, Revisions.revision_of}
-use Rattle.bolt_etcd.specs.ShownRevisions.{entry_of, or_nothing, shown_revision}
+use Rattle.bolt_etcd.specs.{Wire.RevisionKeys.IsSpelled, Wire.RevisionKeys.numbers_cmp, Wire.RevisionKeys.revision_key, Wire.RevisionKeys.spelling}
+use Rattle.bolt_etcd.specs.{declared.wire.revision_key.RevisionKey.RevisionKey}
+use Rattle.bolt_etcd.specs.{declared.wire.revision.Revision.Revision, Wire.Revisions.RevisionView, Wire.Revisions.name_of, Wire.Revisions.revision_in}
+use Rattle.bolt_etcd.specs.{Wire.Revisions.revision_of}
+use Rattle.bolt_etcd.specs.Wire.ShownRevisions.{entry_of, or_nothing, shown_revision}
 use Rattle.bolt_etcd.proofs.{Currents.in_says, KeyNumbers.spellings_cmp, Keys.read_spelled}
 
 some_of : (o : Option RevisionView) (name : List ℕ) → option_map name_of o ≡ Some name → (o ≡ Some (or_nothing o)) × (name_of (or_nothing o) ≡ name)
@@ -47,7 +50,13 @@ main_of r = let (is, fits) = is_spelled r in ap (big_number 8) is ∙ spelled_ma
 spelled_length : (k : RevisionKey) → length (spelling k) ≡ 17 + length (end_of k.deleted)
 unfolding spelling
 spelled_length k =
-    omega (arith, length-append (big_bytes 8 k.main) (0x5F ∷ (big_bytes 8 k.sub ++ end_of k.deleted)), length-append (big_bytes 8 k.sub) (end_of k.deleted), length-bytes_high_first 8 k.main, length-bytes_high_first 8 k.sub)
+    omega (
+      arith,
+      length-append (big_bytes 8 k.main) (0x5F ∷ (big_bytes 8 k.sub ++ end_of k.deleted)),
+      length-append (big_bytes 8 k.sub) (end_of k.deleted),
+      length-bytes_high_first 8 k.main,
+      length-bytes_high_first 8 k.sub,
+    )
 
 pub long : (r : Revision) → length r.key.now ≡ 17 + length (end_of (shown_revision r).key.deleted)
 long r = ap length (is_spelled r).0 ∙ spelled_length (shown_revision r).key
@@ -60,10 +69,12 @@ pub by_numbers : (a b : Revision) → key_cmp a.key.now b.key.now ≡ numbers_cm
 by_numbers a b =
     let (is, fits) = is_spelled a in
     let (also, fit) = is_spelled b in
-    ap (λ (k : Key). key_cmp k b.key.now) is ∙ ap (key_cmp (spelling (shown_revision a).key)) also ∙ spellings_cmp (shown_revision a).key (shown_revision b).key fits fit
+    ap (λ (k : Key). key_cmp k b.key.now) is ∙ ap (key_cmp (spelling (shown_revision a).key)) also
+    ∙ spellings_cmp (shown_revision a).key (shown_revision b).key fits fit
 
 pub decided : (o p : Ordering) → (o ≡ Equal → ⊥) → ordering_then o p ≡ o
 decided o p differ = grind arith
 
-pub by_main : (a b : Revision) (o : Ordering) → o ≡ nat_cmp (shown_revision a).key.main (shown_revision b).key.main → (o ≡ Equal → ⊥) → o ≡ key_cmp a.key.now b.key.now
+pub by_main : (a b : Revision) (o : Ordering) → o ≡ nat_cmp (shown_revision a).key.main (shown_revision b).key.main → (o ≡ Equal → ⊥)
+    → o ≡ key_cmp a.key.now b.key.now
 by_main a b o is differ = is ∙ sym (by_numbers a b ∙ decided _ _ (λ e. differ (is ∙ e)))

@@ -1,11 +1,14 @@
 -- A revision that is taken away from a store is told as missing by its numbers.
 use Rattle.std.proofs.Common.{◌≡◌, ◌<◌, ◌++◌, ℕ, Bool, List, ◌∷◌, inl, inr, sym, subst, arith}
-use Rattle.std.proofs.{lemmas.Cmp.nat_cmp_total, lemmas.Cmp.tied_itself, lemmas.List.Elements.Contains-append_cases, lemmas.List.Elements.Contains-append_right}
+use Rattle.std.proofs.{lemmas.Cmp.nat_cmp_total, lemmas.Cmp.tied_itself, lemmas.List.Elements.Contains-append_cases}
+use Rattle.std.proofs.{lemmas.List.Elements.Contains-append_right}
 use Rattle.std.specs.{List.Contains, declared.cmp.Ordering.TheVariants.Less}
 use Rattle.bolt_tree.proofs.Exports.{contains_head, filter_rises, kept_from, after_it, before_it, without_rises}
 use Rattle.bolt_tree.specs.Order.{Rises}
-use Rattle.bolt_etcd.specs.{Compactions.kept_revisions, Current.stored_key_cmp, Histories.Transaction, Histories.history, Histories.nothing, MissingNumbers.missing_numbers, Revisions.RevisionView}
-use Rattle.bolt_etcd.specs.{Possible.ArePossible, Taken.IsTaken, Told.IsTold, ToldRevisions.IsToldRevision}
+use Rattle.bolt_etcd.specs.{Histories.Compactions.kept_revisions, Store.Current.stored_key_cmp, Histories.Transactions.Transaction}
+use Rattle.bolt_etcd.specs.{Histories.Transactions.history, Histories.Transactions.nothing, Check.MissingNumbers.missing_numbers}
+use Rattle.bolt_etcd.specs.{Wire.Revisions.RevisionView}
+use Rattle.bolt_etcd.specs.{Histories.Possible.ArePossible, Histories.Taken.IsTaken, Histories.Told.IsTold, Histories.ToldRevisions.IsToldRevision}
 use Rattle.bolt_etcd.proofs.HistorySteps.{from, goes, history_rises, numbers_rise, pair_cmp, stored_keys_rise}
 use Rattle.bolt_etcd.proofs.{MissingExact.missing_told, RevisionsExact.revisions_told}
 

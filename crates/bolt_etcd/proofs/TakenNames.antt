@@ -5,13 +5,17 @@ use Rattle.std.proofs.lemmas.Bool.{and_from, cases_Bool, cond-false, cond-true, 
 use Rattle.std.proofs.{lemmas.List.Elements.Contains-append_left, lemmas.List.Elements.filter-append, lemmas.Option.same_Some}
 use Rattle.std.specs.List.{Contains, find, last_or}
 use Rattle.bolt_tree.proofs.Exports.{contains_head, contains_tail, kept_from, after_it}
-use Rattle.bolt_etcd.specs.{Compactions.IsCompaction, Compactions.kept_revisions, Follows.follows}
-use Rattle.bolt_etcd.specs.Histories.{Delete, Put, State, Transaction, history, nothing, version_after}
-use Rattle.bolt_etcd.specs.{NameFaults.AreByName, NameFaults.NameFaultView, NameFaults.fault_of, NameFaults.name_faults, Newest.is_named, Newest.newest, Newest.value_if}
-use Rattle.bolt_etcd.specs.{Revisions.RevisionView, Revisions.name_of, Possible.ArePossible, Taken.IsShownBy, Taken.IsTaken, Taken.TellsOneBefore, Told.number_cmp}
+use Rattle.bolt_etcd.specs.{Histories.Compactions.IsCompaction, Histories.Compactions.kept_revisions, Check.Follows.follows}
+use Rattle.bolt_etcd.specs.Histories.Transactions.{Delete, Put, State, Transaction, history, nothing, version_after}
+use Rattle.bolt_etcd.specs.{Check.NameFaults.AreByName, Check.NameFaults.NameFaultView, Check.NameFaults.fault_of, Check.NameFaults.name_faults}
+use Rattle.bolt_etcd.specs.{Store.Newest.is_named, Store.Newest.newest, Store.Newest.value_if}
+use Rattle.bolt_etcd.specs.{Wire.Revisions.RevisionView, Wire.Revisions.name_of, Histories.Possible.ArePossible, Histories.Taken.IsShownBy}
+use Rattle.bolt_etcd.specs.{Histories.Taken.IsTaken, Histories.Taken.TellsOneBefore, Histories.Told.number_cmp}
 use Rattle.bolt_etcd.proofs.{HistorySteps.IsWritten, HistorySteps.each, HistorySteps.goes, HistorySteps.numbers_rise, StoreLemmas.itself}
-use Rattle.bolt_etcd.proofs.{WholeNames.IsOwn, WholeNames.LaterFollow, WholeNames.kept_follow, WholeNames.own_before, FaultsOfNames.faults_named, LastOnes.last_in, MissingExact.main_le}
-use Rattle.bolt_etcd.proofs.{NameHistories.follows_is, NameHistories.held_of, NameHistories.held_parts, TakenAway.all_rise, TakenAway.left_by_stored_key}
+use Rattle.bolt_etcd.proofs.{WholeNames.IsOwn, WholeNames.LaterFollow, WholeNames.kept_follow, WholeNames.own_before, FaultsOfNames.faults_named}
+use Rattle.bolt_etcd.proofs.{LastOnes.last_in, MissingExact.main_le}
+use Rattle.bolt_etcd.proofs.{NameHistories.follows_is, NameHistories.held_of, NameHistories.held_parts, TakenAway.all_rise}
+use Rattle.bolt_etcd.proofs.{TakenAway.left_by_stored_key}
 
 next_version : (o : Option RevisionView) → 0 < version_after o
 next_version None = omega arith

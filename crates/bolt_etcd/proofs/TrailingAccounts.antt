@@ -6,7 +6,7 @@ use Rattle.bolt_format.specs.{Pages.page_overflow, Pages.span_fault, declared.me
 use Rattle.bolt_format.proofs.Exports.{first_of-none}
 use Rattle.bolt_check.proofs.Exports.{SameFreelist, Agree, accounts_along, trees_along}
 use Rattle.bolt_check.specs.Sound.{IsSound}
-use Rattle.bolt_etcd.specs.Marks.{HasAllPages}
+use Rattle.bolt_etcd.specs.Check.WholeFiles.{HasAllPages}
 use Rattle.bolt_etcd.proofs.TrailingBytes.{below_of, bytes_more, count_more, fault_more, flags_more, overflow_more, shown_more, span_more}
 use Rattle.bolt_etcd.proofs.TrailingMetas.{in_slot_more}
 
@@ -27,7 +27,8 @@ module _ (file more : List ℕ) (meta : Meta) (all : HasAllPages file meta) wher
   unfolding freelist_fault
   freelist_passes written good = grind (arith, ne_eqb, first_of-none)
 
-  overflow_same : meta.freelist ≢ NO_FREELIST → freelist_fault_of file meta ≡ None → page_overflow longer meta meta.freelist ≡ page_overflow file meta meta.freelist
+  overflow_same : meta.freelist ≢ NO_FREELIST → freelist_fault_of file meta ≡ None
+      → page_overflow longer meta meta.freelist ≡ page_overflow file meta meta.freelist
   overflow_same written good = overflow_more file more meta all meta.freelist (below_of file more meta all meta.freelist (freelist_passes written good))
 
   module _ (good : freelist_fault_of file meta ≡ None) where
@@ -37,7 +38,9 @@ module _ (file more : List ℕ) (meta : Meta) (all : HasAllPages file meta) wher
 
     ids_by : (b : Bool) → (meta.freelist == NO_FREELIST) ≡ b → free_ids_of longer meta ≡ free_ids_of file meta
     ids_by true is = rw is refl
-    ids_by false is = ap (λ (ids : List ℕ). cond (meta.freelist == NO_FREELIST) None (Some ids)) (ids_at (λ same. absurd (let listed = eq-eqb meta.freelist NO_FREELIST same in cc)))
+    ids_by false is =
+        ap (λ (ids : List ℕ). cond (meta.freelist == NO_FREELIST) None (Some ids))
+        (ids_at (λ same. absurd (let listed = eq-eqb meta.freelist NO_FREELIST same in cc)))
 
     ids_more : free_ids_of longer meta ≡ free_ids_of file meta
     ids_more = ids_by (meta.freelist == NO_FREELIST) refl

@@ -3,10 +3,11 @@ use Rattle.std.proofs.Common.{◌≡◌, ◌∙◌, ◌<◌, ◌≤◌, ◌+◌,
 use Rattle.std.proofs.{Math.Nat.mul-le-mul_right, Math.Seq.take-append_seam, lemmas.Bool.cases_lt, lemmas.Bool.le-leb, lemmas.Bool.le-ltb}
 use Rattle.std.proofs.lemmas.List.{drop-append-le, length-append, length-drop, take-append-le}
 use Rattle.byteorder.specs.{Endian.little_number, Numbers.little_from-take}
-use Rattle.bolt_format.specs.{Bytes.number_at, Headers.count_field, Headers.flags_field, Pages.from_page, Pages.page_at, Pages.page_fault, Pages.page_overflow, Pages.span_bytes, Pages.span_fault}
+use Rattle.bolt_format.specs.{Bytes.number_at, Headers.count_field, Headers.flags_field, Pages.from_page, Pages.page_at, Pages.page_fault}
+use Rattle.bolt_format.specs.{Pages.page_overflow, Pages.span_bytes, Pages.span_fault}
 use Rattle.bolt_format.specs.declared.meta.Meta.{Meta}
 use Rattle.bolt_format.proofs.Exports.{span_within, size_bounds}
-use Rattle.bolt_etcd.specs.Marks.{HasAllPages}
+use Rattle.bolt_etcd.specs.Check.WholeFiles.{HasAllPages}
 
 -- ---- numbers
 
@@ -20,8 +21,8 @@ number_more file more at n h =
 
 -- ---- pages
 
-row_end : (id mark size : ℕ) → id < mark → id * size + size ≤ mark * size
-row_end id mark size below = let rows : suc id * size ≤ mark * size = mul-le-mul_right size below in omega (arith, rows)
+row_end : (id high_water size : ℕ) → id < high_water → id * size + size ≤ high_water * size
+row_end id high_water size below = let rows : suc id * size ≤ high_water * size = mul-le-mul_right size below in omega (arith, rows)
 
 module _ (file more : List ℕ) (meta : Meta) (all : HasAllPages file meta) where
   room : (id : ℕ) → id < meta.high_water → id * meta.page_size + meta.page_size ≤ length file
@@ -33,7 +34,8 @@ module _ (file more : List ℕ) (meta : Meta) (all : HasAllPages file meta) wher
   from_more : (id : ℕ) → id < meta.high_water → from_page (file ++ more) meta id ≡ from_page file meta id ++ more
   from_more id below = drop-append-le (id * meta.page_size) file more (omega (arith, header_in id below))
 
-  field_more : (id at n : ℕ) → id < meta.high_water → at + n ≤ 16 → number_at (from_page (file ++ more) meta id) at n ≡ number_at (from_page file meta id) at n
+  field_more : (id at n : ℕ) → id < meta.high_water → at + n ≤ 16
+      → number_at (from_page (file ++ more) meta id) at n ≡ number_at (from_page file meta id) at n
   field_more id at n below h = grind (arith, from_more, number_more, header_in, length-drop)
 
   pub overflow_more : (id : ℕ) → id < meta.high_water → page_overflow (file ++ more) meta id ≡ page_overflow file meta id

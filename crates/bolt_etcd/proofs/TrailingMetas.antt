@@ -1,12 +1,13 @@
 -- Bytes after the last page below the high-water mark: the same meta is active.
 use Rattle.std.proofs.Common.{◌≡◌, ◌∙◌, ◌+◌, ◌<◌, ◌≤◌, ℕ, List, [], ◌++◌, drop, take, length, inl, inr, arith, ap, refl, sym}
-use Rattle.std.proofs.{Math.Nat.mul-le-mul_right, lemmas.List.drop-append-le, lemmas.List.length-append, lemmas.List.length-drop, lemmas.List.take-append-le}
+use Rattle.std.proofs.{Math.Nat.mul-le-mul_right, lemmas.List.drop-append-le, lemmas.List.length-append, lemmas.List.length-drop}
+use Rattle.std.proofs.{lemmas.List.take-append-le}
 use Rattle.bolt_format.specs.{Metas.IsActive, Metas.IsInSlot, Metas.IsMeta, Metas.other_slot, declared.meta.Meta.Meta, declared.meta.Slot.Slot}
 use Rattle.bolt_format.specs.declared.meta.Slot.TheVariants.{Zero, One}
 use Rattle.bolt_format.proofs.Exports.{SameRecord, meta_same, same_back, span_passes, size_bounds}
 use Rattle.bolt_check.specs.{Nodes.node_at, Sound.HasSoundTrees, Ways.root_spot}
 use Rattle.bolt_check.proofs.Exports.{IsTreePage, a_branch, a_leaf, tree_page, in_own_span}
-use Rattle.bolt_etcd.specs.Marks.{HasAllPages}
+use Rattle.bolt_etcd.specs.Check.WholeFiles.{HasAllPages}
 use Rattle.bolt_etcd.proofs.TrailingBytes.{below_of, number_more}
 
 -- ---- a file and more bytes
@@ -47,7 +48,8 @@ module _ (file more : List ℕ) where
   first_room One meta (inr (none, lone)) = omega (arith, lone.valid.whole)
 
   -- the meta of the other slot was there before
-  other_less : (slot : Slot) (meta other : Meta) → meta.page_size + 80 ≤ length file → IsInSlot file slot meta → IsInSlot (file ++ more) (other_slot slot) other
+  other_less : (slot : Slot) (meta other : Meta) → meta.page_size + 80 ≤ length file → IsInSlot file slot meta
+      → IsInSlot (file ++ more) (other_slot slot) other
       → IsInSlot file (other_slot slot) other
   other_less Zero meta other room valid (inl (zero, first, second)) =
       let first_less = meta_less 0 zero valid.whole first in
@@ -75,5 +77,6 @@ three_pages file meta all trees =
 second_room : (file : List ℕ) (meta : Meta) → HasAllPages file meta → HasSoundTrees file meta → meta.page_size + 80 ≤ length file
 second_room file meta all trees = grind (arith, mul-le-mul_right, three_pages, size_bounds)
 
-pub chosen_more : (file more : List ℕ) (slot : Slot) (meta : Meta) → HasAllPages file meta → HasSoundTrees file meta → IsActive file slot meta → IsActive (file ++ more) slot meta
+pub chosen_more : (file more : List ℕ) (slot : Slot) (meta : Meta) → HasAllPages file meta → HasSoundTrees file meta → IsActive file slot meta
+    → IsActive (file ++ more) slot meta
 chosen_more file more slot meta all trees chosen = chosen_room file more slot meta (second_room file meta all trees) chosen

@@ -1,9 +1,10 @@
 -- Varints: what the bytes so far make of the whole.
-use Rattle.std.proofs.Common.{◌≡◌, ◌∙◌, ℕ, suc, ◌+◌, ◌-◌, ◌*◌, ◌<◌, ◌≤◌, ◌^◌, ◌%◌, bit_and, bit_or, add-zero, sym, List, [], ◌∷◌, Some, None, refl, ap, arith, length}
+use Rattle.std.proofs.Common.{◌≡◌, ◌∙◌, ℕ, suc, ◌+◌, ◌-◌, ◌*◌, ◌<◌, ◌≤◌, ◌^◌, ◌%◌, bit_and, bit_or, add-zero, sym, List, [], ◌∷◌, Some, None, refl}
+use Rattle.std.proofs.Common.{ap, arith, length}
 use Rattle.std.proofs.lemmas.Bool.{lt-ltb, le-ltb}
 use Rattle.std.proofs.lemmas.Nat.{and_mask, mod_low, mod-pow-add, mul-le, or_comm, or_shifted, pow-add, shl-shr, shr_high}
 use Rattle.std.proofs.Math.Nat.{mul-mod_left}
-use Rattle.bolt_etcd.specs.Wire.{◌>>=◌, Read, varint, varint_within}
+use Rattle.bolt_etcd.specs.Wire.Fields.{◌>>=◌, Read, varint, varint_within}
 
 -- the number whose low bits are known, where the other bits are read
 abbrev pub after : ℕ → ℕ → Read ℕ → Read ℕ
@@ -18,7 +19,8 @@ after_none (Some x) = let e : x.0 ≡ 0 + 1 * x.0 = omega arith in ap (λ (n : �
 joined : (s j low bits : ℕ) → low < 2 ^ s → bit_or low ((bits * 2 ^ s) % 2 ^ (j + s)) ≡ (low + 2 ^ s * bits) % 2 ^ (j + s)
 joined s j low bits h =
     let shifted : (bits * 2 ^ s) % 2 ^ (j + s) ≡ (bits % 2 ^ j) * 2 ^ s = mod-pow-add (bits * 2 ^ s) j s ∙ simp (shl-shr, mul-mod_left, add-zero) in
-    let all : (bits * 2 ^ s + low) % 2 ^ (j + s) ≡ (bits % 2 ^ j) * 2 ^ s + low = mod-pow-add (bits * 2 ^ s + low) j s ∙ rw (shr_high bits s low h, mod_low bits s low h) refl in
+    let all : (bits * 2 ^ s + low) % 2 ^ (j + s) ≡ (bits % 2 ^ j) * 2 ^ s + low =
+    mod-pow-add (bits * 2 ^ s + low) j s ∙ rw (shr_high bits s low h, mod_low bits s low h) refl in
     let turned : bits * 2 ^ s + low ≡ low + 2 ^ s * bits = grind arith in
     rw shifted (or_comm low ((bits % 2 ^ j) * 2 ^ s) ∙ or_shifted (bits % 2 ^ j) s low h ∙ sym all ∙ ap (λ (n : ℕ). n % 2 ^ (j + s)) turned)
 
@@ -51,7 +53,8 @@ unfolding varint
 starts bytes = record { same = after_none (varint_within 10 bytes); below = λ _. omega arith; count = omega arith }
 
 next : (i low b : ℕ) (read : Read ℕ) → Adds i low (b % 128)
-    → after low (2 ^ (7 * i)) (read >>= λ high. Some (b % 128 + 128 * high.0, high.1)) ≡ after (bit_or low ((b % 128 * 2 ^ (7 * i)) % 2 ^ 64)) (2 ^ (7 * (i + 1))) read
+    → after low (2 ^ (7 * i)) (read >>= λ high. Some (b % 128 + 128 * high.0, high.1))
+    ≡ after (bit_or low ((b % 128 * 2 ^ (7 * i)) % 2 ^ 64)) (2 ^ (7 * (i + 1))) read
 next i low b None a = refl
 next i low b (Some x) a = ap (λ (n : ℕ). Some (n, x.1)) (rw (a.more x.0, a.last) (omega arith))
 

@@ -6,11 +6,15 @@ use Rattle.std.specs.{Cmp.Lexicographic.same_text, List.Contains, List.last_or, 
 use Rattle.bolt_check.specs.Keys.{Key}
 use Rattle.bolt_tree.proofs.Exports.{contains_cases, contains_head, contains_tail, filter_rises, kept_from}
 use Rattle.bolt_tree.specs.Order.{Rises}
-use Rattle.bolt_etcd.specs.{Compactions.IsCompaction, Compactions.kept_revisions, Follows.follows}
-use Rattle.bolt_etcd.specs.{Histories.Delete, Histories.Put, Histories.State, Histories.Transaction, Histories.after_all, Histories.history, Histories.nothing, MissingNumbers.is_of_later}
-use Rattle.bolt_etcd.specs.{NameFaults.before_of, NameFaults.is_newest, NameFaults.lacks_lease, NameFaults.lacks_one_before, NameFaults.name_faults, Newest.is_named, Newest.newest}
-use Rattle.bolt_etcd.specs.{Revisions.RevisionView, Revisions.name_of, Possible.ArePossible, Told.number_cmp}
-use Rattle.bolt_etcd.proofs.{HistorySteps.IsWritten, HistorySteps.each, HistorySteps.goes, HistorySteps.history_rises, HistorySteps.numbers_rise, KeptOfNames.IsCut, KeptOfNames.cut}
+use Rattle.bolt_etcd.specs.{Histories.Compactions.IsCompaction, Histories.Compactions.kept_revisions, Check.Follows.follows}
+use Rattle.bolt_etcd.specs.{Histories.Transactions.Delete, Histories.Transactions.Put, Histories.Transactions.State}
+use Rattle.bolt_etcd.specs.{Histories.Transactions.Transaction, Histories.Transactions.after_all, Histories.Transactions.history}
+use Rattle.bolt_etcd.specs.{Histories.Transactions.nothing, Check.MissingNumbers.is_of_later}
+use Rattle.bolt_etcd.specs.{Check.NameFaults.before_of, Check.NameFaults.is_newest, Check.NameFaults.lacks_lease, Check.NameFaults.lacks_one_before}
+use Rattle.bolt_etcd.specs.{Check.NameFaults.name_faults, Store.Newest.is_named, Store.Newest.newest}
+use Rattle.bolt_etcd.specs.{Wire.Revisions.RevisionView, Wire.Revisions.name_of, Histories.Possible.ArePossible, Histories.Told.number_cmp}
+use Rattle.bolt_etcd.proofs.{HistorySteps.IsWritten, HistorySteps.each, HistorySteps.goes, HistorySteps.history_rises, HistorySteps.numbers_rise}
+use Rattle.bolt_etcd.proofs.{KeptOfNames.IsCut, KeptOfNames.cut}
 use Rattle.bolt_etcd.proofs.{LastOnes.last_in, LastOnes.last_of_both, LastOnes.last_some, MissingExact.main_le}
 use Rattle.bolt_etcd.proofs.NameHistories.{AllFollow, all_follow, follows_held, follows_is, held_of, newest_held}
 

@@ -4,20 +4,37 @@ ghost use Rattle.std.specs.Option.{is_some};
 ghost use Rattle.bolt_check.specs.Keys.{key_cmp};
 ghost use Rattle.bolt_format.specs.{Bytes.IsBytes, Elements.LeafElement};
 ghost use Rattle.bolt_tree.specs.{Entries.EntryView, Entries.IsEntry, Order.Rises};
-ghost use Rattle.bolt_etcd.specs.{Crc32c.crc_of, HashKv.hash_kv, Numbered.numbered, Statuses.newest_main};
-ghost use Rattle.bolt_etcd.specs.{Current.AreCurrent, Current.stored_key_cmp, NameFaults.AreByName, NameFaults.name_faults, StoreBuckets.IsStore, StoreBuckets.StoreView};
-ghost use Rattle.bolt_etcd.specs.{Revisions.RevisionView, Told.IsMissing, Told.IsTold};
-ghost use Rattle.bolt_etcd.specs.{EtcdCompactions.etcd_keeps, Histories.history, FewTransactions.deletion_of_a, FewTransactions.first_a, FewTransactions.first_b, FewTransactions.second_a, FewTransactions.second_b, FewTransactions.few_transactions};
-ghost use Rattle.bolt_etcd.specs.{HeldNames.AreHeld, Histories.state_at, Newest.until, Taken.IsShownBy, Taken.IsTaken, Taken.TellsOneBefore, ToldRevisions.IsMissingRevision, ToldRevisions.IsToldRevision};
-ghost use Rattle.bolt_etcd.specs.{Numbered.ForMarks, Numbered.numbered_in, Numbered.numbered_of, Others.other_by, Others.other_of, Others.others_of, Records.empty, Revisions.revision_in, Revisions.revision_of, Stores.others};
-ghost use Rattle.bolt_etcd.specs.{RevisionKeys.IsSpelled, RevisionKeys.numbers_cmp, RevisionKeys.revision_key, RevisionKeys.spelling, Wire.field_and_later, Wire.fields};
-ghost use Rattle.bolt_etcd.specs.declared.revision_key.RevisionKey.{RevisionKey};
-ghost use Rattle.bolt_etcd.specs.{Compactions.IsCompaction, Compactions.kept_revisions, Histories.Transaction, Possible.ArePossible, StoreFaults.store_lines, WholeStores.GrantsLeases, WholeStores.HoldsExactly};
-ghost use Rattle.bolt_etcd.specs.ForHistories.{ForCompacted, ForTaken, ForNumbered};
-ghost use Rattle.bolt_etcd.specs.Current.{IsOne};
-ghost use Rattle.bolt_etcd.specs.Told.{HasNoneOf};
+ghost use Rattle.bolt_etcd.specs.{Store.Crc32c.crc_of, Store.HashKv.hash_kv, Wire.Numbered.numbered, Store.Statuses.newest_main};
+ghost use Rattle.bolt_etcd.specs.{Store.Current.AreCurrent, Store.Current.stored_key_cmp, Check.NameFaults.AreByName, Check.NameFaults.name_faults};
+ghost use Rattle.bolt_etcd.specs.{Store.StoreBuckets.IsStore, Store.StoreBuckets.StoreView};
+ghost use Rattle.bolt_etcd.specs.{Wire.Revisions.RevisionView, Histories.Told.IsMissing, Histories.Told.IsTold};
+ghost use Rattle.bolt_etcd.specs.{Histories.Compactions.etcd_keeps, Histories.Transactions.history, Histories.FewTransactions.deletion_of_a};
+ghost use Rattle.bolt_etcd.specs.{Histories.FewTransactions.first_a, Histories.FewTransactions.first_b, Histories.FewTransactions.second_a};
+ghost use Rattle.bolt_etcd.specs.{Histories.FewTransactions.second_b, Histories.FewTransactions.few_transactions};
+ghost use Rattle.bolt_etcd.specs.{Histories.Transactions.AreOfState, Histories.Transactions.state_at, Store.Newest.until, Histories.Taken.IsShownBy};
+ghost use Rattle.bolt_etcd.specs.{Histories.Taken.IsTaken, Histories.Taken.TellsOneBefore, Histories.ToldRevisions.IsMissingRevision};
+ghost use Rattle.bolt_etcd.specs.{Histories.ToldRevisions.IsToldRevision};
+ghost use Rattle.bolt_etcd.specs.{Wire.Numbered.ForMarks, Wire.Numbered.numbered_in, Wire.Numbered.numbered_of, Wire.Others.other_by};
+ghost use Rattle.bolt_etcd.specs.{Wire.Others.other_of, Wire.Others.others_of, Wire.Records.empty, Wire.Revisions.revision_in};
+ghost use Rattle.bolt_etcd.specs.{Wire.Revisions.revision_of, Store.Stores.others};
+ghost use Rattle.bolt_etcd.specs.{Wire.RevisionKeys.IsSpelled, Wire.RevisionKeys.numbers_cmp, Wire.RevisionKeys.revision_key};
+ghost use Rattle.bolt_etcd.specs.{Wire.RevisionKeys.spelling, Wire.Fields.field_and_later, Wire.Fields.fields};
+ghost use Rattle.bolt_etcd.specs.declared.wire.revision_key.RevisionKey.{RevisionKey};
+ghost use Rattle.bolt_etcd.specs.{Histories.Compactions.IsCompaction, Histories.Compactions.kept_revisions, Histories.Transactions.Transaction};
+ghost use Rattle.bolt_etcd.specs.{Histories.Possible.ArePossible, Check.StoreFaults.store_lines, Histories.WholeStores.GrantsLeases};
+ghost use Rattle.bolt_etcd.specs.{Histories.WholeStores.HoldsExactly};
+ghost use Rattle.bolt_etcd.specs.Histories.ForHistories.{ForCompacted, ForTaken, ForNumbered};
+ghost use Rattle.bolt_etcd.specs.Store.Current.{IsOne};
+ghost use Rattle.bolt_etcd.specs.Histories.Told.{HasNoneOf};
 ghost use Rattle.bolt_tree.specs.Laws.{ForBuckets};
 ghost use Rattle.bolt_text.specs.{Lines.line};
+ghost use Rattle.std.specs.Prelude.{◌+◌, ◌%◌, ◌++◌, take};
+ghost use Rattle.bolt_check.specs.Sound.{IsSound};
+ghost use Rattle.bolt_format.specs.{Metas.HasBothMetas, Metas.IsActive, declared.meta.Meta.Meta, declared.meta.Slot.Slot};
+ghost use Rattle.bolt_etcd.specs.{Check.WholeFiles.HasAllPages, Check.SnapshotFaults.IsSnapshot, Check.SnapshotFaults.cut_hash_fault};
+ghost use Rattle.bolt_etcd.specs.{Check.SnapshotFaults.hash_fault, Check.SnapshotFaults.snapshot_of};
+ghost use Rattle.bolt_tree.specs.Listing.{IsListing, Member};
+ghost use Rattle.bolt_etcd.specs.Check.WholeFiles.{ForTrailing};
 
 /// A message is a field, and then a message, up to its end.
 #[tactic(auto, using(crate::proofs::Messages::first_and_later))]
@@ -99,7 +116,7 @@ pub fn an_example_of_transactions()
     ensures possible { ArePossible few_transactions }
     ensures writes { history few_transactions
         ≡ first_a ∷ first_b ∷ deletion_of_a ∷ second_b ∷ second_a ∷ [] }
-    ensures held { map (λ at. state_at at few_transactions (codes "a")) (2 ∷ 3 ∷ 4 ∷ [])
+    ensures live_of { map (λ at. state_at at few_transactions (codes "a")) (2 ∷ 3 ∷ 4 ∷ [])
         ≡ Some first_a ∷ None ∷ Some second_a ∷ [] }
     ensures kept_by_old { kept_revisions (etcd_keeps false 3 (history few_transactions)) few_transactions
         ≡ first_b ∷ second_b ∷ second_a ∷ [] }
@@ -148,10 +165,10 @@ pub fn a_revision_that_is_taken_away_is_found()
 
 /// The keys that there are in such a store at a transaction, if it isn't before the compaction, are
 /// exactly what the names held after that transaction.
-pub fn keys_are_what_names_held()
+pub fn keys_are_those_of_the_state()
     ensures { ForCompacted (λ ts compacted rs. (at : ℕ) (current : List RevisionView)
         → compacted ≤ at
-        → AreCurrent (until at rs) current ↔ AreHeld (state_at at ts) current) }
+        → AreCurrent (until at rs) current ↔ AreOfState (state_at at ts) current) }
 {}
 
 /// The check value of CRC-32C: the sum of the digits from 1 to 9.
@@ -165,4 +182,25 @@ pub fn the_hash_of_all_is_that_at_the_newest_revision()
     ensures { (compacted : ℕ) (entries : List LeafElement) (a b : ℕ)
         → newest_main (numbered entries) ≤ a → newest_main (numbered entries) ≤ b
         → hash_kv a compacted entries ≡ hash_kv b compacted entries }
+{}
+
+/// Bytes after the last page below the high-water mark change nothing: metas stay valid, the same
+/// one is active, the file stays sound, and it lists the same.
+pub fn trailing_bytes_change_nothing()
+    ensures metas { (file more : List ℕ) → HasBothMetas file → HasBothMetas (file ++ more) }
+    ensures chosen { (file more : List ℕ) (slot : Slot) (meta : Meta) (accounts : Bool)
+        → HasAllPages file meta
+        → IsSound file meta accounts → IsActive file slot meta → IsActive (file ++ more) slot meta }
+    ensures sound { ForTrailing (λ file longer meta (accounts : Bool).
+        IsSound file meta accounts → IsSound longer meta accounts) }
+    ensures listing { ForTrailing (λ file longer meta (listing : List Member).
+        IsListing file meta listing ↔ IsListing longer meta listing) }
+{}
+
+/// A file of whole blocks of 512 bytes and its hash are a snapshot. Without the hash, it is missing; if a
+/// part of the hash is left out, it is cut off.
+pub fn hashed_blocks_are_a_snapshot()
+    ensures snapshot { (file : List ℕ) → length file % 512 ≡ 0 → IsSnapshot (snapshot_of file) }
+    ensures cut { (file : List ℕ) (n : ℕ) → length file % 512 ≡ 0 → n < 32
+        → hash_fault (take (length file + n) (snapshot_of file)) ≡ Some (cut_hash_fault n) }
 {}

@@ -1,7 +1,15 @@
 //! The wire format of protocol buffers: a message is a list of fields, each a tag and a value.
 ghost use Rattle.std.specs.Prelude.{◌<◌, ◌≤◌, IfSome, length};
-ghost use Rattle.bolt_etcd.specs.{Records.bytes_in, Records.varint_in, Returns.Returns, ShownRecords.before, ShownRecords.shown_field, ShownRecords.shown_value};
-ghost use Rattle.bolt_etcd.specs.Wire.{field, first, value, varint};
+ghost use Rattle.bolt_etcd.specs.{Wire.Records.bytes_in, Wire.Records.varint_in, Private.Returns.Returns, Wire.ShownRecords.before};
+ghost use Rattle.bolt_etcd.specs.{Wire.ShownRecords.shown_field, Wire.ShownRecords.shown_value};
+ghost use Rattle.bolt_etcd.specs.Wire.Fields.{field, first, value, varint};
+
+pub(crate) mod name_tag;
+pub(crate) mod numbered;
+pub(crate) mod other;
+pub(crate) mod record;
+pub(crate) mod revision;
+pub(crate) mod revision_key;
 
 /// The greatest number of bytes in a varint.
 const MAX_VARINT_LEN: u32 = 10;
@@ -49,7 +57,7 @@ impl<'a> Value<'a> {
 /// Reads the field that the bytes begin with, and returns it with the bytes after it. Returns
 /// `None` if they begin with none: if a varint or a value doesn't end in these bytes, or if the
 /// field number is 0 or the wire type isn't one of 0, 1, 2 and 5.
-#[tactic(auto, unfolding(crate::specs::Wire::field))]
+#[tactic(auto, unfolding(crate::specs::Wire::Fields::field))]
 pub(crate) fn read_field(bytes: &[u8]) -> Option<(Field<'_>, &[u8])>
     ensures read { Returns (before shown_field) result (field bytes.now) }
     ensures shorter { IfSome result (λ x. length x.1.now < length bytes.now) }
@@ -64,7 +72,7 @@ pub(crate) fn read_field(bytes: &[u8]) -> Option<(Field<'_>, &[u8])>
 }
 
 /// Reads a value of this wire type.
-#[tactic(auto, unfolding(crate::specs::Wire::value))]
+#[tactic(auto, unfolding(crate::specs::Wire::Fields::value))]
 fn read_value(wire_type: u64, bytes: &[u8]) -> Option<(Value<'_>, &[u8])>
     ensures read { Returns (before shown_value) result (value wire_type bytes.now) }
     ensures no_longer { IfSome result (λ x. length x.1.now ≤ length bytes.now) }

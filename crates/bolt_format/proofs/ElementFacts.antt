@@ -4,10 +4,13 @@ use Rattle.std.proofs.lemmas.Bool.{cases_lt, eqb-false, ltb-false, or_parts}
 use Rattle.std.proofs.lemmas.List.{get_or-drop, get_or-take, get_or_past, length-drop, length-take}
 use Rattle.std.specs.List.{Contains, slice_range}
 use Rattle.bolt_format.specs.{Bytes.IsBytes, ElementLengths.HasFitLengths, ElementLengths.IsKeyLength, ElementLengths.IsValueLength}
-use Rattle.bolt_format.specs.Elements.{IsBucketValue, LeafElement, element_at, head_root, inline_bytes, inline_elements, key_length_fault, leaf_element, leaf_end, leaf_flags, leaf_flags_fault, leaf_key_length, leaf_key_start, leaf_value_length, leaf_value_start, leaves_fault, plain_leaf_fault, table_fault, value_length_fault}
+use Rattle.bolt_format.specs.Elements.{IsBucketValue, LeafElement, element_at, head_root, inline_bytes, inline_elements, key_length_fault}
+use Rattle.bolt_format.specs.Elements.{leaf_element, leaf_end, leaf_flags, leaf_flags_fault, leaf_key_length, leaf_key_start, leaf_value_length}
+use Rattle.bolt_format.specs.Elements.{leaf_value_start, leaves_fault, plain_leaf_fault, table_fault, value_length_fault}
 use Rattle.bolt_format.specs.{Pages.PageView, Pages.page_at, Pages.span_bytes, declared.meta.Meta.Meta}
 use Rattle.bolt_format.specs.declared.header.Kind.TheVariants as kind
-use Rattle.bolt_format.proofs.{FaultLemmas.first_of-none, GoodPages.faults_from-none, GoodPages.guard-none, GoodPages.plain-none, PageFacts.in_inline, PageFacts.on_leaf}
+use Rattle.bolt_format.proofs.{FaultLemmas.first_of-none, GoodPages.faults_from-none, GoodPages.guard-none, GoodPages.plain-none, PageFacts.in_inline}
+use Rattle.bolt_format.proofs.{PageFacts.on_leaf}
 
 key_fits : (n : ℕ) → key_length_fault n ≡ None → IsKeyLength n
 key_fits n e = grind (arith, or_parts, guard-none, eqb-false, ltb-false, cases_lt)
@@ -20,7 +23,8 @@ length-range : (bytes : List ℕ) (a b : ℕ) → b ≤ length bytes → length 
 length-range bytes a b h = grind (arith, length-drop, length-take)
 
 -- element i of good leaves
-leaf_fits : (bucket_fault : List ℕ → Option ℕ) (bytes : List ℕ) (count i : ℕ) → leaves_fault bucket_fault bytes count ≡ None → i < count → HasFitLengths (leaf_element bytes i)
+leaf_fits : (bucket_fault : List ℕ → Option ℕ) (bytes : List ℕ) (count i : ℕ) → leaves_fault bucket_fault bytes count ≡ None → i < count
+    → HasFitLengths (leaf_element bytes i)
 unfolding leaves_fault plain_leaf_fault
 leaf_fits bucket_fault bytes count i e low =
     let both = first_of-none (table_fault bytes count) _ e in
@@ -37,12 +41,14 @@ leaf_fits bucket_fault bytes count i e low =
     record { key = (omega (arith, key_long, k), omega (arith, key_long, k)); value = omega (arith, value_long, v) }
 
 -- an entry of a good leaf, and one of an inline bucket
-pub entry_fits : (file : List ℕ) (meta : Meta) (id : ℕ) (view : PageView) (e : LeafElement) → page_at file meta id ≡ Some view → view.kind ≡ kind.Leaf → Contains view.leaves e → HasFitLengths e
+pub entry_fits : (file : List ℕ) (meta : Meta) (id : ℕ) (view : PageView) (e : LeafElement) → page_at file meta id ≡ Some view → view.kind ≡ kind.Leaf
+    → Contains view.leaves e → HasFitLengths e
 entry_fits file meta id view e shows leaf has =
     let on = on_leaf file meta id view e shows leaf has in
     subst HasFitLengths (sym on.same) (leaf_fits _ (span_bytes file meta id) _ on.i on.good on.low)
 
-pub inline_fits : (value : List ℕ) (e : LeafElement) → IsBucketValue value → head_root value ≡ 0 → Contains (inline_elements value) e → HasFitLengths e
+pub inline_fits : (value : List ℕ) (e : LeafElement) → IsBucketValue value → head_root value ≡ 0 → Contains (inline_elements value) e
+    → HasFitLengths e
 inline_fits value e good root has =
     let on = in_inline value e good root has in
     subst HasFitLengths (sym on.same) (leaf_fits _ (inline_bytes value) _ on.i on.good on.low)
@@ -58,9 +64,11 @@ pub range_bytes : (bytes : List ℕ) (a b : ℕ) → IsBytes bytes → IsBytes (
 range_bytes bytes a b h = take_bytes (drop a bytes) (b - a) (drop_bytes bytes a h)
 
 -- an entry's value has bytes of the file
-pub value_bytes : (file : List ℕ) (meta : Meta) (id : ℕ) (view : PageView) (e : LeafElement) → IsBytes file → page_at file meta id ≡ Some view → view.kind ≡ kind.Leaf → Contains view.leaves e
+pub value_bytes : (file : List ℕ) (meta : Meta) (id : ℕ) (view : PageView) (e : LeafElement) → IsBytes file → page_at file meta id ≡ Some view
+    → view.kind ≡ kind.Leaf → Contains view.leaves e
     → IsBytes e.value
 value_bytes file meta id view e bytes shows leaf has =
     let on = on_leaf file meta id view e shows leaf has in
     let span : List ℕ = span_bytes file meta id in
-    subst IsBytes (sym (ap (λ (x : LeafElement). x.value) on.same)) (range_bytes span (leaf_value_start span on.i) (leaf_end span on.i) (range_bytes file _ _ bytes))
+    subst IsBytes (sym (ap (λ (x : LeafElement). x.value) on.same))
+    (range_bytes span (leaf_value_start span on.i) (leaf_end span on.i) (range_bytes file _ _ bytes))

@@ -1,10 +1,13 @@
 -- Headers, and the heads of buckets' values, that were written are read back.
-use Rattle.std.proofs.Common.{◌≡◌, ◌∙◌, ℕ, ◌+◌, ◌^◌, ◌<◌, ◌≤◌, ◌==◌, nat_lt, Bool, true, false, List, [], ◌++◌, length, drop, None, Some, refl, sym, ap, arith, append_assoc, append-nil}
+use Rattle.std.proofs.Common.{◌≡◌, ◌∙◌, ℕ, ◌+◌, ◌^◌, ◌<◌, ◌≤◌, ◌==◌, nat_lt, Bool, true, false, List, [], ◌++◌, length, drop, None, Some, refl, sym}
+use Rattle.std.proofs.Common.{ap, arith, append_assoc, append-nil}
 use Rattle.std.proofs.{lemmas.Bool.le-ltb, lemmas.Bool.ne_eqb, lemmas.List.length-append}
-use Rattle.bolt_format.specs.Elements.{branch_child, branch_key_length, branch_key_start, element_at, head_fault, head_root, leaf_flags, leaf_key_length, leaf_key_start, leaf_value_length, value_fault}
+use Rattle.bolt_format.specs.Elements.{branch_child, branch_key_length, branch_key_start, element_at, head_fault, head_root, leaf_flags}
+use Rattle.bolt_format.specs.Elements.{leaf_key_length, leaf_key_start, leaf_value_length, value_fault}
 use Rattle.bolt_format.specs.Headers.{flags_of, kind_of}
 use Rattle.bolt_format.specs.ReadBack.{IsBranchHeader, IsBranchHeaderFit, IsHead, IsHeader, IsHeaderFit, IsLeafHeader, IsLeafHeaderFit}
-use Rattle.bolt_format.specs.{Encoded.branch_header, Encoded.head_bytes, Encoded.header_bytes, Encoded.leaf_flag, Encoded.leaf_header, Encoded.number_bytes, declared.header.Kind.Kind}
+use Rattle.bolt_format.specs.{Encoded.branch_header, Encoded.head_bytes, Encoded.header_bytes, Encoded.leaf_flag, Encoded.leaf_header}
+use Rattle.bolt_format.specs.{Encoded.number_bytes, declared.header.Kind.Kind}
 use Rattle.bolt_format.specs.declared.header.Kind.TheVariants as kind
 use Rattle.bolt_format.proofs.{FaultLemmas.first_of-both, NumberLemmas.length-number_bytes, NumberLemmas.number_next, NumberLemmas.number_read}
 
@@ -25,7 +28,8 @@ pub header_written : (bytes rest : List ℕ) (number : ℕ) (is : Kind) (count o
     → IsHeaderFit number count overflow → IsHeader bytes number is count overflow × (drop 16 bytes ≡ rest)
 unfolding header_bytes
 header_written bytes rest number is count overflow h fit =
-    let d0 : drop 0 bytes ≡ number_bytes 8 number ++ (number_bytes 2 (flags_of is) ++ (number_bytes 2 count ++ (number_bytes 4 overflow ++ rest))) = h ∙ simp append_assoc in
+    let d0 : drop 0 bytes ≡ number_bytes 8 number ++ (number_bytes 2 (flags_of is) ++ (number_bytes 2 count ++ (number_bytes 4 overflow ++ rest))) =
+    h ∙ simp append_assoc in
     let d1 = number_next bytes _ 0 8 number 8 d0 refl in
     let d2 = number_next bytes _ 8 2 (flags_of is) 10 d1 refl in
     let d3 = number_next bytes _ 10 2 count 12 d2 refl in
@@ -73,12 +77,14 @@ flag_bucket : (b : Bool) → (leaf_flag b == 1) ≡ b
 flag_bucket true = refl
 flag_bucket false = refl
 
-pub leaf_header_written : (bytes rest : List ℕ) (i : ℕ) (is_bucket : Bool) (pos key value : ℕ) → drop (element_at i) bytes ≡ leaf_header is_bucket pos key value ++ rest
+pub leaf_header_written : (bytes rest : List ℕ) (i : ℕ) (is_bucket : Bool) (pos key value : ℕ)
+    → drop (element_at i) bytes ≡ leaf_header is_bucket pos key value ++ rest
     → IsLeafHeaderFit pos key value → IsLeafHeader bytes i is_bucket pos key value × (drop (element_at (i + 1)) bytes ≡ rest)
 unfolding leaf_header leaf_flags leaf_key_start leaf_key_length leaf_value_length
 leaf_header_written bytes rest i is_bucket pos key value h fit =
     let flag : ℕ = leaf_flag is_bucket in
-    let d0 : drop (element_at i) bytes ≡ number_bytes 4 flag ++ (number_bytes 4 pos ++ (number_bytes 4 key ++ (number_bytes 4 value ++ rest))) = h ∙ simp append_assoc in
+    let d0 : drop (element_at i) bytes ≡ number_bytes 4 flag ++ (number_bytes 4 pos ++ (number_bytes 4 key ++ (number_bytes 4 value ++ rest))) =
+    h ∙ simp append_assoc in
     let d1 = number_next bytes _ (element_at i) 4 flag (element_at i + 4) d0 refl in
     let d2 = number_next bytes _ (element_at i + 4) 4 pos (element_at i + 8) d1 (omega arith) in
     let d3 = number_next bytes _ (element_at i + 8) 4 key (element_at i + 12) d2 (omega arith) in

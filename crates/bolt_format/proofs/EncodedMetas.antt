@@ -1,8 +1,11 @@
 -- A meta page that was written is valid.
-use Rattle.std.proofs.Common.{IsTrue, ◌≡◌, ◌∙◌, ◌⊎◌, ℕ, ◌+◌, ◌*◌, ◌^◌, ◌<◌, ◌≤◌, List, [], ◌∷◌, ◌++◌, length, drop, take, refl, sym, ap, subst, inl, inr, arith, append_assoc, bit_xor}
+use Rattle.std.proofs.Common.{IsTrue, ◌≡◌, ◌∙◌, ◌⊎◌, ℕ, ◌+◌, ◌*◌, ◌^◌, ◌<◌, ◌≤◌, List, [], ◌∷◌, ◌++◌, length, drop, take, refl, sym, ap, subst, inl}
+use Rattle.std.proofs.Common.{inr, arith, append_assoc, bit_xor}
 use Rattle.std.proofs.{lemmas.Bool.eq-eqb, lemmas.Bool.le-leb, lemmas.List.length-append, Math.Nat.mod-lt}
-use Rattle.bolt_format.specs.{BboltMetas.is_meta_header, Bytes.fnv_from, Bytes.fnv_of, Bytes.fnv_step, Metas.IsActive, Metas.IsMeta, Metas.IsPageSize, Metas.magic, Metas.meta_fields, Metas.size_at, Metas.version}
-use Rattle.bolt_format.specs.{ReadBack.IsMetaFit, Encoded.header_bytes, Encoded.meta_bytes, Encoded.meta_record, Encoded.number_bytes, declared.meta.Meta.Meta, declared.meta.Slot.TheVariants.One}
+use Rattle.bolt_format.specs.{BboltMetas.is_meta_header, Bytes.fnv_from, Bytes.fnv_of, Bytes.fnv_step, Metas.IsActive, Metas.IsMeta, Metas.IsPageSize}
+use Rattle.bolt_format.specs.{Metas.magic, Metas.meta_fields, Metas.size_at, Metas.version}
+use Rattle.bolt_format.specs.{ReadBack.IsMetaFit, Encoded.header_bytes, Encoded.meta_bytes, Encoded.meta_record, Encoded.number_bytes}
+use Rattle.bolt_format.specs.{declared.meta.Meta.Meta, declared.meta.Slot.TheVariants.One}
 use Rattle.bolt_format.specs.declared.header.Kind.TheVariants as kind
 use Rattle.bolt_format.proofs.MetaLemmas.{newer_one}
 use Rattle.bolt_format.proofs.NumberLemmas.{length-number_bytes, number_next, number_read, part_next, part_read, part_within}
@@ -29,7 +32,8 @@ pub length-meta_bytes : (number : ℕ) (meta : Meta) → length (meta_bytes numb
 unfolding meta_bytes
 length-meta_bytes number meta = grind (arith, length-header_bytes, length-meta_record, length-number_bytes, length-append)
 
-same_meta : (a b : Meta) → a.page_size ≡ b.page_size → a.root ≡ b.root → a.root_sequence ≡ b.root_sequence → a.freelist ≡ b.freelist → a.high_water ≡ b.high_water
+same_meta : (a b : Meta) → a.page_size ≡ b.page_size → a.root ≡ b.root → a.root_sequence ≡ b.root_sequence → a.freelist ≡ b.freelist
+    → a.high_water ≡ b.high_water
     → a.txid ≡ b.txid → a ≡ b
 same_meta a b p q r s t u = grind arith
 
@@ -46,8 +50,11 @@ meta_written file rest at number meta h fit place within =
     let rl = length-meta_record meta in
     let sl = length-number_bytes 8 sum in
     let r : drop (at + 16) file ≡ written ++ (number_bytes 8 sum ++ rest) = part_next file header _ at (at + 16) e (omega arith) in
-    let d0 : drop (at + 16) file ≡ number_bytes 4 magic ++ (number_bytes 4 version ++ (number_bytes 4 meta.page_size ++ (number_bytes 4 0 ++ (number_bytes 8 meta.root
-    ++ (number_bytes 8 meta.root_sequence ++ (number_bytes 8 meta.freelist ++ (number_bytes 8 meta.high_water ++ (number_bytes 8 meta.txid ++ (number_bytes 8 sum ++ rest))))))))) = r ∙ simp append_assoc in
+    let d0 : drop (at + 16) file
+    ≡ number_bytes 4 magic ++ (number_bytes 4 version ++ (number_bytes 4 meta.page_size ++ (number_bytes 4 0 ++ (number_bytes 8 meta.root
+    ++ (number_bytes 8 meta.root_sequence
+    ++ (number_bytes 8 meta.freelist ++ (number_bytes 8 meta.high_water ++ (number_bytes 8 meta.txid ++ (number_bytes 8 sum ++ rest))))))))) = r
+    ∙ simp append_assoc in
     let d1 = number_next file _ (at + 16) 4 magic (at + 20) d0 (omega arith) in
     let d2 = number_next file _ (at + 20) 4 version (at + 24) d1 (omega arith) in
     let d3 = number_next file _ (at + 24) 4 meta.page_size (at + 28) d2 (omega arith) in
@@ -73,7 +80,7 @@ meta_written file rest at number meta h fit place within =
           (sym (number_read file _ (at + 32) 8 meta.root d4 fit.root))
           (sym (number_read file _ (at + 40) 8 meta.root_sequence d5 fit.sequence))
           (sym (number_read file _ (at + 48) 8 meta.freelist d6 fit.freelist))
-          (sym (number_read file _ (at + 56) 8 meta.high_water d7 fit.mark))
+          (sym (number_read file _ (at + 56) 8 meta.high_water d7 fit.high_water))
           (sym (number_read file _ (at + 64) 8 meta.txid d8 fit.txid));
     }
 
@@ -90,5 +97,6 @@ meta_header_written file rest at number meta h small within =
     rw (le-leb (at + 16) (length file) (omega arith), eq-eqb _ _ is.id, eq-eqb _ _ is.flags) refl
 
 -- of two metas the one with the greater transaction id is active
-pub chosen_of : (file : List ℕ) (page_size : ℕ) (older one : Meta) → IsMeta file 0 older → IsMeta file page_size one → older.page_size ≡ page_size → older.txid < one.txid → IsActive file One one
+pub chosen_of : (file : List ℕ) (page_size : ℕ) (older one : Meta) → IsMeta file 0 older → IsMeta file page_size one → older.page_size ≡ page_size
+    → older.txid < one.txid → IsActive file One one
 chosen_of file page_size older one first second size newer = grind (arith, newer_one)

@@ -37,10 +37,12 @@ pub leaf_table : (bytes : List ℕ) (count : ℕ) → leaves_fault value_fault b
 unfolding leaves_fault
 leaf_table bytes count e = table-none bytes count (first_of-none (table_fault bytes count) _ e).0
 
-pub branch_there : (bytes : List ℕ) (count i : ℕ) → branches_fault bytes count ≡ None → i < count → (element_at (i + 1) ≤ length bytes) × (branch_end bytes i ≤ length bytes)
+pub branch_there : (bytes : List ℕ) (count i : ℕ) → branches_fault bytes count ≡ None → i < count
+    → (element_at (i + 1) ≤ length bytes) × (branch_end bytes i ≤ length bytes)
 branch_there bytes count i e h = good_branch bytes count i e h
 
-pub leaf_there : (bytes : List ℕ) (count i : ℕ) → leaves_fault value_fault bytes count ≡ None → i < count → (element_at (i + 1) ≤ length bytes) × (leaf_end bytes i ≤ length bytes)
+pub leaf_there : (bytes : List ℕ) (count i : ℕ) → leaves_fault value_fault bytes count ≡ None → i < count
+    → (element_at (i + 1) ≤ length bytes) × (leaf_end bytes i ≤ length bytes)
 leaf_there bytes count i e h = let good = good_leaf value_fault bytes count i e h in (good.0, good.1)
 
 pub ruleset branch_places = (branch_table, branch_there, elsewhere_below)

@@ -1,13 +1,18 @@
 -- What follows of the elements of a page that passed its tests.
-use Rattle.std.proofs.Common.{◌≡◌, ◌∙◌, ℕ, zero, suc, ◌+◌, ◌-◌, ◌<◌, ◌≤◌, List, Bool, true, false, Option, None, Some, IsSome, is_some, length, zero-add, eq-eqb, nat_le, map, arith, ap, refl, sym, subst, cond, nat_lt, slice_get, inl, inr, take, drop}
+use Rattle.std.proofs.Common.{◌≡◌, ◌∙◌, ℕ, zero, suc, ◌+◌, ◌-◌, ◌<◌, ◌≤◌, List, Bool, true, false, Option, None, Some, IsSome, is_some, length}
+use Rattle.std.proofs.Common.{zero-add, eq-eqb, nat_le, map, arith, ap, refl, sym, subst, cond, nat_lt, slice_get, inl, inr, take, drop}
 use Rattle.std.proofs.{lemmas.Bool.cases_lt, lemmas.Bool.ltb-false, lemmas.Bool.not-false, lemmas.Bool.or_parts, lemmas.Bool.Decides.nat_tests}
 use Rattle.std.proofs.lemmas.List.FromFn.{get_or-map-range_with_len, get_or-range_with_len, length-map-range_with_len, length-range_with_len}
 use Rattle.std.proofs.{lemmas.List.take_rest, lemmas.List.Folds.list_any_at, lemmas.Option.slice_get-get_or}
 use Rattle.std.specs.List.{list_any, range_with_len}
-use Rattle.bolt_format.specs.Elements.{IsBucketValue, branch_element, branch_elements, branch_end, branch_fault, branch_key_length, branch_key_start, branches_fault, data_fault, element_at, faults_from, page_has_bucket, head_fault, head_root, inline_bytes, inline_fault, first_of, is_bucket_element, key_length_fault, leaf_element, leaf_fault, leaf_elements, leaf_end, leaf_value, leaves_fault, plain_leaf_fault, table_fault, value_fault}
+use Rattle.bolt_format.specs.Elements.{IsBucketValue, branch_element, branch_elements, branch_end, branch_fault, branch_key_length, branch_key_start}
+use Rattle.bolt_format.specs.Elements.{branches_fault, data_fault, element_at, faults_from, page_has_bucket, head_fault, head_root, inline_bytes}
+use Rattle.bolt_format.specs.Elements.{inline_fault, first_of, is_bucket_element, key_length_fault, leaf_element, leaf_fault, leaf_elements, leaf_end}
+use Rattle.bolt_format.specs.Elements.{leaf_value, leaves_fault, plain_leaf_fault, table_fault, value_fault}
 use Rattle.bolt_format.specs.Headers.{count_field}
 use Rattle.bolt_format.specs.Pages.{content_fault, fault_as, from_page, page_at, page_fault, shown_as, span_bytes, span_fault}
-use Rattle.bolt_format.specs.{Private.Spans.IsSpan, Private.Spans.IsWithin, declared.meta.Meta.Meta, declared.open_page.Span.Span, declared.header.Kind.Kind}
+use Rattle.bolt_format.specs.{Private.Spans.IsSpan, Private.Spans.IsWithin, declared.meta.Meta.Meta, declared.open_page.Span.Span}
+use Rattle.bolt_format.specs.{declared.header.Kind.Kind}
 use Rattle.bolt_format.proofs.FaultLemmas.{first_of-none}
 
 -- a test that found nothing
@@ -80,7 +85,8 @@ unfolding span_fault
 good_span file meta id e = grind (arith, guard-none, is_some, ltb-false, not-false, below-of)
 
 -- A page that shows something passed all tests.
-shown-passed : (fault : Option ℕ) (kind : Option Kind) (count overflow : ℕ) (bytes : List ℕ) → IsSome (shown_as fault kind count overflow bytes) → fault ≡ None
+shown-passed : (fault : Option ℕ) (kind : Option Kind) (count overflow : ℕ) (bytes : List ℕ) → IsSome (shown_as fault kind count overflow bytes)
+    → fault ≡ None
 shown-passed None kind count overflow bytes e = refl
 shown-passed (Some fault) kind count overflow bytes e = absurd (cc)
 
@@ -159,7 +165,8 @@ same-faults : (bytes : List ℕ) (free i n : ℕ) → ((k : ℕ) → i ≤ k →
 same-faults bytes free i zero flat = refl
 same-faults bytes free i (suc n) flat =
     let here : leaf_fault value_fault bytes free i ≡ leaf_fault head_fault bytes free i = rw (flat i (omega arith) (omega arith)) refl in
-    rw here (ap (first_of (leaf_fault head_fault bytes free i)) (same-faults bytes (leaf_end bytes i) (suc i) n (λ k low high. flat k (omega arith) (omega arith))))
+    rw here (ap (first_of (leaf_fault head_fault bytes free i))
+    (same-faults bytes (leaf_end bytes i) (suc i) n (λ k low high. flat k (omega arith) (omega arith))))
 
 pub flat_leaves : (bytes : List ℕ) (count : ℕ) → leaves_fault head_fault bytes count ≡ None → page_has_bucket bytes count ≡ false
     → leaves_fault value_fault bytes count ≡ None

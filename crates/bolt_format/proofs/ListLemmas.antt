@@ -1,6 +1,8 @@
 -- The elements of a list up to one and from it on, and what an option holds, for the crates above too.
-use Rattle.std.proofs.Common.{◌≡◌, ◌∙◌, ℕ, zero, suc, ◌+◌, List, [], ◌∷◌, Some, drop, slice_get, ap, arith, Option, sym, take, ◌++◌, append-nil, flat_map, refl}
-use Rattle.std.proofs.{Math.Seq.split_at, lemmas.Grind.flat_map-append, lemmas.Option.get_or_from_slice_get, lemmas.Option.none-some, lemmas.Option.same_Some, lemmas.Option.slice_get_within}
+use Rattle.std.proofs.Common.{◌≡◌, ◌∙◌, ℕ, zero, suc, ◌+◌, List, [], ◌∷◌, Some, drop, slice_get, ap, arith, Option, sym, take, ◌++◌, append-nil}
+use Rattle.std.proofs.Common.{flat_map, refl}
+use Rattle.std.proofs.{Math.Seq.split_at, lemmas.Grind.flat_map-append, lemmas.Option.get_or_from_slice_get, lemmas.Option.none-some}
+use Rattle.std.proofs.{lemmas.Option.same_Some, lemmas.Option.slice_get_within}
 
 pub drop_at : {X : Type 0} (xs : List X) (i : ℕ) (x : X) → slice_get xs i ≡ Some x → drop i xs ≡ x ∷ drop (suc i) xs
 drop_at [] i x e = absurd (none-some x e)

@@ -1,8 +1,11 @@
 -- A file has one active meta.
-use Rattle.std.proofs.Common.{◌≡◌, ◌∙◌, ℕ, ◌*◌, ◌^◌, ◌<◌, ◌≤◌, ◌==◌, List, Option, Some, None, IfNone, OnErr, ok_or, arith, sym, ap, inl, inr, subst, refl, get_or, eq-eqb}
-use Rattle.std.proofs.{Math.Pow.pow_mono, lemmas.Bool.cases_lt, lemmas.Bool.eqb-true, lemmas.List.get_or_read, lemmas.List.Folds.Any-from_list_any, lemmas.List.Folds.list_any_at}
+use Rattle.std.proofs.Common.{◌≡◌, ◌∙◌, ℕ, ◌*◌, ◌^◌, ◌<◌, ◌≤◌, ◌==◌, List, Option, Some, None, IfNone, OnErr, ok_or, arith, sym, ap, inl, inr, subst}
+use Rattle.std.proofs.Common.{refl, get_or, eq-eqb}
+use Rattle.std.proofs.{Math.Pow.pow_mono, lemmas.Bool.cases_lt, lemmas.Bool.eqb-true, lemmas.List.get_or_read, lemmas.List.Folds.Any-from_list_any}
+use Rattle.std.proofs.{lemmas.List.Folds.list_any_at}
 use Rattle.std.proofs.lemmas.List.FromFn.{get_or-map-range_with_len}
-use Rattle.bolt_format.specs.{declared.meta.Meta.Meta, declared.meta.MetaFault.MetaFault, declared.meta.Slot.Slot, declared.meta.Slot.TheVariants.Zero, declared.meta.Slot.TheVariants.One}
+use Rattle.bolt_format.specs.{declared.meta.Meta.Meta, declared.meta.MetaFault.MetaFault, declared.meta.Slot.Slot}
+use Rattle.bolt_format.specs.{declared.meta.Slot.TheVariants.Zero, declared.meta.Slot.TheVariants.One}
 use Rattle.bolt_format.specs.Metas.{IsActive, IsInOne, IsInSlot, IsLoneMeta, IsMeta, IsPageSize, other_slot, page_size_count, page_sizes}
 
 -- a page has one record
@@ -75,7 +78,8 @@ no_newer file zero one first second older = record {
 }
 
 -- a meta is active if the other slot has none
-pub lone_chosen : (file : List ℕ) (slot : Slot) (meta : Meta) → ((other : Meta) → IsInSlot file (other_slot slot) other → ⊥) → IsInSlot file slot meta → IsActive file slot meta
+pub lone_chosen : (file : List ℕ) (slot : Slot) (meta : Meta) → ((other : Meta) → IsInSlot file (other_slot slot) other → ⊥) → IsInSlot file slot meta
+    → IsActive file slot meta
 lone_chosen file slot meta none valid = grind arith
 
 -- no slot has one

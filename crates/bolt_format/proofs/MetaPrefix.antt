@@ -3,7 +3,8 @@ use Rattle.std.proofs.Common.{◌≡◌, ◌∙◌, ℕ, ◌+◌, ◌-◌, ◌�
 use Rattle.std.proofs.lemmas.List.{drop-take, length-take, take-take}
 use Rattle.byteorder.specs.{Endian.little_number, Numbers.little_from-take}
 use Rattle.bolt_format.specs.Bytes.{fnv_of, number_at}
-use Rattle.bolt_format.specs.Metas.{HasMetaFault, HasSlotFault, IsActive, IsInOne, IsInSlot, IsLoneMeta, IsMeta, IsMetasEnd, IsPageSize, IsPlaced, IsWhole, meta_fields, other_slot, size_at}
+use Rattle.bolt_format.specs.Metas.{HasMetaFault, HasSlotFault, IsActive, IsInOne, IsInSlot, IsLoneMeta, IsMeta, IsMetasEnd, IsPageSize, IsPlaced}
+use Rattle.bolt_format.specs.Metas.{IsWhole, meta_fields, other_slot, size_at}
 use Rattle.bolt_format.specs.{declared.meta.Meta.Meta, declared.meta.MetaFault.MetaFault}
 use Rattle.bolt_format.specs.declared.meta.MetaFault.TheVariants.{Cut, Magic, Version, Sum, PageSize}
 use Rattle.bolt_format.specs.{declared.meta.Slot.Slot, declared.meta.Slot.TheVariants.Zero, declared.meta.Slot.TheVariants.One}
@@ -48,12 +49,26 @@ fault_same file other at Cut s h = λ whole. h (s.part whole)
 fault_same file other at Magic s (whole, bad) = (s.whole whole, λ good. bad (sym (s.numbers 16 4 (omega arith)) ∙ good))
 fault_same file other at Version s (whole, magic, bad) =
     (s.whole whole, s.numbers 16 4 (omega arith) ∙ magic, λ good. bad (sym (s.numbers 20 4 (omega arith)) ∙ good))
-fault_same file other at Sum s (whole, magic, version, bad) =
-    (s.whole whole, s.numbers 16 4 (omega arith) ∙ magic, s.numbers 20 4 (omega arith) ∙ version, λ good. bad (sum_same other file at (same_back file other at s) good))
-fault_same file other at PageSize s (whole, magic, version, sum, inl bad) =
-    (s.whole whole, s.numbers 16 4 (omega arith) ∙ magic, s.numbers 20 4 (omega arith) ∙ version, sum_same file other at s sum, inl (λ good. bad (subst IsPageSize (size_same file other at s) good)))
-fault_same file other at PageSize s (whole, magic, version, sum, inr bad) =
-    (s.whole whole, s.numbers 16 4 (omega arith) ∙ magic, s.numbers 20 4 (omega arith) ∙ version, sum_same file other at s sum, inr (λ good. bad (placed_same other file at (same_back file other at s) good)))
+fault_same file other at Sum s (whole, magic, version, bad) = (
+  s.whole whole,
+  s.numbers 16 4 (omega arith) ∙ magic,
+  s.numbers 20 4 (omega arith) ∙ version,
+  λ good. bad (sum_same other file at (same_back file other at s) good),
+)
+fault_same file other at PageSize s (whole, magic, version, sum, inl bad) = (
+  s.whole whole,
+  s.numbers 16 4 (omega arith) ∙ magic,
+  s.numbers 20 4 (omega arith) ∙ version,
+  sum_same file other at s sum,
+  inl (λ good. bad (subst IsPageSize (size_same file other at s) good)),
+)
+fault_same file other at PageSize s (whole, magic, version, sum, inr bad) = (
+  s.whole whole,
+  s.numbers 16 4 (omega arith) ∙ magic,
+  s.numbers 20 4 (omega arith) ∙ version,
+  sum_same file other at s sum,
+  inr (λ good. bad (placed_same other file at (same_back file other at s) good)),
+)
 
 -- ---- two files with the same metas
 
@@ -70,12 +85,14 @@ metas_back file other s = record {
   alone = λ none at size. same_back file other at (s.alone (λ zero valid. none zero (meta_same file other 0 zero s.first valid)) at size);
 }
 
-lone_same : (file other : List ℕ) (meta : Meta) → SameMetas file other → ((zero : Meta) → IsMeta file 0 zero → ⊥) → IsLoneMeta file meta → IsLoneMeta other meta
+lone_same : (file other : List ℕ) (meta : Meta) → SameMetas file other → ((zero : Meta) → IsMeta file 0 zero → ⊥) → IsLoneMeta file meta
+    → IsLoneMeta other meta
 lone_same file other meta s none lone = record {
   at = lone.at;
   tried = lone.tried;
   valid = meta_same file other lone.at meta (s.alone none lone.at lone.tried) lone.valid;
-  least = λ before m size less valid. lone.least before m size less (meta_same other file before m (same_back file other before (s.alone none before size)) valid);
+  least =
+      λ before m size less valid. lone.least before m size less (meta_same other file before m (same_back file other before (s.alone none before size)) valid);
 }
 
 -- slot zero has no valid record either
@@ -100,7 +117,8 @@ chosen_same file other slot meta s chosen = record {
 pub first_fault_same : (file other : List ℕ) (fault : MetaFault) → SameMetas file other → HasMetaFault file 0 fault → HasMetaFault other 0 fault
 first_fault_same file other fault s h = fault_same file other 0 fault s.first h
 
-pub slot_fault_same : (file other : List ℕ) (slot : Slot) (fault : MetaFault) → SameMetas file other → HasSlotFault file slot fault → HasSlotFault other slot fault
+pub slot_fault_same : (file other : List ℕ) (slot : Slot) (fault : MetaFault) → SameMetas file other → HasSlotFault file slot fault
+    → HasSlotFault other slot fault
 slot_fault_same file other Zero fault s h = first_fault_same file other fault s h
 slot_fault_same file other One fault s (inl (zero, first, h)) =
     inl (zero, meta_same file other 0 zero s.first first, fault_same file other zero.page_size fault (s.second zero first) h)

@@ -45,7 +45,8 @@ proper : (old new : Option (List ℕ)) (text : List ℕ) (begun : AppendsPrefix 
 proper old new text begun short = record { front = begun.front; rest = begun.rest; parts = begun.parts; short = short; taken = begun.taken }
 
 -- one of the first text is one of both,
-pub AppendsProperPrefix-first : (old new : Option (List ℕ)) (first second : List ℕ) → AppendsProperPrefix old new first → AppendsProperPrefix old new (first ++ second)
+pub AppendsProperPrefix-first : (old new : Option (List ℕ)) (first second : List ℕ) → AppendsProperPrefix old new first
+    → AppendsProperPrefix old new (first ++ second)
 unfolding AppendsPrefix-first AppendsProperPrefix-prefix
 AppendsProperPrefix-first old new first second begun = proper old new (first ++ second)
     (AppendsPrefix-first old new first second (AppendsProperPrefix-prefix old new first begun)) (more_some begun.rest second begun.short)

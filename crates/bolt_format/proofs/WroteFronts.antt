@@ -23,7 +23,8 @@ front_more {piece = piece} {rest = rest} before one e = record {
 }
 
 -- what is left, in other words;
-pub front_same : {S : Type 0} {sink : Ghosts S} {old new : S} {text left rest : List ℕ} → WroteFront sink old new text left → left ≡ rest → WroteFront sink old new text rest
+pub front_same : {S : Type 0} {sink : Ghosts S} {old new : S} {text left rest : List ℕ} → WroteFront sink old new text left → left ≡ rest
+    → WroteFront sink old new text rest
 front_same before e = record { front = before.front; parts = before.parts ∙ ap (λ (xs : List ℕ). before.front ++ xs) e; wrote = before.wrote }
 
 -- what is left was written, in whatever way that ended,
@@ -32,12 +33,14 @@ pub front_stop : {S : Type 0} {sink : Ghosts S} {old mid new : S} {text rest lef
 front_stop before one e = Wrote-same (sym before.parts) (Wrote-then before.wrote (Wrote-same (sym e) one))
 
 -- or not the whole of it;
-pub front_return : {S A E : Type 0} {sink : Ghosts S} {old mid new : S} {text piece left : List ℕ} (rest : List ℕ) (result : Result A E) → WroteFront sink old mid text left
+pub front_return : {S A E : Type 0} {sink : Ghosts S} {old mid new : S} {text piece left : List ℕ} (rest : List ℕ) (result : Result A E)
+    → WroteFront sink old mid text left
     → Wrote sink mid new piece cut → left ≡ piece ++ rest → IsErr result → Wrote sink old new text (page_ending result)
 front_return rest result before one e err = front_stop before (Wrote-return_cut rest result one err) e
 
 -- and if nothing is left, the whole was written.
-pub front_whole : {S : Type 0} {sink : Ghosts S} {old new : S} {text rest : List ℕ} → WroteFront sink old new text rest → rest ≡ [] → Wrote sink old new text whole
+pub front_whole : {S : Type 0} {sink : Ghosts S} {old new : S} {text rest : List ℕ} → WroteFront sink old new text rest → rest ≡ []
+    → Wrote sink old new text whole
 front_whole before none = Wrote-same (sym (before.parts ∙ (ap (λ (xs : List ℕ). before.front ++ xs) none ∙ append-nil before.front))) before.wrote
 
 -- for the search

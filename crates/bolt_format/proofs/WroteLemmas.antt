@@ -1,11 +1,14 @@
 -- One text after another on a sink.
-use Rattle.std.proofs.Common.{◌≡◌, ◌∙◌, ◌+◌, ℕ, suc, List, [], ◌++◌, None, Option, Some, Result, Ok, Err, add-one, ap, drop, flat_map, length, refl, slice_get, subst, sym, take}
+use Rattle.std.proofs.Common.{◌≡◌, ◌∙◌, ◌+◌, ℕ, suc, List, [], ◌++◌, None, Option, Some, Result, Ok, Err, add-one, ap, drop, flat_map, length, refl}
+use Rattle.std.proofs.Common.{slice_get, subst, sym, take}
 use Rattle.std.proofs.{Math.Seq.take-length, KnownBytes.Appends-nil, KnownBytes.Appends-trans}
 use Rattle.std.specs.Prelude.{IsErr}
 use Rattle.std.specs.Io.KnownBytes.{Appends}
 use Rattle.bolt_format.proofs.ListLemmas.{flat_map-cut_at, flat_map-take_more}
-use Rattle.bolt_format.proofs.SinkLemmas.{AppendsPrefix-first, AppendsPrefix-none, AppendsPrefix-second, AppendsProperPrefix-first, AppendsProperPrefix-second}
-use Rattle.bolt_format.specs.{Endings.Ending, Endings.whole, Endings.cut, Endings.broken, Endings.halted, Endings.ending, Endings.page_ending, Wrote.Wrote, declared.sink.Sink.Ghosts}
+use Rattle.bolt_format.proofs.SinkLemmas.{AppendsPrefix-first, AppendsPrefix-none, AppendsPrefix-second, AppendsProperPrefix-first}
+use Rattle.bolt_format.proofs.SinkLemmas.{AppendsProperPrefix-second}
+use Rattle.bolt_format.specs.{Endings.Ending, Endings.whole, Endings.cut, Endings.broken, Endings.halted, Endings.ending, Endings.page_ending}
+use Rattle.bolt_format.specs.{Wrote.Wrote, declared.sink.Sink.Ghosts}
 use Rattle.bolt_format.specs.declared.sink.SinkFault.{SinkFault}
 
 -- nothing is put
@@ -60,7 +63,8 @@ pub Wrote-same : {S : Type 0} {sink : Ghosts S} {old new : S} {text same : List 
 Wrote-same {sink} {old} {new} {end} e a = subst (λ l. Wrote sink old new l end) e a
 
 -- a call that ends as another did
-pub Wrote-ends : {S : Type 0} {sink : Ghosts S} {old new : S} {text : List ℕ} {end same : Ending} → end ≡ same → Wrote sink old new text end → Wrote sink old new text same
+pub Wrote-ends : {S : Type 0} {sink : Ghosts S} {old new : S} {text : List ℕ} {end same : Ending} → end ≡ same → Wrote sink old new text end
+    → Wrote sink old new text same
 Wrote-ends {sink} {old} {new} {text} e a = subst (λ end. Wrote sink old new text end) e a
 
 -- a fault that was passed on
@@ -90,13 +94,15 @@ pub Wrote-unkept : {S : Type 0} {sink : Ghosts S} (old : S) (text : List ℕ) �
 Wrote-unkept {sink} old text none = record { appends = subst (λ (t : Option (List ℕ)). Appends t t text) (sym none) tt; failures = refl }
 
 -- one element more
-pub Wrote-element : {S X : Type 0} {sink : Ghosts S} (f : X → List ℕ) (xs : List X) (i : ℕ) (x : X) {old mid new : S} {end : Ending} → slice_get xs i ≡ Some x
+pub Wrote-element : {S X : Type 0} {sink : Ghosts S} (f : X → List ℕ) (xs : List X) (i : ℕ) (x : X) {old mid new : S} {end : Ending}
+    → slice_get xs i ≡ Some x
     → Wrote sink old mid (flat_map f (take i xs)) whole → Wrote sink mid new (f x) end → Wrote sink old new (flat_map f (take (i + 1) xs)) end
 Wrote-element f xs i x found a b =
     Wrote-same (sym (ap (λ k. flat_map f (take k xs)) (add-one i) ∙ flat_map-take_more f xs i x found)) (Wrote-then a b)
 
 -- an element that was not put whole, after which no other is put
-pub Wrote-element_return : {S X B : Type 0} {sink : Ghosts S} (f : X → List ℕ) (xs : List X) (i : ℕ) (x : X) {old mid new : S} (result : Result B SinkFault) → slice_get xs i ≡ Some x
+pub Wrote-element_return : {S X B : Type 0} {sink : Ghosts S} (f : X → List ℕ) (xs : List X) (i : ℕ) (x : X) {old mid new : S} (result : Result B SinkFault)
+    → slice_get xs i ≡ Some x
     → Wrote sink old mid (flat_map f (take i xs)) whole → Wrote sink mid new (f x) broken → IsErr result → Wrote sink old new (flat_map f xs) (ending result)
 Wrote-element_return f xs i x result found a b err =
     Wrote-same (sym (flat_map-cut_at f xs i x found)) (Wrote-then a (Wrote-return (flat_map f (drop (suc i) xs)) result b err))

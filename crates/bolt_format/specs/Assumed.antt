@@ -3,7 +3,7 @@ use Rattle.std.specs.Prelude.{ℕ}
 use Rattle.std.specs.Int.{div_ceil}
 use Rattle.bolt_format.specs.{declared.meta.Meta.Meta, declared.meta.TheConstants.NO_FREELIST}
 
--- this page size and root page, no freelist, and as high-water mark the number of pages that begin in the file
+-- an assumed meta: the page size and root page, no freelist, and as high-water mark the number of pages that begin in the file
 abbrev pub assumed_meta : (file_len page_size root : ℕ) → Meta
 assumed_meta file_len page_size root = record {
   page_size = page_size;

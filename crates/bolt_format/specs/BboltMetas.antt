@@ -1,7 +1,8 @@
 -- Which meta bbolt takes when it opens a file: docs/FORMAT.md, "The meta that bbolt takes". Beside "The active meta" it tests less of a record,
 -- and looks for the second one elsewhere. A page with a meta should have its own number and flags in its header.
 use Rattle.std.specs.Prelude.{◌==◌, ◌&&◌, ◌||◌, ℕ, ◌+◌, Bool, List, Option, None, Some, drop, if◌then◌else◌, length, nat_le, nat_lt, take}
-use Rattle.bolt_format.specs.{Bytes.number_at, Bytes.fnv_of, Headers.flags_field, Headers.flags_of, Headers.id_field, Metas.magic, Metas.size_at, Metas.version}
+use Rattle.bolt_format.specs.{Bytes.number_at, Bytes.fnv_of, Headers.flags_field, Headers.flags_of, Headers.id_field, Metas.magic, Metas.size_at}
+use Rattle.bolt_format.specs.{Metas.version}
 use Rattle.bolt_format.specs.{declared.meta.Slot.Slot, declared.meta.Slot.TheVariants.Zero, declared.meta.Slot.TheVariants.One}
 use Rattle.bolt_format.specs.declared.header.Kind.TheVariants as kind
 

@@ -10,7 +10,7 @@ IsBytes bytes = (i : ℕ) → slice_index bytes i < 256
 unfoldable pub number_at : List ℕ → ℕ → ℕ → ℕ
 number_at bytes at n = little_number n (drop at bytes)
 
--- one byte of FNV-1a: exclusive-or, and then a product of 64 bits
+-- FNV-1a over a byte: exclusive-or, and then a product of 64 bits
 unfoldable pub fnv_step : ℕ → ℕ → ℕ
 fnv_step hash byte = bit_xor hash byte * 0x100000001b3 % 2 ^ 64
 

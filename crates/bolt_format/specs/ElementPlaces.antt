@@ -1,7 +1,8 @@
 -- An element of the code as one of the format, and where its parts lie.
 use Rattle.std.specs.Prelude.{◌≡◌, ℕ, List}
 use Rattle.bolt_format.specs.Elements.{BranchElement, LeafElement, branch_end, branch_key_start, leaf_end, leaf_key_start, leaf_value_start}
-use Rattle.bolt_format.specs.{declared.element.Branch.Branch, declared.element.BranchPlace.BranchPlace, declared.element.Leaf.Leaf, declared.element.LeafPlace.LeafPlace}
+use Rattle.bolt_format.specs.{declared.element.Branch.Branch, declared.element.BranchPlace.BranchPlace, declared.element.Leaf.Leaf}
+use Rattle.bolt_format.specs.{declared.element.LeafPlace.LeafPlace}
 
 pub record IsBranchPlace (bytes : List ℕ) (i : ℕ) (place : BranchPlace) : Type 0 where
   pub key : place.key ≡ branch_key_start bytes i

@@ -1,9 +1,11 @@
 -- The elements of branch and leaf pages and their tests, over the bytes from a page's first one to the end of its span (of an inline
 -- page: to the end of its value): docs/FORMAT.md, "Elements" and "The tests of a page".
-use Rattle.std.specs.Prelude.{◌≡◌, ◌==◌, ℕ, zero, suc, ◌+◌, ◌*◌, Bool, not, ◌||◌, nat_lt, List, map, length, drop, Option, Some, None, if◌then◌else◌, is_some, slice_range}
+use Rattle.std.specs.Prelude.{◌≡◌, ◌==◌, ℕ, zero, suc, ◌+◌, ◌*◌, Bool, not, ◌||◌, nat_lt, List, map, length, drop, Option, Some, None, if◌then◌else◌}
+use Rattle.std.specs.Prelude.{is_some, slice_range}
 use Rattle.std.specs.List.{list_any, range_with_len}
 use Rattle.bolt_format.specs.{Bytes.number_at, Headers.count_field, Headers.flags_field, Headers.flags_of, Headers.id_field}
-use Rattle.bolt_format.specs.declared.page_fault.TheConstants.PageFault.{ELEMENT_CUT, DATA_ORDER, KEY_LENGTH, VALUE_LENGTH, LEAF_FLAGS, BUCKET_SHORT, INLINE_PAGE, INLINE_NESTED}
+use Rattle.bolt_format.specs.declared.page_fault.TheConstants.PageFault.{ELEMENT_CUT, DATA_ORDER, KEY_LENGTH, VALUE_LENGTH, LEAF_FLAGS, BUCKET_SHORT}
+use Rattle.bolt_format.specs.declared.page_fault.TheConstants.PageFault.{INLINE_PAGE, INLINE_NESTED}
 use Rattle.bolt_format.specs.declared.header.Kind.TheVariants as kind
 
 -- the first fault of two
@@ -154,7 +156,8 @@ head_fault value = if nat_lt (length value) 16 then Some BUCKET_SHORT else None
 -- The page in the value of a bucket whose root is 0 has the header of a leaf, and its elements are good.
 abbrev pub inline_page_fault : List ℕ → Option ℕ
 inline_page_fault bytes =
-    if nat_lt (length bytes) 16 || (not (flags_field bytes == flags_of kind.Leaf) || is_some (leaves_fault head_fault bytes (count_field bytes))) then Some INLINE_PAGE
+    if nat_lt (length bytes) 16 || (not (flags_field bytes == flags_of kind.Leaf) || is_some (leaves_fault head_fault bytes (count_field bytes)))
+    then Some INLINE_PAGE
     else None
 
 abbrev pub page_has_bucket : List ℕ → ℕ → Bool

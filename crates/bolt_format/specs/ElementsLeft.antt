@@ -1,7 +1,9 @@
 -- What is left of the elements of a page.
 use Rattle.std.specs.Prelude.{◌≡◌, IsTrue, List, [], ◌∷◌, Option, Some, None, drop}
-use Rattle.bolt_format.specs.{ElementPlaces.branch_view, ElementPlaces.leaf_view, Elements.BranchElement, Elements.IsBucketValue, Elements.LeafElement, TreePages.branches_on, TreePages.leaves_on}
-use Rattle.bolt_format.specs.{declared.element.Branch.Branch, declared.element.Leaf.Leaf, declared.elements.Branches.Branches, declared.elements.Leaves.Leaves}
+use Rattle.bolt_format.specs.{ElementPlaces.branch_view, ElementPlaces.leaf_view, Elements.BranchElement, Elements.IsBucketValue}
+use Rattle.bolt_format.specs.{Elements.LeafElement, TreePages.branches_on, TreePages.leaves_on}
+use Rattle.bolt_format.specs.{declared.element.Branch.Branch, declared.element.Leaf.Leaf, declared.elements.Branches.Branches}
+use Rattle.bolt_format.specs.{declared.elements.Leaves.Leaves}
 
 unfoldable pub branches_left : Branches → List BranchElement
 branches_left elements = drop elements.next (branches_on elements.page)

@@ -2,8 +2,8 @@
 use Rattle.std.specs.Prelude.{Result, Ok, Err}
 use Rattle.bolt_format.specs.declared.sink.SinkFault.{SinkFault}
 
--- It wrote all (`whole`). Its sink failed, after a proper prefix of the text (`cut`), or perhaps after the last byte (`broken`). Or it gave
--- up for another reason, and the sink hadn't failed (`halted`).
+-- How writing ends: all is written (`whole`); the sink failed after a proper prefix of the text (`cut`), or perhaps after the last byte
+-- (`broken`); or the writer gave up for another reason, and the sink hadn't failed (`halted`).
 pub data Ending : Type 0 where
   whole : Ending
   cut : Ending

@@ -1,8 +1,10 @@
 -- The numbers of free pages that a freelist page holds: docs/FORMAT.md, "Freelist page".
 use Rattle.std.specs.Prelude.{◌==◌, ℕ, ◌+◌, ◌*◌, nat_lt, List, length, map, Option, Some, None, if◌then◌else◌}
 use Rattle.std.specs.List.{range_with_len}
-use Rattle.bolt_format.specs.{Bytes.number_at, Elements.first_of, Headers.count_field, Headers.flags_field, Headers.kind_of, Pages.from_page, Pages.span_bytes, Pages.span_fault}
-use Rattle.bolt_format.specs.{declared.page_fault.TheConstants.PageFault.ELEMENT_CUT, declared.page_fault.TheConstants.PageFault.PAGE_KIND, declared.header.Kind.Kind, declared.meta.Meta.Meta}
+use Rattle.bolt_format.specs.{Bytes.number_at, Elements.first_of, Headers.count_field, Headers.flags_field, Headers.kind_of, Pages.from_page}
+use Rattle.bolt_format.specs.{Pages.span_bytes, Pages.span_fault}
+use Rattle.bolt_format.specs.{declared.page_fault.TheConstants.PageFault.ELEMENT_CUT, declared.page_fault.TheConstants.PageFault.PAGE_KIND}
+use Rattle.bolt_format.specs.{declared.header.Kind.Kind, declared.meta.Meta.Meta}
 use Rattle.bolt_format.specs.declared.meta.TheConstants.{NO_FREELIST}
 use Rattle.bolt_format.specs.declared.header.Kind.TheVariants as kind
 
@@ -32,7 +34,7 @@ freelist_fault file meta id =
     (first_of (freelist_kind_fault (kind_of (flags_field (from_page file meta id))))
     (ids_fault (count_field (from_page file meta id)) (span_bytes file meta id)))
 
--- the ids that it holds, in order
+-- the ids that a freelist page holds, in order
 unfoldable pub free_ids_at : List ℕ → Meta → ℕ → List ℕ
 free_ids_at file meta id =
     let count = count_field (from_page file meta id) in

@@ -1,9 +1,11 @@
 -- Where bbolt would have written the data of a page: docs/FORMAT.md, "Gaps". A page has a gap if data of an element begins elsewhere.
 use Rattle.std.specs.Prelude.{◌==◌, ℕ, zero, suc, Bool, not, List, Option, Some, None}
 use Rattle.std.specs.{List.find, List.range_with_len, Option.option_map}
-use Rattle.bolt_format.specs.{Elements.branch_element, Elements.branch_end, Elements.branch_key_start, Elements.element_at, Elements.inline_bytes, Elements.leaf_element, Elements.leaf_end, Elements.leaf_key_start}
+use Rattle.bolt_format.specs.{Elements.branch_element, Elements.branch_end, Elements.branch_key_start, Elements.element_at, Elements.inline_bytes}
+use Rattle.bolt_format.specs.{Elements.leaf_element, Elements.leaf_end, Elements.leaf_key_start}
 use Rattle.bolt_format.specs.{Headers.count_field, Headers.flags_field, Headers.kind_of, Pages.from_page, Pages.span_bytes}
-use Rattle.bolt_format.specs.{declared.gaps.Gap.Gap, declared.gaps.Gap.TheVariants.After, declared.gaps.Gap.TheVariants.Before, declared.meta.Meta.Meta, declared.header.Kind.Kind}
+use Rattle.bolt_format.specs.{declared.gaps.Gap.Gap, declared.gaps.Gap.TheVariants.After, declared.gaps.Gap.TheVariants.Before}
+use Rattle.bolt_format.specs.{declared.meta.Meta.Meta, declared.header.Kind.Kind}
 use Rattle.bolt_format.specs.{declared.bucket_value.Inline.Inline, declared.tree_page.LeafPage.LeafPage}
 use Rattle.bolt_format.specs.declared.header.Kind.TheVariants as kind
 
@@ -36,7 +38,7 @@ branch_gap bytes count = option_map (gap_at (λ i. (branch_element bytes i).key)
 unfoldable pub leaf_gap : List ℕ → ℕ → Option GapView
 leaf_gap bytes count = option_map (gap_at (λ i. (leaf_element bytes i).key)) (first_elsewhere (leaf_key_start bytes) (leaf_end bytes) count)
 
--- that of a page of a file; a meta page and a freelist have none
+-- the first gap of a page of a file; a meta page and a freelist have none
 abbrev pub gap_of_kind : Option Kind → ℕ → List ℕ → Option GapView
 gap_of_kind (Some kind.Branch) count bytes = branch_gap bytes count
 gap_of_kind (Some kind.Leaf) count bytes = leaf_gap bytes count
@@ -47,7 +49,7 @@ gap_of_kind None count bytes = None
 unfoldable pub page_gap : List ℕ → Meta → ℕ → Option GapView
 page_gap file meta id = gap_of_kind (kind_of (flags_field (from_page file meta id))) (count_field (from_page file meta id)) (span_bytes file meta id)
 
--- that of the page in the value of an inline bucket
+-- the first gap of the page in the value of an inline bucket
 unfoldable pub inline_gap : List ℕ → Option GapView
 inline_gap value = leaf_gap (inline_bytes value) (count_field (inline_bytes value))
 

@@ -1,7 +1,8 @@
 -- The meta records of a file, and which of them is active: docs/FORMAT.md, "Meta pages" and "The active meta".
 use Rattle.std.specs.Prelude.{IsTrue, ◌≡◌, ◌≤◌, ◌<◌, ◌⊎◌, ◌==◌, ℕ, ◌+◌, ◌*◌, ◌^◌, List, length, map, take, drop}
 use Rattle.std.specs.List.{list_any, range_with_len}
-use Rattle.bolt_format.specs.{Bytes.number_at, Bytes.fnv_of, declared.meta.Meta.Meta, declared.meta.Slot.Slot, declared.meta.Slot.TheVariants.Zero, declared.meta.Slot.TheVariants.One}
+use Rattle.bolt_format.specs.{Bytes.number_at, Bytes.fnv_of, declared.meta.Meta.Meta, declared.meta.Slot.Slot, declared.meta.Slot.TheVariants.Zero}
+use Rattle.bolt_format.specs.{declared.meta.Slot.TheVariants.One}
 use Rattle.bolt_format.specs.{declared.meta.MetaFault.MetaFault, declared.meta.TheConstants.METAS_END}
 use Rattle.bolt_format.specs.declared.meta.MetaFault.TheVariants.{Cut, Magic, Version, Sum, PageSize}
 

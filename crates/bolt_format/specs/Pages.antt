@@ -1,7 +1,9 @@
 -- The tests of a page in order, and what a good page shows: docs/FORMAT.md, "The tests of a page".
-use Rattle.std.specs.Prelude.{◌==◌, ◌<◌, ◌≤◌, ℕ, ◌+◌, ◌*◌, not, nat_lt, nat_le, List, [], length, drop, Option, Some, None, if◌then◌else◌, is_some, slice_range}
+use Rattle.std.specs.Prelude.{◌==◌, ◌<◌, ◌≤◌, ℕ, ◌+◌, ◌*◌, not, nat_lt, nat_le, List, [], length, drop, Option, Some, None, if◌then◌else◌, is_some}
+use Rattle.std.specs.Prelude.{slice_range}
 use Rattle.bolt_format.specs.Headers.{id_field, flags_field, count_field, overflow_field, kind_of}
-use Rattle.bolt_format.specs.Elements.{BranchElement, LeafElement, first_of, branch_elements, branches_fault, leaf_elements, leaves_fault, value_fault}
+use Rattle.bolt_format.specs.Elements.{BranchElement, LeafElement, first_of, branch_elements, branches_fault, leaf_elements, leaves_fault}
+use Rattle.bolt_format.specs.Elements.{value_fault}
 use Rattle.bolt_format.specs.{declared.meta.Meta.Meta, declared.header.Kind.Kind}
 use Rattle.bolt_format.specs.declared.header.Kind.TheVariants as kind
 use Rattle.bolt_format.specs.declared.page_fault.TheConstants.PageFault.{RANGE, CUT, ID, PAGE_KIND}

@@ -1,8 +1,10 @@
 -- What is read of headers, and of the head of a bucket's value, after they were written.
 use Rattle.std.specs.Prelude.{◌≡◌, ◌<◌, ◌^◌, ℕ, ◌+◌, ◌++◌, Bool, List, None, Some, drop}
-use Rattle.bolt_format.specs.Elements.{branch_child, branch_key_length, branch_key_start, element_at, head_fault, head_root, head_sequence, inline_bytes, is_bucket_element, leaf_flags, leaf_key_length, leaf_key_start, leaf_value_length}
+use Rattle.bolt_format.specs.Elements.{branch_child, branch_key_length, branch_key_start, element_at, head_fault, head_root, head_sequence}
+use Rattle.bolt_format.specs.Elements.{inline_bytes, is_bucket_element, leaf_flags, leaf_key_length, leaf_key_start, leaf_value_length}
 use Rattle.bolt_format.specs.Headers.{count_field, flags_field, flags_of, id_field, kind_of, overflow_field}
-use Rattle.bolt_format.specs.{Metas.IsPageSize, Encoded.branch_header, Encoded.leaf_flag, Encoded.leaf_header, declared.header.Kind.Kind, declared.meta.Meta.Meta}
+use Rattle.bolt_format.specs.{Metas.IsPageSize, Encoded.branch_header, Encoded.leaf_flag, Encoded.leaf_header, declared.header.Kind.Kind}
+use Rattle.bolt_format.specs.{declared.meta.Meta.Meta}
 
 -- the header of a page, and numbers that have room in it
 pub record IsHeader (bytes : List ℕ) (number : ℕ) (is : Kind) (n more : ℕ) : Type 0 where
@@ -41,13 +43,13 @@ pub record IsLeafHeaderFit (pos n m : ℕ) : Type 0 where
   pub key : n < 2 ^ 32
   pub value : m < 2 ^ 32
 
--- this header of branch element i, if it was written, reads back, and the next element's place follows
+-- the header of branch element i, if it was written, reads back, and the next element's place follows
 abbrev pub BranchReadsBack : List ℕ → (i pos n leads_to : ℕ) → List ℕ → Type 0
 BranchReadsBack bytes i pos n leads_to rest =
     drop (element_at i) bytes ≡ branch_header pos n leads_to ++ rest → IsBranchHeaderFit pos n leads_to
     → IsBranchHeader bytes i pos n leads_to × (drop (element_at (i + 1)) bytes ≡ rest)
 
--- and this one of leaf element i
+-- the header of leaf element i, if it was written, reads back, and the next element's place follows
 abbrev pub LeafReadsBack : List ℕ → ℕ → Bool → (pos n m : ℕ) → List ℕ → Type 0
 LeafReadsBack bytes i is_bucket pos n m rest =
     drop (element_at i) bytes ≡ leaf_header is_bucket pos n m ++ rest → IsLeafHeaderFit pos n m
@@ -66,5 +68,5 @@ pub record IsMetaFit (meta : Meta) : Type 0 where
   pub root : meta.root < 2 ^ 64
   pub sequence : meta.root_sequence < 2 ^ 64
   pub freelist : meta.freelist < 2 ^ 64
-  pub mark : meta.high_water < 2 ^ 64
+  pub high_water : meta.high_water < 2 ^ 64
   pub txid : meta.txid < 2 ^ 64

@@ -1,7 +1,9 @@
 -- What a page of a tree shows: docs/FORMAT.md, "Elements".
 use Rattle.std.specs.Prelude.{ℕ, Bool, true, false, List, [], length, map}
-use Rattle.bolt_format.specs.{Elements.BranchElement, Elements.LeafElement, Elements.branch_elements, Elements.leaf_elements, Pages.PageView, declared.tree_page.BranchPage.BranchPage}
-use Rattle.bolt_format.specs.{declared.tree_page.LeafPage.LeafPage, declared.tree_page.TreePage.TreePage, declared.tree_page.TreePage.TheVariants.Branch, declared.tree_page.TreePage.TheVariants.Leaf}
+use Rattle.bolt_format.specs.{Elements.BranchElement, Elements.LeafElement, Elements.branch_elements, Elements.leaf_elements, Pages.PageView}
+use Rattle.bolt_format.specs.{declared.tree_page.BranchPage.BranchPage}
+use Rattle.bolt_format.specs.{declared.tree_page.LeafPage.LeafPage, declared.tree_page.TreePage.TreePage}
+use Rattle.bolt_format.specs.{declared.tree_page.TreePage.TheVariants.Branch, declared.tree_page.TreePage.TheVariants.Leaf}
 use Rattle.bolt_format.specs.declared.header.Kind.{Kind}
 use Rattle.bolt_format.specs.declared.header.Kind.TheVariants as kind
 
@@ -17,7 +19,7 @@ leaves_on page = leaf_elements page.bytes.now page.count
 unfoldable pub leaf_overflow : LeafPage → ℕ
 leaf_overflow page = page.overflow
 
--- as a page of a file
+-- a page of the code as a page of a file
 abbrev pub shown_page : TreePage → PageView
 shown_page (Branch page) = record {
   kind = kind.Branch;
@@ -34,7 +36,7 @@ shown_page (Leaf page) = record {
   leaves = leaves_on page;
 }
 
--- the keys of its elements
+-- the keys of a page's elements
 abbrev pub page_keys : TreePage → List (List ℕ)
 page_keys (Branch page) = map (λ (e : BranchElement). e.key) (branches_on page)
 page_keys (Leaf page) = map (λ (e : LeafElement). e.key) (leaves_on page)

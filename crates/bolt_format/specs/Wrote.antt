@@ -1,7 +1,8 @@
 -- What a call that writes a text leaves on its sink.
 use Rattle.std.specs.Prelude.{◌≡◌, ◌<◌, ℕ, List}
 use Rattle.std.specs.Io.KnownBytes.{Appends}
-use Rattle.bolt_format.specs.{Endings.Ending, Endings.whole, Endings.cut, Endings.broken, Endings.halted, Sinks.AppendsPrefix, Sinks.AppendsProperPrefix, declared.sink.Sink.Ghosts}
+use Rattle.bolt_format.specs.{Endings.Ending, Endings.whole, Endings.cut, Endings.broken, Endings.halted, Sinks.AppendsPrefix}
+use Rattle.bolt_format.specs.{Sinks.AppendsProperPrefix, declared.sink.Sink.Ghosts}
 
 -- how much of the text the sink accepted: all of it, if the call wrote it whole
 abbrev pub AppendsTo : {S : Type 0} (sink : Ghosts S) (old new : S) (text : List ℕ) → Ending → Type 0

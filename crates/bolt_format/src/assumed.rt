@@ -10,7 +10,7 @@ use crate::meta::{Meta, NO_FREELIST};
 pub fn assumed_meta(file_len: u64, page_size: u32, root: u64) -> Meta
     requires { 0 < page_size }
     ensures meta { result ≡ assumed_meta file_len page_size root }
-    ensures mark { (n : ℕ) → (n < result.high_water) ↔ (n * page_size < file_len) }
+    ensures high_water { (n : ℕ) → (n < result.high_water) ↔ (n * page_size < file_len) }
 {
     Meta {
         page_size,

@@ -24,7 +24,7 @@ impl<'a> BranchPage<'a> {
     ghost use Rattle.std.specs.Prelude.{◌≡◌};
     ghost use Rattle.bolt_format.specs.{ElementsLeft.branches_left, TreePages.branches_on};
 
-    /// Its elements in order.
+    /// The branch's elements in order.
     pub fn elements(&self) -> Branches<'a>
         ensures { branches_left result ≡ branches_on self.now }
     {
@@ -40,7 +40,7 @@ impl<'a> LeafPage<'a> {
     ghost use Rattle.std.specs.Prelude.{◌≡◌};
     ghost use Rattle.bolt_format.specs.{ElementsLeft.leaves_left, TreePages.leaves_on};
 
-    /// Its elements in order.
+    /// The leaf's elements in order.
     pub fn elements(&self) -> Leaves<'a>
         ensures { leaves_left result ≡ leaves_on self.now }
     {

@@ -1,7 +1,8 @@
 //! Where the data of a page's elements isn't where bbolt writes it (docs/FORMAT.md, "Gaps").
 ghost use Rattle.std.specs.Prelude.{◌≡◌, ◌≤◌, IsSome, None, length};
 ghost use Rattle.std.specs.Option.{option_map};
-ghost use Rattle.bolt_format.specs.Elements.{branch_end, branch_key_start, branches_fault, element_at, leaf_end, leaf_key_start, leaves_fault, value_fault};
+ghost use Rattle.bolt_format.specs.Elements.{branch_end, branch_key_start, branches_fault, element_at, leaf_end, leaf_key_start, leaves_fault};
+ghost use Rattle.bolt_format.specs.Elements.{value_fault};
 ghost use Rattle.bolt_format.specs.Gaps.{branch_gap, first_elsewhere, gap_view, leaf_gap, page_gap};
 ghost use Rattle.bolt_format.specs.Pages.{page_at};
 
@@ -83,7 +84,7 @@ fn leaf_gap(bytes: &[u8], count: u16) -> Option<Gap<'_>>
 impl<'a> LeafPage<'a> {
     ghost use Rattle.bolt_format.specs.Gaps.{shown_gap};
 
-    /// Its first gap, if it has one.
+    /// The page's first gap, if it has one.
     #[tactic(auto, unfolding(crate::specs::Gaps::shown_gap))]
     pub fn gap(&self) -> Option<Gap<'a>>
         ensures { option_map gap_view result ≡ shown_gap self.now }

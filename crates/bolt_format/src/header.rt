@@ -56,9 +56,9 @@ impl Header {
 /// The kind of a page, by the flags in its header (docs/FORMAT.md, "Page header").
 #[derive(Clone, Copy, Debug, PartialEq, Eq)]
 pub enum Kind {
-    /// Its elements lead to other pages.
+    /// A page whose elements lead to other pages.
     Branch,
-    /// Its elements are keys with values or buckets.
+    /// A page whose elements are keys with values or buckets.
     Leaf,
     /// Contains a meta record.
     Meta,

@@ -2,9 +2,11 @@
 ghost use Rattle.std.specs.Prelude.{◌≡◌, ◌⊎◌, ◌↔◌, ◌<◌, ◌≤◌, ◌^◌, ◌+◌, ◌-◌, ◌∷◌, [], ℕ, ◌++◌, Bool, IsTrue, List, drop, length};
 ghost use Rattle.bolt_format.specs.Metas.{ForMetasPrefix, HasMetaFault, HasSlotFault, IsActive, IsInSlot, IsMeta, IsOnlyActive};
 ghost use Rattle.bolt_format.specs.ReadBack.{BranchReadsBack, IsHead, IsHeader, IsHeaderFit, IsMetaFit, LeafReadsBack};
-ghost use Rattle.bolt_format.specs.{BboltMetas.is_meta_header, Encoded.head_bytes, Encoded.header_bytes, Encoded.meta_bytes, declared.header.Kind.Kind};
+ghost use Rattle.bolt_format.specs.{BboltMetas.is_meta_header, Encoded.head_bytes, Encoded.header_bytes, Encoded.meta_bytes};
+ghost use Rattle.bolt_format.specs.{declared.header.Kind.Kind};
 ghost use Rattle.bolt_format.specs.declared.meta.TheConstants.{METAS_END, NO_FREELIST};
-ghost use Rattle.bolt_format.specs.declared.page_fault.TheConstants.PageFault.{BUCKET_SHORT, CUT, DATA_ORDER, ELEMENT_CUT, ID, INLINE_NESTED, INLINE_PAGE, KEY_LENGTH, LEAF_FLAGS, PAGE_KIND, RANGE, VALUE_LENGTH};
+ghost use Rattle.bolt_format.specs.declared.page_fault.TheConstants.PageFault.{BUCKET_SHORT, CUT, DATA_ORDER, ELEMENT_CUT, ID, INLINE_NESTED};
+ghost use Rattle.bolt_format.specs.declared.page_fault.TheConstants.PageFault.{INLINE_PAGE, KEY_LENGTH, LEAF_FLAGS, PAGE_KIND, RANGE, VALUE_LENGTH};
 ghost use Rattle.bolt_format.specs.{declared.meta.Meta.Meta, declared.meta.MetaFault.MetaFault, declared.meta.Slot.Slot};
 
 /// The numbers with names are those of the format (docs/FORMAT.md). The codes of faults, which callers

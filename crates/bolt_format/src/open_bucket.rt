@@ -1,6 +1,8 @@
 //! Reads the value of a bucket on a page that passed its tests.
 ghost use Rattle.std.specs.Prelude.{◌≡◌};
-ghost use Rattle.bolt_format.specs.{Elements.IsBucketValue, Elements.head_root, Elements.head_sequence, Elements.inline_elements, Elements.inline_number, Gaps.inline_gap, Gaps.shown_inline_gap, ShownInline.shown_inline, TreePages.leaf_overflow};
+ghost use Rattle.bolt_format.specs.{Elements.IsBucketValue, Elements.head_root, Elements.head_sequence, Elements.inline_elements};
+ghost use Rattle.bolt_format.specs.{Elements.inline_number, Gaps.inline_gap, Gaps.shown_inline_gap, ShownInline.shown_inline};
+ghost use Rattle.bolt_format.specs.{TreePages.leaf_overflow};
 
 use crate::bucket_value::{HEAD_LEN, Head, Inline};
 use crate::bytes::u64_at;

@@ -32,7 +32,7 @@ pub fn page<'a>(file: &'a [u8], meta: &Meta, id: u64) -> Result<Page<'a>, PageFa
         × (fault.page ≡ id)) }
     ensures none { OnErr result (page_at file.now meta.now id ≡ None) }
 {
-    test_page(file, meta, id).map_err(|code| PageFault {
+    page_or_code(file, meta, id).map_err(|code| PageFault {
         number: code,
         page: id,
     })
@@ -54,7 +54,7 @@ pub fn known<'a>(file: &'a [u8], meta: &Meta, id: u64) -> Page<'a>
 }
 
 #[tactic(auto, unfolding(crate::specs::Pages::page_at, crate::specs::Pages::page_fault, crate::specs::ShownGoodPages::shown))]
-fn test_page<'a>(file: &'a [u8], meta: &Meta, id: u64) -> Result<Page<'a>, u8>
+fn page_or_code<'a>(file: &'a [u8], meta: &Meta, id: u64) -> Result<Page<'a>, u8>
     ensures good { IfOk result (λ page. page_at file.now meta.now id ≡ Some (shown page)) }
     ensures within { IfOk result (λ page. IsInFile file.now meta.now id (shown page)) }
     ensures fault { IfErr result (λ fault. page_fault file.now meta.now id ≡ Some fault) }

@@ -28,9 +28,9 @@ pub struct LeafPage<'a> {
 /// A page of a tree.
 #[derive(Clone, Copy)]
 pub enum TreePage<'a> {
-    /// Its elements lead to other pages.
+    /// A page whose elements lead to other pages.
     Branch(BranchPage<'a>),
-    /// Its elements are values and buckets.
+    /// A page whose elements are values and buckets.
     Leaf(LeafPage<'a>),
 }
 

@@ -1,6 +1,8 @@
 -- Page sizes, alone and in an assumed meta, are read of their words.
 use Rattle.std.proofs.Common.{◌≡◌, ◌∙◌, ◌&&◌, ◌==◌, Bool, ℕ, Option, Some, None, Result, Ok, Err, codes, length, sym, refl, ap₂, arith, subst}
-use Rattle.bolt_job.proofs.Vocabulary.{IfNone, IfSome, IsPageSize, MatchOption, PageSize, after_first, assumed_of, assumed_when, before_first, drop_all, false_from_ne_true, if◌then◌else◌, is_page_size, list_any, number_in, page_size_asked, page_sizes, position_or_len}
+use Rattle.bolt_job.proofs.Vocabulary.{IfNone, IfSome, IsPageSize, MatchOption, PageSize, after_first, assumed_of, assumed_when, before_first}
+use Rattle.bolt_job.proofs.Vocabulary.{drop_all, false_from_ne_true, if◌then◌else◌, is_page_size, list_any, number_in, page_size_asked, page_sizes}
+use Rattle.bolt_job.proofs.Vocabulary.{position_or_len}
 use Rattle.clap.specs.Words.{Text}
 use Rattle.bolt_text.proofs.Exports.{number_is}
 
@@ -20,7 +22,8 @@ pub size_answered : (word : Text) (n : ℕ) (answer : Option PageSize) → numbe
     → IfSome answer (λ size. size.bytes ≡ n) → IfNone answer (IsPageSize n → ⊥)
     → MatchOption answer (page_size_asked word ≡ Err (codes "bad page size")) (λ size. page_size_asked word ≡ Ok size.bytes)
 size_answered word n None is same refused = size_refused word n is refused
-size_answered word n (Some size) is same refused = subst (λ (m : ℕ). page_size_asked word ≡ Ok m) (sym same) (size_read word n is (subst IsPageSize same size.accepted))
+size_answered word n (Some size) is same refused =
+    subst (λ (m : ℕ). page_size_asked word ≡ Ok m) (sym same) (size_read word n is (subst IsPageSize same size.accepted))
 
 -- ---- an assumed meta
 

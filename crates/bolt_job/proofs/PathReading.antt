@@ -1,6 +1,9 @@
 -- The parts of a path are read one after another.
-use Rattle.std.proofs.Common.{arith, ◌≡◌, ◌∙◌, ◌==◌, Bool, List, [], ◌∷◌, ◌++◌, Result, Ok, Err, codes, length, refl, sym, ap, ap₂, inl, inr, append_assoc, map}
-use Rattle.bolt_job.proofs.Vocabulary.{Bor, ReadsAs, IsErrAnd, Key, None, Option, Path, Refusal, Some, Text, each_part, false, hex_path_of, if◌then◌else◌, ◌>>=◌, list_any, option_and_then, option_map, or_bad_hex, or_cases, or_parts, part_of, slice_split, true}
+use Rattle.std.proofs.Common.{arith, ◌≡◌, ◌∙◌, ◌==◌, Bool, List, [], ◌∷◌, ◌++◌, Result, Ok, Err, codes, length, refl, sym, ap, ap₂, inl, inr}
+use Rattle.std.proofs.Common.{append_assoc, map}
+use Rattle.bolt_job.proofs.Vocabulary.{Bor, ReadsAs, IsErrAnd, Key, None, Option, Path, Refusal, Some, Text, each_part, false, hex_path_of}
+use Rattle.bolt_job.proofs.Vocabulary.{if◌then◌else◌, ◌>>=◌, list_any, option_and_then, option_map, or_bad_hex, or_cases, or_parts, part_of}
+use Rattle.bolt_job.proofs.Vocabulary.{slice_split, true}
 use Rattle.bolt_text.specs.HexPaths.{hex_bytes_in, hex_path_in, part_in, parts_in}
 use Rattle.bolt_text.specs.declared.part_words.Parts.TheVariants as parts
 
@@ -27,8 +30,10 @@ module _ (read : Text → Result Key Text) (word : Text) (words : List Text) whe
   continued_bad front why is = ap (λ r. continued front (r >>= λ part. each_part read words >>= λ path. Ok (part ∷ path))) is
 
   -- a part that can't be read is reported of the whole
-  pub part_refused : {T U : Type 0} (view : T → Path) (part_view : U → Key) (front : Path) (whole : Result Path Text) (refusal : Refusal) (result : Result T Refusal)
-      → ReadsAs part_view (read word) (Err refusal) → continued front (each_part read (word ∷ words)) ≡ whole → IsErrAnd result (λ said. said ≡ refusal) → ReadsAs view whole result
+  pub part_refused : {T U : Type 0} (view : T → Path) (part_view : U → Key) (front : Path) (whole : Result Path Text) (refusal : Refusal)
+      (result : Result T Refusal)
+      → ReadsAs part_view (read word) (Err refusal) → continued front (each_part read (word ∷ words)) ≡ whole → IsErrAnd result (λ said. said ≡ refusal)
+      → ReadsAs view whole result
   part_refused view part_view front whole refusal (Ok path) gives same is = absurd is
   part_refused view part_view front whole refusal (Err said) gives same is = grind (arith, continued_bad)
 
@@ -39,7 +44,8 @@ empties words = list_any (λ part. length part == 0) words
 
 -- the path of the words, if no part is empty and all are in hexadecimal
 with_rest : (part : Option Key) (rest : Option Path)
-    → or_bad_hex (option_and_then (λ part. option_map (λ parts. part ∷ parts) rest) part) ≡ (or_bad_hex part >>= λ part. or_bad_hex rest >>= λ path. Ok (part ∷ path))
+    → or_bad_hex (option_and_then (λ part. option_map (λ parts. part ∷ parts) rest) part)
+    ≡ (or_bad_hex part >>= λ part. or_bad_hex rest >>= λ path. Ok (part ∷ path))
 with_rest None rest = refl
 with_rest (Some part) None = refl
 with_rest (Some part) (Some path) = refl
@@ -59,7 +65,8 @@ no_path (Some part) = refl
 an_empty : (words : List Text) → empties words ≡ true → parts_in words ≡ None
 an_empty [] some = absurd (cc)
 an_empty (word ∷ words) some = elim (or_cases (length word == 0) (empties words) some) [
-  | inl here ↦ ap (λ part. option_and_then (λ part. option_map (λ parts. part ∷ parts) (parts_in words)) part) (ap (λ b. if b then None else hex_bytes_in word) here)
+  | inl here ↦
+      ap (λ part. option_and_then (λ part. option_map (λ parts. part ∷ parts) (parts_in words)) part) (ap (λ b. if b then None else hex_bytes_in word) here)
   | inr later ↦ ap (λ rest. option_and_then (λ part. option_map (λ parts. part ∷ parts) rest) (part_in word)) (an_empty words later) ∙ no_path (part_in word)
 ]
 

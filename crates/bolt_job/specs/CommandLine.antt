@@ -36,12 +36,12 @@ IsCommand app command = (app_of command ≡ app) × ((out-Command command).has_g
 abbrev pub values_in : List Row → Values
 values_in rows name = unwrap_or (all_of name rows) []
 
--- by the subcommand that was met, and the matches of its arguments
+-- what is asked by the subcommand that was met, and the matches of its arguments
 abbrev pub asked_by_subcommand : Option (Text × List Row) → Result Asked Text
 asked_by_subcommand (Some met) = asked met.0 (values_in met.1)
 asked_by_subcommand None = Err (codes "command missing")
 
--- by the words
+-- what is asked by the words
 abbrev pub asked_by : List Text → Result Asked Text
 asked_by words = asked_by_subcommand (subcommand_of program words)
 
@@ -60,7 +60,7 @@ Asks words job = (asked_by words ≡ Ok (asked_of job)) × (fault_of program wor
 abbrev pub IsUsage : ErrorKind → Type 0
 IsUsage fault = (fault ≢ kind.DisplayHelp) × (fault ≢ kind.DisplayVersion)
 
--- one of the faults is such
+-- at least one of the faults asks neither for help nor for the version
 abbrev pub IsAmongUsage : Kinds → Type 0
 IsAmongUsage kinds = (fault : ErrorKind) × IsAmong fault kinds × IsUsage fault
 

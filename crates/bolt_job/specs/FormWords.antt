@@ -39,7 +39,7 @@ module _ {F : Type 0} where
   form_in table default None = Ok default
   form_in table default (Some word) = or_refused table (form_among table word)
 
--- by the word of `--form`, if it is given
+-- the form that the word of `--form` names, if it is given
 abbrev pub form_by : Option Text → Result Form Text
 form_by word = form_in forms form.Printable word
 

@@ -1,7 +1,9 @@
 -- A job: what it asks for, by that of its command; its files, and how much of FILE it needs (docs/COMMANDS.md).
 use Rattle.std.specs.Prelude.{Bool, true, false, Option, Some, None, string_bytes}
 use Rattle.bolt_text.specs.Lines.{Text}
-use Rattle.bolt_job.specs.PlainWords.{Asked, buckets_of, check_of, compact_of, etcd_check_of, etcd_get_of, etcd_keys_of, etcd_repair_of, etcd_revisions_of, etcd_status_of, get_of, info_of, keys_asked, list_of, load_of, page_of, pages_asked, states_of, stats_of}
+use Rattle.bolt_job.specs.PlainWords.{Asked, buckets_of, check_of, compact_of, etcd_check_of, etcd_get_of, etcd_keys_of, etcd_repair_of}
+use Rattle.bolt_job.specs.PlainWords.{etcd_revisions_of, etcd_status_of, get_of, info_of, keys_asked, list_of, load_of, page_of, pages_asked}
+use Rattle.bolt_job.specs.PlainWords.{states_of, stats_of}
 use Rattle.bolt_job.specs.declared.job.Job.{Job}
 use Rattle.bolt_job.specs.declared.job.Job.TheVariants as job
 
@@ -53,7 +55,7 @@ target_name (job.Load j) = Some (string_bytes j.target)
 target_name (job.EtcdRepair j) = Some (string_bytes j.target)
 target_name _ = None
 
--- the metas are all that it needs
+-- the metas are all that a job needs
 abbrev pub needs_metas_alone : Job → Bool
 needs_metas_alone (job.Info j) = true
 needs_metas_alone _ = false

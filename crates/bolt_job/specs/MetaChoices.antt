@@ -1,6 +1,7 @@
 -- The meta that a file is read under: docs/COMMANDS.md, "A named meta" and "An assumed meta".
 use Rattle.std.specs.Prelude.{◌≡◌, ℕ, List, length}
-use Rattle.bolt_format.specs.{Assumed.assumed_meta, Metas.HasActive, Metas.HasNoActive, Metas.HasNoneInSlot, Metas.IsInSlot, declared.meta.Meta.Meta, declared.meta.MetaFault.MetaFault}
+use Rattle.bolt_format.specs.{Assumed.assumed_meta, Metas.HasActive, Metas.HasNoActive, Metas.HasNoneInSlot, Metas.IsInSlot, declared.meta.Meta.Meta}
+use Rattle.bolt_format.specs.{declared.meta.MetaFault.MetaFault}
 use Rattle.bolt_job.specs.{declared.choices.AssumedMeta.AssumedMeta, declared.choices.MetaChoice.MetaChoice}
 use Rattle.bolt_job.specs.declared.choices.MetaChoice.TheVariants.{Active, Assumed, InSlot}
 

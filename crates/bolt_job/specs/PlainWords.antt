@@ -1,19 +1,28 @@
 -- What the words of a command line ask for: docs/COMMANDS.md, "Arguments".
-use Rattle.std.specs.Prelude.{◌==◌, ◌&&◌, ◌^◌, ℕ, Bool, true, false, List, [], ◌∷◌, ◌++◌, Option, Some, None, Result, Ok, Err, Vec, codes, map, option_map, string_bytes, if◌then◌else◌, nat_lt}
+use Rattle.std.specs.Prelude.{◌==◌, ◌&&◌, ◌^◌, ℕ, Bool, true, false, List, [], ◌∷◌, ◌++◌, Option, Some, None, Result, Ok, Err, Vec, codes, map}
+use Rattle.std.specs.Prelude.{option_map, string_bytes, if◌then◌else◌, nat_lt}
 use Rattle.std.specs.{List.after_first, List.before_first, List.list_any, Str.bytes_eq}
 use Rattle.bolt_tree.specs.Paths.{Key, Path}
 use Rattle.bolt_format.specs.{Metas.page_sizes, declared.meta.Slot.Slot, declared.meta.Slot.TheVariants.One, declared.meta.Slot.TheVariants.Zero}
-use Rattle.bolt_text.specs.{Numbers.decimal_value, Numbers.is_number, Numbers.number_in, declared.forms.FigureForm.FigureForm, declared.forms.Form.Form, declared.forms.ListForm.ListForm, Lines.Text}
+use Rattle.bolt_text.specs.{Numbers.decimal_value, Numbers.is_number, Numbers.number_in, declared.forms.FigureForm.FigureForm}
+use Rattle.bolt_text.specs.{declared.forms.Form.Form, declared.forms.ListForm.ListForm, Lines.Text}
 use Rattle.bolt_job.specs.FormWords.{figure_form_by, form_by, list_form_by}
 use Rattle.bolt_job.specs.WordRules.{alone, by_letter, by_name, needed, several, valued}
-use Rattle.bolt_job.specs.{PathWords.◌>>=◌, PathWords.each_part, PathWords.hex_path_by, PathWords.part_of, PathWords.parts_by, PathWords.prefix_of, declared.choices.BucketsShown.BucketsShown}
-use Rattle.bolt_job.specs.{declared.choices.BucketsShown.TheVariants.Names, declared.choices.BucketsShown.TheVariants.Sizes, declared.choices.CopyKind.CopyKind, declared.choices.Extent.Extent}
-use Rattle.bolt_job.specs.{declared.choices.MetaChoice.MetaChoice, declared.choices.PageSize.PageSize, declared.etcd_jobs.EtcdCheckJob.EtcdCheckJob, declared.etcd_jobs.EtcdGetJob.EtcdGetJob}
-use Rattle.bolt_job.specs.{declared.etcd_jobs.EtcdKeysJob.EtcdKeysJob, declared.etcd_jobs.EtcdRepairJob.EtcdRepairJob, declared.etcd_jobs.EtcdRevisionsJob.EtcdRevisionsJob}
+use Rattle.bolt_job.specs.{PathWords.◌>>=◌, PathWords.each_part, PathWords.hex_path_by, PathWords.part_of, PathWords.parts_by, PathWords.prefix_of}
+use Rattle.bolt_job.specs.{declared.choices.BucketsShown.BucketsShown}
+use Rattle.bolt_job.specs.{declared.choices.BucketsShown.TheVariants.Names, declared.choices.BucketsShown.TheVariants.Sizes}
+use Rattle.bolt_job.specs.{declared.choices.CopyKind.CopyKind, declared.choices.Extent.Extent}
+use Rattle.bolt_job.specs.{declared.choices.MetaChoice.MetaChoice, declared.choices.PageSize.PageSize, declared.etcd_jobs.EtcdCheckJob.EtcdCheckJob}
+use Rattle.bolt_job.specs.{declared.etcd_jobs.EtcdGetJob.EtcdGetJob}
+use Rattle.bolt_job.specs.{declared.etcd_jobs.EtcdKeysJob.EtcdKeysJob, declared.etcd_jobs.EtcdRepairJob.EtcdRepairJob}
+use Rattle.bolt_job.specs.{declared.etcd_jobs.EtcdRevisionsJob.EtcdRevisionsJob}
 use Rattle.bolt_job.specs.declared.etcd_jobs.EtcdStatusJob.{EtcdStatusJob}
-use Rattle.bolt_job.specs.{declared.page_commands.CheckJob.CheckJob, declared.page_commands.InfoJob.InfoJob, declared.page_commands.PageJob.PageJob, declared.page_commands.PagesJob.PagesJob, declared.page_commands.StatesJob.StatesJob}
-use Rattle.bolt_job.specs.{declared.bucket_commands.BucketsJob.BucketsJob, declared.bucket_commands.GetJob.GetJob, declared.bucket_commands.KeysJob.KeysJob, declared.bucket_commands.ListJob.ListJob}
-use Rattle.bolt_job.specs.{declared.bucket_commands.StatsJob.StatsJob, declared.writing_commands.CompactJob.CompactJob, declared.writing_commands.LoadJob.LoadJob}
+use Rattle.bolt_job.specs.{declared.page_commands.CheckJob.CheckJob, declared.page_commands.InfoJob.InfoJob, declared.page_commands.PageJob.PageJob}
+use Rattle.bolt_job.specs.{declared.page_commands.PagesJob.PagesJob, declared.page_commands.StatesJob.StatesJob}
+use Rattle.bolt_job.specs.{declared.bucket_commands.BucketsJob.BucketsJob, declared.bucket_commands.GetJob.GetJob}
+use Rattle.bolt_job.specs.{declared.bucket_commands.KeysJob.KeysJob, declared.bucket_commands.ListJob.ListJob}
+use Rattle.bolt_job.specs.{declared.bucket_commands.StatsJob.StatsJob, declared.writing_commands.CompactJob.CompactJob}
+use Rattle.bolt_job.specs.{declared.writing_commands.LoadJob.LoadJob}
 use Rattle.clap.specs.Words.{Rule, new_rule}
 use Rattle.bolt_job.specs.declared.choices.CopyKind.TheVariants as kind
 use Rattle.bolt_job.specs.declared.choices.Extent.TheVariants as extent
@@ -85,7 +94,7 @@ meta_in choice.Active = active
 meta_in (choice.InSlot slot) = in_slot slot
 meta_in (choice.Assumed meta) = assumed meta.page_size.bytes meta.root
 
--- of the job of each command
+-- what is asked by the job of each command
 abbrev pub info_of : InfoJob → Asked
 info_of j = info (string_bytes j.file) j.slot j.form
 
@@ -162,13 +171,13 @@ abbrev file_by : Values → Result Text Text
 file_by values = text_by (codes "FILE") values
 
 -- a number by its word, or what is wrong with it
-abbrev pub number_or : (why word : Text) → Result ℕ Text
-number_or why word = if is_number word then Ok (decimal_value word) else Err why
+abbrev pub number_or_why : (why word : Text) → Result ℕ Text
+number_or_why why word = if is_number word then Ok (decimal_value word) else Err why
 
 abbrev pub id_by : Values → Result ℕ Text
-id_by values = text_by (codes "ID") values >>= λ word. number_or (codes "bad page id") word
+id_by values = text_by (codes "ID") values >>= λ word. number_or_why (codes "bad page id") word
 
--- of these numbers some are page sizes
+-- a word is a number, and one of the page sizes
 abbrev pub is_page_size : Text → Bool
 is_page_size word = is_number word && list_any (λ size. size == decimal_value word) page_sizes
 
@@ -186,7 +195,7 @@ load_size_by (Some word) = page_size_asked word
 load_size_by None = Ok 4096
 
 abbrev pub sequence_by : Option Text → Result ℕ Text
-sequence_by (Some word) = number_or (codes "bad sequence") word
+sequence_by (Some word) = number_or_why (codes "bad sequence") word
 sequence_by None = Ok 0
 
 -- a revision of etcd's by its word: a number below 2 ^ 63; without a word there is none
@@ -211,7 +220,7 @@ kind_in values = copy_kind_by (given values (codes "for-bbolt")) (given values (
 
 -- how much is read of a damaged file, by the words of `--all` or `--recover` and of `--lost-and-found` if they are given
 abbrev pub extent_by : (losses lost_and_found : Option Text) → Extent
-extent_by losses (Some word) = extent.LostAndFound
+extent_by losses (Some word) = extent.FoundPages
 extent_by (Some word) None = extent.Losses
 extent_by None None = extent.Sound
 
@@ -281,7 +290,8 @@ asks_at values wanted = meta_by values >>= λ meta. form_by (given values (codes
 -- of several words that can't be read the first one that is read here is wrong
 unfoldable pub asks_info : Values → Result Asked Text
 asks_info values =
-    slot_by (given values (codes "meta")) >>= λ slot. figure_form_by (given values (codes "form")) >>= λ form. file_by values >>= λ file. Ok (info file slot form)
+    slot_by (given values (codes "meta")) >>= λ slot. figure_form_by (given values (codes "form")) >>= λ form. file_by values >>= λ file.
+    Ok (info file slot form)
 
 unfoldable pub asks_page : Values → Result Asked Text
 asks_page values = meta_by values >>= λ meta. id_by values >>= λ id. file_by values >>= λ file. Ok (page file meta id)
@@ -299,47 +309,58 @@ asks_states values = page_size_by (given values (codes "page-size")) >>= λ size
 
 unfoldable pub asks_buckets : Values → Result Asked Text
 asks_buckets values =
-    meta_by values >>= λ meta. form_by (given values (codes "form")) >>= λ form. shown_by (is_given (given values (codes "sizes"))) (recover_in values) >>= λ shown.
+    meta_by values >>= λ meta. form_by (given values (codes "form")) >>= λ form.
+    shown_by (is_given (given values (codes "sizes"))) (recover_in values) >>= λ shown.
     path_by values >>= λ path. file_by values >>= λ file. Ok (buckets file meta path form shown)
 
 unfoldable pub asks_keys : Values → Result Asked Text
-asks_keys values = asks_at values (λ meta form path. prefix_by values >>= λ prefix. file_by values >>= λ file. Ok (keys file meta path prefix form (recover_in values)))
+asks_keys values =
+    asks_at values (λ meta form path. prefix_by values >>= λ prefix. file_by values >>= λ file. Ok (keys file meta path prefix form (recover_in values)))
 
 unfoldable pub asks_get : Values → Result Asked Text
-asks_get values = asks_at values (λ meta form path. file_by values >>= λ file. Ok (get file meta path form (is_given (given values (codes "no-newline"))) (recover_in values)))
+asks_get values =
+    asks_at values (λ meta form path. file_by values >>= λ file.
+    Ok (get file meta path form (is_given (given values (codes "no-newline"))) (recover_in values)))
 
 unfoldable pub asks_stats : Values → Result Asked Text
 asks_stats values =
-    meta_by values >>= λ meta. figure_form_by (given values (codes "form")) >>= λ form. path_by values >>= λ path. file_by values >>= λ file. Ok (stats file meta form path)
+    meta_by values >>= λ meta. figure_form_by (given values (codes "form")) >>= λ form. path_by values >>= λ path. file_by values >>= λ file.
+    Ok (stats file meta form path)
 
 unfoldable pub asks_list : Values → Result Asked Text
 asks_list values =
-    meta_by values >>= λ meta. list_form_by (given values (codes "form")) >>= λ form. path_by values >>= λ path. hex_path_by (given values (codes "from")) >>= λ from.
+    meta_by values >>= λ meta. list_form_by (given values (codes "form")) >>= λ form. path_by values >>= λ path.
+    hex_path_by (given values (codes "from")) >>= λ from.
     file_by values >>= λ file. Ok (list file meta form path from (extent_in (codes "recover") values))
 
 unfoldable pub asks_compact : Values → Result Asked Text
 asks_compact values =
-    meta_by values >>= λ meta. page_size_by (given values (codes "page-size")) >>= λ size. text_by (codes "output") values >>= λ target. file_by values >>= λ file.
+    meta_by values >>= λ meta. page_size_by (given values (codes "page-size")) >>= λ size. text_by (codes "output") values >>= λ target.
+    file_by values >>= λ file.
     Ok (compact file meta target size (kind_in values) (extent_in (codes "recover") values))
 
 unfoldable pub asks_load : Values → Result Asked Text
 asks_load values =
-    sequence_by (given values (codes "sequence")) >>= λ sequence. load_size_by (given values (codes "page-size")) >>= λ size. text_by (codes "output") values >>= λ target.
+    sequence_by (given values (codes "sequence")) >>= λ sequence. load_size_by (given values (codes "page-size")) >>= λ size.
+    text_by (codes "output") values >>= λ target.
     file_by values >>= λ file. Ok (load file target sequence size (kind_in values))
 
 unfoldable pub asks_etcd_revisions : Values → Result Asked Text
 asks_etcd_revisions values =
-    meta_by values >>= λ meta. form_by (given values (codes "form")) >>= λ form. prefix_by values >>= λ prefix. revision_asked (given values (codes "from")) >>= λ from.
+    meta_by values >>= λ meta. form_by (given values (codes "form")) >>= λ form. prefix_by values >>= λ prefix.
+    revision_asked (given values (codes "from")) >>= λ from.
     file_by values >>= λ file. Ok (etcd_revisions file meta prefix from form (is_given (given values (codes "values"))))
 
 unfoldable pub asks_etcd_keys : Values → Result Asked Text
 asks_etcd_keys values =
-    meta_by values >>= λ meta. form_by (given values (codes "form")) >>= λ form. prefix_by values >>= λ prefix. revision_asked (given values (codes "at")) >>= λ revision.
+    meta_by values >>= λ meta. form_by (given values (codes "form")) >>= λ form. prefix_by values >>= λ prefix.
+    revision_asked (given values (codes "at")) >>= λ revision.
     file_by values >>= λ file. Ok (etcd_keys file meta prefix revision form (is_given (given values (codes "values"))))
 
 unfoldable pub asks_etcd_get : Values → Result Asked Text
 asks_etcd_get values =
-    meta_by values >>= λ meta. form_by (given values (codes "form")) >>= λ form. name_by values >>= λ name. revision_asked (given values (codes "at")) >>= λ revision.
+    meta_by values >>= λ meta. form_by (given values (codes "form")) >>= λ form. name_by values >>= λ name.
+    revision_asked (given values (codes "at")) >>= λ revision.
     file_by values >>= λ file. Ok (etcd_get file meta name revision form (is_given (given values (codes "no-newline"))))
 
 unfoldable pub asks_etcd_check : Values → Result Asked Text
@@ -347,12 +368,14 @@ asks_etcd_check values = meta_by values >>= λ meta. file_by values >>= λ file.
 
 unfoldable pub asks_etcd_status : Values → Result Asked Text
 asks_etcd_status values =
-    meta_by values >>= λ meta. figure_form_by (given values (codes "form")) >>= λ form. revision_asked (given values (codes "at")) >>= λ revision. file_by values >>= λ file.
+    meta_by values >>= λ meta. figure_form_by (given values (codes "form")) >>= λ form. revision_asked (given values (codes "at")) >>= λ revision.
+    file_by values >>= λ file.
     Ok (etcd_status file meta revision form)
 
 unfoldable pub asks_etcd_repair : Values → Result Asked Text
 asks_etcd_repair values =
-    meta_by values >>= λ meta. page_size_by (given values (codes "page-size")) >>= λ size. text_by (codes "output") values >>= λ target. file_by values >>= λ file.
+    meta_by values >>= λ meta. page_size_by (given values (codes "page-size")) >>= λ size. text_by (codes "output") values >>= λ target.
+    file_by values >>= λ file.
     Ok (etcd_repair file meta target size (is_given (given values (codes "etcd-snapshot"))) (is_given (given values (codes "search"))))
 
 -- ---- the commands
@@ -373,33 +396,45 @@ page_commands =
     command (codes "info") (option (codes "form") ∷ option (codes "meta") ∷ []) asks_info
     ∷ command (codes "page") (needed (operand (codes "ID")) ∷ option (codes "assume-meta") ∷ []) asks_page
     ∷ command (codes "pages") (switch (codes "map") ∷ []) asks_pages
-    ∷ command (codes "check") (switch (codes "all") ∷ switch (codes "lost-and-found") ∷ switch (codes "for-bbolt") ∷ switch (codes "etcd-snapshot") ∷ metas) asks_check
+    ∷ command (codes "check")
+    (switch (codes "all") ∷ switch (codes "lost-and-found") ∷ switch (codes "for-bbolt") ∷ switch (codes "etcd-snapshot") ∷ metas) asks_check
     ∷ command (codes "states") (option (codes "page-size") ∷ []) asks_states
     ∷ []
 
--- those that print what is in a bucket; `-n` (110) is also written by its name
+-- the commands that print what is in a bucket; `-n` (110) is also written by its name
 abbrev bucket_commands : List Command
 bucket_commands =
     command (codes "buckets") (parts ∷ switch (codes "sizes") ∷ option (codes "form") ∷ option (codes "parts") ∷ switch (codes "recover") ∷ metas) asks_buckets
-    ∷ command (codes "keys") (needed parts ∷ option (codes "prefix") ∷ option (codes "form") ∷ option (codes "parts") ∷ switch (codes "recover") ∷ metas) asks_keys
-    ∷ command (codes "get") (needed parts ∷ by_letter 110 (switch (codes "no-newline")) ∷ option (codes "form") ∷ option (codes "parts") ∷ switch (codes "recover") ∷ metas) asks_get
+    ∷ command (codes "keys")
+    (needed parts ∷ option (codes "prefix") ∷ option (codes "form") ∷ option (codes "parts") ∷ switch (codes "recover") ∷ metas) asks_keys
+    ∷ command (codes "get")
+    (needed parts ∷ by_letter 110 (switch (codes "no-newline")) ∷ option (codes "form") ∷ option (codes "parts") ∷ switch (codes "recover") ∷ metas) asks_get
     ∷ command (codes "stats") (parts ∷ option (codes "form") ∷ option (codes "parts") ∷ metas) asks_stats
-    ∷ command (codes "list") (parts ∷ option (codes "from") ∷ option (codes "form") ∷ option (codes "parts") ∷ switch (codes "recover") ∷ switch (codes "lost-and-found") ∷ metas) asks_list
+    ∷ command (codes "list")
+    (parts ∷ option (codes "from") ∷ option (codes "form") ∷ option (codes "parts") ∷ switch (codes "recover") ∷ switch (codes "lost-and-found")
+    ∷ metas) asks_list
     ∷ []
 
--- those that write a file
+-- the commands that write a file
 abbrev writing_commands : List Command
 writing_commands =
-    command (codes "compact") (output ∷ option (codes "page-size") ∷ switch (codes "for-bbolt") ∷ switch (codes "etcd-snapshot") ∷ switch (codes "recover") ∷ switch (codes "lost-and-found") ∷ metas) asks_compact
-    ∷ command (codes "load") (output ∷ option (codes "page-size") ∷ switch (codes "for-bbolt") ∷ switch (codes "etcd-snapshot") ∷ option (codes "sequence") ∷ []) asks_load
+    command (codes "compact")
+    (output ∷ option (codes "page-size") ∷ switch (codes "for-bbolt") ∷ switch (codes "etcd-snapshot") ∷ switch (codes "recover")
+    ∷ switch (codes "lost-and-found") ∷ metas) asks_compact
+    ∷ command (codes "load")
+    (output ∷ option (codes "page-size") ∷ switch (codes "for-bbolt") ∷ switch (codes "etcd-snapshot") ∷ option (codes "sequence") ∷ []) asks_load
     ∷ []
 
--- those for etcd's file
+-- the commands for etcd's file
 abbrev pub etcd_commands : List Command
 etcd_commands =
-    command (codes "etcd-revisions") (option (codes "from") ∷ option (codes "prefix") ∷ switch (codes "values") ∷ option (codes "parts") ∷ option (codes "form") ∷ metas) asks_etcd_revisions
-    ∷ command (codes "etcd-keys") (option (codes "at") ∷ option (codes "prefix") ∷ switch (codes "values") ∷ option (codes "parts") ∷ option (codes "form") ∷ metas) asks_etcd_keys
-    ∷ command (codes "etcd-get") (needed (operand (codes "NAME")) ∷ option (codes "at") ∷ by_letter 110 (switch (codes "no-newline")) ∷ option (codes "parts") ∷ option (codes "form") ∷ metas) asks_etcd_get
+    command (codes "etcd-revisions")
+    (option (codes "from") ∷ option (codes "prefix") ∷ switch (codes "values") ∷ option (codes "parts") ∷ option (codes "form") ∷ metas) asks_etcd_revisions
+    ∷ command (codes "etcd-keys")
+    (option (codes "at") ∷ option (codes "prefix") ∷ switch (codes "values") ∷ option (codes "parts") ∷ option (codes "form") ∷ metas) asks_etcd_keys
+    ∷ command (codes "etcd-get")
+    (needed (operand (codes "NAME")) ∷ option (codes "at") ∷ by_letter 110 (switch (codes "no-newline")) ∷ option (codes "parts") ∷ option (codes "form")
+    ∷ metas) asks_etcd_get
     ∷ command (codes "etcd-check") metas asks_etcd_check
     ∷ command (codes "etcd-status") (option (codes "at") ∷ option (codes "form") ∷ metas) asks_etcd_status
     ∷ command (codes "etcd-repair") (output ∷ option (codes "page-size") ∷ switch (codes "etcd-snapshot") ∷ switch (codes "search") ∷ metas) asks_etcd_repair
@@ -419,6 +454,6 @@ abbrev pub asked_among : List Command → Text → Values → Result Asked Text
 asked_among [] name values = Err (codes "command missing")
 asked_among (c ∷ later) name values = if bytes_eq name c.name then c.asks values else asked_among later name values
 
--- by the name of the command
+-- what is asked by the name of a command and its values
 abbrev pub asked : Text → Values → Result Asked Text
 asked name values = asked_among commands name values

@@ -1,7 +1,8 @@
 //! The commands that print what buckets hold: which arguments each has and their help, its job, and how that is
 //! read. A job's names are copied last: until then there is nothing to drop if a word can't be read.
 ghost use Rattle.bolt_job.specs.CommandLine.{ReadsAs};
-ghost use Rattle.bolt_job.specs.PlainWords.{asks_buckets, asks_get, asks_keys, asks_list, asks_stats, buckets_of, get_of, keys_asked, list_of, stats_of};
+ghost use Rattle.bolt_job.specs.PlainWords.{asks_buckets, asks_get, asks_keys, asks_list, asks_stats, buckets_of, get_of, keys_asked, list_of};
+ghost use Rattle.bolt_job.specs.PlainWords.{stats_of};
 ghost use Rattle.bolt_job.specs.Private.CommandLines.{values_of};
 
 use crate::choices::{BucketsShown, Extent, MetaChoice};
@@ -99,7 +100,7 @@ pub(crate) const RECOVER: Argument = Argument {
     required: false,
 };
 
-pub(crate) const JOIN: Argument = Argument {
+pub(crate) const READ_FOUND_PAGES: Argument = Argument {
     name: "lost-and-found",
     flag: Flag::Long,
     value: None,
@@ -286,7 +287,7 @@ pub(crate) static LIST: Syntax = Syntax {
         LIST_FORM,
         PARTS,
         RECOVER,
-        JOIN,
+        READ_FOUND_PAGES,
         META,
         ASSUME_META,
     ],

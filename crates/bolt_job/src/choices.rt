@@ -13,7 +13,7 @@ pub struct PageSize {
 }
 
 impl PageSize {
-    /// That of most files, since most systems have pages of this size.
+    /// The page size of most files, since most systems have pages of this size.
     pub(crate) const USUAL: PageSize = PageSize { bytes: 4096 };
 
     /// The page size of this many bytes, if it is accepted.
@@ -112,12 +112,12 @@ impl CopyKind {
 /// What is printed of the buckets in a bucket.
 #[derive(Clone, Copy)]
 pub enum BucketsShown {
-    /// Their names.
+    /// The buckets' names.
     Names {
         /// Whether to print what is recovered.
         recover: bool,
     },
-    /// Their sizes and names, which are known of a sound file alone.
+    /// The buckets' sizes and names, which are known of a sound file alone.
     Sizes,
 }
 
@@ -129,6 +129,6 @@ pub enum Extent {
     Sound,
     /// A damaged file too: what is kept of it. Each loss is reported.
     Losses,
-    /// The same, and each page that is found though nothing leads to it.
-    LostAndFound,
+    /// The losses, and each page that is found though nothing leads to it.
+    FoundPages,
 }

@@ -13,13 +13,13 @@ use std::alloc::{AllocError, Global};
 pub(crate) enum Flag {
     /// As it is: an operand, which is one word.
     Operand,
-    /// The same, as many words as follow.
+    /// As many operands as words follow.
     Operands,
     /// An option, as `--` and its name.
     Long,
-    /// One by one letter, as `-o`.
+    /// An option by one letter, as `-o`.
     Short(char),
-    /// One in either way, as `-n` or `--no-newline`.
+    /// An option in either way, as `-n` or `--no-newline`.
     Both(char),
 }
 

@@ -1,7 +1,8 @@
 //! The commands that read what etcd keeps in its file, and put back what is found of it: which arguments each has and their help, its job, and how that
 //! is read. A job's names are copied last: until then there is nothing to drop if a word can't be read.
 ghost use Rattle.bolt_job.specs.CommandLine.{ReadsAs};
-ghost use Rattle.bolt_job.specs.PlainWords.{asks_etcd_check, asks_etcd_get, asks_etcd_keys, asks_etcd_repair, asks_etcd_revisions, asks_etcd_status, etcd_check_of, etcd_get_of, etcd_keys_of, etcd_repair_of, etcd_revisions_of, etcd_status_of};
+ghost use Rattle.bolt_job.specs.PlainWords.{asks_etcd_check, asks_etcd_get, asks_etcd_keys, asks_etcd_repair, asks_etcd_revisions, asks_etcd_status};
+ghost use Rattle.bolt_job.specs.PlainWords.{etcd_check_of, etcd_get_of, etcd_keys_of, etcd_repair_of, etcd_revisions_of, etcd_status_of};
 ghost use Rattle.bolt_job.specs.Private.CommandLines.{values_of};
 
 use crate::bucket_commands::{FORM, NO_NEWLINE};

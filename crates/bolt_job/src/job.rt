@@ -2,7 +2,8 @@
 //! command line ask for.
 ghost use Rattle.std.specs.Prelude.{◌≡◌, map};
 ghost use Rattle.bolt_job.specs.CommandLine.{ReadsAs};
-ghost use Rattle.bolt_job.specs.{Jobs.asked_of, PlainWords.asked, PlainWords.asked_among, PlainWords.etcd_commands, PlainWords.later_commands, PlainWords.lines};
+ghost use Rattle.bolt_job.specs.{Jobs.asked_of, PlainWords.asked, PlainWords.asked_among, PlainWords.etcd_commands, PlainWords.later_commands};
+ghost use Rattle.bolt_job.specs.{PlainWords.lines};
 ghost use Rattle.bolt_job.specs.Private.CommandLines.{values_of};
 ghost use Rattle.bolt_job.specs.Syntaxes.{line_of};
 

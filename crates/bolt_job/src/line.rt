@@ -3,7 +3,9 @@ ghost use Rattle.std.specs.Prelude.{◌≡◌, Err, MatchOption, Ok, Some, codes
 ghost use Rattle.bolt_job.specs.CommandLine.{ReadsAs};
 ghost use Rattle.bolt_job.specs.FormWords.{figure_form_by, form_by, list_form_by};
 ghost use Rattle.bolt_job.specs.PathWords.{hex_path_by, parts_by};
-ghost use Rattle.bolt_job.specs.PlainWords.{assumed_of, copy_kind_by, extent_by, first_word_of, id_by, is_given, load_size_by, meta_by, meta_in, name_by, number_or, page_size_by, page_size_asked, path_by, owned_path, prefix_by, revision_asked, revision_of, sequence_by, shown_by, size_in, slot_by, slot_of, text_by};
+ghost use Rattle.bolt_job.specs.PlainWords.{assumed_of, copy_kind_by, extent_by, first_word_of, id_by, is_given, load_size_by, meta_by, meta_in};
+ghost use Rattle.bolt_job.specs.PlainWords.{name_by, number_or_why, page_size_by, page_size_asked, path_by, owned_path, prefix_by, revision_asked};
+ghost use Rattle.bolt_job.specs.PlainWords.{revision_of, sequence_by, shown_by, size_in, slot_by, slot_of, text_by};
 ghost use Rattle.bolt_job.specs.Private.CommandLines.{IsAssumedBy, values_of};
 
 use crate::choices::{AssumedMeta, BucketsShown, CopyKind, Extent, MetaChoice, PageSize};
@@ -58,7 +60,7 @@ impl Line<'_, '_> {
     pub(crate) fn page_id(&self) -> Result<u64, Refusal>
         ensures { ReadsAs (λ id. id) (id_by (values_of self.now)) result }
     {
-        number_or("bad page id", self.value("ID")?)
+        number_or_why("bad page id", self.value("ID")?)
     }
 
     /// The slot of a meta, if one is named.
@@ -221,7 +223,7 @@ impl Line<'_, '_> {
             (sequence_by (first_word_of (values_of self.now (codes "sequence")))) result }
     {
         match self.choice("sequence") {
-            Some(word) => number_or("bad sequence", word),
+            Some(word) => number_or_why("bad sequence", word),
             None => Ok(0),
         }
     }
@@ -245,7 +247,7 @@ impl Line<'_, '_> {
             (first_word_of (values_of self.now (codes "lost-and-found"))) }
     {
         match (self.choice(losses), self.choice("lost-and-found")) {
-            (_, Some(_)) => Extent::LostAndFound,
+            (_, Some(_)) => Extent::FoundPages,
             (Some(_), None) => Extent::Losses,
             (None, None) => Extent::Sound,
         }
@@ -317,8 +319,8 @@ fn revision_of(word: &str) -> Result<u64, Refusal>
 }
 
 /// The number that these digits stand for, or a refusal with these words.
-fn number_or(why: &'static str, word: &str) -> Result<u64, Refusal>
-    ensures { ReadsAs (λ number. number) (number_or why.now word.now) result }
+fn number_or_why(why: &'static str, word: &str) -> Result<u64, Refusal>
+    ensures { ReadsAs (λ number. number) (number_or_why why.now word.now) result }
 {
     read_number(word.as_bytes()).ok_or(Refusal::Word(why))
 }

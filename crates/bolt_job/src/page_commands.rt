@@ -1,7 +1,8 @@
 //! The commands that print pages and what is wrong with a file: which arguments each has and their help, its job,
 //! and how that is read. A job's names are copied last: until then there is nothing to drop if a word can't be read.
 ghost use Rattle.bolt_job.specs.CommandLine.{ReadsAs};
-ghost use Rattle.bolt_job.specs.PlainWords.{asks_check, asks_info, asks_page, asks_pages, asks_states, check_of, info_of, page_of, pages_asked, states_of};
+ghost use Rattle.bolt_job.specs.PlainWords.{asks_check, asks_info, asks_page, asks_pages, asks_states, check_of, info_of, page_of, pages_asked};
+ghost use Rattle.bolt_job.specs.PlainWords.{states_of};
 ghost use Rattle.bolt_job.specs.Private.CommandLines.{values_of};
 
 use crate::choices::{Extent, MetaChoice, PageSize};
@@ -91,7 +92,7 @@ const ALL: Argument = Argument {
     required: false,
 };
 
-const LOST_AND_FOUND: Argument = Argument {
+const NAME_FOUND_PAGES: Argument = Argument {
     name: "lost-and-found",
     flag: Flag::Long,
     value: None,
@@ -205,7 +206,7 @@ pub(crate) static CHECK: Syntax = Syntax {
     arguments: &[
         FILE,
         ALL,
-        LOST_AND_FOUND,
+        NAME_FOUND_PAGES,
         CHECK_FOR_BBOLT,
         CHECK_SNAPSHOT,
         META,

@@ -4,7 +4,7 @@ ghost use Rattle.bolt_job.specs.CommandLine.{ReadsAs};
 ghost use Rattle.bolt_job.specs.PlainWords.{asks_compact, asks_load, compact_of, load_of};
 ghost use Rattle.bolt_job.specs.Private.CommandLines.{values_of};
 
-use crate::bucket_commands::{JOIN, RECOVER};
+use crate::bucket_commands::{READ_FOUND_PAGES, RECOVER};
 use crate::choices::{CopyKind, Extent, MetaChoice, PageSize};
 use crate::command_line::{Argument, Flag, Syntax};
 use crate::line::Line;
@@ -90,7 +90,7 @@ pub(crate) static COMPACT: Syntax = Syntax {
         FOR_BBOLT,
         COPY_SNAPSHOT,
         RECOVER,
-        JOIN,
+        READ_FOUND_PAGES,
         META,
         ASSUME_META,
     ],

@@ -1,5 +1,6 @@
 -- A page without a gap begins with what is written for its elements.
-use Rattle.std.proofs.Common.{◌≡◌, ◌∙◌, ℕ, ◌+◌, ◌*◌, ◌≤◌, ◌==◌, Bool, true, false, cond, List, [], ◌∷◌, ◌++◌, length, drop, take, Option, None, Some, is_some, not, nat_lt, refl, sym, ap, subst, arith, append_assoc}
+use Rattle.std.proofs.Common.{◌≡◌, ◌∙◌, ℕ, ◌+◌, ◌*◌, ◌≤◌, ◌==◌, Bool, true, false, cond, List, [], ◌∷◌, ◌++◌, length, drop, take, Option, None, Some}
+use Rattle.std.proofs.Common.{is_some, not, nat_lt, refl, sym, ap, subst, arith, append_assoc}
 use Rattle.std.proofs.lemmas.Bool.{eq-eqb, eqb-true, ltb-false, not-false, or_parts}
 use Rattle.std.proofs.lemmas.List.{length-drop, take-append-drop, take-take, take_at}
 use Rattle.std.proofs.lemmas.List.FromFn.{length-map-range_with_len}
@@ -10,42 +11,45 @@ use Rattle.bolt_check.specs.Nodes.{node_at}
 use Rattle.bolt_check.specs.{OnWays.IsOnWay, Sound.HasSoundTrees, Ways.At_page, Ways.PageSpot, Ways.reached}
 use Rattle.bolt_format.proofs.Exports.{bucket_value, drop_bytes, first_of-none, length-header_bytes, range_bytes, size_bounds, value_bytes}
 use Rattle.bolt_format.specs.{Bytes.IsBytes, Encoded.header_bytes, Metas.IsPageSize, declared.header.Kind.Kind, declared.meta.Meta.Meta}
-use Rattle.bolt_format.specs.Elements.{IsBucketValue, LeafElement, head_fault, head_root, inline_bytes, inline_elements, inline_fault, inline_number, leaf_element, leaf_elements, leaves_fault, value_fault}
-use Rattle.bolt_format.specs.{Gaps.gap_of_kind, Gaps.inline_gap, Gaps.page_gap, Headers.count_field, Headers.flags_field, Headers.id_field, Headers.kind_of, Headers.overflow_field}
+use Rattle.bolt_format.specs.Elements.{IsBucketValue, LeafElement, head_fault, head_root, inline_bytes, inline_elements, inline_fault, inline_number}
+use Rattle.bolt_format.specs.Elements.{leaf_element, leaf_elements, leaves_fault, value_fault}
+use Rattle.bolt_format.specs.{Gaps.gap_of_kind, Gaps.inline_gap, Gaps.page_gap, Headers.count_field, Headers.flags_field, Headers.id_field}
+use Rattle.bolt_format.specs.{Headers.kind_of, Headers.overflow_field}
 use Rattle.bolt_format.specs.Pages.{PageView, fault_as, from_page, page_at, page_fault, page_overflow, shown_as, span_bytes, span_fault, view_of}
 use Rattle.bolt_format.specs.declared.header.Kind.TheVariants as kind
 use Rattle.bolt_layout.proofs.{ElementsThere.branches_there, ElementsThere.guard, ElementsThere.leaves_there, NumbersThere.header_there}
-use Rattle.bolt_layout.specs.AsWritten.{BeginsWith, IsAsWritten, IsInlineAsWritten, IsPageAsWritten}
+use Rattle.bolt_layout.specs.AsWritten.{BeginsAsWritten, IsAsWritten, IsInlineAsWritten, IsPageAsWritten}
 use Rattle.bolt_layout.specs.{NoGaps.HasNoGaps, PageBytes.content_bytes, PageBytes.leaf_bytes}
 
 -- ---- a header, and what is written after it
 
-after_header : (bytes header content rest : List ℕ) → bytes ≡ header ++ drop 16 bytes → drop 16 bytes ≡ content ++ rest → bytes ≡ (header ++ content) ++ rest
+after_header : (bytes header content rest : List ℕ) → bytes ≡ header ++ drop 16 bytes → drop 16 bytes ≡ content ++ rest
+    → bytes ≡ (header ++ content) ++ rest
 after_header bytes header content rest head behind = head ∙ ap (λ (xs : List ℕ). header ++ xs) behind ∙ sym (append_assoc header content rest)
 
 -- what a page shows that has this header
 shown_there : (id : ℕ) (fault : Option ℕ) (k : Option Kind) (count overflow : ℕ) (bytes : List ℕ) (view : PageView) → IsBytes bytes
     → shown_as fault k count overflow bytes ≡ Some view → fault_as k count bytes ≡ None → gap_of_kind k count bytes ≡ None
     → ((is : Kind) → k ≡ Some is → bytes ≡ header_bytes id is count overflow ++ drop 16 bytes)
-    → BeginsWith bytes (content_bytes view.kind id view)
+    → BeginsAsWritten bytes (content_bytes view.kind id view)
 shown_there id (Some fault) k count overflow bytes view are shows good none header = absurd (let c : None ≡ Some view = shows in cc)
 shown_there id None None count overflow bytes view are shows good none header = absurd (let c : None ≡ Some view = shows in cc)
 shown_there id None (Some kind.Leaf) count overflow bytes view are shows good none header =
     let same : view_of kind.Leaf count overflow bytes ≡ view = same_Some _ view shows in
     let (rest, behind) = leaves_there value_fault bytes count are good none in
-    subst (λ (v : PageView). BeginsWith bytes (content_bytes v.kind id v)) same
+    subst (λ (v : PageView). BeginsAsWritten bytes (content_bytes v.kind id v)) same
     (rest, after_header bytes (header_bytes id kind.Leaf count overflow) (leaf_bytes (leaf_elements bytes count)) rest (header kind.Leaf refl) behind)
 shown_there id None (Some kind.Branch) count overflow bytes view are shows good none header =
     let same : view_of kind.Branch count overflow bytes ≡ view = same_Some _ view shows in
     let (rest, behind) = branches_there bytes count are good none in
-    subst (λ (v : PageView). BeginsWith bytes (content_bytes v.kind id v)) same
+    subst (λ (v : PageView). BeginsAsWritten bytes (content_bytes v.kind id v)) same
     (rest, after_header bytes (header_bytes id kind.Branch count overflow) _ rest (header kind.Branch refl) behind)
 shown_there id None (Some kind.Meta) count overflow bytes view are shows good none header =
     let same : view_of kind.Meta count overflow bytes ≡ view = same_Some _ view shows in
-    subst (λ (v : PageView). BeginsWith bytes (content_bytes v.kind id v)) same (drop 16 bytes, header kind.Meta refl)
+    subst (λ (v : PageView). BeginsAsWritten bytes (content_bytes v.kind id v)) same (drop 16 bytes, header kind.Meta refl)
 shown_there id None (Some kind.Freelist) count overflow bytes view are shows good none header =
     let same : view_of kind.Freelist count overflow bytes ≡ view = same_Some _ view shows in
-    subst (λ (v : PageView). BeginsWith bytes (content_bytes v.kind id v)) same (drop 16 bytes, header kind.Freelist refl)
+    subst (λ (v : PageView). BeginsAsWritten bytes (content_bytes v.kind id v)) same (drop 16 bytes, header kind.Freelist refl)
 
 -- ---- a page of a file
 
@@ -69,7 +73,8 @@ cut_after all header n is long room =
     sym (take-append-drop 16 (take n all)) ∙ ap (λ (xs : List ℕ). xs ++ drop 16 (take n all)) first
 
 -- the span of a page has its header
-span_header : (file : List ℕ) (meta : Meta) (id : ℕ) (is : Kind) → IsBytes file → 16 ≤ meta.page_size → HasHeader file meta id → kind_of (flags_field (from_page file meta id)) ≡ Some is
+span_header : (file : List ℕ) (meta : Meta) (id : ℕ) (is : Kind) → IsBytes file → 16 ≤ meta.page_size → HasHeader file meta id
+    → kind_of (flags_field (from_page file meta id)) ≡ Some is
     → span_bytes file meta id ≡ header_bytes id is (count_field (from_page file meta id)) (page_overflow file meta id) ++ drop 16 (span_bytes file meta id)
 span_header file meta id is are room has known =
     let from : List ℕ = from_page file meta id in
@@ -80,7 +85,8 @@ span_header file meta id is are room has known =
     head ∙ ap (λ (n : ℕ). header_bytes n is (count_field from) (overflow_field from) ++ drop 16 from) has.number in
     cut_after from (header_bytes id is (count_field from) (overflow_field from)) _ numbered (length-header_bytes id is _ _) (omega arith)
 
-passed : (fault : Option ℕ) (k : Option Kind) (count overflow : ℕ) (bytes : List ℕ) (view : PageView) → shown_as fault k count overflow bytes ≡ Some view → fault ≡ None
+passed : (fault : Option ℕ) (k : Option Kind) (count overflow : ℕ) (bytes : List ℕ) (view : PageView)
+    → shown_as fault k count overflow bytes ≡ Some view → fault ≡ None
 passed None k count overflow bytes view e = refl
 passed (Some fault) k count overflow bytes view e = absurd (let c : None ≡ Some view = e in cc)
 
@@ -98,7 +104,8 @@ page_there file meta id are room none view shows =
 size_room : (n : ℕ) → IsPageSize n → 16 ≤ n
 size_room n size = let bounds = size_bounds n size in omega (arith, bounds.0)
 
-pub page_written : (file : List ℕ) (meta : Meta) (id : ℕ) → IsBytes file → IsPageSize meta.page_size → page_gap file meta id ≡ None → IsPageAsWritten file meta id
+pub page_written : (file : List ℕ) (meta : Meta) (id : ℕ) → IsBytes file → IsPageSize meta.page_size → page_gap file meta id ≡ None
+    → IsPageAsWritten file meta id
 page_written file meta id are size none = page_there file meta id are (size_room meta.page_size size) none
 
 -- ---- the page of an inline bucket
@@ -127,7 +134,8 @@ chosen_none false fault e is = absurd (cc)
 
 value_passes : (value : List ℕ) → IsBucketValue value → head_root value ≡ 0 → IsInline (inline_bytes value)
 unfolding value_fault
-value_passes value good root = inline_passes (inline_bytes value) (chosen_none (head_root value == 0) _ (first_of-none _ _ good).1 (eq-eqb (head_root value) 0 root))
+value_passes value good root =
+    inline_passes (inline_bytes value) (chosen_none (head_root value == 0) _ (first_of-none _ _ good).1 (eq-eqb (head_root value) 0 root))
 
 length-elements : (bytes : List ℕ) (count : ℕ) → length (leaf_elements bytes count) ≡ count
 unfolding leaf_elements
@@ -148,25 +156,30 @@ inline_there value are good root none =
 -- ---- all pages that ways lead to
 
 -- a page with such elements is a leaf
-leaf_shown : (fault : Option ℕ) (k : Option Kind) (count overflow : ℕ) (bytes : List ℕ) (view : PageView) (e : LeafElement) → shown_as fault k count overflow bytes ≡ Some view
+leaf_shown : (fault : Option ℕ) (k : Option Kind) (count overflow : ℕ) (bytes : List ℕ) (view : PageView) (e : LeafElement)
+    → shown_as fault k count overflow bytes ≡ Some view
     → Contains view.leaves e → view.kind ≡ kind.Leaf
 leaf_shown (Some fault) k count overflow bytes view e shows has = absurd (let c : None ≡ Some view = shows in cc)
 leaf_shown None None count overflow bytes view e shows has = absurd (let c : None ≡ Some view = shows in cc)
-leaf_shown None (Some kind.Leaf) count overflow bytes view e shows has = ap (λ (v : PageView). v.kind) (sym (same_Some (view_of kind.Leaf count overflow bytes) view shows))
+leaf_shown None (Some kind.Leaf) count overflow bytes view e shows has =
+    ap (λ (v : PageView). v.kind) (sym (same_Some (view_of kind.Leaf count overflow bytes) view shows))
 leaf_shown None (Some k) count overflow bytes view e shows has =
     let none : view.leaves ≡ [] = ap (λ (v : PageView). v.leaves) (sym (same_Some _ view shows)) in
     let (i, within, is) = subst (λ (ls : List LeafElement). Contains ls e) none has in absurd (omega (arith, within))
 
-is_leaf : (file : List ℕ) (meta : Meta) (id : ℕ) (view : PageView) (e : LeafElement) → page_at file meta id ≡ Some view → Contains view.leaves e → view.kind ≡ kind.Leaf
+is_leaf : (file : List ℕ) (meta : Meta) (id : ℕ) (view : PageView) (e : LeafElement) → page_at file meta id ≡ Some view → Contains view.leaves e
+    → view.kind ≡ kind.Leaf
 unfolding page_at
 is_leaf file meta id view e shows has = leaf_shown _ _ _ _ _ view e shows has
 
-module _ (file : List ℕ) (meta : Meta) (are : IsBytes file) (size : IsPageSize meta.page_size) (trees : HasSoundTrees file meta) (none : HasNoGaps file meta) where
+module _ (file : List ℕ) (meta : Meta) (are : IsBytes file) (size : IsPageSize meta.page_size) (trees : HasSoundTrees file meta)
+    (none : HasNoGaps file meta) where
   abbrev on_way : (way : List ℕ) (s : PageSpot) → reached (node_at file meta) meta.root way ≡ Some (At_page s) → IsOnWay file meta s.number s.depth
   on_way way s led = record { way = way; spot = s; led = led; is = refl; deep = refl }
 
   -- an inline bucket on a leaf
-  inline_gap_none : (way : List ℕ) (s : PageSpot) (view : PageView) (e : LeafElement) → reached (node_at file meta) meta.root way ≡ Some (At_page s) → page_at file meta s.number ≡ Some view
+  inline_gap_none : (way : List ℕ) (s : PageSpot) (view : PageView) (e : LeafElement) → reached (node_at file meta) meta.root way ≡ Some (At_page s)
+      → page_at file meta s.number ≡ Some view
       → view.kind ≡ kind.Leaf → Contains view.leaves e → e.is_bucket ≡ true → head_root e.value ≡ 0 → inline_gap e.value ≡ None
   inline_gap_none way s view e led at leaf has bucket root =
       let (i, there) = has_at view.leaves e (has_from_contains view.leaves e has) in

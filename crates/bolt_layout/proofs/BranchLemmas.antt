@@ -1,6 +1,8 @@
 -- The elements of a branch page that was written are read back, and pass their tests.
-use Rattle.std.proofs.Common.{◌≡◌, ◌∙◌, ℕ, suc, ◌+◌, ◌*◌, ◌^◌, ◌<◌, ◌≤◌, List, [], ◌∷◌, ◌++◌, length, map, drop, None, refl, sym, ap, arith, append_assoc, add-one}
-use Rattle.bolt_layout.proofs.Words.{AllByRecursion, branch_bytes, branch_data, branch_header, branch_headers, BranchElement, element_at, faults_from, first_of-both, key_pos, le-ltb, length-append, part_next, part_read, part_within, range_with_len}
+use Rattle.std.proofs.Common.{◌≡◌, ◌∙◌, ℕ, suc, ◌+◌, ◌*◌, ◌^◌, ◌<◌, ◌≤◌, List, [], ◌∷◌, ◌++◌, length, map, drop, None, refl, sym, ap, arith}
+use Rattle.std.proofs.Common.{append_assoc, add-one}
+use Rattle.bolt_layout.proofs.Words.{AllByRecursion, branch_bytes, branch_data, branch_header, branch_headers, BranchElement, element_at, faults_from}
+use Rattle.bolt_layout.proofs.Words.{first_of-both, key_pos, le-ltb, length-append, part_next, part_read, part_within, range_with_len}
 use Rattle.bolt_format.specs.Elements.{branch_element, branch_elements, branch_end, branch_fault, branch_key_start, branches_fault}
 use Rattle.std.specs.Option.{option_map}
 use Rattle.bolt_layout.proofs.Chains.{Follows, none_elsewhere}
@@ -46,11 +48,13 @@ branch_run bytes [] i before free tail rest heads text fits small within first =
 branch_run bytes (e ∷ es) i before free tail rest heads text fits small within first =
     let pos : ℕ = key_pos (e ∷ es) before in
     let fit : IsBranchFit e = fits.0 in
-    let regrouped : drop (element_at i) bytes ≡ branch_header pos (length e.key) e.child ++ (branch_headers (before + length e.key) es ++ tail) = heads ∙ append_assoc (branch_header pos (length e.key) e.child) _ tail in
+    let regrouped : drop (element_at i) bytes ≡ branch_header pos (length e.key) e.child ++ (branch_headers (before + length e.key) es ++ tail) =
+    heads ∙ append_assoc (branch_header pos (length e.key) e.child) _ tail in
     let data_length : length (branch_data (e ∷ es)) ≡ length e.key + length (branch_data es) = length-append e.key (branch_data es) in
     let key = fit.key in
     let head = branch_header_written bytes _ i pos (length e.key) e.child regrouped (record { start = omega arith; key = omega arith; child = fit.child }) in
-    let next : drop (element_at (suc i)) bytes ≡ branch_headers (before + length e.key) es ++ tail = ap (λ (k : ℕ). drop (element_at k) bytes) (sym (add-one i)) ∙ head.1 in
+    let next : drop (element_at (suc i)) bytes ≡ branch_headers (before + length e.key) es ++ tail =
+    ap (λ (k : ℕ). drop (element_at k) bytes) (sym (add-one i)) ∙ head.1 in
     let place : element_at (i + length (e ∷ es)) + before ≡ element_at i + pos = omega arith in
     let here : drop (element_at i + pos) bytes ≡ e.key ++ (branch_data es ++ rest) =
     ap (λ (n : ℕ). drop n bytes) (sym place) ∙ (text ∙ append_assoc e.key (branch_data es) rest) in
@@ -58,8 +62,10 @@ branch_run bytes (e ∷ es) i before free tail rest heads text fits small within
     let within_key = part_within bytes e.key (branch_data es ++ rest) (element_at i + pos) here (omega arith) in
     let behind : drop (element_at (suc i + length es) + (before + length e.key)) bytes ≡ branch_data es ++ rest =
     part_next bytes e.key (branch_data es ++ rest) (element_at i + pos) _ here (omega arith) in
-    let more = branch_run bytes es (suc i) (before + length e.key) (branch_end bytes i) tail rest next behind fits.1 (omega arith) (omega arith) (omega arith) in
-    let passes : (map (branch_element bytes) (range_with_len i (length (e ∷ es))) ≡ e ∷ es) × (faults_from (branch_fault bytes) (branch_end bytes) free i (length (e ∷ es)) ≡ None) =
+    let more =
+    branch_run bytes es (suc i) (before + length e.key) (branch_end bytes i) tail rest next behind fits.1 (omega arith) (omega arith) (omega arith) in
+    let passes : (map (branch_element bytes) (range_with_len i (length (e ∷ es))) ≡ e ∷ es)
+    × (faults_from (branch_fault bytes) (branch_end bytes) free i (length (e ∷ es)) ≡ None) =
     grind (arith, range_with_len, add-one, first_of-both) in
     let ends = one.ends in
     (passes.0, passes.1, λ same. (one.starts ∙ sym (same ∙ place), more.2 (omega (arith, ends, place))))
@@ -74,7 +80,8 @@ branches_written bytes es rest h within fits small =
     let heads : drop (element_at 0) bytes ≡ branch_headers 0 es ++ (branch_data es ++ rest) = h ∙ append_assoc (branch_headers 0 es) (branch_data es) rest in
     let long = length-branch_headers 0 es in
     let table = part_within bytes (branch_headers 0 es) (branch_data es ++ rest) 16 heads within in
-    let text : drop (element_at (0 + length es) + 0) bytes ≡ branch_data es ++ rest = part_next bytes (branch_headers 0 es) (branch_data es ++ rest) 16 _ heads (omega arith) in
+    let text : drop (element_at (0 + length es) + 0) bytes ≡ branch_data es ++ rest =
+    part_next bytes (branch_headers 0 es) (branch_data es ++ rest) 16 _ heads (omega arith) in
     let run = branch_run bytes es 0 0 (element_at (length es)) (branch_data es ++ rest) rest heads text fits (omega arith) (omega arith) (omega arith) in
     let passes : (branch_elements bytes (length es) ≡ es) × (branches_fault bytes (length es) ≡ None) = grind (arith, le-ltb, first_of-both) in (
       passes.0,

@@ -1,7 +1,8 @@
 -- The cuts of both layouts divide a row as the soundness of a layout asks.
 use Rattle.std.proofs.lemmas.Grind.{common_steps}
 use Rattle.std.proofs.Common.{◌≡◌, ℕ, suc, ◌*◌, ◌≤◌, List, [], ◌∷◌, ◌++◌, length, flat_map, refl, ap, arith, append_assoc}
-use Rattle.bolt_layout.proofs.Words.{AllByRecursion, append-nil, Balanced, branch_cut, cut_of, IsDivided, IsPageRun, join_last, Layout, length-append, max_items, Plain}
+use Rattle.bolt_layout.proofs.Words.{AllByRecursion, append-nil, Balanced, branch_cut, cut_of, IsDivided, IsPageRun, join_last, Layout, length-append}
+use Rattle.bolt_layout.proofs.Words.{max_items, Plain}
 use Rattle.bolt_layout.proofs.OneCut.{AreRuns, cut_runs, cut_whole}
 use Rattle.bolt_layout.specs.Divisions.{IsHalved}
 
@@ -15,7 +16,8 @@ pub cut_divides : {X : Type 0} (page_size least wide extra : ℕ) (size : X → 
 cut_divides page_size least wide extra size items some cap h = grind (arith, cut_whole, divided_each, cut_runs)
 
 -- Each run but the last has two items at least.
-halved : {X : Type 0} (page_size : ℕ) (size : X → ℕ) (runs : List (List X)) → AreRuns page_size 2 size runs → 2 * length runs ≤ suc (length (flat_map (λ run. run) runs))
+halved : {X : Type 0} (page_size : ℕ) (size : X → ℕ) (runs : List (List X)) → AreRuns page_size 2 size runs
+    → 2 * length runs ≤ suc (length (flat_map (λ run. run) runs))
 halved page_size size (run ∷ next ∷ runs) are = grind (arith, length-append, halved page_size size (next ∷ runs) are.2)
 halved page_size size runs are = grind (arith, length-append)
 
@@ -44,11 +46,13 @@ joined_each page_size size (run ∷ next ∷ more ∷ runs) each = (looser page_
 joined_each page_size size runs each = grind (arith, common_steps, looser, length-append, no_last, append-nil)
 
 -- So it is of both layouts.
-pub branches_divide : {X : Type 0} (which : Layout) (page_size : ℕ) (size : X → ℕ) (items : List X) → IsDivided page_size 3 1 size items (branch_cut which page_size size items)
+pub branches_divide : {X : Type 0} (which : Layout) (page_size : ℕ) (size : X → ℕ) (items : List X)
+    → IsDivided page_size 3 1 size items (branch_cut which page_size size items)
 branches_divide Plain page_size size items = cut_divides page_size 2 3 1 size items (omega arith) (omega arith) (omega arith)
 branches_divide Balanced page_size size items =
     let plain = cut_divides page_size 2 2 0 size items (omega arith) (omega arith) (omega arith) in
     grind (arith, joined_whole, joined_each)
 
-pub branches_halve : {X : Type 0} (which : Layout) (page_size : ℕ) (size : X → ℕ) (items : List X) → IsHalved items (branch_cut which page_size size items)
+pub branches_halve : {X : Type 0} (which : Layout) (page_size : ℕ) (size : X → ℕ) (items : List X)
+    → IsHalved items (branch_cut which page_size size items)
 branches_halve which page_size size items = grind (arith, joined_fewer, halved, cut_runs, cut_whole)

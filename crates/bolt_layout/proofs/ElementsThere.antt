@@ -1,14 +1,19 @@
 -- Elements without a gap are on their page as they are written: first their headers, and then their data.
-use Rattle.std.proofs.Common.{◌≡◌, ◌∙◌, ◌⊎◌, ℕ, zero, suc, ◌+◌, ◌≤◌, ◌==◌, ◌||◌, Bool, true, false, cond, List, ◌∷◌, ◌++◌, length, map, drop, Option, None, Some, inl, inr, refl, sym, ap, subst, arith, append_assoc, add-one}
+use Rattle.std.proofs.Common.{◌≡◌, ◌∙◌, ◌⊎◌, ℕ, zero, suc, ◌+◌, ◌≤◌, ◌==◌, ◌||◌, Bool, true, false, cond, List, ◌∷◌, ◌++◌, length, map, drop, Option}
+use Rattle.std.proofs.Common.{None, Some, inl, inr, refl, sym, ap, subst, arith, append_assoc, add-one}
 use Rattle.std.proofs.lemmas.Bool.{eqb-true, ltb-false, not-false}
 use Rattle.std.proofs.lemmas.List.FromFn.{length-map-range_with_len}
 use Rattle.std.specs.{List.find, List.range_with_len, Option.option_map}
 use Rattle.bolt_format.proofs.Exports.{first_of-none}
 use Rattle.bolt_format.specs.{Bytes.IsBytes, Encoded.branch_header, Encoded.leaf_flag, Encoded.leaf_header}
-use Rattle.bolt_format.specs.Elements.{BranchElement, LeafElement, branch_element, branch_elements, branch_end, branch_fault, branch_key_length, branch_key_start, branches_fault, data_fault, element_at, faults_from}
-use Rattle.bolt_format.specs.Elements.{is_bucket_element, key_length_fault, leaf_element, leaf_elements, leaf_end, leaf_fault, leaf_flags, leaf_flags_fault, leaf_key_length, leaf_key_start, leaf_value_length, leaf_value_start, leaves_fault, plain_leaf_fault, table_fault, value_length_fault}
+use Rattle.bolt_format.specs.Elements.{BranchElement, LeafElement, branch_element, branch_elements, branch_end, branch_fault, branch_key_length}
+use Rattle.bolt_format.specs.Elements.{branch_key_start, branches_fault, data_fault, element_at, faults_from}
+use Rattle.bolt_format.specs.Elements.{is_bucket_element, key_length_fault, leaf_element, leaf_elements, leaf_end, leaf_fault, leaf_flags}
+use Rattle.bolt_format.specs.Elements.{leaf_flags_fault, leaf_key_length, leaf_key_start, leaf_value_length, leaf_value_start, leaves_fault}
+use Rattle.bolt_format.specs.Elements.{plain_leaf_fault, table_fault, value_length_fault}
 use Rattle.bolt_format.specs.Gaps.{GapView, branch_gap, first_elsewhere, is_elsewhere, leaf_gap, written_start}
-use Rattle.bolt_layout.proofs.{Chains.Follows, NumbersThere.branch_header_there, NumbersThere.leaf_header_there, NumbersThere.length-range, NumbersThere.range_there}
+use Rattle.bolt_layout.proofs.{Chains.Follows, NumbersThere.branch_header_there, NumbersThere.leaf_header_there, NumbersThere.length-range}
+use Rattle.bolt_layout.proofs.{NumbersThere.range_there}
 use Rattle.bolt_layout.specs.PageBytes.{branch_bytes, branch_data, branch_headers, key_pos, leaf_bytes, leaf_data, leaf_headers}
 
 -- ---- a test that found nothing
@@ -44,7 +49,8 @@ passed_over : (test : Bool) (i : ℕ) (rest : Option ℕ) → cond test (Some i)
 passed_over true i rest e = absurd (cc)
 passed_over false i rest e = (refl, e)
 
-follows_on : (start end : ℕ → ℕ) (count i n free : ℕ) → free ≡ written_start end count i → find (is_elsewhere start end count) (range_with_len i n) ≡ None → Follows start end free i n
+follows_on : (start end : ℕ → ℕ) (count i n free : ℕ) → free ≡ written_start end count i
+    → find (is_elsewhere start end count) (range_with_len i n) ≡ None → Follows start end free i n
 follows_on start end count i zero free same none = tt
 follows_on start end count i (suc n) free same none =
     let test = is_elsewhere start end count in
@@ -107,41 +113,50 @@ leaf_run bucket_fault bytes (suc n) i end before free are last within good follo
     let later = subst (λ (k : ℕ). Follows (leaf_key_start bytes) (leaf_end bytes) k (suc i) n) free_is follows.1 in
     let (heads, rest, texts) = leaf_run bucket_fault bytes n (suc i) end further (leaf_end bytes i) are (omega arith) within both.1 later in
     let all_heads : drop (element_at i) bytes ≡ leaf_headers before (e ∷ es) ++ drop (element_at end) bytes =
-    header ∙ ap (λ (xs : List ℕ). leaf_header e.is_bucket pos (length e.key) (length e.value) ++ xs) heads ∙ sym (append_assoc (leaf_header e.is_bucket pos (length e.key) (length e.value)) (leaf_headers further es) _) in
+    header ∙ ap (λ (xs : List ℕ). leaf_header e.is_bucket pos (length e.key) (length e.value) ++ xs) heads
+    ∙ sym (append_assoc (leaf_header e.is_bucket pos (length e.key) (length e.value)) (leaf_headers further es) _) in
     let next : drop (leaf_end bytes i) bytes ≡ leaf_data es ++ rest = ap (λ (k : ℕ). drop k bytes) free_is ∙ texts in
     let here : drop (element_at end + before) bytes ≡ e.key ++ (e.value ++ (leaf_data es ++ rest)) =
     ap (λ (k : ℕ). drop k bytes) (sym first) ∙ text ∙ ap (λ (xs : List ℕ). e.key ++ (e.value ++ xs)) next in
     let all_texts : drop (element_at end + before) bytes ≡ leaf_data (e ∷ es) ++ rest =
     here ∙ sym (append_assoc e.key (e.value ++ leaf_data es) rest ∙ ap (λ (xs : List ℕ). e.key ++ xs) (append_assoc e.value (leaf_data es) rest)) in
-    let same : e ∷ es ≡ map (leaf_element bytes) (range_with_len i (suc n)) = ap (λ (k : ℕ). e ∷ map (leaf_element bytes) (range_with_len k n)) (sym (add-one i)) in
+    let same : e ∷ es ≡ map (leaf_element bytes) (range_with_len i (suc n)) =
+    ap (λ (k : ℕ). e ∷ map (leaf_element bytes) (range_with_len k n)) (sym (add-one i)) in
     subst (AreLeavesThere bytes i end before) same (all_heads, rest, all_texts)
 
 -- the table, and the data after it
-joined : (bytes heads texts rest : List ℕ) (count : ℕ) → drop 16 bytes ≡ heads ++ drop (element_at count) bytes → drop (element_at count + 0) bytes ≡ texts ++ rest
+joined : (bytes heads texts rest : List ℕ) (count : ℕ) → drop 16 bytes ≡ heads ++ drop (element_at count) bytes
+    → drop (element_at count + 0) bytes ≡ texts ++ rest
     → drop 16 bytes ≡ (heads ++ texts) ++ rest
 joined bytes heads texts rest count head text =
     let at : element_at count + 0 ≡ element_at count = omega arith in
     head ∙ ap (λ (xs : List ℕ). heads ++ xs) (ap (λ (k : ℕ). drop k bytes) (sym at) ∙ text) ∙ sym (append_assoc heads texts rest)
 
-pub leaves_there : (bucket_fault : List ℕ → Option ℕ) (bytes : List ℕ) (count : ℕ) → IsBytes bytes → leaves_fault bucket_fault bytes count ≡ None → leaf_gap bytes count ≡ None
+pub leaves_there : (bucket_fault : List ℕ → Option ℕ) (bytes : List ℕ) (count : ℕ) → IsBytes bytes → leaves_fault bucket_fault bytes count ≡ None
+    → leaf_gap bytes count ≡ None
     → (rest : List ℕ) × (drop 16 bytes ≡ leaf_bytes (leaf_elements bytes count) ++ rest)
 unfolding leaf_bytes leaf_elements leaves_fault leaf_gap
 leaves_there bucket_fault bytes count are good none =
     let both = first_of-none (table_fault bytes count) _ good in
     let first : first_elsewhere (leaf_key_start bytes) (leaf_end bytes) count ≡ None = no_first _ _ none in
     let start : element_at count ≡ element_at count + 0 = omega arith in
-    let follows = subst (λ (k : ℕ). Follows (leaf_key_start bytes) (leaf_end bytes) k 0 count) start (follows_on (leaf_key_start bytes) (leaf_end bytes) count 0 count (element_at count) refl first) in
-    let (heads, rest, texts) = leaf_run bucket_fault bytes count 0 count 0 (element_at count) are (omega arith) (table_within bytes count both.0) both.1 follows in
+    let follows =
+    subst (λ (k : ℕ). Follows (leaf_key_start bytes) (leaf_end bytes) k 0 count) start
+    (follows_on (leaf_key_start bytes) (leaf_end bytes) count 0 count (element_at count) refl first) in
+    let (heads, rest, texts) =
+    leaf_run bucket_fault bytes count 0 count 0 (element_at count) are (omega arith) (table_within bytes count both.0) both.1 follows in
     (rest, joined bytes _ _ rest count heads texts)
 
 -- ---- those of a branch
 
 branch_known : (bytes : List ℕ) (free i : ℕ) → branch_fault bytes free i ≡ None → branch_end bytes i ≤ length bytes
 unfolding branch_fault
-branch_known bytes free i e = data_within bytes free (branch_key_start bytes i) (branch_end bytes i) (first_of-none (key_length_fault (branch_key_length bytes i)) _ e).1
+branch_known bytes free i e =
+    data_within bytes free (branch_key_start bytes i) (branch_end bytes i) (first_of-none (key_length_fault (branch_key_length bytes i)) _ e).1
 
 branch_text : (bytes : List ℕ) (i : ℕ) → branch_end bytes i ≤ length bytes
-    → (length (branch_element bytes i).key ≡ branch_key_length bytes i) × (drop (branch_key_start bytes i) bytes ≡ (branch_element bytes i).key ++ drop (branch_end bytes i) bytes)
+    → (length (branch_element bytes i).key ≡ branch_key_length bytes i)
+    × (drop (branch_key_start bytes i) bytes ≡ (branch_element bytes i).key ++ drop (branch_end bytes i) bytes)
 branch_text bytes i end =
     let a = length-range bytes (branch_key_start bytes i) (branch_end bytes i) end in
     (omega (arith, a), range_there bytes (branch_key_start bytes i) (branch_end bytes i) (omega arith))
@@ -173,11 +188,13 @@ branch_run bytes (suc n) i end before free are last within good follows =
     let later = subst (λ (k : ℕ). Follows (branch_key_start bytes) (branch_end bytes) k (suc i) n) free_is follows.1 in
     let (heads, rest, texts) = branch_run bytes n (suc i) end further (branch_end bytes i) are (omega arith) within both.1 later in
     let all_heads : drop (element_at i) bytes ≡ branch_headers before (e ∷ es) ++ drop (element_at end) bytes =
-    header ∙ ap (λ (xs : List ℕ). branch_header pos (length e.key) e.child ++ xs) heads ∙ sym (append_assoc (branch_header pos (length e.key) e.child) (branch_headers further es) _) in
+    header ∙ ap (λ (xs : List ℕ). branch_header pos (length e.key) e.child ++ xs) heads
+    ∙ sym (append_assoc (branch_header pos (length e.key) e.child) (branch_headers further es) _) in
     let next : drop (branch_end bytes i) bytes ≡ branch_data es ++ rest = ap (λ (k : ℕ). drop k bytes) free_is ∙ texts in
     let all_texts : drop (element_at end + before) bytes ≡ branch_data (e ∷ es) ++ rest =
     ap (λ (k : ℕ). drop k bytes) (sym first) ∙ text ∙ ap (λ (xs : List ℕ). e.key ++ xs) next ∙ sym (append_assoc e.key (branch_data es) rest) in
-    let same : e ∷ es ≡ map (branch_element bytes) (range_with_len i (suc n)) = ap (λ (k : ℕ). e ∷ map (branch_element bytes) (range_with_len k n)) (sym (add-one i)) in
+    let same : e ∷ es ≡ map (branch_element bytes) (range_with_len i (suc n)) =
+    ap (λ (k : ℕ). e ∷ map (branch_element bytes) (range_with_len k n)) (sym (add-one i)) in
     subst (AreBranchesThere bytes i end before) same (all_heads, rest, all_texts)
 
 pub branches_there : (bytes : List ℕ) (count : ℕ) → IsBytes bytes → branches_fault bytes count ≡ None → branch_gap bytes count ≡ None
@@ -187,6 +204,8 @@ branches_there bytes count are good none =
     let both = first_of-none (table_fault bytes count) _ good in
     let first : first_elsewhere (branch_key_start bytes) (branch_end bytes) count ≡ None = no_first _ _ none in
     let start : element_at count ≡ element_at count + 0 = omega arith in
-    let follows = subst (λ (k : ℕ). Follows (branch_key_start bytes) (branch_end bytes) k 0 count) start (follows_on (branch_key_start bytes) (branch_end bytes) count 0 count (element_at count) refl first) in
+    let follows =
+    subst (λ (k : ℕ). Follows (branch_key_start bytes) (branch_end bytes) k 0 count) start
+    (follows_on (branch_key_start bytes) (branch_end bytes) count 0 count (element_at count) refl first) in
     let (heads, rest, texts) = branch_run bytes count 0 count 0 (element_at count) are (omega arith) (table_within bytes count both.0) both.1 follows in
     (rest, joined bytes _ _ rest count heads texts)

@@ -2,9 +2,11 @@
 -- entry, and no inline page has a number.
 use Rattle.std.proofs.Common.{◌≡◌, ◌≢◌, ◌==◌, ℕ, zero, suc, ◌+◌, ◌≤◌, true, false, List, [], ◌∷◌, None, Ok, ap, map, not, refl, subst, arith}
 use Rattle.std.proofs.lemmas.Slice.Eq.{bytes_eq-Decides}
-use Rattle.bolt_layout.proofs.Words.{AllByRecursion, branch_page_view, BranchElement, elements_of, Entry, head_root, Key, keys_of, Laid, leaf_entry, leaf_page_view, LeafElement, Node, node_of, Nodes, numbers_of, page_over, pages_of, Placed}
+use Rattle.bolt_layout.proofs.Words.{AllByRecursion, branch_page_view, BranchElement, elements_of, Entry, head_root, Key, keys_of, Laid, leaf_entry}
+use Rattle.bolt_layout.proofs.Words.{leaf_page_view, LeafElement, Node, node_of, Nodes, numbers_of, page_over, pages_of, Placed}
 use Rattle.bolt_layout.proofs.{LaidPages.AreNodes, LaidPages.limit, ListLemmas.all_append, ListLemmas.all_split, OverRows.IsOver, OverRows.Pieces}
-use Rattle.bolt_check.specs.{BboltFindings.above_first, BboltFindings.begins_otherwise, BboltFindings.first_child, BboltFindings.first_leaf_depth, Nodes.branch_entry}
+use Rattle.bolt_check.specs.{BboltFindings.above_first, BboltFindings.begins_otherwise, BboltFindings.first_child, BboltFindings.first_leaf_depth}
+use Rattle.bolt_check.specs.{Nodes.branch_entry}
 use Rattle.bolt_format.specs.{Elements.inline_number, Gaps.inline_gap, declared.header.Kind.TheVariants.Branch, declared.header.Kind.TheVariants.Leaf}
 
 -- page n begins with this key
@@ -34,7 +36,8 @@ IsNeat nodes p = p.view.kind ≡ Leaf → AllByRecursion (IsNeatElement nodes) p
 pub record IsNeatItem (item : Laid LeafElement) : Type 0 where
   pub key : (n : ℕ) → (item.element n).key ≡ item.key
   pub own : (nodes : Nodes) (n : ℕ) → 1 ≤ n → n + item.numbers ≤ limit → AreNodes nodes (item.pages n) → IsNeatElement nodes (item.element n)
-  pub below : (nodes : Nodes) (n : ℕ) → 1 ≤ n → n + item.numbers ≤ limit → AreNodes nodes (item.pages n) → AllByRecursion (IsNeat nodes) (item.pages n)
+  pub below : (nodes : Nodes) (n : ℕ) → 1 ≤ n → n + item.numbers ≤ limit → AreNodes nodes (item.pages n)
+      → AllByRecursion (IsNeat nodes) (item.pages n)
 
 -- the first leaf is at the depth of all
 pub even_depth : (nodes : Nodes) (height n branches : ℕ) → IsEven nodes height n → height ≤ branches → first_leaf_depth nodes branches n ≡ suc height
@@ -45,7 +48,8 @@ even_depth nodes (suc height) n zero even h = absurd (omega arith)
 even_depth nodes (suc height) n (suc branches) (node, at, branch, some, kids) h =
     rw (at, branch) (by node.entries some kids (λ m even. even_depth nodes height m branches even (omega arith)))
   where
-    by : (entries : List Entry) → entries ≢ [] → AllByRecursion (IsEvenKid nodes height) entries → ((m : ℕ) → IsEven nodes height m → first_leaf_depth nodes branches m ≡ suc height)
+    by : (entries : List Entry) → entries ≢ [] → AllByRecursion (IsEvenKid nodes height) entries
+        → ((m : ℕ) → IsEven nodes height m → first_leaf_depth nodes branches m ≡ suc height)
         → above_first (first_leaf_depth nodes branches) (first_child entries) ≡ suc (suc height)
     by [] any all ih = absurd (any refl)
     by (e ∷ entries) any all ih = ap suc (ih e.child all.0.0)
@@ -60,7 +64,8 @@ module _ (nodes : Nodes) (page_size : ℕ) where
   IsNode p = nodes p.number ≡ node_of p.view.kind p.view
 
   -- a row of items
-  items_neat : (items : List (Laid LeafElement)) → AllByRecursion IsNeatItem items → (n : ℕ) → 1 ≤ n → n + numbers_of items ≤ limit → AreNodes nodes (pages_of items n)
+  items_neat : (items : List (Laid LeafElement)) → AllByRecursion IsNeatItem items → (n : ℕ) → 1 ≤ n → n + numbers_of items ≤ limit
+      → AreNodes nodes (pages_of items n)
       → AllByRecursion (IsNeatElement nodes) (elements_of items n) × AllByRecursion (IsNeat nodes) (pages_of items n)
   items_neat [] all n some h shown = (tt, tt)
   items_neat (item ∷ items) all n some h shown =
@@ -90,24 +95,31 @@ module _ (nodes : Nodes) (page_size : ℕ) where
       (_, both.1.0, same_key x.key (x.element n).key (keys_of (map leaf_entry (elements_of items (n + x.numbers)))) (neat.key n))
 
   -- the element of a page has the page's key
-  over_key : (height : ℕ) (page : Laid BranchElement) (leaves : List (Laid LeafElement)) → IsOver page_size height page leaves → (n : ℕ) → (page.element n).key ≡ page.key
+  over_key : (height : ℕ) (page : Laid BranchElement) (leaves : List (Laid LeafElement)) → IsOver page_size height page leaves → (n : ℕ)
+      → (page.element n).key ≡ page.key
   over_key zero page leaves (is, run) n = rw is refl
   over_key (suc height) page leaves (first, kids, is, run, pieces) n = rw is refl
 
-  branch_begins : (height : ℕ) (kid : Laid BranchElement) (kids : List (Laid BranchElement)) (leaves : List (Laid LeafElement)) → IsOver page_size height kid leaves
+  branch_begins : (height : ℕ) (kid : Laid BranchElement) (kids : List (Laid BranchElement)) (leaves : List (Laid LeafElement))
+      → IsOver page_size height kid leaves
       → BeginsSo (page_over branch_page_view page_size (kid ∷ kids))
   branch_begins height kid kids leaves over n shown =
       let both = all_split IsNode (pages_of (kid ∷ kids) n) _ shown in
       (_, both.1.0, same_key kid.key (kid.element n).key (keys_of (map branch_entry (elements_of kids (n + kid.numbers)))) (over_key height kid leaves over n))
 
-  over_begins : (height : ℕ) (page : Laid BranchElement) (x : Laid LeafElement) (leaves : List (Laid LeafElement)) → IsOver page_size height page (x ∷ leaves) → IsNeatItem x
+  over_begins : (height : ℕ) (page : Laid BranchElement) (x : Laid LeafElement) (leaves : List (Laid LeafElement))
+      → IsOver page_size height page (x ∷ leaves) → IsNeatItem x
       → BeginsSo page
   over_begins zero page x leaves (is, run) neat = rw is (leaf_begins x leaves neat)
-  over_begins (suc height) page x leaves (kid, kids, is, run, (first, front, back, e, over, more)) neat = rw is (branch_begins height kid kids (first ∷ front) over)
+  over_begins (suc height) page x leaves (kid, kids, is, run, (first, front, back, e, over, more)) neat =
+      rw is (branch_begins height kid kids (first ∷ front) over)
 
   -- pages over one piece of a row after another
-  pieces_even : (height : ℕ) → ((page : Laid BranchElement) (leaves : List (Laid LeafElement)) → IsOver page_size height page leaves → AllByRecursion IsNeatItem leaves → IsEvenPage height page)
-      → (pages : List (Laid BranchElement)) (leaves : List (Laid LeafElement)) → Pieces (IsOver page_size height) pages leaves → AllByRecursion IsNeatItem leaves
+  pieces_even : (height : ℕ)
+      → ((page : Laid BranchElement) (leaves : List (Laid LeafElement)) → IsOver page_size height page leaves → AllByRecursion IsNeatItem leaves
+      → IsEvenPage height page)
+      → (pages : List (Laid BranchElement)) (leaves : List (Laid LeafElement)) → Pieces (IsOver page_size height) pages leaves
+      → AllByRecursion IsNeatItem leaves
       → (n : ℕ) → 1 ≤ n → n + numbers_of pages ≤ limit → AreNodes nodes (pages_of pages n)
       → AllByRecursion (IsEvenKid nodes height) (map branch_entry (elements_of pages n)) × AllByRecursion (IsNeat nodes) (pages_of pages n)
   pieces_even height ih [] leaves pieces all n some h shown = (tt, tt)
@@ -126,8 +138,11 @@ module _ (nodes : Nodes) (page_size : ℕ) where
   some_entry : (e : Entry) (entries : List Entry) → (e ∷ entries) ≢ []
   some_entry e entries same = cc
 
-  branch_even : (height : ℕ) → ((page : Laid BranchElement) (leaves : List (Laid LeafElement)) → IsOver page_size height page leaves → AllByRecursion IsNeatItem leaves → IsEvenPage height page)
-      → (kid : Laid BranchElement) (kids : List (Laid BranchElement)) (leaves : List (Laid LeafElement)) → Pieces (IsOver page_size height) (kid ∷ kids) leaves → AllByRecursion IsNeatItem leaves
+  branch_even : (height : ℕ)
+      → ((page : Laid BranchElement) (leaves : List (Laid LeafElement)) → IsOver page_size height page leaves → AllByRecursion IsNeatItem leaves
+      → IsEvenPage height page)
+      → (kid : Laid BranchElement) (kids : List (Laid BranchElement)) (leaves : List (Laid LeafElement))
+      → Pieces (IsOver page_size height) (kid ∷ kids) leaves → AllByRecursion IsNeatItem leaves
       → IsEvenPage (suc height) (page_over branch_page_view page_size (kid ∷ kids))
   branch_even height ih kid kids leaves pieces all n some h shown =
       let both = all_split IsNode (pages_of (kid ∷ kids) n) _ shown in
@@ -135,7 +150,8 @@ module _ (nodes : Nodes) (page_size : ℕ) where
       ((_, both.1.0, refl, some_entry _ _, each), all_append (IsNeat nodes) (pages_of (kid ∷ kids) n) _ pages (λ leaf. absurd (no_leaf leaf), tt))
 
   -- the page at the top
-  pub over_even : (height : ℕ) (page : Laid BranchElement) (leaves : List (Laid LeafElement)) → IsOver page_size height page leaves → AllByRecursion IsNeatItem leaves
+  pub over_even : (height : ℕ) (page : Laid BranchElement) (leaves : List (Laid LeafElement)) → IsOver page_size height page leaves
+      → AllByRecursion IsNeatItem leaves
       → IsEvenPage height page
   over_even zero page leaves (is, run) all = rw is (leaf_even leaves all)
   over_even (suc height) page leaves (kid, kids, is, run, pieces) all = rw is (branch_even height (over_even height) kid kids leaves pieces all)

@@ -1,12 +1,15 @@
 -- Ways through even pages: each leaf is at the depth of the first leaf of its bucket, each page below a branch begins with the key of its entry,
 -- and no inline page has a number or a gap.
-use Rattle.std.proofs.Common.{◌≡◌, ◌∙◌, ◌==◌, ℕ, zero, suc, ◌+◌, ◌≤◌, Bool, true, false, List, [], ◌∷◌, map, Option, Some, None, Result, Ok, ap, cond, refl, slice_get, subst, sym, arith}
+use Rattle.std.proofs.Common.{◌≡◌, ◌∙◌, ◌==◌, ℕ, zero, suc, ◌+◌, ◌≤◌, Bool, true, false, List, [], ◌∷◌, map, Option, Some, None, Result, Ok, ap, cond}
+use Rattle.std.proofs.Common.{refl, slice_get, subst, sym, arith}
 use Rattle.std.proofs.lemmas.Option.{none-some, same_Some, slice_get-map}
 use Rattle.std.specs.Option.{option_map}
-use Rattle.bolt_layout.proofs.Words.{AllByRecursion, At_inline, At_page, Entry, follow, head_root, inline_page, Key, leaf_entry, LeafElement, Meta, Node, node_at, Nodes, page_at, PageSpot, PageView, reached, root_spot, Spot}
+use Rattle.bolt_layout.proofs.Words.{AllByRecursion, At_inline, At_page, Entry, follow, head_root, inline_page, Key, leaf_entry, LeafElement, Meta}
+use Rattle.bolt_layout.proofs.Words.{Node, node_at, Nodes, page_at, PageSpot, PageView, reached, root_spot, Spot}
 use Rattle.bolt_layout.proofs.EvenPages.{BeginsWith, IsEven, IsEvenKid, IsNeatElement, even_depth}
 use Rattle.bolt_check.proofs.Exports.{follow_some, child_leaves, leaves_along, leaves_same, own_leaves, branch_node, tree_page}
-use Rattle.bolt_check.specs.{BboltFindings.first_leaf_depth, BboltFindings.leaves_at, Nodes.branch_entry, Ways.child_spot, Ways.step, Ways.step_entry, Ways.upper_from}
+use Rattle.bolt_check.specs.{BboltFindings.first_leaf_depth, BboltFindings.leaves_at, Nodes.branch_entry, Ways.child_spot, Ways.step, Ways.step_entry}
+use Rattle.bolt_check.specs.{Ways.upper_from}
 use Rattle.bolt_format.specs.declared.header.Kind.TheVariants as kind
 
 -- a page at its depth, by that of the first leaf of its bucket
@@ -40,7 +43,8 @@ module _ (file : List ℕ) (meta : Meta) where
   nodes = node_at file meta
 
   -- a leaf is at the depth of the first one
-  pub leaf_is_first : (s : PageSpot) (node : Node) (leaves : ℕ) → nodes s.number ≡ Ok node → node.is_leaf ≡ true → IsEvenPage nodes leaves s → s.depth ≡ leaves
+  pub leaf_is_first : (s : PageSpot) (node : Node) (leaves : ℕ) → nodes s.number ≡ Ok node → node.is_leaf ≡ true → IsEvenPage nodes leaves s
+      → s.depth ≡ leaves
   leaf_is_first s node leaves at leaf stands = by stands.height stands.even stands.deep
     where
       by : (height : ℕ) → IsEven nodes height s.number → s.depth + height ≡ leaves → s.depth ≡ leaves
@@ -50,11 +54,13 @@ module _ (file : List ℕ) (meta : Meta) where
 
   -- ---- a step
 
-  branch_step : (s : PageSpot) (view : PageView) (i : ℕ) (t : Spot) (next : Option Entry) (leaves : ℕ) → nodes s.number ≡ Ok (branch_node view) → IsEvenPage nodes leaves s
+  branch_step : (s : PageSpot) (view : PageView) (i : ℕ) (t : Spot) (next : Option Entry) (leaves : ℕ) → nodes s.number ≡ Ok (branch_node view)
+      → IsEvenPage nodes leaves s
       → step_entry false s (slice_get (map branch_entry view.branches) i) next ≡ Some t → IsEvenSpot nodes (own_leaves nodes leaves t) t
   branch_step s view i t next leaves node stands e = by (slice_get (map branch_entry view.branches) i) refl e
     where
-      kid : (height : ℕ) (x : Entry) → IsEvenKid nodes height x → s.depth + suc height ≡ leaves → Some (At_page (child_spot s x (upper_from next s.upper))) ≡ Some t
+      kid : (height : ℕ) (x : Entry) → IsEvenKid nodes height x → s.depth + suc height ≡ leaves
+          → Some (At_page (child_spot s x (upper_from next s.upper))) ≡ Some t
           → IsEvenSpot nodes (own_leaves nodes leaves t) t
       kid height x even deep led =
           let k = child_spot s x (upper_from next s.upper) in
@@ -71,44 +77,55 @@ module _ (file : List ℕ) (meta : Meta) where
           same_key : (a b : Key) → ◌≡◌ {A = Option Key} (Some a) (Some b) → a ≡ b
           same_key a b e = cc
 
-      by_height : (height : ℕ) → IsEven nodes height s.number → s.depth + height ≡ leaves → (x : Entry) → slice_get (map branch_entry view.branches) i ≡ Some x
+      by_height : (height : ℕ) → IsEven nodes height s.number → s.depth + height ≡ leaves → (x : Entry)
+          → slice_get (map branch_entry view.branches) i ≡ Some x
           → Some (At_page (child_spot s x (upper_from next s.upper))) ≡ Some t → IsEvenSpot nodes (own_leaves nodes leaves t) t
       by_height zero (other, is, leaf) deep x at led =
           absurd (leaf_not_branch (sym leaf ∙ ap (λ (n : Node). n.is_leaf) (same_node other (branch_node view) (sym is ∙ node))))
       by_height (suc height) (other, is, branch, some, kids) deep x at led =
           let same = same_node other (branch_node view) (sym is ∙ node) in
-          kid height x (all_get (IsEvenKid nodes height) (map branch_entry view.branches) i x (subst (λ (n : Node). AllByRecursion (IsEvenKid nodes height) n.entries) same kids) at) deep led
+          kid height x (all_get (IsEvenKid nodes height) (map branch_entry view.branches) i x
+          (subst (λ (n : Node). AllByRecursion (IsEvenKid nodes height) n.entries) same kids) at) deep led
 
-      by : (o : Option Entry) → slice_get (map branch_entry view.branches) i ≡ o → step_entry false s o next ≡ Some t → IsEvenSpot nodes (own_leaves nodes leaves t) t
+      by : (o : Option Entry) → slice_get (map branch_entry view.branches) i ≡ o → step_entry false s o next ≡ Some t
+          → IsEvenSpot nodes (own_leaves nodes leaves t) t
       by None at led = absurd (none-some t led)
       by (Some x) at led = by_height stands.height stands.even stands.deep x at led
 
-  bucket_step : (host : ℕ) (e : LeafElement) (t : Spot) (leaves : ℕ) → IsNeatElement nodes e → (b c : Bool) → e.is_bucket ≡ b → (head_root e.value == 0) ≡ c
-      → cond b (Some (cond c (At_inline host (inline_page e.value)) (At_page (root_spot (head_root e.value))))) None ≡ Some t → IsEvenSpot nodes (own_leaves nodes leaves t) t
+  bucket_step : (host : ℕ) (e : LeafElement) (t : Spot) (leaves : ℕ) → IsNeatElement nodes e → (b c : Bool) → e.is_bucket ≡ b
+      → (head_root e.value == 0) ≡ c
+      → cond b (Some (cond c (At_inline host (inline_page e.value)) (At_page (root_spot (head_root e.value))))) None ≡ Some t
+      → IsEvenSpot nodes (own_leaves nodes leaves t) t
   bucket_step host e t leaves neat h c bucket root led = grind (arith, none-some, same_Some, even_depth)
 
-  leaf_step : (s : PageSpot) (view : PageView) (i : ℕ) (t : Spot) (next : Option Entry) (leaves : ℕ) → AllByRecursion (IsNeatElement nodes) view.leaves
+  leaf_step : (s : PageSpot) (view : PageView) (i : ℕ) (t : Spot) (next : Option Entry) (leaves : ℕ)
+      → AllByRecursion (IsNeatElement nodes) view.leaves
       → step_entry true s (slice_get (map leaf_entry view.leaves) i) next ≡ Some t → IsEvenSpot nodes (own_leaves nodes leaves t) t
   leaf_step s view i t next leaves neat e =
       by (slice_get view.leaves i) refl (subst (λ (x : Option Entry). step_entry true s x next ≡ Some t) (slice_get-map leaf_entry view.leaves i) e)
     where
-      by : (o : Option LeafElement) → slice_get view.leaves i ≡ o → step_entry true s (option_map leaf_entry o) next ≡ Some t → IsEvenSpot nodes (own_leaves nodes leaves t) t
+      by : (o : Option LeafElement) → slice_get view.leaves i ≡ o → step_entry true s (option_map leaf_entry o) next ≡ Some t
+          → IsEvenSpot nodes (own_leaves nodes leaves t) t
       by None at led = absurd (none-some t led)
-      by (Some x) at led = bucket_step s.number x t leaves (all_get (IsNeatElement nodes) view.leaves i x neat at) x.is_bucket (head_root x.value == 0) refl refl led
+      by (Some x) at led =
+          bucket_step s.number x t leaves (all_get (IsNeatElement nodes) view.leaves i x neat at) x.is_bucket (head_root x.value == 0) refl refl led
 
   -- the page of a spot is good and, if it is a leaf, its buckets are neat
   pub record IsNeatSpot (s : Spot) : Type 0 where
     pub good : (p : PageSpot) → s ≡ At_page p → (node : Node) × (nodes p.number ≡ Ok node)
-    pub neat : (p : PageSpot) (view : PageView) → s ≡ At_page p → page_at file meta p.number ≡ Some view → view.kind ≡ kind.Leaf → AllByRecursion (IsNeatElement nodes) view.leaves
+    pub neat : (p : PageSpot) (view : PageView) → s ≡ At_page p → page_at file meta p.number ≡ Some view → view.kind ≡ kind.Leaf
+        → AllByRecursion (IsNeatElement nodes) view.leaves
 
-  step_even : (s : Spot) (i : ℕ) (t : Spot) (leaves : ℕ) → IsNeatSpot s → IsEvenSpot nodes leaves s → step nodes (Some s) i ≡ Some t → IsEvenSpot nodes (own_leaves nodes leaves t) t
+  step_even : (s : Spot) (i : ℕ) (t : Spot) (leaves : ℕ) → IsNeatSpot s → IsEvenSpot nodes leaves s → step nodes (Some s) i ≡ Some t
+      → IsEvenSpot nodes (own_leaves nodes leaves t) t
   step_even (At_inline host inner) i t leaves is stands led = absurd (none-some t led)
   step_even (At_page s) i t leaves is stands led = grind (arith, tree_page, leaf_step, branch_step)
 
   -- ---- along a way
 
   along : (here : Spot) (above : ℕ) (way : List ℕ) (t : Spot) → ((v : List ℕ) (u : Spot) → follow nodes (Some here) v ≡ Some u → IsNeatSpot u)
-      → IsEvenSpot nodes (own_leaves nodes above here) here → follow nodes (Some here) way ≡ Some t → IsEvenSpot nodes (leaves_along nodes above (Some here) way) t
+      → IsEvenSpot nodes (own_leaves nodes above here) here → follow nodes (Some here) way ≡ Some t
+      → IsEvenSpot nodes (leaves_along nodes above (Some here) way) t
   along here above [] t neat stands e = subst (IsEvenSpot nodes (own_leaves nodes above here)) (same_Some here t e) stands
   along here above (i ∷ way) t neat stands e =
       let (next, is) = follow_some nodes (step nodes (Some here) i) way t e in
@@ -117,12 +134,16 @@ module _ (file : List ℕ) (meta : Meta) where
       (along next (own_leaves nodes above here) way t (λ v u f. neat (i ∷ v) u (ap (λ (o : Option Spot). follow nodes o v) is ∙ f)) on
       (ap (λ (o : Option Spot). follow nodes o way) (sym is) ∙ e))
 
-  root_even : (height : ℕ) → height ≤ 63 → IsEven nodes height meta.root → IsEvenPage nodes (first_leaf_depth nodes 63 meta.root) (root_spot meta.root)
+  root_even : (height : ℕ) → height ≤ 63 → IsEven nodes height meta.root
+      → IsEvenPage nodes (first_leaf_depth nodes 63 meta.root) (root_spot meta.root)
   root_even height low even = grind (arith, even_depth, none-some)
 
   -- from the root page of the file
-  pub even_by : (height : ℕ) → height ≤ 63 → IsEven nodes height meta.root → ((way : List ℕ) (t : Spot) → reached nodes meta.root way ≡ Some t → IsNeatSpot t)
+  pub even_by : (height : ℕ) → height ≤ 63 → IsEven nodes height meta.root
+      → ((way : List ℕ) (t : Spot) → reached nodes meta.root way ≡ Some t → IsNeatSpot t)
       → (way : List ℕ) (t : Spot) → reached nodes meta.root way ≡ Some t → IsEvenSpot nodes (leaves_at nodes meta.root way (Some t)) t
-  even_by height low even neat way (At_inline host inner) e = along (At_page (root_spot meta.root)) 0 way (At_inline host inner) neat (root_even height low even) e
+  even_by height low even neat way (At_inline host inner) e =
+      along (At_page (root_spot meta.root)) 0 way (At_inline host inner) neat (root_even height low even) e
   even_by height low even neat way (At_page t) e =
-      subst (λ (leaves : ℕ). IsEvenPage nodes leaves t) (leaves_same nodes meta.root way t e) (along (At_page (root_spot meta.root)) 0 way (At_page t) neat (root_even height low even) e)
+      subst (λ (leaves : ℕ). IsEvenPage nodes leaves t) (leaves_same nodes meta.root way t e)
+      (along (At_page (root_spot meta.root)) 0 way (At_page t) neat (root_even height low even) e)

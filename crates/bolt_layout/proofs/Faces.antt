@@ -1,6 +1,8 @@
 -- A row as the cut sees it: the keys and sizes of its items decide how the row is cut, and the keys and sizes of the row above.
 use Rattle.std.proofs.Common.{◌≡◌, ◌∙◌, ◌++◌, ◌+◌, ℕ, List, [], ◌∷◌, length, map, sum_by, refl, ap, arith}
-use Rattle.bolt_layout.proofs.Words.{Balanced, branch_cut, branch_page_view, BranchElement, common_steps, cut_from, cut_of, join_last, joins, Laid, last_length, Layout, leaf_page_view, leaf_pages, LeafElement, length-map, map-append, next_level, page_over, PageView, Plain, size_of, sum_by-cons}
+use Rattle.bolt_layout.proofs.Words.{Balanced, branch_cut, branch_page_view, BranchElement, common_steps, cut_from, cut_of, join_last, joins, Laid}
+use Rattle.bolt_layout.proofs.Words.{last_length, Layout, leaf_page_view, leaf_pages, LeafElement, length-map, map-append, next_level, page_over}
+use Rattle.bolt_layout.proofs.Words.{PageView, Plain, size_of, sum_by-cons}
 
 -- The cut by a size that a part of each item decides is the cut of these parts.
 pub sum_map : {X Y : Type 0} (f : X → Y) (size : Y → ℕ) (xs : List X) → sum_by size (map f xs) ≡ sum_by (λ x. size (f x)) xs
@@ -14,7 +16,15 @@ map_joins f page_size least size run next = grind (arith, common_steps, length-m
 map_from : {X Y : Type 0} (f : X → Y) (page_size least : ℕ) (size : Y → ℕ) (run items : List X)
     → map (map f) (cut_from page_size least (λ x. size (f x)) run items) ≡ cut_from page_size least size (map f run) (map f items)
 map_from f page_size least size run [] = refl
-map_from f page_size least size run (next ∷ items) = grind (arith, common_steps, map_joins, map-append, map_from f page_size least size (run ++ next ∷ []) items, map_from f page_size least size (next ∷ []) items)
+map_from f page_size least size run (next ∷ items) =
+    grind (
+      arith,
+      common_steps,
+      map_joins,
+      map-append,
+      map_from f page_size least size (run ++ next ∷ []) items,
+      map_from f page_size least size (next ∷ []) items,
+    )
 
 pub map_cut : {X Y : Type 0} (f : X → Y) (page_size least : ℕ) (size : Y → ℕ) (items : List X)
     → map (map f) (cut_of page_size least (λ x. size (f x)) items) ≡ cut_of page_size least size (map f items)
@@ -59,8 +69,10 @@ over_faces : {E : Type 0} (view : ℕ → List E → PageView) (page_size : ℕ)
 over_faces view page_size [] = refl
 over_faces view page_size (run ∷ runs) = grind (arith, over_faces view page_size runs)
 
-pub leaf_faces : (page_size : ℕ) (items : List (Laid LeafElement)) → map face (leaf_pages page_size items) ≡ map top_face (cut_from page_size 1 face_size [] (map face items))
-leaf_faces page_size items = grind (arith, over_faces leaf_page_view page_size (cut_from page_size 1 size_of [] items), map_from face page_size 1 face_size [] items)
+pub leaf_faces : (page_size : ℕ) (items : List (Laid LeafElement))
+    → map face (leaf_pages page_size items) ≡ map top_face (cut_from page_size 1 face_size [] (map face items))
+leaf_faces page_size items =
+    grind (arith, over_faces leaf_page_view page_size (cut_from page_size 1 size_of [] items), map_from face page_size 1 face_size [] items)
 
 pub next_faces : (which : Layout) (page_size : ℕ) (pages : List (Laid BranchElement))
     → map face (next_level which page_size pages) ≡ map top_face (branch_cut which page_size face_size (map face pages))

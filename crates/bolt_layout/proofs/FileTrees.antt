@@ -1,13 +1,17 @@
 -- What a file holds can be stored: the tree of a listing that rises, and whose members are held under their paths.
 use Rattle.std.proofs.Common.{◌≡◌, ◌∙◌, ℕ, ◌^◌, ◌<◌, true, IsTrue, List, [], ◌∷◌, ◌++◌, drop, refl, sym, ap, subst, subst₂, inl, inr, arith}
 use Rattle.std.proofs.{lemmas.List.same_from_push}
-use Rattle.bolt_layout.proofs.Words.{Contains, Contains-append_left, Contains-append_right, contains_cases, contains_head, contains_none, contains_tail, end, HasLengths, HasSoundTrees, head_root, head_sequence, inline_elements, Inline_page, IsBelow, IsEntry, IsOfOneTree, IsStorable, IsTreeOf, Key, key_cmp, keys_in, LeafElement, Less, listing_below, listing_of, Member, Meta, Path, Rises, RisesInside, Root_page, Start, start_of, Tree, tree_of, with_bucket, with_value}
+use Rattle.bolt_layout.proofs.Words.{Contains, Contains-append_left, Contains-append_right, contains_cases, contains_head, contains_none}
+use Rattle.bolt_layout.proofs.Words.{contains_tail, end, HasLengths, HasSoundTrees, head_root, head_sequence, inline_elements, Inline_page, IsBelow}
+use Rattle.bolt_layout.proofs.Words.{IsEntry, IsOfOneTree, IsStorable, IsTreeOf, Key, key_cmp, keys_in, LeafElement, Less, listing_below, listing_of}
+use Rattle.bolt_layout.proofs.Words.{Member, Meta, Path, Rises, RisesInside, Root_page, Start, start_of, Tree, tree_of, with_bucket, with_value}
 use Rattle.bolt_layout.proofs.SoundCopies.{TreeLists}
 use Rattle.std.specs.{declared.cmp.Ordering.Ordering}
 use Rattle.byteorder.specs.Numbers.{little_from-lt}
 use Rattle.bolt_format.specs.{Bytes.IsBytes, Bytes.number_at, ElementLengths.HasFitLengths, Elements.IsBucketValue}
 use Rattle.bolt_format.proofs.Exports.{drop_bytes, entry_fits, inline_fits, value_bytes, bucket_value, flat_inline}
-use Rattle.bolt_tree.specs.{Entries.Bucket, Entries.Item, Entries.ShowsEntry, Entries.Value, Entries.item_of, Listing.IsListing, Listing.member_cmp, Paths.Holds, Paths.path_cmp}
+use Rattle.bolt_tree.specs.{Entries.Bucket, Entries.Item, Entries.ShowsEntry, Entries.Value, Entries.item_of, Listing.IsListing, Listing.member_cmp}
+use Rattle.bolt_tree.specs.{Paths.Holds, Paths.path_cmp}
 use Rattle.bolt_tree.proofs.Exports.{same_front}
 use Rattle.bolt_layout.specs.Storable.{IsFitListing, IsFitMember}
 use Rattle.bolt_check.proofs.Exports.{first_decides}
@@ -30,14 +34,17 @@ last_less : (front : Path) (j k : Key) → path_cmp (front ++ j ∷ []) (front +
 last_less front j k less = first_decides (key_cmp j k) (sym (same_front front (j ∷ []) (k ∷ [])) ∙ less)
 
 -- each key of the outermost bucket is the last part of a path
-key_listed : (tree : Tree) (front : Path) (k : Key) → Contains (keys_in tree) k → (item : Item) × Contains (listing_below front tree) (front ++ k ∷ [], item)
+key_listed : (tree : Tree) (front : Path) (k : Key) → Contains (keys_in tree) k
+    → (item : Item) × Contains (listing_below front tree) (front ++ k ∷ [], item)
 key_listed end front k has = absurd (contains_none k has)
 key_listed (with_value key value after) front k has = elim (contains_cases key k (keys_in after) has) [
   | inl same ↦ (
     Value value,
-    subst (λ (j : Key). Contains (listing_below front (with_value key value after)) (front ++ j ∷ [], Value value)) same (contains_head (front ++ key ∷ [], Value value) (listing_below front after)),
+    subst (λ (j : Key). Contains (listing_below front (with_value key value after)) (front ++ j ∷ [], Value value)) same
+        (contains_head (front ++ key ∷ [], Value value) (listing_below front after)),
   )
-  | inr more ↦ let (item, there) = key_listed after front k more in (item, contains_tail (front ++ key ∷ [], Value value) (front ++ k ∷ [], item) (listing_below front after) there)
+  | inr more ↦ let (item, there) = key_listed after front k more in
+      (item, contains_tail (front ++ key ∷ [], Value value) (front ++ k ∷ [], item) (listing_below front after) there)
 ]
 key_listed (with_bucket key sequence inside after) front k has =
     let deep : List Member = listing_below (front ++ key ∷ []) inside in
@@ -45,13 +52,18 @@ key_listed (with_bucket key sequence inside after) front k has =
     elim (contains_cases key k (keys_in after) has) [
       | inl same ↦ (
         Bucket sequence,
-        subst (λ (j : Key). Contains ((front ++ key ∷ [], Bucket sequence) ∷ (deep ++ behind)) (front ++ j ∷ [], Bucket sequence)) same (contains_head (front ++ key ∷ [], Bucket sequence) (deep ++ behind)),
+        subst (λ (j : Key). Contains ((front ++ key ∷ [], Bucket sequence) ∷ (deep ++ behind)) (front ++ j ∷ [], Bucket sequence)) same
+            (contains_head (front ++ key ∷ [], Bucket sequence) (deep ++ behind)),
       )
-      | inr more ↦ let (item, there) = key_listed after front k more in
-          (item, contains_tail (front ++ key ∷ [], Bucket sequence) (front ++ k ∷ [], item) (deep ++ behind) (Contains-append_right deep behind (front ++ k ∷ [], item) there))
+      | inr more ↦ let (item, there) = key_listed after front k more in (
+        item,
+        contains_tail (front ++ key ∷ [], Bucket sequence) (front ++ k ∷ [], item) (deep ++ behind)
+            (Contains-append_right deep behind (front ++ k ∷ [], item) there),
+      )
     ]
 
-below_keys : (front : Path) (key : Key) (item : Item) (after : Tree) → IsBelow member_cmp (front ++ key ∷ [], item) (listing_below front after) → IsBelow key_cmp key (keys_in after)
+below_keys : (front : Path) (key : Key) (item : Item) (after : Tree) → IsBelow member_cmp (front ++ key ∷ [], item) (listing_below front after)
+    → IsBelow key_cmp key (keys_in after)
 below_keys front key item after below k has = let (other, there) = key_listed after front k has in last_less front key k (below (front ++ k ∷ [], other) there)
 
 keys_rise : (tree : Tree) (front : Path) → Rises member_cmp (listing_below front tree) → Rises key_cmp (keys_in tree)
@@ -70,8 +82,11 @@ inside_rises (with_value key value after) front r = inside_rises after front r.1
 inside_rises (with_bucket key sequence inside after) front r =
     let deep : List Member = listing_below (front ++ key ∷ []) inside in
     let behind : List Member = listing_below front after in
-    let within = rises_left member_cmp deep behind r.1 in
-    (keys_rise inside (front ++ key ∷ []) within, inside_rises inside (front ++ key ∷ []) within, inside_rises after front (rises_right member_cmp deep behind r.1))
+    let within = rises_left member_cmp deep behind r.1 in (
+      keys_rise inside (front ++ key ∷ []) within,
+      inside_rises inside (front ++ key ∷ []) within,
+      inside_rises after front (rises_right member_cmp deep behind r.1),
+    )
 
 -- A bucket begins at a root page, or in a good value.
 abbrev IsGoodStart : Start → Type 0
@@ -104,7 +119,8 @@ module _ (file : List ℕ) (meta : Meta) (bytes : IsBytes file) where
 
   good_entry : (bucket : Start) (e : LeafElement) → IsGoodStart bucket → IsEntry file meta bucket e → IsGoodEntry e
   good_entry (Root_page root) e good (address, n, leading, shows) = good_shown n e shows
-  good_entry (Inline_page elements) e (value, good, root, same) has = good_inner value e good root (subst (λ (es : List LeafElement). Contains es e) (sym same) has)
+  good_entry (Inline_page elements) e (value, good, root, same) has =
+      good_inner value e good root (subst (λ (es : List LeafElement). Contains es e) (sym same) has)
 
   -- what is held below a first key is held by the bucket of that key
   held_inside : (front : Path) (f key : Key) (item : Item) (from : Start) → Holds (IsEntry file meta) from (f ∷ (front ++ key ∷ [])) item
@@ -117,13 +133,16 @@ module _ (file : List ℕ) (meta : Meta) (bytes : IsBytes file) where
       → (e : LeafElement) × IsGoodEntry e × (e.key ≡ key) × (item_of e ≡ item)
   last_good [] key item from good (e, is, same, of) = (e, good_entry from e good is, same, of)
   last_good (f ∷ front) key item from good held =
-      let (e, is, b, more) = held_inside front f key item from held in last_good front key item (start_of e.value) (start_good e.value ((good_entry from e good is).value b)) more
+      let (e, is, b, more) = held_inside front f key item from held in
+      last_good front key item (start_of e.value) (start_good e.value ((good_entry from e good is).value b)) more
 
   -- a path that holds something isn't empty
-  held_last : (path : Path) (item : Item) (from : Start) → Holds (IsEntry file meta) from path item → (front : Path) × (key : Key) × (path ≡ front ++ key ∷ [])
+  held_last : (path : Path) (item : Item) (from : Start) → Holds (IsEntry file meta) from path item
+      → (front : Path) × (key : Key) × (path ≡ front ++ key ∷ [])
   held_last [] item from held = absurd held
   held_last (key ∷ []) item from held = ([], key, refl)
-  held_last (key ∷ next ∷ path) item from (e, is, k, b, more) = let (front, last, same) = held_last (next ∷ path) item (start_of e.value) more in (key ∷ front, last, ap (λ (p : Path). key ∷ p) same)
+  held_last (key ∷ next ∷ path) item from (e, is, k, b, more) =
+      let (front, last, same) = held_last (next ∷ path) item (start_of e.value) more in (key ∷ front, last, ap (λ (p : Path). key ∷ p) same)
 
   pub held_fits : (root : ℕ) (path : Path) (item : Item) → Holds (IsEntry file meta) (Root_page root) path item → IsFitMember path item
   held_fits root path item held =
@@ -148,14 +167,16 @@ lengths_fit (with_bucket key sequence inside after) front fit =
     let (last, item) = fit (front ++ key ∷ []) (Bucket sequence) (contains_head first (deep ++ behind)) in (
       last front key refl,
       item,
-      lengths_fit inside (front ++ key ∷ []) (λ path i h. fit path i (contains_tail first (path, i) (deep ++ behind) (Contains-append_left deep behind (path, i) h))),
+      lengths_fit inside (front ++ key ∷ [])
+          (λ path i h. fit path i (contains_tail first (path, i) (deep ++ behind) (Contains-append_left deep behind (path, i) h))),
       lengths_fit after front (λ path i h. fit path i (contains_tail first (path, i) (deep ++ behind) (Contains-append_right deep behind (path, i) h))),
     )
 
 fit_storable : (tree : Tree) → Rises member_cmp (listing_of tree) → AreFit (listing_of tree) → IsStorable tree
 fit_storable tree rises fit = record { lengths = lengths_fit tree [] fit; rising = keys_rise tree [] rises; rising_inside = inside_rises tree [] rises }
 
-pub tree_storable : TreeLists → (file : List ℕ) (meta : Meta) (tree : Tree) → IsBytes file → IsTreeOf (IsEntry file meta) (Root_page meta.root) tree → IsStorable tree
+pub tree_storable : TreeLists → (file : List ℕ) (meta : Meta) (tree : Tree) → IsBytes file → IsTreeOf (IsEntry file meta) (Root_page meta.root) tree
+    → IsStorable tree
 tree_storable lists file meta tree bytes is =
     let listed = lists file meta (Root_page meta.root) tree is in
     fit_storable tree listed.rises (λ path item h. held_fits file meta bytes meta.root path item ((listed.exact path item).0 h))
@@ -166,7 +187,9 @@ TreeIsOfItsListing = (tree : Tree) → tree_of (listing_of tree) ≡ tree
 
 pub one_tree : TreeIsOfItsListing → (listing : List Member) → IsFitListing listing → IsOfOneTree listing
 one_tree back listing is =
-    let storable = fit_storable is.tree (subst (Rises member_cmp) is.lists is.rises) (λ path item h. is.fit path item (subst (λ (ms : List Member). Contains ms (path, item)) (sym is.lists) h)) in
+    let storable =
+    fit_storable is.tree (subst (Rises member_cmp) is.lists is.rises)
+    (λ path item h. is.fit path item (subst (λ (ms : List Member). Contains ms (path, item)) (sym is.lists) h)) in
     grind arith
 
 abbrev pub ListingIsOfATree : Type 0
@@ -174,7 +197,8 @@ ListingIsOfATree = (file : List ℕ) (meta : Meta) (listing : List Member) → H
     → (tree : Tree) × IsTreeOf (IsEntry file meta) (Root_page meta.root) tree × (listing ≡ listing_of tree)
 
 -- the listing of sound trees fits
-pub sound_fits : ListingIsOfATree → (file : List ℕ) (meta : Meta) (listing : List Member) → IsBytes file → HasSoundTrees file meta → IsListing file meta listing → IsFitListing listing
+pub sound_fits : ListingIsOfATree → (file : List ℕ) (meta : Meta) (listing : List Member) → IsBytes file → HasSoundTrees file meta
+    → IsListing file meta listing → IsFitListing listing
 sound_fits of_a_tree file meta listing bytes sound lists =
     let (tree, is, same) = of_a_tree file meta listing sound lists in
     record { tree = tree; lists = same; rises = lists.rises; fit = λ path item h. held_fits file meta bytes meta.root path item ((lists.exact path item).0 h) }

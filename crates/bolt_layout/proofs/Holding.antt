@@ -1,7 +1,9 @@
 -- The entries of a bucket whose pages were placed: the elements of its items, in order.
 use Rattle.std.proofs.Common.{◌≡◌, ◌∙◌, ℕ, zero, suc, ◌+◌, ◌≤◌, List, [], ◌∷◌, ◌++◌, Option, Some, slice_get, refl, sym, subst, inl, inr, arith}
 use Rattle.std.proofs.lemmas.List.Elements.{Contains-append_cases}
-use Rattle.bolt_layout.proofs.Words.{AllByRecursion, branch_page_view, BranchElement, Contains, Contains-append_left, Contains-append_right, elements_of, IsEntry, Laid, leaf_page_view, LeafElement, Meta, node_at, numbers_of, page_at, page_over, pages_of, PageView, Placed, Root_page, run_overflow}
+use Rattle.bolt_layout.proofs.Words.{AllByRecursion, branch_page_view, BranchElement, Contains, Contains-append_left, Contains-append_right}
+use Rattle.bolt_layout.proofs.Words.{elements_of, IsEntry, Laid, leaf_page_view, LeafElement, Meta, node_at, numbers_of, page_at, page_over, pages_of}
+use Rattle.bolt_layout.proofs.Words.{PageView, Placed, Root_page, run_overflow}
 use Rattle.bolt_format.specs.declared.header.Kind.TheVariants as kind
 use Rattle.bolt_check.proofs.Exports.{branch_step, leads_child, leaf_ends, node_is}
 use Rattle.bolt_layout.proofs.{LaidPages.limit, ListLemmas.all_split, OverRows.IsOver, OverRows.Pieces}
@@ -18,7 +20,8 @@ module _ (file : List ℕ) (meta : Meta) where
   AreOf (e ∷ es) [] = ⊥
   AreOf (e ∷ es) (item ∷ items) = ((n : ℕ) × (1 ≤ n) × (n + item.numbers ≤ limit) × (e ≡ item.element n) × ArePages (item.pages n)) × AreOf es items
 
-  are_append : (es fs : List LeafElement) (items others : List (Laid LeafElement)) → AreOf es items → AreOf fs others → AreOf (es ++ fs) (items ++ others)
+  are_append : (es fs : List LeafElement) (items others : List (Laid LeafElement)) → AreOf es items → AreOf fs others
+      → AreOf (es ++ fs) (items ++ others)
   are_append (e ∷ es) fs (item ∷ items) others h k = (h.0, are_append es fs items others h.1 k)
   are_append es fs items others h k = grind arith
 
@@ -30,7 +33,8 @@ module _ (file : List ℕ) (meta : Meta) where
     pub all : (e : LeafElement) → Contains es e → IsEntry file meta (Root_page here) e
 
   -- A leaf.
-  items_are : (items : List (Laid LeafElement)) (n : ℕ) → 1 ≤ n → n + numbers_of items ≤ limit → ArePages (pages_of items n) → AreOf (elements_of items n) items
+  items_are : (items : List (Laid LeafElement)) (n : ℕ) → 1 ≤ n → n + numbers_of items ≤ limit → ArePages (pages_of items n)
+      → AreOf (elements_of items n) items
   items_are [] n some room shown = tt
   items_are (item ∷ items) n some room shown =
       let both = all_split (λ (p : Placed). page_at file meta p.number ≡ Some p.view) (item.pages n) (pages_of items (n + item.numbers)) shown in
@@ -40,13 +44,15 @@ module _ (file : List ℕ) (meta : Meta) where
       → IsEntry file meta (Root_page number) e → Contains es e
   leaf_entry number further es shown e ([], m, leading, (view, seen, is, has)) = grind arith
   leaf_entry number further es shown e (i ∷ address, m, leading, shows) =
-      absurd (leaf_ends (node_at file meta) number i m (leaf_page_view further es) address (node_is file meta number (leaf_page_view further es) kind.Leaf shown refl) leading)
+      absurd (leaf_ends (node_at file meta) number i m (leaf_page_view further es) address
+      (node_is file meta number (leaf_page_view further es) kind.Leaf shown refl) leading)
 
   -- A branch.
   abbrev IsBelowKid : List BranchElement → LeafElement → Type 0
   IsBelowKid elements e = (i : ℕ) × (kid : BranchElement) × (slice_get elements i ≡ Some kid) × IsEntry file meta (Root_page kid.child) e
 
-  branch_below : (number further : ℕ) (elements : List BranchElement) → page_at file meta number ≡ Some (branch_page_view further elements) → (e : LeafElement)
+  branch_below : (number further : ℕ) (elements : List BranchElement) → page_at file meta number ≡ Some (branch_page_view further elements)
+      → (e : LeafElement)
       → IsEntry file meta (Root_page number) e → IsBelowKid elements e
   branch_below number further elements shown e ([], m, leading, (view, seen, is, has)) = grind arith
   branch_below number further elements shown e (i ∷ address, m, leading, shows) =
@@ -55,7 +61,8 @@ module _ (file : List ℕ) (meta : Meta) where
       let (kid, at) = branch_step (node_at file meta) number i m view address node leading in
       (i, kid, at, (address, m, sym (leads_child file meta number i view kid address node at) ∙ leading, shows))
 
-  branch_above : (number further : ℕ) (elements : List BranchElement) → page_at file meta number ≡ Some (branch_page_view further elements) → (e : LeafElement)
+  branch_above : (number further : ℕ) (elements : List BranchElement) → page_at file meta number ≡ Some (branch_page_view further elements)
+      → (e : LeafElement)
       → IsBelowKid elements e → IsEntry file meta (Root_page number) e
   branch_above number further elements shown e (i, kid, at, (address, m, leading, shows)) =
       let view : PageView = branch_page_view further elements in
@@ -97,7 +104,8 @@ module _ (file : List ℕ) (meta : Meta) where
   abbrev HoldsPage : Laid BranchElement → List (Laid LeafElement) → Type 0
   HoldsPage page leaves = (n : ℕ) → 1 ≤ n → n + page.numbers ≤ limit → ArePages (page.pages n) → Holds (page.element n).child leaves
 
-  kids_hold : (page_size height : ℕ) → ((page : Laid BranchElement) (leaves : List (Laid LeafElement)) → IsOver page_size height page leaves → HoldsPage page leaves)
+  kids_hold : (page_size height : ℕ)
+      → ((page : Laid BranchElement) (leaves : List (Laid LeafElement)) → IsOver page_size height page leaves → HoldsPage page leaves)
       → (kids : List (Laid BranchElement)) (leaves : List (Laid LeafElement)) → Pieces (IsOver page_size height) kids leaves
       → (n : ℕ) → 1 ≤ n → n + numbers_of kids ≤ limit → ArePages (pages_of kids n) → KidsHold (elements_of kids n) leaves
   kids_hold page_size height ih [] leaves h n some room shown = subst (KidsHold []) (sym h) no_kids
@@ -120,7 +128,8 @@ module _ (file : List ℕ) (meta : Meta) where
         all = λ e has. ([], n + numbers_of leaves, refl, (leaf_page_view further (elements_of leaves n), here, refl, has));
       }
 
-  branch_holds : (page_size height : ℕ) → ((page : Laid BranchElement) (leaves : List (Laid LeafElement)) → IsOver page_size height page leaves → HoldsPage page leaves)
+  branch_holds : (page_size height : ℕ)
+      → ((page : Laid BranchElement) (leaves : List (Laid LeafElement)) → IsOver page_size height page leaves → HoldsPage page leaves)
       → (kids : List (Laid BranchElement)) (leaves : List (Laid LeafElement)) → Pieces (IsOver page_size height) kids leaves
       → HoldsPage (page_over branch_page_view page_size kids) leaves
   branch_holds page_size height ih kids leaves pieces n some room shown =
@@ -136,7 +145,8 @@ module _ (file : List ℕ) (meta : Meta) where
       }
 
   -- the page over a row holds the elements of its items
-  pub over_holds : (page_size height : ℕ) (page : Laid BranchElement) (leaves : List (Laid LeafElement)) → IsOver page_size height page leaves → HoldsPage page leaves
+  pub over_holds : (page_size height : ℕ) (page : Laid BranchElement) (leaves : List (Laid LeafElement)) → IsOver page_size height page leaves
+      → HoldsPage page leaves
   over_holds page_size zero page leaves o = grind (arith, leaf_holds)
   over_holds page_size (suc height) page leaves o =
       let (kid, kids, e, fits, pieces) = o in

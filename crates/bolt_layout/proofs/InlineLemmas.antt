@@ -1,6 +1,9 @@
 -- The value of an inline bucket that was written is read back, and passes its tests.
-use Rattle.std.proofs.Common.{◌≡◌, ◌∙◌, ℕ, suc, ◌+◌, ◌*◌, ◌^◌, ◌<◌, ◌≤◌, nat_lt, false, List, [], ◌∷◌, ◌++◌, length, map, drop, Option, None, refl, sym, ap, arith}
-use Rattle.bolt_layout.proofs.Words.{AllByRecursion, append-nil, count_field, eq-eqb, head_root, head_sequence, head_written, header_bytes, header_written, inline_elements, inline_value, le-ltb, leaf_bytes, leaf_data, leaf_element, leaf_elements, LeafElement, length-append, length-header_bytes, range_with_len, value_fault}
+use Rattle.std.proofs.Common.{◌≡◌, ◌∙◌, ℕ, suc, ◌+◌, ◌*◌, ◌^◌, ◌<◌, ◌≤◌, nat_lt, false, List, [], ◌∷◌, ◌++◌, length, map, drop, Option, None, refl}
+use Rattle.std.proofs.Common.{sym, ap, arith}
+use Rattle.bolt_layout.proofs.Words.{AllByRecursion, append-nil, count_field, eq-eqb, head_root, head_sequence, head_written, header_bytes}
+use Rattle.bolt_layout.proofs.Words.{header_written, inline_elements, inline_value, le-ltb, leaf_bytes, leaf_data, leaf_element, leaf_elements}
+use Rattle.bolt_layout.proofs.Words.{LeafElement, length-append, length-header_bytes, range_with_len, value_fault}
 use Rattle.std.specs.List.{list_any}
 use Rattle.bolt_format.specs.Elements.{head_fault, inline_bytes, inline_fault, inline_number, is_bucket_element}
 use Rattle.bolt_format.specs.Gaps.{inline_gap, leaf_gap}
@@ -19,7 +22,8 @@ flat_fits bucket_fault [] h = tt
 flat_fits bucket_fault (e ∷ es) h = grind (arith, flat_fits bucket_fault es h.1)
 
 -- none of the elements that are read is a bucket
-no_bucket_in : (bytes : List ℕ) (from n : ℕ) (es : List LeafElement) → map (leaf_element bytes) (range_with_len from n) ≡ es → AllByRecursion IsFlat es
+no_bucket_in : (bytes : List ℕ) (from n : ℕ) (es : List LeafElement) → map (leaf_element bytes) (range_with_len from n) ≡ es
+    → AllByRecursion IsFlat es
     → list_any (is_bucket_element bytes) (range_with_len from n) ≡ false
 no_bucket_in bytes from (suc n) (x ∷ es) e flat =
     let first : leaf_element bytes from ≡ x = cc in
@@ -37,7 +41,8 @@ inline_written sequence es sized flat few small =
     let value = inline_value sequence es in
     let bytes = inline_bytes value in
     let head = head_written value (header_bytes 0 kind.Leaf (length es) 0 ++ leaf_bytes es) 0 sequence refl (omega arith) sized in
-    let header = header_written bytes (leaf_bytes es) 0 kind.Leaf (length es) 0 head.inline (record { id = omega arith; count = few; overflow = omega arith }) in
+    let header =
+    header_written bytes (leaf_bytes es) 0 kind.Leaf (length es) 0 head.inline (record { id = omega arith; count = few; overflow = omega arith }) in
     let behind : drop 16 bytes ≡ leaf_bytes es ++ [] = header.1 ∙ sym (append-nil (leaf_bytes es)) in
     let l = ap (λ (xs : List ℕ). length xs) head.inline in
     let h = length-header_bytes 0 kind.Leaf (length es) 0 in
@@ -45,13 +50,16 @@ inline_written sequence es sized flat few small =
     let written = leaves_written head_fault bytes es [] behind (omega arith) (flat_fits head_fault es flat) small in
     let elements : leaf_elements bytes (count_field bytes) ≡ es = ap (leaf_elements bytes) header.0.count ∙ written.0 in
     let room : nat_lt (length bytes) 16 ≡ false = le-ltb (length bytes) 16 (omega arith) in
-    let passes : (value_fault value ≡ None) × (head_root value ≡ 0) × (head_sequence value ≡ sequence) × (inline_elements value ≡ es) = grind (arith, eq-eqb, no_bucket_in) in
+    let passes : (value_fault value ≡ None) × (head_root value ≡ 0) × (head_sequence value ≡ sequence) × (inline_elements value ≡ es) =
+    grind (arith, eq-eqb, no_bucket_in) in
     (passes.0, passes.1, passes.2, passes.3, ap (leaf_gap bytes) header.0.count ∙ written.2)
 
 -- its page has no number
-pub inline_unnumbered : (sequence : ℕ) (es : List LeafElement) → sequence < 256 ^ 8 → length es < 256 ^ 2 → inline_number (inline_value sequence es) ≡ 0
+pub inline_unnumbered : (sequence : ℕ) (es : List LeafElement) → sequence < 256 ^ 8 → length es < 256 ^ 2
+    → inline_number (inline_value sequence es) ≡ 0
 unfolding inline_value inline_number
 inline_unnumbered sequence es sized few =
     let value = inline_value sequence es in
     let head = head_written value (header_bytes 0 kind.Leaf (length es) 0 ++ leaf_bytes es) 0 sequence refl (omega arith) sized in
-    (header_written (inline_bytes value) (leaf_bytes es) 0 kind.Leaf (length es) 0 head.inline (record { id = omega arith; count = few; overflow = omega arith })).0.id
+    (header_written (inline_bytes value) (leaf_bytes es) 0 kind.Leaf (length es) 0 head.inline
+    (record { id = omega arith; count = few; overflow = omega arith })).0.id

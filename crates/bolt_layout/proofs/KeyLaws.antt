@@ -1,6 +1,7 @@
 -- What an order of keys says of a row of items.
 use Rattle.std.proofs.Common.{arith, ◌≡◌, true, List, [], ◌∷◌, ◌++◌, Option, None, Some, refl}
-use Rattle.bolt_layout.proofs.{Words.AllByRecursion, Words.is_below, Words.is_from, Words.Key, Words.key_lt, Words.keys_order_fault, Words.Laid, Words.LeafElement, ListLemmas.all_split}
+use Rattle.bolt_layout.proofs.{Words.AllByRecursion, Words.is_below, Words.is_from, Words.Key, Words.key_lt, Words.keys_order_fault, Words.Laid}
+use Rattle.bolt_layout.proofs.{Words.LeafElement, ListLemmas.all_split}
 use Rattle.bolt_check.specs.Keys.{is_above}
 
 -- items whose keys rise
@@ -26,6 +27,7 @@ abbrev pub IsAbove : Option Key → Laid LeafElement → Type 0
 IsAbove before x = is_above before x.key ≡ true
 
 -- one key that passes
-pub key_step : (before lower upper : Option Key) (key : Key) (keys : List Key) → is_above before key ≡ true → is_from lower key ≡ true → is_below upper key ≡ true
+pub key_step : (before lower upper : Option Key) (key : Key) (keys : List Key) → is_above before key ≡ true → is_from lower key ≡ true
+    → is_below upper key ≡ true
     → keys_order_fault (Some key) lower upper keys ≡ None → keys_order_fault before lower upper (key ∷ keys) ≡ None
 key_step before lower upper key keys a b c rest = rw (a, b, c, rest) refl

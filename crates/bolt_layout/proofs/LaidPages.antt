@@ -1,6 +1,7 @@
 -- The pages below a row of items stand in a row and have room, and so do they with the page over the items.
 use Rattle.std.proofs.Common.{◌≡◌, ℕ, ◌+◌, ◌^◌, ◌<◌, ◌≤◌, List, [], ◌∷◌, refl, arith}
-use Rattle.bolt_layout.proofs.Words.{AllByRecursion, elements_of, Laid, node_of, Nodes, numbers_of, page_over, pages_of, PageView, Placed, run_overflow}
+use Rattle.bolt_layout.proofs.Words.{AllByRecursion, elements_of, Laid, node_of, Nodes, numbers_of, page_over, pages_of, PageView, Placed}
+use Rattle.bolt_layout.proofs.Words.{run_overflow}
 use Rattle.bolt_layout.proofs.{ListLemmas.all_append, PageRows.HasRoom, PageRows.IsInARow, PageRows.IsPageFit, PageRows.row_append}
 
 -- so many page numbers there are at most
@@ -18,11 +19,13 @@ items_row : {E : Type 0} (page_size : ℕ) (items : List (Laid E)) → AllByRecu
 items_row page_size [] all n = omega arith
 items_row page_size (item ∷ items) all n = grind (arith, row_append, items_row page_size items all.1 (n + item.numbers))
 
-items_room : {E : Type 0} (page_size : ℕ) (items : List (Laid E)) → AllByRecursion (HasPages page_size) items → (n : ℕ) → AllByRecursion (HasRoom page_size) (pages_of items n)
+items_room : {E : Type 0} (page_size : ℕ) (items : List (Laid E)) → AllByRecursion (HasPages page_size) items → (n : ℕ)
+    → AllByRecursion (HasRoom page_size) (pages_of items n)
 items_room page_size [] all n = tt
 items_room page_size (item ∷ items) all n = grind (arith, all_append, items_room page_size items all.1 (n + item.numbers))
 
-items_fit : {E : Type 0} (page_size : ℕ) (items : List (Laid E)) → AllByRecursion (HasPages page_size) items → (n : ℕ) → 1 ≤ n → n + numbers_of items ≤ limit
+items_fit : {E : Type 0} (page_size : ℕ) (items : List (Laid E)) → AllByRecursion (HasPages page_size) items → (n : ℕ) → 1 ≤ n
+    → n + numbers_of items ≤ limit
     → AllByRecursion (IsPageFit page_size) (pages_of items n)
 items_fit page_size [] all n some h = tt
 items_fit page_size (item ∷ items) all n some h = grind (arith, all_append, items_fit page_size items all.1 (n + item.numbers) (omega arith) (omega arith))

@@ -26,14 +26,16 @@ last_behind run runs some = grind arith
 pushed_from : {X : Type 0} (page_size : ℕ) (size : X → ℕ) (run items : List X) (x : X)
     → IsPushed (cut_from page_size 2 size run items) x (cut_from page_size 2 size run (items ++ x ∷ []))
 pushed_from page_size size run [] x = grind arith
-pushed_from page_size size run (next ∷ items) x = grind (arith, pushed_from page_size size (run ++ next ∷ []) items x, pushed_from page_size size (next ∷ []) items x)
+pushed_from page_size size run (next ∷ items) x =
+    grind (arith, pushed_from page_size size (run ++ next ∷ []) items x, pushed_from page_size size (next ∷ []) items x)
 
 pub cut_pushed : {X : Type 0} (page_size : ℕ) (size : X → ℕ) (items : List X) (x : X) → 1 ≤ length items
     → IsPushed (cut_of page_size 2 size items) x (cut_of page_size 2 size (items ++ x ∷ []))
 cut_pushed page_size size items x some = grind (arith, pushed_from)
 
 -- How many runs there are then, and how many items are in the last.
-pub push_counts : {X : Type 0} (runs : List (List X)) (x : X) → 1 ≤ length runs → (length (push_last runs x) ≡ length runs) × (last_length (push_last runs x) ≡ suc (last_length runs))
+pub push_counts : {X : Type 0} (runs : List (List X)) (x : X) → 1 ≤ length runs
+    → (length (push_last runs x) ≡ length runs) × (last_length (push_last runs x) ≡ suc (last_length runs))
 push_counts (run ∷ next ∷ runs) x some = grind (arith, push_counts (next ∷ runs) x (omega arith))
 push_counts runs x some = grind (arith, length_push)
 
@@ -68,7 +70,8 @@ push_tops {Y = Y} top front (run ∷ []) x all some = ap (λ (y : Y). y ∷ []) 
 push_tops {Y = Y} top front (run ∷ next ∷ runs) x all some = ap (λ (ys : List Y). top run ∷ ys) (push_tops top front (next ∷ runs) x all.1 (omega arith))
 
 -- and loses its last when the last run joins the one before.
-pub join_tops : {X Y : Type 0} (top : List X → Y) → IsOfFront top → (runs : List (List X)) → AllByRecursion HasItem runs → last_length runs ≡ 1 → 2 ≤ length runs
+pub join_tops : {X Y : Type 0} (top : List X → Y) → IsOfFront top → (runs : List (List X)) → AllByRecursion HasItem runs → last_length runs ≡ 1
+    → 2 ≤ length runs
     → (y : Y) × (map top runs ≡ map top (join_last runs) ++ y ∷ [])
 join_tops top front [] all one two = absurd (omega arith)
 join_tops top front (run ∷ []) all one two = absurd (omega arith)

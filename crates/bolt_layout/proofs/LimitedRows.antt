@@ -1,12 +1,14 @@
 -- How a row is cut with a limit: without one as in the plain layout, and with the right one as in the balanced.
 use Rattle.std.proofs.lemmas.Grind.{common_steps}
-use Rattle.std.proofs.Common.{◌≡◌, ◌∙◌, ◌⊎◌, ◌++◌, ◌+◌, ◌-◌, ◌≤◌, ℕ, zero, suc, List, [], ◌∷◌, length, Option, Some, None, refl, sym, ap, inl, inr, arith}
+use Rattle.std.proofs.Common.{◌≡◌, ◌∙◌, ◌⊎◌, ◌++◌, ◌+◌, ◌-◌, ◌≤◌, ℕ, zero, suc, List, [], ◌∷◌, length, Option, Some, None, refl, sym, ap, inl, inr}
+use Rattle.std.proofs.Common.{arith}
 use Rattle.bolt_layout.proofs.Words.{Balanced, branch_cut, cases_Bool, cut_from, cut_of, cut_row, join_last, joins, last_length, length_push}
 use Rattle.bolt_layout.proofs.LastItem.{join_behind, join_none, last_behind, some_runs}
 use Rattle.bolt_layout.specs.Limits.{cut_within}
 
 -- Without a limit a row is cut as the plain one.
-pub left_free : {X : Type 0} (page_size : ℕ) (size : X → ℕ) (run items : List X) → cut_within page_size size None run items ≡ cut_from page_size 2 size run items
+pub left_free : {X : Type 0} (page_size : ℕ) (size : X → ℕ) (run items : List X)
+    → cut_within page_size size None run items ≡ cut_from page_size 2 size run items
 left_free page_size size run [] = refl
 left_free page_size size run (next ∷ items) = grind (arith, left_free page_size size (run ++ next ∷ []) items, left_free page_size size (next ∷ []) items)
 
@@ -57,7 +59,8 @@ left_joined {X = X} page_size size (suc n) run (next ∷ items) many one = elim 
       let one2 : last_length (run ∷ more) ≡ 1 = rw f at one in
       let same = last_behind run more (omega arith) in
       let fewer : suc n - 1 ≡ n = omega arith in
-      let ih : cut_within page_size size (Some n) (next ∷ []) items ≡ join_last more = left_joined page_size size n (next ∷ []) items (omega arith) (omega arith) in
+      let ih : cut_within page_size size (Some n) (next ∷ []) items ≡ join_last more =
+      left_joined page_size size n (next ∷ []) items (omega arith) (omega arith) in
       rw (f, fewer) (ap (λ (rs : List (List X)). run ∷ rs) ih ∙ sym (join_behind run more (omega arith))))
 ]
 

@@ -1,7 +1,8 @@
 -- The pages of a layout have no gap.
 use Rattle.std.proofs.Common.{◌≡◌, ◌∙◌, ◌<◌, ◌^◌, ℕ, List, [], ◌∷◌, None, ap, inl, inr, length, sym}
 use Rattle.bolt_layout.proofs.Words.{AllByRecursion, At_inline, At_page, IsAsked, Layout, layout_meta, layout_of, layout_pages, Meta, Placed, Tree}
-use Rattle.bolt_layout.proofs.{BboltCopies.even_spot, BboltCopies.placed, BboltCopies.sound, PlacedWays.IsPlaced, Soundness.PassingIsSound, SpanLemmas.IsShown}
+use Rattle.bolt_layout.proofs.{BboltCopies.even_spot, BboltCopies.placed, BboltCopies.sound, PlacedWays.IsPlaced, Soundness.PassingIsSound}
+use Rattle.bolt_layout.proofs.{SpanLemmas.IsShown}
 use Rattle.bolt_format.specs.Gaps.{page_gap}
 use Rattle.bolt_layout.specs.NoGaps.{HasNoGaps}
 

@@ -1,8 +1,12 @@
 -- The plain layout of a tree takes at most 28 times the page numbers of the balanced one: both have the same leaves.
 use Rattle.std.proofs.Common.{◌≡◌, ◌∙◌, ℕ, ◌+◌, ◌*◌, ◌≤◌, List, [], ◌∷◌, map, refl, sym, ap, arith}
-use Rattle.bolt_layout.proofs.Words.{AllByRecursion, Balanced, cut_of, end, HasLengths, is_inline, IsPageSize, IsStorable, items_of, Laid, largest_page, LeafElement, numbers_of, overflow_of, Plain, RisesInside, root_of, root_over, run_size, size_bounds, size_of, stored_bucket, Tree, with_bucket, with_value}
-use Rattle.bolt_layout.proofs.{Faces.Face, Faces.face, Faces.face_size, Faces.map_cut, Faces.sum_map, HeldBounds.level_numbers, LaidItems.IsItem, ListLemmas.all_weaker}
-use Rattle.bolt_layout.proofs.{PlainNumbers.leaves_numbers, PlainNumbers.plain_most, SameFaces.inline_alike, SameFaces.items_alike, TreeItems.tree_items, Weights.own_numbers}
+use Rattle.bolt_layout.proofs.Words.{AllByRecursion, Balanced, cut_of, end, HasLengths, is_inline, IsPageSize, IsStorable, items_of, Laid}
+use Rattle.bolt_layout.proofs.Words.{largest_page, LeafElement, numbers_of, overflow_of, Plain, RisesInside, root_of, root_over, run_size}
+use Rattle.bolt_layout.proofs.Words.{size_bounds, size_of, stored_bucket, Tree, with_bucket, with_value}
+use Rattle.bolt_layout.proofs.{Faces.Face, Faces.face, Faces.face_size, Faces.map_cut, Faces.sum_map, HeldBounds.level_numbers, LaidItems.IsItem}
+use Rattle.bolt_layout.proofs.{ListLemmas.all_weaker}
+use Rattle.bolt_layout.proofs.{PlainNumbers.leaves_numbers, PlainNumbers.plain_most, SameFaces.inline_alike, SameFaces.items_alike}
+use Rattle.bolt_layout.proofs.{TreeItems.tree_items, Weights.own_numbers}
 
 -- The sizes of the items decide what the leaves take themselves.
 faces_numbers : (page_size : ℕ) → List (List Face) → ℕ
@@ -12,7 +16,8 @@ faces_numbers page_size (faces ∷ runs) = (1 + overflow_of page_size (run_size 
 own_by_faces : (page_size : ℕ) (runs : List (List (Laid LeafElement))) → own_numbers page_size runs ≡ faces_numbers page_size (map (map face) runs)
 unfolding faces_numbers
 own_by_faces page_size [] = refl
-own_by_faces page_size (run ∷ runs) = omega (arith, own_by_faces page_size runs, sum_map face face_size run, ap (λ (n : ℕ). overflow_of page_size (16 + n)) (sum_map face face_size run))
+own_by_faces page_size (run ∷ runs) =
+    omega (arith, own_by_faces page_size runs, sum_map face face_size run, ap (λ (n : ℕ). overflow_of page_size (16 + n)) (sum_map face face_size run))
 
 own_alike : (page_size : ℕ) (plain balanced : List (Laid LeafElement)) → map face plain ≡ map face balanced
     → own_numbers page_size (cut_of page_size 1 size_of plain) ≡ own_numbers page_size (cut_of page_size 1 size_of balanced)
@@ -24,13 +29,15 @@ own_alike page_size plain balanced same =
     ∙ sym (own_by_faces page_size (cut_of page_size 1 size_of balanced)))
 
 -- So a bucket's root page takes not many more numbers in the plain layout, where its items don't,
-root_larger : (page_size : ℕ) (plain balanced : List (Laid LeafElement)) → 1024 ≤ page_size → AllByRecursion (IsItem page_size) plain → map face plain ≡ map face balanced
+root_larger : (page_size : ℕ) (plain balanced : List (Laid LeafElement)) → 1024 ≤ page_size → AllByRecursion (IsItem page_size) plain
+    → map face plain ≡ map face balanced
     → numbers_of plain ≤ 28 * numbers_of balanced → (root_over Plain page_size plain).numbers ≤ 28 * (root_over Balanced page_size balanced).numbers
 unfolding root_over
 root_larger page_size plain balanced low all same below = grind (arith, all_weaker, plain_most, level_numbers, leaves_numbers, own_alike)
 
 -- and so for a bucket as it is stored,
-stored_larger : (page_size : ℕ) (key : List ℕ) (sequence : ℕ) (inside : Tree) (plain balanced : List (Laid LeafElement)) → is_inline page_size inside plain ≡ is_inline page_size inside balanced
+stored_larger : (page_size : ℕ) (key : List ℕ) (sequence : ℕ) (inside : Tree) (plain balanced : List (Laid LeafElement))
+    → is_inline page_size inside plain ≡ is_inline page_size inside balanced
     → (root_over Plain page_size plain).numbers ≤ 28 * (root_over Balanced page_size balanced).numbers
     → (stored_bucket Plain page_size key sequence inside plain).numbers ≤ 28 * (stored_bucket Balanced page_size key sequence inside balanced).numbers
 stored_larger page_size key sequence inside plain balanced inline larger = grind arith
@@ -48,6 +55,7 @@ items_larger page_size low high (with_bucket key sequence inside after) lengths 
     let stored = stored_larger page_size key sequence inside plain balanced (inline_alike page_size inside) root in
     let rest = items_larger page_size low high after lengths.3 rises.2 in omega arith
 
-pub plain_not_much_larger : (page_size : ℕ) (tree : Tree) → IsPageSize page_size → IsStorable tree → (root_of Plain page_size tree).numbers ≤ 28 * (root_of Balanced page_size tree).numbers
+pub plain_not_much_larger : (page_size : ℕ) (tree : Tree) → IsPageSize page_size → IsStorable tree
+    → (root_of Plain page_size tree).numbers ≤ 28 * (root_of Balanced page_size tree).numbers
 unfolding root_of
 plain_not_much_larger page_size tree size storable = grind (arith, size_bounds, tree_items, items_larger, root_larger, items_alike)

@@ -1,14 +1,17 @@
 -- Bytes of a file are those that are written for the numbers that stand in them.
-use Rattle.std.proofs.Common.{◌≡◌, ◌∙◌, ◌⊎◌, ℕ, zero, suc, ◌+◌, ◌-◌, ◌^◌, ◌<◌, ◌≤◌, ◌==◌, Bool, true, false, cond, List, [], ◌∷◌, ◌++◌, length, drop, take, Option, None, Some, inl, inr, refl, sym, ap, arith, append_assoc}
+use Rattle.std.proofs.Common.{◌≡◌, ◌∙◌, ◌⊎◌, ℕ, zero, suc, ◌+◌, ◌-◌, ◌^◌, ◌<◌, ◌≤◌, ◌==◌, Bool, true, false, cond, List, [], ◌∷◌, ◌++◌, length, drop}
+use Rattle.std.proofs.Common.{take, Option, None, Some, inl, inr, refl, sym, ap, arith, append_assoc}
 use Rattle.std.proofs.Math.Nat.{mod-lt}
 use Rattle.std.proofs.lemmas.Bool.{cases_lt, eqb-true}
 use Rattle.std.proofs.lemmas.List.{append-nil, drop-drop, get_or-take, get_or_past, length-drop, length-take, length-take-le, take-append-drop}
 use Rattle.std.proofs.lemmas.Option.{same_Some}
 use Rattle.std.specs.Int.{byte_at, bytes_low_first}
 use Rattle.std.specs.List.{slice_range}
-use Rattle.byteorder.specs.{Endian.little_from, Endian.little_number, Numbers.length-bytes_low_first, Numbers.little_from-cons, Numbers.little_from-lt, Numbers.little_from-take, Numbers.little_number-reads_back}
+use Rattle.byteorder.specs.{Endian.little_from, Endian.little_number, Numbers.length-bytes_low_first, Numbers.little_from-cons}
+use Rattle.byteorder.specs.{Numbers.little_from-lt, Numbers.little_from-take, Numbers.little_number-reads_back}
 use Rattle.bolt_format.proofs.Exports.{drop_bytes}
-use Rattle.bolt_format.specs.{Bytes.IsBytes, Bytes.number_at, Elements.branch_child, Elements.branch_key_length, Elements.branch_key_start, Elements.element_at}
+use Rattle.bolt_format.specs.{Bytes.IsBytes, Bytes.number_at, Elements.branch_child, Elements.branch_key_length, Elements.branch_key_start}
+use Rattle.bolt_format.specs.{Elements.element_at}
 use Rattle.bolt_format.specs.Elements.{leaf_flags, leaf_key_length, leaf_key_start, leaf_value_length}
 use Rattle.bolt_format.specs.{Encoded.branch_header, Encoded.header_bytes, Encoded.leaf_flag, Encoded.leaf_header, Encoded.number_bytes}
 use Rattle.bolt_format.specs.Headers.{count_field, flags_field, flags_of, id_field, kind_of, overflow_field}
@@ -55,19 +58,22 @@ number_there bytes at n m are end within =
     let small : x < 256 ^ n = little_from-lt 0 n from these in
     let back : little_from 0 n (bytes_low_first 0 n x) ≡ x = rw append-nil at (little_number-reads_back n x [] small) in
     let same : little_from 0 n (take n from) ≡ little_from 0 n (bytes_low_first 0 n x) = little_from-take 0 n n from (omega arith) ∙ sym back in
-    let is : take n from ≡ bytes_low_first 0 n x = one_number n (take n from) (bytes_low_first 0 n x) long (length-bytes_low_first 0 n x) (take_bytes from n these) (number_small 0 n x) same in
+    let is : take n from ≡ bytes_low_first 0 n x =
+    one_number n (take n from) (bytes_low_first 0 n x) long (length-bytes_low_first 0 n x) (take_bytes from n these) (number_small 0 n x) same in
     let behind : drop n from ≡ drop m bytes = drop-drop n at bytes ∙ ap (λ (k : ℕ). drop k bytes) end in
     sym (take-append-drop n from) ∙ ap (λ (xs : List ℕ). xs ++ drop n from) is ∙ ap (λ (xs : List ℕ). bytes_low_first 0 n x ++ xs) behind
 
 -- the same, if the number is known
-known_there : (bytes : List ℕ) (at n m x : ℕ) → IsBytes bytes → at + n ≡ m → m ≤ length bytes → number_at bytes at n ≡ x → drop at bytes ≡ number_bytes n x ++ drop m bytes
+known_there : (bytes : List ℕ) (at n m x : ℕ) → IsBytes bytes → at + n ≡ m → m ≤ length bytes → number_at bytes at n ≡ x
+    → drop at bytes ≡ number_bytes n x ++ drop m bytes
 known_there bytes at n m x are end within is = number_there bytes at n m are end within ∙ ap (λ (k : ℕ). number_bytes n k ++ drop m bytes) is
 
 -- a range of bytes, and what follows it
 pub range_there : (bytes : List ℕ) (a b : ℕ) → a ≤ b → drop a bytes ≡ slice_range bytes a b ++ drop b bytes
 range_there bytes a b h =
     let end : a + (b - a) ≡ b = omega arith in
-    sym (take-append-drop (b - a) (drop a bytes)) ∙ ap (λ (xs : List ℕ). slice_range bytes a b ++ xs) (drop-drop (b - a) a bytes ∙ ap (λ (k : ℕ). drop k bytes) end)
+    sym (take-append-drop (b - a) (drop a bytes))
+    ∙ ap (λ (xs : List ℕ). slice_range bytes a b ++ xs) (drop-drop (b - a) a bytes ∙ ap (λ (k : ℕ). drop k bytes) end)
 
 pub length-range : (bytes : List ℕ) (a b : ℕ) → b ≤ length bytes → length (slice_range bytes a b) ≡ b - a
 length-range bytes a b h = let left = length-drop a bytes in length-take-le (b - a) (drop a bytes) (omega (arith, left))
@@ -102,8 +108,10 @@ header_there bytes is are long known =
     let b = known_there bytes 8 2 10 (flags_of is) are refl (omega arith) (flags_are (flags_field bytes) is known) in
     let c = number_there bytes 10 2 12 are refl (omega arith) in
     let d = number_there bytes 12 4 16 are refl (omega arith) in
-    let all : bytes ≡ number_bytes 8 (id_field bytes) ++ (number_bytes 2 (flags_of is) ++ (number_bytes 2 (count_field bytes) ++ (number_bytes 4 (overflow_field bytes) ++ drop 16 bytes))) =
-    a ∙ ap (λ (xs : List ℕ). number_bytes 8 (id_field bytes) ++ xs) (b ∙ ap (λ (xs : List ℕ). number_bytes 2 (flags_of is) ++ xs) (c ∙ ap (λ (xs : List ℕ). number_bytes 2 (count_field bytes) ++ xs) d)) in
+    let all : bytes ≡ number_bytes 8 (id_field bytes)
+    ++ (number_bytes 2 (flags_of is) ++ (number_bytes 2 (count_field bytes) ++ (number_bytes 4 (overflow_field bytes) ++ drop 16 bytes))) =
+    a ∙ ap (λ (xs : List ℕ). number_bytes 8 (id_field bytes) ++ xs)
+    (b ∙ ap (λ (xs : List ℕ). number_bytes 2 (flags_of is) ++ xs) (c ∙ ap (λ (xs : List ℕ). number_bytes 2 (count_field bytes) ++ xs) d)) in
     simp append_assoc all
 
 -- that of branch element i
@@ -130,6 +138,8 @@ leaf_header_there bytes i is_bucket pos key value are within flags start long mo
     let b = known_there bytes (element_at i + 4) 4 (element_at i + 8) pos are (omega arith) (omega arith) (omega (arith, start)) in
     let c = known_there bytes (element_at i + 8) 4 (element_at i + 12) key are (omega arith) (omega arith) long in
     let d = known_there bytes (element_at i + 12) 4 (element_at (suc i)) value are (omega arith) within more in
-    let all : drop (element_at i) bytes ≡ number_bytes 4 flag ++ (number_bytes 4 pos ++ (number_bytes 4 key ++ (number_bytes 4 value ++ drop (element_at (suc i)) bytes))) =
-    a ∙ ap (λ (xs : List ℕ). number_bytes 4 flag ++ xs) (b ∙ ap (λ (xs : List ℕ). number_bytes 4 pos ++ xs) (c ∙ ap (λ (xs : List ℕ). number_bytes 4 key ++ xs) d)) in
+    let all : drop (element_at i) bytes
+    ≡ number_bytes 4 flag ++ (number_bytes 4 pos ++ (number_bytes 4 key ++ (number_bytes 4 value ++ drop (element_at (suc i)) bytes))) =
+    a ∙ ap (λ (xs : List ℕ). number_bytes 4 flag ++ xs)
+    (b ∙ ap (λ (xs : List ℕ). number_bytes 4 pos ++ xs) (c ∙ ap (λ (xs : List ℕ). number_bytes 4 key ++ xs) d)) in
     simp append_assoc all

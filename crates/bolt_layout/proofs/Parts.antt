@@ -1,7 +1,9 @@
 -- A part of a tree of pages: what is reached passes the tests, and its spans fill a row of page numbers, each once.
 use Rattle.std.proofs.Common.{◌≡◌, ◌∙◌, ℕ, zero, suc, ◌+◌, ◌<◌, ◌≤◌, List, [], ◌∷◌, Option, Some, None, Result, Ok, refl, sym, subst, inl, inr, arith}
-use Rattle.bolt_layout.proofs.Words.{InlinePage, At_inline, At_page, cases_lt, follow, follow_none, inline_finding, Node, node_finding, Nodes, PageSpot, reached, Spot}
-use Rattle.bolt_check.specs.{Nodes.IsInSpan, Ways.Before, Ways.SpanHas, Ways.SpanOf, Findings.IsClaimedBefore, Findings.IsClean, Findings.IsMetaPage, Findings.Passes, Findings.early_finding}
+use Rattle.bolt_layout.proofs.Words.{InlinePage, At_inline, At_page, cases_lt, follow, follow_none, inline_finding, Node, node_finding, Nodes}
+use Rattle.bolt_layout.proofs.Words.{PageSpot, reached, Spot}
+use Rattle.bolt_check.specs.{Nodes.IsInSpan, Ways.Before, Ways.SpanHas, Ways.SpanOf, Findings.IsClaimedBefore, Findings.IsClean, Findings.IsMetaPage}
+use Rattle.bolt_check.specs.{Findings.Passes, Findings.early_finding}
 use Rattle.bolt_check.proofs.Exports.{before_irreflexive}
 
 -- the tests that look at one page alone
@@ -30,7 +32,8 @@ pub none_some : (nodes : Nodes) (way : List ℕ) (t : Spot) → follow nodes Non
 none_some nodes way t h = let e : None ≡ Some t = sym (follow_none nodes way) ∙ h in cc
 
 -- an inline bucket
-inline_nothing : (nodes : Nodes) (host : ℕ) (inner : InlinePage) (way : List ℕ) (n : ℕ) → SpanHas nodes (follow nodes (Some (At_inline host inner)) way) n → ⊥
+inline_nothing : (nodes : Nodes) (host : ℕ) (inner : InlinePage) (way : List ℕ) (n : ℕ)
+    → SpanHas nodes (follow nodes (Some (At_inline host inner)) way) n → ⊥
 inline_nothing nodes host inner [] n s = s
 inline_nothing nodes host inner (i ∷ way) n s = nothing nodes way n s
 
@@ -39,7 +42,8 @@ inline_passes : (nodes : Nodes) (host : ℕ) (inner : InlinePage) → inline_fin
 inline_passes nodes host inner fine [] t e = let same : At_inline host inner ≡ t = cc in subst (IsFine nodes) same fine
 inline_passes nodes host inner fine (i ∷ way) t e = absurd (none_some nodes way t e)
 
-pub part_inline : (nodes : Nodes) (host from to : ℕ) (inner : InlinePage) → from ≡ to → inline_finding host inner.keys ≡ None → IsPart nodes (follow nodes (Some (At_inline host inner))) from to
+pub part_inline : (nodes : Nodes) (host from to : ℕ) (inner : InlinePage) → from ≡ to → inline_finding host inner.keys ≡ None
+    → IsPart nodes (follow nodes (Some (At_inline host inner))) from to
 part_inline nodes host from to inner same fine = grind (arith, inline_passes, inline_nothing)
 
 -- The ways from a row of spots: the number of one, and on from it.
@@ -52,12 +56,14 @@ kids_at nodes (o ∷ os) (suc j ∷ way) = kids_at nodes os (j ∷ way)
 pub no_kids : (nodes : Nodes) (from to : ℕ) → from ≡ to → IsPart nodes (kids_at nodes []) from to
 no_kids nodes from to same = grind arith
 
-kid_way : (nodes : Nodes) (os : List (Option Spot)) (way : List ℕ) (n : ℕ) → SpanHas nodes (kids_at nodes os way) n → (j : ℕ) × (on : List ℕ) × SpanHas nodes (kids_at nodes os (j ∷ on)) n
+kid_way : (nodes : Nodes) (os : List (Option Spot)) (way : List ℕ) (n : ℕ) → SpanHas nodes (kids_at nodes os way) n
+    → (j : ℕ) × (on : List ℕ) × SpanHas nodes (kids_at nodes os (j ∷ on)) n
 kid_way nodes (o ∷ os) (j ∷ way) n s = (j, way, s)
 kid_way nodes os way n s = absurd (grind arith)
 
 -- a part, and then those after it
-module _ (nodes : Nodes) (o : Option Spot) (os : List (Option Spot)) (from mid to : ℕ) (first : IsPart nodes (follow nodes o) from mid) (rest : IsPart nodes (kids_at nodes os) mid to) where
+module _ (nodes : Nodes) (o : Option Spot) (os : List (Option Spot)) (from mid to : ℕ) (first : IsPart nodes (follow nodes o) from mid)
+    (rest : IsPart nodes (kids_at nodes os) mid to) where
   more_passes : (way : List ℕ) (t : Spot) → kids_at nodes (o ∷ os) way ≡ Some t → IsFine nodes t
   more_passes way t e = grind arith
 
@@ -89,7 +95,8 @@ span_here o node number n e h = let k : SpanOf (Ok node) number n = h in subst (
 
 -- a page after the parts that its entries lead to
 module _ (nodes : Nodes) (s : PageSpot) (os : List (Option Spot)) (from : ℕ) (fine : IsFinePage nodes s)
-    (steps : (j : ℕ) (way : List ℕ) → kids_at nodes os (j ∷ way) ≡ follow nodes (Some (At_page s)) (j ∷ way)) (kids : IsPart nodes (kids_at nodes os) from s.number) where
+    (steps : (j : ℕ) (way : List ℕ) → kids_at nodes os (j ∷ way) ≡ follow nodes (Some (At_page s)) (j ∷ way))
+    (kids : IsPart nodes (kids_at nodes os) from s.number) where
   own : (n : ℕ) → SpanHas nodes (Some (At_page s)) n → IsInSpan fine.node s.number n
   own n h = own_span (nodes s.number) fine.node s.number n fine.page h
 
@@ -100,11 +107,13 @@ module _ (nodes : Nodes) (s : PageSpot) (os : List (Option Spot)) (from : ℕ) (
   page_passes [] t e = let same : At_page s ≡ t = cc in subst (IsFine nodes) same fine
   page_passes (j ∷ way) t e = kids.passes (j ∷ way) t (steps j way ∙ e)
 
-  page_inside : (way : List ℕ) (n : ℕ) → SpanHas nodes (follow nodes (Some (At_page s)) way) n → (from ≤ n) × (n < s.number + (1 + fine.node.overflow))
+  page_inside : (way : List ℕ) (n : ℕ) → SpanHas nodes (follow nodes (Some (At_page s)) way) n
+      → (from ≤ n) × (n < s.number + (1 + fine.node.overflow))
   page_inside [] n h = let i = own n h in let a = kids.order in (omega arith, omega arith)
   page_inside (j ∷ way) n h = let i = kids.inside (j ∷ way) n (kid j way n h) in (omega arith, omega arith)
 
-  page_apart : (v w : List ℕ) (n : ℕ) → SpanHas nodes (follow nodes (Some (At_page s)) v) n → SpanHas nodes (follow nodes (Some (At_page s)) w) n → v ≡ w
+  page_apart : (v w : List ℕ) (n : ℕ) → SpanHas nodes (follow nodes (Some (At_page s)) v) n → SpanHas nodes (follow nodes (Some (At_page s)) w) n
+      → v ≡ w
   page_apart [] [] n h k = refl
   page_apart (i ∷ v) (j ∷ w) n h k = kids.apart (i ∷ v) (j ∷ w) n (kid i v n h) (kid j w n k)
   page_apart v w n h k = absurd (grind arith)
@@ -143,5 +152,6 @@ clean_page nodes root from to part above way (At_page s) e =
       content = fine.content;
     }
 
-pub part_clean : (nodes : Nodes) (root from to : ℕ) → IsPart nodes (reached nodes root) from to → 2 ≤ from → IsClean nodes (reached nodes root) IsMetaPage
+pub part_clean : (nodes : Nodes) (root from to : ℕ) → IsPart nodes (reached nodes root) from to → 2 ≤ from
+    → IsClean nodes (reached nodes root) IsMetaPage
 part_clean nodes root from to part above = record { passes = clean_page nodes root from to part above }

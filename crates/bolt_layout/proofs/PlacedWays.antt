@@ -44,7 +44,8 @@ module _ (nodes : Nodes) (reach : List ℕ → Option Spot) (from to : ℕ) (par
   Ends start = (way : List ℕ) (t : PageSpot) (n : ℕ) → IsCovering nodes reach way t n → t.number < start → n < start
 
   -- so a way leads to the page that begins here
-  begins : (start : ℕ) → from ≤ start → start < to → Ends start → (way : List ℕ) × (t : PageSpot) × IsCovering nodes reach way t start × (t.number ≡ start)
+  begins : (start : ℕ) → from ≤ start → start < to → Ends start
+      → (way : List ℕ) × (t : PageSpot) × IsCovering nodes reach way t start × (t.number ≡ start)
   begins start low high ends =
       let (way, t, c) = covered start low high in
       let bounds = c.within in
@@ -53,13 +54,16 @@ module _ (nodes : Nodes) (reach : List ℕ → Option Spot) (from to : ℕ) (par
         | inr more ↦ (way, t, c, omega (arith, more, bounds.0))
       ]
 
-  module _ (start : ℕ) (p : Placed) (here : p.number ≡ start) (shown : nodes p.number ≡ node_of p.view.kind p.view) (low : from ≤ start) (high : start < to) (ends : Ends start) where
+  module _ (start : ℕ) (p : Placed) (here : p.number ≡ start) (shown : nodes p.number ≡ node_of p.view.kind p.view) (low : from ≤ start) (high : start < to)
+      (ends : Ends start) where
     -- a page that begins in the span of this one is this one
-    inside_is : (way : List ℕ) (t : PageSpot) → reach way ≡ Some (At_page t) → start ≤ t.number → t.number ≤ start + p.view.overflow → t.number ≡ start
+    inside_is : (way : List ℕ) (t : PageSpot) → reach way ≡ Some (At_page t) → start ≤ t.number → t.number ≤ start + p.view.overflow
+        → t.number ≡ start
     inside_is way t led more less =
         let (v, s, c, same) = begins start low high ends in
         let long : c.node.overflow ≡ p.view.overflow = overflow_same p.view.kind p.view c.node (sym shown ∙ (ap nodes (here ∙ sym same) ∙ c.page)) in
-        let cover : IsCovering nodes reach v s t.number = record { led = c.led; node = c.node; page = c.page; within = (omega (arith, same, more), omega (arith, same, long, less)) } in
+        let cover : IsCovering nodes reach v s t.number =
+        record { led = c.led; node = c.node; page = c.page; within = (omega (arith, same, more), omega (arith, same, long, less)) } in
         sym (ap (λ (x : PageSpot). x.number) (one_cover v way s t t.number cover (own_cover way t led))) ∙ same
 
     next_ends : Ends (start + (1 + p.view.overflow))
@@ -80,12 +84,16 @@ module _ (nodes : Nodes) (reach : List ℕ → Option Spot) (from to : ℕ) (par
       let h = below way t t.number (own_cover way t led) in
       let high : start < to = omega (arith, h, more) in
       elim (cases_lt (start + p.view.overflow) t.number) [
-        | inl after ↦ inr (walk (start + (1 + p.view.overflow)) pages (omega (arith, low)) row.1 shown.1 (next_ends start p row.0 shown.0 low high ends) way t led (omega (arith, after)))
+        | inl after ↦
+            inr (walk (start + (1 + p.view.overflow)) pages (omega (arith, low)) row.1 shown.1 (next_ends start p row.0 shown.0 low high ends) way t led
+            (omega (arith, after)))
         | inr inside ↦ inl (row.0 ∙ sym (inside_is start p row.0 shown.0 low high ends way t led more inside))
       ]
 
-  pub placed_way : (pages : List Placed) → IsInARow from pages to → AreNodes nodes pages → (way : List ℕ) (t : PageSpot) → reach way ≡ Some (At_page t) → IsPlaced pages t.number
+  pub placed_way : (pages : List Placed) → IsInARow from pages to → AreNodes nodes pages → (way : List ℕ) (t : PageSpot)
+      → reach way ≡ Some (At_page t) → IsPlaced pages t.number
   placed_way pages row shown way t led =
       let low = (part.inside way t.number (span_of way t t.number (own_cover way t led))).0 in
       walk from pages (omega arith) row shown
-      (λ way t n c less. let first = (part.inside way t.number (span_of way t t.number (own_cover way t c.led))).0 in absurd (omega (arith, first, less))) way t led low
+      (λ way t n c less. let first = (part.inside way t.number (span_of way t t.number (own_cover way t c.led))).0 in absurd (omega (arith, first, less)))
+      way t led low

@@ -2,10 +2,13 @@
 -- A level of branches takes no more than its pages and the weights of the level below. The weights don't rise from level to level, and the
 -- number of pages halves. A page weighs less than 2^21: so the weights of 21 levels are counted in full, and above these the pages alone.
 use Rattle.std.proofs.Common.{◌≡◌, ℕ, zero, suc, ◌+◌, ◌-◌, ◌*◌, ◌/◌, ◌<◌, ◌≤◌, List, [], ◌∷◌, length, map, flat_map, sym, ap, subst, arith}
-use Rattle.bolt_layout.proofs.Words.{AllByRecursion, branch_page_view, BranchElement, cut_of, div-lt_iff_lt-mul, IsDivided, IsPageRun, Laid, leaf_level, leaf_page_view, LeafElement, length-map, mul-le-mul_left, mul-le-mul_right, next_level, numbers_of, page_over, PageView, Plain, root_over, size_of, top_in}
+use Rattle.bolt_layout.proofs.Words.{AllByRecursion, branch_page_view, BranchElement, cut_of, div-lt_iff_lt-mul, IsDivided, IsPageRun, Laid}
+use Rattle.bolt_layout.proofs.Words.{leaf_level, leaf_page_view, LeafElement, length-map, mul-le-mul_left, mul-le-mul_right, next_level, numbers_of}
+use Rattle.bolt_layout.proofs.Words.{page_over, PageView, Plain, root_over, size_of, top_in}
 use Rattle.bolt_layout.proofs.{Cutting.branches_divide, Cutting.branches_halve, Cutting.cut_divides, LastItem.HasItem}
 use Rattle.bolt_layout.proofs.{ListLemmas.all_split, ListLemmas.all_weaker, OverRows.HasShortKey, OverRows.runs_some}
-use Rattle.bolt_layout.proofs.Weights.{HasKeyRoom, IsLight, level_light, level_numbers_are, level_weights, own_numbers, own_weight, own_weights, weight, weights, weights_count, weights_light}
+use Rattle.bolt_layout.proofs.Weights.{HasKeyRoom, IsLight, level_light, level_numbers_are, level_weights, own_numbers, own_weight, own_weights}
+use Rattle.bolt_layout.proofs.Weights.{weight, weights, weights_count, weights_light}
 
 -- twice as much, so many times
 abbrev doubled : (times n : ℕ) → ℕ
@@ -13,11 +16,13 @@ doubled zero n = n
 doubled (suc times) n = doubled times (2 * n)
 
 -- the runs of a divided row have items
-runs_have : {X : Type 0} (page_size wide extra : ℕ) (size : X → ℕ) (runs : List (List X)) → AllByRecursion (IsPageRun page_size wide extra size) runs → AllByRecursion HasItem runs
+runs_have : {X : Type 0} (page_size wide extra : ℕ) (size : X → ℕ) (runs : List (List X)) → AllByRecursion (IsPageRun page_size wide extra size) runs
+    → AllByRecursion HasItem runs
 runs_have page_size wide extra size runs each = all_weaker (IsPageRun page_size wide extra size) HasItem (λ run is. is.some) runs each
 
 -- a page's item has its header and its key
-rooms_kept : {E : Type 0} (view : ℕ → List E → PageView) (page_size : ℕ) (runs : List (List (Laid E))) → AllByRecursion HasKeyRoom (map (page_over view page_size) runs)
+rooms_kept : {E : Type 0} (view : ℕ → List E → PageView) (page_size : ℕ) (runs : List (List (Laid E)))
+    → AllByRecursion HasKeyRoom (map (page_over view page_size) runs)
 rooms_kept view page_size [] = tt
 rooms_kept view page_size (run ∷ runs) = (omega arith, rooms_kept view page_size runs)
 
@@ -47,7 +52,8 @@ record IsNext (page_size most more : ℕ) (pages next : List (Laid BranchElement
   rooms : AllByRecursion HasKeyRoom next
   light : AllByRecursion (IsLight page_size most) next
 
-next_is : (page_size most more : ℕ) (pages : List (Laid BranchElement)) → 16 ≤ page_size → AllByRecursion HasKeyRoom pages → AllByRecursion (IsLight page_size most) pages
+next_is : (page_size most more : ℕ) (pages : List (Laid BranchElement)) → 16 ≤ page_size → AllByRecursion HasKeyRoom pages
+    → AllByRecursion (IsLight page_size most) pages
     → length pages ≡ suc more → 1 ≤ more → IsNext page_size most more pages (next_level Plain page_size pages)
 next_is page_size most more pages low rooms light count some =
     let runs : List (List (Laid BranchElement)) = cut_of page_size 2 size_of pages in
@@ -76,8 +82,10 @@ next_is page_size most more pages low rooms light count some =
     }
 
 -- So the top of a level takes no more than the level and that.
-top_most : (page_size most steps times n more : ℕ) (level : List (Laid BranchElement)) → 16 ≤ page_size → AllByRecursion HasKeyRoom level → AllByRecursion (IsLight page_size most) level
-    → most ≤ doubled times n → length level ≡ suc more → (top_in Plain steps page_size level).numbers ≤ numbers_of level + branches_most times n more (weights page_size level)
+top_most : (page_size most steps times n more : ℕ) (level : List (Laid BranchElement)) → 16 ≤ page_size → AllByRecursion HasKeyRoom level
+    → AllByRecursion (IsLight page_size most) level
+    → most ≤ doubled times n → length level ≡ suc more
+    → (top_in Plain steps page_size level).numbers ≤ numbers_of level + branches_most times n more (weights page_size level)
 top_most page_size most (suc steps) zero n more (page ∷ other ∷ level) low rooms light enough count =
     let pages : List (Laid BranchElement) = page ∷ other ∷ level in
     let is : IsNext page_size most more pages (next_level Plain page_size pages) = next_is page_size most more pages low rooms light count (omega arith) in
@@ -85,34 +93,41 @@ top_most page_size most (suc steps) zero n more (page ∷ other ∷ level) low r
     let heavy = weights_light page_size most pages light in
     let all : most * length pages ≤ n * length pages = mul-le-mul_right (length pages) enough in
     let all2 : n * length pages ≡ n * suc more = ap (λ (x : ℕ). n * x) count in
-    let last = level_last n more is.fewer (weights page_size (next_level Plain page_size pages)) (weights page_size pages) is.own is.half (omega arith) (omega arith) is.small in
+    let last =
+    level_last n more is.fewer (weights page_size (next_level Plain page_size pages)) (weights page_size pages) is.own is.half (omega arith)
+    (omega arith) is.small in
     omega arith
 top_most page_size most (suc steps) (suc times) n more (page ∷ other ∷ level) low rooms light enough count =
     let pages : List (Laid BranchElement) = page ∷ other ∷ level in
     let is : IsNext page_size most more pages (next_level Plain page_size pages) = next_is page_size most more pages low rooms light count (omega arith) in
     let ih = top_most page_size most steps times (2 * n) is.fewer (next_level Plain page_size pages) low is.rooms is.light enough is.count in
-    let less = level_less times n more is.fewer (weights page_size (next_level Plain page_size pages)) (weights page_size pages) is.own is.half is.less is.small in
+    let less =
+    level_less times n more is.fewer (weights page_size (next_level Plain page_size pages)) (weights page_size pages) is.own is.half is.less is.small in
     omega arith
 top_most page_size most steps times n more level low rooms light enough count = grind arith
 
 -- Leaves weigh no more than keys of 2^30 bytes do at the least page size.
-leaves_light : (page_size : ℕ) (runs : List (List (Laid LeafElement))) → 1024 ≤ page_size → AllByRecursion HasItem runs → AllByRecursion HasShortKey (flat_map (λ run. run) runs)
+leaves_light : (page_size : ℕ) (runs : List (List (Laid LeafElement))) → 1024 ≤ page_size → AllByRecursion HasItem runs
+    → AllByRecursion HasShortKey (flat_map (λ run. run) runs)
     → AllByRecursion (IsLight page_size 1048577) (map (page_over leaf_page_view page_size) runs)
 leaves_light page_size ((first ∷ run) ∷ runs) low some short =
     let both = all_split HasShortKey (first ∷ run) (flat_map (λ run. run) runs) short in
-    let below : (16 + length first.key) / page_size < 1048577 = (div-lt_iff_lt-mul {k = page_size} {x = 16 + length first.key} {y = 1048577} (omega arith)).1 (omega arith) in
+    let below : (16 + length first.key) / page_size < 1048577 =
+    (div-lt_iff_lt-mul {k = page_size} {x = 16 + length first.key} {y = 1048577} (omega arith)).1 (omega arith) in
     (omega arith, leaves_light page_size runs low some.1 both.1)
 leaves_light page_size runs low some short = grind arith
 
 -- The leaves take the numbers below their items and their own,
-pub leaves_numbers : (page_size : ℕ) (items : List (Laid LeafElement)) → numbers_of (leaf_level page_size items) ≡ numbers_of items + own_numbers page_size (cut_of page_size 1 size_of items)
+pub leaves_numbers : (page_size : ℕ) (items : List (Laid LeafElement))
+    → numbers_of (leaf_level page_size items) ≡ numbers_of items + own_numbers page_size (cut_of page_size 1 size_of items)
 leaves_numbers page_size items =
     let runs = cut_of page_size 1 size_of items in
     let divided : IsDivided page_size 1 0 size_of items runs = cut_divides page_size 1 1 0 size_of items (omega arith) (omega arith) (omega arith) in
     grind (arith, level_numbers_are)
 
 -- and the root page of the bucket not many more.
-pub plain_most : (page_size : ℕ) (items : List (Laid LeafElement)) → 1024 ≤ page_size → AllByRecursion HasKeyRoom items → AllByRecursion HasShortKey items → 1 ≤ length items
+pub plain_most : (page_size : ℕ) (items : List (Laid LeafElement)) → 1024 ≤ page_size → AllByRecursion HasKeyRoom items
+    → AllByRecursion HasShortKey items → 1 ≤ length items
     → (root_over Plain page_size items).numbers ≤ numbers_of items + 28 * own_numbers page_size (cut_of page_size 1 size_of items)
 unfolding root_over
 plain_most page_size items low rooms short some =
@@ -125,5 +140,7 @@ plain_most page_size items low rooms short some =
     let any = runs_some runs items divided.whole some in
     let same = length-map runs (page_over leaf_page_view page_size) in
     let light = leaves_light page_size runs low have short2 in
-    let top = top_most page_size 1048577 (length level) 21 1 (length level - 1) level (omega arith) (rooms_kept leaf_page_view page_size runs) light (omega arith) (omega arith) in
+    let top =
+    top_most page_size 1048577 (length level) 21 1 (length level - 1) level (omega arith) (rooms_kept leaf_page_view page_size runs) light (omega arith)
+    (omega arith) in
     grind (arith, leaves_numbers, own_weights, weights_count)

@@ -1,9 +1,11 @@
 -- The plain layout needs no limits in any of its buckets.
 use Rattle.bolt_layout.proofs.LimitedRows.{left_free}
 use Rattle.std.proofs.Common.{◌≡◌, ◌+◌, ℕ, suc, List, Option, None, arith}
-use Rattle.bolt_layout.proofs.Words.{AreRight, BranchElement, end, HaveRightLimits, items_of, Laid, leaf_pages, opened_by, Plain, Tree, with_bucket, with_value}
+use Rattle.bolt_layout.proofs.Words.{AreRight, BranchElement, end, HaveRightLimits, items_of, Laid, leaf_pages, opened_by, Plain, Tree, with_bucket}
+use Rattle.bolt_layout.proofs.Words.{with_value}
 
-pub plain_rows : (page_size : ℕ) (limits : ℕ → ℕ → Option ℕ) → ((bucket level : ℕ) → limits bucket level ≡ None) → (bucket : ℕ) (pages : List (Laid BranchElement))
+pub plain_rows : (page_size : ℕ) (limits : ℕ → ℕ → Option ℕ) → ((bucket level : ℕ) → limits bucket level ≡ None)
+    → (bucket : ℕ) (pages : List (Laid BranchElement))
     → HaveRightLimits Plain page_size (limits bucket) pages
 plain_rows page_size limits none bucket pages k = grind (arith, left_free)
 

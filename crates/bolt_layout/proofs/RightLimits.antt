@@ -1,10 +1,15 @@
 -- The limits that follow from what is noted of the plain rows are those of the balanced ones. For this the keys and sizes of the pages are
 -- compared, row by row.
 use Rattle.std.proofs.{lemmas.Grind.common_steps, lemmas.Bool.and_cases, lemmas.Bool.eqb-false, lemmas.Bool.eqb-true}
-use Rattle.std.proofs.Common.{◌≡◌, ◌≢◌, ◌∙◌, ◌⊎◌, ◌++◌, ◌-◌, ◌≤◌, ◌==◌, ◌&&◌, ℕ, zero, suc, nat_lt, Bool, true, false, List, [], ◌∷◌, length, map, Option, Some, None, refl, sym, ap, subst, inl, inr, arith}
-use Rattle.bolt_layout.proofs.Words.{AllByRecursion, and_parts, AreRowEnds, Balanced, branch_cut, BranchElement, cases_Bool, cut_of, cut_row, HaveRightLimits, IsPageRun, join_last, Laid, last_length, length-map, length_push, limit_at, limits_from_ends, ltb-false, ltb-true, map-append, ne_eqb, next_level, Plain, size_of}
-use Rattle.bolt_layout.proofs.{Cutting.cut_divides, Faces.Face, Faces.face, Faces.face_size, Faces.map_cut, Faces.map_last, Faces.next_faces, Faces.top_face}
-use Rattle.bolt_layout.proofs.LastItem.{HasItem, IsPushed, cut_pushed, join_none, join_tops, last_append, last_some, push_counts, push_last, push_tops, some_runs}
+use Rattle.std.proofs.Common.{◌≡◌, ◌≢◌, ◌∙◌, ◌⊎◌, ◌++◌, ◌-◌, ◌≤◌, ◌==◌, ◌&&◌, ℕ, zero, suc, nat_lt, Bool, true, false, List, [], ◌∷◌, length, map}
+use Rattle.std.proofs.Common.{Option, Some, None, refl, sym, ap, subst, inl, inr, arith}
+use Rattle.bolt_layout.proofs.Words.{AllByRecursion, and_parts, AreRowEnds, Balanced, branch_cut, BranchElement, cases_Bool, cut_of, cut_row}
+use Rattle.bolt_layout.proofs.Words.{HaveRightLimits, IsPageRun, join_last, Laid, last_length, length-map, length_push, limit_at, limits_from_ends}
+use Rattle.bolt_layout.proofs.Words.{ltb-false, ltb-true, map-append, ne_eqb, next_level, Plain, size_of}
+use Rattle.bolt_layout.proofs.{Cutting.cut_divides, Faces.Face, Faces.face, Faces.face_size, Faces.map_cut, Faces.map_last, Faces.next_faces}
+use Rattle.bolt_layout.proofs.{Faces.top_face}
+use Rattle.bolt_layout.proofs.LastItem.{HasItem, IsPushed, cut_pushed, join_none, join_tops, last_append, last_some, push_counts, push_last}
+use Rattle.bolt_layout.proofs.LastItem.{push_tops, some_runs}
 use Rattle.bolt_layout.proofs.{ListLemmas.all_weaker, LimitedRows.IsLimit, LimitedRows.row_limited}
 use Rattle.bolt_layout.specs.Limits.{level_up}
 
@@ -111,7 +116,8 @@ limit_of_row page_size lost row plain balanced same two r m = grind (arith, face
 next_short : (page_size : ℕ) (pages : List (Laid BranchElement)) → length pages ≤ 1 → length (next_level Balanced page_size pages) ≤ 1
 next_short page_size pages few = grind (arith, common_steps)
 
-short_row : (page_size : ℕ) (pages : List (Laid BranchElement)) → length pages ≤ 1 → cut_row page_size size_of None pages ≡ branch_cut Balanced page_size size_of pages
+short_row : (page_size : ℕ) (pages : List (Laid BranchElement)) → length pages ≤ 1
+    → cut_row page_size size_of None pages ≡ branch_cut Balanced page_size size_of pages
 short_row page_size pages few = grind (arith, common_steps)
 
 short_rows : (page_size k : ℕ) (pages : List (Laid BranchElement)) → length pages ≤ 1
@@ -132,7 +138,8 @@ face_cut page_size pages =
 
 rows_at : (page_size : ℕ) (limits : List (Option ℕ)) (limit : Option ℕ) (pages : List (Laid BranchElement))
     → cut_row page_size size_of limit pages ≡ branch_cut Balanced page_size size_of pages
-    → HaveRightLimits Balanced page_size (limit_at limits) (next_level Balanced page_size pages) → HaveRightLimits Balanced page_size (limit_at (limit ∷ limits)) pages
+    → HaveRightLimits Balanced page_size (limit_at limits) (next_level Balanced page_size pages)
+    → HaveRightLimits Balanced page_size (limit_at (limit ∷ limits)) pages
 rows_at page_size limits limit pages first above k = grind arith
 
 rows_limited : (page_size : ℕ) (rows : List (ℕ × ℕ)) (lost : Bool) (plain balanced : List (Laid BranchElement)) → AreRowEnds page_size plain rows
@@ -145,13 +152,15 @@ rows_limited page_size (row ∷ rows) lost plain balanced (two, r, m, noted) lac
     let is = limit_of_row page_size lost row (map face plain) (map face balanced) lacks (omega arith) (r ∙ of_plain.0) (m ∙ of_plain.1) in
     let above : Lost is.next (map face (next_level Plain page_size plain)) (map face (next_level Balanced page_size balanced)) =
     subst (λ (fs : List Face). Lost is.next fs (map face (next_level Balanced page_size balanced))) (sym (next_faces Plain page_size plain))
-    (subst (λ (fs : List Face). Lost is.next (map top_face (cut_of page_size 2 face_size (map face plain))) fs) (sym (next_faces Balanced page_size balanced)) is.above_lost) in
+    (subst (λ (fs : List Face). Lost is.next (map top_face (cut_of page_size 2 face_size (map face plain))) fs)
+    (sym (next_faces Balanced page_size balanced)) is.above_lost) in
     let right : IsLimit (length (cut_of page_size 2 size_of balanced)) (last_length (cut_of page_size 2 size_of balanced)) is.limit =
     rw (of_balanced.0, of_balanced.1) is.right in
     rw (is.noted rows) (rows_at page_size (limits_from_ends is.next rows) is.limit balanced (row_limited page_size size_of is.limit balanced right)
     (rows_limited page_size rows is.next (next_level Plain page_size plain) (next_level Balanced page_size balanced) noted above) k)
 
 -- They are right for each row of pages with the same keys and sizes,
-pub limits_alike : (page_size : ℕ) (plain balanced : List (Laid BranchElement)) (rows : List (ℕ × ℕ)) → AreRowEnds page_size plain rows → map face plain ≡ map face balanced
+pub limits_alike : (page_size : ℕ) (plain balanced : List (Laid BranchElement)) (rows : List (ℕ × ℕ)) → AreRowEnds page_size plain rows
+    → map face plain ≡ map face balanced
     → HaveRightLimits Balanced page_size (limit_at (limits_from_ends false rows)) balanced
 limits_alike page_size plain balanced rows noted same = rows_limited page_size rows false plain balanced noted same

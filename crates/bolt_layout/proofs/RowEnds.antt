@@ -3,7 +3,8 @@ use Rattle.std.proofs.Common.{◌≡◌, ◌≤◌, ℕ, suc, List, [], ◌∷�
 use Rattle.bolt_layout.proofs.{Words.AreRowEnds, Words.BranchElement, Words.Laid, Words.next_level, Words.Plain, Words.row_ends_of, Tops.shorter}
 use Rattle.bolt_layout.specs.Openings.{row_ends}
 
-steps_to_ends : (steps page_size : ℕ) (pages : List (Laid BranchElement)) → length pages ≤ suc steps → AreRowEnds page_size pages (row_ends steps page_size pages)
+steps_to_ends : (steps page_size : ℕ) (pages : List (Laid BranchElement)) → length pages ≤ suc steps
+    → AreRowEnds page_size pages (row_ends steps page_size pages)
 steps_to_ends (suc steps) page_size (page ∷ other ∷ pages) fuel =
     let less = shorter Plain page_size (page ∷ other ∷ pages) (omega arith) in
     (omega arith, refl, refl, steps_to_ends steps page_size (next_level Plain page_size (page ∷ other ∷ pages)) (omega arith))
@@ -12,7 +13,8 @@ steps_to_ends steps page_size pages fuel = grind arith
 pub row_ends_are : (page_size : ℕ) (pages : List (Laid BranchElement)) → AreRowEnds page_size pages (row_ends_of page_size pages)
 row_ends_are page_size pages = steps_to_ends (length pages) page_size pages (omega arith)
 
-steps_one : (steps page_size : ℕ) (pages : List (Laid BranchElement)) (rows : List (ℕ × ℕ)) → length pages ≤ suc steps → AreRowEnds page_size pages rows
+steps_one : (steps page_size : ℕ) (pages : List (Laid BranchElement)) (rows : List (ℕ × ℕ)) → length pages ≤ suc steps
+    → AreRowEnds page_size pages rows
     → rows ≡ row_ends steps page_size pages
 steps_one steps page_size [] [] fuel noted = refl
 steps_one steps page_size (page ∷ []) [] fuel noted = refl
@@ -23,5 +25,6 @@ steps_one (suc steps) page_size (page ∷ other ∷ pages) ((runs, last) ∷ row
     grind arith
 steps_one steps page_size pages rows fuel noted = absurd (grind arith)
 
-pub row_ends_are_one : (page_size : ℕ) (pages : List (Laid BranchElement)) (rows : List (ℕ × ℕ)) → AreRowEnds page_size pages rows → rows ≡ row_ends_of page_size pages
+pub row_ends_are_one : (page_size : ℕ) (pages : List (Laid BranchElement)) (rows : List (ℕ × ℕ)) → AreRowEnds page_size pages rows
+    → rows ≡ row_ends_of page_size pages
 row_ends_are_one page_size pages rows noted = steps_one (length pages) page_size pages rows (omega arith) noted

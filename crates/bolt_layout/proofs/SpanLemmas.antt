@@ -1,7 +1,12 @@
 -- A page that was written at its place in a file shows what was written.
-use Rattle.std.proofs.Common.{◌≡◌, ◌∙◌, ℕ, ◌+◌, ◌-◌, ◌*◌, ◌^◌, ◌<◌, ◌≤◌, ◌==◌, is_some, nat_lt, nat_le, true, false, List, [], ◌++◌, length, drop, replicate, Option, Some, None, refl, sym, ap, arith, append_assoc}
+use Rattle.std.proofs.Common.{◌≡◌, ◌∙◌, ℕ, ◌+◌, ◌-◌, ◌*◌, ◌^◌, ◌<◌, ◌≤◌, ◌==◌, is_some, nat_lt, nat_le, true, false, List, [], ◌++◌, length, drop}
+use Rattle.std.proofs.Common.{replicate, Option, Some, None, refl, sym, ap, arith, append_assoc}
 use Rattle.std.proofs.{lemmas.Bool.lt-leb, lemmas.List.drop_at}
-use Rattle.bolt_layout.proofs.Words.{add-mul, AllByRecursion, append-nil, branch_bytes, branch_data, branch_headers, branch_page_view, BranchElement, count_field, eq-eqb, first_of-both, flags_field, freelist_page, header_bytes, header_written, IsHeaderFit, Kind, le-ltb, leaf_bytes, leaf_data, leaf_headers, leaf_page_view, LeafElement, length-append, length-header_bytes, length-replicate, Meta, page_at, page_bytes, page_fault, PageView, part_read, part_within, span_fault, value_fault}
+use Rattle.bolt_layout.proofs.Words.{add-mul, AllByRecursion, append-nil, branch_bytes, branch_data, branch_headers, branch_page_view, BranchElement}
+use Rattle.bolt_layout.proofs.Words.{count_field, eq-eqb, first_of-both, flags_field, freelist_page, header_bytes, header_written, IsHeaderFit, Kind}
+use Rattle.bolt_layout.proofs.Words.{le-ltb, leaf_bytes, leaf_data, leaf_headers, leaf_page_view, LeafElement, length-append, length-header_bytes}
+use Rattle.bolt_layout.proofs.Words.{length-replicate, Meta, page_at, page_bytes, page_fault, PageView, part_read, part_within, span_fault}
+use Rattle.bolt_layout.proofs.Words.{value_fault}
 use Rattle.bolt_layout.proofs.LeafLemmas.{IsLeafFit, leaves_written, length-leaf_headers}
 use Rattle.bolt_layout.proofs.BranchLemmas.{IsBranchFit, branches_written, length-branch_headers}
 use Rattle.bolt_format.specs.Gaps.{gap_of_kind, page_gap}
@@ -34,7 +39,8 @@ span_written file meta id is n more content rest h room fit below within =
     let zeros : List ℕ = replicate ((1 + more) * size - length (header_bytes id is n more ++ content)) 0 in
     let written : List ℕ = filled ((1 + more) * size) (header_bytes id is n more ++ content) in
     let l = length-header_bytes id is n more in
-    let content_long : length (header_bytes id is n more ++ content) ≡ 16 + length content = length-append (header_bytes id is n more) content ∙ omega (arith, l) in
+    let content_long : length (header_bytes id is n more ++ content) ≡ 16 + length content =
+    length-append (header_bytes id is n more) content ∙ omega (arith, l) in
     let long : length written ≡ (1 + more) * size = length-filled ((1 + more) * size) (header_bytes id is n more ++ content) (omega arith) in
     let here : from_page file meta id ≡ header_bytes id is n more ++ (content ++ (zeros ++ rest)) =
     h ∙ (append_assoc (header_bytes id is n more ++ content) zeros rest ∙ append_assoc (header_bytes id is n more) content (zeros ++ rest)) in
@@ -52,13 +58,16 @@ span_written file meta id is n more content rest h room fit below within =
     let kind_is = header.kind in
     let t4 : is_some (kind_of (flags_field (from_page file meta id))) ≡ true = ap (λ (o : Option Kind). is_some o) kind_is in
     let t5 : nat_le meta.high_water (id + page_overflow file meta id) ≡ false = lt-leb meta.high_water (id + page_overflow file meta id) (omega arith) in
-    let t6 : nat_lt (length file) ((id + 1 + page_overflow file meta id) * size) ≡ false = le-ltb (length file) ((id + 1 + page_overflow file meta id) * size) (omega arith) in
+    let t6 : nat_lt (length file) ((id + 1 + page_overflow file meta id) * size) ≡ false =
+    le-ltb (length file) ((id + 1 + page_overflow file meta id) * size) (omega arith) in
     record {
       fault = rw (t1, t2, t3, t4, t5, t6) refl;
       kind = kind_is;
       count = header.count;
       overflow = same;
-      behind = ap (λ (xs : List ℕ). drop 16 xs) (span ∙ append_assoc (header_bytes id is n more) content zeros) ∙ drop_at (header_bytes id is n more) (content ++ zeros) 16 l;
+      behind =
+          ap (λ (xs : List ℕ). drop 16 xs) (span ∙ append_assoc (header_bytes id is n more) content zeros)
+          ∙ drop_at (header_bytes id is n more) (content ++ zeros) 16 l;
       long = ap (λ (xs : List ℕ). length xs) span ∙ long;
       end = omega arith;
     }
@@ -70,11 +79,13 @@ pub record IsShown (file : List ℕ) (meta : Meta) (id : ℕ) (view : PageView) 
   pub whole : page_gap file meta id ≡ None
 
 -- with the elements of its kind
-shown_with : (file : List ℕ) (meta : Meta) (id n more : ℕ) (is : Kind) (content rest : List ℕ) (view : PageView) → IsSpanRead file meta id is n more content rest
+shown_with : (file : List ℕ) (meta : Meta) (id n more : ℕ) (is : Kind) (content rest : List ℕ) (view : PageView)
+    → IsSpanRead file meta id is n more content rest
     → content_fault is n (span_bytes file meta id) ≡ None → view_of is n more (span_bytes file meta id) ≡ view
     → gap_of_kind (Some is) n (span_bytes file meta id) ≡ None → IsShown file meta id view
 unfolding page_fault page_at page_gap
-shown_with file meta id n more is content rest view span good same no_gap = record { passes = grind arith; shows = grind arith; whole = rw (span.kind, span.count) no_gap }
+shown_with file meta id n more is content rest view span good same no_gap =
+    record { passes = grind arith; shows = grind arith; whole = rw (span.kind, span.count) no_gap }
 
 -- what a page needs to be written: its number and its overflow have room, and it stands in the file and below the mark
 pub record IsPlaceFit (file : List ℕ) (meta : Meta) (id more : ℕ) : Type 0 where
@@ -123,7 +134,8 @@ branch_shown file meta id more es rest h place few room small fits =
     let fit : IsHeaderFit id (length es) more = record { id = place.number; count = few; overflow = place.further } in
     let span = span_written file meta id kind.Branch (length es) more (branch_bytes es) rest h (omega arith) fit place.below place.within in
     let written = branches_written (span_bytes file meta id) es _ span.behind (omega arith) fits small in
-    shown_with file meta id (length es) more kind.Branch (branch_bytes es) _ (branch_page_view more es) span written.1 (ap (branch_view_of more es) written.0) written.2
+    shown_with file meta id (length es) more kind.Branch (branch_bytes es) _ (branch_page_view more es) span written.1
+    (ap (branch_view_of more es) written.0) written.2
 
 -- the freelist without ids
 pub record IsEmptyFreelist (file : List ℕ) (meta : Meta) (id : ℕ) : Type 0 where
@@ -131,14 +143,16 @@ pub record IsEmptyFreelist (file : List ℕ) (meta : Meta) (id : ℕ) : Type 0 w
   pub alone : page_overflow file meta id ≡ 0
   pub empty : free_ids_at file meta id ≡ []
 
-pub freelist_shown : (file : List ℕ) (meta : Meta) (id : ℕ) (rest : List ℕ) → drop (id * meta.page_size) file ≡ freelist_page meta.page_size id ++ rest
+pub freelist_shown : (file : List ℕ) (meta : Meta) (id : ℕ) (rest : List ℕ)
+    → drop (id * meta.page_size) file ≡ freelist_page meta.page_size id ++ rest
     → IsPlaceFit file meta id 0 → 16 ≤ meta.page_size → IsEmptyFreelist file meta id
 unfolding freelist_page freelist_fault ids_fault free_ids_at
 freelist_shown file meta id rest h place room =
     let size : ℕ = meta.page_size in
     let one : (1 + 0) * size ≡ size = omega arith in
     let written : drop (id * size) file ≡ filled ((1 + 0) * size) (header_bytes id kind.Freelist 0 0 ++ []) ++ rest =
-    h ∙ ap (λ (xs : List ℕ). filled size xs ++ rest) (sym (append-nil (header_bytes id kind.Freelist 0 0))) ∙ ap (λ (n : ℕ). filled n (header_bytes id kind.Freelist 0 0 ++ []) ++ rest) (sym one) in
+    h ∙ ap (λ (xs : List ℕ). filled size xs ++ rest) (sym (append-nil (header_bytes id kind.Freelist 0 0)))
+    ∙ ap (λ (n : ℕ). filled n (header_bytes id kind.Freelist 0 0 ++ []) ++ rest) (sym one) in
     let fit : IsHeaderFit id 0 0 = record { id = place.number; count = omega arith; overflow = omega arith } in
     let span = span_written file meta id kind.Freelist 0 0 [] rest written (omega arith) fit place.below place.within in
     grind (arith, first_of-both)

@@ -1,7 +1,10 @@
 -- No branch page of a balanced layout has fewer than two elements.
 use Rattle.std.proofs.Common.{◌≡◌, ℕ, suc, ◌+◌, ◌≤◌, List, [], ◌∷◌, length, map, flat_map, refl, sym, ap, subst, arith}
-use Rattle.bolt_layout.proofs.Words.{AllByRecursion, Balanced, branch_cut, branch_page_view, BranchElement, cut_of, elements_of, end, items_of, join_last, Laid, layout_pages, leaf_level, leaf_page_view, LeafElement, length-append, next_level, page_over, pages_of, root_of, root_over, size_of, top_in, Tree, with_bucket, with_value}
-use Rattle.bolt_layout.proofs.{Cutting.branches_divide, Cutting.cut_divides, ListLemmas.all_append, ListLemmas.all_split, OneCut.AreRuns, OneCut.cut_runs, OneCut.cut_whole, OneCut.first_long}
+use Rattle.bolt_layout.proofs.Words.{AllByRecursion, Balanced, branch_cut, branch_page_view, BranchElement, cut_of, elements_of, end, items_of}
+use Rattle.bolt_layout.proofs.Words.{join_last, Laid, layout_pages, leaf_level, leaf_page_view, LeafElement, length-append, next_level, page_over}
+use Rattle.bolt_layout.proofs.Words.{pages_of, root_of, root_over, size_of, top_in, Tree, with_bucket, with_value}
+use Rattle.bolt_layout.proofs.{Cutting.branches_divide, Cutting.cut_divides, ListLemmas.all_append, ListLemmas.all_split, OneCut.AreRuns}
+use Rattle.bolt_layout.proofs.{OneCut.cut_runs, OneCut.cut_whole, OneCut.first_long}
 use Rattle.bolt_format.specs.declared.header.Kind.TheVariants as kind
 use Rattle.bolt_layout.specs.Layout.{HasTwoIfBranch, first_page}
 
@@ -9,7 +12,8 @@ abbrev HasItems : {X : Type 0} → List X → Type 0
 HasItems run = 2 ≤ length run
 
 -- A run that another one follows has two items, so the joined cut of a row of two or more has only such runs.
-joined_long : {X : Type 0} (page_size : ℕ) (size : X → ℕ) (runs : List (List X)) → AreRuns page_size 2 size runs → 2 ≤ length (flat_map (λ run. run) runs) → AllByRecursion HasItems (join_last runs)
+joined_long : {X : Type 0} (page_size : ℕ) (size : X → ℕ) (runs : List (List X)) → AreRuns page_size 2 size runs
+    → 2 ≤ length (flat_map (λ run. run) runs) → AllByRecursion HasItems (join_last runs)
 joined_long page_size size [] are two = tt
 joined_long page_size size (run ∷ []) are two = (omega (arith, length-append run []), tt)
 joined_long page_size size (run ∷ next ∷ []) are two = grind (arith, length-append)
@@ -18,7 +22,8 @@ joined_long {X = X} page_size size (run ∷ next ∷ more ∷ runs) are two =
     let l = length-append next (flat_map (λ (r : List X). r) (more ∷ runs)) in
     (first_long page_size 2 size run next (more ∷ runs) are, joined_long page_size size (next ∷ more ∷ runs) are.2 (omega arith))
 
-runs_long : {X : Type 0} (page_size : ℕ) (size : X → ℕ) (items : List X) → 2 ≤ length items → AllByRecursion HasItems (branch_cut Balanced page_size size items)
+runs_long : {X : Type 0} (page_size : ℕ) (size : X → ℕ) (items : List X) → 2 ≤ length items
+    → AllByRecursion HasItems (branch_cut Balanced page_size size items)
 runs_long page_size size items two = grind (arith, cut_whole, joined_long, cut_runs)
 
 -- the pages of an item, from any number on
@@ -39,7 +44,8 @@ count_elements : (run : List (Laid BranchElement)) (number : ℕ) → length (el
 count_elements [] number = refl
 count_elements (item ∷ run) number = ap suc (count_elements run (number + item.numbers))
 
-branch_twos : (page_size : ℕ) (run : List (Laid BranchElement)) → HasItems run → AllByRecursion HasTwos run → HasTwos (page_over branch_page_view page_size run)
+branch_twos : (page_size : ℕ) (run : List (Laid BranchElement)) → HasItems run → AllByRecursion HasTwos run
+    → HasTwos (page_over branch_page_view page_size run)
 branch_twos page_size run two all number = grind (arith, count_elements, all_append, row_twos)
 
 -- Leaves,
@@ -51,7 +57,8 @@ leaves_twos page_size (run ∷ runs) all =
     (leaf_twos page_size run both.0, leaves_twos page_size runs both.1)
 
 -- the branches over a level,
-level_twos : (page_size : ℕ) (runs : List (List (Laid BranchElement))) → AllByRecursion HasItems runs → AllByRecursion HasTwos (flat_map (λ run. run) runs)
+level_twos : (page_size : ℕ) (runs : List (List (Laid BranchElement))) → AllByRecursion HasItems runs
+    → AllByRecursion HasTwos (flat_map (λ run. run) runs)
     → AllByRecursion HasTwos (map (page_over branch_page_view page_size) runs)
 level_twos page_size [] two all = tt
 level_twos page_size (run ∷ runs) two all =

@@ -1,7 +1,8 @@
 -- How many page numbers a row of pages takes: its overflow, by the weights of what stands on it.
 use Rattle.std.proofs.{lemmas.Grind.common_steps, Math.Nat.div-mul-le_self, lemmas.Nat.le-div}
 use Rattle.std.proofs.Common.{◌≡◌, ℕ, ◌+◌, ◌*◌, ◌/◌, ◌<◌, ◌≤◌, List, [], ◌∷◌, ◌++◌, length, map, flat_map, sum_by, refl, arith}
-use Rattle.bolt_layout.proofs.Words.{add-mul, AllByRecursion, div-lt_iff_lt-mul, Laid, numbers_of, overflow_of, page_over, PageView, run_overflow, size_of, sum_by-cons}
+use Rattle.bolt_layout.proofs.Words.{add-mul, AllByRecursion, div-lt_iff_lt-mul, Laid, numbers_of, overflow_of, page_over, PageView, run_overflow}
+use Rattle.bolt_layout.proofs.Words.{size_of, sum_by-cons}
 use Rattle.bolt_layout.proofs.{LastItem.HasItem, ListLemmas.all_split, OverRows.numbers-append}
 
 div_rises : (a b k : ℕ) → 0 < k → a ≤ b → a / k ≤ b / k
@@ -59,8 +60,10 @@ first_weight : {E : Type 0} (view : ℕ → List E → PageView) (page_size : �
     → weight page_size (page_over view page_size (first ∷ run)) ≤ weight page_size first
 first_weight view page_size first run low room = let d = div_rises (16 + length first.key) first.size page_size (omega arith) room in omega arith
 
-pub level_weights : {E : Type 0} (view : ℕ → List E → PageView) (page_size : ℕ) (runs : List (List (Laid E))) → 16 ≤ page_size → AllByRecursion HasItem runs
-    → AllByRecursion HasKeyRoom (flat_map (λ run. run) runs) → weights page_size (map (page_over view page_size) runs) ≤ weights page_size (flat_map (λ run. run) runs)
+pub level_weights : {E : Type 0} (view : ℕ → List E → PageView) (page_size : ℕ) (runs : List (List (Laid E))) → 16 ≤ page_size
+    → AllByRecursion HasItem runs
+    → AllByRecursion HasKeyRoom (flat_map (λ run. run) runs)
+    → weights page_size (map (page_over view page_size) runs) ≤ weights page_size (flat_map (λ run. run) runs)
 level_weights view page_size ((first ∷ run) ∷ runs) low some room =
     let rest : List (Laid _) = flat_map (λ run. run) runs in
     let both = all_split HasKeyRoom (first ∷ run) rest room in
@@ -69,7 +72,8 @@ level_weights view page_size ((first ∷ run) ∷ runs) low some room =
     let w = first_weight view page_size first run low both.0.0 in omega arith
 level_weights view page_size runs low some room = grind arith
 
-pub own_weights : {E : Type 0} (view : ℕ → List E → PageView) (page_size : ℕ) (runs : List (List (Laid E))) → 16 ≤ page_size → AllByRecursion HasItem runs
+pub own_weights : {E : Type 0} (view : ℕ → List E → PageView) (page_size : ℕ) (runs : List (List (Laid E))) → 16 ≤ page_size
+    → AllByRecursion HasItem runs
     → AllByRecursion HasKeyRoom (flat_map (λ run. run) runs) → weights page_size (map (page_over view page_size) runs) ≤ own_numbers page_size runs
 unfolding overflow_of
 own_weights view page_size [] low some room = omega arith
@@ -88,7 +92,8 @@ weights_count page_size (item ∷ items) = let ih = weights_count page_size item
 abbrev pub IsLight : {E : Type 0} → (page_size most : ℕ) → Laid E → Type 0
 IsLight page_size most item = weight page_size item ≤ most
 
-pub level_light : {E : Type 0} (view : ℕ → List E → PageView) (page_size most : ℕ) (runs : List (List (Laid E))) → 16 ≤ page_size → AllByRecursion HasItem runs
+pub level_light : {E : Type 0} (view : ℕ → List E → PageView) (page_size most : ℕ) (runs : List (List (Laid E))) → 16 ≤ page_size
+    → AllByRecursion HasItem runs
     → AllByRecursion HasKeyRoom (flat_map (λ run. run) runs) → AllByRecursion (IsLight page_size most) (flat_map (λ run. run) runs)
     → AllByRecursion (IsLight page_size most) (map (page_over view page_size) runs)
 level_light view page_size most [] low some room light = tt
@@ -100,6 +105,7 @@ level_light {E = E} view page_size most ((first ∷ run) ∷ runs) low some room
     let w = first_weight view page_size first run low rooms.0.0 in
     (omega arith, level_light view page_size most runs low some.1 rooms.1 lights.1)
 
-pub weights_light : {E : Type 0} (page_size most : ℕ) (items : List (Laid E)) → AllByRecursion (IsLight page_size most) items → weights page_size items ≤ most * length items
+pub weights_light : {E : Type 0} (page_size most : ℕ) (items : List (Laid E)) → AllByRecursion (IsLight page_size most) items
+    → weights page_size items ≤ most * length items
 weights_light page_size most [] light = omega arith
 weights_light page_size most (item ∷ items) light = omega (arith, weights_light page_size most items light.1)

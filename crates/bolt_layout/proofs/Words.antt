@@ -2,14 +2,17 @@
 pub use Rattle.bolt_check.proofs.Exports.{follow_none}
 pub use Rattle.bolt_check.specs.{EntrySpots.places, Findings.finding_of, Findings.inline_finding, Findings.keys_of, Findings.node_finding}
 pub use Rattle.bolt_check.specs.Keys.{Key, is_below, is_from, key_cmp, key_lt, keys_order_fault}
-pub use Rattle.bolt_check.specs.{Nodes.Entry, Nodes.InlinePage, Nodes.Node, Nodes.Nodes, Nodes.inline_page, Nodes.leaf_entry, Nodes.node_of, Sound.HasSoundTrees}
+pub use Rattle.bolt_check.specs.{Nodes.Entry, Nodes.InlinePage, Nodes.Node, Nodes.Nodes, Nodes.inline_page, Nodes.leaf_entry, Nodes.node_of}
+pub use Rattle.bolt_check.specs.{Sound.HasSoundTrees}
 pub use Rattle.bolt_check.specs.Ways.{At_inline, At_page, PageSpot, Spot, bucket_spots, follow, reached, root_spot}
 unfoldable pub use Rattle.bolt_check.specs.Nodes.{node_at}
-pub use Rattle.bolt_format.proofs.Exports.{first_of-both, part_next, part_read, part_within, largest_page, size_bounds, head_written, header_written, length-header_bytes, chosen_of, length-meta_bytes, meta_header_written, meta_written}
+pub use Rattle.bolt_format.proofs.Exports.{first_of-both, part_next, part_read, part_within, largest_page, size_bounds, head_written, header_written}
+pub use Rattle.bolt_format.proofs.Exports.{length-header_bytes, chosen_of, length-meta_bytes, meta_header_written, meta_written}
 unfoldable pub use Rattle.bolt_format.specs.{Bytes.fnv_of, Bytes.fnv_step, Elements.leaf_elements, Elements.leaves_fault, Elements.value_fault}
 unfoldable pub use Rattle.bolt_format.specs.Pages.{page_at, page_fault, span_fault}
 unfoldable pub use Rattle.bolt_format.specs.Encoded.{branch_header, head_bytes, header_bytes, leaf_header, meta_bytes, meta_record, number_bytes}
-pub use Rattle.bolt_format.specs.Elements.{BranchElement, LeafElement, element_at, faults_from, head_root, head_sequence, inline_elements, leaf_element, table_fault}
+pub use Rattle.bolt_format.specs.Elements.{BranchElement, LeafElement, element_at, faults_from, head_root, head_sequence, inline_elements}
+pub use Rattle.bolt_format.specs.Elements.{leaf_element, table_fault}
 pub use Rattle.bolt_format.specs.{Headers.count_field, Headers.flags_field, Metas.IsActive, Metas.IsMeta, Metas.IsPageSize, Pages.PageView}
 pub use Rattle.bolt_format.specs.{ReadBack.IsHeaderFit, declared.header.Kind.Kind, declared.meta.Meta.Meta}
 pub use Rattle.bolt_format.specs.declared.meta.Slot.TheVariants.{One, Zero}
@@ -18,7 +21,7 @@ pub use Rattle.bolt_layout.specs.Cut.{branch_cut, cut_from, cut_of, join_last, j
 pub use Rattle.bolt_layout.specs.Divisions.{IsDivided, IsPageRun}
 pub use Rattle.bolt_layout.specs.Items.{bucket_item, holds_bucket, is_inline, items_of, leaf_item, stored_bucket}
 pub use Rattle.bolt_layout.specs.Laid.{Laid, Placed, elements_of, numbers_of, pages_of, size_of}
-pub use Rattle.bolt_layout.specs.Layout.{layout_held, layout_mark, layout_meta, layout_pages, layout_root, placed_bytes}
+pub use Rattle.bolt_layout.specs.Layout.{layout_held, layout_high_water, layout_meta, layout_pages, layout_root, placed_bytes}
 pub use Rattle.bolt_layout.specs.Levels.{branch_page_view, leaf_level, leaf_page_view, next_level, page_over, run_overflow, top_in}
 pub use Rattle.bolt_layout.specs.Limits.{AreRowEnds, HaveRightLimits, cut_row, last_length, limit_at, limits_from_ends}
 pub use Rattle.bolt_layout.specs.Openings.{AreFromEnds, AreRight, leaf_pages, opened_by, opened_in, row_ends_of}

@@ -1,6 +1,8 @@
 -- The bytes of worked layouts, each at its place.
 use Rattle.std.proofs.Common.{◌≡◌, ◌/◌, ◌%◌, ◌^◌, ℕ, zero, suc, List, [], ◌∷◌, ◌++◌, length, take, drop, refl}
-use Rattle.bolt_layout.proofs.Words.{branch_bytes, branch_header, fnv_of, fnv_step, freelist_page, head_bytes, header_bytes, inline_value, layout_of, leaf_bytes, leaf_header, meta_bytes, meta_page, meta_record, number_bytes, overflow_of, page_bytes, Plain, root_of, root_over}
+use Rattle.bolt_layout.proofs.Words.{branch_bytes, branch_header, fnv_of, fnv_step, freelist_page, head_bytes, header_bytes, inline_value, layout_of}
+use Rattle.bolt_layout.proofs.Words.{leaf_bytes, leaf_header, meta_bytes, meta_page, meta_record, number_bytes, overflow_of, page_bytes, Plain}
+use Rattle.bolt_layout.proofs.Words.{root_of, root_over}
 use Rattle.bolt_layout.proofs.WorkedLayouts.{no_entries, one_inline, empty_bucket, forty_values}
 
 -- so many bytes, as one number in hexadecimal

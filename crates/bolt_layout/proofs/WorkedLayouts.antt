@@ -1,11 +1,20 @@
--- Worked layouts: the whole bytes by their checksum, the root page, the mark and the items held at most. The figures are those of another program that goes by
+-- Worked layouts: the whole bytes by their checksum, the root page, the mark and
+-- the items held at most. The figures are those of another program that goes by
 -- docs/LAYOUT.md.
 use Rattle.std.proofs.Common.{◌≡◌, ◌==◌, ℕ, ◌+◌, ◌/◌, ◌%◌, if◌then◌else◌, List, [], ◌∷◌, replicate, refl}
-use Rattle.bolt_layout.proofs.Words.{Balanced, branch_bytes, branch_header, end, fnv_of, fnv_step, freelist_page, head_bytes, header_bytes, inline_value, Layout, layout_held, layout_mark, layout_of, layout_root, leaf_bytes, leaf_header, meta_bytes, meta_page, meta_record, number_bytes, overflow_of, page_bytes, Plain, range_with_len, root_of, root_over, Tree, with_bucket, with_value}
+use Rattle.bolt_layout.proofs.Words.{Balanced, branch_bytes, branch_header, end, fnv_of, fnv_step, freelist_page, head_bytes, header_bytes}
+use Rattle.bolt_layout.proofs.Words.{inline_value, Layout, layout_held, layout_high_water, layout_of, layout_root, leaf_bytes, leaf_header}
+use Rattle.bolt_layout.proofs.Words.{meta_bytes, meta_page, meta_record, number_bytes, overflow_of, page_bytes, Plain, range_with_len, root_of}
+use Rattle.bolt_layout.proofs.Words.{root_over, Tree, with_bucket, with_value}
 
-abbrev IsWorked : Layout → (page_size : ℕ) → Tree → (sequence sum root mark held : ℕ) → Type 0
-IsWorked which page_size tree sequence sum root mark held =
-    ◌≡◌ {A = ℕ × ℕ × ℕ × ℕ} (fnv_of (layout_of which page_size tree sequence), layout_root which page_size tree, layout_mark which page_size tree, layout_held which page_size tree) (sum, root, mark, held)
+abbrev IsWorked : Layout → (page_size : ℕ) → Tree → (sequence sum root high_water held : ℕ) → Type 0
+IsWorked which page_size tree sequence sum root high_water held =
+    ◌≡◌ {A = ℕ × ℕ × ℕ × ℕ} (
+      fnv_of (layout_of which page_size tree sequence),
+      layout_root which page_size tree,
+      layout_high_water which page_size tree,
+      layout_held which page_size tree,
+    ) (sum, root, high_water, held)
 
 -- values of 82 bytes under keys of two digits
 abbrev digits : List ℕ → Tree
@@ -47,7 +56,10 @@ bucket_in_bucket = with_bucket (97 ∷ []) 0 (with_bucket (99 ∷ []) 0 (with_va
 
 -- keys of 500 bytes: branches with an overflow, and one with a single child
 abbrev pub long_keys : Tree
-long_keys = with_bucket (98 ∷ []) 0 (with_value (49 ∷ replicate 499 107) (replicate 400 120) (with_value (50 ∷ replicate 499 107) (replicate 400 120) (with_value (51 ∷ replicate 499 107) (replicate 400 120) end))) end
+long_keys =
+    with_bucket (98 ∷ []) 0
+    (with_value (49 ∷ replicate 499 107) (replicate 400 120)
+    (with_value (50 ∷ replicate 499 107) (replicate 400 120) (with_value (51 ∷ replicate 499 107) (replicate 400 120) end))) end
 
 -- more of them: seven leaves under three levels of branches, and eleven, where the row of branches over the first row of branches loses an item too
 abbrev long_values : List ℕ → Tree
@@ -62,14 +74,20 @@ eleven_leaves = with_bucket (98 ∷ []) 0 (long_values (range_with_len 0 11)) en
 
 -- a leaf that is full with a bucket that it holds, and one byte more
 abbrev pub filled_leaf : Tree
-filled_leaf = with_bucket (98 ∷ []) 0 (with_value (97 ∷ []) (replicate 958 120) (with_bucket (99 ∷ []) 0 (with_value (107 ∷ []) (replicate 300 120) end) end)) end
+filled_leaf =
+    with_bucket (98 ∷ []) 0 (with_value (97 ∷ []) (replicate 958 120) (with_bucket (99 ∷ []) 0 (with_value (107 ∷ []) (replicate 300 120) end) end)) end
 
 abbrev pub overfull_leaf : Tree
-overfull_leaf = with_bucket (98 ∷ []) 0 (with_value (97 ∷ []) (replicate 959 120) (with_bucket (99 ∷ []) 0 (with_value (107 ∷ []) (replicate 300 120) end) end)) end
+overfull_leaf =
+    with_bucket (98 ∷ []) 0 (with_value (97 ∷ []) (replicate 959 120) (with_bucket (99 ∷ []) 0 (with_value (107 ∷ []) (replicate 300 120) end) end)) end
 
 -- inline buckets and others, in one another, with sequences
 abbrev pub many_buckets : Tree
-many_buckets = with_bucket (97 ∷ []) 3 (with_bucket (120 ∷ []) 9 (with_value (107 ∷ []) (replicate 300 118) end) (with_value (121 ∷ []) (49 ∷ []) (with_bucket (122 ∷ []) 2 end end))) (with_bucket (97 ∷ 97 ∷ []) 0 end (with_value (98 ∷ []) [] (with_bucket (99 ∷ []) 18446744073709551615 (with_value (113 ∷ []) (replicate 2000 119) end) end)))
+many_buckets =
+    with_bucket (97 ∷ []) 3
+    (with_bucket (120 ∷ []) 9 (with_value (107 ∷ []) (replicate 300 118) end) (with_value (121 ∷ []) (49 ∷ []) (with_bucket (122 ∷ []) 2 end end)))
+    (with_bucket (97 ∷ 97 ∷ []) 0 end
+    (with_value (98 ∷ []) [] (with_bucket (99 ∷ []) 18446744073709551615 (with_value (113 ∷ []) (replicate 2000 119) end) end)))
 
 -- a hundred entries, among them buckets of both kinds, below three levels
 abbrev entries : List ℕ → Tree

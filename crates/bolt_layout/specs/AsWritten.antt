@@ -8,20 +8,21 @@ use Rattle.bolt_check.specs.{Nodes.node_at, Ways.At_page, Ways.PageSpot, Ways.re
 use Rattle.bolt_layout.specs.PageBytes.{content_bytes, leaf_bytes}
 
 -- bytes begin with what is written
-abbrev pub BeginsWith : List ℕ → List ℕ → Type 0
-BeginsWith bytes written = (rest : List ℕ) × (bytes ≡ written ++ rest)
+abbrev pub BeginsAsWritten : List ℕ → List ℕ → Type 0
+BeginsAsWritten bytes written = (rest : List ℕ) × (bytes ≡ written ++ rest)
 
 -- A page of a file begins with what is written for what it shows: its header, the headers of its elements, and their data.
 abbrev pub IsPageAsWritten : List ℕ → Meta → ℕ → Type 0
-IsPageAsWritten file meta id = (view : PageView) → page_at file meta id ≡ Some view → BeginsWith (span_bytes file meta id) (content_bytes view.kind id view)
+IsPageAsWritten file meta id =
+    (view : PageView) → page_at file meta id ≡ Some view → BeginsAsWritten (span_bytes file meta id) (content_bytes view.kind id view)
 
--- So does the page in the value of an inline bucket. No rule says which number and which overflow its header has.
+-- The page in the value of an inline bucket begins with what is written for it. No rule says which number and overflow its header has.
 abbrev pub IsInlineAsWritten : List ℕ → Type 0
 IsInlineAsWritten value =
-    BeginsWith (inline_bytes value)
+    BeginsAsWritten (inline_bytes value)
     (header_bytes (inline_number value) kind.Leaf (length (inline_elements value)) (overflow_field (inline_bytes value)) ++ leaf_bytes (inline_elements value))
 
--- each page that a way leads to, and that of each inline bucket on one
+-- each page that a way leads to, and that of each inline bucket on one, is as written
 pub record IsAsWritten (file : List ℕ) (meta : Meta) : Type 0 where
   pub pages : (way : List ℕ) (s : PageSpot) → reached (node_at file meta) meta.root way ≡ Some (At_page s) → IsPageAsWritten file meta s.number
   pub inline : (way : List ℕ) (s : PageSpot) (view : PageView) (e : LeafElement) → reached (node_at file meta) meta.root way ≡ Some (At_page s)

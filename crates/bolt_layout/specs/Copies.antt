@@ -11,7 +11,7 @@ use Rattle.bolt_layout.specs.{Layout.layout_meta, Layout.layout_of, Storable.IsS
 abbrev pub HasNoFreePage : List ℕ → Meta → Type 0
 HasNoFreePage file meta = (n : ℕ) → IsFree meta.high_water (IsInUse file meta (IsUsed file meta)) n → ⊥
 
--- Both metas are valid, and that of slot one is active in the layout. For it the layout is sound, trees and accounts, has no free page and
+-- Both metas of a layout are valid, and that of slot one is active. For it the layout is sound, trees and accounts, has no free page and
 -- has this listing.
 pub record IsSoundCopy (which : Layout) (page_size : ℕ) (tree : Tree) (sequence : ℕ) (listing : List Member) : Type 0 where
   pub metas : HasBothMetas (layout_of which page_size tree sequence)
@@ -26,12 +26,12 @@ pub record IsAsked (page_size : ℕ) (tree : Tree) (sequence : ℕ) : Type 0 whe
   pub storable : IsStorable tree
   pub sequence_fits : sequence < 2 ^ 64
 
--- This holds of each layout that is asked for and has fewer than 2^63 bytes: of its kind, page size, tree and sequence.
+-- A property holds of each layout that is asked for and has fewer than 2^63 bytes: of its kind, page size, tree and sequence.
 abbrev pub ForAsked : (Layout → ℕ → Tree → ℕ → Type 0) → Type 0
 ForAsked P = (which : Layout) (page_size : ℕ) (tree : Tree) (sequence : ℕ) → IsAsked page_size tree sequence
     → length (layout_of which page_size tree sequence) < 2 ^ 63 → P which page_size tree sequence
 
--- This holds of each layout of a tree that can be stored: of its kind, page size, tree and bytes.
+-- A property holds of each layout of a tree that can be stored: of its kind, page size, tree and bytes.
 abbrev pub ForStorable : (Layout → ℕ → Tree → List ℕ → Type 0) → Type 0
 ForStorable P = (which : Layout) (page_size : ℕ) (tree : Tree) (sequence : ℕ) → IsPageSize page_size → IsStorable tree
     → P which page_size tree (layout_of which page_size tree sequence)

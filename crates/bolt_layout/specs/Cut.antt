@@ -1,6 +1,7 @@
 -- The cut of a row of items into the runs that share a page: docs/LAYOUT.md, "The cut".
 -- Over items of any kind, by their sizes.
-use Rattle.std.specs.Prelude.{suc, ◌≡◌, ◌≢◌, ◌≤◌, ◌<◌, ◌⊎◌, ◌↔◌, ℕ, ◌+◌, Bool, ◌||◌, ◌&&◌, nat_lt, nat_le, List, [], ◌∷◌, ◌++◌, length, sum_by, flat_map, Some, slice_get, if◌then◌else◌}
+use Rattle.std.specs.Prelude.{suc, ◌≡◌, ◌≢◌, ◌≤◌, ◌<◌, ◌⊎◌, ◌↔◌, ℕ, ◌+◌, Bool, ◌||◌, ◌&&◌, nat_lt, nat_le, List, [], ◌∷◌, ◌++◌, length, sum_by}
+use Rattle.std.specs.Prelude.{flat_map, Some, slice_get, if◌then◌else◌}
 use Rattle.bolt_layout.specs.{declared.Layout.Layout, declared.Layout.TheVariants.Plain, declared.Layout.TheVariants.Balanced}
 
 -- the most items that a page may have
@@ -53,7 +54,7 @@ abbrev pub branch_cut : {X : Type 0} → Layout → (page_size : ℕ) → (X →
 branch_cut Plain page_size size items = cut_of page_size 2 size items
 branch_cut Balanced page_size size items = join_last (cut_of page_size 2 size items)
 
--- there is one cut of each row, and it is this one
+-- each row has exactly one cut, that of `cut_of`
 abbrev pub CutIsOne : Type 0 → Type 0
 CutIsOne X = (page_size least : ℕ) (size : X → ℕ) (items : List X) (runs : List (List X)) → 1 ≤ least → least ≤ max_items
     → IsCut page_size least size items runs ↔ (runs ≡ cut_of page_size least size items)

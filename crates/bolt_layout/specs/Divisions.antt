@@ -4,7 +4,7 @@ use Rattle.std.specs.Prelude.{suc, ◌≡◌, ◌≤◌, ◌<◌, ◌+◌, ◌*�
 use Rattle.std.specs.List.{AllByRecursion}
 use Rattle.bolt_layout.specs.Cut.{max_items, run_size}
 
--- but for its last `extra` items, the page over a run is within the page size
+-- the page over a run is within the page size but for its last `extra` items
 pub record FitsBut {X : Type 0} (page_size extra : ℕ) (size : X → ℕ) (run : List X) : Type 0 where
   pub front : List X
   pub last : List X

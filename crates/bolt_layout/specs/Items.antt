@@ -2,7 +2,8 @@
 use Rattle.std.specs.Prelude.{ℕ, ◌+◌, ◌/◌, Bool, true, false, not, ◌&&◌, nat_le, List, [], ◌∷◌, length, if◌then◌else◌}
 use Rattle.bolt_format.specs.{Elements.BranchElement, Elements.LeafElement, Encoded.head_bytes}
 use Rattle.bolt_tree.specs.Tree.{Tree, end, with_value, with_bucket}
-use Rattle.bolt_layout.specs.{Cut.max_items, Cut.run_size, Laid.Laid, Laid.elements_of, Laid.size_of, Levels.root_over, PageBytes.inline_value, declared.Layout.Layout}
+use Rattle.bolt_layout.specs.{Cut.max_items, Cut.run_size, Laid.Laid, Laid.elements_of, Laid.size_of, Levels.root_over, PageBytes.inline_value}
+use Rattle.bolt_layout.specs.{declared.Layout.Layout}
 
 -- a value, or a bucket within its own value, has no pages below it
 abbrev pub leaf_item : (key value : List ℕ) → (is_bucket : Bool) → Laid LeafElement

@@ -21,7 +21,7 @@ pub record Laid (E : Type 0) : Type 0 where
 abbrev pub size_of : {E : Type 0} → Laid E → ℕ
 size_of item = item.size
 
--- of a row of items, from left to right: the page numbers below them, the pages from a number on, and the elements
+-- a row of items, from left to right: the page numbers below them, the pages from a number on, and the elements
 abbrev pub numbers_of : {E : Type 0} → List (Laid E) → ℕ
 numbers_of [] = 0
 numbers_of (item ∷ items) = item.numbers + numbers_of items

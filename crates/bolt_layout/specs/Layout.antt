@@ -13,8 +13,8 @@ first_page = 3
 abbrev pub layout_root : (which : Layout) (page_size : ℕ) → Tree → ℕ
 layout_root which page_size tree = ((root_of which page_size tree).element first_page).child
 
-abbrev pub layout_mark : (which : Layout) (page_size : ℕ) → Tree → ℕ
-layout_mark which page_size tree = first_page + (root_of which page_size tree).numbers
+abbrev pub layout_high_water : (which : Layout) (page_size : ℕ) → Tree → ℕ
+layout_high_water which page_size tree = first_page + (root_of which page_size tree).numbers
 
 -- the greatest number of items that are held at one time, while the pages are written in the order of their numbers
 abbrev pub layout_held : (which : Layout) (page_size : ℕ) → Tree → ℕ
@@ -35,7 +35,7 @@ layout_meta which page_size tree sequence txid = record {
   root = layout_root which page_size tree;
   root_sequence = sequence;
   freelist = 2;
-  high_water = layout_mark which page_size tree;
+  high_water = layout_high_water which page_size tree;
   txid = txid;
 }
 
@@ -44,14 +44,14 @@ abbrev pub placed_bytes : (page_size : ℕ) → List Placed → List ℕ
 placed_bytes page_size [] = []
 placed_bytes page_size (page ∷ pages) = page_bytes page_size page.number page.view ++ placed_bytes page_size pages
 
-abbrev pub file_bytes : (page_size root sequence mark : ℕ) → List Placed → List ℕ
-file_bytes page_size root sequence mark pages =
-    meta_page page_size root sequence mark 0
-    ++ (meta_page page_size root sequence mark 1
+abbrev pub file_bytes : (page_size root sequence high_water : ℕ) → List Placed → List ℕ
+file_bytes page_size root sequence high_water pages =
+    meta_page page_size root sequence high_water 0
+    ++ (meta_page page_size root sequence high_water 1
     ++ (freelist_page page_size 2
     ++ placed_bytes page_size pages))
 
 -- the bytes: two metas, a freelist without ids, and the pages
 unfoldable pub layout_of : (which : Layout) (page_size : ℕ) → Tree → (sequence : ℕ) → List ℕ
 layout_of which page_size tree sequence =
-    file_bytes page_size (layout_root which page_size tree) sequence (layout_mark which page_size tree) (layout_pages which page_size tree)
+    file_bytes page_size (layout_root which page_size tree) sequence (layout_high_water which page_size tree) (layout_pages which page_size tree)

@@ -2,13 +2,14 @@
 use Rattle.std.specs.Prelude.{◌≡◌, ◌≤◌, ℕ, zero, suc, ◌+◌, ◌-◌, ◌*◌, ◌/◌, List, [], ◌∷◌, ◌++◌, length, map}
 use Rattle.bolt_format.specs.{Elements.BranchElement, Elements.LeafElement, Pages.PageView}
 use Rattle.bolt_format.specs.declared.header.Kind.TheVariants as kind
-use Rattle.bolt_layout.specs.{Cut.branch_cut, Cut.cut_of, Cut.run_size, Laid.Laid, Laid.elements_of, Laid.first_key, Laid.held_in, Laid.numbers_of, Laid.pages_of, Laid.size_of, declared.Layout.Layout}
+use Rattle.bolt_layout.specs.{Cut.branch_cut, Cut.cut_of, Cut.run_size, Laid.Laid, Laid.elements_of, Laid.first_key, Laid.held_in, Laid.numbers_of}
+use Rattle.bolt_layout.specs.{Laid.pages_of, Laid.size_of, declared.Layout.Layout}
 
 -- the least number of further pages with which a page has room for this many bytes, of which there is one at least
 unfoldable pub overflow_of : (page_size size : ℕ) → ℕ
 overflow_of page_size size = (size - 1) / page_size
 
--- so many further pages are enough, and none too many
+-- `further` further pages are enough for a size, and none too many
 pub record IsOverflow (page_size size further : ℕ) : Type 0 where
   pub room : size ≤ (1 + further) * page_size
   pub least : (fewer : ℕ) → size ≤ (1 + fewer) * page_size → further ≤ fewer
@@ -53,9 +54,11 @@ top_in which (suc steps) page_size (page ∷ other ∷ level) = top_in which ste
 abbrev pub top_of : (which : Layout) (page_size : ℕ) → List (Laid BranchElement) → Laid BranchElement
 top_of which page_size level = top_in which (length level) page_size level
 
--- so while a level has more than one page, the top is that of the next
+-- while a level has more than one page, the top over it is the top over the next level
 abbrev pub TopIsAbove : Type 0
-TopIsAbove = (which : Layout) (page_size : ℕ) (level : List (Laid BranchElement)) → 2 ≤ length level → top_of which page_size level ≡ top_of which page_size (next_level which page_size level)
+TopIsAbove =
+    (which : Layout) (page_size : ℕ) (level : List (Laid BranchElement)) → 2 ≤ length level
+    → top_of which page_size level ≡ top_of which page_size (next_level which page_size level)
 
 -- the root page of a bucket with these items
 unfoldable pub root_over : (which : Layout) (page_size : ℕ) → List (Laid LeafElement) → Laid BranchElement

@@ -5,9 +5,11 @@
 -- its pages: a row whose last run has one item, with a run before it, has one run less; any other is as in the plain layout. If the row
 -- below lacks its last page: a row whose last run has one item has one run less, and no item joins; if it has two, and there is a run
 -- before it, one run less, and the single item joins; any other has as many runs as in the plain layout.
-use Rattle.std.specs.Prelude.{zero, suc, ◌≡◌, ◌≤◌, ◌==◌, ◌-◌, ℕ, Bool, true, false, ◌&&◌, nat_lt, List, [], ◌∷◌, ◌++◌, length, Option, Some, None, if◌then◌else◌}
+use Rattle.std.specs.Prelude.{zero, suc, ◌≡◌, ◌≤◌, ◌==◌, ◌-◌, ℕ, Bool, true, false, ◌&&◌, nat_lt, List, [], ◌∷◌, ◌++◌, length, Option, Some, None}
+use Rattle.std.specs.Prelude.{if◌then◌else◌}
 use Rattle.bolt_format.specs.Elements.{BranchElement}
-use Rattle.bolt_layout.specs.{Cut.branch_cut, Cut.cut_of, Cut.joins, Laid.Laid, Laid.size_of, Levels.next_level, declared.Layout.Layout, declared.Layout.TheVariants.Plain}
+use Rattle.bolt_layout.specs.{Cut.branch_cut, Cut.cut_of, Cut.joins, Laid.Laid, Laid.size_of, Levels.next_level, declared.Layout.Layout}
+use Rattle.bolt_layout.specs.{declared.Layout.TheVariants.Plain}
 
 -- how many runs may still begin in a row: any number, or so many
 abbrev pub is_out : Option ℕ → Bool
@@ -42,7 +44,7 @@ limit_at [] k = None
 limit_at (limit ∷ limits) zero = limit
 limit_at (limit ∷ limits) (suc k) = limit_at limits k
 
--- these limits give the cut of each level above these pages
+-- limits give the cut of each level above these pages
 abbrev pub HaveRightLimits : Layout → (page_size : ℕ) → (limit : ℕ → Option ℕ) → List (Laid BranchElement) → Type 0
 HaveRightLimits which page_size limit pages = (k : ℕ) →
     cut_row page_size size_of (limit k) (level_up which page_size k pages) ≡ branch_cut which page_size size_of (level_up which page_size k pages)

@@ -3,8 +3,10 @@
 use Rattle.std.specs.Prelude.{suc, zero, ◌≡◌, ◌==◌, ◌+◌, ℕ, false, nat_lt, List, [], ◌∷◌, length, map, Option, None, if◌then◌else◌}
 use Rattle.bolt_format.specs.Elements.{BranchElement, LeafElement}
 use Rattle.bolt_tree.specs.Tree.{Tree, end, with_bucket, with_value}
-use Rattle.bolt_layout.specs.{Cut.cut_from, Cut.cut_of, Items.is_inline, Items.items_of, Laid.Laid, Laid.size_of, Levels.leaf_page_view, Levels.next_level, Levels.page_over}
-use Rattle.bolt_layout.specs.{Limits.HaveRightLimits, Limits.last_length, Limits.limit_at, Limits.limits_from_ends, declared.Layout.Layout, declared.Layout.TheVariants.Plain}
+use Rattle.bolt_layout.specs.{Cut.cut_from, Cut.cut_of, Items.is_inline, Items.items_of, Laid.Laid, Laid.size_of, Levels.leaf_page_view}
+use Rattle.bolt_layout.specs.{Levels.next_level, Levels.page_over}
+use Rattle.bolt_layout.specs.{Limits.HaveRightLimits, Limits.last_length, Limits.limit_at, Limits.limits_from_ends, declared.Layout.Layout}
+use Rattle.bolt_layout.specs.{declared.Layout.TheVariants.Plain}
 
 -- all leaf pages of a bucket with these items: one empty page where it has none
 abbrev pub leaf_pages : (page_size : ℕ) → List (Laid LeafElement) → List (Laid BranchElement)
@@ -21,7 +23,7 @@ opened_in which page_size (with_bucket key sequence inside after) =
 abbrev pub opened_by : Layout → (page_size : ℕ) → Tree → ℕ
 opened_by which page_size inside = if is_inline page_size inside (items_of which page_size inside) then 0 else suc (opened_in which page_size inside)
 
--- These limits, by the number of a bucket and the level of a row, are right for each bucket that a pass opens in a tree, where it opens the
+-- Limits, by the number of a bucket and the level of a row, are right for each bucket that a pass opens in a tree, where it opens the
 -- first of them as number n.
 abbrev pub AreRight : Layout → (page_size : ℕ) → (limits : ℕ → ℕ → Option ℕ) → (n : ℕ) → Tree → Type 0
 AreRight which page_size limits n end = Unit {0}
@@ -58,7 +60,7 @@ abbrev pub limits_for : (page_size : ℕ) → Tree → (bucket level : ℕ) → 
 limits_for page_size tree zero level = limit_at (limits_from_ends false (row_ends_of page_size (leaf_pages page_size (items_of Plain page_size tree)))) level
 limits_for page_size tree (suc bucket) level = limits_below page_size 1 tree (suc bucket) level
 
--- These limits are those that the ends of the plain rows give, for each bucket that a pass over the plain layout opens.
+-- Limits are those that the ends of the plain rows give, for each bucket that a pass over the plain layout opens.
 abbrev pub AreFromEnds : (page_size : ℕ) → (limits : ℕ → ℕ → Option ℕ) → (n : ℕ) → Tree → Type 0
 AreFromEnds page_size limits n end = Unit {0}
 AreFromEnds page_size limits n (with_value key value after) = AreFromEnds page_size limits n after

@@ -1,6 +1,7 @@
 -- The bytes of the pages of a compact copy: docs/LAYOUT.md, "Bytes". Each part directly follows the preceding one.
 use Rattle.std.specs.Prelude.{ℕ, ◌+◌, ◌-◌, ◌*◌, List, [], ◌∷◌, ◌++◌, length, replicate}
-use Rattle.bolt_format.specs.{Elements.BranchElement, Elements.LeafElement, Pages.PageView, Encoded.branch_header, Encoded.head_bytes, Encoded.header_bytes, Encoded.leaf_header, Encoded.meta_bytes}
+use Rattle.bolt_format.specs.{Elements.BranchElement, Elements.LeafElement, Pages.PageView, Encoded.branch_header, Encoded.head_bytes}
+use Rattle.bolt_format.specs.{Encoded.header_bytes, Encoded.leaf_header, Encoded.meta_bytes}
 use Rattle.bolt_format.specs.{declared.header.Kind.Kind, declared.meta.Meta.Meta}
 use Rattle.bolt_format.specs.declared.header.Kind.TheVariants as kind
 
@@ -23,7 +24,7 @@ leaf_headers before [] = []
 leaf_headers before (e ∷ elements) =
     leaf_header e.is_bucket (key_pos (e ∷ elements) before) (length e.key) (length e.value) ++ leaf_headers (before + (length e.key + length e.value)) elements
 
--- and their data, in the same order
+-- the data of a branch's elements, in their order: their keys
 abbrev pub branch_data : List BranchElement → List ℕ
 branch_data [] = []
 branch_data (e ∷ elements) = e.key ++ branch_data elements
@@ -54,12 +55,13 @@ unfoldable pub page_bytes : (page_size number : ℕ) → PageView → List ℕ
 page_bytes page_size number view = filled ((1 + view.overflow) * page_size) (content_bytes view.kind number view)
 
 -- the meta of a copy, whose freelist is page 2
-abbrev pub copy_meta : (page_size root sequence mark txid : ℕ) → Meta
-copy_meta page_size root sequence mark txid = record { page_size = page_size; root = root; root_sequence = sequence; freelist = 2; high_water = mark; txid = txid }
+abbrev pub copy_meta : (page_size root sequence high_water txid : ℕ) → Meta
+copy_meta page_size root sequence high_water txid =
+    record { page_size = page_size; root = root; root_sequence = sequence; freelist = 2; high_water = high_water; txid = txid }
 
--- its page, whose number is its txid
-unfoldable pub meta_page : (page_size root sequence mark txid : ℕ) → List ℕ
-meta_page page_size root sequence mark txid = filled page_size (meta_bytes txid (copy_meta page_size root sequence mark txid))
+-- the page of a copy's meta, whose number is its txid
+unfoldable pub meta_page : (page_size root sequence high_water txid : ℕ) → List ℕ
+meta_page page_size root sequence high_water txid = filled page_size (meta_bytes txid (copy_meta page_size root sequence high_water txid))
 
 -- a freelist without ids
 unfoldable pub freelist_page : (page_size number : ℕ) → List ℕ

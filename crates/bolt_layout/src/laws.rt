@@ -2,15 +2,19 @@
 ghost use Rattle.std.specs.Prelude.{◌≡◌, ◌≤◌, ◌<◌, ◌*◌, ◌^◌, ℕ, List, [], None, length};
 ghost use Rattle.std.specs.List.{AllByRecursion};
 ghost use Rattle.bolt_format.specs.{Elements.IsBucketValue, Elements.head_root, Gaps.inline_gap, Gaps.page_gap};
-ghost use Rattle.bolt_format.specs.{Elements.BranchElement, Elements.LeafElement, Bytes.IsBytes, Metas.IsPageSize, declared.meta.Meta.Meta, declared.meta.Slot.TheVariants.One};
+ghost use Rattle.bolt_format.specs.{Elements.BranchElement, Elements.LeafElement, Bytes.IsBytes, Metas.IsPageSize, declared.meta.Meta.Meta};
+ghost use Rattle.bolt_format.specs.{declared.meta.Slot.TheVariants.One};
 ghost use Rattle.bolt_check.specs.{BboltFileFindings.file_findings, Sound.HasSoundTrees};
 ghost use Rattle.bolt_tree.specs.{Entries.IsEntry, Entries.Item, Entries.Root_page, Listing.IsListing, Listing.Member, Paths.Holds, Paths.Path};
 ghost use Rattle.bolt_tree.specs.Tree.{IsTreeOf, Tree, listing_of, tree_of};
 ghost use Rattle.bolt_layout.specs.AsWritten.{IsAsWritten, IsInlineAsWritten, IsPageAsWritten};
-ghost use Rattle.bolt_layout.specs.{Copies.ForAsked, Copies.ForStorable, Copies.IsAsked, Copies.IsOfOneTree, Copies.IsSoundCopy, Copies.RefusesPrefixes, Copies.layout_of_listing, Cut.CutIsOne};
-ghost use Rattle.bolt_layout.specs.{ForBbolt.ForBboltFindings, ForBbolt.ForLayoutFindings, ForBbolt.IsOfLayout, ForBbolt.IsOneChild, Held.most_held, Laid.Laid};
-ghost use Rattle.bolt_layout.specs.Layout.{HasTwoIfBranch, layout_held, layout_mark, layout_meta, layout_of, layout_pages, layout_root};
-ghost use Rattle.bolt_layout.specs.{NoGaps.HasNoGaps, Levels.IsOverflow, Levels.TopIsAbove, Levels.overflow_of, Storable.IsFitListing, Storable.IsFitMember, Storable.IsStorable};
+ghost use Rattle.bolt_layout.specs.{Copies.ForAsked, Copies.ForStorable, Copies.IsAsked, Copies.IsOfOneTree, Copies.IsSoundCopy};
+ghost use Rattle.bolt_layout.specs.{Copies.RefusesPrefixes, Copies.layout_of_listing, Cut.CutIsOne};
+ghost use Rattle.bolt_layout.specs.{ForBbolt.ForBboltFindings, ForBbolt.ForLayoutFindings, ForBbolt.IsOfLayout, ForBbolt.IsOneChild, Held.most_held};
+ghost use Rattle.bolt_layout.specs.{Laid.Laid};
+ghost use Rattle.bolt_layout.specs.Layout.{HasTwoIfBranch, layout_held, layout_high_water, layout_meta, layout_of, layout_pages, layout_root};
+ghost use Rattle.bolt_layout.specs.{NoGaps.HasNoGaps, Levels.IsOverflow, Levels.TopIsAbove, Levels.overflow_of, Storable.IsFitListing};
+ghost use Rattle.bolt_layout.specs.{Storable.IsFitMember, Storable.IsStorable};
 ghost use Rattle.bolt_layout.specs.{declared.Layout.Layout, declared.Layout.TheVariants.Balanced};
 
 use bolt_check::laws::sound_trees_pass_the_tests;
@@ -29,7 +33,7 @@ pub fn layout_is_sound()
 /// The length of a layout is that of its pages.
 pub fn layout_has_length()
     ensures { ForStorable (λ which page_size tree file.
-        length file ≡ layout_mark which page_size tree * page_size) }
+        length file ≡ layout_high_water which page_size tree * page_size) }
 {}
 
 /// While the pages of a layout are written, the number of items that are held at one time is at most

@@ -1,7 +1,10 @@
 -- The lines of a text are decoded one after another.
-use Rattle.std.proofs.Common.{rules, ◌≡◌, ◌∙◌, ◌<◌, ◌-◌, ℕ, List, [], ◌∷◌, ◌++◌, Option, Some, None, length, get_or, take, refl, sym, ap, subst, arith, append_assoc, append-nil, length-append}
+use Rattle.std.proofs.Common.{rules, ◌≡◌, ◌∙◌, ◌<◌, ◌-◌, ℕ, List, [], ◌∷◌, ◌++◌, Option, Some, None, length, get_or, take, refl, sym, ap, subst}
+use Rattle.std.proofs.Common.{arith, append_assoc, append-nil, length-append}
 use Rattle.std.proofs.lemmas.Grind.{common_steps, flat_map-append}
-use Rattle.bolt_load.proofs.Words.{AddsDecoded, All, All-append, AreDecoded, filter_map-append, flat_map, IfSome, IsFirstLine, IsSome, length_fault, line_member, LineFault, lines_of, Member, member_bytes, members_of_lines, NotALine, option_map, option_map_or, shape_fault, StopsAt, take-append_seam, Text}
+use Rattle.bolt_load.proofs.Words.{AddsDecoded, All, All-append, AreDecoded, filter_map-append, flat_map, IfSome, IsFirstLine, IsSome, length_fault}
+use Rattle.bolt_load.proofs.Words.{line_member, LineFault, lines_of, Member, member_bytes, members_of_lines, NotALine, option_map, option_map_or}
+use Rattle.bolt_load.proofs.Words.{shape_fault, StopsAt, take-append_seam, Text}
 use Rattle.bolt_text.proofs.Exports.{no_lines}
 use Rattle.std.specs.Prelude.{zero, suc}
 
@@ -20,11 +23,14 @@ shaped_member line shaped = at (line_member line) refl
 pub member_alone : (line : Text) (member : Member) → line_member line ≡ Some member → members_of_lines (line ∷ []) ≡ member ∷ []
 member_alone line member is = rw is refl
 
-pub members_push : (front : List Text) (line : Text) (member : Member) → line_member line ≡ Some member → members_of_lines (front ++ line ∷ []) ≡ members_of_lines front ++ member ∷ []
+pub members_push : (front : List Text) (line : Text) (member : Member) → line_member line ≡ Some member
+    → members_of_lines (front ++ line ∷ []) ≡ members_of_lines front ++ member ∷ []
 members_push front line member is = filter_map-append line_member front (line ∷ []) ∙ ap (λ more. members_of_lines front ++ more) (member_alone line member is)
 
-bytes_push : (listing : List Member) (member : Member) → flat_map member_bytes (listing ++ member ∷ []) ≡ flat_map member_bytes listing ++ member_bytes member
-bytes_push listing member = flat_map-append member_bytes listing (member ∷ []) ∙ ap (λ more. flat_map member_bytes listing ++ more) (append-nil (member_bytes member))
+bytes_push : (listing : List Member) (member : Member)
+    → flat_map member_bytes (listing ++ member ∷ []) ≡ flat_map member_bytes listing ++ member_bytes member
+bytes_push listing member =
+    flat_map-append member_bytes listing (member ∷ []) ∙ ap (λ more. flat_map member_bytes listing ++ more) (append-nil (member_bytes member))
 
 tells : (line : Text) → IsShaped line → IsSome (line_member line)
 tells line shaped = let found = shaped_member line shaped in subst IsSome (sym found.1) refl
@@ -113,7 +119,9 @@ module _ (text rest : Text) (bytes new : List ℕ) (so_far : HasDecoded text res
     pub all_decoded : AreDecoded (lines_of text) bytes
     all_decoded = subst (λ (lines : List Text). AreDecoded lines bytes) (sym all_lines) (record {
       tell = all_tell so_far.front so_far.shaped;
-      begin = begins_with (flat_map member_bytes (members_of_lines so_far.front)) [] bytes (so_far.bytes_are ∙ sym (append-nil (flat_map member_bytes (members_of_lines so_far.front))));
+      begin =
+          begins_with (flat_map member_bytes (members_of_lines so_far.front)) [] bytes
+          (so_far.bytes_are ∙ sym (append-nil (flat_map member_bytes (members_of_lines so_far.front))));
     })
 
     pub all_shaped : All IsShaped (lines_of text)

@@ -51,9 +51,11 @@ put_lists (with_bucket k s inside after) base [] key item edge = grind (arith, a
 put_lists (with_bucket k s inside end) base (part ∷ path) key item edge =
     let same : (base ++ k ∷ []) ++ (path ++ key ∷ []) ≡ base ++ ((part ∷ path) ++ key ∷ []) =
     append_assoc base (k ∷ []) (path ++ key ∷ []) ∙ ap (λ part. base ++ (part ∷ (path ++ key ∷ []))) edge.0 in
-    ap (λ more. (base ++ k ∷ [], Bucket s) ∷ (more ++ [])) (put_lists inside (base ++ k ∷ []) path key item edge.1 ∙ ap (λ path. listing_below (base ++ k ∷ []) inside ++ (path, item) ∷ []) same)
+    ap (λ more. (base ++ k ∷ [], Bucket s) ∷ (more ++ []))
+    (put_lists inside (base ++ k ∷ []) path key item edge.1 ∙ ap (λ path. listing_below (base ++ k ∷ []) inside ++ (path, item) ∷ []) same)
     ∙ ap (λ more. (base ++ k ∷ [], Bucket s) ∷ more) (moved (listing_below (base ++ k ∷ []) inside) (base ++ ((part ∷ path) ++ key ∷ []), item))
-put_lists (with_bucket k s inside (with_value a b c)) base (part ∷ path) key item edge = grind (arith, append_assoc, put_lists (with_value a b c) base (part ∷ path) key item edge)
+put_lists (with_bucket k s inside (with_value a b c)) base (part ∷ path) key item edge =
+    grind (arith, append_assoc, put_lists (with_value a b c) base (part ∷ path) key item edge)
 put_lists (with_bucket k s inside (with_bucket a b c d)) base (part ∷ path) key item edge =
     grind (arith, append_assoc, put_lists (with_bucket a b c d) base (part ∷ path) key item edge)
 
@@ -66,21 +68,25 @@ put_some (with_bucket k s inside after) [] key item Here Later is = is
 put_some (with_bucket k s inside after) (part ∷ path) key item Here Later is = is
 
 -- the buckets that the path goes through stay on the edge
-pub front_on_edge : (tree : Tree) (front rest : Path) (key : Key) (item : Item) → OnEdge tree (front ++ rest) → OnEdge (put_last tree (front ++ rest) key item) front
+pub front_on_edge : (tree : Tree) (front rest : Path) (key : Key) (item : Item) → OnEdge tree (front ++ rest)
+    → OnEdge (put_last tree (front ++ rest) key item) front
 front_on_edge tree [] rest key item edge = root_on_edge (put_last tree rest key item)
 front_on_edge end (part ∷ front) rest key item edge = absurd edge
 front_on_edge (with_value k v after) (part ∷ front) rest key item edge = front_on_edge after (part ∷ front) rest key item edge
 front_on_edge (with_bucket k s inside end) (part ∷ front) rest key item edge = (edge.0, front_on_edge inside front rest key item edge.1)
 front_on_edge (with_bucket k s inside (with_value a b c)) (part ∷ front) rest key item edge = front_on_edge (with_value a b c) (part ∷ front) rest key item edge
-front_on_edge (with_bucket k s inside (with_bucket a b c d)) (part ∷ front) rest key item edge = front_on_edge (with_bucket a b c d) (part ∷ front) rest key item edge
+front_on_edge (with_bucket k s inside (with_bucket a b c d)) (part ∷ front) rest key item edge =
+    front_on_edge (with_bucket a b c d) (part ∷ front) rest key item edge
 
 -- and so is a new bucket
-pub new_on_edge : (tree : Tree) (path : Path) (key : Key) (sequence : ℕ) → OnEdge tree path → OnEdge (put_last tree path key (Bucket sequence)) (path ++ key ∷ [])
+pub new_on_edge : (tree : Tree) (path : Path) (key : Key) (sequence : ℕ) → OnEdge tree path
+    → OnEdge (put_last tree path key (Bucket sequence)) (path ++ key ∷ [])
 new_on_edge end [] key sequence edge = (refl, tt)
 new_on_edge end (part ∷ path) key sequence edge = absurd edge
 new_on_edge (with_value k v after) path key sequence edge = new_on_edge after path key sequence edge
 new_on_edge (with_bucket k s inside after) [] key sequence edge =
-    put_some after [] key (Bucket sequence) ((k ≡ key) × OnEdge inside []) (OnEdge (put_last after [] key (Bucket sequence)) (key ∷ [])) (new_on_edge after [] key sequence (root_on_edge after))
+    put_some after [] key (Bucket sequence) ((k ≡ key) × OnEdge inside []) (OnEdge (put_last after [] key (Bucket sequence)) (key ∷ []))
+    (new_on_edge after [] key sequence (root_on_edge after))
 new_on_edge (with_bucket k s inside end) (part ∷ path) key sequence edge = (edge.0, new_on_edge inside path key sequence edge.1)
 new_on_edge (with_bucket k s inside (with_value a b c)) (part ∷ path) key sequence edge = new_on_edge (with_value a b c) (part ∷ path) key sequence edge
 new_on_edge (with_bucket k s inside (with_bucket a b c d)) (part ∷ path) key sequence edge = new_on_edge (with_bucket a b c d) (part ∷ path) key sequence edge

@@ -3,7 +3,8 @@ use Rattle.std.proofs.{lemmas.Grind.common_steps, lemmas.Bool.both_ways}
 use Rattle.std.proofs.Common.{◌≡◌, ℕ, true, List, [], ◌∷◌, sym, subst, arith}
 use Rattle.bolt_load.proofs.Words.{ArePartsBytes, Contains, IsFitItem, Item, Member, Path}
 use Rattle.bolt_format.specs.Bytes.{IsBytes}
-use Rattle.bolt_format.specs.Elements.{IsBucketValue, LeafElement, head_root, inline_bytes, inline_elements, leaf_element, leaf_key_start, leaf_value_start}
+use Rattle.bolt_format.specs.Elements.{IsBucketValue, LeafElement, head_root, inline_bytes, inline_elements, leaf_element, leaf_key_start}
+use Rattle.bolt_format.specs.Elements.{leaf_value_start}
 use Rattle.bolt_format.specs.{Pages.span_bytes, declared.meta.Meta.Meta}
 use Rattle.bolt_format.proofs.Exports.{drop_bytes, range_bytes, bucket_value, flat_inline, in_inline, on_leaf}
 use Rattle.bolt_text.specs.JsonReadings.{IsItemOfBytes}
@@ -44,7 +45,8 @@ module _ (file : List ℕ) (meta : Meta) (bytes : IsBytes file) where
         start = λ b. absurd (both_ways e.is_bucket (flat_inline value e good root within) b);
       }
 
-  held_bytes : (path : Path) (item : Item) (from : Start) → IsOfBytes from → Holds (IsEntry file meta) from path item → IsFitItem item → ArePartsBytes path × IsItemOfBytes item
+  held_bytes : (path : Path) (item : Item) (from : Start) → IsOfBytes from → Holds (IsEntry file meta) from path item → IsFitItem item
+      → ArePartsBytes path × IsItemOfBytes item
   held_bytes [] item from start held fits = absurd held
   held_bytes (key ∷ []) item from start (e, is, same, of) fits = grind (arith, common_steps, entry_good)
   held_bytes (key ∷ next ∷ path) item from start (e, is, same, b, more) fits =

@@ -1,9 +1,13 @@
 -- The buckets of the members so far in which a further member may be are those of the last path: paths rise, and each has its bucket before it.
-use Rattle.std.proofs.Common.{rules, ◌≡◌, ◌∙◌, ◌⊎◌, inl, inr, ◌<◌, ◌+◌, ◌-◌, ◌==◌, ◌||◌, Bool, true, false, List, [], ◌∷◌, ◌++◌, Some, length, take, drop, slice_get, refl, sym, ap, subst, arith, append_assoc, append-nil, length-append, length-drop}
-use Rattle.std.proofs.{lemmas.Grind.common_steps, lemmas.Bool.or_cases, lemmas.List.Folds.list_any-append, lemmas.Slice.Eq.slice_eq-Decides, Math.Seq.take-append-add}
+use Rattle.std.proofs.Common.{rules, ◌≡◌, ◌∙◌, ◌⊎◌, inl, inr, ◌<◌, ◌+◌, ◌-◌, ◌==◌, ◌||◌, Bool, true, false, List, [], ◌∷◌, ◌++◌, Some, length, take}
+use Rattle.std.proofs.Common.{drop, slice_get, refl, sym, ap, subst, arith, append_assoc, append-nil, length-append, length-drop}
+use Rattle.std.proofs.{lemmas.Grind.common_steps, lemmas.Bool.or_cases, lemmas.List.Folds.list_any-append, lemmas.Slice.Eq.slice_eq-Decides}
+use Rattle.std.proofs.{Math.Seq.take-append-add}
 use Rattle.std.specs.Cmp.Lexicographic.{pointwise}
 use Rattle.std.specs.Prelude.{nat_lt}
-use Rattle.bolt_load.proofs.Words.{and_parts, begins_of, begins_with, bytes_eq, bytes_eq-Decides, fault_after, order_fault, Has, has_bucket, has_split, is_above_last, is_bucket, is_lt, is_open, Item, Key, Less, less_of, list_any, Member, nat_tests, option_map_or, Path, path_above, path_cmp, path_total, place_fault, take-append-drop}
+use Rattle.bolt_load.proofs.Words.{and_parts, begins_of, begins_with, bytes_eq, bytes_eq-Decides, fault_after, order_fault, Has, has_bucket}
+use Rattle.bolt_load.proofs.Words.{has_split, is_above_last, is_bucket, is_lt, is_open, Item, Key, Less, less_of, list_any, Member, nat_tests}
+use Rattle.bolt_load.proofs.Words.{option_map_or, Path, path_above, path_cmp, path_total, place_fault, take-append-drop}
 use Rattle.bolt_tree.specs.ListingParts.{is_bucket_at}
 use Rattle.bolt_check.proofs.Exports.{get_behind}
 use Rattle.bolt_tree.proofs.Exports.{asymmetric, begins_by, beyond_less, beyond_or_longer}
@@ -57,7 +61,8 @@ longer_open : (last above : Path) (bucket : Bool) (key : Key) (rest : Path) → 
 longer_open last above bucket key rest is = grind (arith, common_steps, begins_by, key, length-append, nat_lt, nat_tests)
 
 same_open : (last above : Path) (bucket : Bool) → last ≡ above → bucket ≡ true → is_open last bucket above ≡ true
-same_open last above bucket same is = cc (begins_by above last [] (same ∙ sym (append-nil above)), append-nil above, or_right (nat_lt (length above) (length last)) bucket is)
+same_open last above bucket same is =
+    cc (begins_by above last [] (same ∙ sym (append-nil above)), append-nil above, or_right (nat_lt (length above) (length last)) bucket is)
 
 -- ---- the last of the members so far
 
@@ -145,7 +150,8 @@ last_of before member =
 
 module _ (before : List Member) (last : Path) (bucket : Bool) (is : IsLast before last bucket) (path : Path) (item : Item) (some : 0 < length path)
     (less : path_cmp last path ≡ Less) (has : has_bucket (path_above path) before ≡ true) where
-  now_most : (member : Member) → Has (before ++ (path, item) ∷ []) member → (path_cmp member.0 path ≡ Less) ⊎ ((member.0 ≡ path) × (is_bucket member.1 ≡ is_bucket item))
+  now_most : (member : Member) → Has (before ++ (path, item) ∷ []) member
+      → (path_cmp member.0 path ≡ Less) ⊎ ((member.0 ≡ path) × (is_bucket member.1 ≡ is_bucket item))
   now_most member found = elim (has_split before ((path, item) ∷ []) member found) [
     | inl earlier ↦
         elim (is.most member earlier) [
@@ -162,12 +168,16 @@ module _ (before : List Member) (last : Path) (bucket : Bool) (is : IsLast befor
     where
       at : (more : Path) → path_above (key ∷ rest) ≡ more → has_bucket above before ≡ true
       at [] none =
-          let same : path_above path ≡ above = ap path_above split ∙ above_append above (key ∷ rest) (omega arith) ∙ ap (λ more. above ++ more) none ∙ append-nil above in
+          let same : path_above path ≡ above =
+          ap path_above split ∙ above_append above (key ∷ rest) (omega arith) ∙ ap (λ more. above ++ more) none ∙ append-nil above in
           sym (ap (λ p. has_bucket p before) same) ∙ has
       at (k ∷ r) one =
-          let longer : path_above path ≡ above ++ k ∷ r = ap path_above split ∙ above_append above (key ∷ rest) (omega arith) ∙ ap (λ more. above ++ more) one in
+          let longer : path_above path ≡ above ++ k ∷ r =
+          ap path_above split ∙ above_append above (key ∷ rest) (omega arith) ∙ ap (λ more. above ++ more) one in
           let goes = sym (path_open before last bucket is path some less) ∙ has in
-          let begins = begins_of (path_above path) last (and_parts (begins_with (path_above path) last) (nat_lt (length (path_above path)) (length last) || bucket) goes).0 in
+          let begins =
+          begins_of (path_above path) last
+          (and_parts (begins_with (path_above path) last) (nat_lt (length (path_above path)) (length last) || bucket) goes).0 in
           let end = drop (length (path_above path)) last in
           is.opens above (longer_open last above bucket k (r ++ end) (begins ∙ ap (λ p. p ++ end) longer ∙ append_assoc above (k ∷ r) end))
 
@@ -176,12 +186,14 @@ module _ (before : List Member) (last : Path) (bucket : Bool) (is : IsLast befor
       let parts = and_parts (begins_with above path) (nat_lt (length above) (length path) || is_bucket item) goes in
       at (drop (length above) path) (begins_of above path parts.0) parts.1
     where
-      at : (rest : Path) → path ≡ above ++ rest → (nat_lt (length above) (length path) || is_bucket item) ≡ true → has_bucket above (before ++ (path, item) ∷ []) ≡ true
+      at : (rest : Path) → path ≡ above ++ rest → (nat_lt (length above) (length path) || is_bucket item) ≡ true
+          → has_bucket above (before ++ (path, item) ∷ []) ≡ true
       at [] split kind =
           let same : path ≡ above = split ∙ append-nil above in
           let l = ap length same in
           let not_shorter : nat_lt (length above) (length path) ≡ false = grind (arith, nat_tests, l) in
-          subst (λ (above : Path). has_bucket above (before ++ (path, item) ∷ []) ≡ true) same (has_new path item before (sym (ap (λ b. b || is_bucket item) not_shorter) ∙ kind))
+          subst (λ (above : Path). has_bucket above (before ++ (path, item) ∷ []) ≡ true) same
+          (has_new path item before (sym (ap (λ b. b || is_bucket item) not_shorter) ∙ kind))
       at (key ∷ rest) split kind = has_more above before ((path, item) ∷ []) (below_above above key rest split)
 
   pub next_last : IsLast (before ++ (path, item) ∷ []) path (is_bucket item)

@@ -1,8 +1,13 @@
 -- The text of a listing that is of one tree is read back as that listing.
 use Rattle.std.proofs.{lemmas.Grind.common_steps, lemmas.List.Elements.Contains-append_left, lemmas.Bool.Decides.Decides-eqb, lemmas.Slice.Eq.ends_is}
-use Rattle.std.proofs.Common.{◌≡◌, ◌∙◌, ◌==◌, ◌<◌, ◌-◌, ℕ, true, false, List, [], ◌∷◌, ◌++◌, Option, Some, None, length, map, slice_get, inl, inr, refl, sym, ap, ap₂, subst, arith, append_assoc, append-nil, length-append}
-use Rattle.bolt_load.proofs.Words.{Bucket, Contains, contains_from_has, end, filter_map-append, Has, has_bucket, if◌then◌else◌, is_above_last, is_lt, IsListingText, IsLoadFault, IsMemberOfBytes, Item, Key, Less, line_fault, line_member, LineFault, lines_of, listing_below, listing_of, listing_text, Member, member_cmp, member_line, members_of_lines, option_map_or, Path, path_above, path_cmp, place_fault, RightAfter, Rises, Text, text_members, Tree, Value, with_bucket, with_value}
-use Rattle.bolt_load.proofs.{DecodedLines.member_alone, LastPaths.has_more, LastPaths.has_new, NextLines.members_first, PlacedLines.fault_is_of_place, StoredTexts.AreKeys, StoredTexts.FitsMember}
+use Rattle.std.proofs.Common.{◌≡◌, ◌∙◌, ◌==◌, ◌<◌, ◌-◌, ℕ, true, false, List, [], ◌∷◌, ◌++◌, Option, Some, None, length, map, slice_get, inl, inr}
+use Rattle.std.proofs.Common.{refl, sym, ap, ap₂, subst, arith, append_assoc, append-nil, length-append}
+use Rattle.bolt_load.proofs.Words.{Bucket, Contains, contains_from_has, end, filter_map-append, Has, has_bucket, if◌then◌else◌, is_above_last, is_lt}
+use Rattle.bolt_load.proofs.Words.{IsListingText, IsLoadFault, IsMemberOfBytes, Item, Key, Less, line_fault, line_member, LineFault, lines_of}
+use Rattle.bolt_load.proofs.Words.{listing_below, listing_of, listing_text, Member, member_cmp, member_line, members_of_lines, option_map_or, Path}
+use Rattle.bolt_load.proofs.Words.{path_above, path_cmp, place_fault, RightAfter, Rises, Text, text_members, Tree, Value, with_bucket, with_value}
+use Rattle.bolt_load.proofs.{DecodedLines.member_alone, LastPaths.has_more, LastPaths.has_new, NextLines.members_first, PlacedLines.fault_is_of_place}
+use Rattle.bolt_load.proofs.{StoredTexts.AreKeys, StoredTexts.FitsMember}
 use Rattle.bolt_load.proofs.WrittenLines.{line_back, line_is, line_shaped, member_words, words_without}
 use Rattle.bolt_text.proofs.Exports.{lines_cut, no_lines}
 use Rattle.bolt_load.specs.{LineFaults.is_whole, declared.load_fault.LineFault.TheVariants.CutOff, declared.load_fault.LoadFault.TheVariants.Line}
@@ -23,12 +28,14 @@ lines_are [] good = no_lines
 lines_are (member ∷ listing) good =
     let whole : listing_text (member ∷ listing) ≡ member_words member ++ 10 ∷ listing_text listing =
     ap (λ first. first ++ listing_text listing) (line_is member) ∙ append_assoc (member_words member) (10 ∷ []) (listing_text listing) in
-    lines_cut (listing_text (member ∷ listing)) (member_words member) (listing_text listing) (record { whole = whole; first = words_without member (good member (inl refl)) })
+    lines_cut (listing_text (member ∷ listing)) (member_words member) (listing_text listing)
+    (record { whole = whole; first = words_without member (good member (inl refl)) })
     ∙ ap (λ lines. member_words member ∷ lines) (lines_are listing (later_good member listing good))
 
 -- ---- the place of a member
 
-rises_after : (before : List Member) (member : Member) (after : List Member) → Rises member_cmp (before ++ member ∷ after) → (other : Member) → Has before other → path_cmp other.0 member.0 ≡ Less
+rises_after : (before : List Member) (member : Member) (after : List Member) → Rises member_cmp (before ++ member ∷ after) → (other : Member)
+    → Has before other → path_cmp other.0 member.0 ≡ Less
 rises_after [] member after rises other has = absurd has
 rises_after (first ∷ before) member after rises other (inl same) = grind (arith, common_steps, path_cmp, contains_from_has, has_right)
 rises_after (first ∷ before) member after rises other (inr has) = rises_after before member after rises.1 other has
@@ -37,7 +44,8 @@ rises_front : (xs ys : List Member) → Rises member_cmp (xs ++ ys) → Rises me
 rises_front [] ys rises = tt
 rises_front (x ∷ xs) ys rises = (λ y has. rises.0 y (Contains-append_left xs ys y has), rises_front xs ys rises.1)
 
-above_last : (before : List Member) (path : Path) → ((other : Member) → Has before other → path_cmp other.0 path ≡ Less) → is_above_last before path ≡ true
+above_last : (before : List Member) (path : Path) → ((other : Member) → Has before other → path_cmp other.0 path ≡ Less)
+    → is_above_last before path ≡ true
 above_last before path below = at (slice_get before (length before - 1)) refl
   where
     at : (found : Option Member) → slice_get before (length before - 1) ≡ found → is_above_last before path ≡ true
@@ -46,21 +54,27 @@ above_last before path below = at (slice_get before (length before - 1)) refl
         ap (λ (found : Option Member). option_map_or (λ (last : Member). is_lt (path_cmp last.0 path)) found true) is
         ∙ ap is_lt (below last (at_has before (length before - 1) last is))
 
-placed : (before : List Member) (front : Path) (key : Key) (item : Item) → is_above_last before (front ++ key ∷ []) ≡ true → has_bucket front before ≡ true
+placed : (before : List Member) (front : Path) (key : Key) (item : Item) → is_above_last before (front ++ key ∷ []) ≡ true
+    → has_bucket front before ≡ true
     → place_fault before (front ++ key ∷ [], item) ≡ None
 placed before front key item above has = grind (arith, common_steps, has_bucket, path_above)
 
 -- ---- all lines
 
-right_append : (before : List Member) (first second : List Text) → RightAfter before first → RightAfter (before ++ members_of_lines first) second → RightAfter before (first ++ second)
+right_append : (before : List Member) (first second : List Text) → RightAfter before first → RightAfter (before ++ members_of_lines first) second
+    → RightAfter before (first ++ second)
 right_append before [] second right more = subst (λ (ms : List Member). RightAfter ms second) (append-nil before) more
 right_append before (line ∷ first) second right more = (
   right.0,
-  right_append (before ++ members_of_lines (line ∷ [])) first second right.1 (subst (λ (ms : List Member). RightAfter ms second) (members_first_of before line first) more),
+  right_append (before ++ members_of_lines (line ∷ [])) first second right.1
+      (subst (λ (ms : List Member). RightAfter ms second) (members_first_of before line first) more),
 )
   where
-    members_first_of : (before : List Member) (line : Text) (first : List Text) → before ++ members_of_lines (line ∷ first) ≡ (before ++ members_of_lines (line ∷ [])) ++ members_of_lines first
-    members_first_of before line first = ap (λ ms. before ++ ms) (filter_map-append line_member (line ∷ []) first) ∙ sym (append_assoc before (members_of_lines (line ∷ [])) (members_of_lines first))
+    members_first_of : (before : List Member) (line : Text) (first : List Text)
+        → before ++ members_of_lines (line ∷ first) ≡ (before ++ members_of_lines (line ∷ [])) ++ members_of_lines first
+    members_first_of before line first =
+        ap (λ ms. before ++ ms) (filter_map-append line_member (line ∷ []) first)
+        ∙ sym (append_assoc before (members_of_lines (line ∷ [])) (members_of_lines first))
 
 map_append : (xs ys : List Member) → map member_words (xs ++ ys) ≡ map member_words xs ++ map member_words ys
 map_append [] ys = refl
@@ -79,7 +93,8 @@ push_key (part ∷ front) key are last = (are.0, push_key front key are.1 last)
 some_parts : (front : Path) (key : Key) → 0 < length (front ++ key ∷ [])
 some_parts front key = let l = length-append front (key ∷ []) in omega (arith, l)
 
-module _ (before : List Member) (front : Path) (key : Key) (item : Item) (rest : List Member) (fits : FitsMember (front ++ key ∷ [], item)) (good : IsMemberOfBytes (front ++ key ∷ [], item)) where
+module _ (before : List Member) (front : Path) (key : Key) (item : Item) (rest : List Member) (fits : FitsMember (front ++ key ∷ [], item))
+    (good : IsMemberOfBytes (front ++ key ∷ [], item)) where
   abbrev own : Member
   own = (front ++ key ∷ [], item)
 
@@ -92,10 +107,12 @@ module _ (before : List Member) (front : Path) (key : Key) (item : Item) (rest :
   told_alone : members_of_lines (member_words own ∷ []) ≡ own ∷ []
   told_alone = member_alone (member_words own) own told
 
-  told_first : (listing : List Member) → members_of_lines (map member_words listing) ≡ listing → members_of_lines (map member_words (own ∷ listing)) ≡ own ∷ listing
+  told_first : (listing : List Member) → members_of_lines (map member_words listing) ≡ listing
+      → members_of_lines (map member_words (own ∷ listing)) ≡ own ∷ listing
   told_first listing same = members_first (member_words own) (map member_words listing) own told ∙ ap (λ ms. own ∷ ms) same
 
-members_back : (front : Path) (tree : Tree) → IsPlain front tree → members_of_lines (map member_words (listing_below front tree)) ≡ listing_below front tree
+members_back : (front : Path) (tree : Tree) → IsPlain front tree
+    → members_of_lines (map member_words (listing_below front tree)) ≡ listing_below front tree
 members_back front end plain = refl
 members_back front (with_value key value after) plain =
     let fits : FitsMember (front ++ key ∷ [], Value value) = (push_key front key plain.keys (plain.lengths.0, tt), plain.lengths.1) in
@@ -108,11 +125,14 @@ members_back front (with_bucket key sequence inside after) plain =
     let same : members_of_lines (map member_words (deep ++ behind)) ≡ deep ++ behind =
     ap members_of_lines (map_append deep behind) ∙ filter_map-append line_member (map member_words deep) (map member_words behind)
     ∙ ap₂ (λ a b. a ++ b)
-    (members_back (front ++ key ∷ []) inside (record { keys = keys; lengths = plain.lengths.2; good = λ member has. plain.good member (inr (has_left deep behind member has)) }))
-    (members_back front after (record { keys = plain.keys; lengths = plain.lengths.3; good = λ member has. plain.good member (inr (has_right deep behind member has)) })) in
+    (members_back (front ++ key ∷ []) inside
+    (record { keys = keys; lengths = plain.lengths.2; good = λ member has. plain.good member (inr (has_left deep behind member has)) }))
+    (members_back front after
+    (record { keys = plain.keys; lengths = plain.lengths.3; good = λ member has. plain.good member (inr (has_right deep behind member has)) })) in
     told_first [] front key (Bucket sequence) [] (keys, plain.lengths.1) (plain.good (front ++ key ∷ [], Bucket sequence) (inl refl)) (deep ++ behind) same
 
-right_below : (before : List Member) (front : Path) (tree : Tree) → IsPlain front tree → has_bucket front before ≡ true → Rises member_cmp (before ++ listing_below front tree)
+right_below : (before : List Member) (front : Path) (tree : Tree) → IsPlain front tree → has_bucket front before ≡ true
+    → Rises member_cmp (before ++ listing_below front tree)
     → RightAfter before (map member_words (listing_below front tree))
 right_below before front end plain has rises = tt
 right_below before front (with_value key value after) plain has rises =
@@ -134,18 +154,23 @@ right_below before front (with_bucket key sequence inside after) plain has rises
     let fits : FitsMember (front ++ key ∷ [], Bucket sequence) = (keys, plain.lengths.1) in
     let good = plain.good own (inl refl) in
     let alone = told_alone before front key (Bucket sequence) (deep ++ behind) fits good in
-    let plain_inside : IsPlain (front ++ key ∷ []) inside = record { keys = keys; lengths = plain.lengths.2; good = λ member has. plain.good member (inr (has_left deep behind member has)) } in
-    let plain_after : IsPlain front after = record { keys = plain.keys; lengths = plain.lengths.3; good = λ member has. plain.good member (inr (has_right deep behind member has)) } in
+    let plain_inside : IsPlain (front ++ key ∷ []) inside =
+    record { keys = keys; lengths = plain.lengths.2; good = λ member has. plain.good member (inr (has_left deep behind member has)) } in
+    let plain_after : IsPlain front after =
+    record { keys = plain.keys; lengths = plain.lengths.3; good = λ member has. plain.good member (inr (has_right deep behind member has)) } in
     let now : List Member = before ++ own ∷ [] in
     let whole : Rises member_cmp (now ++ (deep ++ behind)) = subst (Rises member_cmp) (sym (append_assoc before (own ∷ []) (deep ++ behind))) rises in
     let within : Rises member_cmp (now ++ deep) = rises_front (now ++ deep) behind (subst (Rises member_cmp) (sym (append_assoc now deep behind)) whole) in
     let right_inside = right_below now (front ++ key ∷ []) inside plain_inside (has_new (front ++ key ∷ []) (Bucket sequence) before refl) within in
-    let right_later = right_below (now ++ deep) front after plain_after (has_more front now deep (has_more front before (own ∷ []) has)) (subst (Rises member_cmp) (sym (append_assoc now deep behind)) whole) in (
+    let right_later =
+    right_below (now ++ deep) front after plain_after (has_more front now deep (has_more front before (own ∷ []) has))
+    (subst (Rises member_cmp) (sym (append_assoc now deep behind)) whole) in (
       first_right before front key (Bucket sequence) (deep ++ behind) fits good rises has,
       subst (λ (ms : List Member). RightAfter (before ++ ms) (map member_words (deep ++ behind))) (sym alone)
           (subst (RightAfter now) (sym (map_append deep behind))
           (right_append now (map member_words deep) (map member_words behind) right_inside
-          (subst (λ (ms : List Member). RightAfter (now ++ ms) (map member_words behind)) (sym (members_back (front ++ key ∷ []) inside plain_inside)) right_later))),
+          (subst (λ (ms : List Member). RightAfter (now ++ ms) (map member_words behind)) (sym (members_back (front ++ key ∷ []) inside plain_inside))
+          right_later))),
     )
 
 -- ---- the end of the text
@@ -178,7 +203,8 @@ no_text_is_cut number fault (inr (same, cut)) = (cut.number_is ∙ ap (λ lines.
 
 -- ---- the whole text
 
-module _ (listing : List Member) (one : IsOfOneTree listing) (rises : Rises member_cmp listing) (bytes : (member : Member) → Contains listing member → IsMemberOfBytes member) where
+module _ (listing : List Member) (one : IsOfOneTree listing) (rises : Rises member_cmp listing)
+    (bytes : (member : Member) → Contains listing member → IsMemberOfBytes member) where
   good : AreGood listing
   good member has = bytes member (contains_from_has listing member has)
 

@@ -1,7 +1,9 @@
 -- The next line tells the member whose bytes come next.
-use Rattle.std.proofs.Common.{rules, ◌≡◌, ◌∙◌, ℕ, List, [], ◌∷◌, ◌++◌, Option, Some, None, length, drop, take, refl, sym, ap, subst, arith, append_assoc}
+use Rattle.std.proofs.Common.{rules, ◌≡◌, ◌∙◌, ℕ, List, [], ◌∷◌, ◌++◌, Option, Some, None, length, drop, take, refl, sym, ap, subst, arith}
+use Rattle.std.proofs.Common.{append_assoc}
 use Rattle.std.proofs.lemmas.List.{append_cancel_left}
-use Rattle.bolt_load.proofs.Words.{All, AreDecoded, BeginsWith, IsFirstLine, IsSome, Item, item_bytes, line_member, lines_of, Member, member_bytes, members_of_lines, Path, path_bytes, take-append-drop, take-append_seam, Text, text_members}
+use Rattle.bolt_load.proofs.Words.{All, AreDecoded, BeginsWith, IsFirstLine, IsSome, Item, item_bytes, line_member, lines_of, Member, member_bytes}
+use Rattle.bolt_load.proofs.Words.{members_of_lines, Path, path_bytes, take-append-drop, take-append_seam, Text, text_members}
 use Rattle.bolt_load.proofs.MemberLemmas.{member_of}
 use Rattle.std.specs.Prelude.{suc, IsSomeAnd}
 use Rattle.bolt_load.specs.Private.Decoding.{listing_bytes}
@@ -19,7 +21,8 @@ module _ (line : Text) (lines : List Text) (member : Member) (is : line_member l
   pub members_first : members_of_lines (line ∷ lines) ≡ member ∷ members_of_lines lines
   members_first = rw is refl
 
-pub parts_of : (path : Option Path) (item : Option Item) (member : Member) → member_of path item ≡ Some member → (path ≡ Some member.0) × (item ≡ Some member.1)
+pub parts_of : (path : Option Path) (item : Option Item) (member : Member) → member_of path item ≡ Some member
+    → (path ≡ Some member.0) × (item ≡ Some member.1)
 parts_of path item member is = grind arith
 
 module _ (text line after : Text) (bytes : List ℕ) (first : IsFirstLine text line after) (decoded : AreDecoded (lines_of text) bytes) where
@@ -47,14 +50,18 @@ module _ (text line after : Text) (bytes : List ℕ) (first : IsFirstLine text l
     both = parts_of path item told.0 (sym words ∙ told.1)
 
     pub path_begins : IsSomeAnd path (λ told. BeginsWith (path_bytes told) bytes)
-    path_begins = subst (λ (path : Option Path). IsSomeAnd path (λ told. BeginsWith (path_bytes told) bytes)) (sym both.0) (record { after = item_bytes told.0.1 ++ later; whole = bytes_are })
+    path_begins =
+        subst (λ (path : Option Path). IsSomeAnd path (λ told. BeginsWith (path_bytes told) bytes)) (sym both.0)
+        (record { after = item_bytes told.0.1 ++ later; whole = bytes_are })
 
     module _ (newer : Path) (bytes_left : List ℕ) (pushed : (told : Path) → path ≡ Some told → (newer ≡ told) × (bytes ≡ path_bytes told ++ bytes_left)) where
       left_are : bytes_left ≡ item_bytes told.0.1 ++ later
       left_are = append_cancel_left (path_bytes told.0.0) bytes_left (item_bytes told.0.1 ++ later) (sym (pushed told.0.0 both.0).1 ∙ bytes_are)
 
       pub item_begins : IsSomeAnd item (λ told. BeginsWith (item_bytes told) bytes_left)
-      item_begins = subst (λ (item : Option Item). IsSomeAnd item (λ told. BeginsWith (item_bytes told) bytes_left)) (sym both.1) (record { after = later; whole = left_are })
+      item_begins =
+          subst (λ (item : Option Item). IsSomeAnd item (λ told. BeginsWith (item_bytes told) bytes_left)) (sym both.1)
+          (record { after = later; whole = left_are })
 
       module _ (given : Item) (rest : List ℕ) (item_is : Some given ≡ item) (rest_is : bytes_left ≡ item_bytes given ++ rest) where
         item_same : told.0.1 ≡ given
@@ -67,7 +74,9 @@ module _ (text line after : Text) (bytes : List ℕ) (first : IsFirstLine text l
         unfolding later
         rest_decoded = record {
           tell = others_of (λ line. IsSome (line_member line)) line (lines_of after) all_tell;
-          begin = ap (take (length (listing_bytes (text_members after)))) rest_same ∙ take-append_seam (listing_bytes (text_members after)) (drop (length (listing_bytes (text_members text))) bytes);
+          begin =
+              ap (take (length (listing_bytes (text_members after)))) rest_same
+              ∙ take-append_seam (listing_bytes (text_members after)) (drop (length (listing_bytes (text_members text))) bytes);
         }
 
 pub no_members : (text : Text) → text ≡ [] → lines_of text ≡ []

@@ -1,8 +1,13 @@
 -- The places of lines are tested one after another.
-use Rattle.std.proofs.Common.{rules, ◌≡◌, ◌∙◌, ◌<◌, ◌≤◌, ◌+◌, ◌==◌, ℕ, Bool, true, List, [], ◌∷◌, ◌++◌, Option, Some, None, length, Bor, refl, sym, ap, subst, arith, append_assoc, append-nil, length-append}
+use Rattle.std.proofs.Common.{rules, ◌≡◌, ◌∙◌, ◌<◌, ◌≤◌, ◌+◌, ◌==◌, ℕ, Bool, true, List, [], ◌∷◌, ◌++◌, Option, Some, None, length, Bor, refl, sym}
+use Rattle.std.proofs.Common.{ap, subst, arith, append_assoc, append-nil, length-append}
 use Rattle.std.proofs.lemmas.Grind.{common_steps}
-use Rattle.bolt_load.proofs.Words.{All, fault_after, order_fault, filter_map-append, GivesLine, hex_path_in, is_bucket, is_lt, is_open, IsFirstFault, Item, Key, length-map, less_of, line_fault, line_member, LineFault, lines_of, Member, member_in, members_of_lines, option_and_then, option_map, part_in, parts_in, Path, path_above, path_cmp, path_of, place_fault, RightAfter, slice_split, Text}
-use Rattle.bolt_load.proofs.{DecodedLines.IsShaped, DecodedLines.members_push, LastPaths.IsLast, LastPaths.next_last, LastPaths.none_last, LastPaths.path_open, LastPaths.place_same}
+use Rattle.bolt_load.proofs.Words.{All, fault_after, order_fault, filter_map-append, GivesLine, hex_path_in, is_bucket, is_lt, is_open, IsFirstFault}
+use Rattle.bolt_load.proofs.Words.{Item, Key, length-map, less_of, line_fault, line_member, LineFault, lines_of, Member, member_in, members_of_lines}
+use Rattle.bolt_load.proofs.Words.{option_and_then, option_map, part_in, parts_in, Path, path_above, path_cmp, path_of, place_fault, RightAfter}
+use Rattle.bolt_load.proofs.Words.{slice_split, Text}
+use Rattle.bolt_load.proofs.{DecodedLines.IsShaped, DecodedLines.members_push, LastPaths.IsLast, LastPaths.next_last, LastPaths.none_last}
+use Rattle.bolt_load.proofs.{LastPaths.path_open, LastPaths.place_same}
 use Rattle.bolt_load.proofs.NextLines.{first_of, others_of, parts_of}
 use Rattle.bolt_text.proofs.Exports.{some_parts}
 
@@ -12,7 +17,8 @@ parts_some : (words : List Text) (path : Path) → 0 < length words → parts_in
 parts_some [] path some is = absurd (omega (arith, some))
 parts_some (word ∷ words) path some is = at (part_in word) (parts_in words) is
   where
-    at : (part : Option Key) (rest : Option Path) → option_and_then (λ part. option_map (λ parts. part ∷ parts) rest) part ≡ Some path → 0 < length path
+    at : (part : Option Key) (rest : Option Path) → option_and_then (λ part. option_map (λ parts. part ∷ parts) rest) part ≡ Some path
+        → 0 < length path
     at None rest is = absurd (let f : None ≡ Some path = is in cc)
     at (Some part) None is = absurd (let f : None ≡ Some path = is in cc)
     at (Some part) (Some rest) is =
@@ -33,15 +39,19 @@ line_path_some line path item is = member_some (slice_split (λ byte. byte == 32
 
 -- ---- what is wrong with a line that is right in itself
 
-pub fault_is_of_place : (before : List Member) (line : Text) (member : Member) → IsShaped line → line_member line ≡ Some member → line_fault before line ≡ place_fault before member
+pub fault_is_of_place : (before : List Member) (line : Text) (member : Member) → IsShaped line → line_member line ≡ Some member
+    → line_fault before line ≡ place_fault before member
 fault_is_of_place before line member shaped is = grind arith
 
-right_push : (before : List Member) (front : List Text) (line : Text) → RightAfter before front → line_fault (before ++ members_of_lines front) line ≡ None → RightAfter before (front ++ line ∷ [])
+right_push : (before : List Member) (front : List Text) (line : Text) → RightAfter before front
+    → line_fault (before ++ members_of_lines front) line ≡ None → RightAfter before (front ++ line ∷ [])
 right_push before [] line right good = (sym (ap (λ before. line_fault before line) (append-nil before)) ∙ good, tt)
 right_push before (first ∷ front) line right good = (
   right.0,
   right_push (before ++ members_of_lines (first ∷ [])) front line right.1
-      (ap (λ before. line_fault before line) (append_assoc before (members_of_lines (first ∷ [])) (members_of_lines front) ∙ ap (λ more. before ++ more) (sym (filter_map-append line_member (first ∷ []) front))) ∙ good),
+      (ap (λ before. line_fault before line)
+      (append_assoc before (members_of_lines (first ∷ [])) (members_of_lines front)
+      ∙ ap (λ more. before ++ more) (sym (filter_map-append line_member (first ∷ []) front))) ∙ good),
 )
 
 -- ---- the lines so far
@@ -70,7 +80,9 @@ module _ (text left : Text) (last : Path) (bucket : Bool) (number : ℕ) (so_far
     this_shaped = first_of IsShaped given.0 (lines_of after) (subst (All IsShaped) given.1 so_far.shaped)
 
     fault_here : line_fault (members_of_lines so_far.front) given.0 ≡ fault_after last bucket path
-    fault_here = fault_is_of_place (members_of_lines so_far.front) given.0 (path, item) this_shaped given.2 ∙ place_same (members_of_lines so_far.front) last bucket so_far.last_is path path_some item
+    fault_here =
+        fault_is_of_place (members_of_lines so_far.front) given.0 (path, item) this_shaped given.2
+        ∙ place_same (members_of_lines so_far.front) last bucket so_far.last_is path path_some item
 
     lines_here : lines_of text ≡ so_far.front ++ given.0 ∷ lines_of after
     lines_here = so_far.lines ∙ ap (λ lines. so_far.front ++ lines) given.1
@@ -91,7 +103,8 @@ module _ (text left : Text) (last : Path) (bucket : Bool) (number : ℕ) (so_far
           shaped = others_of IsShaped given.0 (lines_of after) (subst (All IsShaped) given.1 so_far.shaped);
           right = right_push [] so_far.front given.0 so_far.right (fault_here ∙ none);
           last_is = subst (λ (members : List Member). IsLast members path (is_bucket item)) (sym (members_push so_far.front given.0 (path, item) given.2))
-              (next_last (members_of_lines so_far.front) last bucket so_far.last_is path item path_some less (path_open (members_of_lines so_far.front) last bucket so_far.last_is path path_some less ∙ both.1));
+              (next_last (members_of_lines so_far.front) last bucket so_far.last_is path item path_some less
+              (path_open (members_of_lines so_far.front) last bucket so_far.last_is path path_some less ∙ both.1));
         }
 
     pub line_refused : (fault : LineFault) → Some fault ≡ fault_after last bucket path → IsFirstFault text (number + 1) fault

@@ -1,10 +1,16 @@
 -- A text without a fault, written plainly, is the text of the listing that it tells.
-use Rattle.std.proofs.Common.{rules, unwrap_or, ◌≡◌, ◌∙◌, ◌<◌, ◌+◌, ◌==◌, ◌&&◌, ◌*◌, ◌/◌, ◌%◌, ℕ, zero, suc, Bool, true, List, [], ◌∷◌, ◌++◌, Option, Some, Result, Ok, Err, codes, length, map, inl, inr, refl, sym, ap, ap₂, arith, append_assoc}
+use Rattle.std.proofs.Common.{rules, unwrap_or, ◌≡◌, ◌∙◌, ◌<◌, ◌+◌, ◌==◌, ◌&&◌, ◌*◌, ◌/◌, ◌%◌, ℕ, zero, suc, Bool, true, List, [], ◌∷◌, ◌++◌, Option}
+use Rattle.std.proofs.Common.{Some, Result, Ok, Err, codes, length, map, inl, inr, refl, sym, ap, ap₂, arith, append_assoc}
 use Rattle.std.proofs.{lemmas.Grind.common_steps, lemmas.List.Splits.join_with_byte-slice_split}
 use Rattle.std.specs.{Char.to_ascii_lowercase, List.join_with_byte, Result.result_unwrap_or, Str.str_to_ascii_lowercase}
 use Rattle.std.specs.Prelude.{nat_lt, slice_index}
-use Rattle.bolt_load.proofs.Words.{and_parts, Bucket, bytes_eq, bytes_eq-Decides, cases_Bool, cases_lt, decode_pairs, digit_or_error, encode_lower, encode_with, flat_map, FromHexError, hex_bytes_in, hex_digit_value, hex_path, hex_path_in, if◌then◌else◌, IsListingText, Item, item_end, item_in, line, line_member, lines_of, listing_text, lower_digits, map-append, Member, member_in, member_line, members_of_lines, nat_tests, number_in, option_and_then, option_map, pair_value, part_in, parts_in, Path, result_ok, RightAfter, slice_split, Text, text_members, Value, value_at, value_end, ◌>>=◌}
-use Rattle.bolt_load.proofs.{DecodedLines.shaped_member, NextLines.members_first, NextLines.parts_of, PathLemmas.part_is, PathLemmas.with_some, TextTrees.or_parts_none}
+use Rattle.bolt_load.proofs.Words.{and_parts, Bucket, bytes_eq, bytes_eq-Decides, cases_Bool, cases_lt, decode_pairs, digit_or_error, encode_lower}
+use Rattle.bolt_load.proofs.Words.{encode_with, flat_map, FromHexError, hex_bytes_in, hex_digit_value, hex_path, hex_path_in, if◌then◌else◌}
+use Rattle.bolt_load.proofs.Words.{IsListingText, Item, item_end, item_in, line, line_member, lines_of, listing_text, lower_digits, map-append}
+use Rattle.bolt_load.proofs.Words.{Member, member_in, member_line, members_of_lines, nat_tests, number_in, option_and_then, option_map, pair_value}
+use Rattle.bolt_load.proofs.Words.{part_in, parts_in, Path, result_ok, RightAfter, slice_split, Text, text_members, Value, value_at, value_end, ◌>>=◌}
+use Rattle.bolt_load.proofs.{DecodedLines.shaped_member, NextLines.members_first, NextLines.parts_of, PathLemmas.part_is, PathLemmas.with_some}
+use Rattle.bolt_load.proofs.{TextTrees.or_parts_none}
 use Rattle.bolt_load.specs.PlainTexts.{plain_line, plain_text, plain_word, plain_words}
 
 -- ---- digits in lower case
@@ -80,7 +86,8 @@ parts_lower : (words : List Text) (path : Path) → parts_in words ≡ Some path
 parts_lower [] path is = let none : [] ≡ path = (let f : Some [] ≡ Some path = is in cc) in ap (map encode_lower) none
 parts_lower (word ∷ words) path is =
     let found = with_some (part_in word) (parts_in words) path is in
-    ap₂ (λ (d : Text) (more : List Text). d ∷ more) (hex_lower word found.0 (part_is word found.0 found.2)) (parts_lower words found.1 found.3) ∙ ap (map encode_lower) (sym found.4)
+    ap₂ (λ (d : Text) (more : List Text). d ∷ more) (hex_lower word found.0 (part_is word found.0 found.2)) (parts_lower words found.1 found.3)
+    ∙ ap (map encode_lower) (sym found.4)
 
 lower_append : (xs ys : Text) → lower (xs ++ ys) ≡ lower xs ++ lower ys
 lower_append xs ys = map-append to_ascii_lowercase xs ys
@@ -98,12 +105,14 @@ path_lower word path is =
 
 -- ---- lines
 
-value_plain : (mark word : Text) (found : Option Text) (item : Item) → mark ≡ codes "=" → hex_bytes_in word ≡ found → option_map Value found ≡ Some item
+value_plain : (mark word : Text) (found : Option Text) (item : Item) → mark ≡ codes "=" → hex_bytes_in word ≡ found
+    → option_map Value found ≡ Some item
     → 32 ∷ mark ++ 32 ∷ plain_word mark word ++ 10 ∷ [] ≡ item_end item
 unfolding item_end value_end
 value_plain mark word found item sign h is = grind (arith, common_steps, plain_word, item_end, codes, hex_lower)
 
-number_plain : (mark word : Text) (found : Option ℕ) (item : Item) → mark ≡ codes "bucket" → number_in word ≡ found → option_map Bucket found ≡ Some item
+number_plain : (mark word : Text) (found : Option ℕ) (item : Item) → mark ≡ codes "bucket" → number_in word ≡ found
+    → option_map Bucket found ≡ Some item
     → 32 ∷ mark ++ 32 ∷ plain_word mark word ++ 10 ∷ [] ≡ item_end item
 unfolding item_end
 number_plain mark word found item sign h is = grind arith
@@ -111,7 +120,8 @@ number_plain mark word found item sign h is = grind arith
 item_plain : (mark word : Text) (item : Item) → item_in mark word ≡ Some item → 32 ∷ mark ++ 32 ∷ plain_word mark word ++ 10 ∷ [] ≡ item_end item
 item_plain mark word item is = search (rules, cases_Bool, bytes_eq, codes, value_plain, hex_bytes_in, bytes_eq-Decides, number_plain)
 
-words_plain : (words : List Text) (member : Member) → member_in words ≡ Some member → join_with_byte 32 (plain_words words) ++ 10 ∷ [] ≡ member_line member
+words_plain : (words : List Text) (member : Member) → member_in words ≡ Some member
+    → join_with_byte 32 (plain_words words) ++ 10 ∷ [] ≡ member_line member
 unfolding member_line
 words_plain words member is = grind (arith, common_steps, parts_of, hex_path_in, item_in, append_assoc, plain_word, ap₂, path_lower, item_plain)
 

@@ -1,7 +1,9 @@
 -- The parts of a path are found again in the bytes that were decoded.
 use Rattle.std.proofs.lemmas.Grind.{common_steps}
-use Rattle.std.proofs.Common.{◌≡◌, ◌∙◌, ◌≤◌, ℕ, List, [], ◌∷◌, ◌++◌, Option, Some, None, length, take, drop, refl, sym, ap, arith, append_assoc, append-nil, length-append}
-use Rattle.bolt_load.proofs.Words.{BeginsWith, drop-append_seam, hex_bytes_in, hex_path_in, IsCutAt, IsWithout, item_bytes, Key, option_map, part_in, Path, path_bytes, take-append_seam, Text, Value}
+use Rattle.std.proofs.Common.{◌≡◌, ◌∙◌, ◌≤◌, ℕ, List, [], ◌∷◌, ◌++◌, Option, Some, None, length, take, drop, refl, sym, ap, arith, append_assoc}
+use Rattle.std.proofs.Common.{append-nil, length-append}
+use Rattle.bolt_load.proofs.Words.{BeginsWith, drop-append_seam, hex_bytes_in, hex_path_in, IsCutAt, IsWithout, item_bytes, Key, option_map, part_in}
+use Rattle.bolt_load.proofs.Words.{Path, path_bytes, take-append_seam, Text, Value}
 use Rattle.bolt_load.proofs.PathLemmas.{first_part, halved, last_part, part_is, with_some}
 use Rattle.std.specs.Prelude.{◌/◌, IsSomeAnd}
 
@@ -21,7 +23,8 @@ module _ (digits bytes : List ℕ) (told : IsSomeAnd (option_map Value (hex_byte
   value_told : (value : List ℕ) × (hex_bytes_in digits ≡ Some value) × BeginsWith value bytes
   value_told = at (hex_bytes_in digits) refl told
     where
-      at : (found : Option (List ℕ)) → hex_bytes_in digits ≡ found → IsSomeAnd (option_map Value found) (λ item. BeginsWith (item_bytes item) bytes) → (value : List ℕ) × (hex_bytes_in digits ≡ Some value) × BeginsWith value bytes
+      at : (found : Option (List ℕ)) → hex_bytes_in digits ≡ found → IsSomeAnd (option_map Value found) (λ item. BeginsWith (item_bytes item) bytes)
+          → (value : List ℕ) × (hex_bytes_in digits ≡ Some value) × BeginsWith value bytes
       at None is told = absurd told
       at (Some value) is told = (value, is, told)
 
@@ -44,10 +47,12 @@ pub record PushesParts (word rest : Text) (bytes bytes_left : List ℕ) (old new
   pub whole : bytes ≡ path_bytes front ++ bytes_left
   pub next : bytes_left ≡ path_bytes left ++ after
 
-pub none_pushed : (word : Text) (bytes : List ℕ) (old : Path) → IsSomeAnd (hex_path_in word) (λ told. BeginsWith (path_bytes told) bytes) → PushesParts word word bytes bytes old old
+pub none_pushed : (word : Text) (bytes : List ℕ) (old : Path) → IsSomeAnd (hex_path_in word) (λ told. BeginsWith (path_bytes told) bytes)
+    → PushesParts word word bytes bytes old old
 none_pushed word bytes old told = at (hex_path_in word) refl told
   where
-    at : (found : Option Path) → hex_path_in word ≡ found → IsSomeAnd found (λ told. BeginsWith (path_bytes told) bytes) → PushesParts word word bytes bytes old old
+    at : (found : Option Path) → hex_path_in word ≡ found → IsSomeAnd found (λ told. BeginsWith (path_bytes told) bytes)
+        → PushesParts word word bytes bytes old old
     at None is told = absurd told
     at (Some path) is told = record {
       front = [];
@@ -71,7 +76,8 @@ module _ (word rest : Text) (bytes bytes_left : List ℕ) (old new : Path) (so_f
     fits : length part / 2 ≤ length bytes_left
     fits = front_fits key (path_bytes path ++ so_far.after) bytes_left (length part / 2) next_is many
 
-    module _ (slice rest_bytes : List ℕ) (newer : Path) (slice_is : slice ≡ take (length part / 2) bytes_left) (rest_is : rest_bytes ≡ drop (length part / 2) bytes_left) (more : newer ≡ new ++ slice ∷ []) where
+    module _ (slice rest_bytes : List ℕ) (newer : Path) (slice_is : slice ≡ take (length part / 2) bytes_left)
+        (rest_is : rest_bytes ≡ drop (length part / 2) bytes_left) (more : newer ≡ new ++ slice ∷ []) where
       now_told : hex_path_in word ≡ Some ((so_far.front ++ key ∷ []) ++ path)
       now_told = so_far.told ∙ ap (λ left. Some (so_far.front ++ left)) left_is ∙ ap Some (sym (append_assoc so_far.front (key ∷ []) path))
 
@@ -91,7 +97,8 @@ module _ (word rest : Text) (bytes bytes_left : List ℕ) (old new : Path) (so_f
     pub part_fits : length part / 2 ≤ length bytes_left
     part_fits = fits part found.0 found.1 found.2 found.4
 
-    pub part_pushed : (slice rest_bytes : List ℕ) (newer : Path) → slice ≡ take (length part / 2) bytes_left → rest_bytes ≡ drop (length part / 2) bytes_left
+    pub part_pushed : (slice rest_bytes : List ℕ) (newer : Path) → slice ≡ take (length part / 2) bytes_left
+        → rest_bytes ≡ drop (length part / 2) bytes_left
         → newer ≡ new ++ slice ∷ [] → PushesParts word after bytes rest_bytes old newer
     part_pushed slice rest_bytes newer slice_is rest_is more = record {
       front = so_far.front ++ found.0 ∷ [];
@@ -114,7 +121,8 @@ module _ (word rest : Text) (bytes bytes_left : List ℕ) (old new : Path) (so_f
     pub last_fits : length rest / 2 ≤ length bytes_left
     last_fits = fits rest last.0 [] last.2 last_is
 
-    pub all_pushed : (slice rest_bytes : List ℕ) (newer : Path) → slice ≡ take (length rest / 2) bytes_left → rest_bytes ≡ drop (length rest / 2) bytes_left
+    pub all_pushed : (slice rest_bytes : List ℕ) (newer : Path) → slice ≡ take (length rest / 2) bytes_left
+        → rest_bytes ≡ drop (length rest / 2) bytes_left
         → newer ≡ new ++ slice ∷ [] → (told : Path) → hex_path_in word ≡ Some told → (newer ≡ old ++ told) × (bytes ≡ path_bytes told ++ rest_bytes)
     all_pushed slice rest_bytes newer slice_is rest_is more told is =
         let all = now_told rest last.0 [] last.2 last_is slice rest_bytes newer slice_is rest_is more ∙ ap Some (append-nil (so_far.front ++ last.0 ∷ [])) in

@@ -1,8 +1,11 @@
 -- What a right text tells can be stored: its keys and its values have lengths that the format allows, and its sequences have 64 bits.
 use Rattle.std.proofs.{lemmas.Grind.common_steps, lemmas.Bool.ltb-false, lemmas.Bool.or_parts}
 use Rattle.std.proofs.Common.{◌≡◌, ◌∙◌, ◌==◌, ◌≤◌, false, List, [], ◌∷◌, ◌++◌, Some, None, length, sym, ap, subst, arith}
-use Rattle.bolt_load.proofs.Words.{cases_Bool, Has, has_from_contains, hex_bytes_in, hex_path_in, is_long_item, is_long_key, IsFitItem, IsListingText, item_in, Key, length_fault, line_member, lines_of, list_any, Member, member_in, members_of_lines, option_and_then, option_map_or, part_in, parts_in, Path, place_fault, RightAfter, shape_fault, slice_split, Text, text_members}
-use Rattle.bolt_load.proofs.{DecodedLines.shaped_member, NextLines.members_first, NextLines.parts_of, PathLemmas.digits_are, PathLemmas.part_is, PathLemmas.with_some}
+use Rattle.bolt_load.proofs.Words.{cases_Bool, Has, has_from_contains, hex_bytes_in, hex_path_in, is_long_item, is_long_key, IsFitItem, IsListingText}
+use Rattle.bolt_load.proofs.Words.{item_in, Key, length_fault, line_member, lines_of, list_any, Member, member_in, members_of_lines, option_and_then}
+use Rattle.bolt_load.proofs.Words.{option_map_or, part_in, parts_in, Path, place_fault, RightAfter, shape_fault, slice_split, Text, text_members}
+use Rattle.bolt_load.proofs.{DecodedLines.shaped_member, NextLines.members_first, NextLines.parts_of, PathLemmas.digits_are, PathLemmas.part_is}
+use Rattle.bolt_load.proofs.{PathLemmas.with_some}
 use Rattle.bolt_load.proofs.TextTrees.{or_parts_none, text_tree}
 use Rattle.bolt_format.specs.ElementLengths.{IsKeyLength}
 use Rattle.bolt_layout.specs.Storable.{IsFitListing}
@@ -35,7 +38,8 @@ path_fits : (word : Text) (path : Path) → hex_path_in word ≡ Some path → l
 unfolding hex_path_in
 path_fits word path is short = parts_fit (slice_split (λ byte. byte == 47) word) path is short
 
-member_fits : (words : List Text) (member : Member) → member_in words ≡ Some member → list_any is_long_key member.0 ≡ false → is_long_item member.1 ≡ false → FitsMember member
+member_fits : (words : List Text) (member : Member) → member_in words ≡ Some member → list_any is_long_key member.0 ≡ false
+    → is_long_item member.1 ≡ false → FitsMember member
 member_fits words member is keys value = grind (arith, common_steps, parts_of, hex_path_in, item_in, path_fits)
 
 no_long_part : (member : Member) → length_fault member ≡ None → (list_any is_long_key member.0 ≡ false) × (is_long_item member.1 ≡ false)
@@ -47,15 +51,18 @@ line_fits line member shaped is = grind (arith, common_steps, no_long_part, opti
 
 -- ---- the members of all lines
 
-first_or_later : (first : Member) (later : List Member) (member : Member) → FitsMember first → (Has later member → FitsMember member) → Has (first ∷ later) member → FitsMember member
+first_or_later : (first : Member) (later : List Member) (member : Member) → FitsMember first → (Has later member → FitsMember member)
+    → Has (first ∷ later) member → FitsMember member
 first_or_later first later member fits others h = grind arith
 
-lines_fit : (lines : List Text) (before : List Member) → RightAfter before lines → (member : Member) → Has (members_of_lines lines) member → FitsMember member
+lines_fit : (lines : List Text) (before : List Member) → RightAfter before lines → (member : Member) → Has (members_of_lines lines) member
+    → FitsMember member
 lines_fit [] before right member has = absurd has
 lines_fit (line ∷ lines) before right member has =
     let shaped = (or_parts_none (shape_fault line) (option_and_then (place_fault before) (line_member line)) right.0).0 in
     let told = shaped_member line shaped in
-    first_or_later told.0 (members_of_lines lines) member (line_fits line told.0 shaped told.1) (lines_fit lines (before ++ members_of_lines (line ∷ [])) right.1 member)
+    first_or_later told.0 (members_of_lines lines) member (line_fits line told.0 shaped told.1)
+    (lines_fit lines (before ++ members_of_lines (line ∷ [])) right.1 member)
     (subst (λ (ms : List Member). Has ms member) (members_first line lines told.0 told.1) has)
 
 -- ---- the listing

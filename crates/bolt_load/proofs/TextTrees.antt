@@ -1,8 +1,14 @@
 -- What the lines of a text tell is what one tree lists: each member is put at the end of its bucket.
-use Rattle.std.proofs.Common.{rules, ◌≡◌, ◌∙◌, inl, inr, ◌<◌, ◌||◌, Bool, true, false, List, [], ◌∷◌, ◌++◌, Option, None, drop, length, refl, sym, ap, subst, arith, append_assoc, append-nil}
-use Rattle.bolt_load.proofs.Words.{and_parts, begins_of, begins_with, contains_from_has, end, Has, has_bucket, has_from_contains, has_split, is_bucket, is_lt, is_open, IsListingText, Item, Less, less_of, line_member, LineFault, lines_of, listing_of, Member, member_cmp, members_of_lines, nat_tests, option_and_then, option_or, Path, path_above, path_cmp, path_total, place_fault, RightAfter, Rises, shape_fault, Text, text_members, Tree}
-use Rattle.bolt_load.proofs.{DecodedLines.member_alone, DecodedLines.shaped_member, EdgeTrees.OnEdge, EdgeTrees.front_on_edge, EdgeTrees.new_on_edge, EdgeTrees.put_last, EdgeTrees.put_lists}
-use Rattle.bolt_load.proofs.{LastPaths.IsLast, LastPaths.above_append, LastPaths.next_last, LastPaths.none_last, LastPaths.place_same, LastPaths.split_last, NextLines.members_first}
+use Rattle.std.proofs.Common.{rules, ◌≡◌, ◌∙◌, inl, inr, ◌<◌, ◌||◌, Bool, true, false, List, [], ◌∷◌, ◌++◌, Option, None, drop, length, refl, sym, ap}
+use Rattle.std.proofs.Common.{subst, arith, append_assoc, append-nil}
+use Rattle.bolt_load.proofs.Words.{and_parts, begins_of, begins_with, contains_from_has, end, Has, has_bucket, has_from_contains, has_split}
+use Rattle.bolt_load.proofs.Words.{is_bucket, is_lt, is_open, IsListingText, Item, Less, less_of, line_member, LineFault, lines_of, listing_of}
+use Rattle.bolt_load.proofs.Words.{Member, member_cmp, members_of_lines, nat_tests, option_and_then, option_or, Path, path_above, path_cmp}
+use Rattle.bolt_load.proofs.Words.{path_total, place_fault, RightAfter, Rises, shape_fault, Text, text_members, Tree}
+use Rattle.bolt_load.proofs.{DecodedLines.member_alone, DecodedLines.shaped_member, EdgeTrees.OnEdge, EdgeTrees.front_on_edge, EdgeTrees.new_on_edge}
+use Rattle.bolt_load.proofs.{EdgeTrees.put_last, EdgeTrees.put_lists}
+use Rattle.bolt_load.proofs.{LastPaths.IsLast, LastPaths.above_append, LastPaths.next_last, LastPaths.none_last, LastPaths.place_same}
+use Rattle.bolt_load.proofs.{LastPaths.split_last, NextLines.members_first}
 use Rattle.bolt_load.proofs.PlacedLines.{fault_parts, line_path_some}
 use Rattle.std.specs.Prelude.{nat_lt}
 use Rattle.std.specs.declared.cmp.Ordering.{Ordering}
@@ -10,7 +16,8 @@ use Rattle.bolt_tree.proofs.Exports.{contains_none}
 
 -- ---- lists that rise
 
-rises_push : {A : Type 0} (cmp : A → A → Ordering) (xs : List A) (x : A) → Rises cmp xs → ((y : A) → Has xs y → cmp y x ≡ Less) → Rises cmp (xs ++ x ∷ [])
+rises_push : {A : Type 0} (cmp : A → A → Ordering) (xs : List A) (x : A) → Rises cmp xs → ((y : A) → Has xs y → cmp y x ≡ Less)
+    → Rises cmp (xs ++ x ∷ [])
 rises_push cmp [] x rises below = (λ y has. absurd (contains_none y has), tt)
 rises_push cmp (z ∷ xs) x rises below = (
   λ y has. elim (has_split xs (x ∷ []) y (has_from_contains (xs ++ x ∷ []) y has)) [
@@ -35,7 +42,8 @@ none_on_edge above has = grind arith
 pub none_grown : HasGrown [] end [] true
 none_grown = record { lists = refl; edge = λ above goes. none_on_edge above (none_last.opens above goes); last_is = none_last; rises = tt }
 
-module _ (before : List Member) (tree : Tree) (last : Path) (bucket : Bool) (so_far : HasGrown before tree last bucket) (path : Path) (item : Item) (some : 0 < length path)
+module _ (before : List Member) (tree : Tree) (last : Path) (bucket : Bool) (so_far : HasGrown before tree last bucket) (path : Path) (item : Item)
+    (some : 0 < length path)
     (less : path_cmp last path ≡ Less) (opens : is_open last bucket (path_above path) ≡ true) where
   abbrev pub next_tree : Tree
   next_tree = put_last tree (path_above path) (split_last path some).0 item
@@ -79,7 +87,8 @@ module _ (before : List Member) (tree : Tree) (last : Path) (bucket : Bool) (so_
 pub or_parts_none : (a b : Option LineFault) → option_or a b ≡ None → (a ≡ None) × (b ≡ None)
 or_parts_none a b none = grind arith
 
-grows : (lines : List Text) (before : List Member) (tree : Tree) (last : Path) (bucket : Bool) → HasGrown before tree last bucket → RightAfter before lines
+grows : (lines : List Text) (before : List Member) (tree : Tree) (last : Path) (bucket : Bool) → HasGrown before tree last bucket
+    → RightAfter before lines
     → (all : Tree) × (listing_of all ≡ before ++ members_of_lines lines) × Rises member_cmp (before ++ members_of_lines lines)
 grows [] before tree last bucket so_far right = (tree, so_far.lists ∙ sym (append-nil before), subst (Rises member_cmp) (sym (append-nil before)) so_far.rises)
 grows (line ∷ lines) before tree last bucket so_far right =
@@ -89,7 +98,9 @@ grows (line ∷ lines) before tree last bucket so_far right =
     let item = told.0.1 in
     let place : place_fault before told.0 ≡ None = sym (ap (option_and_then (place_fault before)) told.1) ∙ parts.1 in
     let some = line_path_some line path item told.1 in
-    let both = fault_parts (is_lt (path_cmp last path)) (is_open last bucket (path_above path)) (sym (place_same before last bucket so_far.last_is path some item) ∙ place) in
+    let both =
+    fault_parts (is_lt (path_cmp last path)) (is_open last bucket (path_above path))
+    (sym (place_same before last bucket so_far.last_is path some item) ∙ place) in
     let less = less_of (path_cmp last path) both.0 in
     let next = next_grown before tree last bucket so_far path item some less both.1 in
     let rest = grows lines (before ++ told.0 ∷ []) (next_tree before tree last bucket so_far path item some less both.1) path (is_bucket item) next

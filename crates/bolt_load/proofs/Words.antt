@@ -1,7 +1,8 @@
 -- The words that the proofs of this crate cite, passed on from the modules that define them.
 pub use Rattle.bolt_check.specs.Keys.{Key}
 pub use Rattle.bolt_layout.specs.Storable.{IsFitItem}
-pub use Rattle.bolt_load.specs.LineFaults.{IsFaultOfLines, IsFirstFault, IsListingText, IsLoadFault, RightAfter, is_above_last, is_long_item, is_long_key, length_fault, line_fault, path_above, place_fault, shape_fault}
+pub use Rattle.bolt_load.specs.LineFaults.{IsFaultOfLines, IsFirstFault, IsListingText, IsLoadFault, RightAfter, is_above_last, is_long_item}
+pub use Rattle.bolt_load.specs.LineFaults.{is_long_key, length_fault, line_fault, path_above, place_fault, shape_fault}
 pub use Rattle.bolt_load.specs.Private.Decoding.{AddsDecoded, AreDecoded, BeginsWith, GivesLine, StopsAt, item_bytes, member_bytes, path_bytes}
 pub use Rattle.bolt_load.specs.Private.OpenPaths.{fault_after, order_fault, is_open}
 unfoldable pub use Rattle.bolt_load.specs.ShownMembers.{members_left, members_path}

@@ -1,7 +1,12 @@
 -- The line of a member is read back as that member.
-use Rattle.std.proofs.Common.{rules, ◌≡◌, ◌∙◌, ◌==◌, ◌<◌, ◌≤◌, ◌^◌, ℕ, zero, suc, Bool, true, false, List, [], ◌∷◌, ◌++◌, Option, Some, None, codes, length, map, refl, sym, ap, ap₂, arith, append_assoc}
+use Rattle.std.proofs.Common.{rules, ◌≡◌, ◌∙◌, ◌==◌, ◌<◌, ◌≤◌, ◌^◌, ℕ, zero, suc, Bool, true, false, List, [], ◌∷◌, ◌++◌, Option, Some, None, codes}
+use Rattle.std.proofs.Common.{length, map, refl, sym, ap, ap₂, arith, append_assoc}
 use Rattle.std.proofs.{lemmas.Bool.not-true, lemmas.Grind.common_steps, lemmas.List.Elements.All-cons, lemmas.List.Elements.All-nil}
-use Rattle.bolt_load.proofs.Words.{All-append, all_ascii_digits, and_parts, ArePartsBytes, Bucket, decimal, digits_decimal, encode_lower, encode_with, hex_bytes_in, hex_path, hex_path_in, is_ascii_digit, is_long_item, is_long_key, IsFitItem, IsMemberOfBytes, IsWithout, Item, item_end, Key, line, line_member, list_any, lower_digits, Member, member_line, nat_tests, option_and_then, part_in, parts_in, Path, result_ok, shape_fault, slice_split, slice_split_at, slice_split_none, Text, Value, value_end}
+use Rattle.bolt_load.proofs.Words.{All-append, all_ascii_digits, and_parts, ArePartsBytes, Bucket, decimal, digits_decimal, encode_lower, encode_with}
+use Rattle.bolt_load.proofs.Words.{hex_bytes_in, hex_path, hex_path_in, is_ascii_digit, is_long_item, is_long_key, IsFitItem, IsMemberOfBytes}
+use Rattle.bolt_load.proofs.Words.{IsWithout, Item, item_end, Key, line, line_member, list_any, lower_digits, Member, member_line, nat_tests}
+use Rattle.bolt_load.proofs.Words.{option_and_then, part_in, parts_in, Path, result_ok, shape_fault, slice_split, slice_split_at, slice_split_none}
+use Rattle.bolt_load.proofs.Words.{Text, Value, value_end}
 use Rattle.bolt_load.proofs.{MemberLemmas.member_of, StoredTexts.AreKeys, StoredTexts.FitsMember}
 use Rattle.bolt_text.proofs.Exports.{decimal_numerals, number_written}
 use Rattle.std.specs.List.{list_all}
@@ -41,8 +46,10 @@ module _ (mark : ℕ) (apart : IsApart mark) where
   hex_without [] are = All-nil Other
   hex_without (byte ∷ bytes) are =
       let below : byte < 256 = are 0 in
-      All-cons Other (slice_index lower_digits (byte / 16)) (slice_index lower_digits (byte % 16) ∷ encode_lower bytes) (digit_apart mark apart (byte / 16) (omega arith))
-      (All-cons Other (slice_index lower_digits (byte % 16)) (encode_lower bytes) (digit_apart mark apart (byte % 16) (omega arith)) (hex_without bytes (λ i. are (suc i))))
+      All-cons Other (slice_index lower_digits (byte / 16)) (slice_index lower_digits (byte % 16) ∷ encode_lower bytes)
+      (digit_apart mark apart (byte / 16) (omega arith))
+      (All-cons Other (slice_index lower_digits (byte % 16)) (encode_lower bytes) (digit_apart mark apart (byte % 16) (omega arith))
+      (hex_without bytes (λ i. are (suc i))))
 
   literal_without : (text : Text) → list_all (λ byte. not (byte == mark)) text ≡ true → IsWithout mark text
   literal_without [] all = All-nil Other
@@ -112,7 +119,8 @@ bucket_parts : (path : Path) (sequence : ℕ) → ArePartsBytes path → sequenc
     → slice_split (λ byte. byte == 32) (hex_path path ++ (codes " bucket " ++ decimal sequence)) ≡ hex_path path ∷ codes "bucket" ∷ decimal sequence ∷ []
 bucket_parts path sequence are fits = grind (arith, slice_split_at, path_without, space_apart, slice_split_none, decimal_without)
 
-told : (path : Path) (item : Item) (found : Option Path) (other : Option Item) → found ≡ Some path → other ≡ Some item → member_of found other ≡ Some (path, item)
+told : (path : Path) (item : Item) (found : Option Path) (other : Option Item) → found ≡ Some path → other ≡ Some item
+    → member_of found other ≡ Some (path, item)
 told path item found other is same = ap₂ member_of is same
 
 pub line_back : (member : Member) → 0 < length member.0 → FitsMember member → IsMemberOfBytes member → line_member (member_words member) ≡ Some member
@@ -124,10 +132,12 @@ line_back (path, Bucket sequence) some fits are = grind (arith, bucket_parts, pa
 pub words_without : (member : Member) → IsMemberOfBytes member → IsWithout 10 (member_words member)
 words_without (path, Value value) are =
     All-append (λ byte. (byte == 10) ≡ false) (hex_path path) (codes " = " ++ encode_lower value) (path_without 10 line_apart path refl are.0)
-    (All-append (λ byte. (byte == 10) ≡ false) (codes " = ") (encode_lower value) (literal_without 10 line_apart (codes " = ") refl) (hex_without 10 line_apart value are.1))
+    (All-append (λ byte. (byte == 10) ≡ false) (codes " = ") (encode_lower value) (literal_without 10 line_apart (codes " = ") refl)
+    (hex_without 10 line_apart value are.1))
 words_without (path, Bucket sequence) are =
     All-append (λ byte. (byte == 10) ≡ false) (hex_path path) (codes " bucket " ++ decimal sequence) (path_without 10 line_apart path refl are.0)
-    (All-append (λ byte. (byte == 10) ≡ false) (codes " bucket ") (decimal sequence) (literal_without 10 line_apart (codes " bucket ") refl) (decimal_without 10 line_apart sequence are.1))
+    (All-append (λ byte. (byte == 10) ≡ false) (codes " bucket ") (decimal sequence) (literal_without 10 line_apart (codes " bucket ") refl)
+    (decimal_without 10 line_apart sequence are.1))
 
 -- ---- nothing is wrong with it in itself
 

@@ -7,6 +7,6 @@ use Rattle.bolt_layout.specs.Copies.{IsOfOneTree}
 abbrev pub AreOfBytes : List Member → Type 0
 AreOfBytes listing = (member : Member) → Contains listing member → IsMemberOfBytes member
 
--- this holds, if the listing is of one tree, in the order of paths, and of bytes
+-- a property holds if the listing is of one tree, in the order of paths, and of bytes
 abbrev pub IfWritable : List Member → Type 0 → Type 0
 IfWritable listing P = IsOfOneTree listing → Rises member_cmp listing → AreOfBytes listing → P

@@ -1,5 +1,6 @@
 -- What is wrong with a line, and which texts are right: docs/LISTING.md, "A listing as text".
-use Rattle.std.specs.Prelude.{◌≡◌, ◌+◌, ◌-◌, ◌⊎◌, ℕ, Bool, true, false, ◌==◌, List, [], ◌∷◌, ◌++◌, Option, Some, None, codes, length, nat_lt, not, option_and_then, slice_get, take, if◌then◌else◌}
+use Rattle.std.specs.Prelude.{◌≡◌, ◌+◌, ◌-◌, ◌⊎◌, ℕ, Bool, true, false, ◌==◌, List, [], ◌∷◌, ◌++◌, Option, Some, None, codes, length, nat_lt, not}
+use Rattle.std.specs.Prelude.{option_and_then, slice_get, take, if◌then◌else◌}
 use Rattle.std.specs.{List.ends_with, List.list_any, Option.option_map_or, Option.option_or, Ordering.is_lt}
 use Rattle.bolt_check.specs.Keys.{Key}
 use Rattle.bolt_tree.specs.{Entries.Bucket, Entries.Item, Entries.Value, Listing.Member, ListingParts.has_bucket, Paths.Path, Paths.path_cmp}

@@ -11,7 +11,7 @@ abbrev pub plain_words : List Text → List Text
 plain_words (path ∷ mark ∷ word ∷ []) = str_to_ascii_lowercase path ∷ mark ∷ plain_word mark word ∷ []
 plain_words words = words
 
--- with a line feed at its end, which is 10
+-- a line in plain form, with a line feed at its end, which is 10
 unfoldable pub plain_line : Text → Text
 plain_line line = join_with_byte 32 (plain_words (slice_split (λ byte. byte == 32) line)) ++ 10 ∷ []
 

@@ -13,7 +13,7 @@ members_text members = members.text.now
 unfoldable pub members_left : LineMembers → Text
 members_left members = members.text_left.now
 
--- what they tell
+-- the members that lines tell
 abbrev pub listing_left : LineMembers → List Member
 listing_left members = text_members (members_left members)
 

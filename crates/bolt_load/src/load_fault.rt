@@ -11,7 +11,7 @@ use std::fmt;
 /// What is wrong with a line: the first of these that holds.
 #[derive(Clone, Copy, Debug, PartialEq, Eq)]
 pub enum LineFault {
-    /// It isn't a path, a mark and a value or a sequence.
+    /// The line isn't a path, a mark and a value or a sequence.
     NotALine,
     /// A part of the path has more than 2^30 bytes.
     KeyTooLong,
@@ -60,7 +60,7 @@ pub enum LoadFault {
     Memory,
     /// The first line that isn't right.
     Line {
-        /// Its number, from 1.
+        /// The line's number, from 1.
         line: u64,
         /// What is wrong with it.
         fault: LineFault,

@@ -1,5 +1,6 @@
 -- What was counted of a listing, and one member more.
-use Rattle.std.proofs.Common.{append_assoc, ◌&&◌, ◌≡◌, ◌≢◌, ◌∙◌, ◌==◌, ◌+◌, ℕ, Bool, true, false, IsTrue, List, [], ◌∷◌, ◌++◌, length, refl, ap, sym, arith, if◌then◌else◌, cond}
+use Rattle.std.proofs.Common.{append_assoc, ◌&&◌, ◌≡◌, ◌≢◌, ◌∙◌, ◌==◌, ◌+◌, ℕ, Bool, true, false, IsTrue, List, [], ◌∷◌, ◌++◌, length, refl, ap, sym}
+use Rattle.std.proofs.Common.{arith, if◌then◌else◌, cond}
 use Rattle.std.proofs.lemmas.{Grind.flat_map-append, List.append-nil, List.length-append}
 use Rattle.std.specs.List.{count_by}
 use Rattle.bolt_recover.proofs.Words.{Bucket, Item, Key, Member, Path, Value, sum_by-append, sum_by-cons}
@@ -33,7 +34,8 @@ figures_more xs (name ∷ [], Bucket sequence) = grind (arith, names_more, count
 figures_more xs (name ∷ next ∷ path, Bucket sequence) = grind (arith, names_more, count_more, append-nil, few_more)
 
 -- a root value among what was counted, and among what is left
-pub root_values_more : (xs : List Member) (m : Member) → is_root_value m ≡ false → count_by is_root_value xs ≡ 0 → count_by is_root_value (xs ++ m ∷ []) ≡ 0
+pub root_values_more : (xs : List Member) (m : Member) → is_root_value m ≡ false → count_by is_root_value xs ≡ 0
+    → count_by is_root_value (xs ++ m ∷ []) ≡ 0
 root_values_more xs m not none = grind (arith, count_more)
 
 pub root_value_there : (xs ys : List Member) (m : Member) → is_root_value m ≡ true → count_by is_root_value (xs ++ m ∷ ys) ≢ 0
@@ -53,6 +55,8 @@ wanted alone b not is = grind arith
 pub unwanted : (alone b : Bool) → (alone && b) ≡ true → IsTrue alone × (b ≡ true)
 unwanted alone b both = grind arith
 
-pub added : (done : List Member) (old new : FiguresView) (path shown : Path) (item : Item) → new ≡ figures_after old (path, item) → path ≡ shown → old ≡ figures_of done
+pub added : (done : List Member) (old new : FiguresView) (path shown : Path) (item : Item) → new ≡ figures_after old (path, item) → path ≡ shown
+    → old ≡ figures_of done
     → new ≡ figures_of (done ++ (shown, item) ∷ [])
-added done old new path shown item after same figures = after ∙ ap (λ p. figures_after old (p, item)) same ∙ ap (λ f. figures_after f (shown, item)) figures ∙ sym (figures_more done (shown, item))
+added done old new path shown item after same figures =
+    after ∙ ap (λ p. figures_after old (p, item)) same ∙ ap (λ f. figures_after f (shown, item)) figures ∙ sym (figures_more done (shown, item))

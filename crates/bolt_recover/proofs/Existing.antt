@@ -1,7 +1,9 @@
 -- Each file has a survey, one recovered listing, losses and gaps, under each meta: those that all its events show.
 use Rattle.std.proofs.Common.{◌≡◌, ℕ, List, refl, subst, sym}
-use Rattle.bolt_recover.proofs.Words.{all_events, AreGaps, AreLosses, gaps_of, PageGapView, IsRecovered, IsRecoveredMember, IsSurvey, losses_of, LossView, Member, member_total, members_of, Meta, rises_once, SurveyedWay}
-use Rattle.bolt_recover.proofs.{CourseSurveys.all_members, CourseSurveys.survey_of, CourseSurveys.surveyed, CourseTrees.members_rise, SurveyIsOne.same_survey}
+use Rattle.bolt_recover.proofs.Words.{all_events, AreGaps, AreLosses, gaps_of, PageGapView, IsRecovered, IsRecoveredMember, IsSurvey, losses_of}
+use Rattle.bolt_recover.proofs.Words.{LossView, Member, member_total, members_of, Meta, rises_once, SurveyedWay}
+use Rattle.bolt_recover.proofs.{CourseSurveys.all_members, CourseSurveys.survey_of, CourseSurveys.surveyed, CourseTrees.members_rise}
+use Rattle.bolt_recover.proofs.{SurveyIsOne.same_survey}
 
 pub recovers : (file : List ℕ) (meta : Meta) → IsRecovered file meta (members_of (all_events file meta))
 recovers file meta = record { survey = survey_of file meta; surveys = surveyed file meta; rises = members_rise file meta; exact = all_members file meta }

@@ -1,7 +1,11 @@
 -- Found pages, one number after another.
-use Rattle.std.proofs.Common.{◌≡◌, ◌∙◌, ◌≤◌, ◌<◌, ◌⊎◌, ◌↔◌, inl, inr, ℕ, zero, suc, ◌+◌, Bool, true, false, List, [], ◌∷◌, ◌++◌, Some, Ok, refl, sym, subst, arith}
-use Rattle.bolt_recover.proofs.Words.{At_page, cases_lt, cases_order, Contains, Contains-append_left, Contains-append_right, Contains-push_cases, contains_head, contains_none, false_from_ne_true, false≢true, Found, FoundBelow, IsFoundNext, IsFoundPage, IsFoundView, IsListedFree, IsLoneLeaf, Meta, node_at, Nodes, page_at, root_spot, shown_node, SpanAt}
-use Rattle.bolt_format.specs.{TreePages.leaves_on, TreePages.shown_page, declared.tree_page.LeafPage.LeafPage, declared.tree_page.TreePage.TheVariants.Leaf}
+use Rattle.std.proofs.Common.{◌≡◌, ◌∙◌, ◌≤◌, ◌<◌, ◌⊎◌, ◌↔◌, inl, inr, ℕ, zero, suc, ◌+◌, Bool, true, false, List, [], ◌∷◌, ◌++◌, Some, Ok, refl, sym}
+use Rattle.std.proofs.Common.{subst, arith}
+use Rattle.bolt_recover.proofs.Words.{At_page, cases_lt, cases_order, Contains, Contains-append_left, Contains-append_right, Contains-push_cases}
+use Rattle.bolt_recover.proofs.Words.{contains_head, contains_none, false_from_ne_true, false≢true, Found, FoundBelow, IsFoundNext, IsFoundPage}
+use Rattle.bolt_recover.proofs.Words.{IsFoundView, IsListedFree, IsLoneLeaf, Meta, node_at, Nodes, page_at, root_spot, shown_node, SpanAt}
+use Rattle.bolt_format.specs.{TreePages.leaves_on, TreePages.shown_page, declared.tree_page.LeafPage.LeafPage}
+use Rattle.bolt_format.specs.{declared.tree_page.TreePage.TheVariants.Leaf}
 use Rattle.bolt_check.proofs.Exports.{lone_free, lone_same, lone_span}
 
 no_entries : (page : LeafPage) → leaves_on page ≡ [] → (shown_node (Leaf page)).entries ≡ []
@@ -13,12 +17,14 @@ module _ (file : List ℕ) (meta : Meta) where
   nodes = node_at file meta
 
   -- a page of the code that is an intact leaf
-  pub view_of : (before : ℕ → Type 0) (f : Found) → page_at file meta f.number ≡ Some (shown_page (Leaf f.page)) → node_at file meta f.number ≡ Ok (shown_node (Leaf f.page))
+  pub view_of : (before : ℕ → Type 0) (f : Found) → page_at file meta f.number ≡ Some (shown_page (Leaf f.page))
+      → node_at file meta f.number ≡ Ok (shown_node (Leaf f.page))
       → IsLoneLeaf nodes before f.number → IsFoundView file meta f
   view_of before f page node lone = grind (arith, no_entries)
 
   -- the pages of one found page more
-  page_more : (found : List ℕ) (n k : ℕ) → IsFoundPage file meta (found ++ n ∷ []) k → IsFoundPage file meta found k ⊎ SpanAt nodes (At_page (root_spot n)) k
+  page_more : (found : List ℕ) (n k : ℕ) → IsFoundPage file meta (found ++ n ∷ []) k
+      → IsFoundPage file meta found k ⊎ SpanAt nodes (At_page (root_spot n)) k
   page_more found n k (m, (has, span)) =
       elim (Contains-push_cases found n m has) [
         | inl before ↦ inl (m, (before, span))
@@ -39,10 +45,13 @@ module _ (file : List ℕ) (meta : Meta) where
     unlisted = next.unlisted;
   }
 
-  pub found_same : (a b : ℕ → Type 0) → ((k : ℕ) → a k → b k) → ((k : ℕ) → b k → a k) → (n : ℕ) (found : List ℕ) → FoundBelow file meta a n found → FoundBelow file meta b n found
+  pub found_same : (a b : ℕ → Type 0) → ((k : ℕ) → a k → b k) → ((k : ℕ) → b k → a k) → (n : ℕ) (found : List ℕ) → FoundBelow file meta a n found
+      → FoundBelow file meta b n found
   found_same a b to from zero found below = below
-  found_same a b to from (suc n) found (before, below, inl (next, is)) = (before, found_same a b to from n before below, inl (next_same a b before n from next, is))
-  found_same a b to from (suc n) found (before, below, inr (none, is)) = (before, found_same a b to from n before below, inr (λ next. none (next_same b a before n to next), is))
+  found_same a b to from (suc n) found (before, below, inl (next, is)) =
+      (before, found_same a b to from n before below, inl (next_same a b before n from next, is))
+  found_same a b to from (suc n) found (before, below, inr (none, is)) =
+      (before, found_same a b to from n before below, inr (λ next. none (next_same b a before n to next), is))
 
   module _ (kept : ℕ → Type 0) where
     -- there is one list
@@ -51,7 +60,8 @@ module _ (file : List ℕ) (meta : Meta) where
     found_one (suc n) a b h k = let later = found_one n in grind (arith, later)
 
     -- past the last page that can be found, none is
-    pub found_up : (end : ℕ) (found : List ℕ) (d : ℕ) → FoundBelow file meta kept end found → ((n : ℕ) → end ≤ n → n < end + d → IsFoundNext file meta kept found n → ⊥)
+    pub found_up : (end : ℕ) (found : List ℕ) (d : ℕ) → FoundBelow file meta kept end found
+        → ((n : ℕ) → end ≤ n → n < end + d → IsFoundNext file meta kept found n → ⊥)
         → FoundBelow file meta kept (end + d) found
     found_up end found zero below none = let same : end ≡ end + 0 = omega arith in subst (λ (n : ℕ). FoundBelow file meta kept n found) same below
     found_up end found (suc d) below none =
@@ -84,7 +94,8 @@ module _ (file : List ℕ) (meta : Meta) where
 
     -- one page more is taken
     pub taken_more : (found : List ℕ) (n : ℕ) (old new : ℕ → Bool) → ((k : ℕ) → (old k ≡ true) ↔ (kept k ⊎ IsFoundPage file meta found k))
-        → ((k : ℕ) → (new k ≡ true) ↔ ((old k ≡ true) ⊎ SpanAt nodes (At_page (root_spot n)) k)) → (k : ℕ) → (new k ≡ true) ↔ (kept k ⊎ IsFoundPage file meta (found ++ n ∷ []) k)
+        → ((k : ℕ) → (new k ≡ true) ↔ ((old k ≡ true) ⊎ SpanAt nodes (At_page (root_spot n)) k)) → (k : ℕ)
+        → (new k ≡ true) ↔ (kept k ⊎ IsFoundPage file meta (found ++ n ∷ []) k)
     taken_more found n old new are more k = (
       λ is. elim ((more k).0 is) [
         | inl was ↦ elim ((are k).0 was) [ inl here ↦ inl here | inr there ↦ inr (page_old found n k there) ]
@@ -98,7 +109,8 @@ module _ (file : List ℕ) (meta : Meta) where
 
     -- an intact leaf apart from all these
     lone_apart : (found : List ℕ) (n : ℕ) (lone : IsLoneLeaf nodes (λ k. ⊥) n) → ((k : ℕ) → SpanAt nodes (At_page (root_spot n)) k → kept k → ⊥)
-        → ((k : ℕ) → SpanAt nodes (At_page (root_spot n)) k → IsFoundPage file meta found k → ⊥) → IsLoneLeaf nodes (λ k. kept k ⊎ IsFoundPage file meta found k) n
+        → ((k : ℕ) → SpanAt nodes (At_page (root_spot n)) k → IsFoundPage file meta found k → ⊥)
+        → IsLoneLeaf nodes (λ k. kept k ⊎ IsFoundPage file meta found k) n
     lone_apart found n lone apart alone = record {
       passes = record {
         node = lone.passes.node;
@@ -114,39 +126,51 @@ module _ (file : List ℕ) (meta : Meta) where
     }
 
     -- an intact leaf is found, or it shares a page, or it is free
-    pub passed : (mark : ℕ) (found : List ℕ) (n : ℕ) → FoundBelow file meta kept mark found → n < mark → IsLoneLeaf nodes (λ k. ⊥) n → (IsListedFree file meta n → ⊥)
-        → ((k : ℕ) → SpanAt nodes (At_page (root_spot n)) k → kept k → ⊥) → ((k : ℕ) → SpanAt nodes (At_page (root_spot n)) k → IsFoundPage file meta found k → ⊥) → ⊥
+    pub passed : (high_water : ℕ) (found : List ℕ) (n : ℕ) → FoundBelow file meta kept high_water found → n < high_water → IsLoneLeaf nodes (λ k. ⊥) n
+        → (IsListedFree file meta n → ⊥)
+        → ((k : ℕ) → SpanAt nodes (At_page (root_spot n)) k → kept k → ⊥)
+        → ((k : ℕ) → SpanAt nodes (At_page (root_spot n)) k → IsFoundPage file meta found k → ⊥) → ⊥
     passed zero found n below lt lone unlisted apart alone = absurd (omega arith)
-    passed (suc mark) found n (before, below, how) lt lone unlisted apart alone =
+    passed (suc high_water) found n (before, below, how) lt lone unlisted apart alone =
         let less : (k : ℕ) → IsFoundPage file meta before k → IsFoundPage file meta found k = λ k is. elim how [
-          | inl (next, same) ↦ subst (λ (xs : List ℕ). IsFoundPage file meta xs k) (sym same) (page_old before mark k is)
+          | inl (next, same) ↦ subst (λ (xs : List ℕ). IsFoundPage file meta xs k) (sym same) (page_old before high_water k is)
           | inr (none, same) ↦ subst (λ (xs : List ℕ). IsFoundPage file meta xs k) (sym same) is
         ] in
-        elim (cases_lt n mark) [
-          | inl lower ↦ passed mark before n below lower lone unlisted apart (λ k span is. alone k span (less k is))
-          | inr high ↦ let here : n ≡ mark = omega arith in elim how [
+        elim (cases_lt n high_water) [
+          | inl lower ↦ passed high_water before n below lower lone unlisted apart (λ k span is. alone k span (less k is))
+          | inr high ↦ let here : n ≡ high_water = omega arith in elim how [
             | inl (next, same) ↦ alone n (lone_span nodes (λ k. ⊥) n lone)
-                (subst (λ (xs : List ℕ). IsFoundPage file meta xs n) (sym same) (page_new before mark n (subst (λ (m : ℕ). SpanAt nodes (At_page (root_spot m)) n) here (lone_span nodes (λ k. ⊥) n lone))))
-            | inr (none, same) ↦ none (subst (IsFoundNext file meta kept before) here (record { leaf = lone_apart before n lone apart (λ k span is. alone k span (less k is)); unlisted = unlisted }))
+                (subst (λ (xs : List ℕ). IsFoundPage file meta xs n) (sym same)
+                (page_new before high_water n (subst (λ (m : ℕ). SpanAt nodes (At_page (root_spot m)) n) here (lone_span nodes (λ k. ⊥) n lone))))
+            | inr (none, same) ↦
+                none (subst (IsFoundNext file meta kept before) here
+                (record { leaf = lone_apart before n lone apart (λ k span is. alone k span (less k is)); unlisted = unlisted }))
           ]
         ]
 
     -- what is found below a number was found after those of smaller numbers
-    pub record IsFoundHere (mark : ℕ) (found : List ℕ) (n : ℕ) : Type 0 where
-      pub below : n < mark
+    pub record IsFoundHere (high_water : ℕ) (found : List ℕ) (n : ℕ) : Type 0 where
+      pub below : n < high_water
       pub before : List ℕ
       pub next : IsFoundNext file meta kept before n
       pub within : (m : ℕ) → Contains found m → m < n → Contains before m
 
-    pub found_here : (mark : ℕ) (found : List ℕ) (n : ℕ) → FoundBelow file meta kept mark found → Contains found n → IsFoundHere mark found n
+    pub found_here : (high_water : ℕ) (found : List ℕ) (n : ℕ) → FoundBelow file meta kept high_water found → Contains found n
+        → IsFoundHere high_water found n
     found_here zero found n below has = absurd (contains_none n (subst (λ (xs : List ℕ). Contains xs n) below has))
-    found_here (suc mark) found n (before, below, inl (next, is)) has =
-        let push : (m : ℕ) → Contains found m → Contains before m ⊎ (mark ≡ m) = λ m there. Contains-push_cases before mark m (subst (λ (xs : List ℕ). Contains xs m) is there) in
+    found_here (suc high_water) found n (before, below, inl (next, is)) has =
+        let push : (m : ℕ) → Contains found m → Contains before m ⊎ (high_water ≡ m) =
+        λ m there. Contains-push_cases before high_water m (subst (λ (xs : List ℕ). Contains xs m) is there) in
         elim (push n has) [
           | inl lower ↦
-              let here = found_here mark before n below lower in
+              let here = found_here high_water before n below lower in
               let lt = here.below in
-              record { below = omega (arith, lt); before = here.before; next = here.next; within = λ m there less. elim (push m there) [ inl low ↦ here.within m low less | inr last ↦ absurd (omega (arith, lt, less, last)) ] }
+              record {
+                below = omega (arith, lt);
+                before = here.before;
+                next = here.next;
+                within = λ m there less. elim (push m there) [ inl low ↦ here.within m low less | inr last ↦ absurd (omega (arith, lt, less, last)) ];
+              }
           | inr same ↦
               record {
                 below = omega (arith, same);
@@ -155,20 +179,21 @@ module _ (file : List ℕ) (meta : Meta) where
                 within = λ m there less. elim (push m there) [ inl low ↦ low | inr last ↦ absurd (omega (arith, same, less, last)) ];
               }
         ]
-    found_here (suc mark) found n (before, below, inr (none, is)) has = let here = found_here mark before n below in grind (arith, here)
+    found_here (suc high_water) found n (before, below, inr (none, is)) has = let here = found_here high_water before n below in grind (arith, here)
 
     -- it is intact, and two found pages share no page
-    pub found_leaf : (mark : ℕ) (found : List ℕ) (n : ℕ) → IsFoundHere mark found n → IsLoneLeaf nodes kept n
-    found_leaf mark found n here = lone_same nodes (λ k. kept k ⊎ IsFoundPage file meta here.before k) kept n (λ k is. inl is) here.next.leaf
+    pub found_leaf : (high_water : ℕ) (found : List ℕ) (n : ℕ) → IsFoundHere high_water found n → IsLoneLeaf nodes kept n
+    found_leaf high_water found n here = lone_same nodes (λ k. kept k ⊎ IsFoundPage file meta here.before k) kept n (λ k is. inl is) here.next.leaf
 
-    not_shared : (mark : ℕ) (found : List ℕ) (n m k : ℕ) → IsFoundHere mark found n → Contains found m → m < n → SpanAt nodes (At_page (root_spot n)) k → SpanAt nodes (At_page (root_spot m)) k → ⊥
-    not_shared mark found n m k here there less left right = grind (arith, here.within m there less)
+    not_shared : (high_water : ℕ) (found : List ℕ) (n m k : ℕ) → IsFoundHere high_water found n → Contains found m → m < n
+        → SpanAt nodes (At_page (root_spot n)) k → SpanAt nodes (At_page (root_spot m)) k → ⊥
+    not_shared high_water found n m k here there less left right = grind (arith, here.within m there less)
 
-    pub found_apart : (mark : ℕ) (found : List ℕ) (n m k : ℕ) → FoundBelow file meta kept mark found → Contains found n → Contains found m
+    pub found_apart : (high_water : ℕ) (found : List ℕ) (n m k : ℕ) → FoundBelow file meta kept high_water found → Contains found n → Contains found m
         → SpanAt nodes (At_page (root_spot n)) k → SpanAt nodes (At_page (root_spot m)) k → n ≡ m
-    found_apart mark found n m k below a b left right =
+    found_apart high_water found n m k below a b left right =
         elim (cases_order n m) [
           | inl same ↦ same
-          | inr (inl less) ↦ absurd (not_shared mark found m n k (found_here mark found m below b) a less right left)
-          | inr (inr more) ↦ absurd (not_shared mark found n m k (found_here mark found n below a) b more left right)
+          | inr (inl less) ↦ absurd (not_shared high_water found m n k (found_here high_water found m below b) a less right left)
+          | inr (inr more) ↦ absurd (not_shared high_water found n m k (found_here high_water found n below a) b more left right)
         ]

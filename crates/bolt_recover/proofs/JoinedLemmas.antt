@@ -1,7 +1,12 @@
 -- The joined listing is the recovered one with the bucket of what is found put in.
 use Rattle.std.proofs.Common.{◌≡◌, ◌∙◌, ◌⊎◌, inl, inr, ℕ, Bool, true, false, not, List, [], ◌∷◌, ◌++◌, filter, map, refl, sym, ap, subst, ◌≢◌, arith}
 use Rattle.bolt_format.specs.TreePages.{leaves_on}
-use Rattle.bolt_recover.proofs.Words.{append-nil, AreFound, Bucket, cases_Bool, Contains, Contains-append_cases, contains_cases, contains_head, contains_tail, end, filter-append, filter_all, filter_none, first_cmp, found_tree, Greater, is_found_path, is_lt, IsJoined, IsRecovered, joined_listing, key_lt, key_total, LacksBucketKey, LeafElement, leaves_of, Less, less_of, listing_below, listing_of, lost_and_found, Member, member_cmp, member_total, Meta, page_at, Path, path_cmp, put_bucket, Rises, Tree, tree_of, with_bucket, with_value, All, All-head, All-tail, AreJoinable, Found, found_listing, IsFoundView, found_numbers, found_pages_of, recovered_of}
+use Rattle.bolt_recover.proofs.Words.{append-nil, AreFound, Bucket, cases_Bool, Contains, Contains-append_cases, contains_cases, contains_head}
+use Rattle.bolt_recover.proofs.Words.{contains_tail, end, filter-append, filter_all, filter_none, first_cmp, found_tree, Greater, is_found_path}
+use Rattle.bolt_recover.proofs.Words.{is_lt, IsJoined, IsRecovered, joined_listing, key_lt, key_total, LacksBucketKey, LeafElement, leaves_of, Less}
+use Rattle.bolt_recover.proofs.Words.{less_of, listing_below, listing_of, lost_and_found, Member, member_cmp, member_total, Meta, page_at, Path}
+use Rattle.bolt_recover.proofs.Words.{path_cmp, put_bucket, Rises, Tree, tree_of, with_bucket, with_value, All, All-head, All-tail, AreJoinable}
+use Rattle.bolt_recover.proofs.Words.{Found, found_listing, IsFoundView, found_numbers, found_pages_of, recovered_of}
 use Rattle.bolt_recover.proofs.{Existing.has_recovered, Existing.one_recovered, Existing.recovers, FoundAll.one_found, FoundExists.has_found}
 use Rattle.bolt_recover.proofs.{CourseTrees.all_tree, TreeOrder.Ordered, TreeOrder.ordered_rises, TreeOrder.rises_both, TreeOrder.under}
 use Rattle.bolt_tree.proofs.Exports.{merge_none, flip_less, path_total, tree_back}
@@ -32,9 +37,11 @@ put_rises inside own =
     (ordered_rises (with_bucket lost_and_found 0 inside end) [] (λ k has. absurd has, own, tt))
 
 -- members are put after all those that come before the bucket
-passes : (put front rest : List Member) → ((m : Member) → Contains front m → is_lt (first_cmp m.0) ≡ true) → put_members put (front ++ rest) ≡ front ++ put_members put rest
+passes : (put front rest : List Member) → ((m : Member) → Contains front m → is_lt (first_cmp m.0) ≡ true)
+    → put_members put (front ++ rest) ≡ front ++ put_members put rest
 passes put [] rest less = refl
-passes put (x ∷ front) rest less = rw (less x (contains_head x front)) (ap (λ (ms : List Member). x ∷ ms) (passes put front rest (λ m has. less m (contains_tail x m front has))))
+passes put (x ∷ front) rest less =
+    rw (less x (contains_head x front)) (ap (λ (ms : List Member). x ∷ ms) (passes put front rest (λ m has. less m (contains_tail x m front has))))
 
 put_tree : (inside tree : Tree) → put_members (put_of inside) (listing_of tree) ≡ listing_of (put_bucket lost_and_found inside tree)
 put_tree inside end = refl
@@ -58,11 +65,16 @@ put_or_there put (x ∷ listing) m has = elim (cases_Bool (is_lt (first_cmp x.0)
 ]
 
 -- the bucket alone goes
-put_goes : (put listing : List Member) → ((m : Member) → Contains put m → stays m ≡ false) → ((m : Member) → Contains listing m → stays m ≡ true) → filter stays (put_members put listing) ≡ listing
+put_goes : (put listing : List Member) → ((m : Member) → Contains put m → stays m ≡ false) → ((m : Member) → Contains listing m → stays m ≡ true)
+    → filter stays (put_members put listing) ≡ listing
 put_goes put [] none all = filter-append stays put [] ∙ ap (λ (ms : List Member). ms ++ []) (filter_none stays put none)
 put_goes put (x ∷ listing) none all = elim (cases_Bool (is_lt (first_cmp x.0))) [
-  | inl less ↦ rw (less, all x (contains_head x listing)) (ap (λ (ms : List Member). x ∷ ms) (put_goes put listing none (λ m has. all m (contains_tail x m listing has))))
-  | inr over ↦ rw over (filter-append stays put (x ∷ listing) ∙ ap (λ (ms : List Member). ms ++ filter stays (x ∷ listing)) (filter_none stays put none) ∙ filter_all stays (x ∷ listing) all)
+  | inl less ↦
+      rw (less, all x (contains_head x listing))
+      (ap (λ (ms : List Member). x ∷ ms) (put_goes put listing none (λ m has. all m (contains_tail x m listing has))))
+  | inr over ↦
+      rw over (filter-append stays put (x ∷ listing) ∙ ap (λ (ms : List Member). ms ++ filter stays (x ∷ listing)) (filter_none stays put none)
+      ∙ filter_all stays (x ∷ listing) all)
 ]
 
 -- the bucket stands in the order of paths
@@ -72,7 +84,8 @@ first_before path rest less = grind (arith, less_of)
 first_after : (path rest : Path) → is_lt (first_cmp path) ≡ false → not (is_found_path path) ≡ true → path_cmp (lost_and_found ∷ rest) path ≡ Less
 first_after path rest over other = grind (arith, key_total)
 
-put_between : (inside : Tree) (listing : List Member) → Ordered inside → Rises member_cmp listing → LacksBucketKey listing → Rises member_cmp (put_members (put_of inside) listing)
+put_between : (inside : Tree) (listing : List Member) → Ordered inside → Rises member_cmp listing → LacksBucketKey listing
+    → Rises member_cmp (put_members (put_of inside) listing)
 put_between inside [] own rise lacks = subst (Rises member_cmp) (sym (append-nil (put_of inside))) (put_rises inside own)
 put_between inside (x ∷ listing) own rise lacks = elim (cases_Bool (is_lt (first_cmp x.0))) [
   | inl less ↦ rw less (
@@ -85,13 +98,18 @@ put_between inside (x ∷ listing) own rise lacks = elim (cases_Bool (is_lt (fir
   | inr over ↦ rw over (rises_both (put_of inside) (x ∷ listing) (put_rises inside own) rise (λ a b put has.
       let (rest, at) = put_path inside a put in
       let here : member_cmp a x ≡ Less = rw at (first_after x.0 rest over (lacks x (contains_head x listing))) in
-      elim (contains_cases x b listing has) [ inl same ↦ subst (λ (y : Member). member_cmp a y ≡ Less) same here | inr later ↦ member_total.trans a x b here (rise.0 b later) ]))
+      elim (contains_cases x b listing has) [
+        | inl same ↦ subst (λ (y : Member). member_cmp a y ≡ Less) same here
+        | inr later ↦ member_total.trans a x b here (rise.0 b later)
+      ]))
 ]
 
 -- the bucket is merged in so, if its key is free
-passed : (x : Member) (rest : List Member → List Member) (put : List Member) → ((m : Member) → Contains put m → is_lt (member_cmp m x) ≡ true) → merge_first x rest put ≡ put ++ x ∷ rest []
+passed : (x : Member) (rest : List Member → List Member) (put : List Member) → ((m : Member) → Contains put m → is_lt (member_cmp m x) ≡ true)
+    → merge_first x rest put ≡ put ++ x ∷ rest []
 passed x rest [] all = refl
-passed x rest (y ∷ put) all = rw (all y (contains_head y put)) (ap (λ (ms : List Member). y ∷ ms) (passed x rest put (λ m has. all m (contains_tail y m put has))))
+passed x rest (y ∷ put) all =
+    rw (all y (contains_head y put)) (ap (λ (ms : List Member). y ∷ ms) (passed x rest put (λ m has. all m (contains_tail y m put has))))
 
 merged_put : (inside : Tree) (listing : List Member) → LacksBucketKey listing → merge listing (put_of inside) ≡ put_members (put_of inside) listing
 merged_put inside [] lacks = sym (append-nil (put_of inside))
@@ -120,19 +138,23 @@ module _ (file : List ℕ) (meta : Meta) where
       → put_members (put_of (found_tree found)) recovered ≡ listing_of (put_bucket lost_and_found (found_tree found) (tree_of recovered))
   put_recovered found recovered is = let (tree, of) = tree_recovered recovered is in grind (arith, put_tree, tree_back)
 
-  pub joined_keeps : (recovered : List Member) (found : List (ℕ × List LeafElement)) → IsRecovered file meta recovered → LacksBucketKey recovered → filter stays (joined_listing recovered found) ≡ recovered
+  pub joined_keeps : (recovered : List Member) (found : List (ℕ × List LeafElement)) → IsRecovered file meta recovered → LacksBucketKey recovered
+      → filter stays (joined_listing recovered found) ≡ recovered
   joined_keeps recovered [] is lacks = filter_all stays recovered lacks
   joined_keeps recovered (page ∷ found) is lacks =
       let inside = found_tree (page ∷ found) in
-      ap (filter stays) (sym (put_recovered (page ∷ found) recovered is)) ∙ put_goes (put_of inside) recovered (λ m has. let (rest, at) = put_path inside m has in rw at refl) lacks
+      ap (filter stays) (sym (put_recovered (page ∷ found) recovered is))
+      ∙ put_goes (put_of inside) recovered (λ m has. let (rest, at) = put_path inside m has in rw at refl) lacks
 
-  pub joined_between : (recovered : List Member) (page : ℕ × List LeafElement) (found : List (ℕ × List LeafElement)) → IsRecovered file meta recovered → LacksBucketKey recovered
+  pub joined_between : (recovered : List Member) (page : ℕ × List LeafElement) (found : List (ℕ × List LeafElement)) → IsRecovered file meta recovered
+      → LacksBucketKey recovered
       → Ordered (found_tree (page ∷ found)) → Rises member_cmp (joined_listing recovered (page ∷ found))
   joined_between recovered page found is lacks own =
       subst (Rises member_cmp) (put_recovered (page ∷ found) recovered is) (put_between (found_tree (page ∷ found)) recovered own is.rises lacks)
 
   -- it is that of the file's one recovered listing and one list of found pages
-  pub joined_of : (listing recovered : List Member) (found : List ℕ) → IsJoined file meta listing → IsRecovered file meta recovered → AreFound file meta found
+  pub joined_of : (listing recovered : List Member) (found : List ℕ) → IsJoined file meta listing → IsRecovered file meta recovered
+      → AreFound file meta found
       → listing ≡ joined_listing recovered (with_elements found)
   joined_of listing recovered found is back are =
       is.joined
@@ -145,7 +167,8 @@ module _ (file : List ℕ) (meta : Meta) where
       let (found, are) = has_found file meta in
       (joined_listing recovered (with_elements found), record { recovered = recovered; recovers = back; found = found; are_found = are; joined = refl })
 
-  pub joined_tree : (recovered : List Member) (found : List (ℕ × List LeafElement)) → (tree : Tree) × (recovered ≡ listing_of tree) → (tree : Tree) × (joined_listing recovered found ≡ listing_of tree)
+  pub joined_tree : (recovered : List Member) (found : List (ℕ × List LeafElement)) → (tree : Tree) × (recovered ≡ listing_of tree)
+      → (tree : Tree) × (joined_listing recovered found ≡ listing_of tree)
   joined_tree recovered [] of = of
   joined_tree recovered (page ∷ found) of = (put_bucket lost_and_found (found_tree (page ∷ found)) (tree_of recovered), refl)
 
@@ -158,11 +181,14 @@ module _ (file : List ℕ) (meta : Meta) where
       ∙ ap (λ (pages : List (ℕ × List LeafElement)). (f.number, leaves_on f.page) ∷ pages) (pages_same found (All-tail (IsFoundView file meta) f found views))
 
   -- the joined listing, if these are the found pages
-  joined_is : (found : List Found) (listing : List Member) → AreJoinable file meta found → IsJoined file meta listing → listing ≡ joined_listing (recovered_of file meta) (found_pages_of found)
+  joined_is : (found : List Found) (listing : List Member) → AreJoinable file meta found → IsJoined file meta listing
+      → listing ≡ joined_listing (recovered_of file meta) (found_pages_of found)
   joined_is found listing are is =
-      joined_of listing (recovered_of file meta) (found_numbers found) is (recovers file meta) are.are_found ∙ ap (joined_listing (recovered_of file meta)) (pages_same found are.views)
+      joined_of listing (recovered_of file meta) (found_numbers found) is (recovers file meta) are.are_found
+      ∙ ap (joined_listing (recovered_of file meta)) (pages_same found are.views)
 
-  pub merged_joined : (found : List Found) (listing : List Member) → AreJoinable file meta found → IsJoined file meta listing → merge (recovered_of file meta) (found_listing found) ≡ listing
+  pub merged_joined : (found : List Found) (listing : List Member) → AreJoinable file meta found → IsJoined file meta listing
+      → merge (recovered_of file meta) (found_listing found) ≡ listing
   merged_joined [] listing are is = merge_none (recovered_of file meta) ∙ sym (joined_is [] listing are is)
   merged_joined (f ∷ found) listing are is =
       let not_none : (f ∷ found) ≢ [] = λ e. cc in

@@ -1,16 +1,23 @@
--- Ways of a survey that loses none of some ways: those that lead somewhere are kept, and the tests find nothing at them, whatever ways come before. So
+-- Ways of a survey that loses none of some ways: those that lead somewhere
+-- are kept, and the tests find nothing at them, whatever ways come before. So
 -- trees that lose nothing are sound, sound trees lose nothing, and the first loss is the first finding.
 use Rattle.std.proofs.Common.{◌≡◌, ◌∙◌, ℕ, inl, inr, List, [], ◌∷◌, ◌++◌, Option, Some, None, refl, sym, subst, append_assoc, arith}
-use Rattle.bolt_recover.proofs.Words.{append-nil, At_page, Before, before_trans, Finding, follow, follow_append, Has, HasSoundTrees, IsClaimedBefore, IsClaimedIn, IsFirst, IsMetaPage, IsSurvey, way_kept, LosesNothing, Meta, node_at, Nodes, Passes, passes_fewer, passes_silent, Reach, reached, root_spot, shape_of, shape_passes, span_spot, Spot, Surveys, SurveyedWay, tests_same}
+use Rattle.bolt_recover.proofs.Words.{append-nil, At_page, Before, before_trans, Finding, follow, follow_append, Has, HasSoundTrees, IsClaimedBefore}
+use Rattle.bolt_recover.proofs.Words.{IsClaimedIn, IsFirst, IsMetaPage, IsSurvey, way_kept, LosesNothing, Meta, node_at, Nodes, Passes, passes_fewer}
+use Rattle.bolt_recover.proofs.Words.{passes_silent, Reach, reached, root_spot, shape_of, shape_passes, span_spot, Spot, Surveys, SurveyedWay}
+use Rattle.bolt_recover.proofs.Words.{tests_same}
 use Rattle.bolt_recover.proofs.SurveyIsOne.{gives_one}
 use Rattle.bolt_check.proofs.Exports.{follow_some}
 
-module _ (nodes : Nodes) (root : Option Spot) (survey : List SurveyedWay) (surveys : Surveys nodes (follow nodes root) survey) (P : List ℕ → Type 0) (closed : (front rest : List ℕ) → P (front ++ rest) → P front)
+module _ (nodes : Nodes) (root : Option Spot) (survey : List SurveyedWay) (surveys : Surveys nodes (follow nodes root) survey) (P : List ℕ → Type 0)
+    (closed : (front rest : List ℕ) → P (front ++ rest) → P front)
     (none : (v : SurveyedWay) → Has survey v → P v.way → v.found ≡ None) where
   keeps_one : (way : List ℕ) (found : Option Finding) → Has survey (record { way = way; found = found }) → P way → Has survey (way_kept way)
-  keeps_one way found has is = subst (λ (f : Option Finding). Has survey (record { way = way; found = f })) (none (record { way = way; found = found }) has is) has
+  keeps_one way found has is =
+      subst (λ (f : Option Finding). Has survey (record { way = way; found = f })) (none (record { way = way; found = found }) has is) has
 
-  keeps_on : (front rest : List ℕ) (s : Spot) → Has survey (way_kept front) → follow nodes root (front ++ rest) ≡ Some s → P (front ++ rest) → Has survey (way_kept (front ++ rest))
+  keeps_on : (front rest : List ℕ) (s : Spot) → Has survey (way_kept front) → follow nodes root (front ++ rest) ≡ Some s → P (front ++ rest)
+      → Has survey (way_kept (front ++ rest))
   keeps_on front [] s has led is = subst (λ (w : List ℕ). Has survey (way_kept w)) (sym (append-nil front)) has
   keeps_on front (i ∷ rest) s has led is =
       let same : (front ++ i ∷ []) ++ rest ≡ front ++ (i ∷ rest) = append_assoc front (i ∷ []) rest in
@@ -18,7 +25,8 @@ module _ (nodes : Nodes) (root : Option Spot) (survey : List SurveyedWay) (surve
       let is2 : P ((front ++ i ∷ []) ++ rest) = subst P (sym same) is in
       let at = follow_some nodes (follow nodes root (front ++ i ∷ [])) rest s (sym (follow_append nodes root (front ++ i ∷ []) rest) ∙ led2) in
       let p = surveys.all (front ++ i ∷ []) at.0 (inr (front, i, refl, has)) at.1 in
-      subst (λ (w : List ℕ). Has survey (way_kept w)) same (keeps_on (front ++ i ∷ []) rest s (keeps_one (front ++ i ∷ []) p.0 p.1 (closed (front ++ i ∷ []) rest is2)) led2 is2)
+      subst (λ (w : List ℕ). Has survey (way_kept w)) same
+      (keeps_on (front ++ i ∷ []) rest s (keeps_one (front ++ i ∷ []) p.0 p.1 (closed (front ++ i ∷ []) rest is2)) led2 is2)
 
   kept_way : (way : List ℕ) (s : Spot) → follow nodes root way ≡ Some s → P way → Has survey (way_kept way)
   kept_way way s led is =
@@ -43,16 +51,22 @@ none_lost file meta survey trees surveys v has =
     let reach = reached nodes meta.root in
     let (s, led, gives) = (surveys.only v has).1 in
     gives_one nodes (IsClaimedIn nodes reach survey v.way) s v.found None gives
-    (passes_fewer nodes (IsClaimedBefore nodes reach IsMetaPage v.way) (IsClaimedIn nodes reach survey v.way) s (claimed_before nodes reach survey v.way) ((shape_passes nodes meta.root trees).passes v.way s led))
+    (passes_fewer nodes (IsClaimedBefore nodes reach IsMetaPage v.way) (IsClaimedIn nodes reach survey v.way) s (claimed_before nodes reach survey v.way)
+    ((shape_passes nodes meta.root trees).passes v.way s led))
 
 module _ (file : List ℕ) (meta : Meta) (survey : List SurveyedWay) (surveys : IsSurvey file meta survey) (none : LosesNothing survey) where
   -- each way that leads somewhere is kept
   pub all_kept : (way : List ℕ) (s : Spot) → reached (node_at file meta) meta.root way ≡ Some s → Has survey (way_kept way)
-  all_kept way s led = kept_way (node_at file meta) (Some (At_page (root_spot meta.root))) survey surveys (λ w. Unit {0}) (λ front rest is. tt) (λ v has is. none v has) way s led tt
+  all_kept way s led =
+      kept_way (node_at file meta) (Some (At_page (root_spot meta.root))) survey surveys (λ w. Unit {0}) (λ front rest is. tt) (λ v has is. none v has)
+      way s led tt
 
   pub sound : HasSoundTrees file meta
   sound = shape_of (node_at file meta) meta.root (record {
-    passes = λ way s led. kept_passes (node_at file meta) (Some (At_page (root_spot meta.root))) survey surveys (λ w. Unit {0}) (λ front rest is. tt) (λ v has is. none v has) way (λ u lt. tt) s led tt;
+    passes =
+        λ way s led.
+        kept_passes (node_at file meta) (Some (At_page (root_spot meta.root))) survey surveys (λ w. Unit {0}) (λ front rest is. tt) (λ v has is. none v has)
+        way (λ u lt. tt) s led tt;
   })
 
 -- what begins a way before another comes before it too

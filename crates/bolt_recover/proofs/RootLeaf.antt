@@ -1,12 +1,17 @@
 -- A leaf as the root page: what is recovered has its elements in the root bucket.
-use Rattle.std.proofs.Common.{◌≡◌, ◌≢◌, ◌∙◌, ◌⊎◌, ℕ, inl, inr, true, false, List, [], ◌∷◌, map, Option, Some, None, Ok, refl, sym, ap, subst, arith, cond}
+use Rattle.std.proofs.Common.{◌≡◌, ◌≢◌, ◌∙◌, ◌⊎◌, ℕ, inl, inr, true, false, List, [], ◌∷◌, map, Option, Some, None, Ok, refl, sym, ap, subst, arith}
+use Rattle.std.proofs.Common.{cond}
 use Rattle.std.specs.List.{count_by}
 use Rattle.bolt_check.specs.Nodes.{node_of, node_seen}
 use Rattle.bolt_format.specs.{Pages.PageView, Pages.page_fault, TreePages.is_tree_kind, declared.header.Kind.Kind}
-use Rattle.bolt_recover.proofs.Words.{At_page, Contains, contains_cases, contains_head, contains_none, Finding, Gives, Has, IsClaimedIn, IsMetaPage, IsRecovered, IsSurvey, item_of, KeepsRoot, LeafElement, leaf_entry, leaves_of, Member, Meta, Node, node_at, page_at, passes_fewer, reached, root_site, root_spot, same_Some, Site, site_at, follow_sites, step_site, Spot, sum_by-cons, SurveyedWay, way_kept}
+use Rattle.bolt_recover.proofs.Words.{At_page, Contains, contains_cases, contains_head, contains_none, Finding, Gives, Has, IsClaimedIn, IsMetaPage}
+use Rattle.bolt_recover.proofs.Words.{IsRecovered, IsSurvey, item_of, KeepsRoot, LeafElement, leaf_entry, leaves_of, Member, Meta, Node, node_at}
+use Rattle.bolt_recover.proofs.Words.{page_at, passes_fewer, reached, root_site, root_spot, same_Some, Site, site_at, follow_sites, step_site, Spot}
+use Rattle.bolt_recover.proofs.Words.{sum_by-cons, SurveyedWay, way_kept}
 use Rattle.bolt_check.proofs.Exports.{node_shown}
 use Rattle.bolt_check.specs.ShownNodes.{shown_node}
-use Rattle.bolt_format.specs.{TreePages.leaves_on, TreePages.shown_page, declared.tree_page.LeafPage.LeafPage, declared.tree_page.TreePage.TheVariants.Leaf}
+use Rattle.bolt_format.specs.{TreePages.leaves_on, TreePages.shown_page, declared.tree_page.LeafPage.LeafPage}
+use Rattle.bolt_format.specs.{declared.tree_page.TreePage.TheVariants.Leaf}
 use Rattle.bolt_recover.proofs.{Existing.has_recovered, SurveyIsOne.gives_one}
 use Rattle.bolt_recover.specs.States.{HasBucketsAlone, is_root_value, root_buckets}
 
@@ -33,9 +38,11 @@ module _ (file : List ℕ) (meta : Meta) where
 
   pub no_tree_page : (view : PageView) → page_at file meta meta.root ≡ Some view → is_tree_kind view.kind ≡ false → KeepsRoot file meta → ⊥
   unfolding node_at
-  no_tree_page view at not keeps = other_kind view.kind view keeps.node not (ap (λ (o : Option PageView). node_seen o (page_fault file meta meta.root)) (sym at) ∙ keeps.page)
+  no_tree_page view at not keeps =
+      other_kind view.kind view keeps.node not (ap (λ (o : Option PageView). node_seen o (page_fault file meta meta.root)) (sym at) ∙ keeps.page)
 
-  pub only_metas : (survey : List SurveyedWay) (n : ℕ) → IsClaimedIn (node_at file meta) (reached (node_at file meta) meta.root) survey [] n → IsMetaPage n
+  pub only_metas : (survey : List SurveyedWay) (n : ℕ) → IsClaimedIn (node_at file meta) (reached (node_at file meta) meta.root) survey [] n
+      → IsMetaPage n
   only_metas survey n h = grind arith
 
   -- the empty way is kept
@@ -46,11 +53,14 @@ module _ (file : List ℕ) (meta : Meta) where
       let before = IsClaimedIn (node_at file meta) (reached (node_at file meta) meta.root) survey [] in
       let same : At_page (root_spot meta.root) ≡ spot = same_Some _ _ led in
       let passes = passes_fewer (node_at file meta) IsMetaPage before (At_page (root_spot meta.root)) (λ n h. only_metas survey n h) keeps in
-      let none = gives_one (node_at file meta) before (At_page (root_spot meta.root)) found None (subst (λ (s : Spot). Gives (node_at file meta) before s found) (sym same) gives) passes in
+      let none =
+      gives_one (node_at file meta) before (At_page (root_spot meta.root)) found None
+      (subst (λ (s : Spot). Gives (node_at file meta) before s found) (sym same) gives) passes in
       subst (λ (f : Option Finding). Has survey (record { way = []; found = f })) none has
 
   -- an element of the root page is a member
-  pub element_there : KeepsRoot file meta → (l : List Member) → IsRecovered file meta l → (e : LeafElement) → Contains (leaves_of (page_at file meta meta.root)) e
+  pub element_there : KeepsRoot file meta → (l : List Member) → IsRecovered file meta l → (e : LeafElement)
+      → Contains (leaves_of (page_at file meta meta.root)) e
       → Contains l (e.key ∷ [], item_of e)
   element_there keeps l is e has = (is.exact (e.key ∷ []) (item_of e)).1 (record {
     way = [];
@@ -71,14 +81,16 @@ module _ (file : List ℕ) (meta : Meta) where
   no_step : (node : Node) (i : ℕ) → node_at file meta meta.root ≡ Ok node → node.entries ≡ [] → step_site file meta (root_site file meta) i ≡ None
   no_step node i page none = rw (page, none) refl
 
-  pub no_members : (node : Node) → node_at file meta meta.root ≡ Ok node → node.entries ≡ [] → leaves_of (page_at file meta meta.root) ≡ [] → (l : List Member) → IsRecovered file meta l
+  pub no_members : (node : Node) → node_at file meta meta.root ≡ Ok node → node.entries ≡ [] → leaves_of (page_at file meta meta.root) ≡ []
+      → (l : List Member) → IsRecovered file meta l
       → (m : Member) → Contains l m → ⊥
   no_members node page none bare l is m has =
       let r = (is.exact m.0 m.1).0 has in
       none_at r.way r.site r.element r.leads r.has
     where
       none_at : (way : List ℕ) (site : Site) (e : LeafElement) → site_at file meta way ≡ Some site → Contains site.elements e → ⊥
-      none_at [] site e led has = contains_none e (subst (λ (es : List LeafElement). Contains es e) (ap (λ (s : Site). s.elements) (sym (same_Some _ _ led)) ∙ bare) has)
+      none_at [] site e led has =
+          contains_none e (subst (λ (es : List LeafElement). Contains es e) (ap (λ (s : Site). s.elements) (sym (same_Some _ _ led)) ∙ bare) has)
       none_at (i ∷ way) site e led has = nowhere way site (ap (λ (o : Option Site). follow_sites file meta o way) (sym (no_step node i page none)) ∙ led)
 
   -- a leaf that has no element or a value

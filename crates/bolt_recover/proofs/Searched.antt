@@ -1,8 +1,12 @@
 -- What is known of a file that was searched.
 use Rattle.std.proofs.Common.{◌≡◌, ◌≢◌, ◌∙◌, ◌<◌, ◌*◌, ◌^◌, true, false, List, [], ◌∷◌, ap, length, map, subst, sym, arith}
-use Rattle.bolt_recover.proofs.Words.{all_lost, AreJoinable, AreTreesOf, bytes_of, Checked, Contains, contains_cases, contains_head, contains_none, contains_tail, Damaged, everything, Finding, ForRecovered, Found, ForGaps, HasBucketKey, holds_key, IsSearched, LacksBucketKey, LosesRoot, LossView, lost_of, Member, meta_of, or_cases, or_parts, page_gap_view, parts, props, Rootless, Sound, ∥∥₁_elim, ∥∥₁_map}
+use Rattle.bolt_recover.proofs.Words.{all_lost, AreJoinable, AreTreesOf, bytes_of, Checked, Contains, contains_cases, contains_head, contains_none}
+use Rattle.bolt_recover.proofs.Words.{contains_tail, Damaged, everything, Finding, ForRecovered, Found, ForGaps, HasBucketKey, holds_key, IsSearched}
+use Rattle.bolt_recover.proofs.Words.{LacksBucketKey, LosesRoot, LossView, lost_of, Member, meta_of, or_cases, or_parts, page_gap_view, parts, props}
+use Rattle.bolt_recover.proofs.Words.{Rootless, Sound, ∥∥₁_elim, ∥∥₁_map}
 use Rattle.bolt_recover.proofs.{Existing.has_survey, FoundAll.loses_root, FoundAll.nothing_kept, FoundAll.nothing_recovered, KeptWays.none_lost}
-use Rattle.bolt_recover.specs.{Lost.IsAllLost, declared.losses.Damage.Damage, declared.lost_and_found.LostAndFound.LostAndFound, declared.lost_and_found.Trees.Trees}
+use Rattle.bolt_recover.specs.{Lost.IsAllLost, declared.losses.Damage.Damage, declared.lost_and_found.LostAndFound.LostAndFound}
+use Rattle.bolt_recover.specs.{declared.lost_and_found.Trees.Trees}
 use Rattle.bolt_check.specs.{Counts.saturated, Sound.HasSoundTrees}
 use Rattle.bolt_check.proofs.Exports.{checked_trees}
 
@@ -19,10 +23,12 @@ parts_some : (losses : List LossView) (x : Finding) → parts losses ≡ everyth
 parts_some losses x is = cc
 
 module _ (both : LostAndFound) where
-  left : (trees : Trees) → both.trees ≡ trees → IsSearched both.file.now both.meta both.trees both.found.items → AreTreesOf both.file.now both.meta both.found.items trees
+  left : (trees : Trees) → both.trees ≡ trees → IsSearched both.file.now both.meta both.trees both.found.items
+      → AreTreesOf both.file.now both.meta both.found.items trees
   left trees is searched = subst (AreTreesOf both.file.now both.meta both.found.items) is searched.left
 
-  pub of_sound : (checked : Checked) → both.trees ≡ Sound checked → (bytes_of checked ≡ both.file.now) × (meta_of checked ≡ both.meta) × (both.found.items ≡ [])
+  pub of_sound : (checked : Checked) → both.trees ≡ Sound checked
+      → (bytes_of checked ≡ both.file.now) × (meta_of checked ≡ both.meta) × (both.found.items ≡ [])
   of_sound checked is = ∥∥₁_elim both.searched (hlevel props) (left (Sound checked) is)
 
   pub trees_sound : (checked : Checked) → both.trees ≡ Sound checked → ∥ HasSoundTrees both.file.now both.meta ∥₁
@@ -34,7 +40,8 @@ module _ (both : LostAndFound) where
   not_everything losses is x all = grind (arith, parts_some)
 
   -- what is found can be joined, if there are few enough pages and room for the bucket
-  pub joinable : (found : List Found) → found ≡ both.found.items → length both.file.now < 10 ^ 16 * both.meta.page_size → (both.found.items ≢ [] → ForRecovered both.file.now both.meta LacksBucketKey)
+  pub joinable : (found : List Found) → found ≡ both.found.items → length both.file.now < 10 ^ 16 * both.meta.page_size
+      → (both.found.items ≢ [] → ForRecovered both.file.now both.meta LacksBucketKey)
       → ∥ AreJoinable both.file.now both.meta found ∥₁
   joinable found same few apart = ∥∥₁_map both.searched (λ searched. subst (AreJoinable both.file.now both.meta) (sym same) (record {
     few = few;
@@ -45,10 +52,12 @@ module _ (both : LostAndFound) where
 
   module _ (damage : Damage) (is : both.trees ≡ Damaged damage) where
     pub has_key : damage.has_bucket_key ≡ true → ForRecovered both.file.now both.meta HasBucketKey
-    has_key same listing recovers = key_held listing (∥∥₁_elim both.searched (hlevel props) (λ searched. sym ((left (Damaged damage) is searched).key listing recovers) ∙ same))
+    has_key same listing recovers =
+        key_held listing (∥∥₁_elim both.searched (hlevel props) (λ searched. sym ((left (Damaged damage) is searched).key listing recovers) ∙ same))
 
     pub lacks_key : damage.has_bucket_key ≡ false → ForRecovered both.file.now both.meta LacksBucketKey
-    lacks_key other listing recovers = key_lacks listing (∥∥₁_elim both.searched (hlevel props) (λ searched. sym ((left (Damaged damage) is searched).key listing recovers) ∙ other))
+    lacks_key other listing recovers =
+        key_lacks listing (∥∥₁_elim both.searched (hlevel props) (λ searched. sym ((left (Damaged damage) is searched).key listing recovers) ∙ other))
 
     pub number : ForRecovered both.file.now both.meta (λ listing. damage.members ≡ saturated (length listing))
     number listing recovers = ∥∥₁_elim both.searched (hlevel props) (λ searched. (left (Damaged damage) is searched).number listing recovers)
@@ -69,7 +78,8 @@ module _ (both : LostAndFound) where
     pub rootless : HasSoundTrees both.file.now both.meta → ⊥
     rootless sound =
         let (survey, is_survey) = has_survey both.file.now both.meta in
-        ∥∥₁_elim root_lost (hlevel props) (λ lost. loses_root both.file.now both.meta x lost survey is_survey (none_lost both.file.now both.meta survey sound is_survey))
+        ∥∥₁_elim root_lost (hlevel props)
+        (λ lost. loses_root both.file.now both.meta x lost survey is_survey (none_lost both.file.now both.meta survey sound is_survey))
 
     pub no_gap : ForGaps both.file.now both.meta (λ gaps. [] ≡ gaps)
     no_gap gaps are = ∥∥₁_elim root_lost (hlevel props) (λ lost. sym (nothing_kept both.file.now both.meta x lost gaps are))

@@ -1,6 +1,8 @@
 -- The keys of a site that is kept: they rise between its bounds, its elements have them, and each child has its bounds from them.
 use Rattle.std.proofs.Common.{◌≡◌, ◌∙◌, ◌⊎◌, ℕ, suc, Bool, true, List, [], ◌∷◌, ◌++◌, Option, Some, None, slice_get, if◌then◌else◌, refl, ap, arith}
-use Rattle.bolt_recover.proofs.Words.{At_inline, At_page, Finding, finding_none, finding_of, is_below, is_from, Key, key_at, key_each, key_rise, keys_of, keys_order_fault, KeysRise, LeafElement, lower_of, Meta, Node, node_at, none-some, option_map, PageSpot, Passes, Path, Site, slice_get-map, Spot, step_site, upper_of}
+use Rattle.bolt_recover.proofs.Words.{At_inline, At_page, Finding, finding_none, finding_of, is_below, is_from, Key, key_at, key_each, key_rise}
+use Rattle.bolt_recover.proofs.Words.{keys_of, keys_order_fault, KeysRise, LeafElement, lower_of, Meta, Node, node_at, none-some, option_map}
+use Rattle.bolt_recover.proofs.Words.{PageSpot, Passes, Path, Site, slice_get-map, Spot, step_site, upper_of}
 use Rattle.bolt_recover.proofs.SiteSteps.{IsBranchPage, IsLeafPage, IsTidy, IsTidyAt, keys_in, on_page}
 
 -- a bucket of a leaf has a path of its own, and a child of a branch has the keys from its element to the next
@@ -29,15 +31,18 @@ no_late b x o page e = grind (arith, finding_none)
 key_of_element : (elements : List LeafElement) (i : ℕ) (e : LeafElement) → slice_get elements i ≡ Some e → slice_get (keys_in elements) i ≡ Some e.key
 key_of_element elements i e at = slice_get-map (λ (x : LeafElement). x.key) elements i ∙ ap (option_map (λ (x : LeafElement). x.key)) at
 
-on_page_kids : (file : List ℕ) (meta : Meta) (p : Site) (s : PageSpot) (node : Node) (i : ℕ) (t : Site) → p.spot ≡ At_page s → IsLeafPage file meta p s node ⊎ IsBranchPage file meta p s node
+on_page_kids : (file : List ℕ) (meta : Meta) (p : Site) (s : PageSpot) (node : Node) (i : ℕ) (t : Site) → p.spot ≡ At_page s
+    → IsLeafPage file meta p s node ⊎ IsBranchPage file meta p s node
     → step_site file meta p i ≡ Some t → IsInside p t i ⊎ IsChild p t i (keys_of node.entries)
 on_page_kids file meta p s node i t spot h is = grind (arith, slice_get-map, key_at)
 
-own_key : (file : List ℕ) (meta : Meta) (p : Site) (s : PageSpot) (node : Node) (i : ℕ) (e : LeafElement) → IsLeafPage file meta p s node ⊎ IsBranchPage file meta p s node
+own_key : (file : List ℕ) (meta : Meta) (p : Site) (s : PageSpot) (node : Node) (i : ℕ) (e : LeafElement)
+    → IsLeafPage file meta p s node ⊎ IsBranchPage file meta p s node
     → slice_get p.elements i ≡ Some e → slice_get (keys_of node.entries) i ≡ Some e.key
 own_key file meta p s node i e h at = grind (arith, key_at, slice_get-map, none-some)
 
-keyed_at : (file : List ℕ) (meta : Meta) (before : ℕ → Type 0) (spot : Spot) (path : Path) (elements : List LeafElement) → IsTidyAt file meta elements spot → Passes (node_at file meta) before spot
+keyed_at : (file : List ℕ) (meta : Meta) (before : ℕ → Type 0) (spot : Spot) (path : Path) (elements : List LeafElement)
+    → IsTidyAt file meta elements spot → Passes (node_at file meta) before spot
     → (keys : List Key) × Keyed file meta (record { spot = spot; path = path; elements = elements }) keys
 keyed_at file meta before (At_inline host inner) path elements tidy passes =
     let none = finding_none (keys_order_fault None None None inner.keys) host passes in (inner.keys, grind (arith, key_rise, key_each, key_of_element, none))
@@ -56,5 +61,6 @@ keyed_at file meta before (At_page s) path elements tidy passes =
       },
     )
 
-pub keyed : (file : List ℕ) (meta : Meta) (before : ℕ → Type 0) (p : Site) → IsTidy file meta p → Passes (node_at file meta) before p.spot → (keys : List Key) × Keyed file meta p keys
+pub keyed : (file : List ℕ) (meta : Meta) (before : ℕ → Type 0) (p : Site) → IsTidy file meta p → Passes (node_at file meta) before p.spot
+    → (keys : List Key) × Keyed file meta p keys
 keyed file meta before p tidy passes = keyed_at file meta before p.spot p.path p.elements tidy passes

@@ -1,6 +1,9 @@
 -- Where the entries of a page lead: the buckets on a leaf, and the children of a branch.
-use Rattle.std.proofs.Common.{◌≡◌, ◌∙◌, ◌⊎◌, ℕ, suc, true, false, List, [], ◌∷◌, ◌++◌, map, Option, Some, Result, Ok, slice_get, refl, sym, ap, subst, arith}
-use Rattle.bolt_recover.proofs.Words.{At_inline, At_page, bucket_spot, child_spot, elements_at, Entry, Key, leaf_entry, LeafElement, leaves_of, Meta, Node, node_at, page_at, PageSpot, Path, Site, site_on, root_site, slice_get-map, Spot, step_at, step_entry, step_from, step_site, upper_from}
+use Rattle.std.proofs.Common.{◌≡◌, ◌∙◌, ◌⊎◌, ℕ, suc, true, false, List, [], ◌∷◌, ◌++◌, map, Option, Some, Result, Ok, slice_get, refl, sym, ap, subst}
+use Rattle.std.proofs.Common.{arith}
+use Rattle.bolt_recover.proofs.Words.{At_inline, At_page, bucket_spot, child_spot, elements_at, Entry, Key, leaf_entry, LeafElement, leaves_of, Meta}
+use Rattle.bolt_recover.proofs.Words.{Node, node_at, page_at, PageSpot, Path, Site, site_on, root_site, slice_get-map, Spot, step_at, step_entry}
+use Rattle.bolt_recover.proofs.Words.{step_from, step_site, upper_from}
 
 abbrev pub keys_in : List LeafElement → List Key
 keys_in elements = map (λ (e : LeafElement). e.key) elements
@@ -24,7 +27,11 @@ page_form file meta n node is = grind arith
 module _ (file : List ℕ) (meta : Meta) where
   -- where a bucket on a leaf leads, and a child of a branch
   abbrev pub bucket_site : Path → PageSpot → LeafElement → Site
-  bucket_site path s e = record { spot = bucket_spot s.number (leaf_entry e); path = path ++ e.key ∷ []; elements = elements_at file meta (bucket_spot s.number (leaf_entry e)) e.value }
+  bucket_site path s e = record {
+    spot = bucket_spot s.number (leaf_entry e);
+    path = path ++ e.key ∷ [];
+    elements = elements_at file meta (bucket_spot s.number (leaf_entry e)) e.value;
+  }
 
   abbrev pub child_site : Path → PageSpot → Entry → Option Entry → Site
   child_site path s x next = record { spot = At_page (child_spot s x (upper_from next s.upper)); path = path; elements = leaves_of (page_at file meta x.child) }
@@ -32,22 +39,29 @@ module _ (file : List ℕ) (meta : Meta) where
   pub record IsLeafPage (p : Site) (s : PageSpot) (node : Node) : Type 0 where
     pub leaf : node.is_leaf ≡ true
     pub entries : node.entries ≡ map leaf_entry p.elements
-    pub to : (i : ℕ) (e : LeafElement) → slice_get p.elements i ≡ Some e → e.is_bucket ≡ true → step_site file meta p i ≡ Some (bucket_site p.path s e)
-    pub from : (i : ℕ) (t : Site) → step_site file meta p i ≡ Some t → (e : LeafElement) × (slice_get p.elements i ≡ Some e) × (e.is_bucket ≡ true) × (t ≡ bucket_site p.path s e)
+    pub to : (i : ℕ) (e : LeafElement) → slice_get p.elements i ≡ Some e → e.is_bucket ≡ true
+        → step_site file meta p i ≡ Some (bucket_site p.path s e)
+    pub from : (i : ℕ) (t : Site) → step_site file meta p i ≡ Some t
+        → (e : LeafElement) × (slice_get p.elements i ≡ Some e) × (e.is_bucket ≡ true) × (t ≡ bucket_site p.path s e)
 
   pub record IsBranchPage (p : Site) (s : PageSpot) (node : Node) : Type 0 where
     pub branch : node.is_leaf ≡ false
     pub none : p.elements ≡ []
-    pub to : (i : ℕ) (x : Entry) → slice_get node.entries i ≡ Some x → step_site file meta p i ≡ Some (child_site p.path s x (slice_get node.entries (suc i)))
-    pub from : (i : ℕ) (t : Site) → step_site file meta p i ≡ Some t → (x : Entry) × (slice_get node.entries i ≡ Some x) × (t ≡ child_site p.path s x (slice_get node.entries (suc i)))
+    pub to : (i : ℕ) (x : Entry) → slice_get node.entries i ≡ Some x
+        → step_site file meta p i ≡ Some (child_site p.path s x (slice_get node.entries (suc i)))
+    pub from : (i : ℕ) (t : Site) → step_site file meta p i ≡ Some t
+        → (x : Entry) × (slice_get node.entries i ≡ Some x) × (t ≡ child_site p.path s x (slice_get node.entries (suc i)))
 
   by_form : (p : Site) (s : PageSpot) (node : Node) → HasForm node p.elements
-      → ((i : ℕ) → step_site file meta p i ≡ site_on file meta p.path (slice_get p.elements i) (step_entry node.is_leaf s (slice_get node.entries i) (slice_get node.entries (suc i))))
+      → ((i : ℕ) → step_site file meta p i ≡ site_on file meta p.path (slice_get p.elements i)
+      (step_entry node.is_leaf s (slice_get node.entries i) (slice_get node.entries (suc i))))
       → IsLeafPage p s node ⊎ IsBranchPage p s node
   by_form p s node h step = grind (arith, slice_get-map)
 
-  pub on_page : (p : Site) (s : PageSpot) (node : Node) → IsTidy file meta p → p.spot ≡ At_page s → node_at file meta s.number ≡ Ok node → IsLeafPage p s node ⊎ IsBranchPage p s node
-  on_page p s node tidy at page = by_form p s node (subst (HasForm node) (sym (subst (IsTidyAt file meta p.elements) at tidy)) (page_form file meta s.number node page)) (λ i.
+  pub on_page : (p : Site) (s : PageSpot) (node : Node) → IsTidy file meta p → p.spot ≡ At_page s → node_at file meta s.number ≡ Ok node
+      → IsLeafPage p s node ⊎ IsBranchPage p s node
+  on_page p s node tidy at page =
+      by_form p s node (subst (HasForm node) (sym (subst (IsTidyAt file meta p.elements) at tidy)) (page_form file meta s.number node page)) (λ i.
       ap (λ (t : Spot). site_on file meta p.path (slice_get p.elements i) (step_from (node_at file meta) t i)) at
       ∙ ap (λ (r : Result Node ℕ). site_on file meta p.path (slice_get p.elements i) (step_at r s i)) page)
 

@@ -1,7 +1,9 @@
 -- The pages that a search finds, in any case or only if something is lost.
 use Rattle.std.proofs.Common.{◌≡◌, ◌∙◌, inl, inr, ℕ, Bool, true, false, List, [], ◌∷◌, refl, subst, sym}
-use Rattle.bolt_recover.proofs.Words.{AreFound, AreFoundAnyway, AreLosses, AreSought, everything, FoundBelow, IsKeptPage, IsSurvey, LosesNothing, LossView, losses_of, Meta, parts, SurveyedWay}
-use Rattle.bolt_recover.proofs.{Existing.has_survey, FoundAll.loses_root, FoundAll.lost_or_none, FoundAll.one_found, FoundExists.below_exists, FoundExists.has_found, FoundLemmas.found_one, LostWays.no_losses, SurveyIsOne.same_survey}
+use Rattle.bolt_recover.proofs.Words.{AreFound, AreFoundAnyway, AreLosses, AreSought, everything, FoundBelow, IsKeptPage, IsSurvey, LosesNothing}
+use Rattle.bolt_recover.proofs.Words.{LossView, losses_of, Meta, parts, SurveyedWay}
+use Rattle.bolt_recover.proofs.{Existing.has_survey, FoundAll.loses_root, FoundAll.lost_or_none, FoundAll.one_found, FoundExists.below_exists}
+use Rattle.bolt_recover.proofs.{FoundExists.has_found, FoundLemmas.found_one, LostWays.no_losses, SurveyIsOne.same_survey}
 use Rattle.bolt_recover.specs.{Losses.LostView, Losses.is_nothing, Lost.IsAllLost}
 
 one_anyway : (file : List ℕ) (meta : Meta) (a b : List ℕ) → AreFoundAnyway file meta a → AreFoundAnyway file meta b → a ≡ b
@@ -22,7 +24,8 @@ has_sought file meta true =
 has_sought file meta false = has_found file meta
 
 -- if something is lost, a way is lost
-loses_some : (file : List ℕ) (meta : Meta) (lost : LostView) (survey : List SurveyedWay) → IsAllLost file meta lost → is_nothing lost ≡ false → IsSurvey file meta survey → LosesNothing survey → ⊥
+loses_some : (file : List ℕ) (meta : Meta) (lost : LostView) (survey : List SurveyedWay) → IsAllLost file meta lost → is_nothing lost ≡ false
+    → IsSurvey file meta survey → LosesNothing survey → ⊥
 loses_some file meta (everything x) survey loses some is none = loses_root file meta x loses survey is none
 loses_some file meta (parts []) survey loses some is none = cc
 loses_some file meta (parts (loss ∷ losses)) survey (kept, are) some is none =
@@ -30,7 +33,8 @@ loses_some file meta (parts (loss ∷ losses)) survey (kept, are) some is none =
     let wrong : loss ∷ losses ≡ [] = same ∙ no_losses file meta survey none in
     cc
 
-pub found_anyway_if_lost : (file : List ℕ) (meta : Meta) (lost : LostView) (found : List ℕ) → IsAllLost file meta lost → is_nothing lost ≡ false → AreFound file meta found
+pub found_anyway_if_lost : (file : List ℕ) (meta : Meta) (lost : LostView) (found : List ℕ) → IsAllLost file meta lost → is_nothing lost ≡ false
+    → AreFound file meta found
     → AreFoundAnyway file meta found
 found_anyway_if_lost file meta lost found loses some are = elim (lost_or_none are.survey) [
   | inl none ↦ absurd (loses_some file meta lost are.survey loses some are.surveys none)

@@ -3,7 +3,7 @@ use Rattle.std.proofs.Common.{◌∙◌, Bool, ap, sym, is_lt}
 use Rattle.std.proofs.lemmas.{Cmp.nat_cmp_total, Cmp.on_total, Cmp.then_total, List.MinMax.ranks_by}
 use Rattle.std.specs.{Cmp.IsStrictWeakOrder, Cmp.IsTotalOrder, Ordering.ordering_reverse, declared.cmp.Ordering.Ordering}
 use Rattle.bolt_recover.specs.ShownStates.{place_view, state_view}
-use Rattle.bolt_recover.specs.States.{Place, StateView, entries_of, place_cmp, state_cmp}
+use Rattle.bolt_recover.specs.States.{PlaceView, StateView, entries_in_figures, place_cmp, state_cmp}
 use Rattle.bolt_recover.specs.declared.state.State.{State}
 use Rattle.bolt_recover.specs.declared.state.Place as code
 
@@ -15,12 +15,12 @@ flip_total total = record {
 }
 
 place_total : IsTotalOrder place_cmp
-place_total = then_total (on_total (λ (p : Place). p.page_size) nat_cmp_total) (on_total (λ (p : Place). p.root) nat_cmp_total)
+place_total = then_total (on_total (λ (p : PlaceView). p.page_size) nat_cmp_total) (on_total (λ (p : PlaceView). p.root) nat_cmp_total)
 
 state_total : IsTotalOrder state_cmp
 state_total =
     then_total (on_total (λ (s : StateView). s.losses) nat_cmp_total)
-    (then_total (flip_total (on_total (λ (s : StateView). entries_of s.figures) nat_cmp_total)) (on_total (λ (s : StateView). s.place) place_total))
+    (then_total (flip_total (on_total (λ (s : StateView). entries_in_figures s.figures) nat_cmp_total)) (on_total (λ (s : StateView). s.place) place_total))
 
 -- as the code has them
 abbrev pub code_state_lt : State → State → Bool

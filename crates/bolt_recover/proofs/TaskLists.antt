@@ -1,6 +1,7 @@
 -- What there is to do at a site, entry by entry.
 use Rattle.std.proofs.Common.{◌≡◌, ◌≤◌, ◌<◌, inl, inr, ℕ, zero, suc, ◌+◌, List, [], ◌∷◌, ◌++◌, Option, Some, None, slice_get, refl, arith}
-use Rattle.bolt_recover.proofs.Words.{cases_lt, entry_tasks, Finding, further, gives_at, has_left, has_right, has_split, LeafElement, Meta, Site, step_site, Task, tasks_after, tasks_from, To_give, To_visit, visits_at, Way, Has}
+use Rattle.bolt_recover.proofs.Words.{cases_lt, entry_tasks, Finding, further, gives_at, has_left, has_right, has_split, LeafElement, Meta, Site}
+use Rattle.bolt_recover.proofs.Words.{step_site, Task, tasks_after, tasks_from, To_give, To_visit, visits_at, Way, Has}
 
 module _ (file : List ℕ) (meta : Meta) where
   -- this is to be done at entry i of a site

@@ -1,8 +1,10 @@
 -- The pages that are found though nothing leads to them: docs/RECOVERY.md, "Found pages".
 use Rattle.std.specs.Prelude.{◌≡◌, ℕ, zero, suc, ◌⊎◌, Bool, true, false, List, [], ◌∷◌, ◌++◌, Contains, map}
 use Rattle.bolt_format.specs.declared.meta.Meta.{Meta}
-use Rattle.bolt_check.specs.{Lists.Has, LoneLeaves.IsListedFree, LoneLeaves.IsLoneLeaf, Nodes.node_at, Ways.At_page, Ways.SpanAt, Ways.root_spot, declared.finding.Finding.Finding}
-use Rattle.bolt_recover.specs.{KeptPages.IsKeptPage, Surveys.IsSurvey, Surveys.LosesNothing, Surveys.SurveyedWay, Surveys.lost, declared.found.Found.Found}
+use Rattle.bolt_check.specs.{Lists.Has, LoneLeaves.IsListedFree, LoneLeaves.IsLoneLeaf, Nodes.node_at, Ways.At_page, Ways.SpanAt, Ways.root_spot}
+use Rattle.bolt_check.specs.{declared.finding.Finding.Finding}
+use Rattle.bolt_recover.specs.{KeptPages.IsKeptPage, Surveys.IsSurvey, Surveys.LosesNothing, Surveys.SurveyedWay, Surveys.lost}
+use Rattle.bolt_recover.specs.{declared.found.Found.Found}
 
 module _ (file : List ℕ) (meta : Meta) where
   -- page n lies in the span of one of these pages
@@ -44,7 +46,7 @@ AreSought file meta false found = AreFound file meta found
 abbrev pub Spans : List ℕ → Meta → (n k : ℕ) → Type 0
 Spans file meta n k = SpanAt (node_at file meta) (At_page (root_spot n)) k
 
--- this holds of each file, each meta, the found pages of that file under it, and each of these
+-- a property holds of each file, each meta, the found pages of that file under it, and each of these pages
 abbrev pub ForFoundPages : (List ℕ → Meta → List ℕ → ℕ → Type 0) → Type 0
 ForFoundPages P = (file : List ℕ) (meta : Meta) (found : List ℕ) (n : ℕ) → AreFound file meta found → Contains found n → P file meta found n
 

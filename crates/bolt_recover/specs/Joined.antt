@@ -1,16 +1,19 @@
 -- The recovered listing, joined with what is found: docs/RECOVERY.md, "The joined listing".
-use Rattle.std.specs.Prelude.{◌≡◌, ◌≢◌, ◌==◌, ◌&&◌, ◌⊎◌, ℕ, Bool, true, false, IsTrue, List, [], ◌∷◌, ◌++◌, Contains, None, codes, if◌then◌else◌, is_none, map, not}
+use Rattle.std.specs.Prelude.{◌≡◌, ◌≢◌, ◌==◌, ◌&&◌, ◌⊎◌, ℕ, Bool, true, false, IsTrue, List, [], ◌∷◌, ◌++◌, Contains, None, codes, if◌then◌else◌}
+use Rattle.std.specs.Prelude.{is_none, map, not}
 use Rattle.std.specs.Ordering.{is_eq}
-use Rattle.bolt_format.specs.{Elements.LeafElement, Elements.head_root, Elements.head_sequence, Elements.inline_elements, Pages.page_at, declared.meta.Meta.Meta}
+use Rattle.bolt_format.specs.{Elements.LeafElement, Elements.head_root, Elements.head_sequence, Elements.inline_elements, Pages.page_at}
+use Rattle.bolt_format.specs.{declared.meta.Meta.Meta}
 use Rattle.bolt_check.specs.Keys.{Key, key_cmp, key_lt, keys_order_fault}
-use Rattle.bolt_tree.specs.{Entries.Bucket, Entries.item_of, Listing.Member, Paths.Path, Tree.Tree, Tree.end, Tree.listing_of, Tree.tree_of, Tree.with_bucket, Tree.with_value}
+use Rattle.bolt_tree.specs.{Entries.Bucket, Entries.item_of, Listing.Member, Paths.Path, Tree.Tree, Tree.end, Tree.listing_of, Tree.tree_of}
+use Rattle.bolt_tree.specs.{Tree.with_bucket, Tree.with_value}
 use Rattle.bolt_recover.specs.{Found.AreFound, PageKeys.page_key, Sites.leaves_of, Recovered.IsRecovered}
 
 -- the bucket of what is found
 abbrev pub lost_and_found : Key
 lost_and_found = codes "lost+found"
 
--- a path into it, or to it
+-- a path to the bucket of found pages, or into it
 abbrev pub is_found_path : Path → Bool
 is_found_path [] = false
 is_found_path (key ∷ path) = is_eq (key_cmp key lost_and_found)
@@ -58,13 +61,14 @@ pub record IsJoined (file : List ℕ) (meta : Meta) (listing : List Member) : Ty
 abbrev pub HasBucketKey : List Member → Type 0
 HasBucketKey listing = (m : Member) × (Contains listing m × (is_found_path m.0 ≡ true))
 
--- It has none.
+-- The recovered root bucket has no entry with the key of the bucket of found pages.
 abbrev pub LacksBucketKey : List Member → Type 0
 LacksBucketKey listing = (m : Member) → Contains listing m → not (is_found_path m.0) ≡ true
 
 -- If a page is found, there is room for its bucket.
 abbrev pub LeavesRoom : List ℕ → Meta → Type 0
-LeavesRoom file meta = (recovered : List Member) (found : List ℕ) → IsRecovered file meta recovered → AreFound file meta found → found ≢ [] → LacksBucketKey recovered
+LeavesRoom file meta =
+    (recovered : List Member) (found : List ℕ) → IsRecovered file meta recovered → AreFound file meta found → found ≢ [] → LacksBucketKey recovered
 
 -- an element under a path
 abbrev pub IsElement : List LeafElement → Path → Member → Type 0
@@ -78,5 +82,6 @@ IsInnerMember elements path m =
 -- What is in that bucket: a bucket for each found page, with its elements, and the elements of the inline buckets among them.
 abbrev pub IsFoundMember : List ℕ → Meta → List ℕ → Member → Type 0
 IsFoundMember file meta found m =
-    (n : ℕ) × (Contains found n × ((m ≡ (lost_and_found ∷ page_key n ∷ [], Bucket 0)) ⊎ (IsElement (leaves_of (page_at file meta n)) (lost_and_found ∷ page_key n ∷ []) m
+    (n : ℕ) × (Contains found n
+    × ((m ≡ (lost_and_found ∷ page_key n ∷ [], Bucket 0)) ⊎ (IsElement (leaves_of (page_at file meta n)) (lost_and_found ∷ page_key n ∷ []) m
     ⊎ IsInnerMember (leaves_of (page_at file meta n)) (lost_and_found ∷ page_key n ∷ []) m)))

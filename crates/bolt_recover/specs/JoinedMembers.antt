@@ -16,11 +16,11 @@ unfoldable pub joined_left : Joined → List Member → List Member
 joined_left joined listing =
     merged_left kept_path kept_left found_path found_left joined.members (recovered_and_found joined.file.now joined.meta joined.found.now)
 
--- how much it has to do at most, until it has returned everything
+-- how much the joined members have to do at most, until everything is returned
 unfoldable pub joined_work : Joined → ℕ
 joined_work joined = merged_work kept_work found_work joined.members
 
--- the path of the last member that it returned
+-- the path of the last joined member that was returned
 unfoldable pub joined_path : Joined → Path
 joined_path joined = merged_path kept_path found_path joined.members
 

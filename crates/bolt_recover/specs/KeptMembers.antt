@@ -3,7 +3,8 @@ use Rattle.std.specs.Prelude.{ℕ, List, []}
 use Rattle.bolt_format.specs.declared.meta.Meta.{Meta}
 use Rattle.bolt_check.specs.CheckedFiles.{bytes_of, meta_of}
 use Rattle.bolt_tree.specs.{Listing.Member, Paths.Path, Walks.left_of, Walks.walk_checked, Walks.walk_path, WalksLeft.left_number}
-use Rattle.bolt_recover.specs.{Recoveries.recovery_file, Recoveries.recovery_left, Recoveries.recovery_meta, Recoveries.recovery_path, Recoveries.recovery_work, declared.kept.Kept.Kept}
+use Rattle.bolt_recover.specs.{Recoveries.recovery_file, Recoveries.recovery_left, Recoveries.recovery_meta, Recoveries.recovery_path}
+use Rattle.bolt_recover.specs.{Recoveries.recovery_work, declared.kept.Kept.Kept}
 use Rattle.bolt_recover.specs.declared.kept.Kept.TheVariants.{Recovery, Rootless, Sound}
 
 abbrev pub kept_file : Kept → List ℕ

@@ -6,8 +6,9 @@ use Rattle.bolt_recover.specs.Surveys.{ForSurvey, SurveyedWay, way_kept}
 
 -- page n is a meta page, or lies in the span of a kept way
 abbrev pub IsKeptPage : List ℕ → Meta → List SurveyedWay → ℕ → Type 0
-IsKeptPage file meta survey n = IsMetaPage n ⊎ ((way : List ℕ) × (Has survey (way_kept way) × SpanHas (node_at file meta) (reached (node_at file meta) meta.root way) n))
+IsKeptPage file meta survey n =
+    IsMetaPage n ⊎ ((way : List ℕ) × (Has survey (way_kept way) × SpanHas (node_at file meta) (reached (node_at file meta) meta.root way) n))
 
--- these are the pages that kept ways take in, for the one survey of the file (`laws`)
+-- the claimed pages are those that kept ways take in, for the one survey of the file (`laws`)
 abbrev pub AreKeptPages : List ℕ → Meta → (ℕ → Bool) → Type 0
 AreKeptPages file meta claimed = ForSurvey file meta (λ survey. (n : ℕ) → (claimed n ≡ true) ↔ IsKeptPage file meta survey n)

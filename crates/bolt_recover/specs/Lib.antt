@@ -1,5 +1,4 @@
 pub mod Found
-pub mod Gaps
 pub mod Joined
 pub mod JoinRefusals
 pub mod JoinedMembers
@@ -8,6 +7,7 @@ pub mod KeptPages
 pub mod Losses
 pub mod Lost
 pub mod LostAndFound
+pub mod PageGaps
 pub mod PageKeys
 pub mod PageWays
 pub mod Sites

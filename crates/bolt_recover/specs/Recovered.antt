@@ -2,7 +2,8 @@
 use Rattle.std.specs.Prelude.{◌≡◌, ◌↔◌, ℕ, List, [], ◌∷◌, ◌++◌, Contains, Some}
 use Rattle.bolt_check.specs.Lists.{Has}
 use Rattle.bolt_format.specs.{Elements.LeafElement, declared.meta.Meta.Meta}
-use Rattle.bolt_tree.specs.{Entries.IsEntry, Entries.Item, Entries.Root_page, Entries.item_of, Listing.Member, Listing.member_cmp, Order.Rises, Paths.Holds, Paths.Path}
+use Rattle.bolt_tree.specs.{Entries.IsEntry, Entries.Item, Entries.Root_page, Entries.item_of, Listing.Member, Listing.member_cmp, Order.Rises}
+use Rattle.bolt_tree.specs.{Paths.Holds, Paths.Path}
 use Rattle.bolt_recover.specs.{Sites.Site, Sites.site_at, Surveys.IsSurvey, Surveys.SurveyedWay, Surveys.way_kept}
 
 -- an element of the leaf page or inline page at a kept way, under the path of its bucket
@@ -16,9 +17,10 @@ pub record IsRecoveredMember (file : List ℕ) (meta : Meta) (survey : List Surv
   pub named : path ≡ site.path ++ element.key ∷ []
   pub is : item ≡ item_of element
 
--- Each of these is what its path holds: an entry of the bucket that the path names.
+-- Each recovered member is what its path holds: an entry of the bucket that the path names.
 abbrev pub AreInTheirBuckets : List ℕ → Meta → List SurveyedWay → Type 0
-AreInTheirBuckets file meta survey = (path : Path) (item : Item) → IsRecoveredMember file meta survey path item → Holds (IsEntry file meta) (Root_page meta.root) path item
+AreInTheirBuckets file meta survey =
+    (path : Path) (item : Item) → IsRecoveredMember file meta survey path item → Holds (IsEntry file meta) (Root_page meta.root) path item
 
 -- the rising list of exactly these
 pub record IsRecovered (file : List ℕ) (meta : Meta) (listing : List Member) : Type 0 where

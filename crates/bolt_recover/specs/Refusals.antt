@@ -1,7 +1,8 @@
 -- Why nothing of a file is recovered: docs/RECOVERY.md, "The recovering walk".
 use Rattle.std.specs.Prelude.{ℕ, List}
 use Rattle.bolt_format.specs.{declared.meta.Meta.Meta, declared.meta.MetaFault.MetaFault}
-use Rattle.bolt_check.specs.{Findings.IsMetaPage, Findings.Passes, Findings.Tests, Nodes.node_at, Ways.At_page, Ways.root_spot, declared.check_fault.CheckFault.CheckFault}
+use Rattle.bolt_check.specs.{Findings.IsMetaPage, Findings.Passes, Findings.Tests, Nodes.node_at, Ways.At_page, Ways.root_spot}
+use Rattle.bolt_check.specs.{declared.check_fault.CheckFault.CheckFault}
 use Rattle.bolt_check.specs.declared.check_fault.CheckFault.TheVariants.{Accounts, Memory, Open, Structure}
 use Rattle.bolt_check.specs.declared.finding.Finding.{Finding}
 

@@ -1,6 +1,7 @@
 -- A found page of the code: the page that the file has under its number, a leaf with an element.
 use Rattle.std.specs.Prelude.{◌≡◌, ◌≢◌, ℕ, List, [], Ok, Some}
-use Rattle.bolt_format.specs.{Pages.page_at, TreePages.shown_page, TreePages.leaves_on, declared.meta.Meta.Meta, declared.tree_page.TreePage.TheVariants.Leaf}
+use Rattle.bolt_format.specs.{Pages.page_at, TreePages.shown_page, TreePages.leaves_on, declared.meta.Meta.Meta}
+use Rattle.bolt_format.specs.{declared.tree_page.TreePage.TheVariants.Leaf}
 use Rattle.bolt_check.specs.{Nodes.node_at, ShownNodes.shown_node}
 use Rattle.bolt_recover.specs.declared.found.Found.{Found}
 

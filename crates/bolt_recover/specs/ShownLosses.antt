@@ -2,7 +2,8 @@
 use Rattle.std.specs.Prelude.{map}
 use Rattle.bolt_check.specs.ShownSpots.{bound_of}
 use Rattle.bolt_tree.specs.Paths.{path_of}
-use Rattle.bolt_recover.specs.{Losses.LossView, Losses.LostView, Losses.everything, Losses.parts, declared.losses.Loss.Loss, declared.losses.Lost.Lost}
+use Rattle.bolt_recover.specs.{Losses.LossView, Losses.LostView, Losses.everything, Losses.parts, declared.losses.Loss.Loss}
+use Rattle.bolt_recover.specs.{declared.losses.Lost.Lost}
 use Rattle.bolt_recover.specs.declared.losses.Lost.TheVariants.{Everything, Parts}
 
 abbrev pub loss_view : Loss → LossView

@@ -33,7 +33,8 @@ pub record Surveys (nodes : Nodes) (reach : Reach) (survey : List SurveyedWay) :
   pub rises : RisesBy Before (map (λ (v : SurveyedWay). v.way) survey)
   pub only : (v : SurveyedWay) → Has survey v
       → IsOpen survey v.way × ((spot : Spot) × (reach v.way ≡ Some spot) × Gives nodes (IsClaimedIn nodes reach survey v.way) spot v.found)
-  pub all : (way : List ℕ) (spot : Spot) → IsOpen survey way → reach way ≡ Some spot → (found : Option Finding) × Has survey (record { way = way; found = found })
+  pub all : (way : List ℕ) (spot : Spot) → IsOpen survey way → reach way ≡ Some spot
+      → (found : Option Finding) × Has survey (record { way = way; found = found })
 
 -- the survey of a file under a meta
 abbrev pub IsSurvey : List ℕ → Meta → List SurveyedWay → Type 0
@@ -47,15 +48,15 @@ LosesNothing survey = (v : SurveyedWay) → Has survey v → v.found ≡ None
 abbrev pub LosesNothingBefore : List ℕ → List SurveyedWay → Type 0
 LosesNothingBefore way survey = (v : SurveyedWay) → Has survey v → Before v.way way → v.found ≡ None
 
--- this holds of the survey of a file under a meta
+-- a property holds of the survey of a file under a meta
 abbrev pub ForSurvey : List ℕ → Meta → (List SurveyedWay → Type 0) → Type 0
 ForSurvey file meta P = (survey : List SurveyedWay) → IsSurvey file meta survey → P survey
 
--- this holds of each file, each meta and the survey of that file under it
+-- a property holds of each file, each meta and the survey of that file under it
 abbrev pub ForSurveys : (List ℕ → Meta → List SurveyedWay → Type 0) → Type 0
 ForSurveys P = (file : List ℕ) (meta : Meta) → ForSurvey file meta (P file meta)
 
--- and of each of its lost ways with what is found there
+-- a property holds of each file, each meta, the survey of that file, and each of its lost ways with what is found there
 abbrev pub ForLostWays : (List ℕ → Meta → List SurveyedWay → List ℕ → Finding → Type 0) → Type 0
 ForLostWays P = (file : List ℕ) (meta : Meta) (survey : List SurveyedWay) (way : List ℕ) (x : Finding)
     → IsSurvey file meta survey → Has survey (lost way x) → P file meta survey way x

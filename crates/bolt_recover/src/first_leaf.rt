@@ -3,7 +3,8 @@ ghost use Rattle.std.specs.Prelude.{◌≡◌, ◌⊎◌, ◌<◌, ◌≤◌, �
 ghost use Rattle.std.specs.List.{Contains};
 ghost use Rattle.bolt_check.specs.ShownSpots.{page_spot};
 ghost use Rattle.bolt_format.specs.{Elements.LeafElement, TreePages.leaves_on, TreePages.page_keys};
-ghost use Rattle.bolt_recover.specs.{Private.FirstWays.IsFirstChild, Private.FirstWays.IsFirstWay, Private.FirstWays.IsLeafLook, Private.FirstWays.IsInHull, Private.FirstWays.Says, States.HasBucketsAlone};
+ghost use Rattle.bolt_recover.specs.{Private.FirstWays.IsFirstChild, Private.FirstWays.IsFirstWay, Private.FirstWays.IsLeafLook};
+ghost use Rattle.bolt_recover.specs.{Private.FirstWays.IsInHull, Private.FirstWays.Says, States.HasBucketsAlone};
 
 use crate::kept_page::KeptPage;
 use bolt_check::{MAX_DEPTH, PageSpot, Spot, test_page};
@@ -17,7 +18,7 @@ pub(crate) struct Hull {
 }
 
 impl Hull {
-    /// That of no span.
+    /// The hull of no span.
     fn none() -> Hull
         ensures { (n : ℕ) → IsInHull result n → ⊥ }
     {
@@ -31,7 +32,7 @@ impl Hull {
         last < self.from || self.last < from
     }
 
-    /// That of these spans and one more.
+    /// The hull of these spans and one more.
     fn with(&self, from: u64, last: u64) -> Hull
         ensures old { (n : ℕ) → IsInHull self.now n → IsInHull result n }
         ensures new { (n : ℕ) → from ≤ n → n ≤ last → IsInHull result n }
@@ -49,9 +50,9 @@ impl Hull {
 /// What a look at a page on the way to the first leaf says.
 #[derive(Clone, Copy)]
 pub(crate) enum Look<'a> {
-    /// It is a leaf with a value, and it is kept.
+    /// The page is a leaf with a value, and it is kept.
     Value,
-    /// It is a kept branch, and this is its first child.
+    /// The page is a kept branch, and this is its first child.
     Next(FirstWay<'a>),
     /// Nothing is known.
     Unknown,
@@ -87,7 +88,7 @@ pub(crate) fn may_be_root(file: &[u8], meta: &Meta) -> bool
 pub(crate) struct FirstWay<'a> {
     /// The page that it leads to.
     pub spot: PageSpot<'a>,
-    /// That of the pages before it.
+    /// The hull of the pages before it.
     pub hull: Hull,
 }
 

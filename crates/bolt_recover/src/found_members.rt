@@ -35,7 +35,7 @@ pub(crate) struct FoundMembers<'a> {
 /// A path of at most four parts.
 #[derive(Clone, Copy)]
 pub(crate) struct ShortPath<'a> {
-    /// It has the first of these.
+    /// The path has the first of these parts.
     pub parts: [&'a [u8]; 4],
     pub length: usize,
     ghost short: { length ≤ 4 },

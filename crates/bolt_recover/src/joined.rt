@@ -46,7 +46,7 @@ fn test_join(both: &LostAndFound<'_>) -> Result<(), RecoverFault>
         (IsJoinRefusal both.now.file.now both.now.meta (found_numbers both.now.found.items)) }
 {
     if both.file.len() as u64 / u64::from(both.meta.page_size) >= NAMES {
-        return Err(RecoverFault::TooLarge);
+        return Err(RecoverFault::TooManyPages);
     }
     let some = !both.found.is_empty();
     match &both.trees {
@@ -77,7 +77,7 @@ impl<'a> Joined<'a> {
     /// # Errors
     ///
     /// `Rootless` if the root page is lost and no page is found; `Exists` if a page is found and the
-    /// recovered root bucket has an entry `lost+found`; `TooLarge` if the file has 10^16 pages or more;
+    /// recovered root bucket has an entry `lost+found`; `TooManyPages` if the file has 10^16 pages or more;
     /// `Memory` if memory runs out.
     pub fn new(alloc: Global, both: &'a LostAndFound<'_>) -> Result<Joined<'a>, RecoverFault>
         ensures file { IfOk result (λ joined. joined_file joined ≡ both.now.file.now) }

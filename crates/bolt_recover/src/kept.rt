@@ -24,11 +24,11 @@ pub struct LostRoot<'a> {
 /// The members that are recovered of a file, in the order of paths.
 #[derive(Drop)]
 pub enum Kept<'a> {
-    /// Those of a damaged file whose root page is kept.
+    /// The members of a damaged file whose root page is kept.
     Recovery(Recovery<'a>),
-    /// Those of a file whose trees are sound, so that nothing is lost. No page is tested again.
+    /// The members of a file whose trees are sound, so that nothing is lost. No page is tested again.
     Sound(Walk<'a>),
-    /// None, since the root page is lost.
+    /// No members, since the root page is lost.
     Rootless(LostRoot<'a>),
 }
 

@@ -4,11 +4,12 @@ ghost use Rattle.std.specs.Option.{option_map, option_to_list};
 ghost use Rattle.bolt_format.specs.{Elements.IsBucketValue, ElementPlaces.leaf_view};
 ghost use Rattle.bolt_check.specs.{Claims.claims_file, Claims.claims_meta, Claims.claims_visited, Claims.is_claimed, Counts.counted};
 ghost use Rattle.bolt_check.specs.{Findings.Passes, Findings.Tests, ShownSpots.spot_at};
-ghost use Rattle.bolt_recover.specs.Private.Frames.{IsContent, IsGoodKeptPage, IsShallow, IsValueElement, ElementLeads, claims_with, content_elements, content_size, content_spot};
+ghost use Rattle.bolt_recover.specs.Private.Frames.{IsContent, IsGoodKeptPage, IsShallow, IsValueElement, ElementLeads, claims_with};
+ghost use Rattle.bolt_recover.specs.Private.Frames.{content_elements, content_size, content_spot};
 ghost use Rattle.bolt_check.specs.Claims.{claims_nodes};
-ghost use Rattle.bolt_recover.specs.{Gaps.page_gap_view, Gaps.spot_gap, Private.Courses.page_visit};
+ghost use Rattle.bolt_recover.specs.{PageGaps.page_gap_view, PageGaps.spot_gap, Private.Courses.page_visit};
 
-use crate::gaps::PageGap;
+use crate::page_gaps::PageGap;
 use bolt_check::{Claims, Finding, Spot};
 use bolt_format::{Leaf, TreePage};
 
@@ -65,7 +66,7 @@ impl<'a> KeptPage<'a> {
         }
     }
 
-    /// Its first gap, if it has one.
+    /// The page's first gap, if it has one.
     pub fn gap(&self, claims: &Claims<'a>) -> Option<PageGap<'a>>
         requires { IsGoodKeptPage (claims_file claims.now) (claims_meta claims.now) self.now }
         ensures { option_to_list (option_map page_gap_view result)

@@ -2,18 +2,21 @@
 ghost use Rattle.std.specs.List.{Contains, count_by};
 ghost use Rattle.std.specs.Prelude.{◌≡◌, ◌<◌, ◌⊎◌, ◌*◌, ◌^◌, ◌∷◌, ℕ, Bool, [], List, Some, false, filter, is_some, length, not};
 ghost use Rattle.bolt_format.specs.{Bytes.IsBytes, Metas.IsInSlot, declared.meta.Meta.Meta, declared.meta.Slot.Slot};
-ghost use Rattle.bolt_check.specs.{Lists.Has, LoneLeaves.IsListedFree, LoneLeaves.IsLoneLeaf, Nodes.node_at, Ones.AtMostOne, Sound.HasSoundTrees, Sound.IsFirstFinding, Ways.Spot, Ways.reached};
+ghost use Rattle.bolt_check.specs.{Lists.Has, LoneLeaves.IsListedFree, LoneLeaves.IsLoneLeaf, Nodes.node_at, Ones.AtMostOne, Sound.HasSoundTrees};
+ghost use Rattle.bolt_check.specs.{Sound.IsFirstFinding, Ways.Spot, Ways.reached};
 ghost use Rattle.bolt_check.specs.{declared.finding.Finding.Finding};
 ghost use Rattle.bolt_tree.specs.{Entries.Bucket, Listing.IsListing, Listing.Member, Listing.member_cmp, Order.Rises, Tree.Tree, Tree.listing_of};
 ghost use Rattle.bolt_recover.specs.Found.{AreFound, AreFoundAnyway, AreSought, IsFoundPage, ForFoundPages, Spans};
-ghost use Rattle.bolt_recover.specs.Gaps.{AreGaps, PageGapView};
+ghost use Rattle.bolt_recover.specs.PageGaps.{AreGaps, PageGapView};
 ghost use Rattle.bolt_recover.specs.Joined.{IsFoundMember, IsJoined, LacksBucketKey, LeavesRoom, is_found_path, lost_and_found};
 ghost use Rattle.bolt_recover.specs.{JoinedMembers.ForJoined, JoinedMembers.joined_file, JoinedMembers.joined_meta, KeptPages.IsKeptPage};
-ghost use Rattle.bolt_recover.specs.{Losses.AreLosses, Losses.LossView, Losses.LostView, Losses.is_nothing, Losses.loss_of, Losses.losses_of, Lost.IsAllLost, PageWays.ArePageWays};
+ghost use Rattle.bolt_recover.specs.{Losses.AreLosses, Losses.LossView, Losses.LostView, Losses.is_nothing, Losses.loss_of, Losses.losses_of};
+ghost use Rattle.bolt_recover.specs.{Lost.IsAllLost, PageWays.ArePageWays};
 ghost use Rattle.bolt_recover.specs.{Recovered.AreInTheirBuckets, Recovered.IsRecovered, Recoveries.recovery_file};
-ghost use Rattle.bolt_recover.specs.Surveys.{IsSurvey, LosesNothing, SurveyedWay, lost, way_kept, ForSurveys, ForLostWays, LosesNothingBefore, ForSurvey};
+ghost use Rattle.bolt_recover.specs.Surveys.{IsSurvey, LosesNothing, SurveyedWay, lost, way_kept, ForSurveys, ForLostWays, LosesNothingBefore};
+ghost use Rattle.bolt_recover.specs.Surveys.{ForSurvey};
 ghost use Rattle.bolt_recover.specs.{Sites.AtSite, TheRecovered.the_recovered};
-ghost use Rattle.bolt_recover.specs.States.{AreStates, IsAmong, IsState, Place, StateView};
+ghost use Rattle.bolt_recover.specs.States.{AreStates, IsAmong, IsState, PlaceView, StateView};
 
 use crate::joined::Joined;
 use crate::recovery::Recovery;
@@ -54,7 +57,7 @@ pub fn recovered_listing_is_of_a_tree()
 {}
 
 /// Each recovered member is what its path holds: an entry of the bucket that the path names.
-pub fn recovered_members_are_held()
+pub fn recovered_members_are_in_their_buckets()
     ensures { (file : List ℕ) (meta : Meta) (survey : List SurveyedWay)
         → AreInTheirBuckets file meta survey }
 {}
@@ -192,14 +195,14 @@ pub fn no_intact_leaf_is_left_behind()
 
 /// Each state of a file is there, with its root page kept or lost: what is found by `find_states` leaves none out.
 pub fn each_state_is_found()
-    ensures { (file : List ℕ) (page_size : ℕ) (kept : List StateView) (lost : List Place)
-        (place : Place) → AreStates file page_size kept lost → IsState file page_size place
+    ensures { (file : List ℕ) (page_size : ℕ) (kept : List StateView) (lost : List PlaceView)
+        (place : PlaceView) → AreStates file page_size kept lost → IsState file page_size place
         → IsAmong kept lost place }
 {}
 
-/// So is that of each valid meta.
+/// The state of each valid meta is there, with its root page kept or lost.
 pub fn each_meta_has_a_state()
-    ensures { (file : List ℕ) (page_size : ℕ) (kept : List StateView) (lost : List Place)
+    ensures { (file : List ℕ) (page_size : ℕ) (kept : List StateView) (lost : List PlaceView)
         (slot : Slot) (meta : Meta) → AreStates file page_size kept lost
         → IsInSlot file slot meta
         → IsAmong kept lost (record { page_size = meta.page_size; root = meta.root }) }

@@ -4,7 +4,7 @@ ghost use Rattle.bolt_check.specs.ShownSpots.{spot_at};
 ghost use Rattle.bolt_tree.specs.Paths.{path_of};
 ghost use Rattle.bolt_recover.specs.{Losses.is_nothing, Losses.loss_on, ShownLosses.loss_view, ShownLosses.lost_view};
 
-use crate::gaps::PageGap;
+use crate::page_gaps::PageGap;
 use bolt_check::{Finding, Spot};
 
 /// A lost page, or the lost page of an inline bucket, with everything below it (docs/RECOVERY.md,

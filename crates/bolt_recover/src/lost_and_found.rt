@@ -4,13 +4,14 @@ ghost use Rattle.std.specs.Option.{IfNone};
 ghost use Rattle.std.specs.Prelude.{◌≡◌, ◌<◌, IfOk, IfSome, false, length, map, true};
 ghost use Rattle.bolt_check.specs.{Counts.saturated, Sound.HasSoundTrees, declared.finding.Finding.Finding};
 ghost use Rattle.bolt_format.specs.Bytes.{IsBytes};
-ghost use Rattle.bolt_recover.specs.{Found.AreFound, Found.AreFoundAnyway, Found.found_numbers, Lost.IsAllLost, Private.TreesLeft.IsSearched, Recovered.ForRecovered, ShownFound.IsFoundView};
-ghost use Rattle.bolt_recover.specs.{Gaps.ForGaps, Gaps.page_gap_view, Losses.is_nothing, Refusals.LosesRoot, ShownLosses.lost_view};
+ghost use Rattle.bolt_recover.specs.{Found.AreFound, Found.AreFoundAnyway, Found.found_numbers, Lost.IsAllLost, Private.TreesLeft.IsSearched};
+ghost use Rattle.bolt_recover.specs.{Recovered.ForRecovered, ShownFound.IsFoundView};
+ghost use Rattle.bolt_recover.specs.{PageGaps.ForGaps, PageGaps.page_gap_view, Losses.is_nothing, Refusals.LosesRoot, ShownLosses.lost_view};
 
 use crate::found::Found;
 use crate::found_leaves::find_leaves;
-use crate::gaps::PageGap;
 use crate::losses::{Damage, Lost};
+use crate::page_gaps::PageGap;
 use crate::recovery::Recovery;
 use bolt_check::{CheckFault, Checked, Claims, Finding, Leftovers, NoMemory, check_under};
 use bolt_format::Meta;

@@ -15,7 +15,7 @@ pub enum RecoverFault {
     /// Of a repaired listing: the recovered root bucket has a value `key`.
     NotABucket,
     /// Of a joined listing: the file has more pages than numbers of sixteen digits can name.
-    TooLarge,
+    TooManyPages,
     /// Memory ran out.
     Memory,
 }

@@ -5,15 +5,17 @@ ghost use Rattle.std.specs.Prelude.{◌≡◌, ◌<◌, ◌≤◌, ◌^◌, [], 
 ghost use Rattle.bolt_check.specs.{Claims.claims_file, Claims.claims_meta, Counts.counted, Counts.saturated};
 ghost use Rattle.bolt_check.specs.Sound.{HasSoundTrees};
 ghost use Rattle.bolt_tree.specs.{Listing.Member, Paths.path_of};
-ghost use Rattle.bolt_recover.specs.{KeptPages.AreKeptPages, Private.Frames.StepsAreOn, Private.Frames.AreStepsPlaced, Recovered.ForRecovered, Recovered.IsRecovered};
+ghost use Rattle.bolt_recover.specs.{KeptPages.AreKeptPages, Private.Frames.StepsAreOn, Private.Frames.AreStepsPlaced, Recovered.ForRecovered};
+ghost use Rattle.bolt_recover.specs.{Recovered.IsRecovered};
 ghost use Rattle.bolt_recover.specs.Refusals.{IsRefusedRoot, KeepsRoot};
-ghost use Rattle.bolt_recover.specs.{Found.AreFoundAnyway, Found.found_numbers, Gaps.page_gap_view, ShownFound.IsFoundView, ShownLosses.loss_view};
+ghost use Rattle.bolt_recover.specs.{Found.AreFoundAnyway, Found.found_numbers, PageGaps.page_gap_view, ShownFound.IsFoundView};
+ghost use Rattle.bolt_recover.specs.{ShownLosses.loss_view};
 
 use crate::bucket_key::compare_first;
 use crate::found::Found;
 use crate::found_leaves::find_leaves;
-use crate::gaps::PageGap;
 use crate::losses::{Damage, Loss};
+use crate::page_gaps::PageGap;
 use crate::steps::Steps;
 use bolt_check::{CheckFault, Claims, Leftovers, NoMemory};
 use bolt_format::Meta;
@@ -40,7 +42,9 @@ pub struct Recovery<'a> {
 impl<'a> Recovery<'a> {
     ghost use Rattle.bolt_recover.specs.{Private.Joining.TellsBucketKey, Private.TreesLeft.IsSearched};
     ghost use Rattle.bolt_recover.specs.declared.lost_and_found.Trees.TheVariants as Trees;
-    ghost use Rattle.bolt_recover.specs.Recoveries.{AreFirst, ForLosses, GivesRecovered, HasReportedAll, HasReportedGaps, HasVisitedAll, LeavesNone, LeavesRecovered, LeavesRest, recovery_begun, recovery_claimed, recovery_file, recovery_gaps, recovery_left, recovery_losses, recovery_meta, recovery_path, recovery_visited, recovery_work};
+    ghost use Rattle.bolt_recover.specs.Recoveries.{AreFirst, ForLosses, GivesRecovered, HasReportedAll, HasReportedGaps, HasVisitedAll, LeavesNone};
+    ghost use Rattle.bolt_recover.specs.Recoveries.{LeavesRecovered, LeavesRest, recovery_begun, recovery_claimed, recovery_file, recovery_gaps};
+    ghost use Rattle.bolt_recover.specs.Recoveries.{recovery_left, recovery_losses, recovery_meta, recovery_path, recovery_visited, recovery_work};
 
     /// A walk under a meta that is handed in. The metas of the file are ignored.
     ///
@@ -277,7 +281,8 @@ impl<'a> Recovery<'a> {
 }
 
 impl<'a> Members<'a> for Recovery<'a> {
-    ghost use Rattle.bolt_recover.specs.Recoveries.{ForLosses, recovery_file, recovery_left, recovery_losses, recovery_meta, recovery_path, recovery_work};
+    ghost use Rattle.bolt_recover.specs.Recoveries.{ForLosses, recovery_file, recovery_left, recovery_losses, recovery_meta, recovery_path};
+    ghost use Rattle.bolt_recover.specs.Recoveries.{recovery_work};
 
     ghost Whole = { List Member };
 

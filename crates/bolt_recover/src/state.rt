@@ -21,7 +21,7 @@ pub struct Figures<'a> {
 }
 
 impl<'a> Figures<'a> {
-    /// Those of an empty listing.
+    /// The figures of an empty listing.
     pub(crate) fn none() -> Figures<'a>
         ensures { AreFiguresOf [] result }
     {

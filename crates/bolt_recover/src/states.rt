@@ -1,9 +1,10 @@
 //! The states of a file, the likeliest first.
 ghost use Rattle.std.specs.Prelude.{◌≡◌, ◌∷◌, ◌++◌, ◌+◌, ◌*◌, ◌<◌, ◌≤◌, ℕ, [], IfNone, IfOk, IfSome, List, OnOk, Some, length, map};
 ghost use Rattle.std.specs.List.{Contains};
-ghost use Rattle.bolt_recover.specs.{Private.StatesTried.AreStatesAt, Private.StatesTried.HasTried, Private.StatesTried.HasTriedAll, Private.StatesTried.IsBucketStateAt, Private.StatesTried.IsStateAt};
+ghost use Rattle.bolt_recover.specs.{Private.StatesTried.AreStatesAt, Private.StatesTried.HasTried, Private.StatesTried.HasTriedAll};
+ghost use Rattle.bolt_recover.specs.{Private.StatesTried.IsBucketStateAt, Private.StatesTried.IsStateAt};
 ghost use Rattle.bolt_recover.specs.ShownStates.{AreValidMetas, figures_view, place_list, place_view, state_view};
-ghost use Rattle.bolt_recover.specs.States.{AreStates, Place as PlaceView, counted32, entries_of, meta_at, place_cmp, state_cmp};
+ghost use Rattle.bolt_recover.specs.States.{AreStates, PlaceView, counted32, entries_in_figures, meta_at, place_cmp, state_cmp};
 ghost use Rattle.bolt_recover.specs.{Private.StatesTried.IsCountedState, Recovered.ForRecovered};
 ghost use Rattle.bolt_recover.specs.Recoveries.{recovery_file, recovery_left, recovery_meta};
 
@@ -144,7 +145,7 @@ impl<'a> States<'a> {
 }
 
 /// The meta that is assumed for a place.
-fn meta_at(file: &[u8], place: Place) -> Meta
+fn place_meta(file: &[u8], place: Place) -> Meta
     requires { 0 < place.page_size }
     ensures { result ≡ meta_at file.now (place_view place) }
 {
@@ -156,7 +157,7 @@ fn named_state(alloc: Global, file: &[u8], place: Place) -> Result<Option<State<
     requires { 0 < place.page_size }
     ensures { IfOk result (IsStateAt file.now (place_view place)) }
 {
-    match Recovery::under(alloc, file, meta_at(file, place)) {
+    match Recovery::under(alloc, file, place_meta(file, place)) {
         Ok(mut recovery) => state_of(&mut recovery, place, false),
         Err(CheckFault::Structure(_)) => Ok(None),
         Err(_) => Err(NoMemory),
@@ -168,7 +169,7 @@ fn bucket_state(alloc: Global, file: &[u8], place: Place) -> Result<Option<State
     requires { 0 < place.page_size }
     ensures { IfOk result (IsBucketStateAt file.now (place_view place)) }
 {
-    let meta = meta_at(file, place);
+    let meta = place_meta(file, place);
     if !may_be_root(file, &meta) {
         return Ok(None);
     }
@@ -238,7 +239,7 @@ fn by_likelihood(a: &State<'_>, b: &State<'_>) -> Ordering
 
 /// The number of entries. Saturates at 2^64 - 1.
 fn entries(state: &State<'_>) -> u64
-    ensures { result ≡ entries_of (figures_view state.now.figures) }
+    ensures { result ≡ entries_in_figures (figures_view state.now.figures) }
 {
     state
         .figures

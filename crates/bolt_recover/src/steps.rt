@@ -1,16 +1,19 @@
 //! The steps of a recovering walk: one loop over the open pages of the current way.
-ghost use Rattle.std.specs.Prelude.{◌≡◌, ◌≤◌, ◌<◌, ◌↔◌, ◌∷◌, ◌++◌, ℕ, [], true, None, IfOk, IfErr, IfSome, IsTrue, OnErr, OnOk, length, map, vec_capacity, vec_len};
+ghost use Rattle.std.specs.Prelude.{◌≡◌, ◌≤◌, ◌<◌, ◌↔◌, ◌∷◌, ◌++◌, ℕ, [], true, None, IfOk, IfErr, IfSome, IsTrue, OnErr, OnOk, length, map};
+ghost use Rattle.std.specs.Prelude.{vec_capacity, vec_len};
 ghost use Rattle.std.specs.Option.{option_map};
-ghost use Rattle.bolt_check.specs.{Claims.claims_file, Claims.claims_meta, Claims.claims_visited, Claims.is_claimed, Counts.counted, Findings.IsMetaPage};
+ghost use Rattle.bolt_check.specs.{Claims.claims_file, Claims.claims_meta, Claims.claims_visited, Claims.is_claimed, Counts.counted};
+ghost use Rattle.bolt_check.specs.{Findings.IsMetaPage};
 ghost use Rattle.bolt_check.specs.declared.spot.Spot.TheVariants as spots;
 ghost use Rattle.bolt_format.specs.Elements.{IsBucketValue};
-ghost use Rattle.bolt_recover.specs.Gaps.{page_gap_view, spot_gap};
-ghost use Rattle.bolt_recover.specs.Private.Frames.{Advances, StepsOn, IsAllLeft, IsGoodKeptPage, content_spot, AreStepsPlaced, Skips, TakesStep, TakesBucket, loss_ahead, steps_path};
+ghost use Rattle.bolt_recover.specs.PageGaps.{page_gap_view, spot_gap};
+ghost use Rattle.bolt_recover.specs.Private.Frames.{Advances, StepsOn, IsAllLeft, IsGoodKeptPage, content_spot, AreStepsPlaced, Skips, TakesStep};
+ghost use Rattle.bolt_recover.specs.Private.Frames.{TakesBucket, loss_ahead, steps_path};
 ghost use Rattle.bolt_recover.specs.{Refusals.IsRefusedRoot, Refusals.KeepsRoot, ShownLosses.loss_view};
 
-use crate::gaps::PageGap;
 use crate::kept_page::{KeptPage, OpenPage};
 use crate::losses::Loss;
+use crate::page_gaps::PageGap;
 use bolt_check::{CheckFault, Claims, Finding, NoMemory, PageSpot, Spot};
 use bolt_format::{Leaf, Meta};
 use std::alloc::Global;

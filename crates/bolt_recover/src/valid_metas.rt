@@ -9,14 +9,14 @@ use bolt_format::{Meta, Slot, slot_meta};
 /// The metas of a file that are valid.
 #[derive(Clone, Copy)]
 pub struct ValidMetas {
-    /// That of slot zero.
+    /// The meta of slot zero.
     pub zero: Option<Meta>,
-    /// That of slot one.
+    /// The meta of slot one.
     pub one: Option<Meta>,
 }
 
 impl ValidMetas {
-    /// Those of a file.
+    /// The valid metas of a file.
     pub(crate) fn of(file: &[u8]) -> ValidMetas
         ensures { AreValidMetas file.now result }
     {
@@ -34,7 +34,7 @@ impl ValidMetas {
         leads_to(self.zero, place) || leads_to(self.one, place)
     }
 
-    /// That of slot one, unless both lead to the same place.
+    /// The meta of slot one, unless both lead to the same place.
     pub(crate) fn other(&self) -> Option<Meta>
         ensures { result ≡ other_meta self.now.zero self.now.one }
     {

@@ -1,17 +1,21 @@
 -- Of entries by key and value, those whose keys no others have, and the number of the keys.
-use Rattle.std.proofs.Common.{rules, ◌≡◌, ◌∙◌, ◌<◌, ◌++◌, ◌≤◌, ◌+◌, ◌⊎◌, ◌&&◌, inl, inr, ℕ, suc, Bool, true, false, List, [], ◌∷◌, cond, drop, length, length-set, map, not, refl, set, sym, ap, subst, slice_index_or, take, arith}
+use Rattle.std.proofs.Common.{rules, ◌≡◌, ◌∙◌, ◌<◌, ◌++◌, ◌≤◌, ◌+◌, ◌⊎◌, ◌&&◌, inl, inr, ℕ, suc, Bool, true, false, List, [], ◌∷◌, cond, drop, length}
+use Rattle.std.proofs.Common.{length-set, map, not, refl, set, sym, ap, subst, slice_index_or, take, arith}
 use Rattle.std.proofs.lemmas.Bool.{and_parts, cases_Bool, cond-false, cond-true, cond_both, false_from_ne_true, not-false, true_from_ne_false}
 use Rattle.std.proofs.lemmas.Cmp.{nat_list_eq_equiv}
 use Rattle.std.proofs.lemmas.List.{append-nil, append_assoc, drop-set-lt, drop_all, drop_more, get_or_default, map-append, take_more_set}
-use Rattle.std.proofs.{lemmas.List.Kept.Contains-dedup, lemmas.List.Kept.Contains-from_dedup, lemmas.List.Kept.IsStrictlySortedBy-dedup, lemmas.Map.Text.is_eq-slice_cmp}
+use Rattle.std.proofs.{lemmas.List.Kept.Contains-dedup, lemmas.List.Kept.Contains-from_dedup, lemmas.List.Kept.IsStrictlySortedBy-dedup}
+use Rattle.std.proofs.{lemmas.Map.Text.is_eq-slice_cmp}
 use Rattle.std.proofs.lemmas.Slice.Eq.{bytes_eq-Decides}
-use Rattle.std.specs.{Cmp.Lexicographic.same_text, List.Contains, List.dedup, List.dedup_from, Ordering.is_lt, Ordering.ordering_reverse, Ordering.ordering_then, Str.bytes_eq}
+use Rattle.std.specs.{Cmp.Lexicographic.same_text, List.Contains, List.dedup, List.dedup_from, Ordering.is_lt, Ordering.ordering_reverse}
+use Rattle.std.specs.{Ordering.ordering_then, Str.bytes_eq}
 use Rattle.std.specs.{declared.cmp.Ordering.Ordering, declared.cmp.Ordering.TheVariants.Less}
 use Rattle.bolt_check.specs.Keys.{Key, key_cmp}
-use Rattle.bolt_tree.proofs.Exports.{contains_cases, contains_head, contains_none, contains_tail, irreflexive, key_exact, key_total, Climbs, climbs_sorted, shows_from, shows_has, rises_as}
+use Rattle.bolt_tree.proofs.Exports.{contains_cases, contains_head, contains_none, contains_tail, irreflexive, key_exact, key_total, Climbs}
+use Rattle.bolt_tree.proofs.Exports.{climbs_sorted, shows_from, shows_has, rises_as}
 use Rattle.bolt_tree.specs.{Entries.EntryView, InBuckets.view_cmp, Order.Rises}
 use Rattle.bolt_repair.specs.{Candidates.whole_cmp, Undisputed.AreKeys, Undisputed.AreUndisputed, Undisputed.HaveKeys, Undisputed.is_last_of_key}
-use Rattle.bolt_etcd.specs.{ShownRevisions.value_bytes, ShownRevisions.entry_of, declared.revision.Revision.Revision}
+use Rattle.bolt_etcd.specs.{Wire.ShownRevisions.value_bytes, Wire.ShownRevisions.entry_of, declared.wire.revision.Revision.Revision}
 use Rattle.bolt_etcd.proofs.Exports.{rises_from}
 use Rattle.bolt_repair.proofs.WholeOrder.{whole_total}
 use Rattle.bolt_check.proofs.Exports.{neither}
@@ -37,7 +41,8 @@ entries_climb (e ∷ es) rises = (λ b has. not_below e b (rises.0 b has), entri
 keys_climb : (es : List EntryView) → Rises whole_cmp es → Climbs key_below (map (λ (e : EntryView). e.key) es)
 keys_climb [] rises = tt
 keys_climb (e ∷ es) rises = (
-  λ key has. let (b, there, is) = shows_from (λ (x : EntryView). x.key) es key has in subst (λ (k : Key). key_below k e.key ≡ false) is (not_below e b (rises.0 b there)),
+  λ key has. let (b, there, is) = shows_from (λ (x : EntryView). x.key) es key has in
+      subst (λ (k : Key). key_below k e.key ≡ false) is (not_below e b (rises.0 b there)),
   keys_climb es rises.1,
 )
 
@@ -79,23 +84,27 @@ alones_rise first (x ∷ es) rises =
 -- ---- no other one has their keys
 
 -- the next one has the key that a later one has
-next_same : (a b : EntryView) (es : List EntryView) (y : EntryView) → Rises whole_cmp (a ∷ b ∷ es) → Contains (b ∷ es) y → y.key ≡ a.key → b.key ≡ a.key
+next_same : (a b : EntryView) (es : List EntryView) (y : EntryView) → Rises whole_cmp (a ∷ b ∷ es) → Contains (b ∷ es) y → y.key ≡ a.key
+    → b.key ≡ a.key
 next_same a b es y rises has same = grind (arith, contains_cases, level, not_below, contains_head)
 
 -- so the first isn't the last with its key
-not_last : (a : EntryView) (es : List EntryView) (y : EntryView) → Rises whole_cmp (a ∷ es) → Contains es y → y.key ≡ a.key → is_last_of_key (a ∷ es) ≡ false
+not_last : (a : EntryView) (es : List EntryView) (y : EntryView) → Rises whole_cmp (a ∷ es) → Contains es y → y.key ≡ a.key
+    → is_last_of_key (a ∷ es) ≡ false
 not_last a [] y rises has same = absurd (contains_none y has)
 not_last a (b ∷ es) y rises has same = ap not ((bytes_eq-Decides b.key a.key).1 (next_same a b es y rises has same))
 
 -- where the first isn't the first with its key, none is left of that key
-none_of_first : (x : EntryView) (es : List EntryView) (e : EntryView) → Rises whole_cmp (x ∷ es) → Contains (alones false (x ∷ es)) e → e.key ≡ x.key → ⊥
+none_of_first : (x : EntryView) (es : List EntryView) (e : EntryView) → Rises whole_cmp (x ∷ es) → Contains (alones false (x ∷ es)) e → e.key ≡ x.key
+    → ⊥
 none_of_first x [] e rises has same = contains_none e has
 none_of_first x (y ∷ es) e rises has same =
     let there = alone_there (is_last_of_key (x ∷ y ∷ es)) (y ∷ es) e has in
     let more = subst (λ (b : Bool). Contains (alones b (y ∷ es)) e) (not_last x (y ∷ es) e rises there same) has in
     none_of_first y es e rises.1 more (same ∙ sym (next_same x y es e rises there same))
 
-no_other : (first : Bool) (es : List EntryView) (e other : EntryView) → Rises whole_cmp es → Contains (alones first es) e → Contains es other → other.key ≡ e.key → other ≡ e
+no_other : (first : Bool) (es : List EntryView) (e other : EntryView) → Rises whole_cmp es → Contains (alones first es) e → Contains es other
+    → other.key ≡ e.key → other ≡ e
 no_other first [] e other rises has also same = absurd (contains_none other also)
 no_other first (x ∷ es) e other rises has also same =
     let last = is_last_of_key (x ∷ es) in
@@ -122,19 +131,22 @@ IsHead (x ∷ es) e = x.key ≡ e.key
 no_twin : (x e : EntryView) (es : List EntryView) → Rises whole_cmp (x ∷ es) → Contains es e → x ≡ e → ⊥
 no_twin x e es rises has same = irreflexive whole_total e (subst (λ (v : EntryView). whole_cmp v e ≡ Less) same (rises.0 e has))
 
-is_last : (x : EntryView) (es : List EntryView) → Rises whole_cmp (x ∷ es) → ((other : EntryView) → Contains (x ∷ es) other → other.key ≡ x.key → other ≡ x) → is_last_of_key (x ∷ es) ≡ true
+is_last : (x : EntryView) (es : List EntryView) → Rises whole_cmp (x ∷ es)
+    → ((other : EntryView) → Contains (x ∷ es) other → other.key ≡ x.key → other ≡ x) → is_last_of_key (x ∷ es) ≡ true
 is_last x [] rises one = refl
 is_last x (y ∷ es) rises one = ap not (false_from_ne_true (bytes_eq y.key x.key) (λ same.
     no_twin x y (y ∷ es) rises (contains_head y es) (sym (one y (contains_tail x y (y ∷ es) (contains_head y es)) ((bytes_eq-Decides y.key x.key).0 same)))))
 
-next_head : (x e : EntryView) (es : List EntryView) → Rises whole_cmp (x ∷ es) → Contains es e → ((other : EntryView) → Contains (x ∷ es) other → other.key ≡ e.key → other ≡ e)
+next_head : (x e : EntryView) (es : List EntryView) → Rises whole_cmp (x ∷ es) → Contains es e
+    → ((other : EntryView) → Contains (x ∷ es) other → other.key ≡ e.key → other ≡ e)
     → is_last_of_key (x ∷ es) ≡ false → IsHead es e → ⊥
 next_head x e [] rises has one shared head = head
 next_head x e (y ∷ es) rises has one shared head =
     let same : y.key ≡ x.key = (bytes_eq-Decides y.key x.key).0 (not-false (bytes_eq y.key x.key) shared) in
     no_twin x e (y ∷ es) rises has (one x (contains_head x (y ∷ es)) (sym same ∙ head))
 
-alone_has : (first : Bool) (es : List EntryView) (e : EntryView) → Rises whole_cmp es → Contains es e → ((other : EntryView) → Contains es other → other.key ≡ e.key → other ≡ e)
+alone_has : (first : Bool) (es : List EntryView) (e : EntryView) → Rises whole_cmp es → Contains es e
+    → ((other : EntryView) → Contains es other → other.key ≡ e.key → other ≡ e)
     → (first ≡ false → IsHead es e → ⊥) → Contains (alones first es) e
 alone_has first [] e rises has one free = has
 alone_has first (x ∷ es) e rises has one free =
@@ -142,14 +154,16 @@ alone_has first (x ∷ es) e rises has one free =
     elim (contains_cases x e es has) [
       | inl is ↦
           let leads = true_from_ne_false first (λ no. free no (ap (λ (v : EntryView). v.key) is)) in
-          let ends = is_last x es rises (subst (λ (v : EntryView). (other : EntryView) → Contains (x ∷ es) other → other.key ≡ v.key → other ≡ v) (sym is) one) in
+          let ends =
+          is_last x es rises (subst (λ (v : EntryView). (other : EntryView) → Contains (x ∷ es) other → other.key ≡ v.key → other ≡ v) (sym is) one) in
           subst (Contains (alones first (x ∷ es))) is (alone_here x (alones last es) (first && last) (rw (leads, ends) refl))
       | inr later ↦
           alone_more x e (alones last es) (first && last)
           (alone_has last es e rises.1 later (λ other there same. one other (contains_tail x other es there) same) (next_head x e es rises later one))
     ]
 
-by_keys : (a b : EntryView) (o : Ordering) → key_cmp a.key b.key ≡ o → ordering_then o (key_cmp (value_bytes a) (value_bytes b)) ≡ Less → (a.key ≡ b.key → ⊥) → o ≡ Less
+by_keys : (a b : EntryView) (o : Ordering) → key_cmp a.key b.key ≡ o → ordering_then o (key_cmp (value_bytes a) (value_bytes b)) ≡ Less
+    → (a.key ≡ b.key → ⊥) → o ≡ Less
 by_keys a b o is less differ = grind (arith, key_exact)
 
 pub are_undisputed : (es : List EntryView) → Rises whole_cmp es → AreUndisputed es (alones true es)
@@ -170,7 +184,9 @@ keys_in es = map (λ (e : EntryView). e.key) es
 
 are_keys : (es : List EntryView) → Rises whole_cmp es → AreKeys es (dedup bytes_eq (keys_in es))
 are_keys es rises = record {
-  rises = rises_from key_total _ (IsStrictlySortedBy-dedup key_total (λ a b. sym (is_eq-slice_cmp a b)) (keys_in es) (climbs_sorted key_below _ (keys_climb es rises)));
+  rises =
+      rises_from key_total _
+      (IsStrictlySortedBy-dedup key_total (λ a b. sym (is_eq-slice_cmp a b)) (keys_in es) (climbs_sorted key_below _ (keys_climb es rises)));
   exact = λ key. (
     λ has. shows_from (λ (e : EntryView). e.key) es key (Contains-from_dedup bytes_eq (keys_in es) key has),
     λ (e, has, is). Contains-dedup nat_list_eq_equiv (λ a b same. same_text a b (sym same)) (keys_in es) key
@@ -217,7 +233,9 @@ module _ (xs : List Revision) (i : ℕ) (last : Bool) (is : last ≡ is_last_of_
     last_is = sym (is ∙ ap (λ (rs : List Revision). is_last_of_key (map entry_of rs)) at)
 
     alones_at : (first : Bool) → alones first (map entry_of (drop i xs)) ≡ cond (first && last) (entry_of x ∷ alones last rest) (alones last rest)
-    alones_at first = ap (λ (rs : List Revision). alones first (map entry_of rs)) at ∙ ap (λ (b : Bool). cond (first && b) (entry_of x ∷ alones b rest) (alones b rest)) last_is
+    alones_at first =
+        ap (λ (rs : List Revision). alones first (map entry_of rs)) at
+        ∙ ap (λ (b : Bool). cond (first && b) (entry_of x ∷ alones b rest) (alones b rest)) last_is
 
     keys_at : count_keys (map entry_of (drop i xs)) ≡ cond last (suc (count_keys rest)) (count_keys rest)
     keys_at = ap (λ (rs : List Revision). count_keys (map entry_of rs)) at ∙ ap (λ (b : Bool). cond b (suc (count_keys rest)) (count_keys rest)) last_is
@@ -235,13 +253,17 @@ module _ (xs : List Revision) (i : ℕ) (last : Bool) (is : last ≡ is_last_of_
         omega (arith, number, keys_at x at ∙ cond-false last (suc (count_keys rest)) (count_keys rest) more)
 
   -- these are kept
-  module _ (whole : List EntryView) (kept : ℕ) (first : Bool) (low : kept ≤ i) (below : i < length xs) (told : map entry_of (take kept xs) ++ alones first (map entry_of (drop i xs)) ≡ alones true whole) where
+  module _ (whole : List EntryView) (kept : ℕ) (first : Bool) (low : kept ≤ i) (below : i < length xs)
+      (told : map entry_of (take kept xs) ++ alones first (map entry_of (drop i xs)) ≡ alones true whole) where
     abbrev pub IsNext : List Revision → ℕ → Type 0
     IsNext ys more =
-        (length ys ≡ length xs) × (more ≤ i + 1) × (drop (i + 1) ys ≡ drop (i + 1) xs) × (map entry_of (take more ys) ++ alones last (map entry_of (drop (i + 1) ys)) ≡ alones true whole)
+        (length ys ≡ length xs) × (more ≤ i + 1) × (drop (i + 1) ys ≡ drop (i + 1) xs)
+        × (map entry_of (take more ys) ++ alones last (map entry_of (drop (i + 1) ys)) ≡ alones true whole)
 
-    pub written : (x : Revision) → x ≡ slice_index_or xs i x → first ≡ true → last ≡ true → (ys : List Revision) (more : ℕ) → ys ≡ set xs kept x → more ≡ kept + 1 → IsNext ys more
-    written x stands leads ends ys more is_set is_more = grind (arith, drop_more, drop-set-lt, take_more_set, map-append, alones_at, cond-true, length-set, append_assoc)
+    pub written : (x : Revision) → x ≡ slice_index_or xs i x → first ≡ true → last ≡ true → (ys : List Revision) (more : ℕ) → ys ≡ set xs kept x
+        → more ≡ kept + 1 → IsNext ys more
+    written x stands leads ends ys more is_set is_more =
+        grind (arith, drop_more, drop-set-lt, take_more_set, map-append, alones_at, cond-true, length-set, append_assoc)
 
     pub passed : first && last ≡ false → (ys : List Revision) (more : ℕ) → ys ≡ xs → more ≡ kept → IsNext ys more
     passed none ys more is_same is_more =
@@ -251,10 +273,12 @@ module _ (xs : List Revision) (i : ℕ) (last : Bool) (is : last ≡ is_last_of_
 
 -- ---- past the last one
 
-pub all_told : (whole : List EntryView) (xs : List Revision) (i kept : ℕ) (first : Bool) → length xs ≤ i → map entry_of (take kept xs) ++ alones first (map entry_of (drop i xs)) ≡ alones true whole
+pub all_told : (whole : List EntryView) (xs : List Revision) (i kept : ℕ) (first : Bool) → length xs ≤ i
+    → map entry_of (take kept xs) ++ alones first (map entry_of (drop i xs)) ≡ alones true whole
     → map entry_of (take kept xs) ≡ alones true whole
 all_told whole xs i kept first past told =
     sym (append-nil _) ∙ ap (λ (rs : List Revision). map entry_of (take kept xs) ++ alones first (map entry_of rs)) (sym (drop_all i xs past)) ∙ told
 
-pub all_counted : (whole : List EntryView) (xs : List Revision) (i keys : ℕ) → length xs ≤ i → keys + count_keys (map entry_of (drop i xs)) ≡ count_keys whole → keys ≡ count_keys whole
+pub all_counted : (whole : List EntryView) (xs : List Revision) (i keys : ℕ) → length xs ≤ i
+    → keys + count_keys (map entry_of (drop i xs)) ≡ count_keys whole → keys ≡ count_keys whole
 all_counted whole xs i keys past number = omega (arith, ap (λ (rs : List Revision). count_keys (map entry_of rs)) (drop_all i xs past), number)

@@ -1,5 +1,6 @@
 -- The repair of a file that was searched.
-use Rattle.std.proofs.Common.{◌≡◌, ◌↔◌, ◌∙◌, ◌-◌, ◌≤◌, ◌&&◌, ◌++◌, ℕ, Bool, true, false, List, [], ◌∷◌, Option, Some, None, arith, length, map, not, refl, sym, ap, ap₂, subst}
+use Rattle.std.proofs.Common.{◌≡◌, ◌↔◌, ◌∙◌, ◌-◌, ◌≤◌, ◌&&◌, ◌++◌, ℕ, Bool, true, false, List, [], ◌∷◌, Option, Some, None, arith, length, map, not}
+use Rattle.std.proofs.Common.{refl, sym, ap, ap₂, subst}
 use Rattle.std.proofs.{Math.Logic.∥∥₁_elim, Math.Logic.∥∥₁_map, Props.props, lemmas.List.Elements.All-head, lemmas.List.Elements.All-tail}
 use Rattle.std.proofs.lemmas.List.{length-map}
 use Rattle.std.specs.{Borrow.Bor, List.All, Option.option_map}
@@ -7,17 +8,24 @@ use Rattle.bolt_format.specs.{Elements.LeafElement, Pages.page_at, TreePages.lea
 use Rattle.bolt_check.specs.{Keys.Key, declared.finding.Finding.Finding}
 use Rattle.bolt_tree.specs.{Entries.Bucket, Entries.EntryView, Entries.Item, Entries.Value, Listing.Member, Order.Rises, ShownEntries.item_view}
 use Rattle.bolt_recover.proofs.Exports.{has_recovered}
-use Rattle.bolt_recover.specs.{Losses.LostView, Losses.everything, Losses.is_nothing, Losses.parts, Lost.IsAllLost, LostAndFound.all_lost, Found.AreFound, Found.AreFoundAnyway, Found.AreSought, Found.found_numbers, Recovered.ForRecovered, Recovered.IsRecovered, Refusals.LosesRoot, ShownFound.IsFoundView}
+use Rattle.bolt_recover.specs.{Losses.LostView, Losses.everything, Losses.is_nothing, Losses.parts, Lost.IsAllLost, LostAndFound.all_lost}
+use Rattle.bolt_recover.specs.{Found.AreFound, Found.AreFoundAnyway, Found.AreSought, Found.found_numbers, Recovered.ForRecovered}
+use Rattle.bolt_recover.specs.{Recovered.IsRecovered, Refusals.LosesRoot, ShownFound.IsFoundView}
 use Rattle.bolt_recover.specs.{Sites.leaves_of, declared.found.Found.Found, declared.lost_and_found.LostAndFound.LostAndFound}
-use Rattle.bolt_etcd.specs.{declared.revision.Revision.Revision, ShownRevisions.entry_of, ShownRevisions.shown_revision, Among.without, Compacted.compacted_by}
-use Rattle.bolt_repair.specs.{Candidates.AreCandidates, Candidates.AreSearched, Candidates.found_elements, Candidates.whole_cmp, FullRepairs.IsFullRepair, Readable.readable, Repaired.IsRepair, Repaired.MakesMeta, Repaired.elements_on, Repaired.lacks_bucket, Repairs.HasMeta}
-use Rattle.bolt_repair.specs.RepairRefusals.{IsRepairRefusal, LacksStore, PutsNoneBack, left_with}
-use Rattle.bolt_repair.specs.{RecoveredStores.IsRecoveredStore, RecoveredStores.IsStoreNoted, Undisputed.AreKeys, Undisputed.AreUndisputed, WhatGoesBack.ArePutBack}
+use Rattle.bolt_etcd.specs.{declared.wire.revision.Revision.Revision, Wire.ShownRevisions.entry_of, Wire.ShownRevisions.shown_revision}
+use Rattle.bolt_etcd.specs.{Store.Among.without, Store.Compacted.compacted_by}
+use Rattle.bolt_repair.specs.{Candidates.AreCandidates, Candidates.AreSearched, Candidates.found_elements, Candidates.whole_cmp}
+use Rattle.bolt_repair.specs.{FullRepairs.IsFullRepair, Readable.readable, Repaired.IsRepair, Repaired.MakesMeta, Repaired.elements_on}
+use Rattle.bolt_repair.specs.{Repaired.lacks_bucket, Repairs.HasMeta}
+use Rattle.bolt_repair.specs.RepairRefusals.{IsRepairRefusal, LacksStore, PutsNoneBack, no_bucket_fault}
+use Rattle.bolt_repair.specs.{RecoveredStores.IsRecoveredStore, RecoveredStores.IsStoreNoted, Undisputed.AreKeys, Undisputed.AreUndisputed}
+use Rattle.bolt_repair.specs.{WhatGoesBack.ArePutBack}
 use Rattle.bolt_repair.specs.declared.recovered_store.RecoveredStore.{RecoveredStore}
 use Rattle.bolt_repair.proofs.WholeRepairs.{back_least, full_repair, is_nil, repair}
 
 -- the elements of the pages of the code are those of the pages with their numbers
-elements_found : (file : List ℕ) (meta : Meta) (found : List Found) → All (IsFoundView file meta) found → elements_on file meta (found_numbers found) ≡ found_elements found
+elements_found : (file : List ℕ) (meta : Meta) (found : List Found) → All (IsFoundView file meta) found
+    → elements_on file meta (found_numbers found) ≡ found_elements found
 elements_found file meta [] views = refl
 elements_found file meta (f ∷ found) views =
     let here : leaves_of (page_at file meta f.number) ≡ leaves_on f.page = ap leaves_of (All-head (IsFoundView file meta) f found views).page in
@@ -31,17 +39,20 @@ loses_root both x is = ∥∥₁_map both.searched (λ searched. subst (IsAllLos
 abbrev pub HasNothing : (nothing lacks : Bool) → List Revision → Type 0
 HasNothing nothing lacks es = (nothing ≡ true) ↔ ((lacks ≡ true) × (es ≡ []))
 
-pub made_if : (es : List Revision) (nothing lacks : Bool) → HasNothing nothing lacks es → nothing ≡ false → lacks ≡ (lacks && not (is_nil (map entry_of es)))
+pub made_if : (es : List Revision) (nothing lacks : Bool) → HasNothing nothing lacks es → nothing ≡ false
+    → lacks ≡ (lacks && not (is_nil (map entry_of es)))
 made_if es nothing false says is = refl
 made_if [] nothing true says is = absurd (let wrong : nothing ≡ true = says.1 (refl, refl) in cc)
 made_if (e ∷ es) nothing true says is = refl
 
-bucket_under : (under : Option Item) (lacks : Bool) → lacks_bucket under ≡ Some lacks → lacks ≡ false → (sequence : ℕ) × (under ≡ Some (Bucket sequence))
+bucket_under : (under : Option Item) (lacks : Bool) → lacks_bucket under ≡ Some lacks → lacks ≡ false
+    → (sequence : ℕ) × (under ≡ Some (Bucket sequence))
 bucket_under None lacks is lacking = cc
 bucket_under (Some (Bucket sequence)) lacks is lacking = (sequence, refl)
 bucket_under (Some (Value value)) lacks is lacking = cc
 
-pub has_bucket : (es : List Revision) (nothing lacks : Bool) → HasNothing nothing lacks es → nothing ≡ false → map entry_of es ≡ [] → (under : Option Item) → lacks_bucket under ≡ Some lacks
+pub has_bucket : (es : List Revision) (nothing lacks : Bool) → HasNothing nothing lacks es → nothing ≡ false → map entry_of es ≡ []
+    → (under : Option Item) → lacks_bucket under ≡ Some lacks
     → (sequence : ℕ) × (under ≡ Some (Bucket sequence))
 has_bucket es nothing false says is none under under_is = bucket_under under false under_is refl
 has_bucket [] nothing true says is none under under_is = absurd (let wrong : nothing ≡ true = says.1 (refl, refl) in cc)
@@ -52,11 +63,13 @@ none_under None is item at = cc
 none_under (Some (Bucket sequence)) is item at = cc
 none_under (Some (Value value)) is item at = cc
 
-pub refused : (both : LostAndFound) (search : Bool) → PutsNoneBack both.file.now both.meta search → ForRecovered both.file.now both.meta LacksStore → (v : LostView) → all_lost both ≡ v
-    → IsRepairRefusal both.file.now both.meta search (left_with v)
+pub refused : (both : LostAndFound) (search : Bool) → PutsNoneBack both.file.now both.meta search → ForRecovered both.file.now both.meta LacksStore
+    → (v : LostView) → all_lost both ≡ v
+    → IsRepairRefusal both.file.now both.meta search (no_bucket_fault v)
 unfolding all_lost
 refused both search none lacks (everything x) is = (loses_root both x is, none)
-refused both search none lacks (parts losses) is = (∥∥₁_map both.searched (λ searched. (subst (IsAllLost both.file.now both.meta) is searched.lost).0), lacks, none)
+refused both search none lacks (parts losses) is =
+    (∥∥₁_map both.searched (λ searched. (subst (IsAllLost both.file.now both.meta) is searched.lost).0), lacks, none)
 
 abbrev now : Bor Key → Key
 now key = key.now
@@ -69,7 +82,8 @@ meta_if recovered false says = λ there. let wrong : false ≡ true = says.1 the
 -- ---- the candidates
 
 -- on pages that were looked for though nothing is lost
-pub searched_anyway : (both : LostAndFound) (search : Bool) (found : List Found) (es : List EntryView) → search ≡ true → AreFoundAnyway both.file.now both.meta (found_numbers found)
+pub searched_anyway : (both : LostAndFound) (search : Bool) (found : List Found) (es : List EntryView) → search ≡ true
+    → AreFoundAnyway both.file.now both.meta (found_numbers found)
     → All (IsFoundView both.file.now both.meta) found → AreCandidates (found_elements found) es → AreSearched both search es
 searched_anyway both search found es is are views candidates =
     let file = both.file.now in
@@ -82,21 +96,26 @@ searched_anyway both search found es is are views candidates =
 
 -- If something is lost, the pages were found as if they were looked for in any case.
 abbrev FindsAnyway : Type 0
-FindsAnyway = (file : List ℕ) (meta : Meta) (lost : LostView) (found : List ℕ) → IsAllLost file meta lost → is_nothing lost ≡ false → AreFound file meta found → AreFoundAnyway file meta found
+FindsAnyway =
+    (file : List ℕ) (meta : Meta) (lost : LostView) (found : List ℕ) → IsAllLost file meta lost → is_nothing lost ≡ false → AreFound file meta found
+    → AreFoundAnyway file meta found
 
-lost_sought : FindsAnyway → (both : LostAndFound) (search : Bool) → IsAllLost both.file.now both.meta (all_lost both) → AreFound both.file.now both.meta (found_numbers both.found.items)
+lost_sought : FindsAnyway → (both : LostAndFound) (search : Bool) → IsAllLost both.file.now both.meta (all_lost both)
+    → AreFound both.file.now both.meta (found_numbers both.found.items)
     → (search ≡ true → is_nothing (all_lost both) ≡ false) → AreSought both.file.now both.meta search (found_numbers both.found.items)
 lost_sought anyway both true loses are some = anyway both.file.now both.meta (all_lost both) (found_numbers both.found.items) loses (some refl) are
 lost_sought anyway both false loses are some = are
 
 -- on pages that were found since something is lost
-pub searched_lost : FindsAnyway → (both : LostAndFound) (search : Bool) (found : List Found) (es : List EntryView) → found ≡ both.found.items → (search ≡ true → is_nothing (all_lost both) ≡ false)
+pub searched_lost : FindsAnyway → (both : LostAndFound) (search : Bool) (found : List Found) (es : List EntryView) → found ≡ both.found.items
+    → (search ≡ true → is_nothing (all_lost both) ≡ false)
     → AreCandidates (found_elements found) es → AreSearched both search es
 unfolding all_lost
 searched_lost anyway both search found es at some candidates = ∥∥₁_map both.searched (λ searched. (
   found_numbers both.found.items,
   lost_sought anyway both search searched.lost searched.are_found some,
-  subst (λ (elements : List LeafElement). AreCandidates elements es) (ap found_elements at ∙ sym (elements_found both.file.now both.meta both.found.items searched.views)) candidates,
+  subst (λ (elements : List LeafElement). AreCandidates elements es)
+      (ap found_elements at ∙ sym (elements_found both.file.now both.meta both.found.items searched.views)) candidates,
 ))
 
 rises_prop : (es : List EntryView) → IsProp (Rises whole_cmp es)
@@ -118,7 +137,8 @@ module _ (both : LostAndFound) (search : Bool) (all listed left back : List Revi
   is_recovered : IsRecovered both.file.now both.meta recovered
   is_recovered = (has_recovered both.file.now both.meta).1
 
-  stored : IsRecoveredStore (readable recovered) (map entry_of all) (option_map item_view store.bucket) (option_map now store.compaction) (map shown_revision store.kept.items) (map now store.met.items)
+  stored : IsRecoveredStore (readable recovered) (map entry_of all) (option_map item_view store.bucket) (option_map now store.compaction)
+      (map shown_revision store.kept.items) (map now store.met.items)
   stored = (subst (λ (es : List Revision). IsStoreNoted recovered (map entry_of es) store) same (stores recovered is_recovered)).store
 
   makes_it : MakesMeta recovered (not store.has_meta)
@@ -130,17 +150,23 @@ module _ (both : LostAndFound) (search : Bool) (all listed left back : List Revi
   pub searched_least : (keys : List Key) → AreKeys (without (map now store.met.items) (map entry_of all)) keys → length back ≤ length keys
   searched_least keys are = ∥∥₁_elim candidates (hlevel props) (λ (found, sought, on_pages).
       let long = length-map back entry_of in
-      let few = back_least both.file.now both.meta search found sought (map entry_of all) (map entry_of left) (map entry_of back) (map now store.met.items) _ _ _ on_pages agree recovered is_recovered stored put_back (not store.has_meta) makes_it keys are in
+      let few =
+      back_least both.file.now both.meta search found sought (map entry_of all) (map entry_of left) (map entry_of back) (map now store.met.items) _ _ _
+      on_pages agree recovered is_recovered stored put_back (not store.has_meta) makes_it keys are in
       omega (arith, long, few))
 
-  module _ (lacks : Bool) (is_lacking : lacks_bucket (option_map item_view store.bucket) ≡ Some lacks) (is_made : Bool) (made : is_made ≡ (lacks && not (is_nil (map entry_of back)))) where
+  module _ (lacks : Bool) (is_lacking : lacks_bucket (option_map item_view store.bucket) ≡ Some lacks) (is_made : Bool)
+      (made : is_made ≡ (lacks && not (is_nil (map entry_of back)))) where
     pub searched_repair : ∥ IsRepair both.file.now both.meta search (map entry_of back) (record { store = is_made; meta = not store.has_meta }) ∥₁
     searched_repair = ∥∥₁_map candidates (λ (found, sought, on_pages).
-        repair both.file.now both.meta search found sought (map entry_of all) (map entry_of left) (map entry_of back) (map now store.met.items) _ _ _ on_pages agree recovered is_recovered stored put_back
+        repair both.file.now both.meta search found sought (map entry_of all) (map entry_of left) (map entry_of back) (map now store.met.items) _ _ _
+        on_pages agree recovered is_recovered stored put_back
         (not store.has_meta) makes_it lacks is_lacking is_made made)
 
-    pub searched_full : (keys : List Key) → AreKeys (without (map now store.met.items) (map entry_of all)) keys → (left_out : ℕ) → left_out ≡ length keys - length back
+    pub searched_full : (keys : List Key) → AreKeys (without (map now store.met.items) (map entry_of all)) keys → (left_out : ℕ)
+        → left_out ≡ length keys - length back
         → ∥ IsFullRepair both.file.now both.meta search (map entry_of back) (record { store = is_made; meta = not store.has_meta }) left_out ∥₁
     searched_full keys are left_out number = ∥∥₁_map candidates (λ (found, sought, on_pages).
-        full_repair both.file.now both.meta search found sought (map entry_of all) (map entry_of left) (map entry_of back) (map now store.met.items) _ _ _ on_pages agree recovered is_recovered stored put_back
+        full_repair both.file.now both.meta search found sought (map entry_of all) (map entry_of left) (map entry_of back) (map now store.met.items) _ _ _
+        on_pages agree recovered is_recovered stored put_back
         (not store.has_meta) makes_it lacks is_lacking is_made made keys are left_out (let long = length-map back entry_of in omega (arith, long, number)))

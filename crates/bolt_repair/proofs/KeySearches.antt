@@ -1,8 +1,11 @@
 -- What a binary search by keys finds.
-use Rattle.std.proofs.Common.{◌≡◌, ◌↔◌, ◌∙◌, ◌<◌, inl, inr, ℕ, Bool, true, false, List, [], ◌∷◌, length, map, Result, Ok, Err, sym, ap, slice_index_or, arith}
+use Rattle.std.proofs.Common.{◌≡◌, ◌↔◌, ◌∙◌, ◌<◌, inl, inr, ℕ, Bool, true, false, List, [], ◌∷◌, length, map, Result, Ok, Err, sym, ap}
+use Rattle.std.proofs.Common.{slice_index_or, arith}
 use Rattle.std.proofs.lemmas.Bool.{cases_lt}
-use Rattle.std.proofs.{lemmas.List.get_or-map, lemmas.List.length-map, lemmas.List.Elements.Contains-from_at, lemmas.List.Sorted.searchable_from_sorted, lemmas.Cmp.tied_itself}
-use Rattle.std.specs.{List.Contains, List.HoldsAt, List.Sorted.IsBinarySearchResult, List.Sorted.IsPartitionPoint, List.Sorted.IsSearchInRange, List.Sorted.IsSortedBy, Ordering.is_lt, Result.is_ok}
+use Rattle.std.proofs.{lemmas.List.get_or-map, lemmas.List.length-map, lemmas.List.Elements.Contains-from_at}
+use Rattle.std.proofs.{lemmas.List.Sorted.searchable_from_sorted, lemmas.Cmp.tied_itself}
+use Rattle.std.specs.{List.Contains, List.HoldsAt, List.Sorted.IsBinarySearchResult, List.Sorted.IsPartitionPoint, List.Sorted.IsSearchInRange}
+use Rattle.std.specs.{List.Sorted.IsSortedBy, Ordering.is_lt, Result.is_ok}
 use Rattle.std.specs.declared.cmp.Ordering.TheVariants.{Equal, Greater, Less}
 use Rattle.bolt_check.specs.Keys.{Key, key_cmp}
 use Rattle.bolt_tree.proofs.Exports.{key_exact, key_total, shows_from}
@@ -14,10 +17,12 @@ module _ {X : Type 0} (f : X → Key) (key : Key) where
       let long = length-map (x ∷ xs) f in
       Contains-from_at (map f (x ∷ xs)) key (i, omega (arith, long), λ d. get_or-map f (x ∷ xs) i x d below ∙ key_exact _ key (holds x))
 
-  not_found : (xs : List X) (i : ℕ) → IsPartitionPoint (λ x. key_cmp (f x) key ≡ Less) (λ x. key_cmp (f x) key ≡ Greater) xs i → Contains (map f xs) key → ⊥
+  not_found : (xs : List X) (i : ℕ) → IsPartitionPoint (λ x. key_cmp (f x) key ≡ Less) (λ x. key_cmp (f x) key ≡ Greater) xs i
+      → Contains (map f xs) key → ⊥
   not_found xs i parts has =
       let (x, (k, below, at), is) = shows_from f xs key has in
-      let tied : key_cmp (f (slice_index_or xs k x)) key ≡ Equal = ap (λ (y : X). key_cmp (f y) key) at ∙ ap (λ (l : Key). key_cmp l key) is ∙ tied_itself key_total key in
+      let tied : key_cmp (f (slice_index_or xs k x)) key ≡ Equal =
+      ap (λ (y : X). key_cmp (f y) key) at ∙ ap (λ (l : Key). key_cmp l key) is ∙ tied_itself key_total key in
       elim (cases_lt k i) [
         | inl before ↦ (let less = parts.0 k x (omega arith) before in let wrong : Less ≡ Equal = sym less ∙ tied in cc)
         | inr after ↦ (let greater = parts.1 k x after below in let wrong : Greater ≡ Equal = sym greater ∙ tied in cc)

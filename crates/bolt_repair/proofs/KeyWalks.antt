@@ -1,5 +1,6 @@
 -- Candidates by rising key, beside one key.
-use Rattle.std.proofs.Common.{◌≡◌, ◌∙◌, ◌<◌, ◌≤◌, ◌+◌, ◌-◌, ◌↔◌, inl, inr, ℕ, Bool, true, false, List, length, map, slice_index_or, refl, sym, ap, subst, arith}
+use Rattle.std.proofs.Common.{◌≡◌, ◌∙◌, ◌<◌, ◌≤◌, ◌+◌, ◌-◌, ◌↔◌, inl, inr, ℕ, Bool, true, false, List, length, map, slice_index_or, refl, sym, ap}
+use Rattle.std.proofs.Common.{subst, arith}
 use Rattle.std.proofs.{lemmas.List.MinMax.ranks_by, lemmas.List.Sorted.sorted_far}
 use Rattle.std.proofs.lemmas.List.{get_or_default}
 use Rattle.std.proofs.{lemmas.Bool.cases_lt, lemmas.Slice.Eq.bytes_eq-Decides}
@@ -9,7 +10,7 @@ use Rattle.bolt_check.specs.Keys.{Key, key_cmp}
 use Rattle.bolt_tree.proofs.Exports.{irreflexive, key_exact, key_total, Climbs, climbs_sorted, sorted_by_shown, shows_from, shows_has}
 use Rattle.bolt_tree.specs.{Entries.EntryView, Order.Rises}
 use Rattle.bolt_repair.specs.{Candidates.HasKey, Candidates.whole_cmp, Keyed.HaveLesserKeys}
-use Rattle.bolt_etcd.specs.{ShownRevisions.entry_of, declared.revision.Revision.Revision}
+use Rattle.bolt_etcd.specs.{Wire.ShownRevisions.entry_of, declared.wire.revision.Revision.Revision}
 use Rattle.bolt_repair.proofs.Alones.{entries_climb, entry_below}
 use Rattle.bolt_check.proofs.Exports.{less_of, neither}
 
@@ -23,13 +24,16 @@ module _ (key : Key) (xs : List Revision) (rises : Rises whole_cmp (map entry_of
   climbs : Climbs entry_below (map entry_of xs)
   climbs = entries_climb (map entry_of xs) rises
 
-  not_above : (j k : ℕ) (d : Revision) → j ≤ k → k < length xs → is_lt (ordering_reverse (key_cmp (slice_index_or xs j d).key.now (slice_index_or xs k d).key.now)) ≡ false
+  not_above : (j k : ℕ) (d : Revision) → j ≤ k → k < length xs
+      → is_lt (ordering_reverse (key_cmp (slice_index_or xs j d).key.now (slice_index_or xs k d).key.now)) ≡ false
   not_above j k d le lt =
       ap is_lt (sym (key_total.antisymm (slice_index_or xs k d).key.now (slice_index_or xs j d).key.now))
-      ∙ sorted_far _ (ranks_by key_total (λ (r : Revision). r.key.now)) xs (sorted_by_shown entry_of entry_below xs (climbs_sorted entry_below _ climbs)) j k d le lt
+      ∙ sorted_far _ (ranks_by key_total (λ (r : Revision). r.key.now)) xs
+      (sorted_by_shown entry_of entry_below xs (climbs_sorted entry_below _ climbs)) j k d le lt
 
   -- if the one before a place is below, all before it are
-  pub below_all : (n : ℕ) (r : Revision) → 0 < n → n ≤ length xs → r ≡ slice_index_or xs (n - 1) r → is_lt (key_cmp r.key.now key) ≡ true → HaveLesserKeys key xs n
+  pub below_all : (n : ℕ) (r : Revision) → 0 < n → n ≤ length xs → r ≡ slice_index_or xs (n - 1) r → is_lt (key_cmp r.key.now key) ≡ true
+      → HaveLesserKeys key xs n
   below_all n r some within at less = (
     within,
     λ k d lt.
@@ -39,7 +43,8 @@ module _ (key : Key) (xs : List Revision) (rises : Rises whole_cmp (map entry_of
         (subst (λ (x : Revision). key_cmp x.key.now key ≡ Less) (at ∙ last) before),
   )
 
-  pub one_more : (i : ℕ) (r : Revision) → HaveLesserKeys key xs i → i < length xs → r ≡ slice_index_or xs i r → is_lt (key_cmp r.key.now key) ≡ true → HaveLesserKeys key xs (i + 1)
+  pub one_more : (i : ℕ) (r : Revision) → HaveLesserKeys key xs i → i < length xs → r ≡ slice_index_or xs i r → is_lt (key_cmp r.key.now key) ≡ true
+      → HaveLesserKeys key xs (i + 1)
   one_more i r below lt at less = below_all (i + 1) r (omega arith) (omega arith) (let same : i + 1 - 1 ≡ i = omega arith in rw same at) less
 
   -- none has the key, if all are below
@@ -48,11 +53,13 @@ module _ (key : Key) (xs : List Revision) (rises : Rises whole_cmp (map entry_of
       let (x, (k, lt, is), shows) = shows_from entry_of xs e has in
       let less = below.1 k x (omega arith) in
       let same : slice_index_or xs k x ≡ x = is in
-      let wrong : key_cmp key key ≡ Less = subst (λ (y : Key). key_cmp y key ≡ Less) (ap (λ (y : Revision). y.key.now) same ∙ ap (λ (v : EntryView). v.key) shows ∙ at) less in
+      let wrong : key_cmp key key ≡ Less =
+      subst (λ (y : Key). key_cmp y key ≡ Less) (ap (λ (y : Revision). y.key.now) same ∙ ap (λ (v : EntryView). v.key) shows ∙ at) less in
       irreflexive key_total key wrong
 
   -- else the next one has it, or none
-  module _ (i : ℕ) (r : Revision) (below : HaveLesserKeys key xs i) (lt : i < length xs) (at : r ≡ slice_index_or xs i r) (not_less : is_lt (key_cmp r.key.now key) ≡ false) where
+  module _ (i : ℕ) (r : Revision) (below : HaveLesserKeys key xs i) (lt : i < length xs) (at : r ≡ slice_index_or xs i r)
+      (not_less : is_lt (key_cmp r.key.now key) ≡ false) where
     next_only : HasKey (map entry_of xs) key → r.key.now ≡ key
     next_only (e, has, same) =
         let (x, (k, within, is), shows) = shows_from entry_of xs e has in
@@ -66,7 +73,8 @@ module _ (key : Key) (xs : List Revision) (rises : Rises whole_cmp (map entry_of
               let mine : slice_index_or xs i x ≡ r = get_or_default xs i x r lt ∙ sym at in
               let above = not_above i k x after within in
               let turned = subst (λ (y : Revision). is_lt (ordering_reverse (key_cmp y.key.now (slice_index_or xs k x).key.now)) ≡ false) mine above in
-              let beside = subst (λ (l : Key). is_lt (ordering_reverse (key_cmp r.key.now l)) ≡ false) (ap (λ (y : Revision). y.key.now) here ∙ key_is) turned in
+              let beside =
+              subst (λ (l : Key). is_lt (ordering_reverse (key_cmp r.key.now l)) ≡ false) (ap (λ (y : Revision). y.key.now) here ∙ key_is) turned in
               key_exact r.key.now key (neither (key_cmp r.key.now key) not_less beside)
         ]
 

@@ -6,7 +6,7 @@ use Rattle.std.specs.{Bool.Decides, List.Contains, Str.bytes_eq}
 use Rattle.bolt_check.specs.Keys.{Key}
 use Rattle.bolt_tree.proofs.Exports.{kept, kept_from}
 use Rattle.bolt_tree.specs.Entries.{EntryView}
-use Rattle.bolt_etcd.specs.Among.{among, without}
+use Rattle.bolt_etcd.specs.Store.Among.{among, without}
 
 -- ---- whether a key is among these, as a test
 

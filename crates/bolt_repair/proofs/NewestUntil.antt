@@ -1,10 +1,12 @@
 -- What goes back, of the code.
 use Rattle.std.proofs.Common.{◌≡◌, ◌∙◌, ◌↔◌, ◌||◌, ◌++◌, ℕ, Bool, true, false, List, [], ◌∷◌, ap, ap₂, filter, map, not, refl, subst, sym}
-use Rattle.std.proofs.{lemmas.List.map-append, lemmas.List.Sorted.Contains-permutation, lemmas.List.Sorted.IsPermutation-map, lemmas.List.Sorted.IsPermutation-sym, lemmas.List.Elements.All-contains}
+use Rattle.std.proofs.{lemmas.List.map-append, lemmas.List.Sorted.Contains-permutation, lemmas.List.Sorted.IsPermutation-map}
+use Rattle.std.proofs.{lemmas.List.Sorted.IsPermutation-sym, lemmas.List.Elements.All-contains}
 use Rattle.std.specs.{List.All, List.Contains, List.cons_option, List.filter_map, List.Sorted.IsPermutation}
 use Rattle.bolt_check.specs.Keys.{Key}
-use Rattle.bolt_etcd.specs.{Among.among, Current.AreNewest, Current.HaveOwnKeys, Current.IsNewest, Newest.is_until, Newest.until, Revisions.RevisionView, Revisions.revision_of}
-use Rattle.bolt_etcd.specs.{ShownRevisions.entry_of, ShownRevisions.shown_revision, declared.revision.Revision.Revision}
+use Rattle.bolt_etcd.specs.{Store.Among.among, Store.Current.AreNewest, Store.Current.HaveOwnKeys, Store.Current.IsNewest, Store.Newest.is_until}
+use Rattle.bolt_etcd.specs.{Store.Newest.until, Wire.Revisions.RevisionView, Wire.Revisions.revision_of}
+use Rattle.bolt_etcd.specs.{Wire.ShownRevisions.entry_of, Wire.ShownRevisions.shown_revision, declared.wire.revision.Revision.Revision}
 use Rattle.bolt_tree.proofs.Exports.{filter_all, filter_mapped, shows_from}
 use Rattle.bolt_tree.specs.Entries.{EntryView}
 use Rattle.bolt_etcd.proofs.Exports.{has_stored_key, is_revision}
@@ -16,7 +18,8 @@ key_of r = (entry_of r).key
 
 shown_all : (rs : List Revision) → filter_map revision_of (map entry_of rs) ≡ map shown_revision rs
 shown_all [] = refl
-shown_all (r ∷ rs) = ap (λ o. cons_option o (filter_map revision_of (map entry_of rs))) (is_revision r) ∙ ap (λ (ss : List RevisionView). shown_revision r ∷ ss) (shown_all rs)
+shown_all (r ∷ rs) =
+    ap (λ o. cons_option o (filter_map revision_of (map entry_of rs))) (is_revision r) ∙ ap (λ (ss : List RevisionView). shown_revision r ∷ ss) (shown_all rs)
 
 stored_keys : (rs : List Revision) → map (λ (r : RevisionView). r.stored_key) (map shown_revision rs) ≡ map key_of rs
 stored_keys [] = refl
@@ -31,23 +34,27 @@ module _ (compacted : ℕ) (newest : List Revision) (r : Revision) (old : Bool) 
   pub goes_new : old ≡ false → true ≡ goes_back compacted (map shown_revision newest) (entry_of r)
   goes_new new = ap (λ (b : Bool). not b || among (map (λ (s : RevisionView). s.stored_key) (map shown_revision newest)) (key_of r)) (sym new ∙ old_is)
 
-  pub goes_old : not old ≡ false → (one : Bool) → ((one ≡ true) ↔ Contains (map key_of newest) (key_of r)) → one ≡ goes_back compacted (map shown_revision newest) (entry_of r)
+  pub goes_old : not old ≡ false → (one : Bool) → ((one ≡ true) ↔ Contains (map key_of newest) (key_of r))
+      → one ≡ goes_back compacted (map shown_revision newest) (entry_of r)
   goes_old known one has =
       among_is (map key_of newest) (key_of r) one has
       ∙ ap (λ (ks : List Key). among ks (key_of r)) (sym (stored_keys newest))
       ∙ ap (λ (b : Bool). b || among (map (λ (s : RevisionView). s.stored_key) (map shown_revision newest)) (key_of r)) (sym known ∙ ap not old_is)
 
 -- if none is old, all go back
-pub all_go_back : (compacted : ℕ) (newest : List RevisionView) (agreed : List Revision) → All (λ r. is_until compacted (shown_revision r) ≡ false) agreed
+pub all_go_back : (compacted : ℕ) (newest : List RevisionView) (agreed : List Revision)
+    → All (λ r. is_until compacted (shown_revision r) ≡ false) agreed
     → map entry_of agreed ≡ filter (goes_back compacted newest) (map entry_of agreed)
 all_go_back compacted newest agreed none = sym (filter_all (goes_back compacted newest) (map entry_of agreed) (λ e has.
     let (r, there, is) = shows_from entry_of agreed e has in
     let new = ap (is_old compacted) (is_revision r) ∙ All-contains (λ (s : Revision). is_until compacted (shown_revision s) ≡ false) agreed r none there in
-    subst (λ (x : EntryView). goes_back compacted newest x ≡ true) is (ap (λ (b : Bool). not b || among (map (λ (s : RevisionView). s.stored_key) newest) (key_of r)) new)))
+    subst (λ (x : EntryView). goes_back compacted newest x ≡ true) is
+    (ap (λ (b : Bool). not b || among (map (λ (s : RevisionView). s.stored_key) newest) (key_of r)) new)))
 
 -- ---- the newest ones
 
-module _ (compacted : ℕ) (kept agreed all old found sorted : List Revision) (joined : all ≡ kept ++ agreed) (those : old ≡ filter (λ (r : Revision). is_until compacted (shown_revision r)) all)
+module _ (compacted : ℕ) (kept agreed all old found sorted : List Revision) (joined : all ≡ kept ++ agreed)
+    (those : old ≡ filter (λ (r : Revision). is_until compacted (shown_revision r)) all)
     (newest : HaveOwnKeys (map shown_revision old) → AreNewest (map shown_revision old) (map shown_revision found)) (moved : IsPermutation found sorted) where
   abbrev olds : List RevisionView
   olds = old_revisions compacted (map shown_revision kept) (map entry_of agreed)
@@ -62,6 +69,8 @@ module _ (compacted : ℕ) (kept agreed all old found sorted : List Revision) (j
   are_the_newest own r =
       let are = newest (subst HaveOwnKeys (sym shown_old) own) in
       let same = IsPermutation-map shown_revision found sorted moved in (
-        λ has. subst (λ (rs : List RevisionView). IsNewest rs r) shown_old ((are.exact r).0 (Contains-permutation (map shown_revision sorted) (map shown_revision found) r (IsPermutation-sym _ _ same) has)),
-        λ n. Contains-permutation (map shown_revision found) (map shown_revision sorted) r same ((are.exact r).1 (subst (λ (rs : List RevisionView). IsNewest rs r) (sym shown_old) n)),
+        λ has. subst (λ (rs : List RevisionView). IsNewest rs r) shown_old
+            ((are.exact r).0 (Contains-permutation (map shown_revision sorted) (map shown_revision found) r (IsPermutation-sym _ _ same) has)),
+        λ n. Contains-permutation (map shown_revision found) (map shown_revision sorted) r same
+            ((are.exact r).1 (subst (λ (rs : List RevisionView). IsNewest rs r) (sym shown_old) n)),
       )

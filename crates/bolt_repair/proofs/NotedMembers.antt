@@ -7,9 +7,10 @@ use Rattle.std.specs.{List.Contains, Option.option_to_list, declared.cmp.Orderin
 use Rattle.std.specs.declared.cmp.Ordering.TheVariants.{Less}
 use Rattle.bolt_check.specs.Keys.{Key, key_cmp}
 use Rattle.bolt_tree.proofs.Exports.{contains_cases, contains_head, contains_none, contains_tail, irreflexive, path_total, before_it}
-use Rattle.bolt_tree.specs.{Entries.Bucket, Entries.EntryView, Entries.Item, Entries.Value, InBuckets.entry_in, Listing.Member, Listing.member_cmp, Order.Rises, Paths.Path, Paths.path_cmp}
-use Rattle.bolt_etcd.specs.Revisions.{RevisionView, revision_of}
-use Rattle.bolt_repair.specs.{Candidates.HasKey, Repairs.IsKept, Repairs.compaction_path, Repairs.store_path}
+use Rattle.bolt_tree.specs.{Entries.Bucket, Entries.EntryView, Entries.Item, Entries.Value, InBuckets.entry_in, Listing.Member, Listing.member_cmp}
+use Rattle.bolt_tree.specs.{Order.Rises, Paths.Path, Paths.path_cmp}
+use Rattle.bolt_etcd.specs.Wire.Revisions.{RevisionView, revision_of}
+use Rattle.bolt_repair.specs.{Candidates.HasKey, Repairs.IsKeptRevision, Repairs.compaction_path, Repairs.store_path}
 use Rattle.bolt_repair.specs.RecoveredStores.{ComesAfter, HasKeptKey, IsRecoveredStore, KeepsRevision}
 use Rattle.bolt_check.proofs.Exports.{first_decides}
 
@@ -17,7 +18,8 @@ only : {A : Type 0} (o : Option A) (x : A) → Contains (option_to_list o) x →
 only None x has = absurd (contains_none x has)
 only (Some y) x has = elim (contains_cases y x [] has) [ inl is ↦ ap Some is | inr none ↦ absurd (contains_none x none) ]
 
-pub rises_push : {A : Type 0} (cmp : A → A → Ordering) (xs : List A) (x : A) → Rises cmp xs → ((y : A) → Contains xs y → cmp y x ≡ Less) → Rises cmp (xs ++ x ∷ [])
+pub rises_push : {A : Type 0} (cmp : A → A → Ordering) (xs : List A) (x : A) → Rises cmp xs → ((y : A) → Contains xs y → cmp y x ≡ Less)
+    → Rises cmp (xs ++ x ∷ [])
 rises_push {A = A} cmp [] x rises below = (λ y has. absurd (contains_none y has), tt)
 rises_push {A = A} cmp (z ∷ xs) x rises below = (
   λ y has. elim (Contains-push_cases xs x y has) [ inl there ↦ rises.0 y there | inr is ↦ subst (λ (w : A). cmp z w ≡ Less) is (below z (contains_head z xs)) ],
@@ -58,7 +60,8 @@ same_last k l e = cc
 -- ---- a store of these members, and of one more
 
 module _ (before : List Member) (path : Path) (item : Item) (after : ComesAfter before (path, item)) (candidates : List EntryView)
-    (under : Option Item) (noted : Option (List ℕ)) (revisions : List RevisionView) (keys : List Key) (s : IsRecoveredStore before candidates under noted revisions keys) where
+    (under : Option Item) (noted : Option (List ℕ)) (revisions : List RevisionView) (keys : List Key)
+    (s : IsRecoveredStore before candidates under noted revisions keys) where
   abbrev now : List Member
   now = before ++ (path, item) ∷ []
 
@@ -76,7 +79,8 @@ module _ (before : List Member) (path : Path) (item : Item) (after : ComesAfter 
       (λ has. (s.compaction value).0 (from has), λ e. to ((s.compaction value).1 e))
 
   -- no candidate has a key that the member adds
-  met_same : ((key : Key) → path ≡ store_path ++ key ∷ [] → HasKey candidates key → ⊥) → (key : Key) → Contains keys key ↔ (HasKey candidates key × HasKeptKey now key)
+  met_same : ((key : Key) → path ≡ store_path ++ key ∷ [] → HasKey candidates key → ⊥) → (key : Key)
+      → Contains keys key ↔ (HasKey candidates key × HasKeptKey now key)
   met_same other key = (
     λ has. (let (wanted, (i, kept)) = (s.met key).0 has in (wanted, (i, Contains-append_left before ((path, item) ∷ []) _ kept))),
     λ (wanted, (i, kept)). elim (Contains-push_cases before (path, item) _ kept) [
@@ -86,7 +90,8 @@ module _ (before : List Member) (path : Path) (item : Item) (after : ComesAfter 
   )
 
   -- nor does it add a revision
-  kept_same : ((key : Key) → path ≡ store_path ++ key ∷ [] → ⊥) → (e : EntryView) → Contains candidates e → (r : RevisionView) → Contains revisions r ↔ IsKept now r
+  kept_same : ((key : Key) → path ≡ store_path ++ key ∷ [] → ⊥) → (e : EntryView) → Contains candidates e → (r : RevisionView)
+      → Contains revisions r ↔ IsKeptRevision now r
   kept_same other e some r = (
     λ has. (let (x, there, is) = (s.kept e some r).0 has in (x, Contains-append_left before ((path, item) ∷ []) _ there, is)),
     λ (x, there, is). (s.kept e some r).1 (x, (elsewhere before (path, item) (store_path ++ x.key ∷ []) x.item (other x.key)).0 there, is),
@@ -158,9 +163,11 @@ module _ (before : List Member) (path : Path) (item : Item) (after : ComesAfter 
 
     last_entry : (x : EntryView) → (path, item) ≡ entry_in store_path x → entry ≡ x
     last_entry x is =
-        ap (λ (k : Key). record { key = k; item = item }) (same_last key x.key (sym at ∙ ap (λ (m : Member). m.0) is)) ∙ ap (λ (m : Member). record { key = x.key; item = m.1 }) is
+        ap (λ (k : Key). record { key = k; item = item }) (same_last key x.key (sym at ∙ ap (λ (m : Member). m.0) is))
+        ∙ ap (λ (m : Member). record { key = x.key; item = m.1 }) is
 
-    kept_with : (o : Option RevisionView) → revision_of entry ≡ o → (e : EntryView) → Contains candidates e → (r : RevisionView) → Contains (revisions ++ option_to_list o) r ↔ IsKept now r
+    kept_with : (o : Option RevisionView) → revision_of entry ≡ o → (e : EntryView) → Contains candidates e → (r : RevisionView)
+        → Contains (revisions ++ option_to_list o) r ↔ IsKeptRevision now r
     kept_with o is e some r = (
       λ has. elim (Contains-append_cases revisions (option_to_list o) r has) [
         | inl there ↦ (let (x, before_it, reads) = (s.kept e some r).0 there in (x, Contains-append_left before ((path, item) ∷ []) _ before_it, reads))
@@ -168,13 +175,16 @@ module _ (before : List Member) (path : Path) (item : Item) (after : ComesAfter 
       ],
       λ (x, has, reads). elim (Contains-push_cases before (path, item) _ has) [
         | inl there ↦ Contains-append_left revisions (option_to_list o) r ((s.kept e some r).1 (x, there, reads))
-        | inr new ↦ Contains-append_right revisions (option_to_list o) r (subst (λ (p : Option RevisionView). Contains (option_to_list p) r) (sym (ap revision_of (last_entry x new) ∙ reads) ∙ is) (contains_head r []))
+        | inr new ↦
+            Contains-append_right revisions (option_to_list o) r
+            (subst (λ (p : Option RevisionView). Contains (option_to_list p) r) (sym (ap revision_of (last_entry x new) ∙ reads) ∙ is) (contains_head r []))
       ],
     )
 
     module _ (more : List RevisionView) (keeps : KeepsRevision candidates entry revisions more) where
-      kept_more : (e : EntryView) → Contains candidates e → (r : RevisionView) → Contains more r ↔ IsKept now r
-      kept_more e some r = subst (λ (rs : List RevisionView). Contains rs r ↔ IsKept now r) (sym (keeps e some)) (kept_with (revision_of entry) refl e some r)
+      kept_more : (e : EntryView) → Contains candidates e → (r : RevisionView) → Contains more r ↔ IsKeptRevision now r
+      kept_more e some r =
+          subst (λ (rs : List RevisionView). Contains rs r ↔ IsKeptRevision now r) (sym (keeps e some)) (kept_with (revision_of entry) refl e some r)
 
       more_keys : HasKey candidates key → IsRecoveredStore now candidates under noted more (keys ++ key ∷ [])
       more_keys wanted = record {
@@ -209,7 +219,8 @@ module _ (before : List Member) (path : Path) (item : Item) (after : ComesAfter 
         met = met_same (λ k e want. unwanted (subst (HasKey candidates) (same_last k key (sym e ∙ at)) want));
       }
 
-  pub nothing_there : (path ≡ store_path → ⊥) → ((key : Key) → path ≡ store_path ++ key ∷ [] → ⊥) → (path ≡ compaction_path → ⊥) → IsRecoveredStore now candidates under noted revisions keys
+  pub nothing_there : (path ≡ store_path → ⊥) → ((key : Key) → path ≡ store_path ++ key ∷ [] → ⊥) → (path ≡ compaction_path → ⊥)
+      → IsRecoveredStore now candidates under noted revisions keys
   nothing_there no_bucket no_entry no_compaction = search (rules, store_same, compaction_same, kept_same, met_same)
 
 -- ---- of no member
@@ -219,7 +230,8 @@ no_members_noted candidates = grind (arith, contains_none)
 
 -- ---- the members of a listing, one after another
 
-pub next_member : (listing before left new : List Member) (path given : Path) (item : Item) → Rises member_cmp listing → before ++ left ≡ listing → left ≡ (given, item) ∷ new → path ≡ given
+pub next_member : (listing before left new : List Member) (path given : Path) (item : Item) → Rises member_cmp listing → before ++ left ≡ listing
+    → left ≡ (given, item) ∷ new → path ≡ given
     → ComesAfter before (path, item) × ((before ++ (path, item) ∷ []) ++ new ≡ listing)
 next_member listing before left new path given item rises all first same =
     let next : left ≡ (path, item) ∷ new = first ∙ ap (λ (p : Path). (p, item) ∷ new) (sym same) in

@@ -3,12 +3,13 @@ use Rattle.std.proofs.Common.{arith, ap₂, ◌≡◌, ◌∙◌, inl, inr, ℕ,
 use Rattle.std.proofs.lemmas.Cmp.{on_total}
 use Rattle.std.specs.{Cmp.IsTotalOrder, List.Contains}
 use Rattle.bolt_format.specs.{Elements.LeafElement, declared.meta.Meta.Meta}
-use Rattle.bolt_tree.specs.{Entries.Bucket, Entries.EntryView, Entries.Value, Entries.Item, InBuckets.view_cmp, Listing.Member, Listing.member_cmp, Order.Rises, Paths.Path}
+use Rattle.bolt_tree.specs.{Entries.Bucket, Entries.EntryView, Entries.Value, Entries.Item, InBuckets.view_cmp, Listing.Member, Listing.member_cmp}
+use Rattle.bolt_tree.specs.{Order.Rises, Paths.Path}
 use Rattle.bolt_tree.proofs.Exports.{filter_rises, one_of, rises_once, key_total, path_total}
 use Rattle.bolt_recover.proofs.Exports.{one_recovered}
 use Rattle.bolt_check.specs.Ones.{AtMostOne}
 use Rattle.bolt_recover.specs.{Found.AreFound, Found.AreFoundAnyway, Found.AreSought, Recovered.IsRecovered}
-use Rattle.bolt_etcd.specs.{Compacted.compacted_by, Revisions.value_of}
+use Rattle.bolt_etcd.specs.{Store.Compacted.compacted_by, Wire.Revisions.value_of}
 use Rattle.bolt_repair.specs.Readable.{is_readable, readable}
 use Rattle.bolt_repair.specs.Repaired.{IsRepair, IsRepaired, Made, MakesMeta, MakesStore, elements_on, repaired_listing}
 use Rattle.bolt_repair.specs.Repairs.{AreBack, IsCompactedAt, compaction_path}
@@ -19,10 +20,13 @@ view_total = on_total (λ (e : EntryView). e.key) key_total
 pub readable_rises : (listing : List Member) → Rises member_cmp listing → Rises member_cmp (readable listing)
 readable_rises listing rises = filter_rises member_cmp (λ (m : Member). is_readable m.0 m.1) listing rises
 
-one_back : (compacted : ℕ) (recovered : List Member) (found : List LeafElement) (a b : List EntryView) → AreBack compacted recovered found a → AreBack compacted recovered found b → a ≡ b
-one_back compacted recovered found a b h k = rises_once view_total a b h.rises k.rises (λ e has. (k.exact e).1 ((h.exact e).0 has)) (λ e has. (h.exact e).1 ((k.exact e).0 has))
+one_back : (compacted : ℕ) (recovered : List Member) (found : List LeafElement) (a b : List EntryView) → AreBack compacted recovered found a
+    → AreBack compacted recovered found b → a ≡ b
+one_back compacted recovered found a b h k =
+    rises_once view_total a b h.rises k.rises (λ e has. (k.exact e).1 ((h.exact e).0 has)) (λ e has. (h.exact e).1 ((k.exact e).0 has))
 
-pub member_once : (listing : List Member) → Rises member_cmp listing → (path : Path) (a b : Item) → Contains listing (path, a) → Contains listing (path, b) → a ≡ b
+pub member_once : (listing : List Member) → Rises member_cmp listing → (path : Path) (a b : Item) → Contains listing (path, a)
+    → Contains listing (path, b) → a ≡ b
 member_once listing rises path a b h k = ap (λ (x : Member). x.1) (one_of path_total (λ (x : Member). x.0) listing (path, a) (path, b) rises h k refl)
 
 pub one_compacted : (recovered : List Member) → Rises member_cmp recovered → (n m : ℕ) → IsCompactedAt recovered n → IsCompactedAt recovered m → n ≡ m
@@ -45,7 +49,8 @@ one_meta recovered true false h k = absurd (h k)
 one_meta recovered false true h k = absurd (k h)
 one_meta recovered false false h k = refl
 
-module _ (file : List ℕ) (meta : Meta) (search : Bool) (x y : List EntryView) (p q : Made) (h : IsRepair file meta search x p) (k : IsRepair file meta search y q)
+module _ (file : List ℕ) (meta : Meta) (search : Bool) (x y : List EntryView) (p q : Made) (h : IsRepair file meta search x p)
+    (k : IsRepair file meta search y q)
     (found_one : AtMostOne (AreSought file meta search)) where
   same_recovered : h.recovered ≡ k.recovered
   same_recovered = one_recovered file meta h.recovered k.recovered h.recovers k.recovers
@@ -84,19 +89,23 @@ module _ (file : List ℕ) (meta : Meta) (search : Bool) (x y : List EntryView) 
       ∙ ap (λ (made : Made). repaired_listing k.recovered made y) same_made
 
 pub one_repaired : (file : List ℕ) (meta : Meta) (search : Bool) → AtMostOne (AreSought file meta search) → AtMostOne (IsRepaired file meta search)
-one_repaired file meta search found_one a b h k = h.repaired ∙ same_repaired file meta search h.back k.back h.made k.made h.repair k.repair found_one ∙ sym k.repaired
+one_repaired file meta search found_one a b h k =
+    h.repaired ∙ same_repaired file meta search h.back k.back h.made k.made h.repair k.repair found_one ∙ sym k.repaired
 
 -- the merge of what is recovered and what goes back is the repaired listing
-pub merged_repaired : (file : List ℕ) (meta : Meta) (search : Bool) → AtMostOne (AreSought file meta search) → (recovered : List Member) → IsRecovered file meta recovered → (back : List EntryView) (made : Made)
+pub merged_repaired : (file : List ℕ) (meta : Meta) (search : Bool) → AtMostOne (AreSought file meta search) → (recovered : List Member)
+    → IsRecovered file meta recovered → (back : List EntryView) (made : Made)
     → IsRepair file meta search back made → (listing : List Member) → IsRepaired file meta search listing → repaired_listing recovered made back ≡ listing
 merged_repaired file meta search found_one recovered recovers back made repair listing is =
     ap (λ (ms : List Member). repaired_listing ms made back) (one_recovered file meta recovered repair.recovered recovers repair.recovers)
-    ∙ one_repaired file meta search found_one (repaired_listing repair.recovered made back) listing (record { back = back; made = made; repair = repair; repaired = refl }) is
+    ∙ one_repaired file meta search found_one (repaired_listing repair.recovered made back) listing
+    (record { back = back; made = made; repair = repair; repaired = refl }) is
 
 -- ---- what is searched for in any case
 
 module _ (file : List ℕ) (meta : Meta) (anyway : (found : List ℕ) → AreFound file meta found → AreFoundAnyway file meta found) (listing : List Member) where
-  sought_as : (search other : Bool) → ((found : List ℕ) → AreSought file meta search found → AreSought file meta other found) → IsRepaired file meta search listing
+  sought_as : (search other : Bool) → ((found : List ℕ) → AreSought file meta search found → AreSought file meta other found)
+      → IsRepaired file meta search listing
       → IsRepaired file meta other listing
   sought_as search other same is =
       let r = is.repair in
@@ -120,7 +129,8 @@ module _ (file : List ℕ) (meta : Meta) (anyway : (found : List ℕ) → AreFou
   pub search_is : IsRepaired file meta false listing → IsRepaired file meta true listing
   search_is is = sought_as false true anyway is
 
-  pub search_was : ((search : Bool) → AtMostOne (AreSought file meta search)) → ((search : Bool) → (found : List ℕ) × AreSought file meta search found) → IsRepaired file meta true listing
+  pub search_was : ((search : Bool) → AtMostOne (AreSought file meta search))
+      → ((search : Bool) → (found : List ℕ) × AreSought file meta search found) → IsRepaired file meta true listing
       → IsRepaired file meta false listing
   search_was one some is = sought_as true false (λ found sought.
       let (other, are) = some false in

@@ -1,13 +1,17 @@
 -- Which paths lead into the bucket of the revisions.
-use Rattle.std.proofs.Common.{◌≡◌, ◌∙◌, ◌⊎◌, ◌&&◌, ◌≤◌, inl, inr, ℕ, zero, suc, Bool, true, false, cond, List, [], ◌∷◌, ◌++◌, Option, Some, None, ap, append_assoc, arith, codes, is_none, length, not, refl, subst, sym}
-use Rattle.std.proofs.{Math.Bool.and-false, lemmas.Bool.false_from_ne_true, lemmas.List.append-nil, lemmas.List.length-append, lemmas.List.same_from_push}
+use Rattle.std.proofs.Common.{◌≡◌, ◌∙◌, ◌⊎◌, ◌&&◌, ◌≤◌, inl, inr, ℕ, zero, suc, Bool, true, false, cond, List, [], ◌∷◌, ◌++◌, Option, Some, None, ap}
+use Rattle.std.proofs.Common.{append_assoc, arith, codes, is_none, length, not, refl, subst, sym}
+use Rattle.std.proofs.{Math.Bool.and-false, lemmas.Bool.false_from_ne_true, lemmas.List.append-nil, lemmas.List.length-append}
+use Rattle.std.proofs.{lemmas.List.same_from_push}
 use Rattle.std.specs.{Cmp.Lexicographic.same_text, List.Contains, Ordering.ordering_then, Str.bytes_eq, declared.cmp.Ordering.Ordering}
 use Rattle.std.specs.declared.cmp.Ordering.TheVariants.{Equal, Greater, Less}
 use Rattle.bolt_check.specs.Keys.{Key, key_cmp}
 use Rattle.bolt_tree.proofs.Exports.{before_longer, flip_less, key_exact, key_total}
-use Rattle.bolt_tree.specs.{Entries.Bucket, Entries.EntryView, Entries.Item, Listing.Member, Merges.HasBucket, Merges.HaveParents, Paths.Path, Paths.path_cmp}
-use Rattle.bolt_etcd.specs.{Others.OtherView, Others.other_of, Revisions.RevisionView, Revisions.revision_of}
-use Rattle.bolt_repair.specs.{Readable.is_below, Readable.is_readable, Readable.unread_at, Readable.unread_in, Repairs.compaction_path, Repairs.meta_path, Repairs.store_path, StorePaths.is_near}
+use Rattle.bolt_tree.specs.{Entries.Bucket, Entries.EntryView, Entries.Item, Listing.Member, Merges.HasBucket, Merges.HaveParents, Paths.Path}
+use Rattle.bolt_tree.specs.{Paths.path_cmp}
+use Rattle.bolt_etcd.specs.{Wire.Others.OtherView, Wire.Others.other_of, Wire.Revisions.RevisionView, Wire.Revisions.revision_of}
+use Rattle.bolt_repair.specs.{Readable.is_in_inner_bucket, Readable.is_readable, Readable.unread_at, Readable.unread_in, Repairs.compaction_path}
+use Rattle.bolt_repair.specs.{Repairs.meta_path, Repairs.store_path, StorePaths.is_near}
 
 abbrev pub store : Key
 store = codes "key"
@@ -29,20 +33,20 @@ not_unread (bucket ∷ key ∷ []) item never =
 not_unread (bucket ∷ key ∷ more ∷ path) item never = refl
 
 -- what is neither such an entry nor below one
-pub readable_if : (path : Path) (item : Item) → unread_at path item ≡ None → is_below path ≡ false → is_readable path item ≡ true
-readable_if path item none above = ap (λ (o : Option OtherView). is_none o && not (is_below path)) none ∙ ap not above
+pub readable_if : (path : Path) (item : Item) → unread_at path item ≡ None → is_in_inner_bucket path ≡ false → is_readable path item ≡ true
+readable_if path item none above = ap (λ (o : Option OtherView). is_none o && not (is_in_inner_bucket path)) none ∙ ap not above
 
-pub unreadable_below : (path : Path) (item : Item) → is_below path ≡ true → is_readable path item ≡ false
+pub unreadable_below : (path : Path) (item : Item) → is_in_inner_bucket path ≡ true → is_readable path item ≡ false
 unreadable_below path item below = ap (λ (b : Bool). is_none (unread_at path item) && not b) below ∙ and-false (is_none (unread_at path item))
 
-pub none_below : (path : Path) (item : Item) → is_below path ≡ true → unread_at path item ≡ None
+pub none_below : (path : Path) (item : Item) → is_in_inner_bucket path ≡ true → unread_at path item ≡ None
 none_below [] item below = refl
 none_below (bucket ∷ []) item below = refl
 none_below (bucket ∷ key ∷ []) item below = cc
 none_below (bucket ∷ key ∷ more ∷ path) item below = refl
 
-pub meta_below : (path : Path) → is_below path ≡ true → path ≡ meta_path → ⊥
-meta_below path below at = let wrong : is_below meta_path ≡ true = sym (ap is_below at) ∙ below in cc
+pub meta_below : (path : Path) → is_in_inner_bucket path ≡ true → path ≡ meta_path → ⊥
+meta_below path below at = let wrong : is_in_inner_bucket meta_path ≡ true = sym (ap is_in_inner_bucket at) ∙ below in cc
 
 -- such a path begins with the name of the bucket
 pub unreadable_in : (path : Path) (item : Item) → is_readable path item ≡ false → (key : Key) × (rest : Path) × (path ≡ store ∷ key ∷ rest)
@@ -64,8 +68,12 @@ unreadable_in (bucket ∷ key ∷ more ∷ path) item is = by (bytes_eq bucket s
 
 -- ---- paths beside that of the bucket
 
-by_key : (b : Key) (t rest : Path) (o : Ordering) → key_cmp store b ≡ o → ordering_then o (path_cmp [] t) ≡ Less → path_cmp (b ∷ t) (store ∷ rest) ≡ Less → b ≡ store
-by_key b t rest Less is less more = let turned = flip_less key_total store b is in let wrong : Greater ≡ Less = sym (ap (λ (o : Ordering). ordering_then o (path_cmp t rest)) turned) ∙ more in cc
+by_key : (b : Key) (t rest : Path) (o : Ordering) → key_cmp store b ≡ o → ordering_then o (path_cmp [] t) ≡ Less
+    → path_cmp (b ∷ t) (store ∷ rest) ≡ Less → b ≡ store
+by_key b t rest Less is less more =
+    let turned = flip_less key_total store b is in
+    let wrong : Greater ≡ Less = sym (ap (λ (o : Ordering). ordering_then o (path_cmp t rest)) turned) ∙ more in
+    cc
 by_key b t rest Equal is less more = sym (key_exact store b is)
 by_key b t rest Greater is less more = cc
 
@@ -81,7 +89,8 @@ near_if (key ∷ more ∷ path) item is = cc
 pub near_after : (path : Path) → is_near path ≡ true → (path ≡ store_path) ⊎ (path_cmp store_path path ≡ Less)
 near_after [] is = cc
 near_after (bucket ∷ []) is = inl (ap (λ (k : Key). k ∷ []) (named bucket is))
-near_after (bucket ∷ key ∷ []) is = inr (subst (λ (k : Key). path_cmp store_path (k ∷ key ∷ []) ≡ Less) (sym (named bucket is)) (before_longer store_path key []))
+near_after (bucket ∷ key ∷ []) is =
+    inr (subst (λ (k : Key). path_cmp store_path (k ∷ key ∷ []) ≡ Less) (sym (named bucket is)) (before_longer store_path key []))
 near_after (bucket ∷ key ∷ more ∷ path) is = cc
 
 pub near_there : (path : Path) → path ≡ store_path → is_near path ≡ true
@@ -93,10 +102,11 @@ near_entry path key at = ap is_near at
 pub not_near : (path : Path) → (path ≡ store_path → ⊥) → ((key : Key) → path ≡ store_path ++ key ∷ [] → ⊥) → is_near path ≡ false
 not_near [] no_bucket no_entry = refl
 not_near (bucket ∷ []) no_bucket no_entry = false_from_ne_true (bytes_eq bucket store) (λ is. no_bucket (ap (λ (k : Key). k ∷ []) (named bucket is)))
-not_near (bucket ∷ key ∷ []) no_bucket no_entry = false_from_ne_true (bytes_eq bucket store) (λ is. no_entry key (ap (λ (k : Key). k ∷ key ∷ []) (named bucket is)))
+not_near (bucket ∷ key ∷ []) no_bucket no_entry =
+    false_from_ne_true (bytes_eq bucket store) (λ is. no_entry key (ap (λ (k : Key). k ∷ key ∷ []) (named bucket is)))
 not_near (bucket ∷ key ∷ more ∷ path) no_bucket no_entry = refl
 
-pub not_near_below : (path : Path) → is_below path ≡ true → is_near path ≡ false
+pub not_near_below : (path : Path) → is_in_inner_bucket path ≡ true → is_near path ≡ false
 not_near_below [] below = refl
 not_near_below (bucket ∷ []) below = cc
 not_near_below (bucket ∷ key ∷ []) below = cc
@@ -114,28 +124,37 @@ module _ (listing : List Member) (parents : HaveParents listing listing) where
 
   -- each bucket that a path goes through, if it is no longer than this
   abbrev Leads : ℕ → Type 0
-  Leads n = (path : Path) (item : Item) → length path ≤ n → Contains listing (path, item) → (front : Path) (k : Key) (rest : Path) → path ≡ front ++ k ∷ rest → (front ≡ [] → ⊥) → HasBucketAt front
+  Leads n =
+      (path : Path) (item : Item) → length path ≤ n → Contains listing (path, item) → (front : Path) (k : Key) (rest : Path) → path ≡ front ++ k ∷ rest
+      → (front ≡ [] → ⊥) → HasBucketAt front
 
-  from_above : (n : ℕ) → Leads n → (front init above : Path) → (front ≡ [] → ⊥) → front ++ init ≡ above → length above ≤ n → HasBucket listing above → HasBucketAt front
+  from_above : (n : ℕ) → Leads n → (front init above : Path) → (front ≡ [] → ⊥) → front ++ init ≡ above → length above ≤ n → HasBucket listing above
+      → HasBucketAt front
   from_above n again front [] above some same short (inl none) = absurd (some (sym (append-nil front) ∙ same ∙ none))
-  from_above n again front [] above some same short (inr (sequence, there)) = (sequence, subst (λ (p : Path). Contains listing (p, Bucket sequence)) (sym same ∙ append-nil front) there)
-  from_above n again front (k ∷ init) above some same short (inl none) = absurd (let long = ap length (same ∙ none) in let more = length-append front (k ∷ init) in omega (arith, long, more))
+  from_above n again front [] above some same short (inr (sequence, there)) =
+      (sequence, subst (λ (p : Path). Contains listing (p, Bucket sequence)) (sym same ∙ append-nil front) there)
+  from_above n again front (k ∷ init) above some same short (inl none) =
+      absurd (let long = ap length (same ∙ none) in let more = length-append front (k ∷ init) in omega (arith, long, more))
   from_above n again front (k ∷ init) above some same short (inr (sequence, there)) = again above (Bucket sequence) short there front k init (sym same) some
 
   leads : (n : ℕ) → Leads n
-  leads zero path item short has front k rest is some = absurd (let long = ap length is in let more = length-append front (k ∷ rest) in omega (arith, long, more, short))
+  leads zero path item short has front k rest is some =
+      absurd (let long = ap length is in let more = length-append front (k ∷ rest) in omega (arith, long, more, short))
   leads (suc n) path item short has front k rest is some =
       let (above, last, at, bucket) = parents (path, item) has in
       let (init, end, split) = init_of k rest in
-      let whole : (front ++ init) ++ end ∷ [] ≡ above ++ last ∷ [] = append_assoc front init (end ∷ []) ∙ ap (λ (p : Path). front ++ p) (sym split) ∙ sym is ∙ at in
+      let whole : (front ++ init) ++ end ∷ [] ≡ above ++ last ∷ [] =
+      append_assoc front init (end ∷ []) ∙ ap (λ (p : Path). front ++ p) (sym split) ∙ sym is ∙ at in
       let long = ap length at in
       let more = length-append above (last ∷ []) in
       from_above n (leads n) front init above some (same_from_push (front ++ init) above end last whole).0 (omega (arith, long, more, short)) bucket
 
-  pub bucket_at : (path : Path) (item : Item) → Contains listing (path, item) → (front : Path) (k : Key) (rest : Path) → path ≡ front ++ k ∷ rest → (front ≡ [] → ⊥) → HasBucketAt front
+  pub bucket_at : (path : Path) (item : Item) → Contains listing (path, item) → (front : Path) (k : Key) (rest : Path) → path ≡ front ++ k ∷ rest
+      → (front ≡ [] → ⊥) → HasBucketAt front
   bucket_at path item has = leads (length path) path item (omega arith) has
 
-  pub has_store : (path : Path) (item : Item) → Contains listing (path, item) → is_readable path item ≡ false → (i : Item) × Contains listing (store_path, i)
+  pub has_store : (path : Path) (item : Item) → Contains listing (path, item) → is_readable path item ≡ false
+      → (i : Item) × Contains listing (store_path, i)
   has_store path item has is =
       let (key, rest, at) = unreadable_in path item is in
       let (sequence, there) = bucket_at path item has store_path key rest at (λ e. cc) in
@@ -147,7 +166,7 @@ unreadable_above above k item inner is =
     let (key, rest, at) = unreadable_in above item is in
     ap (λ (p : Path). is_readable (p ++ k ∷ []) inner) at ∙ unreadable_below (store ∷ key ∷ rest ++ k ∷ []) inner (deep key rest k)
   where
-    deep : (key : Key) (rest : Path) (k : Key) → is_below (store ∷ key ∷ rest ++ k ∷ []) ≡ true
+    deep : (key : Key) (rest : Path) (k : Key) → is_in_inner_bucket (store ∷ key ∷ rest ++ k ∷ []) ≡ true
     deep key [] k = refl
     deep key (next ∷ rest) k = refl
 
@@ -168,10 +187,12 @@ readable_meta path item at = (ap (λ (p : Path). is_readable p item) at, ap (λ 
 pub readable_compaction : (path : Path) (item : Item) → path ≡ compaction_path → (is_readable path item ≡ true) × (unread_at path item ≡ None)
 readable_compaction path item at = (ap (λ (p : Path). is_readable p item) at, ap (λ (p : Path). unread_at p item) at)
 
-pub readable_entry : (e : EntryView) → other_of e ≡ None → (is_readable (store_path ++ e.key ∷ []) e.item ≡ true) × (unread_at (store_path ++ e.key ∷ []) e.item ≡ None)
+pub readable_entry : (e : EntryView) → other_of e ≡ None
+    → (is_readable (store_path ++ e.key ∷ []) e.item ≡ true) × (unread_at (store_path ++ e.key ∷ []) e.item ≡ None)
 readable_entry e none = (ap (λ (o : Option OtherView). is_none o && true) none, none)
 
-pub unread_entry : (e : EntryView) (o : OtherView) → other_of e ≡ Some o → (is_readable (store_path ++ e.key ∷ []) e.item ≡ false) × (unread_at (store_path ++ e.key ∷ []) e.item ≡ Some o)
+pub unread_entry : (e : EntryView) (o : OtherView) → other_of e ≡ Some o
+    → (is_readable (store_path ++ e.key ∷ []) e.item ≡ false) × (unread_at (store_path ++ e.key ∷ []) e.item ≡ Some o)
 unread_entry e o is = (ap (λ (p : Option OtherView). is_none p && true) is, is)
 
 abbrev first_key : Path → Key

@@ -1,27 +1,35 @@
 -- Each file has a repaired listing, if the recovered listing has no value under the name of the bucket: whether an entry goes back can be decided.
-use Rattle.std.proofs.Common.{◌≡◌, ◌↔◌, ◌&&◌, ◌-◌, ◌++◌, ℕ, Bool, true, false, List, [], ◌∷◌, Option, Some, None, ap, codes, filter, length, map, not, refl, subst, sym}
+use Rattle.std.proofs.Common.{◌≡◌, ◌↔◌, ◌&&◌, ◌-◌, ◌++◌, ℕ, Bool, true, false, List, [], ◌∷◌, Option, Some, None, ap, codes, filter, length, map, not}
+use Rattle.std.proofs.Common.{refl, subst, sym}
 use Rattle.std.proofs.{lemmas.Cmp.tied_itself, lemmas.List.MinMax.ranks_by, lemmas.List.append-nil}
 use Rattle.std.specs.{List.Contains, List.dedup, Option.option_to_list, Ordering.is_lt, declared.cmp.Ordering.TheVariants.Equal}
 use Rattle.bolt_format.specs.{Elements.LeafElement, declared.meta.Meta.Meta}
 use Rattle.bolt_check.specs.Keys.{Key}
 use Rattle.bolt_recover.specs.{Found.AreSought, Recovered.IsRecovered}
 use Rattle.bolt_tree.proofs.Exports.{key_exact, key_total, kept_from, shows_from, shows_has}
-use Rattle.bolt_tree.specs.{Entries.Bucket, Entries.EntryView, Entries.Item, Entries.Value, Entries.entry_view, Listing.Member, Listing.member_cmp, Order.Rises, Paths.Path}
-use Rattle.bolt_etcd.specs.{Among.without, Compacted.compacted_by, Revisions.RevisionView, Revisions.revision_of}
+use Rattle.bolt_tree.specs.{Entries.Bucket, Entries.EntryView, Entries.Item, Entries.Value, Entries.entry_view, Listing.Member, Listing.member_cmp}
+use Rattle.bolt_tree.specs.{Order.Rises, Paths.Path}
+use Rattle.bolt_etcd.specs.{Store.Among.without, Store.Compacted.compacted_by, Wire.Revisions.RevisionView, Wire.Revisions.revision_of}
 use Rattle.bolt_repair.specs.Candidates.{AreCandidates, HasKey, candidates_in, is_candidate, is_same_entry, whole_cmp}
-use Rattle.bolt_repair.specs.{FullRepairs.IsFullRepair, FullRepairs.LacksStoreValue, Readable.is_readable, Readable.readable, Repaired.IsRepaired, Repaired.Made, Repaired.MakesMeta, Repaired.elements_on, Repaired.lacks_bucket, Repaired.repaired_listing}
-use Rattle.bolt_repair.specs.{Repairs.compaction_path, Repairs.meta_path, Repairs.store_path, RecoveredStores.ComesAfter, RecoveredStores.IsRecoveredStore, Undisputed.AreKeys, Undisputed.AreUndisputed}
+use Rattle.bolt_repair.specs.{FullRepairs.IsFullRepair, FullRepairs.LacksStoreValue, Readable.is_readable, Readable.readable, Repaired.IsRepaired}
+use Rattle.bolt_repair.specs.{Repaired.Made, Repaired.MakesMeta, Repaired.elements_on, Repaired.lacks_bucket, Repaired.repaired_listing}
+use Rattle.bolt_repair.specs.{Repairs.compaction_path, Repairs.meta_path, Repairs.store_path, RecoveredStores.ComesAfter}
+use Rattle.bolt_repair.specs.{RecoveredStores.IsRecoveredStore, Undisputed.AreKeys, Undisputed.AreUndisputed}
 use Rattle.bolt_repair.specs.WhatGoesBack.{ArePutBack, goes_back, old_revisions}
 use Rattle.bolt_etcd.proofs.Exports.{dec_each, dec_equal, dec_if, dec_key, dec_path, dec_some, newest_exists, sorted_exists}
-use Rattle.bolt_repair.proofs.{KeysAmong.without_has, OneRepair.readable_rises, OneRepair.view_total, SortedChoice.sorted_choice, SortedChoice.sorted_elements}
-use Rattle.bolt_repair.proofs.NotedMembers.{bucket_there, compaction_noted, key_not_wanted, key_noted, next_member, no_members_noted, nothing_there, store_noted}
-use Rattle.bolt_repair.proofs.{WholeOrder.merged_are_candidates, WholeOrder.same_whole, WholeOrder.whole_total, WholeRepairs.full_repair, WholeRepairs.is_nil}
+use Rattle.bolt_repair.proofs.{KeysAmong.without_has, OneRepair.readable_rises, OneRepair.view_total, SortedChoice.sorted_choice}
+use Rattle.bolt_repair.proofs.{SortedChoice.sorted_elements}
+use Rattle.bolt_repair.proofs.NotedMembers.{bucket_there, compaction_noted, key_not_wanted, key_noted, next_member, no_members_noted, nothing_there}
+use Rattle.bolt_repair.proofs.NotedMembers.{store_noted}
+use Rattle.bolt_repair.proofs.{WholeOrder.merged_are_candidates, WholeOrder.same_whole, WholeOrder.whole_total, WholeRepairs.full_repair}
+use Rattle.bolt_repair.proofs.{WholeRepairs.is_nil}
 
 -- ---- candidates, and keys
 
 candidates_exist : (elements : List LeafElement) → (es : List EntryView) × AreCandidates elements es
 candidates_exist elements =
-    let (sorted, moved, up) = sorted_exists (λ (a b : EntryView). is_lt (whole_cmp a b)) (ranks_by whole_total (λ (e : EntryView). e)) (candidates_in elements) in
+    let (sorted, moved, up) =
+    sorted_exists (λ (a b : EntryView). is_lt (whole_cmp a b)) (ranks_by whole_total (λ (e : EntryView). e)) (candidates_in elements) in
     (dedup is_same_entry sorted, merged_are_candidates elements sorted moved up)
 
 abbrev keys_of : List EntryView → List Key
@@ -45,20 +53,27 @@ module _ (es : List EntryView) (are : (e : EntryView) → Contains es e → is_c
   Alone e = (other : EntryView) → Contains es other → other.key ≡ e.key → whole_cmp other e ≡ Equal
 
   dec_alone : (e : EntryView) → Dec (Alone e)
-  dec_alone e = dec_each (λ (other : EntryView). other.key ≡ e.key → whole_cmp other e ≡ Equal) (λ other. dec_if (dec_key other.key e.key) (dec_equal (whole_cmp other e))) es
+  dec_alone e =
+      dec_each (λ (other : EntryView). other.key ≡ e.key → whole_cmp other e ≡ Equal)
+      (λ other. dec_if (dec_key other.key e.key) (dec_equal (whole_cmp other e))) es
 
   alone_one : (x y : EntryView) → Contains es x → Contains es y → Alone y → x.key ≡ y.key → x ≡ y
   alone_one x y has also alone same = same_whole x y (are x has) (are y also) (alone x has same)
 
   undisputed_exist : (undisputed : List EntryView) × AreUndisputed es undisputed
   undisputed_exist =
-      let (undisputed, rises, those) = sorted_choice view_total Alone dec_alone es (λ x y has _ also alone tied. alone_one x y has also alone (key_exact x.key y.key tied)) in (
+      let (undisputed, rises, those) =
+      sorted_choice view_total Alone dec_alone es (λ x y has _ also alone tied. alone_one x y has also alone (key_exact x.key y.key tied)) in (
         undisputed,
         record {
           rises = rises;
           exact = λ e. (
             λ has. let (there, alone) = (those e).0 has in (there, λ other also same. alone_one other e also there alone same),
-            λ (has, alone). (those e).1 (has, λ other also same. subst (λ (x : EntryView). whole_cmp x e ≡ Equal) (sym (alone other also same)) (tied_itself whole_total e)),
+            λ (has, alone).
+                (those e).1 (
+                  has,
+                  λ other also same. subst (λ (x : EntryView). whole_cmp x e ≡ Equal) (sym (alone other also same)) (tied_itself whole_total e),
+                ),
           );
         },
       )
@@ -67,7 +82,9 @@ module _ (es : List EntryView) (are : (e : EntryView) → Contains es e → is_c
 
 module _ (candidates : List EntryView) where
   abbrev HasRecoveredStore : List Member → Type 0
-  HasRecoveredStore ms = (under : Option Item) × (noted : Option (List ℕ)) × (revisions : List RevisionView) × (met : List Key) × IsRecoveredStore ms candidates under noted revisions met
+  HasRecoveredStore ms =
+      (under : Option Item) × (noted : Option (List ℕ)) × (revisions : List RevisionView) × (met : List Key)
+      × IsRecoveredStore ms candidates under noted revisions met
 
   dec_has_key : (key : Key) → Dec (HasKey candidates key)
   dec_has_key key = dec_some (λ (e : EntryView). e.key ≡ key) (λ e. dec_key e.key key) candidates
@@ -76,16 +93,20 @@ module _ (candidates : List EntryView) where
     abbrev Next : Type 0
     Next = HasRecoveredStore (before ++ (path, item) ∷ [])
 
-    elsewhere : HasRecoveredStore before → (path ≡ store_path → ⊥) → ((key : Key) → path ≡ store_path ++ key ∷ [] → ⊥) → (path ≡ compaction_path → ⊥) → Next
+    elsewhere : HasRecoveredStore before → (path ≡ store_path → ⊥) → ((key : Key) → path ≡ store_path ++ key ∷ [] → ⊥) → (path ≡ compaction_path → ⊥)
+        → Next
     elsewhere (under, noted, revisions, met, s) no_bucket no_entry no_compaction =
         (under, noted, revisions, met, nothing_there before path item after candidates under noted revisions met s no_bucket no_entry no_compaction)
 
     at_store : HasRecoveredStore before → path ≡ store_path → Next
-    at_store (under, noted, revisions, met, s) at = (Some item, noted, revisions, met, store_noted before path item after candidates under noted revisions met s at)
+    at_store (under, noted, revisions, met, s) at =
+        (Some item, noted, revisions, met, store_noted before path item after candidates under noted revisions met s at)
 
     at_compaction : HasRecoveredStore before → path ≡ compaction_path → (i : Item) → item ≡ i → Next
-    at_compaction (under, noted, revisions, met, s) at (Value value) is = (under, Some value, revisions, met, compaction_noted before path item after candidates under noted revisions met s value is at)
-    at_compaction (under, noted, revisions, met, s) at (Bucket sequence) is = (under, noted, revisions, met, bucket_there before path item after candidates under noted revisions met s sequence is at)
+    at_compaction (under, noted, revisions, met, s) at (Value value) is =
+        (under, Some value, revisions, met, compaction_noted before path item after candidates under noted revisions met s value is at)
+    at_compaction (under, noted, revisions, met, s) at (Bucket sequence) is =
+        (under, noted, revisions, met, bucket_there before path item after candidates under noted revisions met s sequence is at)
 
     at_entry : HasRecoveredStore before → (key : Key) → path ≡ store_path ++ key ∷ [] → Dec (HasKey candidates key) → Next
     at_entry (under, noted, revisions, met, s) key at (yes has) = (
@@ -103,20 +124,25 @@ module _ (candidates : List EntryView) where
       key_not_wanted before path item after candidates under noted revisions met s key at _ (λ e some. refl) never,
     )
 
-  by_bucket : (before : List Member) (bucket : Key) (item : Item) → ComesAfter before (bucket ∷ [], item) → HasRecoveredStore before → Dec (bucket ≡ codes "key") → HasRecoveredStore (before ++ (bucket ∷ [], item) ∷ [])
+  by_bucket : (before : List Member) (bucket : Key) (item : Item) → ComesAfter before (bucket ∷ [], item) → HasRecoveredStore before
+      → Dec (bucket ≡ codes "key") → HasRecoveredStore (before ++ (bucket ∷ [], item) ∷ [])
   by_bucket before bucket item after s (yes same) = at_store before (bucket ∷ []) item after s (ap (λ (k : Key). k ∷ []) same)
   by_bucket before bucket item after s (no never) = elsewhere before (bucket ∷ []) item after s (λ e. never cc) (λ key e. cc) (λ e. cc)
 
-  by_entry : (before : List Member) (bucket key : Key) (item : Item) → ComesAfter before (bucket ∷ key ∷ [], item) → HasRecoveredStore before → Dec (bucket ≡ codes "key")
+  by_entry : (before : List Member) (bucket key : Key) (item : Item) → ComesAfter before (bucket ∷ key ∷ [], item) → HasRecoveredStore before
+      → Dec (bucket ≡ codes "key")
       → Dec ((bucket ∷ key ∷ []) ≡ compaction_path) → HasRecoveredStore (before ++ (bucket ∷ key ∷ [], item) ∷ [])
-  by_entry before bucket key item after s (yes same) compaction = at_entry before (bucket ∷ key ∷ []) item after s key (ap (λ (k : Key). k ∷ key ∷ []) same) (dec_has_key key)
+  by_entry before bucket key item after s (yes same) compaction =
+      at_entry before (bucket ∷ key ∷ []) item after s key (ap (λ (k : Key). k ∷ key ∷ []) same) (dec_has_key key)
   by_entry before bucket key item after s (no never) (yes at) = at_compaction before (bucket ∷ key ∷ []) item after s at item refl
   by_entry before bucket key item after s (no never) (no other) = elsewhere before (bucket ∷ key ∷ []) item after s (λ e. cc) (λ k e. never cc) other
 
-  step : (before : List Member) (path : Path) (item : Item) → ComesAfter before (path, item) → HasRecoveredStore before → HasRecoveredStore (before ++ (path, item) ∷ [])
+  step : (before : List Member) (path : Path) (item : Item) → ComesAfter before (path, item) → HasRecoveredStore before
+      → HasRecoveredStore (before ++ (path, item) ∷ [])
   step before [] item after s = elsewhere before [] item after s (λ e. cc) (λ key e. cc) (λ e. cc)
   step before (bucket ∷ []) item after s = by_bucket before bucket item after s (dec_key bucket (codes "key"))
-  step before (bucket ∷ key ∷ []) item after s = by_entry before bucket key item after s (dec_key bucket (codes "key")) (dec_path (bucket ∷ key ∷ []) compaction_path)
+  step before (bucket ∷ key ∷ []) item after s =
+      by_entry before bucket key item after s (dec_key bucket (codes "key")) (dec_path (bucket ∷ key ∷ []) compaction_path)
   step before (bucket ∷ key ∷ more ∷ path) item after s = elsewhere before (bucket ∷ key ∷ more ∷ path) item after s (λ e. cc) (λ k e. cc) (λ e. cc)
 
   noted_on : (left before : List Member) → Rises member_cmp (before ++ left) → HasRecoveredStore before → HasRecoveredStore (before ++ left)
@@ -128,7 +154,8 @@ module _ (candidates : List EntryView) where
   store_exists : (recovered : List Member) → Rises member_cmp recovered → HasRecoveredStore recovered
   store_exists recovered rises = noted_on recovered [] rises (None, None, [], [], no_members_noted candidates)
 
-put_back_exists : (compacted : ℕ) (kept : List RevisionView) (agreed : List EntryView) → (back : List EntryView) × ArePutBack compacted kept agreed back
+put_back_exists : (compacted : ℕ) (kept : List RevisionView) (agreed : List EntryView)
+    → (back : List EntryView) × ArePutBack compacted kept agreed back
 put_back_exists compacted kept agreed =
     let (newest, are) = newest_exists (old_revisions compacted kept agreed) in
     (filter (goes_back compacted newest) agreed, record { newest = newest; are = λ own. (are own).exact; is = refl })
@@ -148,7 +175,8 @@ meta_made recovered = by (dec_some (λ (m : Member). m.0 ≡ meta_path) (λ m. d
 
 -- ---- the repair
 
-module _ (file : List ℕ) (meta : Meta) (search : Bool) (found : List ℕ) (are_found : AreSought file meta search found) (recovered : List Member) (recovers : IsRecovered file meta recovered)
+module _ (file : List ℕ) (meta : Meta) (search : Bool) (found : List ℕ) (are_found : AreSought file meta search found) (recovered : List Member)
+    (recovers : IsRecovered file meta recovered)
     (lacks_value : LacksStoreValue recovered) where
   pub has_full_repair : (back : List EntryView) × (made : Made) × (left_out : ℕ) × IsFullRepair file meta search back made left_out
   has_full_repair =
@@ -159,12 +187,15 @@ module _ (file : List ℕ) (meta : Meta) (search : Bool) (found : List ℕ) (are
       let (agreed, agree) = undisputed_exist left (λ e has.
       (kept_from is_candidate (map entry_view (elements_on file meta found)) e ((candidates.exact e).0 ((without_has met all e).0 has).0)).1) in
       let (back, put) = put_back_exists (compacted_by noted) revisions agreed in
-      let (lacks, is_lacking) = lacks_or_has under (λ value e. lacks_value value (kept_from (λ (m : Member). is_readable m.0 m.1) recovered (store_path, Value value) ((store.bucket (Value value)).1 e)).0) in
+      let (lacks, is_lacking) =
+      lacks_or_has under (λ value e.
+      lacks_value value (kept_from (λ (m : Member). is_readable m.0 m.1) recovered (store_path, Value value) ((store.bucket (Value value)).1 e)).0) in
       let (meta_is_made, makes) = meta_made recovered in (
         back,
         record { store = lacks && not (is_nil back); meta = meta_is_made },
         length keys - length back,
-        full_repair file meta search found are_found all agreed back met under noted revisions candidates agree recovered recovers store put meta_is_made makes lacks is_lacking _ refl keys are_keys _ refl,
+        full_repair file meta search found are_found all agreed back met under noted revisions candidates agree recovered recovers store put meta_is_made
+            makes lacks is_lacking _ refl keys are_keys _ refl,
       )
 
   pub has_repaired : (listing : List Member) × IsRepaired file meta search listing

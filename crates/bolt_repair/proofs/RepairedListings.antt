@@ -3,9 +3,14 @@ use Rattle.std.proofs.Common.{◌≡◌, ◌∙◌, inl, inr, ℕ, Bool, true, f
 use Rattle.std.specs.List.{Contains}
 use Rattle.bolt_format.specs.{Elements.LeafElement, declared.meta.Meta.Meta}
 use Rattle.bolt_check.specs.Keys.{Key}
-use Rattle.bolt_tree.specs.{Entries.Bucket, Entries.EntryView, Entries.Item, InBuckets.entry_in, InBuckets.members_in, Listing.Member, Listing.member_cmp, Merges.AreApart, Merges.HasParent, Merges.HaveParents, Merges.merge, Order.Rises, Paths.Path, Tree.Tree, Tree.listing_of, Tree.tree_of}
-use Rattle.bolt_tree.proofs.Exports.{entry_of, kept, kept_from, members_have_parents, members_rise, tree_has_parents, contains_cases, contains_head, contains_none, merge_bucket, merge_members, merge_parents, merge_rises, path_exact, parented_tree}
-use Rattle.bolt_repair.specs.{Readable.is_readable, Readable.readable, Repaired.IsRepair, Repaired.IsRepaired, Repaired.Made, Repaired.MakesMeta, Repaired.MakesStore, Repaired.elements_on, Repaired.repaired_listing, Repairs.AreBack, Repairs.meta_path, Repairs.store_path}
+use Rattle.bolt_tree.specs.{Entries.Bucket, Entries.EntryView, Entries.Item, InBuckets.entry_in, InBuckets.members_in, Listing.Member}
+use Rattle.bolt_tree.specs.{Listing.member_cmp, Merges.AreApart, Merges.HasParent, Merges.HaveParents, Merges.merge, Order.Rises, Paths.Path}
+use Rattle.bolt_tree.specs.{Tree.Tree, Tree.listing_of, Tree.tree_of}
+use Rattle.bolt_tree.proofs.Exports.{entry_of, kept, kept_from, members_have_parents, members_rise, tree_has_parents, contains_cases, contains_head}
+use Rattle.bolt_tree.proofs.Exports.{contains_none, merge_bucket, merge_members, merge_parents, merge_rises, path_exact, parented_tree}
+use Rattle.bolt_repair.specs.{Readable.is_readable, Readable.readable, Repaired.IsRepair, Repaired.IsRepaired, Repaired.Made, Repaired.MakesMeta}
+use Rattle.bolt_repair.specs.{Repaired.MakesStore, Repaired.elements_on, Repaired.repaired_listing, Repairs.AreBack, Repairs.meta_path}
+use Rattle.bolt_repair.specs.{Repairs.store_path}
 use Rattle.bolt_repair.proofs.{OneRepair.readable_rises, ReadablePaths.entry_no_meta, ReadablePaths.store_no_meta, ReadablePaths.unreadable_above}
 
 -- what is read, with what goes back in its bucket
@@ -32,13 +37,16 @@ module _ (recovered : List Member) (found : List LeafElement) (compacted : ℕ) 
     | inr later ↦ no_entry x y has (entry_of store_path back y later) (path_exact x.0 y.0 tied)
   ]
 
-  pub back_rises : (is_made : Bool) → MakesStore recovered back is_made → Rises member_cmp recovered → Rises member_cmp (with_back recovered is_made back)
-  back_rises is_made makes rises = merge_rises recovered (members_in is_made store_path back) rises (members_rise is_made store_path back are.rises) (apart is_made makes)
+  pub back_rises : (is_made : Bool) → MakesStore recovered back is_made → Rises member_cmp recovered
+      → Rises member_cmp (with_back recovered is_made back)
+  back_rises is_made makes rises =
+      merge_rises recovered (members_in is_made store_path back) rises (members_rise is_made store_path back are.rises) (apart is_made makes)
 
 -- ---- the places
 
 module _ (recovered : List Member) where
-  parents_back : (back : List EntryView) (is_made : Bool) → MakesStore recovered back is_made → HaveParents (with_back recovered is_made back) (members_in is_made store_path back)
+  parents_back : (back : List EntryView) (is_made : Bool) → MakesStore recovered back is_made
+      → HaveParents (with_back recovered is_made back) (members_in is_made store_path back)
   parents_back [] true makes = absurd makes
   parents_back [] false makes = λ m has. absurd (contains_none m has)
   parents_back (e ∷ back) true makes =
@@ -48,19 +56,29 @@ module _ (recovered : List Member) where
       (λ made. ([], codes "key", refl, inl refl))
   parents_back (e ∷ back) false (sequence, has) =
       let more = members_in false store_path (e ∷ back) in
-      members_have_parents (merge recovered more) false store_path (e ∷ back) (merge_bucket recovered more store_path (inr (sequence, has))) (λ made. absurd (cc))
+      members_have_parents (merge recovered more) false store_path (e ∷ back) (merge_bucket recovered more store_path (inr (sequence, has)))
+      (λ made. absurd (cc))
 
-  back_parents : (back : List EntryView) (is_made : Bool) → MakesStore recovered back is_made → HaveParents recovered recovered → HaveParents (with_back recovered is_made back) (with_back recovered is_made back)
+  back_parents : (back : List EntryView) (is_made : Bool) → MakesStore recovered back is_made → HaveParents recovered recovered
+      → HaveParents (with_back recovered is_made back) (with_back recovered is_made back)
   back_parents back is_made makes placed = merge_parents recovered (members_in is_made store_path back) placed (parents_back back is_made makes)
 
 -- what etcd can read has its parents
 pub readable_parents : (recovered : List Member) → HaveParents recovered recovered → HaveParents (readable recovered) (readable recovered)
 readable_parents recovered placed m has =
     let (there, is) = kept_from (λ (x : Member). is_readable x.0 x.1) recovered m has in
-    let (above, key, at, bucket) = placed m there in
-    (above, key, at, elim bucket [ inl none ↦ inl none | inr (sequence, parent) ↦ inr (sequence, read above key at sequence parent is (is_readable above (Bucket sequence)) refl) ])
+    let (above, key, at, bucket) = placed m there in (
+      above,
+      key,
+      at,
+      elim bucket [
+        | inl none ↦ inl none
+        | inr (sequence, parent) ↦ inr (sequence, read above key at sequence parent is (is_readable above (Bucket sequence)) refl)
+      ],
+    )
   where
-    read : (above : Path) (key : Key) → m.0 ≡ above ++ key ∷ [] → (sequence : ℕ) → Contains recovered (above, Bucket sequence) → is_readable m.0 m.1 ≡ true → (b : Bool) → is_readable above (Bucket sequence) ≡ b
+    read : (above : Path) (key : Key) → m.0 ≡ above ++ key ∷ [] → (sequence : ℕ) → Contains recovered (above, Bucket sequence)
+        → is_readable m.0 m.1 ≡ true → (b : Bool) → is_readable above (Bucket sequence) ≡ b
         → Contains (readable recovered) (above, Bucket sequence)
     read above key at sequence parent is true same = kept (λ (x : Member). is_readable x.0 x.1) recovered (above, Bucket sequence) parent same
     read above key at sequence parent is false same =
@@ -107,7 +125,9 @@ module _ (recovered : List Member) (back : List EntryView) (store meta : Bool) (
     | inr none ↦ absurd (contains_none m none)
   ]
 
-  pub meta_parents : HaveParents before before → HaveParents (repaired_listing recovered (record { store = store; meta = meta }) back) (repaired_listing recovered (record { store = store; meta = meta }) back)
+  pub meta_parents : HaveParents before before
+      → HaveParents (repaired_listing recovered (record { store = store; meta = meta }) back)
+      (repaired_listing recovered (record { store = store; meta = meta }) back)
   meta_parents placed = merge_parents before (members_in meta meta_path []) placed (meta_placed meta)
 
 -- ---- the repaired listing
@@ -116,16 +136,20 @@ module _ (file : List ℕ) (meta : Meta) (search : Bool) (back : List EntryView)
   pub repaired_rises : Rises member_cmp (repaired_listing is.recovered made back)
   repaired_rises =
       meta_rises is.recovered back made.store made.meta is.makes_meta
-      (back_rises (readable is.recovered) (elements_on file meta is.found) is.compacted back is.are_back made.store is.makes (readable_rises is.recovered is.recovers.rises))
+      (back_rises (readable is.recovered) (elements_on file meta is.found) is.compacted back is.are_back made.store is.makes
+      (readable_rises is.recovered is.recovers.rises))
 
-  pub repaired_parents : HaveParents is.recovered is.recovered → HaveParents (repaired_listing is.recovered made back) (repaired_listing is.recovered made back)
+  pub repaired_parents : HaveParents is.recovered is.recovered
+      → HaveParents (repaired_listing is.recovered made back) (repaired_listing is.recovered made back)
   repaired_parents placed =
-      meta_parents is.recovered back made.store made.meta is.makes_meta (back_parents (readable is.recovered) back made.store is.makes (readable_parents is.recovered placed))
+      meta_parents is.recovered back made.store made.meta is.makes_meta
+      (back_parents (readable is.recovered) back made.store is.makes (readable_parents is.recovered placed))
 
 pub parents_of : (listing : List Member) → (tree : Tree) × (listing ≡ listing_of tree) → HaveParents listing listing
 parents_of listing (tree, same) = subst (λ (ms : List Member). HaveParents ms ms) (sym same) (tree_has_parents tree)
 
-pub tree_of_repaired : (file : List ℕ) (meta : Meta) (search : Bool) (listing : List Member) (is : IsRepaired file meta search listing) → (tree : Tree) × (is.repair.recovered ≡ listing_of tree)
+pub tree_of_repaired : (file : List ℕ) (meta : Meta) (search : Bool) (listing : List Member) (is : IsRepaired file meta search listing)
+    → (tree : Tree) × (is.repair.recovered ≡ listing_of tree)
     → Rises member_cmp listing × ((tree : Tree) × (listing ≡ listing_of tree))
 tree_of_repaired file meta search listing is of =
     let repair = is.repair in

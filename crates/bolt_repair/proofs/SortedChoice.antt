@@ -1,8 +1,10 @@
 -- The elements of a list of which something holds, sorted by an order that tells them apart, each once.
 use Rattle.std.proofs.Common.{◌≡◌, ◌↔◌, List, filter, refl, subst, sym}
-use Rattle.std.proofs.{lemmas.Cmp.eq_by_cmp_equiv, lemmas.List.Kept.Any-dedup, lemmas.List.Kept.Contains-from_dedup, lemmas.List.Kept.IsStrictlySortedBy-dedup, lemmas.List.MinMax.ranks_by}
+use Rattle.std.proofs.{lemmas.Cmp.eq_by_cmp_equiv, lemmas.List.Kept.Any-dedup, lemmas.List.Kept.Contains-from_dedup}
+use Rattle.std.proofs.{lemmas.List.Kept.IsStrictlySortedBy-dedup, lemmas.List.MinMax.ranks_by}
 use Rattle.std.proofs.lemmas.List.Sorted.{Contains-permutation, IsPermutation-sym}
-use Rattle.std.specs.{Cmp.Equal-is, Cmp.IsTotalOrder, List.Contains, List.dedup, Ordering.eq_by_cmp, Ordering.is_lt, declared.cmp.Ordering.Ordering, declared.cmp.Ordering.TheVariants.Equal}
+use Rattle.std.specs.{Cmp.Equal-is, Cmp.IsTotalOrder, List.Contains, List.dedup, Ordering.eq_by_cmp, Ordering.is_lt, declared.cmp.Ordering.Ordering}
+use Rattle.std.specs.{declared.cmp.Ordering.TheVariants.Equal}
 use Rattle.bolt_tree.proofs.Exports.{kept, kept_from}
 use Rattle.bolt_tree.specs.Order.{Rises}
 use Rattle.bolt_etcd.proofs.Exports.{told, told_true, true_told, sorted_exists, rises_from}
@@ -31,6 +33,9 @@ module _ {A : Type 0} {cmp : A → A → Ordering} (total : IsTotalOrder cmp) wh
         → (ys : List A) × Rises cmp ys × ((y : A) → Contains ys y ↔ (Contains xs y × P y))
     sorted_choice xs exact =
         let holds = λ (x : A). told (dec x) in
-        let those : (y : A) → Contains (filter holds xs) y → Contains xs y × P y = λ y has. let (there, e) = kept_from holds xs y has in (there, told_true (dec y) e) in
-        let (ys, rises, are) = sorted_elements (filter holds xs) (λ x y has also. let (there, is) = those x has in let (here, holds_of) = those y also in exact x y there is here holds_of) in
+        let those : (y : A) → Contains (filter holds xs) y → Contains xs y × P y = λ y has. let (there, e) = kept_from holds xs y has in
+        (there, told_true (dec y) e) in
+        let (ys, rises, are) =
+        sorted_elements (filter holds xs)
+        (λ x y has also. let (there, is) = those x has in let (here, holds_of) = those y also in exact x y there is here holds_of) in
         (ys, rises, λ y. (λ has. those y ((are y).0 has), λ (has, is). (are y).1 (kept holds xs y has (true_told (dec y) is))))

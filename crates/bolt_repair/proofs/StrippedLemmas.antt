@@ -15,12 +15,14 @@ AreBeyond ms = (m : Member) → Contains ms m → path_cmp store_path m.0 ≡ Le
 abbrev FollowNear : Bool → List Member → Type 0
 FollowNear near ms = (m : Member) → Contains ms m → is_readable m.0 m.1 ≡ false → (near ≡ true) ⊎ ((item : Item) × Contains ms (store_path, item))
 
-near_between : (x : Member) (path : Path) → path_cmp store_path x.0 ≡ Less → path_cmp x.0 (store ∷ path) ≡ Less → is_readable x.0 x.1 ≡ true → is_near x.0 ≡ true
+near_between : (x : Member) (path : Path) → path_cmp store_path x.0 ≡ Less → path_cmp x.0 (store ∷ path) ≡ Less → is_readable x.0 x.1 ≡ true
+    → is_near x.0 ≡ true
 near_between x path after before is =
     let (tail, at) = between x.0 path after before in
     ap is_near at ∙ near_if tail x.1 (sym (ap (λ (p : Path). is_readable p x.1) at) ∙ is)
 
-module _ (near : Bool) (x : Member) (ms : List Member) (rises : Rises member_cmp (x ∷ ms)) (beyond : near ≡ true → AreBeyond (x ∷ ms)) (follow : FollowNear near (x ∷ ms)) where
+module _ (near : Bool) (x : Member) (ms : List Member) (rises : Rises member_cmp (x ∷ ms)) (beyond : near ≡ true → AreBeyond (x ∷ ms))
+    (follow : FollowNear near (x ∷ ms)) where
   beyond_next : is_near x.0 ≡ true → AreBeyond ms
   beyond_next is m has = elim (near_after x.0 is) [
     | inl at ↦ subst (λ (p : Path). path_cmp p m.0 ≡ Less) at (rises.0 m has)
@@ -45,7 +47,9 @@ module _ (near : Bool) (x : Member) (ms : List Member) (rises : Rises member_cmp
         let (key, rest, at) = unreadable_in x.0 x.1 unread in
         elim (contains_cases x (store_path, item) ms there) [
           | inl here ↦ let wrong : store_path ≡ store ∷ key ∷ rest = sym (ap (λ (y : Member). y.0) here) ∙ at in cc
-          | inr later ↦ absurd (asymmetric path_total store_path x.0 (subst (λ (p : Path). path_cmp store_path p ≡ Less) (sym at) (before_longer store_path key rest)) (rises.0 (store_path, item) later))
+          | inr later ↦
+              absurd (asymmetric path_total store_path x.0 (subst (λ (p : Path). path_cmp store_path p ≡ Less) (sym at) (before_longer store_path key rest))
+              (rises.0 (store_path, item) later))
         ]
   ]
 
@@ -55,7 +59,8 @@ strip_same near (x ∷ ms) rises beyond follow =
     by (is_readable x.0 x.1) refl (strip_same (is_near x.0) ms rises.1 (beyond_next near x ms rises beyond follow))
     (λ is. strip_same true ms rises.1 (λ f m has. beyond is m (contains_tail x m ms has)) (λ m has unread. inl refl))
   where
-    by : (b : Bool) → is_readable x.0 x.1 ≡ b → (FollowNear (is_near x.0) ms → strip (is_near x.0) ms ≡ readable ms) → (near ≡ true → strip true ms ≡ readable ms) → strip near (x ∷ ms) ≡ readable (x ∷ ms)
+    by : (b : Bool) → is_readable x.0 x.1 ≡ b → (FollowNear (is_near x.0) ms → strip (is_near x.0) ms ≡ readable ms)
+        → (near ≡ true → strip true ms ≡ readable ms) → strip near (x ∷ ms) ≡ readable (x ∷ ms)
     by true is again passed =
         ap (λ (b : Bool). cond (not near || b) (x ∷ strip (is_near x.0) ms) (strip true ms)) is
         ∙ ap (λ (b : Bool). cond b (x ∷ strip (is_near x.0) ms) (strip true ms)) (or-true (not near))

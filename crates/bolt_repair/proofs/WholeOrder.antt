@@ -2,16 +2,20 @@
 use Rattle.std.proofs.Common.{rules, arith, ◌≡◌, ◌∙◌, ◌&&◌, ℕ, Bool, true, List, map, Option, Some, None, false, refl, sym, ap, subst}
 use Rattle.std.proofs.lemmas.Bool.{and_parts, not-true}
 use Rattle.std.proofs.lemmas.Cmp.{and_equiv, nat_list_cmp_total, nat_list_eq_equiv, on_equiv, on_total, then_total}
-use Rattle.std.proofs.{lemmas.List.Kept.Any-dedup, lemmas.List.Kept.Contains-from_dedup, lemmas.List.Kept.IsStrictlySortedBy-dedup, lemmas.List.MinMax.ranks_by}
-use Rattle.std.proofs.{lemmas.List.Sorted.Contains-permutation, lemmas.List.Sorted.IsPermutation-map, lemmas.List.Sorted.IsPermutation-sym, lemmas.Map.Text.is_eq-slice_cmp}
+use Rattle.std.proofs.{lemmas.List.Kept.Any-dedup, lemmas.List.Kept.Contains-from_dedup, lemmas.List.Kept.IsStrictlySortedBy-dedup}
+use Rattle.std.proofs.{lemmas.List.MinMax.ranks_by}
+use Rattle.std.proofs.{lemmas.List.Sorted.Contains-permutation, lemmas.List.Sorted.IsPermutation-map, lemmas.List.Sorted.IsPermutation-sym}
+use Rattle.std.proofs.{lemmas.Map.Text.is_eq-slice_cmp}
 use Rattle.std.specs.{Cmp.IsEquivalence, Cmp.IsStrictWeakOrder, Cmp.IsTotalOrder, List.Contains, List.dedup}
-use Rattle.std.specs.{List.Sorted.IsPermutation, List.Sorted.IsSorted, List.Sorted.IsSortedBy, Ordering.eq_by_cmp, Ordering.is_eq, Ordering.is_lt, Ordering.ordering_then}
+use Rattle.std.specs.{List.Sorted.IsPermutation, List.Sorted.IsSorted, List.Sorted.IsSortedBy, Ordering.eq_by_cmp, Ordering.is_eq, Ordering.is_lt}
+use Rattle.std.specs.{Ordering.ordering_then}
 use Rattle.std.specs.{declared.cmp.Ordering.Ordering, declared.cmp.Ordering.TheVariants.Equal}
 use Rattle.bolt_format.specs.Elements.{LeafElement}
 use Rattle.bolt_check.specs.Keys.{Key}
 use Rattle.bolt_tree.specs.Entries.{EntryView, Item, Value, entry_view}
-use Rattle.bolt_etcd.specs.{ShownRevisions.entry_of, ShownRevisions.value_bytes, declared.revision.Revision.Revision, Misplaced.is_misplaced}
-use Rattle.bolt_etcd.specs.Revisions.{RevisionView, revision_in, revision_of, value_of}
+use Rattle.bolt_etcd.specs.{Wire.ShownRevisions.entry_of, Wire.ShownRevisions.value_bytes, declared.wire.revision.Revision.Revision}
+use Rattle.bolt_etcd.specs.{Check.Misplaced.is_misplaced}
+use Rattle.bolt_etcd.specs.Wire.Revisions.{RevisionView, revision_in, revision_of, value_of}
 use Rattle.bolt_repair.specs.Candidates.{AreCandidates, candidates_in, is_candidate, is_in_place, is_same_entry, whole_cmp}
 use Rattle.bolt_etcd.proofs.Exports.{bind_some, rises_from}
 use Rattle.bolt_tree.proofs.Exports.{dedup_mapped, sorted_mapped, kept_from}
@@ -66,7 +70,8 @@ module _ (elements : List LeafElement) (es : List EntryView) (moved : IsPermutat
   merged_has e has =
       let (k, other, lt, at, same) = Any-dedup same_equal es e has in
       let kept : Contains (dedup is_same_entry es) other = (k, lt, at) in
-      subst (Contains (dedup is_same_entry es)) (sym (same_candidates e other (passes e has) (passes other (Contains-from_dedup is_same_entry es other kept)) same)) kept
+      subst (Contains (dedup is_same_entry es))
+      (sym (same_candidates e other (passes e has) (passes other (Contains-from_dedup is_same_entry es other kept)) same)) kept
 
   pub merged_are_candidates : IsSorted whole_cmp es → AreCandidates elements (dedup is_same_entry es)
   merged_are_candidates up = record {
@@ -88,7 +93,8 @@ code_same a b = is_same_entry (entry_of a) (entry_of b)
 pub code_ranks : IsStrictWeakOrder code_whole
 code_ranks = ranks_by whole_total entry_of
 
-pub are_candidates : (elements : List LeafElement) (all sorted left : List Revision) → map entry_of all ≡ candidates_in elements → IsPermutation all sorted → IsSortedBy code_whole sorted
+pub are_candidates : (elements : List LeafElement) (all sorted left : List Revision) → map entry_of all ≡ candidates_in elements
+    → IsPermutation all sorted → IsSortedBy code_whole sorted
     → left ≡ dedup code_same sorted → AreCandidates elements (map entry_of left)
 are_candidates elements all sorted left are moved up once =
     let shown = ap (map entry_of) once ∙ dedup_mapped entry_of is_same_entry sorted in

@@ -1,23 +1,29 @@
 -- From what is found and what the recovered listing says of a store: what goes back, and how many keys are left out.
-use Rattle.std.proofs.Common.{◌≡◌, ◌↔◌, ◌∙◌, ◌⊎◌, ◌≤◌, ◌&&◌, ◌-◌, ◌++◌, inl, inr, ℕ, Bool, true, false, List, [], ◌∷◌, Option, Some, None, arith, length, map, nat_lt, not, refl, sym, ap, subst}
+use Rattle.std.proofs.Common.{◌≡◌, ◌↔◌, ◌∙◌, ◌⊎◌, ◌≤◌, ◌&&◌, ◌-◌, ◌++◌, inl, inr, ℕ, Bool, true, false, List, [], ◌∷◌, Option, Some, None, arith}
+use Rattle.std.proofs.Common.{length, map, nat_lt, not, refl, sym, ap, subst}
 use Rattle.std.proofs.lemmas.Bool.{lt-ltb, ltb-false, ltb-true, not-false, not-true, or_cases, or_left, or_right}
-use Rattle.std.proofs.{lemmas.List.length-map, lemmas.List.Elements.Contains-append_cases, lemmas.List.Elements.Contains-append_left, lemmas.List.Elements.Contains-append_right}
+use Rattle.std.proofs.{lemmas.List.length-map, lemmas.List.Elements.Contains-append_cases, lemmas.List.Elements.Contains-append_left}
+use Rattle.std.proofs.{lemmas.List.Elements.Contains-append_right}
 use Rattle.std.proofs.lemmas.Option.{same_Some}
 use Rattle.std.specs.List.{Contains, filter_map}
 use Rattle.bolt_format.specs.{Elements.LeafElement, declared.meta.Meta.Meta}
 use Rattle.bolt_check.specs.Keys.{Key, key_cmp}
 use Rattle.bolt_recover.specs.{Found.AreSought, Recovered.IsRecovered}
 use Rattle.bolt_tree.proofs.Exports.{kept, key_total, filter_rises, kept_from, gives_from, gives_has, shows_from, shows_has, fewer, rises_mapped}
-use Rattle.bolt_tree.specs.{Entries.Bucket, Entries.EntryView, Entries.Item, Entries.Value, Entries.entry_view, InBuckets.view_cmp, Listing.Member, Listing.member_cmp, Order.Rises}
-use Rattle.bolt_etcd.specs.{Among.without, Among.among, Compacted.compacted_by, Current.HaveOwnKeys, Current.IsNewest, Newest.is_until, Revisions.RevisionView, Revisions.revision_of}
-use Rattle.bolt_repair.specs.{Candidates.AreCandidates, Candidates.is_candidate, Candidates.is_in_place, FullRepairs.AreCandidateKeys, FullRepairs.IsFullRepair}
+use Rattle.bolt_tree.specs.{Entries.Bucket, Entries.EntryView, Entries.Item, Entries.Value, Entries.entry_view, InBuckets.view_cmp, Listing.Member}
+use Rattle.bolt_tree.specs.{Listing.member_cmp, Order.Rises}
+use Rattle.bolt_etcd.specs.{Store.Among.without, Store.Among.among, Store.Compacted.compacted_by, Store.Current.HaveOwnKeys, Store.Current.IsNewest}
+use Rattle.bolt_etcd.specs.{Store.Newest.is_until, Wire.Revisions.RevisionView, Wire.Revisions.revision_of}
+use Rattle.bolt_repair.specs.{Candidates.AreCandidates, Candidates.is_candidate, Candidates.is_in_place, FullRepairs.AreCandidateKeys}
+use Rattle.bolt_repair.specs.{FullRepairs.IsFullRepair}
 use Rattle.bolt_repair.specs.Readable.{is_readable, readable}
 use Rattle.bolt_repair.specs.Repaired.{IsRepair, MakesMeta, MakesStore, elements_on, lacks_bucket}
-use Rattle.bolt_repair.specs.Repairs.{AreBack, GoesBack, IsAgreed, IsCandidate, IsCompactedAt, IsKept, IsNewestUpTo, store_path}
+use Rattle.bolt_repair.specs.Repairs.{AreBack, GoesBack, IsAgreed, IsCandidate, IsCompactedAt, IsKeptRevision, IsNewestUpTo, store_path}
 use Rattle.bolt_repair.specs.{RecoveredStores.IsRecoveredStore, Undisputed.AreKeys, Undisputed.AreUndisputed}
 use Rattle.bolt_repair.specs.WhatGoesBack.{ArePutBack, goes_back, is_old, old_revisions}
 use Rattle.bolt_etcd.proofs.Exports.{stored_key_is, until_early}
-use Rattle.bolt_repair.proofs.{KeysAmong.among_has, KeysAmong.among_true, KeysAmong.without_has, OneRepair.member_once, OneRepair.readable_rises, WholeOrder.in_place, WholeOrder.same_view}
+use Rattle.bolt_repair.proofs.{KeysAmong.among_has, KeysAmong.among_true, KeysAmong.without_has, OneRepair.member_once, OneRepair.readable_rises}
+use Rattle.bolt_repair.proofs.{WholeOrder.in_place, WholeOrder.same_view}
 
 until_at : (compacted : ℕ) (r : RevisionView) → is_until compacted r ≡ true → r.key.main ≤ compacted
 until_at compacted r until = ltb-false compacted r.key.main (not-true (nat_lt compacted r.key.main) until)
@@ -33,7 +39,8 @@ value_under (Some (Value value)) none = (value, refl)
 
 -- ---- from elements
 
-module _ (recovered : List Member) (found : List LeafElement) (all : List EntryView) (met : List Key) (under : Option Item) (noted : Option (List ℕ)) (revisions : List RevisionView)
+module _ (recovered : List Member) (found : List LeafElement) (all : List EntryView) (met : List Key) (under : Option Item) (noted : Option (List ℕ))
+    (revisions : List RevisionView)
     (are : AreCandidates found all) (store : IsRecoveredStore recovered all under noted revisions met) where
   -- ---- candidates
 
@@ -58,7 +65,10 @@ module _ (recovered : List Member) (found : List LeafElement) (all : List EntryV
   candidate_to e r c =
       let there = subst (Contains (map entry_view found)) c.shows (shows_has entry_view found c.element c.is_found) in
       let passes : is_candidate e ≡ true = ap is_in_place c.is_revision ∙ ap not c.in_place in
-      (without_has met all e).1 ((are.exact e).1 (kept is_candidate (map entry_view found) e there passes), λ has. let (_, (item, kept_one)) = (store.met e.key).0 has in c.is_lost item kept_one)
+      (without_has met all e).1 (
+        (are.exact e).1 (kept is_candidate (map entry_view found) e there passes),
+        λ has. let (_, (item, kept_one)) = (store.met e.key).0 has in c.is_lost item kept_one,
+      )
 
   pub candidate_keys : (keys : List Key) → AreKeys (without met all) keys → AreCandidateKeys recovered found keys
   candidate_keys keys is = record {
@@ -79,7 +89,8 @@ module _ (recovered : List Member) (found : List LeafElement) (all : List EntryV
         (r, record { candidate = c; undisputed = λ other is also same. alone other (candidate_to other is also) same })
 
     agreed_to : (e : EntryView) (r : RevisionView) → IsAgreed recovered found e r → Contains agreed e
-    agreed_to e r is = (agree.exact e).1 (candidate_to e r is.candidate, λ other unmet same. let (s, c) = candidate_from other unmet in is.undisputed other s c same)
+    agreed_to e r is =
+        (agree.exact e).1 (candidate_to e r is.candidate, λ other unmet same. let (s, c) = candidate_from other unmet in is.undisputed other s c same)
 
     in_all : (e : EntryView) → Contains agreed e → Contains all e
     in_all e has = ((without_has met all e).0 ((agree.exact e).0 has).0).0
@@ -101,27 +112,37 @@ module _ (recovered : List Member) (found : List LeafElement) (all : List EntryV
 
       old_cases : (r : RevisionView) → Contains old r → IsOf r × (is_until compacted r ≡ true)
       old_cases r has =
-          let (there, until) = kept_from (is_until compacted) (revisions ++ filter_map revision_of agreed) r has in
-          (elim (Contains-append_cases revisions (filter_map revision_of agreed) r there) [ inl mine ↦ inl mine | inr other ↦ inr (gives_from revision_of agreed r other) ], until)
+          let (there, until) = kept_from (is_until compacted) (revisions ++ filter_map revision_of agreed) r has in (
+            elim (Contains-append_cases revisions (filter_map revision_of agreed) r there) [
+              | inl mine ↦ inl mine
+              | inr other ↦ inr (gives_from revision_of agreed r other)
+            ],
+            until,
+          )
 
       old_from : (r : RevisionView) → IsOf r → r.key.main ≤ compacted → Contains old r
-      old_from r (inl has) low = kept (is_until compacted) _ r (Contains-append_left revisions (filter_map revision_of agreed) r has) (until_early compacted r low)
+      old_from r (inl has) low =
+          kept (is_until compacted) _ r (Contains-append_left revisions (filter_map revision_of agreed) r has) (until_early compacted r low)
       old_from r (inr (e, has, is)) low =
-          kept (is_until compacted) _ r (Contains-append_right revisions (filter_map revision_of agreed) r (gives_has revision_of agreed e r has is)) (until_early compacted r low)
+          kept (is_until compacted) _ r (Contains-append_right revisions (filter_map revision_of agreed) r (gives_has revision_of agreed e r has is))
+          (until_early compacted r low)
 
-      lost : (e : EntryView) (r s : RevisionView) → Contains agreed e → revision_of e ≡ Some r → IsKept recovered s → s.stored_key ≡ r.stored_key → ⊥
+      lost : (e : EntryView) (r s : RevisionView) → Contains agreed e → revision_of e ≡ Some r → IsKeptRevision recovered s
+          → s.stored_key ≡ r.stored_key → ⊥
       lost e r s has is (x, there, also) same =
           let (_, agrees) = agreed_from e has in
           agrees.candidate.is_lost x.item (subst (λ (k : Key). Contains recovered (store_path ++ k ∷ [], x.item)) (same_keys x e s r also is same) there)
 
-      one_kept : (a b : RevisionView) → IsKept recovered a → IsKept recovered b → a.stored_key ≡ b.stored_key → a ≡ b
+      one_kept : (a b : RevisionView) → IsKeptRevision recovered a → IsKeptRevision recovered b → a.stored_key ≡ b.stored_key → a ≡ b
       one_kept a b (x, has, is) (y, there, also) same =
           let keys = same_keys x y a b is also same in
-          let items = member_once recovered rises (store_path ++ y.key ∷ []) x.item y.item (subst (λ (k : Key). Contains recovered (store_path ++ k ∷ [], x.item)) keys has) there in
+          let items =
+          member_once recovered rises (store_path ++ y.key ∷ []) x.item y.item
+          (subst (λ (k : Key). Contains recovered (store_path ++ k ∷ [], x.item)) keys has) there in
           same_revision x y a b (same_view x y keys items) is also
 
       module _ (e : EntryView) (has : Contains agreed e) where
-        are_kept : (r : RevisionView) → Contains revisions r ↔ IsKept recovered r
+        are_kept : (r : RevisionView) → Contains revisions r ↔ IsKeptRevision recovered r
         are_kept = store.kept e (in_all e has)
 
         one_of_key : (x : EntryView) (r s : RevisionView) → Contains agreed x → revision_of x ≡ Some r → IsOf s → s.stored_key ≡ r.stored_key → s ≡ r
@@ -175,7 +196,9 @@ module _ (recovered : List Member) (found : List LeafElement) (all : List EntryV
               r,
               is,
               elim (or_cases (not (is_old compacted (revision_of e))) (among stored_keys e.key) goes) [
-                | inl new ↦ inl (ltb-true compacted r.key.main (not-false (nat_lt compacted r.key.main) (sym (ap (is_old compacted) read) ∙ not-true (is_old compacted (revision_of e)) new)))
+                | inl new ↦
+                    inl (ltb-true compacted r.key.main
+                    (not-false (nat_lt compacted r.key.main) (sym (ap (is_old compacted) read) ∙ not-true (is_old compacted (revision_of e)) new)))
                 | inr one ↦
                     let (s, there, at) = shows_from (λ (x : RevisionView). x.stored_key) put.newest e.key (among_has stored_keys e.key one) in
                     let n = (put.are (own_keys e has) s).0 there in
@@ -190,9 +213,13 @@ module _ (recovered : List Member) (found : List LeafElement) (all : List EntryV
             let read = is.candidate.is_revision in (
               has,
               elim why [
-                | inl above ↦ or_left (not (is_old compacted (revision_of e))) (among stored_keys e.key) (ap (λ (o : Option RevisionView). not (is_old compacted o)) read ∙ ap (λ (b : Bool). not (not b)) (lt-ltb compacted r.key.main above))
+                | inl above ↦
+                    or_left (not (is_old compacted (revision_of e))) (among stored_keys e.key)
+                    (ap (λ (o : Option RevisionView). not (is_old compacted o)) read ∙ ap (λ (b : Bool). not (not b)) (lt-ltb compacted r.key.main above))
                 | inr n ↦ or_right (not (is_old compacted (revision_of e))) (among stored_keys e.key)
-                    (among_true stored_keys e.key (subst (Contains stored_keys) (stored_key_is e r read) (shows_has (λ (x : RevisionView). x.stored_key) put.newest r ((put.are (own_keys e has) r).1 (newest_to e has r read n)))))
+                    (among_true stored_keys e.key
+                    (subst (Contains stored_keys) (stored_key_is e r read)
+                    (shows_has (λ (x : RevisionView). x.stored_key) put.newest r ((put.are (own_keys e has) r).1 (newest_to e has r read n)))))
               ],
             )
 
@@ -204,7 +231,8 @@ module _ (recovered : List Member) (found : List LeafElement) (all : List EntryV
           rises = subst (Rises view_cmp) (sym put.is) (filter_rises view_cmp (goes_back compacted put.newest) agreed agree.rises);
           exact = λ e. (
             λ has. let (there, goes) = back_from e has in goes_from e there goes,
-            λ is. let (there, goes) = goes_to e is in subst (λ (es : List EntryView). Contains es e) (sym put.is) (kept (goes_back compacted put.newest) agreed e there goes),
+            λ is. let (there, goes) = goes_to e is in
+                subst (λ (es : List EntryView). Contains es e) (sym put.is) (kept (goes_back compacted put.newest) agreed e there goes),
           );
         }
 
@@ -212,7 +240,9 @@ module _ (recovered : List Member) (found : List LeafElement) (all : List EntryV
         pub back_fewer : (keys : List Key) → AreKeys (without met all) keys → length back ≤ length keys
         back_fewer keys is =
             let long = length-map back (λ (e : EntryView). e.key) in
-            let few = fewer key_total keys (map (λ (e : EntryView). e.key) back) (rises_mapped (λ (e : EntryView). e.key) key_cmp back are_back.rises) is.rises (λ key has.
+            let few =
+            fewer key_total keys (map (λ (e : EntryView). e.key) back) (rises_mapped (λ (e : EntryView). e.key) key_cmp back are_back.rises)
+            is.rises (λ key has.
             let (e, there, at) = shows_from (λ (e : EntryView). e.key) back key has in
             (is.exact key).1 (e, ((agree.exact e).0 (back_from e there).0).0, at)) in
             omega (arith, long, few)
@@ -234,7 +264,8 @@ module _ (recovered : List Member) (found : List LeafElement) (all : List EntryV
     pub makes : (back : List EntryView) → MakesStore recovered back (lacks && not (is_nil back))
     makes back = by under lacks refl is_lacking back
       where
-        by : (o : Option Item) (b : Bool) → under ≡ o → lacks_bucket o ≡ Some b → (entries : List EntryView) → MakesStore recovered entries (b && not (is_nil entries))
+        by : (o : Option Item) (b : Bool) → under ≡ o → lacks_bucket o ≡ Some b → (entries : List EntryView)
+            → MakesStore recovered entries (b && not (is_nil entries))
         by o true is some [] = tt
         by o false is some [] = tt
         by None true is some (e ∷ entries) = λ item has. let there = (store.bucket item).0 has in cc
@@ -245,15 +276,19 @@ module _ (recovered : List Member) (found : List LeafElement) (all : List EntryV
 
 -- ---- the repair of a file
 
-module _ (file : List ℕ) (meta : Meta) (search : Bool) (found : List ℕ) (are_found : AreSought file meta search found) (all agreed back : List EntryView) (met : List Key) (under : Option Item) (noted : Option (List ℕ)) (revisions : List RevisionView)
-    (candidates : AreCandidates (elements_on file meta found) all) (agree : AreUndisputed (without met all) agreed) (recovered : List Member) (recovers : IsRecovered file meta recovered)
+module _ (file : List ℕ) (meta : Meta) (search : Bool) (found : List ℕ) (are_found : AreSought file meta search found) (all agreed back : List EntryView)
+    (met : List Key) (under : Option Item) (noted : Option (List ℕ)) (revisions : List RevisionView)
+    (candidates : AreCandidates (elements_on file meta found) all) (agree : AreUndisputed (without met all) agreed) (recovered : List Member)
+    (recovers : IsRecovered file meta recovered)
     (store : IsRecoveredStore (readable recovered) all under noted revisions met) (put : ArePutBack (compacted_by noted) revisions agreed back)
     (meta_is_made : Bool) (makes_it : MakesMeta recovered meta_is_made) where
   abbrev elements : List LeafElement
   elements = elements_on file meta found
 
   pub back_least : (keys : List Key) → AreKeys (without met all) keys → length back ≤ length keys
-  back_least keys are = back_fewer (readable recovered) elements all met under noted revisions candidates store agreed agree (readable_rises recovered recovers.rises) (compacted_by noted) back put keys are
+  back_least keys are =
+      back_fewer (readable recovered) elements all met under noted revisions candidates store agreed agree (readable_rises recovered recovers.rises)
+      (compacted_by noted) back put keys are
 
   module _ (lacks : Bool) (is_lacking : lacks_bucket under ≡ Some lacks) (is_made : Bool) (made : is_made ≡ (lacks && not (is_nil back))) where
     pub repair : IsRepair file meta search back (record { store = is_made; meta = meta_is_made })
@@ -264,12 +299,17 @@ module _ (file : List ℕ) (meta : Meta) (search : Bool) (found : List ℕ) (are
       are_found = are_found;
       compacted = compacted_by noted;
       is_compacted = compacted_at (readable recovered) elements all met under noted revisions candidates store;
-      are_back = are_back (readable recovered) elements all met under noted revisions candidates store agreed agree (readable_rises recovered recovers.rises) (compacted_by noted) back put;
-      makes = subst (MakesStore (readable recovered) back) (sym made) (makes (readable recovered) elements all met under noted revisions candidates store lacks is_lacking back);
+      are_back =
+          are_back (readable recovered) elements all met under noted revisions candidates store agreed agree (readable_rises recovered recovers.rises)
+          (compacted_by noted) back put;
+      makes =
+          subst (MakesStore (readable recovered) back) (sym made)
+          (makes (readable recovered) elements all met under noted revisions candidates store lacks is_lacking back);
       makes_meta = makes_it;
     }
 
-    pub full_repair : (keys : List Key) → AreKeys (without met all) keys → (left_out : ℕ) → left_out ≡ length keys - length back → IsFullRepair file meta search back (record { store = is_made; meta = meta_is_made }) left_out
+    pub full_repair : (keys : List Key) → AreKeys (without met all) keys → (left_out : ℕ) → left_out ≡ length keys - length back
+        → IsFullRepair file meta search back (record { store = is_made; meta = meta_is_made }) left_out
     unfolding repair
     full_repair keys are left_out number =
         let few = back_least keys are in

@@ -5,7 +5,9 @@ use Rattle.bolt_check.specs.Keys.{Key, key_cmp}
 use Rattle.bolt_format.specs.Bytes.{IsBytes}
 use Rattle.bolt_tree.specs.{Entries.EntryView, InBuckets.entry_in, Listing.Member, Paths.Path}
 use Rattle.bolt_recover.specs.Losses.{LossView, LostView, everything, parts}
-use Rattle.bolt_etcd.specs.{Others.No_record, Others.OtherView, Others.Other_key, RevisionKeys.revision_key, Revisions.RevisionView, Revisions.name_of, Revisions.revision_of, declared.revision_key.RevisionKey.RevisionKey}
+use Rattle.bolt_etcd.specs.{Wire.Others.No_record, Wire.Others.OtherView, Wire.Others.Other_key, Wire.RevisionKeys.revision_key}
+use Rattle.bolt_etcd.specs.{Wire.Revisions.RevisionView, Wire.Revisions.name_of, Wire.Revisions.revision_of}
+use Rattle.bolt_etcd.specs.{declared.wire.revision_key.RevisionKey.RevisionKey}
 use Rattle.bolt_repair.specs.{Readable.unread, Repairs.store_path}
 use Rattle.bolt_repair.specs.declared.bound.Bound.{Bound}
 use Rattle.bolt_repair.specs.declared.bound.Bound.TheVariants.{Any, Nothing, UpTo}
@@ -30,16 +32,16 @@ bound_below None = Any
 bound_below (Some key) = bound_of_key (revision_key key)
 
 -- the name of the bucket is within these bounds
-abbrev pub is_from : Option Key → Bool
-is_from None = true
-is_from (Some key) = not (is_lt (key_cmp (codes "key") key))
+abbrev pub is_name_from : Option Key → Bool
+is_name_from None = true
+is_name_from (Some key) = not (is_lt (key_cmp (codes "key") key))
 
-abbrev pub is_before : Option Key → Bool
-is_before None = true
-is_before (Some key) = is_lt (key_cmp (codes "key") key)
+abbrev pub is_name_before : Option Key → Bool
+is_name_before None = true
+is_name_before (Some key) = is_lt (key_cmp (codes "key") key)
 
 abbrev pub holds_store : (lower upper : Option Key) → Bool
-holds_store lower upper = is_from lower && is_before upper
+holds_store lower upper = is_name_from lower && is_name_before upper
 
 -- of a page of the root bucket: any, if the bucket may have been on it
 abbrev pub bound_in : (lower upper : Option Key) → Bound
@@ -78,21 +80,21 @@ repair_bound lost others false = greater (bound_of_lost lost) (bound_of_others o
 -- ---- what it says
 
 -- a transaction isn't above it
-abbrev pub IsWithin : Bound → ℕ → Type 0
-IsWithin Nothing main = ⊥
-IsWithin (UpTo n) main = main ≤ n
-IsWithin Any main = Unit {0}
+abbrev pub IsWithinBound : Bound → ℕ → Type 0
+IsWithinBound Nothing main = ⊥
+IsWithinBound (UpTo n) main = main ≤ n
+IsWithinBound Any main = Unit {0}
 
 -- a key isn't below the first bound, and is below the second
-pub record IsBetween (lower upper : Option Key) (key : Key) : Type 0 where
+pub record IsKeyBetween (lower upper : Option Key) (key : Key) : Type 0 where
   pub from : (low : Key) → lower ≡ Some low → is_lt (key_cmp key low) ≡ false
   pub before : (end : Key) → upper ≡ Some end → is_lt (key_cmp key end) ≡ true
 
 -- A lost page may have had an entry of the bucket `key` under this key: It is one of the bucket between whose bounds the key lies, or one of the root
 -- bucket between whose bounds the name of the bucket lies.
 abbrev pub MayTakeOn : Path → (lower upper : Option Key) → Key → Type 0
-MayTakeOn [] lower upper key = IsBetween lower upper (codes "key")
-MayTakeOn (bucket ∷ []) lower upper key = (bucket ≡ codes "key") × IsBetween lower upper key
+MayTakeOn [] lower upper key = IsKeyBetween lower upper (codes "key")
+MayTakeOn (bucket ∷ []) lower upper key = (bucket ≡ codes "key") × IsKeyBetween lower upper key
 MayTakeOn (bucket ∷ part ∷ path) lower upper key = ⊥
 
 abbrev pub MayTake : LossView → Key → Type 0
@@ -113,7 +115,9 @@ IsReported lost others is_older key = (is_older ≡ true) ⊎ (MayLose lost key 
 
 -- no revision of its name in the bucket is of a later transaction
 abbrev pub IsLastOfName : List Member → RevisionView → Type 0
-IsLastOfName listing last = (e : EntryView) (r : RevisionView) → Contains listing (entry_in store_path e) → revision_of e ≡ Some r → name_of r ≡ name_of last → r.key.main ≤ last.key.main
+IsLastOfName listing last =
+    (e : EntryView) (r : RevisionView) → Contains listing (entry_in store_path e) → revision_of e ≡ Some r → name_of r ≡ name_of last
+    → r.key.main ≤ last.key.main
 
 -- a key, if there is one, is bytes
 abbrev pub IsBytesIf : Option Key → Type 0
@@ -127,6 +131,7 @@ HaveByteBounds (parts losses) = (loss : LossView) → Contains losses loss → I
 
 -- The bucket `key` of a whole listing is recovered, but for what is reported.
 pub record LosesReported (whole recovered : List Member) (lost : LostView) (is_older : Bool) : Type 0 where
-  pub but : (e : EntryView) → Contains whole (entry_in store_path e) → Contains recovered (entry_in store_path e) ⊎ IsReported lost (unread recovered) is_older e.key
+  pub but : (e : EntryView) → Contains whole (entry_in store_path e)
+      → Contains recovered (entry_in store_path e) ⊎ IsReported lost (unread recovered) is_older e.key
   pub keys : (e : EntryView) → Contains whole (entry_in store_path e) → IsBytes e.key
   pub bounds : HaveByteBounds lost

@@ -6,7 +6,8 @@ use Rattle.bolt_check.specs.Keys.{Key, key_cmp}
 use Rattle.bolt_recover.specs.{Found.AreSought, declared.found.Found.Found, declared.lost_and_found.LostAndFound.LostAndFound}
 use Rattle.bolt_tree.specs.{Entries.EntryView, Entries.entry_view, Order.Rises}
 use Rattle.bolt_repair.specs.Repaired.{elements_on}
-use Rattle.bolt_etcd.specs.{Misplaced.is_misplaced, RevisionKeys.revision_key, Revisions.RevisionView, Revisions.revision_of, ShownRevisions.value_bytes}
+use Rattle.bolt_etcd.specs.{Check.Misplaced.is_misplaced, Wire.RevisionKeys.revision_key, Wire.Revisions.RevisionView, Wire.Revisions.revision_of}
+use Rattle.bolt_etcd.specs.{Wire.ShownRevisions.value_bytes}
 
 abbrev pub is_in_place : Option RevisionView → Bool
 is_in_place None = false

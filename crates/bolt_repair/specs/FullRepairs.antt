@@ -4,7 +4,7 @@ use Rattle.std.specs.List.{Contains}
 use Rattle.bolt_format.specs.{Elements.LeafElement, declared.meta.Meta.Meta}
 use Rattle.bolt_check.specs.Keys.{Key, key_cmp}
 use Rattle.bolt_tree.specs.{Entries.EntryView, Entries.Value, Listing.Member, Order.Rises}
-use Rattle.bolt_etcd.specs.Revisions.{RevisionView}
+use Rattle.bolt_etcd.specs.Wire.Revisions.{RevisionView}
 use Rattle.bolt_repair.specs.{Readable.readable, Repaired.IsRepair, Repaired.Made, Repaired.elements_on, Repairs.IsCandidate, Repairs.store_path}
 
 -- a candidate has this key
@@ -16,7 +16,7 @@ pub record AreCandidateKeys (recovered : List Member) (found : List LeafElement)
   pub rises : Rises key_cmp keys
   pub exact : (key : Key) → Contains keys key ↔ IsCandidateKey recovered found key
 
--- so many keys of candidates don't go back
+-- `left_out` keys of candidates don't go back
 abbrev pub IsLeftOut : List Member → List LeafElement → List EntryView → ℕ → Type 0
 IsLeftOut recovered found back left_out = (keys : List Key) × AreCandidateKeys recovered found keys × (left_out + length back ≡ length keys)
 

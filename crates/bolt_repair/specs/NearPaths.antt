@@ -7,6 +7,6 @@ use Rattle.bolt_repair.specs.declared.store_path.NearPath.{NearPath}
 abbrev pub near_path : NearPath → Path
 near_path near = path_of (take near.length near.parts)
 
-abbrev pub IsNear : Path → Option NearPath → Type 0
-IsNear path None = is_near path ≡ false
-IsNear path (Some near) = (is_near path ≡ true) × (near_path near ≡ path)
+abbrev pub IsNearPath : Path → Option NearPath → Type 0
+IsNearPath path None = is_near path ≡ false
+IsNearPath path (Some near) = (is_near path ≡ true) × (near_path near ≡ path)

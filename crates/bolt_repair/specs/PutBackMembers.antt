@@ -1,13 +1,13 @@
 -- What goes back as a listing.
 use Rattle.std.specs.Prelude.{◌≡◌, List, map, take}
 use Rattle.bolt_tree.specs.{InBuckets.members_in, Listing.Member, Paths.Path, Paths.path_of}
-use Rattle.bolt_etcd.specs.{ShownRevisions.entry_of}
+use Rattle.bolt_etcd.specs.{Wire.ShownRevisions.entry_of}
 use Rattle.bolt_repair.specs.{declared.put_back.PutBack.PutBack}
 
 unfoldable pub put_back_listing : PutBack → List Member
 put_back_listing it = members_in it.is_made (path_of (take it.depth it.parts.items)) (map entry_of it.revisions.now)
 
--- that is its listing
+-- a listing is that of what goes back
 abbrev pub IsPutBack : PutBack → List Member → Type 0
 IsPutBack it listing = listing ≡ put_back_listing it
 

@@ -3,7 +3,7 @@ use Rattle.std.specs.Prelude.{◌&&◌, Bool, false, List, [], ◌∷◌, Option
 use Rattle.std.specs.{List.filter_map, Str.bytes_eq}
 use Rattle.bolt_check.specs.Keys.{Key}
 use Rattle.bolt_tree.specs.{Entries.EntryView, Entries.Item, Listing.Member, Paths.Path}
-use Rattle.bolt_etcd.specs.Others.{OtherView, other_of}
+use Rattle.bolt_etcd.specs.Wire.Others.{OtherView, other_of}
 
 -- what an entry of the bucket `key` is, if it is neither a revision nor a mark
 abbrev pub unread_in : Key → EntryView → Option OtherView
@@ -16,15 +16,15 @@ unread_at (bucket ∷ key ∷ []) item = unread_in bucket (record { key = key; i
 unread_at (bucket ∷ key ∷ more ∷ path) item = None
 
 -- in a bucket in the bucket `key`
-abbrev pub is_below : Path → Bool
-is_below [] = false
-is_below (bucket ∷ []) = false
-is_below (bucket ∷ key ∷ []) = false
-is_below (bucket ∷ key ∷ more ∷ path) = bytes_eq bucket (codes "key")
+abbrev pub is_in_inner_bucket : Path → Bool
+is_in_inner_bucket [] = false
+is_in_inner_bucket (bucket ∷ []) = false
+is_in_inner_bucket (bucket ∷ key ∷ []) = false
+is_in_inner_bucket (bucket ∷ key ∷ more ∷ path) = bytes_eq bucket (codes "key")
 
 -- etcd can read a member: In the bucket `key` it is a revision or a mark
 abbrev pub is_readable : Path → Item → Bool
-is_readable path item = is_none (unread_at path item) && not (is_below path)
+is_readable path item = is_none (unread_at path item) && not (is_in_inner_bucket path)
 
 -- the members that etcd can read
 abbrev pub readable : List Member → List Member

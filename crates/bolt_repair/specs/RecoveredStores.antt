@@ -4,9 +4,11 @@ use Rattle.std.specs.{Borrow.Bor, List.Contains, Option.option_map, Option.optio
 use Rattle.std.specs.declared.cmp.Ordering.TheVariants.{Less}
 use Rattle.bolt_check.specs.{Counts.counted, Counts.saturated, Keys.Key, Keys.key_cmp, Sound.HasSoundTrees}
 use Rattle.bolt_recover.specs.{Recovered.ForRecovered, declared.lost_and_found.LostAndFound.LostAndFound}
-use Rattle.bolt_tree.specs.{Entries.EntryView, Entries.Item, Entries.Value, InBuckets.entry_in, Listing.Member, Listing.member_cmp, Order.Rises, ShownEntries.item_view}
-use Rattle.bolt_repair.specs.{Candidates.HasKey, Readable.readable, Readable.unread, Repairs.HasMeta, Repairs.IsKept, Repairs.compaction_path, Repairs.store_path}
-use Rattle.bolt_etcd.specs.{Revisions.RevisionView, Revisions.revision_of, ShownOthers.shown_other, ShownRevisions.shown_revision}
+use Rattle.bolt_tree.specs.{Entries.EntryView, Entries.Item, Entries.Value, InBuckets.entry_in, Listing.Member, Listing.member_cmp, Order.Rises}
+use Rattle.bolt_tree.specs.{ShownEntries.item_view}
+use Rattle.bolt_repair.specs.{Candidates.HasKey, Readable.readable, Readable.unread, Repairs.HasMeta, Repairs.IsKeptRevision, Repairs.compaction_path}
+use Rattle.bolt_repair.specs.{Repairs.store_path}
+use Rattle.bolt_etcd.specs.{Wire.Revisions.RevisionView, Wire.Revisions.revision_of, Wire.Others.shown_other, Wire.ShownRevisions.shown_revision}
 use Rattle.bolt_repair.specs.declared.recovered_store.RecoveredStore.{RecoveredStore}
 
 -- an entry of the recovered bucket has this key
@@ -15,23 +17,25 @@ HasKeptKey recovered key = (item : Item) × Contains recovered (entry_in store_p
 
 -- What the recovered listing says of a store, and which keys its bucket and the candidates have both. If there are candidates, these are the
 -- revisions in the bucket.
-pub record IsRecoveredStore (recovered : List Member) (candidates : List EntryView) (under : Option Item) (noted : Option (List ℕ)) (revisions : List RevisionView) (keys : List Key) : Type 0 where
+pub record IsRecoveredStore (recovered : List Member) (candidates : List EntryView) (under : Option Item) (noted : Option (List ℕ))
+    (revisions : List RevisionView) (keys : List Key) : Type 0 where
   pub bucket : (item : Item) → Contains recovered (store_path, item) ↔ (under ≡ Some item)
   pub compaction : (value : List ℕ) → Contains recovered (compaction_path, Value value) ↔ (noted ≡ Some value)
-  pub kept : (e : EntryView) → Contains candidates e → (r : RevisionView) → Contains revisions r ↔ IsKept recovered r
+  pub kept : (e : EntryView) → Contains candidates e → (r : RevisionView) → Contains revisions r ↔ IsKeptRevision recovered r
   pub rises : Rises key_cmp keys
   pub met : (key : Key) → Contains keys key ↔ (HasKey candidates key × HasKeptKey recovered key)
 
 -- What the code notes is so of these members, in the bucket `key` of those that etcd can read.
 pub record IsStoreNoted (members : List Member) (candidates : List EntryView) (noted : RecoveredStore) : Type 0 where
-  pub store : IsRecoveredStore (readable members) candidates (option_map item_view noted.bucket) (option_map (λ (value : Bor (List ℕ)). value.now) noted.compaction)
+  pub store : IsRecoveredStore (readable members) candidates (option_map item_view noted.bucket)
+      (option_map (λ (value : Bor (List ℕ)). value.now) noted.compaction)
       (map shown_revision noted.kept.items) (map (λ (key : Bor (List ℕ)). key.now) noted.met.items)
   pub unread : map shown_other noted.unread.items ≡ unread members
   pub meta : (noted.has_meta ≡ true) ↔ HasMeta members
 
 -- There is room for each member that is recovered of a damaged file, and for the candidates, if there are any.
-abbrev pub HasRoomFor : LostAndFound → (candidates room : ℕ) → Type 0
-HasRoomFor both candidates room = 0 < candidates → (HasSoundTrees both.file.now both.meta → ⊥)
+abbrev pub HasRoomForRecovered : LostAndFound → (candidates room : ℕ) → Type 0
+HasRoomForRecovered both candidates room = 0 < candidates → (HasSoundTrees both.file.now both.meta → ⊥)
     → ForRecovered both.file.now both.meta (λ listing. counted (saturated (length listing)) candidates ≤ room)
 
 -- a member comes after these
@@ -40,7 +44,8 @@ ComesAfter before m = (x : Member) → Contains before x → member_cmp x m ≡ 
 
 -- What is noted of the members before this one becomes what is noted of this one too.
 abbrev pub NotesMember : List EntryView → Member → (old new : RecoveredStore) → Type 0
-NotesMember candidates m old new = (before : List Member) → ComesAfter before m → IsStoreNoted before candidates old → IsStoreNoted (before ++ m ∷ []) candidates new
+NotesMember candidates m old new =
+    (before : List Member) → ComesAfter before m → IsStoreNoted before candidates old → IsStoreNoted (before ++ m ∷ []) candidates new
 
 -- if there are candidates, the revision that the entry is comes after these, if it is one
 abbrev pub KeepsRevision : List EntryView → EntryView → (old new : List RevisionView) → Type 0

@@ -24,6 +24,6 @@ IsRepairRefusal file meta search NotABucket = (value : List ℕ) × ForRecovered
 IsRepairRefusal file meta search Memory = Unit {0}
 
 -- why there is no bucket, if nothing goes back into it
-abbrev pub left_with : LostView → RepairFault
-left_with (everything x) = Rootless x
-left_with (parts losses) = NoBucket
+abbrev pub no_bucket_fault : LostView → RepairFault
+no_bucket_fault (everything x) = Rootless x
+no_bucket_fault (parts losses) = NoBucket

@@ -37,8 +37,8 @@ pub record Made : Type 0 where
   pub store : Bool
   pub meta : Bool
 
--- These entries go back into the bucket of a file under a meta, beside what is recovered and can be read. The buckets are made, or are there. With
--- `search` pages are looked for even if nothing is lost.
+-- The entries `back` go back into the bucket of a file under a meta, beside what is recovered and can be read. The buckets are made, or are there.
+-- With `search` pages are looked for even if nothing is lost.
 pub record IsRepair (file : List ℕ) (meta : Meta) (search : Bool) (back : List EntryView) (made : Made) : Type 0 where
   pub recovered : List Member
   pub recovers : IsRecovered file meta recovered

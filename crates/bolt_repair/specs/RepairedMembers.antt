@@ -3,7 +3,9 @@ use Rattle.std.specs.Prelude.{ℕ, Bool, List, length}
 use Rattle.bolt_format.specs.declared.meta.Meta.{Meta}
 use Rattle.bolt_tree.specs.{Listing.Member, Merging.merged_left, Merging.merged_path, Merging.merged_work, Paths.Path}
 use Rattle.bolt_repair.specs.ReadableLeft.{readable_left, readable_path, readable_work}
-use Rattle.bolt_repair.specs.{FullRepairs.IsFullRepair, PutBackMembers.put_back_left, PutBackMembers.put_back_path, RepairedMerges.all_listings, RepairedMerges.repair_back, RepairedMerges.repair_made, declared.put_back.PutBack.PutBack, declared.repair.Repair.Repair, declared.repaired.Repaired.Repaired}
+use Rattle.bolt_repair.specs.{FullRepairs.IsFullRepair, PutBackMembers.put_back_left, PutBackMembers.put_back_path, RepairedMerges.all_listings}
+use Rattle.bolt_repair.specs.{RepairedMerges.repair_back, RepairedMerges.repair_made, declared.put_back.PutBack.PutBack}
+use Rattle.bolt_repair.specs.{declared.repair.Repair.Repair, declared.repaired.Repaired.Repaired}
 
 -- the file that is repaired, and the meta that it is read under
 abbrev pub repair_file : Repair → List ℕ
@@ -16,7 +18,7 @@ repair_meta repair = repair.both.now.meta
 abbrev pub repair_search : Repair → Bool
 repair_search repair = repair.search
 
--- it is all that goes back, and says how many candidates don't
+-- a repair is all that goes back, and says how many candidates don't
 abbrev pub IsWholeRepair : Repair → Type 0
 IsWholeRepair repair = ∥ IsFullRepair (repair_file repair) (repair_meta repair) repair.search (repair_back repair) (repair_made repair) repair.left_out ∥₁
 
@@ -39,7 +41,8 @@ put_work it = length (put_back_left it)
 -- The part of the repaired listing that is left. (There is one listing, so it is the same of each.)
 unfoldable pub repaired_left : Repaired → List Member → List Member
 repaired_left repaired listing =
-    merged_left (merged_path readable_path put_back_path) (merged_left readable_path readable_left put_back_path put_left) put_back_path put_left repaired.members
+    merged_left (merged_path readable_path put_back_path) (merged_left readable_path readable_left put_back_path put_left) put_back_path put_left
+    repaired.members
     (all_listings repaired.repair.now)
 
 -- how much it has to do at most, until it has returned everything

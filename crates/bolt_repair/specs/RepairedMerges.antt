@@ -2,9 +2,10 @@
 use Rattle.std.specs.Prelude.{List, [], map}
 use Rattle.bolt_tree.specs.{Entries.EntryView, InBuckets.members_in, Listing.Member, Merging.merged_reads, declared.merged.Merged.Merged}
 use Rattle.bolt_recover.specs.{Recovered.IsRecovered, TheRecovered.the_recovered}
-use Rattle.bolt_repair.specs.{PutBackMembers.IsPutBack, Repaired.Made, Repairs.meta_path, Repairs.store_path, ReadableLeft.readable_file, ReadableLeft.readable_meta}
+use Rattle.bolt_repair.specs.{PutBackMembers.IsPutBack, Repaired.Made, Repairs.meta_path, Repairs.store_path, ReadableLeft.readable_file}
+use Rattle.bolt_repair.specs.{ReadableLeft.readable_meta}
 use Rattle.bolt_repair.specs.declared.{put_back.PutBack.PutBack, readable_members.ReadableMembers.ReadableMembers, repair.Repair.Repair}
-use Rattle.bolt_etcd.specs.{Others.OtherView, ShownOthers.shown_other, ShownRevisions.entry_of}
+use Rattle.bolt_etcd.specs.{Wire.Others.OtherView, Wire.Others.shown_other, Wire.ShownRevisions.entry_of}
 
 -- the entries that go back
 abbrev pub repair_back : Repair → List EntryView
@@ -20,11 +21,14 @@ repair_unread repair = map shown_other repair.unread.items
 
 -- the recovered listing, that of what goes back, and that of the bucket `meta` if it is made
 abbrev pub all_listings : Repair → (List Member × List Member) × List Member
-all_listings repair =
-    ((the_recovered repair.both.now.file.now repair.both.now.meta, members_in repair.is_made store_path (repair_back repair)), members_in repair.makes_meta meta_path [])
+all_listings repair = (
+  (the_recovered repair.both.now.file.now repair.both.now.meta, members_in repair.is_made store_path (repair_back repair)),
+  members_in repair.makes_meta meta_path [],
+)
 
--- these are merged
+-- the listings of a repair are merged
 abbrev pub ReadsRepaired : Merged (Merged ReadableMembers PutBack) PutBack → Repair → Type 0
 ReadsRepaired members repair = merged_reads (λ (both : Merged ReadableMembers PutBack) (listings : List Member × List Member).
-    merged_reads (λ (kept : ReadableMembers) (listing : List Member). IsRecovered (readable_file kept) (readable_meta kept) listing) IsPutBack both listings) IsPutBack members
+    merged_reads (λ (kept : ReadableMembers) (listing : List Member). IsRecovered (readable_file kept) (readable_meta kept) listing) IsPutBack both
+    listings) IsPutBack members
     (all_listings repair)

@@ -4,8 +4,10 @@ use Rattle.std.specs.Prelude.{◌≡◌, ◌≢◌, ◌↔◌, ◌⊎◌, ◌<�
 use Rattle.std.specs.declared.cmp.Ordering.TheVariants.{Less}
 use Rattle.bolt_format.specs.Elements.{LeafElement}
 use Rattle.bolt_check.specs.Keys.{key_cmp}
-use Rattle.bolt_tree.specs.{Entries.EntryView, Entries.Item, Entries.Value, Entries.entry_view, InBuckets.entry_in, InBuckets.view_cmp, Listing.Member, Order.Rises, Paths.Path}
-use Rattle.bolt_etcd.specs.{Compacted.compacted_by, Misplaced.is_misplaced, Revisions.RevisionView, Revisions.name_of, Revisions.revision_of}
+use Rattle.bolt_tree.specs.{Entries.EntryView, Entries.Item, Entries.Value, Entries.entry_view, InBuckets.entry_in, InBuckets.view_cmp}
+use Rattle.bolt_tree.specs.{Listing.Member, Order.Rises, Paths.Path}
+use Rattle.bolt_etcd.specs.{Store.Compacted.compacted_by, Check.Misplaced.is_misplaced, Wire.Revisions.RevisionView, Wire.Revisions.name_of}
+use Rattle.bolt_etcd.specs.{Wire.Revisions.revision_of}
 
 -- the bucket of the revisions
 abbrev pub store_path : Path
@@ -15,7 +17,7 @@ store_path = codes "key" ∷ []
 abbrev pub meta_path : Path
 meta_path = codes "meta" ∷ []
 
--- where it is noted
+-- where the last compaction is noted
 abbrev pub compaction_path : Path
 compaction_path = codes "meta" ∷ codes "scheduledCompactRev" ∷ []
 
@@ -30,8 +32,8 @@ IsCompactedAt recovered n =
     ⊎ (((value : List ℕ) → Contains recovered (compaction_path, Value value) → ⊥) × (n ≡ 0))
 
 -- an entry of the recovered bucket, which is this revision
-abbrev pub IsKept : List Member → RevisionView → Type 0
-IsKept recovered r = (e : EntryView) × Contains recovered (entry_in store_path e) × (revision_of e ≡ Some r)
+abbrev pub IsKeptRevision : List Member → RevisionView → Type 0
+IsKeptRevision recovered r = (e : EntryView) × Contains recovered (entry_in store_path e) × (revision_of e ≡ Some r)
 
 -- An element of a found page whose key the recovered bucket doesn't have, and which is a revision with a record of its own transaction.
 pub record IsCandidate (recovered : List Member) (found : List LeafElement) (e : EntryView) (r : RevisionView) : Type 0 where
@@ -47,11 +49,12 @@ pub record IsAgreed (recovered : List Member) (found : List LeafElement) (e : En
   pub candidate : IsCandidate recovered found e r
   pub undisputed : (other : EntryView) (is : RevisionView) → IsCandidate recovered found other is → other.key ≡ e.key → other ≡ e
 
--- It isn't a deletion, and no revision of its name up to this transaction is later, of those that are kept and those that are agreed.
+-- A revision isn't a deletion, and no revision of its name up to this transaction is later, of those that are kept and those that are agreed.
 pub record IsNewestUpTo (compacted : ℕ) (recovered : List Member) (found : List LeafElement) (r : RevisionView) : Type 0 where
   pub there : r.key.deleted ≡ false
   pub until : r.key.main ≤ compacted
-  pub kept : (other : RevisionView) → IsKept recovered other → name_of other ≡ name_of r → other.key.main ≤ compacted → key_cmp r.stored_key other.stored_key ≢ Less
+  pub kept : (other : RevisionView) → IsKeptRevision recovered other → name_of other ≡ name_of r → other.key.main ≤ compacted
+      → key_cmp r.stored_key other.stored_key ≢ Less
   pub agreed : (e : EntryView) (other : RevisionView) → IsAgreed recovered found e other → name_of other ≡ name_of r → other.key.main ≤ compacted
       → key_cmp r.stored_key other.stored_key ≢ Less
 

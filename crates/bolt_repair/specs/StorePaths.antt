@@ -3,7 +3,7 @@ use Rattle.std.specs.Prelude.{◌≡◌, Bool, true, false, ◌∷◌, ◌++◌,
 use Rattle.std.specs.Str.{bytes_eq}
 use Rattle.bolt_check.specs.Keys.{Key}
 use Rattle.bolt_tree.specs.Paths.{Path}
-use Rattle.bolt_repair.specs.{Readable.is_below, Repairs.compaction_path, Repairs.meta_path, Repairs.store_path}
+use Rattle.bolt_repair.specs.{Readable.is_in_inner_bucket, Repairs.compaction_path, Repairs.meta_path, Repairs.store_path}
 use Rattle.bolt_repair.specs.declared.store_path.StorePath.{StorePath}
 use Rattle.bolt_repair.specs.declared.store_path.StorePath.TheVariants.{Below, Compaction, InStore, Meta, Other, Store}
 
@@ -11,11 +11,12 @@ use Rattle.bolt_repair.specs.declared.store_path.StorePath.TheVariants.{Below, C
 abbrev pub IsStorePath : Path → StorePath → Type 0
 IsStorePath path Store = path ≡ store_path
 IsStorePath path (InStore key) = path ≡ store_path ++ key.now ∷ []
-IsStorePath path Below = is_below path ≡ true
+IsStorePath path Below = is_in_inner_bucket path ≡ true
 IsStorePath path Meta = path ≡ meta_path
 IsStorePath path Compaction = path ≡ compaction_path
 IsStorePath path Other =
-    (path ≡ store_path → ⊥) × ((key : Key) → path ≡ store_path ++ key ∷ [] → ⊥) × (path ≡ compaction_path → ⊥) × (path ≡ meta_path → ⊥) × (is_below path ≡ false)
+    (path ≡ store_path → ⊥) × ((key : Key) → path ≡ store_path ++ key ∷ [] → ⊥) × (path ≡ compaction_path → ⊥) × (path ≡ meta_path → ⊥)
+    × (is_in_inner_bucket path ≡ false)
 
 -- the bucket, or an entry in it
 abbrev pub is_near : Path → Bool

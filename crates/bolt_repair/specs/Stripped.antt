@@ -5,8 +5,8 @@ use Rattle.bolt_recover.specs.{KeptMembers.kept_file, KeptMembers.kept_meta, Rec
 use Rattle.bolt_repair.specs.{Readable.is_readable, NearPaths.near_path, StorePaths.is_near}
 use Rattle.bolt_repair.specs.declared.store_path.NearPath.{NearPath}
 
--- These without those that etcd can't read, if they come after the bucket or an entry in it. In a recovered listing all of them do, so that these
--- are the readable ones.
+-- Members without those that etcd can't read, if they come after the bucket or an entry in it. In a recovered listing all of them do, so that
+-- what is left is the readable members.
 abbrev pub strip : (near : Bool) → List Member → List Member
 strip near [] = []
 strip near (m ∷ ms) = if not near || is_readable m.0 m.1 then m ∷ strip (is_near m.0) ms else strip true ms

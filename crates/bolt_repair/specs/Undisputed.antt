@@ -21,6 +21,6 @@ pub record AreKeys (es : List EntryView) (keys : List Key) : Type 0 where
   pub rises : Rises key_cmp keys
   pub exact : (key : Key) → Contains keys key ↔ HasKey es key
 
--- so many keys have they
+-- entries have this many keys
 abbrev pub HaveKeys : List EntryView → ℕ → Type 0
 HaveKeys es number = (keys : List Key) × AreKeys es keys × (number ≡ length keys)

@@ -2,7 +2,8 @@
 use Rattle.std.specs.Prelude.{◌≡◌, ◌↔◌, ◌||◌, ◌++◌, ℕ, Bool, false, List, Option, Some, None, filter, map, not}
 use Rattle.std.specs.List.{Contains, filter_map}
 use Rattle.bolt_tree.specs.Entries.{EntryView}
-use Rattle.bolt_etcd.specs.{Among.among, Current.HaveOwnKeys, Current.IsNewest, Newest.is_until, Newest.until, Revisions.RevisionView, Revisions.revision_of}
+use Rattle.bolt_etcd.specs.{Store.Among.among, Store.Current.HaveOwnKeys, Store.Current.IsNewest, Store.Newest.is_until, Store.Newest.until}
+use Rattle.bolt_etcd.specs.{Wire.Revisions.RevisionView, Wire.Revisions.revision_of}
 
 -- a compaction at this transaction may have removed it
 abbrev pub is_old : ℕ → Option RevisionView → Bool
@@ -17,7 +18,7 @@ old_revisions compacted kept agreed = until compacted (kept ++ filter_map revisi
 abbrev pub AreTheNewest : (old newest : List RevisionView) → Type 0
 AreTheNewest old newest = HaveOwnKeys old → (r : RevisionView) → Contains newest r ↔ IsNewest old r
 
--- it isn't old, or it is one of these
+-- an entry isn't old, or it is one of the newest revisions
 abbrev pub goes_back : ℕ → (newest : List RevisionView) → EntryView → Bool
 goes_back compacted newest e = not (is_old compacted (revision_of e)) || among (map (λ r. r.stored_key) newest) e.key
 

@@ -1,9 +1,10 @@
 //! Up to which transaction the copy of a repair may lack revisions.
 ghost use Rattle.std.specs.Prelude.{◌≡◌, map};
 ghost use Rattle.std.specs.Option.{option_map};
-ghost use Rattle.bolt_etcd.specs.ShownOthers.{shown_other};
+ghost use Rattle.bolt_etcd.specs.Wire.Others.{shown_other};
 ghost use Rattle.bolt_recover.specs.ShownLosses.{loss_view, lost_view};
-ghost use Rattle.bolt_repair.specs.Bounds.{bound_below, bound_in, bound_of_loss, bound_of_losses, bound_of_lost, bound_of_other, bound_of_others, greater, holds_store, repair_bound};
+ghost use Rattle.bolt_repair.specs.Bounds.{bound_below, bound_in, bound_of_loss, bound_of_losses, bound_of_lost, bound_of_other, bound_of_others};
+ghost use Rattle.bolt_repair.specs.Bounds.{greater, holds_store, repair_bound};
 
 use crate::store_path::STORE;
 use bolt_etcd::{Other, RevisionKey};
@@ -14,14 +15,14 @@ use bolt_recover::{Loss, Lost};
 pub enum Bound {
     /// Nothing that is reported took a revision.
     Nothing,
-    /// Those of the transactions up to this one.
+    /// Revisions of the transactions up to this one.
     UpTo(u64),
     /// Any.
     Any,
 }
 
 impl Bound {
-    /// That of what is lost, of the entries that aren't copied, and of a newest state that may be lost.
+    /// The bound of what is lost, of the entries that aren't copied, and of a newest state that may be lost.
     pub fn of(lost: Lost<'_>, unread: &[Other<'_>], is_older: bool) -> Bound
         ensures { result ≡ repair_bound (lost_view lost.entry) (map shown_other unread.now) is_older }
     {
@@ -63,7 +64,7 @@ fn of_losses(losses: &[Loss<'_>]) -> Bound
     bound
 }
 
-/// That of a loss: of a page of the bucket `key`, or of one of the root bucket on which that may have
+/// The bound of a loss: of a page of the bucket `key`, or of one of the root bucket on which that may have
 /// been.
 fn of_loss(loss: &Loss<'_>) -> Bound
     ensures { result ≡ bound_of_loss (loss_view loss.now) }
@@ -75,7 +76,7 @@ fn of_loss(loss: &Loss<'_>) -> Bound
     }
 }
 
-/// That of a page of the root bucket with these bounds.
+/// The bound of a page of the root bucket with these bounds.
 fn in_root(lower: Option<&[u8]>, upper: Option<&[u8]>) -> Bound
     ensures { result ≡ bound_in (option_map (λ key. key.now) lower.entry)
         (option_map (λ key. key.now) upper.entry) }
@@ -103,7 +104,7 @@ fn holds_store(lower: Option<&[u8]>, upper: Option<&[u8]>) -> bool
         }
 }
 
-/// That of keys below this one: its transaction, if it is a revision key.
+/// The bound of keys below this one: its transaction, if it is a revision key.
 fn below(upper: Option<&[u8]>) -> Bound
     ensures { result ≡ bound_below (option_map (λ key. key.now) upper.entry) }
 {
@@ -126,7 +127,7 @@ fn of_others(unread: &[Other<'_>]) -> Bound
     bound
 }
 
-/// That of an entry that isn't copied.
+/// The bound of an entry that isn't copied.
 fn of_other(other: &Other<'_>) -> Bound
     ensures { result ≡ bound_of_other (shown_other other.now) }
 {

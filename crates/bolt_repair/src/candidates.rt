@@ -4,8 +4,10 @@ ghost use Rattle.std.specs.{Option.option_map, Ordering.is_lt, List.Contains, Li
 ghost use Rattle.bolt_format.specs.{ElementPlaces.leaf_view, Elements.IsBucketValue, ElementsLeft.leaves_left};
 ghost use Rattle.bolt_check.specs.{Counts.counted, Keys.key_cmp};
 ghost use Rattle.bolt_tree.specs.{Entries.entry_view, Order.Rises};
-ghost use Rattle.bolt_repair.specs.{Candidates.AreCandidates, Candidates.HasKey, Candidates.candidates_in, Candidates.found_elements, Candidates.candidate_at, Candidates.is_same_entry, Candidates.under_revision_keys, Candidates.whole_cmp, Keyed.HaveLesserKeys};
-ghost use Rattle.bolt_etcd.specs.ShownRevisions.{entry_of};
+ghost use Rattle.bolt_repair.specs.{Candidates.AreCandidates, Candidates.HasKey, Candidates.candidates_in, Candidates.found_elements};
+ghost use Rattle.bolt_repair.specs.{Candidates.candidate_at, Candidates.is_same_entry, Candidates.under_revision_keys, Candidates.whole_cmp};
+ghost use Rattle.bolt_repair.specs.{Keyed.HaveLesserKeys};
+ghost use Rattle.bolt_etcd.specs.Wire.ShownRevisions.{entry_of};
 
 use bolt_etcd::{Revision, RevisionKey};
 use bolt_format::{Leaf, Leaves};

@@ -3,11 +3,14 @@ ghost use Rattle.std.specs.Prelude.{[], ◌≡◌, ◌≤◌, ◌↔◌, ℕ, Bo
 ghost use Rattle.std.specs.{List.Contains};
 ghost use Rattle.bolt_check.specs.{Ones.AtMostOne, Sound.HasSoundTrees};
 ghost use Rattle.bolt_format.specs.{Elements.LeafElement, declared.meta.Meta.Meta};
-ghost use Rattle.bolt_tree.specs.{Entries.EntryView, Order.Rises, Entries.Bucket, InBuckets.entry_in, InBuckets.members_in, Listing.IsListing, Listing.Member, Listing.member_cmp, Merges.merge, Tree.Tree, Tree.listing_of};
-ghost use Rattle.bolt_etcd.specs.Revisions.{RevisionView, name_of, revision_of};
+ghost use Rattle.bolt_tree.specs.{Entries.EntryView, Order.Rises, Entries.Bucket, InBuckets.entry_in, InBuckets.members_in, Listing.IsListing};
+ghost use Rattle.bolt_tree.specs.{Listing.Member, Listing.member_cmp, Merges.merge, Tree.Tree, Tree.listing_of};
+ghost use Rattle.bolt_etcd.specs.Wire.Revisions.{RevisionView, name_of, revision_of};
 ghost use Rattle.bolt_recover.specs.{Losses.LostView, Losses.is_nothing, Lost.IsAllLost, Recovered.IsRecovered};
-ghost use Rattle.bolt_repair.specs.Bounds.{IsLastOfName, IsWithin, LosesReported, repair_bound};
-ghost use Rattle.bolt_repair.specs.{LostRevisions.LosesRevisions, FullRepairs.IsFullRepair, FullRepairs.LacksStoreValue, Readable.is_readable, Readable.readable, Readable.unread, Repaired.ForRepaired, Repaired.IsRepaired, Repaired.Made, Repaired.MakesMeta, Repairs.GoesBack, Repairs.meta_path, Repairs.store_path};
+ghost use Rattle.bolt_repair.specs.Bounds.{IsLastOfName, IsWithinBound, LosesReported, repair_bound};
+ghost use Rattle.bolt_repair.specs.{LostRevisions.LosesRevisions, FullRepairs.IsFullRepair, FullRepairs.LacksStoreValue, Readable.is_readable};
+ghost use Rattle.bolt_repair.specs.{Readable.readable, Readable.unread, Repaired.ForRepaired, Repaired.IsRepaired, Repaired.Made, Repaired.MakesMeta};
+ghost use Rattle.bolt_repair.specs.{Repairs.GoesBack, Repairs.meta_path, Repairs.store_path};
 
 use bolt_etcd::laws::{
     revision_keys_are_in_the_order_of_their_numbers, revision_keys_have_one_spelling,
@@ -109,13 +112,13 @@ pub fn what_is_lacking_is_within_the_bound()
         → LosesReported whole recovered lost is_older → (e : EntryView) (r : RevisionView)
         → Contains whole (entry_in store_path e) → revision_of e ≡ Some r
         → (Contains listing (entry_in store_path e) → ⊥)
-        → IsWithin (repair_bound lost (unread recovered) is_older) r.key.main }
+        → IsWithinBound (repair_bound lost (unread recovered) is_older) r.key.main }
     ensures last { (file : List ℕ) (meta : Meta) (search : Bool) (whole recovered listing : List Member)
         (lost : LostView) (is_older : Bool)
         → IsRecovered file meta recovered → IsRepaired file meta search listing
         → LosesReported whole recovered lost is_older
         → (last : RevisionView) → IsLastOfName listing last
-        → (IsWithin (repair_bound lost (unread recovered) is_older) last.key.main → ⊥)
+        → (IsWithinBound (repair_bound lost (unread recovered) is_older) last.key.main → ⊥)
         → IsLastOfName whole last }
 {
     revision_keys_have_one_spelling();

@@ -1,7 +1,7 @@
 //! What goes back as a listing, also of a bucket that is made for it.
 ghost use Rattle.std.specs.Prelude.{length, List, ◌≡◌, ◌≤◌, ◌+◌, ◌∷◌, [], IfOk, MatchOption, map, take, vec_len};
 ghost use Rattle.bolt_tree.specs.{InBuckets.members_in, Listing.Member, Paths.path_of};
-ghost use Rattle.bolt_etcd.specs.ShownRevisions.{entry_of};
+ghost use Rattle.bolt_etcd.specs.Wire.ShownRevisions.{entry_of};
 
 use bolt_etcd::Revision;
 use bolt_tree::{Item, Members, NoMemory};
@@ -38,7 +38,7 @@ fn room_for_key<'a>(alloc: Global, bucket: &[&'a [u8]]) -> Result<Vec<&'a [u8]>,
 }
 
 /// Takes the first one away.
-fn take_first<'a, T: Copy>(items: &mut &'a [T]) -> Option<T>
+fn pop_first<'a, T: Copy>(items: &mut &'a [T]) -> Option<T>
     ensures { MatchOption result ((items.old.now ≡ []) × (items.new.now ≡ []))
         (λ first. items.old.now ≡ first ∷ items.new.now) }
 {
@@ -104,7 +104,7 @@ impl<'a> Members<'a> for PutBack<'a> {
             self.length = self.depth;
             return Ok(Some(Item::Bucket { sequence: 0 }));
         }
-        let Some(revision) = take_first(&mut self.rest) else {
+        let Some(revision) = pop_first(&mut self.rest) else {
             self.length = 0;
             return Ok(None);
         };

@@ -3,7 +3,8 @@ ghost use Rattle.std.specs.Option.{option_map};
 ghost use Rattle.std.specs.Prelude.{◌≡◌, ◌↔◌, ◌<◌, [], IfOk, IfSome, List, OnErr, false};
 ghost use Rattle.std.proofs.Props.{props};
 ghost use Rattle.bolt_tree.specs.{Listing.Member, ShownEntries.item_view};
-ghost use Rattle.bolt_recover.specs.{KeptMembers.kept_left, KeptMembers.kept_path, KeptMembers.kept_work, Recovered.ForRecovered, Recovered.IsRecovered};
+ghost use Rattle.bolt_recover.specs.{KeptMembers.kept_left, KeptMembers.kept_path, KeptMembers.kept_work, Recovered.ForRecovered};
+ghost use Rattle.bolt_recover.specs.{Recovered.IsRecovered};
 ghost use Rattle.bolt_repair.specs.Stripped.{GivesReadable, KeepsPath, PassesOver, ReadsKept, strip};
 
 use crate::store_path::{NearPath, is_readable};
@@ -28,7 +29,7 @@ pub(crate) struct ReadableMembers<'a> {
 impl<'a> ReadableMembers<'a> {
     ghost use Rattle.bolt_repair.specs.ReadableLeft.{readable_file, readable_left, readable_meta, readable_path};
 
-    /// Those of a file that was searched. It needs what `Kept::of` needs.
+    /// The members of a file that was searched. It needs what `Kept::of` needs.
     ///
     /// # Errors
     ///

@@ -2,8 +2,8 @@
 ghost use Rattle.std.specs.Prelude.{◌≡◌, ◌++◌, ◌∷◌, [], IfOk, OnOk, length, map, vec_capacity};
 ghost use Rattle.bolt_tree.specs.{InBuckets.entry_in, Order.Rises, Paths.path_of, ShownEntries.item_view, ShownEntries.shown_entry};
 ghost use Rattle.bolt_recover.specs.Recovered.{ForRecovered};
-ghost use Rattle.bolt_repair.specs.{Candidates.whole_cmp, RecoveredStores.HasRoomFor, RecoveredStores.KeepsRevision, Repairs.store_path};
-ghost use Rattle.bolt_etcd.specs.{ShownRevisions.entry_of, ShownRevisions.shown_revision};
+ghost use Rattle.bolt_repair.specs.{Candidates.whole_cmp, RecoveredStores.HasRoomForRecovered, RecoveredStores.KeepsRevision, Repairs.store_path};
+ghost use Rattle.bolt_etcd.specs.{Wire.ShownRevisions.entry_of, Wire.ShownRevisions.shown_revision};
 
 use crate::candidates::{add_key, has_candidate};
 use crate::store_path::{StorePath, store_path_of};
@@ -113,7 +113,7 @@ fn room_for_kept<'a>(
 ) -> Result<Vec<Revision<'a>>, NoMemory>
     ensures items { IfOk result (λ room. room.items ≡ []) }
     ensures room { IfOk result (λ room.
-        HasRoomFor both.now (length candidates.now) (vec_capacity room)) }
+        HasRoomForRecovered both.now (length candidates.now) (vec_capacity room)) }
 {
     if candidates.is_empty() {
         return Ok(Vec::new(alloc));

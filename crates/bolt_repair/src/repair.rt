@@ -3,9 +3,12 @@ ghost use Rattle.std.specs.Prelude.{◌≡◌, ◌↔◌, [], All, IfErr, IfOk, 
 ghost use Rattle.std.specs.{Bool.OnFalse, List.Contains, List.Sorted.IsSorted, Option.option_map};
 ghost use Rattle.bolt_check.specs.Keys.{key_cmp};
 ghost use Rattle.bolt_recover.specs.Recovered.{ForRecovered};
-ghost use Rattle.bolt_repair.specs.{Candidates.AreSearched, Repaired.HasStore, Repaired.IsRepair, RepairRefusals.IsRepairRefusal, Readable.unread, Candidates.whole_cmp, Repaired.lacks_bucket, Undisputed.AreUndisputed, Undisputed.HaveKeys, WhatGoesBack.ArePutBack, WhatGoesBack.AreTheNewest, WhatGoesBack.goes_back, WhatGoesBack.old_revisions};
+ghost use Rattle.bolt_repair.specs.{Candidates.AreSearched, Repaired.HasStore, Repaired.IsRepair, RepairRefusals.IsRepairRefusal, Readable.unread};
+ghost use Rattle.bolt_repair.specs.{Candidates.whole_cmp, Repaired.lacks_bucket, Undisputed.AreUndisputed, Undisputed.HaveKeys};
+ghost use Rattle.bolt_repair.specs.{WhatGoesBack.ArePutBack, WhatGoesBack.AreTheNewest, WhatGoesBack.goes_back, WhatGoesBack.old_revisions};
 ghost use Rattle.bolt_tree.specs.{Order.Rises, ShownEntries.item_view};
-ghost use Rattle.bolt_etcd.specs.{Among.among, Among.without, Newest.is_until, ShownRevisions.entry_of, ShownRevisions.shown_revision};
+ghost use Rattle.bolt_etcd.specs.{Store.Among.among, Store.Among.without, Store.Newest.is_until, Wire.ShownRevisions.entry_of};
+ghost use Rattle.bolt_etcd.specs.{Wire.ShownRevisions.shown_revision};
 
 use crate::candidates::{candidates_of, has_key};
 use crate::recovered_store::RecoveredStore;
@@ -41,7 +44,8 @@ pub struct Repair<'a> {
 }
 
 impl<'a> Repair<'a> {
-    ghost use Rattle.bolt_repair.specs.{RepairedMembers.IsWholeRepair, RepairedMembers.repair_file, RepairedMembers.repair_meta, RepairedMembers.repair_search, RepairedMerges.repair_back, RepairedMerges.repair_unread};
+    ghost use Rattle.bolt_repair.specs.{RepairedMembers.IsWholeRepair, RepairedMembers.repair_file, RepairedMembers.repair_meta};
+    ghost use Rattle.bolt_repair.specs.{RepairedMembers.repair_search, RepairedMerges.repair_back, RepairedMerges.repair_unread};
 
     /// Finds what goes back, and what can't be read. With `search` it looks for pages even if nothing is
     /// lost. Goes over what is recovered once. If there are candidates, it needs 112 bytes for each of them

@@ -1,7 +1,7 @@
 //! Why a damaged file isn't repaired.
 ghost use Rattle.std.specs.Prelude.{◌≡◌};
 ghost use Rattle.bolt_recover.specs.ShownLosses.{lost_view};
-ghost use Rattle.bolt_repair.specs.RepairRefusals.{left_with};
+ghost use Rattle.bolt_repair.specs.RepairRefusals.{no_bucket_fault};
 ghost use Rattle.bolt_repair.specs.declared.repair_fault.RepairFault.TheVariants as faults;
 
 use bolt_check::{Finding, NoMemory};
@@ -23,7 +23,7 @@ pub enum RepairFault {
 impl RepairFault {
     /// Why there is no bucket to copy, if nothing goes back into it.
     pub(crate) fn of(lost: Lost<'_>) -> RepairFault
-        ensures { result ≡ left_with (lost_view lost.entry) }
+        ensures { result ≡ no_bucket_fault (lost_view lost.entry) }
     {
         match lost {
             Lost::Everything(finding) => RepairFault::Rootless(finding),

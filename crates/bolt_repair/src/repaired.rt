@@ -30,7 +30,8 @@ pub struct Repaired<'a> {
 #[tactic(auto, unfolding(crate::specs::RepairedMembers::repaired_file, crate::specs::RepairedMembers::repaired_left, crate::specs::RepairedMembers::repaired_meta, crate::specs::RepairedMembers::repaired_path, crate::specs::RepairedMembers::repaired_search))]
 impl<'a> Repaired<'a> {
     ghost use Rattle.bolt_repair.specs.Repaired.{ForRepaired};
-    ghost use Rattle.bolt_repair.specs.RepairedMembers.{repair_file, repair_meta, repair_search, repaired_file, repaired_left, repaired_meta, repaired_path, repaired_search};
+    ghost use Rattle.bolt_repair.specs.RepairedMembers.{repair_file, repair_meta, repair_search, repaired_file, repaired_left, repaired_meta};
+    ghost use Rattle.bolt_repair.specs.RepairedMembers.{repaired_path, repaired_search};
 
     /// The members of the repaired listing of the file that was searched. It needs what `Kept::of`
     /// needs, and room for two paths.

@@ -84,18 +84,18 @@ pub(crate) fn is_readable<'a>(path: &[&'a [u8]], item: Item<'a>) -> bool
 /// The path of the bucket `key`, or of an entry in it.
 #[derive(Clone, Copy)]
 pub(crate) struct NearPath<'a> {
-    /// It has the first of these.
+    /// The path has the first of these parts.
     parts: [&'a [u8]; 2],
     length: usize,
     ghost short: { length ≤ 2 },
 }
 
 impl<'a> NearPath<'a> {
-    ghost use Rattle.bolt_repair.specs.NearPaths.{IsNear, near_path};
+    ghost use Rattle.bolt_repair.specs.NearPaths.{IsNearPath, near_path};
 
     /// The path, if it is such a one.
     pub fn of(path: &[&'a [u8]]) -> Option<NearPath<'a>>
-        ensures { IsNear (path_of path.now) result }
+        ensures { IsNearPath (path_of path.now) result }
     {
         match store_path_of(path) {
             StorePath::Store => Some(NearPath {
@@ -110,7 +110,7 @@ impl<'a> NearPath<'a> {
         }
     }
 
-    /// Its parts.
+    /// The parts of the path.
     pub fn parts(&self) -> &[&'a [u8]]
         ensures { path_of result.now ≡ near_path self.now }
     {

@@ -2,7 +2,7 @@
 ghost use Rattle.std.specs.Prelude.{◌<◌, ◌≡◌, drop, length, map};
 ghost use Rattle.bolt_tree.specs.Order.{Rises};
 ghost use Rattle.bolt_repair.specs.{Candidates.whole_cmp, Undisputed.AreUndisputed, Undisputed.HaveKeys, Undisputed.is_last_of_key};
-ghost use Rattle.bolt_etcd.specs.ShownRevisions.{entry_of};
+ghost use Rattle.bolt_etcd.specs.Wire.ShownRevisions.{entry_of};
 
 use bolt_etcd::Revision;
 

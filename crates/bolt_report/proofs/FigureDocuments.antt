@@ -5,7 +5,7 @@ use Rattle.std.specs.Prelude.{IfSome}
 use Rattle.json.proofs.{Printed.Decimals.IsNumber-decimal, Printed.Trees.document-print}
 use Rattle.json.specs.{Json.Json, Json.document, Json.no_members, Tree.HasNumbers, Tree.MembersHaveNumbers, Tree.depth, Tree.members_depth}
 use Rattle.bolt_report.specs.FigureForms.{Named, figures_json, figures_then, json_name, number_json}
-use Rattle.bolt_report.specs.FigureReadings.{HaveWords, count_of, figures_in, figures_of, size_of}
+use Rattle.bolt_report.specs.FigureReadings.{HaveWords, count_of, figures_in, figures_of_json, size_of}
 use Rattle.bolt_text.proofs.Exports.{Reads, numeral_back}
 
 saturated_fits : (n : ℕ) → saturated n < 2 ^ 64
@@ -22,7 +22,10 @@ module _ (shown : List ℕ → Json) (read : Json → Option (List ℕ)) (reads 
   size_back stats name fits h =
       let used = saturated_fits (stats.branch_used + stats.leaf_used + stats.inline_used) in
       let allocated = saturated_fits (stats.branch_allocated + stats.leaf_allocated + stats.inline_used) in
-      let numbers : HasNumbers (size_json stats (shown name)) = (IsNumber-decimal stats.keys fits, (IsNumber-decimal (bytes_used stats) used, (IsNumber-decimal (bytes_allocated stats) allocated, (reads.numbers name, tt)))) in
+      let numbers : HasNumbers (size_json stats (shown name)) = (
+        IsNumber-decimal stats.keys fits,
+        (IsNumber-decimal (bytes_used stats) used, (IsNumber-decimal (bytes_allocated stats) allocated, (reads.numbers name, tt))),
+      ) in
       ap (option_and_then (size_of read)) (document-print (size_json stats (shown name)) numbers (omega (arith, reads.shallow name)))
       ∙ all_found (numeral_back stats.keys fits) (numeral_back (bytes_used stats) used) (numeral_back (bytes_allocated stats) allocated) (reads.back name h)
 
@@ -54,7 +57,9 @@ unfolding shown_figures
 figures_back [] h = refl
 figures_back (figure ∷ figures) h = grind (arith, option_and_then, named_back, figures_back figures h.1)
 
-pub figures_document : (figures : List Named) → HaveWords figures → option_and_then figures_of (document (json_text (figures_json figures))) ≡ Some (map (λ figure. (json_name figure.0, figure.1)) figures)
+pub figures_document : (figures : List Named) → HaveWords figures
+    → option_and_then figures_of_json (document (json_text (figures_json figures))) ≡ Some (map (λ figure. (json_name figure.0, figure.1)) figures)
 unfolding shown_figures
 figures_document figures h =
-    ap (option_and_then figures_of) (document-print (figures_json figures) (figures_numbers figures h) (omega (arith, figures_flat figures))) ∙ figures_back figures h
+    ap (option_and_then figures_of_json) (document-print (figures_json figures) (figures_numbers figures h) (omega (arith, figures_flat figures)))
+    ∙ figures_back figures h

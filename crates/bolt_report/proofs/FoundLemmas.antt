@@ -8,7 +8,8 @@ module _ (elements : List LeafElement) (i : ℕ) (e : LeafElement) (found : slic
   counted : (is : Bool) → e.is_bucket ≡ is → bucket_count (take (i + 1) elements) ≡ bucket_count (take i elements) + cond is 1 0
   counted is same =
       length-filter_more (λ (x : LeafElement). x.is_bucket) elements i e (slice_get_within elements i e found)
-      ∙ ap (λ (x : LeafElement). bucket_count (take i elements) + cond x.is_bucket 1 0) (get_or_from_slice_get elements i e e found) ∙ ap (λ (b : Bool). bucket_count (take i elements) + cond b 1 0) same
+      ∙ ap (λ (x : LeafElement). bucket_count (take i elements) + cond x.is_bucket 1 0) (get_or_from_slice_get elements i e e found)
+      ∙ ap (λ (b : Bool). bucket_count (take i elements) + cond b 1 0) same
 
   pub counts_one : (count : ℕ) → e.is_bucket ≡ true → count ≡ bucket_count (take i elements) → count + 1 ≡ bucket_count (take (i + 1) elements)
   counts_one count is before = let more = counted true is in omega (arith, more, before)

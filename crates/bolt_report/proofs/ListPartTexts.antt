@@ -1,8 +1,11 @@
 -- The text of the part of a listing below a path, or from a bucket on, member by member.
 -- The members are read once, in order: what begins with the path comes after the bucket at that path, if there is one.
 use Rattle.std.proofs.Common.{arith, ◌≡◌, ◌↔◌, List, subst, sym, ◌∙◌, ◌++◌, ◌∷◌, [], Bool, true, ap, refl, ◌&&◌, ◌||◌, false, not, inl, inr}
-use Rattle.std.proofs.{lemmas.List.Sums.take_while-cons, Math.Bool.or_assoc, lemmas.Bool.cond-false, lemmas.Bool.or_cases, lemmas.Slice.Eq.bytes_eq-Decides, lemmas.Slice.Eq.slice_eq-Decides}
-use Rattle.bolt_report.proofs.Words.{and_parts, begins_with, bytes_eq, bytes_of, Checked, cond-true, Contains, contains_head, contains_tail, is_bucket_at, list_any, list_line, ListForm, listing_lines, Member, member_cmp, meta_of, false_from_ne_true, Path, pointwise, rest_from, Rises, take_while}
+use Rattle.std.proofs.{lemmas.List.Sums.take_while-cons, Math.Bool.or_assoc, lemmas.Bool.cond-false, lemmas.Bool.or_cases}
+use Rattle.std.proofs.{lemmas.Slice.Eq.bytes_eq-Decides, lemmas.Slice.Eq.slice_eq-Decides}
+use Rattle.bolt_report.proofs.Words.{and_parts, begins_with, bytes_eq, bytes_of, Checked, cond-true, Contains, contains_head, contains_tail}
+use Rattle.bolt_report.proofs.Words.{is_bucket_at, list_any, list_line, ListForm, listing_lines, Member, member_cmp, meta_of, false_from_ne_true}
+use Rattle.bolt_report.proofs.Words.{Path, pointwise, rest_from, Rises, take_while}
 use Rattle.bolt_tree.specs.{Listing.IsListing, ListingParts.is_bucket, ListingParts.part_below, Paths.path_cmp}
 use Rattle.bolt_tree.proofs.Exports.{begins_after}
 use Rattle.std.specs.Prelude.{if◌then◌else◌}
@@ -12,7 +15,8 @@ pub iff_then : {A B C : Type 0} → A ↔ B → B ↔ C → A ↔ C
 iff_then f g = (λ a. g.0 (f.0 a), λ c. f.1 (g.1 c))
 
 -- the listing of the same file
-pub same_listing : (a b : Checked) (listing : List Member) → a ≡ b → IsListing (bytes_of b) (meta_of b) listing → IsListing (bytes_of a) (meta_of a) listing
+pub same_listing : (a b : Checked) (listing : List Member) → a ≡ b → IsListing (bytes_of b) (meta_of b) listing
+    → IsListing (bytes_of a) (meta_of a) listing
 same_listing a b listing same lists = subst (λ (file : Checked). IsListing (bytes_of file) (meta_of file) listing) (sym same) lists
 
 module _ (below : Path) where
@@ -30,10 +34,12 @@ module _ (below : Path) where
   left_part found members = if found || list_any (is_bucket_at below) members then part_below below members else []
 
   at_path : (m : Member) → is_bucket_at below m ≡ true → m.0 ≡ below
-  at_path m e = (slice_eq-Decides bytes_eq-Decides m.0 below (pointwise bytes_eq m.0 below) refl).0 (and_parts (pointwise bytes_eq m.0 below) (is_bucket m.1) e).0
+  at_path m e =
+      (slice_eq-Decides bytes_eq-Decides m.0 below (pointwise bytes_eq m.0 below) refl).0 (and_parts (pointwise bytes_eq m.0 below) (is_bucket m.1) e).0
 
   -- what comes before the bucket doesn't begin with its path
-  pub apart_before : (path : Path) (ms : List Member) → ((y : Member) → Contains ms y → path_cmp path y.0 ≡ Less) → list_any (is_bucket_at below) ms ≡ true
+  pub apart_before : (path : Path) (ms : List Member) → ((y : Member) → Contains ms y → path_cmp path y.0 ≡ Less)
+      → list_any (is_bucket_at below) ms ≡ true
       → begins_with below path ≡ false
   apart_before path [] less any = cc
   apart_before path (m ∷ ms) less any =
@@ -58,13 +64,16 @@ module _ (below : Path) where
     before_bucket e rises = rw (has_next, e) (by_later m ms (list_any (is_bucket_at below) ms) refl rises)
 
     module _ (from : Path) where
-      kept_by : (begins before : Bool) → begins_with below m.0 ≡ begins → is_lt (path_cmp m.0 from) ≡ before → rest_from from (part_below below (m ∷ ms))
+      kept_by : (begins before : Bool) → begins_with below m.0 ≡ begins → is_lt (path_cmp m.0 from) ≡ before
+          → rest_from from (part_below below (m ∷ ms))
           ≡ (if begins && not before then m ∷ rest_from from (part_below below ms) else rest_from from (part_below below ms))
       kept_by true true e h = rw (e, h)
       kept_by true false e h = rw (e, h)
       kept_by false before e h = rw e
 
-      kept : rest_from from (part_below below (m ∷ ms)) ≡ (if begins_with below m.0 && not (is_lt (path_cmp m.0 from)) then m ∷ rest_from from (part_below below ms) else rest_from from (part_below below ms))
+      kept : rest_from from (part_below below (m ∷ ms))
+          ≡ (if begins_with below m.0 && not (is_lt (path_cmp m.0 from)) then m ∷ rest_from from (part_below below ms)
+          else rest_from from (part_below below ms))
       kept = kept_by (begins_with below m.0) (is_lt (path_cmp m.0 from)) refl refl
 
       -- from it on, nothing of a member that is not wanted,

@@ -14,7 +14,8 @@ pub some_later : {A : Type 0} {P Q : A → Type 0} (found before value : Option 
 some_later (Some a) before value is here there from = rw is (from a here)
 some_later None before value is here there from = rw is there
 
-pub none_later : {A : Type 0} {F N M : Type 0} (found before value : Option A) → value ≡ option_or found before → IfNone found F → IfNone before N → (F → N → M) → IfNone value M
+pub none_later : {A : Type 0} {F N M : Type 0} (found before value : Option A) → value ≡ option_or found before → IfNone found F → IfNone before N
+    → (F → N → M) → IfNone value M
 none_later (Some a) before value is here there both = rw is tt
 none_later None (Some a) value is here there both = rw is tt
 none_later None None value is here there both = rw is (both here there)
@@ -33,7 +34,8 @@ module _ (path wanted : List (Bor (List ℕ))) (same : Bool) (test : same ≡ po
   paths_decide : Decides same (path_of path ≡ path_of wanted)
   paths_decide = slice_eq-Decides bytes_eq-Decides (path_of path) (path_of wanted) same (test ∙ sym (same_path path wanted))
 
-  pub value_there : (item : Item) (value : List ℕ) → same ≡ true → item ≡ Value value → ◌≡◌ {A = Member} (path_of path, item) (path_of wanted, Value value)
+  pub value_there : (item : Item) (value : List ℕ) → same ≡ true → item ≡ Value value
+      → ◌≡◌ {A = Member} (path_of path, item) (path_of wanted, Value value)
   value_there item value holds is = let paths = paths_decide.0 holds in rw (paths, is) refl
 
   pub value_elsewhere : (item : Item) (value : List ℕ) → same ≡ false → ◌≡◌ {A = Member} (path_of path, item) (path_of wanted, Value value) → ⊥

@@ -1,6 +1,7 @@
 -- The text of the names in a bucket of a listing, member by member.
 -- The members are read once, in order: what lies in the bucket comes after the bucket itself, if that is there.
-use Rattle.std.proofs.Common.{◌≡◌, ◌∙◌, ◌++◌, ◌∷◌, ◌&&◌, ◌||◌, [], Bool, Bor, List, None, Option, Some, ap, arith, false, flat_map, length, refl, true, ℕ}
+use Rattle.std.proofs.Common.{◌≡◌, ◌∙◌, ◌++◌, ◌∷◌, ◌&&◌, ◌||◌, [], Bool, Bor, List, None, Option, Some, ap, arith, false, flat_map, length, refl}
+use Rattle.std.proofs.Common.{true, ℕ}
 use Rattle.std.proofs.lemmas.List.{map-append}
 use Rattle.std.specs.Prelude.{if◌then◌else◌}
 use Rattle.bolt_report.proofs.Words.{begins_with, bytes_eq, Form, is_bucket_at, Key, list_any, Member, member_cmp, Path, path_of, pointwise, Rises}
@@ -39,12 +40,14 @@ same_or_none : (b : Bool) (found : Option Key) → found ≡ None → (if b then
 same_or_none true found is = is
 same_or_none false found is = refl
 
-both_or_none : (b all : Bool) (key : Key) (found : Option Key) → found ≡ (if all then Some key else None) → (if b then found else None) ≡ (if b && all then Some key else None)
+both_or_none : (b all : Bool) (key : Key) (found : Option Key) → found ≡ (if all then Some key else None)
+    → (if b then found else None) ≡ (if b && all then Some key else None)
 both_or_none true all key found is = is
 both_or_none false all key found is = refl
 
 -- with one part more, it is that part
-pub key_last : (bucket parents : Path) (key : Key) → key_in bucket (parents ++ key ∷ []) ≡ (if pointwise bytes_eq bucket parents then Some key else None)
+pub key_last : (bucket parents : Path) (key : Key)
+    → key_in bucket (parents ++ key ∷ []) ≡ (if pointwise bytes_eq bucket parents then Some key else None)
 key_last [] [] key = refl
 key_last [] (first ∷ parents) key = none_of_several first parents key
 key_last (part ∷ bucket) [] key = same_or_none (bytes_eq part key) (key_in bucket []) (none_of_nothing bucket)
@@ -53,7 +56,8 @@ key_last (part ∷ bucket) (first ∷ parents) key = both_or_none (bytes_eq part
 -- as the code holds them
 module _ (bucket path : List (Bor (List ℕ))) where
   pub key_split : (parents : List (Bor (List ℕ))) (key : Bor (List ℕ)) → path ≡ parents ++ key ∷ [] → (same : Bool)
-      → same ≡ pointwise (λ (a b : Bor (List ℕ)). bytes_eq a.now b.now) bucket parents → key_in (path_of bucket) (path_of path) ≡ (if same then Some key.now else None)
+      → same ≡ pointwise (λ (a b : Bor (List ℕ)). bytes_eq a.now b.now) bucket parents
+      → key_in (path_of bucket) (path_of path) ≡ (if same then Some key.now else None)
   key_split parents key is same test = grind (arith, map-append, key_last, same_path)
 
   pub key_none : length path ≡ 0 → key_in (path_of bucket) (path_of path) ≡ None

@@ -10,7 +10,8 @@ unfolding page_at
 page_at-fault file meta id fault e = rw e
 
 -- that fault is the one that is reported
-pub page_text_fault-bad : (file : List ℕ) (meta : Meta) (id : ℕ) (fault : PageFault) → (page_fault file meta id ≡ Some fault.number) × (fault.page ≡ id)
+pub page_text_fault-bad : (file : List ℕ) (meta : Meta) (id : ℕ) (fault : PageFault)
+    → (page_fault file meta id ≡ Some fault.number) × (fault.page ≡ id)
     → page_text_fault file meta id ≡ Some fault
 page_text_fault-bad file meta id fault e = rw (page_at-fault file meta id fault.number e.0, e.0, ← e.1)
 

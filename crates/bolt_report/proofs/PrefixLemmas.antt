@@ -1,7 +1,8 @@
 -- The entries that begin with given bytes: none of them is below these bytes, and they lie side by side.
 use Rattle.std.proofs.Common.{◌≡◌, ◌==◌, ◌+◌, ℕ, suc, Bool, true, false, not, inl, inr, List, [], ◌∷◌, cond, drop, refl, ap, subst, arith}
 use Rattle.std.proofs.lemmas.Bool.Decides.{nat_tests}
-use Rattle.bolt_report.proofs.Words.{has_key_prefix, Contains, entry_cmp, Key, key_lt, LeafElement, least_from, false_from_ne_true, Rises, starts_with, with_prefix}
+use Rattle.bolt_report.proofs.Words.{has_key_prefix, Contains, entry_cmp, Key, key_lt, LeafElement, least_from, false_from_ne_true, Rises}
+use Rattle.bolt_report.proofs.Words.{starts_with, with_prefix}
 use Rattle.bolt_check.specs.Keys.{key_cmp}
 use Rattle.bolt_check.proofs.Exports.{lt_trans, lt_of}
 use Rattle.bolt_tree.proofs.Exports.{filter_none, contains_cases, contains_none}
@@ -37,12 +38,14 @@ below_prefix (q ∷ p) (x ∷ a) less = next_below q x p a (below_prefix p a) le
 
 module _ (prefix : Key) where
   -- the first that doesn't begin so, and isn't below the prefix, ends them
-  pub none_later : (e : LeafElement) (entries : List LeafElement) → Rises entry_cmp (e ∷ entries) → key_lt e.key prefix ≡ false → has_key_prefix prefix e ≡ false
+  pub none_later : (e : LeafElement) (entries : List LeafElement) → Rises entry_cmp (e ∷ entries) → key_lt e.key prefix ≡ false
+      → has_key_prefix prefix e ≡ false
       → with_prefix prefix (e ∷ entries) ≡ []
   none_later e entries rises after other =
       filter_none (has_key_prefix prefix) (e ∷ entries) (λ f h. elim (contains_cases e f entries h) [
         | inl s ↦ subst (λ (x : LeafElement). has_key_prefix prefix x ≡ false) s other
-        | inr later ↦ false_from_ne_true (has_key_prefix prefix f) (λ t. let c = between prefix e.key f.key after (lt_of (key_cmp e.key f.key) (rises.0 f later)) t in cc)
+        | inr later ↦
+            false_from_ne_true (has_key_prefix prefix f) (λ t. let c = between prefix e.key f.key after (lt_of (key_cmp e.key f.key) (rises.0 f later)) t in cc)
       ])
 
   -- they are among the entries from the least one on that isn't below the prefix,
@@ -61,7 +64,8 @@ module _ (prefix : Key) where
   not_below e f after less = false_from_ne_true (key_lt f.key prefix) (λ t. let c = lt_trans e.key f.key prefix less t in cc)
 
   -- of which none is below it
-  pub after_least : (entries : List LeafElement) → Rises entry_cmp entries → (f : LeafElement) → Contains (drop (least_from prefix entries) entries) f → key_lt f.key prefix ≡ false
+  pub after_least : (entries : List LeafElement) → Rises entry_cmp entries → (f : LeafElement) → Contains (drop (least_from prefix entries) entries) f
+      → key_lt f.key prefix ≡ false
   after_least [] rises f has = absurd (contains_none f has)
   after_least (e ∷ entries) rises f has = by_first (after_least entries rises.1 f) (key_lt e.key prefix) refl has
     where

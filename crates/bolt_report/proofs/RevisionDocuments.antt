@@ -1,5 +1,6 @@
 -- Revisions as JSON: their text, and that they are read back.
-use Rattle.std.proofs.Common.{◌≡◌, ◌∙◌, ℕ, zero, suc, ◌<◌, ◌≤◌, ◌/◌, ◌%◌, ◌^◌, ◌++◌, Bool, true, false, List, [], ◌∷◌, Option, Some, ap, append_assoc, arith, codes, decimal, get_or, length, map, option_and_then, refl, sym}
+use Rattle.std.proofs.Common.{◌≡◌, ◌∙◌, ℕ, zero, suc, ◌<◌, ◌≤◌, ◌/◌, ◌%◌, ◌^◌, ◌++◌, Bool, true, false, List, [], ◌∷◌, Option, Some, ap, append_assoc}
+use Rattle.std.proofs.Common.{arith, codes, decimal, get_or, length, map, option_and_then, refl, sym}
 use Rattle.std.proofs.{lemmas.Bool.cond_both, lemmas.Fmt.digits_is_IsNumeral, lemmas.List.FromFn.get_or-map-range_with_len}
 use Rattle.std.specs.{Fmt.digit_glyph, Fmt.digits, Fmt.digits_onto, List.range_with_len, Str.Parse.digits_value}
 use Rattle.std.specs.Prelude.{if◌then◌else◌}
@@ -11,7 +12,7 @@ use Rattle.bolt_text.specs.{Forms.digits_json, Forms.item_json, Forms.json_text,
 use Rattle.bolt_text.specs.declared.forms.Form.TheVariants as form
 use Rattle.bolt_report.specs.RevisionLines.{members, revision_line}
 use Rattle.bolt_report.specs.RevisionObjects.{IsOfBytes, ReadsRevisionsBack, as_read, read_revision, revision_json, value_member}
-use Rattle.bolt_etcd.specs.Revisions.{RevisionView}
+use Rattle.bolt_etcd.specs.Wire.Revisions.{RevisionView}
 
 -- ---- digits in hexadecimal need no escapes
 
@@ -25,14 +26,16 @@ nth f d small = get_or-map-range_with_len f 0 16 d d [] small (omega arith)
 
 glyph_plain : (d : ℕ) → d < 16 → escape_byte (digit_glyph false d) ≡ digit_glyph false d ∷ []
 glyph_plain d small =
-    sym (nth (λ (d : ℕ). escape_byte (digit_glyph false d)) d small) ∙ (ap (λ (texts : List (List ℕ)). get_or texts d []) all_glyphs ∙ nth (λ (d : ℕ). digit_glyph false d ∷ []) d small)
+    sym (nth (λ (d : ℕ). escape_byte (digit_glyph false d)) d small)
+    ∙ (ap (λ (texts : List (List ℕ)). get_or texts d []) all_glyphs ∙ nth (λ (d : ℕ). digit_glyph false d ∷ []) d small)
 
 one_more : (n : ℕ) (later : List ℕ) → escape later ≡ later → escape (digit_glyph false (n % 16) ∷ later) ≡ digit_glyph false (n % 16) ∷ later
 one_more n later plain = λ i. glyph_plain (n % 16) (omega arith) i ++ plain i
 
 digits_plain : (k n : ℕ) (later : List ℕ) → escape later ≡ later → escape (digits_onto k 16 false n later) ≡ digits_onto k 16 false n later
 digits_plain zero n later plain = plain
-digits_plain (suc k) n later plain = cond_both _ _ _ (λ text. escape text ≡ text) (λ e. one_more n later plain) (λ e. digits_plain k (n / 16) _ (one_more n later plain))
+digits_plain (suc k) n later plain =
+    cond_both _ _ _ (λ text. escape text ≡ text) (λ e. one_more n later plain) (λ e. digits_plain k (n / 16) _ (one_more n later plain))
 
 lease_plain : (n : ℕ) → escape (digits 16 false n) ≡ digits 16 false n
 unfolding digits
@@ -67,11 +70,15 @@ module _ (shown : List ℕ → Json) (closes : Closes shown) where
   end_text false r = refl
   end_text true r = ap (λ (text : List ℕ). line (codes ",\"value\":" ++ text)) (closes r.content.value (members_tokens no_members)) ∙ (simp append_assoc)
 
-  object_text : (values : Bool) (r : RevisionView) → json_text (revision_json shown values r) ≡ opened r (escape (digits 16 false r.content.lease)) (print_from false (json_tokens (shown r.content.name) ++ members_tokens (value_member shown values r)))
+  object_text : (values : Bool) (r : RevisionView)
+      → json_text (revision_json shown values r)
+      ≡ opened r (escape (digits 16 false r.content.lease))
+      (print_from false (json_tokens (shown r.content.name) ++ members_tokens (value_member shown values r)))
   unfolding print_from escape_byte
   object_text values r = simp append_assoc
 
-  pub line_text : (values : Bool) (r : RevisionView) → members r ++ (json_text (shown r.content.name) ++ ended values r) ≡ line (json_text (revision_json shown values r))
+  pub line_text : (values : Bool) (r : RevisionView)
+      → members r ++ (json_text (shown r.content.name) ++ ended values r) ≡ line (json_text (revision_json shown values r))
   unfolding members
   line_text values r =
       let name = json_text (shown r.content.name) in
@@ -80,7 +87,8 @@ module _ (shown : List ℕ → Json) (closes : Closes shown) where
       let whole : line (opened r lease (name ++ rest)) ≡ opened r lease (name ++ line rest) = simp append_assoc in
       let front : members r ++ (name ++ ended values r) ≡ opened r lease (name ++ ended values r) = simp append_assoc in
       front ∙ (ap (λ (text : List ℕ). opened r lease (name ++ text)) (sym (end_text values r)) ∙ (sym whole
-      ∙ sym (ap line (object_text values r ∙ (λ i. opened r (lease_plain r.content.lease i) (closes r.content.name (members_tokens (value_member shown values r)) i))))))
+      ∙ sym (ap line (object_text values r
+      ∙ (λ i. opened r (lease_plain r.content.lease i) (closes r.content.name (members_tokens (value_member shown values r)) i))))))
 
 pub json_text_of : (values : Bool) (r : RevisionView) → revision_line form.Json values r ≡ line (json_text (revision_json item_json values r))
 json_text_of true r = line_text item_json items_close true r
@@ -119,14 +127,35 @@ module _ (shown : List ℕ → Json) (read : Json → Option (List ℕ)) (reads 
     ),
   )
 
-  pub revision_back : (values : Bool) (r : RevisionView) → IsOfBytes r → option_and_then (read_revision read) (document (json_text (revision_json shown values r))) ≡ Some (as_read values r)
+  pub revision_back : (values : Bool) (r : RevisionView) → IsOfBytes r
+      → option_and_then (read_revision read) (document (json_text (revision_json shown values r))) ≡ Some (as_read values r)
   revision_back values r is =
-      ap (option_and_then (read_revision read)) (document-print (revision_json shown values r) (has_numbers values r is) (omega (arith, reads.shallow r.content.name, value_depth values r)))
+      ap (option_and_then (read_revision read))
+      (document-print (revision_json shown values r) (has_numbers values r is) (omega (arith, reads.shallow r.content.name, value_depth values r)))
       ∙ all_found values
     where
       all_found : (values : Bool) → read_revision read (revision_json shown values r) ≡ Some (as_read values r)
-      all_found true = rw (numeral_back r.key.main is.main, numeral_back r.key.sub is.sub, numeral_back r.content.created is.created, numeral_back r.content.version is.version, lease_back r.content.lease is.lease, numeral_back (length r.content.value) is.bytes, reads.back r.content.name is.name, reads.back r.content.value is.value) refl
-      all_found false = rw (numeral_back r.key.main is.main, numeral_back r.key.sub is.sub, numeral_back r.content.created is.created, numeral_back r.content.version is.version, lease_back r.content.lease is.lease, numeral_back (length r.content.value) is.bytes, reads.back r.content.name is.name) refl
+      all_found true =
+          rw (
+            numeral_back r.key.main is.main,
+            numeral_back r.key.sub is.sub,
+            numeral_back r.content.created is.created,
+            numeral_back r.content.version is.version,
+            lease_back r.content.lease is.lease,
+            numeral_back (length r.content.value) is.bytes,
+            reads.back r.content.name is.name,
+            reads.back r.content.value is.value,
+          ) refl
+      all_found false =
+          rw (
+            numeral_back r.key.main is.main,
+            numeral_back r.key.sub is.sub,
+            numeral_back r.content.created is.created,
+            numeral_back r.content.version is.version,
+            lease_back r.content.lease is.lease,
+            numeral_back (length r.content.value) is.bytes,
+            reads.back r.content.name is.name,
+          ) refl
 
 pub items_back : ReadsRevisionsBack item_in_json item_json
 items_back = revision_back item_json item_in_json items_read

@@ -1,8 +1,10 @@
 -- The lines of the buckets among entries, entry by entry.
-use Rattle.std.proofs.Common.{◌≡◌, ◌∙◌, ℕ, Bool, true, false, List, [], ◌∷◌, ◌++◌, None, Some, ap, append-nil, arith, cond, filter, inl, inr, length, length-append, map, refl, subst, sym}
+use Rattle.std.proofs.Common.{◌≡◌, ◌∙◌, ℕ, Bool, true, false, List, [], ◌∷◌, ◌++◌, None, Some, ap, append-nil, arith, cond, filter, inl, inr, length}
+use Rattle.std.proofs.Common.{length-append, map, refl, subst, sym}
 use Rattle.std.specs.Prelude.{◌≢◌}
 use Rattle.std.proofs.lemmas.Grind.{flat_map-append}
-use Rattle.bolt_report.proofs.Words.{AllByRecursion, AreSized, bucket_checked, bucket_start, bytes_of, Checked, Form, IsStatsOf, Key, LeafElement, Meta, cases_Bool, json_text, line, size_json, meta_of, Sized, sizes_text, Start, start_of, Stats}
+use Rattle.bolt_report.proofs.Words.{AllByRecursion, AreSized, bucket_checked, bucket_start, bytes_of, Checked, Form, IsStatsOf, Key, LeafElement}
+use Rattle.bolt_report.proofs.Words.{Meta, cases_Bool, json_text, line, size_json, meta_of, Sized, sizes_text, Start, start_of, Stats}
 use Rattle.bolt_tree.specs.{Lookups.IsBucketOf, declared.bucket.Bucket.Bucket}
 use Rattle.bolt_report.specs.SizeLines.{size_columns, size_line, size_text}
 use Rattle.bolt_text.specs.Forms.{is_json, item_text, json_in}
@@ -11,7 +13,8 @@ use Rattle.bolt_stats.specs.StatsOf.{AreStats}
 abbrev pub buckets_of : List LeafElement → List LeafElement
 buckets_of entries = filter (λ (e : LeafElement). e.is_bucket) entries
 
-pub by_kind : (e : LeafElement) (entries : List LeafElement) (b : Bool) → e.is_bucket ≡ b → buckets_of (e ∷ entries) ≡ cond b (e ∷ buckets_of entries) (buckets_of entries)
+pub by_kind : (e : LeafElement) (entries : List LeafElement) (b : Bool) → e.is_bucket ≡ b
+    → buckets_of (e ∷ entries) ≡ cond b (e ∷ buckets_of entries) (buckets_of entries)
 by_kind e entries b is = ap (λ (b : Bool). cond b (e ∷ buckets_of entries) (buckets_of entries)) is
 
 module _ (file : List ℕ) (meta : Meta) where
@@ -48,11 +51,14 @@ module _ (file : List ℕ) (meta : Meta) where
 -- ---- the entry that a cursor is on
 
 -- the line of its bucket
-pub bucket_line : (inner : Bucket) (checked : Checked) (form : Form) (name : Key) (e : LeafElement) (sized : List Sized) → bucket_checked inner ≡ checked → IsBucketOf (Some e) (Some inner)
-    → name ≡ e.key → AreSized (bytes_of checked) (meta_of checked) (e ∷ []) sized → (own : Stats) × AreStats inner own × (size_text form own name ≡ sizes_text form sized)
+pub bucket_line : (inner : Bucket) (checked : Checked) (form : Form) (name : Key) (e : LeafElement) (sized : List Sized)
+    → bucket_checked inner ≡ checked → IsBucketOf (Some e) (Some inner)
+    → name ≡ e.key → AreSized (bytes_of checked) (meta_of checked) (e ∷ []) sized
+    → (own : Stats) × AreStats inner own × (size_text form own name ≡ sizes_text form sized)
 bucket_line inner checked form name e sized same is named are = by_sized sized (are.buckets ∙ by_kind e [] true is.0) are.stats
   where
-    by_sized : (sized : List Sized) → map (λ (s : Sized). s.entry) sized ≡ e ∷ [] → AllByRecursion (HasStats (bytes_of checked) (meta_of checked)) sized
+    by_sized : (sized : List Sized) → map (λ (s : Sized). s.entry) sized ≡ e ∷ []
+        → AllByRecursion (HasStats (bytes_of checked) (meta_of checked)) sized
         → (own : Stats) × AreStats inner own × (size_text form own name ≡ sizes_text form sized)
     by_sized [] one stats = cc
     by_sized (s ∷ t ∷ sized) one stats = cc
@@ -71,14 +77,17 @@ pub cut_text : (form : Form) (left own rest : List Sized) → left ≡ own ++ re
 cut_text form left own rest is = ap (sizes_text form) is ∙ flat_map-append (size_line form) own rest
 
 -- no bucket is left
-pub no_line : (file : List ℕ) (meta : Meta) (form : Form) (entries : List LeafElement) (sized : List Sized) → entries ≡ [] → AreSized file meta entries sized → sizes_text form sized ≡ []
+pub no_line : (file : List ℕ) (meta : Meta) (form : Form) (entries : List LeafElement) (sized : List Sized) → entries ≡ []
+    → AreSized file meta entries sized → sizes_text form sized ≡ []
 no_line file meta form entries [] none are = refl
 no_line file meta form entries (s ∷ sized) none are =
     absurd (let c : s.entry ∷ map (λ (s : Sized). s.entry) sized ≡ [] = are.buckets ∙ ap buckets_of none in cc)
 
 -- a value has no line
-pub value_line : (file : List ℕ) (meta : Meta) (form : Form) (e : LeafElement) (sized : List Sized) → IsBucketOf (Some e) None → AreSized file meta (e ∷ []) sized → sizes_text form sized ≡ []
-value_line file meta form e sized plain are = no_line file meta form [] sized refl (record { buckets = are.buckets ∙ by_kind e [] false plain; stats = are.stats })
+pub value_line : (file : List ℕ) (meta : Meta) (form : Form) (e : LeafElement) (sized : List Sized) → IsBucketOf (Some e) None
+    → AreSized file meta (e ∷ []) sized → sizes_text form sized ≡ []
+value_line file meta form e sized plain are =
+    no_line file meta form [] sized refl (record { buckets = are.buckets ∙ by_kind e [] false plain; stats = are.stats })
 
 -- ---- each line ends with a line feed
 

@@ -4,14 +4,15 @@ pub use Rattle.bolt_check.specs.Keys.{Key, key_lt}
 pub use Rattle.bolt_check.specs.RoledFiles.{roles_checked}
 pub use Rattle.bolt_check.specs.Sound.{HasSoundTrees}
 pub use Rattle.bolt_check.specs.declared.checked.Checked.{Checked}
-pub use Rattle.bolt_format.proofs.Exports.{drop_next, WroteFront, front_more, front_none, front_whole, Wrote-element, Wrote-element_return, Wrote-elements, Wrote-none, Wrote-return, Wrote-same, Wrote-then, Wrote-then_return}
+pub use Rattle.bolt_format.proofs.Exports.{drop_next, WroteFront, front_more, front_none, front_whole, Wrote-element, Wrote-element_return}
+pub use Rattle.bolt_format.proofs.Exports.{Wrote-elements, Wrote-none, Wrote-return, Wrote-same, Wrote-then, Wrote-then_return}
 pub use Rattle.bolt_format.specs.ElementPlaces.{branch_view, leaf_view}
 pub use Rattle.bolt_format.specs.Elements.{LeafElement}
 unfoldable pub use Rattle.bolt_format.specs.Pages.{page_at}
 unfoldable pub use Rattle.bolt_format.specs.ShownGoodPages.{shown}
 pub use Rattle.bolt_format.specs.ShownIds.{shown_ids}
 pub use Rattle.bolt_format.specs.declared.meta.Meta.{Meta}
-pub use Rattle.bolt_recover.specs.{Gaps.page_gap_view, ShownLosses.loss_view}
+pub use Rattle.bolt_recover.specs.{PageGaps.page_gap_view, ShownLosses.loss_view}
 pub use Rattle.bolt_report.specs.BboltLines.{file_finding_text}
 pub use Rattle.bolt_report.specs.FaultWords.{finding_text}
 pub use Rattle.bolt_report.specs.FoundLines.{bucket_count, found_view}

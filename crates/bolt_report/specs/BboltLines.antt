@@ -7,7 +7,7 @@ use Rattle.bolt_format.specs.declared.meta.Slot.{Slot}
 use Rattle.bolt_report.specs.{FaultWords.count_line, FaultWords.finding_text, FaultWords.pages_sentence, MetaLines.slot_number}
 use Rattle.bolt_text.specs.Lines.{line}
 
--- of a file as a whole: of the meta of a slot, or of pages in a row
+-- the lines of findings on a file as a whole: on the meta of a slot, or on pages in a row
 abbrev pub meta_sentence : Slot → List ℕ → List ℕ
 meta_sentence slot words = codes "meta " ++ decimal (slot_number slot) ++ codes ": " ++ words
 

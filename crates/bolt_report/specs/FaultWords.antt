@@ -1,11 +1,14 @@
 -- The words of faults: docs/COMMANDS.md, "Errors".
 use Rattle.std.specs.Prelude.{◌==◌, ℕ, List, [], ◌∷◌, ◌++◌, codes, decimal, if◌then◌else◌}
 use Rattle.bolt_format.specs.declared.page_fault.PageFault.{PageFault}
-use Rattle.bolt_format.specs.declared.page_fault.TheConstants.PageFault.{RANGE, CUT, ID, PAGE_KIND, ELEMENT_CUT, DATA_ORDER, KEY_LENGTH, VALUE_LENGTH, LEAF_FLAGS, BUCKET_SHORT, INLINE_PAGE, INLINE_NESTED}
+use Rattle.bolt_format.specs.declared.page_fault.TheConstants.PageFault.{RANGE, CUT, ID, PAGE_KIND, ELEMENT_CUT, DATA_ORDER, KEY_LENGTH, VALUE_LENGTH}
+use Rattle.bolt_format.specs.declared.page_fault.TheConstants.PageFault.{LEAF_FLAGS, BUCKET_SHORT, INLINE_PAGE, INLINE_NESTED}
 use Rattle.bolt_format.specs.declared.meta.MetaFault.{MetaFault}
 use Rattle.bolt_format.specs.declared.meta.MetaFault.TheVariants.{Cut, Magic, Version, Sum, PageSize}
 use Rattle.bolt_check.specs.declared.finding.Finding.{Finding}
-use Rattle.bolt_check.specs.declared.finding.TheConstants.Finding.{TWICE, ORDER, BELOW_PARENT, ABOVE_NEXT, EMPTY_BRANCH, TOO_DEEP, FREED_TWICE, REACHED_FREED, UNREACHABLE, FREE_RANGE, ONE_CHILD, ROOT_VALUE, LARGE_KEY, FIRST_KEY, LEAF_DEPTH, INLINE_NUMBER}
+use Rattle.bolt_check.specs.declared.finding.TheConstants.Finding.{TWICE, ORDER, BELOW_PARENT, ABOVE_NEXT, EMPTY_BRANCH, TOO_DEEP, FREED_TWICE}
+use Rattle.bolt_check.specs.declared.finding.TheConstants.Finding.{REACHED_FREED, UNREACHABLE, FREE_RANGE, ONE_CHILD, ROOT_VALUE, LARGE_KEY}
+use Rattle.bolt_check.specs.declared.finding.TheConstants.Finding.{FIRST_KEY, LEAF_DEPTH, INLINE_NUMBER}
 use Rattle.bolt_text.specs.Lines.{line}
 
 -- why a file without a valid meta is refused

@@ -9,12 +9,12 @@ use Rattle.bolt_text.specs.declared.forms.FigureForm.TheVariants.{Json, Lines}
 abbrev pub Named : Type 0
 Named = List ℕ × Option ℕ
 
--- its line
+-- the line of a figure
 abbrev pub named_line : List ℕ → Option ℕ → List ℕ
 named_line name (Some n) = figure_line name n
 named_line name None = name ++ codes " none\n"
 
--- its name and its number as JSON; the name has underscores (95) for spaces (32)
+-- the name of a figure in JSON has underscores (95) for spaces (32)
 abbrev pub json_name : List ℕ → List ℕ
 json_name name = map (λ byte. if byte == 32 then 95 else byte) name
 
@@ -22,7 +22,7 @@ abbrev pub number_json : Option ℕ → json.Json
 number_json (Some n) = number (decimal n)
 number_json None = null
 
--- its number as a text, or this one if there is none
+-- the number of a figure as a text, or the text `none` if there is no number
 abbrev pub number_or : List ℕ → Option ℕ → List ℕ
 number_or none (Some n) = decimal n
 number_or none None = none

@@ -13,7 +13,8 @@ module _ (read : Json → Option (List ℕ)) where
   abbrev pub size_of_members : Members → Option (ℕ × ℕ × ℕ × List ℕ)
   size_of_members ms =
       option_and_then (λ keys. option_and_then (λ used. option_and_then (λ allocated. option_map (λ name. (keys, used, allocated, name))
-      (option_and_then read (named (codes "name") ms))) (number_under (codes "allocated") ms)) (number_under (codes "used") ms)) (number_under (codes "keys") ms)
+      (option_and_then read (named (codes "name") ms))) (number_under (codes "allocated") ms)) (number_under (codes "used") ms))
+      (number_under (codes "keys") ms)
 
   abbrev pub size_of : Json → Option (ℕ × ℕ × ℕ × List ℕ)
   size_of json = option_and_then size_of_members (object_members json)
@@ -28,8 +29,8 @@ abbrev pub figures_in : Members → Option (List Named)
 figures_in no_members = Some []
 figures_in (member name j ms) = option_and_then (λ n. option_map (λ figures. (name, n) ∷ figures) (figures_in ms)) (count_of j)
 
-abbrev pub figures_of : Json → Option (List Named)
-figures_of json = option_and_then figures_in (object_members json)
+abbrev pub figures_of_json : Json → Option (List Named)
+figures_of_json json = option_and_then figures_in (object_members json)
 
 -- each figure that has a number has one of 64 bits
 abbrev pub HaveWords : List Named → Type 0

@@ -3,7 +3,7 @@ use Rattle.std.specs.Prelude.{◌≢◌, ◌+◌, ◌-◌, ℕ, List, [], ◌++�
 use Rattle.std.specs.List.{filter}
 use Rattle.bolt_format.specs.{Elements.LeafElement, TreePages.leaves_on}
 use Rattle.bolt_check.specs.Keys.{Key}
-use Rattle.bolt_recover.specs.{Gaps.PageGapView, Losses.LostView, declared.found.Found.Found}
+use Rattle.bolt_recover.specs.{PageGaps.PageGapView, Losses.LostView, declared.found.Found.Found}
 use Rattle.bolt_report.specs.{FaultWords.count_line, GapLines.gaps_text, LossLines.lost_count, LossLines.lost_lines}
 use Rattle.bolt_text.specs.{Lines.line, NamedPaths.named_key}
 
@@ -15,7 +15,7 @@ pub record FoundView : Type 0 where
 abbrev pub found_view : Found → FoundView
 found_view found = record { number = found.number; elements = leaves_on found.page }
 
--- it has at least one element
+-- a found page has at least one element
 pub record IsFoundLeaf (found : Found) : Type 0 where
   pub some : leaves_on found.page ≢ []
 
@@ -29,8 +29,10 @@ bucket_count elements = length (filter (λ (e : LeafElement). e.is_bucket) eleme
 -- the number of the page, how many entries it has and how many of them are buckets, and the keys of the first and of the last
 unfoldable pub found_line : FoundView → List ℕ
 found_line found =
-    codes "page " ++ (decimal found.number ++ (codes ": nothing leads to it; found: " ++ (decimal (length found.elements) ++ (codes " entries, " ++ (decimal (bucket_count found.elements)
-    ++ (codes " of them buckets, keys from " ++ (named_key (key_at found.elements 0) ++ (codes " to " ++ line (named_key (key_at found.elements (length found.elements - 1)))))))))))
+    codes "page " ++ (decimal found.number
+    ++ (codes ": nothing leads to it; found: " ++ (decimal (length found.elements) ++ (codes " entries, " ++ (decimal (bucket_count found.elements)
+    ++ (codes " of them buckets, keys from "
+    ++ (named_key (key_at found.elements 0) ++ (codes " to " ++ line (named_key (key_at found.elements (length found.elements - 1)))))))))))
 
 abbrev pub found_text : List FoundView → List ℕ
 found_text found = flat_map found_line found

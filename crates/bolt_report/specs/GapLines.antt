@@ -2,7 +2,7 @@
 use Rattle.std.specs.Prelude.{◌+◌, ℕ, List, ◌++◌, codes, decimal, flat_map, length}
 use Rattle.bolt_check.specs.declared.finding.Finding.{Finding}
 use Rattle.bolt_format.specs.Gaps.{GapView, after, before}
-use Rattle.bolt_recover.specs.Gaps.{PageGapView}
+use Rattle.bolt_recover.specs.PageGaps.{PageGapView}
 use Rattle.bolt_report.specs.FaultWords.{count_line, finding_text}
 use Rattle.bolt_text.specs.{Lines.line, NamedPaths.named_key}
 

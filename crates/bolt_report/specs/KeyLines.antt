@@ -13,7 +13,7 @@ keys_text form entries = flat_map (λ (e : LeafElement). value_text form e.key) 
 abbrev pub buckets_text : Form → List LeafElement → List ℕ
 buckets_text form entries = keys_text form (filter (λ (e : LeafElement). e.is_bucket) entries)
 
--- this holds of the entries of a cursor's bucket
+-- a property holds of the entries of a cursor's bucket
 abbrev pub ForCursor : Cursor → (List LeafElement → Type 0) → Type 0
 ForCursor cursor P = ForEntries (cursor_checked cursor) (cursor_start cursor) P
 

@@ -3,7 +3,8 @@ use Rattle.std.specs.Prelude.{◌≡◌, ◌==◌, ◌+◌, ℕ, suc, Bool, List
 use Rattle.std.specs.List.{starts_with}
 use Rattle.bolt_format.specs.Elements.{LeafElement}
 use Rattle.bolt_check.specs.{Keys.Key, Counts.counted}
-use Rattle.bolt_tree.specs.{BucketViews.AreEntriesOf, BucketViews.BucketView, OpeningCounts.IsGap, OpeningCounts.IsSeekCount, OpeningCounts.sum_to, Places.least_from}
+use Rattle.bolt_tree.specs.{BucketViews.AreEntriesOf, BucketViews.BucketView, OpeningCounts.IsGap, OpeningCounts.IsSeekCount, OpeningCounts.sum_to}
+use Rattle.bolt_tree.specs.{Places.least_from}
 
 abbrev pub has_key_prefix : Key → LeafElement → Bool
 has_key_prefix prefix e = starts_with (λ a b. a == b) e.key prefix

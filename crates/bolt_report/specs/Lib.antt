@@ -4,7 +4,7 @@ pub mod FigureForms
 pub mod FigureReadings
 pub mod FoundLines
 pub mod GapLines
-pub mod HeldAtPaths
+pub mod AtPaths
 pub mod KeyLines
 pub mod KeyPrefixes
 pub mod LossLines

@@ -12,7 +12,7 @@ abbrev pub bucket_words : Path → List ℕ
 bucket_words [] = codes "root bucket"
 bucket_words (part ∷ path) = codes "bucket " ++ named_path (part ∷ path)
 
--- the bounds of its keys, where it lies below a branch
+-- the bounds of a lost page's keys, where it lies below a branch
 abbrev pub upper_words : Option Key → List ℕ
 upper_words None = []
 upper_words (Some key) = codes " to below " ++ named_key key
@@ -21,7 +21,7 @@ abbrev pub bounds_words : Option Key → Option Key → List ℕ
 bounds_words None upper = []
 bounds_words (Some key) upper = codes ", keys from " ++ (named_key key ++ upper_words upper)
 
--- of bounds that the code holds as slices
+-- the end of a line with bounds that the code holds as slices
 abbrev pub bounds_line : (lower upper : Option (Bor Key)) → List ℕ
 bounds_line lower upper = line (bounds_words (option_map (λ (key : Bor Key). key.now) lower) (option_map (λ (key : Bor Key). key.now) upper))
 

@@ -2,7 +2,8 @@
 use Rattle.std.specs.Prelude.{◌==◌, ℕ, Bool, List, [], ◌∷◌, Option, Some, None, flat_map, if◌then◌else◌}
 use Rattle.std.specs.{List.starts_with, Str.bytes_eq}
 use Rattle.bolt_check.specs.Keys.{Key}
-use Rattle.bolt_report.specs.{declared.name_lines.Names.Names, declared.name_lines.NamesIn.NamesIn, declared.name_lines.Names.TheVariants.BeginningWith, declared.name_lines.Names.TheVariants.Buckets}
+use Rattle.bolt_report.specs.{declared.name_lines.Names.Names, declared.name_lines.NamesIn.NamesIn}
+use Rattle.bolt_report.specs.{declared.name_lines.Names.TheVariants.BeginningWith, declared.name_lines.Names.TheVariants.Buckets}
 use Rattle.bolt_text.specs.{Forms.value_text, declared.forms.Form.Form}
 use Rattle.bolt_tree.specs.{Entries.Item, Listing.Member, ListingParts.has_bucket, ListingParts.is_bucket, Paths.Path, Paths.path_of}
 
@@ -38,7 +39,7 @@ member_name form wanted bucket m = entry_name form wanted m.1 (key_in bucket m.0
 abbrev pub names_text : Form → WantedNames → (bucket : Path) → List Member → List ℕ
 names_text form wanted bucket listing = if has_bucket bucket listing then flat_map (member_name form wanted bucket) listing else []
 
--- the same of the entries that are asked for
+-- the lines of the entries that are asked for
 abbrev pub asked_name : Form → NamesIn → Member → List ℕ
 asked_name form asked m = member_name form (is_wanted asked.names) (path_of asked.bucket.now) m
 

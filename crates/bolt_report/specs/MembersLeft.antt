@@ -2,10 +2,10 @@
 use Rattle.std.specs.Prelude.{List}
 use Rattle.bolt_tree.specs.{Listing.Member, Listing.member_cmp, Order.Rises}
 
--- this holds of what is left
+-- a property holds of what members have left
 abbrev pub ForLeft : {M W : Type 0} → (reads : M → W → Type 0) → (left : M → W → List Member) → M → (List Member → Type 0) → Type 0
 ForLeft {M} {W} reads left members P = (whole : W) → reads members whole → P (left members whole)
 
--- this holds of it, if it is in the order of paths
+-- a property holds of what members have left, if that is in the order of paths
 abbrev pub ForRising : {M W : Type 0} → (reads : M → W → Type 0) → (left : M → W → List Member) → M → (List Member → Type 0) → Type 0
 ForRising {M} {W} reads left members P = (whole : W) → reads members whole → Rises member_cmp (left members whole) → P (left members whole)

@@ -2,7 +2,8 @@
 use Rattle.std.specs.Prelude.{ℕ, List, [], ◌++◌, codes, decimal, flat_map, length, if◌then◌else◌, Option, Some, None}
 use Rattle.std.specs.Option.{option_map}
 use Rattle.hex.specs.Hex.{encode_lower}
-use Rattle.bolt_format.specs.{Elements.BranchElement, Elements.LeafElement, Elements.head_root, Elements.head_sequence, Pages.PageView, ShownIds.shown_ids}
+use Rattle.bolt_format.specs.{Elements.BranchElement, Elements.LeafElement, Elements.head_root, Elements.head_sequence, Pages.PageView}
+use Rattle.bolt_format.specs.{ShownIds.shown_ids}
 use Rattle.bolt_format.specs.{declared.header.Kind.Kind, declared.ids.FreeIds.FreeIds}
 use Rattle.bolt_format.specs.declared.header.Kind.TheVariants as kind
 use Rattle.bolt_text.specs.{Lines.figure_line, Lines.line, ListLines.value_end}
@@ -40,7 +41,7 @@ abbrev pub known_ids : Option (List ℕ) → List ℕ
 known_ids (Some ids) = ids
 known_ids None = []
 
--- the same of the ids as the code has them
+-- the ids that were read of a page, as the code has them
 abbrev pub read_ids : Option FreeIds → List ℕ
 read_ids ids = known_ids (option_map shown_ids ids)
 

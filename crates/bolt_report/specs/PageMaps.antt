@@ -39,6 +39,6 @@ map_text file meta roles =
 abbrev pub map_of : Checked → (ℕ → Role) → List ℕ
 map_of checked roles = map_text (bytes_of checked) (meta_of checked) roles
 
--- its first part, the lines
+-- the first part of the map of a checked file, its lines
 abbrev pub lines_of : Checked → (ℕ → Role) → List ℕ
 lines_of checked roles = map_lines roles (length (pages_in (bytes_of checked) (meta_of checked)))

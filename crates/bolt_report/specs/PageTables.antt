@@ -1,9 +1,11 @@
 -- The table of all pages of a file: docs/COMMANDS.md, "pages".
 -- What is promised of it is promised for the roles of the pages; each page below the mark has exactly one.
-use Rattle.std.specs.Prelude.{◌==◌, ◌-◌, ℕ, List, [], ◌++◌, Bool, true, false, Option, Some, None, codes, count_by, decimal, flat_map, if◌then◌else◌, length, min}
+use Rattle.std.specs.Prelude.{◌==◌, ◌-◌, ℕ, List, [], ◌++◌, Bool, true, false, Option, Some, None, codes, count_by, decimal, flat_map, if◌then◌else◌}
+use Rattle.std.specs.Prelude.{length, min}
 use Rattle.std.specs.{Int.div_ceil, List.range_with_len}
 use Rattle.bolt_format.specs.{Freelists.free_ids_at, Pages.PageView, Pages.page_at, declared.meta.Meta.Meta}
-use Rattle.bolt_check.specs.{CheckedFiles.bytes_of, CheckedFiles.meta_of, Roles.AreRoles, declared.checked.Checked.Checked, declared.role_table.Role.Role}
+use Rattle.bolt_check.specs.{CheckedFiles.bytes_of, CheckedFiles.meta_of, Roles.AreRoles, declared.checked.Checked.Checked}
+use Rattle.bolt_check.specs.{declared.role_table.Role.Role}
 use Rattle.bolt_check.specs.declared.role_table.Role.TheVariants as role
 use Rattle.bolt_text.specs.Lines.{column, line}
 
@@ -76,6 +78,6 @@ free_past checked roles = count_by (λ n. is_free (roles n)) (pages_past (bytes_
 abbrev pub items_row : Checked → ℕ → (kind : List ℕ) → List ℕ
 items_row checked n kind = shown_row n kind (λ view. view.count) (page_at (bytes_of checked) (meta_of checked) n)
 
--- this holds of the roles of a file's pages
+-- a property holds of the roles of a file's pages
 abbrev pub ForRoles : Checked → ((ℕ → Role) → Type 0) → Type 0
 ForRoles checked P = (roles : ℕ → Role) → AreRoles (bytes_of checked) (meta_of checked) roles → P roles

@@ -2,9 +2,9 @@
 use Rattle.std.specs.Prelude.{ℕ, Bool, false, List, [], ◌++◌, codes, decimal, filter, flat_map, ◌==◌, length, if◌then◌else◌}
 use Rattle.std.specs.{Fmt.digits, List.starts_with}
 use Rattle.bolt_text.specs.{Forms.is_json, Forms.item_text, declared.forms.Form.Form}
-use Rattle.bolt_etcd.specs.Revisions.{RevisionView}
+use Rattle.bolt_etcd.specs.Wire.Revisions.{RevisionView}
 
--- its numbers, each followed by a space
+-- the numbers of a revision, each followed by a space
 unfoldable pub columns : RevisionView → List ℕ
 columns r =
     decimal r.key.main ++ (codes " " ++ (decimal r.key.sub ++ (codes " " ++ (decimal r.content.version ++ (codes " " ++ (digits 16 false r.content.lease
@@ -20,7 +20,7 @@ members r =
 abbrev pub head : Form → RevisionView → List ℕ
 head form r = if is_json form then members r else columns r
 
--- its value, if values are wanted
+-- what precedes the value of a revision, if values are wanted
 abbrev pub value_mark : Form → List ℕ
 value_mark form = if is_json form then codes ",\"value\":" else codes " = "
 
@@ -33,11 +33,11 @@ line_end form = if is_json form then codes "}\n" else codes "\n"
 abbrev pub revision_line : Form → (values : Bool) → RevisionView → List ℕ
 revision_line form values r = head form r ++ (item_text form r.content.name ++ (value_part form values r ++ line_end form))
 
--- one after another
+-- the lines of revisions, one after another
 abbrev pub revision_lines : Form → (values : Bool) → List RevisionView → List ℕ
 revision_lines form values rs = flat_map (revision_line form values) rs
 
--- those whose names begin with these bytes
+-- the name of a revision begins with these bytes
 abbrev pub begins : List ℕ → RevisionView → Bool
 begins prefix r = starts_with (λ a b. a == b) r.content.name prefix
 

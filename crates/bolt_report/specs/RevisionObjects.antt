@@ -1,16 +1,17 @@
 -- A revision as a JSON object, and what a reader finds in it: docs/COMMANDS.md, "etcd-revisions".
-use Rattle.std.specs.Prelude.{◌≡◌, ℕ, ◌<◌, ◌^◌, Bool, List, Option, Some, None, codes, decimal, length, option_and_then, option_map, false, if◌then◌else◌}
+use Rattle.std.specs.Prelude.{◌≡◌, ℕ, ◌<◌, ◌^◌, Bool, List, Option, Some, None, codes, decimal, length, option_and_then, option_map, false}
+use Rattle.std.specs.Prelude.{if◌then◌else◌}
 use Rattle.std.specs.{Fmt.digits, Str.Parse.digits_value}
 use Rattle.hex.specs.Hex.{IsBytes}
 use Rattle.json.specs.Json.{Json, Members, document, member, no_members, number, object, string}
 use Rattle.bolt_text.specs.{Forms.json_text, JsonReadings.object_members, JsonReadings.named, JsonReadings.number_under, JsonReadings.string_of}
-use Rattle.bolt_etcd.specs.{Revisions.RevisionView, Wire.◌>>=◌}
+use Rattle.bolt_etcd.specs.{Wire.Revisions.RevisionView, Wire.Fields.◌>>=◌}
 
 -- by the JSON value of a name or a value: the value of a revision, if values are wanted
 abbrev pub value_member : (List ℕ → Json) → (values : Bool) → RevisionView → Members
 value_member shown values r = if values then member (codes "value") (shown r.content.value) no_members else no_members
 
--- its numbers, its name and its value
+-- a revision as JSON: its numbers, its name and, if values are wanted, its value
 abbrev pub revision_json : (List ℕ → Json) → (values : Bool) → RevisionView → Json
 revision_json shown values r = object
     (member (codes "revision") (number (decimal r.key.main)) (member (codes "sub") (number (decimal r.key.sub))
@@ -54,7 +55,7 @@ module _ (read : Json → Option (List ℕ)) where
   abbrev pub read_revision : Json → Option ReadRevision
   read_revision json = option_and_then read_members (object_members json)
 
--- its numbers have 64 bits, and its name and its value are bytes
+-- the numbers of a revision have 64 bits, and its name and its value are bytes
 pub record IsOfBytes (r : RevisionView) : Type 0 where
   pub main : r.key.main < 2 ^ 64
   pub sub : r.key.sub < 2 ^ 64

@@ -24,9 +24,10 @@ size_columns stats = (decimal stats.keys ++ codes " ") ++ ((decimal (bytes_used 
 -- the beginning of an object with the same
 abbrev pub size_members : Stats → List ℕ
 size_members stats =
-    codes "{\"keys\":" ++ (decimal stats.keys ++ (codes ",\"used\":" ++ (decimal (bytes_used stats) ++ (codes ",\"allocated\":" ++ (decimal (bytes_allocated stats) ++ codes ",\"name\":")))))
+    codes "{\"keys\":" ++ (decimal stats.keys
+    ++ (codes ",\"used\":" ++ (decimal (bytes_used stats) ++ (codes ",\"allocated\":" ++ (decimal (bytes_allocated stats) ++ codes ",\"name\":")))))
 
--- the same as an object, with the name as JSON
+-- the figures of a bucket's size as an object, with the name as JSON
 abbrev pub size_json : Stats → json.Json → json.Json
 size_json stats name = object (figures_then
     ((codes "keys", Some stats.keys) ∷ (codes "used", Some (bytes_used stats)) ∷ (codes "allocated", Some (bytes_allocated stats)) ∷ [])
@@ -52,6 +53,7 @@ pub record AreSized (file : List ℕ) (meta : Meta) (entries : List LeafElement)
   pub buckets : map (λ (s : Sized). s.entry) sized ≡ filter (λ (e : LeafElement). e.is_bucket) entries
   pub stats : AllByRecursion (λ (s : Sized). IsStatsOf file meta (start_of s.entry.value) s.stats) sized
 
--- this holds of the buckets in a bucket with their figures
+-- a property holds of the buckets in a bucket with their figures
 abbrev pub ForSized : Bucket → (List Sized → Type 0) → Type 0
-ForSized bucket P = ForBucket bucket (λ entries. (sized : List Sized) → AreSized (bytes_of (bucket_checked bucket)) (meta_of (bucket_checked bucket)) entries sized → P sized)
+ForSized bucket P =
+    ForBucket bucket (λ entries. (sized : List Sized) → AreSized (bytes_of (bucket_checked bucket)) (meta_of (bucket_checked bucket)) entries sized → P sized)

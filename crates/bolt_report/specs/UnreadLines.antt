@@ -1,7 +1,7 @@
 -- The lines of entries that a repair doesn't copy: docs/COMMANDS.md, "etcd-repair".
 use Rattle.std.specs.Prelude.{ℕ, List, ◌++◌, codes, flat_map}
 use Rattle.bolt_text.specs.{Forms.item_text, declared.forms.Form.TheVariants.Hex}
-use Rattle.bolt_etcd.specs.{CheckLines.revision_then, Others.No_record, Others.OtherView, Others.Other_key}
+use Rattle.bolt_etcd.specs.{Check.CheckLines.revision_then, Wire.Others.No_record, Wire.Others.OtherView, Wire.Others.Other_key}
 
 abbrev pub unread_line : OtherView → List ℕ
 unread_line (Other_key key) = codes "key " ++ (item_text Hex key ++ codes ": not a revision; not copied\n")

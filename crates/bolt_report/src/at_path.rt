@@ -2,7 +2,7 @@
 ghost use Rattle.std.specs.Option.{IfNone};
 ghost use Rattle.std.specs.Prelude.{◌≡◌, IfOk, IfSome, List, OnOk, ℕ};
 ghost use Rattle.bolt_tree.specs.{Entries.Value, Listing.Member, Paths.path_of, ShownEntries.item_view};
-ghost use Rattle.bolt_report.specs.{HeldAtPaths.HoldsNow, HeldAtPaths.parents_of, MembersLeft.ForLeft};
+ghost use Rattle.bolt_report.specs.{AtPaths.HoldsNow, AtPaths.parents_of, MembersLeft.ForLeft};
 
 use crate::part_lines::is_bucket_at;
 use bolt_check::NoMemory;

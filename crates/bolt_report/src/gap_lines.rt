@@ -1,7 +1,7 @@
 //! The lines of gaps, and those of findings with the gaps after them.
 ghost use Rattle.std.specs.Prelude.{◌≡◌, ◌≤◌, map};
 ghost use Rattle.bolt_format.specs.{Endings.ending, Wrote.Wrote};
-ghost use Rattle.bolt_recover.specs.Gaps.{page_gap_view};
+ghost use Rattle.bolt_recover.specs.PageGaps.{page_gap_view};
 ghost use Rattle.bolt_report.specs.GapLines.{findings_text, gap_line, gaps_text};
 
 use crate::fault_lines::{put_each_finding, put_error_count};

@@ -4,14 +4,14 @@ ghost use Rattle.json.specs.Json.{document};
 ghost use Rattle.bolt_format.specs.{Elements.LeafElement, declared.meta.Meta.Meta};
 ghost use Rattle.bolt_report.specs.FigureForms.{Named, figures_json, json_name};
 ghost use Rattle.bolt_text.specs.Forms.{digits_json, item_json, json_text};
-ghost use Rattle.bolt_report.specs.FigureReadings.{HaveWords, figures_of, ReadsSizesBack};
+ghost use Rattle.bolt_report.specs.FigureReadings.{HaveWords, figures_of_json, ReadsSizesBack};
 ghost use Rattle.bolt_text.specs.JsonReadings.{digits_of, item_in_json};
 ghost use Rattle.bolt_report.specs.SizeLines.{AreSized, Sized};
 ghost use Rattle.bolt_check.specs.Ones.{AtMostOne};
 ghost use Rattle.bolt_tree.specs.Laws.{ForBucketEntries};
 ghost use Rattle.std.specs.Prelude.{◌≡◌, ℕ, Bool, List, Some, map};
 ghost use Rattle.bolt_format.specs.{Elements.LeafElement};
-ghost use Rattle.bolt_etcd.specs.{Revisions.RevisionView};
+ghost use Rattle.bolt_etcd.specs.{Wire.Revisions.RevisionView};
 ghost use Rattle.bolt_check.specs.{Ones.AtMostOne};
 ghost use Rattle.bolt_format.specs.declared.meta.Meta.{Meta};
 ghost use Rattle.bolt_report.specs.{RevisionLines.revision_line, RevisionObjects.ReadsRevisionsBack, RevisionObjects.revision_json};
@@ -37,7 +37,7 @@ pub fn sizes_exist()
 #[tactic(auto, using(crate::proofs::FigureDocuments::figures_document))]
 pub fn json_figures_read_back()
     ensures { (figures : List Named) → HaveWords figures
-        → option_and_then figures_of (document (json_text (figures_json figures)))
+        → option_and_then figures_of_json (document (json_text (figures_json figures)))
         ≡ Some (map (λ figure. (json_name figure.0, figure.1)) figures) }
 {}
 

@@ -2,7 +2,7 @@
 ghost use Rattle.std.specs.Prelude.{◌≡◌, map, ◌≤◌, ◌++◌};
 ghost use Rattle.std.specs.List.{All};
 ghost use Rattle.bolt_format.specs.{Endings.ending, Wrote.Wrote, TreePages.leaves_on};
-ghost use Rattle.bolt_recover.specs.{Gaps.page_gap_view, ShownLosses.loss_view, ShownLosses.lost_view};
+ghost use Rattle.bolt_recover.specs.{PageGaps.page_gap_view, ShownLosses.loss_view, ShownLosses.lost_view};
 ghost use Rattle.bolt_tree.specs.Paths.{path_of};
 ghost use Rattle.bolt_text.specs.Lines.{line};
 ghost use Rattle.bolt_report.specs.FaultWords.{count_line};
@@ -51,12 +51,12 @@ fn put_loss<S: Sink>(loss: &Loss<'_>, sink: &mut S) -> Result<(), SinkFault>
     ensures { Wrote S.Sink sink.old sink.new (loss_text (loss_view loss.now)) (ending result) }
 {
     put_sentence(&loss.finding, b"; lost: ", sink)?;
-    put_bucket(loss.bucket.as_slice(), sink)?;
+    put_bucket_words(loss.bucket.as_slice(), sink)?;
     put_bounds(loss.lower, loss.upper, sink)
 }
 
 /// Writes which bucket a lost page belongs to.
-fn put_bucket<S: Sink>(path: &[&[u8]], sink: &mut S) -> Result<(), SinkFault>
+fn put_bucket_words<S: Sink>(path: &[&[u8]], sink: &mut S) -> Result<(), SinkFault>
     ensures { Wrote S.Sink sink.old sink.new (bucket_words (path_of path.now)) (ending result) }
 {
     if path.is_empty() {

@@ -3,7 +3,8 @@ ghost use Rattle.std.specs.Prelude.{◌≡◌, ◌+◌, ◌-◌, ◌≤◌, ◌<
 ghost use Rattle.std.specs.List.{range_with_len};
 ghost use Rattle.bolt_format.specs.{Endings.ending, Wrote.Wrote};
 ghost use Rattle.bolt_check.specs.{CheckedFiles.bytes_of, CheckedFiles.has_accounts, CheckedFiles.meta_of, RoledFiles.roles_checked};
-ghost use Rattle.bolt_report.specs.{PageMaps.lines_of, PageMaps.map_line, PageMaps.map_of, PageMaps.page_mark, PageTables.ForRoles, PageTables.pages_in};
+ghost use Rattle.bolt_report.specs.{PageMaps.lines_of, PageMaps.map_line, PageMaps.map_of, PageMaps.page_mark, PageTables.ForRoles};
+ghost use Rattle.bolt_report.specs.{PageTables.pages_in};
 
 use crate::page_table::{free_past, pages_begun, put_past};
 use arrayvec::ArrayVec;
@@ -26,12 +27,12 @@ pub fn put_page_map<S: Sink>(table: &Roles<'_>, sink: &mut S) -> Result<(), Sink
     ensures { ForRoles (roles_checked table.now) (λ roles.
         Wrote S.Sink sink.old sink.new (map_of (roles_checked table.now) roles) (ending result)) }
 {
-    put_lines(table, sink)?;
+    put_map_lines(table, sink)?;
     put_past(free_past(table), sink)
 }
 
 /// Writes the lines of the pages in the file.
-fn put_lines<S: Sink>(table: &Roles<'_>, sink: &mut S) -> Result<(), SinkFault>
+fn put_map_lines<S: Sink>(table: &Roles<'_>, sink: &mut S) -> Result<(), SinkFault>
     requires { has_accounts (roles_checked table.now) ≡ true }
     ensures { ForRoles (roles_checked table.now) (λ roles.
         Wrote S.Sink sink.old sink.new (lines_of (roles_checked table.now) roles) (ending result)) }

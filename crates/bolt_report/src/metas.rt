@@ -23,13 +23,13 @@ pub fn info<S: Sink>(
     ensures { Wrote S.Sink sink.old sink.new (info_text form slot meta.now) (ending result) }
 {
     match form {
-        FigureForm::Lines => put_lines(slot, meta, sink),
-        FigureForm::Json => put_json(slot, meta, sink),
+        FigureForm::Lines => put_meta_lines(slot, meta, sink),
+        FigureForm::Json => put_meta_json(slot, meta, sink),
     }
 }
 
 #[tactic(auto, unfolding(crate::specs::MetaLines::info_text))]
-fn put_lines<S: Sink>(slot: Slot, meta: &Meta, sink: &mut S) -> Result<(), SinkFault>
+fn put_meta_lines<S: Sink>(slot: Slot, meta: &Meta, sink: &mut S) -> Result<(), SinkFault>
     ensures { Wrote S.Sink sink.old sink.new (info_text FigureForm.Lines slot meta.now)
         (ending result) }
 {
@@ -47,7 +47,7 @@ fn put_lines<S: Sink>(slot: Slot, meta: &Meta, sink: &mut S) -> Result<(), SinkF
     )
 }
 
-fn put_json<S: Sink>(slot: Slot, meta: &Meta, sink: &mut S) -> Result<(), SinkFault>
+fn put_meta_json<S: Sink>(slot: Slot, meta: &Meta, sink: &mut S) -> Result<(), SinkFault>
     ensures { Wrote S.Sink sink.old sink.new (info_text FigureForm.Json slot meta.now)
         (ending result) }
 {

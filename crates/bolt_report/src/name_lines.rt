@@ -16,7 +16,7 @@ use std::alloc::Global;
 /// Which entries of a bucket are named.
 #[derive(Clone, Copy)]
 pub enum Names<'q> {
-    /// Those whose keys begin with these bytes.
+    /// The entries whose keys begin with these bytes.
     BeginningWith(&'q [u8]),
     /// The buckets.
     Buckets,
@@ -39,7 +39,7 @@ pub struct NamesIn<'q> {
 /// `Sink` if the sink failed; `NoMemory` if memory ran out for the members or for a text in the form
 /// `Json`, and the sink had not failed. The sink has then accepted a prefix of the text: if memory ran
 /// out, maybe all of it, since all members are taken. There is no other error.
-pub fn list_members_names<'a, M: Members<'a>, S: Sink>(
+pub fn put_member_names<'a, M: Members<'a>, S: Sink>(
     alloc: Global,
     members: &mut M,
     asked: NamesIn<'_>,

@@ -4,7 +4,8 @@ ghost use Rattle.std.specs.Result.{result_err};
 ghost use Rattle.bolt_format.specs.{Endings.ending, Freelists.free_ids_at, Pages.page_at, ShownGoodPages.shown, ShownIds.shown_ids, Wrote.Wrote};
 ghost use Rattle.bolt_format.specs.TreePages.{branches_on, leaves_on};
 ghost use Rattle.bolt_format.specs.{ElementPlaces.branch_view, ElementPlaces.leaf_view, Elements.IsBucketValue};
-ghost use Rattle.bolt_report.specs.PageLines.{head_lines, page_head, item_lines, items_on, kind_text, page_lines, branch_line, bucket_end, id_line, leaf_line, read_ids};
+ghost use Rattle.bolt_report.specs.PageLines.{head_lines, page_head, item_lines, items_on, kind_text, page_lines, branch_line, bucket_end, id_line};
+ghost use Rattle.bolt_report.specs.PageLines.{leaf_line, read_ids};
 ghost use Rattle.bolt_text.specs.ListLines.{value_end};
 ghost use Rattle.bolt_report.specs.PageTexts.{page_text, page_text_fault};
 ghost use Rattle.bolt_text.specs.ReportEndings.{report_ending};
@@ -83,13 +84,13 @@ fn put_page<S: Sink>(
     ensures { Wrote S.Sink sink.old sink.new (page_lines id (shown page.now) (read_ids ids.entry))
         (ending result) }
 {
-    put_head(id, page, &ids, sink)?;
+    put_page_head(id, page, &ids, sink)?;
     put_items(page, ids, sink)
 }
 
 /// Writes the first four lines of a page.
 #[tactic(auto, unfolding(crate::specs::PageLines::head_lines))]
-fn put_head<S: Sink>(
+fn put_page_head<S: Sink>(
     id: u64,
     page: &Page<'_>,
     ids: &Option<FreeIds<'_>>,
@@ -205,14 +206,14 @@ fn put_leaf<S: Sink>(leaf: &Leaf<'_>, sink: &mut S) -> Result<(), SinkFault>
     ensures { Wrote S.Sink sink.old sink.new (leaf_line (leaf_view leaf.now)) (ending result) }
 {
     if leaf.is_bucket {
-        put_bucket(leaf.key, leaf.value, sink)
+        put_bucket_leaf(leaf.key, leaf.value, sink)
     } else {
-        put_value(leaf.key, leaf.value, sink)
+        put_value_leaf(leaf.key, leaf.value, sink)
     }
 }
 
 #[tactic(auto, unfolding(crate::specs::PageLines::bucket_end))]
-fn put_bucket<S: Sink>(key: &[u8], value: &[u8], sink: &mut S) -> Result<(), SinkFault>
+fn put_bucket_leaf<S: Sink>(key: &[u8], value: &[u8], sink: &mut S) -> Result<(), SinkFault>
     requires { IsBucketValue value.now }
     ensures { Wrote S.Sink sink.old sink.new (encode_lower key.now ++ bucket_end value.now)
         (ending result) }
@@ -230,7 +231,11 @@ fn put_bucket<S: Sink>(key: &[u8], value: &[u8], sink: &mut S) -> Result<(), Sin
 }
 
 #[tactic(auto, unfolding(bolt_text::specs::ListLines::value_end))]
-fn put_value<'a, S: Sink>(key: &'a [u8], value: &'a [u8], sink: &mut S) -> Result<(), SinkFault>
+fn put_value_leaf<'a, S: Sink>(
+    key: &'a [u8],
+    value: &'a [u8],
+    sink: &mut S,
+) -> Result<(), SinkFault>
     ensures { Wrote S.Sink sink.old sink.new (encode_lower key.now ++ value_end value.now)
         (ending result) }
 {

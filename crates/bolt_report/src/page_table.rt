@@ -2,7 +2,8 @@
 ghost use Rattle.std.specs.Prelude.{◌≡◌, ◌<◌, ◌⊎◌, IfErr, IsSome, length, true, [], codes, decimal};
 ghost use Rattle.bolt_format.specs.{Endings.ending, Freelists.free_ids_at, Pages.page_at, Wrote.Wrote};
 ghost use Rattle.bolt_check.specs.{CheckedFiles.bytes_of, CheckedFiles.has_accounts, CheckedFiles.meta_of, RoledFiles.roles_checked, Roles.HasRole};
-ghost use Rattle.bolt_report.specs.PageTables.{ForRoles, begun, free_past, head_rows, items_row, overflow_text, page_row, past_line, row, table_rows, table_text};
+ghost use Rattle.bolt_report.specs.PageTables.{ForRoles, begun, free_past, head_rows, items_row, overflow_text, page_row, past_line, row, table_rows};
+ghost use Rattle.bolt_report.specs.PageTables.{table_text};
 ghost use Rattle.bolt_text.specs.{ReportEndings.report_ending, Lines.column, Pieces.piece_text};
 
 use bolt_check::{Checked, Role, Roles, roles};
@@ -42,7 +43,7 @@ pub fn put_page_table<S: Sink>(table: &Roles<'_>, sink: &mut S) -> Result<(), Si
         Wrote S.Sink sink.old sink.new (table_text (roles_checked table.now) roles)
         (ending result)) }
 {
-    put_head(sink)?;
+    put_table_head(sink)?;
     put_rows(table, sink)?;
     put_past(free_past(table), sink)
 }
@@ -146,7 +147,7 @@ const HEAD: &[u8] = b"ID       TYPE       ITEMS  OVRFLW\n======== ========== ===
 
 /// Writes the two head rows of the table.
 #[tactic(auto, unfolding(bolt_text::specs::Lines::column, crate::specs::PageTables::row))]
-fn put_head<S: Sink>(sink: &mut S) -> Result<(), SinkFault>
+fn put_table_head<S: Sink>(sink: &mut S) -> Result<(), SinkFault>
     ensures { Wrote S.Sink sink.old sink.new head_rows (ending result) }
 {
     put(HEAD, sink)

@@ -71,7 +71,7 @@ pub fn put_list_part<S: Sink>(
 /// `from`, as `put_list_part` does, with its errors. If it returns `Ok`, it has taken all members, and the
 /// result says whether what was left has the bucket at `below`: always if `below` is empty. If it
 /// doesn't, the text is empty, even if there is a value at `below`.
-pub fn list_members_part<'a, M: Members<'a>, S: Sink>(
+pub fn put_member_part<'a, M: Members<'a>, S: Sink>(
     alloc: Global,
     members: &mut M,
     below: &[&[u8]],

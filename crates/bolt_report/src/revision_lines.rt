@@ -4,7 +4,8 @@ ghost use Rattle.bolt_check.specs.{Keys.Key, Counts.counted};
 ghost use Rattle.bolt_format.specs.{Endings.ending, Wrote.Wrote};
 ghost use Rattle.bolt_text.specs.{ReportEndings.report_ending};
 ghost use Rattle.bolt_report.specs.RevisionLines.{columns, head, line_end, members, value_mark};
-ghost use Rattle.bolt_etcd.specs.{ShownRevisions.shown_decoded, ShownRevisions.shown_revision, RevisionsLeft.pass_others, RevisionsLeft.ForAhead, Stores.others, Stores.revisions, ForNames.ForCurrent};
+ghost use Rattle.bolt_etcd.specs.{Wire.ShownRevisions.shown_decoded, Wire.ShownRevisions.shown_revision, Store.RevisionsLeft.pass_others};
+ghost use Rattle.bolt_etcd.specs.{Store.RevisionsLeft.ForAhead, Store.Stores.others, Store.Stores.revisions, Check.ForNames.ForCurrent};
 ghost use Rattle.bolt_tree.specs.EntriesLeft.{ForBucket};
 
 use bolt_etcd::{Current, Decoded, Revision, Revisions};
@@ -126,15 +127,15 @@ fn put_head<S: Sink>(form: Form, revision: &Decoded<'_>, sink: &mut S) -> Result
         (head form (shown_decoded place revision.now)) (ending result) }
 {
     if form.is_json() {
-        put_members(revision, sink)
+        put_revision_members(revision, sink)
     } else {
-        put_columns(revision, sink)
+        put_revision_columns(revision, sink)
     }
 }
 
 /// Writes the numbers, each followed by a space.
 #[tactic(auto, unfolding(crate::specs::RevisionLines::columns))]
-fn put_columns<S: Sink>(revision: &Decoded<'_>, sink: &mut S) -> Result<(), SinkFault>
+fn put_revision_columns<S: Sink>(revision: &Decoded<'_>, sink: &mut S) -> Result<(), SinkFault>
     ensures { (place : Key) → Wrote S.Sink sink.old sink.new
         (columns (shown_decoded place revision.now)) (ending result) }
 {
@@ -155,7 +156,7 @@ fn put_columns<S: Sink>(revision: &Decoded<'_>, sink: &mut S) -> Result<(), Sink
 
 /// Writes the beginning of the object, up to the name.
 #[tactic(auto, unfolding(crate::specs::RevisionLines::members))]
-fn put_members<S: Sink>(revision: &Decoded<'_>, sink: &mut S) -> Result<(), SinkFault>
+fn put_revision_members<S: Sink>(revision: &Decoded<'_>, sink: &mut S) -> Result<(), SinkFault>
     ensures { (place : Key) → Wrote S.Sink sink.old sink.new
         (members (shown_decoded place revision.now)) (ending result) }
 {

@@ -2,7 +2,8 @@
 ghost use Rattle.std.specs.Prelude.{◌≡◌, ◌++◌, ◌⊎◌, IfErr, true};
 ghost use Rattle.bolt_format.specs.{Endings.ending, Wrote.Wrote};
 ghost use Rattle.bolt_stats.specs.StatsOf.{AreStats};
-ghost use Rattle.bolt_text.specs.{Forms.value_text, Forms.is_json, Forms.json_in, Forms.json_text, ReportEndings.HaltsShort, ReportEndings.report_ending};
+ghost use Rattle.bolt_text.specs.{Forms.value_text, Forms.is_json, Forms.json_in, Forms.json_text, ReportEndings.HaltsShort};
+ghost use Rattle.bolt_text.specs.{ReportEndings.report_ending};
 ghost use Rattle.bolt_report.specs.SizeLines.{bytes_allocated, bytes_used, size_columns, size_text, sizes_text, size_json, size_members, ForSized};
 ghost use Rattle.bolt_text.specs.Lines.{line};
 
@@ -40,14 +41,14 @@ pub fn put_sizes<S: Sink>(
     let mut items = ItemWriter::new(alloc, form);
     'rest: while let Some(entry) = cursor.next() {
         if let Some(inner) = bucket.bucket_at(&cursor) {
-            put_bucket(alloc, &inner, entry.key, &mut items, sink)?;
+            put_bucket_size(alloc, &inner, entry.key, &mut items, sink)?;
         }
     }
     Ok(())
 }
 
 /// Writes the line of a bucket with this name.
-fn put_bucket<S: Sink>(
+fn put_bucket_size<S: Sink>(
     alloc: Global,
     bucket: &Bucket<'_>,
     name: &[u8],
@@ -86,13 +87,13 @@ fn put_size<S: Sink>(
     if items.form.is_json() {
         put_object(stats, name, items, sink)
     } else {
-        put_row(stats, name, items, sink)
+        put_size_row(stats, name, items, sink)
     }
 }
 
 /// Writes the figures and the name with spaces between them.
 #[tactic(auto, using(bolt_text::proofs::Exports::reports, bolt_text::proofs::Exports::shorts))]
-fn put_row<S: Sink>(
+fn put_size_row<S: Sink>(
     stats: &Stats,
     name: &[u8],
     items: &mut ItemWriter,

@@ -2,7 +2,8 @@
 ghost use Rattle.std.specs.Prelude.{◌++◌, codes, map};
 ghost use Rattle.bolt_format.specs.{Endings.ending, Wrote.Wrote};
 ghost use Rattle.bolt_recover.specs.ShownStates.{figures_view, leads_to, place_view, state_view};
-ghost use Rattle.bolt_report.specs.StateLines.{counts_words, figures_words, kept_line, keys_words, lost_line, meta_words, metas_line, names_words, place_words, states_text};
+ghost use Rattle.bolt_report.specs.StateLines.{counts_words, figures_words, kept_line, keys_words, lost_line, meta_words, metas_line, names_words};
+ghost use Rattle.bolt_report.specs.StateLines.{place_words, states_text};
 ghost use Rattle.std.specs.List.{flat_map};
 
 use crate::metas::slot_number;

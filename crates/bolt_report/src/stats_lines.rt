@@ -15,13 +15,13 @@ pub fn stats_text<S: Sink>(stats: &Stats, form: FigureForm, sink: &mut S) -> Res
     ensures { Wrote S.Sink sink.old sink.new (stats_text form stats.now) (ending result) }
 {
     match form {
-        FigureForm::Lines => put_lines(stats, sink),
-        FigureForm::Json => put_json(stats, sink),
+        FigureForm::Lines => put_stats_lines(stats, sink),
+        FigureForm::Json => put_stats_json(stats, sink),
     }
 }
 
 #[tactic(auto, unfolding(crate::specs::StatsLines::stats_text))]
-fn put_lines<S: Sink>(stats: &Stats, sink: &mut S) -> Result<(), SinkFault>
+fn put_stats_lines<S: Sink>(stats: &Stats, sink: &mut S) -> Result<(), SinkFault>
     ensures { Wrote S.Sink sink.old sink.new (stats_text FigureForm.Lines stats.now)
         (ending result) }
 {
@@ -45,7 +45,7 @@ fn put_lines<S: Sink>(stats: &Stats, sink: &mut S) -> Result<(), SinkFault>
     )
 }
 
-fn put_json<S: Sink>(stats: &Stats, sink: &mut S) -> Result<(), SinkFault>
+fn put_stats_json<S: Sink>(stats: &Stats, sink: &mut S) -> Result<(), SinkFault>
     ensures { Wrote S.Sink sink.old sink.new (stats_text FigureForm.Json stats.now)
         (ending result) }
 {

@@ -4,7 +4,7 @@ ghost use Rattle.bolt_format.specs.{Endings.ending, Wrote.Wrote};
 ghost use Rattle.bolt_report.specs.StatusLines.{status_text};
 
 use crate::metas::{line_or, number_or};
-use bolt_etcd::Status;
+use bolt_etcd::StoreStatus;
 use bolt_format::{Sink, SinkFault};
 use bolt_text::{FigureForm, Piece, put_pieces};
 
@@ -13,17 +13,21 @@ use bolt_text::{FigureForm, Piece, put_pieces};
 /// # Errors
 ///
 /// `SinkFault` if the sink failed. It has then accepted a prefix of the text.
-pub fn put_status<S: Sink>(status: &Status, form: FigureForm, sink: &mut S) -> Result<(), SinkFault>
+pub fn put_status<S: Sink>(
+    status: &StoreStatus,
+    form: FigureForm,
+    sink: &mut S,
+) -> Result<(), SinkFault>
     ensures { Wrote S.Sink sink.old sink.new (status_text form status.now) (ending result) }
 {
     match form {
-        FigureForm::Lines => put_lines(status, sink),
-        FigureForm::Json => put_json(status, sink),
+        FigureForm::Lines => put_status_lines(status, sink),
+        FigureForm::Json => put_status_json(status, sink),
     }
 }
 
 #[tactic(auto, unfolding(crate::specs::StatusLines::status_text))]
-fn put_lines<S: Sink>(status: &Status, sink: &mut S) -> Result<(), SinkFault>
+fn put_status_lines<S: Sink>(status: &StoreStatus, sink: &mut S) -> Result<(), SinkFault>
     ensures { Wrote S.Sink sink.old sink.new (status_text FigureForm.Lines status.now)
         (ending result) }
 {
@@ -46,7 +50,7 @@ fn put_lines<S: Sink>(status: &Status, sink: &mut S) -> Result<(), SinkFault>
     )
 }
 
-fn put_json<S: Sink>(status: &Status, sink: &mut S) -> Result<(), SinkFault>
+fn put_status_json<S: Sink>(status: &StoreStatus, sink: &mut S) -> Result<(), SinkFault>
     ensures { Wrote S.Sink sink.old sink.new (status_text FigureForm.Json status.now)
         (ending result) }
 {
@@ -70,7 +74,7 @@ fn put_json<S: Sink>(status: &Status, sink: &mut S) -> Result<(), SinkFault>
 }
 
 /// The hash, if there is one.
-fn hash_number(status: &Status) -> Option<u64>
+fn hash_number(status: &StoreStatus) -> Option<u64>
     ensures { result ≡ status.now.hash }
 {
     Some(u64::from(status.hash?))

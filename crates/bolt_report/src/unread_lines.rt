@@ -1,7 +1,7 @@
 //! The lines of entries of etcd's bucket `key` that etcd can't read, and that a repair doesn't copy.
 ghost use Rattle.std.specs.Prelude.{map};
 ghost use Rattle.bolt_format.specs.{Endings.ending, Wrote.Wrote};
-ghost use Rattle.bolt_etcd.specs.{Others.No_record, Others.Other_key, ShownOthers.shown_other};
+ghost use Rattle.bolt_etcd.specs.{Wire.Others.No_record, Wire.Others.Other_key, Wire.Others.shown_other};
 ghost use Rattle.bolt_report.specs.UnreadLines.{unread_line, unread_text};
 
 use bolt_etcd::{Other, RevisionKey};
@@ -29,13 +29,13 @@ fn put_unread_line<S: Sink>(other: &Other<'_>, sink: &mut S) -> Result<(), SinkF
     ensures { Wrote S.Sink sink.old sink.new (unread_line (shown_other other.now)) (ending result) }
 {
     match other {
-        Other::Key(key) => put_no_revision(key, sink),
-        Other::Record(key) => put_no_record(*key, sink),
+        Other::Key(key) => put_unread_key(key, sink),
+        Other::Record(key) => put_unread_record(*key, sink),
     }
 }
 
 /// Writes that an entry with this key isn't a revision.
-fn put_no_revision<S: Sink>(key: &[u8], sink: &mut S) -> Result<(), SinkFault>
+fn put_unread_key<S: Sink>(key: &[u8], sink: &mut S) -> Result<(), SinkFault>
     ensures { Wrote S.Sink sink.old sink.new (unread_line (Other_key key.now)) (ending result) }
 {
     put_pieces(
@@ -49,7 +49,7 @@ fn put_no_revision<S: Sink>(key: &[u8], sink: &mut S) -> Result<(), SinkFault>
 }
 
 /// Writes that the value under this key isn't a record.
-fn put_no_record<S: Sink>(key: RevisionKey, sink: &mut S) -> Result<(), SinkFault>
+fn put_unread_record<S: Sink>(key: RevisionKey, sink: &mut S) -> Result<(), SinkFault>
     ensures { Wrote S.Sink sink.old sink.new (unread_line (No_record key)) (ending result) }
 {
     put_pieces(

@@ -1,6 +1,8 @@
 -- The depths of a bucket, page by page: a page's own, and those of the pages that it leads to.
-use Rattle.std.proofs.Common.{◌≡◌, ◌∙◌, ℕ, zero, suc, ◌+◌, ◌≤◌, max, inl, inr, Bool, true, false, List, [], ◌∷◌, ◌++◌, Result, Ok, map, refl, sym, ap, subst, arith}
-use Rattle.bolt_stats.proofs.Words.{deepest_from, Enough, greatest, Has, height_from, inner_inline, inner_pages, inner_roots, kid_pages, leaf_at, counted_depth, Node, Nodes, child_pages, pages_in_bucket, roots_in_bucket}
+use Rattle.std.proofs.Common.{◌≡◌, ◌∙◌, ℕ, zero, suc, ◌+◌, ◌≤◌, max, inl, inr, Bool, true, false, List, [], ◌∷◌, ◌++◌, Result, Ok, map, refl, sym, ap}
+use Rattle.std.proofs.Common.{subst, arith}
+use Rattle.bolt_stats.proofs.Words.{deepest_from, Enough, greatest, Has, height_from, inner_inline, inner_pages, inner_roots, kid_pages, leaf_at}
+use Rattle.bolt_stats.proofs.Words.{counted_depth, Node, Nodes, child_pages, pages_in_bucket, roots_in_bucket}
 use Rattle.bolt_check.specs.Nodes.{Entry}
 use Rattle.bolt_stats.specs.Deepest.{inline_at, roots_at}
 
@@ -43,7 +45,9 @@ module _ (nodes : Nodes) where
   height_more : (depth k n : ℕ) → Enough nodes k n → height_from nodes depth (suc k) n ≡ height_from nodes depth k n
   height_more depth zero n h = absurd h
   height_more depth (suc k) n h =
-      ap (max (leaf_at (nodes n) depth)) (greatest_same (height_from nodes (suc depth) (suc k)) (height_from nodes (suc depth) k) (child_pages (nodes n)) (λ m i. height_more (suc depth) k m (low_page k n m h i)))
+      ap (max (leaf_at (nodes n) depth))
+      (greatest_same (height_from nodes (suc depth) (suc k)) (height_from nodes (suc depth) k) (child_pages (nodes n))
+      (λ m i. height_more (suc depth) k m (low_page k n m h i)))
 
   deepest_more : (k n : ℕ) → Enough nodes k n → deepest_from nodes (suc k) n ≡ deepest_from nodes k n
   deepest_more zero n h = absurd h
@@ -62,4 +66,5 @@ module _ (nodes : Nodes) where
   pub deepest_kids : (k n : ℕ) (node : Node) → nodes n ≡ Ok node → Enough nodes k n
       → deepest_from nodes k n ≡ max (inner_inline node) (max (greatest (deepest_from nodes k) (inner_pages node)) (greatest (depth_from k) (inner_roots node)))
   deepest_kids k n node page h =
-      sym (deepest_more k n h) ∙ ap (λ (r : Result Node ℕ). max (inline_at r) (max (greatest (deepest_from nodes k) (child_pages r)) (greatest (depth_from k) (roots_at r)))) page
+      sym (deepest_more k n h)
+      ∙ ap (λ (r : Result Node ℕ). max (inline_at r) (max (greatest (deepest_from nodes k) (child_pages r)) (greatest (depth_from k) (roots_at r)))) page

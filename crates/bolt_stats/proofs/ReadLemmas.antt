@@ -4,7 +4,8 @@ use Rattle.bolt_stats.proofs.Words.{BranchElement, kid_pages, leaf_entry, LeafEl
 use Rattle.bolt_check.specs.Nodes.{branch_entry}
 
 -- what the elements of a page lead to
-pub branch_kids : (depth : ℕ) (xs : List BranchElement) → map (unread_page depth) (kid_pages false (map branch_entry xs)) ≡ map (λ (x : BranchElement). unread_page depth x.child) xs
+pub branch_kids : (depth : ℕ) (xs : List BranchElement)
+    → map (unread_page depth) (kid_pages false (map branch_entry xs)) ≡ map (λ (x : BranchElement). unread_page depth x.child) xs
 branch_kids depth [] = refl
 branch_kids depth (x ∷ xs) = ap (λ (l : List UnreadPage). unread_page depth x.child ∷ l) (branch_kids depth xs)
 

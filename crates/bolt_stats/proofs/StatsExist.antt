@@ -1,6 +1,9 @@
 -- The figures of a bucket exist, and are those that the reading of its pages returns.
-use Rattle.std.proofs.Common.{◌≡◌, ◌≢◌, ◌∙◌, ℕ, suc, ◌+◌, ◌≤◌, ◌⊎◌, inl, inr, Bool, true, false, List, [], ◌==◌, ◌∷◌, ◌++◌, Option, Some, None, Result, Ok, Err, if◌then◌else◌, sum_by, refl, sym, ap, subst, arith}
-use Rattle.bolt_stats.proofs.Words.{AreGood, At_page, bucket_figure, saturated, depth_of, Enough, Figure, figure, follow, follow_append, HasSoundTrees, Inline_page, IsDepth, IsStart, IsStatsOf, Meta, Node, node_at, Nodes, one_tour, own_figure, PageSpot, reached, Root_page, root_spot, Spot, Start, Stats, step, sum_by-cons, total_of, tour_figure, weight}
+use Rattle.std.proofs.Common.{◌≡◌, ◌≢◌, ◌∙◌, ℕ, suc, ◌+◌, ◌≤◌, ◌⊎◌, inl, inr, Bool, true, false, List, [], ◌==◌, ◌∷◌, ◌++◌, Option, Some, None}
+use Rattle.std.proofs.Common.{Result, Ok, Err, if◌then◌else◌, sum_by, refl, sym, ap, subst, arith}
+use Rattle.bolt_stats.proofs.Words.{AreGood, At_page, bucket_figure, saturated, depth_of, Enough, Figure, figure, follow, follow_append}
+use Rattle.bolt_stats.proofs.Words.{HasSoundTrees, Inline_page, IsDepth, IsStart, IsStatsOf, Meta, Node, node_at, Nodes, one_tour, own_figure}
+use Rattle.bolt_stats.proofs.Words.{PageSpot, reached, Root_page, root_spot, Spot, Start, Stats, step, sum_by-cons, total_of, tour_figure, weight}
 use Rattle.bolt_stats.proofs.{DepthExists.AllFilled, DepthExists.depth_is, StatsOnce.stats_from}
 use Rattle.bolt_check.specs.{Nodes.Entry, OnWays.IsOnWay, Ways.At_inline, Ways.SpanHas, Ways.step_at, Ways.step_entry}
 use Rattle.bolt_check.proofs.Exports.{bucket_sum, spot_weight, in_own_span}
@@ -15,7 +18,8 @@ Stands None = Unit {0}
 Stands (Some (At_page s)) = IsRootOrBelow s
 Stands (Some (At_inline host inner)) = Unit {0}
 
-bucket_stands : (host : ℕ) (e : Entry) (b small : Bool) → Stands (if b then Some (if small then At_inline host e.inner else At_page (root_spot e.child)) else None)
+bucket_stands : (host : ℕ) (e : Entry) (b small : Bool)
+    → Stands (if b then Some (if small then At_inline host e.inner else At_page (root_spot e.child)) else None)
 bucket_stands host e false small = tt
 bucket_stands host e true true = tt
 bucket_stands host e true false = inl refl
@@ -48,7 +52,11 @@ module _ (file : List ℕ) (meta : Meta) where
 
   -- so a page at depth 1 is its bucket's root page
   root_on_way : (root : ℕ) → IsOnWay file meta root 1 → (way : List ℕ) × (reached nodes meta.root way ≡ Some (At_page (root_spot root)))
-  root_on_way root on = (on.way, on.led ∙ ap (λ (s : PageSpot). Some (At_page s)) (is_start (subst Stands on.led (follow_stands nodes (Some (At_page (root_spot meta.root))) on.way (inl refl)))))
+  root_on_way root on = (
+    on.way,
+    on.led ∙ ap (λ (s : PageSpot). Some (At_page s))
+        (is_start (subst Stands on.led (follow_stands nodes (Some (At_page (root_spot meta.root))) on.way (inl refl)))),
+  )
     where
       is_start : IsRootOrBelow on.spot → on.spot ≡ root_spot root
       is_start (inl e) = e ∙ ap root_spot on.is
@@ -65,7 +73,8 @@ module _ (file : List ℕ) (meta : Meta) where
     all_filled : AllFilled nodes meta.high_water (root_spot root)
     all_filled v s node leads page leaf =
         let (way, at) = root_on_way root on in
-        trees.filled (way ++ v) s node (follow_append nodes (Some (At_page (root_spot meta.root))) way v ∙ ap (λ (o : Option Spot). follow nodes o v) at ∙ leads) page leaf
+        trees.filled (way ++ v) s node
+        (follow_append nodes (Some (At_page (root_spot meta.root))) way v ∙ ap (λ (o : Option Spot). follow nodes o v) at ∙ leads) page leaf
 
     not_zero : root ≢ 0
     not_zero e =
@@ -83,7 +92,9 @@ module _ (file : List ℕ) (meta : Meta) where
     same_weight f (Some (At_inline host inner)) = refl
 
     -- the sums over the bucket's tour, and its depth
-    pub paged_stats_are : (stats : Stats) → ((f : Figure) → figure f stats ≡ saturated (bucket_figure f + total_of file meta (own_figure file meta f) (root ∷ []))) → stats.depth ≡ saturated (depth_of file meta root)
+    pub paged_stats_are : (stats : Stats)
+        → ((f : Figure) → figure f stats ≡ saturated (bucket_figure f + total_of file meta (own_figure file meta f) (root ∷ [])))
+        → stats.depth ≡ saturated (depth_of file meta root)
         → IsPagedStats file meta root stats
     paged_stats_are stats sums deep =
         let (way, leads) = root_on_way root on in
@@ -110,7 +121,8 @@ module _ (file : List ℕ) (meta : Meta) where
 figure_from : (sums : Figure → ℕ) (deep : ℕ) (f : Figure) → figure f (stats_from sums deep) ≡ sums f
 figure_from sums deep f = grind arith
 
-pub some_stats : (file : List ℕ) (meta : Meta) (start : Start) → HasSoundTrees file meta → IsStart file meta start → (stats : Stats) × IsStatsOf file meta start stats
+pub some_stats : (file : List ℕ) (meta : Meta) (start : Start) → HasSoundTrees file meta → IsStart file meta start
+    → (stats : Stats) × IsStatsOf file meta start stats
 some_stats file meta (Root_page root) trees on =
     let sums : Figure → ℕ = λ f. saturated (bucket_figure f + total_of file meta (own_figure file meta f) (root ∷ [])) in
     (stats_from sums (saturated (depth_of file meta root)), paged_stats_are file meta trees root on _ (figure_from sums _) refl)

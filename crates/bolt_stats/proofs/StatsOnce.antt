@@ -1,14 +1,17 @@
 -- The figures of a bucket are one.
 use Rattle.std.proofs.Common.{◌≡◌, ◌∙◌, ℕ, ◌+◌, ◌≤◌, List, sym, ap, refl, arith}
-use Rattle.bolt_stats.proofs.Words.{bucket_figure, saturated, Figure, figure, inline, Inline_page, IsBucketIn, IsDeepest, IsDepth, IsHeight, IsStatsOf, Meta, node_at, Nodes, one_tour, paged, reached, Root_page, Start, Stats, tour_figure}
+use Rattle.bolt_stats.proofs.Words.{bucket_figure, saturated, Figure, figure, inline, Inline_page, IsBucketIn, IsDeepest, IsDepth, IsHeight}
+use Rattle.bolt_stats.proofs.Words.{IsStatsOf, Meta, node_at, Nodes, one_tour, paged, reached, Root_page, Start, Stats, tour_figure}
 use Rattle.bolt_check.specs.Nodes.{Entry}
-use Rattle.bolt_stats.specs.Figures.{buckets, inline_buckets, inline_used, keys, branch_pages, branch_overflow, branch_allocated, branch_used, leaf_pages, leaf_overflow, leaf_allocated, leaf_used}
+use Rattle.bolt_stats.specs.Figures.{buckets, inline_buckets, inline_used, keys, branch_pages, branch_overflow, branch_allocated, branch_used}
+use Rattle.bolt_stats.specs.Figures.{leaf_pages, leaf_overflow, leaf_allocated, leaf_used}
 use Rattle.bolt_stats.specs.StatsOf.{AreSums}
 
 one_height : (nodes : Nodes) (root a b : ℕ) → IsHeight nodes root a → IsHeight nodes root b → a ≡ b
 one_height nodes root a b h k = grind arith
 
-not_deeper : (nodes : Nodes) (root a b : ℕ) (f g : Entry → ℕ) → ((e : Entry) → IsBucketIn nodes root e → f e ≡ g e) → IsDeepest nodes root f a → IsDeepest nodes root g b → a ≤ b
+not_deeper : (nodes : Nodes) (root a b : ℕ) (f g : Entry → ℕ) → ((e : Entry) → IsBucketIn nodes root e → f e ≡ g e) → IsDeepest nodes root f a
+    → IsDeepest nodes root g b → a ≤ b
 not_deeper nodes root a b f g same h k = grind arith
 
 pub one_depth : (nodes : Nodes) {root : ℕ} {a b : ℕ} → IsDepth nodes root a → IsDepth nodes root b → a ≡ b
@@ -22,10 +25,12 @@ one_depth nodes (paged {root} h d depth ne height below deepest) (paged k c othe
     let down = not_deeper nodes root c d other depth (λ e is. sym (same e is)) deepest2 deepest in
     omega (arith, heights, up, down)
 
-pub one_sum : (file : List ℕ) (meta : Meta) (root : ℕ) (a b : Stats) → AreSums file meta root a → AreSums file meta root b → (f : Figure) → figure f a ≡ figure f b
+pub one_sum : (file : List ℕ) (meta : Meta) (root : ℕ) (a b : Stats) → AreSums file meta root a → AreSums file meta root b → (f : Figure)
+    → figure f a ≡ figure f b
 one_sum file meta root a b h k f =
     let reach = reached (node_at file meta) root in
-    h.sums f ∙ ap (λ (tour : List (List ℕ)). saturated (bucket_figure f + tour_figure file meta f reach tour)) (one_tour reach h.tour k.tour h.whole k.whole) ∙ sym (k.sums f)
+    h.sums f ∙ ap (λ (tour : List (List ℕ)). saturated (bucket_figure f + tour_figure file meta f reach tour))
+    (one_tour reach h.tour k.tour h.whole k.whole) ∙ sym (k.sums f)
 
 -- any figures are those of a record
 abbrev pub stats_from : (Figure → ℕ) → ℕ → Stats

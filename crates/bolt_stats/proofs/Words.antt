@@ -13,11 +13,13 @@ pub use Rattle.bolt_format.specs.ElementsLeft.{branches_left, leaves_left}
 unfoldable pub use Rattle.bolt_format.specs.ShownGoodPages.{shown}
 pub use Rattle.bolt_format.specs.TreePages.{branches_on, is_tree_kind, leaves_on, shown_page}
 pub use Rattle.bolt_format.specs.declared.meta.Meta.{Meta}
-pub use Rattle.bolt_stats.specs.Deepest.{deepest_from, deepest_of, depth_of, greatest, height_from, height_of, inline_depth, inner_inline, leaf_at, counted_depth, child_pages}
+pub use Rattle.bolt_stats.specs.Deepest.{deepest_from, deepest_of, depth_of, greatest, height_from, height_of, inline_depth, inner_inline, leaf_at}
+pub use Rattle.bolt_stats.specs.Deepest.{counted_depth, child_pages}
 pub use Rattle.bolt_stats.specs.Depths.{IsBucketIn, IsDeepest, IsDepth, IsHeight, inline, paged}
 pub use Rattle.bolt_stats.specs.Figures.{Figure, bucket_figure, element_figure, figure, used_by_leaves}
 pub use Rattle.bolt_check.specs.Counts.{saturated}
-pub use Rattle.bolt_stats.specs.Readings.{AreGood, inner_pages, inner_roots, unread_numbers, one, own_figure, pages_in_bucket, root_page_of, roots_in_bucket, roots_of, total_of, unread_bucket, unread_page}
+pub use Rattle.bolt_stats.specs.Readings.{AreGood, inner_pages, inner_roots, unread_numbers, one, own_figure, pages_in_bucket, root_page_of}
+pub use Rattle.bolt_stats.specs.Readings.{roots_in_bucket, roots_of, total_of, unread_bucket, unread_page}
 pub use Rattle.bolt_stats.specs.StatsOf.{IsStatsOf, tour_figure}
 pub use Rattle.bolt_stats.specs.declared.bucket_stats.UnreadBucket.{UnreadBucket}
 pub use Rattle.bolt_stats.specs.declared.bucket_stats.UnreadPage.{UnreadPage}

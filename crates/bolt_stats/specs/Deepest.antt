@@ -1,7 +1,8 @@
 -- How deep a bucket is, found page by page: in so many steps, as of `weight`.
 use Rattle.std.specs.Prelude.{◌==◌, ℕ, zero, suc, ◌+◌, max, Bool, true, false, List, [], ◌∷◌, Result, Ok, Err, if◌then◌else◌}
 use Rattle.bolt_format.specs.declared.meta.Meta.{Meta}
-use Rattle.bolt_check.specs.{CheckedFiles.bytes_of, CheckedFiles.meta_of, Nodes.Entry, Nodes.Node, Nodes.Nodes, Nodes.node_at, declared.checked.Checked.Checked}
+use Rattle.bolt_check.specs.{CheckedFiles.bytes_of, CheckedFiles.meta_of, Nodes.Entry, Nodes.Node, Nodes.Nodes, Nodes.node_at}
+use Rattle.bolt_check.specs.{declared.checked.Checked.Checked}
 use Rattle.bolt_stats.specs.Readings.{inner_pages, inner_roots}
 
 abbrev pub greatest : {X : Type 0} → (X → ℕ) → List X → ℕ
@@ -19,7 +20,7 @@ inline_in_bucket true entries = greatest inline_depth entries
 abbrev pub inner_inline : Node → ℕ
 inner_inline node = inline_in_bucket node.is_leaf node.entries
 
--- so deep a page counts if it is a leaf
+-- the depth that a page counts: its own if it is a leaf, and otherwise 0
 abbrev pub counted_depth : Bool → ℕ → ℕ
 counted_depth false depth = 0
 counted_depth true depth = depth
@@ -50,16 +51,17 @@ module _ (nodes : Nodes) where
   abbrev pub deepest_from : ℕ → ℕ → ℕ
   deepest_from zero n = 0
   deepest_from (suc k) n =
-      max (inline_at (nodes n)) (max (greatest (deepest_from k) (child_pages (nodes n))) (greatest (λ root. height_from 1 k root + deepest_from k root) (roots_at (nodes n))))
+      max (inline_at (nodes n))
+      (max (greatest (deepest_from k) (child_pages (nodes n))) (greatest (λ root. height_from 1 k root + deepest_from k root) (roots_at (nodes n))))
 
--- of the pages of a file
+-- the height and the greatest depth at or below page n of a file
 abbrev pub height_of : List ℕ → Meta → ℕ → ℕ → ℕ
 height_of file meta depth n = height_from (node_at file meta) depth meta.high_water n
 
 abbrev pub deepest_of : List ℕ → Meta → ℕ → ℕ
 deepest_of file meta n = deepest_from (node_at file meta) meta.high_water n
 
--- of the bucket with this root page
+-- the depth of the bucket with this root page
 abbrev pub depth_of : List ℕ → Meta → ℕ → ℕ
 depth_of file meta root = height_of file meta 1 root + deepest_of file meta root
 

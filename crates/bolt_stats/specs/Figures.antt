@@ -1,6 +1,7 @@
 -- The figures of buckets: docs/COMMANDS.md, "stats".
 use Rattle.std.specs.Prelude.{◌≡◌, ◌==◌, ℕ, ◌+◌, ◌-◌, ◌*◌, ◌^◌, min, max, List, length, sum_by, Option, Some, None, if◌then◌else◌}
-use Rattle.bolt_format.specs.{Elements.BranchElement, Elements.LeafElement, Elements.head_root, Elements.inline_elements, Pages.PageView, declared.header.Kind.Kind}
+use Rattle.bolt_format.specs.{Elements.BranchElement, Elements.LeafElement, Elements.head_root, Elements.inline_elements, Pages.PageView}
+use Rattle.bolt_format.specs.{declared.header.Kind.Kind}
 use Rattle.bolt_format.specs.declared.header.Kind.TheVariants as kind
 use Rattle.bolt_stats.specs.declared.figures.Stats.{Stats}
 use Rattle.bolt_check.specs.Counts.{saturated}

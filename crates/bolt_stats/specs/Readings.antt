@@ -3,7 +3,8 @@ use Rattle.std.specs.Prelude.{◌==◌, ℕ, Bool, true, false, List, [], ◌∷
 use Rattle.bolt_format.specs.{Elements.LeafElement, Elements.head_root, Pages.page_at, declared.meta.Meta.Meta}
 use Rattle.bolt_check.specs.{CheckedFiles.bytes_of, CheckedFiles.meta_of, Nodes.Entry, Nodes.Node, Nodes.node_at}
 use Rattle.bolt_check.specs.{Subtrees.Enough, Lists.Has, Subtrees.kid_pages, Subtrees.weight, declared.checked.Checked.Checked}
-use Rattle.bolt_stats.specs.{Figures.Figure, Figures.page_figure, declared.bucket_stats.UnreadBucket.UnreadBucket, declared.bucket_stats.UnreadPage.UnreadPage}
+use Rattle.bolt_stats.specs.{Figures.Figure, Figures.page_figure, declared.bucket_stats.UnreadBucket.UnreadBucket}
+use Rattle.bolt_stats.specs.{declared.bucket_stats.UnreadPage.UnreadPage}
 
 -- the pages and the buckets of the code, by their numbers
 abbrev pub unread_numbers : List UnreadPage → List ℕ
@@ -18,11 +19,11 @@ unread_page depth n = record { number = n; depth = depth }
 abbrev pub unread_bucket : ℕ → ℕ → UnreadBucket
 unread_bucket above n = record { root = n; above = above }
 
--- these pages and all pages below them are good
+-- the pages `ns` and all pages below them are good
 abbrev pub AreGood : List ℕ → Meta → List ℕ → Type 0
 AreGood file meta ns = (m : ℕ) → Has ns m → Enough (node_at file meta) meta.high_water m
 
--- a sum over these pages and all pages below them
+-- a sum over the pages `ns` and all pages below them
 abbrev pub total_of : List ℕ → Meta → (ℕ → ℕ) → List ℕ → ℕ
 total_of file meta own ns = sum_by (weight (node_at file meta) own meta.high_water) ns
 
@@ -55,7 +56,7 @@ inner_roots node = roots_in_bucket node.is_leaf node.entries
 
 -- ---- of a file that passed its tests
 
--- a figure of these pages and of all pages below them
+-- a figure of the pages `ns` and of all pages below them
 abbrev pub figure_in : Checked → Figure → List ℕ → ℕ
 figure_in checked f ns = total_of (bytes_of checked) (meta_of checked) (own_figure (bytes_of checked) (meta_of checked) f) ns
 

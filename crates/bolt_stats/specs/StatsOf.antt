@@ -2,9 +2,12 @@
 -- They are sums over the set of its ways, stated as the rising list of exactly these.
 use Rattle.std.specs.Prelude.{◌≡◌, ℕ, ◌+◌, List, sum_by, Option, Some, None}
 use Rattle.bolt_format.specs.{Elements.LeafElement, Pages.page_at, declared.meta.Meta.Meta}
-use Rattle.bolt_check.specs.{CheckedFiles.bytes_of, CheckedFiles.meta_of, Nodes.node_at, Tours.IsTour, Ways.At_inline, Ways.At_page, Ways.Reach, Ways.Spot, Ways.reached, Counts.saturated}
-use Rattle.bolt_tree.specs.{Buckets.bucket_checked, Buckets.bucket_start, declared.bucket.Bucket.Bucket, Entries.Inline_page, Entries.Root_page, Entries.Start}
-use Rattle.bolt_stats.specs.{Depths.IsDepth, Figures.Figure, Figures.bucket_figure, Figures.figure, Figures.inline_figure, Figures.page_figure, declared.figures.Stats.Stats}
+use Rattle.bolt_check.specs.{CheckedFiles.bytes_of, CheckedFiles.meta_of, Nodes.node_at, Tours.IsTour, Ways.At_inline, Ways.At_page, Ways.Reach}
+use Rattle.bolt_check.specs.{Ways.Spot, Ways.reached, Counts.saturated}
+use Rattle.bolt_tree.specs.{Buckets.bucket_checked, Buckets.bucket_start, declared.bucket.Bucket.Bucket, Entries.Inline_page, Entries.Root_page}
+use Rattle.bolt_tree.specs.{Entries.Start}
+use Rattle.bolt_stats.specs.{Depths.IsDepth, Figures.Figure, Figures.bucket_figure, Figures.figure, Figures.inline_figure, Figures.page_figure}
+use Rattle.bolt_stats.specs.{declared.figures.Stats.Stats}
 
 -- the figures of where a way leads; an inline bucket's are those of the page that holds it
 abbrev pub spot_figure : List ℕ → Meta → Figure → Option Spot → ℕ
@@ -12,11 +15,11 @@ spot_figure file meta f None = 0
 spot_figure file meta f (Some (At_page s)) = page_figure f meta.page_size (page_at file meta s.number)
 spot_figure file meta f (Some (At_inline host inner)) = 0
 
--- of all these ways
+-- the sum of a figure over all these ways
 abbrev pub tour_figure : List ℕ → Meta → Figure → Reach → List (List ℕ) → ℕ
 tour_figure file meta f reach tour = sum_by (λ way. spot_figure file meta f (reach way)) tour
 
--- of a bucket with this root page: the bucket itself, and the pages of its tour
+-- the figures of a bucket with this root page: of the bucket itself, and of the pages of its tour
 pub record AreSums (file : List ℕ) (meta : Meta) (root : ℕ) (stats : Stats) : Type 0 where
   pub tour : List (List ℕ)
   pub whole : IsTour (reached (node_at file meta) root) tour
@@ -28,7 +31,7 @@ pub record IsPagedStats (file : List ℕ) (meta : Meta) (root : ℕ) (stats : St
   pub deep : IsDepth (node_at file meta) root depth
   pub shown : stats.depth ≡ saturated depth
 
--- of an inline bucket with these elements
+-- the figures of an inline bucket with these elements
 pub record IsInlineStats (elements : List LeafElement) (stats : Stats) : Type 0 where
   pub sums : (f : Figure) → figure f stats ≡ saturated (inline_figure f elements)
   pub depth : stats.depth ≡ 1

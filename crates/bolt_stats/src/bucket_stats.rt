@@ -3,11 +3,13 @@
 //! being read.
 ghost use Rattle.std.specs.Prelude.{◌≡◌, ◌<◌, ◌+◌, ◌∷◌, ◌++◌, ◌⊎◌, ℕ, [], IfOk, IsTrue, Ok, OnOk, flat_map, map, max, sum_by};
 ghost use Rattle.bolt_format.specs.{ElementPlaces.leaf_view, Elements.IsBucketValue, TreePages.branches_on, TreePages.leaves_on};
-ghost use Rattle.bolt_check.specs.{CheckedFiles.bytes_of, CheckedFiles.meta_of, Nodes.Node, Nodes.leaf_entry, Nodes.node_at, Subtrees.Enough, Lists.Has};
+ghost use Rattle.bolt_check.specs.{CheckedFiles.bytes_of, CheckedFiles.meta_of, Nodes.Node, Nodes.leaf_entry, Nodes.node_at, Subtrees.Enough};
+ghost use Rattle.bolt_check.specs.{Lists.Has};
 ghost use Rattle.bolt_stats.specs.Deepest.{deepest_in, depth_in, depth_of, greatest, height_of, inline_depth, inner_inline, counted_depth};
 ghost use Rattle.bolt_stats.specs.Figures.{Figure, bucket_figure, figure, HasFigures};
 ghost use Rattle.bolt_check.specs.Counts.{saturated};
-ghost use Rattle.bolt_stats.specs.Readings.{AreGood, figure_in, pages_below, inner_pages, inner_roots, one, unread_bucket, unread_page, own_figure, root_page_of, roots_of};
+ghost use Rattle.bolt_stats.specs.Readings.{AreGood, figure_in, pages_below, inner_pages, inner_roots, one, unread_bucket, unread_page, own_figure};
+ghost use Rattle.bolt_stats.specs.Readings.{root_page_of, roots_of};
 ghost use Rattle.bolt_stats.specs.{StatsOf.AreStats, declared.bucket_stats.UnreadBucket.UnreadBucket};
 
 use crate::figures::{Stats, add};

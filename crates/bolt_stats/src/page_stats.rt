@@ -1,6 +1,7 @@
 //! The figures of one page: its own, and those of the inline buckets in it.
 ghost use Rattle.std.specs.Prelude.{◌≡◌, ◌+◌, ◌*◌, IsTrue, length, sum_by};
-ghost use Rattle.bolt_format.specs.{Elements.IsBucketValue, ElementPlaces.leaf_view, TreePages.branches_on, TreePages.leaves_on, TreePages.shown_page};
+ghost use Rattle.bolt_format.specs.{Elements.IsBucketValue, ElementPlaces.leaf_view, TreePages.branches_on, TreePages.leaves_on};
+ghost use Rattle.bolt_format.specs.{TreePages.shown_page};
 ghost use Rattle.bolt_format.specs.declared.tree_page.TreePage.TheVariants as tree;
 ghost use Rattle.bolt_stats.specs.Figures.{used_by_branches, branch_figure, element_figure, inline_figure, used_by_leaves, leaf_figure, HasFigures};
 ghost use Rattle.bolt_check.specs.Counts.{saturated};

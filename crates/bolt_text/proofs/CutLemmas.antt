@@ -6,8 +6,10 @@ use Rattle.bolt_text.proofs.Vocabulary.{IsCutAt, IsWithout, nat_tests, slice_spl
 itself : (n : ℕ) → (n == n) ≡ true
 itself n = grind (arith, nat_tests)
 
-pub parts_cut : (mark : ℕ) (text before after : Text) → IsCutAt mark text before after → slice_split (λ byte. byte == mark) text ≡ before ∷ slice_split (λ byte. byte == mark) after
-parts_cut mark text before after cut = ap (slice_split (λ byte. byte == mark)) cut.whole ∙ slice_split_at (λ byte. byte == mark) before mark after cut.first (itself mark)
+pub parts_cut : (mark : ℕ) (text before after : Text) → IsCutAt mark text before after
+    → slice_split (λ byte. byte == mark) text ≡ before ∷ slice_split (λ byte. byte == mark) after
+parts_cut mark text before after cut =
+    ap (slice_split (λ byte. byte == mark)) cut.whole ∙ slice_split_at (λ byte. byte == mark) before mark after cut.first (itself mark)
 
 pub parts_whole : (mark : ℕ) (text : Text) → IsWithout mark text → slice_split (λ byte. byte == mark) text ≡ text ∷ []
 parts_whole mark text without = slice_split_none (λ byte. byte == mark) text without

@@ -1,10 +1,13 @@
 -- What `parse` makes of a word that is to be a number.
-use Rattle.std.proofs.Common.{◌≡◌, ◌<◌, ◌^◌, ◌==◌, ℕ, [], ◌∷◌, Option, Some, None, Result, Ok, Err, true, false, length, get_or, refl, rules, arith, subst}
-use Rattle.std.proofs.{lemmas.Str.IsUtf8-from_ascii, lemmas.Fmt.decimal_nonempty, lemmas.Fmt.digits_value-decimal, lemmas.Bool.false_from_ne_true, lemmas.Bool.ltb-true}
+use Rattle.std.proofs.Common.{◌≡◌, ◌<◌, ◌^◌, ◌==◌, ℕ, [], ◌∷◌, Option, Some, None, Result, Ok, Err, true, false, length, get_or, refl, rules, arith}
+use Rattle.std.proofs.Common.{subst}
+use Rattle.std.proofs.{lemmas.Str.IsUtf8-from_ascii, lemmas.Fmt.decimal_nonempty, lemmas.Fmt.digits_value-decimal, lemmas.Bool.false_from_ne_true}
+use Rattle.std.proofs.{lemmas.Bool.ltb-true}
 use Rattle.std.proofs.lemmas.Str.Parse.{IsNumeralModel, numerals_by_weight, parse_plain}
 use Rattle.std.specs.Prelude.{IsUtf8, ◌≢◌, option_copied, slice_get, zero, suc, MatchResult}
 use Rattle.std.specs.{Borrow.Bor, Option.option_eq, Str.IsAscii, Str.Parse.ParsesUnsigned}
-use Rattle.bolt_text.proofs.Vocabulary.{all_ascii_digits, and_parts, cases_Bool, decimal, digits_decimal, is_ascii_digit, nat_tests, number_in, result_ok, Text}
+use Rattle.bolt_text.proofs.Vocabulary.{all_ascii_digits, and_parts, cases_Bool, decimal, digits_decimal, is_ascii_digit, nat_tests, number_in}
+use Rattle.bolt_text.proofs.Vocabulary.{result_ok, Text}
 use Rattle.bolt_text.specs.Numbers.{decimal_value, is_number}
 
 pub decimal_numerals : IsNumeralModel (λ digits. all_ascii_digits digits ≡ true) decimal_value
@@ -23,7 +26,8 @@ pub number_is : (word : Text) (n : ℕ) → number_in word ≡ Some n → (is_nu
 number_is word n is = grind (arith, cases_Bool, is_good, no_number)
 
 -- without a plus before it
-pub parsed_number : {E : Type 0} (word : Text) (parsed : Result ℕ E) → ParsesUnsigned 64 10 word parsed → get_or word 0 0 ≢ 43 → result_ok parsed ≡ number_in word
+pub parsed_number : {E : Type 0} (word : Text) (parsed : Result ℕ E) → ParsesUnsigned 64 10 word parsed → get_or word 0 0 ≢ 43
+    → result_ok parsed ≡ number_in word
 parsed_number {E} word (Ok n) parses plain = grind (arith, parse_plain, decimal_numerals, good_number)
 parsed_number {E} word (Err e) parses plain = grind (arith, parse_plain, decimal_numerals, no_number, false_from_ne_true, is_good)
 
@@ -38,7 +42,8 @@ ascii_digits (digit ∷ word) digits zero = let is = (and_parts (is_ascii_digit 
 ascii_digits (digit ∷ word) digits (suc i) = ascii_digits word (and_parts (is_ascii_digit digit) (all_ascii_digits word) digits).1 i
 
 -- a word whose first byte isn't a plus
-pub no_plus : (word : Text) (first : Option (Bor ℕ)) (plus : Bor ℕ) → plus.now ≡ 43 → option_copied first ≡ slice_get word 0 → option_eq (λ (x y : Bor ℕ). x.now == y.now) first (Some plus) ≡ false → get_or word 0 0 ≢ 43
+pub no_plus : (word : Text) (first : Option (Bor ℕ)) (plus : Bor ℕ) → plus.now ≡ 43 → option_copied first ≡ slice_get word 0
+    → option_eq (λ (x y : Bor ℕ). x.now == y.now) first (Some plus) ≡ false → get_or word 0 0 ≢ 43
 no_plus [] first plus is value other same = absurd (omega (arith, same))
 no_plus (byte ∷ word) None plus is value other same = absurd (let f : None ≡ Some byte = value in cc)
 no_plus (byte ∷ word) (Some x) plus is value other same = grind (arith, nat_tests)
@@ -48,10 +53,12 @@ not_utf8 : (word : Text) → ¬ (IsUtf8 word) → number_in word ≡ None
 not_utf8 word bad = no_number word (false_from_ne_true (is_number word) (λ good. bad (IsUtf8-from_ascii word (ascii_digits word (is_good word good).0))))
 
 module _ {E : Type 0} (word : Text) (Failed : E → Type 0) where
-  pub no_text : (text : Result (Bor Text) E) → MatchResult text (λ s. (s.now ≡ word) × IsUtf8 word) (λ e. ¬ (IsUtf8 word) × Failed e) → result_ok text ≡ None → number_in word ≡ None
+  pub no_text : (text : Result (Bor Text) E) → MatchResult text (λ s. (s.now ≡ word) × IsUtf8 word) (λ e. ¬ (IsUtf8 word) × Failed e)
+      → result_ok text ≡ None → number_in word ≡ None
   no_text (Ok s) cases none = absurd (cc)
   no_text (Err e) cases none = not_utf8 word cases.0
 
-  pub text_is : (text : Result (Bor Text) E) (found : Bor Text) → MatchResult text (λ s. (s.now ≡ word) × IsUtf8 word) (λ e. ¬ (IsUtf8 word) × Failed e) → result_ok text ≡ Some found → found.now ≡ word
+  pub text_is : (text : Result (Bor Text) E) (found : Bor Text)
+      → MatchResult text (λ s. (s.now ≡ word) × IsUtf8 word) (λ e. ¬ (IsUtf8 word) × Failed e) → result_ok text ≡ Some found → found.now ≡ word
   text_is (Ok s) found cases some = let same : s ≡ found = cc in subst (λ (t : Bor Text). t.now ≡ word) same cases.0
   text_is (Err e) found cases some = absurd (cc)

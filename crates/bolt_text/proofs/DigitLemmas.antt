@@ -1,5 +1,6 @@
 -- Pairs of digits, good ones and others.
-use Rattle.std.proofs.Common.{◌≡◌, ◌+◌, ◌*◌, ◌<◌, ℕ, Bool, ◌&&◌, true, false, List, Some, None, Result, Ok, Err, MatchResult, length, refl, sym, arith, take, drop, slice_index, slice_set}
+use Rattle.std.proofs.Common.{◌≡◌, ◌+◌, ◌*◌, ◌<◌, ℕ, Bool, ◌&&◌, true, false, List, Some, None, Result, Ok, Err, MatchResult, length, refl, sym}
+use Rattle.std.proofs.Common.{arith, take, drop, slice_index, slice_set}
 use Rattle.std.specs.{Bool.OnTrue, Bool.MatchBool, Char.is_ascii_hexdigit}
 use Rattle.bolt_text.proofs.Vocabulary.{decode_pairs, digit_or_error, FromHexError, hex_digit_value, nat_tests, pair_value, value_at, ◌>>=◌}
 use Rattle.hex.specs.Hex.{decode_sized}
@@ -14,7 +15,8 @@ bad_high high low i other = rw (no_digit high other) (_, refl)
 bad_low : (high low i : ℕ) → is_ascii_hexdigit low ≡ false → (e : FromHexError) × (pair_value high low i ≡ Err e)
 bad_low high low i other = rw (no_digit low other) (at (value_at high i))
   where
-    at : (first : Result ℕ FromHexError) → (e : FromHexError) × ((first >>= (λ h. digit_or_error low (i + 1) None >>= (λ l. Ok (h * 16 + l)))) ≡ Err e)
+    at : (first : Result ℕ FromHexError)
+        → (e : FromHexError) × ((first >>= (λ h. digit_or_error low (i + 1) None >>= (λ l. Ok (h * 16 + l)))) ≡ Err e)
     at (Ok h) = (_, refl)
     at (Err e) = (e, refl)
 
@@ -52,6 +54,7 @@ module _ (digits out : List ℕ) (n : ℕ) (twice : length digits ≡ 2 * n) (wh
   by_pairs : decode_sized digits n ≡ decode_pairs 0 digits
   by_pairs = decode_sized-pairs digits n (omega (arith, twice)) (omega (arith, twice))
 
-  pub decoded : (i : ℕ) (all : Bool) → n ≡ i → DecodedTo digits out i all → MatchResult (decode_sized digits n) (λ bytes. (all ≡ true) × (out ≡ bytes)) (λ _. all ≡ false)
+  pub decoded : (i : ℕ) (all : Bool) → n ≡ i → DecodedTo digits out i all
+      → MatchResult (decode_sized digits n) (λ bytes. (all ≡ true) × (out ≡ bytes)) (λ _. all ≡ false)
   decoded i true end so_far = rw (by_pairs, decode_done digits out i (omega (arith, whole, end)) (omega (arith, twice, end)) so_far) (refl, refl)
   decoded i false end so_far = rw (by_pairs, so_far.1) refl

@@ -3,7 +3,8 @@ use Rattle.std.proofs.Common.{◌≡◌, ◌∙◌, ◌<◌, ◌≤◌, ◌+◌,
 use Rattle.std.proofs.lemmas.Bool.{cond-false, cond-true, eq-eqb, ne_eqb}
 use Rattle.std.specs.Fmt.{digit_glyph, digits, digits_onto}
 
-above : (k rest : ℕ) (written : List ℕ) → 16 ≤ rest → digits_onto (suc k) 16 false rest written ≡ digits_onto k 16 false (rest / 16) (digit_glyph false (rest % 16) ∷ written)
+above : (k rest : ℕ) (written : List ℕ) → 16 ≤ rest
+    → digits_onto (suc k) 16 false rest written ≡ digits_onto k 16 false (rest / 16) (digit_glyph false (rest % 16) ∷ written)
 above k rest written most = cond-false _ _ _ (ne_eqb (rest / 16) 0 (λ e. omega (arith, e)))
 
 last : (k rest : ℕ) (written : List ℕ) → rest < 16 → digits_onto (suc k) 16 false rest written ≡ digit_glyph false rest ∷ written
@@ -19,7 +20,8 @@ smaller zero rest most fits = absurd (omega arith)
 smaller (suc at) rest most fits = let down : 16 ^ (suc at - 1) ≡ 16 ^ at = ap (λ (n : ℕ). 16 ^ n) (omega arith) in omega (arith, down)
 
 -- one more digit is written
-pub goes_on : (at rest : ℕ) (digit : ℕ) (written more text : List ℕ) → 16 ≤ rest → rest < 16 * 16 ^ at → digits_onto (49 + at) 16 false rest written ≡ text
+pub goes_on : (at rest : ℕ) (digit : ℕ) (written more text : List ℕ) → 16 ≤ rest → rest < 16 * 16 ^ at
+    → digits_onto (49 + at) 16 false rest written ≡ text
     → digit ≡ digit_glyph false (rest % 16) → more ≡ digit ∷ written → digits_onto (49 + (at - 1)) 16 false (rest / 16) more ≡ text
 goes_on zero rest digit written more text most fits before is same = absurd (omega arith)
 goes_on (suc at) rest digit written more text most fits before is same =
@@ -32,5 +34,6 @@ unfolding digits
 begins n written none = ap (digits_onto 64 16 false n) none
 
 -- the first digit is written last
-pub ends : (at rest : ℕ) (written text : List ℕ) → rest < 16 → digits_onto (49 + at) 16 false rest written ≡ text → digit_glyph false rest ∷ written ≡ text
+pub ends : (at rest : ℕ) (written text : List ℕ) → rest < 16 → digits_onto (49 + at) 16 false rest written ≡ text
+    → digit_glyph false rest ∷ written ≡ text
 ends at rest written text least before = grind arith

@@ -1,7 +1,10 @@
 -- Hexadecimal digits, written part by part, and as JSON strings, which need no escapes.
-use Rattle.std.proofs.Common.{rules, ◌≡◌, ◌∙◌, ℕ, ◌+◌, ◌-◌, ◌*◌, ◌/◌, ◌%◌, ◌<◌, List, [], ◌∷◌, ◌++◌, length, map, get_or, take, drop, bit_and, w16, ap, refl, sym, take-append-drop, suc, Bool, true, false, ◌&&◌, ◌==◌, not, nat_le, arith, append_assoc, codes}
-use Rattle.std.proofs.{lemmas.List.take_rest, lemmas.List.FromFn.get_or-map-range_with_len, lemmas.Bool.eqb-false, lemmas.Bool.leb-true, lemmas.Bool.not-true}
-use Rattle.bolt_text.proofs.Vocabulary.{AllPass-from_list_all, and_parts, decimal, digits_json, encode_lower, escape_byte, IsBytes, items_tokens, json_line, list_all, lower_digits, parts_json, Path, path_text, print_from, range_with_len, Token, Value}
+use Rattle.std.proofs.Common.{rules, ◌≡◌, ◌∙◌, ℕ, ◌+◌, ◌-◌, ◌*◌, ◌/◌, ◌%◌, ◌<◌, List, [], ◌∷◌, ◌++◌, length, map, get_or, take, drop, bit_and, w16}
+use Rattle.std.proofs.Common.{ap, refl, sym, take-append-drop, suc, Bool, true, false, ◌&&◌, ◌==◌, not, nat_le, arith, append_assoc, codes}
+use Rattle.std.proofs.{lemmas.List.take_rest, lemmas.List.FromFn.get_or-map-range_with_len, lemmas.Bool.eqb-false, lemmas.Bool.leb-true}
+use Rattle.std.proofs.{lemmas.Bool.not-true}
+use Rattle.bolt_text.proofs.Vocabulary.{AllPass-from_list_all, and_parts, decimal, digits_json, encode_lower, escape_byte, IsBytes, items_tokens}
+use Rattle.bolt_text.proofs.Vocabulary.{json_line, list_all, lower_digits, parts_json, Path, path_text, print_from, range_with_len, Token, Value}
 use Rattle.std.specs.Prelude.{slice_index}
 use Rattle.std.specs.Int.{to_le_bytes}
 use Rattle.hex.specs.Hex.{encode_with}
@@ -73,16 +76,21 @@ plain_digits bytes are = plain_text (encode_lower bytes) (digits_pass is_plain r
 -- ---- the line of a member
 
 -- the parts of a path, and what follows them
-parts_print : (path : Path) (later : List Token) → print_from false (items_tokens (parts_json digits_json path) ++ later) ≡ path_text Strings path ++ (93 ∷ print_from true later)
+parts_print : (path : Path) (later : List Token)
+    → print_from false (items_tokens (parts_json digits_json path) ++ later) ≡ path_text Strings path ++ (93 ∷ print_from true later)
 unfolding print_from
 parts_print [] later = refl
 parts_print (part ∷ []) later = refl
 parts_print (part ∷ next ∷ path) later = grind (arith, append_assoc, print_from, parts_print (next ∷ path) later)
 
-pub value_line : (path : Path) (value : List ℕ) → codes "{\"path\":[" ++ (path_text Strings path ++ (codes "],\"value\":" ++ (hex_string value ++ (codes "}\n" ++ [])))) ≡ json_line digits_json (path, Value value)
+pub value_line : (path : Path) (value : List ℕ)
+    → codes "{\"path\":[" ++ (path_text Strings path ++ (codes "],\"value\":" ++ (hex_string value ++ (codes "}\n" ++ []))))
+    ≡ json_line digits_json (path, Value value)
 unfolding print_from escape_byte json_line
 value_line path value = search (rules, parts_print, append_assoc)
 
-pub bucket_line : (path : Path) (sequence : ℕ) → codes "{\"path\":[" ++ (path_text Strings path ++ (codes "],\"bucket\":" ++ (decimal sequence ++ (codes "}\n" ++ [])))) ≡ json_line digits_json (path, Bucket sequence)
+pub bucket_line : (path : Path) (sequence : ℕ)
+    → codes "{\"path\":[" ++ (path_text Strings path ++ (codes "],\"bucket\":" ++ (decimal sequence ++ (codes "}\n" ++ []))))
+    ≡ json_line digits_json (path, Bucket sequence)
 unfolding print_from escape_byte json_line
 bucket_line path sequence = search (rules, parts_print, append_assoc)

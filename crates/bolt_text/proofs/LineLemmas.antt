@@ -11,7 +11,8 @@ first_part line (next ∷ parts) some = refl
 
 pub lines_cut : (text line after : Text) → IsCutAt 10 text line after → lines_of text ≡ line ∷ lines_of after
 unfolding lines_of
-lines_cut text line after cut = ap without_empty_end (parts_cut 10 text line after cut) ∙ first_part line (slice_split (λ byte. byte == 10) after) (some_parts 10 after)
+lines_cut text line after cut =
+    ap without_empty_end (parts_cut 10 text line after cut) ∙ first_part line (slice_split (λ byte. byte == 10) after) (some_parts 10 after)
 
 pub cut_line : (text line after : Text) → IsCutAt 10 text line after → IsFirstLine text line after
 cut_line text line after cut = record {

@@ -12,14 +12,16 @@ unmarked : (bytes : List ℕ) → is_marked bytes ≡ false → bytes_eq (take 2
 unmarked bytes none = grind (arith, false_from_ne_true, bytes_eq, bytes_eq-Decides)
 
 module _ (bytes : List ℕ) (are : IsBytes bytes) where
-  by_test : (plain : Bool) → (is_printable bytes && not (is_marked bytes)) ≡ plain → mixed_in (if plain then bytes else codes "0x" ++ encode_lower bytes) ≡ Some bytes
+  by_test : (plain : Bool) → (is_printable bytes && not (is_marked bytes)) ≡ plain
+      → mixed_in (if plain then bytes else codes "0x" ++ encode_lower bytes) ≡ Some bytes
   by_test true e = ap (λ (b : Bool). if b then hex_bytes_in (drop 2 bytes) else Some bytes) (unmarked bytes (not-true (is_marked bytes) (and_parts _ _ e).1))
   by_test false e = ap (λ (read : Result (List ℕ) FromHexError). result_ok read) (decode_of-encode_lower bytes are)
 
   pub mixed_back : mixed_in (mixed_text bytes) ≡ Some bytes
   mixed_back = by_test (is_printable bytes && not (is_marked bytes)) refl
 
-  word_by_test : (plain : Bool) → (is_printable bytes && not (is_marked bytes)) ≡ plain → is_printable (if plain then bytes else codes "0x" ++ encode_lower bytes) ≡ true
+  word_by_test : (plain : Bool) → (is_printable bytes && not (is_marked bytes)) ≡ plain
+      → is_printable (if plain then bytes else codes "0x" ++ encode_lower bytes) ≡ true
   word_by_test true e = (and_parts (is_printable bytes) _ e).0
   word_by_test false e = digits_pass (λ byte. nat_le 0x20 byte && nat_le byte 0x7E) refl bytes are
 

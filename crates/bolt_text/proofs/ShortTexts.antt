@@ -12,7 +12,8 @@ use Rattle.bolt_text.specs.declared.report_fault.ReportFault.TheVariants as faul
 
 module _ {S : Type 0} {sink : Ghosts S} where
   -- the same text in other words
-  pub short_same : {old new : S} {text same : List ℕ} {end : Ending} → text ≡ same → HaltsShort sink old new text end → HaltsShort sink old new same end
+  pub short_same : {old new : S} {text same : List ℕ} {end : Ending} → text ≡ same → HaltsShort sink old new text end
+      → HaltsShort sink old new same end
   short_same {old} {new} {end = end} e halts = subst (λ l. HaltsShort sink old new l end) e halts
 
   -- a call that ends as another did
@@ -27,7 +28,8 @@ module _ {S : Type 0} {sink : Ghosts S} where
   short_broken = record { short = λ is. absurd (cc) }
 
   -- the first text whole, and then the second
-  pub short_then : {old mid new : S} {first second : List ℕ} {end : Ending} → Wrote sink old mid first whole → HaltsShort sink mid new second end → HaltsShort sink old new (first ++ second) end
+  pub short_then : {old mid new : S} {first second : List ℕ} {end : Ending} → Wrote sink old mid first whole → HaltsShort sink mid new second end
+      → HaltsShort sink old new (first ++ second) end
   short_then {old} {mid} {new} {first} {second} before halts = record {
     short = λ is. AppendsProperPrefix-second (sink.taken old) (sink.taken mid) (sink.taken new) first second before.appends (halts.short is);
   }
@@ -39,17 +41,22 @@ module _ {S : Type 0} {sink : Ghosts S} where
       short_ends (ends_by e result is) (record { short = λ same. AppendsProperPrefix-first (sink.taken old) (sink.taken new) first second (halts.short same) })
 
   -- or after a prefix of a text
-  pub short_front : {A : Type 0} {old mid new : S} {text piece left : List ℕ} (rest : List ℕ) (e : ReportFault) (result : Result A ReportFault) → WroteFront sink old mid text left
-      → HaltsShort sink mid new piece (fault_ending e) → left ≡ piece ++ rest → IsErrAnd result (λ f. f ≡ e) → HaltsShort sink old new text (report_ending result)
-  short_front rest e result before halts same is = short_same (sym before.parts) (short_then before.wrote (short_same (sym same) (short_fault rest e result halts is)))
+  pub short_front : {A : Type 0} {old mid new : S} {text piece left : List ℕ} (rest : List ℕ) (e : ReportFault) (result : Result A ReportFault)
+      → WroteFront sink old mid text left
+      → HaltsShort sink mid new piece (fault_ending e) → left ≡ piece ++ rest → IsErrAnd result (λ f. f ≡ e)
+      → HaltsShort sink old new text (report_ending result)
+  short_front rest e result before halts same is =
+      short_same (sym before.parts) (short_then before.wrote (short_same (sym same) (short_fault rest e result halts is)))
 
   -- the sink's fault
-  pub short_passed : {A : Type 0} {old new : S} {text : List ℕ} (result : Result A ReportFault) → IsErrAnd result (λ f. f ≡ fault.Sink) → HaltsShort sink old new text (report_ending result)
+  pub short_passed : {A : Type 0} {old new : S} {text : List ℕ} (result : Result A ReportFault) → IsErrAnd result (λ f. f ≡ fault.Sink)
+      → HaltsShort sink old new text (report_ending result)
   short_passed result is = short_ends (ends_by fault.Sink result is) short_broken
 
   -- nothing was written, and there was something to write
   pub short_unbegun : {old : S} {text : List ℕ} {end : Ending} → text ≢ [] → HaltsShort sink old old text end
-  short_unbegun {old} {text} some = record { short = λ is. record { front = []; rest = text; parts = refl; short = some; taken = Appends-nil (sink.taken old) } }
+  short_unbegun {old} {text} some =
+      record { short = λ is. record { front = []; rest = text; parts = refl; short = some; taken = Appends-nil (sink.taken old) } }
 
 -- an item in JSON has a first byte
 pub json_some : (bytes : List ℕ) → json_text (item_json bytes) ≢ []

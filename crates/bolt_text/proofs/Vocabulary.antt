@@ -1,5 +1,6 @@
 -- The words that the proofs of this crate cite, passed on from the modules that define them.
-pub use Rattle.bolt_format.proofs.Exports.{flat_map-take_more, WroteFront, front_more, front_whole, Wrote-element, Wrote-element_return, Wrote-elements, Wrote-return, Wrote-same, Wrote-then}
+pub use Rattle.bolt_format.proofs.Exports.{flat_map-take_more, WroteFront, front_more, front_whole, Wrote-element, Wrote-element_return}
+pub use Rattle.bolt_format.proofs.Exports.{Wrote-elements, Wrote-return, Wrote-same, Wrote-then}
 pub use Rattle.bolt_format.specs.Endings.{broken, ending, whole}
 pub use Rattle.bolt_format.specs.Wrote.{Wrote}
 pub use Rattle.bolt_format.specs.declared.sink.Sink.{Ghosts}

@@ -30,7 +30,7 @@ json_text value = print (json_tokens value)
 abbrev pub is_marked : List ℕ → Bool
 is_marked bytes = starts_with (λ a b. a == b) bytes (codes "0x")
 
--- as it is if it is printable and has no mark, otherwise the mark and its digits in hexadecimal
+-- an item as it is if it is printable and has no mark, and otherwise the mark and its digits in hexadecimal
 abbrev pub mixed_text : List ℕ → List ℕ
 mixed_text bytes = if is_printable bytes && not (is_marked bytes) then bytes else codes "0x" ++ encode_lower bytes
 

@@ -26,7 +26,7 @@ bytes_of_digits digits = result_ok (decode_of digits)
 abbrev pub digits_of : Json → Option (List ℕ)
 digits_of json = option_and_then bytes_of_digits (string_of json)
 
--- or a string, or an object whose `hex` has hexadecimal digits
+-- a key or a value that is a string, or an object whose `hex` has hexadecimal digits
 abbrev pub item_in_json : Json → Option (List ℕ)
 item_in_json (string s) = Some s
 item_in_json (object ms) = option_and_then bytes_of_digits (option_and_then string_of (named (codes "hex") ms))

@@ -3,7 +3,8 @@ use Rattle.std.specs.Prelude.{◌==◌, List, [], ◌∷◌, Option, None, Some,
 use Rattle.std.specs.{List.slice_split, Str.bytes_eq}
 use Rattle.bolt_tree.specs.{Entries.Bucket, Entries.Item, Entries.Value, Listing.Member}
 use Rattle.bolt_text.specs.{HexPaths.hex_bytes_in, HexPaths.hex_path_in, Lines.Text, Numbers.number_in, declared.line_words.ItemWord.ItemWord}
-use Rattle.bolt_text.specs.{declared.line_words.ItemWord.TheVariants.Digits, declared.line_words.ItemWord.TheVariants.Sequence, declared.line_words.LineWords.LineWords}
+use Rattle.bolt_text.specs.{declared.line_words.ItemWord.TheVariants.Digits, declared.line_words.ItemWord.TheVariants.Sequence}
+use Rattle.bolt_text.specs.{declared.line_words.LineWords.LineWords}
 
 abbrev pub word_item : ItemWord → Option Item
 word_item (Digits digits) = option_map Value (hex_bytes_in digits.now)
@@ -28,7 +29,7 @@ three_words (path ∷ mark ∷ []) = None
 three_words (path ∷ mark ∷ word ∷ []) = option_map (λ item. (path, item)) (last_word mark word)
 three_words (path ∷ mark ∷ word ∷ more ∷ words) = None
 
--- with one space, which is 32, between two
+-- the words of a line, with one space, which is 32, between two
 unfoldable pub line_words : Text → Option (Text × Item)
 line_words line = three_words (slice_split (λ byte. byte == 32) line)
 

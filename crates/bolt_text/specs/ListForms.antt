@@ -2,7 +2,8 @@
 use Rattle.std.specs.Prelude.{ℕ, List, flat_map}
 use Rattle.bolt_tree.specs.Listing.{Member}
 use Rattle.bolt_text.specs.{Forms.digits_json, Forms.item_json, JsonLines.json_line, ListLines.member_line, declared.forms.ListForm.ListForm}
-use Rattle.bolt_text.specs.{declared.forms.ListForm.TheVariants.Hex, declared.forms.ListForm.TheVariants.Json, declared.forms.ListForm.TheVariants.JsonHex, declared.member_lines.LineWriter.LineWriter}
+use Rattle.bolt_text.specs.{declared.forms.ListForm.TheVariants.Hex, declared.forms.ListForm.TheVariants.Json}
+use Rattle.bolt_text.specs.{declared.forms.ListForm.TheVariants.JsonHex, declared.member_lines.LineWriter.LineWriter}
 use Rattle.bolt_text.specs.declared.member_lines.MemberLines.{MemberLines}
 use Rattle.bolt_text.specs.declared.member_lines.LineWriter.TheVariants as writer
 

@@ -8,12 +8,12 @@ use Rattle.bolt_text.specs.{Forms.is_printable, ListLines.hex_path}
 abbrev pub is_readable_part : List ℕ → Bool
 is_readable_part part = not (length part == 0) && is_printable part
 
-abbrev pub is_readable : Path → Bool
-is_readable path = not (length path == 0) && list_all is_readable_part path
+abbrev pub is_readable_path : Path → Bool
+is_readable_path path = not (length path == 0) && list_all is_readable_part path
 
 -- the parts of a path that can be read, joined by slashes, in brackets
 abbrev pub text_after : Path → List ℕ
-text_after path = if is_readable path then codes " (" ++ (join_with_byte 0x2F path ++ codes ")") else []
+text_after path = if is_readable_path path then codes " (" ++ (join_with_byte 0x2F path ++ codes ")") else []
 
 -- a path in hexadecimal, and its text
 unfoldable pub named_path : Path → List ℕ

@@ -5,7 +5,8 @@ use Rattle.hex.specs.Hex.{encode_lower}
 use Rattle.json.specs.Print.{quoted}
 use Rattle.bolt_tree.specs.Paths.{Path, path_of}
 use Rattle.bolt_text.specs.{Lines.column, Lines.figure_line, NamedPaths.named_key, NamedPaths.named_path, declared.pieces.Piece.Piece}
-use Rattle.bolt_text.specs.declared.pieces.Piece.TheVariants.{Bytes, Number, HexNumber, Hex, HexString, JoinedPath, NamedPath, NamedKey, Field, Figure, Column, NumberColumn}
+use Rattle.bolt_text.specs.declared.pieces.Piece.TheVariants.{Bytes, Number, HexNumber, Hex, HexString, JoinedPath, NamedPath, NamedKey, Field}
+use Rattle.bolt_text.specs.declared.pieces.Piece.TheVariants.{Figure, Column, NumberColumn}
 use Rattle.bolt_text.specs.declared.path_pieces.PathForm.{PathForm}
 use Rattle.bolt_text.specs.declared.path_pieces.PathForm.TheVariants.{Slashes, Strings, Plain}
 
@@ -45,6 +46,6 @@ piece_text (Figure name n) = figure_line name.now n
 piece_text (Column text width) = column width text.now
 piece_text (NumberColumn n width) = column width (decimal n)
 
--- one after another
+-- the texts of pieces, one after another
 abbrev pub pieces_text : List Piece → List ℕ
 pieces_text pieces = flat_map piece_text pieces

@@ -11,8 +11,9 @@ use bolt_format::{Sink, SinkFault};
 /// The number of bytes that are encoded at a time.
 const PART_LEN: usize = 256;
 
-/// The same of a long text. Its digits are as many as the program gathers before it writes them, so
-/// they are written at once, and not copied to what is gathered.
+/// The number of bytes of a long text that are encoded at a time. Their digits are as many as the
+/// program gathers before it writes them, so they are written at once, and not copied to what is
+/// gathered.
 const LONG_PART_LEN: usize = 1 << 15;
 
 /// The most digits that a number has.

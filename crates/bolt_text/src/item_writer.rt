@@ -67,7 +67,7 @@ impl ItemWriter {
             Form::Text => put_or_hex(bytes, is_text(bytes), sink),
             Form::Mixed => put_mixed(bytes, sink),
             Form::Json => put(self.json.item(bytes)?, sink),
-            Form::JsonHex => put_hex_string(bytes, sink),
+            Form::JsonHex => put_json_digits(bytes, sink),
         };
         Ok(written?)
     }
@@ -98,7 +98,7 @@ fn put_mixed<S: Sink>(bytes: &[u8], sink: &mut S) -> Result<(), SinkFault>
 
 /// Writes a JSON string of bytes in hexadecimal.
 #[tactic(auto, unfolding(json::specs::Print::print_from))]
-fn put_hex_string<S: Sink>(bytes: &[u8], sink: &mut S) -> Result<(), SinkFault>
+fn put_json_digits<S: Sink>(bytes: &[u8], sink: &mut S) -> Result<(), SinkFault>
     ensures { Wrote S.Sink sink.old sink.new (json_text (digits_json bytes.now)) (ending result) }
 {
     put_pieces(&[Piece::HexString(bytes)], sink)

@@ -7,7 +7,7 @@ ghost use Rattle.bolt_text.specs.NamedPaths.{named_path, text_after};
 ghost use Rattle.bolt_text.specs.Pieces.{later_parts, part_text, path_text, separator};
 
 use crate::gathered::{Gathered, put_bytes, put_hex_digits, put_hex_string};
-use crate::readable::is_readable;
+use crate::readable::is_readable_path;
 use bolt_format::{Sink, SinkFault};
 
 /// How the parts of a path are written.
@@ -43,7 +43,7 @@ fn put_text_after<S: Sink>(
     ensures { Gathers S.Sink sink.old sink.new gathered.old.items gathered.new.items
         (text_after (path_of parts.now)) (ending result) }
 {
-    if !is_readable(parts) {
+    if !is_readable_path(parts) {
         return Ok(());
     }
     put_bytes(b" (", gathered, sink)?;

@@ -1,7 +1,7 @@
 //! Which bytes, and which paths, can be read as they are.
 ghost use Rattle.std.specs.Prelude.{◌≡◌};
 ghost use Rattle.bolt_tree.specs.Paths.{path_of};
-ghost use Rattle.bolt_text.specs.{Forms.is_printable, NamedPaths.is_readable, NamedPaths.is_readable_part};
+ghost use Rattle.bolt_text.specs.{Forms.is_printable, NamedPaths.is_readable_path, NamedPaths.is_readable_part};
 
 /// Whether each byte is a printable ASCII character.
 pub(crate) fn can_be_printed(bytes: &[u8]) -> bool
@@ -11,8 +11,8 @@ pub(crate) fn can_be_printed(bytes: &[u8]) -> bool
 }
 
 /// Whether a path has parts, and each of them can be read.
-pub(crate) fn is_readable(path: &[&[u8]]) -> bool
-    ensures { result ≡ is_readable (path_of path.now) }
+pub(crate) fn is_readable_path(path: &[&[u8]]) -> bool
+    ensures { result ≡ is_readable_path (path_of path.now) }
 {
     !path.is_empty() && path.iter().all(|part| is_readable_part(part))
 }

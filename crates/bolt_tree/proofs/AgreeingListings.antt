@@ -11,10 +11,12 @@ use Rattle.bolt_tree.specs.{Entries.IsEntry, Entries.Inline_page, Entries.Root_p
 -- the entries of a bucket, by what pages are and show
 abbrev entry_by : Nodes → (ℕ → Option PageView) → Start → LeafElement → Type 0
 entry_by nodes pages (Root_page root) e =
-    (address : List ℕ) × (n : ℕ) × (leads nodes (Some root) address ≡ Some n) × ((view : PageView) × (pages n ≡ Some view) × (view.kind ≡ kind.Leaf) × Contains view.leaves e)
+    (address : List ℕ) × (n : ℕ) × (leads nodes (Some root) address ≡ Some n)
+    × ((view : PageView) × (pages n ≡ Some view) × (view.kind ≡ kind.Leaf) × Contains view.leaves e)
 entry_by nodes pages (Inline_page elements) e = Contains elements e
 
-by_pages : (file : List ℕ) (meta : Meta) (bucket : Start) → ◌≡◌ {A = LeafElement → Type 0} (IsEntry file meta bucket) (entry_by (node_at file meta) (page_at file meta) bucket)
+by_pages : (file : List ℕ) (meta : Meta) (bucket : Start)
+    → ◌≡◌ {A = LeafElement → Type 0} (IsEntry file meta bucket) (entry_by (node_at file meta) (page_at file meta) bucket)
 by_pages file meta bucket = grind arith
 
 module _ (file other : List ℕ) (meta : Meta) (agree : Agree file other meta) where

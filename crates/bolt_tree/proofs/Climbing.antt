@@ -1,6 +1,9 @@
 -- One turn of a climb, in what is known of open buckets: only that it is so.
-use Rattle.std.proofs.Common.{◌≡◌, ◌∙◌, ◌+◌, ◌-◌, ℕ, suc, List, [], ◌∷◌, ◌++◌, take, Option, Some, None, MatchOption, refl, sym, ap, subst, arith, vec_len, Bor}
-use Rattle.bolt_tree.proofs.Words.{AreOpen, Checked, Cursor, CursorView, HasEntries, IsInPlace, LeafElement, Lists, Member, Moves, Names, Path, Start, beyond, cursor_view, cursors_of, entries_of, innermost_views, is_beyond, item_of, next_move, open_path, option_to_list, path_of, props, rest_after, root_start, waiting_of, ∥∥₁_elim, ∥∥₁_map}
+use Rattle.std.proofs.Common.{◌≡◌, ◌∙◌, ◌+◌, ◌-◌, ℕ, suc, List, [], ◌∷◌, ◌++◌, take, Option, Some, None, MatchOption, refl, sym, ap, subst, arith}
+use Rattle.std.proofs.Common.{vec_len, Bor}
+use Rattle.bolt_tree.proofs.Words.{AreOpen, Checked, Cursor, CursorView, HasEntries, IsInPlace, LeafElement, Lists, Member, Moves, Names, Path, Start}
+use Rattle.bolt_tree.proofs.Words.{beyond, cursor_view, cursors_of, entries_of, innermost_views, is_beyond, item_of, next_move, open_path}
+use Rattle.bolt_tree.proofs.Words.{option_to_list, path_of, props, rest_after, root_start, waiting_of, ∥∥₁_elim, ∥∥₁_map}
 use Rattle.bolt_tree.proofs.{Filters.filter_none, KeptLemmas.none_open}
 use Rattle.bolt_tree.proofs.OpenSteps.{Top, path_popped, next_ended, next_entry, next_given, next_open, open_pop}
 use Rattle.bolt_tree.specs.declared.open_buckets.OpenBuckets.{OpenBuckets}
@@ -11,10 +14,12 @@ pub record Popped (checked : Checked) (cursors : List CursorView) (cursor : Curs
   pub top : Top checked [] cursors cursor old
   pub left : new ≡ top.front
 
-module _ (buckets : OpenBuckets) (cursor : Cursor) (is : buckets.innermost ≡ Some cursor) (placed : IsInPlace buckets) (new : List (Bor (List ℕ))) (len : ℕ) (taken : Option (Bor (List ℕ)))
+module _ (buckets : OpenBuckets) (cursor : Cursor) (is : buckets.innermost ≡ Some cursor) (placed : IsInPlace buckets) (new : List (Bor (List ℕ))) (len : ℕ)
+    (taken : Option (Bor (List ℕ)))
     (items : buckets.path.items ≡ new ++ option_to_list taken) (rest : new ≡ take (vec_len buckets.path - 1) buckets.path.items)
     (cases : MatchOption taken ((vec_len buckets.path ≡ 0) × (len ≡ 0)) (λ _. len + 1 ≡ vec_len buckets.path)) where
-  more_or_less : (o : Option (Bor (List ℕ))) (n m : ℕ) → MatchOption o ((n ≡ 0) × (m ≡ 0)) (λ _. m + 1 ≡ n) → MatchOption o ((n ≡ 0) × (m ≡ 0)) (λ _. suc m ≡ n)
+  more_or_less : (o : Option (Bor (List ℕ))) (n m : ℕ) → MatchOption o ((n ≡ 0) × (m ≡ 0)) (λ _. m + 1 ≡ n)
+      → MatchOption o ((n ≡ 0) × (m ≡ 0)) (λ _. suc m ≡ n)
   more_or_less o n m h = grind arith
 
   of : HasEntries (entries_of buckets.checked) (root_start buckets.checked) × AreOpen buckets.checked [] (cursors_of buckets) (open_path buckets)
@@ -41,31 +46,44 @@ module _ (checked : Checked) (cursors : List CursorView) (cursor moved : CursorV
       let below = subst (λ (keys : Path). AreOpen checked [] cursors keys) (sym k.left) k.top.below in
       (k.all, subst (λ (cs : List CursorView). AreOpen checked [] cs new) (sym rest) below))
 
-  pub ends : MovesOn None → (listing : List Member) → Lists (entries_of checked) (root_start checked) listing → beyond old listing ≡ beyond new listing
+  pub ends : MovesOn None → (listing : List Member) → Lists (entries_of checked) (root_start checked) listing
+      → beyond old listing ≡ beyond new listing
   ends moves listing lists =
-      ∥∥₁_elim known (hlevel props) (λ k. next_ended checked k.all cursors cursor moved old k.top moves listing lists ∙ ap (λ (keys : Path). beyond keys listing) (sym k.left))
+      ∥∥₁_elim known (hlevel props)
+      (λ k. next_ended checked k.all cursors cursor moved old k.top moves listing lists ∙ ap (λ (keys : Path). beyond keys listing) (sym k.left))
 
-  pub opens : (e : LeafElement) (after : List CursorView) (keys : Path) → moved.checked ≡ cursor.checked → moved.start ≡ cursor.start → MovesOn (Some e)
+  pub opens : (e : LeafElement) (after : List CursorView) (keys : Path) → moved.checked ≡ cursor.checked → moved.start ≡ cursor.start
+      → MovesOn (Some e)
       → after ≡ cursors ++ moved ∷ [] → keys ≡ new ++ e.key ∷ [] → ∥ HasEntries (entries_of checked) (root_start checked) × AreOpen checked [] after keys ∥₁
   opens e after keys file start moves put path =
       ∥∥₁_map known (λ k.
       let at : keys ≡ k.top.front ++ e.key ∷ [] = path ∙ ap (λ (p : Path). p ++ e.key ∷ []) k.left in (
         k.all,
         subst (λ (cs : List CursorView). AreOpen checked [] cs keys) (sym put)
-            (subst (λ (ks : Path). AreOpen checked [] (cursors ++ moved ∷ []) ks) (sym at) (next_open checked k.all cursors cursor moved old k.top e file start moves)),
+            (subst (λ (ks : Path). AreOpen checked [] (cursors ++ moved ∷ []) ks) (sym at)
+            (next_open checked k.all cursors cursor moved old k.top e file start moves)),
       ))
 
   pub leads_on : (e : LeafElement) (keys : Path) → MovesOn (Some e) → keys ≡ new ++ e.key ∷ []
-      → ∥ ((path : Path) × (bucket : Start) × (keys ≡ path ++ e.key ∷ []) × Names (entries_of checked) (root_start checked) path bucket × entries_of checked bucket e) ∥₁
+      → ∥ ((path : Path) × (bucket : Start) × (keys ≡ path ++ e.key ∷ []) × Names (entries_of checked) (root_start checked) path bucket
+      × entries_of checked bucket e) ∥₁
   leads_on e keys moves path =
-      ∥∥₁_map known (λ k. (k.top.front, cursor.start, path ∙ ap (λ (p : Path). p ++ e.key ∷ []) k.left, k.top.names, next_entry checked k.all cursors cursor moved old k.top e moves))
+      ∥∥₁_map known (λ k. (
+        k.top.front,
+        cursor.start,
+        path ∙ ap (λ (p : Path). p ++ e.key ∷ []) k.left,
+        k.top.names,
+        next_entry checked k.all cursors cursor moved old k.top e moves,
+      ))
 
-  pub gives : (e : LeafElement) (keys : Path) → MovesOn (Some e) → keys ≡ new ++ e.key ∷ [] → (listing : List Member) → Lists (entries_of checked) (root_start checked) listing
+  pub gives : (e : LeafElement) (keys : Path) → MovesOn (Some e) → keys ≡ new ++ e.key ∷ [] → (listing : List Member)
+      → Lists (entries_of checked) (root_start checked) listing
       → beyond old listing ≡ (keys, item_of e) ∷ rest_after keys listing
   gives e keys moves path listing lists =
       ∥∥₁_elim known (hlevel props) (λ k.
       let at : keys ≡ k.top.front ++ e.key ∷ [] = path ∙ ap (λ (p : Path). p ++ e.key ∷ []) k.left in
-      subst (λ (ks : Path). beyond old listing ≡ (ks, item_of e) ∷ rest_after ks listing) (sym at) (next_given checked k.all cursors cursor moved old k.top e moves listing lists))
+      subst (λ (ks : Path). beyond old listing ≡ (ks, item_of e) ∷ rest_after ks listing) (sym at)
+      (next_given checked k.all cursors cursor moved old k.top e moves listing lists))
 
 -- without an open bucket the path is empty
 long : (checked : Checked) (keys : Path) → AreOpen checked [] [] keys → keys ≡ []
@@ -74,10 +92,12 @@ long checked keys are = grind arith
 pub all_closed : (buckets : OpenBuckets) → IsInPlace buckets → buckets.innermost ≡ None → open_path buckets ≡ []
 all_closed buckets placed none =
     ∥∥₁_elim (none_open buckets.checked buckets.waiting.items buckets.positions.items buckets.innermost buckets.kept none) (hlevel props) (λ empty.
-    ∥∥₁_elim placed (hlevel props) (λ t. long buckets.checked (open_path buckets) (subst (λ (cs : List CursorView). AreOpen buckets.checked [] cs (open_path buckets)) empty t.1)))
+    ∥∥₁_elim placed (hlevel props)
+    (λ t. long buckets.checked (open_path buckets) (subst (λ (cs : List CursorView). AreOpen buckets.checked [] cs (open_path buckets)) empty t.1)))
 
 pub none_beyond : (keys : Path) (listing : List Member) → keys ≡ [] → beyond keys listing ≡ []
 none_beyond keys listing none = ap (λ (p : Path). beyond p listing) none ∙ filter_none (λ m. is_beyond [] m.0) listing (λ m h. refl)
 
-pub listed_in : (a b : Checked) (listing : List Member) → a ≡ b → Lists (entries_of b) (root_start b) listing → Lists (entries_of a) (root_start a) listing
+pub listed_in : (a b : Checked) (listing : List Member) → a ≡ b → Lists (entries_of b) (root_start b) listing
+    → Lists (entries_of a) (root_start a) listing
 listed_in a b listing same lists = subst (λ (file : Checked). Lists (entries_of file) (root_start file) listing) (sym same) lists

@@ -1,9 +1,14 @@
 -- Numbers of pages: an address is counted by its place on the tour.
-use Rattle.std.proofs.Common.{◌≡◌, ℕ, suc, ◌+◌, ◌-◌, ◌≤◌, ◌<◌, ◌⊎◌, inl, inr, List, [], ◌∷◌, ◌++◌, Some, length, map, refl, sym, ap, ◌∙◌, subst, arith, append_assoc, append-nil, length-append}
-use Rattle.bolt_tree.proofs.Words.{Before, BucketView, HasCount, HasSoundTrees, Inline_page, IsAddress, IsAfter, IsEntry, IsHome, IsPagesUpTo, IsSeekPage, IsSoundBucket, IsStart, IsUpTo, LeafElement, Meta, Root_page, Start, TourPage, cases_lt, content_at, length-map, lt_strict, pages_at, tour_pages_in}
+use Rattle.std.proofs.Common.{◌≡◌, ℕ, suc, ◌+◌, ◌-◌, ◌≤◌, ◌<◌, ◌⊎◌, inl, inr, List, [], ◌∷◌, ◌++◌, Some, length, map, refl, sym, ap, ◌∙◌, subst}
+use Rattle.std.proofs.Common.{arith, append_assoc, append-nil, length-append}
+use Rattle.bolt_tree.proofs.Words.{Before, BucketView, HasCount, HasSoundTrees, Inline_page, IsAddress, IsAfter, IsEntry, IsHome, IsPagesUpTo}
+use Rattle.bolt_tree.proofs.Words.{IsSeekPage, IsSoundBucket, IsStart, IsUpTo, LeafElement, Meta, Root_page, Start, TourPage, cases_lt, content_at}
+use Rattle.bolt_tree.proofs.Words.{length-map, lt_strict, pages_at, tour_pages_in}
 use Rattle.bolt_tree.proofs.RisingEntries.{entry_visited, home_visited, start_rises, visit_is}
 use Rattle.bolt_tree.proofs.TourLemmas.{IsApart, led_tour, tour_led, visit_of}
-use Rattle.bolt_check.proofs.Exports.{Has, RisesBy, contains_from_has, flat_has, has_from_contains, has_left, has_map, has_right, has_split, map_has, one_list, pairs_from_rises, rises_across, rises_from_pairs, rises_left, rises_map, rises_right, rises_weaker, before_irreflexive, before_strict, before_trans}
+use Rattle.bolt_check.proofs.Exports.{Has, RisesBy, contains_from_has, flat_has, has_from_contains, has_left, has_map, has_right, has_split, map_has}
+use Rattle.bolt_check.proofs.Exports.{one_list, pairs_from_rises, rises_across, rises_from_pairs, rises_left, rises_map, rises_right, rises_weaker}
+use Rattle.bolt_check.proofs.Exports.{before_irreflexive, before_strict, before_trans}
 
 -- A rising list of exactly these addresses.
 pub record IsExactly (Is : List ℕ → Type 0) (n : ℕ) : Type 0 where
@@ -51,7 +56,8 @@ module _ {X : Type 0} where
   first_cut [] b (z ∷ c) d x y e l = let same : x ≡ z = cc in inl (sym same)
   first_cut (w ∷ a) b (z ∷ c) d x y e l = let rest : a ++ (x ∷ b) ≡ c ++ (y ∷ d) = cc in inr (first_cut a b c d x y rest (omega arith))
 
-  two_cuts : (a b c d : List X) (x y : X) → a ++ (x ∷ b) ≡ c ++ (y ∷ d) → length d ≤ length b → (between : List X) × (b ≡ between ++ d) × (a ++ x ∷ between ≡ c ++ y ∷ [])
+  two_cuts : (a b c d : List X) (x y : X) → a ++ (x ∷ b) ≡ c ++ (y ∷ d) → length d ≤ length b
+      → (between : List X) × (b ≡ between ++ d) × (a ++ x ∷ between ≡ c ++ y ∷ [])
   two_cuts [] b [] d x y e l = ([], cc, cc)
   two_cuts [] b (z ∷ c) d x y e l = grind (arith, append_assoc c (y ∷ []) d)
   two_cuts (w ∷ a) b [] d x y e l = grind (arith, length-append)
@@ -73,9 +79,11 @@ module _ (file : List ℕ) (meta : Meta) (trees : HasSoundTrees file meta) where
   visit_address (Inline_page elements) v is (inl e) = sym (ap address_of e)
   visit_address (Inline_page elements) v is (inr x) = absurd x
 
-  pub address_visited : (start : Start) (a : List ℕ) → IsStart file meta start → IsAddress file meta start a → Has (map address_of (pages_at file meta start)) a
+  pub address_visited : (start : Start) (a : List ℕ) → IsStart file meta start → IsAddress file meta start a
+      → Has (map address_of (pages_at file meta start)) a
   address_visited (Root_page number) a is at =
-      has_map address_of (pages_at file meta (Root_page number)) (visit_of a (content_at file meta at.0)) (led_tour file meta trees 63 number 1 [] a at.0 is (omega arith) at.1)
+      has_map address_of (pages_at file meta (Root_page number)) (visit_of a (content_at file meta at.0))
+      (led_tour file meta trees 63 number 1 [] a at.0 is (omega arith) at.1)
   address_visited (Inline_page elements) a is at = inl (sym at)
 
 -- where the page with an entry is
@@ -91,15 +99,18 @@ module _ (b : BucketView) (s : IsSoundBucket b) where
   rising = start_rises b.file b.meta s.trees b.start s.start
 
   -- pages that stand together, if their addresses are all those of a kind
-  part_exact : (Is : List ℕ → Type 0) (left part right : List TourPage) (n : ℕ) → tour_pages_in b ≡ left ++ (part ++ right) → length part ≡ n → ((a : List ℕ) → Is a → IsAddress b.file b.meta b.start a)
-      → ((v : TourPage) → Has (tour_pages_in b) v → Has part v → Is v.address) → ((v : TourPage) → Has (tour_pages_in b) v → Is v.address → Has part v) → IsExactly Is n
+  part_exact : (Is : List ℕ → Type 0) (left part right : List TourPage) (n : ℕ) → tour_pages_in b ≡ left ++ (part ++ right) → length part ≡ n
+      → ((a : List ℕ) → Is a → IsAddress b.file b.meta b.start a)
+      → ((v : TourPage) → Has (tour_pages_in b) v → Has part v → Is v.address) → ((v : TourPage) → Has (tour_pages_in b) v → Is v.address → Has part v)
+      → IsExactly Is n
   part_exact Is left part right n whole size are sound complete = record {
     members = map address_of part;
     rises = rises_map Before address_of part (rises_weaker IsApart (λ v w. Before v.address w.address) part (λ v w a. a.addresses)
         (rises_left IsApart part right (rises_right IsApart left (part ++ right) (subst (RisesBy IsApart) whole rising))));
     sound = λ a h.
         let r = map_has address_of part a h in
-        subst Is r.2 (sound r.0 (subst (λ (vs : List TourPage). Has vs r.0) (sym whole) (has_right left (part ++ right) r.0 (has_left part right r.0 r.1))) r.1);
+        subst Is r.2 (sound r.0
+        (subst (λ (vs : List TourPage). Has vs r.0) (sym whole) (has_right left (part ++ right) r.0 (has_left part right r.0 r.1))) r.1);
     complete = λ a i.
         let r = map_has address_of (tour_pages_in b) a (address_visited b.file b.meta s.trees b.start a s.start (are a i)) in
         subst (Has (map address_of part)) r.2 (has_map address_of part r.0 (complete r.0 r.1 (subst Is (sym r.2) i)));
@@ -108,7 +119,9 @@ module _ (b : BucketView) (s : IsSoundBucket b) where
 
   -- all pages
   pub all_exact : IsExactly (IsAddress b.file b.meta b.start) (length (tour_pages_in b))
-  all_exact = part_exact (IsAddress b.file b.meta b.start) [] (tour_pages_in b) [] (length (tour_pages_in b)) (sym (append-nil (tour_pages_in b))) refl (λ a i. i) (λ v h k. at_address v h) (λ v h i. h)
+  all_exact =
+      part_exact (IsAddress b.file b.meta b.start) [] (tour_pages_in b) [] (length (tour_pages_in b)) (sym (append-nil (tour_pages_in b))) refl (λ a i. i)
+      (λ v h k. at_address v h) (λ v h i. h)
 
   module _ (c : Cut (tour_pages_in b)) where
     whole_rises : RisesBy IsApart (c.left ++ (c.page ∷ c.right))
@@ -126,7 +139,8 @@ module _ (b : BucketView) (s : IsSoundBucket b) where
     -- the home of its entries
     pub its_home : (e : LeafElement) → Has c.page.entries e → IsHome b.file b.meta b.start e c.page.address
     its_home e h =
-        let here : Has (tour_pages_in b) c.page = subst (λ (vs : List TourPage). Has vs c.page) (sym c.whole) (has_right c.left (c.page ∷ c.right) c.page (inl refl)) in
+        let here : Has (tour_pages_in b) c.page =
+        subst (λ (vs : List TourPage). Has vs c.page) (sym c.whole) (has_right c.left (c.page ∷ c.right) c.page (inl refl)) in
         (visit_is b.file b.meta s.trees b.start c.page s.start here).home e h
 
     home_is : (e : LeafElement) (home : List ℕ) → Has c.page.entries e → IsHome b.file b.meta b.start e home → home ≡ c.page.address
@@ -165,7 +179,8 @@ module _ (b : BucketView) (s : IsSoundBucket b) where
 
     pub after_exact : IsExactly (IsAfter b.file b.meta b.start c.page.address) (length c.right)
     after_exact = part_exact (IsAfter b.file b.meta b.start c.page.address) (c.left ++ c.page ∷ []) c.right [] (length c.right)
-        (c.whole ∙ (ap (λ (vs : List TourPage). c.left ++ c.page ∷ vs) (sym (append-nil c.right)) ∙ sym (append_assoc c.left (c.page ∷ []) (c.right ++ [])))) refl (λ a i. i.0)
+        (c.whole ∙ (ap (λ (vs : List TourPage). c.left ++ c.page ∷ vs) (sym (append-nil c.right))
+        ∙ sym (append_assoc c.left (c.page ∷ []) (c.right ++ [])))) refl (λ a i. i.0)
         (λ u h k. (at_address u h, (right_apart u k).addresses)) (λ u h i. from_after u h i.1)
 
   -- the page that comes first
@@ -185,7 +200,8 @@ module _ (b : BucketView) (s : IsSoundBucket b) where
       let (part, rest, upto) = two_cuts c.left c.right d.left d.right c.page d.page (sym c.whole ∙ d.whole) le in
       let size = ap length rest ∙ length-append part d.right in
       part_exact (IsSeekPage b.file b.meta b.start c.page.address (Some e)) (c.left ++ c.page ∷ []) part d.right (length c.right - length d.right)
-      (c.whole ∙ (ap (λ (vs : List TourPage). c.left ++ c.page ∷ vs) rest ∙ sym (append_assoc c.left (c.page ∷ []) (part ++ d.right)))) (omega (arith, size)) (λ a page. page.0.0)
+      (c.whole ∙ (ap (λ (vs : List TourPage). c.left ++ c.page ∷ vs) rest ∙ sym (append_assoc c.left (c.page ∷ []) (part ++ d.right))))
+      (omega (arith, size)) (λ a page. page.0.0)
       (λ u k p. (
         (at_address u k, (right_apart c u (subst (λ (vs : List TourPage). Has vs u) (sym rest) (has_left part d.right u p))).addresses),
         (d.page.address, its_home d e h, up_to d u (subst (λ (vs : List TourPage). Has vs u) upto (has_right c.left (c.page ∷ part) u (inr p)))),
@@ -196,7 +212,8 @@ module _ (b : BucketView) (s : IsSoundBucket b) where
             (subst (λ (home : List ℕ). (u.address ≡ home) ⊎ Before u.address home) (home_is d e page.1.0 h page.1.1) page.1.2))
       ])
 
-  pub seek_exact : (c : Cut (tour_pages_in b)) (e : LeafElement) (at : IsAt b e) → IsExactly (IsSeekPage b.file b.meta b.start c.page.address (Some e)) (length c.right - length at.cut.right)
+  pub seek_exact : (c : Cut (tour_pages_in b)) (e : LeafElement) (at : IsAt b e)
+      → IsExactly (IsSeekPage b.file b.meta b.start c.page.address (Some e)) (length c.right - length at.cut.right)
   seek_exact c e at = elim (cases_lt (length c.right) (length at.cut.right)) [
     | inr le ↦ between_exact c at.cut e at.has le
     | inl lt ↦ (

@@ -1,6 +1,7 @@
 -- What a cursor's move says of the entry that it comes to.
 use Rattle.std.proofs.Common.{◌≡◌, ◌≤◌, Bool, false, ℕ, suc, List, [], ◌∷◌, length, Option, Some, None, cond, nat_lt, slice_get, refl, arith}
-use Rattle.bolt_tree.proofs.Words.{Key, LeafElement, Move, On, Past, Place, first_move, least_from, nat_tests, next_move, nothing_at, move_onto, place_in, seek_move}
+use Rattle.bolt_tree.proofs.Words.{Key, LeafElement, Move, On, Past, Place, first_move, least_from, nat_tests, next_move, nothing_at, move_onto}
+use Rattle.bolt_tree.proofs.Words.{place_in, seek_move}
 
 pub none_past : (entries : List LeafElement) (i : ℕ) → None ≡ slice_get entries i → length entries ≤ i
 none_past (x ∷ entries) (suc i) e = let h = none_past entries i e in omega (arith, h)
@@ -18,8 +19,10 @@ pub by_length : (entries : List LeafElement) (n : ℕ) (stay place : Place) (o :
     → place ≡ (cond b (move_onto entries n) (nothing_at stay)).place → o ≡ (cond b (move_onto entries n) (nothing_at stay)).answer → ComesTo entries n place o
 by_length entries n stay place o b t p a = grind (arith, none_past, not_below)
 
-pub comes_next : (entries : List LeafElement) (i : ℕ) (e : LeafElement) (before place : Place) (o : Option LeafElement) → before ≡ On i → slice_get entries i ≡ Some e
-    → (place_in entries place ≡ (next_move entries (place_in entries before)).place) × (o ≡ (next_move entries (place_in entries before)).answer) → ComesTo entries (suc i) place o
+pub comes_next : (entries : List LeafElement) (i : ℕ) (e : LeafElement) (before place : Place) (o : Option LeafElement) → before ≡ On i
+    → slice_get entries i ≡ Some e
+    → (place_in entries place ≡ (next_move entries (place_in entries before)).place) × (o ≡ (next_move entries (place_in entries before)).answer)
+    → ComesTo entries (suc i) place o
 comes_next entries i e before place o on at h = grind (arith, by_length)
 
 pub comes_first : (entries : List LeafElement) (place : Place) (o : Option LeafElement)

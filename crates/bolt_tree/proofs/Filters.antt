@@ -1,7 +1,9 @@
 -- What a filter keeps of a list: all, nothing, as much as another; and of a rising list first the least that it keeps. For the crates above too.
-use Rattle.std.proofs.Common.{◌≡◌, ◌∙◌, ◌⊎◌, ◌<◌, ◌&&◌, inl, inr, Bool, true, false, List, [], ◌∷◌, length, cond, filter, map, refl, sym, ap, subst, arith, not}
+use Rattle.std.proofs.Common.{◌≡◌, ◌∙◌, ◌⊎◌, ◌<◌, ◌&&◌, inl, inr, Bool, true, false, List, [], ◌∷◌, length, cond, filter, map, refl, sym, ap, subst}
+use Rattle.std.proofs.Common.{arith, not}
 use Rattle.std.proofs.{Math.Bool.and_comm, lemmas.Bool.cond-false, lemmas.Bool.cond-true, lemmas.List.Filters.length-filter_both}
-use Rattle.bolt_tree.proofs.Words.{All-contains, All-contains_itself, All-filter, Contains, IsTotalOrder, Less, Ordering, Rises, false_from_ne_true, filter_passes, is_lt, tied_itself}
+use Rattle.bolt_tree.proofs.Words.{All-contains, All-contains_itself, All-filter, Contains, IsTotalOrder, Less, Ordering, Rises, false_from_ne_true}
+use Rattle.bolt_tree.proofs.Words.{filter_passes, is_lt, tied_itself}
 use Rattle.bolt_tree.proofs.{Lists.contains_cases, Lists.contains_head, Lists.contains_none, Lists.contains_tail, PathOrder.flip_less}
 use Rattle.bolt_check.proofs.Exports.{lt_of, not_lt_of}
 
@@ -71,7 +73,8 @@ filter_rises cmp p [] rises = tt
 filter_rises cmp p (x ∷ xs) rises = kept_rises cmp p x xs (p x) rises (filter_rises cmp p xs rises.1)
 
 -- two filters, either way round
-cond_both : {A : Type 0} (a b : Bool) (x : A) (p : A → Bool) (xs : List A) → p x ≡ a → filter p (cond b (x ∷ xs) xs) ≡ cond (a && b) (x ∷ filter p xs) (filter p xs)
+cond_both : {A : Type 0} (a b : Bool) (x : A) (p : A → Bool) (xs : List A) → p x ≡ a
+    → filter p (cond b (x ∷ xs) xs) ≡ cond (a && b) (x ∷ filter p xs) (filter p xs)
 cond_both h a x p xs e = grind (arith, cond-true, cond-false)
 
 pub filter_both : {A : Type 0} (p q : A → Bool) (xs : List A) → filter p (filter q xs) ≡ filter (λ x. p x && q x) xs

@@ -1,6 +1,7 @@
 -- The gaps between entries exist, and cover all pages.
 use Rattle.std.proofs.Common.{◌≡◌, ℕ, zero, suc, ◌-◌, ◌≤◌, ◌<◌, inl, inr, List, Some, None, Option, slice_get, length, refl, sym, subst, arith}
-use Rattle.bolt_tree.proofs.Words.{AreEntriesOf, BucketView, GapsCoverAll, IsGap, IsPagesUpTo, IsSoundBucket, LeafElement, cases_lt, lt_strict, tour_pages_in, slice_get_past, sum_to}
+use Rattle.bolt_tree.proofs.Words.{AreEntriesOf, BucketView, GapsCoverAll, IsGap, IsPagesUpTo, IsSoundBucket, LeafElement, cases_lt, lt_strict}
+use Rattle.bolt_tree.proofs.Words.{tour_pages_in, slice_get_past, sum_to}
 use Rattle.bolt_tree.proofs.TourLemmas.{IsBelowElement}
 use Rattle.bolt_tree.proofs.CountLemmas.{IsAt, all_exact, apart, cut_size, entry_at, exact_count, exact_is, upto_exists, upto_is}
 use Rattle.bolt_tree.proofs.{CursorMoves.none_past, RisingEntries.rises_back}
@@ -21,7 +22,8 @@ module _ (b : BucketView) (s : IsSoundBucket b) (entries : List LeafElement) (so
   upto i = (up i).0
 
   -- the page of the next entry is not before
-  grows_to : (i : ℕ) (o p : Option LeafElement) (m n : ℕ) → slice_get entries i ≡ o → slice_get entries (suc i) ≡ p → IsPagesUpTo b.file b.meta b.start o m → IsPagesUpTo b.file b.meta b.start p n → i < length entries → m ≤ n
+  grows_to : (i : ℕ) (o p : Option LeafElement) (m n : ℕ) → slice_get entries i ≡ o → slice_get entries (suc i) ≡ p
+      → IsPagesUpTo b.file b.meta b.start o m → IsPagesUpTo b.file b.meta b.start p n → i < length entries → m ≤ n
   grows_to i None p m n g h up1 up2 l = let past = none_past entries i (sym g) in absurd (omega (arith, l, past))
   grows_to i (Some x) None m n g h up1 up2 l =
       let at = at_place i x g in

@@ -1,10 +1,15 @@
 -- Which member of a listing comes next if a bucket is entered, if its cursor moves on, or if it has ended.
 -- Rests on the order of paths, and on what a named bucket holds (Named).
-use Rattle.std.proofs.Common.{arith, ◌≡◌, ◌∙◌, ◌⊎◌, ◌≤◌, inl, inr, Bool, true, false, not, ℕ, suc, List, [], ◌∷◌, ◌++◌, length, filter, Some, slice_get, refl, sym, ap, subst, append-nil}
-use Rattle.bolt_tree.proofs.Words.{AreEntries, Equal, HasEntries, Holds, Item, Key, LeafElement, Less, Lists, Member, Names, Ordering, Path, Start, append_cancel_left, beyond, both_ways, false_from_ne_true, is_beyond, is_lt, item_of, key_cmp, less_of, ordering_then, path_cmp, rest_after, rest_from}
-use Rattle.bolt_tree.proofs.{EntryOrder.contains_at, EntryOrder.first_least, EntryOrder.last_greatest, EntryOrder.next_least, EntryOrder.next_less, Filters.filter_first, Filters.filter_same}
+use Rattle.std.proofs.Common.{arith, ◌≡◌, ◌∙◌, ◌⊎◌, ◌≤◌, inl, inr, Bool, true, false, not, ℕ, suc, List, [], ◌∷◌, ◌++◌, length, filter, Some}
+use Rattle.std.proofs.Common.{slice_get, refl, sym, ap, subst, append-nil}
+use Rattle.bolt_tree.proofs.Words.{AreEntries, Equal, HasEntries, Holds, Item, Key, LeafElement, Less, Lists, Member, Names, Ordering, Path, Start}
+use Rattle.bolt_tree.proofs.Words.{append_cancel_left, beyond, both_ways, false_from_ne_true, is_beyond, is_lt, item_of, key_cmp, less_of}
+use Rattle.bolt_tree.proofs.Words.{ordering_then, path_cmp, rest_after, rest_from}
+use Rattle.bolt_tree.proofs.{EntryOrder.contains_at, EntryOrder.first_least, EntryOrder.last_greatest, EntryOrder.next_least, EntryOrder.next_less}
+use Rattle.bolt_tree.proofs.{Filters.filter_first, Filters.filter_same}
 use Rattle.bolt_tree.proofs.{Lists.contains_none, Lists.irreflexive, Named.first_of_held, Named.held_below, Named.held_down, Named.held_here}
-use Rattle.bolt_tree.proofs.PathOrder.{before_longer, beyond_here, beyond_less, beyond_longer, beyond_or_longer, beyond_push, beyond_up, flip_less, path_same, path_total, same_front}
+use Rattle.bolt_tree.proofs.PathOrder.{before_longer, beyond_here, beyond_less, beyond_longer, beyond_or_longer, beyond_push, beyond_up, flip_less}
+use Rattle.bolt_tree.proofs.PathOrder.{path_same, path_total, same_front}
 use Rattle.bolt_tree.proofs.Single.{member_total}
 use Rattle.bolt_check.proofs.Exports.{lt_of}
 
@@ -31,7 +36,8 @@ first_part p a b r s e = let rest = append_cancel_left p (a ∷ r) (b ∷ s) e i
 module _ (Entry : Start → LeafElement → Type 0) (from : Start) (all : HasEntries Entry from) (listing : List Member) (lists : Lists Entry from listing)
     (path : Path) (bucket : Start) (names : Names Entry from path bucket) where
   -- the first of what a test keeps is the entry with the least key of those that lie in the bucket
-  pub give : (f : Path → Bool) (e : LeafElement) → Entry bucket e → ((q t : Path) → f q ≡ true → path_cmp q t ≡ Less → f t ≡ true) → f (path ++ e.key ∷ []) ≡ true
+  pub give : (f : Path → Bool) (e : LeafElement) → Entry bucket e → ((q t : Path) → f q ≡ true → path_cmp q t ≡ Less → f t ≡ true)
+      → f (path ++ e.key ∷ []) ≡ true
       → ((q : Path) → f q ≡ true → (is_beyond path q ≡ true) ⊎ ((z : Key) × (r : Path) × (q ≡ path ++ z ∷ r)))
       → ((z : Key) (r : Path) (g : LeafElement) → f (path ++ z ∷ r) ≡ true → Entry bucket g → g.key ≡ z → is_lt (key_cmp z e.key) ≡ false)
       → filter (λ m. f m.0) listing ≡ (path ++ e.key ∷ [], item_of e) ∷ rest_after (path ++ e.key ∷ []) listing
@@ -77,7 +83,8 @@ module _ (Entry : Start → LeafElement → Type 0) (from : Start) (all : HasEnt
       (λ h. lt_of _ (subst (λ (p : Path). path_cmp p m.0 ≡ Less) (append-nil path) (beyond_less path [] m.0 h))))
 
   -- the cursor of the bucket moves on to its next entry
-  pub give_next : (entries : List LeafElement) (i : ℕ) (e g : LeafElement) → AreEntries Entry bucket entries → slice_get entries i ≡ Some e → slice_get entries (suc i) ≡ Some g
+  pub give_next : (entries : List LeafElement) (i : ℕ) (e g : LeafElement) → AreEntries Entry bucket entries → slice_get entries i ≡ Some e
+      → slice_get entries (suc i) ≡ Some g
       → beyond (path ++ e.key ∷ []) listing ≡ (path ++ g.key ∷ [], item_of g) ∷ rest_after (path ++ g.key ∷ []) listing
   give_next entries i e g are at next =
       let on : Path = path ++ e.key ∷ [] in
@@ -91,7 +98,8 @@ module _ (Entry : Start → LeafElement → Type 0) (from : Start) (all : HasEnt
       ])
 
   -- or there is none
-  pub give_after_last : (entries : List LeafElement) (i : ℕ) (e : LeafElement) → AreEntries Entry bucket entries → slice_get entries i ≡ Some e → length entries ≤ suc i
+  pub give_after_last : (entries : List LeafElement) (i : ℕ) (e : LeafElement) → AreEntries Entry bucket entries → slice_get entries i ≡ Some e
+      → length entries ≤ suc i
       → beyond (path ++ e.key ∷ []) listing ≡ beyond path listing
   give_after_last entries i e are at short =
       filter_same (λ m. is_beyond (path ++ e.key ∷ []) m.0) (λ m. is_beyond path m.0) listing (λ m in_it.
@@ -107,7 +115,8 @@ module _ (Entry : Start → LeafElement → Type 0) (from : Start) (all : HasEnt
       (λ h. beyond_longer path (e.key ∷ []) m.0 h))
 
   -- nothing is held below a value
-  pub give_past_value : (e : LeafElement) → Entry bucket e → e.is_bucket ≡ false → rest_after (path ++ e.key ∷ []) listing ≡ beyond (path ++ e.key ∷ []) listing
+  pub give_past_value : (e : LeafElement) → Entry bucket e → e.is_bucket ≡ false
+      → rest_after (path ++ e.key ∷ []) listing ≡ beyond (path ++ e.key ∷ []) listing
   give_past_value e is value =
       let own : Path = path ++ e.key ∷ [] in
       filter_same (λ m. is_lt (path_cmp own m.0)) (λ m. is_beyond own m.0) listing (λ m in_it.
@@ -122,7 +131,8 @@ module _ (Entry : Start → LeafElement → Type 0) (from : Start) (all : HasEnt
       (λ h. lt_of _ (subst (λ (p : Path). path_cmp p m.0 ≡ Less) (append-nil own) (beyond_less own [] m.0 h))))
 
   -- the member at a path is the first of the rest from it
-  pub give_itself : (e : LeafElement) → Entry bucket e → rest_from (path ++ e.key ∷ []) listing ≡ (path ++ e.key ∷ [], item_of e) ∷ rest_after (path ++ e.key ∷ []) listing
+  pub give_itself : (e : LeafElement) → Entry bucket e
+      → rest_from (path ++ e.key ∷ []) listing ≡ (path ++ e.key ∷ [], item_of e) ∷ rest_after (path ++ e.key ∷ []) listing
   give_itself e is =
       let own : Path = path ++ e.key ∷ [] in
       filter_first member_total (λ m. not (is_lt (path_cmp m.0 own))) (own, item_of e)

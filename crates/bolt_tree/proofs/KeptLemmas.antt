@@ -1,7 +1,11 @@
 -- Cursors that wait, and go on.
 use Rattle.std.proofs.lemmas.Grind.{common_steps}
-use Rattle.std.proofs.Common.{◌≡◌, ◌∙◌, ◌≤◌, ◌-◌, ℕ, Bool, List, [], ◌∷◌, ◌++◌, Option, Some, None, drop, take, length, reverse, refl, sym, ap, subst, arith}
-use Rattle.bolt_tree.proofs.Words.{AreKept, AreCursorsOfFile, BucketView, Checked, Cursor, CursorView, Frame, HasStack, IsResting, IsInnermost, IsKeptStack, Position, Trail, bucket_in, cursor_checked, cursor_place, cursor_start, cursor_trail, cursor_view, drop-append_seam, frames_of, innermost_views, kept_view, kept_views, length-append, length-drop, pager_checked, props, reverse-append, same_from_push, start_at, take-append_seam, take-length, ∥∥₁_elim, ∥∥₁_map}
+use Rattle.std.proofs.Common.{◌≡◌, ◌∙◌, ◌≤◌, ◌-◌, ℕ, Bool, List, [], ◌∷◌, ◌++◌, Option, Some, None, drop, take, length, reverse, refl, sym, ap, subst}
+use Rattle.std.proofs.Common.{arith}
+use Rattle.bolt_tree.proofs.Words.{AreKept, AreCursorsOfFile, BucketView, Checked, Cursor, CursorView, Frame, HasStack, IsResting, IsInnermost}
+use Rattle.bolt_tree.proofs.Words.{IsKeptStack, Position, Trail, bucket_in, cursor_checked, cursor_place, cursor_start, cursor_trail, cursor_view}
+use Rattle.bolt_tree.proofs.Words.{drop-append_seam, frames_of, innermost_views, kept_view, kept_views, length-append, length-drop, pager_checked}
+use Rattle.bolt_tree.proofs.Words.{props, reverse-append, same_from_push, start_at, take-append_seam, take-length, ∥∥₁_elim, ∥∥₁_map}
 use Rattle.bolt_tree.proofs.{StackLemmas.stack_short, TrailLemmas.length-frames}
 use Rattle.bolt_tree.specs.{declared.at.At.At, declared.open_buckets.WaitingCursor.WaitingCursor}
 
@@ -10,19 +14,22 @@ frames_short bucket [] stack = omega arith
 frames_short bucket (f ∷ below) stack = stack_short bucket f below stack
 
 -- so many positions have room in a cursor
-pub kept_short : (checked : Checked) (at : At) (is_past : Bool) (positions : List Position) → ∥ IsKeptStack checked at is_past positions ∥₁ → length positions ≤ 64
+pub kept_short : (checked : Checked) (at : At) (is_past : Bool) (positions : List Position) → ∥ IsKeptStack checked at is_past positions ∥₁
+    → length positions ≤ 64
 kept_short checked at is_past positions kept =
     ∥∥₁_elim kept (hlevel props) (λ k.
     subst (λ (n : ℕ). n ≤ 64) (length-frames positions) (frames_short (bucket_in checked (start_at at)) (frames_of positions) k.stack))
 
 -- a cursor goes on by the positions that were kept
-pub resumed : (trail : Trail) (is_past : Bool) (checked : Checked) (positions : List Position) → pager_checked trail.pages.pager ≡ checked → trail.positions ≡ positions
+pub resumed : (trail : Trail) (is_past : Bool) (checked : Checked) (positions : List Position) → pager_checked trail.pages.pager ≡ checked
+    → trail.positions ≡ positions
     → ∥ IsKeptStack checked trail.pages.at is_past positions ∥₁ → ∥ IsResting trail is_past ∥₁
 resumed trail is_past checked positions file items kept =
     ∥∥₁_map kept (λ k. record { stack = rw (file, items) k.stack; rest = rw items k.rest; empty = rw items k.empty })
 
 -- those of a cursor may be kept
-resting_kept : (trail : Trail) (is_past : Bool) (checked : Checked) → pager_checked trail.pages.pager ≡ checked → IsResting trail is_past → IsKeptStack checked trail.pages.at is_past trail.positions
+resting_kept : (trail : Trail) (is_past : Bool) (checked : Checked) → pager_checked trail.pages.pager ≡ checked → IsResting trail is_past
+    → IsKeptStack checked trail.pages.at is_past trail.positions
 resting_kept trail is_past checked file h = record {
   stack = subst (λ (c : Checked). HasStack (bucket_in c (start_at trail.pages.at)) (frames_of trail.positions)) file h.stack;
   rest = h.rest;
@@ -37,14 +44,17 @@ module _ (checked : Checked) (waiting : List WaitingCursor) (w : WaitingCursor) 
   taken : take w.begin (positions ++ more) ≡ positions
   taken = ap (λ (n : ℕ). take n (positions ++ more)) begins ∙ take-append_seam positions more
 
-  pub one_more : AreKept checked (reverse waiting) positions → IsKeptStack checked w.at w.is_past more → AreKept checked (reverse (waiting ++ w ∷ [])) (positions ++ more)
+  pub one_more : AreKept checked (reverse waiting) positions → IsKeptStack checked w.at w.is_past more
+      → AreKept checked (reverse (waiting ++ w ∷ [])) (positions ++ more)
   one_more are is = grind (arith, length-append, dropped, taken, reverse-append)
 
-  pub one_more_view : kept_views checked (reverse (waiting ++ w ∷ [])) (positions ++ more) ≡ kept_views checked (reverse waiting) positions ++ kept_view checked w.at w.is_past more ∷ []
+  pub one_more_view : kept_views checked (reverse (waiting ++ w ∷ []))
+      (positions ++ more) ≡ kept_views checked (reverse waiting) positions ++ kept_view checked w.at w.is_past more ∷ []
   one_more_view = grind (arith, taken, dropped, reverse-append)
 
 -- a cursor of the file shows what its positions show
-cursor_kept : (checked : Checked) (cursor : Cursor) → cursor_checked cursor ≡ checked → kept_view checked cursor.pages.at cursor.is_past cursor.stack.items ≡ cursor_view cursor
+cursor_kept : (checked : Checked) (cursor : Cursor) → cursor_checked cursor ≡ checked
+    → kept_view checked cursor.pages.at cursor.is_past cursor.stack.items ≡ cursor_view cursor
 unfolding cursor_checked cursor_place cursor_start
 cursor_kept checked cursor file = ap (λ (c : Checked). kept_view c cursor.pages.at cursor.is_past cursor.stack.items) (sym file)
 
@@ -54,7 +64,8 @@ file_of checked cursor file = file
 
 -- the innermost cursor waits, and another one is put behind it
 module _ (checked : Checked) (waiting : List WaitingCursor) (positions : List Position) (innermost : Option Cursor) (outer cursor : Cursor) (begin : ℕ)
-    (known : ∥ AreCursorsOfFile checked waiting positions innermost ∥₁) (is : innermost ≡ Some outer) (begins : begin ≡ length positions) (file : cursor_checked cursor ≡ checked) where
+    (known : ∥ AreCursorsOfFile checked waiting positions innermost ∥₁) (is : innermost ≡ Some outer) (begins : begin ≡ length positions)
+    (file : cursor_checked cursor ≡ checked) where
   abbrev put : WaitingCursor
   put = record { at = outer.pages.at; is_past = outer.is_past; begin = begin }
 
@@ -69,7 +80,8 @@ module _ (checked : Checked) (waiting : List WaitingCursor) (positions : List Po
         file,
       )))
 
-  pub waits_view : kept_views checked (reverse (waiting ++ put ∷ [])) (positions ++ outer.stack.items) ≡ kept_views checked (reverse waiting) positions ++ innermost_views innermost
+  pub waits_view : kept_views checked (reverse (waiting ++ put ∷ []))
+      (positions ++ outer.stack.items) ≡ kept_views checked (reverse waiting) positions ++ innermost_views innermost
   waits_view =
       ∥∥₁_elim known (hlevel props) (λ k.
       one_more_view checked waiting put positions outer.stack.items begins
@@ -77,7 +89,8 @@ module _ (checked : Checked) (waiting : List WaitingCursor) (positions : List Po
       ∙ ap (λ (o : Option Cursor). kept_views checked (reverse waiting) positions ++ innermost_views o) (sym is)))
 
 -- without an innermost cursor there is none
-pub none_open : (checked : Checked) (waiting : List WaitingCursor) (positions : List Position) (innermost : Option Cursor) → ∥ AreCursorsOfFile checked waiting positions innermost ∥₁ → innermost ≡ None
+pub none_open : (checked : Checked) (waiting : List WaitingCursor) (positions : List Position) (innermost : Option Cursor)
+    → ∥ AreCursorsOfFile checked waiting positions innermost ∥₁ → innermost ≡ None
     → ∥ kept_views checked (reverse waiting) positions ++ innermost_views innermost ≡ [] ∥₁
 none_open checked waiting positions innermost known is =
     ∥∥₁_map known (λ k.
@@ -86,26 +99,31 @@ none_open checked waiting positions innermost known is =
     ∙ ap (λ (ws : List WaitingCursor). kept_views checked (reverse ws) positions ++ []) none)
 
 -- A cursor is open, and the innermost one moves.
-module _ (checked : Checked) (waiting : List WaitingCursor) (positions : List Position) (innermost : Option Cursor) (known : ∥ AreCursorsOfFile checked waiting positions innermost ∥₁) where
+module _ (checked : Checked) (waiting : List WaitingCursor) (positions : List Position) (innermost : Option Cursor)
+    (known : ∥ AreCursorsOfFile checked waiting positions innermost ∥₁) where
   pub some_innermost : (kept_views checked (reverse waiting) positions ++ innermost_views innermost ≡ [] → ⊥) → innermost ≡ None → ⊥
   some_innermost some none = ∥∥₁_elim (none_open checked waiting positions innermost known none) (hlevel props) some
 
-  pub moved_file : (cursor moved : Cursor) → innermost ≡ Some cursor → cursor_checked moved ≡ cursor_checked cursor → ∥ AreCursorsOfFile checked waiting positions (Some moved) ∥₁
+  pub moved_file : (cursor moved : Cursor) → innermost ≡ Some cursor → cursor_checked moved ≡ cursor_checked cursor
+      → ∥ AreCursorsOfFile checked waiting positions (Some moved) ∥₁
   moved_file cursor moved is file = ∥∥₁_map known (λ k. (k.0, file ∙ subst (λ (o : Option Cursor). IsInnermost checked waiting o) is k.1))
 
 -- the first one
-pub first_one : (checked : Checked) (waiting : List WaitingCursor) (positions : List Position) (innermost : Option Cursor) (cursor : Cursor) → ∥ AreCursorsOfFile checked waiting positions innermost ∥₁ → innermost ≡ None
+pub first_one : (checked : Checked) (waiting : List WaitingCursor) (positions : List Position) (innermost : Option Cursor) (cursor : Cursor)
+    → ∥ AreCursorsOfFile checked waiting positions innermost ∥₁ → innermost ≡ None
     → cursor_checked cursor ≡ checked → ∥ AreCursorsOfFile checked waiting positions (Some cursor) ∥₁
 first_one checked waiting positions innermost cursor known is file = ∥∥₁_map known (λ k. (k.0, file))
 
 -- the innermost cursor is one of the file, and there is one where another waits
-pub innermost_file : (checked : Checked) (waiting : List WaitingCursor) (positions : List Position) (innermost : Option Cursor) (cursor : Cursor) → ∥ AreCursorsOfFile checked waiting positions innermost ∥₁
+pub innermost_file : (checked : Checked) (waiting : List WaitingCursor) (positions : List Position) (innermost : Option Cursor) (cursor : Cursor)
+    → ∥ AreCursorsOfFile checked waiting positions innermost ∥₁
     → innermost ≡ Some cursor → cursor_checked cursor ≡ checked
 innermost_file checked waiting positions innermost cursor known is =
     ∥∥₁_elim known (hlevel props) (λ k. subst (λ (o : Option Cursor). IsInnermost checked waiting o) is k.1)
 
 -- what a cursor shows that goes on by the last of the positions
-pub goes_on_view : (checked file : Checked) (w : WaitingCursor) (positions slice : List Position) (view : CursorView) → file ≡ checked → slice ≡ positions
+pub goes_on_view : (checked file : Checked) (w : WaitingCursor) (positions slice : List Position) (view : CursorView) → file ≡ checked
+    → slice ≡ positions
     → view ≡ kept_view file w.at w.is_past (take (length slice - w.begin) (drop w.begin slice))
     → view ≡ kept_view checked w.at w.is_past (take (length positions - w.begin) (drop w.begin positions))
 goes_on_view checked file w positions slice view same_file same_positions shown = shown ∙ rw (same_file, same_positions) refl
@@ -126,7 +144,8 @@ module _ (checked : Checked) (old new : List WaitingCursor) (w : WaitingCursor) 
       → ∥ AreCursorsOfFile checked new (take w.begin positions) (Some cursor) ∥₁
   others cursor view = ∥∥₁_map known (λ k. ((all_but k).2, ap (λ (v : CursorView). v.checked) view))
 
-  under : (o : Option Cursor) (outer : List CursorView) (last : CursorView) → IsInnermost checked old o → kept_views checked (reverse old) positions ++ innermost_views o ≡ outer ++ last ∷ []
+  under : (o : Option Cursor) (outer : List CursorView) (last : CursorView) → IsInnermost checked old o
+      → kept_views checked (reverse old) positions ++ innermost_views o ≡ outer ++ last ∷ []
       → kept_views checked (reverse old) positions ≡ outer
   under o outer last none e = grind (arith, common_steps, same_from_push)
 
@@ -141,7 +160,8 @@ module _ (checked : Checked) (old new : List WaitingCursor) (w : WaitingCursor) 
       same ∙ (∥∥₁_elim known (hlevel props) (λ k. under innermost outer last k.1 all))
 
 -- the same of the same
-pub same_file : (checked : Checked) (waiting others : List WaitingCursor) (positions more : List Position) (innermost : Option Cursor) → others ≡ waiting → more ≡ positions
+pub same_file : (checked : Checked) (waiting others : List WaitingCursor) (positions more : List Position) (innermost : Option Cursor)
+    → others ≡ waiting → more ≡ positions
     → ∥ AreCursorsOfFile checked waiting positions innermost ∥₁ → ∥ AreCursorsOfFile checked others more innermost ∥₁
 same_file checked waiting others positions more innermost same_waiting same_positions known = rw (same_waiting, same_positions) known
 
@@ -149,11 +169,13 @@ pub same_views : (checked : Checked) (waiting others : List WaitingCursor) (posi
     → kept_views checked (reverse others) more ≡ kept_views checked (reverse waiting) positions
 same_views checked waiting others positions more same_waiting same_positions = rw (same_waiting, same_positions) refl
 
-pub put_last : (waiting others put : List WaitingCursor) (at place : At) (is_past was : Bool) (begin : ℕ) → put ≡ others ++ record { at = at; is_past = is_past; begin = begin } ∷ [] → others ≡ waiting
+pub put_last : (waiting others put : List WaitingCursor) (at place : At) (is_past was : Bool) (begin : ℕ)
+    → put ≡ others ++ record { at = at; is_past = is_past; begin = begin } ∷ [] → others ≡ waiting
     → at ≡ place → is_past ≡ was → put ≡ waiting ++ record { at = place; is_past = was; begin = begin } ∷ []
 put_last waiting others put at place is_past was begin e same same_at same_past = e ∙ rw (same, same_at, same_past) refl
 
 -- what is shown where a fresh cursor is put behind the others
-pub opens_fresh : (before after : List CursorView) (view fresh : CursorView) → after ≡ before → view.checked ≡ fresh.checked → view.start ≡ fresh.start → view.place ≡ fresh.place
+pub opens_fresh : (before after : List CursorView) (view fresh : CursorView) → after ≡ before → view.checked ≡ fresh.checked
+    → view.start ≡ fresh.start → view.place ≡ fresh.place
     → after ++ view ∷ [] ≡ before ++ fresh ∷ []
 opens_fresh before after view fresh same file start place = grind arith

@@ -1,5 +1,6 @@
 -- A search by halves.
-use Rattle.std.proofs.Common.{◌≡◌, ℕ, zero, suc, ◌+◌, ◌*◌, ◌≤◌, ◌<◌, inl, inr, Bool, true, false, not, List, Some, slice_get, refl, sym, ap, ◌∙◌, arith, add-one}
+use Rattle.std.proofs.Common.{◌≡◌, ℕ, zero, suc, ◌+◌, ◌*◌, ◌≤◌, ◌<◌, inl, inr, Bool, true, false, not, List, Some, slice_get, refl, sym, ap, ◌∙◌}
+use Rattle.std.proofs.Common.{arith, add-one}
 use Rattle.std.proofs.Math.Nat.{mul-le-mul_left}
 use Rattle.bolt_tree.proofs.Words.{Key, KeysRise, cases_lt, doubled, false_from_ne_true, key_lt, lt_trans, not-true, stands_before}
 
@@ -15,14 +16,16 @@ same_key : (keys : List Key) (k m : ℕ) (a b : Key) → k ≡ m → slice_get k
 same_key keys k m a b e g h = let r : slice_get keys m ≡ Some a = ap (slice_get keys) (sym e) ∙ g in cc
 
 -- the middle key tells of those on its side
-pub below_middle : (keys : List Key) (or_equal : Bool) (s m : Key) (middle k : ℕ) (a : Key) → KeysRise keys → slice_get keys middle ≡ Some m → stands_before or_equal m s ≡ true
+pub below_middle : (keys : List Key) (or_equal : Bool) (s m : Key) (middle k : ℕ) (a : Key) → KeysRise keys → slice_get keys middle ≡ Some m
+    → stands_before or_equal m s ≡ true
     → k < middle + 1 → slice_get keys k ≡ Some a → stands_before or_equal a s ≡ true
 below_middle keys or_equal s m middle k a rise g e l h = elim (cases_lt k middle) [
   | inl lt ↦ before_down or_equal a m s (rise k middle a m lt h g) e
   | inr ge ↦ (let same : a ≡ m = same_key keys k middle a m (omega arith) h g in rw same e)
 ]
 
-pub above_middle : (keys : List Key) (or_equal : Bool) (s m : Key) (middle k : ℕ) (a : Key) → KeysRise keys → slice_get keys middle ≡ Some m → stands_before or_equal m s ≡ false
+pub above_middle : (keys : List Key) (or_equal : Bool) (s m : Key) (middle k : ℕ) (a : Key) → KeysRise keys → slice_get keys middle ≡ Some m
+    → stands_before or_equal m s ≡ false
     → middle ≤ k → slice_get keys k ≡ Some a → stands_before or_equal a s ≡ false
 above_middle keys or_equal s m middle k a rise g e l h = elim (cases_lt middle k) [
   | inl lt ↦ before_up or_equal m a s (rise middle k m a lt g h) e

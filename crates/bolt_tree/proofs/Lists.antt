@@ -29,5 +29,6 @@ module _ {A : Type 0} {cmp : A → A → Ordering} (o : IsTotalOrder cmp) where
   rises_by [] r = tt
   rises_by (x ∷ xs) r = (λ y h. r.0 y (contains_from_has xs y h), rises_by xs r.1)
 
-  pub rises_once : (xs ys : List A) → Rises cmp xs → Rises cmp ys → ((z : A) → Contains xs z → Contains ys z) → ((z : A) → Contains ys z → Contains xs z) → xs ≡ ys
+  pub rises_once : (xs ys : List A) → Rises cmp xs → Rises cmp ys → ((z : A) → Contains xs z → Contains ys z)
+      → ((z : A) → Contains ys z → Contains xs z) → xs ≡ ys
   rises_once xs ys r s to from = search (rules, one_list, asymmetric, rises_by, has_from_contains, contains_from_has)

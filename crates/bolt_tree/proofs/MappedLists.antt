@@ -1,5 +1,6 @@
 -- Lists by what their elements show: sorted, and with neighbors merged.
-use Rattle.std.proofs.Common.{◌≡◌, ◌∙◌, ◌<◌, ◌+◌, inl, inr, zero, suc, Bool, true, false, List, [], ◌∷◌, cond, length, map, Option, Some, None, refl, slice_index_or, sym, ap, arith, subst}
+use Rattle.std.proofs.Common.{◌≡◌, ◌∙◌, ◌<◌, ◌+◌, inl, inr, zero, suc, Bool, true, false, List, [], ◌∷◌, cond, length, map, Option, Some, None, refl}
+use Rattle.std.proofs.Common.{slice_index_or, sym, ap, arith, subst}
 use Rattle.std.proofs.lemmas.List.{get_or-map, length-map}
 use Rattle.std.specs.{List.Contains, List.cons_option, List.dedup, List.dedup_from, List.filter_map, List.Sorted.IsSortedBy}
 use Rattle.bolt_tree.proofs.Lists.{contains_cases, contains_head, contains_none, contains_tail}
@@ -30,14 +31,22 @@ module _ {X Y : Type 0} (f : X → Y) where
 
   pub sorted_by_shown : (lt : Y → Y → Bool) (xs : List X) → IsSortedBy lt (map f xs) → IsSortedBy (λ a b. lt (f a) (f b)) xs
   sorted_by_shown lt xs up k d low high =
-      grind (arith, length-map xs f, slice_index_or xs k d, get_or-map f xs (k + 1) d (f d) high, slice_index_or (map f xs) (k + 1) (f d), get_or-map f xs k d (f d) (omega arith))
+      grind (
+        arith,
+        length-map xs f,
+        slice_index_or xs k d,
+        get_or-map f xs (k + 1) d (f d) high,
+        slice_index_or (map f xs) (k + 1) (f d),
+        get_or-map f xs k d (f d) (omega arith),
+      )
 
   module _ (same : Y → Y → Bool) where
     abbrev pub shown_same : X → X → Bool
     shown_same a b = same (f a) (f b)
 
     dedup_step : (k z : X) (zs : List X) (b : Bool) → ((k' : X) → map f (dedup_from shown_same k' zs) ≡ dedup_from same (f k') (map f zs))
-        → map f (cond b (dedup_from shown_same k zs) (k ∷ dedup_from shown_same z zs)) ≡ cond b (dedup_from same (f k) (map f zs)) (f k ∷ dedup_from same (f z) (map f zs))
+        → map f (cond b (dedup_from shown_same k zs) (k ∷ dedup_from shown_same z zs))
+        ≡ cond b (dedup_from same (f k) (map f zs)) (f k ∷ dedup_from same (f z) (map f zs))
     dedup_step k z zs true later = later k
     dedup_step k z zs false later = ap (λ l. f k ∷ l) (later z)
 
@@ -52,7 +61,8 @@ module _ {X Y : Type 0} (f : X → Y) where
 -- ---- what elements give, of those that give something
 
 module _ {X Y : Type 0} (h : X → Option Y) where
-  from_step : (o : Option Y) (x : X) (xs : List X) (y : Y) → h x ≡ o → (Contains (filter_map h xs) y → (z : X) × Contains xs z × (h z ≡ Some y)) → Contains (cons_option o (filter_map h xs)) y
+  from_step : (o : Option Y) (x : X) (xs : List X) (y : Y) → h x ≡ o → (Contains (filter_map h xs) y → (z : X) × Contains xs z × (h z ≡ Some y))
+      → Contains (cons_option o (filter_map h xs)) y
       → (z : X) × Contains (x ∷ xs) z × (h z ≡ Some y)
   from_step None x xs y is later has = let (z, there, found) = later has in (z, contains_tail x z xs there, found)
   from_step (Some w) x xs y is later has = grind (arith, contains_cases, contains_head, contains_tail)

@@ -13,12 +13,14 @@ IsFirst x (y ∷ ys) = is_lt (member_cmp y x) ≡ false
 module _ (P : List Member → List Member → List Member → Type 0) (none : (ys : List Member) → P [] ys ys)
     (first : (x : Member) (xs ys : List Member) → IsFirst x ys → P xs ys (merge xs ys) → P (x ∷ xs) ys (x ∷ merge xs ys))
     (second : (x y : Member) (xs ys : List Member) → is_lt (member_cmp y x) ≡ true → P (x ∷ xs) ys (merge (x ∷ xs) ys) → P (x ∷ xs) (y ∷ ys) (y ∷ merge (x ∷ xs) ys)) where
-  by_test : (x y : Member) (xs ys : List Member) (b : Bool) → is_lt (member_cmp y x) ≡ b → P xs (y ∷ ys) (merge xs (y ∷ ys)) → P (x ∷ xs) ys (merge (x ∷ xs) ys)
+  by_test : (x y : Member) (xs ys : List Member) (b : Bool) → is_lt (member_cmp y x) ≡ b → P xs (y ∷ ys) (merge xs (y ∷ ys))
+      → P (x ∷ xs) ys (merge (x ∷ xs) ys)
       → P (x ∷ xs) (y ∷ ys) (if b then y ∷ merge (x ∷ xs) ys else x ∷ merge xs (y ∷ ys))
   by_test x y xs ys true is without_x without_y = second x y xs ys is without_y
   by_test x y xs ys false is without_x without_y = first x xs (y ∷ ys) is without_x
 
-  first_holds : (x : Member) (xs : List Member) → ((ys : List Member) → P xs ys (merge xs ys)) → (ys : List Member) → P (x ∷ xs) ys (merge (x ∷ xs) ys)
+  first_holds : (x : Member) (xs : List Member) → ((ys : List Member) → P xs ys (merge xs ys)) → (ys : List Member)
+      → P (x ∷ xs) ys (merge (x ∷ xs) ys)
   first_holds x xs rest [] = first x xs [] tt (rest [])
   first_holds x xs rest (y ∷ ys) = by_test x y xs ys (is_lt (member_cmp y x)) refl (rest (y ∷ ys)) (first_holds x xs rest ys)
 
@@ -47,7 +49,8 @@ merge_members = merge_holds AreOfBoth
         | inr later ↦ elim ((rest m).0 later) [ inl in_xs ↦ inl (contains_tail x m xs in_xs) | inr in_ys ↦ inr in_ys ]
       ],
       λ of. elim of [
-        | inl has ↦ elim (contains_cases x m xs has) [ inl same ↦ here x m (merge xs ys) same | inr in_xs ↦ contains_tail x m (merge xs ys) ((rest m).1 (inl in_xs)) ]
+        | inl has ↦
+            elim (contains_cases x m xs has) [ inl same ↦ here x m (merge xs ys) same | inr in_xs ↦ contains_tail x m (merge xs ys) ((rest m).1 (inl in_xs)) ]
         | inr in_ys ↦ contains_tail x m (merge xs ys) ((rest m).1 (inr in_ys))
       ],
     ))
@@ -58,7 +61,11 @@ merge_members = merge_holds AreOfBoth
       ],
       λ of. elim of [
         | inl in_xs ↦ contains_tail y m (merge (x ∷ xs) ys) ((rest m).1 (inl in_xs))
-        | inr has ↦ elim (contains_cases y m ys has) [ inl same ↦ here y m (merge (x ∷ xs) ys) same | inr in_ys ↦ contains_tail y m (merge (x ∷ xs) ys) ((rest m).1 (inr in_ys)) ]
+        | inr has ↦
+            elim (contains_cases y m ys has) [
+              | inl same ↦ here y m (merge (x ∷ xs) ys) same
+              | inr in_ys ↦ contains_tail y m (merge (x ∷ xs) ys) ((rest m).1 (inr in_ys))
+            ]
       ],
     ))
 
@@ -72,12 +79,18 @@ below_first : (x : Member) (xs ys : List Member) → IsFirst x ys → Rises memb
 below_first x xs [] is rise apart m has = absurd (contains_none m has)
 below_first x xs (y ∷ ys) is rise apart m has =
     let before = is_before (member_cmp x y) (member_cmp y x) (member_total.antisymm x y) is (apart x y (contains_head x xs) (contains_head y ys)) in
-    elim (contains_cases y m ys has) [ inl same ↦ subst (λ (z : Member). member_cmp x z ≡ Less) same before | inr later ↦ member_total.trans x y m before (rise.0 m later) ]
+    elim (contains_cases y m ys has) [
+      | inl same ↦ subst (λ (z : Member). member_cmp x z ≡ Less) same before
+      | inr later ↦ member_total.trans x y m before (rise.0 m later)
+    ]
 
 below_second : (x y : Member) (xs : List Member) → is_lt (member_cmp y x) ≡ true → Rises member_cmp (x ∷ xs) → IsBelow member_cmp y (x ∷ xs)
 below_second x y xs is rise m has =
     let before = less_of (member_cmp y x) is in
-    elim (contains_cases x m xs has) [ inl same ↦ subst (λ (z : Member). member_cmp y z ≡ Less) same before | inr later ↦ member_total.trans y x m before (rise.0 m later) ]
+    elim (contains_cases x m xs has) [
+      | inl same ↦ subst (λ (z : Member). member_cmp y z ≡ Less) same before
+      | inr later ↦ member_total.trans y x m before (rise.0 m later)
+    ]
 
 below_both : (x : Member) (xs ys : List Member) → IsBelow member_cmp x xs → IsBelow member_cmp x ys → IsBelow member_cmp x (merge xs ys)
 below_both x xs ys below_xs below_ys m has = elim ((merge_members xs ys m).0 has) [ inl in_xs ↦ below_xs m in_xs | inr in_ys ↦ below_ys m in_ys ]

@@ -1,12 +1,17 @@
 -- For each key there is one nearest leaf.
-use Rattle.std.proofs.Common.{◌≡◌, ℕ, zero, suc, ◌+◌, ◌≤◌, ◌⊎◌, inl, inr, List, [], ◌∷◌, Some, slice_get, length, refl, sym, ap, ◌∙◌, subst, arith, false, true}
-use Rattle.bolt_tree.proofs.Words.{BranchElement, HasSoundTrees, Inline_page, IsAddress, IsNear, IsNearFrom, IsNearest, IsOnWay, IsStart, Key, Meta, PageView, Root_page, Start, cases_Bool, key_lt, leads, leads_child, node_at, none-some, on_child, one_some, page_at, shallow}
+use Rattle.std.proofs.Common.{◌≡◌, ℕ, zero, suc, ◌+◌, ◌≤◌, ◌⊎◌, inl, inr, List, [], ◌∷◌, Some, slice_get, length, refl, sym, ap, ◌∙◌, subst, arith}
+use Rattle.std.proofs.Common.{false, true}
+use Rattle.bolt_tree.proofs.Words.{BranchElement, HasSoundTrees, Inline_page, IsAddress, IsNear, IsNearFrom, IsNearest, IsOnWay, IsStart, Key, Meta}
+use Rattle.bolt_tree.proofs.Words.{PageView, Root_page, Start, cases_Bool, key_lt, leads, leads_child, node_at, none-some, on_child, one_some}
+use Rattle.bolt_tree.proofs.Words.{page_at, shallow}
 use Rattle.bolt_tree.proofs.{TourLemmas.filled, TourLemmas.not_deepest, WayPages.a_branch, WayPages.a_leaf, WayPages.on_way_page}
 
-same_nearest : (bs : List BranchElement) (key : Key) (i j : ℕ) (a b : BranchElement) → IsNearest bs key i → IsNearest bs key j → slice_get bs i ≡ Some a → slice_get bs j ≡ Some b → i ≡ j
+same_nearest : (bs : List BranchElement) (key : Key) (i j : ℕ) (a b : BranchElement) → IsNearest bs key i → IsNearest bs key j
+    → slice_get bs i ≡ Some a → slice_get bs j ≡ Some b → i ≡ j
 same_nearest bs key i j a b h k g q = grind arith
 
-one_near_from : (file : List ℕ) (meta : Meta) (number : ℕ) (key : Key) (a b : List ℕ) → IsNearFrom file meta number key a → IsNearFrom file meta number key b → a ≡ b
+one_near_from : (file : List ℕ) (meta : Meta) (number : ℕ) (key : Key) (a b : List ℕ) → IsNearFrom file meta number key a
+    → IsNearFrom file meta number key b → a ≡ b
 one_near_from file meta number key [] [] h k = refl
 one_near_from file meta number key [] (j ∷ b) h k = grind arith
 one_near_from file meta number key (i ∷ a) [] h k = grind arith
@@ -21,7 +26,8 @@ one_near_from file meta number key (i ∷ a) (j ∷ b) h k =
     let rest = one_near_from file meta h.1.child key a b h.6 there in
     cc
 
-pub one_near : (file : List ℕ) (meta : Meta) (start : Start) (key : Key) (a b : List ℕ) → IsNear file meta start key a → IsNear file meta start key b → a ≡ b
+pub one_near : (file : List ℕ) (meta : Meta) (start : Start) (key : Key) (a b : List ℕ) → IsNear file meta start key a → IsNear file meta start key b
+    → a ≡ b
 one_near file meta start key a b h k = grind (arith, one_near_from)
 
 -- every element from here on has a key above this one
@@ -31,7 +37,8 @@ AreAbove key i elements = (j : ℕ) (f : BranchElement) → i ≤ j → slice_ge
 above_later : (key : Key) (i : ℕ) (x : BranchElement) (elements : List BranchElement) → AreAbove key i elements → AreAbove key (suc i) (x ∷ elements)
 above_later key i x elements above h f l g = grind arith
 
-above_all : (key : Key) (x : BranchElement) (elements : List BranchElement) → key_lt key x.key ≡ true → AreAbove key 0 elements → AreAbove key 0 (x ∷ elements)
+above_all : (key : Key) (x : BranchElement) (elements : List BranchElement) → key_lt key x.key ≡ true → AreAbove key 0 elements
+    → AreAbove key 0 (x ∷ elements)
 above_all key x elements e above h f l g = grind arith
 
 -- the last element that is not above the key, or all are above it
@@ -40,10 +47,15 @@ last_below : (key : Key) (elements : List BranchElement)
 last_below key [] = inr (λ j f l g. absurd (none-some f g))
 last_below key (x ∷ elements) = elim (last_below key elements) [
   | inl (i, e, g, t, above) ↦ inl (suc i, e, g, t, above_later key (suc i) x elements above)
-  | inr above ↦ elim (cases_Bool (key_lt key x.key)) [ inl over ↦ inr (above_all key x elements over above) | inr not_over ↦ inl (0, x, refl, not_over, above_later key 0 x elements above) ]
+  | inr above ↦
+      elim (cases_Bool (key_lt key x.key)) [
+        | inl over ↦ inr (above_all key x elements over above)
+        | inr not_over ↦ inl (0, x, refl, not_over, above_later key 0 x elements above)
+      ]
 ]
 
-nearest_exists : (key : Key) (elements : List BranchElement) → 1 ≤ length elements → (i : ℕ) × (e : BranchElement) × (slice_get elements i ≡ Some e) × IsNearest elements key i
+nearest_exists : (key : Key) (elements : List BranchElement) → 1 ≤ length elements
+    → (i : ℕ) × (e : BranchElement) × (slice_get elements i ≡ Some e) × IsNearest elements key i
 nearest_exists key [] h = absurd (omega arith)
 nearest_exists key (x ∷ elements) h = elim (last_below key (x ∷ elements)) [
   | inl (i, e, g, t, above) ↦ (i, e, g, inl (e, g, t, λ j f l k. above j f (omega arith) k))
@@ -51,8 +63,10 @@ nearest_exists key (x ∷ elements) h = elim (last_below key (x ∷ elements)) [
 ]
 
 -- The way down from a page ends.
-near_exists_from : (file : List ℕ) (meta : Meta) (trees : HasSoundTrees file meta) (n number depth : ℕ) (key : Key) → IsOnWay file meta number depth → 64 ≤ depth + n
-    → (near : List ℕ) × (page : ℕ) × IsNearFrom file meta number key near × (leads (node_at file meta) (Some number) near ≡ Some page) × (depth + length near ≤ 64)
+near_exists_from : (file : List ℕ) (meta : Meta) (trees : HasSoundTrees file meta) (n number depth : ℕ) (key : Key) → IsOnWay file meta number depth
+    → 64 ≤ depth + n
+    → (near : List ℕ) × (page : ℕ) × IsNearFrom file meta number key near × (leads (node_at file meta) (Some number) near ≡ Some page)
+    × (depth + length near ≤ 64)
 near_exists_from file meta trees zero number depth key on deep = elim (on_way_page file meta trees number depth on) [
   | a_leaf view at is node content ↦ (let d = shallow file meta trees number depth on in ([], number, (view, at, is), refl, omega (arith, d)))
   | a_branch view at is node content ↦ (let d = not_deepest file meta trees number depth view on node in absurd (omega (arith, d, deep)))

@@ -1,8 +1,13 @@
 -- How open buckets change: a cursor is removed and added again, or opened after the others and makes its first move.
-use Rattle.std.proofs.Common.{arith, rules, ◌≡◌, ◌∙◌, ◌-◌, ℕ, suc, List, [], ◌∷◌, ◌++◌, length, take, Option, Some, None, MatchOption, refl, sym, ap, subst, append_assoc, append-nil, Bor, slice_get}
+use Rattle.std.proofs.Common.{arith, rules, ◌≡◌, ◌∙◌, ◌-◌, ℕ, suc, List, [], ◌∷◌, ◌++◌, length, take, Option, Some, None, MatchOption, refl, sym, ap}
+use Rattle.std.proofs.Common.{subst, append_assoc, append-nil, Bor, slice_get}
 use Rattle.std.proofs.lemmas.{Grind.common_steps, List.length_push}
-use Rattle.bolt_tree.proofs.Words.{AreEntries, AreOpen, Bucket, Checked, Cursor, CursorView, Fresh, HasEntries, Key, LeafElement, Lists, Member, Move, Moves, Names, Opens, Path, Place, Start, beyond, cursor_checked, cursor_place, cursor_start, cursor_view, cursors_of, entries_of, first_move, fresh_view, innermost_views, item_of, next_move, option_to_list, path_of, rest_after, root_start, same_from_push, waiting_of}
-use Rattle.bolt_tree.proofs.{CursorMoves.ComesTo, CursorMoves.comes_next, EntryOrder.contains_at, Giving.give_after_last, Giving.give_next, KeptLemmas.some_innermost}
+use Rattle.bolt_tree.proofs.Words.{AreEntries, AreOpen, Bucket, Checked, Cursor, CursorView, Fresh, HasEntries, Key, LeafElement, Lists, Member, Move}
+use Rattle.bolt_tree.proofs.Words.{Moves, Names, Opens, Path, Place, Start, beyond, cursor_checked, cursor_place, cursor_start, cursor_view}
+use Rattle.bolt_tree.proofs.Words.{cursors_of, entries_of, first_move, fresh_view, innermost_views, item_of, next_move, option_to_list, path_of}
+use Rattle.bolt_tree.proofs.Words.{rest_after, root_start, same_from_push, waiting_of}
+use Rattle.bolt_tree.proofs.{CursorMoves.ComesTo, CursorMoves.comes_next, EntryOrder.contains_at, Giving.give_after_last, Giving.give_next}
+use Rattle.bolt_tree.proofs.{KeptLemmas.some_innermost}
 use Rattle.bolt_tree.specs.{Private.OpenBuckets.StandsOn, declared.open_buckets.OpenBuckets.OpenBuckets}
 
 pub path_push : (xs : List (Bor (List ℕ))) (x : Bor (List ℕ)) → path_of (xs ++ x ∷ []) ≡ path_of xs ++ x.now ∷ []
@@ -23,13 +28,16 @@ pub record Top (checked : Checked) (before : Path) (cursors : List CursorView) (
   pub names : Names (entries_of checked) (root_start checked) (before ++ front) cursor.start
   pub stands : StandsOn (entries_of checked) cursor key
 
-pub open_pop : (checked : Checked) (before : Path) (cursors : List CursorView) (cursor : CursorView) (keys : Path) → AreOpen checked before (cursors ++ cursor ∷ []) keys
+pub open_pop : (checked : Checked) (before : Path) (cursors : List CursorView) (cursor : CursorView) (keys : Path)
+    → AreOpen checked before (cursors ++ cursor ∷ []) keys
     → Top checked before cursors cursor keys
 open_pop checked before [] cursor (key ∷ []) (same, names, stands, more) = grind (arith, append-nil before)
-open_pop checked before (c ∷ cursors) cursor (key ∷ keys) (same, names, stands, more) = grind (arith, append_assoc, open_pop checked (before ++ key ∷ []) cursors cursor keys more)
+open_pop checked before (c ∷ cursors) cursor (key ∷ keys) (same, names, stands, more) =
+    grind (arith, append_assoc, open_pop checked (before ++ key ∷ []) cursors cursor keys more)
 open_pop checked before cursors cursor keys h = absurd (grind arith)
 
-pub open_push : (checked : Checked) (before : Path) (cursors : List CursorView) (cursor : CursorView) (keys : Path) (key : Key) → AreOpen checked before cursors keys
+pub open_push : (checked : Checked) (before : Path) (cursors : List CursorView) (cursor : CursorView) (keys : Path) (key : Key)
+    → AreOpen checked before cursors keys
     → cursor.checked ≡ checked → Names (entries_of checked) (root_start checked) (before ++ keys) cursor.start → StandsOn (entries_of checked) cursor key
     → AreOpen checked before (cursors ++ cursor ∷ []) (keys ++ key ∷ [])
 open_push checked before [] cursor [] key h same names stands = grind (arith, same, append-nil)
@@ -43,7 +51,8 @@ open_push checked before (c ∷ cursors) cursor (k ∷ keys) key (s, n, t, more)
 open_push checked before cursors cursor keys key h g names stands = absurd (grind arith)
 
 -- a key was taken off the path
-pub path_popped : (old new : List (Bor (List ℕ))) (taken : Option (Bor (List ℕ))) (n m : ℕ) (front : Path) (key : Key) → path_of old ≡ front ++ key ∷ []
+pub path_popped : (old new : List (Bor (List ℕ))) (taken : Option (Bor (List ℕ))) (n m : ℕ) (front : Path) (key : Key)
+    → path_of old ≡ front ++ key ∷ []
     → old ≡ new ++ option_to_list taken → new ≡ take (n - 1) old → MatchOption taken ((n ≡ 0) × (m ≡ 0)) (λ _. suc m ≡ n)
     → (path_of new ≡ front) × (suc m ≡ n)
 path_popped old new taken n m front key keys items rest less = grind (arith, common_steps, same_from_push, path_push)
@@ -78,7 +87,8 @@ module _ (checked : Checked) (all : HasEntries (entries_of checked) (root_start 
   next_given e moves listing lists = grind (arith, goes, give_next)
 
   -- or to none
-  pub next_ended : MovesOn None → (listing : List Member) → Lists (entries_of checked) (root_start checked) listing → beyond keys listing ≡ beyond top.front listing
+  pub next_ended : MovesOn None → (listing : List Member) → Lists (entries_of checked) (root_start checked) listing
+      → beyond keys listing ≡ beyond top.front listing
   next_ended moves listing lists =
       let own = all top.front cursor.start top.names in
       let (i, old, at, same, short) = goes None moves own.0 own.1 in
@@ -93,7 +103,8 @@ module _ (old opened : OpenBuckets) (bucket : Bucket) (cursor moved : Cursor) (c
 
   pub opens : (move : List LeafElement → Place → Move) (answer : Option LeafElement) (after : List CursorView)
       → Moves (entries_of (cursor_checked cursor)) (cursor_start cursor) move (cursor_place cursor) (cursor_place moved) answer
-      → MatchOption answer (after ≡ waiting_of opened) (λ e. after ≡ waiting_of opened ++ cursor_view moved ∷ []) → Opens bucket move (cursors_of old) after answer
+      → MatchOption answer (after ≡ waiting_of opened) (λ e. after ≡ waiting_of opened ++ cursor_view moved ∷ [])
+      → Opens bucket move (cursors_of old) after answer
   opens move answer after moves left = record {
     moved = cursor_view moved;
     file = file ∙ ap (λ (v : CursorView). v.checked) same.1;
@@ -106,14 +117,18 @@ not_nil : {A : Type 0} (xs : List A) (x : A) → xs ++ x ∷ [] ≡ [] → ⊥
 not_nil xs x e = let f = ap length e in grind (arith, length_push)
 
 -- it is there
-pub some_open : (old opened : OpenBuckets) (bucket : Bucket) → cursors_of opened ≡ cursors_of old ++ fresh_view bucket ∷ [] → opened.innermost ≡ None → ⊥
+pub some_open : (old opened : OpenBuckets) (bucket : Bucket) → cursors_of opened ≡ cursors_of old ++ fresh_view bucket ∷ [] → opened.innermost ≡ None
+    → ⊥
 some_open old opened bucket cursors none =
-    some_innermost opened.checked opened.waiting.items opened.positions.items opened.innermost opened.kept (λ empty. not_nil (cursors_of old) (fresh_view bucket) (sym cursors ∙ empty)) none
+    some_innermost opened.checked opened.waiting.items opened.positions.items opened.innermost opened.kept
+    (λ empty. not_nil (cursors_of old) (fresh_view bucket) (sym cursors ∙ empty)) none
 
 -- before the first call the next entry is the first one
-next_first : (Entry : Start → LeafElement → Type 0) (bucket : Start) (place : Place) (answer : Option LeafElement) → Moves Entry bucket next_move Fresh place answer
+next_first : (Entry : Start → LeafElement → Type 0) (bucket : Start) (place : Place) (answer : Option LeafElement)
+    → Moves Entry bucket next_move Fresh place answer
     → Moves Entry bucket (λ entries place. first_move entries) Fresh place answer
 next_first Entry bucket place answer moves h are = grind arith
 
-pub enters : (bucket : Bucket) (old new : List CursorView) (answer : Option LeafElement) → Opens bucket next_move old new answer → Opens bucket (λ entries place. first_move entries) old new answer
+pub enters : (bucket : Bucket) (old new : List CursorView) (answer : Option LeafElement) → Opens bucket next_move old new answer
+    → Opens bucket (λ entries place. first_move entries) old new answer
 enters bucket old new answer opens = search (rules, next_first)

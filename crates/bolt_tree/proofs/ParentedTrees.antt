@@ -1,8 +1,10 @@
 -- A rising listing whose members have parents is what a tree lists: each member lies in the bucket that the one before it is or lies in, or
 -- in one further out.
 use Rattle.std.proofs.Common.{arith, ◌≡◌, ◌∙◌, ◌⊎◌, inl, inr, ℕ, List, [], ◌∷◌, ◌++◌, refl, sym, ap, subst, append_assoc}
-use Rattle.bolt_tree.proofs.Words.{Contains, Item, Key, Less, Member, Path, Rises, Tree, Value, first_tree, later_trees, listing_below, listing_of, member_cmp, path_cmp, put_first, tree_of, trees_by_depth, with_bucket, with_value}
-use Rattle.bolt_tree.proofs.{Lists.asymmetric, Lists.contains_cases, Lists.contains_head, Lists.contains_tail, Lists.irreflexive, PathOrder.before_longer, PathOrder.beyond_less, PathOrder.beyond_or_longer, PathOrder.path_total}
+use Rattle.bolt_tree.proofs.Words.{Contains, Item, Key, Less, Member, Path, Rises, Tree, Value, first_tree, later_trees, listing_below, listing_of}
+use Rattle.bolt_tree.proofs.Words.{member_cmp, path_cmp, put_first, tree_of, trees_by_depth, with_bucket, with_value}
+use Rattle.bolt_tree.proofs.{Lists.asymmetric, Lists.contains_cases, Lists.contains_head, Lists.contains_tail, Lists.irreflexive}
+use Rattle.bolt_tree.proofs.{PathOrder.before_longer, PathOrder.beyond_less, PathOrder.beyond_or_longer, PathOrder.path_total}
 use Rattle.bolt_tree.specs.{Entries.Bucket, Merges.HasBucket, Merges.HaveParents}
 
 -- ---- what trees by depth list
@@ -43,22 +45,28 @@ spread_one base [] tree = refl
 spread_one base (key ∷ opened) tree = refl
 
 deeper : (base : Path) (p : Key) (opened : Path) (part next : Key) (path : Path) (item : Item) (trees : List Tree) (o : Path) → part ≡ p
-    → spread (base ++ p ∷ []) opened (put_first (next ∷ path) item (later_trees trees)) ≡ ((base ++ p ∷ []) ++ next ∷ path, item) ∷ spread (base ++ p ∷ []) o (later_trees trees)
-    → spread base (p ∷ opened) (first_tree trees ∷ put_first (next ∷ path) item (later_trees trees)) ≡ (base ++ part ∷ next ∷ path, item) ∷ spread base (part ∷ o) trees
+    → spread (base ++ p ∷ []) opened (put_first (next ∷ path) item (later_trees trees))
+    ≡ ((base ++ p ∷ []) ++ next ∷ path, item) ∷ spread (base ++ p ∷ []) o (later_trees trees)
+    → spread base (p ∷ opened) (first_tree trees ∷ put_first (next ∷ path) item (later_trees trees))
+    ≡ (base ++ part ∷ next ∷ path, item) ∷ spread base (part ∷ o) trees
 deeper base p opened part next path item trees o same deep = grind (arith, append_assoc, spread_open)
 
 -- a member that is put to the front comes first
-spread_first : (base opened path : Path) (item : Item) (trees : List Tree) → (key : Key) (rest : Path) → path ≡ key ∷ rest → Begins (above path) opened
+spread_first : (base opened path : Path) (item : Item) (trees : List Tree) → (key : Key) (rest : Path) → path ≡ key ∷ rest
+    → Begins (above path) opened
     → spread base opened (put_first path item trees) ≡ (base ++ path, item) ∷ spread base (open_after path item) trees
 spread_first base opened [] item trees key rest some begins = absurd (cc)
 spread_first base opened (part ∷ []) (Value value) trees key rest some begins =
-    spread_one base opened (with_value part value (first_tree trees)) ∙ ap (λ (ms : List Member). (base ++ part ∷ [], Value value) ∷ ms) (sym (spread_root base trees))
+    spread_one base opened (with_value part value (first_tree trees))
+    ∙ ap (λ (ms : List Member). (base ++ part ∷ [], Value value) ∷ ms) (sym (spread_root base trees))
 spread_first base opened (part ∷ []) (Bucket sequence) trees key rest some begins = grind (arith, spread_one, with_bucket, spread_root, spread_open)
 spread_first base [] (part ∷ next ∷ path) item trees key rest some begins = absurd begins
 spread_first base (p ∷ opened) (part ∷ next ∷ path) (Value value) trees key rest some begins =
-    deeper base p opened part next path (Value value) trees (above (next ∷ path)) begins.0 (spread_first (base ++ p ∷ []) opened (next ∷ path) (Value value) (later_trees trees) next path refl begins.1)
+    deeper base p opened part next path (Value value) trees (above (next ∷ path)) begins.0
+    (spread_first (base ++ p ∷ []) opened (next ∷ path) (Value value) (later_trees trees) next path refl begins.1)
 spread_first base (p ∷ opened) (part ∷ next ∷ path) (Bucket sequence) trees key rest some begins =
-    deeper base p opened part next path (Bucket sequence) trees (next ∷ path) begins.0 (spread_first (base ++ p ∷ []) opened (next ∷ path) (Bucket sequence) (later_trees trees) next path refl begins.1)
+    deeper base p opened part next path (Bucket sequence) trees (next ∷ path) begins.0
+    (spread_first (base ++ p ∷ []) opened (next ∷ path) (Bucket sequence) (later_trees trees) next path refl begins.1)
 
 -- ---- members that each lie in the bucket that the one before is or lies in, or further out
 
@@ -99,7 +107,8 @@ IsKnown last ms front = HasBucket ms front ⊎ ((path_cmp front last.0 ≡ Less)
 module _ (last m : Member) (ms : List Member) (less : member_cmp last m ≡ Less) (front : Path) where
   next_known : IsKnown last (m ∷ ms) front → IsKnown m ms front
   next_known (inl (inl root)) = inl (inl root)
-  next_known (inl (inr (sequence, has))) = elim (contains_cases m (front, Bucket sequence) ms has) [ inl same ↦ inr (inr (sequence, same)) | inr later ↦ inl (inr (sequence, later)) ]
+  next_known (inl (inr (sequence, has))) =
+      elim (contains_cases m (front, Bucket sequence) ms has) [ inl same ↦ inr (inr (sequence, same)) | inr later ↦ inl (inr (sequence, later)) ]
   next_known (inr (inl earlier)) = inr (inl (path_total.trans front last.0 m.0 earlier less))
   next_known (inr (inr (sequence, is))) = inr (inl (subst (λ (l : Member). path_cmp l.0 m.0 ≡ Less) is less))
 
@@ -114,7 +123,9 @@ module _ (last m : Member) (ms : List Member) (less : member_cmp last m ≡ Less
       | inr later ↦ asymmetric path_total m.0 front (rises.0 (front, Bucket sequence) later) before
     ])
     begins (inr (inl earlier)) = elim (beyond_or_longer front last.0 earlier) [
-      | inl beyond ↦ absurd (asymmetric path_total last.0 m.0 less (subst (λ (p : Path). path_cmp p last.0 ≡ Less) (sym path) (beyond_less front (key ∷ []) last.0 beyond)))
+      | inl beyond ↦
+          absurd (asymmetric path_total last.0 m.0 less
+          (subst (λ (p : Path). path_cmp p last.0 ≡ Less) (sym path) (beyond_less front (key ∷ []) last.0 beyond)))
       | inr (k, r, longer) ↦ subst (λ (p : Path). Begins front (open_after p last.1)) (sym longer) (begins_open front k r last.1)
     ]
     begins (inr (inr (sequence, is))) = subst (λ (l : Member). Begins front (open_after l.0 l.1)) (sym is) (begins_itself front)
@@ -140,6 +151,8 @@ pub parented_tree : (listing : List Member) → Rises member_cmp listing → Hav
 parented_tree listing rises places =
     let root : Member = ([], Bucket 0) in
     let first : (m : Member) → Contains listing m → member_cmp root m ≡ Less =
-    λ m has. let (front, key, path, is) = places m has in let (k, r, some) = push_some front key in subst (λ (p : Path). path_cmp [] p ≡ Less) (sym (path ∙ some)) refl in
+    λ m has. let (front, key, path, is) = places m has in
+    let (k, r, some) = push_some front key in
+    subst (λ (p : Path). path_cmp [] p ≡ Less) (sym (path ∙ some)) refl in
     sym (spread_root [] (trees_by_depth listing))
     ∙ spread_all [] listing (chained root listing (first, rises) (λ m has. let (front, key, path, is) = places m has in (front, key, path, inl is)))

@@ -1,8 +1,11 @@
 -- The part of a listing below a path: its members stand together, and a walk from the later of two paths comes to all of them that don't
 -- come before the other.
 use Rattle.std.proofs.Common.{arith, ◌≡◌, ◌∙◌, Bool, true, false, not, List, [], ◌∷◌, ◌++◌, length, drop, cond, filter, refl, sym, ap, append-nil}
-use Rattle.bolt_tree.proofs.Words.{Contains, Equal, Greater, Item, Less, Member, Ordering, Path, Rises, bytes_eq-Decides, false_from_ne_true, is_beyond, is_lt, less_of, member_cmp, not-true, ordering_reverse, path_cmp, rest_from, starts_is, take_while, take_while-cons}
-use Rattle.bolt_tree.proofs.{Filters.filter_all, Filters.filter_first, Filters.filter_none, Filters.filter_rises, Filters.filters_swap, Filters.kept_from, Single.member_total}
+use Rattle.bolt_tree.proofs.Words.{Contains, Equal, Greater, Item, Less, Member, Ordering, Path, Rises, bytes_eq-Decides, false_from_ne_true}
+use Rattle.bolt_tree.proofs.Words.{is_beyond, is_lt, less_of, member_cmp, not-true, ordering_reverse, path_cmp, rest_from, starts_is, take_while}
+use Rattle.bolt_tree.proofs.Words.{take_while-cons}
+use Rattle.bolt_tree.proofs.{Filters.filter_all, Filters.filter_first, Filters.filter_none, Filters.filter_rises, Filters.filters_swap}
+use Rattle.bolt_tree.proofs.{Filters.kept_from, Single.member_total}
 use Rattle.bolt_tree.proofs.Lists.{contains_head, contains_tail, irreflexive}
 use Rattle.bolt_tree.proofs.PathOrder.{before_longer, beyond_less, beyond_or_longer, beyond_up, flip_less, path_exact, path_same, path_total}
 use Rattle.bolt_tree.specs.ListingParts.{begins_with, later_path, part_below}
@@ -31,7 +34,8 @@ beyond_apart below path h =
     irreflexive path_total path (ap (λ (p : Path). path_cmp p path) same ∙ less))
 
 -- one that neither comes before it nor begins with it does
-beyond_by : (below path : Path) (o : Ordering) → path_cmp below path ≡ o → is_lt (path_cmp path below) ≡ false → begins_with below path ≡ false → is_beyond below path ≡ true
+beyond_by : (below path : Path) (o : Ordering) → path_cmp below path ≡ o → is_lt (path_cmp path below) ≡ false → begins_with below path ≡ false
+    → is_beyond below path ≡ true
 beyond_by below path Less e after apart = grind (arith, beyond_or_longer, begins_by)
 beyond_by below path Equal e after apart =
     let same : path ≡ below ++ [] = sym (path_exact below path e) ∙ sym (append-nil below) in
@@ -45,7 +49,8 @@ after_or_beyond below path = beyond_by below path (path_cmp below path) refl
 
 -- Of a rising list from the path on, the part comes first.
 module _ (below : Path) where
-  none_later : (m : Member) (ms : List Member) → Rises member_cmp (m ∷ ms) → is_lt (path_cmp m.0 below) ≡ false → begins_with below m.0 ≡ false → part_below below ms ≡ []
+  none_later : (m : Member) (ms : List Member) → Rises member_cmp (m ∷ ms) → is_lt (path_cmp m.0 below) ≡ false → begins_with below m.0 ≡ false
+      → part_below below ms ≡ []
   none_later m ms rises after apart = grind (arith, after_or_beyond, filter_none, beyond_apart, beyond_up)
 
   first_at : (m : Member) (ms : List Member) (b : Bool) → begins_with below m.0 ≡ b → Rises member_cmp (m ∷ ms) → is_lt (path_cmp m.0 below) ≡ false
@@ -72,14 +77,16 @@ module _ (below : Path) where
       ap not (later m.0 (begins_after below m.0 (kept_from (λ (x : Member). begins_with below x.0) listing m h).1)))
 
   -- from a path on that doesn't come before the part's own
-  pub part_from : (from : Path) (listing : List Member) → Rises member_cmp listing → ((path : Path) → is_lt (path_cmp path from) ≡ false → is_lt (path_cmp path below) ≡ false)
+  pub part_from : (from : Path) (listing : List Member) → Rises member_cmp listing
+      → ((path : Path) → is_lt (path_cmp path from) ≡ false → is_lt (path_cmp path below) ≡ false)
       → part_below below (rest_from from listing) ≡ take_while (λ (x : Member). begins_with below x.0) (rest_from from listing)
   part_from from listing rises later =
       part_first (rest_from from listing) (filter_rises member_cmp (λ (m : Member). not (is_lt (path_cmp m.0 from))) listing rises) (λ x h.
       later x.0 (not-true (is_lt (path_cmp x.0 from)) (kept_from (λ (m : Member). not (is_lt (path_cmp m.0 from))) listing x h).1))
 
   -- the members of the part stand together
-  pub part_together : (listing : List Member) → Rises member_cmp listing → part_below below listing ≡ take_while (λ (x : Member). begins_with below x.0) (rest_from below listing)
+  pub part_together : (listing : List Member) → Rises member_cmp listing
+      → part_below below listing ≡ take_while (λ (x : Member). begins_with below x.0) (rest_from below listing)
   part_together listing rises = sym (whole_part below listing (λ path h. h)) ∙ rest_of_part below listing ∙ part_from below listing rises (λ path h. h)
 
   -- what doesn't come before a path doesn't come before one that isn't later
@@ -89,7 +96,8 @@ module _ (below : Path) where
       let less = path_total.trans path from below (less_of (path_cmp path from) h) e in
       let g : true ≡ false = sym (ap is_lt less) ∙ after in cc)
 
-  up_other : (from path : Path) (o : Ordering) → path_cmp from below ≡ o → is_lt o ≡ false → is_lt (path_cmp path from) ≡ false → is_lt (path_cmp path below) ≡ false
+  up_other : (from path : Path) (o : Ordering) → path_cmp from below ≡ o → is_lt o ≡ false → is_lt (path_cmp path from) ≡ false
+      → is_lt (path_cmp path below) ≡ false
   up_other from path Less e out after = absurd (let g : true ≡ false = out in cc)
   up_other from path Equal e out after = ap (λ (p : Path). is_lt (path_cmp path p)) (sym (path_exact from below e)) ∙ after
   up_other from path Greater e out after =
@@ -122,5 +130,6 @@ member_first below item listing rises has =
     let passes : (λ (m : Member). begins_with below m.0) mine ≡ true = begins_by below below [] (sym (append-nil below)) in (
       take_while (λ (m : Member). begins_with below m.0) later,
       part_together below listing rises ∙ ap (take_while (λ (m : Member). begins_with below m.0)) first
-          ∙ take_while-cons (λ (m : Member). begins_with below m.0) mine later ∙ ap (λ (b : Bool). cond b (mine ∷ take_while (λ (m : Member). begins_with below m.0) later) []) passes,
+          ∙ take_while-cons (λ (m : Member). begins_with below m.0) mine later
+          ∙ ap (λ (b : Bool). cond b (mine ∷ take_while (λ (m : Member). begins_with below m.0) later) []) passes,
     )

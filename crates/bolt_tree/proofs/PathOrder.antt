@@ -2,7 +2,8 @@
 -- Rests on the order of keys, which is total, and in which only equal keys are tied.
 use Rattle.std.proofs.Common.{arith, ◌≡◌, ◌∙◌, ◌⊎◌, inl, Bool, true, false, List, [], ◌∷◌, ◌++◌, refl, ap}
 use Rattle.std.proofs.lemmas.Map.Lookups.{exact_bytes}
-use Rattle.bolt_tree.proofs.Words.{Equal, Greater, IsTotalOrder, Key, Less, Ordering, Path, by_first, is_beyond, key_cmp, lists_total, nat_list_cmp_total, ordering_reverse, ordering_then, path_cmp, tied_itself}
+use Rattle.bolt_tree.proofs.Words.{Equal, Greater, IsTotalOrder, Key, Less, Ordering, Path, by_first, is_beyond, key_cmp, lists_total}
+use Rattle.bolt_tree.proofs.Words.{nat_list_cmp_total, ordering_reverse, ordering_then, path_cmp, tied_itself}
 use Rattle.std.specs.{Borrow.Bor, Cmp.Derive.Mapped.lex_map, Cmp.Lexicographic.slice_cmp}
 use Rattle.bolt_tree.specs.Paths.{path_of}
 

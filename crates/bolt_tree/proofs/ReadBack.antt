@@ -1,6 +1,8 @@
 -- A tree is read off its listing: its trees, from the last member to the first.
-use Rattle.std.proofs.Common.{◌≡◌, ◌∙◌, ◌<◌, ◌≤◌, ℕ, zero, suc, List, [], ◌∷◌, ◌++◌, length, refl, sym, ap, subst, arith, append_assoc, append-nil, length-append}
-use Rattle.bolt_tree.proofs.Words.{Item, Key, Member, Path, Tree, Value, end, first_tree, later_trees, listing_below, listing_of, put_first, tree_of, trees_by_depth, with_bucket, with_value}
+use Rattle.std.proofs.Common.{◌≡◌, ◌∙◌, ◌<◌, ◌≤◌, ℕ, zero, suc, List, [], ◌∷◌, ◌++◌, length, refl, sym, ap, subst, arith, append_assoc, append-nil}
+use Rattle.std.proofs.Common.{length-append}
+use Rattle.bolt_tree.proofs.Words.{Item, Key, Member, Path, Tree, Value, end, first_tree, later_trees, listing_below, listing_of, put_first, tree_of}
+use Rattle.bolt_tree.proofs.Words.{trees_by_depth, with_bucket, with_value}
 use Rattle.bolt_tree.specs.Entries.{Bucket}
 
 -- the tree at a depth
@@ -22,7 +24,8 @@ record Puts (d : ℕ) (tree : Tree) (trees after : List Tree) : Type 0 where
   pub at : at_depth d after ≡ tree
   pub after_it : (i : ℕ) → d < i → at_depth i after ≡ end
 
-below_one : (d : ℕ) (tree tree_before : Tree) (trees after : List Tree) → tree_before ≡ first_tree trees → Puts d tree (later_trees trees) after → Puts (suc d) tree trees (tree_before ∷ after)
+below_one : (d : ℕ) (tree tree_before : Tree) (trees after : List Tree) → tree_before ≡ first_tree trees → Puts d tree (later_trees trees) after
+    → Puts (suc d) tree trees (tree_before ∷ after)
 below_one d tree tree_before trees after same p = record {
   before = λ i h. by i h;
   at = p.at;
@@ -43,18 +46,24 @@ alone tree trees = record { before = λ i h. absurd (omega arith); at = refl; af
     by zero h = absurd (omega arith)
     by (suc i) h = none_at_depth i
 
-puts_member : (path : Path) (key : Key) (item : Item) (trees : List Tree) → Puts (length path) (own_tree key item (length path) trees) trees (put_first (path ++ key ∷ []) item trees)
+puts_member : (path : Path) (key : Key) (item : Item) (trees : List Tree)
+    → Puts (length path) (own_tree key item (length path) trees) trees (put_first (path ++ key ∷ []) item trees)
 puts_member [] key (Value value) trees = alone (with_value key value (first_tree trees)) trees
 puts_member [] key (Bucket sequence) trees = alone (with_bucket key sequence (first_tree (later_trees trees)) (first_tree trees)) trees
-puts_member (a ∷ []) key (Value value) trees = below_one 0 (with_value key value (first_tree (later_trees trees))) (first_tree trees) trees (put_first (key ∷ []) (Value value) (later_trees trees)) refl (puts_member [] key (Value value) (later_trees trees))
+puts_member (a ∷ []) key (Value value) trees =
+    below_one 0 (with_value key value (first_tree (later_trees trees))) (first_tree trees) trees (put_first (key ∷ []) (Value value) (later_trees trees))
+    refl (puts_member [] key (Value value) (later_trees trees))
 puts_member (a ∷ []) key (Bucket sequence) trees =
-    below_one 0 (with_bucket key sequence (first_tree (later_trees (later_trees trees))) (first_tree (later_trees trees))) (first_tree trees) trees (put_first (key ∷ []) (Bucket sequence) (later_trees trees)) refl
+    below_one 0 (with_bucket key sequence (first_tree (later_trees (later_trees trees))) (first_tree (later_trees trees))) (first_tree trees) trees
+    (put_first (key ∷ []) (Bucket sequence) (later_trees trees)) refl
     (puts_member [] key (Bucket sequence) (later_trees trees))
 puts_member (a ∷ b ∷ path) key (Value value) trees =
-    below_one (length (b ∷ path)) (own_tree key (Value value) (length (b ∷ path)) (later_trees trees)) (first_tree trees) trees (put_first ((b ∷ path) ++ key ∷ []) (Value value) (later_trees trees)) refl
+    below_one (length (b ∷ path)) (own_tree key (Value value) (length (b ∷ path)) (later_trees trees)) (first_tree trees) trees
+    (put_first ((b ∷ path) ++ key ∷ []) (Value value) (later_trees trees)) refl
     (puts_member (b ∷ path) key (Value value) (later_trees trees))
 puts_member (a ∷ b ∷ path) key (Bucket sequence) trees =
-    below_one (length (b ∷ path)) (own_tree key (Bucket sequence) (length (b ∷ path)) (later_trees trees)) (first_tree trees) trees (put_first ((b ∷ path) ++ key ∷ []) (Bucket sequence) (later_trees trees)) refl
+    below_one (length (b ∷ path)) (own_tree key (Bucket sequence) (length (b ∷ path)) (later_trees trees)) (first_tree trees) trees
+    (put_first ((b ∷ path) ++ key ∷ []) (Bucket sequence) (later_trees trees)) refl
     (puts_member (b ∷ path) key (Bucket sequence) (later_trees trees))
 
 -- a tree's listing puts that tree at its depth
@@ -63,8 +72,11 @@ puts_tree : (tree : Tree) (path : Path) (d : ℕ) (rest : List Member) → lengt
 puts_tree end path d rest len none = record { before = λ i h. refl; at = none d (omega arith); after_it = λ i h. none i (omega arith) }
 puts_tree (with_value key value after) path d rest len none =
     let p = puts_tree after path d rest len none in
-    let q = subst (λ (n : ℕ). Puts n (own_tree key (Value value) n (trees_by_depth (listing_below path after ++ rest))) (trees_by_depth (listing_below path after ++ rest))
-    (put_first (path ++ key ∷ []) (Value value) (trees_by_depth (listing_below path after ++ rest)))) len (puts_member path key (Value value) (trees_by_depth (listing_below path after ++ rest))) in
+    let q =
+    subst (λ (n : ℕ).
+    Puts n (own_tree key (Value value) n (trees_by_depth (listing_below path after ++ rest))) (trees_by_depth (listing_below path after ++ rest))
+    (put_first (path ++ key ∷ []) (Value value) (trees_by_depth (listing_below path after ++ rest)))) len
+    (puts_member path key (Value value) (trees_by_depth (listing_below path after ++ rest))) in
     record { before = λ i h. q.before i h ∙ p.before i h; at = q.at ∙ ap (λ (t : Tree). with_value key value t) p.at; after_it = q.after_it }
 puts_tree (with_bucket key sequence inside after) path d rest len none =
     let p = puts_tree after path d rest len none in
@@ -73,7 +85,10 @@ puts_tree (with_bucket key sequence inside after) path d rest len none =
     let longer : length deep ≡ suc d = (let n = length-append path (key ∷ []) in let one : length (key ∷ []) ≡ 1 = refl in omega (arith, n, one, len)) in
     let r = puts_tree inside deep (suc d) later longer (λ i h. p.after_it i (omega arith)) in
     let all : List Member = listing_below deep inside ++ later in
-    let q = subst (λ (n : ℕ). Puts n (own_tree key (Bucket sequence) n (trees_by_depth all)) (trees_by_depth all) (put_first deep (Bucket sequence) (trees_by_depth all))) len (puts_member path key (Bucket sequence) (trees_by_depth all)) in
+    let q =
+    subst (λ (n : ℕ).
+    Puts n (own_tree key (Bucket sequence) n (trees_by_depth all)) (trees_by_depth all) (put_first deep (Bucket sequence) (trees_by_depth all))) len
+    (puts_member path key (Bucket sequence) (trees_by_depth all)) in
     let here : at_depth d (trees_by_depth all) ≡ after = r.before d (omega arith) ∙ p.at in
     grind (arith, append_assoc, with_bucket)
 

@@ -2,7 +2,8 @@
 use Rattle.std.proofs.Common.{◌≡◌, ◌∙◌, ◌++◌, ◌⊎◌, inl, inr, List, [], ◌∷◌, ◌≤◌, arith, length, map, subst, sym}
 use Rattle.std.proofs.lemmas.List.Elements.{Contains-append_cases, Contains-append_left, Contains-append_right}
 use Rattle.std.specs.{Cmp.IsTotalOrder, List.Contains, declared.cmp.Ordering.Ordering, declared.cmp.Ordering.TheVariants.Less}
-use Rattle.bolt_tree.proofs.{Lists.contains_cases, Lists.contains_head, Lists.contains_none, Lists.contains_tail, Lists.irreflexive, MappedLists.shows_from}
+use Rattle.bolt_tree.proofs.{Lists.contains_cases, Lists.contains_head, Lists.contains_none, Lists.contains_tail, Lists.irreflexive}
+use Rattle.bolt_tree.proofs.{MappedLists.shows_from}
 use Rattle.bolt_tree.specs.Order.{Rises}
 
 -- by another order, if that has its elements in the same order
@@ -15,7 +16,8 @@ rises_as old new (x ∷ xs) same rises = (
 )
 
 -- of two elements one comes before the other, or they are one
-pub rising_cases : {A : Type 0} (cmp : A → A → Ordering) (xs : List A) (a b : A) → Rises cmp xs → Contains xs a → Contains xs b → (a ≡ b) ⊎ ((cmp a b ≡ Less) ⊎ (cmp b a ≡ Less))
+pub rising_cases : {A : Type 0} (cmp : A → A → Ordering) (xs : List A) (a b : A) → Rises cmp xs → Contains xs a → Contains xs b
+    → (a ≡ b) ⊎ ((cmp a b ≡ Less) ⊎ (cmp b a ≡ Less))
 rising_cases cmp [] a b rises has also = absurd (contains_none a has)
 rising_cases cmp (x ∷ xs) a b rises has also = elim (contains_cases x a xs has) [
   | inl first ↦ elim (contains_cases x b xs also) [
@@ -29,7 +31,8 @@ rising_cases cmp (x ∷ xs) a b rises has also = elim (contains_cases x a xs has
 ]
 
 -- two of the same key are one
-pub one_of : {A K : Type 0} {cmp : K → K → Ordering} → IsTotalOrder cmp → (key : A → K) (xs : List A) (a b : A) → Rises (λ x y. cmp (key x) (key y)) xs → Contains xs a → Contains xs b
+pub one_of : {A K : Type 0} {cmp : K → K → Ordering} → IsTotalOrder cmp → (key : A → K) (xs : List A) (a b : A)
+    → Rises (λ x y. cmp (key x) (key y)) xs → Contains xs a → Contains xs b
     → key a ≡ key b → a ≡ b
 one_of {cmp = cmp} total key xs a b rises has also same = elim (rising_cases (λ x y. cmp (key x) (key y)) xs a b rises has also) [
   | inl is ↦ is
@@ -39,10 +42,12 @@ one_of {cmp = cmp} total key xs a b rises has also same = elim (rising_cases (λ
 
 pub rises_mapped : {A B : Type 0} (f : A → B) (cmp : B → B → Ordering) (xs : List A) → Rises (λ a b. cmp (f a) (f b)) xs → Rises cmp (map f xs)
 rises_mapped f cmp [] rises = tt
-rises_mapped f cmp (x ∷ xs) rises = (λ y has. let (a, there, is) = shows_from f xs y has in subst (λ z. cmp (f x) z ≡ Less) is (rises.0 a there), rises_mapped f cmp xs rises.1)
+rises_mapped f cmp (x ∷ xs) rises =
+    (λ y has. let (a, there, is) = shows_from f xs y has in subst (λ z. cmp (f x) z ≡ Less) is (rises.0 a there), rises_mapped f cmp xs rises.1)
 
 -- if each element of one list is in another, it has no more
-pub fewer : {A : Type 0} {cmp : A → A → Ordering} → IsTotalOrder cmp → (ys xs : List A) → Rises cmp xs → Rises cmp ys → ((x : A) → Contains xs x → Contains ys x) → length xs ≤ length ys
+pub fewer : {A : Type 0} {cmp : A → A → Ordering} → IsTotalOrder cmp → (ys xs : List A) → Rises cmp xs → Rises cmp ys
+    → ((x : A) → Contains xs x → Contains ys x) → length xs ≤ length ys
 fewer {cmp = cmp} total [] [] up rises all = omega arith
 fewer {cmp = cmp} total [] (x ∷ xs) up rises all = absurd (contains_none x (all x (contains_head x xs)))
 fewer {cmp = cmp} total (y ∷ ys) [] up rises all = omega arith

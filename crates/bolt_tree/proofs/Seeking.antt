@@ -1,8 +1,12 @@
 -- The rest of a listing from a path, found part by part: if a bucket has no entry from a part on, a greater one, or a value.
 -- Rests on the order of paths, and on what a named bucket holds (Named).
-use Rattle.std.proofs.Common.{rules, ◌≡◌, ◌∙◌, ◌≤◌, inl, inr, true, false, not, List, [], ◌∷◌, ◌++◌, length, Some, slice_get, refl, ap, subst, ◌+◌, ◌<◌, ℕ, suc, take, drop, get_or, eqb, eq-eqb, sym, arith, Bor}
+use Rattle.std.proofs.Common.{rules, ◌≡◌, ◌∙◌, ◌≤◌, inl, inr, true, false, not, List, [], ◌∷◌, ◌++◌, length, Some, slice_get, refl, ap, subst, ◌+◌}
+use Rattle.std.proofs.Common.{◌<◌, ℕ, suc, take, drop, get_or, eqb, eq-eqb, sym, arith, Bor}
 use Rattle.std.proofs.lemmas.Grind.{common_steps}
-use Rattle.bolt_tree.proofs.Words.{AreEntries, AreOpen, Checked, CursorView, Equal, Greater, HasEntries, Holds, Item, Key, LeafElement, Less, Lists, Member, Names, Ordering, Path, Start, beyond, both_ways, entries_of, false_from_ne_true, is_beyond, is_end, is_lt, key_cmp, least_from, less_of, nat_tests, not-true, ordering_reverse, path_cmp, path_of, props, rest_after, rest_from, root_start, ∥∥₁_elim}
+use Rattle.bolt_tree.proofs.Words.{AreEntries, AreOpen, Checked, CursorView, Equal, Greater, HasEntries, Holds, Item, Key, LeafElement, Less, Lists}
+use Rattle.bolt_tree.proofs.Words.{Member, Names, Ordering, Path, Start, beyond, both_ways, entries_of, false_from_ne_true, is_beyond, is_end, is_lt}
+use Rattle.bolt_tree.proofs.Words.{key_cmp, least_from, less_of, nat_tests, not-true, ordering_reverse, path_cmp, path_of, props, rest_after}
+use Rattle.bolt_tree.proofs.Words.{rest_from, root_start, ∥∥₁_elim}
 use Rattle.bolt_tree.proofs.{EntryOrder.seek_least, EntryOrder.seek_none, Filters.filter_all, Filters.filter_same}
 use Rattle.bolt_tree.proofs.{Giving.not_before, Giving.not_before_beyond, Giving.after_end, Named.first_of_held, Named.held_below, Named.held_down}
 use Rattle.bolt_tree.proofs.PathOrder.{before_longer, beyond_less, beyond_or_longer, flip_less, path_exact, path_total, same_front}
@@ -33,7 +37,8 @@ module _ (Entry : Start → LeafElement → Type 0) (from : Start) (all : HasEnt
       let w : Path = path ++ k ∷ s in
       filter_same (λ m. not (is_lt (path_cmp m.0 w))) (λ m. is_beyond path m.0) listing (λ m in_it.
       both_ways _ _
-      (λ h. let from_w = not-true _ h in elim (beyond_or_longer path m.0 (behind_from path w m.0 (before_longer path k s) from_w)) as (λ v. is_beyond path m.0 ≡ true) [
+      (λ h. let from_w = not-true _ h in
+      elim (beyond_or_longer path m.0 (behind_from path w m.0 (before_longer path k s) from_w)) as (λ v. is_beyond path m.0 ≡ true) [
         | inl far ↦ far
         | inr (z, r, longer) ↦
             let held = (lists.exact m.0 m.1).0 in_it in
@@ -58,18 +63,22 @@ module _ (Entry : Start → LeafElement → Type 0) (from : Start) (all : HasEnt
     rest_past_value e k s is value = search (rules, rest_beyond, held_below)
 
     -- the bucket's first entry from the key on has a greater key
-    pub rest_greater : (entries : List LeafElement) (e : LeafElement) (key : Key) (s : Path) → AreEntries Entry bucket entries → slice_get entries (least_from key entries) ≡ Some e
+    pub rest_greater : (entries : List LeafElement) (e : LeafElement) (key : Key) (s : Path) → AreEntries Entry bucket entries
+        → slice_get entries (least_from key entries) ≡ Some e
         → key_cmp key e.key ≡ Less → rest_from (path ++ key ∷ s) listing ≡ rest_from (path ++ e.key ∷ []) listing
     rest_greater entries e key s are at greater =
         let w : Path = path ++ key ∷ s in
         let own : Path = path ++ e.key ∷ [] in
         filter_same (λ m. not (is_lt (path_cmp m.0 w))) (λ m. not (is_lt (path_cmp m.0 own))) listing (λ m in_it.
         both_ways _ _
-        (λ h. let from_w = not-true _ h in elim (beyond_or_longer path m.0 (behind_from path w m.0 (before_longer path key s) from_w)) as (λ v. not (is_lt (path_cmp m.0 own)) ≡ true) [
+        (λ h. let from_w = not-true _ h in
+        elim (beyond_or_longer path m.0 (behind_from path w m.0 (before_longer path key s) from_w)) as (λ v. not (is_lt (path_cmp m.0 own)) ≡ true) [
           | inl far ↦ ap not (not_before_beyond path e.key m.0 far)
           | inr (z, r, longer) ↦
               let held = (lists.exact m.0 m.1).0 in_it in
-              let (g, gis, gkey) = first_of_held Entry bucket z r m.1 (held_down Entry from path bucket z r m.1 all names (subst (λ (t : Path). Holds Entry from t m.1) longer held)) in
+              let (g, gis, gkey) =
+              first_of_held Entry bucket z r m.1
+              (held_down Entry from path bucket z r m.1 all names (subst (λ (t : Path). Holds Entry from t m.1) longer held)) in
               let not_less = from_part path z key r s (subst (λ (t : Path). is_lt (path_cmp t w) ≡ false) longer from_w) in
               let least = (seek_least key entries e g are.rises at ((are.exact g).1 gis) (rw gkey not_less)).1 in
               let out : is_lt (path_cmp m.0 own) ≡ false = rw longer (not_before path e.key z r (rw (← gkey) least)) in ap not out
@@ -108,7 +117,8 @@ pub none_left : {A : Type 0} (xs : List A) (i : ℕ) → i ≤ length xs → len
 none_left xs i h k more = grind (arith, common_steps)
 
 -- with no part, all is left
-pub from_start : (checked : Checked) (cursors : List CursorView) (keys path : Path) → ∥ HasEntries (entries_of checked) (root_start checked) × AreOpen checked [] cursors keys ∥₁ → keys ≡ [] → path ≡ []
+pub from_start : (checked : Checked) (cursors : List CursorView) (keys path : Path)
+    → ∥ HasEntries (entries_of checked) (root_start checked) × AreOpen checked [] cursors keys ∥₁ → keys ≡ [] → path ≡ []
     → (listing : List Member) → Lists (entries_of checked) (root_start checked) listing → rest_after keys listing ≡ rest_from path listing
 from_start checked cursors keys path buckets none empty listing lists =
     ∥∥₁_elim buckets (hlevel props) (λ t.

@@ -1,12 +1,19 @@
 -- The entry that a trail rests on: an element of the page on top of its stack.
-use Rattle.std.proofs.Common.{rules, ◌≡◌, ◌∙◌, ℕ, suc, ◌-◌, ◌≤◌, Bool, true, false, List, [], ◌∷◌, ◌++◌, Some, None, Option, slice_get, length, take, refl, sym, ap, subst, arith}
-use Rattle.bolt_tree.proofs.Words.{BucketView, Checked, Contains, Cursor, Content, Frame, HasStack, HasStart, HasTrail, IsAtRest, IsLeafContent, IsOn, IsResting, Leaf, LeafElement, MatchOption, Place, Position, RestsOn, Trail, content_length, contents_in, cursor_checked, cursor_place, cursor_start, cursor_trail, elements_in, entries_of, frame_of, frames_of, leaf_view, none-some, opened_content, option_map, pager_checked, place_by, props, slice_get_within, start_at, start_of, take_all, take_next, trail_bucket, trail_frames, ∥∥₁_elim, ∥∥₁_map}
+use Rattle.std.proofs.Common.{rules, ◌≡◌, ◌∙◌, ℕ, suc, ◌-◌, ◌≤◌, Bool, true, false, List, [], ◌∷◌, ◌++◌, Some, None, Option, slice_get, length, take}
+use Rattle.std.proofs.Common.{refl, sym, ap, subst, arith}
+use Rattle.bolt_tree.proofs.Words.{BucketView, Checked, Contains, Cursor, Content, Frame, HasStack, HasStart, HasTrail, IsAtRest, IsLeafContent, IsOn}
+use Rattle.bolt_tree.proofs.Words.{IsResting, Leaf, LeafElement, MatchOption, Place, Position, RestsOn, Trail, content_length, contents_in}
+use Rattle.bolt_tree.proofs.Words.{cursor_checked, cursor_place, cursor_start, cursor_trail, elements_in, entries_of, frame_of, frames_of, leaf_view}
+use Rattle.bolt_tree.proofs.Words.{none-some, opened_content, option_map, pager_checked, place_by, props, slice_get_within, start_at, start_of}
+use Rattle.bolt_tree.proofs.Words.{take_all, take_next, trail_bucket, trail_frames, ∥∥₁_elim, ∥∥₁_map}
 use Rattle.bolt_tree.proofs.{BucketWays.starts_below, EntryOrder.contains_at, PlaceMoves.current, PlaceMoves.the_entries}
-use Rattle.bolt_tree.proofs.{RestingLemmas.past_empty, RestingLemmas.resting_bucket, RestingLemmas.resting_stack, TrailLemmas.frames_push, RisingEntries.tour_entries}
+use Rattle.bolt_tree.proofs.{RestingLemmas.past_empty, RestingLemmas.resting_bucket, RestingLemmas.resting_stack, TrailLemmas.frames_push}
+use Rattle.bolt_tree.proofs.{RisingEntries.tour_entries}
 use Rattle.bolt_tree.specs.{Places.IsEntryAt, Places.entry_at}
 
 -- the last position of a stack is its top
-last_on : (items : List Position) (top : Position) → slice_get items (length items - 1) ≡ Some top → frames_of items ≡ frame_of top ∷ frames_of (take (length items - 1) items)
+last_on : (items : List Position) (top : Position) → slice_get items (length items - 1) ≡ Some top
+    → frames_of items ≡ frame_of top ∷ frames_of (take (length items - 1) items)
 last_on items top at =
     let last = length items - 1 in
     let within = slice_get_within items last top at in
@@ -30,12 +37,14 @@ module _ (trail : Trail) (shared : List Position) (top : Position) (same : share
 
   pub top_rests : IsRested (opened_content top.page) top.taken
   top_rests =
-      rested (opened_content top.page) top.taken (subst IsAtRest topped rest) (∥∥₁_elim (subst (HasStack (trail_bucket trail)) topped stack) (hlevel props) (λ s. s.1.0.fits))
+      rested (opened_content top.page) top.taken (subst IsAtRest topped rest)
+      (∥∥₁_elim (subst (HasStack (trail_bucket trail)) topped stack) (hlevel props) (λ s. s.1.0.fits))
 
 -- ---- the place of a cursor
 
 -- what is found on a stack is the entry at its place
-found_at : (bucket : BucketView) (found : Option Leaf) (past : Bool) (frames : List Frame) (entries : List LeafElement) → elements_in bucket ≡ entries → (past ≡ true → frames ≡ [])
+found_at : (bucket : BucketView) (found : Option Leaf) (past : Bool) (frames : List Frame) (entries : List LeafElement) → elements_in bucket ≡ entries
+    → (past ≡ true → frames ≡ [])
     → HasStack bucket frames → MatchOption found (frames ≡ []) (λ leaf. IsOn frames (leaf_view leaf))
     → option_map leaf_view found ≡ entry_at entries (place_by past (contents_in bucket) frames)
 found_at bucket None true frames entries all empty stack on = refl
@@ -48,11 +57,13 @@ held_at entries place e at = grind (arith, none-some, contains_at)
 
 module _ (trail : Trail) (is_past : Bool) (resting : ∥ IsResting trail is_past ∥₁) where
   pub entry_on : (found : Option Leaf) → MatchOption found (trail_frames trail ≡ []) (λ leaf. IsOn (trail_frames trail) (leaf_view leaf))
-      → IsEntryAt (entries_of (pager_checked trail.pages.pager)) (start_at trail.pages.at) (place_by is_past (contents_in (trail_bucket trail)) (trail_frames trail)) (option_map leaf_view found)
+      → IsEntryAt (entries_of (pager_checked trail.pages.pager)) (start_at trail.pages.at)
+      (place_by is_past (contents_in (trail_bucket trail)) (trail_frames trail)) (option_map leaf_view found)
   entry_on found on = search (rules, the_entries, resting_bucket, found_at, past_empty, resting_stack)
 
   -- a bucket at its place is one of the tree
-  pub begins_on : (place : Place) (e : LeafElement) → IsEntryAt (entries_of (pager_checked trail.pages.pager)) (start_at trail.pages.at) place (Some e) → e.is_bucket ≡ true
+  pub begins_on : (place : Place) (e : LeafElement)
+      → IsEntryAt (entries_of (pager_checked trail.pages.pager)) (start_at trail.pages.at) place (Some e) → e.is_bucket ≡ true
       → HasStart (pager_checked trail.pages.pager) (start_of e.value)
   begins_on place e at bucket =
       let b = trail_bucket trail in
@@ -68,4 +79,5 @@ module _ (cursor : Cursor) (checked : Checked) (same : cursor_checked cursor ≡
   pub begins_here : (e : LeafElement) → IsHere (cursor_checked cursor) (Some e) → e.is_bucket ≡ true → HasStart checked (start_of e.value)
   unfolding cursor_checked cursor_start
   begins_here e at bucket =
-      subst (λ (file : Checked). HasStart file (start_of e.value)) same (begins_on (cursor_trail cursor) cursor.is_past cursor.resting (cursor_place cursor) e at bucket)
+      subst (λ (file : Checked). HasStart file (start_of e.value)) same
+      (begins_on (cursor_trail cursor) cursor.is_past cursor.resting (cursor_place cursor) e at bucket)

@@ -1,6 +1,7 @@
 -- What is left of members that were read one ahead.
 use Rattle.std.specs.Prelude.{◌≡◌, ◌⊎◌, ℕ, suc, List, [], ◌∷◌, Option, Some, None}
-use Rattle.bolt_tree.specs.{Listing.Member, Paths.Path, ShownEntries.item_view, declared.ahead.Ahead.Ahead, declared.ahead.FirstMember.FirstMember, declared.entry.Item.Item}
+use Rattle.bolt_tree.specs.{Listing.Member, Paths.Path, ShownEntries.item_view, declared.ahead.Ahead.Ahead, declared.ahead.FirstMember.FirstMember}
+use Rattle.bolt_tree.specs.{declared.entry.Item.Item}
 use Rattle.bolt_tree.specs.declared.ahead.FirstMember.TheVariants.{Ended, Read, Unread}
 
 abbrev pub head_of : Option Item → FirstMember

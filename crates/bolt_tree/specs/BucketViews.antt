@@ -17,6 +17,6 @@ bucket_in checked start = record { file = bytes_of checked; meta = meta_of check
 abbrev pub entries_of : Checked → Start → LeafElement → Type 0
 entries_of checked = IsEntry (bytes_of checked) (meta_of checked)
 
--- these are the entries of the bucket in order
+-- the list is that of the entries of the bucket, in order
 abbrev pub AreEntriesOf : BucketView → List LeafElement → Type 0
 AreEntriesOf b entries = AreEntries (IsEntry b.file b.meta) b.start entries

@@ -2,9 +2,10 @@
 use Rattle.std.specs.Prelude.{◌≡◌, ◌≤◌, ◌+◌, ◌*◌, ℕ, suc, List, length}
 use Rattle.bolt_format.specs.Elements.{LeafElement}
 use Rattle.bolt_check.specs.{Keys.Key, Counts.counted}
-use Rattle.bolt_tree.specs.{BucketViews.AreEntriesOf, BucketViews.BucketView, OpeningCounts.IsGap, OpeningCounts.IsNear, OpeningCounts.IsSeekCount, Places.Fresh, Places.On, Places.Past, Places.Place}
+use Rattle.bolt_tree.specs.{BucketViews.AreEntriesOf, BucketViews.BucketView, OpeningCounts.IsGap, OpeningCounts.IsNear, OpeningCounts.IsSeekCount}
+use Rattle.bolt_tree.specs.{Places.Fresh, Places.On, Places.Past, Places.Place}
 
--- it opens the pages after that of the preceding entry, up to that of entry i or to the bucket's end
+-- a call opens the pages after that of the preceding entry, up to that of entry i or to the bucket's end
 abbrev pub OpensGap : BucketView → ℕ → (old new : ℕ) → Type 0
 OpensGap b i old new = (entries : List LeafElement) (gap : ℕ) → AreEntriesOf b entries → IsGap b.file b.meta b.start entries i gap → new ≡ counted old gap
 
@@ -18,6 +19,6 @@ OpensByNext b Past old new = new ≡ old
 abbrev pub OpensSeek : BucketView → Key → (old new : ℕ) → Type 0
 OpensSeek b key old new = (entries : List LeafElement) (n : ℕ) → AreEntriesOf b entries → IsSeekCount b.file b.meta b.start entries key n → new ≡ counted old n
 
--- how deep it goes, and how often it compares
+-- how deep a seek goes, and how often it compares
 abbrev pub SeeksInBounds : BucketView → Key → (compared : ℕ) → Type 0
 SeeksInBounds b key compared = (near : List ℕ) → IsNear b.file b.meta b.start key near → (1 + length near ≤ 64) × (compared ≤ 16 * (1 + length near))

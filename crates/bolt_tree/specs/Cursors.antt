@@ -3,13 +3,16 @@ use Rattle.std.specs.Prelude.{ℕ, List, Option}
 use Rattle.std.specs.Option.{option_map}
 use Rattle.bolt_format.specs.{ElementPlaces.leaf_view, Elements.LeafElement, declared.element.Leaf.Leaf}
 use Rattle.bolt_check.specs.{Keys.Key, declared.checked.Checked.Checked}
-use Rattle.bolt_tree.specs.{BucketViews.BucketView, BucketViews.bucket_in, BucketViews.entries_of, Private.BucketPages.contents_in, Entries.Start, Private.Resting.place_by}
-use Rattle.bolt_tree.specs.{Pagers.pager_checked, Pagers.pager_opened, Places.Place, Places.IsEntryAt, Places.Move, Places.Moves, Places.ShowsMove, Starts.start_at}
+use Rattle.bolt_tree.specs.{BucketViews.BucketView, BucketViews.bucket_in, BucketViews.entries_of, Private.BucketPages.contents_in, Entries.Start}
+use Rattle.bolt_tree.specs.{Private.Resting.place_by}
+use Rattle.bolt_tree.specs.{Pagers.pager_checked, Pagers.pager_opened, Places.Place, Places.IsEntryAt, Places.Move, Places.Moves, Places.ShowsMove}
+use Rattle.bolt_tree.specs.{Starts.start_at}
 use Rattle.bolt_tree.specs.Private.Trails.{Trail, frames_of, pages_bucket, trail_on}
-use Rattle.bolt_tree.specs.{CursorBounds.OpensByNext, CursorBounds.OpensGap, CursorBounds.OpensSeek, CursorBounds.SeeksInBounds, ShownEntries.shown_entry, declared.entry.Entry.Entry}
+use Rattle.bolt_tree.specs.{CursorBounds.OpensByNext, CursorBounds.OpensGap, CursorBounds.OpensSeek, CursorBounds.SeeksInBounds}
+use Rattle.bolt_tree.specs.{ShownEntries.shown_entry, declared.entry.Entry.Entry}
 use Rattle.bolt_tree.specs.declared.cursor.Cursor.{Cursor}
 
--- its pages and its stack
+-- a cursor's pages and its stack
 abbrev pub cursor_trail : Cursor → Trail
 cursor_trail cursor = trail_on cursor.pages cursor.stack.items
 
@@ -19,7 +22,7 @@ cursor_checked cursor = pager_checked cursor.pages.pager
 unfoldable pub cursor_start : Cursor → Start
 cursor_start cursor = start_at cursor.pages.at
 
--- where it is; its place among the entries is `place_in entries` of that
+-- where a cursor is; its place among the entries is `place_in entries` of that
 unfoldable pub cursor_place : Cursor → Place
 cursor_place cursor = place_by cursor.is_past (contents_in (pages_bucket cursor.pages)) (frames_of cursor.stack.items)
 
@@ -41,7 +44,7 @@ abbrev pub ReturnsElement : (List LeafElement → Place → Move) → (old new :
 ReturnsElement move old new found =
     Moves (entries_of (cursor_checked old)) (cursor_start old) move (cursor_place old) (cursor_place new) (option_map leaf_view found)
 
--- the element of the entry that it is on
+-- the element of the entry that a cursor is on
 abbrev pub IsElementOf : Cursor → Option Leaf → Type 0
 IsElementOf cursor found = IsEntryAt (entries_of (cursor_checked cursor)) (cursor_start cursor) (cursor_place cursor) (option_map leaf_view found)
 

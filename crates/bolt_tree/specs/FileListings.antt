@@ -8,6 +8,6 @@ use Rattle.bolt_tree.specs.{Entries.Root_page, Entries.Start, Listing.IsListing,
 abbrev pub root_start : Checked → Start
 root_start checked = Root_page (meta_of checked).root
 
--- this holds of the listing
+-- a property holds of the listing of a checked file
 abbrev pub ForListing : Checked → (List Member → Type 0) → Type 0
 ForListing checked P = (listing : List Member) → IsListing (bytes_of checked) (meta_of checked) listing → P listing

@@ -2,7 +2,8 @@
 -- and an inline one has no bucket in it. So buckets nest no deeper than there are pages below the mark, and one.
 use Rattle.std.specs.Prelude.{ℕ, zero, suc, List, [], ◌∷◌, if◌then◌else◌}
 use Rattle.bolt_format.specs.{Elements.LeafElement, Elements.head_sequence, declared.meta.Meta.Meta}
-use Rattle.bolt_tree.specs.{Entries.Root_page, Entries.Start, Entries.start_of, Private.Tours.tour_elements, Private.Tours.pages_at, Tree.Tree, Tree.end, Tree.with_bucket, Tree.with_value}
+use Rattle.bolt_tree.specs.{Entries.Root_page, Entries.Start, Entries.start_of, Private.Tours.tour_elements, Private.Tours.pages_at, Tree.Tree}
+use Rattle.bolt_tree.specs.{Tree.end, Tree.with_bucket, Tree.with_value}
 
 -- the tree of these entries, if this is inside their buckets
 abbrev pub tree_with : (Start → Tree) → List LeafElement → Tree

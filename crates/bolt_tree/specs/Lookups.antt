@@ -3,7 +3,8 @@
 use Rattle.std.specs.Prelude.{◌≡◌, ℕ, false, IsTrue, List, Option, Some, None}
 use Rattle.bolt_format.specs.Elements.{LeafElement, head_sequence}
 use Rattle.bolt_check.specs.Keys.{Key}
-use Rattle.bolt_tree.specs.{Buckets.bucket_sequence, Buckets.bucket_start, Entries.AreEntries, Entries.Start, Entries.start_of, Places.Place, Places.entry_at, declared.bucket.Bucket.Bucket}
+use Rattle.bolt_tree.specs.{Buckets.bucket_sequence, Buckets.bucket_start, Entries.AreEntries, Entries.Start, Entries.start_of, Places.Place}
+use Rattle.bolt_tree.specs.{Places.entry_at, declared.bucket.Bucket.Bucket}
 
 -- the entry with the key, or none has it
 abbrev pub IsElementAt : (Start → LeafElement → Type 0) → Start → Key → Option LeafElement → Type 0

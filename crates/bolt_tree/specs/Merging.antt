@@ -1,9 +1,10 @@
 -- What two merged listings show: what is left of both, and the last path.
 use Rattle.std.specs.Prelude.{ℕ, ◌+◌, List, []}
-use Rattle.bolt_tree.specs.{Aheads.ahead_ends, Aheads.ahead_left, Aheads.ahead_work, Listing.Member, Merges.merge, Paths.Path, declared.merged.Last.Last, declared.merged.Merged.Merged}
+use Rattle.bolt_tree.specs.{Aheads.ahead_ends, Aheads.ahead_left, Aheads.ahead_work, Listing.Member, Merges.merge, Paths.Path}
+use Rattle.bolt_tree.specs.{declared.merged.Last.Last, declared.merged.Merged.Merged}
 use Rattle.bolt_tree.specs.declared.merged.Last.TheVariants.{First, Nothing, Second}
 
--- if these are the last paths of the two listings
+-- the last path of two merged listings, if these are the last paths of the two
 abbrev pub path_after : Last → Path → Path → Path
 path_after Nothing first second = []
 path_after First first second = first

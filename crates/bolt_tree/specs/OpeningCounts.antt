@@ -1,5 +1,6 @@
 -- How many pages of a bucket lie between two of its entries: addresses in the order of ways, and their numbers: docs/LISTING.md, "Openings".
-use Rattle.std.specs.Prelude.{◌≡◌, ◌<◌, ◌⊎◌, ◌↔◌, ℕ, zero, suc, ◌+◌, ◌-◌, List, [], ◌∷◌, IsTrue, IsFalse, length, Option, Some, None, Contains, slice_get}
+use Rattle.std.specs.Prelude.{◌≡◌, ◌<◌, ◌⊎◌, ◌↔◌, ℕ, zero, suc, ◌+◌, ◌-◌, List, [], ◌∷◌, IsTrue, IsFalse, length, Option, Some, None, Contains}
+use Rattle.std.specs.Prelude.{slice_get}
 use Rattle.std.specs.List.{AllPairs}
 use Rattle.bolt_format.specs.{Elements.BranchElement, Elements.LeafElement, Pages.PageView, Pages.page_at, declared.meta.Meta.Meta}
 use Rattle.bolt_format.specs.declared.header.Kind.TheVariants as kind
@@ -82,7 +83,7 @@ abbrev pub sum_to : (ℕ → ℕ) → ℕ → ℕ
 sum_to f zero = 0
 sum_to f (suc n) = sum_to f n + f n
 
--- each gap is there, and the gaps cover all pages
+-- there is a gap before each entry and before the bucket's end, and the gaps cover all pages
 abbrev pub GapsCoverAll : List ℕ → Meta → Start → List LeafElement → Type 0
 GapsCoverAll file meta start entries = (gap : ℕ → ℕ) × (all : ℕ) × ((i : ℕ) → IsGap file meta start entries i (gap i)) × IsAllPages file meta start all
     × (sum_to gap (suc (length entries)) ≡ all)

@@ -31,14 +31,14 @@ abbrev pub last_move : List LeafElement → Move
 last_move [] = nothing_at Fresh
 last_move (e ∷ entries) = move_onto (e ∷ entries) (length entries)
 
--- to the next entry; at the last one nothing, and the place stays
+-- a move to the next entry; at the last one nothing, and the place stays
 abbrev pub next_move : List LeafElement → Place → Move
 next_move entries Fresh = first_move entries
 next_move entries (On i) = if nat_lt (suc i) (length entries) then move_onto entries (suc i) else nothing_at (On i)
 next_move [] Past = nothing_at Fresh
 next_move (e ∷ entries) Past = nothing_at Past
 
--- to the preceding entry; at the first one nothing, and the place stays
+-- a move to the preceding entry; at the first one nothing, and the place stays
 abbrev pub prev_move : List LeafElement → Place → Move
 prev_move entries Fresh = last_move entries
 prev_move entries (On zero) = nothing_at (On 0)
@@ -49,7 +49,7 @@ prev_move entries Past = last_move entries
 abbrev pub least_from : Key → List LeafElement → ℕ
 least_from key entries = position_or_len (λ (e : LeafElement). not (key_lt e.key key)) entries
 
--- to that entry; past all if there is none
+-- a move to the least entry with a key at or above this one; past all if there is none
 abbrev pub seek_move : Key → List LeafElement → Move
 seek_move key [] = nothing_at Fresh
 seek_move key (e ∷ entries) =
@@ -71,7 +71,7 @@ entry_at entries Fresh = None
 entry_at entries (On i) = slice_get entries i
 entry_at entries Past = None
 
--- this is the entry at a place, whatever the bucket's entries in order are
+-- what is found is the entry at a place, whatever the bucket's entries in order are
 abbrev pub IsEntryAt : (Start → LeafElement → Type 0) → Start → Place → Option LeafElement → Type 0
 IsEntryAt Entry bucket place found = (entries : List LeafElement) → AreEntries Entry bucket entries → found ≡ entry_at entries place
 
@@ -85,7 +85,7 @@ abbrev pub Moves : (Start → LeafElement → Type 0) → Start → (List LeafEl
 Moves Entry bucket move old new answer = (entries : List LeafElement) → AreEntries Entry bucket entries
     → (place_in entries new ≡ (move entries (place_in entries old)).place) × (answer ≡ (move entries (place_in entries old)).answer)
 
--- the same of what is returned as it is shown
+-- A call moves the cursor, and returns what the move says, as it is shown, whatever the bucket's entries in order are.
 abbrev pub ShowsMove : (Start → LeafElement → Type 0) → Start → (List LeafElement → Place → Move) → (old new : Place) → Option EntryView → Type 0
 ShowsMove Entry bucket move old new answer = (entries : List LeafElement) → AreEntries Entry bucket entries
     → (place_in entries new ≡ (move entries (place_in entries old)).place) × (answer ≡ option_map entry_view (move entries (place_in entries old)).answer)

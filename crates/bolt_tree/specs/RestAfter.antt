@@ -1,7 +1,8 @@
 -- The part of a listing after a path: all of it, or all but what begins with the path: docs/LISTING.md, "The walk". That is what a walk has
 -- left while its cursors are on the keys of the path.
 use Rattle.std.specs.Prelude.{Bool, true, false, List, [], ◌∷◌, filter}
-use Rattle.std.specs.{Ordering.is_lt, declared.cmp.Ordering.Ordering, declared.cmp.Ordering.TheVariants.Less, declared.cmp.Ordering.TheVariants.Equal, declared.cmp.Ordering.TheVariants.Greater}
+use Rattle.std.specs.{Ordering.is_lt, declared.cmp.Ordering.Ordering, declared.cmp.Ordering.TheVariants.Less, declared.cmp.Ordering.TheVariants.Equal}
+use Rattle.std.specs.{declared.cmp.Ordering.TheVariants.Greater}
 use Rattle.bolt_check.specs.Keys.{key_cmp}
 use Rattle.bolt_tree.specs.{Listing.Member, Paths.Path, Paths.path_cmp}
 

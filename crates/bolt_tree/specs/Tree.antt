@@ -2,7 +2,8 @@
 -- and of each bucket among them; and it can be computed from its listing.
 use Rattle.std.specs.Prelude.{◌≡◌, ℕ, true, false, List, [], ◌∷◌, ◌++◌}
 use Rattle.bolt_format.specs.Elements.{LeafElement, head_sequence}
-use Rattle.bolt_tree.specs.{Entries.AreEntries, Entries.Bucket, Entries.Item, Entries.Start, Entries.Value, Entries.start_of, Listing.Member, Paths.Path}
+use Rattle.bolt_tree.specs.{Entries.AreEntries, Entries.Bucket, Entries.Item, Entries.Start, Entries.Value, Entries.start_of, Listing.Member}
+use Rattle.bolt_tree.specs.{Paths.Path}
 
 -- the entries of a bucket in order: each a key with a value, or a key with a bucket, which has a sequence and entries of its own
 pub data Tree : Type 0 where

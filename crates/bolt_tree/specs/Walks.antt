@@ -14,7 +14,7 @@ walk_checked walk = walk.buckets.checked
 unfoldable pub left_of : Walk → List Member → List Member
 left_of walk listing = left_by walk.ahead (open_path walk.buckets) listing
 
--- the path of the last item that it returned
+-- the path of the last item that a walk returned
 unfoldable pub walk_path : Walk → Path
 walk_path walk = reported_path walk.ahead (open_path walk.buckets)
 
@@ -28,6 +28,6 @@ abbrev pub GivesItem : (old new : Walk) → Option shown.Item → Type 0
 GivesItem old new given =
     ForListing (walk_checked old) (λ listing. GivesNext (left_of old listing) (left_of new listing) (walk_path new) (option_map item_view given))
 
--- it has the same ahead of it
+-- a walk has the same ahead of it as before
 abbrev pub HasSameLeft : (old new : Walk) → Type 0
 HasSameLeft old new = ForListing (walk_checked old) (λ listing. left_of new listing ≡ left_of old listing)

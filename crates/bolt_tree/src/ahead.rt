@@ -13,7 +13,7 @@ use bolt_check::NoMemory;
 #[derive(Clone, Copy)]
 pub(crate) enum FirstMember<'a> {
     Unread,
-    /// It was read, and its path is that of the members.
+    /// The member was read, and its path is that of the members.
     Read(Item<'a>),
     /// There is none.
     Ended,

@@ -22,7 +22,8 @@ pub(crate) struct BucketPages<'a> {
 
 #[tactic(auto, using(crate::proofs::StackLemmas::retaken, crate::proofs::PagerLemmas::counted_zero, crate::proofs::TrailLemmas::stack_room))]
 impl<'a> BucketPages<'a> {
-    ghost use Rattle.bolt_tree.specs.Private.Trails.{ComesTo, IsOfSoundTree, HasOpened, HasTrailRoom, HasTrail, IsMoved, LeadsToChild, OpensBetween, ahead, trail_entries_left, frames_of};
+    ghost use Rattle.bolt_tree.specs.Private.Trails.{ComesTo, IsOfSoundTree, HasOpened, HasTrailRoom, HasTrail, IsMoved, LeadsToChild, OpensBetween};
+    ghost use Rattle.bolt_tree.specs.Private.Trails.{ahead, trail_entries_left, frames_of};
     ghost use Rattle.bolt_tree.specs.Private.Trails.{pages_bucket, pages_left, trail_on, trail_with};
 
     /// Opens the root page of the bucket, or its inline page.

@@ -5,8 +5,10 @@ ghost use Rattle.bolt_format.specs.{Elements.LeafElement, Elements.head_root, El
 ghost use Rattle.bolt_check.specs.{Ones.AtMostOne, Sound.HasSoundTrees};
 ghost use Rattle.bolt_tree.specs.Entries.{AreEntries, Inline_page, IsEntry, IsStart, Item, Root_page, Start};
 ghost use Rattle.bolt_tree.specs.Laws.{ForBucketElements, ForBuckets, ForListings, ForBucketEntries, SeeksAreBounded, SeeksAreCounted};
-ghost use Rattle.bolt_tree.specs.{Listing.IsListing, Listing.Lists, Listing.Member, Listing.member_cmp, Listing.rest_from, OpeningCounts.GapsCoverAll};
-ghost use Rattle.bolt_tree.specs.{Tree.IsTreeOf, Tree.Tree, Tree.listing_of, Tree.tree_of, ListingParts.begins_with, ListingParts.part_below, Order.Rises, Paths.Path};
+ghost use Rattle.bolt_tree.specs.{Listing.IsListing, Listing.Lists, Listing.Member, Listing.member_cmp, Listing.rest_from};
+ghost use Rattle.bolt_tree.specs.{OpeningCounts.GapsCoverAll};
+ghost use Rattle.bolt_tree.specs.{Tree.IsTreeOf, Tree.Tree, Tree.listing_of, Tree.tree_of, ListingParts.begins_with, ListingParts.part_below};
+ghost use Rattle.bolt_tree.specs.{Order.Rises, Paths.Path};
 ghost use Rattle.bolt_tree.specs.Merges.{AreApart, HaveParents, merge};
 
 use bolt_check::laws::ways_go_on;

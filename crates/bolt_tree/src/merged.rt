@@ -15,7 +15,7 @@ use std::alloc::Global;
 /// Which of two listings returned the last member.
 #[derive(Clone, Copy)]
 pub(crate) enum Last {
-    /// None was returned, or none is left.
+    /// No member was returned, or none is left.
     Nothing,
     First,
     Second,
@@ -28,7 +28,7 @@ pub struct Merged<'a, A, B> {
     first: Ahead<'a, A>,
     second: Ahead<'a, B>,
     last: Last,
-    /// So reading ahead can't fail once it has moved the path of the last member.
+    /// Once reading ahead has moved the path of the last member, it can't fail.
     ghost read: { last ≡ lasts.First → second.head ≢ firsts.Unread },
 }
 

@@ -16,13 +16,13 @@ use std::alloc::Global;
 /// What a walk does next.
 #[derive(Clone, Copy)]
 pub(crate) enum WalkStep<'a> {
-    /// It enters the root bucket.
+    /// The walk enters the root bucket.
     Begin,
-    /// It enters the bucket that its path names, whose value this is.
+    /// The walk enters the bucket that its path names, whose value this is.
     Enter(&'a [u8]),
-    /// It returns the element that its path leads to.
+    /// The walk returns the element that its path leads to.
     Give(Leaf<'a>),
-    /// It leaves everything that begins with its path.
+    /// The walk leaves everything that begins with its path.
     Leave,
 }
 
@@ -58,7 +58,8 @@ pub(crate) struct OpenBuckets<'a> {
 }
 
 impl<'a> OpenBuckets<'a> {
-    ghost use Rattle.bolt_tree.specs.Private.OpenBuckets.{ComesNext, EntersFirst, IsAhead, IsAt, IsInPlace, IsLeft, IsNamed, IsPartResult, left_by, open_path};
+    ghost use Rattle.bolt_tree.specs.Private.OpenBuckets.{ComesNext, EntersFirst, IsAhead, IsAt, IsInPlace, IsLeft, IsNamed, IsPartResult, left_by};
+    ghost use Rattle.bolt_tree.specs.Private.OpenBuckets.{open_path};
     ghost use Rattle.bolt_tree.specs.Private.OpenBuckets.{cursors_of, reported_path};
 
     /// No open bucket.

@@ -18,7 +18,8 @@ pub struct Walk<'a> {
 
 #[tactic(auto, unfolding(crate::specs::Walks::left_of, crate::specs::Walks::walk_checked, crate::specs::Walks::walk_path))]
 impl<'a> Walk<'a> {
-    ghost use Rattle.bolt_tree.specs.{FileListings.ForListing, Paths.path_of, Walks.GivesItem, Walks.HasSameLeft, Walks.left_of, Walks.walk_checked, Walks.walk_path};
+    ghost use Rattle.bolt_tree.specs.{FileListings.ForListing, Paths.path_of, Walks.GivesItem, Walks.HasSameLeft, Walks.left_of, Walks.walk_checked};
+    ghost use Rattle.bolt_tree.specs.{Walks.walk_path};
 
     /// A walk that has the whole listing ahead of it. Needs no memory.
     pub fn new(alloc: Global, checked: Checked<'a>) -> Walk<'a>

@@ -1,6 +1,7 @@
 -- The deeds that a log in memory holds.
 use Rattle.std.specs.Prelude.{◌≡◌, ◌⊎◌, ℕ, List, [], ◌∷◌, map, Bool, true, false, Option, Some, None, Ok, Err, IsTrue}
-use Rattle.bolt_cli.specs.{Deeds.Adds, Deeds.Deed, Sources.is_changed, declared.outside.OutputFault.TheVariants.ReaderLeft, declared.outside.OutputFault.TheVariants.Failed}
+use Rattle.bolt_cli.specs.{Deeds.Adds, Deeds.Deed, Sources.is_changed, declared.outside.OutputFault.TheVariants.ReaderLeft}
+use Rattle.bolt_cli.specs.{declared.outside.OutputFault.TheVariants.Failed}
 use Rattle.bolt_cli.specs.Deeds as deeds
 use Rattle.test_calls.specs.{declared.log.Kind.Kind, declared.log.Record.Record, declared.log.Log.Log}
 use Rattle.test_calls.specs.declared.log.Kind.TheVariants as kind
@@ -47,7 +48,7 @@ look taken (deeds.Lacked failures line) = look_of kind.Said [] line 0
 abbrev pub look_at : Record → Look
 look_at record_ = look_of record_.kind record_.name.items record_.bytes.items record_.permissions
 
--- either the log has lost a deed, or these are all
+-- the log has lost a deed, or it has all deeds
 abbrev pub Holds : {S : Type 0} → (taken : S → Option (List ℕ)) → Log → List (Deed S S) → Type 0
 Holds taken log all = IsTrue log.has_lost ⊎ (map look_at log.records.items ≡ map (look taken) all)
 

@@ -10,19 +10,19 @@ use std::alloc::Global;
 /// How the result of a command is judged.
 #[derive(Clone, Copy)]
 enum Kind {
-    /// It opens one page.
+    /// The command opens one page.
     Page,
-    /// It checks the file first, and prints it.
+    /// The command checks the file first, and prints it.
     Reader,
-    /// It checks the file to a greater extent than `check`.
+    /// The command checks the file to a greater extent than `check`.
     Check,
-    /// It prints the states of any file.
+    /// The command prints the states of any file.
     States,
-    /// It lists what the copy after it has.
+    /// The command lists what the copy after it has.
     List,
-    /// It does so, and what it lists beside the bucket of found pages is what the listing before has.
+    /// As `List`, and what it lists beside the bucket of found pages is what the listing before has.
     Joined,
-    /// It makes a copy.
+    /// The command makes a copy.
     Copy,
 }
 
@@ -61,7 +61,7 @@ static TRIALS: [(Kind, &[&str]); 20] = [
     (Kind::Reader, &["list", "--form", "json", "FILE"]),
 ];
 
-/// One of these commands.
+/// A command that is tried, and how its result is judged.
 #[derive(Drop)]
 struct Trial {
     kind: Kind,
@@ -103,7 +103,7 @@ impl Trials<'_> {
         are_right
     }
 
-    /// The same of the file with the byte at a place changed to each other value in turn.
+    /// Whether the commands agree on the file with the byte at a place changed to each other value in turn.
     fn agree_on_changes(self, file: &mut [u8], at: usize) -> bool {
         let mut are_right = true;
         for bits in 1..=u8::MAX {

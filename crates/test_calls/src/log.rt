@@ -30,7 +30,7 @@ pub enum Kind {
     Said,
 }
 
-/// One deed. What has no meaning for its kind is empty or 0.
+/// A deed. What has no meaning for its kind is empty or 0.
 #[derive(Drop)]
 pub struct Record {
     pub kind: Kind,

@@ -12,9 +12,9 @@ use std::alloc::{AllocError, Global};
 #[derive(Clone, Copy, PartialEq, Eq)]
 pub enum Turn {
     Good,
-    /// It fails.
+    /// The call fails.
     Bad,
-    /// It goes wrong in another way: FILE is changed while it is read, OUT exists, or the reader of
+    /// The call goes wrong in another way: FILE is changed while it is read, OUT exists, or the reader of
     /// standard output has left.
     Other,
 }

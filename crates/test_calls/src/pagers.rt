@@ -57,8 +57,8 @@ fn put_first(mut cursor: Cursor<'_>, key: &[u8], text: &mut Text) -> Result<(), 
     Ok(())
 }
 
-/// The same by a cursor of the first bucket on the root page, which is a leaf. The pager has opened
-/// one page by then.
+/// Prints what a seek finds, by a cursor of the first bucket on the root page, which is a leaf. The
+/// pager has opened one page by then.
 pub fn bucket_cursor(checked: Checked<'_>, key: &[u8], text: &mut Text) -> Result<(), Fault> {
     let mut pager = Pager::new(checked);
     ways_go_on();

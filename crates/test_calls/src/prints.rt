@@ -34,7 +34,7 @@ pub fn put_call<S: Sink>(
     })
 }
 
-/// The same of a bucket: its keys that begin with the one word, its buckets, or the value of the key
+/// Prints from a bucket: its keys that begin with the one word, its buckets, or the value of the key
 /// that is the one word.
 fn put_of_bucket<S: Sink>(
     (call, form): (&str, Form),

@@ -10,9 +10,9 @@ use std::io::{self, Cursor, ErrorKind, Write};
 /// How a writer refuses a call.
 #[derive(Clone, Copy)]
 pub enum Refusal {
-    /// It returns an error of a kind.
+    /// The sink returns an error of a kind.
     Error(ErrorKind),
-    /// It accepts no byte.
+    /// The sink accepts no byte.
     Nothing,
 }
 

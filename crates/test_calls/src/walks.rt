@@ -3,7 +3,7 @@
 use crate::fault::{Fault, require};
 use crate::words::Text;
 use bolt_check::Checked;
-use bolt_report::{ListForm, MemberLines, ReportFault, list, list_members_part};
+use bolt_report::{ListForm, MemberLines, ReportFault, list, put_member_part};
 use bolt_tree::{Members, NoMemory, Walk};
 use std::alloc::Global;
 
@@ -40,7 +40,7 @@ pub fn put_members<'a, M: Members<'a>>(
     text: &mut Text,
 ) -> Result<(), ReportFault> {
     let begins = members.path().is_empty();
-    list_members_part(alloc, members, &[], &[], ListForm::Hex, &mut text.sink)?;
+    put_member_part(alloc, members, &[], &[], ListForm::Hex, &mut text.sink)?;
     let ends = members.next()?.is_none() && members.path().is_empty();
     if !begins || !ends {
         text.add(b"a member or a path too many\n");

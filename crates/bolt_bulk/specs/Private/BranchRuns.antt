@@ -13,7 +13,7 @@ run_view run = record { elements = map branch_view run.elements.items; size = ru
 abbrev pub runs_above : List BranchRun → List RunView
 runs_above runs = map run_view runs
 
--- its size is that of its page
+-- the size of a run of pages is that of the branch page that it becomes
 abbrev pub IsSizedRun : RunView → Type 0
 IsSizedRun run = run.size ≡ 16 + (16 * length run.elements + length (branch_data run.elements))
 
@@ -39,7 +39,9 @@ pub record IsPushed (run : RunView) : Type 0 where
 -- A run takes the element of a page that has closed, and the next page has this first key: the run, what is written, the next number, and
 -- the element of the run's own page if it closes.
 abbrev pub run_taking : ℕ → List ℕ → BranchElement → RunView → RunView
-run_taking page_size key e run = if run_stays page_size (run_push run e) (key_size key) then run_kept page_size (run_push run e) (key_size key) else no_run (one_less run.allowed) (one_closed run.closed)
+run_taking page_size key e run =
+    if run_stays page_size (run_push run e) (key_size key) then run_kept page_size (run_push run e) (key_size key)
+    else no_run (one_less run.allowed) (one_closed run.closed)
 
 abbrev pub taking_puts : ℕ → List ℕ → BranchElement → ℕ → RunView → List Placed
 taking_puts page_size key e next run = if run_stays page_size (run_push run e) (key_size key) then [] else run_page page_size (run_push run e) next ∷ []

@@ -10,7 +10,7 @@ use Rattle.bolt_bulk.specs.Private.RunViews.{RunView, BucketRunsView}
 abbrev pub IsKeyed : Laid BranchElement → Type 0
 IsKeyed page = (page.size ≡ key_size page.key) × ((n : ℕ) → (page.element n).key ≡ page.key)
 
--- it is the view of an upper run whose pages begin at number `n`
+-- a run of pages is the view of an upper run whose pages begin at number `n`
 pub record IsUpper (run : RunView) (upper : Upper) (n : ℕ) : Type 0 where
   pub same : run.elements ≡ elements_of upper.run n
   pub size_is : run.size ≡ run_size size_of upper.run

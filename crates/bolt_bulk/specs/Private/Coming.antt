@@ -1,18 +1,21 @@
 -- What the open runs of a bucket become, with the items that are still to come; and so of all buckets that a pass has open.
 use Rattle.std.specs.Prelude.{◌≡◌, ◌≤◌, ℕ, suc, List, [], ◌∷◌, ◌++◌, length, Option, map}
 use Rattle.bolt_format.specs.Elements.{BranchElement, LeafElement}
-use Rattle.bolt_layout.specs.{Cut.branch_cut, Cut.cut_from, Items.bucket_item, Items.items_of, Laid.Laid, Laid.size_of, Levels.branch_page_view, Levels.leaf_page_view, Levels.page_over, Levels.top_of}
+use Rattle.bolt_layout.specs.{Cut.branch_cut, Cut.cut_from, Items.bucket_item, Items.items_of, Laid.Laid, Laid.size_of, Levels.branch_page_view}
+use Rattle.bolt_layout.specs.{Levels.leaf_page_view, Levels.page_over, Levels.top_of}
 use Rattle.bolt_layout.specs.{Limits.HaveRightLimits, Limits.cut_within, declared.Layout.Layout}
-use Rattle.bolt_bulk.specs.{Private.OpenRuns.BucketFrame, Private.OpenRuns.Open, Private.OpenRuns.Upper, Private.OpenRuns.key_size, Private.OpenRuns.pushing, Private.RowLimits.bucket_limit}
+use Rattle.bolt_bulk.specs.{Private.OpenRuns.BucketFrame, Private.OpenRuns.Open, Private.OpenRuns.Upper, Private.OpenRuns.key_size}
+use Rattle.bolt_bulk.specs.{Private.OpenRuns.pushing, Private.RowLimits.bucket_limit}
 
--- These are all pages of a level. This is the page at the top over them, and the limits give the rows above as the layout has them.
+-- The pages are all of one level, the root is the page at the top over them, and the limits give the rows above as the layout has them.
 pub record IsUnder (which : Layout) (page_size : ℕ) (limits : ℕ → Option ℕ) (pages : List (Laid BranchElement)) (root : Laid BranchElement) : Type 0 where
   pub top : top_of which page_size pages ≡ root
   pub right : HaveRightLimits which page_size limits pages
 
 -- What open upper runs become, with the pages that are still to come from below, of all pages there. The first of these is under way, and
 -- is in the run above. `closed` runs of that row have closed, and the open run is the first of the others.
-pub record Stands (which : Layout) (page_size : ℕ) (upper : Upper) (all : List (Laid BranchElement)) (page : Laid BranchElement) (pages : List (Laid BranchElement)) : Type 0 where
+pub record Stands (which : Layout) (page_size : ℕ) (upper : Upper) (all : List (Laid BranchElement)) (page : Laid BranchElement)
+    (pages : List (Laid BranchElement)) : Type 0 where
   pub runs : List (List (Laid BranchElement))
   pub count : length runs ≡ upper.closed
   pub cut : branch_cut which page_size size_of all ≡ runs ++ cut_within page_size size_of upper.allowed (upper.run ++ page ∷ []) pages
@@ -49,9 +52,11 @@ held_item frame root = bucket_item frame.key frame.sequence root
 abbrev pub BecomesWhole : Layout → ℕ → List BucketFrame → Laid BranchElement → Laid BranchElement → Type 0
 BecomesWhole which page_size [] root whole = root ≡ whole
 BecomesWhole which page_size (frame ∷ frames) root whole = (outer : Laid BranchElement)
-    × BecomesRoot which page_size (pushing frame.state (held_item frame root)) (items_of which page_size frame.after) outer × BecomesWhole which page_size frames outer whole
+    × BecomesRoot which page_size (pushing frame.state (held_item frame root)) (items_of which page_size frame.after) outer
+    × BecomesWhole which page_size frames outer whole
 
-pub record IsPass (which : Layout) (page_size : ℕ) (frames : List BucketFrame) (state : Open) (items : List (Laid LeafElement)) (whole : Laid BranchElement) : Type 0 where
+pub record IsPass (which : Layout) (page_size : ℕ) (frames : List BucketFrame) (state : Open) (items : List (Laid LeafElement))
+    (whole : Laid BranchElement) : Type 0 where
   pub root : Laid BranchElement
   pub current : BecomesRoot which page_size state items root
   pub begun : HasBegun state

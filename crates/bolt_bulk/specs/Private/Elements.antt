@@ -3,12 +3,12 @@
 use Rattle.std.specs.Prelude.{ℕ, ◌+◌, List, [], ◌∷◌, ◌++◌, length}
 use Rattle.bolt_layout.specs.PageBytes.{key_pos}
 
--- how many bytes of data they have
+-- how many bytes of data elements have
 abbrev pub data_size : {X : Type 0} (key : X → List ℕ) (value_length : X → ℕ) → List X → ℕ
 data_size key value_length [] = 0
 data_size key value_length (x ∷ xs) = (length (key x) + value_length x) + data_size key value_length xs
 
--- their headers, if the preceding ones have this much data
+-- the headers of elements, if the preceding elements have `before` bytes of data
 abbrev pub heads_from : {X : Type 0} (head : ℕ → ℕ → ℕ → X → List ℕ) (key : X → List ℕ) (value_length : X → ℕ) → (before : ℕ) → List X → List ℕ
 heads_from head key value_length before [] = []
 heads_from head key value_length before (x ∷ xs) =

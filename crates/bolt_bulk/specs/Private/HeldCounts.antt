@@ -1,7 +1,8 @@
 -- How many items open runs hold, as the code counts them. Those of a bucket hold the items of its leaf, and the pages in the runs above. Those
 -- of a pass are the runs of each waiting bucket, and of the open one.
 use Rattle.std.specs.Prelude.{◌≡◌, ℕ, ◌+◌, List, [], ◌∷◌, length, max, sum_by}
-use Rattle.bolt_bulk.specs.{declared.branch_run.BranchRun.BranchRun, declared.bucket_runs.BucketRuns.BucketRuns, declared.pass.Pass.Pass, declared.waiting_bucket.WaitingBucket.WaitingBucket}
+use Rattle.bolt_bulk.specs.{declared.branch_run.BranchRun.BranchRun, declared.bucket_runs.BucketRuns.BucketRuns, declared.pass.Pass.Pass}
+use Rattle.bolt_bulk.specs.{declared.waiting_bucket.WaitingBucket.WaitingBucket}
 use Rattle.bolt_check.specs.Counts.{saturated}
 
 abbrev pub items_above : List BranchRun → ℕ

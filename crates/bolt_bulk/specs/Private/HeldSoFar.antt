@@ -25,7 +25,7 @@ held_frames (frame ∷ frames) inner = held_frames frames (held_open frame.state
 abbrev pub held_so_far : List BucketFrame → Open → ℕ
 held_so_far frames state = held_frames frames (held_open state 0)
 
--- and how many are held now
+-- how many items the runs above a bucket's leaf hold now
 abbrev pub length_over : List Upper → ℕ
 length_over [] = 0
 length_over (upper ∷ uppers) = length_over uppers + length upper.run

@@ -3,7 +3,8 @@
 -- below begins the next run.
 use Rattle.std.specs.Prelude.{ℕ, suc, ◌+◌, Bool, ◌||◌, ◌&&◌, nat_lt, nat_le, List, [], ◌∷◌, ◌++◌, length, Option, None, if◌then◌else◌}
 use Rattle.bolt_format.specs.{Elements.BranchElement, Elements.LeafElement, Pages.PageView}
-use Rattle.bolt_layout.specs.{Layout.first_page, Cut.max_items, Cut.run_size, Laid.Laid, Laid.Placed, Laid.elements_of, Laid.numbers_of, Laid.pages_of, Laid.size_of, Limits.is_out, Limits.one_less}
+use Rattle.bolt_layout.specs.{Layout.first_page, Cut.max_items, Cut.run_size, Laid.Laid, Laid.Placed, Laid.elements_of, Laid.numbers_of}
+use Rattle.bolt_layout.specs.{Laid.pages_of, Laid.size_of, Limits.is_out, Limits.one_less}
 use Rattle.bolt_layout.specs.Levels.{branch_page_view, leaf_page_view, page_over, run_overflow}
 use Rattle.bolt_tree.specs.Tree.{Tree}
 use Rattle.bolt_bulk.specs.{Private.RowLimits.bucket_limit, declared.limits.BucketLimits.BucketLimits}
@@ -31,7 +32,8 @@ abbrev pub pushed_on : Upper → Laid BranchElement → Upper
 pushed_on upper q = record { run = upper.run ++ q ∷ []; allowed = upper.allowed; closed = upper.closed }
 
 abbrev pub kept_upper : ℕ → Upper → ℕ → Upper
-kept_upper page_size upper size = record { run = upper.run; allowed = if has_room page_size 2 upper.run size then upper.allowed else None; closed = upper.closed }
+kept_upper page_size upper size =
+    record { run = upper.run; allowed = if has_room page_size 2 upper.run size then upper.allowed else None; closed = upper.closed }
 
 abbrev pub begun_after : Upper → Upper
 begun_after upper = record { run = []; allowed = one_less upper.allowed; closed = suc upper.closed }
@@ -78,7 +80,8 @@ close page_size q (upper ∷ uppers) = close page_size (page_over branch_page_vi
 abbrev pub close_puts : ℕ → Laid BranchElement → List Upper → ℕ → List Placed
 close_puts page_size q [] number = []
 close_puts page_size q (upper ∷ uppers) number =
-    own_page branch_page_view page_size (upper.run ++ q ∷ []) (number + numbers_in uppers) ∷ close_puts page_size (page_over branch_page_view page_size (upper.run ++ q ∷ [])) uppers number
+    own_page branch_page_view page_size (upper.run ++ q ∷ []) (number + numbers_in uppers)
+    ∷ close_puts page_size (page_over branch_page_view page_size (upper.run ++ q ∷ [])) uppers number
 
 -- What a bucket is known by before its pages are written: its number in the order of openings, the limits of its rows, and all its leaf pages.
 pub record Known : Type 0 where
@@ -114,7 +117,9 @@ making_room page_size state key size = record {
 
 abbrev pub room_puts : ℕ → Open → List ℕ → ℕ → ℕ → List Placed
 room_puts page_size state key size number =
-    let closed = own_page leaf_page_view page_size state.run (number + numbers_in state.uppers) ∷ climb_puts page_size key (page_over leaf_page_view page_size state.run) state.uppers number in
+    let closed =
+    own_page leaf_page_view page_size state.run (number + numbers_in state.uppers)
+    ∷ climb_puts page_size key (page_over leaf_page_view page_size state.run) state.uppers number in
     if has_room page_size 1 state.run size then [] else closed
 
 abbrev pub pushing : Open → Laid LeafElement → Open
@@ -129,7 +134,8 @@ end_of page_size state = close page_size (page_over leaf_page_view page_size sta
 
 abbrev pub end_puts : ℕ → Open → ℕ → List Placed
 end_puts page_size state number =
-    own_page leaf_page_view page_size state.run (number + numbers_in state.uppers) ∷ close_puts page_size (page_over leaf_page_view page_size state.run) state.uppers number
+    own_page leaf_page_view page_size state.run (number + numbers_in state.uppers)
+    ∷ close_puts page_size (page_over leaf_page_view page_size state.run) state.uppers number
 
 -- A bucket that waits for one within it, of this key and sequence; what comes after that one; and its state, which has room for it.
 pub record BucketFrame : Type 0 where

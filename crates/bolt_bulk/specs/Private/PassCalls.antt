@@ -5,7 +5,8 @@ use Rattle.bolt_tree.specs.{Listing.Member, Tree.Tree, Tree.end, Tree.listing_of
 use Rattle.bolt_layout.specs.Laid.{Placed}
 use Rattle.bolt_bulk.specs.{Private.Endings.EndsPass, Private.Parents.Parent}
 use Rattle.bolt_bulk.specs.Private.Passes.{FitLimits, HasLeft, HasRoot, PassIsAt, IsNoDeeper, limits_with, onto, Steps, Wanted}
-use Rattle.bolt_bulk.specs.{declared.bulk_fault.BulkFault.BulkFault, declared.limits.Limits.Limits, declared.pass.Ended.Ended, declared.pass.Pass.Pass}
+use Rattle.bolt_bulk.specs.{declared.bulk_fault.BulkFault.BulkFault, declared.limits.Limits.Limits, declared.pass.Ended.Ended}
+use Rattle.bolt_bulk.specs.{declared.pass.Pass.Pass}
 
 -- what a pass knows at its beginning, if these limits of rows are right
 abbrev pub BeginsAll : Limits → (notes : Bool) → (page_size : ℕ) → Pass → Type 0
@@ -27,12 +28,14 @@ KeepsValue before after key value result =
 -- the next entry is a bucket, which may be inline
 abbrev pub BeginsBucket : (before after : Pass) → (key : List ℕ) → (sequence : ℕ) → Type 0
 BeginsBucket before after key sequence =
-    (wanted : Wanted) (inside rest : Tree) (parents : List Parent) (put : List Placed) → PassIsAt wanted before parents (with_bucket key sequence inside rest) put
+    (wanted : Wanted) (inside rest : Tree) (parents : List Parent) (put : List Placed)
+    → PassIsAt wanted before parents (with_bucket key sequence inside rest) put
     → PassIsAt wanted after (record { key = key; after = rest } ∷ parents) inside put
 
 -- the bucket that might have been inline has a root page, and is opened
 abbrev pub OpensPending : {S A : Type 0} → Ghosts S → (old new : S) → (before after : Pass) → Result A BulkFault → Type 0
-OpensPending sink old new before after result = (wanted : Wanted) (left : Tree) (parents : List Parent) (put : List Placed) → PassIsAt wanted before parents left put
+OpensPending sink old new before after result =
+    (wanted : Wanted) (left : Tree) (parents : List Parent) (put : List Placed) → PassIsAt wanted before parents left put
     → HasRoot wanted.which before.setup.page_size (onto (map leaf_view before.entries.items) left)
     → Steps wanted sink old new before.setup put (PassIsAt wanted after parents left) result
 
@@ -40,7 +43,8 @@ OpensPending sink old new before after result = (wanted : Wanted) (left : Tree) 
 abbrev pub EntersBucket : {S A : Type 0} → Ghosts S → (old new : S) → (before after : Pass) → (key : List ℕ) → (sequence : ℕ)
     → Result A BulkFault → Type 0
 EntersBucket sink old new before after key sequence result =
-    (wanted : Wanted) (inside rest : Tree) (parents : List Parent) (put : List Placed) → PassIsAt wanted before parents (with_bucket key sequence inside rest) put
+    (wanted : Wanted) (inside rest : Tree) (parents : List Parent) (put : List Placed)
+    → PassIsAt wanted before parents (with_bucket key sequence inside rest) put
     → Steps wanted sink old new before.setup put (PassIsAt wanted after (record { key = key; after = rest } ∷ parents) inside) result
 
 -- the innermost bucket has no more entries, and is left

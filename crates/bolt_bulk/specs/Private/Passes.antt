@@ -1,18 +1,26 @@
 -- Where a pass is in the tree that it follows, as the code keeps it, and what a step of it leaves.
-use Rattle.std.specs.Prelude.{◌≡◌, ◌<◌, ◌≤◌, ℕ, suc, ◌+◌, ◌/◌, Bool, true, false, List, [], ◌∷◌, ◌++◌, length, map, reverse, Option, Some, None, Result, IfErr, OnOk}
+use Rattle.std.specs.Prelude.{◌≡◌, ◌<◌, ◌≤◌, ℕ, suc, ◌+◌, ◌/◌, Bool, true, false, List, [], ◌∷◌, ◌++◌, length, map, reverse, Option, Some, None}
+use Rattle.std.specs.Prelude.{Result, IfErr, OnOk}
 use Rattle.std.specs.List.{AllByRecursion}
-use Rattle.bolt_format.specs.{ElementPlaces.leaf_view, Elements.BranchElement, Elements.LeafElement, declared.element.Leaf.Leaf, Wrote.Wrote, declared.sink.Sink.Ghosts}
+use Rattle.bolt_format.specs.{ElementPlaces.leaf_view, Elements.BranchElement, Elements.LeafElement, declared.element.Leaf.Leaf, Wrote.Wrote}
+use Rattle.bolt_format.specs.{declared.sink.Sink.Ghosts}
 use Rattle.bolt_tree.specs.{Listing.Member, Tree.Tree, Tree.end, Tree.with_bucket, Tree.with_value}
-use Rattle.bolt_layout.specs.{Items.is_inline, Items.items_of, Items.root_of, Laid.Laid, Laid.Placed, Layout.layout_mark, Layout.layout_pages, Layout.placed_bytes}
+use Rattle.bolt_layout.specs.{Items.is_inline, Items.items_of, Items.root_of, Laid.Laid, Laid.Placed, Layout.layout_high_water, Layout.layout_pages}
+use Rattle.bolt_layout.specs.{Layout.placed_bytes}
 use Rattle.bolt_layout.specs.Limits.{HaveRightLimits, limit_at, limits_from_ends}
-use Rattle.bolt_layout.specs.{Openings.AreRight, Openings.leaf_pages, Openings.limits_for, Openings.opened_by, Openings.opened_in, Openings.row_ends_of, declared.Layout.TheVariants.Plain}
+use Rattle.bolt_layout.specs.{Openings.AreRight, Openings.leaf_pages, Openings.limits_for, Openings.opened_by, Openings.opened_in}
+use Rattle.bolt_layout.specs.{Openings.row_ends_of, declared.Layout.TheVariants.Plain}
 use Rattle.bolt_layout.specs.declared.Layout.{Layout}
 use Rattle.bolt_bulk.specs.{declared.limits.Limits.Limits, Private.FormatLimits.longest_key, Private.Coming.IsPass, Private.RowLimits.limit_in}
-use Rattle.bolt_bulk.specs.{Private.HeldCounts.AreCounted, Private.HeldCounts.items_around, Private.HeldSoFar.held_so_far, Private.Parents.Parent, Private.Parents.left_in}
+use Rattle.bolt_bulk.specs.{Private.HeldCounts.AreCounted, Private.HeldCounts.items_around, Private.HeldSoFar.held_so_far, Private.Parents.Parent}
+use Rattle.bolt_bulk.specs.{Private.Parents.left_in}
 use Rattle.bolt_bulk.specs.{Private.OpenBuckets.IsOpenBucket, Private.OpenBuckets.bucket_runs, Private.BucketRuns.AreOpenRuns}
-use Rattle.bolt_bulk.specs.{Private.OpenRuns.BucketFrame, Private.OpenRuns.Known, Private.OpenRuns.Open, Private.OpenRuns.all_put, Private.OpenRuns.base_in, Private.RunViews.BucketRunsView}
-use Rattle.bolt_bulk.specs.{Private.TakenItems.entries_size, Private.WaitingBuckets.IsWaiting, declared.page_setup.PageSetup.PageSetup, declared.bulk_fault.BulkFault.BulkFault}
-use Rattle.bolt_bulk.specs.{declared.pass.Pass.Pass, declared.pending_bucket.PendingBucket.PendingBucket, declared.waiting_bucket.WaitingBucket.WaitingBucket}
+use Rattle.bolt_bulk.specs.{Private.OpenRuns.BucketFrame, Private.OpenRuns.Known, Private.OpenRuns.Open, Private.OpenRuns.all_put}
+use Rattle.bolt_bulk.specs.{Private.OpenRuns.base_in, Private.RunViews.BucketRunsView}
+use Rattle.bolt_bulk.specs.{Private.TakenItems.entries_size, Private.WaitingBuckets.IsWaiting, declared.page_setup.PageSetup.PageSetup}
+use Rattle.bolt_bulk.specs.{declared.bulk_fault.BulkFault.BulkFault}
+use Rattle.bolt_bulk.specs.{declared.pass.Pass.Pass, declared.pending_bucket.PendingBucket.PendingBucket}
+use Rattle.bolt_bulk.specs.{declared.waiting_bucket.WaitingBucket.WaitingBucket}
 use Rattle.bolt_bulk.specs.{declared.noted_limits.NotedLimits.NotedLimits, BulkEndings.bulk_ending}
 use Rattle.bolt_check.specs.Counts.{saturated}
 use Rattle.bolt_bulk.specs.declared.bulk_fault.BulkFault.TheVariants as fault
@@ -61,10 +69,11 @@ pub record FitLimits (which : Layout) (tree : Tree) (page_size : ℕ) (limits : 
 
 -- What a bucket with these leaf pages, which is opened as number n, says of its rows. It has no more leaf pages than the layout has pages.
 pub record Notes (wanted : Wanted) (page_size n : ℕ) (leaves : List (Laid BranchElement)) : Type 0 where
-  pub noted : wanted.which ≡ Plain → (level : ℕ) → limits_for page_size wanted.tree n level ≡ limit_at (limits_from_ends false (row_ends_of page_size leaves)) level
-  pub few : length leaves ≤ layout_mark wanted.which page_size wanted.tree
+  pub noted : wanted.which ≡ Plain → (level : ℕ)
+      → limits_for page_size wanted.tree n level ≡ limit_at (limits_from_ends false (row_ends_of page_size leaves)) level
+  pub few : length leaves ≤ layout_high_water wanted.which page_size wanted.tree
 
--- This is known of the buckets of a tree that are still to come, if the first of them that has a root page is opened as number n.
+-- What is known of the buckets of a tree that are still to come, if the first of them that has a root page is opened as number n.
 pub record IsComing (wanted : Wanted) (page_size : ℕ) (limits : ℕ → ℕ → Option ℕ) (n : ℕ) (inside : Tree) : Type 0 where
   pub right : HaveRightLimits wanted.which page_size (limits n) (leaf_pages page_size (items_of wanted.which page_size inside))
   pub notes : Notes wanted page_size n (leaf_pages page_size (items_of wanted.which page_size inside))
@@ -77,7 +86,7 @@ AreComing wanted page_size limits n (with_bucket key sequence inside after) =
     → IsComing wanted page_size limits n inside × AreComing wanted page_size limits (suc n) inside)
     × AreComing wanted page_size limits (n + opened_by wanted.which page_size inside) after
 
--- and of those after the waiting buckets, up to the last of all
+-- what is known of the buckets that come after the waiting buckets, up to the last of all
 abbrev pub AreComingAround : (wanted : Wanted) → (page_size : ℕ) → (limits : ℕ → ℕ → Option ℕ) → (n : ℕ) → List BucketFrame → Type 0
 AreComingAround wanted page_size limits n [] = n ≡ suc (opened_in wanted.which page_size wanted.tree)
 AreComingAround wanted page_size limits n (frame ∷ frames) =
@@ -88,34 +97,36 @@ pub record IsToCome (wanted : Wanted) (page_size : ℕ) (limits : ℕ → ℕ �
   pub around : AreComingAround wanted page_size limits (n + opened_in wanted.which page_size left) frames
 
 -- The open buckets, the innermost first, each have a lower number than the one before it.
-pub record IsNumbered (wanted : Wanted) (page_size below : ℕ) (known : Known) : Type 0 where
+pub record IsNumberedBucket (wanted : Wanted) (page_size below : ℕ) (known : Known) : Type 0 where
   pub earlier : known.number < below
   pub number_is : known.limits.bucket ≡ saturated known.number
   pub notes : Notes wanted page_size known.number known.leaves
 
 abbrev pub AreNumbered : (wanted : Wanted) → (page_size below : ℕ) → List Known → Type 0
 AreNumbered wanted page_size below [] = Unit {0}
-AreNumbered wanted page_size below (known ∷ others) = IsNumbered wanted page_size below known × AreNumbered wanted page_size known.number others
+AreNumbered wanted page_size below (known ∷ others) = IsNumberedBucket wanted page_size below known × AreNumbered wanted page_size known.number others
 
 -- The limits of the buckets that have ended are those that follow from the plain layout. The open buckets have none yet, and nor have those
 -- that come later.
-pub record IsTable (page_size : ℕ) (tree : Tree) (limits : Limits) (opened : ℕ) (buckets : List Known) : Type 0 where
+pub record IsLimitTable (page_size : ℕ) (tree : Tree) (limits : Limits) (opened : ℕ) (buckets : List Known) : Type 0 where
   pub still_open : AllByRecursion (λ (known : Known). (level : ℕ) → limit_in limits known.number level ≡ None) buckets
   pub later : (n level : ℕ) → opened ≤ n → limit_in limits n level ≡ None
-  pub ended : (n level : ℕ) → n < opened → AllByRecursion (λ (known : Known). n ≡ known.number → ⊥) buckets → limit_in limits n level ≡ limits_for page_size tree n level
+  pub ended : (n level : ℕ) → n < opened → AllByRecursion (λ (known : Known). n ≡ known.number → ⊥) buckets
+      → limit_in limits n level ≡ limits_for page_size tree n level
 
 -- A pass over the plain layout that notes limits has noted these, unless there are more page numbers than the code counts.
 pub record HasNoted (wanted : Wanted) (page_size : ℕ) (noted : NotedLimits) (opened : ℕ) (buckets : List Known) : Type 0 where
   pub numbered : AreNumbered wanted page_size opened buckets
   pub asked : noted.notes ≡ wanted.notes
-  pub table : wanted.notes ≡ true → wanted.which ≡ Plain → layout_mark wanted.which page_size wanted.tree ≤ 18446744073709551615
-      → IsTable page_size wanted.tree noted.limits opened buckets
+  pub table : wanted.notes ≡ true → wanted.which ≡ Plain → layout_high_water wanted.which page_size wanted.tree ≤ 18446744073709551615
+      → IsLimitTable page_size wanted.tree noted.limits opened buckets
 
 abbrev pub open_in : Open → List BucketFrame → List Known
 open_in state frames = state.known ∷ map (λ (frame : BucketFrame). frame.state.known) frames
 
 -- Where the pass is in the layout.
-pub record PassIsOn (which : Layout) (page_size : ℕ) (tree : Tree) (frames : List BucketFrame) (state : Open) (items : List (Laid LeafElement)) (runs : BucketRunsView) (put : List Placed) : Type 0 where
+pub record PassIsOn (which : Layout) (page_size : ℕ) (tree : Tree) (frames : List BucketFrame) (state : Open) (items : List (Laid LeafElement))
+    (runs : BucketRunsView) (put : List Placed) : Type 0 where
   pub under : IsPass which page_size frames state items (root_of which page_size tree)
   pub kept : AreOpenRuns runs state (base_in frames)
   pub put_is : put ≡ all_put frames state
@@ -125,7 +136,8 @@ pub record PassIsAt (wanted : Wanted) (pass : Pass) (parents : List Parent) (lef
   pub frames : List BucketFrame
   pub state : Open
   pub rest : Tree
-  pub on : PassIsOn wanted.which pass.setup.page_size wanted.tree frames state (items_of wanted.which pass.setup.page_size rest) (bucket_runs pass.bucket pass.next) put
+  pub on : PassIsOn wanted.which pass.setup.page_size wanted.tree frames state (items_of wanted.which pass.setup.page_size rest)
+      (bucket_runs pass.bucket pass.next) put
   pub waits : AreWaiting (reverse pass.waiting.items) frames
   pub pends : IsPending pass.pending pass.entries.items (map parent_of frames) rest parents left
   pub held : pass.most ≡ saturated (held_so_far frames state)
@@ -149,7 +161,7 @@ IsPendingSmall page_size (Some pending) entries = IsSmall page_size pending entr
 
 pub record IsReady (pass : Pass) : Type 0 where
   pub bucket : IsOpenBucket pass.bucket
-  pub next : pass.next ≤ pass.setup.highest_mark
+  pub next : pass.next ≤ pass.setup.greatest_high_water
   pub waiting : AllByRecursion (IsWaiting pass.setup.page_size) pass.waiting.items
   pub pending : IsPendingSmall pass.setup.page_size pass.pending pass.entries.items
   pub counted : AreCounted 0 pass.waiting.items
@@ -167,7 +179,7 @@ pass_depth pass = suc (length pass.waiting.items) + pending_depth pass.pending
 abbrev pub HasRoot : Layout → (page_size : ℕ) → Tree → Type 0
 HasRoot which page_size inside = is_inline page_size inside (items_of which page_size inside) ≡ false
 
--- these pages come before others of the layout
+-- the pages of `front` come before other pages of the layout
 pub record StandsBefore (front whole : List Placed) : Type 0 where
   pub rest : List Placed
   pub parts : whole ≡ front ++ rest
@@ -175,12 +187,13 @@ pub record StandsBefore (front whole : List Placed) : Type 0 where
 
 -- A step writes further pages, after which others of the layout come, or a prefix of their bytes if it fails. If it returns TooLarge, the
 -- layout is too large.
-pub record Steps {S A : Type 0} (wanted : Wanted) (sink : Ghosts S) (old new : S) (setup : PageSetup) (put : List Placed) (At : List Placed → Type 0) (result : Result A BulkFault) : Type 0 where
+pub record Steps {S A : Type 0} (wanted : Wanted) (sink : Ghosts S) (old new : S) (setup : PageSetup) (put : List Placed) (At : List Placed → Type 0)
+    (result : Result A BulkFault) : Type 0 where
   pub more : List Placed
   pub puts : Wrote sink old new (placed_bytes setup.page_size more) (bulk_ending result)
   pub at : OnOk result (At (put ++ more))
   pub before : StandsBefore (put ++ more) (layout_pages wanted.which setup.page_size wanted.tree)
-  pub large : IfErr result (λ e. e ≡ fault.TooLarge → setup.highest_mark < layout_mark wanted.which setup.page_size wanted.tree)
+  pub large : IfErr result (λ e. e ≡ fault.TooLarge → setup.greatest_high_water < layout_high_water wanted.which setup.page_size wanted.tree)
 
 -- no path of the next member is longer
 abbrev pub IsNoDeeper : ℕ → List Member → Type 0

@@ -1,7 +1,8 @@
 -- The limits of rows, as the code keeps them: only of the rows that have one.
 use Rattle.std.specs.Prelude.{◌≡◌, ◌⊎◌, ℕ, suc, true, false, None, List, Option, length, map}
 use Rattle.std.specs.{BTreeMap.get, Ordering.nat_cmp, Ordering.ordering_then, declared.cmp.Ordering.Ordering}
-use Rattle.bolt_bulk.specs.{declared.branch_run.BranchRun.BranchRun, declared.limits.BucketLimits.BucketLimits, declared.limits.Limits.Limits, declared.noted_limits.NotedLimits.NotedLimits}
+use Rattle.bolt_bulk.specs.{declared.branch_run.BranchRun.BranchRun, declared.limits.BucketLimits.BucketLimits, declared.limits.Limits.Limits}
+use Rattle.bolt_bulk.specs.{declared.noted_limits.NotedLimits.NotedLimits}
 use Rattle.bolt_bulk.specs.declared.upper_runs.UpperRuns.{UpperRuns}
 use Rattle.bolt_layout.specs.Limits.{limit_at, limits_from_ends}
 
@@ -15,7 +16,7 @@ limit_in limits bucket level = get row_cmp limits.rows (bucket, level)
 abbrev pub bucket_limit : BucketLimits → (level : ℕ) → Option ℕ
 bucket_limit limits level = limit_in limits.all.now limits.bucket level
 
--- it is the row of another bucket, or of another level
+-- row `l` of bucket `b` is the row of another bucket, or of another level
 abbrev pub IsOtherRow : (bucket level b l : ℕ) → Type 0
 IsOtherRow bucket level b l = (b ≡ bucket → ⊥) ⊎ (l ≡ level → ⊥)
 
@@ -25,7 +26,8 @@ run_end run = (suc run.closed, suc (length run.elements.items))
 
 -- the limits of a bucket that ends with these open runs, if it has none yet
 abbrev pub NotesRows : (old new : Limits) → (bucket : ℕ) → List BranchRun → Type 0
-NotesRows old new bucket runs = ((level : ℕ) → limit_in old bucket level ≡ None) → (level : ℕ) → limit_in new bucket level ≡ limit_at (limits_from_ends false (map run_end runs)) level
+NotesRows old new bucket runs =
+    ((level : ℕ) → limit_in old bucket level ≡ None) → (level : ℕ) → limit_in new bucket level ≡ limit_at (limits_from_ends false (map run_end runs)) level
 
 -- what is noted when a bucket ends with these open runs
 pub record BucketEnds (old new : NotedLimits) (uppers : UpperRuns) : Type 0 where

@@ -1,14 +1,20 @@
 -- What a step of a bucket's open runs does: the pages that it writes, what is open then, and the number of the next page.
 use Rattle.std.specs.Prelude.{◌≡◌, ℕ, List, [], ◌∷◌, Option, Result, IfOk, OnOk, length, option_map}
-use Rattle.bolt_format.specs.{ElementPlaces.branch_view, Elements.BranchElement, Elements.LeafElement, declared.element.Branch.Branch, declared.sink.Sink.Ghosts}
+use Rattle.bolt_format.specs.{ElementPlaces.branch_view, Elements.BranchElement, Elements.LeafElement, declared.element.Branch.Branch}
+use Rattle.bolt_format.specs.{declared.sink.Sink.Ghosts}
 use Rattle.bolt_layout.specs.Laid.{Placed}
 use Rattle.bolt_bulk.specs.Private.BranchRuns.{own_element, run_taking, run_view, runs_above, runs_end_next, taking_next, taking_puts, taking_up}
-use Rattle.bolt_bulk.specs.{Private.OpenBuckets.bucket_end_next, Private.OpenBuckets.bucket_runs, Private.OpenBuckets.leaf_closed, Private.PagesWritten.Closes, Private.PagesWritten.Writes}
+use Rattle.bolt_bulk.specs.{Private.OpenBuckets.bucket_end_next, Private.OpenBuckets.bucket_runs, Private.OpenBuckets.leaf_closed}
+use Rattle.bolt_bulk.specs.{Private.PagesWritten.Closes, Private.PagesWritten.Writes}
 use Rattle.bolt_bulk.specs.Private.RowLimits.{bucket_limit}
-use Rattle.bolt_bulk.specs.Private.RunViews.{BucketRunsView, LeafRunView, RunView, leaf_page, run_page, runs_climb, runs_close_put, runs_end, runs_end_put, runs_next, runs_push, runs_put, runs_room, runs_room_put, runs_root}
-use Rattle.bolt_bulk.specs.{Private.TakenItems.element_size, Private.TakenItems.root_element, Private.TakenItems.root_size, Private.TakenItems.runs_taking, declared.branch_run.BranchRun.BranchRun}
-use Rattle.bolt_bulk.specs.{declared.bucket_runs.BucketRuns.BucketRuns, declared.bulk_fault.BulkFault.BulkFault, Private.Writers.next_after, declared.page_writer.PageWriter.PageWriter}
-use Rattle.bolt_bulk.specs.{declared.upper_runs.UpperRuns.UpperRuns, declared.pending_bucket.PendingBucket.PendingBucket, declared.waiting_bucket.WaitingBucket.WaitingBucket}
+use Rattle.bolt_bulk.specs.Private.RunViews.{BucketRunsView, LeafRunView, RunView, leaf_page, run_page, runs_climb, runs_close_put, runs_end}
+use Rattle.bolt_bulk.specs.Private.RunViews.{runs_end_put, runs_next, runs_push, runs_put, runs_room, runs_room_put, runs_root}
+use Rattle.bolt_bulk.specs.{Private.TakenItems.element_size, Private.TakenItems.root_element, Private.TakenItems.root_size}
+use Rattle.bolt_bulk.specs.{Private.TakenItems.runs_taking, declared.branch_run.BranchRun.BranchRun}
+use Rattle.bolt_bulk.specs.{declared.bucket_runs.BucketRuns.BucketRuns, declared.bulk_fault.BulkFault.BulkFault, Private.Writers.next_after}
+use Rattle.bolt_bulk.specs.{declared.page_writer.PageWriter.PageWriter}
+use Rattle.bolt_bulk.specs.{declared.upper_runs.UpperRuns.UpperRuns, declared.pending_bucket.PendingBucket.PendingBucket}
+use Rattle.bolt_bulk.specs.{declared.waiting_bucket.WaitingBucket.WaitingBucket}
 
 -- a bucket has one item more, whatever the numbers of its pages are
 abbrev pub Pushes : (before after : BucketRuns) → LeafElement → (size : ℕ) → Type 0
@@ -19,18 +25,18 @@ module _ {S : Type 0} (sink : Ghosts S) (old new : PageWriter S) where
   abbrev P : ℕ
   P = old.setup.page_size
 
-  abbrev WritesRow : {A : Type 0} → List Placed → (mark : ℕ) → Result A BulkFault → Type 0
-  WritesRow row mark result = Writes sink old.sink.now new.sink.now old.setup row mark result
+  abbrev WritesRow : {A : Type 0} → List Placed → (high_water : ℕ) → Result A BulkFault → Type 0
+  WritesRow row high_water result = Writes sink old.sink.now new.sink.now old.setup row high_water result
 
-  abbrev ClosesRow : {A : Type 0} → List Placed → (mark : ℕ) → Result A BulkFault → Type 0
-  ClosesRow row mark result = Closes sink old.sink.now new.sink.now old.setup row mark new.next result
+  abbrev ClosesRow : {A : Type 0} → List Placed → (high_water : ℕ) → Result A BulkFault → Type 0
+  ClosesRow row high_water result = Closes sink old.sink.now new.sink.now old.setup row high_water new.next result
 
   -- a run of pages closes, and the element of its page is returned
   pub record ClosesRun (run : RunView) (result : Result Branch BulkFault) : Type 0 where
     pub closes : ClosesRow (run_page P run old.next ∷ []) (next_after old run.size) result
     pub up : IfOk result (λ up. branch_view up ≡ own_element run old.next)
 
-  -- and so does the run of items of a leaf
+  -- a run of items of a leaf closes, and the element of its page is returned
   pub record ClosesLeaf (run : LeafRunView) (result : Result Branch BulkFault) : Type 0 where
     pub closes : ClosesRow (leaf_page P run old.next ∷ []) (next_after old run.size) result
     pub up : IfOk result (λ up. branch_view up ≡ leaf_closed run old.next)
@@ -44,7 +50,8 @@ module _ {S : Type 0} (sink : Ghosts S) (old new : PageWriter S) where
 
   -- the element goes up as long as runs close
   pub record Climbs {A : Type 0} (key : List ℕ) (closed : BranchElement) (before after : UpperRuns) (result : Result A BulkFault) : Type 0 where
-    pub writes : WritesRow (runs_put P key closed old.next (runs_above before.runs.items)) (runs_next P key closed old.next (runs_above before.runs.items)) result
+    pub writes : WritesRow (runs_put P key closed old.next (runs_above before.runs.items))
+        (runs_next P key closed old.next (runs_above before.runs.items)) result
     pub runs : OnOk result (runs_above after.runs.items
         ≡ runs_climb P (bucket_limit before.limits (length (runs_above before.runs.items))) key closed old.next (runs_above before.runs.items))
     pub limits : OnOk result (after.limits ≡ before.limits)
@@ -59,7 +66,7 @@ module _ {S : Type 0} (sink : Ghosts S) (old new : PageWriter S) where
   abbrev pub ClosesRuns : {A : Type 0} → (bucket : BucketRuns) → Result A BulkFault → Type 0
   ClosesRuns bucket result = ClosesRow (runs_end_put P (bucket_runs bucket old.next)) (bucket_end_next P (bucket_runs bucket old.next)) result
 
-  -- and the number of that page is returned
+  -- the runs of a bucket close, and the number of its root page is returned
   pub record ClosesBucket (bucket : BucketRuns) (result : Result ℕ BulkFault) : Type 0 where
     pub closes : ClosesRuns bucket result
     pub root : IfOk result (λ root. root ≡ runs_end P (bucket_runs bucket old.next))
@@ -81,7 +88,8 @@ module _ {S : Type 0} (sink : Ghosts S) (old new : PageWriter S) where
   -- a bucket waits for one within it, after it made room for that one
   pub record Enters (before : BucketRuns) (pending : PendingBucket) (around : ℕ) (result : Result WaitingBucket BulkFault) : Type 0 where
     pub writes : WritesRoom (bucket_runs before old.next) pending.key.now (root_size pending.key.now) result
-    pub runs : IfOk result (λ waiting. bucket_runs waiting.bucket new.next ≡ runs_room P (bucket_runs before old.next) pending.key.now (root_size pending.key.now))
+    pub runs : IfOk result
+        (λ waiting. bucket_runs waiting.bucket new.next ≡ runs_room P (bucket_runs before old.next) pending.key.now (root_size pending.key.now))
     pub key : IfOk result (λ waiting. waiting.key.now ≡ pending.key.now)
     pub sequence : IfOk result (λ waiting. waiting.sequence ≡ pending.sequence)
     pub around_is : IfOk result (λ waiting. waiting.around ≡ around)

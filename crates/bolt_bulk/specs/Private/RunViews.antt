@@ -2,7 +2,8 @@
 -- many runs may still begin in its row.
 use Rattle.std.specs.Prelude.{ℕ, ◌+◌, Bool, ◌||◌, ◌&&◌, nat_lt, nat_le, List, [], ◌∷◌, ◌++◌, length, min, Option, None, if◌then◌else◌}
 use Rattle.bolt_format.specs.Elements.{BranchElement, LeafElement}
-use Rattle.bolt_layout.specs.{Cut.max_items, Laid.Placed, Limits.is_out, Limits.one_less, Levels.branch_page_view, Levels.leaf_page_view, Levels.overflow_of}
+use Rattle.bolt_layout.specs.{Cut.max_items, Laid.Placed, Limits.is_out, Limits.one_less, Levels.branch_page_view, Levels.leaf_page_view}
+use Rattle.bolt_layout.specs.{Levels.overflow_of}
 use Rattle.bolt_bulk.specs.{Private.OpenRuns.key_size, Private.RowLimits.bucket_limit, declared.limits.BucketLimits.BucketLimits}
 
 pub record RunView : Type 0 where
@@ -14,7 +15,7 @@ pub record RunView : Type 0 where
 abbrev pub no_run : (allowed : Option ℕ) → (closed : ℕ) → RunView
 no_run allowed closed = record { elements = []; size = 16; allowed = allowed; closed = closed }
 
--- one more run of a row has closed; the count saturates at 2^64 - 1
+-- how many runs of a row have closed after one more; the count saturates at 2^64 - 1
 abbrev pub one_closed : ℕ → ℕ
 one_closed closed = min (closed + 1) 18446744073709551615
 
@@ -24,12 +25,13 @@ run_push run e = record { elements = run.elements ++ e ∷ []; size = run.size +
 abbrev pub run_has_room : ℕ → RunView → ℕ → Bool
 run_has_room page_size run size = nat_lt (length run.elements) 2 || (nat_le (run.size + size) page_size && nat_lt (length run.elements) max_items)
 
--- whether it stays open for the page that comes next, and as what
+-- whether a run stays open for the page that comes next, and as what
 abbrev pub run_stays : ℕ → RunView → ℕ → Bool
 run_stays page_size run size = run_has_room page_size run size || is_out run.allowed
 
 abbrev pub run_kept : ℕ → RunView → ℕ → RunView
-run_kept page_size run size = record { elements = run.elements; size = run.size; allowed = if run_has_room page_size run size then run.allowed else None; closed = run.closed }
+run_kept page_size run size =
+    record { elements = run.elements; size = run.size; allowed = if run_has_room page_size run size then run.allowed else None; closed = run.closed }
 
 abbrev pub run_key : List BranchElement → List ℕ
 run_key [] = []
@@ -43,7 +45,10 @@ run_page page_size run next = record { number = next; view = branch_page_view (o
 abbrev pub runs_climb : ℕ → (new : Option ℕ) → List ℕ → BranchElement → ℕ → List RunView → List RunView
 runs_climb page_size new key e next [] = run_push (no_run new 0) e ∷ []
 runs_climb page_size new key e next (run ∷ runs) =
-    let closes = no_run (one_less run.allowed) (one_closed run.closed) ∷ runs_climb page_size new key (record { key = run_key (run_push run e).elements; child = next }) (next + (1 + overflow_of page_size (run_push run e).size)) runs in
+    let closes =
+    no_run (one_less run.allowed) (one_closed run.closed)
+    ∷ runs_climb page_size new key (record { key = run_key (run_push run e).elements; child = next })
+    (next + (1 + overflow_of page_size (run_push run e).size)) runs in
     let stays = run_kept page_size (run_push run e) (key_size key) ∷ runs in
     if run_stays page_size (run_push run e) (key_size key) then stays else closes
 
@@ -51,14 +56,17 @@ abbrev pub runs_put : ℕ → List ℕ → BranchElement → ℕ → List RunVie
 runs_put page_size key e next [] = []
 runs_put page_size key e next (run ∷ runs) =
     let closes = run_page page_size (run_push run e) next
-    ∷ runs_put page_size key (record { key = run_key (run_push run e).elements; child = next }) (next + (1 + overflow_of page_size (run_push run e).size)) runs in
+    ∷ runs_put page_size key (record { key = run_key (run_push run e).elements; child = next })
+    (next + (1 + overflow_of page_size (run_push run e).size)) runs in
     if run_stays page_size (run_push run e) (key_size key) then [] else closes
 
 -- the number of the next page after that
 abbrev pub runs_next : ℕ → List ℕ → BranchElement → ℕ → List RunView → ℕ
 runs_next page_size key e next [] = next
 runs_next page_size key e next (run ∷ runs) =
-    let closes = runs_next page_size key (record { key = run_key (run_push run e).elements; child = next }) (next + (1 + overflow_of page_size (run_push run e).size)) runs in
+    let closes =
+    runs_next page_size key (record { key = run_key (run_push run e).elements; child = next })
+    (next + (1 + overflow_of page_size (run_push run e).size)) runs in
     if run_stays page_size (run_push run e) (key_size key) then next else closes
 
 -- A run of leaf items, and all that is open of a bucket.
@@ -111,13 +119,19 @@ runs_room_put page_size runs key size =
 
 -- an item below which the pages up to `next` were written
 abbrev pub runs_push : BucketRunsView → LeafElement → ℕ → ℕ → BucketRunsView
-runs_push runs e size next = record { leaves = record { elements = runs.leaves.elements ++ e ∷ []; size = runs.leaves.size + size }; uppers = runs.uppers; limits = runs.limits; next = next }
+runs_push runs e size next = record {
+  leaves = record { elements = runs.leaves.elements ++ e ∷ []; size = runs.leaves.size + size };
+  uppers = runs.uppers;
+  limits = runs.limits;
+  next = next;
+}
 
 -- At the end each run closes in turn: the pages that this writes, and the number of the root page.
 abbrev pub runs_close_put : ℕ → BranchElement → ℕ → List RunView → List Placed
 runs_close_put page_size e next [] = []
 runs_close_put page_size e next (run ∷ runs) = run_page page_size (run_push run e) next
-    ∷ runs_close_put page_size (record { key = run_key (run_push run e).elements; child = next }) (next + (1 + overflow_of page_size (run_push run e).size)) runs
+    ∷ runs_close_put page_size (record { key = run_key (run_push run e).elements; child = next })
+    (next + (1 + overflow_of page_size (run_push run e).size)) runs
 
 abbrev pub runs_root : ℕ → BranchElement → ℕ → List RunView → ℕ
 runs_root page_size e next [] = e.child
@@ -126,8 +140,10 @@ runs_root page_size e next (run ∷ runs) =
 
 abbrev pub runs_end_put : ℕ → BucketRunsView → List Placed
 runs_end_put page_size runs = leaf_page page_size runs.leaves runs.next
-    ∷ runs_close_put page_size (record { key = leaf_key runs.leaves.elements; child = runs.next }) (runs.next + (1 + overflow_of page_size runs.leaves.size)) runs.uppers
+    ∷ runs_close_put page_size (record { key = leaf_key runs.leaves.elements; child = runs.next })
+    (runs.next + (1 + overflow_of page_size runs.leaves.size)) runs.uppers
 
 abbrev pub runs_end : ℕ → BucketRunsView → ℕ
 runs_end page_size runs =
-    runs_root page_size (record { key = leaf_key runs.leaves.elements; child = runs.next }) (runs.next + (1 + overflow_of page_size runs.leaves.size)) runs.uppers
+    runs_root page_size (record { key = leaf_key runs.leaves.elements; child = runs.next })
+    (runs.next + (1 + overflow_of page_size runs.leaves.size)) runs.uppers

@@ -2,7 +2,8 @@
 use Rattle.std.specs.Prelude.{Result, Ok, Err}
 use Rattle.bolt_bulk.specs.declared.bulk_fault.BulkFault.{BulkFault}
 use Rattle.bolt_bulk.specs.declared.bulk_fault.BulkFault.TheVariants as bulk
-use Rattle.bolt_bulk.specs.{declared.bulk_fault.PlanFault.PlanFault, declared.bulk_fault.PlanFault.TheVariants.Memory, declared.bulk_fault.PlanFault.TheVariants.TooLarge}
+use Rattle.bolt_bulk.specs.{declared.bulk_fault.PlanFault.PlanFault, declared.bulk_fault.PlanFault.TheVariants.Memory}
+use Rattle.bolt_bulk.specs.{declared.bulk_fault.PlanFault.TheVariants.TooLarge}
 
 abbrev pub stopped_by : PlanFault → BulkFault
 stopped_by Memory = bulk.Memory

@@ -1,7 +1,8 @@
 -- The items that a bucket takes, as elements of its leaf, and what is open of it then.
 use Rattle.std.specs.Prelude.{ℕ, ◌+◌, ◌*◌, true, false, List, length, map}
 use Rattle.bolt_format.specs.{ElementPlaces.leaf_view, declared.element.Leaf.Leaf, Elements.LeafElement, Encoded.head_bytes}
-use Rattle.bolt_bulk.specs.{declared.pending_bucket.PendingBucket.PendingBucket, Private.RunViews.BucketRunsView, Private.RunViews.LeafRunView, Private.RunViews.runs_push, Private.RunViews.runs_room}
+use Rattle.bolt_bulk.specs.{declared.pending_bucket.PendingBucket.PendingBucket, Private.RunViews.BucketRunsView, Private.RunViews.LeafRunView}
+use Rattle.bolt_bulk.specs.{Private.RunViews.runs_push, Private.RunViews.runs_room}
 use Rattle.bolt_layout.specs.PageBytes.{inline_value, leaf_data}
 
 abbrev pub value_element : (key value : List ℕ) → LeafElement

@@ -3,7 +3,7 @@ use Rattle.std.specs.Prelude.{◌≡◌, ◌≤◌, ◌+◌, ℕ, true, length}
 use Rattle.bolt_bulk.specs.{Private.FormatLimits.longest_key, Private.OpenBuckets.IsOpenBucket, Private.OpenBuckets.leaf_run_view}
 use Rattle.bolt_bulk.specs.{Private.RunViews.leaves_have_room, declared.waiting_bucket.WaitingBucket.WaitingBucket}
 
--- it has room for the bucket that it waits for
+-- a waiting bucket has room for the bucket that it waits for
 pub record IsWaiting (page_size : ℕ) (waiting : WaitingBucket) : Type 0 where
   pub bucket : IsOpenBucket waiting.bucket
   pub key : length waiting.key.now ≤ longest_key

@@ -9,7 +9,7 @@ pub record IsSameWriter {S : Type 0} (old new : PageWriter S) : Type 0 where
   pub setup : new.setup ≡ old.setup
   pub sink : new.sink.ghost_name ≡ old.sink.ghost_name
 
--- one page is written
+-- a writer writes one page
 abbrev pub WritesPage : {S A : Type 0} → Ghosts S → (old new : PageWriter S) → Placed → Result A SinkFault → Type 0
 WritesPage sink old new page result = WritesText sink old.sink.now new.sink.now (placed_bytes old.setup.page_size (page ∷ [])) result
 

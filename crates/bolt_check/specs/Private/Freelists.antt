@@ -1,10 +1,12 @@
 -- What the table and the ids past it list together, and what is reported of it up to a page.
-use Rattle.std.specs.Prelude.{◌≡◌, ◌≤◌, ◌<◌, ◌==◌, ◌⊎◌, ◌&&◌, ℕ, suc, ◌+◌, ◌-◌, max, min, slice_index, Bool, List, [], ◌∷◌, ◌↔◌, All, AllPairs, Contains, length, nat_lt, if◌then◌else◌}
+use Rattle.std.specs.Prelude.{◌≡◌, ◌≤◌, ◌<◌, ◌==◌, ◌⊎◌, ◌&&◌, ℕ, suc, ◌+◌, ◌-◌, max, min, slice_index, Bool, List, [], ◌∷◌, ◌↔◌, All, AllPairs}
+use Rattle.std.specs.Prelude.{Contains, length, nat_lt, if◌then◌else◌}
 use Rattle.std.specs.List.Sorted.{IsNonDecreasing}
 use Rattle.bolt_format.specs.declared.meta.Meta.{Meta}
 use Rattle.bolt_check.specs.{Accounts.IsInFreelist, Accounts.IsInUse, Accounts.times_in, Findings.finding}
 use Rattle.bolt_check.specs.{Private.Tables.IsClaimed, Private.Tables.is_used, Private.Tables.use_at, Private.Tables.times_of, Private.Uses.IsNoted}
-use Rattle.bolt_check.specs.{AccountFindings.IsAccountFinding, AccountFindings.IsBefore, AccountFindings.IsLost, declared.finding.Finding.Finding}
+use Rattle.bolt_check.specs.{AccountFindings.IsAccountFinding, AccountFindings.IsBefore, AccountFindings.IsUnlistedPage}
+use Rattle.bolt_check.specs.{declared.finding.Finding.Finding}
 use Rattle.bolt_check.specs.declared.finding.TheConstants.Finding.{FREED_TWICE, FREE_RANGE, REACHED_FREED, UNREACHABLE}
 use Rattle.bolt_check.specs.{declared.listed_pages.Freelist.Freelist, declared.table.PageUse.PageUse}
 use Rattle.bolt_check.specs.declared.table.PageUse.TheVariants.{Used, Free, FreeTwice, UsedFree, UsedFreeTwice}
@@ -17,11 +19,11 @@ IsUnlisted table = (n : ℕ) → times_of (use_at table n) ≡ 0
 abbrev pub KeepsUsed : List PageUse → List PageUse → Type 0
 KeepsUsed old new = (n : ℕ) → is_used (use_at new n) ≡ is_used (use_at old n)
 
--- this id is listed once more
+-- one id is listed once more
 abbrev pub ListsId : ℕ → List PageUse → List PageUse → Type 0
 ListsId id old new = (n : ℕ) → n < length old → times_of (use_at new n) ≡ min 2 (times_of (use_at old n) + (if id == n then 1 else 0))
 
--- these ids are listed
+-- each page is noted as listed as often as it is among the ids, at most twice
 abbrev pub ListsIds : List ℕ → List PageUse → List PageUse → Type 0
 ListsIds ids old new = (n : ℕ) → n < length old → times_of (use_at new n) ≡ min 2 (times_in ids n)
 
@@ -38,7 +40,7 @@ pub record IsSettled (freelist : Freelist) : Type 0 where
   pub past : All (λ id. length freelist.table.now ≤ id) freelist.past.now
   pub metas : (n : ℕ) → n < 2 → IsClaimed freelist.table.now n
   pub wide : 2 ≤ length freelist.table.now
-  pub below : length freelist.table.now ≤ freelist.mark
+  pub below : length freelist.table.now ≤ freelist.high_water
 
 -- the interval of lost pages from one page up to but not including another
 abbrev pub interval_findings : ℕ → ℕ → List Finding
@@ -69,45 +71,46 @@ meta_findings page _ = []
 abbrev pub page_findings : ℕ → PageUse → List Finding
 page_findings page page_use = if nat_lt page 2 then meta_findings page page_use else use_findings page page_use
 
-module _ (mark : ℕ) (in_use : ℕ → Type 0) (times : ℕ → ℕ) where
-  -- these are all findings on pages below this one, in order
+module _ (high_water : ℕ) (in_use : ℕ → Type 0) (times : ℕ → ℕ) where
+  -- the findings are all those on pages below `next`, in order
   pub record AreFindingsBelow (next : ℕ) (findings : List Finding) : Type 0 where
-    pub sound : All (IsAccountFinding mark in_use times) findings
+    pub sound : All (IsAccountFinding high_water in_use times) findings
     pub below : All (λ x. x.page < next) findings
-    pub complete : (x : Finding) → IsAccountFinding mark in_use times x → x.page < next → Contains findings x
+    pub complete : (x : Finding) → IsAccountFinding high_water in_use times x → x.page < next → Contains findings x
     pub rises : AllPairs IsBefore findings
     -- if there is none, no page is lost
-    pub silent : findings ≡ [] → (n : ℕ) → n < next → IsLost mark in_use times n → ⊥
+    pub silent : findings ≡ [] → (n : ℕ) → n < next → IsUnlistedPage high_water in_use times n → ⊥
 
   -- An interval of lost pages may begin at this page, and goes on to the end.
-  pub record IsLostInterval (from end : ℕ) : Type 0 where
-    pub begins : (before : ℕ) → suc before ≡ from → IsLost mark in_use times before → ⊥
-    pub lost : (n : ℕ) → from ≤ n → n < end → IsLost mark in_use times n
+  pub record IsUnlistedInterval (from end : ℕ) : Type 0 where
+    pub begins : (before : ℕ) → suc before ≡ from → IsUnlistedPage high_water in_use times before → ⊥
+    pub lost : (n : ℕ) → from ≤ n → n < end → IsUnlistedPage high_water in_use times n
 
-  -- these are all findings, in order
+  -- the findings are all those of the accounts, in order
   pub record AreAllFindings (findings : List Finding) : Type 0 where
-    pub exact : (x : Finding) → Contains findings x ↔ IsAccountFinding mark in_use times x
+    pub exact : (x : Finding) → Contains findings x ↔ IsAccountFinding high_water in_use times x
     pub rises : AllPairs IsBefore findings
-    pub silent : findings ≡ [] → (n : ℕ) → IsLost mark in_use times n → ⊥
+    pub silent : findings ≡ [] → (n : ℕ) → IsUnlistedPage high_water in_use times n → ⊥
 
 -- what is reported below a page, if all from that page up to the end are lost
 pub record HasFindingsTo (freelist : Freelist) (from end : ℕ) (findings : List Finding) : Type 0 where
-  pub reported : AreFindingsBelow freelist.mark (is_in_use freelist) (listed_times freelist) from findings
-  pub interval : IsLostInterval freelist.mark (is_in_use freelist) (listed_times freelist) from end
+  pub reported : AreFindingsBelow freelist.high_water (is_in_use freelist) (listed_times freelist) from findings
+  pub interval : IsUnlistedInterval freelist.high_water (is_in_use freelist) (listed_times freelist) from end
 
 module _ (freelist : Freelist) where
   -- what is reported of the ids past the table and below the mark, up to place i
   pub record IsPastTo (from i : ℕ) (findings : List Finding) : Type 0 where
-    pub reported : AreFindingsBelow freelist.mark (is_in_use freelist) (listed_times freelist) from findings
-    pub begins : (before : ℕ) → suc before ≡ from → IsLost freelist.mark (is_in_use freelist) (listed_times freelist) before → ⊥
-    pub done : (k : ℕ) → k < i → slice_index freelist.past.now k < freelist.mark → slice_index freelist.past.now k < from
-    pub left : (n : ℕ) → from ≤ n → n < freelist.mark → ((k : ℕ) → i ≤ k → k < length freelist.past.now → slice_index freelist.past.now k ≡ n → ⊥)
-        → IsLost freelist.mark (is_in_use freelist) (listed_times freelist) n
+    pub reported : AreFindingsBelow freelist.high_water (is_in_use freelist) (listed_times freelist) from findings
+    pub begins : (before : ℕ) → suc before ≡ from → IsUnlistedPage freelist.high_water (is_in_use freelist) (listed_times freelist) before → ⊥
+    pub done : (k : ℕ) → k < i → slice_index freelist.past.now k < freelist.high_water → slice_index freelist.past.now k < from
+    pub left : (n : ℕ) → from ≤ n → n < freelist.high_water
+        → ((k : ℕ) → i ≤ k → k < length freelist.past.now → slice_index freelist.past.now k ≡ n → ⊥)
+        → IsUnlistedPage freelist.high_water (is_in_use freelist) (listed_times freelist) n
 
   -- what is reported of the ids from the mark on, up to place i
   pub record IsBeyondTo (last i : ℕ) (findings : List Finding) : Type 0 where
-    pub reported : AreFindingsBelow freelist.mark (is_in_use freelist) (listed_times freelist) (max freelist.mark (suc last)) findings
-    pub done : (k : ℕ) → k < i → slice_index freelist.past.now k < max freelist.mark (suc last)
+    pub reported : AreFindingsBelow freelist.high_water (is_in_use freelist) (listed_times freelist) (max freelist.high_water (suc last)) findings
+    pub done : (k : ℕ) → k < i → slice_index freelist.past.now k < max freelist.high_water (suc last)
 
 -- the table, after the freelist's span was claimed in one where none of its pages was
 pub record ClaimsFreelist (file : List ℕ) (meta : Meta) (old new : List PageUse) : Type 0 where

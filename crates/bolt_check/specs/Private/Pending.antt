@@ -1,6 +1,7 @@
 -- The spots that are still to be visited, as ways: the first number of a way picks the spot.
 use Rattle.std.specs.Prelude.{List, [], ◌∷◌, map, reverse, Option, Some, None, slice_get}
-use Rattle.bolt_check.specs.{EntrySpots.places, Nodes.Node, Nodes.Nodes, Ways.PageSpot, Ways.Reach, Ways.Spot, Ways.follow, ShownSpots.spot_at, Private.Carries.Carries, Private.Carries.Takes}
+use Rattle.bolt_check.specs.{EntrySpots.places, Nodes.Node, Nodes.Nodes, Ways.PageSpot, Ways.Reach, Ways.Spot, Ways.follow, ShownSpots.spot_at}
+use Rattle.bolt_check.specs.{Private.Carries.Carries, Private.Carries.Takes}
 use Rattle.bolt_check.specs.{Private.Tables.IsClaimed, Private.Uses.IsNoted, declared.table.PageUse.PageUse, declared.spot.Spot.Spot as CodeSpot}
 
 -- the pending spots, the first to be visited first

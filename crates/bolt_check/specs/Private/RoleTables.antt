@@ -1,7 +1,8 @@
 -- The table of pages as a table of roles.
 use Rattle.std.specs.Prelude.{◌≡◌, ◌==◌, ◌⊎◌, ◌↔◌, ℕ, if◌then◌else◌, List, None, nat_lt}
 use Rattle.bolt_format.specs.{Freelists.freelist_fault_of, declared.meta.Meta.Meta}
-use Rattle.bolt_check.specs.{Accounts.IsInFreelist, Accounts.IsInUse, Nodes.node_at, OnWays.reach_of, Private.Tables.IsClaimed, Private.Uses.HasUse, Private.Uses.IsMetaUse, Private.Uses.IsNoted}
+use Rattle.bolt_check.specs.{Accounts.IsInFreelist, Accounts.IsInUse, Nodes.node_at, OnWays.reach_of, Private.Tables.IsClaimed, Private.Uses.HasUse}
+use Rattle.bolt_check.specs.{Private.Uses.IsMetaUse, Private.Uses.IsNoted}
 use Rattle.bolt_check.specs.{Sound.IsUsed, declared.role_table.Role.Role, declared.table.PageUse.PageUse}
 use Rattle.bolt_check.specs.declared.table.PageUse.TheVariants.{Unused, Branch, Leaf, Used, Free, FreeTwice, UsedFree, UsedFreeTwice}
 use Rattle.bolt_check.specs.declared.role_table.Role.TheVariants as role

@@ -1,6 +1,7 @@
 -- What the table says that pages are used for.
 use Rattle.std.specs.Prelude.{◌≡◌, ◌<◌, ◌≤◌, ◌+◌, ◌⊎◌, ℕ, Bool, true, false, List, Option, Some, None, Ok}
-use Rattle.bolt_check.specs.{Nodes.Node, Nodes.Nodes, Private.Tables.is_used, Private.Tables.use_at, Ways.At_inline, Ways.At_page, Ways.Reach, Ways.Spot, declared.table.PageUse.PageUse}
+use Rattle.bolt_check.specs.{Nodes.Node, Nodes.Nodes, Private.Tables.is_used, Private.Tables.use_at, Ways.At_inline, Ways.At_page, Ways.Reach}
+use Rattle.bolt_check.specs.{Ways.Spot, declared.table.PageUse.PageUse}
 use Rattle.bolt_check.specs.declared.table.PageUse.TheVariants.{Branch, Leaf, Used}
 
 -- the use of the first page of a node

@@ -6,20 +6,26 @@ use Rattle.bolt_layout.specs.Copies.{layout_of_listing}
 use Rattle.bolt_recover.specs.{Losses.LostView, LostAndFound.all_lost, declared.lost_and_found.LostAndFound.LostAndFound}
 use Rattle.bolt_report.specs.FoundLines.{found_view}
 use Rattle.bolt_tree.specs.Listing.{Member}
-use Rattle.bolt_commands.specs.{Answers.JobEnding, CopyAnswers.copy_page_size, CopyEnds.EndsCopy, FilesRead.IsReadTo, FilesRead.IsSalvaged, FilesRead.IsUnjoinedUnder, FilesRead.IsUnreadTo}
-use Rattle.bolt_commands.specs.{JobAnswers.Loads, JobAnswers.MakesCopy, CopyLayouts.layout_for, Failures.copied, GoodCopies.IsGoodCopy, Private.Endings.failing}
-use Rattle.bolt_commands.specs.{Private.Opened.opened_found, Private.Opened.opened_lost, Private.Opened.opened_meta, declared.failure.Failure.Failure, declared.opened.Opened.Opened}
-use Rattle.bolt_job.specs.{declared.choices.CopyKind.CopyKind, declared.choices.PageSize.PageSize, CopyKinds.is_snapshot, declared.writing_commands.CompactJob.CompactJob}
+use Rattle.bolt_commands.specs.{Answers.JobEnding, CopyAnswers.copy_page_size, CopyEnds.EndsCopy, FilesRead.IsReadTo, FilesRead.IsSalvaged}
+use Rattle.bolt_commands.specs.{FilesRead.IsUnjoinedUnder, FilesRead.IsUnreadTo}
+use Rattle.bolt_commands.specs.{JobAnswers.Loads, JobAnswers.MakesCopy, CopyLayouts.layout_for, Failures.copied, GoodCopies.IsGoodCopy}
+use Rattle.bolt_commands.specs.{Private.Endings.failing}
+use Rattle.bolt_commands.specs.{Private.Opened.opened_found, Private.Opened.opened_lost, Private.Opened.opened_meta, declared.failure.Failure.Failure}
+use Rattle.bolt_commands.specs.{declared.opened.Opened.Opened}
+use Rattle.bolt_job.specs.{declared.choices.CopyKind.CopyKind, declared.choices.PageSize.PageSize, CopyKinds.is_snapshot}
+use Rattle.bolt_job.specs.{declared.writing_commands.CompactJob.CompactJob}
 use Rattle.bolt_job.specs.declared.writing_commands.LoadJob.{LoadJob}
 
 module _ {O T : Type 0} (out : Ghosts O) (out_old out_new : O) (target : Ghosts T) (target_old target_new : T) where
   abbrev pub CompactsTo : CompactJob → List ℕ → JobEnding → Type 0
   CompactsTo job file ending =
-      MakesCopy out.taken out.failed out_old out_new target.taken target.failed target_old target_new file job.meta job.page_size (layout_for job.kind) (is_snapshot job.kind) job.extent ending
+      MakesCopy out.taken out.failed out_old out_new target.taken target.failed target_old target_new file job.meta job.page_size (layout_for job.kind)
+      (is_snapshot job.kind) job.extent ending
 
   abbrev pub LoadsJob : LoadJob → List ℕ → JobEnding → Type 0
   LoadsJob job file ending =
-      Loads out.taken out.failed out_old out_new target.taken target.failed target_old target_new file job.page_size.bytes job.sequence (layout_for job.kind) (is_snapshot job.kind) ending
+      Loads out.taken out.failed out_old out_new target.taken target.failed target_old target_new file job.page_size.bytes job.sequence
+      (layout_for job.kind) (is_snapshot job.kind) ending
 
 -- the blueprint of a copy of this kind and this page size, if one is asked for, and if the file has this meta
 pub record IsAskedBlueprint (kind : CopyKind) (size : Option PageSize) (meta : Meta) (blueprint : Blueprint) : Type 0 where
@@ -31,16 +37,17 @@ pub record IsAskedBlueprint (kind : CopyKind) (size : Option PageSize) (meta : M
 abbrev pub blueprint_layout : Blueprint → List Member → List ℕ
 blueprint_layout blueprint listing = layout_of_listing blueprint.layout blueprint.page_size listing blueprint.sequence
 
--- this holds of each listing that the members have, and of its layout by this blueprint
+-- a property holds of each listing that the members have, and of its layout by a blueprint
 abbrev pub ForLayout : {M W : Type 0} → (M → W → Type 0) → (W → List Member) → M → Blueprint → (List Member → List ℕ → Type 0) → Type 0
 ForLayout {W} reads listing members blueprint P = (whole : W) → reads members whole → P (listing whole) (blueprint_layout blueprint (listing whole))
 
--- this is the layout of one of them
+-- a layout is that of a listing that the members have, by a blueprint
 abbrev pub IsLayoutOf : {M W : Type 0} → (M → W → Type 0) → (W → List Member) → M → Blueprint → List ℕ → Type 0
 IsLayoutOf {W} reads listing members blueprint layout = (whole : W) × reads members whole × (layout ≡ blueprint_layout blueprint (listing whole))
 
 -- the target accepted the whole copy of the listing with this layout, and it is good; or it stopped short, and the fault says why
-pub record CopiesTo {T : Type 0} (target : Ghosts T) (old new : T) (layout : List ℕ) (listing : List Member) (snapshot : Bool) (result : Result ℕ BulkFault) : Type 0 where
+pub record CopiesTo {T : Type 0} (target : Ghosts T) (old new : T) (layout : List ℕ) (listing : List Member) (snapshot : Bool)
+    (result : Result ℕ BulkFault) : Type 0 where
   pub ends : EndsCopy target.taken target.failed old new layout snapshot result
   pub good : OnOk result ∥ IsGoodCopy snapshot layout listing ∥₁
 
@@ -49,8 +56,10 @@ abbrev pub job_layout : CompactJob → Meta → List Member → List ℕ
 job_layout job meta listing = layout_of_listing (layout_for job.kind) (copy_page_size job.page_size meta) listing meta.root_sequence
 
 -- the copy of a listing, and its length or the failure
-abbrev pub CopiesListing : {T : Type 0} (target : Ghosts T) (old new : T) (layout : List ℕ) → (listing : List Member) → (snapshot : Bool) → Result ℕ Failure → Type 0
-CopiesListing target old new layout listing snapshot result = (made : Result ℕ BulkFault) × CopiesTo target old new layout listing snapshot made × (result ≡ failing copied made)
+abbrev pub CopiesListing : {T : Type 0} (target : Ghosts T) (old new : T) (layout : List ℕ) → (listing : List Member) → (snapshot : Bool)
+    → Result ℕ Failure → Type 0
+CopiesListing target old new layout listing snapshot result =
+    (made : Result ℕ BulkFault) × CopiesTo target old new layout listing snapshot made × (result ≡ failing copied made)
 
 -- The copy of what is read was made; if it is whole, all that is lost is known then. Or it isn't read, and the target isn't touched.
 abbrev pub CopiesRead : {T : Type 0} (target : Ghosts T) (old new : T) → CompactJob → List ℕ → (before after : Opened) → Result ℕ Failure → Type 0
@@ -60,7 +69,7 @@ CopiesRead target old new job file before after result =
     × CopiesListing target old new (job_layout job (opened_meta before) listing) listing (is_snapshot job.kind) result)
     ⊎ ((why : Failure) × IsUnreadTo job.extent file job.meta why × (new ≡ old) × (result ≡ Err why))
 
--- the same of a file that was searched, by a blueprint
+-- The copy of a searched file was made by a blueprint. Or the file isn't read, and the target isn't touched.
 abbrev pub CopiesJoined : {T : Type 0} (target : Ghosts T) (old new : T) → CompactJob → List ℕ → LostAndFound → Blueprint → Result ℕ Failure → Type 0
 CopiesJoined target old new job file both blueprint result =
     ((listing : List Member) × IsSalvaged file both.meta listing (all_lost both) (map found_view both.found.items)

@@ -3,7 +3,8 @@ use Rattle.std.specs.Prelude.{◌≡◌, ◌⊎◌, ℕ, List, None, Some, Ok, E
 use Rattle.bolt_check.specs.CheckedFiles.{bytes_of, meta_of}
 use Rattle.bolt_format.specs.declared.meta.Meta.{Meta}
 use Rattle.bolt_text.specs.declared.report_fault.ReportFault.{ReportFault}
-use Rattle.bolt_tree.specs.{BucketViews.entries_of, Buckets.bucket_checked, Buckets.bucket_start, Entries.IsEntry, Entries.Root_page, Lookups.IsBucketAt}
+use Rattle.bolt_tree.specs.{BucketViews.entries_of, Buckets.bucket_checked, Buckets.bucket_start, Entries.IsEntry, Entries.Root_page}
+use Rattle.bolt_tree.specs.{Lookups.IsBucketAt}
 use Rattle.bolt_job.specs.declared.choices.MetaChoice.{MetaChoice}
 use Rattle.bolt_commands.specs.{Answers.JobEnding, EtcdAnswers.others_ending, Failures.reported, FilesRead.IsReadUnder, Private.Opened.IsUnread}
 use Rattle.bolt_commands.specs.declared.{etcd_store.Store.Store, failure.Failure.Failure}

@@ -1,16 +1,22 @@
 -- What a command has opened.
 use Rattle.std.specs.Prelude.{◌≡◌, ◌≢◌, ◌⊎◌, List, [], ℕ}
 use Rattle.std.specs.List.{All}
-use Rattle.bolt_check.specs.{CheckedFiles.bytes_of, CheckedFiles.meta_of, declared.checked.Checked.Checked, declared.check_fault.CheckFault.CheckFault, declared.finding.Finding.Finding}
+use Rattle.bolt_check.specs.{CheckedFiles.bytes_of, CheckedFiles.meta_of, declared.checked.Checked.Checked}
+use Rattle.bolt_check.specs.{declared.check_fault.CheckFault.CheckFault, declared.finding.Finding.Finding}
 use Rattle.bolt_format.specs.declared.meta.{Meta.Meta, MetaFault.MetaFault}
-use Rattle.bolt_recover.specs.{Found.AreFound, Found.found_numbers, Joined.LacksBucketKey, JoinedMembers.ForJoined, JoinedMembers.joined_file, JoinedMembers.joined_left}
-use Rattle.bolt_recover.specs.{JoinedMembers.joined_meta, Losses.LostView, Losses.everything, Losses.parts, Lost.IsAllLost, LostAndFound.all_lost, Recovered.ForRecovered}
-use Rattle.bolt_recover.specs.{Recoveries.recovery_file, Recoveries.recovery_left, Recoveries.recovery_losses, Recoveries.recovery_meta, ShownFound.IsFoundView}
-use Rattle.bolt_recover.specs.{declared.found.Found.Found, declared.joined.Joined.Joined, declared.lost_and_found.LostAndFound.LostAndFound, declared.recovery.Recovery.Recovery}
+use Rattle.bolt_recover.specs.{Found.AreFound, Found.found_numbers, Joined.LacksBucketKey, JoinedMembers.ForJoined, JoinedMembers.joined_file}
+use Rattle.bolt_recover.specs.{JoinedMembers.joined_left}
+use Rattle.bolt_recover.specs.{JoinedMembers.joined_meta, Losses.LostView, Losses.everything, Losses.parts, Lost.IsAllLost, LostAndFound.all_lost}
+use Rattle.bolt_recover.specs.{Recovered.ForRecovered}
+use Rattle.bolt_recover.specs.{Recoveries.recovery_file, Recoveries.recovery_left, Recoveries.recovery_losses, Recoveries.recovery_meta}
+use Rattle.bolt_recover.specs.{ShownFound.IsFoundView}
+use Rattle.bolt_recover.specs.{declared.found.Found.Found, declared.joined.Joined.Joined, declared.lost_and_found.LostAndFound.LostAndFound}
+use Rattle.bolt_recover.specs.{declared.recovery.Recovery.Recovery}
 use Rattle.bolt_tree.specs.{Buckets.bucket_checked, Buckets.bucket_start, Paths.Path, declared.bucket.Bucket.Bucket}
-use Rattle.bolt_commands.specs.{Answers.refused, FilesRead.IsFileRefusal, FilesRead.IsReadUnder, FilesRead.IsRecoveredUnder, FilesRead.IsRefusedUnder, FilesRead.IsUnreadTo, FilesRead.LeadsNowhere, FilesRead.LeadsTo}
+use Rattle.bolt_commands.specs.{Answers.refused, FilesRead.IsFileRefusal, FilesRead.IsReadUnder, FilesRead.IsRecoveredUnder, FilesRead.IsRefusedUnder}
+use Rattle.bolt_commands.specs.{FilesRead.IsUnreadTo, FilesRead.LeadsNowhere, FilesRead.LeadsTo}
 use Rattle.bolt_job.specs.{MetaChoices.HasNoMetaOf, MetaChoices.IsMetaOf, declared.choices.Extent.Extent, declared.choices.MetaChoice.MetaChoice}
-use Rattle.bolt_job.specs.declared.choices.Extent.TheVariants.{Losses, LostAndFound as Joins, Sound}
+use Rattle.bolt_job.specs.declared.choices.Extent.TheVariants.{Losses, FoundPages, Sound}
 use Rattle.bolt_commands.specs.declared.failure.Failure.{Failure}
 use Rattle.bolt_commands.specs.declared.failure.Failure.TheVariants as failure
 use Rattle.bolt_commands.specs.declared.opened.Opened.{Opened}
@@ -59,11 +65,11 @@ pub record IsSoundOf (file : List ℕ) (choice : MetaChoice) (checked : Checked)
   pub bytes : bytes_of checked ≡ file
   pub under : IsReadUnder file choice (meta_of checked)
 
--- to this extent
+-- a file was opened to this extent
 abbrev pub IsOpened : Extent → List ℕ → MetaChoice → Opened → Type 0
 IsOpened extent file choice (opened.Sound checked) = (extent ≡ Sound) × IsSoundOf file choice checked
 IsOpened extent file choice (opened.Recovered recovery) = (extent ≡ Losses) × IsRecoveryOf file choice recovery
-IsOpened extent file choice (opened.Searched both) = (extent ≡ Joins) × IsSearchOf file choice both
+IsOpened extent file choice (opened.Searched both) = (extent ≡ FoundPages) × IsSearchOf file choice both
 
 abbrev pub opened_meta : Opened → Meta
 opened_meta (opened.Sound checked) = meta_of checked
@@ -84,11 +90,11 @@ opened_found (opened.Searched both) = both.found.items
 -- why a file isn't searched: it has no such meta, or memory ran out
 abbrev pub IsUnsearched : List ℕ → MetaChoice → Failure → Type 0
 IsUnsearched file choice why =
-    ((fault : MetaFault) × HasNoMetaOf file choice fault × (why ≡ failure.Metas fault))
+    ((fault : MetaFault) × HasNoMetaOf file choice fault × (why ≡ failure.Open fault))
     ⊎ ((meta : Meta) × IsMetaOf file choice meta × (why ≡ failure.Memory))
 
 -- why it isn't opened to this extent
 abbrev pub IsUnopened : Extent → List ℕ → MetaChoice → Failure → Type 0
 IsUnopened Sound file choice why = IsUnreadTo Sound file choice why
 IsUnopened Losses file choice why = IsUnreadTo Losses file choice why
-IsUnopened Joins file choice why = IsUnsearched file choice why
+IsUnopened FoundPages file choice why = IsUnsearched file choice why

@@ -5,7 +5,8 @@ use Rattle.bolt_recover.specs.{Losses.LostView, LostAndFound.all_lost, declared.
 use Rattle.bolt_report.specs.FoundLines.{FoundView, found_view}
 use Rattle.bolt_text.specs.{ListForms.listing_lines, ReportEndings.report_ending, declared.report_fault.ReportFault.ReportFault}
 use Rattle.bolt_tree.specs.{Listing.Member, Listing.rest_from, ListingParts.has_bucket, ListingParts.part_below}
-use Rattle.bolt_commands.specs.{Answers.Answer, Answers.JobEnding, Answers.WritesAnswer, FilesRead.IsReadTo, FilesRead.IsSalvaged, FilesRead.IsUnjoinedUnder, FilesRead.IsUnreadTo, ListAnswers.listing_part_text}
+use Rattle.bolt_commands.specs.{Answers.Answer, Answers.JobEnding, Answers.WritesAnswer, FilesRead.IsReadTo, FilesRead.IsSalvaged}
+use Rattle.bolt_commands.specs.{FilesRead.IsUnjoinedUnder, FilesRead.IsUnreadTo, ListAnswers.listing_part_text}
 use Rattle.bolt_commands.specs.{Failures.reported, Private.Endings.MayFail, Private.Endings.failing, Private.Opened.opened_lost}
 use Rattle.bolt_commands.specs.declared.{failure.Failure.Failure, opened.Opened.Opened}
 use Rattle.bolt_job.specs.{PlainWords.owned_path, declared.bucket_commands.ListJob.ListJob}
@@ -37,14 +38,14 @@ module _ {S : Type 0} (sink : Ghosts S) (old new : S) (job : ListJob) where
       (put : Result Bool ReportFault) × Wrote sink old new (job_part job listing) (report_ending put) × MayFail put
       × IfOk put (λ found. found ≡ finds job listing) × (result ≡ failing reported put)
 
-  -- Of what was read. If the part is whole, all that is lost is known then. Or the file isn't read, and nothing is put.
+  -- The part of what was read is put; if it is whole, all that is lost is known then. Or the file isn't read, and nothing is put.
   abbrev pub PutsPart : List ℕ → (after : Opened) → Result Bool Failure → Type 0
   PutsPart file after result =
       ((meta : Meta) × (listing : List Member) × (lost : LostView) × (found : List FoundView) × IsReadTo job.extent file job.meta meta listing lost found
       × OnOk result (opened_lost after ≡ lost) × PutsListing result listing)
       ⊎ ((why : Failure) × IsUnreadTo job.extent file job.meta why × (new ≡ old) × (result ≡ Err why))
 
-  -- the same of a file that was searched
+  -- The part of a searched file's listing is put. Or the file isn't read, and nothing is put.
   abbrev pub PutsJoined : List ℕ → LostAndFound → Result Bool Failure → Type 0
   PutsJoined file both result =
       ((listing : List Member) × IsSalvaged file both.meta listing (all_lost both) (map found_view both.found.items) × PutsListing result listing)

@@ -1,10 +1,12 @@
 -- What the functions of `buckets`, `keys` and `get` with `--recover` promise.
-use Rattle.std.specs.Prelude.{List, ℕ, Bool, Option, Some, None, Result, Ok, Err, if◌then◌else◌}
+use Rattle.std.specs.Prelude.{◌≡◌, Contains, IfSome, List, ℕ, Bool, Option, Some, None, Result, Ok, Err, if◌then◌else◌}
 use Rattle.std.specs.Borrow.{Bor}
-use Rattle.bolt_tree.specs.{ListingParts.has_bucket}
+use Rattle.std.specs.Option.{IfNone}
+use Rattle.bolt_tree.specs.{Entries.Value, Listing.Member, ListingParts.has_bucket, Paths.Path}
 use Rattle.bolt_job.specs.PlainWords.{owned_path}
 use Rattle.bolt_report.specs.MemberNames.{is_wanted}
-use Rattle.bolt_commands.specs.{Answers.Answer, Answers.JobEnding, FilesRead.lost_ending, KeyAnswers.IsNamesAnswer, KeyAnswers.IsRecoveredAnswer, KeyAnswers.no_bucket, KeyAnswers.no_key}
+use Rattle.bolt_commands.specs.{Answers.Answer, Answers.JobEnding, FilesRead.shortfall_ending, KeyAnswers.IsNamesAnswer, KeyAnswers.IsRecoveredAnswer}
+use Rattle.bolt_commands.specs.{KeyAnswers.no_bucket, KeyAnswers.no_key}
 use Rattle.bolt_commands.specs.declared.{failure.Failure.Failure, recovered_names.RecoveredNames.RecoveredNames, shortfall.Shortfall.Shortfall}
 
 -- the names that are asked for of what is recovered
@@ -13,7 +15,7 @@ IsNamesPrint asked file = IsRecoveredAnswer file asked.meta (IsNamesAnswer asked
 
 -- how a job ends that put what is recovered of a bucket, if that was found
 abbrev pub bucket_ending : (found : Bool) → Option Shortfall → JobEnding
-bucket_ending found lost = if found then lost_ending lost else Err (no_bucket lost)
+bucket_ending found lost = if found then shortfall_ending lost else Err (no_bucket lost)
 
 -- the value, or why there is none
 abbrev pub value_or_why : (value : Option (Bor (List ℕ))) (has_bucket : Bool) → Option Shortfall → Result (Bor (List ℕ)) Failure

@@ -1,18 +1,21 @@
 -- What the functions of `etcd-repair` promise.
 use Rattle.std.specs.Prelude.{◌≡◌, ◌⊎◌, ℕ, List, Bool, Result, Err, map}
 use Rattle.bolt_bulk.specs.{WholeListings.IsWholeListing, declared.blueprint.Blueprint.Blueprint}
-use Rattle.bolt_etcd.specs.ShownOthers.{shown_other}
+use Rattle.bolt_etcd.specs.Wire.Others.{shown_other}
 use Rattle.bolt_format.specs.declared.sink.Sink.{Ghosts}
 use Rattle.bolt_job.specs.declared.etcd_jobs.EtcdRepairJob.{EtcdRepairJob}
 use Rattle.bolt_recover.specs.ShownLosses.{lost_view}
-use Rattle.bolt_repair.specs.{Repaired.IsRepaired, RepairedMembers.repair_file, RepairedMembers.repair_meta, RepairedMembers.repair_search, RepairedMembers.repaired_file, RepairedMembers.repaired_left, RepairedMembers.repaired_meta, RepairedMembers.repaired_search, declared.repair.Repair.Repair, declared.repaired.Repaired.Repaired}
+use Rattle.bolt_repair.specs.{Repaired.IsRepaired, RepairedMembers.repair_file, RepairedMembers.repair_meta, RepairedMembers.repair_search}
+use Rattle.bolt_repair.specs.{RepairedMembers.repaired_file, RepairedMembers.repaired_left, RepairedMembers.repaired_meta}
+use Rattle.bolt_repair.specs.{RepairedMembers.repaired_search, declared.repair.Repair.Repair, declared.repaired.Repaired.Repaired}
 use Rattle.bolt_tree.specs.Listing.{Member}
 use Rattle.bolt_commands.specs.{Answers.Answer, Answers.JobEnding, JobAnswers.MakesRepair, RepairAnswers.repair_report}
 use Rattle.bolt_commands.specs.Private.Copying.{CopiesListing, blueprint_layout}
 use Rattle.bolt_commands.specs.declared.{failure.Failure.Failure, commands.etcd_repair_command.RepairReport.RepairReport}
 use Rattle.bolt_commands.specs.declared.failure.Failure.TheVariants.{Memory}
 
-abbrev pub RepairsTo : {O T : Type 0} (out : Ghosts O) (out_old out_new : O) (target : Ghosts T) (target_old target_new : T) → EtcdRepairJob → List ℕ → JobEnding → Type 0
+abbrev pub RepairsTo : {O T : Type 0} (out : Ghosts O) (out_old out_new : O) (target : Ghosts T) (target_old target_new : T) → EtcdRepairJob → List ℕ
+    → JobEnding → Type 0
 RepairsTo out out_old out_new target target_old target_new job file ending =
     MakesRepair out.taken out.failed out_old out_new target.taken target.failed target_old target_new file job.meta job.page_size job.snapshot job.search ending
 
@@ -33,5 +36,6 @@ repaired_text r copy = (repaired_answer r copy).out
 -- all members of the repaired listing
 abbrev pub IsWholeRepaired : Repaired → Type 0
 IsWholeRepaired repaired =
-    IsWholeListing (λ (r : Repaired) (listing : List Member). IsRepaired (repaired_file r) (repaired_meta r) (repaired_search r) listing) (λ listing. listing) (λ (r : Repaired) (listing : List Member). repaired_left r listing)
+    IsWholeListing (λ (r : Repaired) (listing : List Member). IsRepaired (repaired_file r) (repaired_meta r) (repaired_search r) listing)
+    (λ listing. listing) (λ (r : Repaired) (listing : List Member). repaired_left r listing)
     repaired

@@ -1,7 +1,8 @@
 //! The command `check`: the findings, each loss, or also each page that is found.
 ghost use Rattle.std.specs.Prelude.{◌≡◌, [], IfOk, true};
 ghost use Rattle.bolt_check.specs.CheckedFiles.{in_checked};
-ghost use Rattle.bolt_commands.specs.{Answers.WritesAnswer, CheckAnswers.AreFoundFor, CheckAnswers.AreOfFile, CheckAnswers.IsCheckAnswer, CheckAnswers.IsFoundAnswer, CheckAnswers.all_found, FileFaults.is_fine, FileFaults.no_faults};
+ghost use Rattle.bolt_commands.specs.{Answers.WritesAnswer, CheckAnswers.AreFindingsFor, CheckAnswers.AreOfFile, CheckAnswers.IsCheckAnswer};
+ghost use Rattle.bolt_commands.specs.{CheckAnswers.IsFindingsAnswer, CheckAnswers.bbolt_answer, FileFaults.is_fine, FileFaults.no_faults};
 ghost use Rattle.bolt_commands.specs.{Private.Opened.IsSoundOf, Private.Printing.PrintsAnswer};
 
 use crate::failure::Outcome;
@@ -45,7 +46,7 @@ pub(crate) fn do_check<O: Sink>(input: Input<'_>, job: &CheckJob, out: &mut O) -
 fn put_right<O: Sink>(checked: Checked<'_>, checking: Checking<'_>, out: &mut O) -> Outcome
     requires fine { is_fine checking.faults ≡ true }
     requires sound { IsSoundOf checking.input.file.now checking.choice checked }
-    ensures { PrintsAnswer O.Sink out.old out.new (IsFoundAnswer checking.entry.for_bbolt
+    ensures { PrintsAnswer O.Sink out.old out.new (IsFindingsAnswer checking.entry.for_bbolt
         checking.entry.faults checking.entry.input.file.now checking.entry.choice []) result }
 {
     let found = find_for_bbolt(checked, checking)?;
@@ -55,7 +56,7 @@ fn put_right<O: Sink>(checked: Checked<'_>, checking: Checking<'_>, out: &mut O)
 /// What bbolt fails on when it writes into a sound file, if that is looked for.
 fn find_for_bbolt(checked: Checked<'_>, checking: Checking<'_>) -> Result<ForBbolt, NoMemory>
     ensures { IfOk result (λ found. in_checked (λ file meta.
-        AreFoundFor checking.entry.for_bbolt
+        AreFindingsFor checking.entry.for_bbolt
         file checking.entry.choice meta found.of_file.items found.on_ways.items) checked.entry) }
 {
     let alloc = checking.input.alloc;
@@ -88,7 +89,7 @@ fn find_in_file(
 /// Writes `OK`, or what bbolt fails on.
 fn put_all<O: Sink>(found: &ForBbolt, out: &mut O) -> Outcome
     ensures { WritesAnswer O.taken O.failed out.old out.new
-        (all_found no_faults [] found.now.of_file.items found.now.on_ways.items) result }
+        (bbolt_answer no_faults [] found.now.of_file.items found.now.on_ways.items) result }
 {
     if !found.of_file.is_empty() || !found.on_ways.is_empty() {
         put_bbolt_findings(found.of_file.as_slice(), found.on_ways.as_slice(), out)?;

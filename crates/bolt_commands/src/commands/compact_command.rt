@@ -1,6 +1,7 @@
 //! The command `compact`: a copy of what a file holds, or of what is left of a damaged one.
 ghost use Rattle.std.specs.Prelude.{◌≡◌};
-ghost use Rattle.bolt_commands.specs.{Private.Copying.CompactsTo, Private.Copying.CopiesJoined, Private.Copying.CopiesRead, Private.Opened.IsOpened, Private.Opened.IsSearchOf, Private.Opened.opened_found, CopyAnswers.hash_refusal};
+ghost use Rattle.bolt_commands.specs.{Private.Copying.CompactsTo, Private.Copying.CopiesJoined, Private.Copying.CopiesRead, Private.Opened.IsOpened};
+ghost use Rattle.bolt_commands.specs.{Private.Opened.IsSearchOf, Private.Opened.opened_found, CopyAnswers.hash_refusal};
 
 use crate::copies::{CopyReport, blueprint_of, copy_members, end_copy};
 use crate::failure::{Failure, Outcome};

@@ -2,7 +2,8 @@
 ghost use Rattle.std.specs.Prelude.{◌≡◌};
 ghost use Rattle.bolt_check.specs.{CheckedFiles.bytes_of, CheckedFiles.in_checked, CheckedFiles.meta_of, Sound.HasSoundTrees};
 ghost use Rattle.bolt_format.specs.{Endings.ending, Wrote.Wrote};
-ghost use Rattle.bolt_commands.specs.{EtcdAnswers.IsEtcdCheckPrint, EtcdAnswers.IsStoreAnswer, EtcdAnswers.IsStoreText, EtcdAnswers.errors_end, EtcdAnswers.errors_status, Private.Printing.PrintsAnswer};
+ghost use Rattle.bolt_commands.specs.{EtcdAnswers.IsEtcdCheckPrint, EtcdAnswers.IsStoreAnswer, EtcdAnswers.IsStoreText, EtcdAnswers.errors_end};
+ghost use Rattle.bolt_commands.specs.{EtcdAnswers.errors_status, Private.Printing.PrintsAnswer};
 
 use crate::failure::Outcome;
 use crate::file_faults::FileFaults;

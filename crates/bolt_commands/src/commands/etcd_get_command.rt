@@ -1,6 +1,7 @@
 //! The command `etcd-get`.
 ghost use Rattle.std.specs.Prelude.{◌≡◌};
-ghost use Rattle.bolt_commands.specs.{EtcdAnswers.IsEtcdGetPrint, EtcdAnswers.others_ending, EtcdAnswers.up_to, Private.Endings.ending_by, Private.Printing.PrintsAnswer};
+ghost use Rattle.bolt_commands.specs.{EtcdAnswers.IsEtcdGetPrint, EtcdAnswers.others_ending, EtcdAnswers.up_to, Private.Endings.ending_by};
+ghost use Rattle.bolt_commands.specs.{Private.Printing.PrintsAnswer};
 
 use crate::etcd_store::{end_others, read_store, refuse_compacted, up_to};
 use crate::failure::{Failure, Outcome};

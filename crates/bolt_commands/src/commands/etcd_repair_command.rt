@@ -1,11 +1,14 @@
 //! The command `etcd-repair`: a copy in which the revisions that are found are back in their bucket.
 ghost use Rattle.std.specs.Prelude.{◌≡◌, is_some, map};
-ghost use Rattle.bolt_etcd.specs.ShownOthers.{shown_other};
+ghost use Rattle.bolt_etcd.specs.Wire.Others.{shown_other};
 ghost use Rattle.bolt_recover.specs.ShownLosses.{lost_view};
 ghost use Rattle.bolt_format.specs.{Endings.ending, Wrote.Wrote};
 ghost use Rattle.bolt_layout.specs.declared.Layout.TheVariants.{Balanced};
-ghost use Rattle.bolt_commands.specs.{CopyLayouts.layout_for, Private.Repairing.CopiesRepaired, Private.Repairing.RepairsTo, Private.Repairing.repaired_answer, Private.Repairing.repaired_text, Private.Repairing.IsWholeRepaired, RepairAnswers.bound_line, RepairAnswers.counts_line, RepairAnswers.repair_status, Answers.WritesAnswer};
-ghost use Rattle.bolt_repair.specs.{Bounds.repair_bound, Repaired.ForRepaired, RepairedMembers.repaired_file, RepairedMembers.repaired_left, RepairedMembers.repaired_meta, RepairedMembers.repaired_search};
+ghost use Rattle.bolt_commands.specs.{CopyLayouts.layout_for, Private.Repairing.CopiesRepaired, Private.Repairing.RepairsTo};
+ghost use Rattle.bolt_commands.specs.{Private.Repairing.repaired_answer, Private.Repairing.repaired_text, Private.Repairing.IsWholeRepaired};
+ghost use Rattle.bolt_commands.specs.{RepairAnswers.bound_line, RepairAnswers.counts_line, RepairAnswers.repair_status, Answers.WritesAnswer};
+ghost use Rattle.bolt_repair.specs.{Bounds.repair_bound, Repaired.ForRepaired, RepairedMembers.repaired_file, RepairedMembers.repaired_left};
+ghost use Rattle.bolt_repair.specs.{RepairedMembers.repaired_meta, RepairedMembers.repaired_search};
 ghost use Rattle.bolt_job.specs.CopyKinds.{is_snapshot};
 
 use crate::copies::{blueprint_of, copy_members, put_lengths, status_of};
@@ -38,7 +41,7 @@ pub(crate) fn do_etcd_repair<O: Sink, T: Sink>(
     let both = input.search(job.meta)?;
     let repair = Repair::find(input.alloc, &both, job.search)?;
     let kind = kind_of(job);
-    let faults = FileFaults::of_copy(input.file, kind, Extent::LostAndFound, job.meta);
+    let faults = FileFaults::of_copy(input.file, kind, Extent::FoundPages, job.meta);
     let blueprint = blueprint_of(kind, job.page_size, &both.meta);
     let copy = copy_repaired(input.alloc, &repair, &blueprint, kind, target)?;
     let report = RepairReport {
@@ -139,7 +142,7 @@ fn put_repair_report<O: Sink>(
     put_lost(report.lost, &[], out)?;
     put_unread(report.unread, out)?;
     put_bound(bound_of(report), out)?;
-    put_counts(report.back, report.left_out, out)?;
+    put_repair_counts(report.back, report.left_out, out)?;
     put_lengths(report.source, copy, out)
 }
 
@@ -170,7 +173,7 @@ fn put_bound<O: Sink>(bound: Bound, out: &mut O) -> Result<(), SinkFault>
 
 /// Writes how many revisions are put back, and how many stay out.
 #[tactic(auto, using(bolt_format::proofs::Exports::wrote))]
-fn put_counts<O: Sink>(back: u64, left_out: u64, out: &mut O) -> Result<(), SinkFault>
+fn put_repair_counts<O: Sink>(back: u64, left_out: u64, out: &mut O) -> Result<(), SinkFault>
     ensures { Wrote O.Sink out.old out.new (counts_line back left_out) (ending result) }
 {
     put_pieces(

@@ -1,6 +1,6 @@
 //! The command `etcd-revisions`.
 ghost use Rattle.std.specs.Prelude.{◌≡◌};
-ghost use Rattle.bolt_etcd.specs.RevisionsLeft.{ForPass, ahead_of, pass_checked, pass_others, pass_start};
+ghost use Rattle.bolt_etcd.specs.Store.RevisionsLeft.{ForPass, ahead_of, pass_checked, pass_others, pass_start};
 ghost use Rattle.bolt_tree.specs.Buckets.{bucket_checked, bucket_start};
 ghost use Rattle.bolt_commands.specs.{EtcdAnswers.IsEtcdRevisionsPrint, EtcdAnswers.entries_asked, Private.Printing.PrintsAnswer};
 

@@ -1,11 +1,12 @@
 //! The command `etcd-status`.
 ghost use Rattle.std.specs.Prelude.{◌≡◌};
-ghost use Rattle.bolt_commands.specs.{EtcdAnswers.IsEtcdStatusPrint, EtcdAnswers.others_ending, EtcdAnswers.up_to, Private.Endings.end_written, Private.Printing.PrintsAnswer};
+ghost use Rattle.bolt_commands.specs.{EtcdAnswers.IsEtcdStatusPrint, EtcdAnswers.others_ending, EtcdAnswers.up_to, Private.Endings.end_written};
+ghost use Rattle.bolt_commands.specs.{Private.Printing.PrintsAnswer};
 
 use crate::etcd_store::{end_others, read_store, refuse_compacted, up_to};
 use crate::failure::Outcome;
 use crate::opening::Input;
-use bolt_etcd::Status;
+use bolt_etcd::StoreStatus;
 use bolt_format::{Sink, SinkFault};
 use bolt_job::EtcdStatusJob;
 use bolt_report::put_status;
@@ -17,7 +18,7 @@ pub(crate) fn do_etcd_status<O: Sink>(input: Input<'_>, job: &EtcdStatusJob, out
 {
     let store = read_store(input, job.meta)?;
     refuse_compacted(&store.root, job.at)?;
-    let status = Status::find(input.alloc, &store.root, &store.keys, up_to(job.at))?;
+    let status = StoreStatus::find(input.alloc, &store.root, &store.keys, up_to(job.at))?;
     end_status(put_status(&status, job.form, out), status.others)
 }
 

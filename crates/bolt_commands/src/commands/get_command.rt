@@ -2,7 +2,9 @@
 ghost use Rattle.std.specs.Prelude.{◌≡◌, IfErr, IfOk, false};
 ghost use Rattle.bolt_check.specs.CheckedFiles.{bytes_of, meta_of};
 ghost use Rattle.bolt_tree.specs.{Entries.Value};
-ghost use Rattle.bolt_commands.specs.{FilesRead.HoldsIn, KeyAnswers.HoldsNone, KeyAnswers.IsGetPrint, KeyAnswers.IsValueShown, Private.Printing.PrintsAnswer, KeyAnswers.IsRecoveredAnswer, KeyAnswers.IsRecoveredValue, KeyAnswers.no_bucket, KeyAnswers.no_key, Private.Recovered.value_or_why};
+ghost use Rattle.bolt_commands.specs.{FilesRead.HoldsIn, KeyAnswers.HoldsNone, KeyAnswers.IsGetPrint, KeyAnswers.IsValueShown};
+ghost use Rattle.bolt_commands.specs.{Private.Printing.PrintsAnswer, KeyAnswers.IsRecoveredAnswer, KeyAnswers.IsRecoveredValue, KeyAnswers.no_bucket};
+ghost use Rattle.bolt_commands.specs.{KeyAnswers.no_key, Private.Recovered.value_or_why};
 ghost use Rattle.bolt_job.specs.PlainWords.{owned_path};
 
 use crate::failure::{Failure, Outcome, end_listing, ended};

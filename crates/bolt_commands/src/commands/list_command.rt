@@ -4,7 +4,9 @@ ghost use Rattle.bolt_format.specs.Wrote.{Wrote};
 ghost use Rattle.bolt_report.specs.MembersLeft.{ForLeft, ForRising};
 ghost use Rattle.bolt_text.specs.ReportEndings.{report_ending};
 ghost use Rattle.bolt_tree.specs.FileListings.{ForListing};
-ghost use Rattle.bolt_commands.specs.{ListAnswers.IsListPrint, Private.Endings.MayFail, Private.Opened.IsOpened, Private.Opened.IsSearchOf, Private.Printing.PrintsAnswer, Private.Printing.PutsJoined, Private.Printing.PutsListing, Private.Printing.PutsPart, Private.Printing.finds, Private.Printing.job_part, Private.Printing.sound_part};
+ghost use Rattle.bolt_commands.specs.{ListAnswers.IsListPrint, Private.Endings.MayFail, Private.Opened.IsOpened, Private.Opened.IsSearchOf};
+ghost use Rattle.bolt_commands.specs.{Private.Printing.PrintsAnswer, Private.Printing.PutsJoined, Private.Printing.PutsListing};
+ghost use Rattle.bolt_commands.specs.{Private.Printing.PutsPart, Private.Printing.finds, Private.Printing.job_part, Private.Printing.sound_part};
 
 use crate::failure::{Failure, Outcome, end_listing};
 use crate::file_faults::metas_fault;
@@ -18,7 +20,7 @@ use bolt_recover::LostAndFound;
 use bolt_recover::laws::{
     each_file_has_a_joined_listing, each_file_has_found_pages, joined_members_rise,
 };
-use bolt_report::{ReportFault, list_members_part, put_list_part};
+use bolt_report::{ReportFault, put_list_part, put_member_part};
 use bolt_tree::Members;
 use std::alloc::Global;
 
@@ -127,7 +129,7 @@ fn put_members_part<'a, M: Members<'a>, O: Sink>(
 {
     let path = path_slices(alloc, job.path.as_slice())?;
     let from = path_slices(alloc, job.from.as_slice())?;
-    list_members_part(
+    put_member_part(
         alloc,
         members,
         path.as_slice(),

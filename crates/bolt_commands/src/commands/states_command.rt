@@ -1,6 +1,7 @@
 //! The command `states`.
 ghost use Rattle.std.specs.Prelude.{◌<◌, map};
-ghost use Rattle.bolt_commands.specs.{Answers.WritesAnswer, Private.Printing.PrintsAnswer, StatesAnswers.IsStatesPrint, StatesAnswers.IsTriedSize, StatesAnswers.states_answer};
+ghost use Rattle.bolt_commands.specs.{Answers.WritesAnswer, Private.Printing.PrintsAnswer, StatesAnswers.IsStatesPrint, StatesAnswers.IsTriedSize};
+ghost use Rattle.bolt_commands.specs.{StatesAnswers.states_answer};
 ghost use Rattle.bolt_recover.specs.ShownStates.{place_view, state_view};
 
 use crate::failure::{Failure, Outcome, written};
@@ -21,7 +22,7 @@ pub(crate) fn do_states<O: Sink>(input: Input<'_>, job: &StatesJob, out: &mut O)
 {
     let page_size = tried_size(input.file, job.page_size);
     let states = find_states(input.alloc, input.file, page_size)?;
-    put_found(&states, out)
+    put_found_states(&states, out)
 }
 
 /// The page size of the pages that are tried.
@@ -36,7 +37,7 @@ fn tried_size(file: &[u8], asked: Option<PageSize>) -> u32
     }
 }
 
-fn put_found<O: Sink>(states: &States<'_>, out: &mut O) -> Outcome
+fn put_found_states<O: Sink>(states: &States<'_>, out: &mut O) -> Outcome
     ensures { WritesAnswer O.taken O.failed out.old out.new (states_answer states.now.metas
         (map state_view states.now.kept.items) (map place_view states.now.lost.items)) result }
 {

@@ -2,7 +2,9 @@
 ghost use Rattle.std.specs.Prelude.{◌≡◌, ◌⊎◌, IfErr, IfOk};
 ghost use Rattle.bolt_check.specs.{CheckedFiles.bytes_of, CheckedFiles.meta_of, Sound.HasSoundTrees, CheckedFiles.in_checked};
 ghost use Rattle.bolt_tree.specs.{EntriesLeft.ForBucket, Buckets.bucket_checked};
-ghost use Rattle.bolt_commands.specs.{StatsAnswers.HasStats, FilesRead.LeadsNowhere, StatsAnswers.IsStatsPrint, StatsAnswers.IsTotal, StatsAnswers.no_stats, Private.Printing.PrintsAnswer, declared.failure.Failure.TheVariants.Memory, declared.failure.Failure.TheVariants.NoBucket};
+ghost use Rattle.bolt_commands.specs.{StatsAnswers.HasStats, FilesRead.LeadsNowhere, StatsAnswers.IsStatsPrint, StatsAnswers.IsTotal};
+ghost use Rattle.bolt_commands.specs.{StatsAnswers.no_stats, Private.Printing.PrintsAnswer, declared.failure.Failure.TheVariants.Memory};
+ghost use Rattle.bolt_commands.specs.{declared.failure.Failure.TheVariants.NoBucket};
 ghost use Rattle.bolt_job.specs.PlainWords.{owned_path};
 
 use crate::failure::{Failure, Outcome, written};

@@ -1,6 +1,7 @@
 -- A page's span in the file, and one of the code.
 use Rattle.std.specs.Prelude.{◌≡◌, ◌<◌, ◌≤◌, ◌+◌, ◌*◌, IsSome, ℕ, List, Some, length}
-use Rattle.bolt_format.specs.{Headers.count_field, Headers.flags_field, Headers.kind_of, Pages.from_page, Pages.page_overflow, Pages.span_bytes, declared.meta.Meta.Meta, declared.open_page.Span.Span}
+use Rattle.bolt_format.specs.{Headers.count_field, Headers.flags_field, Headers.kind_of, Pages.from_page, Pages.page_overflow, Pages.span_bytes}
+use Rattle.bolt_format.specs.{declared.meta.Meta.Meta, declared.open_page.Span.Span}
 
 -- the header and the span lie in the file and below the mark, and the header names a kind
 pub record IsWithin (file : List ℕ) (meta : Meta) (id : ℕ) : Type 0 where

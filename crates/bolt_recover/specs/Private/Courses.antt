@@ -1,10 +1,13 @@
 -- What is still to be done, and all that comes of it: what is visited, and what is returned.
-use Rattle.std.specs.Prelude.{ℕ, zero, suc, ◌+◌, Bool, false, ◌||◌, ◌&&◌, List, [], ◌∷◌, ◌++◌, length, Option, Some, None, Result, Ok, Err, nat_le, nat_lt, slice_get, if◌then◌else◌}
+use Rattle.std.specs.Prelude.{ℕ, zero, suc, ◌+◌, Bool, false, ◌||◌, ◌&&◌, List, [], ◌∷◌, ◌++◌, length, Option, Some, None, Result, Ok, Err, nat_le}
+use Rattle.std.specs.Prelude.{nat_lt, slice_get, if◌then◌else◌}
 use Rattle.std.specs.List.{flat_map}
 use Rattle.bolt_format.specs.{Elements.LeafElement, declared.meta.Meta.Meta}
-use Rattle.bolt_check.specs.{Counts.counted, Nodes.Node, Nodes.Nodes, Nodes.node_at, Ways.At_inline, Ways.At_page, Ways.Spot, declared.finding.Finding.Finding}
+use Rattle.bolt_check.specs.{Counts.counted, Nodes.Node, Nodes.Nodes, Nodes.node_at, Ways.At_inline, Ways.At_page, Ways.Spot}
+use Rattle.bolt_check.specs.{declared.finding.Finding.Finding}
 use Rattle.bolt_tree.specs.{Entries.item_of, Listing.Member, Paths.Path}
-use Rattle.bolt_recover.specs.{Gaps.PageGapView, Gaps.kept_gap, Losses.LossView, Losses.loss_at, PageWays.is_at_page, Private.Tests.test, Sites.Site, Sites.root_site, Sites.step_site, Surveys.SurveyedWay}
+use Rattle.bolt_recover.specs.{PageGaps.PageGapView, PageGaps.kept_gap, Losses.LossView, Losses.loss_at, PageWays.is_at_page, Private.Tests.test}
+use Rattle.bolt_recover.specs.{Sites.Site, Sites.root_site, Sites.step_site, Surveys.SurveyedWay}
 
 abbrev pub Way : Type 0
 Way = List ℕ
@@ -76,7 +79,7 @@ abbrev pub after_events : List ℕ → Meta → Outcome → List Event → Outco
 after_events file meta o [] = o
 after_events file meta o (event ∷ events) = after_events file meta (after_event file meta o event) events
 
--- of all events of a file, if so many visits were made before
+-- what comes of all events of a file, if `begun` visits were made before
 abbrev pub outcome_of : List ℕ → Meta → ℕ → List Event → Outcome
 outcome_of file meta begun events = after_events file meta (record { losses = []; gaps = []; visited = begun; claimed = meta_pages }) events
 
@@ -123,7 +126,7 @@ module _ (file : List ℕ) (meta : Meta) where
   abbrev pub site_tasks : Way → Site → List Task
   site_tasks way p = tasks_from way p 0 (site_size (node_at file meta) p.spot p.elements)
 
-  -- and after a visit
+  -- what there is to do after a visit
   abbrev pub tasks_after : Way → Site → Option Finding → List Task
   tasks_after way p None = site_tasks way p
   tasks_after way p (Some x) = []
@@ -139,7 +142,8 @@ module _ (file : List ℕ) (meta : Meta) where
     run_all [] claimed = []
     run_all (To_give path e ∷ tasks) claimed = Given path e ∷ run_all tasks claimed
     run_all (To_visit way p ∷ tasks) claimed =
-        Visited way p (test (node_at file meta) claimed p.spot) ∷ run_on (run_all tasks claimed) tasks claimed way p (test (node_at file meta) claimed p.spot) p.spot
+        Visited way p (test (node_at file meta) claimed p.spot)
+        ∷ run_on (run_all tasks claimed) tasks claimed way p (test (node_at file meta) claimed p.spot) p.spot
 
   -- where no more than `k` visits claim a page
   abbrev pub run_to : ℕ → List Task → (ℕ → Bool) → List Event
@@ -157,6 +161,6 @@ module _ (file : List ℕ) (meta : Meta) where
   abbrev pub all_events : List Event
   all_events = events root_tasks meta_pages
 
-  -- and the members that are returned: the recovered listing of the file
+  -- the members that the course of a file returns: its recovered listing
   abbrev pub recovered_of : List Member
   recovered_of = members_of all_events

@@ -7,7 +7,8 @@ use Rattle.bolt_recover.specs.Private.Frames.{ElementLeads}
 use Rattle.bolt_check.specs.{Findings.IsMetaPage, Nodes.node_at, ShownSpots.page_spot, Ways.At_page, Ways.PageSpot, Ways.reached}
 use Rattle.bolt_format.specs.{Pages.page_at, declared.meta.Meta.Meta}
 use Rattle.bolt_recover.specs.{Sites.leaves_of, Sites.site_at, States.HasBucketsAlone, Surveys.ForSurvey, Surveys.IsClaimedIn, Surveys.IsOpen}
-use Rattle.bolt_recover.specs.declared.first_leaf.{FirstWay.FirstWay, Hull.Hull, Look.Look, Look.TheVariants.Next, Look.TheVariants.Unknown, Look.TheVariants.Value}
+use Rattle.bolt_recover.specs.declared.first_leaf.{FirstWay.FirstWay, Hull.Hull, Look.Look, Look.TheVariants.Next, Look.TheVariants.Unknown}
+use Rattle.bolt_recover.specs.declared.first_leaf.{Look.TheVariants.Value}
 
 -- between the lowest and the highest page of the spans on the way
 abbrev pub IsInHull : Hull → ℕ → Type 0
@@ -17,7 +18,8 @@ IsInHull hull n = (hull.from ≤ n) × (n ≤ hull.last)
 pub record LeadsFirst (file : List ℕ) (meta : Meta) (way : List ℕ) (spot : PageSpot) (hull : Hull) : Type 0 where
   pub site : site_at file meta way ≡ Some (record { spot = At_page spot; path = []; elements = leaves_of (page_at file meta spot.number) })
   pub opened : ForSurvey file meta (λ survey. IsOpen survey way)
-  pub claimed : ForSurvey file meta (λ survey. (n : ℕ) → IsClaimedIn (node_at file meta) (reached (node_at file meta) meta.root) survey way n → IsMetaPage n ⊎ IsInHull hull n)
+  pub claimed : ForSurvey file meta
+      (λ survey. (n : ℕ) → IsClaimedIn (node_at file meta) (reached (node_at file meta) meta.root) survey way n → IsMetaPage n ⊎ IsInHull hull n)
 
 abbrev pub IsFirstWay : List ℕ → Meta → (way : List ℕ) → FirstWay → Type 0
 IsFirstWay file meta way at = LeadsFirst file meta way (page_spot at.spot) at.hull

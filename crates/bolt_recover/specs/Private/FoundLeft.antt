@@ -3,9 +3,11 @@ use Rattle.std.specs.Prelude.{ℕ, List, [], ◌∷◌, ◌++◌, Option, drop, 
 use Rattle.std.specs.Option.{option_map}
 use Rattle.bolt_check.specs.Keys.{Key}
 use Rattle.bolt_format.specs.{Elements.LeafElement, ElementsLeft.leaves_left, TreePages.leaves_on}
-use Rattle.bolt_tree.specs.{Entries.Bucket, Listing.Member, Paths.Path, Paths.path_of, ShownEntries.item_view, Tree.end, Tree.listing_below, Walks.GivesNext}
+use Rattle.bolt_tree.specs.{Entries.Bucket, Listing.Member, Paths.Path, Paths.path_of, ShownEntries.item_view, Tree.end, Tree.listing_below}
+use Rattle.bolt_tree.specs.{Walks.GivesNext}
 use Rattle.bolt_tree.specs.declared.entry.Item as shown
-use Rattle.bolt_recover.specs.{Joined.found_tree, Joined.inside_of, Joined.lost_and_found, Joined.tree_of_elements, declared.found.Found.Found, declared.found_members.FoundMembers.FoundMembers}
+use Rattle.bolt_recover.specs.{Joined.found_tree, Joined.inside_of, Joined.lost_and_found, Joined.tree_of_elements, declared.found.Found.Found}
+use Rattle.bolt_recover.specs.{declared.found_members.FoundMembers.FoundMembers}
 
 -- found pages of the code with their elements
 abbrev pub found_pages_of : List Found → List (ℕ × List LeafElement)
@@ -32,7 +34,7 @@ all_left m =
     (if m.has_bucket then (lost_and_found ∷ [], Bucket 0) ∷ [] else [])
     ++ found_members_left m.name.now m.key.now (leaves_left m.inner) (leaves_left m.elements) (drop m.next m.found.now)
 
--- the same of each listing
+-- the members that are left of any listing
 abbrev pub found_left : FoundMembers → List Member → List Member
 found_left m listing = all_left m
 

@@ -1,17 +1,24 @@
 -- The open pages of the code as what is still to be done.
-use Rattle.std.specs.Prelude.{◌≡◌, ◌≤◌, ◌<◌, IsTrue, ℕ, ◌+◌, ◌-◌, ◌*◌, Bool, true, false, List, [], ◌∷◌, ◌++◌, length, map, take, Option, Some, None, Ok, slice_get, sum_by}
+use Rattle.std.specs.Prelude.{◌≡◌, ◌≤◌, ◌<◌, IsTrue, ℕ, ◌+◌, ◌-◌, ◌*◌, Bool, true, false, List, [], ◌∷◌, ◌++◌, length, map, take, Option, Some, None}
+use Rattle.std.specs.Prelude.{Ok, slice_get, sum_by}
 use Rattle.std.specs.Option.{option_map}
-use Rattle.bolt_format.specs.{ElementPlaces.leaf_view, Elements.IsBucketValue, Elements.LeafElement, Pages.page_at, ShownInline.shown_inline, TreePages.page_keys, TreePages.shown_page}
+use Rattle.bolt_format.specs.{ElementPlaces.leaf_view, Elements.IsBucketValue, Elements.LeafElement, Pages.page_at, ShownInline.shown_inline}
+use Rattle.bolt_format.specs.{TreePages.page_keys, TreePages.shown_page}
 use Rattle.bolt_format.specs.{declared.meta.Meta.Meta, declared.tree_page.TreePage.TreePage}
 use Rattle.bolt_format.specs.declared.element.Leaf as element
-use Rattle.bolt_check.specs.{Claims.claims_file, Claims.claims_meta, Claims.claims_nodes, Claims.claims_visited, Claims.is_claimed, Nodes.node_at, ShownNodes.is_leaf_page, ShownNodes.shown_node}
-use Rattle.bolt_check.specs.{ShownSpots.spot_at, Ways.Spot, declared.claims.Claims.Claims, declared.finding.Finding.Finding, declared.spot.Spot.Spot as CodeSpot}
+use Rattle.bolt_check.specs.{Claims.claims_file, Claims.claims_meta, Claims.claims_nodes, Claims.claims_visited, Claims.is_claimed, Nodes.node_at}
+use Rattle.bolt_check.specs.{ShownNodes.is_leaf_page, ShownNodes.shown_node}
+use Rattle.bolt_check.specs.{ShownSpots.spot_at, Ways.Spot, declared.claims.Claims.Claims, declared.finding.Finding.Finding}
+use Rattle.bolt_check.specs.{declared.spot.Spot.Spot as CodeSpot}
 use Rattle.bolt_check.specs.declared.spot.Spot.TheVariants as spots
 use Rattle.bolt_tree.specs.{Entries.item_of, Listing.Member, Paths.Path, Paths.path_of}
-use Rattle.bolt_recover.specs.{Gaps.page_gap_view, Losses.LossView, Losses.loss_on, Sites.Site, Sites.leaves_of, Sites.step_site}
-use Rattle.bolt_recover.specs.Private.Courses.{Event, Outcome, Task, To_visit, Way, after_events, all_events, claimed_after, events, further, members_of, outcome_of, tasks_from}
-use Rattle.bolt_recover.specs.{ShownLosses.loss_view, declared.kept_page.KeptPage.KeptPage, declared.kept_page.OpenPage.OpenPage, declared.steps.NextVisit.NextVisit, declared.steps.Steps.Steps}
-use Rattle.bolt_recover.specs.{declared.steps.Taken.Taken, declared.steps.Taken.TheVariants.End, declared.steps.Taken.TheVariants.Leaf, declared.steps.Taken.TheVariants.Nothing}
+use Rattle.bolt_recover.specs.{PageGaps.page_gap_view, Losses.LossView, Losses.loss_on, Sites.Site, Sites.leaves_of, Sites.step_site}
+use Rattle.bolt_recover.specs.Private.Courses.{Event, Outcome, Task, To_visit, Way, after_events, all_events, claimed_after, events, further}
+use Rattle.bolt_recover.specs.Private.Courses.{members_of, outcome_of, tasks_from}
+use Rattle.bolt_recover.specs.{ShownLosses.loss_view, declared.kept_page.KeptPage.KeptPage, declared.kept_page.OpenPage.OpenPage}
+use Rattle.bolt_recover.specs.{declared.steps.NextVisit.NextVisit, declared.steps.Steps.Steps}
+use Rattle.bolt_recover.specs.{declared.steps.Taken.Taken, declared.steps.Taken.TheVariants.End, declared.steps.Taken.TheVariants.Leaf}
+use Rattle.bolt_recover.specs.{declared.steps.Taken.TheVariants.Nothing}
 
 -- what a spot leads to
 abbrev pub spot_elements : List ℕ → Meta → CodeSpot → List LeafElement
@@ -36,7 +43,8 @@ content_site path content = record { spot = content_spot content; path = path; e
 
 -- the page is the one that the file has under its number, no more than 64 pages deep in its bucket
 abbrev pub IsGoodAt : List ℕ → Meta → TreePage → CodeSpot → Type 0
-IsGoodAt file meta page (spots.Page s) = (node_at file meta s.number ≡ Ok (shown_node page)) × (page_at file meta s.number ≡ Some (shown_page page)) × (s.depth ≤ 64)
+IsGoodAt file meta page (spots.Page s) =
+    (node_at file meta s.number ≡ Ok (shown_node page)) × (page_at file meta s.number ≡ Some (shown_page page)) × (s.depth ≤ 64)
 IsGoodAt file meta page (spots.Bucket s) = (is_leaf_page page ≡ true) × ((shown_page page).leaves ≡ shown_inline s.page)
 
 abbrev pub IsGoodKeptPage : List ℕ → Meta → KeptPage → Type 0
@@ -128,9 +136,14 @@ steps_left steps =
 abbrev pub members_left : Steps → List Member
 members_left steps = members_of (steps_left steps)
 
--- what came of them so far, and what will have come of them at the end
+-- what came of the steps so far, and what will have come of them at the end
 abbrev pub tally_of : Steps → Outcome
-tally_of steps = record { losses = map loss_view steps.losses.items; gaps = map page_gap_view steps.gaps.items; visited = claims_visited steps.claims; claimed = is_claimed steps.claims }
+tally_of steps = record {
+  losses = map loss_view steps.losses.items;
+  gaps = map page_gap_view steps.gaps.items;
+  visited = claims_visited steps.claims;
+  claimed = is_claimed steps.claims;
+}
 
 abbrev pub outcome_left : Steps → Outcome
 outcome_left steps = after_events (claims_file steps.claims) (claims_meta steps.claims) (tally_of steps) (steps_left steps)
@@ -150,7 +163,7 @@ page_weight page = 1 + (page.count - page.next)
 abbrev pub steps_weight : Steps → ℕ
 steps_weight steps = length (steps_left steps) * 65537 + sum_by page_weight steps.open.items
 
--- the same file and meta, with good open pages, and the same comes of it in the end
+-- a step keeps file and meta, its open pages are good, and the same comes of it in the end
 pub record StaysOn (old new : Steps) : Type 0 where
   pub file : claims_file new.claims ≡ claims_file old.claims
   pub meta : claims_meta new.claims ≡ claims_meta old.claims
@@ -164,7 +177,7 @@ pub record StepsOn (old new : Steps) : Type 0 where
   pub members : members_left new ≡ members_left old
   pub less : steps_weight new ≤ steps_weight old
 
--- this element was returned
+-- element `e` was returned
 pub record GivesHead (old new : Steps) (e : LeafElement) : Type 0 where
   pub on : StaysOn old new
   pub head : members_left old ≡ (steps_path new, item_of e) ∷ members_left new

@@ -4,7 +4,8 @@ use Rattle.std.specs.{List.All, declared.cmp.Ordering.Ordering, declared.cmp.Ord
 use Rattle.bolt_check.specs.Keys.{key_cmp}
 use Rattle.bolt_format.specs.declared.meta.Meta.{Meta}
 use Rattle.bolt_tree.specs.{Listing.Member, Paths.Path}
-use Rattle.bolt_recover.specs.{Found.AreFound, Found.found_numbers, Joined.LacksBucketKey, Joined.is_found_path, Joined.lost_and_found, Recovered.ForRecovered, ShownFound.IsFoundView}
+use Rattle.bolt_recover.specs.{Found.AreFound, Found.found_numbers, Joined.LacksBucketKey, Joined.is_found_path, Joined.lost_and_found}
+use Rattle.bolt_recover.specs.{Recovered.ForRecovered, ShownFound.IsFoundView}
 use Rattle.bolt_recover.specs.declared.found.Found.{Found}
 
 -- how the first part of a path compares with the key of the bucket of what is found

@@ -9,7 +9,8 @@ abbrev pub NotesFree : Leftovers → Type 0
 NotesFree leftovers =
     (n : ℕ) → n < leftovers_length leftovers → (is_listed leftovers n ≡ true) ↔ IsListedFree (leftovers_file leftovers) (leftovers_meta leftovers) n
 
--- these pages are found, if the taken ones are kept
+-- the pages are those found among what is left over, if the taken pages are the kept ones
 abbrev pub AreAmong : Leftovers → List Found → Type 0
 AreAmong leftovers found =
-    FoundBelow (leftovers_file leftovers) (leftovers_meta leftovers) (λ n. is_taken leftovers n ≡ true) (leftovers_meta leftovers).high_water (found_numbers found)
+    FoundBelow (leftovers_file leftovers) (leftovers_meta leftovers) (λ n. is_taken leftovers n ≡ true) (leftovers_meta leftovers).high_water
+    (found_numbers found)

@@ -2,14 +2,15 @@
 use Rattle.std.specs.Prelude.{◌≡◌, ℕ, List}
 use Rattle.bolt_format.specs.declared.meta.Meta.{Meta}
 use Rattle.bolt_tree.specs.{Listing.Member, Merging.merged_reads, declared.merged.Merged.Merged}
-use Rattle.bolt_recover.specs.{KeptMembers.kept_file, KeptMembers.kept_meta, Private.Courses.recovered_of, Private.FoundLeft.found_listing, Recovered.IsRecovered}
+use Rattle.bolt_recover.specs.{KeptMembers.kept_file, KeptMembers.kept_meta, Private.Courses.recovered_of, Private.FoundLeft.found_listing}
+use Rattle.bolt_recover.specs.{Recovered.IsRecovered}
 use Rattle.bolt_recover.specs.{declared.found.Found.Found, declared.found_members.FoundMembers.FoundMembers, declared.kept.Kept.Kept}
 
 -- the recovered listing, and that of what is found
 abbrev pub recovered_and_found : List ℕ → Meta → List Found → List Member × List Member
 recovered_and_found file meta found = (recovered_of file meta, found_listing found)
 
--- these are merged
+-- the recovered listing and that of what is found are merged
 abbrev pub ReadsJoined : Merged Kept FoundMembers → List ℕ → Meta → List Found → Type 0
 ReadsJoined members file meta found =
     merged_reads (λ (kept : Kept) (listing : List Member). IsRecovered (kept_file kept) (kept_meta kept) listing)

@@ -1,7 +1,8 @@
 -- What the tests of a spot find, as a function.
 use Rattle.std.specs.Prelude.{ℕ, zero, suc, ◌+◌, Bool, Option, Some, None, Result, Ok, Err, if◌then◌else◌}
 use Rattle.std.specs.Option.{option_map, option_or}
-use Rattle.bolt_check.specs.{Findings.early_finding, Findings.finding, Findings.inline_finding, Findings.node_finding, Nodes.Node, Nodes.Nodes, Ways.At_inline, Ways.At_page, Ways.PageSpot, Ways.Spot}
+use Rattle.bolt_check.specs.{Findings.early_finding, Findings.finding, Findings.inline_finding, Findings.node_finding, Nodes.Node, Nodes.Nodes}
+use Rattle.bolt_check.specs.{Ways.At_inline, Ways.At_page, Ways.PageSpot, Ways.Spot}
 use Rattle.bolt_check.specs.{declared.finding.Finding.Finding, declared.finding.TheConstants.Finding.TWICE}
 
 -- the lowest claimed page among so many, from page n on

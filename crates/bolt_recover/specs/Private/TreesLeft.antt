@@ -3,8 +3,10 @@ use Rattle.std.specs.Prelude.{◌≡◌, ℕ, List, [], length, map}
 use Rattle.std.specs.List.{All}
 use Rattle.bolt_format.specs.declared.meta.Meta.{Meta}
 use Rattle.bolt_check.specs.{CheckedFiles.bytes_of, CheckedFiles.meta_of, Counts.saturated, Sound.HasSoundTrees}
-use Rattle.bolt_recover.specs.{Found.AreFound, Found.found_numbers, Gaps.ForGaps, Gaps.page_gap_view, Losses.LostView, Losses.everything, Losses.parts, Lost.IsAllLost, Private.Joining.TellsBucketKey, Recovered.ForRecovered}
-use Rattle.bolt_recover.specs.{ShownFound.IsFoundView, ShownLosses.loss_view, declared.found.Found.Found, declared.losses.Damage.Damage, declared.lost_and_found.Trees.Trees}
+use Rattle.bolt_recover.specs.{Found.AreFound, Found.found_numbers, PageGaps.ForGaps, PageGaps.page_gap_view, Losses.LostView, Losses.everything}
+use Rattle.bolt_recover.specs.{Losses.parts, Lost.IsAllLost, Private.Joining.TellsBucketKey, Recovered.ForRecovered}
+use Rattle.bolt_recover.specs.{ShownFound.IsFoundView, ShownLosses.loss_view, declared.found.Found.Found, declared.losses.Damage.Damage}
+use Rattle.bolt_recover.specs.{declared.lost_and_found.Trees.Trees}
 use Rattle.bolt_recover.specs.declared.lost_and_found.Trees.TheVariants.{Damaged, Rootless, Sound}
 
 abbrev pub lost_of : Trees → LostView
@@ -19,7 +21,7 @@ pub record IsDamage (file : List ℕ) (meta : Meta) (damage : Damage) : Type 0 w
   pub gaps : ForGaps file meta (λ gaps. map page_gap_view damage.gaps.items ≡ gaps)
   pub unsound : HasSoundTrees file meta → ⊥
 
--- what is known of them beside what is lost; if they are sound, nothing is found
+-- what is known of trees beside what is lost; if they are sound, nothing is found
 abbrev pub AreTreesOf : List ℕ → Meta → List Found → Trees → Type 0
 AreTreesOf file meta found (Sound checked) = (bytes_of checked ≡ file) × (meta_of checked ≡ meta) × (found ≡ [])
 AreTreesOf file meta found (Damaged damage) = IsDamage file meta damage

@@ -5,7 +5,7 @@ use Rattle.bolt_check.specs.Sound.{HasSoundTrees}
 use Rattle.bolt_tree.specs.{BucketViews.BucketView, Entries.IsStart, Private.Contents.Content, Private.Contents.Contents, Private.Contents.content_at}
 use Rattle.bolt_tree.specs.Private.Tours.{TourPage, content_at_start, tour_elements, pages_at}
 
--- it is a bucket of a sound tree
+-- a bucket is one of a sound tree
 pub record IsSoundBucket (b : BucketView) : Type 0 where
   pub trees : HasSoundTrees b.file b.meta
   pub start : IsStart b.file b.meta b.start

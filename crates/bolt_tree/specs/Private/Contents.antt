@@ -1,6 +1,7 @@
 -- What a page of the tree shows, as a leaf or a branch: what the cursor sees of it.
 use Rattle.std.specs.Prelude.{ℕ, List, [], length, map, Option, Some, None}
-use Rattle.bolt_format.specs.{Elements.BranchElement, Elements.LeafElement, Pages.PageView, Pages.page_at, declared.header.Kind.Kind, declared.meta.Meta.Meta}
+use Rattle.bolt_format.specs.{Elements.BranchElement, Elements.LeafElement, Pages.PageView, Pages.page_at, declared.header.Kind.Kind}
+use Rattle.bolt_format.specs.{declared.meta.Meta.Meta}
 use Rattle.bolt_format.specs.declared.header.Kind.TheVariants as kind
 use Rattle.bolt_check.specs.{CheckedFiles.bytes_of, CheckedFiles.meta_of, Keys.Key, declared.checked.Checked.Checked}
 
@@ -29,11 +30,11 @@ Contents = ℕ → Content
 unfoldable pub content_at : List ℕ → Meta → Contents
 content_at file meta number = content_seen (page_at file meta number)
 
--- of a page of a checked file
+-- the content of a page of a checked file
 abbrev pub checked_content : Checked → ℕ → Content
 checked_content checked number = content_at (bytes_of checked) (meta_of checked) number
 
--- how many elements it has, and their keys
+-- how many elements a page's content has, and their keys
 abbrev pub content_length : Content → ℕ
 content_length (Of_leaf elements) = length elements
 content_length (Of_branch elements) = length elements

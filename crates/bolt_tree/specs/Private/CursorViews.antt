@@ -2,8 +2,10 @@
 use Rattle.std.specs.Prelude.{◌≡◌, List, [], ◌∷◌, ◌++◌, MatchOption, Option, Some, None, reverse}
 use Rattle.bolt_format.specs.Elements.{LeafElement}
 use Rattle.bolt_check.specs.declared.checked.Checked.{Checked}
-use Rattle.bolt_tree.specs.{BucketViews.entries_of, Buckets.bucket_checked, Buckets.bucket_start, Cursors.cursor_checked, Cursors.cursor_place, Cursors.cursor_start}
-use Rattle.bolt_tree.specs.{Places.Fresh, Places.Move, Places.Moves, Places.Place, Private.Kept.AreKept, Private.Kept.CursorView, declared.bucket.Bucket.Bucket, declared.cursor.Cursor.Cursor}
+use Rattle.bolt_tree.specs.{BucketViews.entries_of, Buckets.bucket_checked, Buckets.bucket_start, Cursors.cursor_checked, Cursors.cursor_place}
+use Rattle.bolt_tree.specs.{Cursors.cursor_start}
+use Rattle.bolt_tree.specs.{Places.Fresh, Places.Move, Places.Moves, Places.Place, Private.Kept.AreKept, Private.Kept.CursorView}
+use Rattle.bolt_tree.specs.{declared.bucket.Bucket.Bucket, declared.cursor.Cursor.Cursor}
 use Rattle.bolt_tree.specs.{declared.open_buckets.WaitingCursor.WaitingCursor, declared.stack.Position.Position}
 
 abbrev pub cursor_view : Cursor → CursorView

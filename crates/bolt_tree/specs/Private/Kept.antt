@@ -1,8 +1,10 @@
 -- What is kept of the cursors that wait: their positions.
 use Rattle.std.specs.Prelude.{◌≡◌, ◌≤◌, Bool, true, List, [], ◌∷◌, ◌++◌, drop, take, length}
 use Rattle.bolt_check.specs.declared.checked.Checked.{Checked}
-use Rattle.bolt_tree.specs.{BucketViews.bucket_in, Entries.Start, Places.Place, Private.BucketPages.contents_in, Private.Resting.place_by, Private.Stacks.HasStack, Private.Stacks.IsAtRest}
-use Rattle.bolt_tree.specs.{Private.Trails.frames_of, Starts.start_at, declared.at.At.At, declared.open_buckets.WaitingCursor.WaitingCursor, declared.stack.Position.Position}
+use Rattle.bolt_tree.specs.{BucketViews.bucket_in, Entries.Start, Places.Place, Private.BucketPages.contents_in, Private.Resting.place_by}
+use Rattle.bolt_tree.specs.{Private.Stacks.HasStack, Private.Stacks.IsAtRest}
+use Rattle.bolt_tree.specs.{Private.Trails.frames_of, Starts.start_at, declared.at.At.At, declared.open_buckets.WaitingCursor.WaitingCursor}
+use Rattle.bolt_tree.specs.{declared.stack.Position.Position}
 
 -- a cursor without its counts: its file and bucket, and where it is
 pub record CursorView : Type 0 where

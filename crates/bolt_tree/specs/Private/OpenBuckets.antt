@@ -4,11 +4,14 @@ use Rattle.std.specs.Prelude.{◌≡◌, ℕ, Bool, true, false, IsTrue, List, [
 use Rattle.bolt_format.specs.{Elements.IsBucketValue, Elements.LeafElement, ElementPlaces.leaf_view, declared.element.Leaf.Leaf}
 use Rattle.bolt_check.specs.{Keys.Key, declared.checked.Checked.Checked}
 use Rattle.bolt_tree.specs.{Buckets.bucket_checked, Buckets.bucket_start, BucketViews.entries_of, FileListings.ForListing, FileListings.root_start}
-use Rattle.bolt_tree.specs.{Entries.AreEntries, Entries.Start, Entries.item_of, Entries.start_of, Listing.Member, Listing.rest_from, Paths.HasEntries, Paths.Names, Paths.Path, Paths.path_of}
-use Rattle.bolt_tree.specs.{Places.On, RestAfter.rest_after, RestAfter.beyond, Private.CursorViews.innermost_views, Private.Kept.CursorView, Private.Kept.kept_views, declared.bucket.Bucket.Bucket}
+use Rattle.bolt_tree.specs.{Entries.AreEntries, Entries.Start, Entries.item_of, Entries.start_of, Listing.Member, Listing.rest_from, Paths.HasEntries}
+use Rattle.bolt_tree.specs.{Paths.Names, Paths.Path, Paths.path_of}
+use Rattle.bolt_tree.specs.{Places.On, RestAfter.rest_after, RestAfter.beyond, Private.CursorViews.innermost_views, Private.Kept.CursorView}
+use Rattle.bolt_tree.specs.{Private.Kept.kept_views, declared.bucket.Bucket.Bucket}
 use Rattle.bolt_tree.specs.declared.open_buckets.WalkStep.{WalkStep}
 use Rattle.bolt_tree.specs.declared.open_buckets.WalkStep.TheVariants.{Begin, Enter, Give, Leave}
-use Rattle.bolt_tree.specs.{declared.open_buckets.PartResult.PartResult, declared.open_buckets.PartResult.TheVariants.Here, declared.open_buckets.PartResult.TheVariants.Inside}
+use Rattle.bolt_tree.specs.{declared.open_buckets.PartResult.PartResult, declared.open_buckets.PartResult.TheVariants.Here}
+use Rattle.bolt_tree.specs.{declared.open_buckets.PartResult.TheVariants.Inside}
 use Rattle.bolt_tree.specs.declared.open_buckets.OpenBuckets.{OpenBuckets}
 
 -- the cursors, from the root bucket's on: those that wait, and then the innermost one
@@ -26,7 +29,7 @@ abbrev pub StandsOn : (Start → LeafElement → Type 0) → CursorView → Key 
 StandsOn Entry cursor key = (entries : List LeafElement) → AreEntries Entry cursor.start entries
     → (i : ℕ) × (e : LeafElement) × (cursor.place ≡ On i) × (slice_get entries i ≡ Some e) × (e.key ≡ key)
 
--- Each of these cursors is over the bucket that the preceding keys name, and is on the key in its place.
+-- Each cursor is over the bucket that the preceding keys name, and is on the key in its place.
 abbrev pub AreOpen : Checked → Path → List CursorView → Path → Type 0
 AreOpen checked before [] [] = Unit {0}
 AreOpen checked before [] (key ∷ keys) = ⊥
@@ -82,7 +85,7 @@ EntersFirst old new found = ForListing old.checked (λ listing. MatchOption foun
     (rest_after (open_path old) listing ≡ beyond (open_path old) listing)
     (λ leaf. rest_after (open_path old) listing ≡ (open_path new, item_of (leaf_view leaf)) ∷ rest_after (open_path new) listing))
 
--- this is left of a listing of the file, if this is done next
+-- what is left of the file's listing is what `left` says, if the step `ahead` is done next
 abbrev pub IsLeft : (left : List Member → List Member) → (old new : OpenBuckets) → WalkStep → Type 0
 IsLeft left old new ahead = ForListing old.checked (λ listing. left_by ahead (open_path new) listing ≡ left listing)
 
@@ -96,7 +99,7 @@ abbrev pub is_end : Path → Bool
 is_end [] = true
 is_end (key ∷ path) = false
 
--- One part of a path was searched for, and the path goes on after it or not: it names a bucket, and the path goes on; or the rest from the
+-- A part of a path was searched for, and the path goes on after it or not: it names a bucket, and the path goes on; or the rest from the
 -- path is what is left.
 abbrev pub IsPartResult : OpenBuckets → OpenBuckets → Key → Bool → PartResult → Type 0
 IsPartResult old new part is_last (Inside bucket) = (open_path new ≡ open_path old ++ part ∷ []) × IsNamed new bucket × (is_last ≡ false)

@@ -2,9 +2,11 @@
 use Rattle.std.specs.Prelude.{◌≡◌, ◌+◌, ℕ, Bool, true, false, List, [], ◌∷◌, ◌++◌, Some, length, drop, slice_get}
 use Rattle.bolt_format.specs.{Elements.LeafElement, declared.meta.Meta.Meta}
 use Rattle.bolt_check.specs.{Keys.Key, Keys.key_lt, OnWays.IsOnWay}
-use Rattle.bolt_tree.specs.{BucketViews.BucketView, Private.Contents.Content, Private.Contents.Contents, Private.Contents.Of_leaf, Private.Contents.content_at}
+use Rattle.bolt_tree.specs.{BucketViews.BucketView, Private.Contents.Content, Private.Contents.Contents, Private.Contents.Of_leaf}
+use Rattle.bolt_tree.specs.{Private.Contents.content_at}
 use Rattle.bolt_tree.specs.{Entries.Inline_page, Entries.Root_page, Entries.Start, OpeningCounts.IsNear, OpeningCounts.IsNearFrom, Places.least_from}
-use Rattle.bolt_tree.specs.{Private.Stacks.Frame, Private.Stacks.address_on, Private.Stacks.passed_of, Private.Stacks.later_of, Private.Tours.tour_elements}
+use Rattle.bolt_tree.specs.{Private.Stacks.Frame, Private.Stacks.address_on, Private.Stacks.passed_of, Private.Stacks.later_of}
+use Rattle.bolt_tree.specs.{Private.Tours.tour_elements}
 
 -- every element of a list has a key below this one, or none has
 abbrev pub AreBelow : Bool → Key → List LeafElement → Type 0

@@ -5,7 +5,8 @@
 use Rattle.std.specs.Prelude.{◌≡◌, ◌≤◌, ◌<◌, Bool, true, false, ℕ, suc, ◌+◌, ◌-◌, List, [], ◌∷◌, ◌++◌, drop, take, length, Some, slice_get}
 use Rattle.bolt_format.specs.Elements.{BranchElement, LeafElement}
 use Rattle.bolt_check.specs.OnWays.{IsOnWay}
-use Rattle.bolt_tree.specs.{BucketViews.BucketView, Private.BucketPages.IsSoundBucket, Private.BucketPages.contents_in, Private.BucketPages.tour_pages_in}
+use Rattle.bolt_tree.specs.{BucketViews.BucketView, Private.BucketPages.IsSoundBucket, Private.BucketPages.contents_in}
+use Rattle.bolt_tree.specs.{Private.BucketPages.tour_pages_in}
 use Rattle.bolt_tree.specs.Private.Contents.{Content, Contents, Of_branch, Of_leaf, content_length}
 use Rattle.bolt_tree.specs.Private.Tours.{TourPage, all_under, tour_elements, tour}
 

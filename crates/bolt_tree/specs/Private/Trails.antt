@@ -2,13 +2,16 @@
 use Rattle.std.specs.Prelude.{◌≡◌, ◌-◌, ◌∷◌, ◌++◌, [], ℕ, Bool, true, false, IfSome, IsTrue, List, MatchOption, Option, Some}
 use Rattle.std.specs.Prelude.{drop, length, map, reverse, slice_get}
 use Rattle.std.specs.Option.{option_map}
-use Rattle.bolt_format.specs.{ElementPlaces.leaf_view, Elements.BranchElement, Elements.IsBucketValue, Elements.LeafElement, declared.element.Leaf.Leaf}
+use Rattle.bolt_format.specs.{ElementPlaces.leaf_view, Elements.BranchElement, Elements.IsBucketValue, Elements.LeafElement}
+use Rattle.bolt_format.specs.{declared.element.Leaf.Leaf}
 use Rattle.bolt_check.specs.{Counts.counted, Keys.Key}
-use Rattle.bolt_tree.specs.{BucketViews.BucketView, BucketViews.bucket_in, Private.BucketPages.IsSoundBucket, Private.BucketPages.contents_in, Private.BucketPages.tour_pages_in}
+use Rattle.bolt_tree.specs.{BucketViews.BucketView, BucketViews.bucket_in, Private.BucketPages.IsSoundBucket, Private.BucketPages.contents_in}
+use Rattle.bolt_tree.specs.{Private.BucketPages.tour_pages_in}
 use Rattle.bolt_tree.specs.{Pagers.pager_checked, Pagers.pager_opened, Private.ShownPages.opened_content}
 use Rattle.bolt_tree.specs.Private.{Contents.Content, Contents.Contents, Entered.opened_to, Entered.taken_at}
 use Rattle.bolt_tree.specs.Private.Stacks.{Frame, HasStack, IsAtRest, IsOn, ahead_of, pages_before, preceding_of, later_of}
-use Rattle.bolt_tree.specs.{Places.least_from, Starts.start_at, Private.Tours.TourPage, declared.bucket_pages.BucketPages.BucketPages, declared.pager.Pager.Pager, declared.stack.Position.Position}
+use Rattle.bolt_tree.specs.{Places.least_from, Starts.start_at, Private.Tours.TourPage, declared.bucket_pages.BucketPages.BucketPages}
+use Rattle.bolt_tree.specs.{declared.pager.Pager.Pager, declared.stack.Position.Position}
 
 abbrev pub frame_of : Position → Frame
 frame_of position = record { content = opened_content position.page; taken = position.taken }
@@ -33,14 +36,14 @@ trail_bucket trail = pages_bucket trail.pages
 abbrev pub trail_frames : Trail → List Frame
 trail_frames trail = frames_of trail.positions
 
--- they are those of a bucket of a sound tree, and the stack is one of that bucket
+-- the pages are those of a bucket of a sound tree
 abbrev pub IsOfSoundTree : BucketPages → Type 0
 IsOfSoundTree pages = ∥ IsSoundBucket (pages_bucket pages) ∥₁
 
 abbrev pub HasTrail : Trail → Type 0
 HasTrail trail = HasStack (trail_bucket trail) (trail_frames trail)
 
--- it has moved: it is over the same bucket of the same file, and its stack is one of that bucket
+-- a trail has moved: it is over the same bucket of the same file, and its stack is one of that bucket
 pub record IsMoved (old new : Trail) : Type 0 where
   pub file : pager_checked new.pages.pager ≡ pager_checked old.pages.pager
   pub at : new.pages.at ≡ old.pages.at
@@ -50,7 +53,7 @@ pub record IsMoved (old new : Trail) : Type 0 where
 abbrev pub HasOpened : ℕ → (old new : Pager) → Type 0
 HasOpened n old new = pager_opened new ≡ counted (pager_opened old) n
 
--- its stack with a page on top
+-- the stack of a trail with a page on top
 abbrev pub trail_with : Content → ℕ → Trail → List Frame
 trail_with content taken trail = record { content = content; taken = taken } ∷ trail_frames trail
 

@@ -10,6 +10,12 @@ a_walk_is_whole-requires g c = rw c.new-walk.ensures.checked c.new-walk.ensures.
 
 pub returns : goal.returns
 returns g c =
-    subst (λ (file : Checked). CopiesEach g.S.Sink.taken g.S.Sink.failed c.args.sink.now c.compact_members.new.sink (λ (listing : List Member). IsListing (bytes_of file) (meta_of file) listing) (λ listing. listing)
+    subst (λ (file : Checked).
+    CopiesEach g.S.Sink.taken g.S.Sink.failed c.args.sink.now c.compact_members.new.sink
+    (λ (listing : List Member). IsListing (bytes_of file) (meta_of file) listing) (λ listing. listing)
     c.args.layout c.args.page_size (meta_of c.args.checked).root_sequence c.compact_members.result) c.new-walk.ensures.checked
-    (rw (c.sound_blueprint-blueprint.ensures.layout, c.sound_blueprint-blueprint.ensures.page_size, c.sound_blueprint-blueprint.ensures.sequence) at c.compact_members.ensures.copies)
+    (rw (
+      c.sound_blueprint-blueprint.ensures.layout,
+      c.sound_blueprint-blueprint.ensures.page_size,
+      c.sound_blueprint-blueprint.ensures.sequence,
+    ) at c.compact_members.ensures.copies)

@@ -8,11 +8,11 @@ put_elements-requires-clause-held g c = nothing_asked c.args.entries.now
 pub put_elements-requires-clause-size : goal.put_elements-requires-clause-size
 put_elements-requires-clause-size g c = let size = entries_size c.args.entries.now in omega (arith, c.requires.size)
 
-pub returns-in_err-put : goal.returns-in_err-put
-returns-in_err-put g c = grind (arith, puts, inline_wrote)
+pub returns-in_err-put_unless_empty : goal.returns-in_err-put_unless_empty
+returns-in_err-put_unless_empty g c = grind (arith, puts, inline_wrote)
 
-pub returns-in_err-put-2 : goal.returns-in_err-put-2
-returns-in_err-put-2 g c = grind (arith, puts, inline_wrote)
+pub returns-in_err-put_unless_empty-2 : goal.returns-in_err-put_unless_empty-2
+returns-in_err-put_unless_empty-2 g c = grind (arith, puts, inline_wrote)
 
 pub returns : goal.returns
 returns g c = grind (arith, puts, inline_wrote)

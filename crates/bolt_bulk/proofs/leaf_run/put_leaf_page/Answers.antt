@@ -12,10 +12,13 @@ returns-in_err-zeros-clause-page g c = grind (arith, puts, leaf_run_wrote)
 
 pub returns-in_err-put_elements-clause-page : goal.returns-in_err-put_elements-clause-page
 returns-in_err-put_elements-clause-page g c =
-    let put = Wrote-return_cut _ _ (rw (c.as_slice-items.ensures.value, c.as_slice.ensures.value) at c.in_err-put_elements.ensures) c.from_residual-in_err-put_elements.ensures.0 in
+    let put =
+    Wrote-return_cut _ _ (rw (c.as_slice-items.ensures.value, c.as_slice.ensures.value) at c.in_err-put_elements.ensures)
+    c.from_residual-in_err-put_elements.ensures.0 in
     leaf_run_wrote _ _ c.args.run.now c.requires (Wrote-then (rw c.as_slice-items.ensures.value at c.in_ok-zeros.ensures.header) put)
 
 pub returns-clause-page : goal.returns-clause-page
 returns-clause-page g c =
     leaf_run_wrote _ _ c.args.run.now c.requires
-    (rw (c.as_slice-items.ensures.value, c.as_slice.ensures.value, c.in_ok-zeros.ensures.zeros) at (Wrote-then c.in_ok-zeros.ensures.header (Wrote-then c.in_ok-put_elements.ensures c.put_zeros.ensures)))
+    (rw (c.as_slice-items.ensures.value, c.as_slice.ensures.value, c.in_ok-zeros.ensures.zeros) at (Wrote-then c.in_ok-zeros.ensures.header
+    (Wrote-then c.in_ok-put_elements.ensures c.put_zeros.ensures)))

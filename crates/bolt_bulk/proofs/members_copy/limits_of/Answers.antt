@@ -8,7 +8,10 @@ use Rattle.bolt_bulk.proofs.members_copy.limits_of.Goals as goal
 
 pub returns-in-Plain : goal.returns-in-Plain
 returns-in-Plain g c = record {
-  fit = λ whole is. subst (λ (which : Layout). FitLimits which (tree_of (g.M.Members.listing whole)) c.args.blueprint.now.page_size (limits_with c.none.result)) (sym c.in-Plain.is)
+  fit =
+      λ whole is.
+      subst (λ (which : Layout). FitLimits which (tree_of (g.M.Members.listing whole)) c.args.blueprint.now.page_size (limits_with c.none.result))
+      (sym c.in-Plain.is)
       (fit_plain c.args.blueprint.now.page_size c.none.result (tree_of (g.M.Members.listing whole)) c.none.ensures);
   large = tt;
   again = grind arith;

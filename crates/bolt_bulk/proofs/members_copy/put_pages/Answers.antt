@@ -3,7 +3,8 @@ use Rattle.std.proofs.Common.{◌≡◌, ◌∙◌, [], Ok, refl, sym, subst}
 use Rattle.std.specs.Prelude.{⊤}
 use Rattle.bolt_tree.specs.{Paths.path_of, ShownEntries.item_view, Tree.tree_of}
 use Rattle.bolt_bulk.specs.{Private.HasLeft, Private.Steps, Private.Wanted, declared.page_setup.PageSetup.PageSetup}
-use Rattle.bolt_bulk.proofs.{PassAt.steps_failed, PassAt.steps_then, PassEnds.ends_after, PassEnds.ends_early, PassLeft.left_same, PassLeft.steps_begun}
+use Rattle.bolt_bulk.proofs.{PassAt.steps_failed, PassAt.steps_then, PassEnds.ends_after, PassEnds.ends_early, PassLeft.left_same}
+use Rattle.bolt_bulk.proofs.{PassLeft.steps_begun}
 use Rattle.bolt_bulk.proofs.{FileLayouts.listing_is_back, WalkLeft.first_fits, WalkLeft.others_fit, WalkLeft.whole_fits}
 use Rattle.bolt_bulk.proofs.members_copy.put_pages.Goals as goal
 
@@ -17,12 +18,15 @@ members-init g c = record {
   steps = λ which whole is fit.
       let wanted : Wanted = record { which = which; tree = tree_of (g.M.Members.listing whole); notes = c.args.notes } in
       let all = listing_is_back (g.M.Members.listing whole) (c.requires.whole.one whole is) ∙ sym (c.requires.whole.all whole is) in
-      subst (λ (b : PageSetup). Steps {A = ⊤} wanted g.S.Sink c.args.sink.now c.args.sink.now b [] (HasLeft wanted c.new-pass.result (g.M.Members.left c.args.members.now whole)) (Ok tt)) c.new-pass.ensures.setup
+      subst (λ (b : PageSetup).
+      Steps {A = ⊤} wanted g.S.Sink c.args.sink.now c.args.sink.now b [] (HasLeft wanted c.new-pass.result (g.M.Members.left c.args.members.now whole))
+      (Ok tt)) c.new-pass.ensures.setup
       (steps_begun (left_same all (c.new-pass.ensures.at wanted refl fit)));
 }
 
 pub returns-in_err-item-clause-pages : goal.returns-in_err-item-clause-pages
-returns-in_err-item-clause-pages g c = λ which whole is fit. ends_early c.from_residual.ensures.1 (steps_failed {B = ⊤} (c.members.invariant.steps which whole is fit))
+returns-in_err-item-clause-pages g c =
+    λ which whole is fit. ends_early c.from_residual.ensures.1 (steps_failed {B = ⊤} (c.members.invariant.steps which whole is fit))
 
 pub returns-clause-pages : goal.returns-clause-pages
 returns-clause-pages g c = λ which whole is fit.
@@ -56,9 +60,13 @@ members-preserved g c =
       end = λ end is. c.members.invariant.end end (c.next.ensures.same_end end is);
       setup = c.in_ok-take_member.ensures.on.setup ∙ c.members.invariant.setup;
       ready = c.in_ok-take_member.ensures.on.ready;
-      fit = others_fit g.M.Members.reads g.M.Members.left c.args.members.now c.members.members c.next.new.self (path_of c.path.result.now) (item_view c.in-Some.item)
+      fit =
+          others_fit g.M.Members.reads g.M.Members.left c.args.members.now c.members.members c.next.new.self (path_of c.path.result.now)
+          (item_view c.in-Some.item)
           c.members.invariant.fit (λ whole is. given whole ((c.members.invariant.same whole).1 is));
       steps = λ which whole is fit.
           steps_then c.members.invariant.setup (c.members.invariant.steps which whole is fit)
-          (λ all mid. c.in_ok-take_member.ensures.steps _ (g.M.Members.left c.next.new.self whole) all (left_same (given whole ((c.members.invariant.same whole).1 is)) mid));
+          (λ all mid.
+          c.in_ok-take_member.ensures.steps _ (g.M.Members.left c.next.new.self whole) all
+          (left_same (given whole ((c.members.invariant.same whole).1 is)) mid));
     }

@@ -13,8 +13,10 @@ invariant-members g l = record {
   end : (end : g.row.M.Denot) → g.M.Members.ends_as l.members end → g.M.Members.ends_as l.initial.members end;
   setup : l.pass.setup ≡ l.fn.setup;
   ready : IsReady l.pass;
-  fit : (whole : g.M.Members.Whole) → g.M.Members.reads l.initial.members whole → ∥ AllByRecursion HasMemberLengths (g.M.Members.left l.members whole) ∥₁;
-  steps : (which : Layout) (whole : g.M.Members.Whole) → g.M.Members.reads l.initial.members whole → FitLimits which (tree_of (g.M.Members.listing whole)) l.fn.setup.page_size (limits_with l.limits)
+  fit : (whole : g.M.Members.Whole) → g.M.Members.reads l.initial.members whole
+      → ∥ AllByRecursion HasMemberLengths (g.M.Members.left l.members whole) ∥₁;
+  steps : (which : Layout) (whole : g.M.Members.Whole) → g.M.Members.reads l.initial.members whole
+      → FitLimits which (tree_of (g.M.Members.listing whole)) l.fn.setup.page_size (limits_with l.limits)
       → Steps {A = ⊤} (record { which = which; tree = tree_of (g.M.Members.listing whole); notes = l.notes }) g.S.Sink l.initial.sink l.sink l.fn.setup []
       (HasLeft (record { which = which; tree = tree_of (g.M.Members.listing whole); notes = l.notes }) l.pass (g.M.Members.left l.members whole)) (Ok tt);
 }

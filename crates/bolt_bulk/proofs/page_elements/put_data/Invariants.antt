@@ -6,4 +6,5 @@ use Rattle.bolt_bulk.proofs.page_elements.put_data.Given as goal
 
 abbrev pub invariant-loop-element : goal.invariant-loop-element
 invariant-loop-element g l =
-    WroteFront g.S.Sink l.initial.sink l.sink (data_of g.E.Element.key (g.E.Element.value l.inlined) l.elements) (data_of g.E.Element.key (g.E.Element.value l.inlined) (drop l.element-index l.elements))
+    WroteFront g.S.Sink l.initial.sink l.sink (data_of g.E.Element.key (g.E.Element.value l.inlined) l.elements)
+    (data_of g.E.Element.key (g.E.Element.value l.inlined) (drop l.element-index l.elements))

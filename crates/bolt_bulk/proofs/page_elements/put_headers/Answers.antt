@@ -11,4 +11,4 @@ pub loop-element-preserved : goal.loop-element-preserved
 loop-element-preserved g c = grind (arith, common_steps, heads_next, heads_more)
 
 pub returns : goal.returns
-returns g c = heads_all c.loop-element.invariant (omega arith) (rw c.as_slice.ensures.value at c.put.ensures)
+returns g c = heads_all c.loop-element.invariant (omega arith) (rw c.as_slice.ensures.value at c.put_unless_empty.ensures)

@@ -1,5 +1,5 @@
 use Rattle.std.proofs.Common.{arith, refl}
-use Rattle.bolt_check.proofs.{ClaimLemmas.claims_freelist, ClaimLemmas.span_within, FreelistLemmas.freelist_page, MarkLemmas.page_overflows}
+use Rattle.bolt_check.proofs.{ClaimLemmas.claims_freelist, ClaimLemmas.span_within, FreelistLemmas.freelist_page, HighWaterLemmas.page_overflows}
 use Rattle.bolt_check.proofs.accounts.claim_freelist.Goals as goal
 
 pub known-requires : goal.known-requires

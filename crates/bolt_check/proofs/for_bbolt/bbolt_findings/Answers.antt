@@ -4,7 +4,7 @@ use Rattle.bolt_check.proofs.Words.{At_page, bytes_of, meta_of, Node, node_at, P
 use Rattle.bolt_check.proofs.{CheckedLemmas.checked_trees, TourSums.enough_node, Visited.none_left}
 use Rattle.bolt_check.proofs.UnreadSteps.{first_reached, first_readable, node_of_page, step_left, step_reached, unread_pop}
 use Rattle.bolt_check.proofs.UnreadWays.{all_found, none_along, root_along, spots_in, unread_along}
-use Rattle.bolt_check.specs.Private.Unread.{own_findings, unread_at, unread_of}
+use Rattle.bolt_check.specs.Private.Unread.{own_findings, unread_view, unread_of}
 use Rattle.bolt_check.proofs.for_bbolt.bbolt_findings.Goals as goal
 
 pub loop-next-init : goal.loop-next-init
@@ -13,7 +13,8 @@ loop-next-init c =
     let is = rw c.meta.ensures at c.in_ok-unread.ensures in
     record {
       stands = ∥∥₁_map (checked_trees checked) (λ trees. rw is (first_reached (bytes_of checked) (meta_of checked) trees));
-      carried = λ found along. rw c.new-findings.ensures.items (root_along (node_at (bytes_of checked) (meta_of checked)) (meta_of checked).root _ is found along);
+      carried =
+          λ found along. rw c.new-findings.ensures.items (root_along (node_at (bytes_of checked) (meta_of checked)) (meta_of checked).root _ is found along);
     }
 
 pub read-requires : goal.read-requires
@@ -29,25 +30,27 @@ pub loop-next-preserved : goal.loop-next-preserved
 loop-next-preserved c =
     let checked = c.args.checked in
     let nodes = node_at (bytes_of checked) (meta_of checked) in
-    let u = unread_at c.in-Some.next in
+    let u = unread_view c.in-Some.next in
     let rest = unread_of c.pop.new.self.items in
     let after = unread_of c.read.new.unread.items in
     let popped = unread_pop c.loop-next.unread.items c.pop.new.self.items c.in-Some.next c.in-Some.ensures.items in
     let stands = rw popped at c.loop-next.invariant.stands in
     let good : (s : PageSpot) → u.spot ≡ At_page s → (node : Node) × (nodes s.number ≡ _) =
-    λ s is. node_of_page (nodes s.number) (∥∥₁_map stands (λ reached. enough_node nodes (meta_of checked).high_water s.number ((rw is at reached).good s.number (inl refl)))) in
+    λ s is. node_of_page (nodes s.number)
+    (∥∥₁_map stands (λ reached. enough_node nodes (meta_of checked).high_water s.number ((rw is at reached).good s.number (inl refl)))) in
     record {
       stands = ∥∥₁_map stands (step_reached nodes (meta_of checked).root (meta_of checked).high_water u rest after c.in_ok-read.ensures.kids);
       carried = λ found along.
           rw (c.in_ok-read.ensures.found, append_assoc)
-          ((rw popped at c.loop-next.invariant.carried) (own_findings nodes u ++ found) (unread_along nodes u rest after good c.in_ok-read.ensures.kids found along));
+          ((rw popped at c.loop-next.invariant.carried) (own_findings nodes u ++ found)
+          (unread_along nodes u rest after good c.in_ok-read.ensures.kids found along));
     }
 
 pub loop-next-smaller : goal.loop-next-smaller
 loop-next-smaller c =
     let checked = c.args.checked in
     let nodes = node_at (bytes_of checked) (meta_of checked) in
-    let u = unread_at c.in-Some.next in
+    let u = unread_view c.in-Some.next in
     let rest = unread_of c.pop.new.self.items in
     let after = unread_of c.read.new.unread.items in
     let popped = unread_pop c.loop-next.unread.items c.pop.new.self.items c.in-Some.next c.in-Some.ensures.items in

@@ -18,4 +18,5 @@ invariant-loop-next l =
 
 -- a page takes its share away, and leads to fewer spots than that; an inline bucket leads to none
 abbrev pub decreases-loop-next : goal.decreases-loop-next
-decreases-loop-next l = left_below (node_at (bytes_of l.checked) (meta_of l.checked)) (meta_of l.checked).high_water (spots_in (unread_of l.unread.items)) + vec_len l.unread
+decreases-loop-next l =
+    left_below (node_at (bytes_of l.checked) (meta_of l.checked)) (meta_of l.checked).high_water (spots_in (unread_of l.unread.items)) + vec_len l.unread

@@ -1,5 +1,6 @@
 use Rattle.std.proofs.Common.{ℕ, suc, ◌+◌, ◌≡◌, [], refl, subst, arith}
-use Rattle.bolt_check.proofs.{Words.head_root, Words.IsOnWay, Words.ne_eqb, Words.root_spot, TreePages.node_is, TreePages.on_bucket, TreePages.on_child}
+use Rattle.bolt_check.proofs.{Words.head_root, Words.IsOnWay, Words.ne_eqb, Words.root_spot, TreePages.node_is, TreePages.on_bucket}
+use Rattle.bolt_check.proofs.{TreePages.on_child}
 use Rattle.bolt_format.specs.declared.header.Kind.TheVariants as kind
 use Rattle.bolt_check.proofs.laws.ways_go_on.Goals as goal
 

@@ -11,7 +11,8 @@ known-page-requires c =
 pub unwrap-requires : goal.unwrap-requires
 unwrap-requires c =
     let at = rw (c.bytes.ensures, c.meta.ensures) at c.known-page.ensures in
-    ∥∥₁_elim c.requires (Prim.hlevel props) (λ (steps, h). some_tree c.tree_page.result _ (is_tree _ _ _ (shown c.known-page.result) at steps h) c.tree_page.ensures.none)
+    ∥∥₁_elim c.requires (Prim.hlevel props)
+    (λ (steps, h). some_tree c.tree_page.result _ (is_tree _ _ _ (shown c.known-page.result) at steps h) c.tree_page.ensures.none)
 
 pub returns : goal.returns
 returns c = search (rules, node_shown, opened_as)

@@ -10,7 +10,8 @@ loop-i-preserved c =
     record {
       used = λ n. now.used n ∙ c.loop-i.invariant.used n;
       times = λ n h. now.times n (omega arith)
-          ∙ times_more (shown_ids c.args.ids) c.loop-i.i c.get.result n (times_of (use_at c.loop-i.table n)) inside c.get.ensures (c.loop-i.invariant.times n h);
+          ∙ times_more (shown_ids c.args.ids) c.loop-i.i c.get.result n (times_of (use_at c.loop-i.table n)) inside c.get.ensures
+          (c.loop-i.invariant.times n h);
       kept = λ n none. let before = times_before (shown_ids c.args.ids) c.loop-i.i c.get.result n inside c.get.ensures none in
           now.kept n before.1 ∙ c.loop-i.invariant.kept n before.0;
     }

@@ -1,5 +1,6 @@
 use Rattle.std.proofs.Common.{◌∷◌, arith, sym}
-use Rattle.bolt_check.proofs.Words.{At_inline, At_page, forest, shown_inner, IsClaimed, IsSearchFault, node_at, page_spot, shown_node, spots_of, Structure}
+use Rattle.bolt_check.proofs.Words.{At_inline, At_page, forest, shown_inner, IsClaimed, IsSearchFault, node_at, page_spot, shown_node, spots_of}
+use Rattle.bolt_check.proofs.Words.{Structure}
 use Rattle.bolt_check.proofs.{Forest.found_step, Visited.inline_carries, Visited.page_carries, Visited.passed_on}
 use Rattle.bolt_check.proofs.search.step.Goals as goal
 
@@ -18,7 +19,8 @@ returns-in_ok-push_kids-in-Page-clause-carried c =
     rw c.in-Page.is
     (page_carries (node_at c.args.file.now c.args.meta.now) (page_spot c.in-Page.spot) (shown_node c.in_ok-node-in-Page.node)
     (spots_of c.args.pending.now.items) (spots_of c.push_kids.new.pending.items)
-    c.args.table.now c.visit.new.table c.in_ok-node-in-Page.ensures.node c.in_ok-push_kids-in-Page.ensures.kids c.in_ok-node-in-Page.ensures.claims c.in_ok-node-in-Page.ensures.passes)
+    c.args.table.now c.visit.new.table c.in_ok-node-in-Page.ensures.node c.in_ok-push_kids-in-Page.ensures.kids c.in_ok-node-in-Page.ensures.claims
+    c.in_ok-node-in-Page.ensures.passes)
 
 pub returns-in_err-test-in-Bucket-clause-reported : goal.returns-in_err-test-in-Bucket-clause-reported
 returns-in_err-test-in-Bucket-clause-reported c =

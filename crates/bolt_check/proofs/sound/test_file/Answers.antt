@@ -1,5 +1,6 @@
 use Rattle.std.proofs.Common.{◌≢◌, List, [], subst, sym}
-use Rattle.bolt_check.proofs.{Words.AreAccountFindings, Words.Finding, Words.IsUsed, Words.merely, Words.node_at, RoleLemmas.uses_with, Shaping.shape_of}
+use Rattle.bolt_check.proofs.{Words.AreAccountFindings, Words.Finding, Words.IsUsed, Words.merely, Words.node_at, RoleLemmas.uses_with}
+use Rattle.bolt_check.proofs.{Shaping.shape_of}
 use Rattle.bolt_check.proofs.SoundLemmas.{findings_of_file, none_of, right_of, some_in, some_of, wrong_of}
 use Rattle.bolt_check.proofs.{Visited.stored}
 use Rattle.bolt_check.proofs.sound.test_file.Goals as goal
@@ -34,6 +35,7 @@ returns-in-Some-clause-refused c =
       shape_of (node_at c.args.file.now c.args.meta.now) c.args.meta.now.root c.in_ok-table.ensures.clean,
       wrong_of c.args.file.now c.args.meta.now c.in_ok-table.table.items c.in_ok-table.ensures.covered (wrong own),
       subst (AreAccountFindings c.args.file.now c.args.meta.now (IsUsed c.args.file.now c.args.meta.now)) (sym same)
-          (findings_of_file c.args.file.now c.args.meta.now c.in_ok-table.table.items c.in_ok-findings.findings.items c.in_ok-table.ensures.covered (reported own)),
+          (findings_of_file c.args.file.now c.args.meta.now c.in_ok-table.table.items c.in_ok-findings.findings.items c.in_ok-table.ensures.covered
+          (reported own)),
       some,
     )

@@ -9,4 +9,5 @@ returns g c =
     let sound : c.put_escaped_lines.new.lines.failures ≡ 0 = omega (arith, c.failures.ensures, c.if-failures-gt0.false) in
     let empty : c.new-shown.result.items.items ≡ [] = same_Some _ _ c.new-shown.ensures.taken in
     let bytes : c.put_escaped_lines.new.lines.items.items ≡ c.bytes.result.now = same_Some _ _ c.bytes.ensures in
-    DoesDeeds-one _ c.say.ensures (inl (sym bytes ∙ (c.put_escaped_lines.ensures sound).1 ∙ ap (λ (front : List ℕ). front ++ shown_lines c.args.text.now) empty, refl))
+    DoesDeeds-one _ c.say.ensures
+    (inl (sym bytes ∙ (c.put_escaped_lines.ensures sound).1 ∙ ap (λ (front : List ℕ). front ++ shown_lines c.args.text.now) empty, refl))

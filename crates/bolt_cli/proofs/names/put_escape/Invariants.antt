@@ -6,4 +6,5 @@ use Rattle.bolt_cli.proofs.names.put_escape.Given as goal
 
 -- the characters before those that are left were added
 abbrev pub invariant-loop-escaped : goal.invariant-loop-escaped
-invariant-loop-escaped l = GathersFront mem.ghosts l.fn.shown l.shown (flat_map encode_utf8 (escape_default l.fn.c)) (flat_map encode_utf8 (escape_rest l.escaped-iterator))
+invariant-loop-escaped l =
+    GathersFront mem.ghosts l.fn.shown l.shown (flat_map encode_utf8 (escape_default l.fn.c)) (flat_map encode_utf8 (escape_rest l.escaped-iterator))

@@ -7,6 +7,7 @@ use Rattle.bolt_cli.proofs.names.put_escaped_text.Goals as goal
 
 pub returns : goal.returns
 returns c =
-    let end = YieldsList-end (YieldsList-from_chars c.args.text.now c.utf8.text cc) c.loop-c.yielded _ c.loop-c.yielded_by _ _ c.in-None.is c.next.ensures.steps in
+    let end =
+    YieldsList-end (YieldsList-from_chars c.args.text.now c.utf8.text cc) c.loop-c.yielded _ c.loop-c.yielded_by _ _ c.in-None.is c.next.ensures.steps in
     subst (λ (text : List ℕ). GathersPiece mem.ghosts c.args.shown.now c.loop-c.shown text)
     (ap (λ cs. flat_map encode_utf8 (flat_map (shown_char c.args.has_lines) cs)) (sym (map-id c.loop-c.yielded) ∙ end.0)) c.loop-c.invariant

@@ -1,5 +1,6 @@
 use Rattle.std.proofs.Common.{◌≡◌, ◌⊎◌, Global, List, Ok, String, inl, inr, refl, string_bytes, ℕ}
-use Rattle.bolt_cli.proofs.{Vocabulary.Deed, Vocabulary.Ghosts, Vocabulary.Help, Vocabulary.PrintsText, Vocabulary.Refusal, Vocabulary.Refuses, Vocabulary.Version, Telling.DoesDeeds-as}
+use Rattle.bolt_cli.proofs.{Vocabulary.Deed, Vocabulary.Ghosts, Vocabulary.Help, Vocabulary.PrintsText, Vocabulary.Refusal, Vocabulary.Refuses}
+use Rattle.bolt_cli.proofs.{Vocabulary.Version, Telling.DoesDeeds-as}
 use Rattle.bolt_cli.proofs.whole_run.refuse.Goals as goal
 
 -- help and the version are printed

@@ -7,7 +7,13 @@ returns-in-Ok g c =
     let (ending, does, code, accepts) = c.run-status.ensures in
     let buffered = buffered_line mem.ghosts.taken mem.ghosts.failed _ _ ending c.new-err.ensures.taken c.new-err.ensures.sound accepts in
     DoesDeeds-after _ c.in-Ok.ensures.done (c.close.ensures ending buffered code)
-    (λ deeds closes. ((c.in-Ok.ensures.empty, c.in-Ok.ensures.sound), c.run-status.new.out, ending, shown g.O.Output.Sink.taken g.O.Output.Sink.failed _ _ mem.ghosts.taken mem.ghosts.failed _ _ _ _ ending c.requires does, closes))
+    (λ deeds closes. (
+      (c.in-Ok.ensures.empty, c.in-Ok.ensures.sound),
+      c.run-status.new.out,
+      ending,
+      shown g.O.Output.Sink.taken g.O.Output.Sink.failed _ _ mem.ghosts.taken mem.ghosts.failed _ _ _ _ ending c.requires does,
+      closes,
+    ))
 
 pub returns-in-Err : goal.returns-in-Err
 returns-in-Err g c = DoesDeeds-after _ c.in-Err.ensures.done c.fail.ensures (λ deeds fails. fails)

@@ -9,4 +9,5 @@ returns-clause-whole c = λ snapshot layout listing good extent answer.
 
 pub returns-clause-prefixes : goal.returns-clause-prefixes
 returns-clause-prefixes c = λ snapshot layout listing good n short extent for_bbolt answer.
-    fails (record { one = c.active_meta_is_one.ensures; lose = c.sound_trees_lose_nothing.ensures }) extent snapshot for_bbolt layout listing n answer good short
+    fails (record { one = c.active_meta_is_one.ensures; lose = c.sound_trees_lose_nothing.ensures }) extent snapshot for_bbolt layout listing n
+    answer good short

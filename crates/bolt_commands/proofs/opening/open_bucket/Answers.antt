@@ -1,5 +1,6 @@
 use Rattle.std.proofs.Common.{◌∙◌, ◌+◌, drop, refl, take}
-use Rattle.bolt_commands.proofs.{Vocabulary.bucket_start, Vocabulary.owned_path, AtPaths.leads_further, AtPaths.leads_nowhere, AtPaths.parts_at, AtPaths.parts_more}
+use Rattle.bolt_commands.proofs.{Vocabulary.bucket_start, Vocabulary.owned_path, AtPaths.leads_further, AtPaths.leads_nowhere, AtPaths.parts_at}
+use Rattle.bolt_commands.proofs.{AtPaths.parts_more}
 use Rattle.bolt_commands.proofs.opening.open_bucket.Goals as goal
 
 pub returns-in_default-clause-refused : goal.returns-in_default-clause-refused

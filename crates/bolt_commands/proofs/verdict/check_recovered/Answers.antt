@@ -19,7 +19,8 @@ returns-then-is_nothing g c =
     let ends = rw r.bytes at c.in-Ok.ensures.all in
     let whole = rw r.bytes at c.in-Ok.ensures.gaps in
     comes_as c.check_sound.ensures (λ answer found.
-    recovered_lost checking.for_bbolt checking.faults file checking.choice (recovery_meta c.args.recovery) (map loss_view c.losses.result.now) (map page_gap_view c.gaps-gaps.result.now) answer
+    recovered_lost checking.for_bbolt checking.faults file checking.choice (recovery_meta c.args.recovery) (map loss_view c.losses.result.now)
+    (map page_gap_view c.gaps-gaps.result.now) answer
     r.under.0 r.under.1 (λ all are. c.losses.ensures.losses ∙ ends all are) (λ all are. c.gaps-gaps.ensures ∙ whole all are)
     (none_lost checking.for_bbolt checking.faults file checking.choice (parts (map loss_view c.losses.result.now)) _ [] none answer found))
 
@@ -35,7 +36,8 @@ returns g c =
       is = record {
         answer = _;
         is = (
-          recovered_lost checking.for_bbolt checking.faults file checking.choice (recovery_meta c.args.recovery) (map loss_view c.losses.result.now) (map page_gap_view c.gaps-gaps.result.now) _
+          recovered_lost checking.for_bbolt checking.faults file checking.choice (recovery_meta c.args.recovery) (map loss_view c.losses.result.now)
+              (map page_gap_view c.gaps-gaps.result.now) _
               r.under.0 r.under.1 (λ all are. c.losses.ensures.losses ∙ ends all are) (λ all are. c.gaps-gaps.ensures ∙ whole all are)
               (some_lost checking.for_bbolt checking.faults file checking.choice (parts (map loss_view c.losses.result.now)) _ [] some),
           refl,

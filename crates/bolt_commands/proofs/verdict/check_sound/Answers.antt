@@ -31,7 +31,9 @@ returns-in-Err g c =
     record {
       is = record {
         answer = _;
-        is = refused_file checking.faults checking.input.file.now checking.choice checking.for_bbolt (map page_gap_view c.args.gaps.now) c.in-Err.fault c.in-Err.ensures.refused;
+        is =
+            refused_file checking.faults checking.input.file.now checking.choice checking.for_bbolt (map page_gap_view c.args.gaps.now) c.in-Err.fault
+            c.in-Err.ensures.refused;
         does = c.put_refusal.ensures;
       };
     }

@@ -1,7 +1,7 @@
 -- What is wrong apart from the pages, and then the text of the findings.
 use Rattle.std.proofs.Common.{inl, inr, map, refl}
 use Rattle.bolt_commands.proofs.{Vocabulary.Wrote-stop, Vocabulary.Wrote-then, Vocabulary.errors_in, Doing.ends_as}
-use Rattle.bolt_recover.specs.Gaps.{page_gap_view}
+use Rattle.bolt_recover.specs.PageGaps.{page_gap_view}
 use Rattle.bolt_report.specs.GapLines.{findings_text}
 use Rattle.bolt_commands.proofs.verdict.put_findings_after.Goals as goal
 

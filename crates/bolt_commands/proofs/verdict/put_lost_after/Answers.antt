@@ -1,11 +1,14 @@
 -- What is wrong apart from the pages, and then the text of what is lost and found.
 use Rattle.std.proofs.Common.{inl, inr, map, refl}
-use Rattle.bolt_commands.proofs.{Vocabulary.Wrote-stop, Vocabulary.Wrote-then, Vocabulary.counted_lost_text, Vocabulary.errors_in, Vocabulary.found_view, Vocabulary.lost_view, Vocabulary.page_gap_view, Doing.ends_as}
+use Rattle.bolt_commands.proofs.{Vocabulary.Wrote-stop, Vocabulary.Wrote-then, Vocabulary.counted_lost_text, Vocabulary.errors_in}
+use Rattle.bolt_commands.proofs.{Vocabulary.found_view, Vocabulary.lost_view, Vocabulary.page_gap_view, Doing.ends_as}
 use Rattle.bolt_commands.proofs.verdict.put_lost_after.Goals as goal
 
 pub returns-in_err-earlier : goal.returns-in_err-earlier
 returns-in_err-earlier g c =
-    let put = Wrote-stop (counted_lost_text (errors_in c.args.faults) (lost_view c.args.lost) (map page_gap_view c.args.gaps.now) (map found_view c.args.found.now)) c.in_err-earlier.ensures.lines in
+    let put =
+    Wrote-stop (counted_lost_text (errors_in c.args.faults) (lost_view c.args.lost) (map page_gap_view c.args.gaps.now) (map found_view c.args.found.now))
+    c.in_err-earlier.ensures.lines in
     inr (put.failures, put.appends, ends_as _ _ c.from_residual.ensures.1)
 
 pub returns-in_err-put_counted_lost : goal.returns-in_err-put_counted_lost

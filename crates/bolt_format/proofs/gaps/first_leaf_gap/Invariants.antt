@@ -6,6 +6,7 @@ use Rattle.bolt_format.proofs.gaps.first_leaf_gap.Given as goal
 -- the first of all elements is the first from here on, whose data bbolt writes here
 abbrev pub invariant-loop-i : goal.invariant-loop-i
 invariant-loop-i l = record {
-  rest : find (is_elsewhere (leaf_key_start l.bytes) (leaf_end l.bytes) l.count) (range_with_len l.i (l.count - l.i)) ≡ first_elsewhere (leaf_key_start l.bytes) (leaf_end l.bytes) l.count;
+  rest : find (is_elsewhere (leaf_key_start l.bytes) (leaf_end l.bytes) l.count)
+      (range_with_len l.i (l.count - l.i)) ≡ first_elsewhere (leaf_key_start l.bytes) (leaf_end l.bytes) l.count;
   here : l.written ≡ written_start (leaf_end l.bytes) l.count l.i;
 }

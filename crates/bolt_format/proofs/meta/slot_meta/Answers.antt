@@ -4,10 +4,12 @@ use Rattle.bolt_format.proofs.MetaLemmas.{IsInOne-beside, none_found}
 use Rattle.bolt_format.proofs.meta.slot_meta.Goals as goal
 
 pub returns-in-Ok-clause-valid : goal.returns-in-Ok-clause-valid
-returns-in-Ok-clause-valid c = rw c.in-One.is (IfOk-weaker c.meta_at.result _ _ (λ one valid. inl (c.in-Ok.zero, c.in-Ok.ensures.valid, valid)) c.meta_at.ensures.valid)
+returns-in-Ok-clause-valid c =
+    rw c.in-One.is (IfOk-weaker c.meta_at.result _ _ (λ one valid. inl (c.in-Ok.zero, c.in-Ok.ensures.valid, valid)) c.meta_at.ensures.valid)
 
 pub returns-in-Ok-clause-fault : goal.returns-in-Ok-clause-fault
-returns-in-Ok-clause-fault c = rw c.in-One.is (IfErr-weaker c.meta_at.result _ _ (λ fault has. inl (c.in-Ok.zero, c.in-Ok.ensures.valid, has)) c.meta_at.ensures.fault)
+returns-in-Ok-clause-fault c =
+    rw c.in-One.is (IfErr-weaker c.meta_at.result _ _ (λ fault has. inl (c.in-Ok.zero, c.in-Ok.ensures.valid, has)) c.meta_at.ensures.fault)
 
 pub returns-in-Ok-clause-none : goal.returns-in-Ok-clause-none
 returns-in-Ok-clause-none c =

@@ -9,7 +9,8 @@ invariant_of-result c = search (rules, flat_leaves, good_elements, flat_elements
 
 pub returns-clause-elements : goal.returns-clause-elements
 unfolding leaves_on
-returns-clause-elements c = ap (leaf_elements _) c.read-header.ensures.count ∙ ap (λ (bytes : List ℕ). leaf_elements bytes (count_field bytes)) (take_rest c.args.value.now 16)
+returns-clause-elements c =
+    ap (leaf_elements _) c.read-header.ensures.count ∙ ap (λ (bytes : List ℕ). leaf_elements bytes (count_field bytes)) (take_rest c.args.value.now 16)
 
 pub returns-clause-gap : goal.returns-clause-gap
 unfolding inline_gap shown_gap

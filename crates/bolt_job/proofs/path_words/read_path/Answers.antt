@@ -8,8 +8,10 @@ returns-in_err-read_part c =
     let read = part_of c.args.parts in
     let front = owned_path c.loop-word.path.items in
     let i = c.loop-word.word-index in
-    part_refused read _ (texts (drop (i + 1) c.args.words.now)) _ (λ (part : Vec ℕ Global). part.items) front _ _ c.from_residual.result c.in_err-read_part.ensures
-    (sym (at_drop_more (λ words. continued front (each_part read (texts words))) c.args.words.now i _ c.loop-word-test.true) ∙ c.loop-word.invariant) c.from_residual.ensures.1
+    part_refused read _ (texts (drop (i + 1) c.args.words.now)) _ (λ (part : Vec ℕ Global). part.items) front _ _ c.from_residual.result
+    c.in_err-read_part.ensures
+    (sym (at_drop_more (λ words. continued front (each_part read (texts words))) c.args.words.now i _ c.loop-word-test.true) ∙ c.loop-word.invariant)
+    c.from_residual.ensures.1
 
 pub loop-word-preserved : goal.loop-word-preserved
 loop-word-preserved c =
@@ -19,5 +21,6 @@ loop-word-preserved c =
     let part = c.in_ok-read_part.field-0 in
     let left = texts (drop (i + 1) c.args.words.now) in
     ap (λ (path : Path). continued path (each_part read left)) (ap owned_path c.in_ok-push.ensures.items ∙ map-append _ c.loop-word.path.items (part ∷ []))
-    ∙ sym (at_drop_more (λ words. continued front (each_part read (texts words))) c.args.words.now i _ c.loop-word-test.true ∙ continued_one read _ left front part.items c.in_ok-read_part.ensures)
+    ∙ sym (at_drop_more (λ words. continued front (each_part read (texts words))) c.args.words.now i _ c.loop-word-test.true
+    ∙ continued_one read _ left front part.items c.in_ok-read_part.ensures)
     ∙ c.loop-word.invariant

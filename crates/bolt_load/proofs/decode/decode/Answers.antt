@@ -2,7 +2,8 @@
 use Rattle.std.proofs.Common.{arith, ◌≡◌, ℕ, List, [], Option, sym, subst, true}
 use Rattle.std.proofs.lemmas.Grind.{common_steps}
 use Rattle.std.specs.Prelude.{IfNone}
-use Rattle.bolt_load.proofs.DecodedLines.{HasDecoded, all_decoded, all_shaped, front_decoded, front_shaped, head_is, line_decoded, none_decoded, stops}
+use Rattle.bolt_load.proofs.DecodedLines.{HasDecoded, all_decoded, all_shaped, front_decoded, front_shaped, head_is, line_decoded, none_decoded}
+use Rattle.bolt_load.proofs.DecodedLines.{stops}
 use Rattle.bolt_load.proofs.{PathLemmas.is_none, Words.is_some}
 use Rattle.bolt_load.proofs.decode.decode.Goals as goal
 
@@ -15,18 +16,27 @@ loop-line-init c = subst (λ (bytes : List ℕ). HasDecoded c.args.text.now c.ar
 
 pub returns-then-is_some-clause-decoded : goal.returns-then-is_some-clause-decoded
 returns-then-is_some-clause-decoded c =
-    let is = head_is c.args.text.now c.loop-line.rest.now c.loop-line.bytes.items c.add_line.new.bytes.items c.loop-line.invariant c.in-Some.line.now c.in-Some.after.now c.in-Some.ensures in
-    front_decoded c.args.text.now c.loop-line.rest.now c.loop-line.bytes.items c.add_line.new.bytes.items c.loop-line.invariant c.in-Some.line.now c.in-Some.after.now c.in-Some.ensures _ is c.in_ok-fault.ensures.added
+    let is =
+    head_is c.args.text.now c.loop-line.rest.now c.loop-line.bytes.items c.add_line.new.bytes.items c.loop-line.invariant c.in-Some.line.now
+    c.in-Some.after.now c.in-Some.ensures in
+    front_decoded c.args.text.now c.loop-line.rest.now c.loop-line.bytes.items c.add_line.new.bytes.items c.loop-line.invariant c.in-Some.line.now
+    c.in-Some.after.now c.in-Some.ensures _ is c.in_ok-fault.ensures.added
 
 pub returns-then-is_some-clause-shaped : goal.returns-then-is_some-clause-shaped
 returns-then-is_some-clause-shaped c =
-    let is = head_is c.args.text.now c.loop-line.rest.now c.loop-line.bytes.items c.add_line.new.bytes.items c.loop-line.invariant c.in-Some.line.now c.in-Some.after.now c.in-Some.ensures in
-    front_shaped c.args.text.now c.loop-line.rest.now c.loop-line.bytes.items c.add_line.new.bytes.items c.loop-line.invariant c.in-Some.line.now c.in-Some.after.now c.in-Some.ensures _ is
+    let is =
+    head_is c.args.text.now c.loop-line.rest.now c.loop-line.bytes.items c.add_line.new.bytes.items c.loop-line.invariant c.in-Some.line.now
+    c.in-Some.after.now c.in-Some.ensures in
+    front_shaped c.args.text.now c.loop-line.rest.now c.loop-line.bytes.items c.add_line.new.bytes.items c.loop-line.invariant c.in-Some.line.now
+    c.in-Some.after.now c.in-Some.ensures _ is
 
 pub returns-then-is_some-clause-stopped : goal.returns-then-is_some-clause-stopped
 returns-then-is_some-clause-stopped c =
-    let is = head_is c.args.text.now c.loop-line.rest.now c.loop-line.bytes.items c.add_line.new.bytes.items c.loop-line.invariant c.in-Some.line.now c.in-Some.after.now c.in-Some.ensures in
-    stops c.args.text.now c.loop-line.rest.now c.loop-line.bytes.items c.add_line.new.bytes.items c.loop-line.invariant c.in-Some.line.now c.in-Some.after.now c.in-Some.ensures _ is c.in_ok-fault.fault c.in_ok-fault.ensures.fault
+    let is =
+    head_is c.args.text.now c.loop-line.rest.now c.loop-line.bytes.items c.add_line.new.bytes.items c.loop-line.invariant c.in-Some.line.now
+    c.in-Some.after.now c.in-Some.ensures in
+    stops c.args.text.now c.loop-line.rest.now c.loop-line.bytes.items c.add_line.new.bytes.items c.loop-line.invariant c.in-Some.line.now
+    c.in-Some.after.now c.in-Some.ensures _ is c.in_ok-fault.fault c.in_ok-fault.ensures.fault
 
 pub loop-line-preserved : goal.loop-line-preserved
 loop-line-preserved c = grind (arith, common_steps, is_none, line_decoded)

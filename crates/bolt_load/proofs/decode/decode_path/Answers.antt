@@ -18,11 +18,13 @@ loop-part-preserved c = grind (arith, common_steps, part_added)
 pub returns-clause-good : goal.returns-clause-good
 returns-clause-good c =
     subst (λ (b : Bool). IfOk c.decode_part-2.result (λ good. good ≡ b))
-    (path_good c.args.word.now c.loop-part.rest.now c.args.bytes.now.items c.loop-part.bytes.items c.decode_part-2.new.bytes.items c.loop-part.invariant c.in_default.ensures)
+    (path_good c.args.word.now c.loop-part.rest.now c.args.bytes.now.items c.loop-part.bytes.items c.decode_part-2.new.bytes.items c.loop-part.invariant
+    c.in_default.ensures)
     c.decode_part-2.ensures.good
 
 pub returns-clause-added : goal.returns-clause-added
 returns-clause-added c =
     on_ok_weaker c.decode_part-2.result
-    (path_added c.args.word.now c.loop-part.rest.now c.args.bytes.now.items c.loop-part.bytes.items c.decode_part-2.new.bytes.items c.loop-part.invariant c.in_default.ensures)
+    (path_added c.args.word.now c.loop-part.rest.now c.args.bytes.now.items c.loop-part.bytes.items c.decode_part-2.new.bytes.items c.loop-part.invariant
+    c.in_default.ensures)
     c.decode_part-2.ensures.added

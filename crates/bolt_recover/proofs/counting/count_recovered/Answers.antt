@@ -26,7 +26,8 @@ members-preserved c = record {
       let wants = rw c.path.ensures at (sym c.if-is_unwanted.false ∙ c.is_unwanted.ensures) in (
         done ++ _ ∷ [],
         one_on listing done _ _ _ all given,
-        added done (figures_view c.members.figures) (figures_view c.add.new.self) (path_of c.path-in-Some.result.now) (recovery_path c.next.new.self) (item_view c.in-Some.item) c.add.ensures c.path-in-Some.ensures figures,
+        added done (figures_view c.members.figures) (figures_view c.add.new.self) (path_of c.path-in-Some.result.now) (recovery_path c.next.new.self)
+            (item_view c.in-Some.item) c.add.ensures c.path-in-Some.ensures figures,
         λ alone. root_values_more done _ (wanted _ _ wants alone) (none alone),
       );
 }

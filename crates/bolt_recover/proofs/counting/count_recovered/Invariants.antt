@@ -10,7 +10,8 @@ invariant-members l = record {
   file : recovery_file l.recovery ≡ recovery_file l.fn.recovery;
   meta : recovery_meta l.recovery ≡ recovery_meta l.fn.recovery;
   counted : ForRecovered (recovery_file l.fn.recovery) (recovery_meta l.fn.recovery) (λ listing.
-      (done : List Member) × (listing ≡ done ++ recovery_left l.recovery listing) × AreFiguresOf done l.figures × (IsTrue l.alone → count_by is_root_value done ≡ 0));
+      (done : List Member) × (listing ≡ done ++ recovery_left l.recovery listing) × AreFiguresOf done l.figures
+      × (IsTrue l.alone → count_by is_root_value done ≡ 0));
 }
 
 abbrev pub decreases-members : goal.decreases-members

@@ -1,5 +1,6 @@
 use Rattle.std.proofs.Common.{◌≡◌, ◌∙◌, ◌⊎◌, ◌↔◌, ◌<◌, ◌+◌, ◌-◌, ◌++◌, ◌∷◌, inl, ℕ, true, List, [], ap, arith, subst, sym}
-use Rattle.bolt_recover.proofs.Words.{All, All-push, false_from_ne_true, false≢true, Found, FoundBelow, is_listed, is_taken, IsFoundPage, IsFoundView, leftovers_file, leftovers_length, leftovers_meta, map-append, found_numbers}
+use Rattle.bolt_recover.proofs.Words.{All, All-push, false_from_ne_true, false≢true, Found, FoundBelow, is_listed, is_taken, IsFoundPage, IsFoundView}
+use Rattle.bolt_recover.proofs.Words.{leftovers_file, leftovers_length, leftovers_meta, map-append, found_numbers}
 use Rattle.bolt_recover.proofs.FoundLemmas.{found_next, found_not, found_up, taken_more, view_of}
 use Rattle.bolt_recover.proofs.found_leaves.find_leaves.Goals as goal
 use Rattle.bolt_recover.proofs.found_leaves.find_leaves.Goals.{in-Some, in_default}
@@ -17,7 +18,8 @@ loop-number-preserved c =
     let new = is_taken c.take.new.self in
     let listed = is_listed l.leftovers in
     let first = is_listed c.args.leftovers in
-    let inside : n < leftovers_length c.args.leftovers = (let within = c.end-number-end.ensures.within in let lt = c.loop-number-test.true in omega (arith, within, lt)) in
+    let inside : n < leftovers_length c.args.leftovers =
+    (let within = c.end-number-end.ensures.within in let lt = c.loop-number-test.true in omega (arith, within, lt)) in
     let free = c.requires n inside in
     elim c.match-take.branch [
       | in-Some w ↦
@@ -25,8 +27,11 @@ loop-number-preserved c =
           let f : Found = w.new.result in
           let items : c.match-take.found.items ≡ l.found.items ++ f ∷ [] =
           ap (λ v. v.items) w.found-is ∙ w.push_reserved.ensures.items ∙ ap (λ (fs : List Found). fs ++ f ∷ []) c.in_ok-reserve.ensures.items in
-          let numbers : found_numbers c.match-take.found.items ≡ found ++ n ∷ [] = ap found_numbers items ∙ map-append (λ (x : Found). x.number) l.found.items (f ∷ []) ∙ ap (λ (m : ℕ). found ++ m ∷ []) w.new.ensures.number in
-          let view = view_of file meta (λ k. old k ≡ true) f (rw (w.new.ensures.number, w.new.ensures.page) some.page) (rw (w.new.ensures.number, w.new.ensures.page) some.node) (rw w.new.ensures.number some.leaf) in
+          let numbers : found_numbers c.match-take.found.items ≡ found ++ n ∷ [] =
+          ap found_numbers items ∙ map-append (λ (x : Found). x.number) l.found.items (f ∷ []) ∙ ap (λ (m : ℕ). found ++ m ∷ []) w.new.ensures.number in
+          let view =
+          view_of file meta (λ k. old k ≡ true) f (rw (w.new.ensures.number, w.new.ensures.page) some.page)
+          (rw (w.new.ensures.number, w.new.ensures.page) some.node) (rw w.new.ensures.number some.leaf) in
           record {
             file = c.take.ensures.file ∙ inv.file;
             meta = c.take.ensures.meta ∙ inv.meta;
@@ -35,7 +40,9 @@ loop-number-preserved c =
                 (found_next file meta kept found n old listed first inv.taken (inv.listed n) free inv.below some.leaf some.unlisted);
             taken = subst (λ (xs : List ℕ). (k : ℕ) → (new k ≡ true) ↔ (kept k ⊎ IsFoundPage file meta xs k)) (sym numbers)
                 (taken_more file meta kept found n old new inv.taken some.taken);
-            listed = λ k untaken. c.take.ensures.noted k untaken ∙ inv.listed k (false_from_ne_true (old k) (λ was. false≢true (sym untaken ∙ (some.taken k).1 (inl was))));
+            listed =
+                λ k untaken. c.take.ensures.noted k untaken
+                ∙ inv.listed k (false_from_ne_true (old k) (λ was. false≢true (sym untaken ∙ (some.taken k).1 (inl was))));
             views = subst (All (IsFoundView file meta)) (sym items) (All-push (IsFoundView file meta) l.found.items f inv.views view);
           }
       | in_default w ↦
@@ -62,7 +69,8 @@ returns-clause-found c =
     let kept : ℕ → Type 0 = λ n. is_taken c.args.leftovers n ≡ true in
     let end = c.end-number-end.result in
     let below = c.end-number-end.ensures.below in
-    let at_end : c.loop-number.number ≡ end = (let over = c.loop-number-test.false in let auto_ = c.loop-number.auto.number-end in omega (arith, over, auto_)) in
+    let at_end : c.loop-number.number ≡ end =
+    (let over = c.loop-number-test.false in let auto_ = c.loop-number.auto.number-end in omega (arith, over, auto_)) in
     let up : end + (meta.high_water - end) ≡ meta.high_water = omega (arith, below) in
     let found = found_numbers c.loop-number.found.items in
     subst (λ (n : ℕ). FoundBelow file meta kept n found) up

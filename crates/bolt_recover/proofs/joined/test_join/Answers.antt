@@ -8,7 +8,8 @@ use Rattle.bolt_recover.proofs.joined.test_join.Goals.{else-some-via-else-some, 
 pub returns-then-damage-clause-refused : goal.returns-then-damage-clause-refused
 returns-then-damage-clause-refused c = (
   λ none.
-      let long : length c.args.both.now.found.items ≡ 0 = sym (length-map c.args.both.now.found.items (λ (f : Found). f.number)) ∙ ap (λ (ns : List ℕ). length ns) none in
+      let long : length c.args.both.now.found.items ≡ 0 =
+      sym (length-map c.args.both.now.found.items (λ (f : Found). f.number)) ∙ ap (λ (ns : List ℕ). length ns) none in
       grind (arith, common_steps, long, c.is_empty-some.ensures, c.if-some.true),
   has_key c.args.both.now c.in-Damaged.damage c.in-Damaged.is c.if-damage.true,
 )

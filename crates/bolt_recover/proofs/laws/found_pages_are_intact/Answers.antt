@@ -12,7 +12,8 @@ returns-clause-leaf c = λ file meta found n are has survey is.
 
 pub returns-clause-unlisted : goal.returns-clause-unlisted
 returns-clause-unlisted c = λ file meta found n are has.
-    (found_here file meta (IsKeptPage file meta are.survey) meta.high_water found n (found_in file meta found are.survey n are are.surveys has) has).next.unlisted
+    (found_here file meta (IsKeptPage file meta are.survey) meta.high_water found n (found_in file meta found are.survey n are are.surveys has)
+    has).next.unlisted
 
 pub returns-clause-apart : goal.returns-clause-apart
 returns-clause-apart c = λ file meta found n are a m k b left right.

@@ -4,4 +4,5 @@ use Rattle.bolt_recover.proofs.laws.joined_listing_keeps_what_is_recovered.Goals
 
 pub returns : goal.returns
 returns c = λ file meta listing recovered is back lacks.
-    ap (filter stays) (joined_of file meta listing recovered is.found is back is.are_found) ∙ joined_keeps file meta recovered (with_elements file meta is.found) back lacks
+    ap (filter stays) (joined_of file meta listing recovered is.found is back is.are_found)
+    ∙ joined_keeps file meta recovered (with_elements file meta is.found) back lacks

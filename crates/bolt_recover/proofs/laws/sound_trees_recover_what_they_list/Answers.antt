@@ -1,5 +1,6 @@
 use Rattle.std.proofs.Common.{subst}
-use Rattle.bolt_recover.proofs.{Words.IsEntry, Words.IsRecovered, Words.lists_once, Words.Root_page, Existing.has_recovered, SoundListing.sound_listing, SoundWalks.no_loss}
+use Rattle.bolt_recover.proofs.{Words.IsEntry, Words.IsRecovered, Words.lists_once, Words.Root_page, Existing.has_recovered}
+use Rattle.bolt_recover.proofs.{SoundListing.sound_listing, SoundWalks.no_loss}
 use Rattle.bolt_recover.proofs.laws.sound_trees_recover_what_they_list.Goals as goal
 
 pub returns-clause-listing : goal.returns-clause-listing

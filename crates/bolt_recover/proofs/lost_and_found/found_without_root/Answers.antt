@@ -1,5 +1,6 @@
 use Rattle.std.proofs.Common.{◌≡◌, ◌∙◌, ◌↔◌, ℕ, List, Bool, true, subst, subst₂, sym}
-use Rattle.bolt_recover.proofs.{Words.FoundBelow, Words.is_taken, Words.IsMetaPage, Words.Meta, Words.found_numbers, FoundAll.found_rootless, Words.IfOk-weaker}
+use Rattle.bolt_recover.proofs.{Words.FoundBelow, Words.is_taken, Words.IsMetaPage, Words.Meta, Words.found_numbers, FoundAll.found_rootless}
+use Rattle.bolt_recover.proofs.{Words.IfOk-weaker}
 use Rattle.bolt_recover.proofs.lost_and_found.found_without_root.Goals as goal
 
 pub returns-clause-found : goal.returns-clause-found

@@ -8,10 +8,11 @@ pub returns-in-Ok : goal.returns-in-Ok
 returns-in-Ok c =
     let file = c.args.file.now in
     let place = place_view c.args.place in
-    let root = rw c.meta_at.ensures at c.in-Ok.ensures.root in
-    let under = c.in-Ok.ensures.meta ∙ c.meta_at.ensures in
+    let root = rw c.place_meta.ensures at c.in-Ok.ensures.root in
+    let under = c.in-Ok.ensures.meta ∙ c.place_meta.ensures in
     let counted = rw (c.in-Ok.ensures.file, under) at c.state_of.ensures in
     IfOk-weaker _ _ _ (λ o is. counted_state file place o root is) counted
 
 pub returns-in-Err-Structure : goal.returns-in-Err-Structure
-returns-in-Err-Structure c = merely (c.in-Err-Structure.field-0-0, rw (c.in-Err-Structure.field-0-is, c.meta_at.ensures) at c.in-Err-Structure.ensures.refused)
+returns-in-Err-Structure c =
+    merely (c.in-Err-Structure.field-0-0, rw (c.in-Err-Structure.field-0-is, c.place_meta.ensures) at c.in-Err-Structure.ensures.refused)

@@ -1,6 +1,6 @@
 use Rattle.std.proofs.Common.{◌≡◌, drop, map}
 use Rattle.bolt_repair.specs.Bounds.{bound_of_others, greater}
-use Rattle.bolt_etcd.specs.ShownOthers.{shown_other}
+use Rattle.bolt_etcd.specs.Wire.Others.{shown_other}
 use Rattle.bolt_repair.proofs.bound.of_others.Given as goal
 
 -- the greatest so far and that of the others are that of all

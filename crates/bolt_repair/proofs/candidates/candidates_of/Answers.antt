@@ -1,6 +1,6 @@
 use Rattle.std.proofs.Common.{◌≡◌, ap, is_lt, rules}
 use Rattle.std.proofs.{lemmas.Fn.dedup_same, lemmas.List.Sorted.answers_always}
-use Rattle.bolt_etcd.specs.ShownRevisions.{entry_of}
+use Rattle.bolt_etcd.specs.Wire.ShownRevisions.{entry_of}
 use Rattle.bolt_repair.specs.Candidates.{whole_cmp}
 use Rattle.bolt_repair.proofs.WholeOrder.{are_candidates, code_ranks, code_same, code_whole}
 use Rattle.bolt_repair.proofs.candidates.candidates_of.Goals as goal

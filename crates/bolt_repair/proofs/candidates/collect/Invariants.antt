@@ -1,5 +1,5 @@
 use Rattle.std.proofs.Common.{◌≡◌, ◌++◌, drop, map}
-use Rattle.bolt_etcd.specs.ShownRevisions.{entry_of}
+use Rattle.bolt_etcd.specs.Wire.ShownRevisions.{entry_of}
 use Rattle.bolt_repair.specs.Candidates.{candidates_in, found_elements}
 use Rattle.bolt_repair.proofs.candidates.collect.Given as goal
 

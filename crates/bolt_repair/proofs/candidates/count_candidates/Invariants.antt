@@ -7,5 +7,6 @@ use Rattle.bolt_repair.proofs.candidates.count_candidates.Given as goal
 abbrev pub invariant-rest : goal.invariant-rest
 invariant-rest l = record {
   fits : l.n < 2 ^ 64;
-  all : counted l.n (length (under_revision_keys (found_elements (drop l.page-index l.found)))) ≡ counted 0 (length (under_revision_keys (found_elements l.found)));
+  all : counted l.n (length (under_revision_keys (found_elements (drop l.page-index l.found))))
+      ≡ counted 0 (length (under_revision_keys (found_elements l.found)));
 }

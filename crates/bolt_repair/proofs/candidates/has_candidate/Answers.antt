@@ -2,7 +2,7 @@ use Rattle.std.proofs.Common.{◌∙◌, ap, arith, is_lt, sym, false, ◌≡◌
 use Rattle.std.proofs.lemmas.Bool.{ltb-true}
 use Rattle.std.specs.Str.{bytes_eq}
 use Rattle.bolt_check.specs.Keys.{Key, key_cmp}
-use Rattle.bolt_etcd.specs.declared.revision.Revision.{Revision}
+use Rattle.bolt_etcd.specs.declared.wire.revision.Revision.{Revision}
 use Rattle.bolt_repair.proofs.{Alones.same_at, KeyWalks.found, KeyWalks.past_all}
 use Rattle.bolt_repair.proofs.candidates.has_candidate.Goals as goal
 use Rattle.bolt_repair.proofs.candidates.has_candidate.Goals.{then-loop-i-test+else-is_under_lesser_key, else-loop-i-test}
@@ -19,7 +19,8 @@ returns-then-i-candidates c =
           ap (λ (x : Revision). is_lt (key_cmp x.key.now key)) (sym same) ∙ sym w.is_under_lesser_key.ensures ∙ w.if-is_under_lesser_key.false
       | else-loop-i-test w ↦ absurd (let past = w.loop-i-test.false in let within = c.if-i-candidates.true in omega (arith, past, within))
     ] in
-    found key xs c.requires c.loop-i.i r c.loop-i.invariant c.if-i-candidates.true at not_less c.eq.result (c.eq.ensures ∙ ap (λ (k : Key). bytes_eq k key) c.stored_key.ensures.entry)
+    found key xs c.requires c.loop-i.i r c.loop-i.invariant c.if-i-candidates.true at not_less c.eq.result
+    (c.eq.ensures ∙ ap (λ (k : Key). bytes_eq k key) c.stored_key.ensures.entry)
 
 pub returns-else-i-candidates : goal.returns-else-i-candidates
 returns-else-i-candidates c = (

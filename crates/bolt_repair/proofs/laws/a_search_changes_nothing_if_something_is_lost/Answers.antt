@@ -6,5 +6,6 @@ pub returns : goal.returns
 returns c = λ file meta lost listing loses some.
     let anyway = c.a_loss_is_searched_for_in_any_case.ensures file meta lost in (
       search_is file meta (λ found. anyway found loses some) listing,
-      search_was file meta (λ found. anyway found loses some) listing (c.sought_pages_are_one.ensures file meta) (c.each_file_has_sought_pages.ensures file meta),
+      search_was file meta (λ found. anyway found loses some) listing (c.sought_pages_are_one.ensures file meta)
+          (c.each_file_has_sought_pages.ensures file meta),
     )

@@ -10,7 +10,9 @@ pub returns : goal.returns
 returns c = λ file meta listing repaired trees lists is.
     let repair = is.repair in
     let none = repair.are_found.none (c.sound_trees_lose_nothing.ensures file meta repair.are_found.survey repair.are_found.surveys trees) in
-    let same = lists_once (IsEntry file meta) (Root_page meta.root) repair.recovered listing (c.sound_trees_recover_their_listing.ensures file meta repair.recovered trees repair.recovers) lists in (
+    let same =
+    lists_once (IsEntry file meta) (Root_page meta.root) repair.recovered listing
+    (c.sound_trees_recover_their_listing.ensures file meta repair.recovered trees repair.recovers) lists in (
       is.made.meta,
       subst (λ (ms : List Member). MakesMeta ms is.made.meta) same repair.makes_meta,
       is.repaired ∙ none_repaired file meta false is.back is.made repair none

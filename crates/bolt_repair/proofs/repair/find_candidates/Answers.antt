@@ -1,7 +1,7 @@
 -- The pages are those that are looked for: in any case, or since something is lost.
 use Rattle.std.proofs.Common.{List, ap, false, true, subst, sym, ◌∙◌, ◌≡◌, map}
 use Rattle.std.proofs.{lemmas.Bool.false≢true, lemmas.Result.IfOk-weaker}
-use Rattle.bolt_etcd.specs.ShownRevisions.{entry_of}
+use Rattle.bolt_etcd.specs.Wire.ShownRevisions.{entry_of}
 use Rattle.bolt_recover.specs.declared.found.Found.{Found}
 use Rattle.bolt_recover.specs.{LostAndFound.all_lost, Losses.is_nothing}
 use Rattle.bolt_repair.specs.Candidates.{AreCandidates, found_elements}
@@ -14,7 +14,8 @@ returns-then-is_nothing c =
     let found = c.in_ok-unreached.unreached.items in
     IfOk-weaker c.candidates_of.result _ _
     (λ candidates are.
-    searched_anyway c.args.both.now c.args.search found (map entry_of candidates.items) c.if-search.true c.in_ok-unreached.ensures.found c.in_ok-unreached.ensures.views
+    searched_anyway c.args.both.now c.args.search found (map entry_of candidates.items) c.if-search.true c.in_ok-unreached.ensures.found
+    c.in_ok-unreached.ensures.views
     (subst (λ (pages : List Found). AreCandidates (found_elements pages) (map entry_of candidates.items)) c.as_slice.ensures.value are))
     c.candidates_of.ensures
 
@@ -26,4 +27,5 @@ returns c =
       | else-search-via-else-search w ↦ absurd (false≢true (sym w.if-search.false ∙ asked))
     ] in
     IfOk-weaker c.candidates_of-2.result _ _ (λ candidates are.
-    searched_lost c.a_loss_is_searched_for_in_any_case.ensures both c.args.search c.as_slice-2.result.now (map entry_of candidates.items) c.as_slice-2.ensures.value some are) c.candidates_of-2.ensures
+    searched_lost c.a_loss_is_searched_for_in_any_case.ensures both c.args.search c.as_slice-2.result.now (map entry_of candidates.items)
+    c.as_slice-2.ensures.value some are) c.candidates_of-2.ensures

@@ -1,7 +1,7 @@
 use Rattle.std.proofs.Common.{◌≡◌, ◌∙◌, false, subst, sym}
 use Rattle.std.proofs.lemmas.{List.Elements.All-more, List.take_all}
 use Rattle.std.specs.List.{All}
-use Rattle.bolt_etcd.specs.{Newest.is_until, ShownRevisions.shown_revision, declared.revision.Revision.Revision}
+use Rattle.bolt_etcd.specs.{Store.Newest.is_until, Wire.ShownRevisions.shown_revision, declared.wire.revision.Revision.Revision}
 use Rattle.bolt_repair.proofs.repair.has_old.Goals as goal
 
 pub loop-revision-preserved : goal.loop-revision-preserved
@@ -12,4 +12,5 @@ loop-revision-preserved c =
 
 pub returns : goal.returns
 returns c =
-    subst (All (λ (r : Revision). is_until c.args.compacted (shown_revision r) ≡ false)) (take_all c.loop-revision.revision-index c.args.revisions.now c.loop-revision-test.false) c.loop-revision.invariant
+    subst (All (λ (r : Revision). is_until c.args.compacted (shown_revision r) ≡ false))
+    (take_all c.loop-revision.revision-index c.args.revisions.now c.loop-revision-test.false) c.loop-revision.invariant

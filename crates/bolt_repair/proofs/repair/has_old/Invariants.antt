@@ -1,6 +1,6 @@
 use Rattle.std.proofs.Common.{◌≡◌, false, take}
 use Rattle.std.specs.List.{All}
-use Rattle.bolt_etcd.specs.{Newest.is_until, ShownRevisions.shown_revision}
+use Rattle.bolt_etcd.specs.{Store.Newest.is_until, Wire.ShownRevisions.shown_revision}
 use Rattle.bolt_repair.proofs.repair.has_old.Given as goal
 
 -- none so far is old

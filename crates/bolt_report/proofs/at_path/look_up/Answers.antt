@@ -15,16 +15,26 @@ members-preserved g c =
     let parents = path_of c.parents_of-parents.result.now in
     let m : Member = (g.M.Members.last_path c.next.new.self, item_view c.in-Some.item) in
     let now = c.members.has_bucket || c.is_bucket_at-has_bucket.result in
-    let is : now ≡ (c.members.has_bucket || is_bucket_at parents m) = ap (λ (b : Bool). c.members.has_bucket || b) (rw c.path.ensures at c.is_bucket_at-has_bucket.ensures) in
-    let first : (whole : g.M.Members.Whole) → g.M.Members.reads c.args.members.now whole → g.M.Members.left c.members.members whole ≡ m ∷ g.M.Members.left c.next.new.self whole =
+    let is : now ≡ (c.members.has_bucket || is_bucket_at parents m) =
+    ap (λ (b : Bool). c.members.has_bucket || b) (rw c.path.ensures at c.is_bucket_at-has_bucket.ensures) in
+    let first : (whole : g.M.Members.Whole) → g.M.Members.reads c.args.members.now whole
+    → g.M.Members.left c.members.members whole ≡ m ∷ g.M.Members.left c.next.new.self whole =
     λ whole lists. (rw c.in-Some.is at c.in_ok-item.ensures.given) whole ((c.members.invariant.same whole).1 lists) in
     record {
-      same = λ whole. (λ lists. (c.members.invariant.same whole).0 ((c.next.ensures.reads whole).0 lists), λ lists. (c.next.ensures.reads whole).1 ((c.members.invariant.same whole).1 lists));
+      same =
+          λ whole. (
+            λ lists. (c.members.invariant.same whole).0 ((c.next.ensures.reads whole).0 lists),
+            λ lists. (c.next.ensures.reads whole).1 ((c.members.invariant.same whole).1 lists),
+          );
       end = λ end is. c.members.invariant.end end (c.next.ensures.same_end end is);
       kept = λ whole lists x has. c.members.invariant.kept whole lists x (later_there _ _ m (first whole lists) x has);
-      value = some_later c.value_at.result c.members.value c.or-value.result c.or-value.ensures (rw c.path-in-Some.ensures at c.value_at.ensures.some) c.members.invariant.value
+      value =
+          some_later c.value_at.result c.members.value c.or-value.result c.or-value.ensures (rw c.path-in-Some.ensures at c.value_at.ensures.some)
+          c.members.invariant.value
           (λ value here whole lists. c.members.invariant.kept whole lists _ (rw here at (first_there _ _ m (first whole lists))));
-      none = none_later c.value_at.result c.members.value c.or-value.result c.or-value.ensures (rw c.path-in-Some.ensures at c.value_at.ensures.none) c.members.invariant.none
+      none =
+          none_later c.value_at.result c.members.value c.or-value.result c.or-value.ensures (rw c.path-in-Some.ensures at c.value_at.ensures.none)
+          c.members.invariant.none
           (λ apart left whole lists value has. not_first _ _ m (first whole lists) (path, Value value) (apart value) (left whole lists value has));
       bucket = λ whole lists. rw (first whole lists) at (c.members.invariant.bucket whole lists) ∙ bucket_next parents c.members.has_bucket now m _ is;
     }

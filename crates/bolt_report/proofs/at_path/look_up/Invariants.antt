@@ -14,7 +14,8 @@ invariant-members g l = record {
   value : IfSome l.value (λ value. (whole : g.M.Members.Whole) → g.M.Members.reads l.initial.members whole
       → Contains (g.M.Members.left l.initial.members whole) (path_of l.path, Value value.now));
   none : IfNone l.value ((whole : g.M.Members.Whole) → g.M.Members.reads l.initial.members whole → (value : List ℕ)
-      → Contains (g.M.Members.left l.initial.members whole) (path_of l.path, Value value) → Contains (g.M.Members.left l.members whole) (path_of l.path, Value value));
+      → Contains (g.M.Members.left l.initial.members whole) (path_of l.path, Value value)
+      → Contains (g.M.Members.left l.members whole) (path_of l.path, Value value));
   bucket : (whole : g.M.Members.Whole) → g.M.Members.reads l.initial.members whole
       → has_bucket (path_of l.parents) (g.M.Members.left l.initial.members whole)
       ≡ (l.has_bucket || list_any (is_bucket_at (path_of l.parents)) (g.M.Members.left l.members whole));

@@ -8,4 +8,5 @@ returns-in_err-put_file_finding g c =
 
 pub loop-finding-preserved : goal.loop-finding-preserved
 loop-finding-preserved g c =
-    Wrote-element file_finding_text c.args.findings.now c.loop-finding.finding-index _ (slice_get-get_or _ _ _ c.loop-finding-test.true) c.loop-finding.invariant c.in_ok-put_file_finding.ensures
+    Wrote-element file_finding_text c.args.findings.now c.loop-finding.finding-index _ (slice_get-get_or _ _ _ c.loop-finding-test.true)
+    c.loop-finding.invariant c.in_ok-put_file_finding.ensures

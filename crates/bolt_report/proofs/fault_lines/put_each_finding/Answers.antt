@@ -8,4 +8,5 @@ returns-in_err-finding_text g c =
 
 pub loop-finding-preserved : goal.loop-finding-preserved
 loop-finding-preserved g c =
-    Wrote-element finding_text c.args.findings.now c.loop-finding.finding-index _ (slice_get-get_or _ _ _ c.loop-finding-test.true) c.loop-finding.invariant c.in_ok-finding_text.ensures
+    Wrote-element finding_text c.args.findings.now c.loop-finding.finding-index _ (slice_get-get_or _ _ _ c.loop-finding-test.true) c.loop-finding.invariant
+    c.in_ok-finding_text.ensures

@@ -10,4 +10,5 @@ returns-then-page-last g c = Wrote-same (rw (cond-true _ _ _ (eq-eqb _ _ c.if-pa
 
 pub returns-else-page-last : goal.returns-else-page-last
 unfolding pages_words
-returns-else-page-last g c = Wrote-same (rw (cond-false _ _ _ (ne_eqb _ _ c.if-page-last.false)) (simp (append_assoc, append-nil))) c.put_pieces-else-page-last.ensures
+returns-else-page-last g c =
+    Wrote-same (rw (cond-false _ _ _ (ne_eqb _ _ c.if-page-last.false)) (simp (append_assoc, append-nil))) c.put_pieces-else-page-last.ensures

@@ -13,5 +13,6 @@ returns-in-Some-None g c =
 pub returns-in-Some-Some : goal.returns-in-Some-Some
 returns-in-Some-Some g c =
     rw (c.in-Some-Some.is-0, c.in-Some-Some.is-1)
-    (Wrote-same (ap (λ (l : List ℕ). codes ", keys from " ++ l) (sym (append_assoc (named_key c.in-Some-Some.from.now) (codes " to below " ++ named_key c.in-Some-Some.end.now) (10 ∷ []))))
+    (Wrote-same (ap (λ (l : List ℕ). codes ", keys from " ++ l)
+    (sym (append_assoc (named_key c.in-Some-Some.from.now) (codes " to below " ++ named_key c.in-Some-Some.end.now) (10 ∷ []))))
     c.put_pieces-in-Some-Some.ensures)

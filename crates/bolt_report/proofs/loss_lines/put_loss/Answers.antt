@@ -7,8 +7,9 @@ pub returns-in_err-put_sentence : goal.returns-in_err-put_sentence
 unfolding loss_text
 returns-in_err-put_sentence g c = Wrote-return _ _ c.in_err-put_sentence.ensures c.from_residual.ensures.0
 
-pub returns-in_err-put_bucket : goal.returns-in_err-put_bucket
+pub returns-in_err-put_bucket_words : goal.returns-in_err-put_bucket_words
 unfolding loss_text
-returns-in_err-put_bucket g c =
-    Wrote-then_return _ _ c.in_ok-put_sentence.ensures (Wrote-same (ap (λ (parts : List (Bor (List ℕ))). bucket_words (path_of parts)) c.as_slice.ensures.value) c.in_err-put_bucket.ensures)
-    c.from_residual-in_err-put_bucket.ensures.0
+returns-in_err-put_bucket_words g c =
+    Wrote-then_return _ _ c.in_ok-put_sentence.ensures
+    (Wrote-same (ap (λ (parts : List (Bor (List ℕ))). bucket_words (path_of parts)) c.as_slice.ensures.value) c.in_err-put_bucket_words.ensures)
+    c.from_residual-in_err-put_bucket_words.ensures.0

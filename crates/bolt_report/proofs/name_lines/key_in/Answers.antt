@@ -1,6 +1,7 @@
 -- The last part is the key if those before it are the bucket's path.
 use Rattle.std.proofs.Common.{sym}
-use Rattle.bolt_report.proofs.{NameTexts.key_none, NameTexts.key_split, name_lines.key_in.Goals.in_default-via-in-Some+else-eq, name_lines.key_in.Goals.in_default-via-in_default}
+use Rattle.bolt_report.proofs.{NameTexts.key_none, NameTexts.key_split, name_lines.key_in.Goals.in_default-via-in-Some+else-eq}
+use Rattle.bolt_report.proofs.{name_lines.key_in.Goals.in_default-via-in_default}
 use Rattle.bolt_report.proofs.name_lines.key_in.Goals as goal
 
 pub returns-in-Some : goal.returns-in-Some

@@ -6,4 +6,5 @@ use Rattle.bolt_report.proofs.page_table.free_count.Goals as goal
 
 pub unreachable-requires : goal.unreachable-requires
 unreachable-requires c =
-    ∥∥₁_elim c.requires (Prim.hlevel props) (λ is. let good = rw (cond-false _ _ _ (ne_eqb _ _ is.0.written)) at is.0.good in cc (c.in-Err.ensures.fault.0, is.1))
+    ∥∥₁_elim c.requires (Prim.hlevel props)
+    (λ is. let good = rw (cond-false _ _ _ (ne_eqb _ _ is.0.written)) at is.0.good in cc (c.in-Err.ensures.fault.0, is.1))

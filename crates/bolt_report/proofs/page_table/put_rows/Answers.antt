@@ -13,14 +13,16 @@ pub returns-in_err-put_row : goal.returns-in_err-put_row
 returns-in_err-put_row g c = λ roles are.
     let below = rw (c.min-end.ensures, c.meta.ensures, c.pages_begun.ensures, c.checked-checked.ensures) at c.loop-id-test.true in
     let (at, same) = next_row (roles_checked c.args.table.now) c.requires roles are c.loop-id.id c.role.result below c.role.ensures in
-    Wrote-element_return (row_of (roles_checked c.args.table.now) roles) (rows_in (roles_checked c.args.table.now)) c.loop-id.id c.loop-id.id _ at (c.loop-id.invariant roles are)
+    Wrote-element_return (row_of (roles_checked c.args.table.now) roles) (rows_in (roles_checked c.args.table.now)) c.loop-id.id c.loop-id.id _ at
+    (c.loop-id.invariant roles are)
     (Wrote-same same (rw c.checked-checked.ensures at c.in_err-put_row.ensures)) c.from_residual.ensures.0
 
 pub loop-id-preserved : goal.loop-id-preserved
 loop-id-preserved g c = λ roles are.
     let below = rw (c.min-end.ensures, c.meta.ensures, c.pages_begun.ensures, c.checked-checked.ensures) at c.loop-id-test.true in
     let (at, same) = next_row (roles_checked c.args.table.now) c.requires roles are c.loop-id.id c.role.result below c.role.ensures in
-    Wrote-element (row_of (roles_checked c.args.table.now) roles) (rows_in (roles_checked c.args.table.now)) c.loop-id.id c.loop-id.id at (c.loop-id.invariant roles are) (Wrote-same same (rw c.checked-checked.ensures at c.in_ok-put_row.ensures))
+    Wrote-element (row_of (roles_checked c.args.table.now) roles) (rows_in (roles_checked c.args.table.now)) c.loop-id.id
+    c.loop-id.id at (c.loop-id.invariant roles are) (Wrote-same same (rw c.checked-checked.ensures at c.in_ok-put_row.ensures))
 
 pub returns : goal.returns
 returns g c = λ roles are.

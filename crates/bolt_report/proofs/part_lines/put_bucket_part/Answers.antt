@@ -1,6 +1,7 @@
 -- The bucket at the path comes before all that begins with the path, so nothing is missed before it is found.
 use Rattle.std.proofs.Common.{rules, ◌≡◌, ◌∙◌, ◌∷◌, ◌||◌, Bool, List, ap, sym}
-use Rattle.bolt_report.proofs.Words.{front_more, is_bucket_at, item_view, length-map, lines_form, list_any, list_line, ListForm, listing_lines, Member, member_cmp, path_of, rest_from, Rises, Wrote-same}
+use Rattle.bolt_report.proofs.Words.{front_more, is_bucket_at, item_view, length-map, lines_form, list_any, list_line, ListForm, listing_lines}
+use Rattle.bolt_report.proofs.Words.{Member, member_cmp, path_of, rest_from, Rises, Wrote-same}
 use Rattle.bolt_report.proofs.ListPartTexts.{iff_then, before_bucket, has_next, left_part, over_unwanted, with_wanted}
 use Rattle.bolt_text.proofs.Exports.{front_fault}
 use Rattle.bolt_format.proofs.Exports.{front_same}
@@ -23,7 +24,8 @@ returns-in_err-put-clause-written g c = λ whole lists up.
     let first = (rw c.in-Some.is at c.in_ok-item.ensures.given) whole ((c.part.invariant.same whole).1 lists) in
     front_fault _ _ _ (rw first at (c.part.invariant.put whole lists up))
     (Wrote-same (ap (λ (f : ListForm). list_line f m) c.part.invariant.form) (rw c.path-then-is_in_part.ensures at c.in_err-put.ensures.written))
-    (with_wanted below c.part.found now m _ is (path_of c.args.from.now) (lines_form c.args.lines.now) c.if-found.true both) c.from_residual-in_err-put.ensures.1
+    (with_wanted below c.part.found now m _ is (path_of c.args.from.now) (lines_form c.args.lines.now) c.if-found.true both)
+    c.from_residual-in_err-put.ensures.1
 
 pub part-preserved : goal.part-preserved
 part-preserved g c =
@@ -32,9 +34,11 @@ part-preserved g c =
     let m : Member = (g.M.Members.last_path c.next.new.self, item_view c.in-Some.item) in
     let now = c.part.found || c.is_bucket_at-found.result in
     let is : now ≡ (c.part.found || is_bucket_at below m) = ap (λ (b : Bool). c.part.found || b) (rw c.path.ensures at c.is_bucket_at-found.ensures) in
-    let first : (whole : g.M.Members.Whole) → g.M.Members.reads c.args.members.now whole → g.M.Members.left c.part.members whole ≡ m ∷ g.M.Members.left c.next.new.self whole =
+    let first : (whole : g.M.Members.Whole) → g.M.Members.reads c.args.members.now whole
+    → g.M.Members.left c.part.members whole ≡ m ∷ g.M.Members.left c.next.new.self whole =
     λ whole lists. (rw c.in-Some.is at c.in_ok-item.ensures.given) whole ((c.part.invariant.same whole).1 lists) in
-    let passed : (ms : List Member) → Rises member_cmp (m ∷ ms) → rest_from from (left_part below c.part.found (m ∷ ms)) ≡ rest_from from (left_part below now ms) =
+    let passed : (ms : List Member) → Rises member_cmp (m ∷ ms)
+    → rest_from from (left_part below c.part.found (m ∷ ms)) ≡ rest_from from (left_part below now ms) =
     λ ms up. elim c.else-found.branch [
       | else-found-via-then-found+else-is_in_part w ↦
           over_unwanted below c.part.found now m ms is from w.if-found.true (sym (rw w.path-then-found.ensures at w.is_in_part.ensures) ∙ w.if-is_in_part.false)
@@ -48,5 +52,6 @@ part-preserved g c =
       rises = λ whole lists up. (rw (first whole lists) at (c.part.invariant.rises whole lists up)).1;
       put = λ whole lists up.
           let here = rw (first whole lists) at (c.part.invariant.rises whole lists up) in
-          front_same (rw (first whole lists) at (c.part.invariant.put whole lists up)) (ap (listing_lines (lines_form c.args.lines.now)) (passed (g.M.Members.left c.next.new.self whole) here));
+          front_same (rw (first whole lists) at (c.part.invariant.put whole lists up))
+          (ap (listing_lines (lines_form c.args.lines.now)) (passed (g.M.Members.left c.next.new.self whole) here));
     }

@@ -12,9 +12,12 @@ invariant-part g l = record {
   same : (whole : g.M.Members.Whole) → g.M.Members.reads l.members whole ↔ g.M.Members.reads l.initial.members whole;
   end : (end : g.row.M.Denot) → g.M.Members.ends_as l.members end → g.M.Members.ends_as l.initial.members end;
   has : (whole : g.M.Members.Whole) → g.M.Members.reads l.initial.members whole
-      → has_bucket (path_of l.below) (g.M.Members.left l.initial.members whole) ≡ (l.found || list_any (is_bucket_at (path_of l.below)) (g.M.Members.left l.members whole));
-  rises : (whole : g.M.Members.Whole) → g.M.Members.reads l.initial.members whole → Rises member_cmp (g.M.Members.left l.initial.members whole) → Rises member_cmp (g.M.Members.left l.members whole);
-  put : (whole : g.M.Members.Whole) → g.M.Members.reads l.initial.members whole → Rises member_cmp (g.M.Members.left l.initial.members whole) → WroteFront g.S.Sink l.initial.sink l.sink
+      → has_bucket (path_of l.below) (g.M.Members.left l.initial.members whole)
+      ≡ (l.found || list_any (is_bucket_at (path_of l.below)) (g.M.Members.left l.members whole));
+  rises : (whole : g.M.Members.Whole) → g.M.Members.reads l.initial.members whole → Rises member_cmp (g.M.Members.left l.initial.members whole)
+      → Rises member_cmp (g.M.Members.left l.members whole);
+  put : (whole : g.M.Members.Whole) → g.M.Members.reads l.initial.members whole → Rises member_cmp (g.M.Members.left l.initial.members whole)
+      → WroteFront g.S.Sink l.initial.sink l.sink
       (listing_lines (lines_form l.initial.lines) (rest_from (path_of l.from) (bucket_part (path_of l.below) (g.M.Members.left l.initial.members whole))))
       (listing_lines (lines_form l.initial.lines) (rest_from (path_of l.from) (left_part (path_of l.below) l.found (g.M.Members.left l.members whole))));
 }

@@ -5,7 +5,8 @@ use Rattle.bolt_report.proofs.size_lines.put_object.Goals as goal
 
 pub returns-in_err-put_members-clause-written : goal.returns-in_err-put_members-clause-written
 returns-in_err-put_members-clause-written g c =
-    Wrote-same (sized_item c.args.stats.now c.args.items.now.form c.args.name.now c.requires) (Wrote-sink _ _ c.in_err-put_members.ensures c.from_residual.ensures.1)
+    Wrote-same (sized_item c.args.stats.now c.args.items.now.form c.args.name.now c.requires)
+    (Wrote-sink _ _ c.in_err-put_members.ensures c.from_residual.ensures.1)
 
 pub returns-in_err-put-clause-written : goal.returns-in_err-put-clause-written
 returns-in_err-put-clause-written g c =
@@ -15,7 +16,8 @@ returns-in_err-put-clause-written g c =
 pub returns-in_err-put-2-clause-written : goal.returns-in_err-put-2-clause-written
 returns-in_err-put-2-clause-written g c =
     Wrote-same (sized_item c.args.stats.now c.args.items.now.form c.args.name.now c.requires)
-    (Wrote-then c.in_ok-put_members.ensures (Wrote-then c.in_ok-put.ensures.written (Wrote-passed _ c.in_err-put-2.ensures c.from_residual-in_err-put-2.ensures.1)))
+    (Wrote-then c.in_ok-put_members.ensures
+    (Wrote-then c.in_ok-put.ensures.written (Wrote-passed _ c.in_err-put-2.ensures c.from_residual-in_err-put-2.ensures.1)))
 
 pub returns-clause-written : goal.returns-clause-written
 returns-clause-written g c =

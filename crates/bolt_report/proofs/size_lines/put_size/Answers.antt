@@ -5,8 +5,8 @@ use Rattle.bolt_report.proofs.size_lines.put_size.Goals as goal
 
 pub returns-else-is_json-clause-written : goal.returns-else-is_json-clause-written
 returns-else-is_json-clause-written g c =
-    let plain : is_json c.args.items.now.form ≡ false = cc in rw plain c.put_row.ensures.written
+    let plain : is_json c.args.items.now.form ≡ false = cc in rw plain c.put_size_row.ensures.written
 
 pub returns-else-is_json-clause-short : goal.returns-else-is_json-clause-short
 returns-else-is_json-clause-short g c =
-    let plain : is_json c.args.items.now.form ≡ false = cc in rw plain c.put_row.ensures.short
+    let plain : is_json c.args.items.now.form ≡ false = cc in rw plain c.put_size_row.ensures.short

@@ -1,5 +1,6 @@
 use Rattle.std.proofs.Common.{◌≡◌, List, length}
-use Rattle.bolt_report.proofs.Words.{AreSized, bucket_checked, bucket_start, bytes_of, cursor_checked, cursor_place, cursor_start, entries_left, ForEntries, meta_of, Sized, sizes_text, the_entries, WroteFront}
+use Rattle.bolt_report.proofs.Words.{AreSized, bucket_checked, bucket_start, bytes_of, cursor_checked, cursor_place, cursor_start, entries_left}
+use Rattle.bolt_report.proofs.Words.{ForEntries, meta_of, Sized, sizes_text, the_entries, WroteFront}
 use Rattle.bolt_report.proofs.size_lines.put_sizes.Given as goal
 
 -- of the text of all buckets, the text of those that are left is still to be written

@@ -8,4 +8,5 @@ returns-in_err-put_place g c = Wrote-return _ _ c.in_err-put_place.ensures c.fro
 
 pub returns-in_err-put_figures : goal.returns-in_err-put_figures
 unfolding kept_line
-returns-in_err-put_figures g c = Wrote-then c.in_ok-put_place.ensures (Wrote-return _ _ c.in_err-put_figures.ensures c.from_residual-in_err-put_figures.ensures.0)
+returns-in_err-put_figures g c =
+    Wrote-then c.in_ok-put_place.ensures (Wrote-return _ _ c.in_err-put_figures.ensures c.from_residual-in_err-put_figures.ensures.0)

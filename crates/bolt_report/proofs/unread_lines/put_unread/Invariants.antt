@@ -1,5 +1,5 @@
 use Rattle.std.proofs.Common.{map}
-use Rattle.bolt_etcd.specs.ShownOthers.{shown_other}
+use Rattle.bolt_etcd.specs.Wire.Others.{shown_other}
 use Rattle.bolt_report.specs.UnreadLines.{unread_line}
 use Rattle.bolt_text.proofs.Exports.{WroteLines}
 use Rattle.bolt_report.proofs.unread_lines.put_unread.Given as goal

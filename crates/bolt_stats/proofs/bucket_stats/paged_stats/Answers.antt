@@ -1,5 +1,6 @@
 use Rattle.std.proofs.Common.{rules, ◌≡◌, ◌∙◌, ◌∷◌, [], ℕ, List, ap, arith}
-use Rattle.bolt_stats.proofs.Words.{bytes_of, figure, meta_of, node_at, one, own_figure, roots_of, Stats, UnreadBucket, weight, ∥∥₁_elim, ∥∥₁_map, ∥∥₁_prop}
+use Rattle.bolt_stats.proofs.Words.{bytes_of, figure, meta_of, node_at, one, own_figure, roots_of, Stats, UnreadBucket, weight, ∥∥₁_elim, ∥∥₁_map}
+use Rattle.bolt_stats.proofs.Words.{∥∥₁_prop}
 use Rattle.bolt_stats.proofs.{FigureLemmas.figure_add, ReadDepths.bucket_end, ReadDepths.read_end}
 use Rattle.bolt_stats.proofs.ReadSums.{all_good, deepened, first_figure, first_fits, last_good, none_left, unread_popped, total_popped, zero_depth}
 use Rattle.bolt_stats.proofs.bucket_stats.paged_stats.Goals as goal
@@ -36,7 +37,8 @@ buckets-preserved c =
       pages = c.in_ok-read.ensures.pages;
       roots = c.in_ok-add_buckets.ensures.none;
       good = ∥∥₁_elim c.buckets.invariant.good ∥∥₁_prop (λ g. ∥∥₁_map c.in_ok-read.ensures.good (λ h.
-          all_good file meta (roots_of c.buckets.buckets.items) rest found (roots_of c.add_buckets.new.buckets.items) c.in-Some.bucket.root taken c.in_ok-add_buckets.ensures.from g h));
+          all_good file meta (roots_of c.buckets.buckets.items) rest found (roots_of c.add_buckets.new.buckets.items) c.in-Some.bucket.root taken
+          c.in_ok-add_buckets.ensures.from g h));
       fits = λ f. let added = ap (figure f) c.add-total.ensures ∙ figure_add f c.buckets.total _ in omega (arith, added);
       stats = λ f.
           let own : ℕ → ℕ = own_figure file meta f in
@@ -47,10 +49,15 @@ buckets-preserved c =
           let before = total_popped file meta own (roots_of c.buckets.buckets.items) rest c.in-Some.bucket.root taken in
           let whole = c.buckets.invariant.stats f in
           omega (arith, added, same, read, sums, before, whole);
-      depth_fits = let added = ap (λ (s : Stats). s.depth) c.add-total.ensures in let end = c.saturating_add-depth.ensures in let before = c.buckets.invariant.depth_fits in omega (arith, added, end, before);
+      depth_fits =
+          let added = ap (λ (s : Stats). s.depth) c.add-total.ensures in
+          let end = c.saturating_add-depth.ensures in
+          let before = c.buckets.invariant.depth_fits in
+          omega (arith, added, end, before);
       depth =
           let added = ap (λ (s : Stats). s.depth) c.add-total.ensures in
-          let step = read_end file meta c.buckets.buckets.items c.pop.new.self.items c.add_buckets.new.buckets.items c.in-Some.bucket found c.in_ok-read.read.height
+          let step =
+          read_end file meta c.buckets.buckets.items c.pop.new.self.items c.add_buckets.new.buckets.items c.in-Some.bucket found c.in_ok-read.read.height
           c.saturating_add-above.result c.in_ok-read.read.inline_depth c.saturating_add-depth.result c.in_ok-read.ensures.height c.in_ok-read.ensures.deepest
           c.saturating_add-above.ensures c.saturating_add-depth.ensures c.in-Some.ensures.items (c.in_ok-add_buckets.ensures.deepest (bucket_end file meta)) in
           let whole = c.buckets.invariant.depth in

@@ -1,5 +1,6 @@
 use Rattle.std.proofs.Common.{◌≡◌, ◌+◌, ◌-◌, ◌^◌, ◌≤◌, max, [], ◌∷◌}
-use Rattle.bolt_stats.proofs.Words.{AreGood, bucket_figure, bytes_of, saturated, depth_of, figure, Figure, greatest, meta_of, one, own_figure, roots_of, total_of}
+use Rattle.bolt_stats.proofs.Words.{AreGood, bucket_figure, bytes_of, saturated, depth_of, figure, Figure, greatest, meta_of, one, own_figure}
+use Rattle.bolt_stats.proofs.Words.{roots_of, total_of}
 use Rattle.bolt_stats.proofs.ReadDepths.{bucket_end}
 use Rattle.bolt_stats.proofs.bucket_stats.paged_stats.Given as goal
 
@@ -10,10 +11,13 @@ invariant-buckets l = record {
   roots : l.roots.items ≡ [];
   good : ∥ AreGood (bytes_of l.checked) (meta_of l.checked) (roots_of l.buckets.items) ∥₁;
   fits : (f : Figure) → figure f l.total ≤ 2 ^ 64 - 1;
-  stats : (f : Figure) → saturated (figure f l.total + total_of (bytes_of l.checked) (meta_of l.checked) (own_figure (bytes_of l.checked) (meta_of l.checked) f) (roots_of l.buckets.items))
+  stats : (f : Figure)
+      → saturated (figure f l.total
+      + total_of (bytes_of l.checked) (meta_of l.checked) (own_figure (bytes_of l.checked) (meta_of l.checked) f) (roots_of l.buckets.items))
       ≡ saturated (bucket_figure f + total_of (bytes_of l.checked) (meta_of l.checked) (own_figure (bytes_of l.checked) (meta_of l.checked) f) (l.root ∷ []));
   depth_fits : l.total.depth ≤ 2 ^ 64 - 1;
-  depth : saturated (max l.total.depth (greatest (bucket_end (bytes_of l.checked) (meta_of l.checked)) l.buckets.items)) ≡ saturated (depth_of (bytes_of l.checked) (meta_of l.checked) l.root);
+  depth : saturated (max l.total.depth (greatest (bucket_end (bytes_of l.checked) (meta_of l.checked)) l.buckets.items))
+      ≡ saturated (depth_of (bytes_of l.checked) (meta_of l.checked) l.root);
 }
 
 abbrev pub decreases-buckets : goal.decreases-buckets

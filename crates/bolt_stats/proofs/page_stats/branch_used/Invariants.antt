@@ -7,5 +7,6 @@ use Rattle.bolt_stats.proofs.page_stats.branch_used.Given as goal
 abbrev pub invariant-loop-branch : goal.invariant-loop-branch
 invariant-loop-branch l = record {
   fits : l.used ≤ 2 ^ 64 - 1;
-  whole : saturated (l.used + sum_by (λ (e : BranchElement). 16 + length e.key) (branches_left l.branch-iterator)) ≡ saturated (used_by_branches (branches_on l.page));
+  whole : saturated (l.used + sum_by (λ (e : BranchElement). 16 + length e.key) (branches_left l.branch-iterator))
+      ≡ saturated (used_by_branches (branches_on l.page));
 }

@@ -6,5 +6,6 @@ use Rattle.bolt_stats.proofs.page_stats.inner_stats.Given as goal
 abbrev pub invariant-loop-leaf : goal.invariant-loop-leaf
 invariant-loop-leaf l = record {
   fits : (f : Figure) → figure f l.inner ≤ 2 ^ 64 - 1;
-  whole : (f : Figure) → saturated (figure f l.inner + sum_by (element_figure f) (leaves_left l.leaf-iterator)) ≡ saturated (sum_by (element_figure f) (leaves_on l.page));
+  whole : (f : Figure)
+      → saturated (figure f l.inner + sum_by (element_figure f) (leaves_left l.leaf-iterator)) ≡ saturated (sum_by (element_figure f) (leaves_on l.page));
 }

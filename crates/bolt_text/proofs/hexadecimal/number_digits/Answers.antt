@@ -5,7 +5,12 @@ use Rattle.bolt_text.proofs.HexNumbers.{begins, ends, goes_on, is_inside, smalle
 use Rattle.bolt_text.proofs.hexadecimal.number_digits.Goals as goal
 
 pub digits-init : goal.digits-init
-digits-init c = record { text = begins c.args.n _ (let long = c.told-buffer in drop_all 16 c.args.buffer.now (omega (arith, long))); fits = let fits = c.ranges.n.fits in omega (arith, fits); long = c.told-buffer; low = omega arith }
+digits-init c = record {
+  text = begins c.args.n _ (let long = c.told-buffer in drop_all 16 c.args.buffer.now (omega (arith, long)));
+  fits = let fits = c.ranges.n.fits in omega (arith, fits);
+  long = c.told-buffer;
+  low = omega arith;
+}
 
 pub overflow_sub-at-in-digits : goal.overflow_sub-at-in-digits
 overflow_sub-at-in-digits c = is_inside c.digits.at c.digits.rest c.digits-test.true c.digits.invariant.fits
@@ -33,8 +38,14 @@ pub returns : goal.returns
 returns c =
     let long = c.digits.invariant.long in
     let low = c.digits.invariant.low in
-    let all : take (16 - c.digits.at) (drop c.digits.at (slice_set c.digits.buffer c.digits.at c.digit_glyph-2.result)) ≡ digit_glyph false c.digits.rest ∷ drop (c.digits.at + 1) c.digits.buffer
-    = take_all _ _ (omega (arith, length-drop c.digits.at (slice_set c.digits.buffer c.digits.at c.digit_glyph-2.result), length-set c.digits.buffer c.digits.at c.digit_glyph-2.result, long))
+    let all : take (16 - c.digits.at) (drop c.digits.at (slice_set c.digits.buffer c.digits.at c.digit_glyph-2.result))
+    ≡ digit_glyph false c.digits.rest ∷ drop (c.digits.at + 1) c.digits.buffer
+    = take_all _ _ (omega (
+      arith,
+      length-drop c.digits.at (slice_set c.digits.buffer c.digits.at c.digit_glyph-2.result),
+      length-set c.digits.buffer c.digits.at c.digit_glyph-2.result,
+      long,
+    ))
     ∙ drop-set c.digits.buffer c.digits.at c.digit_glyph-2.result (omega (arith, long, low))
     ∙ ap (λ (d : ℕ). d ∷ drop (c.digits.at + 1) c.digits.buffer) c.digit_glyph-2.ensures in
     all ∙ ends c.digits.at c.digits.rest _ _ c.digits-test.false c.digits.invariant.text

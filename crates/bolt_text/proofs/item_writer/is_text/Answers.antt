@@ -9,7 +9,8 @@ pub returns-in-Ok : goal.returns-in-Ok
 returns-in-Ok c =
     let bytes = c.args.bytes.now in
     let (same, utf8) = c.in-Ok.ensures.cases in
-    all_from_yields_List (λ c. not (is_control c)) _ _ c.all.result c.all.ensures.ran (YieldsList-from_chars bytes utf8 (c.chars.ensures.rest ∙ same)) (λ x b q k. search (rules, tests))
+    all_from_yields_List (λ c. not (is_control c)) _ _ c.all.result c.all.ensures.ran (YieldsList-from_chars bytes utf8 (c.chars.ensures.rest ∙ same))
+    (λ x b q k. search (rules, tests))
     ∙ ap (λ (b : Bool). b && list_all (λ c. not (is_control c)) (chars bytes)) (sym (is_utf8-from_IsUtf8 bytes utf8))
 
 pub returns-in-Err : goal.returns-in-Err

@@ -30,7 +30,8 @@ returns-in_err-item c =
     let last = sym c.is_some.ensures ∙ c.if-is_some.false in
     let none = c.from_residual-in_err-item.ensures in
     let shown =
-    words_shown c.args.line.now c.in_ok-path.path.now c.in_ok-path.rest.now c.in_ok-path.ensures c.in_ok-mark.mark.now c.in_ok-mark.word.now c.in_ok-mark.ensures
+    words_shown c.args.line.now c.in_ok-path.path.now c.in_ok-path.rest.now c.in_ok-path.ensures c.in_ok-mark.mark.now c.in_ok-mark.word.now
+    c.in_ok-mark.ensures
     c.cut_at-3.result c.cut_at-3.ensures last
     in
     let member =
@@ -45,11 +46,13 @@ pub returns : goal.returns
 returns c =
     let last = sym c.is_some.ensures ∙ c.if-is_some.false in
     let shown =
-    words_shown c.args.line.now c.in_ok-path.path.now c.in_ok-path.rest.now c.in_ok-path.ensures c.in_ok-mark.mark.now c.in_ok-mark.word.now c.in_ok-mark.ensures
+    words_shown c.args.line.now c.in_ok-path.path.now c.in_ok-path.rest.now c.in_ok-path.ensures c.in_ok-mark.mark.now c.in_ok-mark.word.now
+    c.in_ok-mark.ensures
     c.cut_at-3.result c.cut_at-3.ensures last
     in record {
       words = sym (shown ∙ ap (option_map (λ item. (c.in_ok-path.path.now, item))) (sym c.in_ok-item.ensures.word));
       member =
-          words_item c.args.line.now c.in_ok-path.path.now c.in_ok-path.rest.now c.in_ok-path.ensures c.in_ok-mark.mark.now c.in_ok-mark.word.now c.in_ok-mark.ensures
+          words_item c.args.line.now c.in_ok-path.path.now c.in_ok-path.rest.now c.in_ok-path.ensures c.in_ok-mark.mark.now c.in_ok-mark.word.now
+          c.in_ok-mark.ensures
           c.cut_at-3.result c.cut_at-3.ensures (word_item c.in_ok-item.item) last c.in_ok-item.ensures.item;
     }

@@ -1,5 +1,6 @@
 use Rattle.std.proofs.Common.{◌∷◌, Bor, List, ℕ}
-use Rattle.bolt_text.proofs.{Vocabulary.part_text, Vocabulary.separator, Vocabulary.slice_get-get_or, GatherLemmas.Gathers-element, GatherLemmas.Gathers-last_element}
+use Rattle.bolt_text.proofs.{Vocabulary.part_text, Vocabulary.separator, Vocabulary.slice_get-get_or, GatherLemmas.Gathers-element}
+use Rattle.bolt_text.proofs.{GatherLemmas.Gathers-last_element}
 use Rattle.bolt_text.proofs.path_pieces.put_parts_after.Goals as goal
 
 pub returns-in_err-put_part_after : goal.returns-in_err-put_part_after

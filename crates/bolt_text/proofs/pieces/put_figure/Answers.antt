@@ -10,7 +10,8 @@ returns-in_err-put_bytes g c = Gathers-return _ _ c.in_err-put_bytes.ensures c.f
 pub returns-in_err-put_bytes-2 : goal.returns-in_err-put_bytes-2
 unfolding figure_line
 returns-in_err-put_bytes-2 g c =
-    Gathers-then c.in_ok-put_bytes.ensures (Gathers-return (line (decimal c.args.n)) _ c.in_err-put_bytes-2.ensures c.from_residual-in_err-put_bytes-2.ensures.0)
+    Gathers-then c.in_ok-put_bytes.ensures
+    (Gathers-return (line (decimal c.args.n)) _ c.in_err-put_bytes-2.ensures c.from_residual-in_err-put_bytes-2.ensures.0)
 
 pub returns-in_err-put_number : goal.returns-in_err-put_number
 unfolding figure_line

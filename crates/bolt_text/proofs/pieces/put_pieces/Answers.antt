@@ -8,11 +8,13 @@ use Rattle.bolt_text.proofs.pieces.put_pieces.Goals as goal
 pub returns-in_err-put_piece : goal.returns-in_err-put_piece
 returns-in_err-put_piece g c =
     Wrote-gathered_fault _ c.new-gathered.ensures c.from_residual.ensures.0
-    (Gathers-last_element piece_text c.args.pieces.now c.loop-piece.piece-index _ _ (slice_get-get_or _ _ _ c.loop-piece-test.true) c.loop-piece.invariant c.in_err-put_piece.ensures c.from_residual.ensures.0)
+    (Gathers-last_element piece_text c.args.pieces.now c.loop-piece.piece-index _ _ (slice_get-get_or _ _ _ c.loop-piece-test.true) c.loop-piece.invariant
+    c.in_err-put_piece.ensures c.from_residual.ensures.0)
 
 pub loop-piece-preserved : goal.loop-piece-preserved
 loop-piece-preserved g c =
-    Gathers-element piece_text c.args.pieces.now c.loop-piece.piece-index _ (slice_get-get_or _ _ _ c.loop-piece-test.true) c.loop-piece.invariant c.in_ok-put_piece.ensures
+    Gathers-element piece_text c.args.pieces.now c.loop-piece.piece-index _ (slice_get-get_or _ _ _ c.loop-piece-test.true) c.loop-piece.invariant
+    c.in_ok-put_piece.ensures
 
 pub returns : goal.returns
 returns g c =

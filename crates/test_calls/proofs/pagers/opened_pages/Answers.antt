@@ -11,6 +11,7 @@ open-child-requires c =
     ∣ (
       2,
       c.ways_go_on.ensures.child _ _ _ 1 1 (shown c.open-root.result) (branch_view c.branch-root.result)
-          (rw (c.new-pager.ensures.checked, c.meta.ensures) (c.ways_go_on.ensures.root _ _)) c.open-root.ensures.page (sym c.kind.ensures ∙ c.in-Branch.is) c.branch-root.ensures,
+          (rw (c.new-pager.ensures.checked, c.meta.ensures) (c.ways_go_on.ensures.root _ _)) c.open-root.ensures.page (sym c.kind.ensures ∙ c.in-Branch.is)
+          c.branch-root.ensures,
     ) ∣₁
     )

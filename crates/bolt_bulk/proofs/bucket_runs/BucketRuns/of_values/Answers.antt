@@ -7,4 +7,11 @@ pub returns-clause-open : goal.returns-clause-open
 returns-clause-open c = grind (arith, values_run, values_none)
 
 pub returns-clause-runs : goal.returns-clause-runs
-returns-clause-runs c = λ next. rw (c.new.ensures.items, c.in_ok-items.ensures.items, values_view c.args.entries.now c.requires.values, c.new-2.ensures.runs, c.new-2.ensures.limits) refl
+returns-clause-runs c =
+    λ next. rw (
+      c.new.ensures.items,
+      c.in_ok-items.ensures.items,
+      values_view c.args.entries.now c.requires.values,
+      c.new-2.ensures.runs,
+      c.new-2.ensures.limits,
+    ) refl

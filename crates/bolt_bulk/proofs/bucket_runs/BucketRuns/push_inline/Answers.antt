@@ -6,7 +6,8 @@ use Rattle.bolt_bulk.proofs.HeldRuns.{added_views, inline_pushed}
 use Rattle.bolt_bulk.proofs.bucket_runs.BucketRuns.push_inline.Goals as goal
 
 pub returns-clause-open : goal.returns-clause-open
-returns-clause-open c = inline_pushed c.args.self.now c.push.new.self c.extend_from_slice.new.self c.args.entries.now c.args.key c.args.sequence c.len-first.result c.args.size
+returns-clause-open c =
+    inline_pushed c.args.self.now c.push.new.self c.extend_from_slice.new.self c.args.entries.now c.args.key c.args.sequence c.len-first.result c.args.size
     c.requires.open (search rules) (search rules) (search rules) c.requires.key c.requires.few c.requires.size c.requires.small c.requires.room
 
 pub returns-clause-runs : goal.returns-clause-runs

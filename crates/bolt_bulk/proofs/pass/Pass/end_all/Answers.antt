@@ -25,7 +25,14 @@ returns-in_err-root g c = λ wanted put has.
       all = end.pages;
       puts = c.in_err-root.ensures.closes.closes.writes.pages;
       short = c.in_err-root.ensures.closes.closes.short;
-      returned = record { root = tt; mark = tt; within = tt; noted = tt; held = tt; large = λ h. let m = c.in_err-root.ensures.closes.closes.writes.large h in let n = end.mark in omega (arith, m, n) };
+      returned = record {
+        root = tt;
+        high_water = tt;
+        within = tt;
+        noted = tt;
+        held = tt;
+        large = λ h. let m = c.in_err-root.ensures.closes.closes.writes.large h in let n = end.high_water in omega (arith, m, n);
+      };
     })))
 
 pub returns : goal.returns
@@ -39,13 +46,14 @@ returns g c = λ wanted put has.
       short = tt;
       returned = record {
         root = c.in_ok-root.ensures.closes.root ∙ end.root;
-        mark = c.in_ok-root.ensures.closes.closes.marked ∙ end.mark;
+        high_water = c.in_ok-root.ensures.closes.closes.marked ∙ end.high_water;
         within = rw c.in_ok-root.ensures.same.setup at c.close_runs.new.writer.within;
         noted = λ asked which.
             let next = c.in_ok-root.ensures.closes.closes.marked in
             let within = c.close_runs.new.writer.within in
             let counted = c.close_runs.new.writer.setup.fits in
-            subst (λ (l : Limits). FitLimits Balanced wanted.tree c.leave_to.new.self.setup.page_size (limits_with l)) (sym c.take_limits.ensures) (end.noted c.bucket_ends.new.self c.in_ok-bucket_ends.ensures.ends asked which (omega arith));
+            subst (λ (l : Limits). FitLimits Balanced wanted.tree c.leave_to.new.self.setup.page_size (limits_with l)) (sym c.take_limits.ensures)
+            (end.noted c.bucket_ends.new.self c.in_ok-bucket_ends.ensures.ends asked which (omega arith));
         held = end.held;
         large = tt;
       };

@@ -9,8 +9,11 @@ pub returns-clause-on : goal.returns-clause-on
 returns-clause-on c =
     let entry : Leaf = record { key = c.args.key; value = c.args.value; is_bucket = false } in
     let items : c.push.new.self.items ≡ c.args.self.now.entries.items ++ entry ∷ [] = search rules in
-    let small = small_of c.args.self.now.setup.page_size c.args.self.now.pending c.args.pending c.args.self.now.entries.items c.requires.pending c.requires.ready.pending in
-    let more = small_push c.args.self.now.setup.page_size c.args.size c.args.pending c.args.self.now.entries.items c.push.new.self.items entry small c.requires.key refl c.requires.size c.requires.small c.requires.few items in
+    let small =
+    small_of c.args.self.now.setup.page_size c.args.self.now.pending c.args.pending c.args.self.now.entries.items c.requires.pending c.requires.ready.pending in
+    let more =
+    small_push c.args.self.now.setup.page_size c.args.size c.args.pending c.args.self.now.entries.items c.push.new.self.items entry small c.requires.key
+    refl c.requires.size c.requires.small c.requires.few items in
     grind arith
 
 pub returns-clause-keeps : goal.returns-clause-keeps

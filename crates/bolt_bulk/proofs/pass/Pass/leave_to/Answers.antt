@@ -19,5 +19,6 @@ buckets-preserved g c = record {
   steps = λ wanted members put has shallow.
       steps_then c.buckets.invariant.setup (c.buckets.invariant.steps wanted members put has shallow)
       (λ all mid. let ended = has_ended c.args.depth wanted c.buckets.self members all mid shallow c.requires.some (omega arith) in
-      steps_map (λ then at. left_out wanted c.leave_bucket.new.self ended.parent ended.parents members then ended.members_are at) (c.in_ok-leave_bucket.ensures.steps wanted ended.parent ended.parents all ended.at));
+      steps_map (λ then at. left_out wanted c.leave_bucket.new.self ended.parent ended.parents members then ended.members_are at)
+      (c.in_ok-leave_bucket.ensures.steps wanted ended.parent ended.parents all ended.at));
 }

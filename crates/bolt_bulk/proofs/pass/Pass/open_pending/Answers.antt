@@ -3,7 +3,8 @@ use Rattle.std.specs.Prelude.{⊤}
 use Rattle.std.proofs.Common.{Ok, Err, refl, rules, sym}
 use Rattle.bolt_bulk.specs.Private.{IsWaiting}
 use Rattle.bolt_bulk.specs.declared.bulk_fault.BulkFault.TheVariants as fault
-use Rattle.bolt_bulk.proofs.{HeldPasses.more_around, HeldPasses.waits_more, PassAt.open_steps, PassAt.open_stops, PassAt.steps_none, PassAt.steps_stop, PassAt.steps_to, PutsLemmas.writes_on}
+use Rattle.bolt_bulk.proofs.{HeldPasses.more_around, HeldPasses.waits_more, PassAt.open_steps, PassAt.open_stops, PassAt.steps_none}
+use Rattle.bolt_bulk.proofs.{PassAt.steps_stop, PassAt.steps_to, PutsLemmas.writes_on}
 use Rattle.bolt_layout.proofs.Exports.{all_append}
 use Rattle.bolt_bulk.proofs.pass.Pass.open_pending.Goals as goal
 
@@ -11,11 +12,13 @@ pub returns-in_default-clause-steps : goal.returns-in_default-clause-steps
 returns-in_default-clause-steps g c = λ wanted left parents put is rooted. steps_none (Ok tt) is tt is
 
 pub returns-in_err-inner-clause-steps : goal.returns-in_err-inner-clause-steps
-returns-in_err-inner-clause-steps g c = λ wanted left parents put is rooted. steps_stop {A = ⊤} c.from_residual.ensures.1 (steps_none {At = λ _. ⊤} (Err _) is c.in_err-inner.ensures.fault tt)
+returns-in_err-inner-clause-steps g c =
+    λ wanted left parents put is rooted. steps_stop {A = ⊤} c.from_residual.ensures.1 (steps_none {At = λ _. ⊤} (Err _) is c.in_err-inner.ensures.fault tt)
 
 pub returns-in_err-waiting-clause-steps : goal.returns-in_err-waiting-clause-steps
 returns-in_err-waiting-clause-steps g c = λ wanted left parents put is rooted.
-    steps_to (search rules) (open_stops wanted c.args.self.now c.in-Some.pending c.from_residual-in_err-waiting.ensures.1 is c.in-Some.is c.requires.pending rooted
+    steps_to (search rules)
+    (open_stops wanted c.args.self.now c.in-Some.pending c.from_residual-in_err-waiting.ensures.1 is c.in-Some.is c.requires.pending rooted
     (rw c.replace-outer.ensures.value at c.in_err-waiting.ensures.enters.writes))
 
 pub returns-in_err-push-clause-steps : goal.returns-in_err-push-clause-steps
@@ -26,8 +29,12 @@ returns-in_err-push-clause-steps g c = λ wanted left parents put is rooted.
 pub returns-clause-steps : goal.returns-clause-steps
 returns-clause-steps g c = λ wanted left parents put is rooted.
     let values = rw (c.as_slice.ensures.value, sym c.replace-outer.ensures.after) at (c.in_ok-inner.ensures.runs c.enter.new.writer.next) in
-    steps_to (search rules) (open_steps wanted c.args.self.now c.in-Some.pending c.replace-outer.new.dest c.in_ok-waiting.waiting c.push.new.self c.clear.new.self c.enter.new.writer.next _ _
-    is c.in-Some.is c.requires.pending rooted (writes_on (Ok tt) tt (rw c.replace-outer.ensures.value at c.in_ok-waiting.ensures.enters.writes)) (rw c.replace-outer.ensures.value at c.in_ok-waiting.ensures.enters.runs) c.in_ok-waiting.ensures.enters.key c.in_ok-waiting.ensures.enters.sequence c.in_ok-push.ensures.items values c.saturating_add-self.ensures c.count.ensures.counts)
+    steps_to (search rules)
+    (open_steps wanted c.args.self.now c.in-Some.pending c.replace-outer.new.dest c.in_ok-waiting.waiting c.push.new.self c.clear.new.self
+    c.enter.new.writer.next _ _
+    is c.in-Some.is c.requires.pending rooted (writes_on (Ok tt) tt (rw c.replace-outer.ensures.value at c.in_ok-waiting.ensures.enters.writes))
+    (rw c.replace-outer.ensures.value at c.in_ok-waiting.ensures.enters.runs) c.in_ok-waiting.ensures.enters.key c.in_ok-waiting.ensures.enters.sequence
+    c.in_ok-push.ensures.items values c.saturating_add-self.ensures c.count.ensures.counts)
 
 pub count-requires : goal.count-requires
 count-requires g c =

@@ -19,7 +19,8 @@ last_is (x ∷ y ∷ parts) some =
     rw n (last_is (y ∷ parts) (omega arith))
 
 -- which is no longer than the format allows
-key_fits : (parts : List (Bor (List ℕ))) → 1 ≤ length (path_of parts) → length (last_part (path_of parts)) ≤ 1073741824 → length (key_of parts).now ≤ 1073741824
+key_fits : (parts : List (Bor (List ℕ))) → 1 ≤ length (path_of parts) → length (last_part (path_of parts)) ≤ 1073741824
+    → length (key_of parts).now ≤ 1073741824
 key_fits parts some fits =
     let l = length-map parts (λ (part : Bor (List ℕ)). part.now) in
     let n = ap (λ (k : List ℕ). length k) (last_is parts (omega arith)) in omega arith
@@ -27,7 +28,8 @@ key_fits parts some fits =
 pub returns-in_err-leave_to-clause-steps : goal.returns-in_err-leave_to-clause-steps
 returns-in_err-leave_to-clause-steps g c = λ wanted members put has.
     let l = length-map c.args.path.now (λ (part : Bor (List ℕ)). part.now) in
-    steps_stop c.from_residual.ensures.1 (c.in_err-leave_to.ensures.steps wanted ((path_of c.args.path.now, item_view c.args.item) ∷ members) put has (omega arith))
+    steps_stop c.from_residual.ensures.1
+    (c.in_err-leave_to.ensures.steps wanted ((path_of c.args.path.now, item_view c.args.item) ∷ members) put has (omega arith))
 
 pub take_value-requires-clause-key : goal.take_value-requires-clause-key
 take_value-requires-clause-key g c = key_fits c.args.path.now c.requires.fit.0 c.requires.fit.1
@@ -43,8 +45,11 @@ returns-in-Value-clause-steps g c = λ wanted members put has.
     let last = last_is c.args.path.now (omega arith) in
     steps_then c.in_ok-leave_to.ensures.on.setup (c.in_ok-leave_to.ensures.steps wanted ((path, item_view c.args.item) ∷ members) put has (omega arith))
     (λ all mid. let deep = c.in_ok-leave_to.ensures.on.depth_is in
-    let next = has_next wanted c.leave_to.new.self path (key_of c.args.path.now).now (entries.Value c.in-Value.value.now) members all (left_same (ap (λ (i : entries.Item). (path, i) ∷ members) item) mid) (omega arith) last in
-    steps_map (λ then at. record { parents = next.parents; left = next.after; at = at; members_are = next.members_are }) (c.take_value.ensures.steps wanted next.after next.parents all next.at))
+    let next =
+    has_next wanted c.leave_to.new.self path (key_of c.args.path.now).now (entries.Value c.in-Value.value.now) members all
+    (left_same (ap (λ (i : entries.Item). (path, i) ∷ members) item) mid) (omega arith) last in
+    steps_map (λ then at. record { parents = next.parents; left = next.after; at = at; members_are = next.members_are })
+    (c.take_value.ensures.steps wanted next.after next.parents all next.at))
 
 pub returns-in-Bucket-clause-steps : goal.returns-in-Bucket-clause-steps
 returns-in-Bucket-clause-steps g c = λ wanted members put has.
@@ -54,5 +59,8 @@ returns-in-Bucket-clause-steps g c = λ wanted members put has.
     let last = last_is c.args.path.now (omega arith) in
     steps_then c.in_ok-leave_to.ensures.on.setup (c.in_ok-leave_to.ensures.steps wanted ((path, item_view c.args.item) ∷ members) put has (omega arith))
     (λ all mid. let deep = c.in_ok-leave_to.ensures.on.depth_is in
-    let next = has_next wanted c.leave_to.new.self path (key_of c.args.path.now).now (entries.Bucket c.in-Bucket.sequence) members all (left_same (ap (λ (i : entries.Item). (path, i) ∷ members) item) mid) (omega arith) last in
-    steps_map (λ then at. record { parents = _; left = next.inside; at = at; members_are = next.members_are }) (c.take_bucket.ensures.steps wanted next.inside next.after next.parents all next.at))
+    let next =
+    has_next wanted c.leave_to.new.self path (key_of c.args.path.now).now (entries.Bucket c.in-Bucket.sequence) members all
+    (left_same (ap (λ (i : entries.Item). (path, i) ∷ members) item) mid) (omega arith) last in
+    steps_map (λ then at. record { parents = _; left = next.inside; at = at; members_are = next.members_are })
+    (c.take_bucket.ensures.steps wanted next.inside next.after next.parents all next.at))

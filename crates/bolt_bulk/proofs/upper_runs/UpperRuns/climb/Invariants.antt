@@ -8,7 +8,8 @@ use Rattle.bolt_bulk.proofs.upper_runs.UpperRuns.climb.Given as goal
 
 abbrev pub invariant-loop-i : goal.invariant-loop-i
 invariant-loop-i g l = record {
-  climbs : Climbing l.initial.writer.setup (bucket_limit l.initial.self.limits (length (runs_above l.initial.self.runs.items))) l.key (branch_view l.closed-2) l.initial.writer.next (runs_above l.initial.self.runs.items) g.S.Sink l.initial.writer.sink.now l.writer.sink.now
+  climbs : Climbing l.initial.writer.setup (bucket_limit l.initial.self.limits (length (runs_above l.initial.self.runs.items))) l.key
+      (branch_view l.closed-2) l.initial.writer.next (runs_above l.initial.self.runs.items) g.S.Sink l.initial.writer.sink.now l.writer.sink.now
       (runs_above l.self.runs.items) l.i (branch_view l.closed) l.writer.next;
   standing : AllByRecursion IsStanding (runs_above l.self.runs.items);
   count : length l.self.runs.items ≡ length l.initial.self.runs.items;

@@ -8,7 +8,8 @@ use Rattle.bolt_bulk.proofs.upper_runs.UpperRuns.close_all.Given as goal
 
 abbrev pub invariant-loop-i : goal.invariant-loop-i
 invariant-loop-i g l = record {
-  closes : Closing l.initial.writer.setup (branch_view l.closed-2) l.initial.writer.next (runs_above l.initial.self.runs.items) g.S.Sink l.initial.writer.sink.now l.writer.sink.now
+  closes : Closing l.initial.writer.setup (branch_view l.closed-2) l.initial.writer.next (runs_above l.initial.self.runs.items) g.S.Sink
+      l.initial.writer.sink.now l.writer.sink.now
       (runs_above l.self.runs.items) l.i (branch_view l.closed) l.writer.next;
   standing : AllByRecursion IsStanding (runs_above l.self.runs.items);
   count : length l.self.runs.items ≡ length l.initial.self.runs.items;

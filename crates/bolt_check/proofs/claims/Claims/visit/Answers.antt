@@ -6,7 +6,8 @@ use Rattle.bolt_check.proofs.claims.Claims.visit.Goals as goal
 
 pub returns-clause-length : goal.returns-clause-length
 unfolding claims_length
-returns-clause-length c = ap length (stored c.args.self.now.table _ _ c.deref_mut.ensures.value c.visit.auto.table) ∙ c.visit.auto.table ∙ ap length c.deref_mut.ensures.value
+returns-clause-length c =
+    ap length (stored c.args.self.now.table _ _ c.deref_mut.ensures.value c.visit.auto.table) ∙ c.visit.auto.table ∙ ap length c.deref_mut.ensures.value
 
 pub returns-clause-found : goal.returns-clause-found
 unfolding claims_file claims_meta is_claimed
@@ -18,7 +19,9 @@ returns-clause-same c = grind (arith, stored, on_err_weaker)
 
 pub returns-clause-left : goal.returns-clause-left
 unfolding pages_left
-returns-clause-left c = rw (stored c.args.self.now.table _ _ c.deref_mut.ensures.value c.visit.auto.table) (on_err_weaker c.visit.result (ap unclaimed) (rw c.deref_mut.ensures.value at c.visit.ensures.same))
+returns-clause-left c =
+    rw (stored c.args.self.now.table _ _ c.deref_mut.ensures.value c.visit.auto.table)
+    (on_err_weaker c.visit.result (ap unclaimed) (rw c.deref_mut.ensures.value at c.visit.ensures.same))
 
 pub returns-clause-claims : goal.returns-clause-claims
 unfolding claims_file claims_meta is_claimed
@@ -26,4 +29,5 @@ returns-clause-claims c = grind (arith, common_steps)
 
 pub returns-clause-fewer : goal.returns-clause-fewer
 unfolding pages_left
-returns-clause-fewer c = rw (stored c.args.self.now.table _ _ c.deref_mut.ensures.value c.visit.auto.table) (rw c.deref_mut.ensures.value at c.visit.ensures.fewer)
+returns-clause-fewer c =
+    rw (stored c.args.self.now.table _ _ c.deref_mut.ensures.value c.visit.auto.table) (rw c.deref_mut.ensures.value at c.visit.ensures.fewer)

@@ -6,7 +6,8 @@ use Rattle.bolt_check.proofs.leftovers.Leftovers.take.Goals as goal
 
 pub returns-clause-length : goal.returns-clause-length
 unfolding leftovers_length
-returns-clause-length c = ap length (stored c.args.self.now.table _ _ c.deref_mut.ensures.value c.take_leaf.auto.table) ∙ c.take_leaf.auto.table ∙ ap length c.deref_mut.ensures.value
+returns-clause-length c =
+    ap length (stored c.args.self.now.table _ _ c.deref_mut.ensures.value c.take_leaf.auto.table) ∙ c.take_leaf.auto.table ∙ ap length c.deref_mut.ensures.value
 
 pub returns-clause-leaf : goal.returns-clause-leaf
 unfolding is_taken leftovers_file leftovers_meta

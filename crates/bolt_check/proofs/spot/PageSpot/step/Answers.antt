@@ -7,4 +7,5 @@ returns-in-Leaf-clause-leads c =
     let element = leaf_view c.element.result in
     rw c.in-Leaf.is
     (c.bucket.ensures.leads
-    ∙ sym (step-leaf c.in-Leaf.leaf (page_spot c.args.self.now) c.args.i (leaf_entry element) (leaf-entry c.in-Leaf.leaf c.args.i element c.element.ensures.element)))
+    ∙ sym (step-leaf c.in-Leaf.leaf (page_spot c.args.self.now) c.args.i (leaf_entry element)
+    (leaf-entry c.in-Leaf.leaf c.args.i element c.element.ensures.element)))

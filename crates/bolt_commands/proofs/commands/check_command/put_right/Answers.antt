@@ -14,7 +14,9 @@ returns g c =
     let found = rw sound.bytes at c.in_ok-found.ensures in
     record {
       answer = _;
-      is = right_found checking.faults checking.input.file.now checking.choice checking.for_bbolt (meta_of c.args.checked) c.in_ok-found.found.of_file.items c.in_ok-found.found.on_ways.items
+      is =
+          right_found checking.faults checking.input.file.now checking.choice checking.for_bbolt (meta_of c.args.checked) c.in_ok-found.found.of_file.items
+          c.in_ok-found.found.on_ways.items
           c.requires.fine sound.under found;
       does = c.put_all.ensures;
     }

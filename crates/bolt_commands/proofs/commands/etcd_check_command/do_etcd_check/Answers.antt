@@ -1,6 +1,7 @@
 -- Nothing is wrong, and the store is looked at; or what is wrong was written.
 use Rattle.std.proofs.Common.{List, inl, inr, subst, ℕ}
-use Rattle.bolt_commands.proofs.{Vocabulary.meta_of, Doing.answer_as, ReadFiles.own_trees, Verdicts.after_nothing, Verdicts.not_done, Verdicts.right_done}
+use Rattle.bolt_commands.proofs.{Vocabulary.meta_of, Doing.answer_as, ReadFiles.own_trees, Verdicts.after_nothing, Verdicts.not_done}
+use Rattle.bolt_commands.proofs.{Verdicts.right_done}
 use Rattle.bolt_commands.specs.EtcdAnswers.{IsStoreAnswer, IsStoreText}
 use Rattle.bolt_commands.proofs.commands.etcd_check_command.do_etcd_check.Goals as goal
 

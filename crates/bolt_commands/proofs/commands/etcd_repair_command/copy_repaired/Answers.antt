@@ -12,7 +12,8 @@ repaired_members_are_whole-requires g c = let made = c.in_ok-repaired.ensures in
 pub returns-in_err-copied : goal.returns-in_err-copied
 returns-in_err-copied g c =
     let made = c.in_ok-repaired.ensures in
-    inl (λ listing is. (Err _, c.in_err-copied.ensures.copied listing (rw (made.file, made.meta, made.search) is), ends_as _ _ c.from_residual-in_err-copied.ensures.1))
+    inl (λ listing is.
+    (Err _, c.in_err-copied.ensures.copied listing (rw (made.file, made.meta, made.search) is), ends_as _ _ c.from_residual-in_err-copied.ensures.1))
 
 pub returns : goal.returns
 returns g c =

@@ -1,13 +1,16 @@
 -- The copy is made and then reported, or it isn't whole, or there is none.
 use Rattle.std.proofs.Common.{◌∙◌, Bool, inl, inr, refl, subst, sym}
 use Rattle.std.proofs.lemmas.List.{length-map}
-use Rattle.bolt_commands.proofs.{Doing.ends_as, RepairAnswers.is_repaired, RepairAnswers.repair_done, RepairAnswers.repair_failed, RepairAnswers.unsearched_unrestored, Vocabulary.∥∥₁_map}
-use Rattle.bolt_repair.specs.{FullRepairs.IsFullRepair, Repaired.IsRepaired, Repaired.repaired_listing, RepairedMembers.repair_file, RepairedMembers.repair_meta, RepairedMerges.repair_back, RepairedMerges.repair_made}
+use Rattle.bolt_commands.proofs.{Doing.ends_as, RepairAnswers.is_repaired, RepairAnswers.repair_done, RepairAnswers.repair_failed}
+use Rattle.bolt_commands.proofs.{RepairAnswers.unsearched_unrestored, Vocabulary.∥∥₁_map}
+use Rattle.bolt_repair.specs.{FullRepairs.IsFullRepair, Repaired.IsRepaired, Repaired.repaired_listing, RepairedMembers.repair_file}
+use Rattle.bolt_repair.specs.{RepairedMembers.repair_meta, RepairedMerges.repair_back, RepairedMerges.repair_made}
 use Rattle.bolt_repair.specs.declared.repair_fault.RepairFault.TheVariants.{Memory}
 use Rattle.bolt_commands.proofs.commands.etcd_repair_command.do_etcd_repair.Goals as goal
 
 pub returns-in_err-both : goal.returns-in_err-both
-returns-in_err-both g c = inr (_, unsearched_unrestored _ _ _ c.in_err-both.ensures.refused c.args.job.now.search, (refl, refl, ends_as _ _ c.from_residual.ensures.1))
+returns-in_err-both g c =
+    inr (_, unsearched_unrestored _ _ _ c.in_err-both.ensures.refused c.args.job.now.search, (refl, refl, ends_as _ _ c.from_residual.ensures.1))
 
 pub returns-in_err-repair : goal.returns-in_err-repair
 returns-in_err-repair g c =
@@ -27,13 +30,20 @@ returns-in_err-copy g c =
     let ends = ends_as _ _ c.from_residual-in_err-copy.ensures.1 in
     let faults = rw c.kind_of-kind.ensures.snapshot at c.of_copy-faults.ensures in
     elim c.in_err-copy.ensures [
-      | inl copies ↦ inl (∥∥₁_map found.back (λ (own : IsFullRepair (repair_file repair) (repair_meta repair) repair.search (repair_back repair) (repair_made repair) repair.left_out).
-          let full = subst (λ (asked : Bool). IsFullRepair (repair_file repair) (repair_meta repair) asked (repair_back repair) (repair_made repair) repair.left_out) found.search own in
+      | inl copies ↦
+          inl (∥∥₁_map found.back
+          (λ (own : IsFullRepair (repair_file repair) (repair_meta repair) repair.search (repair_back repair) (repair_made repair) repair.left_out).
+          let full =
+          subst (λ (asked : Bool). IsFullRepair (repair_file repair) (repair_meta repair) asked (repair_back repair) (repair_made repair) repair.left_out)
+          found.search own in
           let listing = repaired_listing full.repair.recovered (repair_made repair) (repair_back repair) in
           let from = found.file ∙ searched.bytes in
-          let is = is_repaired file choice search both repair _ _ searched from found.meta full (λ none. found.store none _ full.repair.recovers) (found.unread _ full.repair.recovers) _ refl in
+          let is =
+          is_repaired file choice search both repair _ _ searched from found.meta full (λ none. found.store none _ full.repair.recovers)
+          (found.unread _ full.repair.recovers) _ refl in
           let made = subst (λ (asked : Bool). IsRepaired (repair_file repair) (repair_meta repair) asked listing) (sym found.search) is in
-          repair_failed file choice search both repair _ _ searched from found.meta full (λ none. found.store none _ full.repair.recovers) (found.unread _ full.repair.recovers) _ refl g.O.Sink _ c.kind_of-kind.result _ _ _ c.kind_of-kind.ensures.snapshot c.kind_of-kind.ensures.layout
+          repair_failed file choice search both repair _ _ searched from found.meta full (λ none. found.store none _ full.repair.recovers)
+          (found.unread _ full.repair.recovers) _ refl g.O.Sink _ c.kind_of-kind.result _ _ _ c.kind_of-kind.ensures.snapshot c.kind_of-kind.ensures.layout
           c.blueprint_of-blueprint.ensures _ faults _ _ (copies listing made) ends))
       | inr (same, is) ↦ inr (_, inl (_, Memory, searched.under, tt, refl), (refl, same, ends ∙ is))
     ]
@@ -50,14 +60,21 @@ returns g c =
     let told = rw (c.lost.ensures, c.as_slice.ensures.value) at c.end_repair.ensures in
     let faults = rw c.kind_of-kind.ensures.snapshot at c.of_copy-faults.ensures in
     elim c.in_ok-copy.ensures [
-      | inl copies ↦ inl (∥∥₁_map found.back (λ (own : IsFullRepair (repair_file repair) (repair_meta repair) repair.search (repair_back repair) (repair_made repair) repair.left_out).
-          let full = subst (λ (asked : Bool). IsFullRepair (repair_file repair) (repair_meta repair) asked (repair_back repair) (repair_made repair) repair.left_out) found.search own in
+      | inl copies ↦
+          inl (∥∥₁_map found.back
+          (λ (own : IsFullRepair (repair_file repair) (repair_meta repair) repair.search (repair_back repair) (repair_made repair) repair.left_out).
+          let full =
+          subst (λ (asked : Bool). IsFullRepair (repair_file repair) (repair_meta repair) asked (repair_back repair) (repair_made repair) repair.left_out)
+          found.search own in
           let listing = repaired_listing full.repair.recovered (repair_made repair) (repair_back repair) in
           let from = found.file ∙ searched.bytes in
           let counts = c.len.ensures ∙ repair.back.ok.0 ∙ sym (length-map _ _) in
-          let is = is_repaired file choice search both repair _ _ searched from found.meta full (λ none. found.store none _ full.repair.recovers) (found.unread _ full.repair.recovers) _ counts in
+          let is =
+          is_repaired file choice search both repair _ _ searched from found.meta full (λ none. found.store none _ full.repair.recovers)
+          (found.unread _ full.repair.recovers) _ counts in
           let made = subst (λ (asked : Bool). IsRepaired (repair_file repair) (repair_meta repair) asked listing) (sym found.search) is in
-          repair_done file choice search both repair _ _ searched from found.meta full (λ none. found.store none _ full.repair.recovers) (found.unread _ full.repair.recovers) _ counts g.O.Sink _ c.kind_of-kind.result _ _ _ c.kind_of-kind.ensures.snapshot c.kind_of-kind.ensures.layout
+          repair_done file choice search both repair _ _ searched from found.meta full (λ none. found.store none _ full.repair.recovers)
+          (found.unread _ full.repair.recovers) _ counts g.O.Sink _ c.kind_of-kind.result _ _ _ c.kind_of-kind.ensures.snapshot c.kind_of-kind.ensures.layout
           c.blueprint_of-blueprint.ensures _ faults _ _ (copies listing made) told))
       | inr (same, is) ↦ absurd (cc)
     ]

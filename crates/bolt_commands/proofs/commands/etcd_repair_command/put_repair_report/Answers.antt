@@ -5,24 +5,27 @@ pub returns-in_err-put_file_faults : goal.returns-in_err-put_file_faults
 returns-in_err-put_file_faults g c = Wrote-return _ _ c.in_err-put_file_faults.ensures.lines c.from_residual.ensures.0
 
 pub returns-in_err-put_lost : goal.returns-in_err-put_lost
-returns-in_err-put_lost g c = Wrote-then c.in_ok-put_file_faults.ensures.lines (Wrote-return _ _ c.in_err-put_lost.ensures c.from_residual-in_err-put_lost.ensures.0)
+returns-in_err-put_lost g c =
+    Wrote-then c.in_ok-put_file_faults.ensures.lines (Wrote-return _ _ c.in_err-put_lost.ensures c.from_residual-in_err-put_lost.ensures.0)
 
 pub returns-in_err-put_unread : goal.returns-in_err-put_unread
 returns-in_err-put_unread g c =
-    Wrote-then c.in_ok-put_file_faults.ensures.lines (Wrote-then c.in_ok-put_lost.ensures (Wrote-return _ _ c.in_err-put_unread.ensures c.from_residual-in_err-put_unread.ensures.0))
+    Wrote-then c.in_ok-put_file_faults.ensures.lines
+    (Wrote-then c.in_ok-put_lost.ensures (Wrote-return _ _ c.in_err-put_unread.ensures c.from_residual-in_err-put_unread.ensures.0))
 
 pub returns-in_err-put_bound : goal.returns-in_err-put_bound
 returns-in_err-put_bound g c =
     Wrote-then c.in_ok-put_file_faults.ensures.lines (Wrote-then c.in_ok-put_lost.ensures
     (Wrote-then c.in_ok-put_unread.ensures (Wrote-return _ _ (rw c.bound_of.ensures at c.in_err-put_bound.ensures) c.from_residual-in_err-put_bound.ensures.0)))
 
-pub returns-in_err-put_counts : goal.returns-in_err-put_counts
-returns-in_err-put_counts g c =
+pub returns-in_err-put_repair_counts : goal.returns-in_err-put_repair_counts
+returns-in_err-put_repair_counts g c =
     Wrote-then c.in_ok-put_file_faults.ensures.lines (Wrote-then c.in_ok-put_lost.ensures
     (Wrote-then c.in_ok-put_unread.ensures (Wrote-then (rw c.bound_of.ensures at c.in_ok-put_bound.ensures)
-    (Wrote-return _ _ c.in_err-put_counts.ensures c.from_residual-in_err-put_counts.ensures.0))))
+    (Wrote-return _ _ c.in_err-put_repair_counts.ensures c.from_residual-in_err-put_repair_counts.ensures.0))))
 
 pub returns : goal.returns
 returns g c =
     Wrote-then c.in_ok-put_file_faults.ensures.lines (Wrote-then c.in_ok-put_lost.ensures
-    (Wrote-then c.in_ok-put_unread.ensures (Wrote-then (rw c.bound_of.ensures at c.in_ok-put_bound.ensures) (Wrote-then c.in_ok-put_counts.ensures c.put_lengths.ensures))))
+    (Wrote-then c.in_ok-put_unread.ensures
+    (Wrote-then (rw c.bound_of.ensures at c.in_ok-put_bound.ensures) (Wrote-then c.in_ok-put_repair_counts.ensures c.put_lengths.ensures))))

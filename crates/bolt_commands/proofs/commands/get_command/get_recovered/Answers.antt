@@ -1,9 +1,10 @@
 -- All members are returned before the value is written.
 use Rattle.std.proofs.Common.{◌≡◌, ◌∙◌, Bool, Err, Ok, ap, inr, refl, true}
 use Rattle.bolt_commands.proofs.Vocabulary.{IsRecoveryOf, has_losses, has_recovered, parts, owned_path, path_of, recovery_meta, shortfall}
-use Rattle.bolt_commands.proofs.{Doing.answer_nothing, Doing.answer_refused, Doing.ends_as, RecoveredAnswers.none_known, RecoveredAnswers.of_recovery, RecoveredAnswers.recovered_none, RecoveredAnswers.value_known, RecoveredAnswers.value_put}
+use Rattle.bolt_commands.proofs.{Doing.answer_nothing, Doing.answer_refused, Doing.ends_as, RecoveredAnswers.none_known, RecoveredAnswers.of_recovery}
+use Rattle.bolt_commands.proofs.{RecoveredAnswers.recovered_none, RecoveredAnswers.value_known, RecoveredAnswers.value_put}
 use Rattle.bolt_commands.specs.KeyAnswers.{IsRecoveredValue, no_value}
-use Rattle.bolt_report.specs.HeldAtPaths.{HoldsNow}
+use Rattle.bolt_report.specs.AtPaths.{HoldsNow}
 use Rattle.bolt_commands.proofs.commands.get_command.get_recovered.Goals as goal
 
 pub returns-in_err-recovery : goal.returns-in_err-recovery
@@ -23,12 +24,16 @@ returns-in_err-value g c =
     let (own, is) = has_recovered c.args.input.file.now (recovery_meta r) in
     let (losses, are) = has_losses c.args.input.file.now (recovery_meta r) in
     let path = owned_path c.args.job.now.path.items in
-    let same : path_of c.as_slice-2.result.now ≡ path = ap path_of c.as_slice-2.ensures.value ∙ c.in_ok-path.ensures.path ∙ ap owned_path c.as_slice.ensures.value in
+    let same : path_of c.as_slice-2.result.now ≡ path =
+    ap path_of c.as_slice-2.ensures.value ∙ c.in_ok-path.ensures.path ∙ ap owned_path c.as_slice.ensures.value in
     let holds : HoldsNow own path c.in_ok-at.at = rw (same, of.all own is) at (c.in_ok-at.ensures.held own (rw of.bytes is)) in
     let known = c.in_ok-at.ensures.end losses (rw of.bytes are) in
-    let (none, why) = none_known own path c.in_ok-at.at holds (shortfall (parts losses) c.metas_fault-other.result) _ (rw (c.find-lost.ensures, c.losses.ensures.losses, known) at c.in_err-value.ensures) in
+    let (none, why) =
+    none_known own path c.in_ok-at.at holds (shortfall (parts losses) c.metas_fault-other.result) _
+    (rw (c.find-lost.ensures, c.losses.ensures.losses, known) at c.in_err-value.ensures) in
     of_recovery r of _ c.metas_fault-other.ensures (IsRecoveredValue c.args.job.now) _ own is losses are
-    (answer_nothing (no_value path own (shortfall (parts losses) c.metas_fault-other.result)) _ (inr (none, refl)) (rw why at c.from_residual-in_err-value.ensures.1))
+    (answer_nothing (no_value path own (shortfall (parts losses) c.metas_fault-other.result)) _ (inr (none, refl))
+    (rw why at c.from_residual-in_err-value.ensures.1))
 
 pub returns-in_err-put_value : goal.returns-in_err-put_value
 returns-in_err-put_value g c =
@@ -38,13 +43,17 @@ returns-in_err-put_value g c =
     let (own, is) = has_recovered c.args.input.file.now (recovery_meta r) in
     let (losses, are) = has_losses c.args.input.file.now (recovery_meta r) in
     let path = owned_path c.args.job.now.path.items in
-    let same : path_of c.as_slice-2.result.now ≡ path = ap path_of c.as_slice-2.ensures.value ∙ c.in_ok-path.ensures.path ∙ ap owned_path c.as_slice.ensures.value in
+    let same : path_of c.as_slice-2.result.now ≡ path =
+    ap path_of c.as_slice-2.ensures.value ∙ c.in_ok-path.ensures.path ∙ ap owned_path c.as_slice.ensures.value in
     let holds : HoldsNow own path c.in_ok-at.at = rw (same, of.all own is) at (c.in_ok-at.ensures.held own (rw of.bytes is)) in
     let known = c.in_ok-at.ensures.end losses (rw of.bytes are) in
-    let held = value_known own path c.in_ok-at.at holds (shortfall (parts losses) c.metas_fault-other.result) _ (rw (c.find-lost.ensures, c.losses.ensures.losses, known) at c.in_ok-value.ensures) in
+    let held =
+    value_known own path c.in_ok-at.at holds (shortfall (parts losses) c.metas_fault-other.result) _
+    (rw (c.find-lost.ensures, c.losses.ensures.losses, known) at c.in_ok-value.ensures) in
     let put = c.in_err-put_value.ensures in
     rw (ends_as _ _ c.from_residual-in_err-put_value.ensures.1)
-    (of_recovery r of _ c.metas_fault-other.ensures (IsRecoveredValue c.args.job.now) _ own is losses are (value_put {A = Bool} c.args.job.now own (shortfall (parts losses) c.metas_fault-other.result) _ held (Err _) put.written put.short put.fault))
+    (of_recovery r of _ c.metas_fault-other.ensures (IsRecoveredValue c.args.job.now) _ own is losses are
+    (value_put {A = Bool} c.args.job.now own (shortfall (parts losses) c.metas_fault-other.result) _ held (Err _) put.written put.short put.fault))
 
 pub returns : goal.returns
 returns g c =
@@ -54,10 +63,14 @@ returns g c =
     let (own, is) = has_recovered c.args.input.file.now (recovery_meta r) in
     let (losses, are) = has_losses c.args.input.file.now (recovery_meta r) in
     let path = owned_path c.args.job.now.path.items in
-    let same : path_of c.as_slice-2.result.now ≡ path = ap path_of c.as_slice-2.ensures.value ∙ c.in_ok-path.ensures.path ∙ ap owned_path c.as_slice.ensures.value in
+    let same : path_of c.as_slice-2.result.now ≡ path =
+    ap path_of c.as_slice-2.ensures.value ∙ c.in_ok-path.ensures.path ∙ ap owned_path c.as_slice.ensures.value in
     let holds : HoldsNow own path c.in_ok-at.at = rw (same, of.all own is) at (c.in_ok-at.ensures.held own (rw of.bytes is)) in
     let known = c.in_ok-at.ensures.end losses (rw of.bytes are) in
-    let held = value_known own path c.in_ok-at.at holds (shortfall (parts losses) c.metas_fault-other.result) _ (rw (c.find-lost.ensures, c.losses.ensures.losses, known) at c.in_ok-value.ensures) in
+    let held =
+    value_known own path c.in_ok-at.at holds (shortfall (parts losses) c.metas_fault-other.result) _
+    (rw (c.find-lost.ensures, c.losses.ensures.losses, known) at c.in_ok-value.ensures) in
     let put = c.in_ok-put_value.ensures in
     rw (c.end_listing.ensures, c.find-lost.ensures, c.losses.ensures.losses, known)
-    (of_recovery r of _ c.metas_fault-other.ensures (IsRecoveredValue c.args.job.now) _ own is losses are (value_put {A = Bool} c.args.job.now own (shortfall (parts losses) c.metas_fault-other.result) _ held (Ok true) put.written put.short tt))
+    (of_recovery r of _ c.metas_fault-other.ensures (IsRecoveredValue c.args.job.now) _ own is losses are
+    (value_put {A = Bool} c.args.job.now own (shortfall (parts losses) c.metas_fault-other.result) _ held (Ok true) put.written put.short tt))

@@ -18,6 +18,8 @@ returns g c =
     let job = c.args.job.now in
     let shown = value_shown job.form job.no_newline c.in_ok-value.value.now in
     let trees = own_trees c.args.input.file.now job.meta c.in_ok-checked.checked opened.bytes opened.sound in
-    let held = held_at c.in_ok-checked.checked (owned_path job.path.items) (Value c.in_ok-value.value.now) trees (rw (sym c.as_slice.ensures.value) c.in_ok-value.ensures.holds) in
+    let held =
+    held_at c.in_ok-checked.checked (owned_path job.path.items) (Value c.in_ok-value.value.now) trees
+    (rw (sym c.as_slice.ensures.value) c.in_ok-value.ensures.holds) in
     let put = short_put (job.form ≡ Json) shown (Ok 0) c.put_value.result c.put_value.ensures.written c.put_value.ensures.short c.put_value.ensures.fault in
     rw c.ended.ensures (answer_as put (λ answer is. inl (_, opened.sound, inl (_, rw opened.bytes at held, is))))

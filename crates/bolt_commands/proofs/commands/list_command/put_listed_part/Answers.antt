@@ -1,7 +1,9 @@
 -- What is read, and the part of it that is put.
 use Rattle.std.proofs.Common.{Err, Ok, [], ap, inl, inr, refl}
-use Rattle.bolt_commands.proofs.Vocabulary.{IsRecovered, all_lost, has_listing, has_losses, has_recovered, meta_of, parts, recovery_file, recovery_left, recovery_meta}
-use Rattle.bolt_commands.proofs.{Doing.ends_as, Doing.on_any, ListAnswers.members_put, ReadFiles.read_trees, OpenedReads.recovered_read, OpenedReads.searched_read, OpenedReads.sound_read}
+use Rattle.bolt_commands.proofs.Vocabulary.{IsRecovered, all_lost, has_listing, has_losses, has_recovered, meta_of, parts, recovery_file}
+use Rattle.bolt_commands.proofs.Vocabulary.{recovery_left, recovery_meta}
+use Rattle.bolt_commands.proofs.{Doing.ends_as, Doing.on_any, ListAnswers.members_put, ReadFiles.read_trees, OpenedReads.recovered_read}
+use Rattle.bolt_commands.proofs.{OpenedReads.searched_read, OpenedReads.sound_read}
 use Rattle.bolt_commands.proofs.commands.list_command.put_listed_part.Goals as goal
 
 pub returns-in-Sound : goal.returns-in-Sound
@@ -19,7 +21,9 @@ returns-in_err-put_members_part-in-Recovered g c =
     let (own, is) = has_recovered c.args.input.file.now (recovery_meta r) in
     let (lost, are) = has_losses c.args.input.file.now (recovery_meta r) in
     let ends = ends_as _ _ c.from_residual.ensures.1 in
-    let puts = members_put c.args.job.now own (IsRecovered (recovery_file r) (recovery_meta r)) (recovery_left r) (rw to.1.bytes is) (to.1.all own is) is.rises (Err _) put.fault put.written put.found _ ends in
+    let puts =
+    members_put c.args.job.now own (IsRecovered (recovery_file r) (recovery_meta r)) (recovery_left r) (rw to.1.bytes is) (to.1.all own is) is.rises (Err _)
+    put.fault put.written put.found _ ends in
     inl (_, own, parts lost, [], recovered_read r to is are, rw ends tt, puts)
 
 pub returns-in_ok-put_members_part-in-Recovered : goal.returns-in_ok-put_members_part-in-Recovered
@@ -30,7 +34,9 @@ returns-in_ok-put_members_part-in-Recovered g c =
     let (own, is) = has_recovered c.args.input.file.now (recovery_meta r) in
     let (lost, are) = has_losses c.args.input.file.now (recovery_meta r) in
     let known = ap parts (put.end lost (rw to.1.bytes are)) in
-    let puts = members_put c.args.job.now own (IsRecovered (recovery_file r) (recovery_meta r)) (recovery_left r) (rw to.1.bytes is) (to.1.all own is) is.rises (Ok _) put.fault put.written put.found _ refl in
+    let puts =
+    members_put c.args.job.now own (IsRecovered (recovery_file r) (recovery_meta r)) (recovery_left r) (rw to.1.bytes is) (to.1.all own is) is.rises (Ok _)
+    put.fault put.written put.found _ refl in
     inl (_, own, parts lost, [], recovered_read r to is are, known, puts)
 
 pub returns-in-Searched : goal.returns-in-Searched

@@ -1,7 +1,8 @@
 -- The path leads to a bucket exactly if the listing has it.
 use Rattle.std.proofs.Common.{◌≡◌, true}
 use Rattle.bolt_commands.proofs.Vocabulary.{finds, props, ∥∥₁_elim}
-use Rattle.bolt_commands.proofs.{Doing.ends_as, ListAnswers.none_put, ListAnswers.whole_cut, ListAnswers.whole_put, ListedBuckets.has_named, ListedBuckets.none_named}
+use Rattle.bolt_commands.proofs.{Doing.ends_as, ListAnswers.none_put, ListAnswers.whole_cut, ListAnswers.whole_put, ListedBuckets.has_named}
+use Rattle.bolt_commands.proofs.{ListedBuckets.none_named}
 use Rattle.bolt_commands.proofs.commands.list_command.put_sound_part.Goals as goal
 
 pub returns-in_default : goal.returns-in_default

@@ -33,7 +33,8 @@ rest-preserved c = record {
       let (e, is, first, at) = next_stands _ _ _ _ _ _ x c.rest.invariant.checked c.rest.invariant.start (rw shown at c.next.ensures.moves) entries are in
       let plain = stands_on _ _ _ _ _ (c.next.ensures.start ∙ c.rest.invariant.start) (rw c.in_default.is at c.bucket_at.ensures.bucket) entries are e at in
       c.rest.invariant.sum entries are total
-      (total_more (bytes_of (bucket_checked bucket)) (meta_of (bucket_checked bucket)) _ _ e _ _ total first (adds_none (bytes_of (bucket_checked bucket)) (meta_of (bucket_checked bucket)) c.rest.total e plain) later);
+      (total_more (bytes_of (bucket_checked bucket)) (meta_of (bucket_checked bucket)) _ _ e _ _ total first
+      (adds_none (bytes_of (bucket_checked bucket)) (meta_of (bucket_checked bucket)) c.rest.total e plain) later);
 }
 
 pub rest-preserved-in-Some : goal.rest-preserved-in-Some
@@ -45,7 +46,9 @@ rest-preserved-in-Some c = record {
       let (x, shown) = shown_some c.next.result (sym c.is_some.ensures ∙ c.rest-test.true) in
       let (e, is, first, at) = next_stands _ _ _ _ _ _ x c.rest.invariant.checked c.rest.invariant.start (rw shown at c.next.ensures.moves) entries are in
       let own = stands_on _ _ _ _ _ (c.next.ensures.start ∙ c.rest.invariant.start) c.in-Some.ensures.bucket entries are e at in
-      let adds = adds_bucket c.in-Some.inner (bucket_checked bucket) _ c.rest.total c.add-total.result e c.in-Some.ensures.checked own c.in_ok-stats.ensures c.add-total.ensures in
+      let adds =
+      adds_bucket c.in-Some.inner (bucket_checked bucket) _ c.rest.total c.add-total.result e c.in-Some.ensures.checked own c.in_ok-stats.ensures
+      c.add-total.ensures in
       c.rest.invariant.sum entries are total (total_more (bytes_of (bucket_checked bucket)) (meta_of (bucket_checked bucket)) _ _ e _ _ total first adds later);
 }
 

@@ -1,5 +1,6 @@
 use Rattle.std.proofs.Common.{◌≡◌, length}
-use Rattle.bolt_commands.proofs.Vocabulary.{ForEntries, IsTotal, Stats, bucket_checked, bucket_start, bytes_of, cursor_checked, cursor_place, cursor_start, entries_left, meta_of, no_stats, the_entries}
+use Rattle.bolt_commands.proofs.Vocabulary.{ForEntries, IsTotal, Stats, bucket_checked, bucket_start, bytes_of, cursor_checked, cursor_place}
+use Rattle.bolt_commands.proofs.Vocabulary.{cursor_start, entries_left, meta_of, no_stats, the_entries}
 use Rattle.bolt_commands.proofs.commands.stats_command.sum_buckets.Given as goal
 
 -- what the figures so far and the entries that are left come to, all entries do

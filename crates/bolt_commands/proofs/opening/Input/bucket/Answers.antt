@@ -3,7 +3,8 @@ use Rattle.bolt_commands.proofs.Doing.{ends_as}
 use Rattle.bolt_commands.proofs.opening.Input.bucket.Goals as goal
 
 pub returns-in_err-checked-clause-refused : goal.returns-in_err-checked-clause-refused
-returns-in_err-checked-clause-refused c = rw (ends_as _ c.in_err-checked.field-0.0 c.from_residual.ensures.1) (record { why = inr c.in_err-checked.ensures.refused })
+returns-in_err-checked-clause-refused c =
+    rw (ends_as _ c.in_err-checked.field-0.0 c.from_residual.ensures.1) (record { why = inr c.in_err-checked.ensures.refused })
 
 pub returns-in_err-bucket-clause-refused : goal.returns-in_err-bucket-clause-refused
 returns-in_err-bucket-clause-refused c =

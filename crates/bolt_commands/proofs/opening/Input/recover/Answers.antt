@@ -9,4 +9,5 @@ pub returns-clause-refused : goal.returns-clause-refused
 returns-clause-refused c =
     let file = c.args.self.file.now in
     let choice = c.args.choice in
-    IfErr-weaker c.under.result _ _ (refused_under file (IsMetaOf file choice) (HasNoMetaOf file choice) c.in_ok-meta.meta c.in_ok-meta.ensures.found) c.under.ensures.refused
+    IfErr-weaker c.under.result _ _ (refused_under file (IsMetaOf file choice) (HasNoMetaOf file choice) c.in_ok-meta.meta c.in_ok-meta.ensures.found)
+    c.under.ensures.refused

@@ -5,7 +5,8 @@ use Rattle.bolt_commands.proofs.{Doing.ends_as, ReadFiles.some_page_size}
 use Rattle.bolt_commands.proofs.opening.Input.search.Goals as goal
 
 pub returns-in_err-meta-clause-refused : goal.returns-in_err-meta-clause-refused
-returns-in_err-meta-clause-refused c = rw (ends_as _ (failure.Metas c.in_err-meta.field-0.0) c.from_residual.ensures.1) (inl (_, c.in_err-meta.ensures.none, refl))
+returns-in_err-meta-clause-refused c =
+    rw (ends_as _ (failure.Open c.in_err-meta.field-0.0) c.from_residual.ensures.1) (inl (_, c.in_err-meta.ensures.none, refl))
 
 pub under-requires : goal.under-requires
 under-requires c = some_page_size c.args.self.file.now c.args.choice c.in_ok-meta.meta c.in_ok-meta.ensures.found

@@ -1,6 +1,7 @@
 use Rattle.std.proofs.Common.{◌≡◌, ℕ, List, [], refl}
 use Rattle.bolt_format.specs.{Elements.branch_elements, Elements.leaf_elements, Pages.view_of, ShownGoodPages.shown}
-use Rattle.bolt_format.specs.{TreePages.branch_overflow, TreePages.branches_on, TreePages.leaf_overflow, TreePages.leaves_on, declared.header.Kind.Kind}
+use Rattle.bolt_format.specs.{TreePages.branch_overflow, TreePages.branches_on, TreePages.leaf_overflow, TreePages.leaves_on}
+use Rattle.bolt_format.specs.{declared.header.Kind.Kind}
 use Rattle.bolt_format.specs.declared.header.Kind.TheVariants as kind
 use Rattle.bolt_format.proofs.GoodPages.{length-branch_elements, length-leaf_elements}
 use Rattle.bolt_format.proofs.good_page.Page.tree_page.Goals as goal

@@ -1,5 +1,6 @@
 use Rattle.std.proofs.Common.{◌∙◌, ◌<◌, ℕ, List, Some, ap, arith, length, subst, sym}
-use Rattle.bolt_format.specs.{Elements.IsBucketValue, Elements.LeafElement, Elements.leaf_element, Elements.leaf_elements, Elements.value_fault, TreePages.leaves_on}
+use Rattle.bolt_format.specs.{Elements.IsBucketValue, Elements.LeafElement, Elements.leaf_element, Elements.leaf_elements, Elements.value_fault}
+use Rattle.bolt_format.specs.{TreePages.leaves_on}
 use Rattle.bolt_format.proofs.GoodPages.{good_leaf, length-leaf_elements, slice_get-made}
 use Rattle.bolt_format.proofs.tree_page.LeafPage.element.Goals as goal
 

@@ -1,6 +1,7 @@
 -- What is found is merged with what is kept of the same file.
 use Rattle.std.proofs.Common.{◌∙◌, ap, ap₂, sym, arith}
-use Rattle.bolt_recover.proofs.{Existing.recovers, JoinedLemmas.merged_joined, Searched.joinable, Words.found_listing, Words.joined_left, Words.props, Words.∥∥₁_elim}
+use Rattle.bolt_recover.proofs.{Existing.recovers, JoinedLemmas.merged_joined, Searched.joinable, Words.found_listing, Words.joined_left, Words.props}
+use Rattle.bolt_recover.proofs.{Words.∥∥₁_elim}
 use Rattle.bolt_tree.specs.Merges.{merge}
 use Rattle.bolt_recover.proofs.joined.Joined.new.Goals as goal
 

@@ -1,6 +1,7 @@
 -- By what is left of the trees.
 use Rattle.std.proofs.Common.{◌≡◌, sym}
-use Rattle.bolt_recover.proofs.{Searched.none_recovered, Searched.of_sound, Searched.root_lost, SoundWalks.walked, Words.left_of, Words.props, Words.∥∥₁_map}
+use Rattle.bolt_recover.proofs.{Searched.none_recovered, Searched.of_sound, Searched.root_lost, SoundWalks.walked, Words.left_of, Words.props}
+use Rattle.bolt_recover.proofs.{Words.∥∥₁_map}
 use Rattle.bolt_recover.proofs.kept.Kept.of.Goals as goal
 
 pub returns-in-Sound-clause-file : goal.returns-in-Sound-clause-file
@@ -15,7 +16,10 @@ returns-in-Sound-clause-all c = λ listing is.
     walked {P = λ listing. left_of c.new.result listing ≡ listing} c.in-Sound.checked listing (rw (file, meta) is) (hlevel props) c.new.ensures.all
 
 pub invariant_of-result : goal.invariant_of-result
-invariant_of-result c = record { bytes = c.args.both.now.bytes; lost = ∥∥₁_map (root_lost c.args.both.now c.in-Rootless.field-0 c.in-Rootless.is) (λ lost. (c.in-Rootless.field-0, lost)) }
+invariant_of-result c = record {
+  bytes = c.args.both.now.bytes;
+  lost = ∥∥₁_map (root_lost c.args.both.now c.in-Rootless.field-0 c.in-Rootless.is) (λ lost. (c.in-Rootless.field-0, lost));
+}
 
 pub returns-clause-all : goal.returns-clause-all
 returns-clause-all c = λ listing is. sym (none_recovered c.args.both.now c.in-Rootless.field-0 c.in-Rootless.is listing is)

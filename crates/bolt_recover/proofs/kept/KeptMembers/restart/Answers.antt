@@ -10,4 +10,5 @@ returns-in-Rootless-clause-all c = rw c.in-Rootless.is (λ listing is.
 
 pub returns-in-Sound-clause-all : goal.returns-in-Sound-clause-all
 returns-in-Sound-clause-all c = rw c.in-Sound.is (λ listing is.
-    walked {P = λ listing. left_of c.new.result listing ≡ listing} (walk_checked c.in-Sound.walk) listing is (hlevel props) (rw c.checked.ensures at c.new.ensures.all))
+    walked {P = λ listing. left_of c.new.result listing ≡ listing} (walk_checked c.in-Sound.walk) listing is (hlevel props)
+    (rw c.checked.ensures at c.new.ensures.all))

@@ -13,7 +13,8 @@ pub returns-in-Ok-clause-lost : goal.returns-in-Ok-clause-lost
 unfolding all_lost
 returns-in-Ok-clause-lost c =
     let checked = c.in-Ok.ensures in
-    (sound_searched c.args.file.now c.args.meta c.in-Ok.checked c.new-found.result.items checked.bytes checked.meta c.new-found.ensures.items checked.trees).lost
+    (sound_searched c.args.file.now c.args.meta c.in-Ok.checked c.new-found.result.items checked.bytes checked.meta c.new-found.ensures.items
+    checked.trees).lost
 
 pub returns-in-Ok-clause-found : goal.returns-in-Ok-clause-found
 returns-in-Ok-clause-found c = grind (arith, sound_searched, c.in-Ok.ensures, c.new-found.ensures.items)

@@ -1,6 +1,7 @@
 -- Something is lost, since the trees aren't sound.
 use Rattle.std.proofs.Common.{◌≡◌, ◌∙◌, List, true, subst₂, ℕ}
-use Rattle.bolt_recover.proofs.Words.{All, FoundBelow, is_taken, IsFoundView, Meta, found_numbers, recovery_claimed, recovery_file, recovery_gaps, recovery_losses, recovery_meta}
+use Rattle.bolt_recover.proofs.Words.{All, FoundBelow, is_taken, IsFoundView, Meta, found_numbers, recovery_claimed, recovery_file, recovery_gaps}
+use Rattle.bolt_recover.proofs.Words.{recovery_losses, recovery_meta}
 use Rattle.bolt_recover.proofs.FoundAll.{found_damaged}
 use Rattle.bolt_recover.proofs.recovery.Recovery.found.Goals as goal
 
@@ -20,6 +21,7 @@ returns c =
       lost = (c.requires.root, finished.all);
       are_found =
           found_damaged file meta (recovery_claimed self) (is_taken rest) (found_numbers items) finished.kept c.new.ensures.taken c.requires.damaged
-          (subst₂ (λ (f : List ℕ) (m : Meta). FoundBelow f m (λ n. is_taken rest n ≡ true) m.high_water (found_numbers items)) same_file same_meta c.in_ok-found.ensures.found);
+          (subst₂ (λ (f : List ℕ) (m : Meta). FoundBelow f m (λ n. is_taken rest n ≡ true) m.high_water (found_numbers items)) same_file same_meta
+          c.in_ok-found.ensures.found);
       views = subst₂ (λ (f : List ℕ) (m : Meta). All (IsFoundView f m) items) same_file same_meta c.in_ok-found.ensures.views;
     }

@@ -8,8 +8,10 @@ abbrev pub invariant-loop-self : goal.invariant-loop-self
 invariant-loop-self l = record {
   file : recovery_file l.self ≡ recovery_file l.fn.self;
   meta : recovery_meta l.self ≡ recovery_meta l.fn.self;
-  looked : ForRecovered (recovery_file l.fn.self) (recovery_meta l.fn.self) (λ listing. (l.has_bucket_key || holds_key (recovery_left l.self listing)) ≡ holds_key listing);
-  number : ForRecovered (recovery_file l.fn.self) (recovery_meta l.fn.self) (λ listing. counted l.members (length (recovery_left l.self listing)) ≡ saturated (length listing));
+  looked : ForRecovered (recovery_file l.fn.self) (recovery_meta l.fn.self)
+      (λ listing. (l.has_bucket_key || holds_key (recovery_left l.self listing)) ≡ holds_key listing);
+  number : ForRecovered (recovery_file l.fn.self) (recovery_meta l.fn.self)
+      (λ listing. counted l.members (length (recovery_left l.self listing)) ≡ saturated (length listing));
   small : l.members < 2 ^ 64;
 }
 

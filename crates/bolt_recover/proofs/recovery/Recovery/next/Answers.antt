@@ -1,5 +1,6 @@
 use Rattle.std.proofs.Common.{arith}
-use Rattle.bolt_recover.proofs.Words.{recovery_begun, recovery_claimed, recovery_file, recovery_gaps, recovery_losses, recovery_meta, recovery_visited, visited_fits, ∥∥₁_elim}
+use Rattle.bolt_recover.proofs.Words.{recovery_begun, recovery_claimed, recovery_file, recovery_gaps, recovery_losses, recovery_meta}
+use Rattle.bolt_recover.proofs.Words.{recovery_visited, visited_fits, ∥∥₁_elim}
 use Rattle.bolt_recover.proofs.Recovering.{claimed_ended, gaps_ended, placed_prop, reported_ended, visited_ended}
 use Rattle.bolt_recover.proofs.recovery.Recovery.next.Goals as goal
 

@@ -16,4 +16,5 @@ returns-clause-found c =
     let same_meta = c.new.ensures.meta ∙ finished.under in
     IfOk-weaker c.find_leaves.result _ _ (λ found among.
     found_anyway file meta (recovery_claimed self) (is_taken rest) (found_numbers found.items) finished.kept c.new.ensures.taken
-    (subst₂ (λ (f : List ℕ) (m : Meta). FoundBelow f m (λ n. is_taken rest n ≡ true) m.high_water (found_numbers found.items)) same_file same_meta among)) c.find_leaves.ensures.found
+    (subst₂ (λ (f : List ℕ) (m : Meta). FoundBelow f m (λ n. is_taken rest n ≡ true) m.high_water (found_numbers found.items)) same_file same_meta among))
+    c.find_leaves.ensures.found

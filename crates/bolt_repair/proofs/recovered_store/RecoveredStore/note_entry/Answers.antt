@@ -2,10 +2,11 @@
 use Rattle.std.proofs.Common.{Bor, List, [], Some, ap, map, refl, sym, ◌∙◌, ◌∷◌, ◌++◌, ℕ}
 use Rattle.std.proofs.{lemmas.Bool.false≢true, lemmas.List.map-append, lemmas.Result.on_ok_weaker}
 use Rattle.bolt_tree.specs.ShownEntries.{shown_entry}
-use Rattle.bolt_etcd.specs.{ShownOthers.shown_other}
+use Rattle.bolt_etcd.specs.{Wire.Others.shown_other}
 use Rattle.bolt_repair.specs.Repairs.{store_path}
 use Rattle.bolt_repair.proofs.NotedMembers.{key_not_wanted, key_noted}
-use Rattle.bolt_repair.proofs.{ReadableLemmas.noted_readable, ReadableLemmas.noted_unread, ReadableLemmas.readable_after, ReadablePaths.entry_no_meta, ReadablePaths.readable_entry, ReadablePaths.unread_entry}
+use Rattle.bolt_repair.proofs.{ReadableLemmas.noted_readable, ReadableLemmas.noted_unread, ReadableLemmas.readable_after, ReadablePaths.entry_no_meta}
+use Rattle.bolt_repair.proofs.{ReadablePaths.readable_entry, ReadablePaths.unread_entry}
 use Rattle.bolt_repair.proofs.recovered_store.RecoveredStore.note_entry.Goals as goal
 
 pub returns-in-Some : goal.returns-in-Some
@@ -23,7 +24,8 @@ returns-in_ok-add_key c = λ before after s.
     let (reads, none) = readable_entry e (sym c.in_default.ensures) in
     let more = ap (map now) c.in_ok-add_key.ensures ∙ map-append now c.args.self.now.met.items (c.args.entry.now.key ∷ []) in
     noted_readable before (store_path ++ e.key ∷ []) e.item _ _ _ s reads none (entry_no_meta _ e.key refl) refl refl
-    (λ t. key_noted _ _ _ (readable_after before (store_path ++ e.key ∷ []) e.item after) _ _ _ _ _ t e.key refl _ c.in_ok-keep_revision.ensures _ more (c.has_candidate.ensures.0 c.if-has_candidate.true))
+    (λ t. key_noted _ _ _ (readable_after before (store_path ++ e.key ∷ []) e.item after) _ _ _ _ _ t e.key refl _ c.in_ok-keep_revision.ensures _ more
+    (c.has_candidate.ensures.0 c.if-has_candidate.true))
 
 pub returns-else-has_candidate : goal.returns-else-has_candidate
 returns-else-has_candidate c = λ before after s.

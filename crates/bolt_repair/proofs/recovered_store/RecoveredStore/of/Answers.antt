@@ -1,7 +1,7 @@
 use Rattle.std.proofs.Common.{Bor, List, [], ap, map, subst, sym, ◌++◌, ◌∷◌, None, ℕ}
 use Rattle.bolt_tree.specs.{Listing.Member, Paths.path_of, ShownEntries.item_view}
-use Rattle.bolt_etcd.specs.{ShownRevisions.entry_of, ShownRevisions.shown_revision, declared.revision.Revision.Revision}
-use Rattle.bolt_etcd.specs.ShownOthers.{shown_other}
+use Rattle.bolt_etcd.specs.{Wire.ShownRevisions.entry_of, Wire.ShownRevisions.shown_revision, declared.wire.revision.Revision.Revision}
+use Rattle.bolt_etcd.specs.Wire.Others.{shown_other}
 use Rattle.bolt_tree.proofs.Exports.{contains_none}
 use Rattle.bolt_repair.specs.Repairs.{meta_path}
 use Rattle.bolt_repair.specs.RecoveredStores.{IsRecoveredStore, IsStoreNoted}
@@ -18,8 +18,11 @@ members-init c =
         [],
         c.in_ok-kept.ensures.all listing is,
         record {
-          store = subst (λ (keys : List (Bor (List ℕ))). IsRecoveredStore [] candidates None None (map shown_revision c.in_ok-room.room.items) (map now keys)) (sym c.new.ensures.items)
-              (subst (λ (rs : List Revision). IsRecoveredStore [] candidates None None (map shown_revision rs) []) (sym c.in_ok-room.ensures.items) (no_members_noted candidates));
+          store =
+              subst (λ (keys : List (Bor (List ℕ))). IsRecoveredStore [] candidates None None (map shown_revision c.in_ok-room.room.items) (map now keys))
+              (sym c.new.ensures.items)
+              (subst (λ (rs : List Revision). IsRecoveredStore [] candidates None None (map shown_revision rs) []) (sym c.in_ok-room.ensures.items)
+              (no_members_noted candidates));
           unread = ap (map shown_other) c.new-2.ensures.items;
           meta = (λ e. absurd (cc), λ (item, has). absurd (contains_none (meta_path, item) has));
         },

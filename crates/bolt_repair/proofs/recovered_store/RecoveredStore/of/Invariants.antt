@@ -1,7 +1,8 @@
 use Rattle.std.proofs.Common.{List, map, ◌++◌, ◌≡◌}
 use Rattle.bolt_tree.specs.{Listing.Member}
-use Rattle.bolt_recover.specs.{KeptMembers.kept_file, KeptMembers.kept_left, KeptMembers.kept_meta, KeptMembers.kept_work, Recovered.ForRecovered, Recovered.IsRecovered}
-use Rattle.bolt_etcd.specs.ShownRevisions.{entry_of}
+use Rattle.bolt_recover.specs.{KeptMembers.kept_file, KeptMembers.kept_left, KeptMembers.kept_meta, KeptMembers.kept_work, Recovered.ForRecovered}
+use Rattle.bolt_recover.specs.{Recovered.IsRecovered}
+use Rattle.bolt_etcd.specs.Wire.ShownRevisions.{entry_of}
 use Rattle.bolt_repair.specs.RecoveredStores.{IsStoreNoted}
 use Rattle.bolt_repair.proofs.recovered_store.RecoveredStore.of.Given as goal
 

@@ -1,9 +1,10 @@
 -- What is found, looked at beside the recovered listing.
 use Rattle.std.proofs.Common.{◌≡◌, ◌∙◌, ◌-◌, ◌≤◌, ◌&&◌, Bool, not, ap, false, refl, Some, subst, sym, vec_len, List, arith, map, length}
-use Rattle.bolt_etcd.specs.{ShownRevisions.entry_of, declared.revision.Revision.Revision}
+use Rattle.bolt_etcd.specs.{Wire.ShownRevisions.entry_of, declared.wire.revision.Revision.Revision}
 use Rattle.bolt_tree.proofs.Exports.{kept, kept_from, key_total}
 use Rattle.bolt_etcd.proofs.Exports.{rises_sorted}
-use Rattle.bolt_repair.proofs.FoundRepairs.{HasNothing, has_bucket, made_if, none_under, refused, searched_full, searched_least, searched_repair, searched_rise}
+use Rattle.bolt_repair.proofs.FoundRepairs.{HasNothing, has_bucket, made_if, none_under, refused, searched_full, searched_least, searched_repair}
+use Rattle.bolt_repair.proofs.FoundRepairs.{searched_rise}
 use Rattle.bolt_repair.proofs.{WholeRepairs.is_nil, WholeRepairs.value_under}
 use Rattle.std.proofs.lemmas.Bool.{and_right}
 use Rattle.std.specs.Option.{option_map}
@@ -26,7 +27,9 @@ overflow_sub-result c =
     omega (arith, least, number)
 
 pub of-requires : goal.of-requires
-of-requires c = subst (λ (rs : List Revision). Rises whole_cmp (map entry_of rs)) (sym c.as_slice.ensures.value) (searched_rise c.args.both.now c.args.search _ c.in_ok-back.ensures)
+of-requires c =
+    subst (λ (rs : List Revision). Rises whole_cmp (map entry_of rs)) (sym c.as_slice.ensures.value)
+    (searched_rise c.args.both.now c.args.search _ c.in_ok-back.ensures)
 
 pub keep_agreed-keys-requires-clause-rises : goal.keep_agreed-keys-requires-clause-rises
 keep_agreed-keys-requires-clause-rises c = searched_rise c.args.both.now c.args.search _ c.in_ok-back.ensures
@@ -42,8 +45,10 @@ invariant_of-result c =
     let says = subst (HasNothing c.has_nothing.result c.in-Some.is_lacking) c.as_slice-2.ensures.value c.has_nothing.ensures in
     record {
       goes_back =
-          searched_repair c.args.both.now c.args.search _ _ _ _ c.as_slice.ensures.value c.in_ok-store.store _ c.compacted_by-compacted.ensures c.in_ok-back.ensures
-          c.in_ok-store.ensures c.keep_agreed-keys.ensures.agreed c.in_ok-keep_what_goes_back.ensures c.in-Some.is_lacking (sym c.lacks_bucket.ensures ∙ c.in-Some.is) c.in-Some.is_lacking
+          searched_repair c.args.both.now c.args.search _ _ _ _ c.as_slice.ensures.value c.in_ok-store.store _ c.compacted_by-compacted.ensures
+          c.in_ok-back.ensures
+          c.in_ok-store.ensures c.keep_agreed-keys.ensures.agreed c.in_ok-keep_what_goes_back.ensures c.in-Some.is_lacking
+          (sym c.lacks_bucket.ensures ∙ c.in-Some.is) c.in-Some.is_lacking
           (made_if back.items _ _ says c.if-has_nothing.false);
     }
 
@@ -54,14 +59,17 @@ returns-clause-back c =
     let says = subst (HasNothing c.has_nothing.result c.in-Some.is_lacking) c.as_slice-2.ensures.value c.has_nothing.ensures in
     let (keys, are, number) = c.keep_agreed-keys.ensures.keys in
     searched_full c.args.both.now c.args.search _ _ _ _ c.as_slice.ensures.value c.in_ok-store.store _ c.compacted_by-compacted.ensures c.in_ok-back.ensures
-    c.in_ok-store.ensures c.keep_agreed-keys.ensures.agreed c.in_ok-keep_what_goes_back.ensures c.in-Some.is_lacking (sym c.lacks_bucket.ensures ∙ c.in-Some.is) c.in-Some.is_lacking
-    (made_if back.items _ _ says c.if-has_nothing.false) keys are (c.keep_agreed-keys.result - c.len.result) (let same = c.len.ensures in omega (arith, number, same, long))
+    c.in_ok-store.ensures c.keep_agreed-keys.ensures.agreed c.in_ok-keep_what_goes_back.ensures c.in-Some.is_lacking
+    (sym c.lacks_bucket.ensures ∙ c.in-Some.is) c.in-Some.is_lacking
+    (made_if back.items _ _ says c.if-has_nothing.false) keys are (c.keep_agreed-keys.result - c.len.result)
+    (let same = c.len.ensures in omega (arith, number, same, long))
 
 pub returns-clause-store : goal.returns-clause-store
 returns-clause-store c = λ none listing is.
     let back = c.keep_what_goes_back.new.agreed in
     let says = subst (HasNothing c.has_nothing.result c.in-Some.is_lacking) c.as_slice-2.ensures.value c.has_nothing.ensures in
-    let (sequence, under) = has_bucket back.items _ _ says c.if-has_nothing.false none (option_map item_view c.in_ok-store.store.bucket) (sym c.lacks_bucket.ensures ∙ c.in-Some.is) in
+    let (sequence, under) =
+    has_bucket back.items _ _ says c.if-has_nothing.false none (option_map item_view c.in_ok-store.store.bucket) (sym c.lacks_bucket.ensures ∙ c.in-Some.is) in
     (sequence, (kept_from readables listing (store_path, Bucket sequence) (((c.in_ok-store.ensures listing is).store.bucket (Bucket sequence)).1 under)).0)
 
 pub returns-then-has_nothing-clause-refused : goal.returns-then-has_nothing-clause-refused
@@ -77,8 +85,16 @@ returns-then-has_nothing-clause-refused c =
     searched_repair c.args.both.now c.args.search _ _ _ _ c.as_slice.ensures.value c.in_ok-store.store _ c.compacted_by-compacted.ensures c.in_ok-back.ensures
     c.in_ok-store.ensures c.keep_agreed-keys.ensures.agreed c.in_ok-keep_what_goes_back.ensures c.in-Some.is_lacking under false made in
     subst (IsRepairRefusal both.file.now both.meta c.args.search) (sym c.of-then-has_nothing.ensures)
-    (refused both c.args.search (∥∥₁_map repair (λ is. (record { store = false; meta = not c.in_ok-store.store.has_meta }, subst (λ (es : List EntryView). IsRepair both.file.now both.meta c.args.search es (record { store = false; meta = not c.in_ok-store.store.has_meta })) empty is)))
-    (λ listing is item has. none_under _ (under ∙ ap Some lacks) item (((c.in_ok-store.ensures listing is).store.bucket item).0 (kept readables listing (store_path, item) has refl))) (lost_view c.lost.result) (sym c.lost.ensures))
+    (refused both c.args.search
+    (∥∥₁_map repair (λ is. (
+      record { store = false; meta = not c.in_ok-store.store.has_meta },
+      subst (λ (es : List EntryView).
+          IsRepair both.file.now both.meta c.args.search es (record { store = false; meta = not c.in_ok-store.store.has_meta })) empty is,
+    )))
+    (λ listing is item has.
+    none_under _ (under ∙ ap Some lacks) item
+    (((c.in_ok-store.ensures listing is).store.bucket item).0 (kept readables listing (store_path, item) has refl))) (lost_view c.lost.result)
+    (sym c.lost.ensures))
 
 pub returns-in_default-clause-refused : goal.returns-in_default-clause-refused
 returns-in_default-clause-refused c =

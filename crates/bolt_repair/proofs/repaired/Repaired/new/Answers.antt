@@ -3,8 +3,9 @@ use Rattle.std.proofs.Common.{◌∙◌, [], ap, ap₂, List, map, sym}
 use Rattle.std.proofs.{Math.Logic.∥∥₁_elim, Props.props}
 use Rattle.bolt_tree.specs.{InBuckets.members_in, Merges.merge}
 use Rattle.bolt_recover.specs.TheRecovered.{the_recovered}
-use Rattle.bolt_etcd.specs.{declared.revision.Revision.Revision, ShownRevisions.entry_of}
-use Rattle.bolt_repair.specs.{RepairedMerges.repair_back, RepairedMerges.repair_made, RepairedMembers.repaired_left, Repairs.meta_path, Repairs.store_path}
+use Rattle.bolt_etcd.specs.{declared.wire.revision.Revision.Revision, Wire.ShownRevisions.entry_of}
+use Rattle.bolt_repair.specs.{RepairedMerges.repair_back, RepairedMerges.repair_made, RepairedMembers.repaired_left, Repairs.meta_path}
+use Rattle.bolt_repair.specs.{Repairs.store_path}
 use Rattle.bolt_repair.proofs.{OneRepair.merged_repaired, RepairedListings.parents_of, StrippedLemmas.strip_listing}
 use Rattle.bolt_repair.proofs.repaired.Repaired.new.Goals as goal
 
@@ -37,4 +38,5 @@ returns-clause-all c = λ listing is.
     (c.new-3.ensures.left (the_recovered file meta) (members_in repair.is_made store_path (repair_back repair))
     ∙ ap₂ merge (c.in_ok-kept.ensures.all _ recovered ∙ stripped) (c.in_ok-back.ensures.left ∙ c.in_ok-back.ensures.listing ∙ same))
     (c.in_ok-meta.ensures.left ∙ c.in_ok-meta.ensures.listing)
-    ∙ merged_repaired file meta repair.search (c.sought_pages_are_one.ensures file meta repair.search) _ recovered (repair_back repair) (repair_made repair) back listing is)
+    ∙ merged_repaired file meta repair.search (c.sought_pages_are_one.ensures file meta repair.search) _ recovered (repair_back repair) (repair_made repair)
+    back listing is)

@@ -10,8 +10,10 @@ invariant_of-self c = record { reads = ∥∥₁_map c.args.self.now.reads (λ r
 pub returns-clause-given : goal.returns-clause-given
 unfolding repaired_left repaired_path
 returns-clause-given c =
-    IfOk-weaker c.next.result _ _ (λ given gives listing is. ∥∥₁_elim c.args.self.now.reads (gives_prop _ _ _ given) (λ reads. gives _ reads)) c.next.ensures.given
+    IfOk-weaker c.next.result _ _ (λ given gives listing is. ∥∥₁_elim c.args.self.now.reads (gives_prop _ _ _ given) (λ reads. gives _ reads))
+    c.next.ensures.given
 
 pub returns-clause-same : goal.returns-clause-same
 unfolding repaired_left
-returns-clause-same c = on_err_weaker c.next.result (λ same listing is. ∥∥₁_elim c.args.self.now.reads (Prim.hlevel props) (λ reads. same _ reads)) c.next.ensures.same
+returns-clause-same c =
+    on_err_weaker c.next.result (λ same listing is. ∥∥₁_elim c.args.self.now.reads (Prim.hlevel props) (λ reads. same _ reads)) c.next.ensures.same

@@ -1,7 +1,7 @@
 use Rattle.std.proofs.Common.{◌≡◌, drop, flat_map, map}
 use Rattle.bolt_format.proofs.Exports.{WroteFront}
 use Rattle.bolt_report.specs.{RevisionLines.prefix_line}
-use Rattle.bolt_etcd.specs.{ShownRevisions.shown_revision}
+use Rattle.bolt_etcd.specs.{Wire.ShownRevisions.shown_revision}
 use Rattle.bolt_report.proofs.revision_lines.RevisionWriter.put_all.Given as goal
 
 -- the lines of those that are left are still to be written

@@ -1,5 +1,6 @@
 use Rattle.std.proofs.Common.{◌≡◌, ◌∷◌, ◌≤◌, ◌-◌, ◌*◌, length}
-use Rattle.bolt_tree.proofs.Words.{HasStack, IsBetween, IsMoved, IsOnWayDown, contents_in, counted, frames_of, opened_content, pager_opened, pages_bucket, trail_on}
+use Rattle.bolt_tree.proofs.Words.{HasStack, IsBetween, IsMoved, IsOnWayDown, contents_in, counted, frames_of, opened_content, pager_opened}
+use Rattle.bolt_tree.proofs.Words.{pages_bucket, trail_on}
 use Rattle.bolt_tree.proofs.bucket_pages.BucketPages.descend.Given as goal
 
 abbrev pub invariant-loop-opened : goal.invariant-loop-opened

@@ -10,7 +10,8 @@ invariant_of-self c = record { resting = not_past_resting _ _ c.args.self.now.re
 pub returns-clause-moves : goal.returns-clause-moves
 unfolding cursor_checked cursor_place cursor_start
 returns-clause-moves c = shows_by _ _ to_first (cursor_place c.args.self.now) _ _ _ c.entry_of.ensures.entry
-    (rw (not_past_still _ _ c.start.result c.start.ensures.past refl) (moves_first _ _ c.start.ensures.moved _ c.args.self.now.resting c.start.result (cursor_place c.args.self.now) c.start.ensures.found))
+    (rw (not_past_still _ _ c.start.result c.start.ensures.past refl)
+    (moves_first _ _ c.start.ensures.moved _ c.args.self.now.resting c.start.result (cursor_place c.args.self.now) c.start.ensures.found))
 
 pub returns-clause-opens : goal.returns-clause-opens
 unfolding cursor_checked cursor_opened cursor_start

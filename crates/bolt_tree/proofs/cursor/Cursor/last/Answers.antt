@@ -10,4 +10,5 @@ invariant_of-self c = record { resting = not_past_resting _ _ c.args.self.now.re
 pub returns-clause-moves : goal.returns-clause-moves
 unfolding cursor_checked cursor_place cursor_start
 returns-clause-moves c = shows_by _ _ to_last (cursor_place c.args.self.now) _ _ _ c.entry_of.ensures.entry
-    (rw (not_past_still _ _ c.start.result c.start.ensures.past refl) (moves_last _ _ c.start.ensures.moved _ c.args.self.now.resting c.start.result (cursor_place c.args.self.now) c.start.ensures.found))
+    (rw (not_past_still _ _ c.start.result c.start.ensures.past refl)
+    (moves_last _ _ c.start.ensures.moved _ c.args.self.now.resting c.start.result (cursor_place c.args.self.now) c.start.ensures.found))

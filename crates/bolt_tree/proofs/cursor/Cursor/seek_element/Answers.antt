@@ -1,15 +1,19 @@
 -- What the way down and then the move forward say, all of the bucket as it was.
 use Rattle.std.proofs.Common.{◌≡◌, [], ◌∙◌, ◌+◌, ◌-◌, ℕ, Bool, Option, None, false, length, List, not, sym, ap, arith, refl}
 use Rattle.std.proofs.Math.Bool.{not-not}
-use Rattle.bolt_tree.proofs.Words.{BucketView, Contents, Finds, Frame, HasStack, IsMoved, IsNearTop, IsSought, Key, Leaf, LeafElement, Past, ahead_of, contents_in, counted, cursor_checked, cursor_opened, cursor_place, cursor_start, cursor_trail, elements_in, frames_of, later_of, pager_opened, pages_bucket, place_by, start_at, trail_on}
-use Rattle.bolt_tree.proofs.{PagerLemmas.counted_more, OpeningMoves.leaf_nonempty, OpeningMoves.seek_bounds, OpeningMoves.seek_opens, RestingLemmas.moves_seek, RestingLemmas.resting_bucket}
+use Rattle.bolt_tree.proofs.Words.{BucketView, Contents, Finds, Frame, HasStack, IsMoved, IsNearTop, IsSought, Key, Leaf, LeafElement, Past, ahead_of}
+use Rattle.bolt_tree.proofs.Words.{contents_in, counted, cursor_checked, cursor_opened, cursor_place, cursor_start, cursor_trail, elements_in}
+use Rattle.bolt_tree.proofs.Words.{frames_of, later_of, pager_opened, pages_bucket, place_by, start_at, trail_on}
+use Rattle.bolt_tree.proofs.{PagerLemmas.counted_more, OpeningMoves.leaf_nonempty, OpeningMoves.seek_bounds, OpeningMoves.seek_opens}
+use Rattle.bolt_tree.proofs.{RestingLemmas.moves_seek, RestingLemmas.resting_bucket}
 use Rattle.bolt_tree.proofs.TrailLemmas.{same_bucket}
 use Rattle.std.specs.Option.{is_some}
 use Rattle.bolt_tree.specs.Cursors.{cursor_compared}
 use Rattle.bolt_tree.proofs.cursor.Cursor.seek_element.Goals as goal
 
 -- the bucket stays the same: as the root page is opened, on the way down, and as the stack moves forward
-module _ (was rooted low now : BucketView) (root : rooted ≡ was) (under : low ≡ was) (after : now ≡ was) (key : Key) (down frames : List Frame) (found : Option Leaf) where
+module _ (was rooted low now : BucketView) (root : rooted ≡ was) (under : low ≡ was) (after : now ≡ was) (key : Key) (down frames : List Frame)
+    (found : Option Leaf) where
   near : IsNearTop rooted key down → IsNearTop was key down
   near h = rw root at h
 
@@ -22,17 +26,21 @@ module _ (was rooted low now : BucketView) (root : rooted ≡ was) (under : low 
   moved : HasStack now frames → HasStack was frames
   moved h = rw after at h
 
-  finds_below : (left : List LeafElement) → Finds false found (ahead_of (contents_in low) down) left frames [] → Finds false found (ahead_of (contents_in was) down) left frames []
+  finds_below : (left : List LeafElement) → Finds false found (ahead_of (contents_in low) down) left frames []
+      → Finds false found (ahead_of (contents_in was) down) left frames []
   finds_below left h = rw under at h
 
-  finds : Finds false found (ahead_of (contents_in low) down) (ahead_of (contents_in now) frames) frames [] → Finds false found (ahead_of (contents_in was) down) (ahead_of (contents_in was) frames) frames []
+  finds : Finds false found (ahead_of (contents_in low) down) (ahead_of (contents_in now) frames) frames []
+      → Finds false found (ahead_of (contents_in was) down) (ahead_of (contents_in was) frames) frames []
   finds h = rw (under, after) at h
 
-  gone : length (later_of (contents_in low) down) - length (later_of (contents_in now) frames) ≡ length (later_of (contents_in was) down) - length (later_of (contents_in was) frames)
+  gone : length (later_of (contents_in low) down) - length (later_of (contents_in now) frames)
+      ≡ length (later_of (contents_in was) down) - length (later_of (contents_in was) frames)
   gone = rw (under, after) refl
 
 -- without an entry it is past the last one
-past : (contents : Contents) (frames : List Frame) (found : Option Leaf) (none : Bool) → is_some found ≡ not none → found ≡ None → place_by none contents frames ≡ Past
+past : (contents : Contents) (frames : List Frame) (found : Option Leaf) (none : Bool) → is_some found ≡ not none → found ≡ None
+    → place_by none contents frames ≡ Past
 past contents frames found none e h = grind arith
 
 pub returns : goal.returns
@@ -64,14 +72,18 @@ returns c =
     let sum : (1 + (length down - 1)) + more ≡ length down + more = omega (arith, one) in
     let total : pager_opened c.go-found.new.self.pager ≡ counted old ((1 + (length down - 1)) + more) =
     done.opened ∙ (ap (counted (pager_opened c.descend-self.new.self.pager)) (gone bucket _ _ _ root under after key down frames found)
-    ∙ (ap (λ (n : ℕ). counted n more) (low.opened ∙ (ap (λ (n : ℕ). counted n (length down - 1)) c.open_root-root.ensures.opened ∙ counted_more old 1 (length down - 1))) ∙ counted_more old (1 + (length down - 1)) more)) in
+    ∙ (ap (λ (n : ℕ). counted n more)
+    (low.opened ∙ (ap (λ (n : ℕ). counted n (length down - 1)) c.open_root-root.ensures.opened ∙ counted_more old 1 (length down - 1)))
+    ∙ counted_more old (1 + (length down - 1)) more)) in
     record {
       checked = moves.file;
       start = ap start_at moves.at;
       moves = rw (sym (not-not c.is_none-self.result) ∙ sym (ap not c.is_none-self.ensures))
-          (moves_seek _ _ moves _ was.resting found key (cursor_place was) (rw is.rest (finds_below bucket _ _ _ root under after key down frames found _ done.found)) (omega (arith, number)));
+          (moves_seek _ _ moves _ was.resting found key (cursor_place was)
+          (rw is.rest (finds_below bucket _ _ _ root under after key down frames found _ done.found)) (omega (arith, number)));
       opens = seek_opens bucket key found down frames old (pager_opened c.go-found.new.self.pager) (resting_bucket _ _ was.resting) stack low.leaf top is
-          (moved bucket _ _ _ root under after key down frames found done.moved.stack) (finds bucket _ _ _ root under after key down frames found done.found) (total ∙ ap (counted old) sum);
+          (moved bucket _ _ _ root under after key down frames found done.moved.stack)
+          (finds bucket _ _ _ root under after key down frames found done.found) (total ∙ ap (counted old) sum);
       none = past (contents_in (pages_bucket c.go-found.new.self)) frames found c.is_none-self.result c.is_none-self.ensures;
       compared = seek_bounds bucket key down c.descend-self.result stack low.leaf top low.compared;
       bucket = done.bucket;

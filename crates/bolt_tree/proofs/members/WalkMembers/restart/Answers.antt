@@ -7,4 +7,5 @@ pub returns-clause-reads : goal.returns-clause-reads
 returns-clause-reads c = λ listing. rw (c.new.ensures.checked ∙ c.checked.ensures) (λ h. h, λ h. h)
 
 pub returns-clause-all : goal.returns-clause-all
-returns-clause-all c = λ listing lists. c.new.ensures.all listing (subst (λ (file : Checked). IsListing (bytes_of file) (meta_of file) listing) (sym c.checked.ensures) lists)
+returns-clause-all c =
+    λ listing lists. c.new.ensures.all listing (subst (λ (file : Checked). IsListing (bytes_of file) (meta_of file) listing) (sym c.checked.ensures) lists)

@@ -9,5 +9,6 @@ returns-then-leaf-clause-ahead c = (
 
 pub returns-else-leaf-clause-left : goal.returns-else-leaf-clause-left
 returns-else-leaf-clause-left c = λ listing lists.
-    past_value c.args.self.now.checked (cursors_of c.args.self.now) (path_of c.args.self.now.path.items) (leaf_view c.args.leaf.now) c.requires.placed c.requires.on.1
+    past_value c.args.self.now.checked (cursors_of c.args.self.now) (path_of c.args.self.now.path.items) (leaf_view c.args.leaf.now) c.requires.placed
+    c.requires.on.1
     c.if-leaf.false listing lists

@@ -1,6 +1,7 @@
 use Rattle.std.proofs.Common.{◌∙◌, ◌++◌, ◌∷◌, [], None, Some, ap, refl}
 use Rattle.bolt_tree.proofs.Words.{Opens, cursor_view, cursors_of, first_move, fresh_view, leaf_view, next_move, path_of, props, waiting_of, ∥∥₁_elim}
-use Rattle.bolt_tree.proofs.{CursorMoves.by_first, Entering.first_gives, Entering.first_none, Entering.leads_by, Entering.leads_in, Entering.made, Entering.opens_by, Entering.placed_in}
+use Rattle.bolt_tree.proofs.{CursorMoves.by_first, Entering.first_gives, Entering.first_none, Entering.leads_by, Entering.leads_in, Entering.made}
+use Rattle.bolt_tree.proofs.{Entering.opens_by, Entering.placed_in}
 use Rattle.bolt_tree.proofs.{OpenSteps.enters, OpenSteps.opens, OpenSteps.path_put, open_buckets.OpenBuckets.enter.Goals.After-close}
 use Rattle.bolt_tree.proofs.open_buckets.OpenBuckets.enter.Goals as goal
 
@@ -14,9 +15,13 @@ returns-in_err-open-clause-placed c =
     c.in_err-open.ensures.checked c.in_err-open.ensures.same (ap path_of c.in_err-open.ensures.path) c.requires.placed
 
 -- the bucket has no entry, and is closed again
-emptied : (c : After-close) → Opens c.args.bucket (λ entries place. first_move entries) (cursors_of c.args.self.now) (cursors_of c.close.new.self) None
-emptied c = enters c.args.bucket _ _ _ (opens c.args.self.now c.open.new.self c.args.bucket c.in-Some.cursor c.next_element.new.self c.in_ok-open.ensures.cursors c.in-Some.is
-    c.in_default-next_element.ensures.checked c.in_default-next_element.ensures.start next_move None (cursors_of c.close.new.self) c.in_default-next_element.ensures.moves
+emptied : (c : After-close)
+    → Opens c.args.bucket (λ entries place. first_move entries) (cursors_of c.args.self.now) (cursors_of c.close.new.self) None
+emptied c =
+    enters c.args.bucket _ _ _
+    (opens c.args.self.now c.open.new.self c.args.bucket c.in-Some.cursor c.next_element.new.self c.in_ok-open.ensures.cursors c.in-Some.is
+    c.in_default-next_element.ensures.checked c.in_default-next_element.ensures.start next_move None (cursors_of c.close.new.self)
+    c.in_default-next_element.ensures.moves
     (c.close.ensures.cursors (waiting_of c.open.new.self) (cursor_view c.next_element.new.self) refl))
 
 pub returns-in_default-next_element-clause-placed : goal.returns-in_default-next_element-clause-placed
@@ -30,7 +35,8 @@ pub returns-in_default-next_element-clause-left : goal.returns-in_default-next_e
 returns-in_default-next_element-clause-left c = λ listing lists.
     let old = c.args.self.now in
     let opens = emptied c in
-    let known = made old.checked (cursors_of old) (path_of old.path.items) c.args.bucket (fresh_view c.args.bucket) c.requires.placed c.requires.named refl refl in
+    let known =
+    made old.checked (cursors_of old) (path_of old.path.items) c.args.bucket (fresh_view c.args.bucket) c.requires.placed c.requires.named refl refl in
     first_none old.checked (cursors_of old) (path_of old.path.items) (fresh_view c.args.bucket) opens.moved known opens.moves listing lists
 
 -- or its cursor is on its first entry
@@ -39,17 +45,20 @@ returns c =
     let old = c.args.self.now in
     let leaf = c.in-Some-next_element.leaf in
     let keys = c.push_reserved.new.self.items in
-    let given = enters c.args.bucket _ _ _ (opens old c.open.new.self c.args.bucket c.in-Some.cursor c.next_element.new.self c.in_ok-open.ensures.cursors c.in-Some.is
+    let given =
+    enters c.args.bucket _ _ _ (opens old c.open.new.self c.args.bucket c.in-Some.cursor c.next_element.new.self c.in_ok-open.ensures.cursors c.in-Some.is
     c.in-Some-next_element.ensures.checked c.in-Some-next_element.ensures.start next_move (Some (leaf_view leaf))
     (waiting_of c.open.new.self ++ cursor_view c.next_element.new.self ∷ []) c.in-Some-next_element.ensures.moves refl) in
-    let known = made old.checked (cursors_of old) (path_of old.path.items) c.args.bucket (fresh_view c.args.bucket) c.requires.placed c.requires.named refl refl in
+    let known =
+    made old.checked (cursors_of old) (path_of old.path.items) c.args.bucket (fresh_view c.args.bucket) c.requires.placed c.requires.named refl refl in
     let path = path_put old.path.items c.open.new.self.path.items keys leaf.key c.open.ensures.path c.push_reserved.ensures.items in
     let after = waiting_of c.open.new.self ++ cursor_view c.next_element.new.self ∷ [] in
     let fresh = fresh_view c.args.bucket in
     record {
       checked = c.in_ok-open.ensures.checked;
       placed = placed_in old.checked c.open.new.self.checked after after (path_of keys) (path_of keys) c.in_ok-open.ensures.checked refl refl
-          (opens_by by_first old.checked (cursors_of old) (path_of old.path.items) fresh given.moved known (leaf_view leaf) after (path_of keys) given.file given.start given.moves given.is path);
+          (opens_by by_first old.checked (cursors_of old) (path_of old.path.items) fresh given.moved known (leaf_view leaf) after (path_of keys) given.file
+          given.start given.moves given.is path);
       on = (
         c.in-Some-next_element.ensures.bucket,
         leads_in old.checked c.open.new.self.checked (path_of keys) (leaf_view leaf) c.in_ok-open.ensures.checked

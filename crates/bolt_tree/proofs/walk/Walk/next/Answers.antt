@@ -1,5 +1,6 @@
 use Rattle.std.proofs.Common.{arith, ◌∙◌, List, ◌∷◌, sym, ap}
-use Rattle.bolt_tree.proofs.Words.{Item, Member, Path, item_view, open_path, reported_path, rest_after, walk_checked, walk_path, ∥∥₁_elim, ∥∥₁_map, ∥∥₁_prop}
+use Rattle.bolt_tree.proofs.Words.{Item, Member, Path, item_view, open_path, reported_path, rest_after, walk_checked, walk_path, ∥∥₁_elim, ∥∥₁_map}
+use Rattle.bolt_tree.proofs.Words.{∥∥₁_prop}
 use Rattle.bolt_tree.proofs.{Climbing.listed_in, Climbing.none_beyond, Walking.ahead_in, Walking.ahead_prop}
 use Rattle.bolt_tree.specs.Walks.{left_of}
 use Rattle.bolt_tree.proofs.walk.Walk.next.Goals as goal
@@ -23,7 +24,8 @@ unfolding left_of walk_checked walk_path
 returns-in-Some-clause-given c = λ listing lists.
     let came = rw c.in-Some.is at c.in_ok-leaf.ensures.left in
     let first = came listing lists in
-    let then = c.after-self.ensures.left listing (listed_in c.advance.new.self.checked c.args.self.now.buckets.checked listing c.in_ok-leaf.ensures.checked lists) in
+    let then =
+    c.after-self.ensures.left listing (listed_in c.advance.new.self.checked c.args.self.now.buckets.checked listing c.in_ok-leaf.ensures.checked lists) in
     first
     ∙ ap (λ (i : Item). (open_path c.advance.new.self, i) ∷ rest_after (open_path c.advance.new.self) listing) (sym c.of.ensures)
     ∙ ap (λ (p : Path). (p, item_view c.of.result) ∷ rest_after (open_path c.advance.new.self) listing) (sym c.after-self.ensures.reported)

@@ -1,9 +1,0 @@
-use Rattle.bolt_etcd.specs.{Numbered.numbered_of, RevisionsLeft.number_ahead}
-use Rattle.bolt_etcd.proofs.PassSteps.{GoesBy}
-use Rattle.bolt_etcd.proofs.revisions.Revisions.next_number.Given as goal
-
-abbrev pub invariant-rest : goal.invariant-rest
-invariant-rest l = GoesBy numbered_of l.fn.self l.self
-
-abbrev pub decreases-rest : goal.decreases-rest
-decreases-rest l = number_ahead l.self

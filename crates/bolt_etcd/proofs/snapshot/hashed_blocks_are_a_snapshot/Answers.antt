@@ -1,5 +1,0 @@
-use Rattle.bolt_etcd.proofs.SnapshotLemmas.{cut_fault}
-use Rattle.bolt_etcd.proofs.snapshot.hashed_blocks_are_a_snapshot.Goals as goal
-
-pub returns-clause-cut : goal.returns-clause-cut
-returns-clause-cut c = cut_fault

@@ -1,0 +1,5 @@
+-- What private contracts and proofs cite, and no public one.
+pub mod FaultsLeft
+pub mod MissingLeft
+pub mod Passes
+pub mod Returns

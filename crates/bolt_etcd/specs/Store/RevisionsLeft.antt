@@ -1,0 +1,74 @@
+-- What a pass over the revisions of a bucket has ahead of it.
+use Rattle.std.specs.Prelude.{◌≡◌, ℕ, Bool, false, List, [], ◌∷◌, length, not, Option, Some, None}
+use Rattle.std.specs.Option.{is_some}
+use Rattle.bolt_format.specs.Elements.{LeafElement}
+use Rattle.bolt_check.specs.{CheckedFiles.bytes_of, CheckedFiles.meta_of, Counts.counted, Keys.Key, declared.checked.Checked.Checked}
+use Rattle.bolt_tree.specs.{BucketViews.BucketView, BucketViews.bucket_in, CursorBounds.OpensByNext, CursorBounds.OpensSeek, Cursors.cursor_opened}
+use Rattle.bolt_tree.specs.{Entries.entry_view}
+use Rattle.bolt_tree.specs.{Cursors.cursor_checked, Cursors.cursor_place, Cursors.cursor_start, Entries.Start, EntriesLeft.ForEntries}
+use Rattle.bolt_tree.specs.{EntriesLeft.entries_left, FileTrees.file_entries, Places.Place}
+use Rattle.bolt_etcd.specs.{Wire.Revisions.RevisionView, Wire.Revisions.revision_of, Store.Stores.entries_from, Store.Stores.others}
+use Rattle.bolt_etcd.specs.{Store.Stores.revisions, declared.store.revisions.Revisions.Revisions}
+
+unfoldable pub pass_checked : Revisions → Checked
+pass_checked pass = cursor_checked pass.cursor
+
+unfoldable pub pass_start : Revisions → Start
+pass_start pass = cursor_start pass.cursor
+
+-- how many entries that aren't revisions a pass has gone over
+unfoldable pub pass_others : Revisions → ℕ
+pass_others pass = pass.others
+
+-- how many pages a pass has opened
+unfoldable pub pass_opened : Revisions → ℕ
+pass_opened pass = cursor_opened pass.cursor
+
+-- the entries from a key on, if it is still to seek that key, or those after the place of its cursor
+abbrev pub ahead_at : Option Key → Place → List LeafElement → List LeafElement
+ahead_at (Some key) place entries = entries_from key entries
+ahead_at None place entries = entries_left entries place
+
+unfoldable pub ahead_of : Revisions → List LeafElement → List LeafElement
+ahead_of pass entries = ahead_at pass.from (cursor_place pass.cursor) entries
+
+-- the entries of a pass's bucket, computed from the pages of the file
+abbrev pub pass_entries : Revisions → List LeafElement
+pass_entries pass = file_entries (bytes_of (pass_checked pass)) (meta_of (pass_checked pass)) (pass_start pass)
+
+-- how many entries a pass has ahead, so that loops over it end
+unfoldable pub number_ahead : Revisions → ℕ
+number_ahead pass = length (ahead_of pass (pass_entries pass))
+
+-- a property holds of the entries of a pass's bucket
+abbrev pub ForPass : Revisions → (List LeafElement → Type 0) → Type 0
+ForPass pass P = ForEntries (pass_checked pass) (pass_start pass) P
+
+-- a property holds of the entries that a pass has ahead
+abbrev pub ForAhead : Revisions → (List LeafElement → Type 0) → Type 0
+ForAhead pass P = ForPass pass (λ entries. P (ahead_of pass entries))
+
+-- The first revision of those ahead is returned, or there is none, and nothing is left; and the entries before it are counted.
+abbrev pub GivesFirst : (old new : List LeafElement) → Option RevisionView → Type 0
+GivesFirst old new (Some r) = revisions old ≡ r ∷ revisions new
+GivesFirst old new None = (revisions old ≡ []) × (new ≡ [])
+
+abbrev pub CountsOthers : (old new : List LeafElement) → (before after : ℕ) → Type 0
+CountsOthers old new before after = counted after (length (others new)) ≡ counted before (length (others old))
+
+-- the entries between the two places that aren't revisions are counted
+abbrev pub CountsPassed : (old new : Revisions) → Type 0
+CountsPassed old new = ForPass old (λ entries. CountsOthers (ahead_of old entries) (ahead_of new entries) (pass_others old) (pass_others new))
+
+-- what is opened for one entry more: what a seek of the key opens, or a step of the cursor
+abbrev pub OpensAt : BucketView → Option Key → Place → (old new : ℕ) → Type 0
+OpensAt bucket (Some key) place old new = OpensSeek bucket key old new
+OpensAt bucket None place old new = OpensByNext bucket place old new
+
+unfoldable pub OpensOne : Revisions → (new : ℕ) → Type 0
+OpensOne pass new = OpensAt (bucket_in (pass_checked pass) (pass_start pass)) pass.from (cursor_place pass.cursor) (pass_opened pass) new
+
+-- the first of these isn't a revision
+abbrev pub begins_with_other : List LeafElement → Bool
+begins_with_other [] = false
+begins_with_other (e ∷ entries) = not (is_some (revision_of (entry_view e)))
