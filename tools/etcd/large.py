@@ -99,8 +99,9 @@ class Losses:
         self.comparisons.want_same("what etcd-check doesn't print of entries that etcd can't read", set(), lacking)
 
     def compare_ends(self):
-        """Transactions lose their ends alone. No number is missing then, so etcd-check finds nothing in the repair."""
-        ends = [leaf for leaf in self.store.leaves if self.is_end(leaf) and self.is_only_there(leaf)]
+        """Transactions lose their ends alone, of names that weren't changed later. No number is missing then, and nothing
+        before a revision, so etcd-check finds nothing in the repair."""
+        ends = [one for one in self.store.leaves if self.is_end(one) and self.is_only_there(one) and self.are_newest(one)]
         if not ends:
             raise Difference("no leaf has the end of a transaction alone")
         self.compare("ends", self.store.zeroed("the ends of transactions", ends), self.last_names(ends))
@@ -120,10 +121,17 @@ class Losses:
         last, end = self.store.last(leaf)[0], self.store.ends[leaf]
         return end is not None and numbers_of(first)[1] > 0 and main_of(first) == main_of(last) < main_of(end)
 
+    def are_newest(self, leaf):
+        """Whether all revisions on a leaf are the newest of their names."""
+        return all(self.is_newest(key, record) for key, record in self.store.revisions([leaf]))
+
+    def is_newest(self, key, record):
+        return self.whole.newest[read_record(record).name].modified == main_of(key)
+
     def is_only_there(self, leaf):
         """Whether the last revision on a leaf is the newest of its name, and on no other page, not even on a free one."""
         key, record = self.store.last(leaf)
-        return self.store.data.count(key) == 1 and self.whole.newest[read_record(record).name].modified == main_of(key)
+        return self.store.data.count(key) == 1 and self.is_newest(key, record)
 
     def early_leaf(self):
         """A leaf with revisions from before the compaction, if there is one whose last revision is only there."""
