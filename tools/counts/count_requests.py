@@ -44,6 +44,7 @@ TABLES = {
 # Those that read a sound file.
 READERS = [
     "check FILE",
+    "check FILE --all",
     "pages FILE",
     "keys FILE a",
     "buckets FILE --sizes",

@@ -2,6 +2,7 @@
 use Rattle.std.proofs.{lemmas.Grind.common_steps, lemmas.Bool.leb-true, lemmas.Bool.ltb-true, lemmas.List.length-map}
 use Rattle.std.proofs.{lemmas.Result.err_from_is_err_and, lemmas.Result.on_ok_weaker}
 use Rattle.std.proofs.Common.{◌≡◌, ◌∙◌, ℕ, ◌+◌, ◌<◌, ◌≤◌, true, false, List, [], ◌∷◌, length, Result, Ok, Err, ap, arith}
+use Rattle.bolt_lemmas.proofs.Exports.{few_or_fits}
 use Rattle.bolt_format.specs.{Elements.BranchElement, Elements.LeafElement, declared.element.Leaf.Leaf, declared.sink.Sink.Ghosts}
 use Rattle.bolt_layout.specs.Levels.{overflow_of}
 use Rattle.bolt_bulk.specs.Private.{HoldsLeaves, bucket_end_next, BucketRunsView, HasRoomFor, held_views, IsLeafRun, leaf_closed, leaf_key, leaf_page}
@@ -10,7 +11,7 @@ use Rattle.bolt_bulk.specs.Private.{runs_room, runs_room_put, Closes, Writes, el
 use Rattle.bolt_bulk.specs.{declared.bucket_runs.BucketRuns.BucketRuns, declared.bulk_fault.BulkFault.BulkFault, declared.held.Held.Held}
 use Rattle.bolt_bulk.specs.{declared.leaf_run.LeafRun.LeafRun}
 use Rattle.bolt_bulk.specs.{declared.page_setup.PageSetup.PageSetup, declared.page_writer.PageWriter.PageWriter}
-use Rattle.bolt_bulk.proofs.{ClimbLemmas.next_grows, ClimbLemmas.end_grows, HeldRuns.none_small, RunLemmas.few_or_fits}
+use Rattle.bolt_bulk.proofs.{ClimbLemmas.next_grows, ClimbLemmas.end_grows, HeldRuns.none_small}
 use Rattle.bolt_bulk.proofs.PutsLemmas.{closes_stop, writes_on, writes_stop, bytes-append, short_then}
 use Rattle.bolt_bulk.specs.declared.bulk_fault.BulkFault.TheVariants as fault
 use Rattle.std.specs.Prelude.{IfErr, IsErrAnd, OnOk}

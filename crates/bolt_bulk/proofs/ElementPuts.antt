@@ -1,26 +1,17 @@
 -- The headers of a page's elements, written one after another.
-use Rattle.std.proofs.Common.{◌≡◌, ◌∙◌, ℕ, ◌+◌, ◌*◌, ◌<◌, ◌≤◌, List, [], ◌∷◌, ◌++◌, length, drop, get_or, Result, Ok, Err, ap, arith, append_assoc}
-use Rattle.std.proofs.Common.{append-nil, sym}
-use Rattle.std.proofs.lemmas.List.{drop_all, drop_more, length-drop}
-use Rattle.std.specs.List.{AllByRecursion}
+use Rattle.std.proofs.Common.{◌≡◌, ◌∙◌, ℕ, ◌+◌, ◌*◌, ◌<◌, ◌≤◌, List, ◌++◌, length, drop, get_or, Result, Ok, Err, ap, arith, append_assoc}
+use Rattle.std.proofs.Common.{append-nil}
+use Rattle.std.proofs.lemmas.List.{drop_all, length-drop}
 use Rattle.std.specs.Prelude.{IsErr}
+use Rattle.bolt_lemmas.proofs.Exports.{next_is}
 use Rattle.bolt_bulk.specs.Private.{Buffers, data_of, data_size, heads_from}
 use Rattle.bolt_format.proofs.Exports.{WroteFront, front_more, front_return, Wrote-then}
 use Rattle.bolt_format.specs.{Wrote.Wrote, Endings.Ending, Endings.page_ending, declared.sink.Sink.Ghosts}
-
--- the next element of those that are left
-next_is : {X : Type 0} (xs : List X) (i : ℕ) (x : X) → i < length xs → x ≡ get_or xs i x → drop i xs ≡ x ∷ drop (i + 1) xs
-next_is xs i x h is = drop_more xs i x h ∙ ap (λ y. y ∷ drop (i + 1) xs) (sym is)
 
 -- the data that are left
 pub data_left : {X : Type 0} (key value : X → List ℕ) (xs : List X) (i : ℕ) (x : X) → i < length xs → x ≡ get_or xs i x
     → data_of key value (drop i xs) ≡ key x ++ (value x ++ data_of key value (drop (i + 1) xs))
 data_left key value xs i x h is = ap (data_of key value) (next_is xs i x h is)
-
--- where nothing is asked of an element
-pub nothing_asked : {X : Type 0} (xs : List X) → AllByRecursion (λ (x : X). Unit {0}) xs
-nothing_asked [] = tt
-nothing_asked (x ∷ xs) = (tt, nothing_asked xs)
 
 -- the buffer loses at its front what is written, and so does the text that is left
 gathered_left : (buffer kept put rest : List ℕ) → buffer ≡ put ++ kept → buffer ++ rest ≡ put ++ (kept ++ rest)

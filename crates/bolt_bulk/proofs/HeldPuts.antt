@@ -6,10 +6,10 @@ use Rattle.bolt_format.specs.declared.header.Kind.TheVariants as kind
 use Rattle.bolt_format.proofs.Exports.{length-head_bytes, length-header_bytes}
 use Rattle.bolt_layout.specs.{Layout.placed_bytes, Levels.overflow_of, PageBytes.leaf_bytes, PageBytes.leaf_data, PageBytes.page_bytes}
 use Rattle.bolt_layout.proofs.Exports.{length-leaf_headers}
-use Rattle.bolt_bulk.specs.{declared.held.Held.Held, declared.held.Stored.Stored, declared.leaf_run.LeafRun.LeafRun}
+use Rattle.bolt_bulk.specs.{declared.held.Held.Held, declared.held.StoredItem.StoredItem, declared.leaf_run.LeafRun.LeafRun}
 use Rattle.bolt_bulk.specs.Private.{data_size, HoldsLeaves, held_view, held_views, IsLeafRun, IsStored, leaf_page, leaf_run_view, page_size_of}
 use Rattle.bolt_bulk.specs.Private.{stored_length, stored_value}
-use Rattle.bolt_bulk.specs.declared.held.Stored.TheVariants as stored
+use Rattle.bolt_bulk.specs.declared.held.StoredItem.TheVariants as stored
 use Rattle.bolt_bulk.proofs.{FilledTexts.zeros, FilledTexts.filled_pieces, HeldRuns.length-inline_value}
 use Rattle.bolt_bulk.proofs.LeafPuts.{AreLong, elements_text, key_by, leaf_elements, leaf_size}
 
@@ -17,7 +17,7 @@ abbrev pub held_length : Held → ℕ
 held_length x = stored_length x.stored
 
 -- the value of a bucket with a root page has 16 bytes, and that of an inline one as many as it says
-stored_long : (inlined : List Leaf) (s : Stored) → IsStored inlined s → stored_length s ≡ length (stored_value inlined s)
+stored_long : (inlined : List Leaf) (s : StoredItem) → IsStored inlined s → stored_length s ≡ length (stored_value inlined s)
 stored_long inlined (stored.Value value) is = refl
 stored_long inlined (stored.Root page sequence) is = grind (arith, length-head_bytes)
 stored_long inlined (stored.Inline sequence first count size) is = grind (arith, length-inline_value, length-map, length-drop, length-take-le)

@@ -3,14 +3,15 @@ use Rattle.std.proofs.{lemmas.Grind.common_steps, Math.Seq.drop-append_seam, Mat
 use Rattle.std.proofs.lemmas.List.{drop-append-le, length-append, length-drop, length-map, take-append-le, map-append}
 use Rattle.std.proofs.Common.{Bor, ◌∙◌, Global, Vec, subst, ◌≡◌, ℕ, ◌+◌, ◌<◌, ◌≤◌, false, List, [], ◌∷◌, ◌++◌, length, map, refl, sym, ap, arith}
 use Rattle.std.specs.List.{AllByRecursion}
+use Rattle.bolt_lemmas.proofs.Exports.{all_append}
 use Rattle.bolt_format.specs.{ElementPlaces.leaf_view, Elements.LeafElement, declared.element.Leaf.Leaf}
 use Rattle.bolt_layout.specs.PageBytes.{inline_value, leaf_data}
 use Rattle.bolt_bulk.specs.Private.{HoldsLeaves, entries_in, entries_size, HasRoomFor, held_view, held_views, inline_element, inline_size, inlined_by}
 use Rattle.bolt_bulk.specs.Private.{inlined_in, IsHeld, IsInlined, IsOpenBucket, IsStored, page_size_of, stored_value, value_item}
 use Rattle.bolt_bulk.specs.{declared.bucket_runs.BucketRuns.BucketRuns, declared.leaf_run.LeafRun.LeafRun, declared.held.Held.Held}
-use Rattle.bolt_bulk.specs.{declared.held.Stored.Stored}
-use Rattle.bolt_bulk.specs.declared.held.Stored.TheVariants as stored
-use Rattle.bolt_layout.proofs.Exports.{all_append, length-leaf_bytes}
+use Rattle.bolt_bulk.specs.{declared.held.StoredItem.StoredItem}
+use Rattle.bolt_bulk.specs.declared.held.StoredItem.TheVariants as stored
+use Rattle.bolt_layout.proofs.Exports.{length-leaf_bytes}
 use Rattle.bolt_format.proofs.Exports.{length-header_bytes, length-head_bytes}
 
 -- what is known of a run of items
@@ -59,7 +60,7 @@ item_pushed bucket items x more is_open pushed held apart size room =
       uppers = is_open.uppers;
     }
 
-stored_more : (inlined more : List Leaf) (x : Stored) → IsStored inlined x → IsStored (inlined ++ more) x
+stored_more : (inlined more : List Leaf) (x : StoredItem) → IsStored inlined x → IsStored (inlined ++ more) x
 stored_more inlined more x is = grind (arith, length-append, length-drop, drop-append-le, take-append-le)
 
 view_more : (inlined more : List Leaf) (x : Held) → IsHeld inlined x → held_view (inlined ++ more) x ≡ held_view inlined x

@@ -2,6 +2,7 @@
 use Rattle.std.proofs.Common.{◌≡◌, ◌∙◌, ℕ, ◌+◌, Option, List, [], ◌∷◌, ◌++◌, length, refl, ap, arith, suc}
 use Rattle.std.proofs.lemmas.List.Sums.{sum_by_push}
 use Rattle.std.specs.List.{AllByRecursion}
+use Rattle.bolt_lemmas.proofs.Exports.{all_append}
 use Rattle.bolt_format.specs.Elements.{BranchElement, LeafElement}
 use Rattle.bolt_layout.specs.{Laid.Laid, Laid.elements_of, Laid.first_key, Laid.numbers_of, Levels.branch_page_view, Levels.overflow_of}
 use Rattle.bolt_layout.specs.{Levels.page_over, Levels.leaf_page_view}
@@ -11,7 +12,7 @@ use Rattle.bolt_bulk.specs.Private.{making_room, no_leaves, nothing_open, number
 use Rattle.bolt_bulk.specs.Private.{run_key, run_page, run_push, run_stays, runs_climb, runs_close_put, runs_end, runs_end_next, runs_end_put}
 use Rattle.bolt_bulk.specs.Private.{runs_next, runs_push, runs_put, runs_room, runs_room_put, runs_root, RunView, stays_open, Upper}
 use Rattle.bolt_bulk.specs.declared.limits.BucketLimits.{BucketLimits}
-use Rattle.bolt_layout.proofs.Exports.{all_append, numbers-append, length-elements, same_branch}
+use Rattle.bolt_layout.proofs.Exports.{numbers-append, length-elements, same_branch}
 
 pub elements-append : {E : Type 0} (xs ys : List (Laid E)) (n : ℕ) → elements_of (xs ++ ys) n ≡ elements_of xs n ++ elements_of ys (n + numbers_of xs)
 elements-append [] ys n = ap (λ (m : ℕ). elements_of ys m) (let e : n ≡ n + 0 = omega arith in e)

@@ -3,7 +3,6 @@ mod BucketLemmas
 mod ClimbLemmas
 mod CopyLemmas
 mod ElementPuts
-pub mod Exports
 mod FileLayouts
 mod FilledTexts
 mod FirstPuts
@@ -11,7 +10,6 @@ mod HeldPasses
 mod HeldPuts
 mod HeldRuns
 mod HeldSteps
-mod JoinedFits
 mod KeptRuns
 mod LeafPuts
 mod LimitLemmas

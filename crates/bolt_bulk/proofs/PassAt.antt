@@ -5,6 +5,7 @@ use Rattle.std.proofs.Common.{Bool, ◌≡◌, ◌∙◌, ℕ, suc, ◌+◌, ◌
 use Rattle.std.proofs.Common.{Result, Ok, Err, Vec, Global, refl, sym, ap, subst, arith, append_assoc}
 use Rattle.std.specs.Prelude.{⊤, IfErr, IsErrAnd, OnOk}
 use Rattle.std.specs.List.{AllByRecursion}
+use Rattle.bolt_lemmas.proofs.Exports.{on_ok_both}
 use Rattle.bolt_format.specs.{ElementPlaces.leaf_view, Elements.LeafElement, declared.element.Leaf.Leaf, Wrote.Wrote, declared.sink.Sink.Ghosts}
 use Rattle.bolt_tree.specs.Tree.{Tree, end, with_bucket, with_value}
 use Rattle.bolt_layout.specs.{Items.items_of, Items.leaf_item, Items.root_of, Laid.Laid, Laid.Placed, Layout.placed_bytes, PageBytes.inline_value}
@@ -33,11 +34,6 @@ use Rattle.bolt_bulk.proofs.PassSteps.{inline_item, on_before, on_enters, on_lea
 use Rattle.bolt_bulk.proofs.PassSteps.{values_put, values_runs, waiting}
 use Rattle.bolt_bulk.proofs.PutsLemmas.{bytes-append, Wrote-gave_up}
 use Rattle.bolt_format.proofs.Exports.{Wrote-halt, Wrote-none}
-
--- ---- results
-
-on_ok_both : {A E : Type 0} {P Q R : Type 0} (result : Result A E) → OnOk result P → OnOk result Q → (P → Q → R) → OnOk result R
-on_ok_both result p q f = grind arith
 
 -- ---- one step after another
 
@@ -89,34 +85,36 @@ come_at : (wanted : Wanted) (page_size : ℕ) (limits : ℕ → ℕ → Option �
 come_at wanted page_size limits m n rest left frames same is come = grind arith
 
 -- with nothing that may be inline
-pub on_of : {wanted : Wanted} {pass : Pass} {parents : List Parent} {left : Tree} {put : List Placed} (is : PassIsAt wanted pass parents left put)
+pub on_of : {wanted : Wanted} {pass : Pass} {next : ℕ} {parents : List Parent} {left : Tree} {put : List Placed}
+    (is : PassIsAt wanted pass next parents left put)
     → pass.pending ≡ None
     → (parents ≡ map parent_of is.frames)
     × PassIsOn wanted.which pass.setup.page_size wanted.tree is.frames is.state (items_of wanted.which pass.setup.page_size left)
-    (bucket_runs pass.bucket pass.next) put
+    (bucket_runs pass.bucket next) put
     × IsToCome wanted pass.setup.page_size (limits_by pass) is.opened left is.frames
 on_of is none = grind (arith, come_at)
 
 -- with a bucket that may be inline
-abbrev pub HasPending : (wanted : Wanted) (pass : Pass) (parents : List Parent) (left : Tree) (put : List Placed) (is : PassIsAt wanted pass parents left put)
-    → PendingBucket → Type 0
-HasPending wanted pass parents left put is p = (after : Tree)
+abbrev pub HasPending : (wanted : Wanted) (pass : Pass) (next : ℕ) (parents : List Parent) (left : Tree) (put : List Placed)
+    (is : PassIsAt wanted pass next parents left put) → PendingBucket → Type 0
+HasPending wanted pass next parents left put is p = (after : Tree)
     × (parents ≡ record { key = p.key.now; after = after } ∷ map parent_of is.frames)
     × PassIsOn wanted.which pass.setup.page_size wanted.tree is.frames is.state
     (items_of wanted.which pass.setup.page_size (with_bucket p.key.now p.sequence (onto (map leaf_view pass.entries.items) left) after))
-    (bucket_runs pass.bucket pass.next) put
+    (bucket_runs pass.bucket next) put
     × IsToCome wanted pass.setup.page_size (limits_by pass) is.opened
     (with_bucket p.key.now p.sequence (onto (map leaf_view pass.entries.items) left) after) is.frames
 
-pending_of : (wanted : Wanted) (pass : Pass) (parents : List Parent) (left : Tree) (put : List Placed) (p : PendingBucket)
-    (is : PassIsAt wanted pass parents left put)
-    → pass.pending ≡ Some p → HasPending wanted pass parents left put is p
-pending_of wanted pass parents left put p is some = grind (arith, come_at)
+pending_of : (wanted : Wanted) (pass : Pass) (next : ℕ) (parents : List Parent) (left : Tree) (put : List Placed) (p : PendingBucket)
+    (is : PassIsAt wanted pass next parents left put)
+    → pass.pending ≡ Some p → HasPending wanted pass next parents left put is p
+pending_of wanted pass next parents left put p is some = grind (arith, come_at)
 
 -- a step that writes nothing
-pub steps_none : {S A : Type 0} {sink : Ghosts S} {wanted : Wanted} {pass : Pass} {parents : List Parent} {left : Tree} {put : List Placed} {old : S}
-    {At : List Placed → Type 0} (result : Result A BulkFault)
-    → PassIsAt wanted pass parents left put → IfErr result (λ e. e ≡ fault.Memory) → OnOk result (At put) → Steps wanted sink old old pass.setup put At result
+pub steps_none : {S A : Type 0} {sink : Ghosts S} {wanted : Wanted} {pass : Pass} {next : ℕ} {parents : List Parent} {left : Tree} {put : List Placed}
+    {old : S} {At : List Placed → Type 0} (result : Result A BulkFault)
+    → PassIsAt wanted pass next parents left put → IfErr result (λ e. e ≡ fault.Memory) → OnOk result (At put)
+    → Steps wanted sink old old pass.setup put At result
 steps_none {old} (Ok x) is memory at = record { more = []; puts = Wrote-none old; at = rw append-nil at; before = rw append-nil (on_before is.on); large = tt }
 steps_none {old} (Err e) is memory at = record {
   more = [];
@@ -148,24 +146,25 @@ counted_items : (frames : List BucketFrame) (state : Open) (waits : List Waiting
 counted_items frames state waits bucket next are runs = omega (arith, around_length, around_reverse, items_length)
 
 -- a pass after it has counted
-at_counted : {wanted : Wanted} {pass counted : Pass} {parents : List Parent} {rest left : Tree} {put : List Placed} {frames : List BucketFrame}
-    {state : Open} {opened : ℕ}
+at_counted : {wanted : Wanted} {pass counted : Pass} {next : ℕ} {parents : List Parent} {rest left : Tree} {put : List Placed}
+    {frames : List BucketFrame} {state : Open} {opened : ℕ}
     → Counts pass counted
     → PassIsOn wanted.which pass.setup.page_size wanted.tree frames state (items_of wanted.which pass.setup.page_size rest)
-    (bucket_runs pass.bucket pass.next) put → AreWaiting (reverse pass.waiting.items) frames
+    (bucket_runs pass.bucket next) put → AreWaiting (reverse pass.waiting.items) frames
     → IsPending pass.pending pass.entries.items (map parent_of frames) rest parents left
     → (counted.most ≡ max pass.most (saturated (length_frames frames + length_open state)) → counted.most ≡ saturated (held_so_far frames state))
     → pass.opened ≡ saturated opened → IsToCome wanted pass.setup.page_size (limits_by pass) opened rest frames
-    → HasNoted wanted pass.setup.page_size pass.noted opened (open_in state frames) → PassIsAt wanted counted parents left put
-at_counted {wanted} {pass} {counted} {parents} {rest} {left} {put} {frames} {state} {opened} k on waits pends held opened_is coming noted =
+    → HasNoted wanted pass.setup.page_size pass.noted opened (open_in state frames) → PassIsAt wanted counted next parents left put
+at_counted {wanted} {pass} {counted} {next} {parents} {rest} {left} {put} {frames} {state} {opened} k on waits pends held opened_is coming noted =
     grind (arith, counted_items)
 
-module _ (wanted : Wanted) (pass : Pass) where
+-- the number of the next page is `from` before the step
+module _ (wanted : Wanted) (pass : Pass) (from : ℕ) where
   abbrev P : ℕ
   P = pass.setup.page_size
 
   abbrev runs_now : BucketRunsView
-  runs_now = bucket_runs pass.bucket pass.next
+  runs_now = bucket_runs pass.bucket from
 
   -- ---- the open bucket takes an item with no pages below it
   abbrev pub TakesAt : {S A : Type 0} → Ghosts S → (old new : S) → LeafElement → BucketRuns → (next : ℕ) → Result A BulkFault → Type 0
@@ -175,13 +174,13 @@ module _ (wanted : Wanted) (pass : Pass) where
 
   item_steps : {S A : Type 0} {sink : Ghosts S} {put : List Placed} {within parents : List Parent} {left after : Tree} {old new : S} {counted : Pass}
       (key value : List ℕ) (flag : Bool) (rest : Tree) (pending : Option PendingBucket) (bucket : BucketRuns)
-      (entries : Vec Leaf Global) (next : ℕ) (result : Result A BulkFault) (is : PassIsAt wanted pass within left put)
+      (entries : Vec Leaf Global) (next : ℕ) (result : Result A BulkFault) (is : PassIsAt wanted pass from within left put)
       → PassIsOn wanted.which P wanted.tree is.frames is.state (leaf_item key value flag ∷ items_of wanted.which P rest) runs_now put
       → IsToCome wanted P (limits_by pass) is.opened rest is.frames
       → IsPending pending entries.items (map parent_of is.frames) rest parents after
       → TakesAt sink old new (record { key = key; value = value; is_bucket = flag }) bucket next result
-      → OnOk result (Counts (record pass { bucket = bucket; pending = pending; entries = entries; next = next }) counted)
-      → Steps wanted sink old new pass.setup put (PassIsAt wanted counted parents after) result
+      → OnOk result (Counts (record pass { bucket = bucket; pending = pending; entries = entries }) counted)
+      → Steps wanted sink old new pass.setup put (PassIsAt wanted counted next parents after) result
   item_steps {put = put} {counted = counted} key value flag rest pending bucket entries next result is on coming pends takes counts =
       let item : Laid LeafElement = leaf_item key value flag in
       let e : LeafElement = record { key = key; value = value; is_bucket = flag } in
@@ -196,10 +195,10 @@ module _ (wanted : Wanted) (pass : Pass) where
   -- a value
   pub value_steps : {S A : Type 0} {sink : Ghosts S} {put : List Placed} {parents : List Parent} {old new : S} {counted : Pass} (key value : List ℕ)
       (after : Tree) (bucket : BucketRuns) (next : ℕ) (result : Result A BulkFault)
-      → PassIsAt wanted pass parents (with_value key value after) put → pass.pending ≡ None
+      → PassIsAt wanted pass from parents (with_value key value after) put → pass.pending ≡ None
       → TakesAt sink old new (value_element key value) bucket next result
-      → OnOk result (Counts (record pass { bucket = bucket; next = next }) counted)
-      → Steps wanted sink old new pass.setup put (PassIsAt wanted counted parents after) result
+      → OnOk result (Counts (record pass { bucket = bucket }) counted)
+      → Steps wanted sink old new pass.setup put (PassIsAt wanted counted next parents after) result
   value_steps key value after bucket next result is none takes counts =
       let (same, on, coming) = on_of is none in
       item_steps key value false after pass.pending bucket pass.entries next result is on (record { inside = coming.inside; around = coming.around })
@@ -208,13 +207,13 @@ module _ (wanted : Wanted) (pass : Pass) where
   -- the end of a bucket that is inline
   pub inline_steps : {S A : Type 0} {sink : Ghosts S} {put : List Placed} {parents : List Parent} {old new : S} {counted : Pass} (parent : Parent)
       (p : PendingBucket) (bucket : BucketRuns) (entries : Vec Leaf Global) (next : ℕ) (result : Result A BulkFault)
-      → PassIsAt wanted pass (parent ∷ parents) end put → pass.pending ≡ Some p → IsPendingSmall P pass.pending pass.entries.items
+      → PassIsAt wanted pass from (parent ∷ parents) end put → pass.pending ≡ Some p → IsPendingSmall P pass.pending pass.entries.items
       → TakesAt sink old new (pending_element p pass.entries.items) bucket next result
-      → OnOk result (Counts (record pass { bucket = bucket; pending = None; entries = entries; next = next }) counted)
-      → Steps wanted sink old new pass.setup put (PassIsAt wanted counted parents parent.after) result
+      → OnOk result (Counts (record pass { bucket = bucket; pending = None; entries = entries }) counted)
+      → Steps wanted sink old new pass.setup put (PassIsAt wanted counted next parents parent.after) result
   inline_steps {put = put} {parents = parents} parent p bucket entries next result is some pending takes counts =
       let small = small_of P pass.pending p pass.entries.items some pending in
-      let (after, same, on, coming) = pending_of wanted pass (parent ∷ parents) end put p is some in
+      let (after, same, on, coming) = pending_of wanted pass from (parent ∷ parents) end put p is some in
       let shown : List LeafElement = map leaf_view pass.entries.items in
       let count = length-map pass.entries.items leaf_view in
       let fits = small.small in
@@ -254,7 +253,8 @@ module _ (wanted : Wanted) (pass : Pass) where
   abbrev frame_of : PendingBucket → Tree → Open → BucketFrame
   frame_of p after state = waiting P state p.key.now p.sequence after
 
-  record HasOpened (put : List Placed) (parents : List Parent) (left : Tree) (p : PendingBucket) (is : PassIsAt wanted pass parents left put) : Type 0 where
+  record HasOpened (put : List Placed) (parents : List Parent) (left : Tree) (p : PendingBucket) (is : PassIsAt wanted pass from parents left put)
+      : Type 0 where
     after : Tree
     same : parents ≡ record { key = p.key.now; after = after } ∷ map parent_of is.frames
     outer : AreOpenRuns (room_for p) (making_room P is.state p.key.now (32 + length p.key.now)) (base_in is.frames)
@@ -265,13 +265,13 @@ module _ (wanted : Wanted) (pass : Pass) where
         (opened_runs p (room_for p).next)
         (put ++ runs_room_put P runs_now p.key.now (32 + length p.key.now))
 
-  has_opened : (put : List Placed) (parents : List Parent) (left : Tree) (p : PendingBucket) (is : PassIsAt wanted pass parents left put)
+  has_opened : (put : List Placed) (parents : List Parent) (left : Tree) (p : PendingBucket) (is : PassIsAt wanted pass from parents left put)
       → pass.pending ≡ Some p → IsPendingSmall P pass.pending pass.entries.items
       → HasRoot wanted.which P (onto (map leaf_view pass.entries.items) left)
       → HasOpened put parents left p is
   has_opened put parents left p is some pending rooted =
       let small = small_of P pass.pending p pass.entries.items some pending in
-      let (after, same, on, coming) = pending_of wanted pass parents left put p is some in
+      let (after, same, on, coming) = pending_of wanted pass from parents left put p is some in
       let shown : List LeafElement = map leaf_view pass.entries.items in
       let count = length-map pass.entries.items leaf_view in
       let sizes = small.sized in
@@ -314,7 +314,7 @@ module _ (wanted : Wanted) (pass : Pass) where
   pub open_stops : {S B C : Type 0} {sink : Ghosts S} {put : List Placed} {parents : List Parent} {left : Tree} {old new : S}
       {At : List Placed → Type 0} {e : BulkFault} {result : Result C BulkFault} (p : PendingBucket)
       → IsErrAnd result (λ f. f ≡ e)
-      → PassIsAt wanted pass parents left put → pass.pending ≡ Some p → IsPendingSmall P pass.pending pass.entries.items
+      → PassIsAt wanted pass from parents left put → pass.pending ≡ Some p → IsPendingSmall P pass.pending pass.entries.items
       → HasRoot wanted.which P (onto (map leaf_view pass.entries.items) left)
       → Writes {A = B} sink old new pass.setup (runs_room_put P runs_now p.key.now (32 + length p.key.now)) (room_for p).next (Err e)
       → Steps wanted sink old new pass.setup put At result
@@ -326,14 +326,14 @@ module _ (wanted : Wanted) (pass : Pass) where
   -- all went well
   pub open_steps : {S : Type 0} {sink : Ghosts S} {put : List Placed} {parents : List Parent} {left : Tree} {old new : S} {counted : Pass}
       (p : PendingBucket) (bucket : BucketRuns) (w : WaitingBucket) (around : Vec WaitingBucket Global) (entries : Vec Leaf Global) (next opened held : ℕ)
-      → PassIsAt wanted pass parents left put → pass.pending ≡ Some p → IsPendingSmall P pass.pending pass.entries.items
+      → PassIsAt wanted pass from parents left put → pass.pending ≡ Some p → IsPendingSmall P pass.pending pass.entries.items
       → HasRoot wanted.which P (onto (map leaf_view pass.entries.items) left)
       → Writes {A = ⊤} sink old new pass.setup (runs_room_put P runs_now p.key.now (root_size p.key.now)) (room_for p).next (Ok tt)
       → bucket_runs w.bucket next ≡ room_for p → w.key.now ≡ p.key.now → w.sequence ≡ p.sequence
       → around.items ≡ pass.waiting.items ++ w ∷ [] → bucket_runs bucket next ≡ opened_runs p next
       → opened ≡ min (pass.opened + 1) 18446744073709551615
-      → Counts (record pass { waiting = around; bucket = bucket; pending = None; entries = entries; next = next; opened = opened; around = held }) counted
-      → Steps {A = ⊤} wanted sink old new pass.setup put (PassIsAt wanted counted parents left) (Ok tt)
+      → Counts (record pass { waiting = around; bucket = bucket; pending = None; entries = entries; opened = opened; around = held }) counted
+      → Steps {A = ⊤} wanted sink old new pass.setup put (PassIsAt wanted counted next parents left) (Ok tt)
   open_steps {put = put} {parents = parents} {left = left} {counted = counted} p bucket w around entries next opened held is some pending rooted writes made key_is sequence_is items values_are one_more k =
       let then = has_opened put parents left p is some pending rooted in
       let frame : BucketFrame = frame_of p then.after is.state in
@@ -359,14 +359,14 @@ module _ (wanted : Wanted) (pass : Pass) where
   -- ---- the open bucket ends, and the one around it goes on
   pub leave_steps : {S A : Type 0} {sink : Ghosts S} {put : List Placed} {parents : List Parent} {old new : S} {counted : Pass} (parent : Parent)
       (w : WaitingBucket) (bucket : BucketRuns) (around : Vec WaitingBucket Global) (next held : ℕ) (noted : NotedLimits) (result : Result A BulkFault)
-      → PassIsAt wanted pass (parent ∷ parents) end put → pass.pending ≡ None → pass.waiting.items ≡ around.items ++ w ∷ []
+      → PassIsAt wanted pass from (parent ∷ parents) end put → pass.pending ≡ None → pass.waiting.items ≡ around.items ++ w ∷ []
       → BucketEnds pass.noted noted pass.bucket.uppers
       → Writes sink old new pass.setup (runs_end_put P runs_now) (bucket_end_next P runs_now) result
       → OnOk result ((before : ℕ)
       → bucket_runs bucket next
       ≡ runs_push (bucket_runs w.bucket before) (root_element w.key.now (runs_end P runs_now) w.sequence) (32 + length w.key.now) (bucket_end_next P runs_now))
-      → OnOk result (Counts (record pass { waiting = around; bucket = bucket; next = next; around = held; noted = noted }) counted)
-      → Steps wanted sink old new pass.setup put (PassIsAt wanted counted parents parent.after) result
+      → OnOk result (Counts (record pass { waiting = around; bucket = bucket; around = held; noted = noted }) counted)
+      → Steps wanted sink old new pass.setup put (PassIsAt wanted counted next parents parent.after) result
   leave_steps {put = put} {parents = parents} {counted = counted} parent w bucket around next held noted result is none popped ended writes runs counts =
       let (same, on, coming) = on_of is none in
       let (frame, frames, more_frames, top) = first_frame parent parents is.frames same in

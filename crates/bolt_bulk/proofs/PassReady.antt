@@ -1,15 +1,14 @@
 -- What is known of a pass without its tree, after a step.
-use Rattle.std.proofs.Common.{◌⊎◌, ◌≡◌, ℕ, ◌+◌, ◌-◌, ◌/◌, ◌≤◌, ◌<◌, false, List, [], ◌∷◌, ◌++◌, length, map, Option, Some, drop, get_or, refl, subst}
-use Rattle.std.proofs.Common.{take, arith}
+use Rattle.std.proofs.Common.{◌⊎◌, ◌≡◌, ℕ, ◌+◌, ◌/◌, ◌≤◌, ◌<◌, false, List, [], ◌∷◌, ◌++◌, length, map, Option, Some, subst}
+use Rattle.std.proofs.Common.{arith}
 use Rattle.std.proofs.lemmas.List.{length-append, length-map, map-append}
-use Rattle.std.specs.List.{AllByRecursion}
+use Rattle.bolt_lemmas.proofs.Exports.{all_append}
 use Rattle.bolt_format.specs.{ElementPlaces.leaf_view, declared.element.Leaf.Leaf}
 use Rattle.bolt_tree.specs.Tree.{Tree, with_value}
 use Rattle.bolt_layout.specs.declared.Layout.{Layout}
 use Rattle.bolt_bulk.specs.{Private.HasRoot, Private.IsPendingSmall, Private.IsSmall, Private.onto}
 use Rattle.bolt_bulk.specs.{declared.pending_bucket.PendingBucket.PendingBucket}
 use Rattle.bolt_bulk.proofs.{Ontos.value_too_large, HeldRuns.data_push}
-use Rattle.bolt_layout.proofs.Exports.{all_append}
 
 -- the bucket that may be inline
 pub small_of : (page_size : ℕ) (pending : Option PendingBucket) (p : PendingBucket) (entries : List Leaf) → pending ≡ Some p
@@ -22,21 +21,6 @@ pub small_push : (page_size size : ℕ) (p : PendingBucket) (entries more : List
     → size ≡ p.size + (16 + (length entry.key.now + length entry.value.now)) → size ≤ page_size / 4 → length entries < 65534 → more ≡ entries ++ entry ∷ []
     → IsSmall page_size (record { key = p.key; sequence = p.sequence; size = size }) more
 small_push page_size size p entries more entry is key value sized small few pushed = grind (arith, map-append, data_push, length-append, all_append)
-
--- the last of a list is taken off
-last_off : {X : Type 0} (all rest : List X) (x : X) → 0 < length all → x ≡ get_or all (length all - 1) x
-    → rest ≡ take (length all - 1) all ++ drop (length all - 1 + 1) all → all ≡ rest ++ x ∷ []
-last_off [] rest x some at off = absurd (omega arith)
-last_off (y ∷ []) rest x some at off = rw (off, at) refl
-last_off {X} (y ∷ z ∷ all) rest x some at off = let others = last_off (z ∷ all) in grind (arith, others)
-
-pub last_off_at : {X : Type 0} (n : ℕ) (all rest : List X) (x : X) → n ≡ length all → 0 < length all → x ≡ get_or all (n - 1) x
-    → rest ≡ take (n - 1) all ++ drop (n - 1 + 1) all → all ≡ rest ++ x ∷ []
-last_off_at n all rest x count some is off = last_off all rest x some (rw count at is) (rw count at off)
-
-pub last_of : {X : Type 0} (P : X → Type 0) (xs : List X) (x : X) → AllByRecursion P (xs ++ x ∷ []) → P x × AllByRecursion P xs
-last_of P [] x all = (all.0, tt)
-last_of P (y ∷ xs) x all = let (last, others) = last_of P xs x all.1 in (last, (all.0, others))
 
 -- a value that doesn't fit: the bucket has a root page
 pub full_rooted : (which : Layout) (page_size : ℕ) (p : PendingBucket) (entries : List Leaf) (key value : List ℕ) (after : Tree)

@@ -1,7 +1,8 @@
 -- A run of pages that takes one more, and closes if the next one doesn't join it.
-use Rattle.std.proofs.Common.{div-add-mod', add-mul, ◌≡◌, ◌∙◌, ◌⊎◌, ℕ, ◌+◌, ◌*◌, ◌<◌, ◌≤◌, ◌||◌, ◌&&◌, Bool, true, List, [], ◌∷◌, ◌++◌, length, ap}
+use Rattle.std.proofs.Common.{div-add-mod', add-mul, ◌≡◌, ◌∙◌, ℕ, ◌+◌, ◌*◌, ◌<◌, ◌≤◌, true, List, [], ◌∷◌, ◌++◌, length, ap}
 use Rattle.std.proofs.Common.{arith}
 use Rattle.std.proofs.{lemmas.Bool.leb-true, lemmas.Bool.ltb-true, lemmas.List.length-append, lemmas.List.append-nil}
+use Rattle.bolt_lemmas.proofs.Exports.{few_or_fits}
 use Rattle.bolt_format.specs.Elements.{BranchElement}
 use Rattle.bolt_layout.specs.{Levels.overflow_of, PageBytes.branch_data}
 use Rattle.bolt_bulk.specs.Private.{IsPushed, IsSizedRun, IsStanding, run_kept, run_push, run_stays, RunView}
@@ -26,9 +27,6 @@ pushed_sized run e sized = omega (arith, data_push run.elements e, length-append
 
 pub pushed : (run : RunView) (e : BranchElement) → IsStanding run → length e.key ≤ 1073741824 → IsPushed (run_push run e)
 pushed run e is key = grind (arith, length-append, pushed_sized)
-
-pub few_or_fits : (a b c : Bool) → (a || (b && c)) ≡ true → (a ≡ true) ⊎ ((b ≡ true) × (c ≡ true))
-few_or_fits a b c h = grind arith
 
 -- a run that stays open for the next page stands
 pub stays_standing : (page_size k : ℕ) (run : RunView) (e : BranchElement) → page_size ≤ 33554432 → IsStanding run → length e.key ≤ 1073741824

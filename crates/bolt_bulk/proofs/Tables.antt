@@ -1,6 +1,7 @@
 -- The numbers of the open buckets, what their open runs say of each row at their end, and the limits that were noted of those that have ended.
 use Rattle.std.proofs.Common.{ℕ, suc, Option, List, [], ◌∷◌, ◌++◌, length, map, ap, arith, ◌≡◌, ◌∙◌, ◌+◌, ◌<◌, ◌≤◌, false, None, sym, subst}
 use Rattle.std.proofs.{lemmas.List.length-append, lemmas.List.length-map, lemmas.Bool.cases_lt}
+use Rattle.bolt_lemmas.proofs.Exports.{all_map}
 use Rattle.bolt_format.specs.Elements.{BranchElement}
 use Rattle.bolt_layout.specs.{Laid.Laid, Laid.Placed, Laid.size_of, Levels.branch_page_view, Levels.leaf_page_view, Levels.page_over}
 use Rattle.bolt_layout.specs.{Limits.AreRowEnds, Limits.limit_at, Limits.limits_from_ends}
@@ -77,11 +78,6 @@ all_lower : (wanted : Wanted) (page_size below high : ℕ) (buckets : List Known
 all_lower wanted page_size below high [] low are = tt
 all_lower wanted page_size below high (known ∷ buckets) low (is, are) =
     let e = is.earlier in (omega arith, all_lower wanted page_size known.number high buckets (omega arith) are)
-
-all_map : {A : Type 0} {P Q R : A → Type 0} (xs : List A) → ((x : A) → P x → Q x → R x) → AllByRecursion P xs → AllByRecursion Q xs
-    → AllByRecursion R xs
-all_map [] f p q = tt
-all_map (x ∷ xs) f p q = (f x p.0 q.0, all_map xs f p.1 q.1)
 
 -- its own limits join those that were noted
 table_ends : (page_size : ℕ) (tree : Tree) (old new : Limits) (opened : ℕ) (known : Known) (buckets : List Known)

@@ -2,10 +2,6 @@
 use Rattle.std.specs.Prelude.{◌≡◌, ◌↔◌, List}
 use Rattle.bolt_check.specs.CheckedFiles.{bytes_of, meta_of}
 use Rattle.bolt_layout.specs.Copies.{IsOfOneTree}
-use Rattle.bolt_recover.specs.{Joined.IsJoined, JoinedMembers.joined_file, JoinedMembers.joined_left, JoinedMembers.joined_meta}
-use Rattle.bolt_recover.specs.{Recovered.IsRecovered}
-use Rattle.bolt_recover.specs.{Recoveries.recovery_file, Recoveries.recovery_left, Recoveries.recovery_meta, declared.joined.Joined.Joined}
-use Rattle.bolt_recover.specs.{declared.recovery.Recovery.Recovery}
 use Rattle.bolt_tree.specs.{Listing.IsListing, Listing.Member, Walks.left_of, Walks.walk_checked, declared.walk.Walk.Walk}
 
 -- The members have a listing, all of it is left, and it is that of one tree.
@@ -21,20 +17,8 @@ pub record IsAgain {M W : Type 0} (reads : M → W → Type 0) (listing : W → 
   pub all : (whole : W) → reads old whole → left new whole ≡ listing whole
   pub same_end : (end : M) → ends_as new end → ends_as old end
 
--- all members of a sound file
+-- The walk has all members of a sound file.
 abbrev pub IsWholeWalk : Walk → Type 0
 IsWholeWalk walk =
     IsWholeListing (λ (w : Walk) (listing : List Member). IsListing (bytes_of (walk_checked w)) (meta_of (walk_checked w)) listing) (λ listing. listing)
     (λ (w : Walk) (listing : List Member). left_of w listing) walk
-
--- all that is recovered of a damaged file
-abbrev pub IsWholeRecovery : Recovery → Type 0
-IsWholeRecovery recovery =
-    IsWholeListing (λ (r : Recovery) (listing : List Member). IsRecovered (recovery_file r) (recovery_meta r) listing) (λ listing. listing)
-    (λ (r : Recovery) (listing : List Member). recovery_left r listing) recovery
-
--- all that is recovered of a damaged file, joined with what is found of it
-abbrev pub IsWholeJoined : Joined → Type 0
-IsWholeJoined joined =
-    IsWholeListing (λ (j : Joined) (listing : List Member). IsJoined (joined_file j) (joined_meta j) listing) (λ listing. listing)
-    (λ (j : Joined) (listing : List Member). joined_left j listing) joined

@@ -10,7 +10,7 @@ ghost use Rattle.bolt_check.specs.Counts.{saturated};
 ghost use Rattle.bolt_bulk.specs.declared.bulk_fault.BulkFault.TheVariants as fault;
 
 use crate::bulk_fault::BulkFault;
-use crate::held::{Held, Stored};
+use crate::held::{Held, StoredItem};
 use crate::leaf_run::LeafRun;
 use crate::limits::BucketLimits;
 use crate::page_writer::PageWriter;
@@ -38,7 +38,7 @@ fn value_items<'a>(alloc: Global, entries: &[Leaf<'a>]) -> Result<Vec<Held<'a>>,
     for entry in entries {
         let held = Held {
             key: entry.key,
-            stored: Stored::Value(entry.value),
+            stored: StoredItem::Value(entry.value),
         };
         items.push(held)?;
     }
@@ -188,7 +188,7 @@ impl<'a> BucketRuns<'a> {
     {
         let first = self.leaves.inlined.len();
         self.leaves.inlined.extend_from_slice(entries)?;
-        let stored = Stored::Inline {
+        let stored = StoredItem::Inline {
             sequence,
             first,
             count: entries.len(),
@@ -216,7 +216,7 @@ impl<'a> BucketRuns<'a> {
         ensures open { OnOk result (IsOpenBucket self.new) }
     {
         let size = ELEMENT_LEN + (key.len() + value.len());
-        let stored = Stored::Value(value);
+        let stored = StoredItem::Value(value);
         self.make_room(key, size, writer)?;
         self.push_item(Held { key, stored }, size)
     }
@@ -278,7 +278,7 @@ impl<'a> BucketRuns<'a> {
     {
         self.reserve()?;
         let root = inner.close_runs(writer)?;
-        let stored = Stored::Root {
+        let stored = StoredItem::Root {
             page: root,
             sequence,
         };

@@ -13,7 +13,7 @@ use bolt_format::{
 
 /// What is under a key in a copy.
 #[derive(Clone, Copy)]
-pub(crate) enum Stored<'a> {
+pub(crate) enum StoredItem<'a> {
     /// The bytes of a value.
     Value(&'a [u8]),
     /// A bucket with a root page.
@@ -35,18 +35,18 @@ pub(crate) enum Stored<'a> {
 #[derive(Clone, Copy)]
 pub(crate) struct Held<'a> {
     pub key: &'a [u8],
-    pub stored: Stored<'a>,
+    pub stored: StoredItem<'a>,
 }
 
-impl<'a> Stored<'a> {
+impl<'a> StoredItem<'a> {
     /// How many bytes the value has.
     pub(crate) fn len(&self) -> usize
         ensures { result ≡ stored_length self.now }
     {
         match *self {
-            Stored::Value(value) => value.len(),
-            Stored::Root { .. } => HEAD_LEN,
-            Stored::Inline { size, .. } => size,
+            StoredItem::Value(value) => value.len(),
+            StoredItem::Root { .. } => HEAD_LEN,
+            StoredItem::Inline { size, .. } => size,
         }
     }
 
@@ -55,8 +55,8 @@ impl<'a> Stored<'a> {
         ensures { result ≡ is_stored_bucket self.now }
     {
         match *self {
-            Stored::Value(_) => false,
-            Stored::Root { .. } | Stored::Inline { .. } => true,
+            StoredItem::Value(_) => false,
+            StoredItem::Root { .. } | StoredItem::Inline { .. } => true,
         }
     }
 
@@ -66,9 +66,12 @@ impl<'a> Stored<'a> {
         ensures { WritesText S.Sink sink.old sink.new (stored_value inlined.now self.now) result }
     {
         match *self {
-            Stored::Value(value) => put_unless_empty(value, sink),
-            Stored::Root { page, sequence } => put_unless_empty(&bucket_head(page, sequence), sink),
-            Stored::Inline {
+            StoredItem::Value(value) => put_unless_empty(value, sink),
+            StoredItem::Root { page, sequence } => put_unless_empty(
+                &bucket_head(page, sequence),
+                sink,
+            ),
+            StoredItem::Inline {
                 sequence,
                 first,
                 count,

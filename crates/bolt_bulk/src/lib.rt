@@ -1,5 +1,5 @@
-//! The compact copy of a sound file, of what a damaged one still holds, or of any members: the calls that plan it,
-//! and those that write it page by page. `bolt_layout` defines its layout.
+//! The compact copy of a sound file, or of any members: the calls that plan it, and those that write
+//! it page by page. `bolt_layout` defines its layout.
 //!
 //! The copy is bulk loaded: its members come once, in order, and each page is filled and written
 //! before any page above it. No page is written twice. Of each open bucket only the items of pages

@@ -2,8 +2,8 @@
 ghost use Rattle.std.specs.Prelude.{◌≡◌, ◌≤◌, IfOk, List, OnOk, length, ◌↔◌, None};
 ghost use Rattle.bolt_tree.specs.Listing.{Member};
 ghost use Rattle.bolt_bulk.specs.{Compacting.CopiesEach, Compacting.PlansEach, WholeListings.IsAgain, WholeListings.IsWholeListing};
-ghost use Rattle.bolt_bulk.specs.Private.{FindsLimits, first_pages, FitAll, FitOne, PassesOverMembers, PutsMembers, WritesText};
-ghost use Rattle.bolt_layout.specs.{PageBytes.copy_meta, PageBytes.filled, declared.Layout.TheVariants.Balanced};
+ghost use Rattle.bolt_bulk.specs.Private.{FindsLimits, first_pages, FitAll, FitOne, IsSameWriter, PassesOverMembers, PutsMembers, WritesText};
+ghost use Rattle.bolt_layout.specs.{Layout.first_page, PageBytes.copy_meta, PageBytes.filled, declared.Layout.TheVariants.Balanced};
 
 use crate::blueprint::Blueprint;
 use crate::bulk_fault::{BulkFault, PlanFault};
@@ -11,7 +11,8 @@ use crate::laws::a_listing_has_one_layout;
 use crate::limits::Limits;
 use crate::page_pieces::{put_unless_empty, put_zeros};
 use crate::page_setup::{PageSetup, noting_setup_of, setup_of};
-use crate::pass::{Ended, Pass};
+use crate::page_writer::PageWriter;
+use crate::pass::{Pass, PassEnd};
 use bolt_format::{Kind, Meta, Sink, SinkFault, meta_page, page_header};
 use bolt_layout::Layout;
 use bolt_tree::Members;
@@ -198,7 +199,7 @@ fn pass_over<'a, M: Members<'a>>(
     limits: &Limits,
     notes: bool,
     members: &mut M,
-) -> Result<Ended, PlanFault>
+) -> Result<PassEnd, PlanFault>
     requires room { 3 ≤ setup.greatest_high_water }
     requires whole { IsWholeListing M.reads M.listing M.left members.old }
     requires fit { FitOne M.reads M.listing members.old setup.page_size limits.now }
@@ -224,7 +225,7 @@ fn put_pages<'a, M: Members<'a>, S: Sink>(
     notes: bool,
     members: &mut M,
     sink: &mut S,
-) -> Result<Ended, BulkFault>
+) -> Result<PassEnd, BulkFault>
     requires room { 3 ≤ setup.greatest_high_water }
     requires whole { IsWholeListing M.reads M.listing M.left members.old }
     ensures pages { PutsMembers S.Sink sink.old sink.new M.reads M.listing members.old setup limits.now notes
@@ -233,11 +234,35 @@ fn put_pages<'a, M: Members<'a>, S: Sink>(
     ensures reads { (whole : M.Whole) → M.reads members.new whole ↔ M.reads members.old whole }
     ensures same_end { (end : M) → M.ends_as members.new end → M.ends_as members.old end }
 {
-    let mut pass = Pass::new(setup, limits, notes);
+    let mut writer = PageWriter {
+        setup,
+        next: 3,
+        sink,
+    };
+    put_members(limits, notes, members, &mut writer)
+}
+
+/// Writes the pages of all members, as `put_pages` does, with a writer that has written none.
+fn put_members<'a, M: Members<'a>, S: Sink>(
+    limits: &Limits,
+    notes: bool,
+    members: &mut M,
+    writer: &mut PageWriter<'_, S>,
+) -> Result<PassEnd, BulkFault>
+    requires first { writer.old.next ≡ first_page }
+    requires whole { IsWholeListing M.reads M.listing M.left members.old }
+    ensures same { IsSameWriter writer.old writer.new }
+    ensures pages { PutsMembers S.Sink writer.old.sink.now writer.new.sink.now M.reads M.listing members.old
+        writer.old.setup limits.now notes result }
+    ensures end { OnOk result (M.ends_as members.old members.new) }
+    ensures reads { (whole : M.Whole) → M.reads members.new whole ↔ M.reads members.old whole }
+    ensures same_end { (end : M) → M.ends_as members.new end → M.ends_as members.old end }
+{
+    let mut pass = Pass::new(writer.setup, limits, notes);
     'members: while let Some(item) = members.next()? {
-        pass.take_member(members.path(), item, sink)?;
+        pass.take_member(members.path(), item, writer)?;
     }
-    pass.end_all(sink)
+    pass.end_all(writer)
 }
 
 /// Accepts all bytes, and keeps none.

@@ -35,7 +35,7 @@ use std::mem;
 
 /// What a pass returns.
 #[derive(Drop)]
-pub(crate) struct Ended {
+pub(crate) struct PassEnd {
     /// The page number of the root page.
     pub root: u64,
     /// The number after the last page.
@@ -57,8 +57,6 @@ pub(crate) struct Pass<'a> {
     /// The bucket within the open one that may be inline, and its entries so far.
     pub pending: Option<PendingBucket<'a>>,
     pub entries: Vec<Leaf<'a>>,
-    /// The number of the next page.
-    pub next: u64,
     /// How many buckets were opened, the root bucket included. Saturates at 2^64 - 1.
     pub opened: u64,
     /// How many items the open runs of the waiting buckets hold. Saturates at 2^64 - 1.
@@ -73,14 +71,13 @@ pub(crate) struct Pass<'a> {
 impl<'a> Pass<'a> {
     ghost use Rattle.bolt_format.specs.ElementLengths.{IsValueLength};
     ghost use Rattle.bolt_tree.specs.{Paths.path_of, ShownEntries.item_view};
-    ghost use Rattle.bolt_bulk.specs.Private.{BeginsAll, BeginsBucket, Counts, pass_depth, EndsAll, EntersBucket, GoesOn, HasMemberLengths, IsReady};
+    ghost use Rattle.bolt_bulk.specs.Private.{BeginsAll, BeginsBucket, Counts, pass_depth, EndsAll, EntersBucket, GoesOn, HasMemberLengths, IsReady, IsSameWriter};
     ghost use Rattle.bolt_bulk.specs.Private.{items_by, KeepsValue, LeavesBucket, LeavesTo, longest_key, OpensPending, TakesMember, TakesValue};
     ghost use Rattle.bolt_check.specs.Counts.{saturated};
 
     /// A pass before the first page. If `notes` is set, it notes the limits of the balanced
     /// layout's rows.
     pub(crate) fn new(setup: PageSetup, limits: &'a Limits, notes: bool) -> Pass<'a>
-        requires { 3 ≤ setup.greatest_high_water }
         ensures setup { result.setup ≡ setup }
         ensures ready { IsReady result }
         ensures at { BeginsAll limits.now notes setup.page_size result }
@@ -99,7 +96,6 @@ impl<'a> Pass<'a> {
             ),
             pending: None,
             entries: Vec::new(alloc),
-            next: 3,
             opened: 1,
             around: 0,
             most: 0,
@@ -118,14 +114,20 @@ impl<'a> Pass<'a> {
     }
 
     /// Ends buckets until at most `depth` are left.
-    fn leave_to<S: Sink>(&mut self, depth: usize, sink: &mut S) -> Result<(), BulkFault>
+    fn leave_to<S: Sink>(
+        &mut self,
+        depth: usize,
+        writer: &mut PageWriter<'_, S>,
+    ) -> Result<(), BulkFault>
         requires ready { IsReady self.old }
+        requires setup { writer.old.setup ≡ self.old.setup }
         requires some { 1 ≤ depth }
+        ensures same { IsSameWriter writer.old writer.new }
         ensures on { OnOk result (GoesOn self.old self.new depth) }
-        ensures steps { LeavesTo S.Sink sink.old sink.new self.old self.new depth result }
+        ensures steps { LeavesTo S.Sink writer.old writer.new self.old self.new depth result }
     {
         'buckets: while self.depth() > depth {
-            self.leave_bucket(sink)?;
+            self.leave_bucket(writer)?;
         }
         Ok(())
     }
@@ -135,19 +137,21 @@ impl<'a> Pass<'a> {
         &mut self,
         path: &[&'a [u8]],
         item: Item<'a>,
-        sink: &mut S,
+        writer: &mut PageWriter<'_, S>,
     ) -> Result<(), BulkFault>
         requires ready { IsReady self.old }
+        requires setup { writer.old.setup ≡ self.old.setup }
         requires fit { HasMemberLengths (path_of path.now, item_view item) }
+        ensures same { IsSameWriter writer.old writer.new }
         ensures on { OnOk result (GoesOn self.old self.new (1 + length path.now)) }
-        ensures steps { TakesMember S.Sink sink.old sink.new self.old self.new
+        ensures steps { TakesMember S.Sink writer.old writer.new self.old self.new
             (path_of path.now, item_view item.entry) result }
     {
         let key = path[path.len() - 1];
-        self.leave_to(path.len(), sink)?;
+        self.leave_to(path.len(), writer)?;
         match item {
-            Item::Value(value) => self.take_value(key, value, sink),
-            Item::Bucket { sequence } => self.take_bucket(key, sequence, sink),
+            Item::Value(value) => self.take_value(key, value, writer),
+            Item::Bucket { sequence } => self.take_bucket(key, sequence, writer),
         }
     }
 
@@ -174,24 +178,26 @@ impl<'a> Pass<'a> {
         &mut self,
         key: &'a [u8],
         value: &'a [u8],
-        sink: &mut S,
+        writer: &mut PageWriter<'_, S>,
     ) -> Result<(), BulkFault>
         requires ready { IsReady self.old }
+        requires setup { writer.old.setup ≡ self.old.setup }
         requires key { length key.now ≤ longest_key }
         requires value { IsValueLength (length value.now) }
+        ensures same { IsSameWriter writer.old writer.new }
         ensures on { OnOk result (GoesOn self.old self.new (pass_depth self.old)) }
-        ensures steps { TakesValue S.Sink sink.old sink.new self.old self.new key.now value.now
+        ensures steps { TakesValue S.Sink writer.old writer.new self.old self.new key.now value.now
             result }
     {
         let Some(pending) = self.pending else {
-            return self.put_value(key, value, sink);
+            return self.put_value(key, value, writer);
         };
         let size = pending.size + (ELEMENT_LEN + (key.len() + value.len()));
         if size <= self.setup.page_size / 4 && self.entries.len() < MAX_ITEMS {
             return self.keep_value(pending, key, value, size);
         }
-        self.open_pending(sink)?;
-        self.put_value(key, value, sink)
+        self.open_pending(writer)?;
+        self.put_value(key, value, writer)
     }
 
     /// Takes a value of the pending bucket, which may still be inline with it.
@@ -228,23 +234,19 @@ impl<'a> Pass<'a> {
         &mut self,
         key: &'a [u8],
         value: &'a [u8],
-        sink: &mut S,
+        writer: &mut PageWriter<'_, S>,
     ) -> Result<(), BulkFault>
         requires ready { IsReady self.old }
+        requires setup { writer.old.setup ≡ self.old.setup }
         requires pending { self.old.pending ≡ None }
         requires key { length key.now ≤ longest_key }
         requires value { IsValueLength (length value.now) }
+        ensures same { IsSameWriter writer.old writer.new }
         ensures on { OnOk result (GoesOn self.old self.new (pass_depth self.old)) }
-        ensures steps { TakesValue S.Sink sink.old sink.new self.old self.new key.now value.now
+        ensures steps { TakesValue S.Sink writer.old writer.new self.old self.new key.now value.now
             result }
     {
-        let mut writer = PageWriter {
-            setup: self.setup,
-            next: self.next,
-            sink,
-        };
-        self.bucket.add_value(key, value, &mut writer)?;
-        self.next = writer.next;
+        self.bucket.add_value(key, value, writer)?;
         self.count();
         Ok(())
     }
@@ -254,15 +256,17 @@ impl<'a> Pass<'a> {
         &mut self,
         key: &'a [u8],
         sequence: u64,
-        sink: &mut S,
+        writer: &mut PageWriter<'_, S>,
     ) -> Result<(), BulkFault>
         requires ready { IsReady self.old }
+        requires setup { writer.old.setup ≡ self.old.setup }
         requires key { length key.now ≤ longest_key }
+        ensures same { IsSameWriter writer.old writer.new }
         ensures on { OnOk result (GoesOn self.old self.new (pass_depth self.old + 1)) }
-        ensures steps { EntersBucket S.Sink sink.old sink.new self.old self.new key.now sequence
+        ensures steps { EntersBucket S.Sink writer.old writer.new self.old self.new key.now sequence
             result }
     {
-        self.open_pending(sink)?;
+        self.open_pending(writer)?;
         self.begin(key, sequence);
         Ok(())
     }
@@ -284,11 +288,13 @@ impl<'a> Pass<'a> {
 
     /// Opens the pending bucket, if there is one, with its entries so far, as it turns out to have
     /// a root page. The bucket around it waits.
-    fn open_pending<S: Sink>(&mut self, sink: &mut S) -> Result<(), BulkFault>
-        requires { IsReady self.old }
+    fn open_pending<S: Sink>(&mut self, writer: &mut PageWriter<'_, S>) -> Result<(), BulkFault>
+        requires ready { IsReady self.old }
+        requires setup { writer.old.setup ≡ self.old.setup }
+        ensures same { IsSameWriter writer.old writer.new }
         ensures on { OnOk result (GoesOn self.old self.new (pass_depth self.old)) }
         ensures pending { OnOk result (self.new.pending ≡ None) }
-        ensures steps { OpensPending S.Sink sink.old sink.new self.old self.new result }
+        ensures steps { OpensPending S.Sink writer.old writer.new self.old self.new result }
     {
         let Some(pending) = self.pending else {
             return Ok(());
@@ -304,13 +310,7 @@ impl<'a> Pass<'a> {
             limits,
         )?;
         let outer = mem::replace(&mut self.bucket, inner);
-        let mut writer = PageWriter {
-            setup: self.setup,
-            next: self.next,
-            sink,
-        };
-        let waiting = WaitingBucket::enter(outer, pending, self.around, &mut writer)?;
-        self.next = writer.next;
+        let waiting = WaitingBucket::enter(outer, pending, self.around, writer)?;
         let around = self.around.saturating_add(waiting.bucket.held());
         self.waiting.push(waiting)?;
         self.around = around;
@@ -323,15 +323,20 @@ impl<'a> Pass<'a> {
 
     /// Ends the innermost bucket.
     #[inline(never)]
-    pub(crate) fn leave_bucket<S: Sink>(&mut self, sink: &mut S) -> Result<(), BulkFault>
+    pub(crate) fn leave_bucket<S: Sink>(
+        &mut self,
+        writer: &mut PageWriter<'_, S>,
+    ) -> Result<(), BulkFault>
         requires ready { IsReady self.old }
+        requires setup { writer.old.setup ≡ self.old.setup }
         requires within { 1 < pass_depth self.old }
+        ensures same { IsSameWriter writer.old writer.new }
         ensures on { OnOk result (GoesOn self.old self.new (pass_depth self.old - 1)) }
-        ensures steps { LeavesBucket S.Sink sink.old sink.new self.old self.new result }
+        ensures steps { LeavesBucket S.Sink writer.old writer.new self.old self.new result }
     {
         match self.pending {
-            Some(pending) => self.end_inline(pending, sink),
-            None => self.end_open(sink),
+            Some(pending) => self.end_inline(pending, writer),
+            None => self.end_open(writer),
         }
     }
 
@@ -339,21 +344,17 @@ impl<'a> Pass<'a> {
     fn end_inline<S: Sink>(
         &mut self,
         pending: PendingBucket<'a>,
-        sink: &mut S,
+        writer: &mut PageWriter<'_, S>,
     ) -> Result<(), BulkFault>
         requires ready { IsReady self.old }
+        requires setup { writer.old.setup ≡ self.old.setup }
         requires pending { self.old.pending ≡ Some pending }
+        ensures same { IsSameWriter writer.old writer.new }
         ensures on { OnOk result (GoesOn self.old self.new (pass_depth self.old - 1)) }
-        ensures steps { LeavesBucket S.Sink sink.old sink.new self.old self.new result }
+        ensures steps { LeavesBucket S.Sink writer.old writer.new self.old self.new result }
     {
-        let mut writer = PageWriter {
-            setup: self.setup,
-            next: self.next,
-            sink,
-        };
         self.bucket
-            .add_inline(pending, self.entries.as_slice(), &mut writer)?;
-        self.next = writer.next;
+            .add_inline(pending, self.entries.as_slice(), writer)?;
         self.entries.clear();
         self.pending = None;
         self.count();
@@ -361,44 +362,40 @@ impl<'a> Pass<'a> {
     }
 
     /// Ends the open bucket, and goes on with the one around it.
-    fn end_open<S: Sink>(&mut self, sink: &mut S) -> Result<(), BulkFault>
+    fn end_open<S: Sink>(&mut self, writer: &mut PageWriter<'_, S>) -> Result<(), BulkFault>
         requires ready { IsReady self.old }
+        requires setup { writer.old.setup ≡ self.old.setup }
         requires pending { self.old.pending ≡ None }
         requires waiting { 0 < length self.old.waiting.items }
+        ensures same { IsSameWriter writer.old writer.new }
         ensures on { OnOk result (GoesOn self.old self.new (pass_depth self.old - 1)) }
-        ensures steps { LeavesBucket S.Sink sink.old sink.new self.old self.new result }
+        ensures steps { LeavesBucket S.Sink writer.old writer.new self.old self.new result }
     {
         self.noted.bucket_ends(&self.bucket.uppers)?;
         let innermost = self.waiting.len() - 1;
         let waiting = self.waiting.remove(innermost);
         self.around = waiting.around;
         let mut inner = mem::replace(&mut self.bucket, waiting.bucket);
-        let mut writer = PageWriter {
-            setup: self.setup,
-            next: self.next,
-            sink,
-        };
         self.bucket
-            .end_inner(waiting.key, waiting.sequence, &mut inner, &mut writer)?;
-        self.next = writer.next;
+            .end_inner(waiting.key, waiting.sequence, &mut inner, writer)?;
         self.count();
         Ok(())
     }
 
     /// Ends all buckets, up to the root page of the root bucket.
-    pub(crate) fn end_all<S: Sink>(&mut self, sink: &mut S) -> Result<Ended, BulkFault>
-        requires { IsReady self.old }
-        ensures { EndsAll S.Sink sink.old sink.new self.old result }
+    pub(crate) fn end_all<S: Sink>(
+        &mut self,
+        writer: &mut PageWriter<'_, S>,
+    ) -> Result<PassEnd, BulkFault>
+        requires ready { IsReady self.old }
+        requires setup { writer.old.setup ≡ self.old.setup }
+        ensures same { IsSameWriter writer.old writer.new }
+        ensures ends { EndsAll S.Sink writer.old writer.new self.old result }
     {
-        self.leave_to(1, sink)?;
+        self.leave_to(1, writer)?;
         self.noted.bucket_ends(&self.bucket.uppers)?;
-        let mut writer = PageWriter {
-            setup: self.setup,
-            next: self.next,
-            sink,
-        };
-        let root = self.bucket.close_runs(&mut writer)?;
-        Ok(Ended {
+        let root = self.bucket.close_runs(writer)?;
+        Ok(PassEnd {
             root,
             high_water: writer.next,
             held: self.most,

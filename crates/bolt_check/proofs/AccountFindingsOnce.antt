@@ -1,7 +1,8 @@
 -- There is one list of findings of the accounts.
 use Rattle.std.proofs.Common.{◌≡◌, ◌≢◌, ◌⊎◌, ℕ, List, [], ◌∷◌, Option, Some, None, ap, refl, inl, inr, arith}
+use Rattle.bolt_lemmas.proofs.Exports.{contains_from_has, has_from_contains, one_list, rises_from_pairs}
 use Rattle.bolt_check.proofs.Words.{AreAccountFindings, Finding, free_ids_of, IsBefore, IsFreelistFinding, IsUsed, Meta}
-use Rattle.bolt_check.proofs.{AccountLemmas.unwritten, Lists.contains_from_has, Lists.has_from_contains, Lists.one_list, Lists.rises_from_pairs}
+use Rattle.bolt_check.proofs.AccountLemmas.{unwritten}
 
 finding_differs : (x y : Finding) → (x ≡ y) ⊎ (x ≢ y)
 finding_differs x y = grind arith

@@ -11,22 +11,15 @@ pub use Rattle.bolt_check.proofs.KnownPages.{is_tree, opened_as, some_tree}
 pub use Rattle.bolt_check.proofs.Lawful.{shape_passes, sound_reports_nothing}
 pub use Rattle.bolt_check.proofs.LeafDepths.{child_leaves, leaves_along, leaves_same, own_leaves}
 pub use Rattle.bolt_check.proofs.LeafLemmas.{lone_free, lone_same, lone_span}
-pub use Rattle.bolt_check.proofs.Lists.{Each, Has, RisesBy, at_has, contains_from_has, flat_has, get_before, get_behind, get_exists, get_front}
-pub use Rattle.bolt_check.proofs.Lists.{has_at, has_flat, has_from_contains, has_left, has_map, has_right, has_split, map_has, one_list}
-pub use Rattle.bolt_check.proofs.Lists.{pairs_from_rises, rises_across, rises_append, rises_flat, rises_from_gets, rises_from_pairs, rises_gets}
-pub use Rattle.bolt_check.proofs.Lists.{rises_left, rises_map, rises_right, rises_weaker}
 pub use Rattle.bolt_check.proofs.HighWaterLemmas.{node_below, node_within}
 pub use Rattle.bolt_check.proofs.NodeLemmas.{length_entries, node_shown}
-pub use Rattle.bolt_check.proofs.Orderings.{first_decides, less_of, lt_of, neither, not_lt_of}
 pub use Rattle.bolt_check.proofs.RoleFacts.{first_shown, freelist_shown, one_role, past_is_free, size_positive, some_roles, with_accounts}
 pub use Rattle.bolt_check.proofs.Shaping.{finding_none, shape_of}
 pub use Rattle.bolt_check.proofs.Single.{tests_one}
-pub use Rattle.bolt_check.proofs.TourExists.{has_number, numbers, shorter, still, without}
 pub use Rattle.bolt_check.proofs.TourLemmas.{one_tour}
-pub use Rattle.bolt_check.proofs.TourSums.{bucket_sum, enough_kids, enough_node, enough_shown, length-numbers, spot_weight, weight_kids}
+pub use Rattle.bolt_check.proofs.TourSums.{bucket_sum, enough_kids, enough_node, enough_shown, spot_weight, weight_kids}
 pub use Rattle.bolt_check.proofs.TreePages.{IsTreePage, a_branch, a_leaf, branch_entry_at, branch_key, branch_node, branch_step, inline_reached}
 pub use Rattle.bolt_check.proofs.TreePages.{leads_child, leaf_ends, leaf_key, leaf_node, node_is, on_address, on_child, on_way_page, shallow}
 pub use Rattle.bolt_check.proofs.TreePages.{spot_node, tree_page}
-pub use Rattle.bolt_check.proofs.Visited.{passed_on}
 pub use Rattle.bolt_check.proofs.WayFacts.{follow_append, in_own_span, key_at, leads_follow, leads_none, leaf_node_at, one_way, step_child}
 pub use Rattle.bolt_check.proofs.WayOrder.{before_irreflexive, before_strict, before_trans}

@@ -1,18 +1,16 @@
 -- Byte order, and the bounds of keys.
-use Rattle.std.proofs.Common.{arith, ◌≡◌, Bool, true, false, not, Option, Some, None, refl, ap}
+use Rattle.std.proofs.Common.{arith, ◌≡◌, true, false, not, Option, Some, None, refl, ap}
 use Rattle.std.proofs.{lemmas.Cmp.nat_list_cmp_total, lemmas.List.MinMax.ranks_by}
 use Rattle.std.specs.{Cmp.IsStrictWeakOrder}
+use Rattle.std.proofs.lemmas.Bool.{true_from_ne_false}
 use Rattle.bolt_check.proofs.Words.{both_ways, is_above, is_below, is_from, Key, key_lt, not-true}
 
 order : IsStrictWeakOrder key_lt
 order = ranks_by nat_list_cmp_total (λ (key : Key). key)
 
-by_no : (b : Bool) → (b ≡ false → ⊥) → b ≡ true
-by_no b h = grind arith
-
 -- from a < b and b ≤ c
 pub lt_not_trans : (a b c : Key) → key_lt a b ≡ true → key_lt c b ≡ false → key_lt a c ≡ true
-lt_not_trans a b c h k = by_no (key_lt a c) (λ f. both_ways (key_lt a b) (order.chain a c b f k) h)
+lt_not_trans a b c h k = true_from_ne_false (key_lt a c) (λ f. both_ways (key_lt a b) (order.chain a c b f k) h)
 
 pub lt_not_back : (a b : Key) → key_lt a b ≡ true → key_lt b a ≡ false
 lt_not_back a b h = order.one_way a b h

@@ -1,6 +1,5 @@
 -- Leaves by themselves, and what is listed as free.
-use Rattle.std.proofs.Common.{◌≡◌, ◌≢◌, ◌∙◌, ◌==◌, ◌<◌, ℕ, true, false, not, List, [], length, Option, Result, Ok, refl, sym, ap, subst, arith}
-use Rattle.std.specs.Option.{IfNone}
+use Rattle.std.proofs.Common.{◌≡◌, ◌≢◌, ◌∙◌, ◌==◌, ◌<◌, ℕ, true, false, not, List, [], length, Result, Ok, refl, sym, ap, subst, arith}
 use Rattle.std.specs.Prelude.{IsTrue, nat_lt}
 use Rattle.bolt_check.proofs.Words.{At_page, Entry, HasRoom, ltb-true, Meta, nat_tests, Node, node_at, Nodes, PagePasses, PageUse, root_spot, SpanAt}
 use Rattle.bolt_check.proofs.Words.{leaf_entry, shown_node}
@@ -70,6 +69,3 @@ leaf_empty seen page is none (node, of, leaf, some) = grind (arith, nat_tests, n
 pub branch_unfilled : (seen : Result Node ℕ) (page : BranchPage) → seen ≡ Ok (shown_node (Branch page)) → IsFilledLeaf seen → ⊥
 unfolding shown_node
 branch_unfilled seen page is (node, of, leaf, some) = grind arith
-
-pub if_none : {X P Q : Type 0} (o : Option X) → (P → Q) → IfNone o P → IfNone o Q
-if_none o to h = grind arith

@@ -20,10 +20,8 @@ mod Lawful
 mod LeafDepths
 mod LeafLemmas
 mod ListedIds
-mod Lists
 mod HighWaterLemmas
 mod NodeLemmas
-mod Orderings
 mod PageLemmas
 mod Pendings
 mod RoleExists

@@ -1,36 +1,12 @@
 -- Each visit removes a page number from those that are left.
-use Rattle.std.proofs.Common.{◌≡◌, ◌≢◌, ◌∙◌, ℕ, zero, suc, ◌<◌, inl, inr, List, [], ◌∷◌, ◌++◌, length, Option, Some, Ok, refl, sym, ap, subst, arith}
+use Rattle.std.proofs.Common.{◌≡◌, ◌∙◌, ℕ, List, ◌++◌, Option, Some, Ok, refl, ap, subst, arith}
 use Rattle.std.proofs.lemmas.List.{append_cancel_left}
-use Rattle.bolt_check.proofs.Words.{At_page, Before, cases_eq, follow, Has, HasSoundTrees, Meta, Node, node_at, Nodes, PageSpot, Reach, root_spot}
+use Rattle.bolt_lemmas.proofs.Exports.{has_number, numbers, still, without}
+use Rattle.bolt_check.proofs.Words.{At_page, Before, follow, Has, HasSoundTrees, Meta, Node, node_at, Nodes, PageSpot, Reach, root_spot}
 use Rattle.bolt_check.proofs.Words.{Spot}
 use Rattle.bolt_check.proofs.{HighWaterLemmas.node_below, Visiting.Visits, Visiting.one_of, WayFacts.follow_append, WayFacts.one_way}
 use Rattle.bolt_check.proofs.{WayOrder.before_irreflexive}
 use Rattle.bolt_check.specs.Ways.{reached}
-
--- the page numbers that are left, without one
-abbrev pub without : (n : ℕ) (xs : List ℕ) → Has xs n → List ℕ
-without n [] h = []
-without n (x ∷ xs) (inl e) = xs
-without n (x ∷ xs) (inr h) = x ∷ without n xs h
-
-pub shorter : (n : ℕ) (xs : List ℕ) (h : Has xs n) → length (without n xs h) < length xs
-shorter n (x ∷ xs) (inr h) = let less = shorter n xs h in omega (arith, less)
-shorter n xs h = grind arith
-
-pub still : (n m : ℕ) (xs : List ℕ) (h : Has xs n) → m ≢ n → Has xs m → Has (without n xs h) m
-still n m [] h ne k = absurd h
-still n m (x ∷ xs) (inl e) ne (inl k) = absurd (ne (sym k ∙ e))
-still n m (x ∷ xs) (inl e) ne (inr k) = k
-still n m (x ∷ xs) (inr h) ne (inl k) = inl k
-still n m (x ∷ xs) (inr h) ne (inr k) = inr (still n m xs h ne k)
-
-abbrev pub numbers : ℕ → List ℕ
-numbers zero = []
-numbers (suc k) = k ∷ numbers k
-
-pub has_number : (n k : ℕ) → n < k → Has (numbers k) n
-has_number n zero h = absurd (omega arith)
-has_number n (suc k) h = elim (cases_eq n k) [ inl e ↦ inl (sym e) | inr ne ↦ inr (has_number n k (omega arith)) ]
 
 -- the pages that ways lead to are good, each led to once, and left
 pub record Fits (nodes : Nodes) (left : List ℕ) (reach : Reach) : Type 0 where

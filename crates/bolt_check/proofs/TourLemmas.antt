@@ -1,8 +1,9 @@
 -- Tours: there is at most one, and a visit puts a way before those of what is left.
 use Rattle.std.proofs.Common.{arith, ◌≡◌, ℕ, inl, inr, List, [], ◌∷◌, map, Option, Some, None, refl, sym, subst}
-use Rattle.bolt_check.proofs.{Words.Before, Words.Has, Words.IsTour, Words.none-some, Words.Reach, Words.Spot, Visiting.Visits, Lists.has_map}
-use Rattle.bolt_check.proofs.{Lists.map_has, Lists.one_list, WayOrder.before_strict}
-use Rattle.bolt_check.specs.Lists.{RisesBy}
+use Rattle.bolt_lemmas.proofs.Exports.{has_map, map_has, one_list}
+use Rattle.bolt_lemmas.specs.Lists.{RisesBy}
+use Rattle.bolt_check.proofs.{Words.Before, Words.Has, Words.IsTour, Words.none-some, Words.Reach, Words.Spot, Visiting.Visits}
+use Rattle.bolt_check.proofs.WayOrder.{before_strict}
 
 abbrev pub Ways : Type 0
 Ways = List (List ℕ)

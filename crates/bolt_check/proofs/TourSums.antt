@@ -2,11 +2,12 @@
 use Rattle.std.proofs.{lemmas.Grind.common_steps, lemmas.List.Sums.sum_by-append}
 use Rattle.std.proofs.Common.{◌≡◌, ◌∙◌, ◌==◌, ℕ, zero, suc, ◌+◌, ◌≤◌, inl, inr, Bool, true, false, List, [], ◌∷◌, ◌++◌, Option, Some, None, Result}
 use Rattle.std.proofs.Common.{Ok, cond, length, map, sum_by, refl, sym, ap, subst, arith}
+use Rattle.bolt_lemmas.proofs.Exports.{has_left, has_right, length-numbers, numbers, shorter, sum_same, without}
 use Rattle.bolt_check.proofs.Words.{InlinePage, At_inline, At_page, Entry, forest, Has, HasSoundTrees, IsSome, IsTour, Meta, Node, node_at, Nodes}
 use Rattle.bolt_check.proofs.Words.{page_at, PageSpot, places, Reach, root_spot, somes, Spot, sum_by-cons}
-use Rattle.bolt_check.proofs.{Forest.forest_empty, Forest.inline_visits, Forest.page_visits, Forest.root_visits, Forest.tail, Lists.has_left}
-use Rattle.bolt_check.proofs.{Lists.has_right, HighWaterLemmas.node_shown}
-use Rattle.bolt_check.proofs.TourExists.{Fits, bucket_fits, fits_page, fits_visited, numbers, shorter, without}
+use Rattle.bolt_check.proofs.{Forest.forest_empty, Forest.inline_visits, Forest.page_visits, Forest.root_visits, Forest.tail}
+use Rattle.bolt_check.proofs.HighWaterLemmas.{node_shown}
+use Rattle.bolt_check.proofs.TourExists.{Fits, bucket_fits, fits_page, fits_visited}
 use Rattle.bolt_check.proofs.{TourLemmas.Ways, TourLemmas.tour_map, TourLemmas.tour_step, Visiting.Visits}
 use Rattle.bolt_check.specs.{Subtrees.Enough, Subtrees.kid_pages, Subtrees.kids_at, Subtrees.root_page, Subtrees.weight, Ways.reached}
 
@@ -35,12 +36,6 @@ pages_of_kids is_leaf s [] = refl
 pages_of_kids false s (e ∷ entries) = ap (λ (l : List ℕ). e.child ∷ l) (pages_of_kids false s entries)
 pages_of_kids true s (e ∷ entries) =
     somes_bucket e.is_bucket (e.child == 0) s.number e (places true s entries) ∙ ap (λ (l : List ℕ). root_page e ++ l) (pages_of_kids true s entries)
-
-sum_same : (f g : ℕ → ℕ) (xs : List ℕ) → ((m : ℕ) → Has xs m → f m ≡ g m) → sum_by f xs ≡ sum_by g xs
-sum_same f g [] same = refl
-sum_same f g (x ∷ xs) same =
-    let h = sum_same f g xs (λ m i. same m (inr i)) in let here = same x (inl refl) in
-    let p = sum_by-cons f x xs in let q = sum_by-cons g x xs in omega (arith, h, here, p, q)
 
 module _ (nodes : Nodes) where
   pub enough_more : (k n : ℕ) → Enough nodes k n → Enough nodes (suc k) n
@@ -163,10 +158,6 @@ module _ (nodes : Nodes) where
         let moved = map_sum v tour is in
         let one = sum_by-cons (weight nodes own n) root [] in
         (all root (inl refl), (map tail tour, tour_map v tour is refl, omega (arith, moved, sum, one)))
-
-pub length-numbers : (k : ℕ) → length (numbers k) ≡ k
-length-numbers zero = refl
-length-numbers (suc k) = let h = length-numbers k in omega (arith, h)
 
 -- a bucket of sound trees, wherever a way leads to its root page: the mark is enough steps, and each sum over its tour is that over its pages
 pub bucket_sum : (file : List ℕ) (meta : Meta) → HasSoundTrees file meta → (way : List ℕ) (root : ℕ)

@@ -2,9 +2,10 @@
 use Rattle.std.proofs.Common.{◌≡◌, ◌∙◌, ◌&&◌, ℕ, ◌+◌, ◌≤◌, inl, inr, true, List, [], ◌∷◌, ◌++◌, Some, Result, Ok, Err, ap, not, refl, subst, sum_by}
 use Rattle.std.proofs.Common.{arith}
 use Rattle.std.proofs.lemmas.List.Sums.{sum_by-append}
+use Rattle.bolt_lemmas.proofs.Exports.{has_split}
 use Rattle.bolt_check.proofs.Words.{InlinePage, At_inline, At_page, forest, Has, HasSoundTrees, kids, Meta, Node, node_at, Nodes, PageSpot, places}
 use Rattle.bolt_check.proofs.Words.{props, root_spot, somes, Spot, sum_by-cons, ∥∥₁_elim}
-use Rattle.bolt_check.proofs.{Pendings.unread_push, Forest.inline_visits, Forest.lift, Forest.page_visits, Forest.root_visits, Lists.has_split}
+use Rattle.bolt_check.proofs.{Pendings.unread_push, Forest.inline_visits, Forest.lift, Forest.page_visits, Forest.root_visits}
 use Rattle.bolt_check.proofs.TourSums.{bucket_sum, enough_kids, enough_node, pages_append, pages_of, pages_of_kids, weight_kids}
 use Rattle.bolt_check.proofs.UnreadWays.{spots_in, spots_kids}
 use Rattle.bolt_check.specs.{Subtrees.Enough, Subtrees.kid_pages, Subtrees.weight, Ways.reached}

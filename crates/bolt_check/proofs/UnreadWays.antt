@@ -3,6 +3,7 @@
 use Rattle.std.proofs.Common.{◌≡◌, ◌∙◌, ℕ, suc, ◌&&◌, ◌⊎◌, inl, inr, Bool, true, false, List, [], ◌∷◌, ◌++◌, Option, Some, None, Ok, ap, ap₂}
 use Rattle.std.proofs.Common.{flat_map, map, not, refl, sym, slice_get, arith}
 use Rattle.std.specs.Prelude.{is_some}
+use Rattle.std.proofs.Math.Bool.{and-true}
 use Rattle.bolt_check.proofs.Words.{InlinePage, At_inline, At_page, Entry, Finding, follow, forest, Has, IsTour, kids, Node, Nodes, option_map}
 use Rattle.bolt_check.proofs.Words.{PageSpot, places, Reach, root_spot, somes, Spot, step, step_entry}
 use Rattle.bolt_check.proofs.Forest.{flat, follow_none, forest_empty, inline_visits, kids_step, lift, nothing_is, page_visits, root_visits, tail, up}
@@ -73,10 +74,6 @@ pub spots_kids : (in_root : Bool) (leaves : ℕ) (rest : List Unread) (ks : List
 spots_kids in_root leaves rest [] = refl
 spots_kids in_root leaves rest (k ∷ ks) = ap (λ (l : List Spot). k ∷ l) (spots_kids in_root leaves rest ks)
 
-and_true : (b : Bool) → (b && true) ≡ b
-and_true true = refl
-and_true false = refl
-
 module _ (nodes : Nodes) (s : PageSpot) (in_root : Bool) (leaves : ℕ) where
   -- a bucket on a leaf isn't in the root bucket
   leaf_kid : (o : Option Spot) (way : List ℕ)
@@ -89,7 +86,7 @@ module _ (nodes : Nodes) (s : PageSpot) (in_root : Bool) (leaves : ℕ) where
       → spot_findings nodes (in_root && is_some (leads nodes (child_of is_leaf e) way)) (leaves_along nodes leaves (step_entry is_leaf s e next) way)
       (follow nodes (step_entry is_leaf s e next) way)
       ≡ findings_from nodes (option_map (tagged (in_root && not is_leaf) leaves) (step_entry is_leaf s e next)) way
-  entry_kid is_leaf e next way = grind (arith, follow_none, and_true, leaf_kid)
+  entry_kid is_leaf e next way = grind (arith, follow_none, and-true, leaf_kid)
 
 module _ (nodes : Nodes) (s : PageSpot) (in_root : Bool) (above : ℕ) (rest : List Unread) (node : Node) (page : nodes s.number ≡ Ok node) where
   abbrev below : Bool
@@ -132,7 +129,7 @@ module _ (nodes : Nodes) (s : PageSpot) (in_root : Bool) (above : ℕ) (rest : L
   page_same (k ∷ way) = findings_at (where_is os k) way ∙ ap (λ (o : Option Unread). findings_from nodes o way) (place_same os k)
 
   own_first : forest_findings nodes (here ∷ rest) (0 ∷ []) ≡ own_findings nodes here
-  own_first = ap (λ (b : Bool). spot_findings nodes b leaves (Some (At_page s))) (and_true in_root)
+  own_first = ap (λ (b : Bool). spot_findings nodes b leaves (Some (At_page s))) (and-true in_root)
 
   page_along : (found : List Finding)
       → AreAlong (forest nodes (spots_in (map (tagged below leaves) (somes os) ++ rest)))

@@ -1,7 +1,6 @@
 -- The steps of the search, and its beginning and end.
-use Rattle.std.proofs.Common.{◌≡◌, ℕ, ◌-◌, ◌↔◌, inl, List, [], ◌∷◌, ◌++◌, None, Result, Ok, Vec, Global, length, take, drop, ap, arith}
+use Rattle.std.proofs.Common.{◌≡◌, ℕ, ◌↔◌, inl, List, [], ◌∷◌, ◌++◌, None, Ok, Vec, Global, length, take, drop, ap, arith}
 use Rattle.std.proofs.lemmas.List.{take_at}
-use Rattle.std.specs.Prelude.{IfErr, IsErrAnd}
 use Rattle.bolt_check.proofs.Words.{InlinePage, At_inline, At_page, Carries, Finding, forest, inline_finding, IsClaimed, IsClean, IsCovered, IsFirst}
 use Rattle.bolt_check.proofs.Words.{IsMetaPage, IsMetaUse, IsNoted, IsSearchFault, kids, Node, Nodes, PagePasses, PageSpot, PageUse, Reach, root_spot}
 use Rattle.bolt_check.proofs.Words.{Spot, spot_at, spots_of}
@@ -39,9 +38,6 @@ ended nodes items {d = d} carried none =
     let h = rw none at carried in
     (h.clean (clean_end nodes d), λ n. (λ m. (h.covered n).0 (inl m), λ m. covered_end nodes d n ((h.covered n).1 m)))
 
-pub none_left : {X : Type 0} (items rest : List X) (n : ℕ) → n ≡ 0 → rest ≡ take (n - 1) items → items ≡ rest ++ [] → items ≡ []
-none_left items rest n z r e = grind arith
-
 -- the topmost was taken away
 pub spots_pop : (items rest : List CodeSpot) (s : CodeSpot) → items ≡ rest ++ s ∷ [] → spots_of items ≡ spot_at s ∷ spots_of rest
 spots_pop items rest s e = rw e (spots_push rest s)
@@ -56,7 +52,3 @@ pub reported_back : (nodes : Nodes) (old new : Reach) (c d : ℕ → Type 0) (fa
     → ((x : Finding) → IsFirst nodes new d x → IsFirst nodes old c x)
     → IsSearchFault nodes new d fault → IsSearchFault nodes old c fault
 reported_back nodes old new c d fault f h = grind arith
-
--- and so is one that is passed on as it is
-pub passed_on : {T E : Type 0} (r : Result T E) (fault : E) (P : E → Type 0) → P fault → IsErrAnd r (λ e. e ≡ fault) → IfErr r P
-passed_on r fault P reported e = grind arith

@@ -1,4 +1,5 @@
 -- The words that the proofs of this crate cite, passed on from the modules that define them.
+pub use Rattle.bolt_lemmas.specs.Lists.{Has}
 pub use Rattle.bolt_check.specs.AccountFindings.{AreAccountFindings, IsAccountFinding, IsBefore, IsFreelistFinding, IsInRange, IsUnlistedPage, bad}
 pub use Rattle.bolt_check.specs.AccountFindings.{freed_twice, out_of_range, reached_freed, shared, unreachable}
 pub use Rattle.bolt_check.specs.Accounts.{HasAccounts, IsFree, IsInFreelist, IsInUse, ListsFree, times_in}
@@ -16,7 +17,7 @@ pub use Rattle.bolt_check.specs.Private.Tables.{HasRoom, IsClaimed, IsUnclaimed,
 pub use Rattle.bolt_check.specs.Private.Uses.{HasUse, IsMetaUse, IsNoted, UseAt, UseOf, use_of}
 pub use Rattle.bolt_check.specs.{Roles.HasRole, Roles.IsFirstPage, Shape.HasShape, Shape.child_at, Shape.child_in, Shape.leads}
 pub use Rattle.bolt_check.specs.ShownSpots.{bound_of, inline_keys, page_spot, shown_inner, spot_at}
-pub use Rattle.bolt_check.specs.{Sound.HasRightAccounts, Sound.HasSoundTrees, Sound.IsFirstFinding, Sound.IsSound, Sound.IsUsed, Lists.Has}
+pub use Rattle.bolt_check.specs.{Sound.HasRightAccounts, Sound.HasSoundTrees, Sound.IsFirstFinding, Sound.IsSound, Sound.IsUsed}
 pub use Rattle.bolt_check.specs.{Tours.IsTour}
 pub use Rattle.bolt_check.specs.Ways.{At_inline, At_page, Before, PageSpot, Reach, SpanAt, SpanHas, SpanOf, Spot, bucket_spot, child_spot, follow}
 pub use Rattle.bolt_check.specs.Ways.{root_spot, step, step_entry, step_on, upper_from}

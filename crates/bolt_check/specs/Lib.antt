@@ -9,7 +9,6 @@ pub mod EntrySpots
 pub mod Findings
 pub mod Keys
 pub mod Leftovers
-pub mod Lists
 pub mod LoneLeaves
 pub mod Nodes
 pub mod OnWays

@@ -1,6 +1,7 @@
 -- The pages below a page, and sums over them: docs/SOUND.md, "Ways".
 use Rattle.std.specs.Prelude.{◌≡◌, ◌==◌, ℕ, zero, suc, ◌+◌, Bool, true, false, List, [], ◌∷◌, ◌++◌, Result, Ok, Err, cond, sum_by}
-use Rattle.bolt_check.specs.{Lists.Has, Nodes.Entry, Nodes.Node, Nodes.Nodes}
+use Rattle.bolt_lemmas.specs.Lists.{Has}
+use Rattle.bolt_check.specs.{Nodes.Entry, Nodes.Node, Nodes.Nodes}
 
 -- the root page of the bucket that an entry of a leaf is, unless it is inline
 abbrev pub root_page : Entry → List ℕ

@@ -1,6 +1,7 @@
 -- The tour of a bucket: all ways that lead somewhere, in their order.
 use Rattle.std.specs.Prelude.{◌≡◌, ℕ, List, Some}
-use Rattle.bolt_check.specs.{Lists.Has, Lists.RisesBy, Ways.Before, Ways.Reach, Ways.Spot}
+use Rattle.bolt_lemmas.specs.Lists.{Has, RisesBy}
+use Rattle.bolt_check.specs.{Ways.Before, Ways.Reach, Ways.Spot}
 
 -- the rising list of exactly the ways that lead somewhere
 pub record IsTour (reach : Reach) (tour : List (List ℕ)) : Type 0 where

@@ -1,5 +1,5 @@
 //! The claimed pages of a file, and the tests of one more page.
-ghost use Rattle.std.specs.Prelude.{◌≡◌, ◌↔◌, ◌<◌, ◌≤◌, ◌^◌, ℕ, IfErr, IfOk, IsSome, OnErr, OnOk};
+ghost use Rattle.std.specs.Prelude.{◌≡◌, ◌↔◌, ◌<◌, ◌≤◌, ◌^◌, ℕ, IfErr, IfOk, IsSome, OnErr, OnOk, length};
 ghost use Rattle.std.specs.Option.{option_map};
 ghost use Rattle.bolt_format.specs.{Bytes.IsBytes, Gaps.gap_view, Gaps.page_gap, Pages.page_at};
 ghost use Rattle.bolt_check.specs.{Counts.counted, Findings.IsMetaPage, Findings.PagePasses, Findings.PageTests, Private.Freelists.IsUnlisted};
@@ -29,6 +29,7 @@ pub struct Claims<'a> {
     visited: u64,
     ghost room: { HasRoom file.now meta table.items },
     ghost unlisted: { IsUnlisted table.items },
+    ghost sized: { length table.items ≡ table_length file.now meta },
     ghost bytes: { IsBytes file.now },
     ghost fits: { visited < 2 ^ 64 },
 }

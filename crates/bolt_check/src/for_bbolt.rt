@@ -56,12 +56,7 @@ fn new_unread<'a>(alloc: Global, root: u64) -> Result<Vec<UnreadSpot<'a>>, Alloc
 {
     let mut unread = Vec::new(alloc);
     unread.push(UnreadSpot {
-        spot: Spot::Page(PageSpot {
-            number: root,
-            depth: 1,
-            lower: None,
-            upper: None,
-        }),
+        spot: Spot::Page(PageSpot::root(root)),
         in_root: true,
         leaves_above: 0,
     })?;

@@ -126,13 +126,7 @@ fn take_leaf<'a>(
     if !is_filled_leaf(file, meta, number) {
         return None;
     }
-    let spot = PageSpot {
-        number,
-        depth: 1,
-        lower: None,
-        upper: None,
-    };
-    match visit(file, meta, &spot, table) {
+    match visit(file, meta, &PageSpot::root(number), table) {
         Ok(TreePage::Leaf(leaf)) => Some(leaf),
         Ok(TreePage::Branch(_)) | Err(_) => None,
     }

@@ -34,7 +34,7 @@ pub use finding_list::Findings;
 pub use for_bbolt::bbolt_findings;
 pub use leftovers::Leftovers;
 pub use role_table::{Role, Roles};
-pub use sound::{check, check_roles, check_slot, check_under};
+pub use sound::{check, check_claimed, check_roles, check_slot, check_under};
 pub use sound_roles::roles;
 pub use spot::{BucketSpot, PageSpot, Spot};
 pub use visit::{MAX_DEPTH, test_page};

@@ -7,6 +7,7 @@ ghost use Rattle.bolt_check.specs.Roles.{HasRole};
 use crate::checked::Checked;
 use crate::table::PageUse;
 use bolt_format::Meta;
+use bolt_format::laws::fits;
 
 /// What each page of a file is for (docs/SOUND.md, "Roles"). The accounts of the file are right.
 /// The table needs a byte for each whole page that lies in the file and below the high-water mark.
@@ -33,17 +34,8 @@ impl<'a> Roles<'a> {
         requires { id < (meta_of (roles_checked self.now)).high_water }
         ensures { ∥ in_checked HasRole (roles_checked self.now) id result ∥₁ }
     {
-        // The proof needs `high_water() < 2^64`, which the prover knows of a call's result but not of a
-        // field behind a reference.
-        let _high_water = self.high_water();
+        fits(self.checked.meta.high_water);
         role_by(&self.checked.meta, id, page_use(&self.table, id))
-    }
-
-    /// The high-water mark.
-    fn high_water(&self) -> u64
-        ensures { result ≡ self.now.checked.meta.high_water }
-    {
-        self.checked.meta.high_water
     }
 }
 

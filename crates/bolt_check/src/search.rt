@@ -42,12 +42,7 @@ fn new_pending<'a>(alloc: Global, root: u64) -> Result<Vec<Spot<'a>>, AllocError
     ensures { IfOk result (λ pending. spots_of pending.items ≡ At_page (root_spot root) ∷ []) }
 {
     let mut pending = Vec::new(alloc);
-    pending.push(Spot::Page(PageSpot {
-        number: root,
-        depth: 1,
-        lower: None,
-        upper: None,
-    }))?;
+    pending.push(Spot::Page(PageSpot::root(root)))?;
     Ok(pending)
 }
 

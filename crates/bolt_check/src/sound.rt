@@ -1,14 +1,18 @@
 //! Is a whole file sound, and are the trees of one meta? That may be the active meta, the meta of a
 //! slot, or one that is handed in.
-ghost use Rattle.std.specs.Prelude.{◌≡◌, ◌<◌, IfErr, IfOk, OnOk, false, true};
+ghost use Rattle.std.specs.Prelude.{◌≡◌, ◌↔◌, ◌<◌, ℕ, IfErr, IfOk, IsTrue, OnOk, false, length, true};
 ghost use Rattle.bolt_format.specs.{Metas.IsActive, Metas.IsInSlot};
 ghost use Rattle.bolt_check.specs.{CheckedFiles.bytes_of, CheckedFiles.has_accounts, CheckedFiles.meta_of, RoledFiles.roles_checked};
-ghost use Rattle.bolt_check.specs.Private.RoleTables.{AreUses};
-ghost use Rattle.bolt_check.specs.Sound.{HasRightAccounts, HasSoundTrees, IsRefused, IsRefusedFor, IsSlotRefused, IsSound};
+ghost use Rattle.bolt_check.specs.{Claims.HasClaimed, Claims.claims_file, Claims.claims_meta, TableLengths.table_length};
+ghost use Rattle.bolt_check.specs.{Private.Freelists.ClaimsUses, Private.Freelists.IsUnlisted, Private.Tables.HasRoom};
+ghost use Rattle.bolt_check.specs.Private.RoleTables.{AreUses, ClaimsUsed};
+ghost use Rattle.bolt_check.specs.Sound.{HasRightAccounts, HasSoundTrees, IsRefused, IsRefusedFor, IsSlotRefused, IsSound, IsUsed};
+ghost use Rattle.bolt_format.specs.declared.meta.Slot.{Slot};
 
 use crate::accounts::test_accounts;
 use crate::check_fault::CheckFault;
 use crate::checked::Checked;
+use crate::claims::Claims;
 use crate::finding_list::Findings;
 use crate::role_table::Roles;
 use crate::search::search;
@@ -26,6 +30,7 @@ use std::alloc::Global;
 /// `Open` with the fault of byte 0 if no meta is valid; `Structure` with the first finding of the
 /// trees; `Accounts` with all findings of the accounts, if the trees are sound; `Memory` if memory
 /// runs out.
+#[tactic(auto, unfolding(crate::specs::CheckedFiles::bytes_of, crate::specs::CheckedFiles::has_accounts, crate::specs::CheckedFiles::meta_of))]
 pub fn check<'a>(alloc: Global, file: &'a [u8]) -> Result<Checked<'a>, CheckFault>
     ensures bytes { IfOk result (λ checked. bytes_of checked ≡ file.now) }
     ensures meta { IfOk result (λ checked. (slot : _) × IsActive file.now slot (meta_of checked)) }
@@ -33,8 +38,13 @@ pub fn check<'a>(alloc: Global, file: &'a [u8]) -> Result<Checked<'a>, CheckFaul
     ensures accounts { IfOk result (λ checked. has_accounts checked ≡ true) }
     ensures refused { IfErr result (IsRefused file.now) }
 {
-    let roles = check_roles(alloc, file)?;
-    Ok(roles.checked())
+    let (_, meta) = choose(file)?;
+    test_file(alloc, file, &meta)?;
+    Ok(Checked {
+        bytes: file,
+        meta,
+        accounts: true,
+    })
 }
 
 /// Tests a file as `check` does, and returns the roles of its pages, which the tests have found.
@@ -62,7 +72,6 @@ pub fn check_roles<'a>(alloc: Global, file: &'a [u8]) -> Result<Roles<'a>, Check
 }
 
 /// Tests the trees and the accounts of a file under a meta. Returns what its pages are used for.
-#[tactic(auto, using(crate::proofs::HighWaterLemmas::table_wide))]
 pub(crate) fn test_file(alloc: Global, file: &[u8], meta: &Meta) -> Result<Vec<PageUse>, CheckFault>
     requires { 0 < meta.now.page_size }
     ensures trees { OnOk result (HasSoundTrees file.now meta.now) }
@@ -71,11 +80,73 @@ pub(crate) fn test_file(alloc: Global, file: &[u8], meta: &Meta) -> Result<Vec<P
     ensures refused { IfErr result (IsRefusedFor file.now meta.now true) }
 {
     let mut table = search(alloc, file, meta)?;
-    let findings = test_accounts(alloc, file, meta, &mut table)?;
+    check_accounts(alloc, file, meta, &mut table)?;
+    Ok(table)
+}
+
+/// Tests the accounts of a file whose trees are sound. In the table, the pages that ways lead to are
+/// claimed. If the accounts are right, the table has the freelist's pages too.
+fn check_accounts(
+    alloc: Global,
+    file: &[u8],
+    meta: &Meta,
+    table: &mut [PageUse],
+) -> Result<(), CheckFault>
+    requires trees { HasSoundTrees file.now meta.now }
+    requires covered { ClaimsUsed file.now meta.now table.old }
+    requires room { HasRoom file.now meta.now table.old }
+    requires unlisted { IsUnlisted table.old }
+    requires length { length table.old ≡ table_length file.now meta.now }
+    ensures right { OnOk result (HasRightAccounts file.now meta.now) }
+    ensures uses { OnOk result (ClaimsUses file.now meta.now table.old table.new) }
+    ensures refused { IfErr result (IsRefusedFor file.now meta.now true) }
+{
+    let findings = test_accounts(alloc, file, meta, table)?;
     if let Some(findings) = Findings::of(findings) {
         return Err(CheckFault::Accounts(findings));
     }
-    Ok(table)
+    Ok(())
+}
+
+/// Reads a file whose trees are sound without a second search of them: exactly the pages that ways lead
+/// to are claimed. Its accounts are tested if that is asked for.
+///
+/// # Errors
+///
+/// `Accounts` with all findings of the accounts; `Memory` if memory runs out. Never `Open` or
+/// `Structure`.
+#[tactic(auto, unfolding(crate::specs::CheckedFiles::bytes_of, crate::specs::CheckedFiles::has_accounts, crate::specs::CheckedFiles::meta_of, crate::specs::Claims::claims_file, crate::specs::Claims::claims_meta, crate::specs::Claims::is_claimed))]
+pub fn check_claimed<'a>(
+    alloc: Global,
+    claims: Claims<'a>,
+    accounts: bool,
+) -> Result<Checked<'a>, CheckFault>
+    requires trees { HasSoundTrees (claims_file claims) (claims_meta claims) }
+    requires used { (n : ℕ) → HasClaimed claims n ↔ IsUsed (claims_file claims) (claims_meta claims) n }
+    requires valid { IsTrue accounts → (slot : Slot) × IsInSlot (claims_file claims) slot (claims_meta claims) }
+    ensures bytes { IfOk result (λ checked. bytes_of checked ≡ claims_file claims.entry) }
+    ensures meta { IfOk result (λ checked. meta_of checked ≡ claims_meta claims.entry) }
+    ensures accounts { IfOk result (λ checked. has_accounts checked ≡ accounts) }
+    ensures right { OnOk result (IsTrue accounts
+        → HasRightAccounts (claims_file claims.entry) (claims_meta claims.entry)) }
+    ensures refused { IfErr result
+        (IsRefusedFor (claims_file claims.entry) (claims_meta claims.entry) accounts) }
+{
+    let (bytes, meta) = (claims.file, claims.meta);
+    if !accounts {
+        return Ok(Checked {
+            bytes,
+            meta,
+            accounts,
+        });
+    }
+    let mut table = claims.table;
+    check_accounts(alloc, bytes, &meta, &mut table)?;
+    Ok(Checked {
+        bytes,
+        meta,
+        accounts,
+    })
 }
 
 /// Tests the trees of a file under the meta of a slot, active or not (docs/SOUND.md, "One meta

@@ -1,5 +1,5 @@
 //! What a way leads to and is still to be visited: a page or an inline bucket.
-ghost use Rattle.std.specs.Prelude.{◌≡◌, ◌<◌, ◌≤◌, IfSome, IsTrue, suc, Some, length, slice_get};
+ghost use Rattle.std.specs.Prelude.{◌≡◌, ◌<◌, ◌≤◌, IfSome, IsTrue, suc, None, Some, length, slice_get};
 ghost use Rattle.std.specs.{Result.result_err, Option.option_map};
 ghost use Rattle.bolt_check.specs.{Findings.inline_finding, ShownSpots.inline_keys, Nodes.leaf_entry, ShownNodes.shown_node, ShownSpots.IsInner};
 ghost use Rattle.bolt_check.specs.{ShownSpots.bound_of, ShownSpots.page_spot, ShownSpots.spot_at, Ways.At_page, Ways.bucket_spots, Ways.step_on};
@@ -26,6 +26,18 @@ pub struct PageSpot<'a> {
 }
 
 impl<'a> PageSpot<'a> {
+    /// The spot at the root page of a bucket: it has depth 1, and no bounds.
+    pub fn root(number: u64) -> PageSpot<'a>
+        ensures { result ≡ record { number = number; depth = 1; lower = None; upper = None } }
+    {
+        PageSpot {
+            number,
+            depth: 1,
+            lower: None,
+            upper: None,
+        }
+    }
+
     /// What element `i` of the page at this spot leads to: a child of a branch, or a bucket on a
     /// leaf. An element that is a value leads nowhere.
     #[tactic(auto, using(crate::proofs::NodeLemmas::entry_rules))]
@@ -74,8 +86,7 @@ impl<'a> PageSpot<'a> {
         }
     }
 
-    /// The spot at a bucket on the leaf at this spot, or `None` for a value. Its root page has depth
-    /// 1, and no bounds.
+    /// The spot at a bucket on the leaf at this spot, or `None` for a value.
     fn bucket(&self, leaf: Leaf<'a>) -> Option<Spot<'a>>
         requires { IsTrue leaf.is_bucket → IsBucketValue leaf.value.now }
         ensures leads { option_map spot_at result
@@ -92,12 +103,7 @@ impl<'a> PageSpot<'a> {
                 page: inline(leaf.value),
             }));
         }
-        Some(Spot::Page(PageSpot {
-            number: head.root,
-            depth: 1,
-            lower: None,
-            upper: None,
-        }))
+        Some(Spot::Page(PageSpot::root(head.root)))
     }
 }
 

@@ -1,5 +1,5 @@
 -- A text that is gathered piece by piece.
-use Rattle.std.proofs.Common.{◌≡◌, List, [], ◌++◌, ℕ}
+use Rattle.std.proofs.Common.{◌≡◌, List, ◌++◌, ℕ}
 use Rattle.bolt_cli.proofs.Vocabulary.{Appends, Ghosts}
 
 module _ {S : Type 0} (sink : Ghosts S) where

@@ -2,6 +2,7 @@
 use Rattle.std.proofs.Common.{◌≡◌, ◌∙◌, ◌⊎◌, ◌++◌, ◌-◌, ◌+◌, List, [], ◌∷◌, ℕ, Some, None, Result, Ok, Err, IfErr, Vec, drop, get_or, inl, inr}
 use Rattle.std.proofs.Common.{length, take}
 use Rattle.std.proofs.Common.{refl, sym, ap, subst, rules, arith, ◌<◌}
+use Rattle.std.proofs.lemmas.List.{map_more}
 use Rattle.bolt_commands.proofs.Vocabulary.{AreEntries, Bucket, Checked, Failure, ForEntries, HasSoundTrees, HoldsIn, HoldsNone, IsBucketAt, IsErrAnd}
 use Rattle.bolt_commands.proofs.Vocabulary.{IsValueAt, Item, Key, LeadsTo, LeafElement, Path, Start, Value, bucket_checked, bucket_start, bytes_of}
 use Rattle.bolt_commands.proofs.Vocabulary.{drop_more, entries_of, held_down, held_up, length-append, map-append, meta_of, names_push, parents_of}
@@ -9,7 +10,6 @@ use Rattle.bolt_commands.proofs.Vocabulary.{owned_path, props, root_start, start
 use Rattle.bolt_tree.proofs.Exports.{all_entries, checked_entries, held_once, held_or_none, item_known, named_once, named_or_none, names_no_further}
 use Rattle.bolt_tree.proofs.Exports.{start_known}
 use Rattle.bolt_commands.specs.declared.failure.Failure.TheVariants as failure
-use Rattle.bolt_job.proofs.Exports.{made_more}
 
 module _ (checked : Checked) where
   abbrev Entry : Start → LeafElement → Type 0
@@ -82,7 +82,7 @@ module _ {Z : Type 0} (path : List (Vec ℕ Z)) (i : ℕ) (part : Vec ℕ Z) (is
       ∙ ap (λ (p : Vec ℕ Z). owned_path (take i path) ++ bytes_in p ∷ owned_path (drop (i + 1) path)) (sym is)
 
   pub parts_more : owned_path (take (i + 1) path) ≡ owned_path (take i path) ++ part.items ∷ []
-  parts_more = made_more bytes_in path i part within ∙ ap (λ (p : Vec ℕ Z). owned_path (take i path) ++ bytes_in p ∷ []) (sym is)
+  parts_more = map_more bytes_in path i part within ∙ ap (λ (p : Vec ℕ Z). owned_path (take i path) ++ bytes_in p ∷ []) (sym is)
 
 -- all but the last
 pub parents_are : (parents : Path) (key : Key) → parents_of (parents ++ key ∷ []) ≡ parents

@@ -2,8 +2,8 @@
 use Rattle.std.proofs.Common.{◌≡◌, ◌∙◌, ℕ, List, Bool, Option, None, Some, Result, Ok, Err, inl, inr, length, map, refl, subst}
 use Rattle.bolt_commands.proofs.Vocabulary.{Answer, AreCopyFaults, BulkFault, CopiesTo, WritesAnswer, JobEnding, EndsCopy, Failure, FileFaults}
 use Rattle.bolt_commands.proofs.Vocabulary.{Ghosts, Member, WritesCopy, copied, copy_page_size, CompactsTo, CopiesListing, CopiesRead, IsOpened}
-use Rattle.bolt_commands.proofs.Vocabulary.{IsReadTo, copy_report, hash_refusal, LostView, OnOk, Opened, found_view, is_snapshot, opened_found}
-use Rattle.bolt_commands.proofs.Vocabulary.{opened_lost, opened_meta, HasGoodCopies, IsAskedBlueprint, Meta, layout_for, layout_of_listing}
+use Rattle.bolt_commands.proofs.Vocabulary.{IsReadTo, copy_report, hash_refusal, LostView, OnOk, Contents, found_view, is_snapshot, contents_found}
+use Rattle.bolt_commands.proofs.Vocabulary.{contents_lost, contents_meta, HasGoodCopies, IsAskedBlueprint, Meta, layout_for, layout_of_listing}
 use Rattle.bolt_commands.proofs.Vocabulary.{blueprint_layout, failing, ∥∥₁_map}
 use Rattle.bolt_commands.proofs.OpenedReads.{refused_read}
 use Rattle.bolt_commands.specs.declared.failure.Failure.TheVariants.{Hash}
@@ -30,12 +30,12 @@ pub copy_asked : {T : Type 0} {target : Ghosts T} {old new : T} {listing : List 
 copy_asked asked copy = rw (asked.layout, asked.page_size, asked.sequence) at copy
 
 -- of what is read, which if the copy is whole is known with what is lost
-pub copy_read : {T : Type 0} {target : Ghosts T} {old new : T} (job : CompactJob) (file : List ℕ) (before after : Opened) {blueprint : Blueprint}
+pub copy_read : {T : Type 0} {target : Ghosts T} {old new : T} (job : CompactJob) (file : List ℕ) (before after : Contents) {blueprint : Blueprint}
     {listing : List Member} (lost : LostView)
-    → IsReadTo job.extent file job.meta (opened_meta before) listing lost (map found_view (opened_found before))
-    → IsAskedBlueprint job.kind job.page_size (opened_meta before) blueprint
+    → IsReadTo job.extent file job.meta (contents_meta before) listing lost (map found_view (contents_found before))
+    → IsAskedBlueprint job.kind job.page_size (contents_meta before) blueprint
     → (made : Result ℕ BulkFault) → CopiesTo target old new (blueprint_layout blueprint listing) listing (is_snapshot job.kind) made
-    → OnOk made (opened_lost after ≡ lost)
+    → OnOk made (contents_lost after ≡ lost)
     → (result : Result ℕ Failure) → result ≡ failing copied made → CopiesRead target old new job file before after result
 copy_read job file before after lost read asked (Ok count) copy known result is = inl (_, _, read, rw is known, (Ok count, copy_asked asked copy, is))
 copy_read job file before after lost read asked (Err fault) copy known result is = inl (_, _, read, rw is tt, (Err fault, copy_asked asked copy, is))
@@ -73,7 +73,7 @@ module _ {O T : Type 0} (out : Ghosts O) (out_old : O) {target : Ghosts T} {old 
 -- ---- `compact`
 
 -- its hash is wrong
-pub compact_refused : {O T : Type 0} (out : Ghosts O) (out_old : O) (target : Ghosts T) (old : T) (job : CompactJob) (file : List ℕ) (o : Opened)
+pub compact_refused : {O T : Type 0} (out : Ghosts O) (out_old : O) (target : Ghosts T) (old : T) (job : CompactJob) (file : List ℕ) (o : Contents)
     → IsOpened job.extent file job.meta o
     → (faults : FileFaults) → AreCopyFaults job.extent (is_snapshot job.kind) file job.meta faults → (fault : SnapshotFault)
     → hash_refusal job.extent faults.hash ≡ Some fault
@@ -82,7 +82,7 @@ compact_refused out out_old target old job file o to faults are fault is =
     let (meta, listing, lost, found, read) = refused_read job.extent file job.meta o to _ fault is in
     inl (meta, listing, lost, found, read, faults, are, rw is (refl, refl, refl))
 
-module _ {O T : Type 0} (out : Ghosts O) (out_old : O) {target : Ghosts T} {old new : T} (job : CompactJob) (file : List ℕ) (before after : Opened)
+module _ {O T : Type 0} (out : Ghosts O) (out_old : O) {target : Ghosts T} {old new : T} (job : CompactJob) (file : List ℕ) (before after : Contents)
     (faults : FileFaults) (are : AreCopyFaults job.extent (is_snapshot job.kind) file job.meta faults) (right : hash_refusal job.extent faults.hash ≡ None)
     (ending : JobEnding) where
   pub compact_failed : (why : Failure) → CopiesRead target old new job file before after (Err why) → ending ≡ Err why
@@ -97,18 +97,18 @@ module _ {O T : Type 0} (out : Ghosts O) (out_old : O) {target : Ghosts T} {old 
           is,
           faults,
           are,
-          rw right (listing_failed out out_old (copy_report faults lost (map found_view (opened_found before)) (length file)) ending why copy ends),
+          rw right (listing_failed out out_old (copy_report faults lost (map found_view (contents_found before)) (length file)) ending why copy ends),
         )
     | inr (reason, unread, untouched, same) ↦ inr (reason, unread, (refl, untouched, ends ∙ same))
   ]
 
   pub compact_done : {out_new : O} (count : ℕ) → CopiesRead target old new job file before after (Ok count)
       → WritesAnswer out.taken out.failed out_old out_new
-      (copy_report faults (opened_lost after) (map found_view (opened_found before)) (length file) count) ending
+      (copy_report faults (contents_lost after) (map found_view (contents_found before)) (length file) count) ending
       → CompactsTo out out_old out_new target old new job file ending
   compact_done count read does = elim read [
     | inl (listing, lost, is, known, copy) ↦
-        let told : opened_lost after ≡ lost = known in
+        let told : contents_lost after ≡ lost = known in
         inl (
           _,
           listing,
@@ -117,7 +117,7 @@ module _ {O T : Type 0} (out : Ghosts O) (out_old : O) {target : Ghosts T} {old 
           is,
           faults,
           are,
-          rw right (listing_done out out_old (copy_report faults lost (map found_view (opened_found before)) (length file)) ending count copy
+          rw right (listing_done out out_old (copy_report faults lost (map found_view (contents_found before)) (length file)) ending count copy
               (rw told at does)),
         )
     | inr (reason, unread, untouched, same) ↦ absurd (cc)

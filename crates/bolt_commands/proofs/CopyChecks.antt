@@ -4,8 +4,8 @@ use Rattle.std.proofs.Common.{inl, inr, length, refl}
 use Rattle.std.proofs.Common.{subst, sym, take}
 use Rattle.bolt_commands.proofs.Vocabulary.{Active, Answer, AnswersLost, AreGaps, AreLosses, CheckFault, Extent, FileFaults, Sound, HasBothMetas}
 use Rattle.bolt_commands.proofs.Vocabulary.{HasNoGaps, HasSoundTrees, IsCheckAnswer, IsCheckAnswerAfter, IsActive, IsFindingsAnswer, IsGoodCopy}
-use Rattle.bolt_commands.proofs.Vocabulary.{IsLostAnswer, IsMetaOf, IsMetasFault, IsSnapshot, IsSound, LossView, Losses, Member, Meta, MetaFault}
-use Rattle.bolt_commands.proofs.Vocabulary.{PageGapView, Site, RefusesFile, Slot, cases_lt, check_refusal, copy_of, done, findings_answer, hash_fault}
+use Rattle.bolt_commands.proofs.Vocabulary.{IsLostAnswer, IsMetaOf, IsMetasFault, IsSnapshot, IsSound, LossView, Losses, Member, Meta, OtherMeta}
+use Rattle.bolt_commands.proofs.Vocabulary.{PageGapView, Site, RefusesFile, Slot, cases_lt, check_refusal, copy_of, done, hash_fault}
 use Rattle.bolt_commands.proofs.Vocabulary.{asked_hash_fault, loss_at, losses_of, site_at, refused, everything, has_losses, parts}
 use Rattle.bolt_commands.proofs.{NoGaps.none_reported, OtherMetas.no_other, ReadFiles.read_active, ReadFiles.refused_active, SoundReads.NamesOne}
 use Rattle.bolt_commands.proofs.{SoundReads.keeps_not_loses, SoundReads.unread}
@@ -46,7 +46,7 @@ no_hash_fault : (snapshot : Bool) (file : List ℕ) → (IsTrue snapshot → IsS
 no_hash_fault false file hash = refl
 no_hash_fault true file hash = (no_fault_iff file (hash_fault file) refl).1 (hash refl)
 
-no_other_fault : (extent : Extent) (file : List ℕ) → HasBothMetas file → (other : Option (Slot × MetaFault)) → IsMetasFault extent file Active other
+no_other_fault : (extent : Extent) (file : List ℕ) → HasBothMetas file → (other : Option OtherMeta) → IsMetasFault extent file Active other
     → other ≡ None
 no_other_fault Sound file both other is = is
 no_other_fault extent file both other is = no_other file both other is

@@ -1,7 +1,7 @@
 -- What jobs do with their text, and how they end.
 use Rattle.std.proofs.Common.{arith, ◌≡◌, ℕ, List, Result, Ok, Err, inl, inr, ap, refl}
 use Rattle.bolt_commands.proofs.Vocabulary.{Answer, Appends-nil, CheckFault, JobEnding, Failure, Ghosts, HasNoBucket, IsErrAnd, IsFailureOf}
-use Rattle.bolt_commands.proofs.Vocabulary.{IsReadUnder, IsUnread, LeadsTo, Meta, MetaChoice, OnOk, Path, PrintsAnswer, SinkFault, Start, Wrote}
+use Rattle.bolt_commands.proofs.Vocabulary.{IsReadUnder, IsUnread, LeadsTo, Meta, MetaChoice, Path, PrintsAnswer, SinkFault, Start, Wrote}
 use Rattle.bolt_commands.proofs.Vocabulary.{end_written, ending, refused}
 use Rattle.bolt_commands.specs.declared.failure.Failure.TheVariants.{NoBucket}
 
@@ -9,10 +9,6 @@ use Rattle.bolt_commands.specs.declared.failure.Failure.TheVariants.{NoBucket}
 pub ends_as : {A : Type 0} (ending : Result A Failure) (why : Failure) → IsErrAnd ending (λ said. said ≡ why) → ending ≡ Err why
 ends_as (Ok x) why is = absurd is
 ends_as (Err said) why is = ap Err is
-
-pub on_any : {A E X : Type 0} (result : Result A E) → X → OnOk result X
-on_any (Ok a) x = x
-on_any (Err e) x = tt
 
 -- ---- an answer that is one of those that are wanted
 

@@ -1,12 +1,11 @@
 -- What is answered of the entries of the bucket at a path, or of their sizes.
-use Rattle.std.proofs.Common.{◌⊎◌, ◌≡◌, ℕ, IfErr, List, Ok, Result, inl, inr, refl}
+use Rattle.std.proofs.Common.{ℕ, IfErr, List, Ok, Result, inl, refl}
 use Rattle.bolt_commands.proofs.Vocabulary.{AreEntries, Bucket, ForEntries, Ghosts, IsOpenedBucket, IsEntriesAnswer, IsEntry, IsReadAnswer}
-use Rattle.bolt_commands.proofs.Vocabulary.{IsSizesAnswer, Json, LeadsTo, LeafElement, Meta, MetaChoice, Path, PrintsAnswer, ReportFault, Start}
-use Rattle.bolt_commands.proofs.Vocabulary.{Wrote, bucket_checked, bucket_start, bytes_of, ending_by, meta_of, report_ending, ⊤}
-use Rattle.bolt_commands.proofs.{AtPaths.at_path, CutTexts.allowed, CutTexts.short_put, Doing.answer_as, ReadFiles.own_trees, ReadFiles.read_trees}
+use Rattle.bolt_commands.proofs.Vocabulary.{IsSizesAnswer, LeadsTo, LeafElement, Meta, MetaChoice, Path, PrintsAnswer, ReportFault, Start}
+use Rattle.bolt_commands.proofs.Vocabulary.{Wrote, bucket_checked, bucket_start, bytes_of, ending_by, meta_of, report_ending}
+use Rattle.bolt_commands.proofs.{AtPaths.at_path, CutTexts.short_json_put, CutTexts.short_put, Doing.answer_as, ReadFiles.own_trees, ReadFiles.read_trees}
 use Rattle.bolt_report.specs.SizeLines.{AreSized, Sized, sizes_text}
-use Rattle.bolt_text.specs.{ReportEndings.HaltsShort, declared.forms.Form.Form}
-use Rattle.bolt_text.specs.declared.report_fault.ReportFault.TheVariants as report
+use Rattle.bolt_text.specs.{ReportEndings.FailsByWriting, ReportEndings.FailsByWritingJson, ReportEndings.HaltsShort, declared.forms.Form.Form}
 use Rattle.bolt_report.proofs.Exports.{named_sizes}
 
 module _ {file : List ℕ} {choice : MetaChoice} {path : Path} {bucket : Bucket} (of : IsOpenedBucket file choice path bucket) where
@@ -33,17 +32,17 @@ module _ {file : List ℕ} {choice : MetaChoice} {path : Path} {bucket : Bucket}
     pub entries_put : (text : List LeafElement → List ℕ)
         → ForEntries (bucket_checked bucket) (bucket_start bucket) (λ entries. Wrote sink old new (text entries) (report_ending put))
         → ForEntries (bucket_checked bucket) (bucket_start bucket) (λ entries. HaltsShort sink old new (text entries) (report_ending put))
-        → IfErr put (λ e. (e ≡ report.Sink) ⊎ ((e ≡ report.NoMemory) × (form ≡ Json)))
+        → IfErr put (FailsByWritingJson form)
         → PrintsAnswer sink old new (IsReadAnswer file choice (IsEntriesAnswer file path form text)) (ending_by put (Ok 0))
     entries_put text written short fault =
         let (start, entries, names, are, here) =
         promised (λ entries. Puts sink old new put (text entries)) (λ entries are. record { wrote = written entries are; halts = short entries are }) in
-        answer_as (short_put (form ≡ Json) (text entries) (Ok 0) put here.wrote here.halts fault)
+        answer_as (short_json_put (text entries) (Ok 0) put here.wrote form here.halts fault)
         (λ answer shown. inl (meta, of.under, inl (start, entries, names, are, shown)))
 
     pub sizes_put : ForEntries (bucket_checked bucket) (bucket_start bucket) (OfSizes form (λ text. Wrote sink old new text (report_ending put)))
         → ForEntries (bucket_checked bucket) (bucket_start bucket) (OfSizes form (λ text. HaltsShort sink old new text (report_ending put)))
-        → IfErr put (λ e. (e ≡ report.Sink) ⊎ (e ≡ report.NoMemory))
+        → IfErr put FailsByWriting
         → PrintsAnswer sink old new (IsReadAnswer file choice (IsSizesAnswer file path form)) (ending_by put (Ok 0))
     sizes_put written short fault =
         let (start, entries, names, are, here) =
@@ -51,5 +50,5 @@ module _ {file : List ℕ} {choice : MetaChoice} {path : Path} {bucket : Bucket}
         (λ entries are sized sizes. record { wrote = written entries are sized sizes; halts = short entries are sized sizes }) in
         let (sized, sizes) = named_sizes file meta (read_trees file choice meta of.under) path start entries names are in
         let puts = here sized (rw of.bytes sizes) in
-        answer_as (short_put ⊤ (sizes_text form sized) (Ok 0) put puts.wrote puts.halts (allowed put fault))
-        (λ answer is. inl (meta, of.under, inl (start, entries, sized, names, are, sizes, elim is [ inl whole ↦ inl whole | inr (x, begun) ↦ inr begun ])))
+        answer_as (short_put (sizes_text form sized) (Ok 0) put puts.wrote puts.halts fault)
+        (λ answer is. inl (meta, of.under, inl (start, entries, sized, names, are, sizes, is)))

@@ -6,7 +6,9 @@ use Rattle.std.proofs.Common.{rules, subst, sym, ℕ}
 use Rattle.std.specs.Prelude.{if◌then◌else◌}
 use Rattle.std.specs.{declared.cmp.Ordering.Ordering, declared.cmp.Ordering.TheVariants.Less, Cmp.IsTotalOrder}
 use Rattle.std.proofs.lemmas.Cmp.{on_total}
-use Rattle.bolt_check.proofs.Exports.{contains_from_has, has_from_contains, has_map, map_has, first_decides}
+use Rattle.bolt_lemmas.proofs.Exports.{contains_cases, contains_from_has, contains_head, contains_none, contains_tail, first_decides, has_from_contains}
+use Rattle.bolt_lemmas.proofs.Exports.{has_map, map_has, rises_once}
+use Rattle.bolt_lemmas.specs.Order.{IsBelow}
 use Rattle.bolt_check.specs.Keys.{key_cmp}
 use Rattle.bolt_commands.proofs.Vocabulary.{AreEntries, Contains, HasSoundTrees, IsEntry, IsListing, Item, Key, LeadsTo, LeafElement, Member, Meta}
 use Rattle.bolt_commands.proofs.Vocabulary.{Path, Rises, Root_page, Start, bytes_eq, bytes_eq-Decides, held_down, is_bucket, item_of, keys_text}
@@ -14,9 +16,9 @@ use Rattle.bolt_commands.proofs.Vocabulary.{member_cmp}
 use Rattle.bolt_commands.proofs.ListedBuckets.{has_named}
 use Rattle.bolt_report.specs.MemberNames.{WantedNames, entry_name, key_in, member_name, names_text}
 use Rattle.bolt_text.specs.{Forms.value_text, declared.forms.Form.Form}
-use Rattle.bolt_tree.proofs.Exports.{all_entries, contains_cases, contains_head, contains_none, contains_tail, rises_once, held_here, key_total}
+use Rattle.bolt_tree.proofs.Exports.{all_entries, held_here, key_total}
 use Rattle.bolt_tree.proofs.Exports.{same_front}
-use Rattle.bolt_tree.specs.{Entries.entry_cmp, Order.IsBelow}
+use Rattle.bolt_tree.specs.Entries.{entry_cmp}
 
 abbrev Named : Type 0
 Named = Key × Item

@@ -1,25 +1,30 @@
 -- What is printed of what etcd keeps.
-use Rattle.std.proofs.Common.{◌≡◌, ◌⊎◌, ◌++◌, ℕ, true, false, IfErr, IfOk, List, None, Option, Some, Result, Ok, Err, codes, inl, inr, length, refl}
+use Rattle.std.proofs.Common.{◌≡◌, ◌++◌, ℕ, true, false, IfErr, IfOk, List, None, Option, Some, Result, Ok, Err, inl, inr, length, refl}
 use Rattle.std.proofs.Common.{subst, sym}
+use Rattle.bolt_lemmas.proofs.Exports.{filter_rises}
 use Rattle.bolt_check.specs.Counts.{counted}
 use Rattle.bolt_etcd.proofs.Exports.{revisions_rise, current_is_one, one_store, fits, fits_some}
-use Rattle.bolt_tree.proofs.Exports.{filter_rises, root_starts}
-use Rattle.bolt_etcd.specs.{Store.Current.AreCurrent, Store.Current.stored_key_cmp, Store.Newest.is_until, Store.Newest.until}
+use Rattle.bolt_tree.proofs.Exports.{root_starts}
+use Rattle.bolt_etcd.specs.{Store.Current.AreCurrent, Store.Newest.is_until, Store.Newest.until}
+use Rattle.bolt_etcd.specs.Store.Orders.{stored_key_cmp}
 use Rattle.bolt_etcd.specs.{Wire.Revisions.RevisionView, Store.Stores.revisions, Store.Stores.others}
 use Rattle.bolt_etcd.specs.{Store.StoreBuckets.HasEntriesUnder, Store.StoreBuckets.IsStore, Store.StoreBuckets.StoreView}
 use Rattle.bolt_etcd.specs.{Check.StoreFaults.store_compacted}
+use Rattle.bolt_etcd.specs.Store.BucketNames.{key_bucket}
 use Rattle.bolt_format.proofs.Exports.{Wrote-stop_halted}
+use Rattle.bolt_text.specs.ReportEndings.{FailsByWritingJson}
 use Rattle.bolt_text.specs.declared.report_fault.ReportFault.TheVariants as report
 use Rattle.bolt_tree.specs.BucketViews.{entries_of}
-use Rattle.bolt_commands.specs.Answers.{IsCutAnswer}
+use Rattle.bolt_commands.specs.Answers.{Late, in_json}
+use Rattle.bolt_text.specs.declared.forms.Form.{Form}
 use Rattle.bolt_commands.specs.EtcdAnswers.{IsAnswerAt, IsStoreAnswer, OfKeys, entries_ending, is_compacted, others_ending}
 use Rattle.bolt_commands.specs.{Private.Etcd.IsStoreRead, Private.Etcd.IsUnreadStore, Private.Etcd.end_of_revisions, declared.etcd_store.Store.Store}
 use Rattle.bolt_commands.specs.declared.failure.Failure.TheVariants as failure
-use Rattle.bolt_commands.proofs.Vocabulary.{Answer, AreEntries, Checked, JobEnding, Failure, Ghosts, HasSoundTrees, IsBucketAt, IsEndedOrCut, IsEntry}
+use Rattle.bolt_commands.proofs.Vocabulary.{Answer, AreEntries, Checked, JobEnding, Failure, Ghosts, HasSoundTrees, IsBucketAt, IsEntry, IsPrinted}
 use Rattle.bolt_commands.proofs.Vocabulary.{IsErrAnd, IsReadAnswer, LeafElement, MayFail, Meta, MetaChoice, PrintsAnswer, ReportFault, Root_page}
 use Rattle.bolt_commands.proofs.Vocabulary.{Start, Wrote, Wrote-stop, bucket_checked, bucket_start, ending_by, meta_of, refused, report_ending}
 use Rattle.bolt_commands.proofs.Vocabulary.{reported}
-use Rattle.bolt_commands.proofs.{CutTexts.ended_put, CutTexts.text_put, Doing.answer_as, Doing.answer_nothing, ReadFiles.read_trees}
+use Rattle.bolt_commands.proofs.{CutTexts.ended_put, CutTexts.json_put, Doing.answer_as, Doing.answer_nothing, ReadFiles.read_trees}
 
 -- ---- the store of a file that is read
 
@@ -31,17 +36,17 @@ has_store file meta trees = let (store, is, once) = one_store file meta (Root_pa
 
 -- ---- without the bucket `key`
 
-no_keys : (Entry : Start → LeafElement → Type 0) (root : Start) (b : Option (List LeafElement)) → HasEntriesUnder Entry root (codes "key") b
-    → IsBucketAt Entry root (codes "key") None → b ≡ None
+no_keys : (Entry : Start → LeafElement → Type 0) (root : Start) (b : Option (List LeafElement)) → HasEntriesUnder Entry root key_bucket b
+    → IsBucketAt Entry root key_bucket None → b ≡ None
 no_keys Entry root None has none = refl
 no_keys Entry root (Some entries) (e, there, key, bucket, are) none = let flat = none e there key in absurd (cc)
 
 pub unread_store : (file : List ℕ) (choice : MetaChoice) (IsWanted : StoreView → Answer → Type 0) (why : Failure) → IsUnreadStore file choice why
-    → ((store : StoreView) → store.bucket (codes "key") ≡ None → IsWanted store (refused failure.NoBucket))
+    → ((store : StoreView) → store.bucket key_bucket ≡ None → IsWanted store (refused failure.NoBucket))
     → IsReadAnswer file choice (IsStoreAnswer file IsWanted) (refused why)
 unread_store file choice IsWanted why (inl (meta, under, none, is)) wanted =
     let (store, has) = has_store file meta (read_trees file choice meta under) in
-    let missing = no_keys (IsEntry file meta) (Root_page meta.root) (store.bucket (codes "key")) (has.buckets (codes "key")) none in
+    let missing = no_keys (IsEntry file meta) (Root_page meta.root) (store.bucket key_bucket) (has.buckets key_bucket) none in
     rw is (inl (meta, under, (store, has, wanted store missing)))
 unread_store file choice IsWanted why (inr (fault, is, refusal)) wanted = inr (fault, is, refusal)
 
@@ -57,17 +62,17 @@ module _ (file : List ℕ) (choice : MetaChoice) (s : Store) (of : IsStoreRead f
   pub here : IsStore (entries_of (bucket_checked s.root)) (bucket_start s.root) own.0
   here = rw (of.root, of.bytes) own.1
 
-  pub keys : (entries : List LeafElement) × (own.0.bucket (codes "key") ≡ Some entries)
+  pub keys : (entries : List LeafElement) × (own.0.bucket key_bucket ≡ Some entries)
       × AreEntries (entries_of (bucket_checked s.keys)) (bucket_start s.keys) entries
   keys =
       let (entries, at, are) =
-      fits_some s.root s.keys (own.0.bucket (codes "key"))
-      (fits s.root (codes "key") (Some s.keys) (own.0.bucket (codes "key")) of.keys (here.buckets (codes "key"))) in
+      fits_some s.root s.keys (own.0.bucket key_bucket)
+      (fits s.root key_bucket (Some s.keys) (own.0.bucket key_bucket) of.keys (here.buckets key_bucket)) in
       (entries, at, subst (λ (c : Checked). AreEntries (entries_of c) (bucket_start s.keys) entries) (sym of.checked) are)
 
   module _ {S : Type 0} {sink : Ghosts S} {old new : S} (ending : JobEnding) where
     pub keys_answer : (P : List LeafElement → Answer → Type 0) → PrintsAnswer sink old new (P keys.0) ending
-        → PrintsAnswer sink old new (IsReadAnswer file choice (IsStoreAnswer file (λ store. OfKeys (store.bucket (codes "key")) P))) ending
+        → PrintsAnswer sink old new (IsReadAnswer file choice (IsStoreAnswer file (λ store. OfKeys (store.bucket key_bucket) P))) ending
     keys_answer P put = answer_as put (λ answer is. inl (meta, of.under, (own.0, own.1, rw keys.1 is)))
 
     pub answer_at : (P : StoreView → List LeafElement → Answer → Type 0) (at : Option ℕ) → is_compacted at (store_compacted own.0) ≡ false
@@ -99,18 +104,17 @@ ends_counted (Err fault) n same = refl
 module _ {S : Type 0} {sink : Ghosts S} {old new : S} (text : List ℕ) (entries : List LeafElement) (put : Result ℕ ReportFault)
     (written : Wrote sink old new text (report_ending put))
     (knows : IfOk put (λ m. m ≡ counted 0 (length (others entries)))) where
-  pub counted_put : (X : Type 0) → IfErr put (λ e. (e ≡ report.Sink) ⊎ ((e ≡ report.NoMemory) × X))
-      → PrintsAnswer sink old new (λ answer. (answer ≡ record { out = text; ending = entries_ending entries }) ⊎ (X × IsCutAnswer text answer))
-      (end_of_revisions put)
-  counted_put X fault = rw (ends_counted put (counted 0 (length (others entries))) knows) (text_put X text (entries_ending entries) put written fault)
+  pub counted_put : (form : Form) → IfErr put (FailsByWritingJson form)
+      → PrintsAnswer sink old new (IsPrinted (in_json Late form) text (entries_ending entries)) (end_of_revisions put)
+  counted_put form fault = rw (ends_counted put (counted 0 (length (others entries))) knows) (json_put text (entries_ending entries) put written form fault)
 
-  pub counted_ended : MayFail put → PrintsAnswer sink old new (IsEndedOrCut text (entries_ending entries)) (end_of_revisions put)
+  pub counted_ended : MayFail put → PrintsAnswer sink old new (IsPrinted Late text (entries_ending entries)) (end_of_revisions put)
   counted_ended fault = rw (ends_counted put (counted 0 (length (others entries))) knows) (ended_put text (entries_ending entries) put written fault)
 
 -- a text that stopped in its first part
 pub first_cut : {S : Type 0} {sink : Ghosts S} {old new : S} (first second : List ℕ) (wanted : JobEnding) (e : ReportFault)
     → Wrote sink old new first (report_ending {A = ℕ} (Err e))
-    → MayFail {A = ℕ} (Err e) → PrintsAnswer sink old new (IsEndedOrCut (first ++ second) wanted) (Err (reported e))
+    → MayFail {A = ℕ} (Err e) → PrintsAnswer sink old new (IsPrinted Late (first ++ second) wanted) (Err (reported e))
 first_cut first second wanted report.Sink written fault = ended_put {A = ℕ} (first ++ second) wanted (Err report.Sink) (Wrote-stop second written) fault
 first_cut first second wanted report.NoMemory written fault =
     ended_put {A = ℕ} (first ++ second) wanted (Err report.NoMemory) (Wrote-stop_halted second written) fault

@@ -1,4 +1,5 @@
 pub mod AtPaths
+pub mod CheckedBy
 pub mod CopyAnswers
 pub mod CopyChecks
 pub mod CopyFindings
@@ -10,6 +11,7 @@ pub mod EtcdAnswers
 pub mod FoundAnswers
 pub mod GoodCopies
 pub mod HashLemmas
+pub mod JoinedFits
 pub mod ListAnswers
 pub mod ListedBuckets
 pub mod ListedLoads

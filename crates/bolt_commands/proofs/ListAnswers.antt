@@ -1,12 +1,12 @@
 -- What `list` puts, and how it then ends.
 use Rattle.std.proofs.Common.{◌≡◌, ◌∙◌, Bool, true, false, IfOk, List, Option, Result, Ok, Err, ap, if◌then◌else◌, inl, inr, refl, subst, sym, ℕ}
 use Rattle.std.proofs.lemmas.Result.{on_ok_weaker}
-use Rattle.bolt_commands.proofs.Vocabulary.{JobEnding, Failure, Ghosts, IsEndedOrCut, IsListPrint, IsMetasFault, ListJob, LostView, MayFail, Member}
-use Rattle.bolt_commands.proofs.Vocabulary.{MetaFault, OnOk, Opened, PrintsAnswer, PutsListing, PutsPart, ReportFault, Rises, Shortfall, Slot, Wrote}
-use Rattle.bolt_commands.proofs.Vocabulary.{Wrote-none, failing, finds, job_part, shortfall_ending, member_cmp, opened_lost, part_ending, owned_path}
+use Rattle.bolt_commands.proofs.Vocabulary.{JobEnding, Failure, Ghosts, IsListPrint, IsMetasFault, ListJob, LostView, MayFail, Member, IsPrinted}
+use Rattle.bolt_commands.proofs.Vocabulary.{OnOk, Contents, OtherMeta, PrintsAnswer, PutsListing, PutsPart, ReportFault, Rises, Shortfall, Wrote}
+use Rattle.bolt_commands.proofs.Vocabulary.{Wrote-none, failing, finds, job_part, shortfall_ending, member_cmp, contents_lost, part_ending, owned_path}
 use Rattle.bolt_commands.proofs.Vocabulary.{report_ending, reported, shortfall, sound_part}
 use Rattle.bolt_commands.proofs.{CutTexts.ended_put, Doing.answer_as, Doing.answer_nothing}
-use Rattle.bolt_commands.specs.declared.failure.Failure.TheVariants.{NoBucket}
+use Rattle.bolt_commands.specs.{Answers.Late, declared.failure.Failure.TheVariants.NoBucket}
 
 -- ---- the part of a sound file, with the bucket or without it
 
@@ -42,13 +42,14 @@ end_of_part (Ok true) lacking = shortfall_ending lacking
 end_of_part (Ok false) lacking = Err NoBucket
 end_of_part (Err why) lacking = Err why
 
-module _ {S : Type 0} (sink : Ghosts S) (old new : S) (job : ListJob) (file : List ℕ) (after : Opened) (other : Option (Slot × MetaFault))
+module _ {S : Type 0} (sink : Ghosts S) (old new : S) (job : ListJob) (file : List ℕ) (after : Contents) (other : Option OtherMeta)
     (are : IsMetasFault job.extent file job.meta other) where
   abbrev lacking : Option Shortfall
-  lacking = shortfall (opened_lost after) other
+  lacking = shortfall (contents_lost after) other
 
   abbrev Ended : List Member → JobEnding → JobEnding → Type 0
-  Ended listing wanted ending = PrintsAnswer sink old new (IsEndedOrCut (job_part job listing) (part_ending (owned_path job.path.items) listing wanted)) ending
+  Ended listing wanted ending =
+      PrintsAnswer sink old new (IsPrinted Late (job_part job listing) (part_ending (owned_path job.path.items) listing wanted)) ending
 
   ends_so : (listing : List Member) (wanted : JobEnding) (found : Bool) → found ≡ finds job listing → shortfall_ending lacking ≡ wanted
       → part_ending (owned_path job.path.items) listing wanted ≡ end_of_part (Ok found) lacking
@@ -69,7 +70,8 @@ module _ {S : Type 0} (sink : Ghosts S) (old new : S) (job : ListJob) (file : Li
       → PrintsAnswer sink old new (IsListPrint job file) (end_of_part result lacking)
   part_listed result (inl (meta, listing, lost, found, read, same, (put, wrote, fault, knows, is))) =
       let known =
-      on_ok_weaker (failing reported put) (λ (eq : opened_lost after ≡ lost). ap (λ (l : LostView). shortfall_ending (shortfall l other)) eq) (rw is at same) in
+      on_ok_weaker (failing reported put) (λ (eq : contents_lost after ≡ lost). ap (λ (l : LostView). shortfall_ending (shortfall l other)) eq)
+      (rw is at same) in
       rw is (answer_as (part_ended listing (shortfall_ending (shortfall lost other)) put wrote fault knows known)
       (λ answer ended. inl (meta, listing, lost, found, read, shortfall lost other, (other, are, refl), ended)))
   part_listed result (inr (why, unread, same, is)) = rw (same, is) (answer_nothing why (Err why) (inr (why, unread, refl)) refl)

@@ -1,12 +1,12 @@
 -- A listing has the bucket at a path where the path leads to one.
 use Rattle.std.proofs.Common.{arith, ◌≡◌, ◌∙◌, ◌&&◌, ℕ, Bool, true, false, List, [], ◌∷◌, IsTrue, inl, inr, refl, sym, ap}
 use Rattle.std.proofs.lemmas.Bool.Decides.{nat_tests}
+use Rattle.bolt_lemmas.proofs.Exports.{contains_cases, contains_head, contains_none, contains_tail}
 use Rattle.bolt_commands.proofs.Vocabulary.{Contains, Holds, IsEntry, IsListing, Item, Key, LeadsTo, LeafElement, Member, Meta, Names, Path}
 use Rattle.bolt_commands.proofs.Vocabulary.{Root_page, Start, Value, and_parts, bytes_eq, bytes_eq-Decides, cases_Bool, has_bucket, head_sequence}
 use Rattle.bolt_commands.proofs.Vocabulary.{is_bucket, is_bucket_at, item_of, list_any, or_cases, or_left, or_right, pointwise, slice_eq-Decides}
 use Rattle.bolt_commands.proofs.Vocabulary.{start_of}
 use Rattle.bolt_tree.specs.Entries.{Bucket}
-use Rattle.bolt_tree.proofs.Exports.{contains_cases, contains_head, contains_none, contains_tail}
 use Rattle.bolt_load.proofs.Exports.{path_itself}
 
 -- ---- lists

@@ -1,10 +1,11 @@
 -- What `list` prints of a file is loaded as the listing of the file.
 use Rattle.std.proofs.Common.{◌≡◌, ◌∙◌, ◌<◌, ℕ, Bool, List, [], ◌∷◌, Option, Ok, ap, arith, inl, inr, length, subst, sym}
-use Rattle.bolt_commands.proofs.Vocabulary.{Answer, JobEnding, Sound, HasSoundTrees, IsEndedOrCut, IsListedAnswer, IsListing, IsListingText}
+use Rattle.bolt_commands.proofs.Vocabulary.{Answer, JobEnding, Sound, HasSoundTrees, IsListedAnswer, IsListing, IsListingText, IsPrinted}
 use Rattle.bolt_commands.proofs.Vocabulary.{IsLoadFault, IsOfOneTree, IsReadUnder, Layout, Loads, LoadsListing, Member, Meta, MetaChoice, Rises}
 use Rattle.bolt_commands.proofs.Vocabulary.{filter_all, listing_lines, member_cmp, not, part_below, listing_part_text, path_cmp, rest_from}
 use Rattle.bolt_commands.proofs.Vocabulary.{text_members}
 use Rattle.bolt_commands.proofs.ReadFiles.{read_trees}
+use Rattle.bolt_commands.specs.Answers.{Late}
 use Rattle.std.specs.Ordering.{is_lt}
 use Rattle.bolt_format.specs.Bytes.{IsBytes}
 use Rattle.bolt_load.specs.{ByteMembers.AreOfBytes, declared.load_fault.LineFault.LineFault, declared.load_fault.LineFault.TheVariants.CutOff}
@@ -35,11 +36,11 @@ module _ (below : Below) where
       ap (λ part. listing_lines Hex (rest_from [] part)) (below.below_root listing) ∙ ap (listing_lines Hex) (rest_all listing) ∙ below.hex_lines listing
 
   -- what is printed with status 0 is the whole text
-  printed : (listing : List Member) (ending : JobEnding) (answer : Answer) → IsEndedOrCut (listing_part_text Hex [] [] listing) ending answer
+  printed : (listing : List Member) (ending : JobEnding) (answer : Answer) → IsPrinted Late (listing_part_text Hex [] [] listing) ending answer
       → answer.ending ≡ Ok 0
       → answer.out ≡ listing_text listing
   printed listing ending answer (inl is) good = ap (λ (a : Answer). a.out) is ∙ whole_text listing
-  printed listing ending answer (inr (front, rest, parts, is)) good = absurd (let bad = rw is at good in cc)
+  printed listing ending answer (inr (front, rest, parts, late, is)) good = absurd (let bad = rw is at good in cc)
 
   module _ {O T : Type 0} (out_taken : O → Option (List ℕ)) (out_failed : O → ℕ) (target_taken : T → Option (List ℕ)) (target_failed : T → ℕ) where
     abbrev Told : List Member → List ℕ → Type 0

@@ -1,12 +1,13 @@
 -- The answers of `check --all` and `check --lost-and-found`.
-use Rattle.std.proofs.Common.{◌≡◌, ◌≢◌, ◌∷◌, ℕ, Bool, List, [], true, false, inl, inr, map, refl, subst, sym}
-use Rattle.bolt_commands.proofs.Vocabulary.{all_lost, Answer, AnswersLost, AreGaps, Extent, Failure, FileFaults, ForGaps, ForLosses, Sound, FoundView}
-use Rattle.bolt_commands.proofs.Vocabulary.{IsCheckAnswerAfter, IsFindingsAnswer, IsLostAnswer, IsMetaOf, IsSearchOf, IsUnopened, Losses, LossView}
-use Rattle.bolt_commands.proofs.Vocabulary.{LostAndFound, LostView, Meta, MetaChoice, PageGapView, everything, false≢true, found_view}
+use Rattle.std.proofs.Common.{◌≡◌, ◌≢◌, ◌∷◌, ℕ, List, [], true, false, inl, inr, map, refl, subst, sym}
+use Rattle.bolt_commands.proofs.Vocabulary.{all_lost, Answer, AnswersLost, AreGaps, Extent, Failure, ForGaps, ForLosses, Sound, FoundView}
+use Rattle.bolt_commands.proofs.Vocabulary.{IsMetaOf, IsSearchOf, IsUnopened, Losses, LossView}
+use Rattle.bolt_commands.proofs.Vocabulary.{LostAndFound, LostView, Meta, PageGapView, everything, false≢true, found_view}
 use Rattle.bolt_commands.proofs.Vocabulary.{is_nothing, lost_and_found_answer, parts}
 use Rattle.bolt_commands.proofs.FoundAnswers.{are_pages}
 use Rattle.bolt_check.specs.declared.check_fault.CheckFault.TheVariants as check
-use Rattle.bolt_commands.specs.Private.Checks.{unopened}
+use Rattle.bolt_commands.specs.Private.Checks.{AnswersLosses, AnswersTo, AnswersWhole, unopened}
+use Rattle.bolt_commands.specs.declared.verdict.Checking.{Checking}
 use Rattle.bolt_job.specs.declared.choices.Extent.TheVariants.{FoundPages}
 use Rattle.bolt_recover.proofs.Exports.{has_gaps, no_gaps}
 use Rattle.bolt_recover.specs.Refusals.{KeepsRoot}
@@ -15,32 +16,35 @@ use Rattle.bolt_recover.specs.Refusals.{KeepsRoot}
 pub all_gaps : (file : List ℕ) (meta : Meta) (gaps : List PageGapView) → ForGaps file meta (λ all. gaps ≡ all) → AreGaps file meta gaps
 all_gaps file meta gaps known = let (all, are) = has_gaps file meta in subst (AreGaps file meta) (sym (known all are)) are
 
-module _ (for_bbolt : Bool) (faults : FileFaults) (file : List ℕ) (choice : MetaChoice) where
+module _ (c : Checking) where
+  abbrev AnswersWith : LostView → List PageGapView → List FoundView → Answer → Type 0
+  AnswersWith lost gaps found answer = AnswersLost c.for_bbolt c.faults c.input.file.now c.choice lost gaps found answer
+
   -- nothing is lost, or something is
   pub none_lost : (lost : LostView) (gaps : List PageGapView) (found : List FoundView) → is_nothing lost ≡ true → (answer : Answer)
-      → IsFindingsAnswer for_bbolt faults file choice gaps answer → AnswersLost for_bbolt faults file choice lost gaps found answer
+      → AnswersWhole c gaps answer → AnswersWith lost gaps found answer
   none_lost (parts []) gaps found none answer is = is
   none_lost lost gaps found none answer is = absurd (false≢true none)
 
   pub some_lost : (lost : LostView) (gaps : List PageGapView) (found : List FoundView) → is_nothing lost ≡ false
-      → AnswersLost for_bbolt faults file choice lost gaps found (lost_and_found_answer faults lost gaps found)
+      → AnswersWith lost gaps found (lost_and_found_answer c.faults lost gaps found)
   some_lost (everything x) gaps found some = refl
   some_lost (parts []) gaps found some = absurd (false≢true (sym some))
   some_lost (parts (loss ∷ losses)) gaps found some = refl
 
   -- of a file that is recovered, or searched
-  pub recovered_lost : (meta : Meta) (losses : List LossView) (gaps : List PageGapView) (answer : Answer) → IsMetaOf file choice meta
-      → KeepsRoot file meta
-      → ForLosses file meta (λ all. losses ≡ all) → ForGaps file meta (λ all. gaps ≡ all)
-      → AnswersLost for_bbolt faults file choice (parts losses) gaps [] answer
-      → IsLostAnswer Losses for_bbolt faults file choice answer
+  pub recovered_lost : (meta : Meta) (losses : List LossView) (gaps : List PageGapView) (answer : Answer) → IsMetaOf c.input.file.now c.choice meta
+      → KeepsRoot c.input.file.now meta
+      → ForLosses c.input.file.now meta (λ all. losses ≡ all) → ForGaps c.input.file.now meta (λ all. gaps ≡ all)
+      → AnswersWith (parts losses) gaps [] answer
+      → AnswersLosses c Losses answer
   recovered_lost meta losses gaps answer under keeps lost known answers =
-      inl (meta, parts losses, gaps, [], under, (keeps, lost), all_gaps file meta gaps known, refl, answers)
+      inl (meta, parts losses, gaps, [], under, (keeps, lost), all_gaps c.input.file.now meta gaps known, refl, answers)
 
-  pub searched_lost : (both : LostAndFound) (gaps : List PageGapView) (answer : Answer) → IsSearchOf file choice both
-      → ForGaps file both.meta (λ all. gaps ≡ all)
-      → AnswersLost for_bbolt faults file choice (all_lost both) gaps (map found_view both.found.items) answer
-      → IsLostAnswer FoundPages for_bbolt faults file choice answer
+  pub searched_lost : (both : LostAndFound) (gaps : List PageGapView) (answer : Answer) → IsSearchOf c.input.file.now c.choice both
+      → ForGaps c.input.file.now both.meta (λ all. gaps ≡ all)
+      → AnswersWith (all_lost both) gaps (map found_view both.found.items) answer
+      → AnswersLosses c FoundPages answer
   searched_lost both gaps answer is known answers =
       inl (
         both.meta,
@@ -49,25 +53,25 @@ module _ (for_bbolt : Bool) (faults : FileFaults) (file : List ℕ) (choice : Me
         map found_view both.found.items,
         is.under,
         is.lost,
-        all_gaps file both.meta gaps known,
-        are_pages file both.meta both.found.items is.found is.views,
+        all_gaps c.input.file.now both.meta gaps known,
+        are_pages c.input.file.now both.meta both.found.items is.found is.views,
         answers,
       )
 
   -- to any extent but the first
-  pub lost_answer : (extent : Extent) → extent ≢ Sound → (answer : Answer) → IsLostAnswer extent for_bbolt faults file choice answer
-      → IsCheckAnswerAfter extent for_bbolt faults file choice answer
+  pub lost_answer : (extent : Extent) → extent ≢ Sound → (answer : Answer) → AnswersLosses c extent answer
+      → AnswersTo c extent answer
   lost_answer Sound beyond answer is = absurd (beyond refl)
   lost_answer Losses beyond answer is = is
   lost_answer FoundPages beyond answer is = is
 
   -- the file isn't opened
-  pub unopened_lost : (extent : Extent) (why : Failure) → extent ≢ Sound → IsUnopened extent file choice why
-      → IsLostAnswer extent for_bbolt faults file choice (unopened faults why)
+  pub unopened_lost : (extent : Extent) (why : Failure) → extent ≢ Sound → IsUnopened extent c.input.file.now c.choice why
+      → AnswersLosses c extent (unopened c.faults why)
   unopened_lost Sound why beyond is = absurd (beyond refl)
   unopened_lost Losses why beyond (check.Open fault, none, is) = rw is (inr (inl (fault, none, refl)))
   unopened_lost Losses why beyond (check.Structure x, (meta, under, loses), is) =
-      rw is (inl (meta, everything x, [], [], under, loses, no_gaps file meta x loses, refl, refl))
+      rw is (inl (meta, everything x, [], [], under, loses, no_gaps c.input.file.now meta x loses, refl, refl))
   unopened_lost Losses why beyond (check.Accounts findings, none, is) = absurd none
   unopened_lost Losses why beyond (check.Memory, none, is) = rw is (inr (inr (tt, refl)))
   unopened_lost FoundPages why beyond (inl (fault, none, is)) = rw is (inr (inl (fault, none, refl)))

@@ -3,59 +3,59 @@ use Rattle.std.proofs.Common.{◌≡◌, ℕ, List, [], Option, Some, inl, inr, 
 use Rattle.std.proofs.lemmas.List.Elements.{All-nil}
 use Rattle.bolt_commands.proofs.Vocabulary.{AreFoundTo, AreLosses, Checked, Extent, Failure, IsListing, IsMetaOf, IsOpened, IsReadTo, IsRecovered}
 use Rattle.bolt_commands.proofs.Vocabulary.{IsSalvaged, IsUnopened, IsUnreadTo, LossView, LostAndFound, Member, MetaChoice, All, FoundView}
-use Rattle.bolt_commands.proofs.Vocabulary.{IsFoundLeaf, LostView, Meta, Opened, all_lost, found_view, has_listing, hash_refusal, meta_of}
-use Rattle.bolt_commands.proofs.Vocabulary.{opened_found, opened_meta, parts, recovery_meta}
+use Rattle.bolt_commands.proofs.Vocabulary.{IsFoundLeaf, LostView, Meta, Contents, all_lost, found_view, has_listing, hash_refusal, meta_of}
+use Rattle.bolt_commands.proofs.Vocabulary.{contents_found, contents_meta, parts, recovery_meta}
 use Rattle.bolt_commands.proofs.{FoundAnswers.are_leaves, FoundAnswers.are_pages, ReadFiles.read_trees}
 use Rattle.bolt_etcd.specs.declared.check.snapshot.SnapshotFault.{SnapshotFault}
 use Rattle.bolt_job.specs.declared.choices.Extent.TheVariants.{Losses, FoundPages, Sound}
 use Rattle.bolt_recover.specs.{Found.AreFound, declared.recover_fault.RecoverFault.TheVariants.Memory, declared.recovery.Recovery.Recovery}
-use Rattle.bolt_commands.specs.declared.opened.Opened.TheVariants as opened
+use Rattle.bolt_commands.specs.declared.opening.Contents.TheVariants as contents
 
 module _ {extent : Extent} {file : List ℕ} {choice : MetaChoice} {listing : List Member} where
-  pub sound_read : (checked : Checked) → IsOpened extent file choice (opened.Sound checked) → IsListing file (meta_of checked) listing
+  pub sound_read : (checked : Checked) → IsOpened extent file choice (contents.Sound checked) → IsListing file (meta_of checked) listing
       → IsReadTo extent file choice (meta_of checked) listing (parts []) []
   sound_read checked (first, of) is = rw first (of.under, is, refl, refl)
 
-  pub recovered_read : (recovery : Recovery) {losses : List LossView} → IsOpened extent file choice (opened.Recovered recovery)
+  pub recovered_read : (recovery : Recovery) {losses : List LossView} → IsOpened extent file choice (contents.Recovered recovery)
       → IsRecovered file (recovery_meta recovery) listing → AreLosses file (recovery_meta recovery) losses
       → IsReadTo extent file choice (recovery_meta recovery) listing (parts losses) []
   recovered_read recovery (to, of) is are = rw to (of.under, is, (_, are, refl), refl)
 
-  pub searched_read : (both : LostAndFound) → IsOpened extent file choice (opened.Searched both)
+  pub searched_read : (both : LostAndFound) → IsOpened extent file choice (contents.Searched both)
       → IsSalvaged file both.meta listing (all_lost both) (map found_view both.found.items)
       → IsReadTo extent file choice both.meta listing (all_lost both) (map found_view both.found.items)
   searched_read both (to, of) is = rw to (of.under, is)
 
 -- a sound file alone is refused for its hash
-pub refused_read : (extent : Extent) (file : List ℕ) (choice : MetaChoice) (o : Opened) → IsOpened extent file choice o
+pub refused_read : (extent : Extent) (file : List ℕ) (choice : MetaChoice) (o : Contents) → IsOpened extent file choice o
     → (hash : Option SnapshotFault) (fault : SnapshotFault)
     → hash_refusal extent hash ≡ Some fault
     → (meta : Meta) × (listing : List Member) × (lost : LostView) × (found : List FoundView) × IsReadTo extent file choice meta listing lost found
-refused_read extent file choice (opened.Sound checked) to hash fault is =
+refused_read extent file choice (contents.Sound checked) to hash fault is =
     let (listing, lists) = has_listing file (meta_of checked) (read_trees _ _ _ to.1.under) in (_, _, _, _, sound_read checked to lists)
-refused_read extent file choice (opened.Recovered recovery) to hash fault is = absurd (let none = rw to.0 at is in cc)
-refused_read extent file choice (opened.Searched both) to hash fault is = absurd (let none = rw to.0 at is in cc)
+refused_read extent file choice (contents.Recovered recovery) to hash fault is = absurd (let none = rw to.0 at is in cc)
+refused_read extent file choice (contents.Searched both) to hash fault is = absurd (let none = rw to.0 at is in cc)
 
 -- its meta is the one that is chosen
-pub opened_under : (extent : Extent) (file : List ℕ) (choice : MetaChoice) (o : Opened) → IsOpened extent file choice o
-    → IsMetaOf file choice (opened_meta o)
-opened_under extent file choice (opened.Sound checked) to = to.1.under.0
-opened_under extent file choice (opened.Recovered recovery) to = to.1.under.0
-opened_under extent file choice (opened.Searched both) to = to.1.under
+pub opened_under : (extent : Extent) (file : List ℕ) (choice : MetaChoice) (o : Contents) → IsOpened extent file choice o
+    → IsMetaOf file choice (contents_meta o)
+opened_under extent file choice (contents.Sound checked) to = to.1.under.0
+opened_under extent file choice (contents.Recovered recovery) to = to.1.under.0
+opened_under extent file choice (contents.Searched both) to = to.1.under
 
 -- what is found are all pages that are looked for
-pub found_opened : (extent : Extent) (file : List ℕ) (choice : MetaChoice) (o : Opened) → IsOpened extent file choice o
-    → AreFoundTo extent file (opened_meta o) (map found_view (opened_found o))
-found_opened extent file choice (opened.Sound checked) (to, of) = rw to refl
-found_opened extent file choice (opened.Recovered recovery) (to, of) = rw to refl
-found_opened extent file choice (opened.Searched both) (to, of) = rw to (are_pages file both.meta both.found.items of.found of.views)
+pub found_opened : (extent : Extent) (file : List ℕ) (choice : MetaChoice) (o : Contents) → IsOpened extent file choice o
+    → AreFoundTo extent file (contents_meta o) (map found_view (contents_found o))
+found_opened extent file choice (contents.Sound checked) (to, of) = rw to refl
+found_opened extent file choice (contents.Recovered recovery) (to, of) = rw to refl
+found_opened extent file choice (contents.Searched both) (to, of) = rw to (are_pages file both.meta both.found.items of.found of.views)
 
 -- they are leaves
-pub found_leaves : (extent : Extent) (file : List ℕ) (choice : MetaChoice) (o : Opened) → IsOpened extent file choice o
-    → All IsFoundLeaf (opened_found o)
-found_leaves extent file choice (opened.Sound checked) to = All-nil IsFoundLeaf
-found_leaves extent file choice (opened.Recovered recovery) to = All-nil IsFoundLeaf
-found_leaves extent file choice (opened.Searched both) to = are_leaves file both.meta both.found.items to.1.views
+pub found_leaves : (extent : Extent) (file : List ℕ) (choice : MetaChoice) (o : Contents) → IsOpened extent file choice o
+    → All IsFoundLeaf (contents_found o)
+found_leaves extent file choice (contents.Sound checked) to = All-nil IsFoundLeaf
+found_leaves extent file choice (contents.Recovered recovery) to = All-nil IsFoundLeaf
+found_leaves extent file choice (contents.Searched both) to = are_leaves file both.meta both.found.items to.1.views
 
 -- a file that isn't opened isn't read; each has found pages
 pub unopened_unread : ((file : List ℕ) (meta : Meta) → (found : List ℕ) × AreFound file meta found)

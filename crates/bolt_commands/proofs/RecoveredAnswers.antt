@@ -1,22 +1,21 @@
 -- What is answered of what is recovered of a bucket or at a path.
-use Rattle.std.proofs.Common.{◌≡◌, ◌⊎◌, ℕ, Bool, Err, IfErr, IfOk, List, None, Ok, Option, Result, Some, inl, inr, refl, subst, if◌then◌else◌}
+use Rattle.std.proofs.Common.{◌≡◌, ℕ, Bool, Err, IfErr, IfOk, List, None, Ok, Option, Result, Some, inl, inr, refl, subst, if◌then◌else◌}
 use Rattle.std.specs.{Borrow.Bor, Option.IfNone, Prelude.IfSome}
-use Rattle.bolt_commands.proofs.Vocabulary.{AreLosses, Contains, JobEnding, Failure, ForLosses, Ghosts, IsErrAnd, IsRecovered, IsRecoveryOf, Json}
-use Rattle.bolt_commands.proofs.Vocabulary.{IsMetasFault, LossView, Losses, MayFail, Member, MetaChoice, MetaFault, OnOk, Path, Shortfall, Slot}
+use Rattle.bolt_commands.proofs.Vocabulary.{AreLosses, Contains, JobEnding, Failure, ForLosses, Ghosts, IsErrAnd, IsRecovered, IsRecoveryOf}
+use Rattle.bolt_commands.proofs.Vocabulary.{IsMetasFault, LossView, Losses, MayFail, Member, MetaChoice, OnOk, OtherMeta, Path, Shortfall}
 use Rattle.bolt_commands.proofs.Vocabulary.{PrintsAnswer, ReportFault, Rises, Value, Wrote, ending_by, has_bucket, has_losses, has_recovered}
 use Rattle.bolt_commands.proofs.Vocabulary.{shortfall_ending, member_cmp, parts, owned_path, recovery_file, recovery_left, recovery_meta}
 use Rattle.bolt_commands.proofs.Vocabulary.{report_ending, reported, shortfall, value_shown}
-use Rattle.bolt_commands.proofs.{CutTexts.ended_put, CutTexts.short_put, Doing.answer_as, Doing.answer_nothing, OpenedReads.recovered_read}
+use Rattle.bolt_commands.proofs.{CutTexts.ended_put, CutTexts.short_json_put, Doing.answer_as, Doing.answer_nothing, OpenedReads.recovered_read}
 use Rattle.bolt_check.specs.declared.check_fault.CheckFault.TheVariants as check
 use Rattle.bolt_commands.specs.Answers.{Answer}
 use Rattle.bolt_commands.specs.KeyAnswers.{IsNamesAnswer, IsRecoveredAnswer, IsRecoveredValue, names_ending, no_bucket, no_key, no_value}
 use Rattle.bolt_report.specs.{AtPaths.HoldsNow, declared.at_path.AtPath.AtPath}
 use Rattle.bolt_commands.specs.{Private.Recovered.bucket_ending, Private.Recovered.value_or_why, declared.failure.Failure.TheVariants.Memory}
-use Rattle.bolt_text.specs.{ReportEndings.HaltsShort, declared.forms.Form.Form}
+use Rattle.bolt_text.specs.{ReportEndings.FailsByWritingJson, ReportEndings.HaltsShort, declared.forms.Form.Form}
 use Rattle.bolt_job.specs.declared.bucket_commands.GetJob.{GetJob}
 use Rattle.bolt_recover.specs.declared.recovery.Recovery.{Recovery}
 use Rattle.bolt_report.specs.MemberNames.{WantedNames, names_text}
-use Rattle.bolt_text.specs.declared.report_fault.ReportFault.TheVariants as report
 
 -- memory may run out of any file before anything is written
 pub recovered_none : {S : Type 0} {sink : Ghosts S} {old : S} (file : List ℕ) (choice : MetaChoice)
@@ -24,12 +23,12 @@ pub recovered_none : {S : Type 0} {sink : Ghosts S} {old : S} (file : List ℕ) 
     → IsErrAnd result (λ said. said ≡ Memory) → PrintsAnswer sink old old (IsRecoveredAnswer file choice IsWanted) result
 recovered_none file choice IsWanted result said = answer_nothing Memory result (inr (Memory, (check.Memory, tt, refl), refl)) said
 
-ended_so : (path : Path) (found : Bool) (listing : List Member) (after losses : List LossView) (other : Option (Slot × MetaFault))
+ended_so : (path : Path) (found : Bool) (listing : List Member) (after losses : List LossView) (other : Option OtherMeta)
     → found ≡ has_bucket path listing → after ≡ losses
     → names_ending path listing (shortfall (parts losses) other) ≡ bucket_ending found (shortfall (parts after) other)
 ended_so path found listing after losses other is lost = rw (is, lost) refl
 
-module _ {file : List ℕ} {choice : MetaChoice} (r : Recovery) (of : IsRecoveryOf file choice r) (other : Option (Slot × MetaFault))
+module _ {file : List ℕ} {choice : MetaChoice} (r : Recovery) (of : IsRecoveryOf file choice r) (other : Option OtherMeta)
     (shown : IsMetasFault Losses file choice other) where
   -- what is wanted of the recovered listing and of what it lacks
   pub of_recovery : {S : Type 0} {sink : Ghosts S} {old new : S} (IsWanted : List Member → Option Shortfall → Answer → Type 0) (result : JobEnding)
@@ -79,34 +78,34 @@ module _ {file : List ℕ} {choice : MetaChoice} (r : Recovery) (of : IsRecovery
 
 -- ---- the value at a path
 
-known_value : (value : Option (Bor (List ℕ))) (has : Bool) (lost : Option Shortfall) (P : Bor (List ℕ) → Type 0) (there : Bor (List ℕ))
+known_value : (value : Option (Bor (List ℕ))) (has : Bool) (lacking : Option Shortfall) (P : Bor (List ℕ) → Type 0) (there : Bor (List ℕ))
     → IfSome value P
-    → Ok there ≡ value_or_why value has lost → P there
-known_value (Some value) has lost P there some same = let is : there ≡ value = cc in rw is some
-known_value None has lost P there some same = absurd (cc)
+    → Ok there ≡ value_or_why value has lacking → P there
+known_value (Some value) has lacking P there some same = let is : there ≡ value = cc in rw is some
+known_value None has lacking P there some same = absurd (cc)
 
-known_none : (value : Option (Bor (List ℕ))) (has : Bool) (lost : Option Shortfall) (N : Type 0) (why : Failure) → IfNone value N
-    → Err why ≡ value_or_why value has lost
-    → N × (why ≡ (if has then no_key lost else no_bucket lost))
-known_none (Some value) has lost N why none same = absurd (cc)
-known_none None has lost N why none same = (none, cc)
+known_none : (value : Option (Bor (List ℕ))) (has : Bool) (lacking : Option Shortfall) (N : Type 0) (why : Failure) → IfNone value N
+    → Err why ≡ value_or_why value has lacking
+    → N × (why ≡ (if has then no_key lacking else no_bucket lacking))
+known_none (Some value) has lacking N why none same = absurd (cc)
+known_none None has lacking N why none same = (none, cc)
 
-module _ (members : List Member) (path : Path) (at : AtPath) (holds : HoldsNow members path at) (lost : Option Shortfall) where
-  pub value_known : (value : Bor (List ℕ)) → Ok value ≡ value_or_why at.value at.has_bucket lost → Contains members (path, Value value.now)
-  value_known value same = known_value at.value at.has_bucket lost (λ (v : Bor (List ℕ)). Contains members (path, Value v.now)) value holds.value same
+module _ (members : List Member) (path : Path) (at : AtPath) (holds : HoldsNow members path at) (lacking : Option Shortfall) where
+  pub value_known : (value : Bor (List ℕ)) → Ok value ≡ value_or_why at.value at.has_bucket lacking → Contains members (path, Value value.now)
+  value_known value same = known_value at.value at.has_bucket lacking (λ (v : Bor (List ℕ)). Contains members (path, Value v.now)) value holds.value same
 
-  pub none_known : (why : Failure) → Err why ≡ value_or_why at.value at.has_bucket lost
-      → ((value : List ℕ) → Contains members (path, Value value) → ⊥) × (why ≡ no_value path members lost)
+  pub none_known : (why : Failure) → Err why ≡ value_or_why at.value at.has_bucket lacking
+      → ((value : List ℕ) → Contains members (path, Value value) → ⊥) × (why ≡ no_value path members lacking)
   none_known why same =
-      let (none, is) = known_none at.value at.has_bucket lost _ why holds.none same in
+      let (none, is) = known_none at.value at.has_bucket lacking _ why holds.none same in
       (none, rw holds.bucket at is)
 
-pub value_put : {S A : Type 0} {sink : Ghosts S} {old new : S} (job : GetJob) (listing : List Member) (lost : Option Shortfall) (value : List ℕ)
+pub value_put : {S A : Type 0} {sink : Ghosts S} {old new : S} (job : GetJob) (listing : List Member) (lacking : Option Shortfall) (value : List ℕ)
     → Contains listing (owned_path job.path.items, Value value) → (put : Result A ReportFault)
     → Wrote sink old new (value_shown job.form job.no_newline value) (report_ending put)
     → HaltsShort sink old new (value_shown job.form job.no_newline value) (report_ending put)
-    → IfErr put (λ e. (e ≡ report.Sink) ⊎ ((e ≡ report.NoMemory) × (job.form ≡ Json)))
-    → PrintsAnswer sink old new (IsRecoveredValue job listing lost) (ending_by put (shortfall_ending lost))
-value_put job listing lost value holds put wrote halts fault =
-    answer_as (short_put (job.form ≡ Json) (value_shown job.form job.no_newline value) (shortfall_ending lost) put wrote halts fault)
+    → IfErr put (FailsByWritingJson job.form)
+    → PrintsAnswer sink old new (IsRecoveredValue job listing lacking) (ending_by put (shortfall_ending lacking))
+value_put job listing lacking value holds put wrote halts fault =
+    answer_as (short_json_put (value_shown job.form job.no_newline value) (shortfall_ending lacking) put wrote job.form halts fault)
     (λ answer shown. inl (value, holds, shown))

@@ -11,7 +11,7 @@ use Rattle.bolt_recover.specs.Lost.{IsAllLost}
 use Rattle.bolt_repair.specs.{FullRepairs.IsFullRepair, RepairedMerges.repair_back, RepairedMerges.repair_made, RepairedMerges.repair_unread}
 use Rattle.bolt_repair.specs.{Readable.unread, Repaired.HasStore, Repaired.IsRepaired, Repaired.repaired_listing, declared.repair.Repair.Repair}
 use Rattle.bolt_repair.specs.declared.repair_fault.RepairFault.TheVariants.{Memory}
-use Rattle.bolt_commands.specs.{JobAnswers.WritesRestored, Private.Opened.IsUnsearched, RepairAnswers.IsRestored, RepairAnswers.IsUnrestored}
+use Rattle.bolt_commands.specs.{JobAnswers.WritesRestored, Private.Contents.IsUnsearched, RepairAnswers.IsRestored, RepairAnswers.IsUnrestored}
 use Rattle.bolt_commands.specs.{RepairAnswers.repair_report}
 
 -- a file that isn't searched isn't repaired

@@ -1,18 +1,20 @@
 -- The format can hold what a repaired listing has.
-use Rattle.std.proofs.Common.{inl, inr, ℕ, Bool, true, false, List, [], ◌∷◌, arith, codes, map, subst}
+use Rattle.std.proofs.Common.{inl, inr, ℕ, Bool, true, false, List, [], ◌∷◌, arith, map, subst}
 use Rattle.std.specs.List.{Contains}
 use Rattle.std.proofs.lemmas.List.Elements.{Contains-append_cases}
+use Rattle.bolt_lemmas.proofs.Exports.{contains_cases, contains_none, kept_from}
 use Rattle.bolt_format.specs.{Bytes.IsBytes, Elements.LeafElement, declared.meta.Meta.Meta, Pages.page_at}
 use Rattle.bolt_tree.specs.{Entries.Bucket, Entries.EntryView, Entries.Item, InBuckets.entry_in, InBuckets.members_in, Listing.Member, Merges.merge}
 use Rattle.bolt_tree.specs.{Paths.Path}
-use Rattle.bolt_tree.proofs.Exports.{entry_of, contains_cases, contains_none, kept_from, merge_members}
+use Rattle.bolt_tree.proofs.Exports.{entry_of, merge_members}
 use Rattle.bolt_layout.specs.Storable.{IsFitMember}
 use Rattle.bolt_layout.proofs.Exports.{good_fits, good_shown}
 use Rattle.bolt_recover.proofs.Exports.{shows_entry}
 use Rattle.bolt_recover.specs.Sites.{leaves_of}
-use Rattle.bolt_bulk.proofs.Exports.{bucket_fits, recovered_fits}
 use Rattle.bolt_repair.specs.{Readable.is_readable, Readable.readable, Repaired.IsRepair, Repaired.Made, Repaired.elements_on}
 use Rattle.bolt_repair.specs.{Repaired.repaired_listing, Repairs.meta_path, Repairs.store_path}
+use Rattle.bolt_etcd.specs.Store.BucketNames.{key_bucket, meta_bucket}
+use Rattle.bolt_commands.proofs.JoinedFits.{bucket_fits, recovered_fits}
 
 abbrev Fits : Member → Type 0
 Fits m = IsFitMember m.0 m.1
@@ -38,14 +40,14 @@ module _ (file : List ℕ) (meta : Meta) (search : Bool) (back : List EntryView)
   back_fits : IsBytes file → (made : Bool) (m : Member) → Contains (members_in made store_path back) m → Fits m
   back_fits bytes false m has = let (e, there, same) = entry_of store_path back m has in subst Fits same (entry_fits bytes e there)
   back_fits bytes true m has = elim (contains_cases (store_path, Bucket 0) m (map (entry_in store_path) back) has) [
-    | inl same ↦ subst Fits same (bucket_fits [] (codes "key") (omega arith, omega arith))
+    | inl same ↦ subst Fits same (bucket_fits [] key_bucket (omega arith, omega arith))
     | inr later ↦ let (e, there, is_it) = entry_of store_path back m later in subst Fits is_it (entry_fits bytes e there)
   ]
 
   meta_fits : (is_made : Bool) (m : Member) → Contains (members_in is_made meta_path []) m → Fits m
   meta_fits false m has = absurd (contains_none m has)
   meta_fits true m has = elim (contains_cases (meta_path, Bucket 0) m [] has) [
-    | inl same ↦ subst Fits same (bucket_fits [] (codes "meta") (omega arith, omega arith))
+    | inl same ↦ subst Fits same (bucket_fits [] meta_bucket (omega arith, omega arith))
     | inr none ↦ absurd (contains_none m none)
   ]
 

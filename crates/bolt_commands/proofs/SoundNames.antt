@@ -34,7 +34,7 @@ module _ (file : List ℕ) (meta : Meta) (trees : HasSoundTrees file meta) (list
     IsKeys = IsEntriesAnswer file path form (λ entries. keys_text form (filter is_named entries)) meta answer
 
     keys_there : answer.ending ≢ Err failure.Memory → IsNames → (has : Bool) → has_bucket path listing ≡ has → IsKeys
-    keys_there whole (inr (front, rest, split, cut)) has e = absurd (whole (ap (λ (a : Answer). a.ending) cut))
+    keys_there whole (inr (front, rest, split, may, cut)) has e = absurd (whole (ap (λ (a : Answer). a.ending) cut))
     keys_there whole (inl ended) true e =
         let (bucket, leads) = named_has file meta listing lists path e in
         let (entries, are) = all_entries file meta trees path bucket leads in
@@ -56,7 +56,7 @@ module _ (file : List ℕ) (meta : Meta) (trees : HasSoundTrees file meta) (list
           names_are_keys form want is_named same file meta trees listing lists path bucket leads entries are,
           has_named file meta listing lists path bucket leads,
         )
-        (elim shown [ inl ended ↦ inl ended | inr (json, (front, rest, split, short, cut)) ↦ inr (front, rest, split, cut) ])
+        (elim shown [ inl ended ↦ inl ended | inr (front, rest, split, may, cut) ↦ inr (front, rest, split, tt, cut) ])
     keys_back (inr (nowhere, none)) = rw (none_named file meta listing lists path nowhere) (inl none)
 
 -- ---- a value of a listing is what its path holds

@@ -5,7 +5,7 @@ use Rattle.std.proofs.Common.{◌∙◌}
 use Rattle.bolt_commands.proofs.Vocabulary.{Active, Answer, AreLosses, Assumed, CheckFault, JobEnding, Extent, Failure, Sound, FoundView}
 use Rattle.bolt_commands.proofs.Vocabulary.{HasSoundTrees, InSlot, IsActive, IsFailureOf, IsInSlot, IsListedAnswer, IsListing, IsMetaOf, IsMetasFault}
 use Rattle.bolt_commands.proofs.Vocabulary.{IsReadTo, IsReadUnder, IsRecovered, IsSalvaged, IsUnreadTo, Layout, ListForm, LossView, Losses, LostView}
-use Rattle.bolt_commands.proofs.Vocabulary.{MakesCopy, Member, Meta, MetaChoice, MetaFault, PageSize, Path, Slot, bad_hash, everything, has_losses}
+use Rattle.bolt_commands.proofs.Vocabulary.{MakesCopy, Member, Meta, MetaChoice, OtherMeta, PageSize, Path, Slot, bad_hash, everything, has_losses}
 use Rattle.bolt_commands.proofs.Vocabulary.{hash_refusal, parts, props, unlisted, ∥∥₁_elim}
 use Rattle.bolt_check.specs.declared.check_fault.CheckFault.TheVariants as check
 use Rattle.bolt_commands.specs.declared.failure.Failure.TheVariants as failure
@@ -49,7 +49,7 @@ pub record Reads (file : List ℕ) (meta : Meta) (from to : Extent) (wanted name
   pub read : (other : Meta) (listing : List Member) (lost : LostView) (found : List FoundView) → IsReadTo from file wanted other listing lost found
       → (other ≡ meta) × IsReadTo to file named meta listing lost found
   pub unread : (why : Failure) → IsUnreadTo from file wanted why → IsUnreadTo to file named why
-  pub metas : (other : Option (Slot × MetaFault)) → IsMetasFault from file wanted other → IsMetasFault to file named other
+  pub metas : (other : Option OtherMeta) → IsMetasFault from file wanted other → IsMetasFault to file named other
 
 -- and back
 pub record ReadsAlike (file : List ℕ) (meta : Meta) (from to : Extent) (wanted named : MetaChoice) : Type 0 where
@@ -145,7 +145,6 @@ module _ (b : Below) (file : List ℕ) (meta : Meta) (trees : HasSoundTrees file
         → why ≡ failure.Memory
     unsalvaged found (recover.Rootless x) why are (none, loses) same = absurd (∥∥₁_elim loses (hlevel props) (keeps_not_loses file meta trees meta x refl))
     unsalvaged found recover.Exists why are (some, has) same = absurd (some (b.none_found file meta found no_losses are))
-    unsalvaged found recover.NotABucket why are none same = absurd none
     unsalvaged found recover.TooManyPages why are large same = absurd (omega (arith, few, large))
     unsalvaged found recover.Memory why are is same = same
 

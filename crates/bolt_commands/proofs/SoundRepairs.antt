@@ -1,5 +1,6 @@
 -- With sound trees nothing goes back, and what is copied is their listing.
 use Rattle.std.proofs.Common.{◌≡◌, ◌∙◌, ℕ, Bool, false, List, [], ◌∷◌, ap, arith, inl, inr, length, refl, subst}
+use Rattle.bolt_lemmas.proofs.Exports.{contains_head, contains_none}
 use Rattle.bolt_commands.proofs.Vocabulary.{Failure, HasSoundTrees, IsListing, IsMetaOf, LostView, Member, Meta, MetaChoice, parts, props, ∥∥₁_elim}
 use Rattle.bolt_commands.proofs.{SoundReads.has_meta, SoundReads.keeps_not_loses, SoundRecovery.Below, SoundRecovery.names_one, SoundRecovery.no_loss}
 use Rattle.bolt_commands.proofs.{SoundRecovery.no_losses}
@@ -9,7 +10,6 @@ use Rattle.bolt_etcd.specs.Wire.Others.{OtherView}
 use Rattle.bolt_recover.proofs.Exports.{one_recovered}
 use Rattle.bolt_recover.specs.Found.{AreFound}
 use Rattle.bolt_tree.specs.Entries.{EntryView, Value}
-use Rattle.bolt_tree.proofs.Exports.{contains_head, contains_none}
 use Rattle.bolt_repair.specs.{FullRepairs.AreCandidateKeys, FullRepairs.IsLeftOut, Readable.readable, Readable.unread, RepairRefusals.IsRepairRefusal}
 use Rattle.bolt_repair.specs.{Repaired.MakesMeta, Repaired.elements_on, Repairs.store_path}
 use Rattle.bolt_repair.specs.declared.repair_fault.RepairFault.{RepairFault}

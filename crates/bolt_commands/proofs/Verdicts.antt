@@ -7,7 +7,7 @@ use Rattle.bolt_commands.proofs.Vocabulary.{JobEnding, Meta, MetaChoice, PageGap
 use Rattle.bolt_commands.proofs.Doing.{answer_as}
 use Rattle.bolt_commands.specs.{Answers.status_of, CheckAnswers.AreFindingsFor, CheckAnswers.bbolt_answer, CheckAnswers.is_right, FileFaults.is_fine}
 use Rattle.bolt_commands.specs.{FileFaults.no_faults}
-use Rattle.bolt_commands.specs.Private.Checks.{ComesToVerdict, IsVerdict, IsWrong, unopened}
+use Rattle.bolt_commands.specs.Private.Checks.{AnswersWhole, ComesToVerdict, IsVerdict, IsWrong, unopened}
 use Rattle.bolt_commands.specs.declared.verdict.{Checking.Checking, Verdict.Verdict}
 use Rattle.bolt_commands.specs.declared.failure.Failure.TheVariants as failure
 use Rattle.bolt_commands.specs.declared.verdict.Verdict.TheVariants as verdict
@@ -44,25 +44,35 @@ pub after_nothing : {S : Type 0} {sink : Ghosts S} {old middle new : S} {IsWante
 after_nothing {S = S} {sink = sink} {new = new} {IsWanted = IsWanted} {ending = ending} same put =
     subst (λ (s : S). PrintsAnswer sink s new IsWanted ending) same put
 
-module _ (faults : FileFaults) (file : List ℕ) (choice : MetaChoice) where
-  -- ---- a sound file
+-- ---- a sound file
 
-  -- nothing is wrong with it, though it was looked for gaps
-  pub right_gaps : (for_bbolt : Bool) (gaps : List PageGapView) → is_right faults gaps ≡ true
-      → (is_fine faults ≡ true)
-      × ((answer : Answer) → IsFindingsAnswer for_bbolt faults file choice [] answer → IsFindingsAnswer for_bbolt faults file choice gaps answer)
-  right_gaps for_bbolt [] right = (right, λ answer is. is)
-  right_gaps for_bbolt (gap ∷ gaps) right = absurd (false≢true right)
+none_for : (for_bbolt : Bool) (file : List ℕ) (choice : MetaChoice) (meta : Meta) → AreFindingsFor (for_bbolt && false) file choice meta [] []
+none_for true file choice meta = (refl, refl)
+none_for false file choice meta = (refl, refl)
 
+-- ---- a file whose gaps are known
+
+-- nothing is wrong with it
+pub right_gaps : (c : Checking) (gaps : List PageGapView) → is_right c.faults gaps ≡ true
+    → (is_fine c.faults ≡ true) × ((answer : Answer) → AnswersWhole c [] answer → AnswersWhole c gaps answer)
+right_gaps c [] right = (right, λ answer is. is)
+right_gaps c (gap ∷ gaps) right = absurd (false≢true right)
+
+module _ (c : Checking) (gaps : List PageGapView) where
   -- something is
-  none_for : (for_bbolt : Bool) (meta : Meta) → AreFindingsFor (for_bbolt && false) file choice meta [] []
-  none_for true meta = (refl, refl)
-  none_for false meta = (refl, refl)
+  pub wrong_gaps : (meta : Meta) → is_right c.faults gaps ≡ false → IsReadUnder c.input.file.now c.choice meta
+      → IsWrong (AnswersWhole c gaps) (findings_answer c.faults [] gaps)
+  wrong_gaps meta wrong under = (inl (meta, [], [], under, rw wrong (none_for c.for_bbolt c.input.file.now c.choice meta), rw wrong refl), refl)
 
-  pub wrong_gaps : (for_bbolt : Bool) (gaps : List PageGapView) (meta : Meta) → is_right faults gaps ≡ false → IsReadUnder file choice meta
-      → IsWrong (IsFindingsAnswer for_bbolt faults file choice gaps) (findings_answer faults [] gaps)
-  wrong_gaps for_bbolt gaps meta wrong under = (inl (meta, [], [], under, rw wrong (none_for for_bbolt meta), rw wrong refl), refl)
+  -- it is refused
+  pub refused_file : (fault : CheckFault) → IsRefusedUnder c.input.file.now c.choice fault
+      → IsWrong (AnswersWhole c gaps) (check_refusal c.faults gaps fault)
+  refused_file (check.Open fault) is = (inr (check.Open fault, is, refl), refl)
+  refused_file (check.Structure x) is = (inr (check.Structure x, is, refl), refl)
+  refused_file (check.Accounts findings) is = (inr (check.Accounts findings, is, refl), refl)
+  refused_file check.Memory is = (inr (check.Memory, is, refl), refl)
 
+module _ (faults : FileFaults) (file : List ℕ) (choice : MetaChoice) where
   -- ---- what bbolt fails on
 
   found_for : (for_bbolt right : Bool) (meta : Meta) (of_file : List FileFinding) (on_ways : List Finding) → right ≡ true
@@ -86,11 +96,3 @@ module _ (faults : FileFaults) (file : List ℕ) (choice : MetaChoice) where
   pub right_done : (meta : Meta) → is_fine faults ≡ true → IsReadUnder file choice meta
       → IsFindingsAnswer false faults file choice [] (done (codes "OK\n"))
   right_done meta fine under = right_found false meta [] [] fine under (refl, refl)
-
-  -- ---- a file that is refused
-  pub refused_file : (for_bbolt : Bool) (gaps : List PageGapView) (fault : CheckFault) → IsRefusedUnder file choice fault
-      → IsWrong (IsFindingsAnswer for_bbolt faults file choice gaps) (check_refusal faults gaps fault)
-  refused_file for_bbolt gaps (check.Open fault) is = (inr (check.Open fault, is, refl), refl)
-  refused_file for_bbolt gaps (check.Structure x) is = (inr (check.Structure x, is, refl), refl)
-  refused_file for_bbolt gaps (check.Accounts findings) is = (inr (check.Accounts findings, is, refl), refl)
-  refused_file for_bbolt gaps check.Memory is = (inr (check.Memory, is, refl), refl)

@@ -1,11 +1,13 @@
 -- The words that the proofs of this crate cite, passed on from the modules that define them.
+pub use Rattle.bolt_lemmas.proofs.Exports.{filter_all}
+pub use Rattle.bolt_lemmas.specs.Order.{Rises}
 pub use Rattle.bolt_bulk.specs.{Compacting.too_many, declared.bulk_fault.BulkFault.BulkFault}
 pub use Rattle.bolt_check.specs.{CheckedFiles.bytes_of, CheckedFiles.meta_of, Findings.IsClaimedBefore, Findings.IsMetaPage, Findings.finding}
 pub use Rattle.bolt_check.specs.{Nodes.leaf_entry, Nodes.node_at}
 pub use Rattle.bolt_check.specs.{Sound.HasRightAccounts, Sound.HasSoundTrees, Sound.IsFirstFinding, Sound.IsRefused, Sound.IsSound, Keys.Key}
 pub use Rattle.bolt_check.specs.{declared.checked.Checked.Checked}
 pub use Rattle.bolt_check.specs.{declared.check_fault.CheckFault.CheckFault, declared.finding.Finding.Finding}
-pub use Rattle.bolt_commands.specs.Answers.{Answer, JobEnding, WritesAnswer, IsEndedOrCut, done, refused}
+pub use Rattle.bolt_commands.specs.Answers.{Answer, JobEnding, WritesAnswer, IsPrinted, done, refused}
 pub use Rattle.bolt_commands.specs.CheckAnswers.{AnswersLost, IsCheckAnswer, IsCheckAnswerAfter, IsFindingsAnswer, IsLostAnswer, MayRunOut}
 pub use Rattle.bolt_commands.specs.CheckAnswers.{check_refusal, findings_answer, lost_and_found_answer, sound_answer}
 pub use Rattle.bolt_commands.specs.FilesRead.{AreFoundPages, AreFoundTo, HoldsIn, IsFileRefusal, IsReadAnswer, IsReadUnder, IsReadTo}
@@ -25,11 +27,11 @@ pub use Rattle.bolt_commands.specs.{declared.shortfall.Shortfall.Shortfall, Good
 pub use Rattle.bolt_commands.specs.Private.Copying.{CompactsTo, CopiesJoined, CopiesListing, CopiesRead, CopiesTo, IsAskedBlueprint, blueprint_layout}
 pub use Rattle.bolt_commands.specs.Private.Copying.{job_layout}
 pub use Rattle.bolt_commands.specs.Private.Endings.{MayFail, ending_by, end_written, failing}
-pub use Rattle.bolt_commands.specs.Private.Opened.{HasNoBucket, IsOpenedBucket, IsJoinedOf, IsOpened, IsRecoveryOf, IsSearchOf, IsSoundOf, IsUnopened}
-pub use Rattle.bolt_commands.specs.Private.Opened.{IsUnread, opened_found, opened_lost, opened_meta}
+pub use Rattle.bolt_commands.specs.Private.Contents.{HasNoBucket, IsOpenedBucket, IsJoinedOf, IsOpened, IsRecoveryOf, IsSearchOf, IsSoundOf, IsUnopened}
+pub use Rattle.bolt_commands.specs.Private.Contents.{IsUnread, contents_found, contents_lost, contents_meta}
 pub use Rattle.bolt_commands.specs.{SnapshotAnswers.bad_hash, SnapshotAnswers.copy_of, SnapshotAnswers.asked_hash_fault, CopyEnds.EndsCopy}
 pub use Rattle.bolt_commands.specs.{Hashes.HashesSince, declared.failure.Failure.Failure}
-pub use Rattle.bolt_commands.specs.{declared.file_faults.FileFaults.FileFaults, declared.opened.Opened.Opened}
+pub use Rattle.bolt_commands.specs.{declared.file_faults.FileFaults.FileFaults, declared.opening.Contents.Contents, declared.other_meta.OtherMeta.OtherMeta}
 pub use Rattle.bolt_commands.specs.Private.Printing.{PrintsAnswer, PutsJoined, PutsListing, PutsPart, finds, job_part, sound_part}
 pub use Rattle.bolt_commands.specs.CopyLayouts.{layout_for}
 pub use Rattle.bolt_format.proofs.Exports.{AppendsProperPrefix-first, AppendsProperPrefix-second, Wrote-ends, Wrote-none, Wrote-return, Wrote-same}
@@ -59,21 +61,22 @@ pub use Rattle.bolt_recover.specs.PageGaps.{AreGaps, ForGaps, PageGapView, gaps_
 pub use Rattle.bolt_recover.specs.JoinedMembers.{ForJoined, joined_file, joined_left, joined_meta}
 pub use Rattle.bolt_recover.specs.Losses.{AreLosses, LossView, LostView, everything, is_nothing, loss_at, losses_of, parts}
 pub use Rattle.bolt_recover.specs.{Sites.Site, Sites.leaves_of, Sites.site_at, Recovered.ForRecovered, Recovered.IsRecovered}
-pub use Rattle.bolt_recover.specs.Recoveries.{ForLosses, recovery_file, recovery_left, recovery_losses, recovery_meta, recovery_work}
-pub use Rattle.bolt_recover.specs.{ShownLosses.loss_view, ShownLosses.lost_view, Joined.IsJoined, LostAndFound.all_lost, declared.found.Found.Found}
+pub use Rattle.bolt_recover.specs.Recoveries.{ForLosses, recovery_file, recovery_gaps, recovery_left, recovery_losses, recovery_meta, recovery_work}
+pub use Rattle.bolt_recover.specs.{ShownLosses.loss_view, ShownLosses.lost_view, Joined.IsJoined, LostAndFound.all_lost}
+pub use Rattle.bolt_recover.specs.{declared.found_page.FoundPage.FoundPage}
 pub use Rattle.bolt_recover.specs.{declared.lost_and_found.LostAndFound.LostAndFound}
 pub use Rattle.bolt_report.specs.{FoundLines.FoundView, FoundLines.IsFoundLeaf, FoundLines.counted_lost_text, FoundLines.found_view}
 pub use Rattle.bolt_report.specs.{KeyLines.buckets_text, KeyLines.keys_text}
 pub use Rattle.bolt_stats.specs.{Figures.add_stats, declared.figures.Stats.Stats}
 pub use Rattle.bolt_etcd.specs.Check.SnapshotFaults.{IsSnapshot, cut_hash_fault, hash_fault, snapshot_of}
-pub use Rattle.bolt_tree.proofs.Exports.{fewer_left, next_shows, next_stands, the_entries, held_down, held_up, names_push, has_listing, filter_all}
+pub use Rattle.bolt_tree.proofs.Exports.{fewer_left, next_shows, next_stands, the_entries, held_down, held_up, names_push, has_listing}
 pub use Rattle.bolt_tree.specs.{Buckets.bucket_checked, Buckets.bucket_start, Cursors.cursor_checked, Cursors.cursor_place, Cursors.cursor_start}
 pub use Rattle.bolt_tree.specs.Entries.{AreEntries, EntryView, IsEntry, Item, Root_page, Start, Value, item_of, start_of}
 pub use Rattle.bolt_tree.specs.{EntriesLeft.ForEntries, EntriesLeft.entries_left, FileListings.ForListing, FileListings.root_start}
 pub use Rattle.bolt_tree.specs.Listing.{IsListing, Member, member_cmp, rest_from}
 pub use Rattle.bolt_tree.specs.{ListingParts.has_bucket, ListingParts.is_bucket, ListingParts.is_bucket_at, ListingParts.part_below}
 pub use Rattle.bolt_tree.specs.{Lookups.IsBucketAt, Lookups.IsValueAt}
-pub use Rattle.bolt_tree.specs.{Paths.Holds, Paths.Names, Paths.Path, Paths.path_cmp, Paths.path_of, BucketViews.entries_of, Order.Rises}
+pub use Rattle.bolt_tree.specs.{Paths.Holds, Paths.Names, Paths.Path, Paths.path_cmp, Paths.path_of, BucketViews.entries_of}
 pub use Rattle.bolt_tree.specs.{declared.bucket.Bucket.Bucket}
 pub use Rattle.sha2.proofs.Facts256.{length-sha256}
 pub use Rattle.sha2.specs.{Hashers.Holds256, Sha256.sha256, declared.Sha256.Sha256}

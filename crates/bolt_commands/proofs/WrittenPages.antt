@@ -1,9 +1,10 @@
 -- If `check --all` finds nothing, the pages of the trees are what is written for their elements.
-use Rattle.std.proofs.Common.{◌≡◌, ℕ, false, List, [], ◌∷◌, ◌++◌, Option, Some, None, ap, arith, codes, inl, inr, refl, subst, sym}
+use Rattle.std.proofs.Common.{◌≡◌, ℕ, false, List, [], ◌∷◌, Option, Some, None, ap, arith, codes, inl, inr, refl, subst, sym}
+use Rattle.bolt_lemmas.proofs.Exports.{append_none}
+use Rattle.bolt_lemmas.specs.Lists.{Has}
 use Rattle.bolt_commands.proofs.Vocabulary.{Answer, AnswersLost, AreGaps, AreLosses, FileFaults, FoundView, HasNoGaps, HasSoundTrees, IsMetaOf}
 use Rattle.bolt_commands.proofs.Vocabulary.{LostView, Meta, MetaChoice, PageGapView, check_refusal, done, everything, gaps_of, has_losses, node_at}
 use Rattle.bolt_commands.proofs.Vocabulary.{parts}
-use Rattle.bolt_check.specs.Lists.{Has}
 use Rattle.bolt_check.specs.Ways.{At_inline, At_page, Spot, reached}
 use Rattle.bolt_check.specs.declared.check_fault.CheckFault.{CheckFault}
 use Rattle.bolt_check.specs.declared.check_fault.CheckFault.TheVariants as check
@@ -24,10 +25,6 @@ pub record Laws : Type 0 where
       → IsAsWritten file meta
 
 -- ---- no gap is reported, so no page that is kept has one
-
-append_none : {X : Type 0} (xs ys : List X) → xs ++ ys ≡ [] → (xs ≡ []) × (ys ≡ [])
-append_none [] ys e = (refl, e)
-append_none (x ∷ xs) ys e = absurd (cc)
 
 gap_none : (page : ℕ) (gap : Option GapView) → gap_on page gap ≡ [] → gap ≡ None
 gap_none page None e = refl

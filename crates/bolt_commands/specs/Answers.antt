@@ -1,5 +1,5 @@
 -- What the program answers to a command, and what its sinks accept: docs/COMMANDS.md, "What a run writes".
-use Rattle.std.specs.Prelude.{◌≡◌, ◌≢◌, ◌<◌, ◌-◌, ◌⊎◌, ℕ, List, [], ◌++◌, Option, Result, Ok, Err}
+use Rattle.std.specs.Prelude.{◌≡◌, ◌≢◌, ◌<◌, ◌⊎◌, ℕ, List, [], ◌++◌, Option, Result, Ok, Err}
 use Rattle.std.specs.Io.KnownBytes.{Appends}
 use Rattle.bolt_format.specs.Sinks.{AppendsPrefix}
 use Rattle.bolt_text.specs.{declared.forms.Form.Form, declared.forms.Form.TheVariants.Json}
@@ -21,32 +21,26 @@ done text = record { out = text; ending = Ok 0 }
 abbrev pub refused : Failure → Answer
 refused failure = record { out = []; ending = Err failure }
 
--- memory ran out: a prefix of the text, maybe all of it
-abbrev pub IsCutAnswer : List ℕ → Answer → Type 0
-IsCutAnswer text answer = (front rest : List ℕ) × (text ≡ front ++ rest) × (answer ≡ record { out = front; ending = Err failure.Memory })
+-- When memory may run out while a text is printed: never; before its last byte is written; or as late as when all of it is.
+pub data RunsOut : Type 0 where
+  Never Short Late : RunsOut
 
--- memory ran out before the last byte of the text: a prefix, and not all of it
-abbrev pub IsCutShort : List ℕ → Answer → Type 0
-IsCutShort text answer = (front rest : List ℕ) × (text ≡ front ++ rest) × (rest ≢ []) × (answer ≡ record { out = front; ending = Err failure.Memory })
+-- JSON alone needs memory.
+abbrev pub in_json : RunsOut → Form → RunsOut
+in_json memory Json = memory
+in_json memory form = Never
 
--- the whole text, and this ending; or memory ran out on the way, or before it was known that the text is whole
-abbrev pub IsEndedOrCut : List ℕ → JobEnding → Answer → Type 0
-IsEndedOrCut text ending answer = (answer ≡ record { out = text; ending = ending }) ⊎ IsCutAnswer text answer
+-- Memory may run out before this rest of the text is written.
+abbrev pub MayLeave : RunsOut → (rest : List ℕ) → Type 0
+MayLeave Never rest = ⊥
+MayLeave Short rest = rest ≢ []
+MayLeave Late rest = Unit {0}
 
--- the whole text; or memory ran out on the way
-abbrev pub IsWholeOrShort : List ℕ → Answer → Type 0
-IsWholeOrShort text answer = (answer ≡ done text) ⊎ IsCutShort text answer
-
--- the whole text, and this ending; or memory ran out on the way, which JSON alone needs
-abbrev pub IsShownAndEnded : Form → List ℕ → JobEnding → Answer → Type 0
-IsShownAndEnded form text ending answer = (answer ≡ record { out = text; ending = ending }) ⊎ ((form ≡ Json) × IsCutShort text answer)
-
-abbrev pub IsShownText : Form → List ℕ → Answer → Type 0
-IsShownText form text answer = IsShownAndEnded form text (Ok 0) answer
-
--- the whole text and this ending; or memory ran out, which JSON alone needs, after a prefix of the text or all of it
-abbrev pub IsShownOrCut : Form → List ℕ → JobEnding → Answer → Type 0
-IsShownOrCut form text ending answer = (answer ≡ record { out = text; ending = ending }) ⊎ ((form ≡ Json) × IsCutAnswer text answer)
+-- The whole text is printed, and the job ends so; or memory ran out, and a prefix of the text is.
+abbrev pub IsPrinted : RunsOut → List ℕ → JobEnding → Answer → Type 0
+IsPrinted memory text ending answer =
+    (answer ≡ record { out = text; ending = ending })
+    ⊎ ((front rest : List ℕ) × (text ≡ front ++ rest) × MayLeave memory rest × (answer ≡ record { out = front; ending = Err failure.Memory }))
 
 -- From its state `old` to `new` standard output accepted the text of the answer without a failure, and the job ends so; or it has failed
 -- by then, accepted a prefix, and the job ends with that.

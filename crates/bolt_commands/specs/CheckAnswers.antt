@@ -1,5 +1,5 @@
 -- What `check` answers: docs/COMMANDS.md, "What a run writes".
-use Rattle.std.specs.Prelude.{◌≡◌, ◌-◌, ◌⊎◌, ◌&&◌, ℕ, List, [], ◌∷◌, ◌++◌, Bool, true, false, codes, Ok, Err, if◌then◌else◌}
+use Rattle.std.specs.Prelude.{◌≡◌, ◌⊎◌, ◌&&◌, ℕ, List, [], ◌∷◌, ◌++◌, Bool, true, false, codes, Ok, Err, if◌then◌else◌}
 use Rattle.bolt_check.specs.{BboltFileFindings.file_findings, BboltFindings.AreBboltFindings, Nodes.node_at}
 use Rattle.bolt_check.specs.{declared.bbolt_file.FileFinding.FileFinding, declared.check_fault.CheckFault.CheckFault}
 use Rattle.bolt_check.specs.{declared.finding.Finding.Finding, ShownFindings.findings_in}

@@ -1,5 +1,5 @@
 -- What `compact` and `load` answer, and how a copy stops: docs/COMMANDS.md, "What a run writes".
-use Rattle.std.specs.Prelude.{◌≡◌, ◌<◌, ◌≤◌, ◌-◌, ◌^◌, ◌&&◌, ℕ, List, ◌++◌, codes, decimal, length, Option, Some, None, Ok, if◌then◌else◌}
+use Rattle.std.specs.Prelude.{◌≡◌, ◌<◌, ◌≤◌, ◌&&◌, ℕ, List, ◌++◌, codes, decimal, length, Option, Some, None, Ok, if◌then◌else◌}
 use Rattle.std.specs.Io.KnownBytes.{Keeps}
 use Rattle.bolt_bulk.specs.Compacting.{too_many}
 use Rattle.bolt_format.specs.{Sinks.AppendsProperPrefix, declared.meta.Meta.Meta}

@@ -5,19 +5,19 @@ use Rattle.bolt_check.specs.Counts.{counted}
 use Rattle.bolt_format.specs.{Elements.LeafElement, declared.meta.Meta.Meta}
 use Rattle.bolt_report.specs.{FaultWords.count_line, RevisionLines.named_with, RevisionLines.revision_lines, StatusLines.status_text}
 use Rattle.bolt_tree.specs.Entries.{IsEntry, Root_page}
-use Rattle.bolt_commands.specs.Answers.{Answer, IsEndedOrCut, IsShownAndEnded, IsShownOrCut, JobEnding, done, refused}
+use Rattle.bolt_commands.specs.Answers.{Answer, IsPrinted, JobEnding, Late, Short, done, in_json, refused}
 use Rattle.bolt_commands.specs.{CheckAnswers.IsCheckAnswer, FilesRead.IsReadAnswer, FilesRead.IsReadUnder, KeyAnswers.value_shown}
 use Rattle.bolt_commands.specs.declared.failure.Failure.TheVariants as failure
 use Rattle.bolt_etcd.specs.{Store.Current.AreCurrent, Store.Newest.newest, Store.Newest.until, Store.Newest.value_if, Wire.Revisions.RevisionView}
 use Rattle.bolt_etcd.specs.{Store.StoreBuckets.IsStore, Store.StoreBuckets.StoreView}
 use Rattle.bolt_etcd.specs.{Store.Statuses.store_status, Check.StoreFaults.store_compacted, Check.StoreFaults.store_lines, Store.Stores.entries_from}
 use Rattle.bolt_etcd.specs.{Store.Stores.others, Store.Stores.revisions}
+use Rattle.bolt_etcd.specs.Store.BucketNames.{key_bucket}
 use Rattle.std.specs.{Int.to_be_bytes, Int.w64, List.concat}
 use Rattle.bolt_job.specs.declared.{choices.Extent.TheVariants.Losses, choices.MetaChoice.MetaChoice}
 use Rattle.bolt_job.specs.{declared.etcd_jobs.EtcdCheckJob.EtcdCheckJob, declared.etcd_jobs.EtcdGetJob.EtcdGetJob}
 use Rattle.bolt_job.specs.{declared.etcd_jobs.EtcdKeysJob.EtcdKeysJob}
 use Rattle.bolt_job.specs.{declared.etcd_jobs.EtcdRevisionsJob.EtcdRevisionsJob, declared.etcd_jobs.EtcdStatusJob.EtcdStatusJob}
-use Rattle.bolt_job.specs.declared.job.Job.TheVariants as job
 
 -- what is under the root bucket
 abbrev pub IsStoreOf : List ℕ → Meta → StoreView → Type 0
@@ -58,24 +58,24 @@ UnlessCompacted false IsWanted answer = IsWanted answer
 -- an answer of the entries of the bucket `key` at a transaction
 abbrev pub IsAnswerAt : Option ℕ → StoreView → (List LeafElement → Answer → Type 0) → Answer → Type 0
 IsAnswerAt at store IsWanted answer =
-    OfKeys (store.bucket (codes "key")) (λ entries. UnlessCompacted (is_compacted at (store_compacted store)) (IsWanted entries)) answer
+    OfKeys (store.bucket key_bucket) (λ entries. UnlessCompacted (is_compacted at (store_compacted store)) (IsWanted entries)) answer
 
 -- the lines of the revisions whose names begin with a prefix
 abbrev pub IsRevisionsText : EtcdRevisionsJob → List LeafElement → Answer → Type 0
 IsRevisionsText job entries answer =
     let asked = entries_asked job.from entries in
-    IsShownOrCut job.form (revision_lines job.form job.values (named_with job.prefix.items (revisions asked))) (entries_ending asked) answer
+    IsPrinted (in_json Late job.form) (revision_lines job.form job.values (named_with job.prefix.items (revisions asked))) (entries_ending asked) answer
 
 -- the lines of the keys that there are at a transaction
 abbrev pub IsCurrentText : EtcdKeysJob → List LeafElement → Answer → Type 0
 IsCurrentText job entries answer =
     (current : List RevisionView) × AreCurrent (until (up_to job.at) (revisions entries)) current
-    × IsEndedOrCut (revision_lines job.form job.values (named_with job.prefix.items current)) (entries_ending entries) answer
+    × IsPrinted Late (revision_lines job.form job.values (named_with job.prefix.items current)) (entries_ending entries) answer
 
 -- a value, if there is one
 abbrev pub IsValueText : EtcdGetJob → JobEnding → Option (List ℕ) → Answer → Type 0
 IsValueText job ending None answer = answer ≡ refused failure.NoKey
-IsValueText job ending (Some value) answer = IsShownAndEnded job.form (value_shown job.form job.no_newline value) ending answer
+IsValueText job ending (Some value) answer = IsPrinted (in_json Short job.form) (value_shown job.form job.no_newline value) ending answer
 
 -- what a key held at a transaction
 abbrev pub IsNewestText : EtcdGetJob → List LeafElement → Answer → Type 0
@@ -99,7 +99,7 @@ errors_status (suc n) = 1
 abbrev pub IsStoreText : StoreView → Answer → Type 0
 IsStoreText store answer =
     let errors = counted 0 (length (store_lines store)) in
-    IsEndedOrCut (concat (store_lines store) ++ errors_end errors) (Ok (errors_status errors)) answer
+    IsPrinted Late (concat (store_lines store) ++ errors_end errors) (Ok (errors_status errors)) answer
 
 -- the file isn't refused, and this is an answer of its store
 abbrev pub IsStoreAnswer : List ℕ → (StoreView → Answer → Type 0) → Meta → Answer → Type 0
@@ -107,7 +107,7 @@ IsStoreAnswer file IsWanted meta answer = (store : StoreView) × IsStoreOf file 
 
 abbrev pub IsEtcdRevisionsPrint : EtcdRevisionsJob → List ℕ → Answer → Type 0
 IsEtcdRevisionsPrint job file answer =
-    IsReadAnswer file job.meta (IsStoreAnswer file (λ store. OfKeys (store.bucket (codes "key")) (IsRevisionsText job))) answer
+    IsReadAnswer file job.meta (IsStoreAnswer file (λ store. OfKeys (store.bucket key_bucket) (IsRevisionsText job))) answer
 
 abbrev pub IsEtcdKeysPrint : EtcdKeysJob → List ℕ → Answer → Type 0
 IsEtcdKeysPrint job file answer = IsReadAnswer file job.meta (IsStoreAnswer file (λ store. IsAnswerAt job.at store (IsCurrentText job))) answer

@@ -10,8 +10,7 @@ use Rattle.bolt_recover.specs.declared.recover_fault.RecoverFault.{RecoverFault}
 use Rattle.bolt_recover.specs.declared.recover_fault.RecoverFault.TheVariants as recover
 use Rattle.bolt_repair.specs.declared.repair_fault.RepairFault.{RepairFault}
 use Rattle.bolt_repair.specs.declared.repair_fault.RepairFault.TheVariants as repair
-use Rattle.bolt_report.specs.FaultWords.{finding_text, meta_fault_text, page_fault_text}
-use Rattle.bolt_etcd.specs.Check.SnapshotFaults.{snapshot_fault_text}
+use Rattle.bolt_report.specs.FaultWords.{finding_text, meta_fault_text, page_fault_text, snapshot_fault_text}
 use Rattle.bolt_text.specs.declared.report_fault.ReportFault.{ReportFault}
 use Rattle.bolt_text.specs.declared.report_fault.ReportFault.TheVariants as report
 use Rattle.bolt_commands.specs.{Shortfalls.shortfall_text, declared.failure.Failure.Failure}
@@ -26,8 +25,8 @@ failure_text (Page fault) = page_fault_text fault
 failure_text NoBucket = codes "bucket not found\n"
 failure_text NoKey = codes "key not found\n"
 failure_text NoState = codes "no state found\n"
-failure_text (BucketMaybeLost lost) = codes "bucket not found; " ++ shortfall_text lost
-failure_text (KeyMaybeLost lost) = codes "key not found; " ++ shortfall_text lost
+failure_text (BucketMaybeLost lacking) = codes "bucket not found; " ++ shortfall_text lacking
+failure_text (KeyMaybeLost lacking) = codes "key not found; " ++ shortfall_text lacking
 failure_text Memory = codes "out of memory\n"
 failure_text TooLarge = codes "layout too large\n"
 failure_text TooManyPages = codes "too many pages\n"
@@ -37,7 +36,7 @@ failure_text Exists = codes "lost+found exists\n"
 failure_text NotABucket = codes "key is not a bucket\n"
 failure_text (Others count) = codes "not revisions: " ++ (decimal count ++ codes "\n")
 failure_text Compacted = codes "revision compacted\n"
-failure_text (Lacking lost) = shortfall_text lost
+failure_text (Lacking lacking) = shortfall_text lacking
 failure_text (Line number fault) = codes "line " ++ ((decimal number ++ codes ": ") ++ (line_fault_words fault ++ codes "\n"))
 
 -- a failure is one line on standard error
@@ -65,7 +64,6 @@ unloaded (load.Line number fault) = Line number fault
 abbrev pub unlisted : RecoverFault → Failure
 unlisted (recover.Rootless x) = File x
 unlisted recover.Exists = Exists
-unlisted recover.NotABucket = NotABucket
 unlisted recover.TooManyPages = TooManyPages
 unlisted recover.Memory = Memory
 

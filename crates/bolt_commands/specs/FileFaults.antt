@@ -1,10 +1,11 @@
 -- What is wrong with a file apart from its pages: docs/COMMANDS.md, "Snapshots" and "Both metas".
 use Rattle.std.specs.Prelude.{◌≡◌, ◌⊎◌, ◌&&◌, ◌++◌, ◌+◌, ℕ, List, [], Bool, Option, None, Some, is_none}
 use Rattle.bolt_format.specs.{Metas.HasSlotFault, Metas.IsActive, Metas.IsInSlot, Metas.other_slot, declared.meta.Meta.Meta}
-use Rattle.bolt_format.specs.{declared.meta.MetaFault.MetaFault, declared.meta.Slot.Slot}
-use Rattle.bolt_report.specs.MetaLines.{slot_fault_text}
-use Rattle.bolt_etcd.specs.{Check.SnapshotFaults.snapshot_fault_text, declared.check.snapshot.SnapshotFault.SnapshotFault}
+use Rattle.bolt_format.specs.declared.meta.Slot.{Slot}
+use Rattle.bolt_report.specs.{FaultWords.snapshot_fault_text, MetaLines.slot_fault_text}
+use Rattle.bolt_etcd.specs.declared.check.snapshot.SnapshotFault.{SnapshotFault}
 use Rattle.bolt_commands.specs.{SnapshotAnswers.bad_hash, SnapshotAnswers.asked_hash_fault, declared.file_faults.FileFaults.FileFaults}
+use Rattle.bolt_commands.specs.declared.other_meta.OtherMeta.{OtherMeta}
 use Rattle.bolt_job.specs.{declared.choices.Extent.Extent, declared.choices.Extent.TheVariants.Losses, declared.choices.Extent.TheVariants.FoundPages}
 use Rattle.bolt_job.specs.{declared.choices.Extent.TheVariants.Sound}
 use Rattle.bolt_job.specs.declared.choices.MetaChoice.{MetaChoice}
@@ -12,19 +13,20 @@ use Rattle.bolt_job.specs.declared.choices.MetaChoice.TheVariants.{Active, Assum
 
 -- ---- what it is
 
--- the slot that isn't in use, and its fault, if it has no valid meta
-abbrev pub IsUnusedFault : List ℕ → Slot → Option (Slot × MetaFault) → Type 0
+-- the meta in the slot that isn't in use, if it is refused
+abbrev pub IsUnusedFault : List ℕ → Slot → Option OtherMeta → Type 0
 IsUnusedFault file slot None = (meta : Meta) × IsInSlot file (other_slot slot) meta
-IsUnusedFault file slot (Some (other, fault)) = (other ≡ other_slot slot) × HasSlotFault file other fault × ((meta : Meta) → IsInSlot file other meta → ⊥)
+IsUnusedFault file slot (Some other) =
+    (other.slot ≡ other_slot slot) × HasSlotFault file other.slot other.fault × ((meta : Meta) → IsInSlot file other.slot meta → ⊥)
 
--- the slot that isn't in use and its fault, in a file with an active meta; without one there is nothing more to say
-abbrev pub IsOtherFault : List ℕ → Option (Slot × MetaFault) → Type 0
+-- the other meta, if it is refused, of a file with an active one; without one there is nothing more to say
+abbrev pub IsOtherFault : List ℕ → Option OtherMeta → Type 0
 IsOtherFault file other =
     ((slot : Slot) × (meta : Meta) × IsActive file slot meta × IsUnusedFault file slot other)
     ⊎ (((slot : Slot) (meta : Meta) → IsInSlot file slot meta → ⊥) × (other ≡ None))
 
 -- Both metas are looked at if all of a file is asked for, under its active meta.
-abbrev pub IsMetasFault : Extent → List ℕ → MetaChoice → Option (Slot × MetaFault) → Type 0
+abbrev pub IsMetasFault : Extent → List ℕ → MetaChoice → Option OtherMeta → Type 0
 IsMetasFault Sound file choice other = other ≡ None
 IsMetasFault Losses file Active other = IsOtherFault file other
 IsMetasFault Losses file (InSlot slot) other = other ≡ None
@@ -56,9 +58,9 @@ abbrev pub hash_lines : Option SnapshotFault → List ℕ
 hash_lines None = []
 hash_lines (Some fault) = snapshot_fault_text fault
 
-abbrev pub other_meta_lines : Option (Slot × MetaFault) → List ℕ
+abbrev pub other_meta_lines : Option OtherMeta → List ℕ
 other_meta_lines None = []
-other_meta_lines (Some (slot, fault)) = slot_fault_text slot fault
+other_meta_lines (Some other) = slot_fault_text other.slot other.fault
 
 abbrev pub fault_lines : FileFaults → List ℕ
 fault_lines faults = hash_lines faults.hash ++ other_meta_lines faults.other

@@ -1,10 +1,10 @@
 -- What a command reads of a file: a sound one, what is recovered of a damaged one, or that with what is found; and why it reads none.
-use Rattle.std.specs.Prelude.{◌≡◌, ◌≢◌, ◌-◌, ◌⊎◌, ℕ, List, [], Bool, true, false, IsTrue, length, map, take, Option, Some, None, Ok, Err}
+use Rattle.std.specs.Prelude.{◌≡◌, ◌≢◌, ◌⊎◌, ℕ, List, [], Bool, true, false, IsTrue, map, Option, Some, None, Ok, Err}
 use Rattle.bolt_check.specs.{AccountFindings.AreAccountFindings, Sound.HasRightAccounts, Sound.HasSoundTrees, Sound.IsFirstFinding, Sound.IsUsed}
 use Rattle.bolt_check.specs.{declared.check_fault.CheckFault.CheckFault}
 use Rattle.bolt_check.specs.{declared.finding.Finding.Finding, ShownFindings.findings_in}
 use Rattle.bolt_check.specs.declared.check_fault.CheckFault.TheVariants as check
-use Rattle.bolt_format.specs.{Pages.page_at, declared.meta.Meta.Meta, declared.meta.MetaFault.MetaFault, declared.meta.Slot.Slot}
+use Rattle.bolt_format.specs.{Pages.page_at, declared.meta.Meta.Meta, declared.meta.MetaFault.MetaFault}
 use Rattle.bolt_recover.specs.{Found.AreFound, JoinRefusals.IsJoinRefusal, Joined.IsJoined, Joined.LacksBucketKey, Losses.AreLosses, Losses.LossView}
 use Rattle.bolt_recover.specs.{Losses.LostView, Losses.everything, Losses.parts}
 use Rattle.bolt_recover.specs.{Lost.IsAllLost, Sites.leaves_of, Recovered.ForRecovered, Recovered.IsRecovered, Refusals.IsUnrecoverable}
@@ -13,14 +13,13 @@ use Rattle.bolt_report.specs.FoundLines.{FoundView}
 use Rattle.bolt_tree.specs.{Entries.IsEntry, Entries.Item, Entries.Root_page, Entries.Start, Listing.IsListing, Listing.Member, Paths.Holds}
 use Rattle.bolt_tree.specs.{Paths.Names, Paths.Path}
 use Rattle.bolt_commands.specs.{Failures.IsFailureOf, Failures.unlisted, FileFaults.IsMetasFault, Shortfalls.shortfall}
-use Rattle.bolt_commands.specs.{declared.shortfall.Shortfall.Shortfall, declared.failure.Failure.Failure}
+use Rattle.bolt_commands.specs.declared.{failure.Failure.Failure, other_meta.OtherMeta.OtherMeta, shortfall.Shortfall.Shortfall}
 use Rattle.bolt_commands.specs.Answers.{Answer, JobEnding, refused}
 use Rattle.bolt_job.specs.{MetaChoices.HasNoMetaOf, MetaChoices.IsMetaOf, declared.choices.Extent.Extent}
 use Rattle.bolt_job.specs.declared.choices.Extent.TheVariants.{Losses, FoundPages, Sound}
 use Rattle.bolt_job.specs.declared.choices.MetaChoice.{MetaChoice}
 use Rattle.bolt_job.specs.declared.choices.MetaChoice.TheVariants.{Active, Assumed, InSlot}
 use Rattle.bolt_commands.specs.declared.failure.Failure.TheVariants as failure
-use Rattle.bolt_etcd.specs.Store.Newest.{newest}
 
 -- a path leads from the root bucket to this one; and what it holds
 abbrev pub LeadsTo : List ℕ → Meta → Path → Start → Type 0
@@ -119,8 +118,8 @@ IsUnreadTo FoundPages file choice why = IsUnjoinedUnder file choice why
 -- if something is lacking, this is reported on standard error
 abbrev pub shortfall_ending : Option Shortfall → JobEnding
 shortfall_ending None = Ok 0
-shortfall_ending (Some lost) = Err (failure.Lacking lost)
+shortfall_ending (Some lacking) = Err (failure.Lacking lacking)
 
 -- what an output to this extent lacks if this is lost: that, and the newest state, if the other meta is refused
 abbrev pub IsLackingTo : Extent → List ℕ → MetaChoice → LostView → Option Shortfall → Type 0
-IsLackingTo extent file choice lost lacking = (other : Option (Slot × MetaFault)) × IsMetasFault extent file choice other × (lacking ≡ shortfall lost other)
+IsLackingTo extent file choice lost lacking = (other : Option OtherMeta) × IsMetasFault extent file choice other × (lacking ≡ shortfall lost other)

@@ -1,5 +1,5 @@
 -- What a job does: what standard output and the target accept, and how it ends.
-use Rattle.std.specs.Prelude.{◌≡◌, ◌<◌, ◌-◌, ◌^◌, ◌⊎◌, ℕ, List, [], ◌∷◌, Bool, length, map, Option, Some, None, Err}
+use Rattle.std.specs.Prelude.{◌≡◌, ◌<◌, ◌⊎◌, ℕ, List, [], ◌∷◌, Bool, length, Option, Some, None, Err}
 use Rattle.std.specs.Io.KnownBytes.{Appends}
 use Rattle.bolt_bulk.specs.Compacting.{too_many}
 use Rattle.bolt_layout.specs.{Copies.layout_of_listing, declared.Layout.Layout, declared.Layout.TheVariants.Balanced}
@@ -9,7 +9,6 @@ use Rattle.bolt_load.specs.{declared.load_fault.LineFault.TheVariants.CutOff}
 use Rattle.bolt_text.specs.LineMembers.{text_members}
 use Rattle.bolt_recover.specs.Losses.{LostView}
 use Rattle.bolt_report.specs.FoundLines.{FoundView}
-use Rattle.bolt_stats.specs.declared.figures.Stats.{Stats}
 use Rattle.bolt_tree.specs.Listing.{Member}
 use Rattle.bolt_job.specs.{CopyKinds.is_snapshot, declared.choices.Extent.Extent, declared.choices.Extent.TheVariants.FoundPages}
 use Rattle.bolt_job.specs.{declared.job.Job.Job, declared.choices.MetaChoice.MetaChoice}
@@ -26,7 +25,7 @@ use Rattle.bolt_commands.specs.{PageAnswers.IsInfoAnswer, PageAnswers.IsPageAnsw
 use Rattle.bolt_commands.specs.{RepairAnswers.IsUnrestored, RepairAnswers.repair_report}
 use Rattle.bolt_commands.specs.{StatesAnswers.IsStatesPrint, StatsAnswers.IsStatsPrint}
 use Rattle.bolt_commands.specs.declared.failure.Failure.TheVariants as failure
-use Rattle.bolt_etcd.specs.{Wire.Others.OtherView, declared.check.snapshot.SnapshotFault.SnapshotFault, Store.Newest.newest, Store.Stores.revisions}
+use Rattle.bolt_etcd.specs.{Wire.Others.OtherView, declared.check.snapshot.SnapshotFault.SnapshotFault}
 use Rattle.bolt_job.specs.declared.job.Job.TheVariants as job
 
 -- standard output and the target, each from its state `old` to `new`

@@ -1,15 +1,15 @@
 -- What `buckets`, `keys` and `get` answer: docs/COMMANDS.md, "What is printed".
-use Rattle.std.specs.Prelude.{◌≡◌, ◌-◌, ◌⊎◌, Contains, ℕ, List, [], Bool, true, false, Option, Some, None, Err, if◌then◌else◌}
+use Rattle.std.specs.Prelude.{◌≡◌, ◌⊎◌, Contains, ℕ, List, [], Bool, true, false, Option, Some, None, Ok, Err, if◌then◌else◌}
 use Rattle.bolt_format.specs.{Elements.LeafElement, declared.meta.Meta.Meta}
-use Rattle.bolt_recover.specs.Losses.{LostView, parts}
+use Rattle.bolt_recover.specs.Losses.{LostView}
 use Rattle.bolt_report.specs.{KeyLines.buckets_text, KeyLines.keys_text, MemberNames.WantedNames, MemberNames.begins_so, MemberNames.names_bucket}
 use Rattle.bolt_report.specs.{MemberNames.names_text, KeyPrefixes.with_prefix}
 use Rattle.bolt_report.specs.SizeLines.{AreSized, Sized, sizes_text}
 use Rattle.bolt_text.specs.{Forms.value_text, Forms.item_text, declared.forms.Form.Form}
-use Rattle.bolt_tree.specs.{Entries.AreEntries, Entries.IsEntry, Entries.Start, Entries.Value, Listing.Member, ListingParts.has_bucket, Paths.Names}
+use Rattle.bolt_tree.specs.{Entries.AreEntries, Entries.IsEntry, Entries.Start, Entries.Value, Listing.Member, ListingParts.has_bucket}
 use Rattle.bolt_tree.specs.{Paths.Path}
 use Rattle.bolt_commands.specs.{declared.shortfall.Shortfall.Shortfall, declared.failure.Failure.Failure}
-use Rattle.bolt_commands.specs.Answers.{Answer, IsEndedOrCut, IsShownAndEnded, IsShownText, IsWholeOrShort, JobEnding, refused}
+use Rattle.bolt_commands.specs.Answers.{Answer, IsPrinted, JobEnding, Late, Short, in_json, refused}
 use Rattle.bolt_commands.specs.FilesRead.{HoldsIn, IsLackingTo, IsReadAnswer, IsReadTo, IsUnreadTo, LeadsNowhere, LeadsTo, shortfall_ending}
 use Rattle.bolt_report.specs.AtPaths.{parents_of}
 use Rattle.bolt_job.specs.{declared.choices.BucketsShown.BucketsShown, declared.choices.Extent.TheVariants.Losses}
@@ -18,13 +18,12 @@ use Rattle.bolt_job.specs.{declared.bucket_commands.GetJob.GetJob, declared.buck
 use Rattle.bolt_job.specs.{PlainWords.owned_path}
 use Rattle.bolt_job.specs.declared.choices.BucketsShown.TheVariants as shown
 use Rattle.bolt_commands.specs.declared.failure.Failure.TheVariants as failure
-use Rattle.bolt_job.specs.declared.job.Job.TheVariants as job
 
 -- a text of the entries of the bucket that the path leads to; or it leads to none
 abbrev pub IsEntriesAnswer : List ℕ → Path → Form → (List LeafElement → List ℕ) → Meta → Answer → Type 0
 IsEntriesAnswer file path form text meta answer =
     ((bucket : Start) × (entries : List LeafElement) × LeadsTo file meta path bucket × AreEntries (IsEntry file meta) bucket entries
-    × IsShownText form (text entries) answer)
+    × IsPrinted (in_json Short form) (text entries) (Ok 0) answer)
     ⊎ (LeadsNowhere file meta path × (answer ≡ refused failure.NoBucket))
 
 -- The path holds no value: all of its parts but the last lead to a bucket, or they lead to none.
@@ -41,7 +40,8 @@ value_shown form no_newline value = if no_newline then item_text form value else
 -- the value that the path holds; or why it holds none
 abbrev pub IsGetAnswer : List ℕ → GetJob → Meta → Answer → Type 0
 IsGetAnswer file job meta answer =
-    ((value : List ℕ) × HoldsIn file meta (owned_path job.path.items) (Value value) × IsShownText job.form (value_shown job.form job.no_newline value) answer)
+    ((value : List ℕ) × HoldsIn file meta (owned_path job.path.items) (Value value)
+    × IsPrinted (in_json Short job.form) (value_shown job.form job.no_newline value) (Ok 0) answer)
     ⊎ ((reason : Failure) × HoldsNone file (owned_path job.path.items) meta reason × (answer ≡ refused reason))
 
 -- The sizes of the buckets in the bucket that the path leads to, or memory ran out before the last byte of them was written; or the path
@@ -49,7 +49,7 @@ IsGetAnswer file job meta answer =
 abbrev pub IsSizesAnswer : List ℕ → Path → Form → Meta → Answer → Type 0
 IsSizesAnswer file path form meta answer =
     ((bucket : Start) × (entries : List LeafElement) × (sized : List Sized) × LeadsTo file meta path bucket × AreEntries (IsEntry file meta) bucket entries
-    × AreSized file meta entries sized × IsWholeOrShort (sizes_text form sized) answer)
+    × AreSized file meta entries sized × IsPrinted Short (sizes_text form sized) (Ok 0) answer)
     ⊎ (LeadsNowhere file meta path × (answer ≡ refused failure.NoBucket))
 
 -- an answer of what is recovered and of what is lacking; or why nothing is recovered
@@ -62,32 +62,32 @@ IsRecoveredAnswer file choice IsWanted answer =
 -- why something isn't there: if anything is lacking, that may be
 abbrev pub missing : (none : Failure) (maybe_lost : Shortfall → Failure) → Option Shortfall → Failure
 missing none maybe_lost None = none
-missing none maybe_lost (Some lost) = maybe_lost lost
+missing none maybe_lost (Some lacking) = maybe_lost lacking
 
 abbrev pub no_bucket : Option Shortfall → Failure
-no_bucket lost = missing failure.NoBucket failure.BucketMaybeLost lost
+no_bucket lacking = missing failure.NoBucket failure.BucketMaybeLost lacking
 
 abbrev pub no_key : Option Shortfall → Failure
-no_key lost = missing failure.NoKey failure.KeyMaybeLost lost
+no_key lacking = missing failure.NoKey failure.KeyMaybeLost lacking
 
 -- the names that are wanted in a bucket of the listing, and then what is lacking; or the bucket isn't there
 abbrev pub names_ending : Path → List Member → Option Shortfall → JobEnding
-names_ending path listing lost = if has_bucket path listing then shortfall_ending lost else Err (no_bucket lost)
+names_ending path listing lacking = if has_bucket path listing then shortfall_ending lacking else Err (no_bucket lacking)
 
 abbrev pub IsNamesAnswer : Form → WantedNames → Path → List Member → Option Shortfall → Answer → Type 0
-IsNamesAnswer form wanted path listing lost answer = IsEndedOrCut (names_text form wanted path listing) (names_ending path listing lost) answer
+IsNamesAnswer form wanted path listing lacking answer = IsPrinted Late (names_text form wanted path listing) (names_ending path listing lacking) answer
 
 -- why a listing has no value at a path
 abbrev pub no_value : Path → List Member → Option Shortfall → Failure
-no_value path listing lost = if has_bucket (parents_of path) listing then no_key lost else no_bucket lost
+no_value path listing lacking = if has_bucket (parents_of path) listing then no_key lacking else no_bucket lacking
 
 -- the value that the listing has at the path, and then what is lacking; or it has none
 abbrev pub IsRecoveredValue : GetJob → List Member → Option Shortfall → Answer → Type 0
-IsRecoveredValue job listing lost answer =
+IsRecoveredValue job listing lacking answer =
     let path = owned_path job.path.items in
     ((value : List ℕ) × Contains listing (path, Value value)
-    × IsShownAndEnded job.form (value_shown job.form job.no_newline value) (shortfall_ending lost) answer)
-    ⊎ (((value : List ℕ) → Contains listing (path, Value value) → ⊥) × (answer ≡ refused (no_value path listing lost)))
+    × IsPrinted (in_json Short job.form) (value_shown job.form job.no_newline value) (shortfall_ending lacking) answer)
+    ⊎ (((value : List ℕ) → Contains listing (path, Value value) → ⊥) × (answer ≡ refused (no_value path listing lacking)))
 
 -- the names of the buckets, or of those that are recovered, or their sizes, of a file under a meta
 abbrev pub IsBucketsShown : BucketsShown → List ℕ → MetaChoice → BucketsJob → Answer → Type 0

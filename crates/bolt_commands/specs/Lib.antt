@@ -21,3 +21,4 @@ pub mod Shortfalls
 pub mod SnapshotAnswers
 pub mod StatesAnswers
 pub mod StatsAnswers
+pub mod WholeMembers

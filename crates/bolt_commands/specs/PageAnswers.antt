@@ -1,5 +1,5 @@
 -- What `info`, `page` and `pages` answer: docs/COMMANDS.md, "What is printed".
-use Rattle.std.specs.Prelude.{◌≡◌, ◌-◌, ◌⊎◌, ℕ, List, Bool, true, false, map, Option, Some, None}
+use Rattle.std.specs.Prelude.{◌≡◌, ◌⊎◌, ℕ, List, Bool, true, false, Option, Some, None}
 use Rattle.bolt_check.specs.{Roles.AreRoles, declared.role_table.Role.Role}
 use Rattle.bolt_format.specs.{Metas.HasNoActive, Metas.HasNoneInSlot, Metas.IsActive, Metas.IsInSlot, declared.page_fault.PageFault.PageFault}
 use Rattle.bolt_format.specs.{declared.meta.Meta.Meta}

@@ -3,7 +3,7 @@ pub mod Checks
 pub mod Copying
 pub mod Endings
 pub mod Etcd
-pub mod Opened
+pub mod Contents
 pub mod Printing
 pub mod Recovered
 pub mod Repairing

@@ -55,7 +55,7 @@ repair_status faults lost (other ∷ others) = 1
 -- may lack, how many go back, and the lengths of the file and of the copy
 abbrev pub repair_report : FileFaults → LostView → List OtherView → (back left_out source copy : ℕ) → Answer
 repair_report faults lost others back left_out source copy = record {
-  out = fault_lines faults ++ (lost_text lost [] ++ (unread_text others ++ (bound_line (repair_bound lost others (is_some faults.other))
-      ++ (counts_line back left_out ++ lengths_line source copy))));
+  out = fault_lines faults ++ (lost_text lost [] ++ (unread_text others ++ ((bound_line (repair_bound lost others (is_some faults.other))
+      ++ counts_line back left_out) ++ lengths_line source copy)));
   ending = Ok (repair_status faults lost others);
 }

@@ -1,23 +1,26 @@
 -- What the output of a recovery may lack: docs/RECOVERY.md, "The other meta".
-use Rattle.std.specs.Prelude.{ℕ, zero, suc, List, ◌++◌, Option, None, Some, codes, decimal}
-use Rattle.bolt_format.specs.declared.meta.{MetaFault.MetaFault, Slot.Slot}
+use Rattle.std.specs.Prelude.{◌==◌, ◌&&◌, ℕ, List, ◌++◌, Option, None, Some, is_none, codes, decimal, if◌then◌else◌}
 use Rattle.bolt_recover.specs.Losses.{LostView}
 use Rattle.bolt_report.specs.{LossLines.lost_count, MetaLines.slot_fault_text}
-use Rattle.bolt_commands.specs.declared.shortfall.Shortfall.{Shortfall}
-use Rattle.bolt_commands.specs.declared.shortfall.Shortfall.TheVariants.{Pages, PagesAndState, State}
+use Rattle.bolt_commands.specs.declared.{other_meta.OtherMeta.OtherMeta, shortfall.Shortfall.Shortfall}
 
--- what the output may lack if `pages` pages are lost, and if `other` is wrong with the meta in the slot that isn't in use
-abbrev pub shortfall_of : (pages : ℕ) → (other : Option (Slot × MetaFault)) → Option Shortfall
-shortfall_of zero None = None
-shortfall_of zero (Some (slot, fault)) = Some (State slot fault)
-shortfall_of (suc n) None = Some (Pages (suc n))
-shortfall_of (suc n) (Some (slot, fault)) = Some (PagesAndState (suc n) slot fault)
+-- what the output may lack if `pages` pages are lost, and if `other` is the other meta, where that is refused
+abbrev pub shortfall_of : (pages : ℕ) → (other : Option OtherMeta) → Option Shortfall
+shortfall_of pages other = if pages == 0 && is_none other then None else Some (record { pages = pages; other = other })
 
-abbrev pub shortfall : LostView → (other : Option (Slot × MetaFault)) → Option Shortfall
+abbrev pub shortfall : LostView → (other : Option OtherMeta) → Option Shortfall
 shortfall lost other = shortfall_of (lost_count lost) other
+
+-- the words for lost pages, and a text after them
+abbrev pub lost_pages_text : ℕ → (end : List ℕ) → List ℕ
+lost_pages_text pages end = codes "pages lost: " ++ (decimal pages ++ end)
+
+-- the words for lost pages, if there are any, and for the other meta
+abbrev pub lacking_text : (pages : ℕ) → (other : Option OtherMeta) → List ℕ
+lacking_text pages None = lost_pages_text pages (codes "\n")
+lacking_text pages (Some other) =
+    if pages == 0 then slot_fault_text other.slot other.fault else (lost_pages_text pages (codes "; ") ++ slot_fault_text other.slot other.fault)
 
 -- the words for a shortfall, with the end of the line
 abbrev pub shortfall_text : Shortfall → List ℕ
-shortfall_text (Pages pages) = codes "pages lost: " ++ (decimal pages ++ codes "\n")
-shortfall_text (State slot fault) = slot_fault_text slot fault
-shortfall_text (PagesAndState pages slot fault) = (codes "pages lost: " ++ (decimal pages ++ codes "; ")) ++ slot_fault_text slot fault
+shortfall_text s = lacking_text s.pages s.other

@@ -1,5 +1,5 @@
 -- What `stats` answers: docs/COMMANDS.md, "stats".
-use Rattle.std.specs.Prelude.{◌≡◌, ◌-◌, ◌⊎◌, ℕ, List, [], ◌∷◌, Bool, true, false}
+use Rattle.std.specs.Prelude.{◌≡◌, ◌⊎◌, ℕ, List, [], ◌∷◌, Bool, true, false}
 use Rattle.bolt_format.specs.{Elements.LeafElement, declared.meta.Meta.Meta}
 use Rattle.bolt_report.specs.StatsLines.{stats_text}
 use Rattle.bolt_stats.specs.{Figures.add_stats, StatsOf.IsStatsOf, declared.figures.Stats.Stats}
@@ -7,7 +7,6 @@ use Rattle.bolt_text.specs.declared.forms.FigureForm.{FigureForm}
 use Rattle.bolt_tree.specs.{Entries.AreEntries, Entries.IsEntry, Entries.Root_page, Entries.Start, Entries.start_of, Paths.Path}
 use Rattle.bolt_commands.specs.declared.failure.Failure.TheVariants as failure
 use Rattle.bolt_job.specs.{declared.bucket_commands.StatsJob.StatsJob, PlainWords.owned_path}
-use Rattle.bolt_job.specs.declared.job.Job.TheVariants as job
 use Rattle.bolt_commands.specs.{Answers.Answer, Answers.done, Answers.refused, FilesRead.IsReadAnswer, FilesRead.LeadsNowhere, FilesRead.LeadsTo}
 
 abbrev pub no_stats : Stats

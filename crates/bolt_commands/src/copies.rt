@@ -1,15 +1,16 @@
 //! Copies: what they look like, how they come to a target, and what is reported of them: what is lost and
-//! found of the file, and the lengths of both.
-ghost use Rattle.std.specs.Prelude.{◌≡◌, List, OnOk};
+//! found of the file, what a repair puts back and doesn't copy, and the lengths of both.
+ghost use Rattle.std.specs.Prelude.{◌≡◌, List, OnOk, map};
 ghost use Rattle.std.specs.List.{All};
 ghost use Rattle.bolt_bulk.specs.WholeListings.{IsWholeListing};
+ghost use Rattle.bolt_etcd.specs.Wire.Others.{shown_other};
 ghost use Rattle.bolt_format.specs.{Endings.ending, Metas.IsPageSize, Wrote.Wrote};
 ghost use Rattle.bolt_job.specs.CopyKinds.{is_snapshot};
 ghost use Rattle.bolt_layout.specs.Copies.{IsOfOneTree};
 ghost use Rattle.bolt_recover.specs.ShownLosses.{lost_view};
 ghost use Rattle.bolt_report.specs.FoundLines.{IsFoundLeaf};
 ghost use Rattle.bolt_tree.specs.Listing.{Member};
-ghost use Rattle.bolt_commands.specs.{Answers.WritesAnswer, CopyAnswers.copy_status, CopyAnswers.lengths_line, CopyLayouts.layout_for};
+ghost use Rattle.bolt_commands.specs.{Answers.WritesAnswer, CopyAnswers.lengths_line, CopyLayouts.layout_for, RepairAnswers.repair_status};
 ghost use Rattle.bolt_commands.specs.{GoodCopies.HasGoodCopies, Private.Copying.CopiesTo, Private.Copying.ForLayout};
 ghost use Rattle.bolt_commands.specs.{Private.Copying.IsAskedBlueprint, Private.Reports.report_answer, Private.Reports.report_text};
 
@@ -17,12 +18,15 @@ use crate::failure::Outcome;
 use crate::file_faults::{FileFaults, put_file_faults};
 use crate::hashed_copy::{MembersSource, copy_hashed};
 use crate::laws::whole_copies_are_good;
+use crate::repair_counts::{RepairCounts, put_if_repaired};
 use bolt_bulk::{Blueprint, BulkFault, compact_members};
+use bolt_etcd::Other;
+use bolt_format::laws::fits;
 use bolt_format::{Meta, Sink, SinkFault};
 use bolt_job::{CopyKind, PageSize};
 use bolt_layout::Layout;
-use bolt_recover::{Found, Lost};
-use bolt_report::put_lost;
+use bolt_recover::{FoundPage, Lost};
+use bolt_report::{put_lost, put_unread};
 use bolt_text::{Piece, put_pieces};
 use bolt_tree::Members;
 use std::alloc::Global;
@@ -87,13 +91,12 @@ pub(crate) fn copy_members<'m, M: Members<'m>, T: Sink>(
     copied
 }
 
-/// The copies of a listing that is of one tree are good. A sequence of 64 bits is below 2^64. That is
-/// known of a value that the body reads, so this reads it, and does nothing else.
+/// The copies of a listing that is of one tree are good.
 fn copies_are_good(sequence: u64)
     ensures { (listing : List Member) → ∥ IsOfOneTree listing ∥₁
         → ∥ HasGoodCopies listing sequence ∥₁ }
 {
-    let _ = sequence;
+    fits(sequence);
     whole_copies_are_good();
 }
 
@@ -103,7 +106,11 @@ pub(crate) struct CopyReport<'l, 'f> {
     /// What is wrong with the file apart from its pages.
     pub faults: FileFaults,
     pub lost: Lost<'l>,
-    pub found: &'f [Found<'f>],
+    pub found: &'f [FoundPage<'f>],
+    /// The entries of the bucket `key` that a repair doesn't copy.
+    pub unread: &'l [Other<'l>],
+    /// What is counted of a repair, if the copy is one of a repair.
+    pub counts: Option<RepairCounts>,
     /// The length of the file.
     pub source: u64,
 }
@@ -114,7 +121,7 @@ pub(crate) fn end_copy<O: Sink>(copy: u64, report: &CopyReport<'_, '_>, out: &mu
     ensures { WritesAnswer O.taken O.failed out.old out.new (report_answer report.now copy) result }
 {
     put_copy_report(report, copy, out)?;
-    Ok(status_of(report.faults, report.lost))
+    Ok(status_of(report.faults, report.lost, report.unread))
 }
 
 #[tactic(auto, using(bolt_format::proofs::Exports::wrote))]
@@ -128,19 +135,26 @@ fn put_copy_report<O: Sink>(
 {
     put_file_faults(report.faults, out)?;
     put_lost(report.lost, report.found, out)?;
+    put_unread(report.unread, out)?;
+    put_if_repaired(report.counts, out)?;
     put_lengths(report.source, copy, out)
 }
 
-/// The status of a copy if this is wrong with the file, and this is lost of it.
-pub(crate) fn status_of(faults: FileFaults, lost: Lost<'_>) -> u8
-    ensures { result ≡ copy_status faults (lost_view lost.entry) }
+/// The status of a copy if this is wrong with the file, this is lost of it, and these entries aren't
+/// copied.
+fn status_of(faults: FileFaults, lost: Lost<'_>, unread: &[Other<'_>]) -> u8
+    ensures { result ≡ repair_status faults (lost_view lost.entry) (map shown_other unread.now) }
 {
-    u8::from(!(faults.is_fine() && lost.is_nothing()))
+    if unread.is_empty() {
+        u8::from(!(faults.is_fine() && lost.is_nothing()))
+    } else {
+        1
+    }
 }
 
 /// Writes the lengths of the file and of its copy.
 #[tactic(auto, using(bolt_format::proofs::Exports::wrote))]
-pub(crate) fn put_lengths<O: Sink>(source: u64, copy: u64, out: &mut O) -> Result<(), SinkFault>
+fn put_lengths<O: Sink>(source: u64, copy: u64, out: &mut O) -> Result<(), SinkFault>
     ensures { Wrote O.Sink out.old out.new (lengths_line source copy) (ending result) }
 {
     put_pieces(

@@ -6,7 +6,7 @@ ghost use Rattle.bolt_commands.specs.{Private.Etcd.IsUnreadStore, Private.Etcd.e
 
 use crate::failure::{Failure, Outcome};
 use crate::opening::Input;
-use bolt_etcd::store_compacted;
+use bolt_etcd::{KEY_BUCKET, store_compacted};
 use bolt_job::MetaChoice;
 use bolt_text::ReportFault;
 use bolt_tree::Bucket;
@@ -26,7 +26,7 @@ pub(crate) fn read_store<'f>(input: Input<'f>, choice: MetaChoice) -> Result<Sto
     ensures refused { IfErr result (IsUnreadStore input.entry.file.now choice) }
 {
     let root = Bucket::root(input.read(choice)?);
-    match root.bucket(b"key") {
+    match root.bucket(KEY_BUCKET) {
         Some(keys) => Ok(Store { root, keys }),
         None => Err(Failure::NoBucket),
     }

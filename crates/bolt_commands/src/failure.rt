@@ -80,12 +80,12 @@ pub(crate) fn written(put: Result<(), SinkFault>) -> Outcome
 }
 
 /// How a job ends that put what is wanted of a listing, if that lacks this.
-pub(crate) fn end_listing(lost: Option<Shortfall>) -> Outcome
-    ensures { result ≡ shortfall_ending lost }
+pub(crate) fn end_listing(shortfall: Option<Shortfall>) -> Outcome
+    ensures { result ≡ shortfall_ending shortfall }
 {
-    match lost {
+    match shortfall {
         None => Ok(0),
-        Some(lost) => Err(Failure::Lacking(lost)),
+        Some(shortfall) => Err(Failure::Lacking(shortfall)),
     }
 }
 
@@ -134,7 +134,6 @@ impl From<RecoverFault> for Failure {
         match fault {
             RecoverFault::Rootless(finding) => Failure::File(finding),
             RecoverFault::Exists => Failure::Exists,
-            RecoverFault::NotABucket => Failure::NotABucket,
             RecoverFault::TooManyPages => Failure::TooManyPages,
             RecoverFault::Memory => Failure::Memory,
         }

@@ -8,10 +8,9 @@ ghost use Rattle.bolt_commands.specs.{Failures.failure_line, Failures.failure_te
 use crate::failure::Failure;
 use crate::shortfall::{Shortfall, put_shortfall};
 use bolt_check::Finding;
-use bolt_etcd::put_snapshot_fault;
 use bolt_format::{Sink, SinkFault};
 use bolt_load::LineFault;
-use bolt_report::{finding_text, put_meta_fault, put_page_fault};
+use bolt_report::{finding_text, put_meta_fault, put_page_fault, put_snapshot_fault};
 use bolt_text::{Piece, put, put_pieces};
 
 /// Writes the line of a failure: `error: ` and its text.
@@ -32,8 +31,10 @@ fn put_failure_text<E: Sink>(failure: &Failure, err: &mut E) -> Result<(), SinkF
         Failure::NoBucket => put(b"bucket not found\n", err),
         Failure::NoKey => put(b"key not found\n", err),
         Failure::NoState => put(b"no state found\n", err),
-        Failure::BucketMaybeLost(lost) => put_missing_file(b"bucket not found; ", *lost, err),
-        Failure::KeyMaybeLost(lost) => put_missing_file(b"key not found; ", *lost, err),
+        Failure::BucketMaybeLost(shortfall) => {
+            put_missing_file(b"bucket not found; ", *shortfall, err)
+        }
+        Failure::KeyMaybeLost(shortfall) => put_missing_file(b"key not found; ", *shortfall, err),
         Failure::Memory => put(b"out of memory\n", err),
         Failure::TooLarge => put(b"layout too large\n", err),
         Failure::TooManyPages => put(b"too many pages\n", err),
@@ -41,7 +42,7 @@ fn put_failure_text<E: Sink>(failure: &Failure, err: &mut E) -> Result<(), SinkF
         Failure::NotABucket => put(b"key is not a bucket\n", err),
         Failure::Exists => put(b"lost+found exists\n", err),
         Failure::Write => put(b"write failed\n", err),
-        Failure::Lacking(lost) => put_shortfall(*lost, err),
+        Failure::Lacking(shortfall) => put_shortfall(*shortfall, err),
         Failure::Others(count) => put_numbered(b"not revisions: ", *count, err),
         Failure::Compacted => put(b"revision compacted\n", err),
         Failure::Line(line, fault) => put_line_fault(*line, *fault, err),
@@ -57,11 +58,15 @@ fn put_file_refused<E: Sink>(finding: &Finding, err: &mut E) -> Result<(), SinkF
 }
 
 /// Writes what isn't there, and why it may be missing.
-fn put_missing_file<E: Sink>(words: &[u8], lost: Shortfall, err: &mut E) -> Result<(), SinkFault>
-    ensures { Wrote E.Sink err.old err.new (words.now ++ shortfall_text lost) (ending result) }
+fn put_missing_file<E: Sink>(
+    words: &[u8],
+    shortfall: Shortfall,
+    err: &mut E,
+) -> Result<(), SinkFault>
+    ensures { Wrote E.Sink err.old err.new (words.now ++ shortfall_text shortfall) (ending result) }
 {
     put(words, err)?;
-    put_shortfall(lost, err)
+    put_shortfall(shortfall, err)
 }
 
 /// Writes a number after a text.

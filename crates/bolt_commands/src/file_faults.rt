@@ -1,23 +1,24 @@
 //! What is wrong with a file apart from its pages.
 ghost use Rattle.std.specs.Prelude.{◌≡◌, ◌≤◌, IfOk};
 ghost use Rattle.bolt_format.specs.{Endings.ending, Wrote.Wrote};
-ghost use Rattle.bolt_commands.specs.FileFaults.{AreCopyFaults, AreFileFaults, IsMetasFault, IsOtherFault, errors_in, fault_lines, hash_lines};
+ghost use Rattle.bolt_commands.specs.FileFaults.{AreCopyFaults, AreFileFaults, IsMetasFault, errors_in, fault_lines, hash_lines};
 ghost use Rattle.bolt_commands.specs.FileFaults.{is_fine, no_faults, other_meta_lines};
 ghost use Rattle.bolt_commands.specs.SnapshotAnswers.{bad_hash, asked_hash_fault};
 ghost use Rattle.bolt_job.specs.CopyKinds.{is_snapshot};
 
-use bolt_etcd::{SnapshotFault, put_snapshot_fault, snapshot_fault};
-use bolt_format::{MetaFault, Sink, SinkFault, Slot, choose, slot_meta};
+use crate::other_meta::OtherMeta;
+use bolt_etcd::{SnapshotFault, snapshot_fault};
+use bolt_format::{Sink, SinkFault};
 use bolt_job::{CopyKind, Extent, MetaChoice};
-use bolt_report::put_slot_fault;
+use bolt_report::{put_slot_fault, put_snapshot_fault};
 
 /// What is wrong with a file apart from its pages.
 #[derive(Clone, Copy)]
 pub(crate) struct FileFaults {
     /// What is wrong with the hash, if the file is to be a snapshot.
     pub hash: Option<SnapshotFault>,
-    /// The slot that isn't in use, and its fault, if it is looked at and has no valid meta.
-    pub other: Option<(Slot, MetaFault)>,
+    /// The meta in the slot that isn't in use, if it is looked at and refused.
+    pub other: Option<OtherMeta>,
 }
 
 impl FileFaults {
@@ -92,33 +93,12 @@ fn asked_hash_fault(snapshot: bool, file: &[u8]) -> Option<SnapshotFault>
 
 /// Looks at both metas if all of the file is asked for, under its active meta: if the other one is
 /// refused, the newest state may be lost with it.
-pub(crate) fn metas_fault(
-    extent: Extent,
-    file: &[u8],
-    choice: MetaChoice,
-) -> Option<(Slot, MetaFault)>
+pub(crate) fn metas_fault(extent: Extent, file: &[u8], choice: MetaChoice) -> Option<OtherMeta>
     ensures { IsMetasFault extent file.now choice result }
 {
     match (extent, choice) {
-        (Extent::Losses | Extent::FoundPages, MetaChoice::Active) => other_fault(file),
+        (Extent::Losses | Extent::FoundPages, MetaChoice::Active) => OtherMeta::find(file),
         _ => None,
-    }
-}
-
-/// The slot that isn't in use, and its fault, if it has no valid meta.
-fn other_fault(file: &[u8]) -> Option<(Slot, MetaFault)>
-    ensures { IsOtherFault file.now result }
-{
-    let Ok((slot, _)) = choose(file) else {
-        return None;
-    };
-    let other = match slot {
-        Slot::Zero => Slot::One,
-        Slot::One => Slot::Zero,
-    };
-    match slot_meta(file, other) {
-        Ok(_) => None,
-        Err(fault) => Some((other, fault)),
     }
 }
 
@@ -143,11 +123,11 @@ fn put_hash_line<O: Sink>(hash: Option<SnapshotFault>, out: &mut O) -> Result<()
     }
 }
 
-fn put_other_line<O: Sink>(other: Option<(Slot, MetaFault)>, out: &mut O) -> Result<(), SinkFault>
+fn put_other_line<O: Sink>(other: Option<OtherMeta>, out: &mut O) -> Result<(), SinkFault>
     ensures { Wrote O.Sink out.old out.new (other_meta_lines other) (ending result) }
 {
     match other {
-        Some((slot, fault)) => put_slot_fault(slot, fault, out),
+        Some(other) => put_slot_fault(other.slot, other.fault, out),
         None => Ok(()),
     }
 }

@@ -11,7 +11,12 @@ ghost use Rattle.bolt_commands.specs.{FilesRead.IsReadUnder, ListAnswers.IsListe
 ghost use Rattle.bolt_commands.specs.{Answers.done, EtcdAnswers.IsCheckAllAnswer};
 ghost use Rattle.bolt_commands.specs.{CheckedCopies.FailsCutOff, CheckedCopies.LoadsAs, CheckedCopies.PassesCheck, GoodCopies.ForCopyFindings};
 ghost use Rattle.bolt_commands.specs.{GoodCopies.ForGoodCopies, GoodCopies.HasGoodCopies};
+ghost use Rattle.bolt_commands.specs.WholeMembers.{IsWholeJoined, IsWholeRecovery, IsWholeRepaired};
 ghost use Rattle.bolt_job.specs.{MetaChoices.IsMetaOf, Jobs.needs_metas_alone, declared.job.Job.Job, declared.choices.MetaChoice.MetaChoice};
+ghost use Rattle.bolt_recover.specs.JoinedMembers.{ForJoined, joined_file, joined_left, joined_meta};
+ghost use Rattle.bolt_recover.specs.{Recovered.ForRecovered, Recoveries.recovery_file, Recoveries.recovery_left, Recoveries.recovery_meta};
+ghost use Rattle.bolt_repair.specs.{Repaired.ForRepaired, RepairedMembers.repaired_file, RepairedMembers.repaired_left};
+ghost use Rattle.bolt_repair.specs.{RepairedMembers.repaired_meta, RepairedMembers.repaired_search};
 ghost use Rattle.bolt_text.specs.declared.forms.ListForm.TheVariants as form;
 ghost use Rattle.bolt_job.specs.declared.choices.Extent.TheVariants as extent;
 
@@ -19,19 +24,24 @@ use bolt_etcd::{hashed_blocks_are_a_snapshot, trailing_bytes_change_nothing};
 use bolt_format::Sink;
 use bolt_format::laws::{active_meta_is_one, metas_lie_in_a_prefix, slot_meta_is_one};
 use bolt_layout::laws::{
-    a_copy_lists_the_same, a_files_listing_is_of_one_tree, layout_has_length,
-    layouts_fail_on_what_they_hold, layouts_have_no_gaps, pages_without_gaps_are_as_written,
-    prefixes_are_refused,
+    a_copy_lists_the_same, a_files_listing_is_of_one_tree, a_fit_listing_is_of_one_tree,
+    layout_has_length, layouts_fail_on_what_they_hold, layouts_have_no_gaps,
+    pages_without_gaps_are_as_written, prefixes_are_refused,
 };
 use bolt_load::{
     a_files_listing_is_of_bytes, a_listings_text_is_read_back, a_right_text_has_no_fault,
 };
 use bolt_recover::laws::{
-    each_file_has_found_pages, nothing_lost_finds_nothing, nothing_lost_keeps_each_way,
-    nothing_lost_means_sound_trees, sound_trees_lose_nothing, sound_trees_recover_their_listing,
-    sound_trees_recover_what_they_list,
+    each_file_has_a_joined_listing, each_file_has_a_recovered_listing, each_file_has_found_pages,
+    joined_listing_is_of_a_tree, joined_members_rise, nothing_lost_finds_nothing,
+    nothing_lost_keeps_each_way, nothing_lost_means_sound_trees, recovered_listing_is_of_a_tree,
+    sound_trees_lose_nothing, sound_trees_recover_their_listing,
+    sound_trees_recover_what_they_list, the_file_of_a_recovery_is_bytes,
+    the_file_of_joined_members_is_bytes,
 };
-use bolt_repair::laws::sound_trees_put_nothing_back;
+use bolt_recover::{JoinedListing, Recovery};
+use bolt_repair::RepairedListing;
+use bolt_repair::laws::{repaired_listing_is_of_a_tree, sound_trees_put_nothing_back};
 use bolt_text::laws::hex_lines_are_the_listing_text;
 use bolt_tree::laws::{all_is_below_the_root, sound_trees_have_a_listing};
 
@@ -42,6 +52,43 @@ pub fn needed_bytes_are_enough<O: Sink, T: Sink>()
         → DoesAlike O.Sink T.Sink job prefix file) }
 {
     metas_lie_in_a_prefix();
+}
+
+/// A recovery of which nothing was returned yet can be copied: it has all that is recovered of a damaged
+/// file, which is the listing of one tree.
+pub fn a_recovery_is_whole(recovery: &Recovery<'_>)
+    requires { ForRecovered (recovery_file recovery.now) (recovery_meta recovery.now)
+        (λ listing. recovery_left recovery.now listing ≡ listing) }
+    ensures { IsWholeRecovery recovery.now }
+{
+    the_file_of_a_recovery_is_bytes(recovery);
+    recovered_listing_is_of_a_tree();
+    each_file_has_a_recovered_listing();
+    a_fit_listing_is_of_one_tree();
+}
+
+/// Joined members can be copied, too: they are all that is recovered of a damaged file, with all that is
+/// found of it.
+pub fn joined_members_are_whole(joined: &JoinedListing<'_>)
+    requires { ForJoined (joined_file joined.now) (joined_meta joined.now)
+        (λ listing. joined_left joined.now listing ≡ listing) }
+    ensures { IsWholeJoined joined.now }
+{
+    the_file_of_joined_members_is_bytes(joined);
+    joined_members_rise(joined);
+    joined_listing_is_of_a_tree();
+    each_file_has_a_joined_listing();
+    a_fit_listing_is_of_one_tree();
+}
+
+/// The members of a repaired listing can be copied, too.
+pub fn repaired_members_are_whole(repaired: &RepairedListing<'_>)
+    requires { ForRepaired (repaired_file repaired.now) (repaired_meta repaired.now)
+        (repaired_search repaired.now) (λ listing. repaired_left repaired.now listing ≡ listing) }
+    ensures { IsWholeRepaired repaired.now }
+{
+    repaired_listing_is_of_a_tree();
+    a_fit_listing_is_of_one_tree();
 }
 
 /// The copies of a listing that is that of one tree are good: `check` accepts each, hash and all; it

@@ -1,20 +1,22 @@
-//! Opens what a command reads: a file under the meta that is chosen, what is left of a damaged one, what is lost and found of it, or a bucket by its path.
+//! Opens what a command reads: a file under the meta that is chosen, what is left of a damaged one, that with what is
+//! found of it, or a bucket by its path.
 ghost use Rattle.std.specs.Prelude.{◌≡◌, IfErr, IfOk};
 ghost use Rattle.bolt_check.specs.CheckedFiles.{bytes_of, meta_of, in_checked};
 ghost use Rattle.bolt_commands.specs.FilesRead.{IsReadUnder, IsRecoveredUnder, IsRefusedUnder, IsUnjoinedUnder, IsUnrecoverableUnder, LeadsNowhere};
 ghost use Rattle.bolt_commands.specs.FilesRead.{LeadsTo};
 ghost use Rattle.bolt_job.specs.PlainWords.{owned_path};
-ghost use Rattle.bolt_commands.specs.Private.Opened.{HasNoBucket, IsOpenedBucket, IsJoinedOf, IsOpened, IsSearchOf, IsUnopened, IsUnread};
-ghost use Rattle.bolt_commands.specs.Private.Opened.{IsUnsearched};
+ghost use Rattle.bolt_commands.specs.Private.Contents.{HasNoBucket, IsOpenedBucket, IsJoinedOf, IsOpened, IsSearchOf, IsUnopened, IsUnread};
+ghost use Rattle.bolt_commands.specs.Private.Contents.{IsUnsearched, contents_found, contents_lost, contents_meta};
 ghost use Rattle.bolt_commands.specs.declared.failure.Failure.TheVariants.{NoBucket};
-ghost use Rattle.bolt_recover.specs.{Recovered.ForRecovered, Recoveries.recovery_file, Recoveries.recovery_left, Recoveries.recovery_meta};
+ghost use Rattle.bolt_recover.specs.{ShownLosses.lost_view, Recovered.ForRecovered, Recoveries.recovery_file, Recoveries.recovery_left};
+ghost use Rattle.bolt_recover.specs.{Recoveries.recovery_meta};
 ghost use Rattle.bolt_tree.specs.{Buckets.bucket_checked, Buckets.bucket_start};
 
 use crate::failure::Failure;
-use crate::opened::Opened;
 use bolt_check::{CheckFault, Checked, check, check_under};
+use bolt_format::Meta;
 use bolt_job::{Extent, MetaChoice};
-use bolt_recover::{Joined, LostAndFound, Recovery};
+use bolt_recover::{FoundPage, JoinedListing, Lost, LostAndFound, Recovery};
 use bolt_tree::Bucket;
 use std::alloc::Global;
 
@@ -25,16 +27,61 @@ pub(crate) struct Input<'f> {
     pub file: &'f [u8],
 }
 
+/// What is read of a file.
+#[derive(Drop)]
+pub(crate) enum Contents<'f> {
+    /// The listing of a sound file.
+    Sound(Checked<'f>),
+    /// The recovered listing of a damaged one.
+    Recovered(Recovery<'f>),
+    /// The joined listing of one that was searched.
+    Searched(LostAndFound<'f>),
+}
+
+impl<'f> Contents<'f> {
+    /// The meta that the file is read under.
+    pub(crate) fn meta(&self) -> Meta
+        ensures { result ≡ contents_meta self.now }
+    {
+        match self {
+            Contents::Sound(checked) => checked.meta(),
+            Contents::Recovered(recovery) => recovery.meta(),
+            Contents::Searched(both) => both.meta,
+        }
+    }
+
+    /// What is lost of the file. Of a recovery, it is known when all members were returned.
+    pub(crate) fn lost(&self) -> Lost<'_>
+        ensures { lost_view result ≡ contents_lost self.now }
+    {
+        match self {
+            Contents::Sound(_) => Lost::Parts(&[]),
+            Contents::Recovered(recovery) => Lost::Parts(recovery.losses()),
+            Contents::Searched(both) => both.lost(),
+        }
+    }
+
+    /// The pages that are found of the file.
+    pub(crate) fn found(&self) -> &[FoundPage<'f>]
+        ensures { result.now ≡ contents_found self.now }
+    {
+        match self {
+            Contents::Searched(both) => both.found.as_slice(),
+            _ => &[],
+        }
+    }
+}
+
 impl<'f> Input<'f> {
     /// Opens what `check`, `list` and `compact` read of the file, to an extent, under the meta that is chosen.
-    pub(crate) fn open(self, choice: MetaChoice, extent: Extent) -> Result<Opened<'f>, Failure>
+    pub(crate) fn open(self, choice: MetaChoice, extent: Extent) -> Result<Contents<'f>, Failure>
         ensures opened { IfOk result (IsOpened extent self.entry.file.now choice) }
         ensures refused { IfErr result (IsUnopened extent self.entry.file.now choice) }
     {
         Ok(match extent {
-            Extent::Sound => Opened::Sound(self.check(choice)?),
-            Extent::Losses => Opened::Recovered(self.recover(choice)?),
-            Extent::FoundPages => Opened::Searched(self.search(choice)?),
+            Extent::Sound => Contents::Sound(self.check(choice)?),
+            Extent::Losses => Contents::Recovered(self.recover(choice)?),
+            Extent::FoundPages => Contents::Searched(self.search(choice)?),
         })
     }
 
@@ -78,7 +125,8 @@ impl<'f> Input<'f> {
     ///
     /// # Errors
     ///
-    /// `Open` if the file has no such meta, and what `Recovery::under` returns.
+    /// `Open` if the file has no such meta; `Structure` with the finding of the root page if that is
+    /// lost; `Memory` if memory runs out.
     pub(crate) fn recover(self, choice: MetaChoice) -> Result<Recovery<'f>, CheckFault>
         ensures file { IfOk result (λ recovery. recovery_file recovery ≡ self.entry.file.now) }
         ensures meta { IfOk result (λ recovery.
@@ -89,7 +137,8 @@ impl<'f> Input<'f> {
         ensures refused { IfErr result (IsUnrecoverableUnder self.entry.file.now choice) }
     {
         let meta = choice.find(self.file)?;
-        Recovery::under(self.alloc, self.file, meta)
+        let recovery = Recovery::under(self.alloc, self.file, meta)?;
+        Ok(recovery)
     }
 
     /// What is lost and found of the file under the meta that is chosen.
@@ -109,12 +158,12 @@ pub(crate) fn join<'a>(
     input: Input<'_>,
     choice: MetaChoice,
     both: &'a LostAndFound<'_>,
-) -> Result<Joined<'a>, Failure>
+) -> Result<JoinedListing<'a>, Failure>
     requires { IsSearchOf input.file.now choice both.now }
     ensures joined { IfOk result (IsJoinedOf both.now) }
     ensures refused { IfErr result (IsUnjoinedUnder input.entry.file.now choice) }
 {
-    let joined = Joined::new(input.alloc, both)?;
+    let joined = JoinedListing::new(input.alloc, both)?;
     Ok(joined)
 }
 

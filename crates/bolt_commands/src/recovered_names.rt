@@ -46,22 +46,22 @@ pub(crate) fn name_recovered<O: Sink>(
 }
 
 /// How a job ends that put what is recovered of a bucket, if it was found.
-fn end_names(found: bool, lost: Option<Shortfall>) -> Outcome
-    ensures { result ≡ bucket_ending found lost }
+fn end_names(found: bool, shortfall: Option<Shortfall>) -> Outcome
+    ensures { result ≡ bucket_ending found shortfall }
 {
     if found {
-        end_listing(lost)
+        end_listing(shortfall)
     } else {
-        Err(no_bucket(lost))
+        Err(no_bucket(shortfall))
     }
 }
 
 /// Why no bucket is recovered at a path.
-pub(crate) fn no_bucket(lost: Option<Shortfall>) -> Failure
-    ensures { result ≡ no_bucket lost }
+pub(crate) fn no_bucket(shortfall: Option<Shortfall>) -> Failure
+    ensures { result ≡ no_bucket shortfall }
 {
-    match lost {
+    match shortfall {
         None => Failure::NoBucket,
-        Some(lost) => Failure::BucketMaybeLost(lost),
+        Some(shortfall) => Failure::BucketMaybeLost(shortfall),
     }
 }

@@ -1,7 +1,7 @@
 //! A value as text.
-ghost use Rattle.std.specs.Prelude.{◌≡◌, ◌⊎◌, IfErr};
+ghost use Rattle.std.specs.Prelude.{IfErr};
 ghost use Rattle.bolt_format.specs.Wrote.{Wrote};
-ghost use Rattle.bolt_text.specs.ReportEndings.{HaltsShort, report_ending};
+ghost use Rattle.bolt_text.specs.ReportEndings.{FailsByWritingJson, HaltsShort, report_ending};
 ghost use Rattle.bolt_commands.specs.KeyAnswers.{value_shown};
 
 use bolt_format::Sink;
@@ -20,8 +20,7 @@ pub(crate) fn put_value<O: Sink>(
         (report_ending result) }
     ensures short { HaltsShort O.Sink out.old out.new (value_shown form no_newline bytes.now)
         (report_ending result) }
-    ensures fault { IfErr result (λ fault. (fault ≡ ReportFault.Sink)
-        ⊎ ((fault ≡ ReportFault.NoMemory) × (form ≡ Form.Json))) }
+    ensures fault { IfErr result (FailsByWritingJson form) }
 {
     if no_newline {
         item(alloc, bytes, form, out)

@@ -1,23 +1,23 @@
 //! What is wrong with a file, to the extent that is asked for: `check` and `etcd-check` write it.
 ghost use Rattle.std.specs.Prelude.{◌≡◌, ◌≢◌, ◌<◌, [], IfOk, map, true};
 ghost use Rattle.std.specs.List.{All};
-ghost use Rattle.bolt_recover.specs.{PageGaps.ForGaps, PageGaps.page_gap_view, Losses.is_nothing, LostAndFound.all_lost, Recoveries.recovery_gaps};
+ghost use Rattle.bolt_recover.specs.{PageGaps.ForGaps, PageGaps.page_gap_view, Losses.is_nothing, LostAndFound.all_lost, KeptPages.AreKeptPages};
+ghost use Rattle.bolt_recover.specs.Recoveries.{recovery_claimed, recovery_file, recovery_gaps, recovery_meta};
 ghost use Rattle.bolt_recover.specs.{ShownLosses.lost_view};
 ghost use Rattle.bolt_commands.specs.{Answers.WritesAnswer, CheckAnswers.check_refusal, CheckAnswers.findings_answer, CheckAnswers.is_right};
-ghost use Rattle.bolt_commands.specs.{CheckAnswers.lost_and_found_answer};
+ghost use Rattle.bolt_commands.specs.{CheckAnswers.lost_and_found_answer, FilesRead.counts_accounts};
 ghost use Rattle.bolt_commands.specs.{Private.Checks.ChecksGaps, Private.Checks.ChecksLost, Private.Checks.ChecksTo, Private.Checks.unopened};
-ghost use Rattle.bolt_commands.specs.{Private.Opened.IsRecoveryOf, Private.Opened.IsSearchOf};
+ghost use Rattle.bolt_commands.specs.Private.Contents.{IsCheckOf, IsRecoveryOf, IsSearchOf, IsWholeRecoveryOf};
 ghost use Rattle.bolt_report.specs.FoundLines.{IsFoundLeaf, found_view};
 ghost use Rattle.bolt_check.specs.declared.check_fault.CheckFault.TheVariants as check;
 
 use crate::failure::{Failure, Outcome};
 use crate::file_faults::{FileFaults, put_file_faults};
-use crate::opened::Opened;
-use crate::opening::Input;
+use crate::opening::{Contents, Input};
 use bolt_check::{CheckFault, Checked, Finding, NoMemory};
 use bolt_format::{Meta, MetaFault, Sink};
 use bolt_job::{Extent, MetaChoice};
-use bolt_recover::{Found, Lost, LostAndFound, PageGap, Recovery};
+use bolt_recover::{FoundPage, Lost, LostAndFound, PageGap, Recovery};
 use bolt_report::{put_counted_lost, put_findings};
 use std::slice;
 
@@ -53,21 +53,29 @@ pub(crate) fn check_to<'f, O: Sink>(
     ensures { ChecksTo O.Sink out.old out.new extent checking.entry result }
 {
     match extent {
-        Extent::Sound => check_sound(checking, &[], out),
+        Extent::Sound => check_sound(checking, out),
         _ => check_lost(checking, extent, out),
     }
 }
 
-/// Checks that the file is sound and that its pages have no gaps, of which these are known. It writes
-/// the first finding of its trees, those of its accounts, or nothing but the gaps.
-fn check_sound<'f, O: Sink>(
-    checking: Checking<'f>,
+/// Checks that the file is sound. It writes the first finding of its trees, or those of its accounts.
+fn check_sound<'f, O: Sink>(checking: Checking<'f>, out: &mut O) -> Verdict<'f>
+    ensures { ChecksGaps O.Sink out.old out.new [] checking.entry result }
+{
+    put_checked(checking.input.check(checking.choice), &[], checking, out)
+}
+
+/// Prints what is wrong with a file that was checked, or that has no gaps but these.
+fn put_checked<'f, O: Sink>(
+    checked: Result<Checked<'f>, CheckFault>,
     gaps: &[PageGap<'_>],
+    checking: Checking<'f>,
     out: &mut O,
 ) -> Verdict<'f>
+    requires { IsCheckOf checking.input.file.now checking.choice checked }
     ensures { ChecksGaps O.Sink out.old out.new (map page_gap_view gaps.now) checking.entry result }
 {
-    match checking.input.check(checking.choice) {
+    match checked {
         Ok(checked) => {
             if is_right(checking.faults, gaps) {
                 return Verdict::Right(checked);
@@ -91,22 +99,22 @@ fn check_lost<'f, O: Sink>(checking: Checking<'f>, extent: Extent, out: &mut O) 
     requires { extent ≢ Extent.Sound }
     ensures { ChecksTo O.Sink out.old out.new extent checking.entry result }
 {
-    let opened = match checking.input.open(checking.choice, extent) {
-        Ok(opened) => opened,
+    let contents = match checking.input.open(checking.choice, extent) {
+        Ok(contents) => contents,
         Err(failure) => return Verdict::Wrong(put_unopened(failure, checking.faults, out)),
     };
-    match opened {
-        Opened::Recovered(recovery) => check_recovered(checking, recovery, out),
-        Opened::Searched(both) => check_searched(checking, &both, out),
+    match contents {
+        Contents::Recovered(recovery) => check_recovered(checking, recovery, out),
+        Contents::Searched(both) => check_searched(checking, &both, out),
         // It isn't opened so.
-        Opened::Sound(_) => check_sound(checking, &[], out),
+        Contents::Sound(_) => check_sound(checking, out),
     }
 }
 
 /// Prints what is wrong with a file that is recovered.
 fn check_recovered<'f, O: Sink>(
     checking: Checking<'f>,
-    mut recovery: Recovery<'_>,
+    mut recovery: Recovery<'f>,
     out: &mut O,
 ) -> Verdict<'f>
     requires { IsRecoveryOf checking.input.file.now checking.choice recovery }
@@ -116,11 +124,34 @@ fn check_recovered<'f, O: Sink>(
         return Verdict::Wrong(Err(Failure::Memory));
     };
     let lost = Lost::Parts(recovery.losses());
-    let gaps = recovery.gaps();
     if lost.is_nothing() {
-        return check_sound(checking, gaps, out);
+        return check_kept(checking, recovery, out);
     }
+    let gaps = recovery.gaps();
     Verdict::Wrong(put_lost_after(lost, gaps, &[], checking.faults, out))
+}
+
+/// Prints what is wrong with a file of which nothing is lost. All of it was visited by this recovery.
+fn check_kept<'f, O: Sink>(
+    checking: Checking<'f>,
+    recovery: Recovery<'f>,
+    out: &mut O,
+) -> Verdict<'f>
+    requires { IsWholeRecoveryOf checking.input.file.now checking.choice recovery }
+    ensures { ChecksGaps O.Sink out.old out.new (recovery_gaps recovery.entry) checking.entry result }
+{
+    let (checked, gaps) = recovery.check(counts_accounts(checking.choice));
+    put_checked(checked, gaps.as_slice(), checking, out)
+}
+
+/// Whether the accounts of the file count: under the active meta alone.
+fn counts_accounts(choice: MetaChoice) -> bool
+    ensures { result ≡ counts_accounts choice }
+{
+    match choice {
+        MetaChoice::Active => true,
+        MetaChoice::InSlot(_) | MetaChoice::Assumed(_) => false,
+    }
 }
 
 /// Prints what is wrong with a file that was searched.
@@ -151,17 +182,21 @@ fn check_whole<'f, O: Sink>(
     requires whole { is_nothing (all_lost both.now) ≡ true }
     ensures { ChecksLost O.Sink out.old out.new Extent.FoundPages checking.entry result }
 {
-    let Ok(recovery) = find_gaps(checking.input, both.meta) else {
+    let Ok(recovery) = visit_all(checking.input, both.meta) else {
         return Verdict::Wrong(Err(Failure::Memory));
     };
-    check_sound(checking, recovery.gaps(), out)
+    check_kept(checking, recovery, out)
 }
 
-/// A recovery of a file under a meta, which has come to all of its gaps.
-fn find_gaps<'f>(input: Input<'f>, meta: Meta) -> Result<Recovery<'f>, NoMemory>
+/// A recovery of a file under a meta that has come to its end.
+fn visit_all<'f>(input: Input<'f>, meta: Meta) -> Result<Recovery<'f>, NoMemory>
     requires { 0 < meta.page_size }
-    ensures { IfOk result (λ recovery. ForGaps input.entry.file.now meta (λ gaps.
+    ensures file { IfOk result (λ recovery. recovery_file recovery ≡ input.entry.file.now) }
+    ensures meta { IfOk result (λ recovery. recovery_meta recovery ≡ meta) }
+    ensures gaps { IfOk result (λ recovery. ForGaps input.entry.file.now meta (λ gaps.
         recovery_gaps recovery ≡ gaps)) }
+    ensures kept { IfOk result (λ recovery. AreKeptPages input.entry.file.now meta
+        (recovery_claimed recovery)) }
 {
     // Nothing is lost of the file, so only memory can be refused.
     let Ok(mut recovery) = Recovery::under(input.alloc, input.file, meta) else {
@@ -235,7 +270,7 @@ fn put_findings_after<O: Sink>(
 fn put_lost_after<O: Sink>(
     lost: Lost<'_>,
     gaps: &[PageGap<'_>],
-    found: &[Found<'_>],
+    found: &[FoundPage<'_>],
     faults: FileFaults,
     out: &mut O,
 ) -> Outcome

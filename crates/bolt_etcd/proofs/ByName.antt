@@ -2,8 +2,8 @@
 use Rattle.std.proofs.Common.{◌≡◌, ◌<◌, ◌-◌, ◌^◌, Bool, List, map, not, Some, ap, subst, arith}
 use Rattle.std.proofs.{lemmas.Bool.le-ltb, lemmas.List.MinMax.ranks_by, lemmas.List.Sorted.IsPermutation-map}
 use Rattle.std.specs.{Cmp.IsStrictWeakOrder, List.Sorted.IsPermutation, List.Sorted.IsSortedBy, Ordering.is_lt}
+use Rattle.bolt_lemmas.proofs.Exports.{filter_all, sorted_mapped}
 use Rattle.bolt_format.specs.Elements.{LeafElement}
-use Rattle.bolt_tree.proofs.Exports.{filter_all, sorted_mapped}
 use Rattle.bolt_tree.specs.Entries.{EntryView}
 use Rattle.bolt_etcd.specs.{Check.NameFaults.AreByName, Check.NameFaults.by_name_cmp, Store.Newest.is_until, Store.Newest.until}
 use Rattle.bolt_etcd.specs.{Wire.Revisions.RevisionView, Wire.Revisions.revision_of, Wire.ShownRevisions.shown_revision, Store.Stores.revisions}

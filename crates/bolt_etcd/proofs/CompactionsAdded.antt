@@ -3,12 +3,12 @@ use Rattle.std.proofs.Common.{◌≡◌, ◌∙◌, ◌≤◌, ◌&&◌, ℕ, Bo
 use Rattle.std.proofs.Common.{Some, None, sym, arith}
 use Rattle.std.proofs.lemmas.Bool.{and_from, and_parts, cases_lt}
 use Rattle.std.specs.List.{Contains}
+use Rattle.bolt_lemmas.proofs.Exports.{filter_both, filter_same, filters_swap, kept_from, last_in, last_passes}
 use Rattle.bolt_check.specs.Keys.{Key}
-use Rattle.bolt_tree.proofs.Exports.{filter_same, filter_both, kept_from, filters_swap}
 use Rattle.bolt_etcd.specs.{Histories.Compactions.IsCompaction, Histories.Transactions.Transaction, Histories.Transactions.history}
 use Rattle.bolt_etcd.specs.{Histories.Transactions.state_at, Store.Newest.is_named, Store.Newest.is_until, Store.Newest.newest, Store.Newest.until}
 use Rattle.bolt_etcd.specs.Wire.Revisions.{RevisionView}
-use Rattle.bolt_etcd.proofs.{HistoryUntil.held_at, HistoryUntil.until_early, HistoryUntil.until_late, LastOnes.last_in, LastOnes.last_passes}
+use Rattle.bolt_etcd.proofs.{HistoryUntil.held_at, HistoryUntil.until_early, HistoryUntil.until_late}
 use Rattle.bolt_etcd.proofs.{NameHistories.held_parts}
 
 module _ (ts : List Transaction) (early late : ℕ) (le : early ≤ late) where

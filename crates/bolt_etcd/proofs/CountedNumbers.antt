@@ -3,8 +3,9 @@ use Rattle.std.proofs.Common.{◌≡◌, ◌∙◌, ◌<◌, ◌^◌, ◌&&◌, 
 use Rattle.std.proofs.Common.{Option, Some, None, refl, sym}
 use Rattle.std.proofs.lemmas.Bool.{cases_Bool}
 use Rattle.std.specs.{List.cons_option, List.last_or, Option.option_map, Str.bytes_eq}
+use Rattle.bolt_lemmas.proofs.Exports.{filter_both}
 use Rattle.bolt_check.specs.{Counts.counted, Keys.Key}
-use Rattle.bolt_tree.proofs.Exports.{counted_more, filter_both}
+use Rattle.bolt_tree.proofs.Exports.{counted_more}
 use Rattle.bolt_tree.specs.Entries.{Bucket, EntryView, Item, Value}
 use Rattle.bolt_etcd.specs.{Store.CurrentKeys.is_nameless, Store.CurrentKeys.nameless_key, Store.CurrentKeys.nameless_with, Store.HashKv.live_in}
 use Rattle.bolt_etcd.specs.{Store.Newest.is_named, Store.Newest.is_until, Store.Newest.newest, Wire.Numbered.numbered_in, Wire.Numbered.numbered_of}

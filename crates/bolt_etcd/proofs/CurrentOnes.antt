@@ -1,21 +1,25 @@
 -- Which revisions and marks are current, and how the code knows it: by the
 -- list of the current revisions, and by the key of the current one of the name
 -- without bytes.
-use Rattle.std.proofs.Common.{◌≡◌, ◌≢◌, ◌∙◌, ◌⊎◌, inl, inr, ℕ, Bool, true, false, List, [], ◌∷◌, ◌&&◌, ◌||◌, ap, arith, cond, filter, not, Option}
+use Rattle.std.proofs.Common.{◌≡◌, ◌≢◌, ◌∙◌, ◌⊎◌, inl, inr, ℕ, Bool, true, false, List, [], ◌∷◌, ◌&&◌, ap, arith, cond, filter, not, Option}
 use Rattle.std.proofs.Common.{Some, None, refl, rules, subst, sym}
 use Rattle.std.proofs.{lemmas.Bool.cases_Bool, lemmas.Bool.cond-false, lemmas.Bool.cond-true, lemmas.Bool.false_from_ne_true, lemmas.Option.same_Some}
 use Rattle.std.proofs.{lemmas.Cmp.nat_list_cmp_total, lemmas.Cmp.on_total, lemmas.Cmp.tied_itself, lemmas.List.MinMax.ranks_by}
 use Rattle.std.proofs.{lemmas.List.Sorted.Contains-permutation, lemmas.List.Sorted.IsPermutation-sym}
 use Rattle.std.specs.{Cmp.IsStrictWeakOrder, Cmp.IsTotalOrder, Cmp.Lexicographic.same_text, List.Contains, List.Sorted.IsPermutation}
 use Rattle.std.specs.{List.Sorted.IsSorted, List.cons_option, List.last_or, List.list_any, Option.is_some, Option.option_map, Ordering.eq_by_cmp}
-use Rattle.std.specs.{Ordering.is_eq, Ordering.is_lt, Str.bytes_eq, declared.cmp.Ordering.Ordering}
-use Rattle.std.specs.declared.cmp.Ordering.TheVariants.{Equal, Less}
+use Rattle.std.specs.{Ordering.is_lt, Str.bytes_eq}
+use Rattle.std.specs.declared.cmp.Ordering.TheVariants.{Less}
+use Rattle.std.proofs.Math.Bool.{or-true}
+use Rattle.bolt_lemmas.proofs.Exports.{any_from, any_has, contains_head, equal_from, filter_both, filter_rises, gives_from, gives_has, kept, kept_from, last_in}
+use Rattle.bolt_lemmas.proofs.Exports.{rises_once, same_bool, sorted_in}
+use Rattle.bolt_lemmas.specs.Order.{Rises}
 use Rattle.bolt_format.specs.Elements.{LeafElement}
 use Rattle.bolt_check.specs.Keys.{Key, key_cmp}
-use Rattle.bolt_tree.proofs.Exports.{contains_cases, contains_head, contains_none, contains_tail, filter_both, filter_rises, gives_from, gives_has}
-use Rattle.bolt_tree.proofs.Exports.{key_exact, kept, kept_from, rises_once}
-use Rattle.bolt_tree.specs.{Entries.Bucket, Entries.EntryView, Entries.Item, Entries.Value, Entries.entry_cmp, Entries.entry_view, Order.Rises}
-use Rattle.bolt_etcd.specs.Store.Current.{AreNewest, IsCurrent, name_sum_cmp, stored_key_cmp}
+use Rattle.bolt_tree.proofs.Exports.{key_exact}
+use Rattle.bolt_tree.specs.{Entries.Bucket, Entries.EntryView, Entries.Item, Entries.Value, Entries.entry_cmp, Entries.entry_view}
+use Rattle.bolt_etcd.specs.Store.Current.{AreNewest, IsCurrent}
+use Rattle.bolt_etcd.specs.Store.Orders.{name_sum_cmp, stored_key_cmp}
 use Rattle.bolt_etcd.specs.Store.CurrentKeys.{any_current_by, begins_with_key, is_current_by, is_nameless, is_this, nameless_key, without_first}
 use Rattle.bolt_etcd.specs.{Histories.Compactions.is_same_revision, Store.HashKv.live_in, Store.HashKv.is_current_at, Store.HashKv.passes}
 use Rattle.bolt_etcd.specs.{Histories.Transactions.live_of, Store.Newest.is_named, Store.Newest.is_until, Store.Newest.newest, Store.Newest.until}
@@ -25,34 +29,8 @@ use Rattle.bolt_etcd.specs.{declared.wire.revision_key.RevisionKey.RevisionKey, 
 use Rattle.bolt_etcd.specs.{Wire.Revisions.revision_of, Store.Stores.revisions}
 use Rattle.bolt_etcd.specs.{Wire.ShownRevisions.shown_revision, declared.wire.revision.Revision.Revision}
 use Rattle.bolt_etcd.proofs.Currents.{current_newest, from_entry, own_keys, stored_key_is}
-use Rattle.bolt_etcd.proofs.{LastOnes.last_in, MarkLaws.mark_has_number, MarkLaws.mark_is_no_revision, NameOrders.sums_total, SortedOnce.sorted_in}
+use Rattle.bolt_etcd.proofs.{MarkLaws.mark_has_number, MarkLaws.mark_is_no_revision, NameOrders.sums_total}
 use Rattle.bolt_etcd.proofs.{StoreLemmas.itself}
-
-equal_from : (o : Ordering) → is_eq o ≡ true → o ≡ Equal
-equal_from o is = grind arith
-
-both_ways : (a b : Bool) → (a ≡ true → b ≡ true) → (b ≡ true → a ≡ true) → a ≡ b
-both_ways true b to from = sym (to refl)
-both_ways false true to from = from refl
-both_ways false false to from = refl
-
-any_from : {A : Type 0} (p : A → Bool) (xs : List A) → list_any p xs ≡ true → (x : A) × Contains xs x × (p x ≡ true)
-any_from p [] some = cc
-any_from p (x ∷ xs) some = elim (cases_Bool (p x)) [
-  | inl passes ↦ (x, contains_head x xs, passes)
-  | inr fails ↦ let (y, has, also) = any_from p xs (rw fails at some) in (y, contains_tail x y xs has, also)
-]
-
-or_true : (b : Bool) → (b || true) ≡ true
-or_true true = refl
-or_true false = refl
-
-any_has : {A : Type 0} (p : A → Bool) (xs : List A) (x : A) → Contains xs x → p x ≡ true → list_any p xs ≡ true
-any_has p [] x has passes = absurd (contains_none x has)
-any_has p (y ∷ ys) x has passes = elim (contains_cases y x ys has) [
-  | inl is ↦ rw (ap p is ∙ passes) refl
-  | inr more ↦ rw (any_has p ys x more passes) (or_true (p y))
-]
 
 -- the newest of a name is one of these
 newest_in : (name : List ℕ) (rs : List RevisionView) (r : RevisionView) → newest name rs ≡ Some r → Contains rs r
@@ -244,7 +222,7 @@ module _ (up_to : ℕ) (es : List LeafElement) where
   pub any_current : (nameless : Option Key) (current : List RevisionView) → nameless ≡ nameless_key up_to (numbered es)
       → current ≡ filter (is_current_at up_to (revisions es)) (revisions es)
       → any_current_by nameless current ≡ list_any (is_current_at up_to (numbered es)) (numbered es)
-  any_current nameless current by_name listed = both_ways _ _ (λ some. to (live_in (newest [] (until up_to (numbered es)))) refl some) from
+  any_current nameless current by_name listed = same_bool _ _ (λ some. to (live_in (newest [] (until up_to (numbered es)))) refl some) from
     where
       to : (o : Option RevisionView) → live_in (newest [] (until up_to (numbered es))) ≡ o → any_current_by nameless current ≡ true
           → list_any (is_current_at up_to (numbered es)) (numbered es) ≡ true
@@ -277,7 +255,7 @@ module _ (up_to : ℕ) (es : List LeafElement) where
               let kept_in = kept (is_current_at up_to (revisions es)) (revisions es) x listed_in (sym (current_same x some) ∙ holds) in
               let has_bytes : not (is_nameless (name_of x)) ≡ true = rw (is, bytes_some b name) refl in
               rw (any_has (λ (r : RevisionView). not (is_nameless (name_of r))) current x
-              (subst (λ (rs : List RevisionView). Contains rs x) (sym listed) kept_in) has_bytes) (or_true (is_some nameless))
+              (subst (λ (rs : List RevisionView). Contains rs x) (sym listed) kept_in) has_bytes) (or-true (is_some nameless))
 
 -- ---- whether the first of the list is the next entry
 

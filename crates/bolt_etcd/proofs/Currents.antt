@@ -1,29 +1,28 @@
 -- The keys that there are are the newest revisions that aren't deletions.
-use Rattle.std.proofs.Common.{ℕ, ◌≡◌, ◌≢◌, ◌∙◌, ◌++◌, ◌↔◌, Bool, false, List, [], ◌∷◌, filter, map, not, Option, Some, None, Result, refl, sym, ap}
-use Rattle.std.proofs.Common.{subst, arith, if◌then◌else◌}
+use Rattle.std.proofs.Common.{ℕ, ◌≡◌, ◌∙◌, ◌++◌, ◌↔◌, Bool, false, List, [], ◌∷◌, filter, map, not, Option, Some, None, refl, sym, ap}
+use Rattle.std.proofs.Common.{subst, arith}
 use Rattle.std.proofs.{lemmas.Bool.not-true, lemmas.Cmp.nat_list_cmp_total, lemmas.Cmp.on_total, lemmas.List.append_assoc, lemmas.List.map-append}
 use Rattle.std.proofs.{lemmas.List.Kept.IsStrictlySortedBy-filter}
 use Rattle.std.proofs.{lemmas.List.MinMax.ranks_by, lemmas.List.Sorted.Contains-permutation, lemmas.List.Sorted.IsPermutation-sym}
 use Rattle.std.proofs.{lemmas.Slice.Eq.bytes_eq-Decides}
 use Rattle.std.specs.{List.Contains, List.cons_option, List.dedup, List.Sorted.IsPermutation, List.Sorted.IsSorted, Cmp.IsStrictWeakOrder}
 use Rattle.std.specs.{Cmp.IsTotalOrder}
-use Rattle.std.specs.{Ordering.eq_by_cmp, Ordering.is_eq, Ordering.is_lt, Result.is_err, Result.is_ok, Str.bytes_eq, declared.cmp.Ordering.Ordering}
+use Rattle.std.specs.{Ordering.eq_by_cmp, Ordering.is_eq, Ordering.is_lt, Str.bytes_eq}
 use Rattle.std.specs.declared.cmp.Ordering.TheVariants.{Less}
+use Rattle.bolt_lemmas.proofs.Exports.{dedup_mapped, filter_mapped, gives_from, kept, kept_from, not_less, one_of, rises_from, sorted_in}
+use Rattle.bolt_lemmas.specs.Order.{Rises}
 use Rattle.bolt_format.specs.Elements.{LeafElement}
-use Rattle.bolt_tree.proofs.Exports.{kept, filter_mapped, kept_from, dedup_mapped, gives_from, one_of}
-use Rattle.bolt_tree.specs.{Entries.EntryView, Entries.entry_cmp, Entries.entry_view, Order.Rises}
-use Rattle.bolt_etcd.specs.Store.Current.{AreCurrent, AreNewest, HaveOwnKeys, IsCurrent, IsNewest, is_there, name_cmp, name_sum_cmp, stored_key_cmp}
+use Rattle.bolt_tree.specs.{Entries.EntryView, Entries.entry_cmp, Entries.entry_view}
+use Rattle.bolt_etcd.specs.Store.Current.{AreCurrent, AreNewest, HaveOwnKeys, IsCurrent, IsNewest, is_there}
+use Rattle.bolt_etcd.specs.Store.Orders.{AreNewestBySum, name_cmp, name_sum_cmp, stored_key_cmp, sums_cmp}
 use Rattle.bolt_etcd.specs.{Store.Newest.is_named, Store.Newest.newest, Wire.Revisions.RevisionView, Wire.Revisions.name_of}
 use Rattle.bolt_etcd.specs.{Wire.Revisions.revision_in, Wire.Revisions.revision_of, Wire.Revisions.value_of}
 use Rattle.bolt_etcd.specs.{Wire.RevisionKeys.revision_key, Wire.ShownRevisions.shown_revision, Store.Stores.revisions, Wire.Fields.◌>>=◌}
-use Rattle.bolt_etcd.specs.{Store.NameOrder.sums_cmp, Store.SumOrder.AreNewestBySum, declared.wire.revision.Revision.Revision}
+use Rattle.bolt_etcd.specs.{declared.wire.revision.Revision.Revision}
 use Rattle.bolt_etcd.proofs.NewestOfNames.{IsGreatest, greatest_kept, kept_greatest, last_from, last_greatest, names_rise, text_ties}
-use Rattle.bolt_etcd.proofs.{NameOrders.sums_tie, NameOrders.sums_total, SortedOnce.rises_from, SortedOnce.sorted_in}
+use Rattle.bolt_etcd.proofs.{NameOrders.sums_tie, NameOrders.sums_total}
 
 -- ---- one more is pushed
-
-pub was_pushed : {X E : Type 0} {A : Type 0} (r : Result X E) (a b : List A) → is_err r ≡ false → (if is_ok r then a else b) ≡ a
-was_pushed r a b e = grind arith
 
 pub pushed : (items more : List Revision) (r : Revision) (left new total : List RevisionView) → more ≡ items ++ r ∷ [] → left ≡ shown_revision r ∷ new
     → map shown_revision items ++ left ≡ total → map shown_revision more ++ new ≡ total
@@ -87,9 +86,6 @@ abbrev pub code_is_there : Revision → Bool
 code_is_there r = is_there (shown_revision r)
 
 -- ---- the newest of each name
-
-not_less : (o : Ordering) → o ≢ Less → is_lt o ≡ false
-not_less o differs = grind arith
 
 module _ (rs : List RevisionView) where
   abbrev Greatest : RevisionView → Type 0

@@ -4,17 +4,18 @@ use Rattle.std.proofs.Common.{subst, arith}
 use Rattle.std.proofs.lemmas.Bool.{and_from, cases_lt, lt-ltb, ltb-true, or_cases, or_left, or_right}
 use Rattle.std.proofs.lemmas.Cmp.{nat_list_cmp_total, on_total}
 use Rattle.std.specs.{Cmp.IsTotalOrder, Cmp.Lexicographic.same_text, List.Contains, List.last_or, declared.cmp.Ordering.TheVariants.Less}
+use Rattle.bolt_lemmas.proofs.Exports.{asymmetric, filter_rises, irreflexive, kept as passes, kept_from, last_after, last_in}
+use Rattle.bolt_lemmas.specs.Order.{Rises}
 use Rattle.bolt_check.specs.Keys.{Key}
-use Rattle.bolt_tree.proofs.Exports.{kept as passes, asymmetric, irreflexive, filter_rises, kept_from}
-use Rattle.bolt_tree.specs.Order.{Rises}
-use Rattle.bolt_etcd.specs.{Histories.Compactions.IsCompaction, Store.Current.stored_key_cmp, Histories.Compactions.etcd_keeps}
+use Rattle.bolt_etcd.specs.{Histories.Compactions.IsCompaction, Histories.Compactions.etcd_keeps}
+use Rattle.bolt_etcd.specs.Store.Orders.{stored_key_cmp}
 use Rattle.bolt_etcd.specs.{Histories.Compactions.is_same_revision}
 use Rattle.bolt_etcd.specs.{Histories.Transactions.Transaction, Histories.Transactions.history, Histories.Transactions.state_at}
 use Rattle.bolt_etcd.specs.{Store.Newest.is_named, Store.Newest.is_until, Store.Newest.newest, Store.Newest.until, Wire.Revisions.RevisionView}
 use Rattle.bolt_etcd.specs.{Wire.Revisions.name_of}
 use Rattle.bolt_etcd.specs.Histories.Possible.{ArePossible}
 use Rattle.bolt_etcd.proofs.{HistorySteps.stored_keys_rise, HistorySteps.same_order, HistoryUntil.held_at, HistoryUntil.until_early}
-use Rattle.bolt_etcd.proofs.{LastOnes.last_after, LastOnes.last_in, MissingExact.main_le}
+use Rattle.bolt_etcd.proofs.MissingExact.{main_le}
 use Rattle.bolt_etcd.proofs.{NameHistories.held_parts, StoreLemmas.itself}
 
 stored_keys_total : IsTotalOrder stored_key_cmp

@@ -7,11 +7,12 @@ use Rattle.std.proofs.lemmas.List.Sorted.{Contains-permutation, IsPermutation-sy
 use Rattle.std.specs.{Cmp.IsTotalOrder, Cmp.Lexicographic.same_text, List.Contains, List.Sorted.IsPermutation, Ordering.is_eq}
 use Rattle.std.specs.{Ordering.ordering_reverse, Ordering.ordering_then, Str.bytes_eq}
 use Rattle.std.specs.{declared.cmp.Ordering.Ordering, declared.cmp.Ordering.TheVariants.Equal, declared.cmp.Ordering.TheVariants.Less}
+use Rattle.bolt_lemmas.proofs.Exports.{contains_head, filter_none, filter_rises, kept, kept_from, rises_as, rises_once}
+use Rattle.bolt_lemmas.specs.Order.{IsBelow, Rises}
 use Rattle.bolt_check.specs.Keys.{Key, key_cmp}
-use Rattle.bolt_tree.proofs.Exports.{filter_none, kept, contains_head, rises_once, filter_rises, kept_from, rises_as}
-use Rattle.bolt_tree.specs.Order.{IsBelow, Rises}
-use Rattle.bolt_etcd.specs.{Store.Current.stored_key_cmp, Check.Follows.follows, Check.MissingNumbers.is_of_later, Store.NameOrder.sums_cmp}
-use Rattle.bolt_etcd.specs.{Store.Newest.is_named, Store.SumOrder.AreBySum, Wire.Revisions.RevisionView, Wire.Revisions.name_of}
+use Rattle.bolt_etcd.specs.{Check.Follows.follows, Check.MissingNumbers.is_of_later}
+use Rattle.bolt_etcd.specs.Store.Orders.{AreBySum, stored_key_cmp, sums_cmp}
+use Rattle.bolt_etcd.specs.{Store.Newest.is_named, Wire.Revisions.RevisionView, Wire.Revisions.name_of}
 use Rattle.bolt_etcd.specs.Check.NameFaults.{AreByName, NameFaultView, fault_of, is_newest, lacks_one_before, name_faults}
 use Rattle.bolt_etcd.proofs.{NameOrders.sums_tie, NameOrders.sums_total, NewestOfNames.text_ties, SortedOnce.by_name_rises, SortedOnce.named_rises}
 use Rattle.bolt_etcd.proofs.{SortedOnce.named_total, StoreLemmas.itself}

@@ -1,15 +1,16 @@
 -- At each revision that isn't below the newest one, the hash is the same.
-use Rattle.std.proofs.Common.{◌≡◌, ◌∙◌, ◌≤◌, ◌++◌, ◌&&◌, ℕ, Bool, true, List, [], ◌∷◌, ap, arith, codes, filter, flat_map, inl, inr, not, Option}
+use Rattle.std.proofs.Common.{◌≡◌, ◌∙◌, ◌≤◌, ◌++◌, ◌&&◌, ℕ, Bool, true, List, [], ◌∷◌, ap, arith, filter, flat_map, inl, inr, not, Option}
 use Rattle.std.proofs.Common.{Some, None, refl, sym}
 use Rattle.std.proofs.lemmas.Bool.{le-ltb}
 use Rattle.std.specs.List.{Contains, list_any}
+use Rattle.bolt_lemmas.proofs.Exports.{contains_cases, contains_none, filter_all, filter_same, gives_has}
 use Rattle.bolt_format.specs.Elements.{LeafElement}
-use Rattle.bolt_tree.proofs.Exports.{contains_cases, contains_none, filter_all, filter_same, gives_has}
 use Rattle.bolt_tree.specs.Entries.{entry_view}
 use Rattle.bolt_etcd.specs.{Store.Crc32c.crc_of, Histories.Compactions.is_same_revision, Store.HashKv.hash_kv, Store.HashKv.live_in}
 use Rattle.bolt_etcd.specs.{Store.HashKv.is_left_out, Store.HashKv.passes, Store.Newest.is_until, Store.Newest.newest, Store.Newest.until}
 use Rattle.bolt_etcd.specs.{Wire.Numbered.numbered, Wire.Numbered.numbered_of, Wire.Revisions.RevisionView, Wire.Revisions.name_of}
 use Rattle.bolt_etcd.specs.{Store.Statuses.newest_main}
+use Rattle.bolt_etcd.specs.Store.BucketNames.{key_bucket}
 
 below : (rs : List RevisionView) (r : RevisionView) → Contains rs r → r.key.main ≤ newest_main rs
 below [] r has = absurd (contains_none r has)
@@ -34,7 +35,7 @@ module _ (compacted : ℕ) (es : List LeafElement) where
 
   abbrev hash_by : (up_to : ℕ) → List RevisionView → ℕ
   hash_by up_to early_ones =
-      crc_of (codes "key" ++ flat_map (λ e. e.key ++ e.value) (filter (λ e. passes (summed_by up_to early_ones) (numbered_of (entry_view e))) es))
+      crc_of (key_bucket ++ flat_map (λ e. e.key ++ e.value) (filter (λ e. passes (summed_by up_to early_ones) (numbered_of (entry_view e))) es))
 
   of_all : (up_to : ℕ) → newest_main (numbered es) ≤ up_to → hash_kv up_to compacted es ≡ hash_by up_to (numbered es)
   unfolding hash_kv
@@ -42,7 +43,7 @@ module _ (compacted : ℕ) (es : List LeafElement) where
 
   pub same_hash : (a b : ℕ) → newest_main (numbered es) ≤ a → newest_main (numbered es) ≤ b → hash_kv a compacted es ≡ hash_kv b compacted es
   same_hash a b first second =
-      of_all a first ∙ ap (λ (kept : List LeafElement). crc_of (codes "key" ++ flat_map (λ (e : LeafElement). e.key ++ e.value) kept))
+      of_all a first ∙ ap (λ (kept : List LeafElement). crc_of (key_bucket ++ flat_map (λ (e : LeafElement). e.key ++ e.value) kept))
       (filter_same _ _ es same) ∙ sym (of_all b second)
     where
       same : (e : LeafElement) → Contains es e

@@ -2,13 +2,13 @@
 use Rattle.std.proofs.Common.{◌≡◌, ◌∙◌, ◌<◌, ◌≤◌, ◌+◌, ◌-◌, inl, inr, ℕ, List, [], ◌∷◌, map, max, nat_lt, ◌==◌, Some, refl, ap, arith}
 use Rattle.std.proofs.lemmas.Bool.{cases_lt, cond-false, cond-true, eq-eqb, le-ltb, lt-ltb, ne_eqb}
 use Rattle.std.specs.Option.{option_to_list}
+use Rattle.bolt_lemmas.proofs.Exports.{drops, keeps}
 use Rattle.bolt_etcd.specs.{Histories.Transactions.State, Histories.Transactions.after, Wire.Revisions.RevisionView}
 use Rattle.bolt_etcd.specs.Check.MissingNumbers.{is_of_later, keys_above, missing_after, missing_before, missing_numbers, revisions_between}
 use Rattle.bolt_etcd.specs.Check.MissingNumbers.{transactions_between}
 use Rattle.bolt_etcd.specs.{declared.wire.revision_key.RevisionKey.RevisionKey}
 use Rattle.bolt_etcd.specs.declared.check.missing.Missing.TheVariants.{Revisions, Transactions}
 use Rattle.bolt_etcd.proofs.HistorySteps.{Goes, IsNext}
-use Rattle.bolt_tree.proofs.Exports.{drops, keeps}
 
 no_transaction : (before main : ℕ) → main ≤ before + 1 → option_to_list (transactions_between before main) ≡ []
 no_transaction before main le =

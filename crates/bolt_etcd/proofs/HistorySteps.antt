@@ -3,10 +3,11 @@ use Rattle.std.proofs.Common.{◌≡◌, ◌∙◌, ◌<◌, ◌≤◌, ◌+◌,
 use Rattle.std.proofs.lemmas.Cmp.{nat_cmp_total, tied_itself}
 use Rattle.std.specs.{List.Contains, Ordering.nat_cmp, Ordering.ordering_then, declared.cmp.Ordering.Ordering}
 use Rattle.std.specs.declared.cmp.Ordering.TheVariants.{Less}
-use Rattle.bolt_tree.proofs.Exports.{contains_cases, contains_none, rises_as}
-use Rattle.bolt_tree.specs.Order.{Rises}
+use Rattle.bolt_lemmas.proofs.Exports.{contains_cases, contains_none, number_less, rises_as}
+use Rattle.bolt_lemmas.specs.Order.{Rises}
 use Rattle.bolt_etcd.specs.Histories.Transactions.{State, Transaction, Write, after, after_all, history, history_from, nothing, revision_by, written}
-use Rattle.bolt_etcd.specs.{Store.Current.stored_key_cmp, Wire.RevisionKeys.spelling, Wire.Revisions.RevisionView, Histories.Possible.CanFollow}
+use Rattle.bolt_etcd.specs.{Wire.RevisionKeys.spelling, Wire.Revisions.RevisionView, Histories.Possible.CanFollow}
+use Rattle.bolt_etcd.specs.Store.Orders.{stored_key_cmp}
 use Rattle.bolt_etcd.specs.{Histories.Possible.CanWrite, Histories.Possible.CanWriteAll, Histories.Possible.ArePossible, Histories.Told.number_cmp}
 use Rattle.bolt_etcd.specs.declared.wire.revision_key.RevisionKey.{RevisionKey}
 use Rattle.bolt_etcd.proofs.KeyNumbers.{less, spellings_cmp}
@@ -89,9 +90,6 @@ pairs_rise state main sub (r ∷ rs) (next, is, go) = (
   λ s has. pair_less r s (from (after r state) r.key.main (r.key.sub + 1) rs go s has),
   pairs_rise (after r state) r.key.main (r.key.sub + 1) rs go,
 )
-
-number_less : (o p q : Ordering) → ordering_then o p ≡ Less → ordering_then o (ordering_then p q) ≡ Less
-number_less o p q is = grind arith
 
 pub numbers_rise : (rs : List RevisionView) → Rises pair_cmp rs → Rises number_cmp rs
 numbers_rise rs = grind (arith, rises_as, number_less)

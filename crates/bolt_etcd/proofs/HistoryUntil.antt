@@ -3,8 +3,8 @@ use Rattle.std.proofs.Common.{◌<◌, true, false, ◌≡◌, ◌∙◌, ◌≤
 use Rattle.std.proofs.{lemmas.Bool.cases_lt, lemmas.Bool.le-ltb, lemmas.Bool.lt-ltb, lemmas.List.Elements.Contains-append_cases}
 use Rattle.std.proofs.{lemmas.List.Elements.filter-append}
 use Rattle.std.specs.List.{Contains}
+use Rattle.bolt_lemmas.proofs.Exports.{contains_cases, contains_none, filter_all, filter_none}
 use Rattle.bolt_check.specs.Keys.{Key}
-use Rattle.bolt_tree.proofs.Exports.{filter_all, filter_none, contains_cases, contains_none}
 use Rattle.bolt_etcd.specs.Histories.Transactions.{State, Transaction, Write, after, after_all, history, history_from, revision_by, state_at, written}
 use Rattle.bolt_etcd.specs.{Store.Newest.is_until, Store.Newest.newest, Store.Newest.until, Wire.Revisions.RevisionView}
 use Rattle.bolt_etcd.proofs.NameHistories.{held_of, newest_held}

@@ -4,15 +4,16 @@ use Rattle.std.proofs.Common.{None, refl, sym, ap, subst}
 use Rattle.std.proofs.{lemmas.Bool.cases_Bool, lemmas.Bool.cases_lt, lemmas.Bool.cond-false, lemmas.List.append-nil}
 use Rattle.std.proofs.{lemmas.List.Elements.Contains-append_left, lemmas.List.Elements.filter-append}
 use Rattle.std.specs.{Cmp.Lexicographic.same_text, List.Contains, List.last_or}
+use Rattle.bolt_lemmas.proofs.Exports.{contains_cases, contains_head, contains_none, contains_tail, filter_all, filter_none, filter_rises, filters_swap}
+use Rattle.bolt_lemmas.proofs.Exports.{kept_from, last_in}
+use Rattle.bolt_lemmas.specs.Order.{Rises}
 use Rattle.bolt_check.specs.Keys.{Key}
-use Rattle.bolt_tree.proofs.Exports.{filter_all, filter_none, contains_cases, contains_head, contains_none, contains_tail, filter_rises, kept_from}
-use Rattle.bolt_tree.proofs.Exports.{filters_swap}
-use Rattle.bolt_tree.specs.Order.{Rises}
-use Rattle.bolt_etcd.specs.{Histories.Compactions.IsCompaction, Histories.Compactions.kept_revisions, Store.Current.stored_key_cmp}
+use Rattle.bolt_etcd.specs.{Histories.Compactions.IsCompaction, Histories.Compactions.kept_revisions}
+use Rattle.bolt_etcd.specs.Store.Orders.{stored_key_cmp}
 use Rattle.bolt_etcd.specs.{Histories.Transactions.Transaction, Histories.Transactions.history}
 use Rattle.bolt_etcd.specs.{Store.Newest.is_named, Store.Newest.is_until, Store.Newest.newest, Store.Newest.until, Wire.Revisions.RevisionView}
 use Rattle.bolt_etcd.specs.{Wire.Revisions.name_of, Histories.Possible.ArePossible}
-use Rattle.bolt_etcd.proofs.{HistorySteps.stored_keys_rise, HistoryUntil.until_early, HistoryUntil.until_late, HistoryUntil.held_at, LastOnes.last_in}
+use Rattle.bolt_etcd.proofs.{HistorySteps.stored_keys_rise, HistoryUntil.until_early, HistoryUntil.until_late, HistoryUntil.held_at}
 use Rattle.bolt_etcd.proofs.{NameHistories.held_of, NameHistories.held_parts}
 
 module _ (compacted : ℕ) (ts : List Transaction) (keeps : RevisionView → Bool) (possible : ArePossible ts) (compaction : IsCompaction compacted ts keeps)

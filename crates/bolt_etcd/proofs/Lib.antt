@@ -16,8 +16,6 @@ mod HistoryUntil
 mod KeptOfNames
 mod KeyNumbers
 mod Keys
-mod LastOfAll
-mod LastOnes
 mod Leases
 mod ListedTexts
 mod MarkLaws

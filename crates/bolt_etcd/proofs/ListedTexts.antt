@@ -1,5 +1,5 @@
 -- Lines are written, and they are counted.
-use Rattle.std.proofs.Common.{◌≡◌, ◌∙◌, ◌<◌, ◌+◌, ◌++◌, ◌^◌, ℕ, List, [], ◌∷◌, append-nil, drop, flat_map, get_or, length, length-append, map, refl}
+use Rattle.std.proofs.Common.{◌≡◌, ◌∙◌, ◌<◌, ◌+◌, ◌++◌, ◌^◌, ℕ, List, [], ◌∷◌, append-nil, drop, get_or, length, length-append, map, refl}
 use Rattle.std.proofs.Common.{sym, ap, arith}
 use Rattle.std.proofs.{lemmas.List.drop_more, lemmas.List.Folds.concat-append}
 use Rattle.std.specs.{List.concat, Result.IsErrAnd}
@@ -60,9 +60,6 @@ Wrote-given {text = text} e result one is = Wrote-same (append-nil text) (Wrote-
 
 -- ---- three parts, one after another
 
-pub concat_three : (a b c : List (List ℕ)) → concat a ++ (concat b ++ concat c) ≡ concat (a ++ (b ++ c))
-concat_three a b c = ap (λ (text : List ℕ). concat a ++ text) (sym (concat-append b c)) ∙ sym (concat-append a (b ++ c))
-
 pub counted_two : (a b : List (List ℕ)) (x y n : ℕ) → x ≡ counted 0 (length a) → y ≡ counted 0 (length b) → n ≡ counted x y
     → n ≡ counted 0 (length (a ++ b))
 counted_two a b x y n is also sum = let long = length-append a b in omega (arith, is, also, sum, long)
@@ -79,12 +76,3 @@ counted_three a b c x y z m n is also last sum more =
 pub shown_at : (xs : List Revision) (i : ℕ) (x : Revision) → i < length xs → x ≡ get_or xs i x
     → map shown_revision (drop i xs) ≡ shown_revision x ∷ map shown_revision (drop (i + 1) xs)
 shown_at xs i x within is = ap (map shown_revision) (drop_more xs i x within ∙ ap (λ (y : Revision). y ∷ drop (i + 1) xs) (sym is))
-
-pub lines_from : {X Y Z : Type 0} (line : Y → List Z) (view : X → Y) (xs : List X) (i : ℕ) (d : X) → i < length xs
-    → flat_map line (map view (drop i xs)) ≡ line (view (get_or xs i d)) ++ flat_map line (map view (drop (i + 1) xs))
-lines_from {X} line view xs i d within = ap (λ (l : List X). flat_map line (map view l)) (drop_more xs i d within)
-
-pub lines_at : {X Y Z : Type 0} (line : Y → List Z) (view : X → Y) (xs : List X) (i : ℕ) (x : X) → i < length xs → x ≡ get_or xs i x
-    → flat_map line (map view (drop i xs)) ≡ line (view x) ++ flat_map line (map view (drop (i + 1) xs))
-lines_at {X} line view xs i x within is =
-    lines_from line view xs i x within ∙ ap (λ (y : X). line (view y) ++ flat_map line (map view (drop (i + 1) xs))) (sym is)

@@ -3,8 +3,8 @@ use Rattle.std.proofs.Common.{◌≡◌, ◌<◌, ◌≤◌, ◌+◌, ◌-◌, �
 use Rattle.std.proofs.Common.{◌==◌, Some, None, refl, sym, arith}
 use Rattle.std.proofs.lemmas.Bool.{cases_order, eqb-true, lt-ltb, ltb-false, ltb-true}
 use Rattle.std.specs.{List.Contains, Option.option_to_list, declared.cmp.Ordering.TheVariants.Less}
-use Rattle.bolt_tree.proofs.Exports.{contains_cases, contains_head, contains_none, contains_tail, filter_rises, kept, kept_from}
-use Rattle.bolt_tree.specs.Order.{Rises}
+use Rattle.bolt_lemmas.proofs.Exports.{contains_cases, contains_head, contains_none, contains_tail, filter_rises, kept, kept_from}
+use Rattle.bolt_lemmas.specs.Order.{Rises}
 use Rattle.bolt_etcd.specs.{Wire.Revisions.RevisionView, Wire.RevisionKeys.numbers_cmp, Histories.Told.HasNoneOf, Histories.Told.IsMissing}
 use Rattle.bolt_etcd.specs.{Histories.Told.IsTold, Histories.Told.number_cmp}
 use Rattle.bolt_etcd.specs.Check.MissingNumbers.{is_of_later, missing_after, missing_before, missing_numbers, revisions_between, transactions_between}

@@ -10,15 +10,11 @@ use Rattle.std.specs.{Cmp.Lexicographic.same_text}
 use Rattle.std.specs.{Ordering.eq_by_cmp, Ordering.is_eq, Ordering.is_lt, Ordering.ordering_reverse, Ordering.ordering_then, Str.bytes_eq}
 use Rattle.std.specs.{declared.cmp.Ordering.Ordering}
 use Rattle.std.specs.declared.cmp.Ordering.TheVariants.{Less}
+use Rattle.bolt_lemmas.proofs.Exports.{Climbs, contains_cases, contains_head, contains_none, contains_tail, filter_rises, first_less, kept, kept_from}
+use Rattle.bolt_lemmas.proofs.Exports.{last_after, last_in, last_there, neither, one_of, rises_from, sorted_climbs}
+use Rattle.bolt_lemmas.specs.Order.{Rises}
 use Rattle.bolt_check.specs.Keys.{key_cmp}
-use Rattle.bolt_tree.proofs.Exports.{Climbs, contains_cases, contains_head, contains_none, contains_tail, filter_rises, kept, kept_from, key_exact}
-use Rattle.bolt_tree.proofs.Exports.{one_of}
-use Rattle.bolt_tree.specs.Order.{Rises}
-use Rattle.bolt_check.proofs.Exports.{neither}
-use Rattle.bolt_etcd.proofs.{LastOnes.last_after, LastOnes.last_in, LastOnes.last_there, SortedOnce.rises_from, SortedOnce.sorted_climbs}
-
-first_less : (a b : Ordering) → is_lt (ordering_then a b) ≡ false → is_lt a ≡ false
-first_less a b e = grind arith
+use Rattle.bolt_tree.proofs.Exports.{key_exact}
 
 pub text_ties : (a b : List ℕ) → bytes_eq a b ≡ is_eq (key_cmp a b)
 text_ties a b = sym (is_eq-slice_cmp a b)

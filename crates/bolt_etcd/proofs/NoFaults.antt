@@ -2,10 +2,12 @@
 use Rattle.std.proofs.Common.{◌≡◌, ◌↔◌, Bool, true, ℕ, List, [], flat_map, map, Option, None, ap, subst}
 use Rattle.std.proofs.lemmas.List.Sorted.{IsPermutation-map, IsPermutation-trans}
 use Rattle.std.specs.{List.Sorted.IsPermutation}
-use Rattle.bolt_tree.specs.{declared.bucket.Bucket.Bucket, Order.Rises}
-use Rattle.bolt_etcd.specs.{Check.CheckLines.name_fault_lines, Store.Current.stored_key_cmp, Check.ForNames.ForGranted, Check.NameFaults.AreByName}
+use Rattle.bolt_lemmas.specs.Order.{Rises}
+use Rattle.bolt_tree.specs.declared.bucket.Bucket.{Bucket}
+use Rattle.bolt_etcd.specs.{Check.CheckLines.name_fault_lines, Check.ForNames.ForGranted, Check.NameFaults.AreByName}
+use Rattle.bolt_etcd.specs.Store.Orders.{AreBySum, stored_key_cmp}
 use Rattle.bolt_etcd.specs.{Check.NameFaults.name_faults}
-use Rattle.bolt_etcd.specs.{Wire.Revisions.RevisionView, Wire.ShownRevisions.shown_revision, Check.StoreFaults.name_lines, Store.SumOrder.AreBySum}
+use Rattle.bolt_etcd.specs.{Wire.Revisions.RevisionView, Wire.ShownRevisions.shown_revision, Check.StoreFaults.name_lines}
 use Rattle.bolt_etcd.specs.declared.wire.revision.Revision.{Revision}
 use Rattle.bolt_etcd.proofs.{FaultsOfNames.none_by_name, StoreLemmas.granted_map}
 

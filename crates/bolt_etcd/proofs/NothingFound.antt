@@ -1,14 +1,15 @@
 -- Nothing is found in a store from which nothing is missing.
-use Rattle.std.proofs.Common.{arith, ◌≡◌, ◌∙◌, ◌++◌, ◌&&◌, ℕ, Bool, true, false, List, [], ◌∷◌, codes, flat_map, map, max, not, Option, Some, None}
+use Rattle.std.proofs.Common.{arith, ◌≡◌, ◌∙◌, ◌++◌, ◌&&◌, ℕ, Bool, true, false, List, [], ◌∷◌, flat_map, map, max, not, Option, Some, None}
 use Rattle.std.proofs.Common.{refl, ap}
 use Rattle.std.proofs.lemmas.Bool.{and_left, and_right, cases_Bool, eq-eqb, ltb-true}
 use Rattle.std.specs.{List.Contains, List.cons_option, List.filter_map, Option.is_some}
+use Rattle.bolt_lemmas.proofs.Exports.{contains_head, contains_tail, filter_both, filter_none, filter_rises, filter_same, kept_from}
+use Rattle.bolt_lemmas.specs.Order.{Rises}
 use Rattle.bolt_check.specs.Keys.{Key}
 use Rattle.bolt_format.specs.Elements.{LeafElement}
-use Rattle.bolt_tree.proofs.Exports.{filter_none, filter_same, contains_head, contains_tail, filter_both, filter_rises, kept_from}
-use Rattle.bolt_tree.specs.{Entries.EntryView, Entries.entry_view, Order.Rises}
+use Rattle.bolt_tree.specs.{Entries.EntryView, Entries.entry_view}
 use Rattle.bolt_etcd.specs.{Check.CheckLines.name_fault_lines, Histories.Compactions.IsCompaction, Histories.Compactions.kept_revisions}
-use Rattle.bolt_etcd.specs.{Store.Current.stored_key_cmp}
+use Rattle.bolt_etcd.specs.Store.Orders.{stored_key_cmp}
 use Rattle.bolt_etcd.specs.{Histories.Transactions.Delete, Histories.Transactions.Put, Histories.Transactions.State}
 use Rattle.bolt_etcd.specs.{Histories.Transactions.Transaction, Histories.Transactions.history, Histories.Transactions.nothing}
 use Rattle.bolt_etcd.specs.{Check.Misplaced.is_misplaced, Check.Misplaced.misplaced}
@@ -17,8 +18,9 @@ use Rattle.bolt_etcd.specs.{Check.MissingNumbers.missing_numbers, Check.NameFaul
 use Rattle.bolt_etcd.specs.{Wire.Others.OtherView, Wire.Others.others_of, Wire.Revisions.RevisionView, Wire.Revisions.revision_of}
 use Rattle.bolt_etcd.specs.{Histories.Possible.ArePossible, Store.StoreBuckets.StoreView, Store.Stores.revisions}
 use Rattle.bolt_etcd.specs.Histories.WholeStores.{GrantsLeases, HoldsExactly}
-use Rattle.bolt_etcd.specs.Check.StoreFaults.{missing_bucket_lines, bucket_names, entry_lines, key_lines, line_without, name_lines, store_granted}
+use Rattle.bolt_etcd.specs.Check.StoreFaults.{missing_bucket_lines, entry_lines, key_lines, line_without, name_lines, store_granted}
 use Rattle.bolt_etcd.specs.Check.StoreFaults.{store_lines}
+use Rattle.bolt_etcd.specs.Store.BucketNames.{bucket_names, key_bucket}
 use Rattle.bolt_etcd.proofs.{FaultsOfNames.faults_named, FaultsOfNames.none_of_any, HistoryNumbers.none_missing}
 use Rattle.bolt_etcd.proofs.{HistorySteps.IsWritten, HistorySteps.each, HistorySteps.goes, HistorySteps.stored_keys_rise, OtherCounts.is_numbered}
 use Rattle.bolt_etcd.proofs.{OtherCounts.no_other, WholeNames.no_faults}
@@ -108,7 +110,7 @@ module _ (compacted : ℕ) (ts : List Transaction) (keeps : RevisionView → Boo
 
     pub nothing_found : store_lines store ≡ []
     nothing_found =
-        ap (λ (l : List (List ℕ)). l ++ key_lines store (store.bucket (codes "key"))) (no_bucket_lines store bucket_names is.buckets)
+        ap (λ (l : List (List ℕ)). l ++ key_lines store (store.bucket key_bucket)) (no_bucket_lines store bucket_names is.buckets)
         ∙ ap (key_lines store) is.under_key
         ∙ ap (λ (c : Option ℕ). entry_lines c is.entries ++ name_lines c (store_granted store) store.by_name) is.compacted_at
         ∙ ap (λ (l : List (List ℕ)). l ++ name_lines (Some compacted) (store_granted store) store.by_name) no_entry_lines

@@ -3,14 +3,14 @@ use Rattle.std.proofs.Common.{◌≡◌, Bool, true, false, List, ℕ, Some, ref
 use Rattle.bolt_tree.specs.Entries.{EntryView, Value}
 use Rattle.bolt_etcd.specs.{Wire.Numbered.numbered_of, Wire.Records.RecordView, Wire.Records.record_of, Wire.RevisionKeys.revision_key}
 use Rattle.bolt_etcd.specs.{Wire.Revisions.RevisionView, Wire.Revisions.record_content}
-use Rattle.bolt_etcd.specs.{Wire.ShownNumbered.ShowsNumbered, declared.wire.numbered.Numbered.Numbered}
+use Rattle.bolt_etcd.specs.{Wire.ShownNumbered.ShowsNumbered, declared.wire.numbered_entry.NumberedEntry.NumberedEntry}
 use Rattle.bolt_etcd.specs.{declared.wire.revision_key.RevisionKey.RevisionKey}
 
 same_name : (deleted : Bool) (r : RecordView) → r.name ≡ (record_content deleted r).name
 same_name true r = refl
 same_name false r = refl
 
-pub shows : (entry : EntryView) (value : List ℕ) (k : RevisionKey) (content : RecordView) (n : Numbered) → entry.item ≡ Value value
+pub shows : (entry : EntryView) (value : List ℕ) (k : RevisionKey) (content : RecordView) (n : NumberedEntry) → entry.item ≡ Value value
     → revision_key entry.key ≡ Some k
     → record_of value ≡ Some content → n.key ≡ k → n.stored_key.now ≡ entry.key → n.name.now ≡ content.name → n.value.now ≡ value
     → (r : RevisionView) × ShowsNumbered entry n r

@@ -1,7 +1,6 @@
 -- What the code has in its hands of an entry that isn't a revision, and of a revision.
 use Rattle.std.proofs.Common.{◌≡◌, true, false, Option, Some, None, sym}
 use Rattle.std.specs.Option.{is_some, option_map}
-use Rattle.std.specs.Prelude.{IfSome}
 use Rattle.bolt_etcd.specs.{Wire.Others.OtherView, Wire.Others.shown_other, declared.wire.other.Other.Other}
 
 pub none_other : (o : Option Other) (v : Option OtherView) → is_some o ≡ false → option_map shown_other o ≡ v → v ≡ None
@@ -12,7 +11,3 @@ pub some_other : (P : Option OtherView → Type 0) (o : Option Other) (v : Optio
     → ((x : OtherView) → v ≡ Some x → P (Some x)) → P (option_map shown_other o)
 some_other P None v some is h = cc
 some_other P (Some x) v some is h = h (shown_other x) (sym is)
-
-pub if_given : {A P : Type 0} (o : Option A) → P → IfSome o (λ _. P)
-if_given None p = tt
-if_given (Some x) p = p

@@ -4,8 +4,8 @@ use Rattle.std.proofs.Common.{max, nat_lt, ◌==◌, Some, None, refl, sym, arit
 use Rattle.std.proofs.lemmas.Bool.{cases_lt, cases_order, eqb-false, eqb-true, ltb-false, ltb-true}
 use Rattle.std.proofs.lemmas.List.Elements.{Contains-append_cases, Contains-append_left, Contains-append_right}
 use Rattle.std.specs.{List.Contains, Option.option_to_list, declared.cmp.Ordering.TheVariants.Less}
-use Rattle.bolt_tree.proofs.Exports.{contains_cases, contains_head, contains_none, contains_tail, filter_rises}
-use Rattle.bolt_tree.specs.Order.{Rises}
+use Rattle.bolt_lemmas.proofs.Exports.{contains_cases, contains_head, contains_none, contains_tail, filter_rises}
+use Rattle.bolt_lemmas.specs.Order.{Rises}
 use Rattle.bolt_etcd.specs.{Wire.Revisions.RevisionView, Histories.Told.number_cmp, Histories.ToldRevisions.IsMissingRevision}
 use Rattle.bolt_etcd.specs.{Histories.ToldRevisions.IsToldRevision, Histories.ToldRevisions.TellsRevision}
 use Rattle.bolt_etcd.specs.Check.MissingNumbers.{is_of_later, missing_after, missing_before, missing_numbers, revisions_between, transactions_between}

@@ -1,57 +1,17 @@
--- A list can be sorted, by insertion.
-use Rattle.std.proofs.Common.{◌≡◌, inl, inr, Bool, false, List, [], ◌∷◌, filter, subst}
-use Rattle.std.proofs.{lemmas.Bool.cases_Bool, lemmas.List.MinMax.ranks_by}
-use Rattle.std.proofs.lemmas.List.Sorted.{Contains-permutation, IsPermutation-cons, IsPermutation-insert, IsPermutation-refl, IsPermutation-sym}
-use Rattle.std.proofs.lemmas.List.Sorted.{IsPermutation-trans}
+-- The revisions of a store can be sorted by name, and there is one list of the current ones.
+use Rattle.std.proofs.Common.{◌≡◌, List, filter}
+use Rattle.std.proofs.lemmas.List.MinMax.{ranks_by}
 use Rattle.std.proofs.lemmas.Cmp.{nat_list_cmp_total, on_total}
-use Rattle.std.specs.{Cmp.IsStrictWeakOrder, List.dedup, List.Sorted.IsPermutation, List.Sorted.IsSortedBy, Ordering.is_lt}
-use Rattle.bolt_tree.proofs.Exports.{Climbs, climbs_sorted, contains_cases, contains_none}
-use Rattle.bolt_tree.specs.Order.{Rises}
+use Rattle.std.specs.{List.dedup, Ordering.is_lt}
+use Rattle.bolt_lemmas.proofs.Exports.{sorted_exists}
+use Rattle.bolt_lemmas.specs.Order.{Rises}
 use Rattle.bolt_etcd.specs.{Store.Current.AreCurrent, Store.Current.AreNewest, Store.Current.HaveOwnKeys, Store.Current.is_there}
-use Rattle.bolt_etcd.specs.{Store.Current.name_cmp, Store.Current.stored_key_cmp, Check.NameFaults.AreByName, Check.NameFaults.by_name_cmp}
-use Rattle.bolt_etcd.specs.{Store.NameOrder.sums_cmp, Wire.Revisions.RevisionView, Wire.Revisions.name_of, Store.SumOrder.newest_by_sum_cmp}
+use Rattle.bolt_etcd.specs.{Check.NameFaults.AreByName, Check.NameFaults.by_name_cmp}
+use Rattle.bolt_etcd.specs.Store.Orders.{name_cmp, newest_by_sum_cmp, stored_key_cmp, sums_cmp}
+use Rattle.bolt_etcd.specs.{Wire.Revisions.RevisionView, Wire.Revisions.name_of}
 use Rattle.bolt_etcd.proofs.{Currents.first_are_newest, Currents.own_keys, Currents.sorted_are_current, Currents.view_same_name, NameOrders.sums_tie}
 use Rattle.bolt_etcd.proofs.{NameOrders.sums_total, NewestOfNames.newest_ranks}
 use Rattle.bolt_etcd.proofs.SortedOnce.{by_name_once, by_name_total, current_once}
-
-module _ {X : Type 0} (lt : X → X → Bool) (ranks : IsStrictWeakOrder lt) where
-  put_in : (x : X) (ys : List X) → Climbs lt ys → (zs : List X) × IsPermutation (x ∷ ys) zs × Climbs lt zs
-  put_in x [] climbs = (x ∷ [], IsPermutation-refl _, (λ y none. absurd (contains_none y none), tt))
-  put_in x (y ∷ ys) climbs = elim (cases_Bool (lt y x)) [
-    | inl before ↦
-        let (zs, moved, up) = put_in x ys climbs.1 in (
-          y ∷ zs,
-          IsPermutation-trans _ _ _ (IsPermutation-insert (y ∷ ys) 1 x) (IsPermutation-cons y _ _ moved),
-          (
-            λ z has. elim (contains_cases x z ys (Contains-permutation zs (x ∷ ys) z (IsPermutation-sym (x ∷ ys) zs moved) has)) [
-              | inl is ↦ subst (λ w. lt w y ≡ false) is (ranks.one_way y x before)
-              | inr more ↦ climbs.0 z more
-            ],
-            up,
-          ),
-        )
-    | inr after ↦ (
-      x ∷ y ∷ ys,
-      IsPermutation-refl _,
-      (
-        λ z has. elim (contains_cases y z ys has) [
-          | inl is ↦ subst (λ w. lt w x ≡ false) is after
-          | inr more ↦ ranks.chain z y x (climbs.0 z more) after
-        ],
-        climbs,
-      ),
-    )
-  ]
-
-  climbing : (xs : List X) → (zs : List X) × IsPermutation xs zs × Climbs lt zs
-  climbing [] = ([], IsPermutation-refl _, tt)
-  climbing (x ∷ xs) =
-      let (ys, moved, up) = climbing xs in
-      let (zs, put, climbs) = put_in x ys up in
-      (zs, IsPermutation-trans _ _ _ (IsPermutation-cons x _ _ moved) put, climbs)
-
-  pub sorted_exists : (xs : List X) → (sorted : List X) × IsPermutation xs sorted × IsSortedBy lt sorted
-  sorted_exists xs = let (sorted, moved, climbs) = climbing xs in (sorted, moved, climbs_sorted lt sorted climbs)
 
 -- ---- the revisions of a bucket
 

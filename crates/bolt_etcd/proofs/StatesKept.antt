@@ -3,8 +3,8 @@ use Rattle.std.proofs.Common.{◌<◌, ◌≡◌, ◌∙◌, ◌≤◌, ◌++◌
 use Rattle.std.proofs.Common.{subst, ap, arith}
 use Rattle.std.proofs.{lemmas.Bool.cases_lt, lemmas.Bool.cond-false, lemmas.List.append-nil, lemmas.List.Elements.filter-append}
 use Rattle.std.specs.List.{Contains, last_or}
+use Rattle.bolt_lemmas.proofs.Exports.{contains_none, filter_all, filters_swap, kept as passes, last_of_both}
 use Rattle.bolt_check.specs.Keys.{Key}
-use Rattle.bolt_tree.proofs.Exports.{filter_all, kept as passes, contains_none, filters_swap}
 use Rattle.bolt_etcd.specs.{Histories.Compactions.IsCompaction, Histories.Compactions.kept_revisions, Store.Current.AreCurrent}
 use Rattle.bolt_etcd.specs.{Store.Current.IsCurrent, Histories.Transactions.AreOfState}
 use Rattle.bolt_etcd.specs.{Histories.Transactions.Transaction, Histories.Transactions.history, Histories.Transactions.state_at}
@@ -12,7 +12,7 @@ use Rattle.bolt_etcd.specs.{Store.Newest.is_named, Store.Newest.is_until, Store.
 use Rattle.bolt_etcd.specs.{Wire.Revisions.name_of}
 use Rattle.bolt_etcd.specs.Histories.Possible.{ArePossible}
 use Rattle.bolt_etcd.proofs.{HistoryUntil.held_at, HistoryUntil.until_early, KeptOfNames.IsCut, KeptOfNames.cut, NameHistories.held_of}
-use Rattle.bolt_etcd.proofs.{NameHistories.held_parts, LastOnes.last_of_both}
+use Rattle.bolt_etcd.proofs.NameHistories.{held_parts}
 
 -- a revision is current exactly if it is what its name holds
 current_is_held : (rs : List RevisionView) (r : RevisionView) → IsCurrent rs r ↔ (held_of (newest (name_of r) rs) ≡ Some r)

@@ -2,15 +2,17 @@
 use Rattle.std.proofs.Common.{◌≡◌, ◌∙◌, ◌&&◌, Bool, true, ℕ, List, Option, Some, None, ap, refl, subst, sym}
 use Rattle.std.proofs.lemmas.Bool.{and_parts}
 use Rattle.std.specs.{Cmp.Lexicographic.same_text, List.find, Option.option_map, Str.bytes_eq}
-use Rattle.std.specs.Prelude.{codes}
+use Rattle.bolt_lemmas.proofs.Exports.{Finds, finds}
+use Rattle.bolt_lemmas.specs.Order.{Rises}
 use Rattle.bolt_check.specs.{Keys.Key, Sound.HasSoundTrees}
 use Rattle.bolt_format.specs.{Elements.LeafElement, declared.meta.Meta.Meta}
 use Rattle.bolt_tree.proofs.Exports.{starts_below, entry_once, tour_entries, entries_once}
 use Rattle.bolt_tree.specs.{Entries.AreEntries, Entries.IsEntry, Entries.IsStart, Entries.Start, Entries.start_of, FileTrees.file_entries}
-use Rattle.bolt_tree.specs.{Order.Rises}
-use Rattle.bolt_etcd.specs.{Store.Current.stored_key_cmp, Store.StoreBuckets.HasEntriesUnder, Store.StoreBuckets.IsStore}
+use Rattle.bolt_etcd.specs.{Store.StoreBuckets.HasEntriesUnder, Store.StoreBuckets.IsStore}
+use Rattle.bolt_etcd.specs.Store.Orders.{stored_key_cmp}
 use Rattle.bolt_etcd.specs.{Store.StoreBuckets.StoreView, Store.StoreBuckets.revisions_in}
-use Rattle.bolt_etcd.proofs.{Currents.revisions_rise, SortedExists.by_name_exists, SortedOnce.by_name_once, StoreLemmas.Finds, StoreLemmas.finds}
+use Rattle.bolt_etcd.specs.Store.BucketNames.{key_bucket}
+use Rattle.bolt_etcd.proofs.{Currents.revisions_rise, SortedExists.by_name_exists, SortedOnce.by_name_once}
 use Rattle.bolt_etcd.proofs.{StoreLemmas.itself}
 
 abbrev is_bucket_under : Key → LeafElement → Bool
@@ -45,13 +47,13 @@ module _ (file : List ℕ) (meta : Meta) (root : Start) (trees : HasSoundTrees f
       )
 
   store : StoreView
-  store = record { bucket = bucket; by_name = (by_name_exists (revisions_in (bucket (codes "key")))).0 }
+  store = record { bucket = bucket; by_name = (by_name_exists (revisions_in (bucket key_bucket))).0 }
 
   store_is : IsStore (IsEntry file meta) root store
   unfolding store
   store_is = record {
     buckets = λ name. bucket_by name (find (is_bucket_under name) (file_entries file meta root)) (finds (is_bucket_under name) (file_entries file meta root));
-    sorted = (by_name_exists (revisions_in (bucket (codes "key")))).1;
+    sorted = (by_name_exists (revisions_in (bucket key_bucket))).1;
   }
 
   -- ---- and no other
@@ -66,7 +68,7 @@ module _ (file : List ℕ) (meta : Meta) (root : Start) (trees : HasSoundTrees f
       ap Some (entries_once file meta (start_of f.value) own others
       (subst (λ (x : LeafElement). AreEntries (IsEntry file meta) (start_of x.value) own) one are) also)
 
-  keys_rise : (o : Option (List LeafElement)) → HasEntriesUnder (IsEntry file meta) root (codes "key") o → Rises stored_key_cmp (revisions_in o)
+  keys_rise : (o : Option (List LeafElement)) → HasEntriesUnder (IsEntry file meta) root key_bucket o → Rises stored_key_cmp (revisions_in o)
   keys_rise None has = tt
   keys_rise (Some entries) (e, is, same, bucket, are) = revisions_rise entries are.rises
 
@@ -75,9 +77,9 @@ module _ (file : List ℕ) (meta : Meta) (root : Start) (trees : HasSoundTrees f
   other_is other also =
       let buckets = λ (name : Key). same_bucket name (other.bucket name) (store.bucket name) (also.buckets name) (store_is.buckets name) in (
         buckets,
-        by_name_once (revisions_in (store.bucket (codes "key"))) other.by_name store.by_name
-            (keys_rise (store.bucket (codes "key")) (store_is.buckets (codes "key")))
-            (rw (buckets (codes "key")) at also.sorted) store_is.sorted,
+        by_name_once (revisions_in (store.bucket key_bucket)) other.by_name store.by_name
+            (keys_rise (store.bucket key_bucket) (store_is.buckets key_bucket))
+            (rw (buckets key_bucket) at also.sorted) store_is.sorted,
       )
 
   pub one_store : (store : StoreView) × IsStore (IsEntry file meta) root store

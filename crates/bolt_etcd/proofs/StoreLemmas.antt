@@ -1,42 +1,30 @@
 -- What look-ups in the root bucket say of a store.
-use Rattle.std.proofs.Common.{arith, ◌≡◌, ◌∙◌, ◌++◌, Bool, true, false, ℕ, List, [], ◌∷◌, codes, cond, flat_map, inl, inr, not, Option, Some, None}
+use Rattle.std.proofs.Common.{arith, ◌≡◌, ◌∙◌, ◌++◌, Bool, true, false, ℕ, List, [], flat_map, not, Option, Some, None}
 use Rattle.std.proofs.Common.{refl, sym, ap, subst}
 use Rattle.std.proofs.{Math.Logic.∥∥₁_elim, Props.props, lemmas.Bool.and_from, lemmas.Bool.and_parts, lemmas.Bool.not-true}
 use Rattle.std.proofs.{lemmas.Slice.Eq.bytes_eq-Decides}
-use Rattle.std.specs.{Cmp.Lexicographic.same_text, List.Contains, List.concat, List.find, Option.is_some, Option.option_map, Str.bytes_eq}
+use Rattle.std.specs.{Cmp.Lexicographic.same_text, List.concat, List.find, Option.is_some, Option.option_map, Str.bytes_eq}
 use Rattle.std.specs.Prelude.{IfSome}
+use Rattle.bolt_lemmas.proofs.Exports.{Finds, concat_three, finds}
+use Rattle.bolt_lemmas.specs.Order.{Rises}
 use Rattle.bolt_check.specs.{Keys.Key, declared.checked.Checked.Checked}
 use Rattle.bolt_format.specs.Elements.{LeafElement}
-use Rattle.bolt_tree.proofs.Exports.{contains_cases, contains_head, contains_none, contains_tail, own_entries, entry_once}
+use Rattle.bolt_tree.proofs.Exports.{own_entries, entry_once}
 use Rattle.bolt_tree.specs.{BucketViews.entries_of, Buckets.bucket_checked, Buckets.bucket_start, Entries.AreEntries, Entries.Start, Entries.start_of}
 use Rattle.bolt_tree.specs.{Lookups.IsBucketAt, Lookups.IsValueAt}
-use Rattle.bolt_tree.specs.{declared.bucket.Bucket.Bucket, Order.Rises, EntriesLeft.ForBucket}
-use Rattle.bolt_etcd.specs.{Store.Current.stored_key_cmp, Store.Compacted.IsCompacted, Store.Compacted.compacted_in, Store.Compacted.is_value_under}
+use Rattle.bolt_tree.specs.{declared.bucket.Bucket.Bucket, EntriesLeft.ForBucket}
+use Rattle.bolt_etcd.specs.{Store.Compacted.IsCompacted, Store.Compacted.compacted_in, Store.Compacted.is_value_under}
+use Rattle.bolt_etcd.specs.Store.Orders.{stored_key_cmp}
 use Rattle.bolt_etcd.specs.{Store.Compacted.value_under, Check.CheckLines.name_fault_lines}
 use Rattle.bolt_etcd.specs.{Check.ForNames.ForGranted, Private.FaultsLeft.faults_leases, Private.FaultsLeft.faults_left, Check.NameFaults.AreByName}
 use Rattle.bolt_etcd.specs.{Check.NameFaults.NameFaultView, Check.NameFaults.name_faults, Wire.Revisions.RevisionView}
 use Rattle.bolt_etcd.specs.{Store.StoreBuckets.HasEntriesUnder, Store.StoreBuckets.IsStore, Store.StoreBuckets.StoreView}
 use Rattle.bolt_etcd.specs.{Store.StoreBuckets.revisions_in, Store.Stores.revisions}
-use Rattle.bolt_etcd.specs.Check.StoreFaults.{missing_bucket_lines, bucket_names, entry_lines, granted_in, key_lines, line_without, name_lines}
+use Rattle.bolt_etcd.specs.Check.StoreFaults.{missing_bucket_lines, entry_lines, granted_in, key_lines, line_without, name_lines}
 use Rattle.bolt_etcd.specs.Check.StoreFaults.{store_compacted, store_granted, store_lines}
 use Rattle.bolt_etcd.specs.declared.check.name_faults.NameFaults.{NameFaults}
-use Rattle.bolt_etcd.proofs.{Currents.revisions_rise, ListedTexts.concat_three, SortedOnce.by_name_once}
-
--- ---- the first that passes a test
-
-abbrev pub Finds : {A : Type 0} → (A → Bool) → List A → Option A → Type 0
-Finds p xs (Some x) = Contains xs x × (p x ≡ true)
-Finds {A} p xs None = (x : A) → Contains xs x → p x ≡ false
-
-find_step : {A : Type 0} (p : A → Bool) (y : A) (ys : List A) (b : Bool) → p y ≡ b → (o : Option A) → Finds p ys o
-    → Finds p (y ∷ ys) (cond b (Some y) o)
-find_step p y ys true test o later = (contains_head y ys, test)
-find_step p y ys false test (Some x) later = (contains_tail y x ys later.0, later.1)
-find_step p y ys false test None later = λ x has. elim (contains_cases y x ys has) [ inl is ↦ ap p (sym is) ∙ test | inr more ↦ later x more ]
-
-pub finds : {A : Type 0} (p : A → Bool) (xs : List A) → Finds p xs (find p xs)
-finds p [] = λ x has. absurd (contains_none x has)
-finds p (y ∷ ys) = find_step p y ys (p y) refl (find p ys) (finds p ys)
+use Rattle.bolt_etcd.specs.Store.BucketNames.{bucket_names, key_bucket, lease_bucket}
+use Rattle.bolt_etcd.proofs.{Currents.revisions_rise, SortedOnce.by_name_once}
 
 pub itself : (xs : List ℕ) → bytes_eq xs xs ≡ true
 itself xs = (bytes_eq-Decides xs xs).1 refl
@@ -158,13 +146,13 @@ found_names keys rs leases compacted Q found all = grind (arith, revisions_rise)
 -- ---- the lines of a store that has the bucket `key`
 
 module _ (root keys : Bucket) (compacted : Option ℕ) (store : StoreView) (is : IsStore (entries_of (bucket_checked root)) (bucket_start root) store)
-    (there : IsBucketAt (entries_of (bucket_checked root)) (bucket_start root) (codes "key") (Some keys)) (file : bucket_checked keys ≡ bucket_checked root)
+    (there : IsBucketAt (entries_of (bucket_checked root)) (bucket_start root) key_bucket (Some keys)) (file : bucket_checked keys ≡ bucket_checked root)
     (same : compacted ≡ store_compacted store) where
-  pub key_entries : (entries : List LeafElement) × (store.bucket (codes "key") ≡ Some entries)
+  pub key_entries : (entries : List LeafElement) × (store.bucket key_bucket ≡ Some entries)
       × AreEntries (entries_of (bucket_checked keys)) (bucket_start keys) entries
   key_entries =
       let (entries, at, are) =
-      fits_some root keys (store.bucket (codes "key")) (fits root (codes "key") (Some keys) (store.bucket (codes "key")) there (is.buckets (codes "key"))) in
+      fits_some root keys (store.bucket key_bucket) (fits root key_bucket (Some keys) (store.bucket key_bucket) there (is.buckets key_bucket)) in
       (entries, at, subst (λ (c : Checked). AreEntries (entries_of c) (bucket_start keys) entries) (sym file) are)
 
   abbrev pub of_entries : List (List ℕ)
@@ -183,14 +171,14 @@ module _ (root keys : Bucket) (compacted : Option ℕ) (store : StoreView) (is :
   entries_hold P all = subst (λ (c : Option ℕ). P (entry_lines c key_entries.0)) same (all key_entries.0 key_entries.2)
 
   pub names_hold : (leases : Option Bucket) (Q : List (List ℕ) → Type 0)
-      → IsBucketAt (entries_of (bucket_checked root)) (bucket_start root) (codes "lease") leases
+      → IsBucketAt (entries_of (bucket_checked root)) (bucket_start root) lease_bucket leases
       → IfSome leases (λ inner. bucket_checked inner ≡ bucket_checked root)
       → ForBucket keys (λ entries.
       ForGranted leases (λ granted. (by_name : List RevisionView) → AreByName (revisions entries) by_name → Q (name_lines compacted granted by_name)))
       → Q of_names
   names_hold leases Q at checked all =
       subst (λ (c : Option ℕ). Q (name_lines c (store_granted store) store.by_name)) same
-      (granted root leases (store.bucket (codes "lease"))
+      (granted root leases (store.bucket lease_bucket)
       (λ given. (by_name : List RevisionView) → AreByName (revisions key_entries.0) by_name → Q (name_lines compacted given by_name)) checked
-      (fits root (codes "lease") leases (store.bucket (codes "lease")) at (is.buckets (codes "lease"))) (all key_entries.0 key_entries.2)
+      (fits root lease_bucket leases (store.bucket lease_bucket) at (is.buckets lease_bucket)) (all key_entries.0 key_entries.2)
       store.by_name (subst (λ (b : Option (List LeafElement)). AreByName (revisions_in b) store.by_name) key_entries.1 is.sorted))

@@ -2,9 +2,10 @@
 use Rattle.std.proofs.Common.{◌≡◌, ◌∙◌, ◌≤◌, ◌+◌, ◌++◌, ℕ, Bool, List, [], ◌∷◌, length, Option, Some, None, nat_cmp, refl, sym, ap, arith}
 use Rattle.std.proofs.Common.{if◌then◌else◌}
 use Rattle.std.proofs.lemmas.List.{length-append}
-use Rattle.std.specs.{Option.option_map, Ordering.ordering_then, declared.cmp.Ordering.Ordering}
+use Rattle.std.specs.{Option.option_map, declared.cmp.Ordering.Ordering}
 use Rattle.std.specs.declared.cmp.Ordering.TheVariants.{Equal}
 use Rattle.byteorder.specs.{Endian.big_bytes, Endian.big_number, Numbers.big_number-reads_back, Numbers.length-bytes_high_first}
+use Rattle.bolt_lemmas.proofs.Exports.{decided}
 use Rattle.bolt_check.specs.Keys.{Key, key_cmp}
 use Rattle.bolt_etcd.specs.{Wire.RevisionKeys.IsSpelled, Wire.RevisionKeys.numbers_cmp, Wire.RevisionKeys.revision_key, Wire.RevisionKeys.spelling}
 use Rattle.bolt_etcd.specs.{declared.wire.revision_key.RevisionKey.RevisionKey}
@@ -71,9 +72,6 @@ by_numbers a b =
     let (also, fit) = is_spelled b in
     ap (λ (k : Key). key_cmp k b.key.now) is ∙ ap (key_cmp (spelling (shown_revision a).key)) also
     ∙ spellings_cmp (shown_revision a).key (shown_revision b).key fits fit
-
-pub decided : (o p : Ordering) → (o ≡ Equal → ⊥) → ordering_then o p ≡ o
-decided o p differ = grind arith
 
 pub by_main : (a b : Revision) (o : Ordering) → o ≡ nat_cmp (shown_revision a).key.main (shown_revision b).key.main → (o ≡ Equal → ⊥)
     → o ≡ key_cmp a.key.now b.key.now

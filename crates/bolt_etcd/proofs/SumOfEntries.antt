@@ -8,12 +8,12 @@ use Rattle.bolt_tree.specs.Entries.{EntryView, entry_view}
 use Rattle.bolt_etcd.specs.{Store.Crc32c.crc_from, Store.Crc32c.crc_step, Store.CurrentKeys.is_current_by, Store.HashKv.is_left_out}
 use Rattle.bolt_etcd.specs.{Store.HashKv.is_summed, Store.HashKv.passes, Wire.Numbered.numbered, Wire.Numbered.numbered_of}
 use Rattle.bolt_etcd.specs.{Wire.Revisions.RevisionView, Wire.ShownNumbered.ShowsNumbered, Wire.ShownRevisions.value_bytes}
-use Rattle.bolt_etcd.specs.{Store.SumSteps.KnowsCurrent, Store.SumSteps.sum_with, declared.store.hash_kv.Hashed.Hashed}
-use Rattle.bolt_etcd.specs.{declared.wire.numbered.Numbered.Numbered}
+use Rattle.bolt_etcd.specs.{Store.SumSteps.KnowsCurrent, Store.SumSteps.sum_with, declared.store.hash_kv.HashBounds.HashBounds}
+use Rattle.bolt_etcd.specs.{declared.wire.numbered_entry.NumberedEntry.NumberedEntry}
 use Rattle.bolt_etcd.proofs.CurrentOnes.{known_current}
 
 -- what the code finds of an entry
-module _ (h : Hashed) (entries : List LeafElement) (v : EntryView) (n : Numbered) (r : RevisionView) (listed any current included : Bool)
+module _ (h : HashBounds) (entries : List LeafElement) (v : EntryView) (n : NumberedEntry) (r : RevisionView) (listed any current included : Bool)
     (knows : KnowsCurrent h entries v listed any) (shows : ShowsNumbered v n r)
     (is_current : current ≡ is_current_by (option_map (λ key. key.now) h.nameless) listed n.name.now n.stored_key.now)
     (includes : included ≡ (not (nat_lt h.up_to n.key.main) && not (is_left_out h.compacted n.key current any))) where

@@ -4,13 +4,13 @@ use Rattle.std.proofs.{lemmas.List.MinMax.ranks_by, lemmas.List.Sorted.IsPermuta
 use Rattle.std.specs.{Cmp.IsStrictWeakOrder, List.Sorted.IsPermutation, List.Sorted.IsSortedBy, Ordering.is_lt, Ordering.ordering_then}
 use Rattle.std.specs.{declared.cmp.Ordering.Ordering}
 use Rattle.std.specs.declared.cmp.Ordering.TheVariants.{Equal}
+use Rattle.bolt_lemmas.proofs.Exports.{sorted_mapped}
 use Rattle.bolt_check.specs.Keys.{key_cmp}
-use Rattle.bolt_etcd.specs.{Store.NameOrder.name_sum, Store.NameOrder.sums_cmp, Wire.Revisions.RevisionView, Wire.Revisions.name_of}
+use Rattle.bolt_etcd.specs.{Wire.Revisions.RevisionView, Wire.Revisions.name_of}
+use Rattle.bolt_etcd.specs.Store.Orders.{AreSortedBy, by_sum_cmp, name_sum, newest_by_sum_cmp, sums_cmp}
 use Rattle.bolt_etcd.specs.{Wire.ShownRevisions.shown_revision}
-use Rattle.bolt_etcd.specs.{Store.SumOrder.AreSortedBy, Store.SumOrder.by_sum_cmp, Store.SumOrder.newest_by_sum_cmp}
 use Rattle.bolt_etcd.specs.{declared.wire.revision.Revision.Revision}
 use Rattle.bolt_etcd.proofs.{NameOrders.sums_tie, NameOrders.sums_total, NewestOfNames.newest_ranks, SortedOnce.named_total}
-use Rattle.bolt_tree.proofs.Exports.{sorted_mapped}
 
 -- ---- sums decide, or else names
 

@@ -3,9 +3,10 @@ use Rattle.std.proofs.Common.{◌≡◌, ◌<◌, ◌++◌, ℕ, Bool, List, ◌
 use Rattle.std.proofs.{lemmas.Cmp.nat_cmp_total, lemmas.Cmp.tied_itself, lemmas.List.Elements.Contains-append_cases}
 use Rattle.std.proofs.{lemmas.List.Elements.Contains-append_right}
 use Rattle.std.specs.{List.Contains, declared.cmp.Ordering.TheVariants.Less}
-use Rattle.bolt_tree.proofs.Exports.{contains_head, filter_rises, kept_from, after_it, before_it, without_rises}
-use Rattle.bolt_tree.specs.Order.{Rises}
-use Rattle.bolt_etcd.specs.{Histories.Compactions.kept_revisions, Store.Current.stored_key_cmp, Histories.Transactions.Transaction}
+use Rattle.bolt_lemmas.proofs.Exports.{after_it, before_it, contains_head, filter_rises, kept_from, without_rises}
+use Rattle.bolt_lemmas.specs.Order.{Rises}
+use Rattle.bolt_etcd.specs.{Histories.Compactions.kept_revisions, Histories.Transactions.Transaction}
+use Rattle.bolt_etcd.specs.Store.Orders.{stored_key_cmp}
 use Rattle.bolt_etcd.specs.{Histories.Transactions.history, Histories.Transactions.nothing, Check.MissingNumbers.missing_numbers}
 use Rattle.bolt_etcd.specs.{Wire.Revisions.RevisionView}
 use Rattle.bolt_etcd.specs.{Histories.Possible.ArePossible, Histories.Taken.IsTaken, Histories.Told.IsTold, Histories.ToldRevisions.IsToldRevision}

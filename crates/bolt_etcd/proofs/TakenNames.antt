@@ -1,10 +1,10 @@
 -- A revision that is taken away is missed by the next one of its name.
 use Rattle.std.proofs.Common.{◌≡◌, ◌∙◌, ◌<◌, ◌+◌, ◌++◌, ℕ, Bool, true, false, List, [], ◌∷◌, cond, filter, inl, inr, not, Option, Some}
 use Rattle.std.proofs.Common.{None, refl, sym, ap, subst, arith}
-use Rattle.std.proofs.lemmas.Bool.{and_from, cases_Bool, cond-false, cond-true, eqb-true, false_from_ne_true, lt-ltb, or_left}
-use Rattle.std.proofs.{lemmas.List.Elements.Contains-append_left, lemmas.List.Elements.filter-append, lemmas.Option.same_Some}
-use Rattle.std.specs.List.{Contains, find, last_or}
-use Rattle.bolt_tree.proofs.Exports.{contains_head, contains_tail, kept_from, after_it}
+use Rattle.std.proofs.lemmas.Bool.{and_from, cond-false, cond-true, eqb-true, false_from_ne_true, lt-ltb, or_left}
+use Rattle.std.proofs.{lemmas.List.Elements.Contains-append_left, lemmas.List.Elements.filter-append}
+use Rattle.std.specs.List.{Contains, last_or}
+use Rattle.bolt_lemmas.proofs.Exports.{IsFound, after_it, contains_head, contains_tail, found_there, kept_from, last_in}
 use Rattle.bolt_etcd.specs.{Histories.Compactions.IsCompaction, Histories.Compactions.kept_revisions, Check.Follows.follows}
 use Rattle.bolt_etcd.specs.Histories.Transactions.{Delete, Put, State, Transaction, history, nothing, version_after}
 use Rattle.bolt_etcd.specs.{Check.NameFaults.AreByName, Check.NameFaults.NameFaultView, Check.NameFaults.fault_of, Check.NameFaults.name_faults}
@@ -13,7 +13,7 @@ use Rattle.bolt_etcd.specs.{Wire.Revisions.RevisionView, Wire.Revisions.name_of,
 use Rattle.bolt_etcd.specs.{Histories.Taken.IsTaken, Histories.Taken.TellsOneBefore, Histories.Told.number_cmp}
 use Rattle.bolt_etcd.proofs.{HistorySteps.IsWritten, HistorySteps.each, HistorySteps.goes, HistorySteps.numbers_rise, StoreLemmas.itself}
 use Rattle.bolt_etcd.proofs.{WholeNames.IsOwn, WholeNames.LaterFollow, WholeNames.kept_follow, WholeNames.own_before, FaultsOfNames.faults_named}
-use Rattle.bolt_etcd.proofs.{LastOnes.last_in, MissingExact.main_le}
+use Rattle.bolt_etcd.proofs.MissingExact.{main_le}
 use Rattle.bolt_etcd.proofs.{NameHistories.follows_is, NameHistories.held_of, NameHistories.held_parts, TakenAway.all_rise}
 use Rattle.bolt_etcd.proofs.{TakenAway.left_by_stored_key}
 
@@ -72,20 +72,6 @@ follows_both o r next (Some before) holds some gone first second both =
     upon_put o before r next r.key.deleted holds (some before refl) refl live first second both
 
 -- ---- the revision after one that is taken away
-
-abbrev IsFound : {A : Type 0} → (A → Bool) → List A → A → Type 0
-IsFound {A} p xs x = (rest : List A) × (filter p xs ≡ x ∷ rest) × Contains xs x × (p x ≡ true)
-
-found_there : {A : Type 0} (p : A → Bool) (xs : List A) (x : A) → find p xs ≡ Some x → IsFound p xs x
-found_there p [] x e = cc
-found_there p (y ∷ ys) x e = elim (cases_Bool (p y)) [
-  | inl is ↦
-      let same = same_Some y x (rw is at e) in
-      (filter p ys, cond-true (p y) _ _ is ∙ ap (λ z. z ∷ filter p ys) same, subst (Contains (y ∷ ys)) same (contains_head y ys), ap p (sym same) ∙ is)
-  | inr fails ↦
-      let (rest, are, has, passes) = found_there p ys x (rw fails at e) in
-      (rest, cond-false (p y) _ _ fails ∙ are, contains_tail y x ys has, passes)
-]
 
 follow_at : (compacted : ℕ) (o : Option RevisionView) (xs ys : List RevisionView) → LaterFollow compacted o (xs ++ ys)
     → LaterFollow compacted (last_or o xs) ys

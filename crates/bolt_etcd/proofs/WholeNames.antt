@@ -3,9 +3,9 @@ use Rattle.std.proofs.Common.{◌≡◌, ◌∙◌, ◌<◌, ◌++◌, ◌&&◌,
 use Rattle.std.proofs.Common.{Some, None, refl, sym, ap, subst, arith}
 use Rattle.std.proofs.lemmas.Bool.{and_left, and_right, cond-false, cond-true, eqb-false, ltb-true, or_from}
 use Rattle.std.specs.{Cmp.Lexicographic.same_text, List.Contains, List.last_or, Str.bytes_eq}
+use Rattle.bolt_lemmas.proofs.Exports.{contains_cases, contains_head, contains_tail, filter_rises, kept_from, last_in, last_of_both, last_some}
+use Rattle.bolt_lemmas.specs.Order.{Rises}
 use Rattle.bolt_check.specs.Keys.{Key}
-use Rattle.bolt_tree.proofs.Exports.{contains_cases, contains_head, contains_tail, filter_rises, kept_from}
-use Rattle.bolt_tree.specs.Order.{Rises}
 use Rattle.bolt_etcd.specs.{Histories.Compactions.IsCompaction, Histories.Compactions.kept_revisions, Check.Follows.follows}
 use Rattle.bolt_etcd.specs.{Histories.Transactions.Delete, Histories.Transactions.Put, Histories.Transactions.State}
 use Rattle.bolt_etcd.specs.{Histories.Transactions.Transaction, Histories.Transactions.after_all, Histories.Transactions.history}
@@ -15,7 +15,7 @@ use Rattle.bolt_etcd.specs.{Check.NameFaults.name_faults, Store.Newest.is_named,
 use Rattle.bolt_etcd.specs.{Wire.Revisions.RevisionView, Wire.Revisions.name_of, Histories.Possible.ArePossible, Histories.Told.number_cmp}
 use Rattle.bolt_etcd.proofs.{HistorySteps.IsWritten, HistorySteps.each, HistorySteps.goes, HistorySteps.history_rises, HistorySteps.numbers_rise}
 use Rattle.bolt_etcd.proofs.{KeptOfNames.IsCut, KeptOfNames.cut}
-use Rattle.bolt_etcd.proofs.{LastOnes.last_in, LastOnes.last_of_both, LastOnes.last_some, MissingExact.main_le}
+use Rattle.bolt_etcd.proofs.MissingExact.{main_le}
 use Rattle.bolt_etcd.proofs.NameHistories.{AllFollow, all_follow, follows_held, follows_is, held_of, newest_held}
 
 -- ---- each later one follows the one before

@@ -3,9 +3,11 @@ ghost use Rattle.std.specs.Prelude.{◌≡◌, ◌≤◌, ◌<◌, ◌↔◌, �
 ghost use Rattle.std.specs.Option.{is_some};
 ghost use Rattle.bolt_check.specs.Keys.{key_cmp};
 ghost use Rattle.bolt_format.specs.{Bytes.IsBytes, Elements.LeafElement};
-ghost use Rattle.bolt_tree.specs.{Entries.EntryView, Entries.IsEntry, Order.Rises};
+ghost use Rattle.bolt_lemmas.specs.Order.{Rises};
+ghost use Rattle.bolt_tree.specs.{Entries.EntryView, Entries.IsEntry};
 ghost use Rattle.bolt_etcd.specs.{Store.Crc32c.crc_of, Store.HashKv.hash_kv, Wire.Numbered.numbered, Store.Statuses.newest_main};
-ghost use Rattle.bolt_etcd.specs.{Store.Current.AreCurrent, Store.Current.stored_key_cmp, Check.NameFaults.AreByName, Check.NameFaults.name_faults};
+ghost use Rattle.bolt_etcd.specs.{Store.Current.AreCurrent, Check.NameFaults.AreByName, Check.NameFaults.name_faults};
+ghost use Rattle.bolt_etcd.specs.Store.Orders.{stored_key_cmp};
 ghost use Rattle.bolt_etcd.specs.{Store.StoreBuckets.IsStore, Store.StoreBuckets.StoreView};
 ghost use Rattle.bolt_etcd.specs.{Wire.Revisions.RevisionView, Histories.Told.IsMissing, Histories.Told.IsTold};
 ghost use Rattle.bolt_etcd.specs.{Histories.Compactions.etcd_keeps, Histories.Transactions.history, Histories.FewTransactions.deletion_of_a};

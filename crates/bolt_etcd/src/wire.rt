@@ -5,7 +5,7 @@ ghost use Rattle.bolt_etcd.specs.{Wire.ShownRecords.shown_field, Wire.ShownRecor
 ghost use Rattle.bolt_etcd.specs.Wire.Fields.{field, first, value, varint};
 
 pub(crate) mod name_tag;
-pub(crate) mod numbered;
+pub(crate) mod numbered_entry;
 pub(crate) mod other;
 pub(crate) mod record;
 pub(crate) mod revision;

@@ -4,6 +4,7 @@ pub use Rattle.bolt_format.proofs.EncodedHeaders.{branch_header_written, head_wr
 pub use Rattle.bolt_format.proofs.EncodedHeaders.{length-head_bytes, length-header_bytes, length-leaf_header, root_passes}
 pub use Rattle.bolt_format.proofs.EncodedMetas.{chosen_of, length-meta_bytes, meta_header_written, meta_written}
 pub use Rattle.bolt_format.proofs.FaultLemmas.{first_of-both, first_of-none}
+pub use Rattle.bolt_format.proofs.GoodPages.{chosen-none, guard-none}
 pub use Rattle.bolt_format.proofs.ListLemmas.{drop_at, drop_next, flat_map-cut_at, flat_map-take_more, one_some, take_next}
 pub use Rattle.bolt_format.proofs.MetaPrefix.{SameRecord, meta_same, same_back}
 pub use Rattle.bolt_format.proofs.NumberLemmas.{part_next, part_read, part_within}

@@ -52,7 +52,7 @@ pub plain-none : (bytes : List ℕ) (free i : ℕ) → plain_leaf_fault bytes fr
 unfolding plain_leaf_fault
 plain-none bytes free i e = grind (arith, first_of-none, data-none)
 
-chosen-none : (test : Bool) (fault : Option ℕ) → cond test fault None ≡ None → test ≡ true → fault ≡ None
+pub chosen-none : (test : Bool) (fault : Option ℕ) → cond test fault None ≡ None → test ≡ true → fault ≡ None
 chosen-none true fault e h = e
 chosen-none false fault e h = absurd (cc)
 

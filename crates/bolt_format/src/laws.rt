@@ -9,6 +9,14 @@ ghost use Rattle.bolt_format.specs.declared.page_fault.TheConstants.PageFault.{B
 ghost use Rattle.bolt_format.specs.declared.page_fault.TheConstants.PageFault.{INLINE_PAGE, KEY_LENGTH, LEAF_FLAGS, PAGE_KIND, RANGE, VALUE_LENGTH};
 ghost use Rattle.bolt_format.specs.{declared.meta.Meta.Meta, declared.meta.MetaFault.MetaFault, declared.meta.Slot.Slot};
 
+/// A number of 64 bits is below 2^64. The prover knows that of a value that a body reads, so this reads
+/// it, and does nothing else.
+pub fn fits(n: u64)
+    ensures { n < 2 ^ 64 }
+{
+    let _ = n;
+}
+
 /// The numbers with names are those of the format (docs/FORMAT.md). The codes of faults, which callers
 /// may keep, are these.
 pub fn numbers_are_those_of_the_format()

@@ -1,11 +1,11 @@
 -- The command line as it is built, and what its matches say.
-use Rattle.std.proofs.Common.{arith, ◌≡◌, ◌⊎◌, ◌∙◌, List, [], ◌∷◌, ◌++◌, ℕ, ◌+◌, ◌<◌, true, false, add-one, get_or, length, map, take, refl, sym, ap}
+use Rattle.std.proofs.Common.{arith, ◌≡◌, ◌⊎◌, ◌∙◌, List, [], ◌∷◌, ◌++◌, true, false, refl, sym, ap}
 use Rattle.std.proofs.Common.{ap₂, subst, inl}
 use Rattle.std.proofs.Common.{inr, rules, Option, None, Some, Result, Ok, Err, IfOk, IfErr, option_map, slice_get, unwrap_or}
 use Rattle.bolt_job.proofs.Vocabulary.{AddsArg, AddsSubcommand, App, Asked, Asks, Box, Command, ReadsAs, HasKindOf, HasMatchesOf, Help, IsAmong}
 use Rattle.bolt_job.proofs.Vocabulary.{IsCommand, IsRefusedBy, Job, Kinds, Memory, Refusal, Row, Rule, Usage, Version, Word, asked, asked_by}
 use Rattle.bolt_job.proofs.Vocabulary.{asked_by_subcommand, asked_of, command_with, fault_of, first_word_of, is_simple, is_simple_and_free}
-use Rattle.bolt_job.proofs.Vocabulary.{map-append, option_and_then, program, rule_of, subcommand_of, subcommand_rows_of, take-suc, values_in}
+use Rattle.bolt_job.proofs.Vocabulary.{option_and_then, program, rule_of, subcommand_of, subcommand_rows_of, values_in}
 use Rattle.bolt_job.proofs.Vocabulary.{with_rule, with_subcommand}
 use Rattle.std.specs.Box.{box_value}
 use Rattle.clap.specs.{Words.Text, declared.parser.ArgMatches.ArgMatches, declared.parser.matches.ArgMatches.TheViews.out-ArgMatches}
@@ -19,11 +19,6 @@ program_is_simple = refl
 
 pub program_is_free : is_simple_and_free program ≡ true
 program_is_free = refl
-
--- what was made of a list so far, with one more
-pub made_more : {X Y : Type 0} (f : X → Y) (xs : List X) (i : ℕ) (d : X) → i < length xs
-    → map f (take (i + 1) xs) ≡ map f (take i xs) ++ f (get_or xs i d) ∷ []
-made_more f xs i d within = ap (λ n. map f (take n xs)) (add-one i) ∙ ap (map f) (take-suc xs i d within) ∙ map-append f (take i xs) (get_or xs i d ∷ [])
 
 -- a command with one more argument
 pub argument_added : (name : Text) (before : List Rule) (rule : Rule) (old new : Command) (arg : Arg) → IsCommand (command_with name before) old

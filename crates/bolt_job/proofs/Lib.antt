@@ -1,5 +1,4 @@
 mod CommandLineLemmas
-pub mod Exports
 mod PageSizes
 mod PathReading
 mod Vocabulary

@@ -16,7 +16,6 @@ pub use Rattle.clap.specs.Words.{is_simple, is_simple_and_free, rows_of, rule_of
 pub use Rattle.clap.specs.declared.builder.Command.{Command}
 pub use Rattle.std.proofs.lemmas.Bool.{and_parts, false_from_ne_true, not-true, or_cases, or_parts}
 pub use Rattle.std.proofs.{lemmas.List.at_drop_more, lemmas.List.drop_all, lemmas.List.map-append, lemmas.List.take-append-drop, lemmas.List.take_all}
-pub use Rattle.std.proofs.{Math.Seq.take-suc}
 pub use Rattle.std.proofs.lemmas.Slice.Eq.{bytes_eq-Decides}
 pub use Rattle.std.specs.{List.after_first, List.before_first, List.list_any, List.position_or_len, List.slice_split, Result.IsErrAnd}
 pub use Rattle.std.specs.{Result.result_ok, Borrow.Bor, Cmp.Lexicographic.pointwise}

@@ -1,12 +1,14 @@
 -- A page without a gap begins with what is written for its elements.
-use Rattle.std.proofs.Common.{◌≡◌, ◌∙◌, ℕ, ◌+◌, ◌*◌, ◌≤◌, ◌==◌, Bool, true, false, cond, List, [], ◌∷◌, ◌++◌, length, drop, take, Option, None, Some}
-use Rattle.std.proofs.Common.{is_some, not, nat_lt, refl, sym, ap, subst, arith, append_assoc}
+use Rattle.std.proofs.Common.{◌≡◌, ◌∙◌, ℕ, ◌+◌, ◌*◌, ◌≤◌, ◌==◌, true, List, [], ◌∷◌, ◌++◌, length, drop, take, Option, None, Some}
+use Rattle.std.proofs.Common.{not, nat_lt, refl, sym, ap, subst, arith, append_assoc}
 use Rattle.std.proofs.lemmas.Bool.{eq-eqb, eqb-true, ltb-false, not-false, or_parts}
 use Rattle.std.proofs.lemmas.List.{length-drop, take-append-drop, take-take, take_at}
 use Rattle.std.proofs.lemmas.List.FromFn.{length-map-range_with_len}
 use Rattle.std.proofs.lemmas.Option.{same_Some}
 use Rattle.std.specs.List.{Contains}
-use Rattle.bolt_check.proofs.Exports.{has_at, has_from_contains, inline_reached, node_is}
+use Rattle.bolt_format.proofs.Exports.{chosen-none, guard-none}
+use Rattle.bolt_lemmas.proofs.Exports.{has_at, has_from_contains, is_absent}
+use Rattle.bolt_check.proofs.Exports.{inline_reached, node_is}
 use Rattle.bolt_check.specs.Nodes.{node_at}
 use Rattle.bolt_check.specs.{OnWays.IsOnWay, Sound.HasSoundTrees, Ways.At_page, Ways.PageSpot, Ways.reached}
 use Rattle.bolt_format.proofs.Exports.{bucket_value, drop_bytes, first_of-none, length-header_bytes, range_bytes, size_bounds, value_bytes}
@@ -17,7 +19,7 @@ use Rattle.bolt_format.specs.{Gaps.gap_of_kind, Gaps.inline_gap, Gaps.page_gap, 
 use Rattle.bolt_format.specs.{Headers.kind_of, Headers.overflow_field}
 use Rattle.bolt_format.specs.Pages.{PageView, fault_as, from_page, page_at, page_fault, page_overflow, shown_as, span_bytes, span_fault, view_of}
 use Rattle.bolt_format.specs.declared.header.Kind.TheVariants as kind
-use Rattle.bolt_layout.proofs.{ElementsThere.branches_there, ElementsThere.guard, ElementsThere.leaves_there, NumbersThere.header_there}
+use Rattle.bolt_layout.proofs.{ElementsThere.branches_there, ElementsThere.leaves_there, NumbersThere.header_there}
 use Rattle.bolt_layout.specs.AsWritten.{BeginsAsWritten, IsAsWritten, IsInlineAsWritten, IsPageAsWritten}
 use Rattle.bolt_layout.specs.{NoGaps.HasNoGaps, PageBytes.content_bytes, PageBytes.leaf_bytes}
 
@@ -61,9 +63,9 @@ pub record HasHeader (file : List ℕ) (meta : Meta) (id : ℕ) : Type 0 where
 has_header : (file : List ℕ) (meta : Meta) (id : ℕ) → span_fault file meta id ≡ None → HasHeader file meta id
 unfolding span_fault
 has_header file meta id e =
-    let below = guard _ _ _ e in
-    let room = guard _ _ _ below.1 in
-    let number = guard _ _ _ room.1 in
+    let below = guard-none _ _ _ e in
+    let room = guard-none _ _ _ below.1 in
+    let number = guard-none _ _ _ room.1 in
     record { number = eqb-true _ _ (not-false _ number.0); room = ltb-false (length file) (id * meta.page_size + 16) room.0 }
 
 -- a list that begins with 16 bytes, and is cut after them
@@ -116,26 +118,18 @@ pub record IsInline (bytes : List ℕ) : Type 0 where
   pub leaf : flags_field bytes ≡ 2
   pub good : leaves_fault head_fault bytes (count_field bytes) ≡ None
 
-none_of : (o : Option ℕ) → is_some o ≡ false → o ≡ None
-none_of None e = refl
-none_of (Some x) e = absurd (cc)
-
 inline_passes : (bytes : List ℕ) → inline_fault bytes ≡ None → IsInline bytes
 unfolding inline_fault
 inline_passes bytes e =
-    let page = guard _ _ None (first_of-none _ _ e).0 in
+    let page = guard-none _ _ None (first_of-none _ _ e).0 in
     let (short, others) = or_parts (nat_lt (length bytes) 16) _ page.0 in
     let (flags, bad) = or_parts (not (flags_field bytes == 2)) _ others in
-    record { room = ltb-false (length bytes) 16 short; leaf = eqb-true (flags_field bytes) 2 (not-false _ flags); good = none_of _ bad }
-
-chosen_none : (test : Bool) (fault : Option ℕ) → cond test fault None ≡ None → test ≡ true → fault ≡ None
-chosen_none true fault e is = e
-chosen_none false fault e is = absurd (cc)
+    record { room = ltb-false (length bytes) 16 short; leaf = eqb-true (flags_field bytes) 2 (not-false _ flags); good = is_absent _ bad }
 
 value_passes : (value : List ℕ) → IsBucketValue value → head_root value ≡ 0 → IsInline (inline_bytes value)
 unfolding value_fault
 value_passes value good root =
-    inline_passes (inline_bytes value) (chosen_none (head_root value == 0) _ (first_of-none _ _ good).1 (eq-eqb (head_root value) 0 root))
+    inline_passes (inline_bytes value) (chosen-none (head_root value == 0) _ (first_of-none _ _ good).1 (eq-eqb (head_root value) 0 root))
 
 length-elements : (bytes : List ℕ) (count : ℕ) → length (leaf_elements bytes count) ≡ count
 unfolding leaf_elements

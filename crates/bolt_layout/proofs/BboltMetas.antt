@@ -1,20 +1,17 @@
 -- Bbolt takes the active meta of a layout, accepts the headers of both meta pages, and finds all pages in the file.
-use Rattle.std.proofs.Common.{rules, ◌≡◌, ◌∙◌, ◌==◌, ◌||◌, ◌*◌, ◌<◌, ◌≤◌, ◌/◌, ℕ, Bool, true, false, List, [], Some, ap, length, refl, sym, arith}
+use Rattle.std.proofs.Common.{rules, ◌≡◌, ◌∙◌, ◌==◌, ◌*◌, ◌<◌, ◌≤◌, ◌/◌, ℕ, true, List, [], Some, ap, length, refl, sym, arith}
 use Rattle.std.proofs.{Math.Nat.mul-div_cancel, lemmas.Bool.le-leb}
+use Rattle.std.proofs.Math.Bool.{or-true}
 use Rattle.bolt_layout.proofs.Words.{eq-eqb, IsMeta, IsPageSize, Layout, le-ltb, layout_high_water, layout_meta, layout_of, lt-ltb, Meta}
 use Rattle.bolt_layout.proofs.Words.{meta_header_written, mul-le-mul_right, One, size_bounds, Tree}
 use Rattle.bolt_layout.proofs.Soundness.{IsLaidOut}
 use Rattle.bolt_check.specs.BboltFileFindings.{file_findings}
 use Rattle.bolt_format.specs.{BboltMetas.bbolt_page_size, BboltMetas.bbolt_slot, BboltMetas.bbolt_txid, BboltMetas.is_bbolt_meta}
 
-or_true : (b : Bool) → (b || true) ≡ true
-or_true true = refl
-or_true false = refl
-
 -- a valid meta is valid to bbolt
 valid_to_bbolt : (file : List ℕ) (at : ℕ) (meta : Meta) → IsMeta file at meta → is_bbolt_meta file at ≡ true
 unfolding is_bbolt_meta
-valid_to_bbolt file at meta is = grind (arith, le-leb, eq-eqb, or_true)
+valid_to_bbolt file at meta is = grind (arith, le-leb, eq-eqb, or-true)
 
 txid_to_bbolt : (file : List ℕ) (at : ℕ) (meta : Meta) → IsMeta file at meta → bbolt_txid file at ≡ Some meta.txid
 txid_to_bbolt file at meta is = rw (valid_to_bbolt file at meta is) (ap Some (sym (ap (λ (m : Meta). m.txid) is.fields)))

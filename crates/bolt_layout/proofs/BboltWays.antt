@@ -6,18 +6,21 @@ use Rattle.std.proofs.Common.{append-nil, cond, flat_map, inl, inr, length, map,
 use Rattle.std.specs.{List.list_any, Option.option_map}
 use Rattle.std.specs.Prelude.{is_some}
 use Rattle.std.proofs.{lemmas.Bool.eqb-true, lemmas.Option.none-some, lemmas.Option.same_Some, lemmas.Option.slice_get-map}
+use Rattle.std.proofs.Math.Bool.{and-false}
+use Rattle.bolt_lemmas.proofs.Exports.{all_append}
+use Rattle.bolt_lemmas.specs.Lists.{Has}
 use Rattle.bolt_layout.proofs.Words.{AllByRecursion, At_inline, At_page, Contains, contains_cases, contains_head, contains_none, contains_tail, end}
 use Rattle.bolt_layout.proofs.Words.{Entry, eq-eqb, follow, HasSoundTrees, head_root, Inline_page, inline_elements, inline_page, InlinePage, IsEntry}
 use Rattle.bolt_layout.proofs.Words.{IsTreeOf, Key, leaf_entry, LeafElement, length-map, Meta, ne_eqb, Node, node_at, Nodes, page_at, PageSpot}
 use Rattle.bolt_layout.proofs.Words.{PageView, reached, root_spot, Root_page, Spot, Start, start_of, Tree, with_bucket, with_value}
-use Rattle.bolt_layout.proofs.{EvenWays.IsEvenSpot, EvenWays.leaf_is_first, EvenWays.same_node, ListLemmas.all_append}
+use Rattle.bolt_layout.proofs.{EvenWays.IsEvenSpot, EvenWays.leaf_is_first, EvenWays.same_node}
 use Rattle.bolt_layout.specs.ForBbolt.{HasShortKeys, HoldsBuckets, IsOneChild}
 use Rattle.bolt_check.proofs.Exports.{a_branch, a_leaf, branch_node, leaf_node, tree_page, follow_some, leads_follow}
 use Rattle.bolt_check.specs.BboltFindings.{AreBboltFindings, begins_otherwise, finding_if, has_one_child, has_other_first_key, inline_findings}
 use Rattle.bolt_check.specs.BboltFindings.{is_in_root, is_large_value, is_too_large, is_value, leaves_at, node_findings, seen_findings, spot_findings}
 use Rattle.bolt_check.specs.BboltFindings.{way_findings}
 use Rattle.bolt_check.specs.declared.finding.TheConstants.Finding.{FIRST_KEY, INLINE_NUMBER, LARGE_KEY, LEAF_DEPTH, ONE_CHILD, ROOT_VALUE}
-use Rattle.bolt_check.specs.{Findings.finding, Findings.keys_of, Lists.Has, Nodes.branch_entry, Shape.child_at, Shape.child_in, Shape.child_of}
+use Rattle.bolt_check.specs.{Findings.finding, Findings.keys_of, Nodes.branch_entry, Shape.child_at, Shape.child_in, Shape.child_of}
 use Rattle.bolt_check.specs.{Shape.leads}
 use Rattle.bolt_check.specs.{Ways.bucket_spots, Ways.child_spot, Ways.step, Ways.step_entry, Ways.upper_from, declared.finding.Finding.Finding}
 use Rattle.bolt_format.proofs.Exports.{bucket_value, flat_inline}
@@ -205,10 +208,6 @@ lone_at at (Some (At_page s)) = lone s (at s.number)
 lone_at at (Some (At_inline host inner)) = []
 lone_at at None = []
 
-and_false : (b : Bool) → (b && false) ≡ false
-and_false true = refl
-and_false false = refl
-
 inline_none : (host : ℕ) (inner : InlinePage) → list_any is_too_large inner.keys ≡ false → (inner.number == 0) ≡ true
     → inline_findings host inner ≡ []
 inline_none host inner short number = rw (short, number) refl
@@ -350,7 +349,7 @@ module _ (file : List ℕ) (meta : Meta) (trees : HasSoundTrees file meta) (tree
       → IsEvenSpot (node_at file meta) leaves (At_page s)
       → node_findings in_root leaves s (branch_node view) ≡ finding_if (has_one_child (branch_node view)) ONE_CHILD s.number
   branch_only s view in_root leaves shown stands =
-      let begins = begins_so file meta s (branch_node view) leaves shown stands in grind (arith, first_alone, and_false, begins)
+      let begins = begins_so file meta s (branch_node view) leaves shown stands in grind (arith, first_alone, and-false, begins)
 
   way_only : (way : List ℕ) (t : Spot) → reached (node_at file meta) meta.root way ≡ Some t
       → way_findings (node_at file meta) meta.root way ≡ lone_at (node_at file meta) (Some t)

@@ -1,5 +1,6 @@
 -- A branch page over pages, and by the height the page over a row of items.
 use Rattle.std.proofs.lemmas.Grind.{common_steps}
+use Rattle.bolt_lemmas.proofs.Exports.{all_split, all_weaker}
 use Rattle.bolt_check.proofs.Exports.{lt_strict}
 use Rattle.std.proofs.Common.{◌≡◌, ◌∙◌, ℕ, zero, suc, ◌+◌, ◌*◌, ◌<◌, ◌≤◌, ◌==◌, true, false, List, [], ◌∷◌, ◌++◌, length, map, Option, Some, None}
 use Rattle.std.proofs.Common.{slice_get, refl, sym, ap, subst, arith, sum_by}
@@ -8,7 +9,7 @@ use Rattle.bolt_layout.proofs.Words.{Key, keys_of, keys_order_fault, Laid, LeafE
 use Rattle.bolt_layout.proofs.Words.{numbers_of, page_over, pages_of, PageSpot, Placed, places, run_overflow, size_of, sum_by-cons, cases_Bool}
 use Rattle.bolt_layout.proofs.{BranchLemmas.IsBranchFit, KeyLaws.AreBelow, KeyLaws.IsAbove, KeyLaws.IsBelowItem, KeyLaws.IsWithin, KeyLaws.ItemsRise}
 use Rattle.bolt_layout.proofs.{KeyLaws.key_step, KeyLaws.rise_split}
-use Rattle.bolt_layout.proofs.{ListLemmas.all_split, ListLemmas.all_weaker, OverRows.IsOver, OverRows.IsRun, OverRows.Pieces, Parts.IsPart}
+use Rattle.bolt_layout.proofs.{OverRows.IsOver, OverRows.IsRun, OverRows.Pieces, Parts.IsPart}
 use Rattle.bolt_layout.proofs.{Parts.kids_at, Parts.more_kids, Parts.no_kids}
 use Rattle.bolt_layout.proofs.PageRows.{HasRoom, IsPageFit, branch_room, overflow_room, overflow_small}
 use Rattle.bolt_layout.proofs.{LaidPages.AreNodes, LaidPages.HasPages, LaidPages.limit, LaidPages.own_page, LaidPages.page_has, LaidItems.IsItem}

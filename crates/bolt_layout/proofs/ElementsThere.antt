@@ -4,6 +4,8 @@ use Rattle.std.proofs.Common.{None, Some, inl, inr, refl, sym, ap, subst, arith,
 use Rattle.std.proofs.lemmas.Bool.{eqb-true, ltb-false, not-false}
 use Rattle.std.proofs.lemmas.List.FromFn.{length-map-range_with_len}
 use Rattle.std.specs.{List.find, List.range_with_len, Option.option_map}
+use Rattle.bolt_format.proofs.Exports.{guard-none}
+use Rattle.bolt_lemmas.proofs.Exports.{length-range, range_there}
 use Rattle.bolt_format.proofs.Exports.{first_of-none}
 use Rattle.bolt_format.specs.{Bytes.IsBytes, Encoded.branch_header, Encoded.leaf_flag, Encoded.leaf_header}
 use Rattle.bolt_format.specs.Elements.{BranchElement, LeafElement, branch_element, branch_elements, branch_end, branch_fault, branch_key_length}
@@ -12,21 +14,16 @@ use Rattle.bolt_format.specs.Elements.{is_bucket_element, key_length_fault, leaf
 use Rattle.bolt_format.specs.Elements.{leaf_flags_fault, leaf_key_length, leaf_key_start, leaf_value_length, leaf_value_start, leaves_fault}
 use Rattle.bolt_format.specs.Elements.{plain_leaf_fault, table_fault, value_length_fault}
 use Rattle.bolt_format.specs.Gaps.{GapView, branch_gap, first_elsewhere, is_elsewhere, leaf_gap, written_start}
-use Rattle.bolt_layout.proofs.{Chains.Follows, NumbersThere.branch_header_there, NumbersThere.leaf_header_there, NumbersThere.length-range}
-use Rattle.bolt_layout.proofs.{NumbersThere.range_there}
+use Rattle.bolt_layout.proofs.{Chains.Follows, NumbersThere.branch_header_there, NumbersThere.leaf_header_there}
 use Rattle.bolt_layout.specs.PageBytes.{branch_bytes, branch_data, branch_headers, key_pos, leaf_bytes, leaf_data, leaf_headers}
 
 -- ---- a test that found nothing
 
-pub guard : (test : Bool) (fault : ℕ) (next : Option ℕ) → cond test (Some fault) next ≡ None → (test ≡ false) × (next ≡ None)
-guard true fault next e = absurd (cc)
-guard false fault next e = (refl, e)
-
 data_within : (bytes : List ℕ) (free start end : ℕ) → data_fault bytes free start end ≡ None → end ≤ length bytes
-data_within bytes free start end e = ltb-false (length bytes) end (guard _ _ _ (guard _ _ _ e).1).0
+data_within bytes free start end e = ltb-false (length bytes) end (guard-none _ _ _ (guard-none _ _ _ e).1).0
 
 pub table_within : (bytes : List ℕ) (count : ℕ) → table_fault bytes count ≡ None → element_at count ≤ length bytes
-table_within bytes count e = ltb-false (length bytes) (element_at count) (guard _ _ None e).0
+table_within bytes count e = ltb-false (length bytes) (element_at count) (guard-none _ _ None e).0
 
 either : (a b : Bool) (fault : ℕ) → cond (a || b) None (Some fault) ≡ None → (a ≡ true) ⊎ (b ≡ true)
 either true b fault e = inl refl
@@ -45,16 +42,12 @@ no_first : (f : ℕ → GapView) (o : Option ℕ) → option_map f o ≡ None �
 no_first f None e = refl
 no_first f (Some i) e = absurd (cc)
 
-passed_over : (test : Bool) (i : ℕ) (rest : Option ℕ) → cond test (Some i) rest ≡ None → (test ≡ false) × (rest ≡ None)
-passed_over true i rest e = absurd (cc)
-passed_over false i rest e = (refl, e)
-
 follows_on : (start end : ℕ → ℕ) (count i n free : ℕ) → free ≡ written_start end count i
     → find (is_elsewhere start end count) (range_with_len i n) ≡ None → Follows start end free i n
 follows_on start end count i zero free same none = tt
 follows_on start end count i (suc n) free same none =
     let test = is_elsewhere start end count in
-    let both = passed_over (test i) i (find test (range_with_len (i + 1) n)) none in
+    let both = guard-none (test i) i (find test (range_with_len (i + 1) n)) none in
     let here : start i ≡ written_start end count i = eqb-true (start i) (written_start end count i) (not-false _ both.0) in
     let rest : find test (range_with_len (suc i) n) ≡ None = ap (λ (k : ℕ). find test (range_with_len k n)) (sym (add-one i)) ∙ both.1 in
     (here ∙ sym same, follows_on start end count (suc i) n (end i) refl rest)

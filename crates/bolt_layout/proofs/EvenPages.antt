@@ -2,9 +2,10 @@
 -- entry, and no inline page has a number.
 use Rattle.std.proofs.Common.{◌≡◌, ◌≢◌, ◌==◌, ℕ, zero, suc, ◌+◌, ◌≤◌, true, false, List, [], ◌∷◌, None, Ok, ap, map, not, refl, subst, arith}
 use Rattle.std.proofs.lemmas.Slice.Eq.{bytes_eq-Decides}
+use Rattle.bolt_lemmas.proofs.Exports.{all_append, all_split}
 use Rattle.bolt_layout.proofs.Words.{AllByRecursion, branch_page_view, BranchElement, elements_of, Entry, head_root, Key, keys_of, Laid, leaf_entry}
 use Rattle.bolt_layout.proofs.Words.{leaf_page_view, LeafElement, Node, node_of, Nodes, numbers_of, page_over, pages_of, Placed}
-use Rattle.bolt_layout.proofs.{LaidPages.AreNodes, LaidPages.limit, ListLemmas.all_append, ListLemmas.all_split, OverRows.IsOver, OverRows.Pieces}
+use Rattle.bolt_layout.proofs.{LaidPages.AreNodes, LaidPages.limit, OverRows.IsOver, OverRows.Pieces}
 use Rattle.bolt_check.specs.{BboltFindings.above_first, BboltFindings.begins_otherwise, BboltFindings.first_child, BboltFindings.first_leaf_depth}
 use Rattle.bolt_check.specs.{Nodes.branch_entry}
 use Rattle.bolt_format.specs.{Elements.inline_number, Gaps.inline_gap, declared.header.Kind.TheVariants.Branch, declared.header.Kind.TheVariants.Leaf}

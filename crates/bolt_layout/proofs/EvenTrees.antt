@@ -1,6 +1,7 @@
 -- The buckets of a tree are laid out as bbolt writes them, in their own pages and inline.
 use Rattle.std.proofs.Common.{◌≡◌, ℕ, ◌+◌, ◌^◌, ◌<◌, ◌≤◌, Bool, true, false, List, [], None, length, refl, subst, sym, arith}
 use Rattle.std.proofs.lemmas.Bool.{leb-true}
+use Rattle.std.proofs.lemmas.Bool.{false≢true}
 use Rattle.bolt_layout.proofs.Words.{AllByRecursion, and_parts, append-nil, bucket_item, elements_of, end, eq-eqb, HasLengths, head_bytes, head_root}
 use Rattle.bolt_layout.proofs.Words.{head_written, inline_value, is_inline, items_of, key_cmp, keys_in, Laid, largest_page, Layout, leaf_item}
 use Rattle.bolt_layout.proofs.Words.{LeafElement, max_items, ne_eqb, Rises, RisesInside, root_over, stored_bucket, Tree, with_bucket, with_value}
@@ -10,15 +11,12 @@ use Rattle.bolt_layout.proofs.{OverRows.IsOver, TreeItems.inline_read, TreeItems
 use Rattle.bolt_layout.proofs.{TreeItems.tree_rise}
 use Rattle.bolt_format.specs.{Elements.inline_number, Gaps.inline_gap}
 
-false_true : false ≡ true → ⊥
-false_true e = cc
-
 -- an inline bucket has few items
 inline_few : (page_size : ℕ) (inside : Tree) (items : List (Laid LeafElement)) → is_inline page_size inside items ≡ true → length items ≤ max_items
 inline_few page_size inside items e = grind (arith, and_parts, leb-true)
 
 value_neat : (key value : List ℕ) → IsNeatItem (leaf_item key value false)
-value_neat key value = record { key = λ n. refl; own = λ nodes n some h shown bucket. absurd (false_true bucket); below = λ nodes n some h shown. tt }
+value_neat key value = record { key = λ n. refl; own = λ nodes n some h shown bucket. absurd (false≢true bucket); below = λ nodes n some h shown. tt }
 
 inline_neat : (key value : List ℕ) → head_root value ≡ 0 → inline_number value ≡ 0 → inline_gap value ≡ None → IsNeatItem (leaf_item key value true)
 inline_neat key value root number no_gap = grind (arith, eq-eqb)

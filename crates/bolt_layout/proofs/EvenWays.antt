@@ -4,6 +4,8 @@ use Rattle.std.proofs.Common.{◌≡◌, ◌∙◌, ◌==◌, ℕ, zero, suc, �
 use Rattle.std.proofs.Common.{refl, slice_get, subst, sym, arith}
 use Rattle.std.proofs.lemmas.Option.{none-some, same_Some, slice_get-map}
 use Rattle.std.specs.Option.{option_map}
+use Rattle.std.proofs.lemmas.Bool.{true≢false}
+use Rattle.bolt_lemmas.proofs.Exports.{all_get}
 use Rattle.bolt_layout.proofs.Words.{AllByRecursion, At_inline, At_page, Entry, follow, head_root, inline_page, Key, leaf_entry, LeafElement, Meta}
 use Rattle.bolt_layout.proofs.Words.{Node, node_at, Nodes, page_at, PageSpot, PageView, reached, root_spot, Spot}
 use Rattle.bolt_layout.proofs.EvenPages.{BeginsWith, IsEven, IsEvenKid, IsNeatElement, even_depth}
@@ -30,14 +32,6 @@ ok node = Ok node
 pub same_node : (a b : Node) → ok a ≡ ok b → a ≡ b
 same_node a b e = cc
 
-all_get : {X : Type 0} (P : X → Type 0) (xs : List X) (i : ℕ) (x : X) → AllByRecursion P xs → slice_get xs i ≡ Some x → P x
-all_get P [] i x all at = absurd (none-some x at)
-all_get P (y ∷ xs) zero x all at = let same : y ≡ x = cc in subst P same all.0
-all_get P (y ∷ xs) (suc i) x all at = all_get P xs i x all.1 at
-
-leaf_not_branch : true ≡ false → ⊥
-leaf_not_branch e = cc
-
 module _ (file : List ℕ) (meta : Meta) where
   abbrev nodes : Nodes
   nodes = node_at file meta
@@ -50,7 +44,7 @@ module _ (file : List ℕ) (meta : Meta) where
       by : (height : ℕ) → IsEven nodes height s.number → s.depth + height ≡ leaves → s.depth ≡ leaves
       by zero even deep = omega (arith, deep)
       by (suc height) (other, is, branch, some, kids) deep =
-          absurd (leaf_not_branch (sym leaf ∙ (ap (λ (n : Node). n.is_leaf) (same_node node other (sym at ∙ is)) ∙ branch)))
+          absurd (true≢false (sym leaf ∙ (ap (λ (n : Node). n.is_leaf) (same_node node other (sym at ∙ is)) ∙ branch)))
 
   -- ---- a step
 
@@ -81,7 +75,7 @@ module _ (file : List ℕ) (meta : Meta) where
           → slice_get (map branch_entry view.branches) i ≡ Some x
           → Some (At_page (child_spot s x (upper_from next s.upper))) ≡ Some t → IsEvenSpot nodes (own_leaves nodes leaves t) t
       by_height zero (other, is, leaf) deep x at led =
-          absurd (leaf_not_branch (sym leaf ∙ ap (λ (n : Node). n.is_leaf) (same_node other (branch_node view) (sym is ∙ node))))
+          absurd (true≢false (sym leaf ∙ ap (λ (n : Node). n.is_leaf) (same_node other (branch_node view) (sym is ∙ node))))
       by_height (suc height) (other, is, branch, some, kids) deep x at led =
           let same = same_node other (branch_node view) (sym is ∙ node) in
           kid height x (all_get (IsEvenKid nodes height) (map branch_entry view.branches) i x

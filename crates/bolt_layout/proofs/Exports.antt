@@ -6,7 +6,6 @@ pub use Rattle.bolt_layout.proofs.LaidItems.{length-elements}
 pub use Rattle.bolt_layout.proofs.LastItem.{last_append}
 pub use Rattle.bolt_layout.proofs.LeafLemmas.{length-leaf_headers}
 pub use Rattle.bolt_layout.proofs.LimitsFromEnds.{from_ends_are, from_ends_by, root_from_ends}
-pub use Rattle.bolt_layout.proofs.ListLemmas.{all_append}
 pub use Rattle.bolt_layout.proofs.NotMuchLarger.{plain_not_much_larger}
 pub use Rattle.bolt_layout.proofs.OpenedBuckets.{items_below, leaves_few, opened_few}
 pub use Rattle.bolt_layout.proofs.OverRows.{numbers-append}

@@ -1,13 +1,9 @@
 -- A row as the cut sees it: the keys and sizes of its items decide how the row is cut, and the keys and sizes of the row above.
-use Rattle.std.proofs.Common.{◌≡◌, ◌∙◌, ◌++◌, ◌+◌, ℕ, List, [], ◌∷◌, length, map, sum_by, refl, ap, arith}
+use Rattle.std.proofs.Common.{◌≡◌, ◌∙◌, ◌++◌, ◌+◌, ℕ, List, [], ◌∷◌, length, map, refl, ap, arith}
+use Rattle.bolt_lemmas.proofs.Exports.{sum_map}
 use Rattle.bolt_layout.proofs.Words.{Balanced, branch_cut, branch_page_view, BranchElement, common_steps, cut_from, cut_of, join_last, joins, Laid}
 use Rattle.bolt_layout.proofs.Words.{last_length, Layout, leaf_page_view, leaf_pages, LeafElement, length-map, map-append, next_level, page_over}
-use Rattle.bolt_layout.proofs.Words.{PageView, Plain, size_of, sum_by-cons}
-
--- The cut by a size that a part of each item decides is the cut of these parts.
-pub sum_map : {X Y : Type 0} (f : X → Y) (size : Y → ℕ) (xs : List X) → sum_by size (map f xs) ≡ sum_by (λ x. size (f x)) xs
-sum_map f size [] = refl
-sum_map f size (x ∷ xs) = omega (arith, sum_by-cons, sum_map f size xs)
+use Rattle.bolt_layout.proofs.Words.{PageView, Plain, size_of}
 
 map_joins : {X Y : Type 0} (f : X → Y) (page_size least : ℕ) (size : Y → ℕ) (run : List X) (next : X)
     → joins page_size least (λ x. size (f x)) run next ≡ joins page_size least size (map f run) (f next)

@@ -1,12 +1,12 @@
 -- What a file holds can be stored: the tree of a listing that rises, and whose members are held under their paths.
 use Rattle.std.proofs.Common.{◌≡◌, ◌∙◌, ℕ, ◌^◌, ◌<◌, true, IsTrue, List, [], ◌∷◌, ◌++◌, drop, refl, sym, ap, subst, subst₂, inl, inr, arith}
 use Rattle.std.proofs.{lemmas.List.same_from_push}
+use Rattle.bolt_lemmas.proofs.Exports.{first_decides, left_rises, right_rises}
 use Rattle.bolt_layout.proofs.Words.{Contains, Contains-append_left, Contains-append_right, contains_cases, contains_head, contains_none}
 use Rattle.bolt_layout.proofs.Words.{contains_tail, end, HasLengths, HasSoundTrees, head_root, head_sequence, inline_elements, Inline_page, IsBelow}
 use Rattle.bolt_layout.proofs.Words.{IsEntry, IsOfOneTree, IsStorable, IsTreeOf, Key, key_cmp, keys_in, LeafElement, Less, listing_below, listing_of}
 use Rattle.bolt_layout.proofs.Words.{Member, Meta, Path, Rises, RisesInside, Root_page, Start, start_of, Tree, tree_of, with_bucket, with_value}
 use Rattle.bolt_layout.proofs.SoundCopies.{TreeLists}
-use Rattle.std.specs.{declared.cmp.Ordering.Ordering}
 use Rattle.byteorder.specs.Numbers.{little_from-lt}
 use Rattle.bolt_format.specs.{Bytes.IsBytes, Bytes.number_at, ElementLengths.HasFitLengths, Elements.IsBucketValue}
 use Rattle.bolt_format.proofs.Exports.{drop_bytes, entry_fits, inline_fits, value_bytes, bucket_value, flat_inline}
@@ -14,21 +14,11 @@ use Rattle.bolt_tree.specs.{Entries.Bucket, Entries.Item, Entries.ShowsEntry, En
 use Rattle.bolt_tree.specs.{Paths.Holds, Paths.path_cmp}
 use Rattle.bolt_tree.proofs.Exports.{same_front}
 use Rattle.bolt_layout.specs.Storable.{IsFitListing, IsFitMember}
-use Rattle.bolt_check.proofs.Exports.{first_decides}
 
 -- the sequence of a bucket's value has 64 bits
 sequence_fits : (value : List ℕ) → IsBytes value → head_sequence value < 2 ^ 64
 unfolding number_at
 sequence_fits value bytes = let h = little_from-lt 0 8 (drop 8 value) (drop_bytes value 8 bytes) in omega (arith, h)
-
--- Keys rise where paths do.
-rises_left : {A : Type 0} (cmp : A → A → Ordering) (xs ys : List A) → Rises cmp (xs ++ ys) → Rises cmp xs
-rises_left cmp [] ys r = tt
-rises_left cmp (x ∷ xs) ys r = (λ y h. r.0 y (Contains-append_left xs ys y h), rises_left cmp xs ys r.1)
-
-rises_right : {A : Type 0} (cmp : A → A → Ordering) (xs ys : List A) → Rises cmp (xs ++ ys) → Rises cmp ys
-rises_right cmp [] ys r = r
-rises_right cmp (x ∷ xs) ys r = rises_right cmp xs ys r.1
 
 last_less : (front : Path) (j k : Key) → path_cmp (front ++ j ∷ []) (front ++ k ∷ []) ≡ Less → key_cmp j k ≡ Less
 last_less front j k less = first_decides (key_cmp j k) (sym (same_front front (j ∷ []) (k ∷ [])) ∙ less)
@@ -73,7 +63,7 @@ keys_rise (with_bucket key sequence inside after) front r =
     let deep : List Member = listing_below (front ++ key ∷ []) inside in
     let behind : List Member = listing_below front after in (
       below_keys front key (Bucket sequence) after (λ m h. r.0 m (Contains-append_right deep behind m h)),
-      keys_rise after front (rises_right member_cmp deep behind r.1),
+      keys_rise after front (right_rises member_cmp deep behind r.1),
     )
 
 inside_rises : (tree : Tree) (front : Path) → Rises member_cmp (listing_below front tree) → RisesInside tree
@@ -82,10 +72,10 @@ inside_rises (with_value key value after) front r = inside_rises after front r.1
 inside_rises (with_bucket key sequence inside after) front r =
     let deep : List Member = listing_below (front ++ key ∷ []) inside in
     let behind : List Member = listing_below front after in
-    let within = rises_left member_cmp deep behind r.1 in (
+    let within = left_rises member_cmp deep behind r.1 in (
       keys_rise inside (front ++ key ∷ []) within,
       inside_rises inside (front ++ key ∷ []) within,
-      inside_rises after front (rises_right member_cmp deep behind r.1),
+      inside_rises after front (right_rises member_cmp deep behind r.1),
     )
 
 -- A bucket begins at a root page, or in a good value.

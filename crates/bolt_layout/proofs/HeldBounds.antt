@@ -1,11 +1,12 @@
 -- How many items are held at one time, at the most: four page sizes for each bucket of a path, and never more than the pages have bytes.
 use Rattle.std.proofs.Common.{◌≡◌, ◌∙◌, ℕ, suc, ◌+◌, ◌*◌, ◌/◌, ◌^◌, ◌<◌, ◌≤◌, Bool, List, [], ◌∷◌, ◌++◌, length, map, flat_map, max, refl, sym, ap}
 use Rattle.std.proofs.Common.{subst, inl, inr, arith, sum_by}
+use Rattle.bolt_lemmas.proofs.Exports.{all_split}
 use Rattle.bolt_layout.proofs.Words.{AllByRecursion, branch_cut, branch_page_view, BranchElement, cases_lt, cut_of, is_inline, IsDivided, IsPageRun}
 use Rattle.bolt_layout.proofs.Words.{IsPageSize, IsStorable, items_of, Laid, Layout, layout_of, leaf_level, leaf_page_view, LeafElement}
 use Rattle.bolt_layout.proofs.Words.{length-append, length-map, listing_below, listing_of, Member, next_level, numbers_of, page_over, PageView, Path}
 use Rattle.bolt_layout.proofs.Words.{root_of, root_over, size_bounds, size_of, stored_bucket, sum_by-cons, top_in, Tree, with_bucket, with_value}
-use Rattle.bolt_layout.proofs.{Cutting.branches_divide, Cutting.branches_halve, Cutting.cut_divides, ListLemmas.all_split}
+use Rattle.bolt_layout.proofs.{Cutting.branches_divide, Cutting.branches_halve, Cutting.cut_divides}
 use Rattle.bolt_layout.proofs.{OverRows.pages_count, OverRows.runs_numbers, OverRows.runs_some, Soundness.layout_length}
 use Rattle.bolt_layout.specs.{Held.longest, Held.most_held, Laid.held_in}
 

@@ -1,12 +1,13 @@
 -- The entries of a bucket whose pages were placed: the elements of its items, in order.
 use Rattle.std.proofs.Common.{◌≡◌, ◌∙◌, ℕ, zero, suc, ◌+◌, ◌≤◌, List, [], ◌∷◌, ◌++◌, Option, Some, slice_get, refl, sym, subst, inl, inr, arith}
 use Rattle.std.proofs.lemmas.List.Elements.{Contains-append_cases}
+use Rattle.bolt_lemmas.proofs.Exports.{all_split}
 use Rattle.bolt_layout.proofs.Words.{AllByRecursion, branch_page_view, BranchElement, Contains, Contains-append_left, Contains-append_right}
 use Rattle.bolt_layout.proofs.Words.{elements_of, IsEntry, Laid, leaf_page_view, LeafElement, Meta, node_at, numbers_of, page_at, page_over, pages_of}
 use Rattle.bolt_layout.proofs.Words.{PageView, Placed, Root_page, run_overflow}
 use Rattle.bolt_format.specs.declared.header.Kind.TheVariants as kind
 use Rattle.bolt_check.proofs.Exports.{branch_step, leads_child, leaf_ends, node_is}
-use Rattle.bolt_layout.proofs.{LaidPages.limit, ListLemmas.all_split, OverRows.IsOver, OverRows.Pieces}
+use Rattle.bolt_layout.proofs.{LaidPages.limit, OverRows.IsOver, OverRows.Pieces}
 
 module _ (file : List ℕ) (meta : Meta) where
   -- these pages are shown

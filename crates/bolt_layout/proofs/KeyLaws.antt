@@ -1,7 +1,8 @@
 -- What an order of keys says of a row of items.
 use Rattle.std.proofs.Common.{arith, ◌≡◌, true, List, [], ◌∷◌, ◌++◌, Option, None, Some, refl}
+use Rattle.bolt_lemmas.proofs.Exports.{all_split}
 use Rattle.bolt_layout.proofs.{Words.AllByRecursion, Words.is_below, Words.is_from, Words.Key, Words.key_lt, Words.keys_order_fault, Words.Laid}
-use Rattle.bolt_layout.proofs.{Words.LeafElement, ListLemmas.all_split}
+use Rattle.bolt_layout.proofs.Words.{LeafElement}
 use Rattle.bolt_check.specs.Keys.{is_above}
 
 -- items whose keys rise

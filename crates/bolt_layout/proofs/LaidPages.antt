@@ -1,8 +1,9 @@
 -- The pages below a row of items stand in a row and have room, and so do they with the page over the items.
 use Rattle.std.proofs.Common.{◌≡◌, ℕ, ◌+◌, ◌^◌, ◌<◌, ◌≤◌, List, [], ◌∷◌, refl, arith}
+use Rattle.bolt_lemmas.proofs.Exports.{all_append}
 use Rattle.bolt_layout.proofs.Words.{AllByRecursion, elements_of, Laid, node_of, Nodes, numbers_of, page_over, pages_of, PageView, Placed}
 use Rattle.bolt_layout.proofs.Words.{run_overflow}
-use Rattle.bolt_layout.proofs.{ListLemmas.all_append, PageRows.HasRoom, PageRows.IsInARow, PageRows.IsPageFit, PageRows.row_append}
+use Rattle.bolt_layout.proofs.{PageRows.HasRoom, PageRows.IsInARow, PageRows.IsPageFit, PageRows.row_append}
 
 -- so many page numbers there are at most
 abbrev pub limit : ℕ

@@ -1,11 +1,12 @@
 -- What holds of the page over a row of leaf items, where it holds of the items; and a leaf page over them.
 use Rattle.std.proofs.Common.{◌≡◌, ◌∙◌, ℕ, suc, ◌+◌, ◌<◌, ◌≤◌, nat_lt, Bool, true, false, List, [], ◌∷◌, ◌++◌, length, map, Option, Some, None, Ok}
 use Rattle.std.proofs.Common.{slice_get, refl, sym, ap, subst, arith}
+use Rattle.bolt_lemmas.proofs.Exports.{all_split, all_weaker}
 use Rattle.bolt_layout.proofs.Words.{AllByRecursion, At_page, BranchElement, bucket_spots, elements_of, Entry, finding_of, follow, follow_none, Key}
 use Rattle.bolt_layout.proofs.Words.{key_lt, keys_of, keys_order_fault, Laid, le-ltb, leaf_entry, leaf_page_view, LeafElement, Node, node_finding}
 use Rattle.bolt_layout.proofs.Words.{node_of, Nodes, numbers_of, page_over, pages_of, PageSpot, Placed, places, run_overflow, Spot}
-use Rattle.bolt_layout.proofs.{KeyLaws.IsAbove, KeyLaws.IsBelowItem, KeyLaws.IsWithin, KeyLaws.ItemsRise, KeyLaws.key_step, ListLemmas.all_split}
-use Rattle.bolt_layout.proofs.{ListLemmas.all_weaker, OverRows.IsRun}
+use Rattle.bolt_layout.proofs.{KeyLaws.IsAbove, KeyLaws.IsBelowItem, KeyLaws.IsWithin, KeyLaws.ItemsRise, KeyLaws.key_step}
+use Rattle.bolt_layout.proofs.OverRows.{IsRun}
 use Rattle.bolt_layout.proofs.Parts.{IsFinePage, IsPart, kids_at, more_kids, no_kids, part_page}
 use Rattle.bolt_layout.proofs.{LaidPages.AreNodes, LaidPages.HasPages, LaidPages.limit, LaidPages.page_has, LaidItems.IsItem, LaidItems.leaf_own}
 use Rattle.bolt_layout.proofs.{LaidItems.leaf_own_room}

@@ -26,7 +26,6 @@ mod LeafPages
 mod LimitedRows
 mod LimitsFromEnds
 mod NoGaps
-mod ListLemmas
 mod NotMuchLarger
 mod NumbersThere
 mod OneCut

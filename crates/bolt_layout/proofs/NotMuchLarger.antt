@@ -1,10 +1,10 @@
 -- The plain layout of a tree takes at most 28 times the page numbers of the balanced one: both have the same leaves.
 use Rattle.std.proofs.Common.{◌≡◌, ◌∙◌, ℕ, ◌+◌, ◌*◌, ◌≤◌, List, [], ◌∷◌, map, refl, sym, ap, arith}
+use Rattle.bolt_lemmas.proofs.Exports.{all_weaker, sum_map}
 use Rattle.bolt_layout.proofs.Words.{AllByRecursion, Balanced, cut_of, end, HasLengths, is_inline, IsPageSize, IsStorable, items_of, Laid}
 use Rattle.bolt_layout.proofs.Words.{largest_page, LeafElement, numbers_of, overflow_of, Plain, RisesInside, root_of, root_over, run_size}
 use Rattle.bolt_layout.proofs.Words.{size_bounds, size_of, stored_bucket, Tree, with_bucket, with_value}
-use Rattle.bolt_layout.proofs.{Faces.Face, Faces.face, Faces.face_size, Faces.map_cut, Faces.sum_map, HeldBounds.level_numbers, LaidItems.IsItem}
-use Rattle.bolt_layout.proofs.{ListLemmas.all_weaker}
+use Rattle.bolt_layout.proofs.{Faces.Face, Faces.face, Faces.face_size, Faces.map_cut, HeldBounds.level_numbers, LaidItems.IsItem}
 use Rattle.bolt_layout.proofs.{PlainNumbers.leaves_numbers, PlainNumbers.plain_most, SameFaces.inline_alike, SameFaces.items_alike}
 use Rattle.bolt_layout.proofs.{TreeItems.tree_items, Weights.own_numbers}
 

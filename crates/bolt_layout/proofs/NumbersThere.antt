@@ -1,12 +1,11 @@
 -- Bytes of a file are those that are written for the numbers that stand in them.
-use Rattle.std.proofs.Common.{◌≡◌, ◌∙◌, ◌⊎◌, ℕ, zero, suc, ◌+◌, ◌-◌, ◌^◌, ◌<◌, ◌≤◌, ◌==◌, Bool, true, false, cond, List, [], ◌∷◌, ◌++◌, length, drop}
+use Rattle.std.proofs.Common.{◌≡◌, ◌∙◌, ◌⊎◌, ℕ, zero, suc, ◌+◌, ◌^◌, ◌<◌, ◌≤◌, ◌==◌, Bool, true, false, cond, List, [], ◌∷◌, ◌++◌, length, drop}
 use Rattle.std.proofs.Common.{take, Option, None, Some, inl, inr, refl, sym, ap, arith, append_assoc}
 use Rattle.std.proofs.Math.Nat.{mod-lt}
 use Rattle.std.proofs.lemmas.Bool.{cases_lt, eqb-true}
 use Rattle.std.proofs.lemmas.List.{append-nil, drop-drop, get_or-take, get_or_past, length-drop, length-take, length-take-le, take-append-drop}
 use Rattle.std.proofs.lemmas.Option.{same_Some}
 use Rattle.std.specs.Int.{byte_at, bytes_low_first}
-use Rattle.std.specs.List.{slice_range}
 use Rattle.byteorder.specs.{Endian.little_from, Endian.little_number, Numbers.length-bytes_low_first, Numbers.little_from-cons}
 use Rattle.byteorder.specs.{Numbers.little_from-lt, Numbers.little_from-take, Numbers.little_number-reads_back}
 use Rattle.bolt_format.proofs.Exports.{drop_bytes}
@@ -67,16 +66,6 @@ number_there bytes at n m are end within =
 known_there : (bytes : List ℕ) (at n m x : ℕ) → IsBytes bytes → at + n ≡ m → m ≤ length bytes → number_at bytes at n ≡ x
     → drop at bytes ≡ number_bytes n x ++ drop m bytes
 known_there bytes at n m x are end within is = number_there bytes at n m are end within ∙ ap (λ (k : ℕ). number_bytes n k ++ drop m bytes) is
-
--- a range of bytes, and what follows it
-pub range_there : (bytes : List ℕ) (a b : ℕ) → a ≤ b → drop a bytes ≡ slice_range bytes a b ++ drop b bytes
-range_there bytes a b h =
-    let end : a + (b - a) ≡ b = omega arith in
-    sym (take-append-drop (b - a) (drop a bytes))
-    ∙ ap (λ (xs : List ℕ). slice_range bytes a b ++ xs) (drop-drop (b - a) a bytes ∙ ap (λ (k : ℕ). drop k bytes) end)
-
-pub length-range : (bytes : List ℕ) (a b : ℕ) → b ≤ length bytes → length (slice_range bytes a b) ≡ b - a
-length-range bytes a b h = let left = length-drop a bytes in length-take-le (b - a) (drop a bytes) (omega (arith, left))
 
 -- ---- headers
 

@@ -1,7 +1,8 @@
 -- There is one cut of each row.
-use Rattle.std.proofs.{lemmas.Grind.common_steps, lemmas.Bool.or_cases, lemmas.Bool.or_parts}
+use Rattle.std.proofs.{lemmas.Bool.or_cases, lemmas.Bool.or_parts}
 use Rattle.std.proofs.Common.{◌≡◌, ◌≢◌, ◌⊎◌, ℕ, suc, ◌<◌, ◌≤◌, nat_lt, true, false, List, [], ◌∷◌, ◌++◌, length, Some, slice_get, refl, sym, ap}
 use Rattle.std.proofs.Common.{subst, inl, inr, arith, append_assoc, flat_map}
+use Rattle.bolt_lemmas.proofs.Exports.{length_some}
 use Rattle.bolt_layout.proofs.Words.{append-nil, cases_Bool, cases_lt, cut_from, cut_of, joins, length-append, length_push, lt-ltb, ltb-false}
 use Rattle.bolt_layout.proofs.Words.{ltb-true, max_items, run_size, sum_by-append}
 use Rattle.bolt_layout.specs.Cut.{CutIsOne, IsCut}
@@ -152,9 +153,6 @@ runs_are_cut page_size least size items runs whole are = record {
       ended_full page_size least size run next (run_at page_size least size runs are i run e).cap (end_at page_size least size runs are i run next more e f);
 }
 
-some_item : {X : Type 0} (run : List X) → run ≢ [] → 1 ≤ length run
-some_item run some = grind (arith, common_steps)
-
 first_ends : {X : Type 0} (page_size least : ℕ) (size : X → ℕ) (items run : List X) (runs : List (List X))
     → IsCut page_size least size items (run ∷ runs) → Ends page_size least size run runs
 first_ends page_size least size items run [] is = tt
@@ -166,7 +164,7 @@ cut_are_runs : {X : Type 0} (page_size least : ℕ) (size : X → ℕ) (items : 
     → AreRuns page_size least size runs
 cut_are_runs page_size least size items [] is = tt
 cut_are_runs page_size least size items (run ∷ runs) is = (
-  record { some = some_item run (is.filled 0 run refl); fits = is.fits 0 run refl; cap = is.capped 0 run refl },
+  record { some = length_some run (is.filled 0 run refl); fits = is.fits 0 run refl; cap = is.capped 0 run refl },
   first_ends page_size least size items run runs is,
   cut_are_runs page_size least size (flat_map (λ r. r) runs) runs (record {
     whole = refl;

@@ -2,10 +2,11 @@
 use Rattle.std.proofs.lemmas.Grind.{common_steps}
 use Rattle.std.proofs.Common.{◌≡◌, ◌∙◌, ℕ, zero, suc, ◌+◌, ◌*◌, ◌^◌, ◌<◌, ◌≤◌, List, [], ◌∷◌, ◌++◌, length, map, flat_map, refl, sym, ap, subst}
 use Rattle.std.proofs.Common.{arith, append_assoc, sum_by}
+use Rattle.bolt_lemmas.proofs.Exports.{all_split}
 use Rattle.bolt_layout.proofs.Words.{AllByRecursion, append-nil, branch_cut, branch_page_view, BranchElement, cut_of, IsDivided, IsPageRun, Laid}
 use Rattle.bolt_layout.proofs.Words.{Layout, leaf_level, leaf_page_view, LeafElement, length-map, max_items, mul-le-mul_right, next_level, numbers_of}
 use Rattle.bolt_layout.proofs.Words.{page_over, PageView, root_over, run_size, size_of, sum_by-append, sum_by-cons, top_in}
-use Rattle.bolt_layout.proofs.{Cutting.branches_divide, Cutting.branches_halve, Cutting.cut_divides, ListLemmas.all_split}
+use Rattle.bolt_layout.proofs.{Cutting.branches_divide, Cutting.branches_halve, Cutting.cut_divides}
 use Rattle.bolt_layout.specs.Divisions.{FitsBut}
 
 abbrev pub Over : Type 1

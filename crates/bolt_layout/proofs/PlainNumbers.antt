@@ -2,11 +2,12 @@
 -- A level of branches takes no more than its pages and the weights of the level below. The weights don't rise from level to level, and the
 -- number of pages halves. A page weighs less than 2^21: so the weights of 21 levels are counted in full, and above these the pages alone.
 use Rattle.std.proofs.Common.{◌≡◌, ℕ, zero, suc, ◌+◌, ◌-◌, ◌*◌, ◌/◌, ◌<◌, ◌≤◌, List, [], ◌∷◌, length, map, flat_map, sym, ap, subst, arith}
+use Rattle.bolt_lemmas.proofs.Exports.{all_split, all_weaker}
 use Rattle.bolt_layout.proofs.Words.{AllByRecursion, branch_page_view, BranchElement, cut_of, div-lt_iff_lt-mul, IsDivided, IsPageRun, Laid}
 use Rattle.bolt_layout.proofs.Words.{leaf_level, leaf_page_view, LeafElement, length-map, mul-le-mul_left, mul-le-mul_right, next_level, numbers_of}
 use Rattle.bolt_layout.proofs.Words.{page_over, PageView, Plain, root_over, size_of, top_in}
 use Rattle.bolt_layout.proofs.{Cutting.branches_divide, Cutting.branches_halve, Cutting.cut_divides, LastItem.HasItem}
-use Rattle.bolt_layout.proofs.{ListLemmas.all_split, ListLemmas.all_weaker, OverRows.HasShortKey, OverRows.runs_some}
+use Rattle.bolt_layout.proofs.{OverRows.HasShortKey, OverRows.runs_some}
 use Rattle.bolt_layout.proofs.Weights.{HasKeyRoom, IsLight, level_light, level_numbers_are, level_weights, own_numbers, own_weight, own_weights}
 use Rattle.bolt_layout.proofs.Weights.{weight, weights, weights_count, weights_light}
 

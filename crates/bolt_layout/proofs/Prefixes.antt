@@ -1,7 +1,8 @@
 -- A layout that is cut short is refused.
-use Rattle.std.proofs.Common.{◌≡◌, ◌∙◌, ℕ, ◌+◌, ◌-◌, ◌*◌, ◌^◌, ◌<◌, ◌≤◌, List, [], ◌∷◌, ◌++◌, length, drop, take, Some, Err, refl, ap, subst, inl}
+use Rattle.std.proofs.Common.{◌≡◌, ◌∙◌, ℕ, ◌+◌, ◌*◌, ◌^◌, ◌<◌, ◌≤◌, List, [], ◌∷◌, ◌++◌, length, drop, take, Some, Err, refl, ap, subst, inl}
 use Rattle.std.proofs.Common.{inr, arith}
-use Rattle.std.proofs.{Math.Seq.take-append-add, lemmas.List.drop-take, lemmas.List.length-take}
+use Rattle.std.proofs.lemmas.List.{length-take}
+use Rattle.bolt_lemmas.proofs.Exports.{cut_front}
 use Rattle.bolt_layout.proofs.Words.{AllByRecursion, At_page, cases_lt, chosen_of, copy_meta, eq-eqb, header_bytes, header_written, IsAsked, IsActive}
 use Rattle.bolt_layout.proofs.Words.{IsHeaderFit, IsMeta, IsPageSize, Kind, Layout, layout_high_water, layout_of, layout_root, le-ltb}
 use Rattle.bolt_layout.proofs.Words.{length-header_bytes, length-meta_bytes, Meta, meta_bytes, meta_written, node_at, One, page_at, page_fault}
@@ -12,15 +13,6 @@ use Rattle.bolt_format.specs.{Metas.IsInOne, Metas.IsInSlot, declared.page_fault
 use Rattle.bolt_check.specs.{Findings.PageTests, Findings.finding, Sound.IsFirstFinding, Sound.IsRefused}
 use Rattle.bolt_check.specs.{declared.check_fault.CheckFault.TheVariants.Structure}
 use Rattle.bolt_layout.specs.Copies.{RefusesPrefixes}
-
--- a part before the cut is there
-cut_front : (file part rest : List ℕ) (at n : ℕ) → drop at file ≡ part ++ rest → at + length part ≤ n
-    → drop at (take n file) ≡ part ++ take (n - (at + length part)) rest
-cut_front file part rest at n h within =
-    let k : ℕ = n - (at + length part) in
-    let total : n ≡ at + (length part + k) = omega arith in
-    ap (λ (m : ℕ). drop at (take m file)) total
-    ∙ (drop-take at (length part + k) file ∙ (ap (λ (xs : List ℕ). take (length part + k) xs) h ∙ take-append-add part rest k))
 
 -- The tests of a page whose span passes the file's end.
 cut_short : (file : List ℕ) (meta : Meta) (id : ℕ) → id < meta.high_water → length file < id * meta.page_size + 16

@@ -3,6 +3,7 @@
 use Rattle.std.proofs.{lemmas.Grind.common_steps, lemmas.Bool.and_cases, lemmas.Bool.eqb-false, lemmas.Bool.eqb-true}
 use Rattle.std.proofs.Common.{◌≡◌, ◌≢◌, ◌∙◌, ◌⊎◌, ◌++◌, ◌-◌, ◌≤◌, ◌==◌, ◌&&◌, ℕ, zero, suc, nat_lt, Bool, true, false, List, [], ◌∷◌, length, map}
 use Rattle.std.proofs.Common.{Option, Some, None, refl, sym, ap, subst, inl, inr, arith}
+use Rattle.bolt_lemmas.proofs.Exports.{all_weaker}
 use Rattle.bolt_layout.proofs.Words.{AllByRecursion, and_parts, AreRowEnds, Balanced, branch_cut, BranchElement, cases_Bool, cut_of, cut_row}
 use Rattle.bolt_layout.proofs.Words.{HaveRightLimits, IsPageRun, join_last, Laid, last_length, length-map, length_push, limit_at, limits_from_ends}
 use Rattle.bolt_layout.proofs.Words.{ltb-false, ltb-true, map-append, ne_eqb, next_level, Plain, size_of}
@@ -10,7 +11,7 @@ use Rattle.bolt_layout.proofs.{Cutting.cut_divides, Faces.Face, Faces.face, Face
 use Rattle.bolt_layout.proofs.{Faces.top_face}
 use Rattle.bolt_layout.proofs.LastItem.{HasItem, IsPushed, cut_pushed, join_none, join_tops, last_append, last_some, push_counts, push_last}
 use Rattle.bolt_layout.proofs.LastItem.{push_tops, some_runs}
-use Rattle.bolt_layout.proofs.{ListLemmas.all_weaker, LimitedRows.IsLimit, LimitedRows.row_limited}
+use Rattle.bolt_layout.proofs.{LimitedRows.IsLimit, LimitedRows.row_limited}
 use Rattle.bolt_layout.specs.Limits.{level_up}
 
 -- A row of the balanced layout is that of the plain one, or lacks its last page.

@@ -1,8 +1,9 @@
 -- The items of a bucket have the same keys and sizes in both layouts, and the same buckets are inline.
 use Rattle.std.proofs.Common.{◌≡◌, ◌+◌, ℕ, true, false, List, ◌∷◌, length, map, refl, ap, arith}
+use Rattle.bolt_lemmas.proofs.Exports.{sum_map}
 use Rattle.bolt_layout.proofs.Words.{Balanced, end, holds_bucket, is_inline, items_of, Laid, leaf_item, LeafElement, length-map, Plain, Tree}
 use Rattle.bolt_layout.proofs.Words.{with_bucket, with_value}
-use Rattle.bolt_layout.proofs.Faces.{Face, face, face_size, sum_map}
+use Rattle.bolt_layout.proofs.Faces.{Face, face, face_size}
 
 -- Sizes decide which buckets are inline.
 inline_by_faces : (page_size : ℕ) (inside : Tree) (plain balanced : List (Laid LeafElement)) → map face plain ≡ map face balanced

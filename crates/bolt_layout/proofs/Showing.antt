@@ -1,15 +1,15 @@
 -- The pages of a tree show it: the entries of each bucket are its items' elements.
 use Rattle.std.proofs.Common.{◌≡◌, ◌∙◌, ℕ, ◌+◌, ◌^◌, ◌<◌, ◌≤◌, ◌==◌, Bool, true, false, List, [], ◌∷◌, refl, sym, ap, subst, inl, inr, arith}
+use Rattle.bolt_lemmas.proofs.Exports.{all_weaker, less_of}
 use Rattle.bolt_layout.proofs.Words.{AllByRecursion, append-nil, bucket_item, contains_cases, contains_none, elements_of, eq-eqb, HasLengths}
 use Rattle.bolt_layout.proofs.Words.{head_bytes, head_root, head_sequence, head_written, holds_bucket, inline_elements, Inline_page, inline_value}
 use Rattle.bolt_layout.proofs.Words.{is_inline, IsBelow, IsEntry, IsTreeOf, items_of, Key, key_cmp, keys_in, Laid, largest_page, Layout, LeafElement}
 use Rattle.bolt_layout.proofs.Words.{Less, Meta, ne_eqb, Rises, RisesInside, root_over, Root_page, Start, start_of, stored_bucket, Tree, with_bucket}
 use Rattle.bolt_layout.proofs.Words.{with_value}
 use Rattle.bolt_layout.proofs.{Holding.AreOf, Holding.ArePages, Holding.Holds, Holding.over_holds, KeyLaws.IsBelowItem, KeyLaws.ItemsRise}
-use Rattle.bolt_layout.proofs.{LaidItems.IsItem, LaidPages.limit, ListLemmas.all_weaker}
+use Rattle.bolt_layout.proofs.{LaidItems.IsItem, LaidPages.limit}
 use Rattle.bolt_layout.proofs.{OverRows.HasShortKey, OverRows.IsAtMost, OverRows.root_is_over, TreeItems.inline_read, TreeItems.root_page}
 use Rattle.bolt_layout.proofs.{TreeItems.tree_items, TreeItems.tree_rise}
-use Rattle.bolt_check.proofs.Exports.{less_of}
 use Rattle.bolt_tree.specs.{Entries.AreEntries, Entries.entry_cmp, Tree.Shows}
 
 module _ (file : List ℕ) (meta : Meta) where

@@ -1,8 +1,9 @@
 -- The layout of a tree is sound, and lists what the tree lists.
 use Rattle.std.proofs.Common.{◌≡◌, ◌<◌, ◌^◌, ℕ, List, Some, length, arith}
+use Rattle.bolt_lemmas.proofs.Exports.{all_weaker}
 use Rattle.bolt_layout.proofs.Words.{IsAsked, IsEntry, IsPageSize, IsStorable, IsTreeOf, Layout, layout_meta, layout_of, layout_pages, layout_root}
 use Rattle.bolt_layout.proofs.Words.{listing_of, Meta, One, page_at, Placed, root_of, Root_page, size_bounds, Start, Tree}
-use Rattle.bolt_layout.proofs.{Holding.ArePages, ListLemmas.all_weaker, Showing.root_tree}
+use Rattle.bolt_layout.proofs.{Holding.ArePages, Showing.root_tree}
 use Rattle.bolt_layout.proofs.{Soundness.IsSoundLayout, Soundness.PassingIsSound, Soundness.laid_out, Soundness.layout_sound, SpanLemmas.IsShown}
 use Rattle.bolt_tree.specs.Listing.{Lists}
 use Rattle.bolt_layout.specs.Copies.{IsSoundCopy}

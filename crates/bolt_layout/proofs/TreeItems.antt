@@ -1,4 +1,5 @@
 -- The items of a tree are read back, have room, and are parts of a sound tree of pages.
+use Rattle.bolt_lemmas.proofs.Exports.{all_weaker}
 use Rattle.bolt_layout.proofs.Parts.{none_some, nothing, IsPart, part_inline}
 use Rattle.bolt_format.specs.Gaps.{inline_gap}
 use Rattle.bolt_layout.proofs.Words.{AllByRecursion, and_parts, append-nil, At_inline, At_page, bucket_item, bucket_spots, common_steps}
@@ -8,7 +9,7 @@ use Rattle.bolt_layout.proofs.Words.{IsBelow, items_of, Key, key_cmp, keys_in, k
 use Rattle.bolt_layout.proofs.Words.{LeafElement, length-append, length-header_bytes, max_items, ne_eqb, Nodes, Rises, RisesInside, root_over}
 use Rattle.bolt_layout.proofs.Words.{root_spot, run_size, size_of, Spot, stored_bucket, Tree, value_fault, with_bucket, with_value}
 use Rattle.bolt_layout.proofs.{InlineLemmas.IsFlat, InlineLemmas.inline_written, SpanLemmas.length-leaf_bytes, KeyLaws.IsBelowItem, KeyLaws.IsWithin}
-use Rattle.bolt_layout.proofs.{KeyLaws.ItemsRise, ListLemmas.all_weaker}
+use Rattle.bolt_layout.proofs.KeyLaws.{ItemsRise}
 use Rattle.bolt_layout.proofs.{OverRows.IsOver, OverRows.root_is_over, LaidPages.limit, LaidItems.IsItem, LaidItems.items_size}
 use Rattle.bolt_layout.proofs.{LaidItems.length-elements}
 use Rattle.bolt_layout.proofs.{LeafPages.IsPage, LeafPages.above_none, LeafPages.items_keys, BranchPages.over_page}

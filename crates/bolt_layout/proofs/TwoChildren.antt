@@ -1,9 +1,10 @@
 -- No branch page of a balanced layout has fewer than two elements.
 use Rattle.std.proofs.Common.{◌≡◌, ℕ, suc, ◌+◌, ◌≤◌, List, [], ◌∷◌, length, map, flat_map, refl, sym, ap, subst, arith}
+use Rattle.bolt_lemmas.proofs.Exports.{all_append, all_split}
 use Rattle.bolt_layout.proofs.Words.{AllByRecursion, Balanced, branch_cut, branch_page_view, BranchElement, cut_of, elements_of, end, items_of}
 use Rattle.bolt_layout.proofs.Words.{join_last, Laid, layout_pages, leaf_level, leaf_page_view, LeafElement, length-append, next_level, page_over}
 use Rattle.bolt_layout.proofs.Words.{pages_of, root_of, root_over, size_of, top_in, Tree, with_bucket, with_value}
-use Rattle.bolt_layout.proofs.{Cutting.branches_divide, Cutting.cut_divides, ListLemmas.all_append, ListLemmas.all_split, OneCut.AreRuns}
+use Rattle.bolt_layout.proofs.{Cutting.branches_divide, Cutting.cut_divides, OneCut.AreRuns}
 use Rattle.bolt_layout.proofs.{OneCut.cut_runs, OneCut.cut_whole, OneCut.first_long}
 use Rattle.bolt_format.specs.declared.header.Kind.TheVariants as kind
 use Rattle.bolt_layout.specs.Layout.{HasTwoIfBranch, first_page}

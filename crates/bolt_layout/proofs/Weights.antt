@@ -1,9 +1,10 @@
 -- How many page numbers a row of pages takes: its overflow, by the weights of what stands on it.
 use Rattle.std.proofs.{lemmas.Grind.common_steps, Math.Nat.div-mul-le_self, lemmas.Nat.le-div}
 use Rattle.std.proofs.Common.{◌≡◌, ℕ, ◌+◌, ◌*◌, ◌/◌, ◌<◌, ◌≤◌, List, [], ◌∷◌, ◌++◌, length, map, flat_map, sum_by, refl, arith}
+use Rattle.bolt_lemmas.proofs.Exports.{all_split}
 use Rattle.bolt_layout.proofs.Words.{add-mul, AllByRecursion, div-lt_iff_lt-mul, Laid, numbers_of, overflow_of, page_over, PageView, run_overflow}
 use Rattle.bolt_layout.proofs.Words.{size_of, sum_by-cons}
-use Rattle.bolt_layout.proofs.{LastItem.HasItem, ListLemmas.all_split, OverRows.numbers-append}
+use Rattle.bolt_layout.proofs.{LastItem.HasItem, OverRows.numbers-append}
 
 div_rises : (a b k : ℕ) → 0 < k → a ≤ b → a / k ≤ b / k
 div_rises a b k some h = let l = div-mul-le_self a k in le-div (a / k) b k some (omega arith)

@@ -1,4 +1,6 @@
 -- The words that the proofs of this crate cite, passed on from the modules that define them.
+pub use Rattle.bolt_lemmas.proofs.Exports.{contains_cases, contains_head, contains_none, contains_tail}
+pub use Rattle.bolt_lemmas.specs.Order.{IsBelow, Rises}
 pub use Rattle.bolt_check.proofs.Exports.{follow_none}
 pub use Rattle.bolt_check.specs.{EntrySpots.places, Findings.finding_of, Findings.inline_finding, Findings.keys_of, Findings.node_finding}
 pub use Rattle.bolt_check.specs.Keys.{Key, is_below, is_from, key_cmp, key_lt, keys_order_fault}
@@ -30,9 +32,8 @@ pub use Rattle.bolt_layout.specs.{Storable.HasLengths, Storable.IsStorable, Stor
 pub use Rattle.bolt_layout.specs.declared.Layout.TheVariants.{Balanced, Plain}
 unfoldable pub use Rattle.bolt_layout.specs.{Items.root_of, Layout.layout_of, Levels.overflow_of, Levels.root_over}
 unfoldable pub use Rattle.bolt_layout.specs.PageBytes.{branch_bytes, freelist_page, inline_value, leaf_bytes, meta_page, page_bytes}
-pub use Rattle.bolt_tree.proofs.Exports.{contains_cases, contains_head, contains_none, contains_tail}
 pub use Rattle.bolt_tree.specs.{Entries.Inline_page, Entries.IsEntry, Entries.Root_page, Entries.Start, Entries.start_of, Listing.Member}
-pub use Rattle.bolt_tree.specs.{Order.IsBelow, Order.Rises, Paths.Path}
+pub use Rattle.bolt_tree.specs.Paths.{Path}
 pub use Rattle.bolt_tree.specs.Tree.{IsTreeOf, Tree, end, listing_below, listing_of, tree_of, with_bucket, with_value}
 pub use Rattle.std.proofs.Math.Nat.{add-mul, div-lt_iff_lt-mul, mul-le-mul_left, mul-le-mul_right}
 pub use Rattle.std.proofs.lemmas.Bool.{and_parts, cases_Bool, cases_lt, eq-eqb, le-ltb, lt-ltb, ltb-false, ltb-true, ne_eqb}

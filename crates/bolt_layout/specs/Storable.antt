@@ -1,8 +1,9 @@
 -- Trees that a file can hold: docs/LAYOUT.md, "Trees that can be stored".
 use Rattle.std.specs.Prelude.{◌≡◌, ◌<◌, ◌^◌, List, [], ◌∷◌, ◌++◌, Contains, length}
+use Rattle.bolt_lemmas.specs.Order.{Rises}
 use Rattle.bolt_format.specs.ElementLengths.{IsKeyLength, IsValueLength}
 use Rattle.bolt_check.specs.Keys.{Key, key_cmp}
-use Rattle.bolt_tree.specs.{Entries.Bucket, Entries.Item, Entries.Value, Listing.Member, Listing.member_cmp, Order.Rises, Paths.Path}
+use Rattle.bolt_tree.specs.{Entries.Bucket, Entries.Item, Entries.Value, Listing.Member, Listing.member_cmp, Paths.Path}
 use Rattle.bolt_tree.specs.Tree.{Tree, end, listing_of, with_value, with_bucket}
 
 -- the keys of the outermost bucket

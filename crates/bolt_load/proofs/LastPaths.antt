@@ -5,30 +5,15 @@ use Rattle.std.proofs.{lemmas.Grind.common_steps, lemmas.Bool.or_cases, lemmas.L
 use Rattle.std.proofs.{Math.Seq.take-append-add}
 use Rattle.std.specs.Cmp.Lexicographic.{pointwise}
 use Rattle.std.specs.Prelude.{nat_lt}
+use Rattle.std.proofs.lemmas.Bool.{or_left, or_right}
+use Rattle.bolt_lemmas.proofs.Exports.{asymmetric, get_behind, has_any, one_only, same_bool}
 use Rattle.bolt_load.proofs.Words.{and_parts, begins_of, begins_with, bytes_eq, bytes_eq-Decides, fault_after, order_fault, Has, has_bucket}
 use Rattle.bolt_load.proofs.Words.{has_split, is_above_last, is_bucket, is_lt, is_open, Item, Key, Less, less_of, list_any, Member, nat_tests}
 use Rattle.bolt_load.proofs.Words.{option_map_or, Path, path_above, path_cmp, path_total, place_fault, take-append-drop}
 use Rattle.bolt_tree.specs.ListingParts.{is_bucket_at}
-use Rattle.bolt_check.proofs.Exports.{get_behind}
-use Rattle.bolt_tree.proofs.Exports.{asymmetric, begins_by, beyond_less, beyond_or_longer}
+use Rattle.bolt_tree.proofs.Exports.{begins_by, beyond_less, beyond_or_longer}
 
 -- ---- tests
-
-same_bool : (a b : Bool) → (a ≡ true → b ≡ true) → (b ≡ true → a ≡ true) → a ≡ b
-same_bool a b there back = grind arith
-
-or_left : (a b : Bool) → a ≡ true → (a || b) ≡ true
-or_left a b is = ap (λ a. a || b) is
-
-or_right : (a b : Bool) → b ≡ true → (a || b) ≡ true
-or_right a b is = grind arith
-
-any_has : {A : Type 0} (p : A → Bool) (xs : List A) → list_any p xs ≡ true → (x : A) × Has xs x × (p x ≡ true)
-any_has p [] any = absurd (let f : false ≡ true = any in cc)
-any_has p (x ∷ xs) any = elim (or_cases (p x) (list_any p xs) any) [
-  | inl here ↦ (x, inl refl, here)
-  | inr later ↦ let found = any_has p xs later in (found.0, inr found.1, found.2)
-]
 
 same_path : (a b : Path) → pointwise bytes_eq a b ≡ true → a ≡ b
 same_path a b = (slice_eq-Decides bytes_eq-Decides a b (pointwise bytes_eq a b) refl).0
@@ -37,11 +22,6 @@ pub path_itself : (path : Path) → pointwise bytes_eq path path ≡ true
 path_itself path = (slice_eq-Decides bytes_eq-Decides path path (pointwise bytes_eq path path) refl).1 refl
 
 -- ---- the bucket above a path
-
-one_only : {A : Type 0} (xs : List A) → length xs ≡ 1 → (x : A) × (xs ≡ x ∷ [])
-one_only [] one = absurd (omega (arith, one))
-one_only (x ∷ []) one = (x, refl)
-one_only (x ∷ y ∷ xs) one = absurd (omega (arith, one))
 
 pub split_last : (path : Path) → 0 < length path → (key : Key) × (path ≡ path_above path ++ key ∷ [])
 split_last path some =
@@ -112,7 +92,7 @@ module _ (before : List Member) (last : Path) (bucket : Bool) (is : IsLast befor
     empty_is (k ∷ r) zero = absurd (let some : (length (k ∷ r) == 0) ≡ false = grind (arith, nat_tests) in cc)
 
     bucket_open : has_bucket above before ≡ true → is_open last bucket above ≡ true
-    bucket_open has = search (rules, or_cases, list_any, is_bucket_at, root_open, empty_is, any_has, member_open)
+    bucket_open has = search (rules, or_cases, list_any, is_bucket_at, root_open, empty_is, has_any, member_open)
 
     open_same : has_bucket above before ≡ is_open last bucket above
     open_same = same_bool (has_bucket above before) (is_open last bucket above) bucket_open (is.opens above)

@@ -2,6 +2,7 @@
 use Rattle.std.proofs.{lemmas.Grind.common_steps, lemmas.List.Elements.Contains-append_left, lemmas.Bool.Decides.Decides-eqb, lemmas.Slice.Eq.ends_is}
 use Rattle.std.proofs.Common.{◌≡◌, ◌∙◌, ◌==◌, ◌<◌, ◌-◌, ℕ, true, false, List, [], ◌∷◌, ◌++◌, Option, Some, None, length, map, slice_get, inl, inr}
 use Rattle.std.proofs.Common.{refl, sym, ap, ap₂, subst, arith, append_assoc, append-nil, length-append}
+use Rattle.bolt_lemmas.proofs.Exports.{at_has, has_left, has_right}
 use Rattle.bolt_load.proofs.Words.{Bucket, Contains, contains_from_has, end, filter_map-append, Has, has_bucket, if◌then◌else◌, is_above_last, is_lt}
 use Rattle.bolt_load.proofs.Words.{IsListingText, IsLoadFault, IsMemberOfBytes, Item, Key, Less, line_fault, line_member, LineFault, lines_of}
 use Rattle.bolt_load.proofs.Words.{listing_below, listing_of, listing_text, Member, member_cmp, member_line, members_of_lines, option_map_or, Path}
@@ -12,7 +13,6 @@ use Rattle.bolt_load.proofs.WrittenLines.{line_back, line_is, line_shaped, membe
 use Rattle.bolt_text.proofs.Exports.{lines_cut, no_lines}
 use Rattle.bolt_load.specs.{LineFaults.is_whole, declared.load_fault.LineFault.TheVariants.CutOff, declared.load_fault.LoadFault.TheVariants.Line}
 use Rattle.bolt_tree.specs.Tree.{tree_of}
-use Rattle.bolt_check.proofs.Exports.{at_has, has_left, has_right}
 use Rattle.bolt_layout.specs.{Copies.IsOfOneTree, Storable.HasLengths}
 
 -- ---- the lines of a text

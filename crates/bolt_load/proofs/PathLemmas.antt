@@ -2,17 +2,16 @@
 use Rattle.std.proofs.lemmas.Grind.{common_steps}
 use Rattle.std.proofs.Common.{◌≡◌, ◌∙◌, ◌==◌, ◌<◌, ◌≤◌, ◌*◌, ℕ, Bool, true, false, List, [], ◌∷◌, ◌++◌, Option, Some, None, length, refl, sym, ap}
 use Rattle.std.proofs.Common.{arith, append_assoc, append-nil}
+use Rattle.std.proofs.lemmas.Bool.{le-ltb, lt-ltb}
+use Rattle.bolt_lemmas.proofs.Exports.{is_there, ok_is}
 use Rattle.bolt_load.proofs.Words.{AddsDecoded, hex_bytes_in, hex_path_in, if◌then◌else◌, is_long_key, is_some, IsCutAt, IsWithout, Key, list_any}
-use Rattle.bolt_load.proofs.Words.{nat_tests, option_and_then, option_map, part_in, parts_in, Path, path_bytes, result_ok, Text}
+use Rattle.bolt_load.proofs.Words.{option_and_then, option_map, part_in, parts_in, Path, path_bytes, Text}
 use Rattle.bolt_text.proofs.Exports.{parts_cut, parts_whole}
-use Rattle.std.specs.Prelude.{◌/◌, ◌||◌, Result, Ok, nat_lt}
+use Rattle.std.specs.Prelude.{◌/◌, ◌||◌, nat_lt}
 use Rattle.hex.specs.Hex.{decode_of}
 use Rattle.hex.proofs.HexLemmas.{decode_of-ok}
 
 -- ---- how many digits there are
-
-pub ok_is : {A E : Type 0} (r : Result A E) (a : A) → result_ok r ≡ Some a → r ≡ Ok a
-ok_is r a is = grind arith
 
 pub digits_are : (digits bytes : List ℕ) → hex_bytes_in digits ≡ Some bytes → length digits ≡ 2 * length bytes
 digits_are digits bytes is = (decode_of-ok digits bytes (ok_is (decode_of digits) bytes is)).2
@@ -74,12 +73,6 @@ pub record AddsParts (word rest : Text) (old new : List ℕ) : Type 0 where
 pub path_bytes_push : (front : Path) (key : Key) → path_bytes (front ++ key ∷ []) ≡ path_bytes front ++ key
 path_bytes_push [] key = append-nil key
 path_bytes_push (part ∷ front) key = ap (λ bytes. part ++ bytes) (path_bytes_push front key) ∙ sym (append_assoc part (path_bytes front) key)
-
-pub is_there : {A : Type 0} (found : Option A) → is_some found ≡ true → (a : A) × (found ≡ Some a)
-is_there found is = grind arith
-
-pub is_none : {A : Type 0} (found : Option A) → is_some found ≡ false → found ≡ None
-is_none found is = grind arith
 
 module _ (word rest : Text) (old bytes new : List ℕ) (so_far : AddsParts word rest old bytes) where
   more_added : (more : List ℕ) → new ≡ bytes ++ more → new ≡ old ++ (path_bytes so_far.front ++ more)
@@ -148,12 +141,6 @@ pub with_some : (found : Option Key) (rest : Option Path) (path : Path) → with
     → (key : Key) × (path' : Path) × (found ≡ Some key) × (rest ≡ Some path') × (path ≡ key ∷ path')
 with_some found rest path is = grind arith
 
-lt_true : (a b : ℕ) → a < b → nat_lt a b ≡ true
-lt_true a b below = grind (arith, nat_tests)
-
-lt_false : (a b : ℕ) → b ≤ a → nat_lt a b ≡ false
-lt_false a b above = grind (arith, nat_tests)
-
 module _ (rest part after : Text) (cut : IsCutAt 47 rest part after) (left : Path) (is : hex_path_in rest ≡ Some left) where
   cut_path : (key : Key) × (path : Path) × (part_in part ≡ Some key) × (hex_path_in after ≡ Some path) × (left ≡ key ∷ path)
   cut_path = with_some (part_in part) (hex_path_in after) left (sym (first_part rest part after cut) ∙ is)
@@ -165,13 +152,13 @@ module _ (word rest : Text) (so_far : HasShort word rest) where
   pub long_here : (part after : Text) → IsCutAt 47 rest part after → 0x40000000 < length part / 2 → (path : Path) → hex_path_in word ≡ Some path
       → true ≡ list_any is_long_key path
   long_here part after cut long path is =
-      let left = so_far path is in sym (left.2 ∙ any_of rest part after cut left.0 left.1 true (lt_true 0x40000000 (length part / 2) long))
+      let left = so_far path is in sym (left.2 ∙ any_of rest part after cut left.0 left.1 true (lt-ltb 0x40000000 (length part / 2) long))
 
   pub short_here : (part after : Text) → IsCutAt 47 rest part after → length part / 2 ≤ 0x40000000 → HasShort word after
   short_here part after cut short path is =
       let left = so_far path is in
       let found = cut_path rest part after cut left.0 left.1 in
-      (found.1, found.3, left.2 ∙ any_of rest part after cut left.0 left.1 false (lt_false 0x40000000 (length part / 2) short))
+      (found.1, found.3, left.2 ∙ any_of rest part after cut left.0 left.1 false (le-ltb 0x40000000 (length part / 2) short))
 
   pub long_end : IsWithout 47 rest → (path : Path) → hex_path_in word ≡ Some path → nat_lt 0x40000000 (length rest / 2) ≡ list_any is_long_key path
   long_end without path is = grind (arith, common_steps, with_some, part_in, last_part, long_part, list_any, is_long_key)

@@ -1,7 +1,8 @@
 -- What the lines of a text tell is what one tree lists: each member is put at the end of its bucket.
 use Rattle.std.proofs.Common.{rules, ◌≡◌, ◌∙◌, inl, inr, ◌<◌, ◌||◌, Bool, true, false, List, [], ◌∷◌, ◌++◌, Option, None, drop, length, refl, sym, ap}
 use Rattle.std.proofs.Common.{subst, arith, append_assoc, append-nil}
-use Rattle.bolt_load.proofs.Words.{and_parts, begins_of, begins_with, contains_from_has, end, Has, has_bucket, has_from_contains, has_split}
+use Rattle.bolt_lemmas.proofs.Exports.{rises_push}
+use Rattle.bolt_load.proofs.Words.{and_parts, begins_of, begins_with, end, Has, has_bucket, has_from_contains}
 use Rattle.bolt_load.proofs.Words.{is_bucket, is_lt, is_open, IsListingText, Item, Less, less_of, line_member, LineFault, lines_of, listing_of}
 use Rattle.bolt_load.proofs.Words.{Member, member_cmp, members_of_lines, nat_tests, option_and_then, option_or, Path, path_above, path_cmp}
 use Rattle.bolt_load.proofs.Words.{path_total, place_fault, RightAfter, Rises, shape_fault, Text, text_members, Tree}
@@ -12,21 +13,12 @@ use Rattle.bolt_load.proofs.{LastPaths.split_last, NextLines.members_first}
 use Rattle.bolt_load.proofs.PlacedLines.{fault_parts, line_path_some}
 use Rattle.std.specs.Prelude.{nat_lt}
 use Rattle.std.specs.declared.cmp.Ordering.{Ordering}
-use Rattle.bolt_tree.proofs.Exports.{contains_none}
 
 -- ---- lists that rise
 
-rises_push : {A : Type 0} (cmp : A → A → Ordering) (xs : List A) (x : A) → Rises cmp xs → ((y : A) → Has xs y → cmp y x ≡ Less)
+push_rises : {A : Type 0} (cmp : A → A → Ordering) (xs : List A) (x : A) → Rises cmp xs → ((y : A) → Has xs y → cmp y x ≡ Less)
     → Rises cmp (xs ++ x ∷ [])
-rises_push cmp [] x rises below = (λ y has. absurd (contains_none y has), tt)
-rises_push cmp (z ∷ xs) x rises below = (
-  λ y has. elim (has_split xs (x ∷ []) y (has_from_contains (xs ++ x ∷ []) y has)) [
-    | inl earlier ↦ rises.0 y (contains_from_has xs y earlier)
-    | inr (inl here) ↦ subst (λ w. cmp z w ≡ Less) here (below z (inl refl))
-    | inr (inr none) ↦ absurd none
-  ],
-  rises_push cmp xs x rises.1 (λ y has. below y (inr has)),
-)
+push_rises cmp xs x rises below = rises_push cmp xs x rises (λ y has. below y (has_from_contains xs y has))
 
 -- ---- the tree so far
 
@@ -80,7 +72,7 @@ module _ (before : List Member) (tree : Tree) (last : Path) (bucket : Bool) (so_
   ]
 
   pub next_grown : HasGrown (before ++ (path, item) ∷ []) next_tree path (is_bucket item)
-  next_grown = search (rules, now_lists, now_edge, next_last, path_above, rises_push, member_cmp, below)
+  next_grown = search (rules, now_lists, now_edge, next_last, path_above, push_rises, member_cmp, below)
 
 -- ---- all lines
 

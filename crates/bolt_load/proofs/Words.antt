@@ -1,4 +1,7 @@
 -- The words that the proofs of this crate cite, passed on from the modules that define them.
+pub use Rattle.bolt_lemmas.proofs.Exports.{contains_from_has, has_from_contains, has_split, less_of}
+pub use Rattle.bolt_lemmas.specs.Lists.{Has}
+pub use Rattle.bolt_lemmas.specs.Order.{Rises}
 pub use Rattle.bolt_check.specs.Keys.{Key}
 pub use Rattle.bolt_layout.specs.Storable.{IsFitItem}
 pub use Rattle.bolt_load.specs.LineFaults.{IsFaultOfLines, IsFirstFault, IsListingText, IsLoadFault, RightAfter, is_above_last, is_long_item}
@@ -20,12 +23,10 @@ unfoldable pub use Rattle.bolt_text.specs.Lines.{lines_of}
 pub use Rattle.bolt_text.specs.ListLines.{hex_path, listing_text}
 unfoldable pub use Rattle.bolt_text.specs.ListLines.{item_end, member_line, value_end}
 pub use Rattle.bolt_text.specs.Numbers.{number_in}
-pub use Rattle.bolt_check.proofs.Exports.{Has, contains_from_has, has_from_contains, has_split, less_of}
 pub use Rattle.bolt_tree.proofs.Exports.{begins_of, path_total}
 pub use Rattle.bolt_tree.specs.Entries.{Bucket, Item, Value}
 pub use Rattle.bolt_tree.specs.Listing.{Member, member_cmp}
 pub use Rattle.bolt_tree.specs.ListingParts.{begins_with, has_bucket, is_bucket}
-pub use Rattle.bolt_tree.specs.Order.{Rises}
 pub use Rattle.bolt_tree.specs.Paths.{Path, path_cmp, path_of}
 pub use Rattle.bolt_tree.specs.ShownEntries.{item_view}
 pub use Rattle.bolt_tree.specs.Tree.{Tree, end, listing_below, listing_of, with_bucket, with_value}

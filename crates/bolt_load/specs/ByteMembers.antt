@@ -1,7 +1,8 @@
 -- Listings whose keys and values are bytes, as those of files are.
 use Rattle.std.specs.Prelude.{Contains, List}
+use Rattle.bolt_lemmas.specs.Order.{Rises}
 use Rattle.bolt_text.specs.JsonReadings.{IsMemberOfBytes}
-use Rattle.bolt_tree.specs.{Listing.Member, Listing.member_cmp, Order.Rises}
+use Rattle.bolt_tree.specs.{Listing.Member, Listing.member_cmp}
 use Rattle.bolt_layout.specs.Copies.{IsOfOneTree}
 
 abbrev pub AreOfBytes : List Member → Type 0

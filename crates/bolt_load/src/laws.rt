@@ -1,7 +1,8 @@
 //! What the definitions imply.
 ghost use Rattle.std.specs.Prelude.{◌≡◌, ◌<◌, ℕ, [], List, length};
 ghost use Rattle.bolt_format.specs.{Bytes.IsBytes, declared.meta.Meta.Meta};
-ghost use Rattle.bolt_tree.specs.{Listing.IsListing, Listing.Member, Listing.member_cmp, Order.Rises};
+ghost use Rattle.bolt_lemmas.specs.Order.{Rises};
+ghost use Rattle.bolt_tree.specs.{Listing.IsListing, Listing.Member, Listing.member_cmp};
 ghost use Rattle.bolt_layout.specs.Copies.{IsOfOneTree};
 ghost use Rattle.bolt_text.specs.ListLines.{listing_text};
 ghost use Rattle.bolt_load.specs.LineFaults.{IsListingText, IsLoadFault};

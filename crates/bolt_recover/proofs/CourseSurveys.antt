@@ -1,11 +1,12 @@
 -- What a course visits is a survey, and what it returns are the elements at the kept ways.
-use Rattle.std.proofs.Common.{◌≡◌, ◌∙◌, ◌⊎◌, ◌↔◌, ◌<◌, inl, inr, ℕ, Bool, true, ◌||◌, List, [], ◌∷◌, ◌++◌, Option, Some, None, refl, sym, ap, subst}
+use Rattle.std.proofs.Common.{◌≡◌, ◌∙◌, ◌⊎◌, ◌↔◌, ◌<◌, inl, inr, ℕ, Bool, true, List, [], ◌∷◌, ◌++◌, Option, Some, None, refl, sym, ap, subst}
 use Rattle.std.proofs.Common.{subst₂, arith, append_assoc, cond}
+use Rattle.bolt_lemmas.proofs.Exports.{either_or, flat_has, has_flat, rises_across}
 use Rattle.bolt_recover.proofs.Words.{after_event, after_events, all_events, append-nil, claimed_after, claims_of, Contains, contains_at}
 use Rattle.bolt_recover.proofs.Words.{contains_from_has, counted, Each, Event, false≢true, Finding, further, gaps_of, Given, Gives, Has}
 use Rattle.bolt_recover.proofs.Words.{has_from_contains, has_left, has_right, has_split, is_at_page, IsClaimedIn, IsKeptPage, IsMetaPage, IsOpen}
 use Rattle.bolt_recover.proofs.Words.{IsRecoveredMember, IsSurvey, Item, item_of, kept_gap, way_kept, LeafElement, loss_at, losses_of, members_at}
-use Rattle.bolt_recover.proofs.Words.{members_of, Meta, meta_pages, nat_tests, node_at, Nodes, or_cases, or_left, or_right, Outcome, outcome_of}
+use Rattle.bolt_recover.proofs.Words.{members_of, Meta, meta_pages, nat_tests, node_at, Nodes, Outcome, outcome_of}
 use Rattle.bolt_recover.proofs.Words.{page_ways, Path, Reach, reached, root_site, root_tasks, same_Some, Site, site_at, site_size, span_of, SpanAt}
 use Rattle.bolt_recover.proofs.Words.{SpanHas, Spot, step_site, sum_by-cons, SurveyedWay, Task, tasks_after, To_give, To_visit, Visited, visit_at}
 use Rattle.bolt_recover.proofs.Words.{visits_of, Way, RisesBy, Before}
@@ -15,15 +16,10 @@ use Rattle.bolt_recover.proofs.SiteFacts.{leads_within, site_further, site_is, s
 use Rattle.bolt_recover.proofs.{SurveyIsOne.Earlier, SurveyIsOne.gives_same, SurveyIsOne.in_front, SurveyIsOne.rise, SurveyIsOne.ways}
 use Rattle.bolt_recover.proofs.{MembersInBuckets.well_at}
 use Rattle.bolt_recover.proofs.TaskLists.{IsAt, after_at, at_from}
-use Rattle.bolt_check.proofs.Exports.{flat_has, has_flat, rises_across}
 
 -- the claims of a spot are its span
 pub claims_in : (nodes : Nodes) (s : Spot) (n : ℕ) → (claims_of nodes s n ≡ true) ↔ SpanAt nodes s n
 claims_in nodes s n = grind (arith, false≢true)
-
--- either of two facts that are told
-pub either_or : (a b : Bool) (A B C : Type 0) → (a ≡ true) ↔ A → (b ≡ true) ↔ B → (A → C) → (B → C) → (C → A ⊎ B) → ((a || b) ≡ true) ↔ C
-either_or a b A B C of_a of_b from_a from_b to = grind (arith, or_cases, or_left, or_right)
 
 module _ (file : List ℕ) (meta : Meta) where
   abbrev pub nodes : Nodes

@@ -7,7 +7,7 @@ use Rattle.bolt_recover.proofs.Words.{get_before, Gives, gives_at, head_sequence
 use Rattle.bolt_recover.proofs.Words.{LeafElement, listing_below, listing_of, lower_of, lt_not_trans, lt_trans, Member, member_cmp, members_of, Meta}
 use Rattle.bolt_recover.proofs.Words.{meta_pages, node_at, none-some, not-true, Path, Rises, root_tasks, same_Some, Site, Spot, step_site, Task}
 use Rattle.bolt_recover.proofs.Words.{tasks_after, tasks_from, To_give, To_visit, Tree, upper_of, Value, visits_at, Way, with_bucket, with_value}
-use Rattle.bolt_recover.proofs.Words.{further, Among}
+use Rattle.bolt_recover.proofs.Words.{further, Has}
 use Rattle.bolt_recover.proofs.{Courses.Course, Courses.course, Courses.Course.done, Courses.Course.give, Courses.Course.visit, SiteKeys.IsChild}
 use Rattle.bolt_recover.proofs.{SiteKeys.Keyed, SiteKeys.keyed, CourseSurveys.placed}
 use Rattle.bolt_recover.proofs.{MembersInBuckets.well_at, SiteSteps.IsTidy, TreeOrder.HasKey, TreeOrder.IsFirst, TreeOrder.Ordered}
@@ -184,7 +184,7 @@ module _ (file : List ℕ) (meta : Meta) where
   visit_tree w p (Some x) before tasks members tidy gives pieces = grind arith
 
   pieces_course : (claimed : ℕ → Bool) (tasks : List Task) (events : List Event) → Course file meta claimed tasks events
-      → ((w : Way) (p : Site) (found : Option Finding) → Among events (Visited w p found) → IsTidy file meta p) → Pieces tasks (members_of events)
+      → ((w : Way) (p : Site) (found : Option Finding) → Has events (Visited w p found) → IsTidy file meta p) → Pieces tasks (members_of events)
   pieces_course claimed tasks events done tidy = refl
   pieces_course claimed tasks events (give {tasks = more} {events = rest} course) tidy =
       (members_of rest, refl, pieces_course claimed more rest course (λ v q f h. tidy v q f (inr h)))

@@ -1,12 +1,12 @@
 -- The course of tasks: they come to one list of events, that of the function.
 use Rattle.std.proofs.Common.{◌≡◌, inl, inr, ℕ, zero, suc, ◌<◌, ◌≤◌, Bool, true, false, List, [], ◌∷◌, ◌++◌, length, Option, Some, None, Ok, refl}
 use Rattle.std.proofs.Common.{sym, ap, subst, arith}
+use Rattle.bolt_lemmas.proofs.Exports.{has_number, length-numbers, numbers, shorter, still, without}
 use Rattle.bolt_recover.proofs.Words.{InlinePage, At_inline, At_page, claimed_after, Event, events, false_from_ne_true, false≢true, Finding, Given}
 use Rattle.bolt_recover.proofs.Words.{give_all, Gives, LeafElement, Meta, Node, node_at, node_below, Nodes, or_parts, PageSpot, Path, run_all, run_on}
-use Rattle.bolt_recover.proofs.Words.{run_to, Site, site_tasks, Spot, Task, tasks_after, To_give, To_visit, Visited, Way, Among}
+use Rattle.bolt_recover.proofs.Words.{run_to, Site, site_tasks, Spot, Task, tasks_after, To_give, To_visit, Visited, Way, Has}
 use Rattle.bolt_recover.proofs.{SiteFacts.step_spot, SurveyIsOne.gives_one, TaskLists.after_at, Tested.test_finds}
 use Rattle.std.proofs.Math.Bool.{or-false}
-use Rattle.bolt_check.proofs.Exports.{has_number, numbers, shorter, still, without, length-numbers}
 
 module _ (file : List ℕ) (meta : Meta) where
   -- from these claims these tasks come to these events
@@ -26,15 +26,15 @@ module _ (file : List ℕ) (meta : Meta) where
 
   -- each page below the mark that isn't claimed is among these
   abbrev Covers : (ℕ → Bool) → List ℕ → Type 0
-  Covers claimed left = (n : ℕ) → n < meta.high_water → claimed n ≡ false → Among left n
+  Covers claimed left = (n : ℕ) → n < meta.high_water → claimed n ≡ false → Has left n
 
-  covers_less : (claimed : ℕ → Bool) (left : List ℕ) (s : PageSpot) (node : Node) (has : Among left s.number) → nodes s.number ≡ Ok node
+  covers_less : (claimed : ℕ → Bool) (left : List ℕ) (s : PageSpot) (node : Node) (has : Has left s.number) → nodes s.number ≡ Ok node
       → Covers claimed left
       → Covers (claimed_after nodes claimed (At_page s) None) (without s.number left has)
   covers_less claimed left s node has page covers n below free = grind (arith, or_parts, false≢true, still)
 
   -- the elements at an inline page
-  course_gives : (claimed : ℕ → Bool) (first tasks : List Task) (later : List Event) → ((way : Way) (p : Site) → Among first (To_visit way p) → ⊥)
+  course_gives : (claimed : ℕ → Bool) (first tasks : List Task) (later : List Event) → ((way : Way) (p : Site) → Has first (To_visit way p) → ⊥)
       → Course claimed tasks later
       → Course claimed (first ++ tasks) (give_all first later)
   course_gives claimed [] tasks later only course = course
@@ -42,7 +42,7 @@ module _ (file : List ℕ) (meta : Meta) where
   course_gives claimed (To_give path e ∷ first) tasks later only course = give (course_gives claimed first tasks later (λ way p h. only way p (inr h)) course)
 
   inline_gives : (way v : Way) (p t : Site) (host : ℕ) (inner : InlinePage) → p.spot ≡ At_inline host inner
-      → Among (site_tasks file meta way p) (To_visit v t) → ⊥
+      → Has (site_tasks file meta way p) (To_visit v t) → ⊥
   inline_gives way v p t host inner is h = let (none, i, at) = after_at file meta way p None (To_visit v t) h in grind (arith, step_spot)
 
   -- where fewer pages are left, tasks come to what is run

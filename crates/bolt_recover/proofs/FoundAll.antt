@@ -1,6 +1,7 @@
 -- The found pages of a whole file.
 use Rattle.std.proofs.Common.{◌≡◌, ◌∙◌, ◌↔◌, ◌⊎◌, ◌||◌, inl, inr, ℕ, suc, Bool, true, false, arith, List, [], ◌∷◌, Option, Some, None, refl, sym, ap}
 use Rattle.std.proofs.Common.{subst}
+use Rattle.bolt_lemmas.proofs.Exports.{either_or}
 use Rattle.bolt_recover.proofs.Words.{all_events, AreFound, AreFoundAnyway, AreGaps, AreKeptPages, AreLosses, At_page, claims_of, Contains}
 use Rattle.bolt_recover.proofs.Words.{contains_cases, contains_head, contains_none, contains_tail, Event, false≢true, Finding, first_claimed}
 use Rattle.bolt_recover.proofs.Words.{FoundBelow, Has, HasSoundTrees, IsFoundPage, IsKeptPage, IsListedFree, IsLoneLeaf, IsMetaPage, IsRecovered}
@@ -9,7 +10,7 @@ use Rattle.bolt_recover.proofs.Words.{node_below, PageGapView, root_site, root_s
 use Rattle.bolt_recover.proofs.{Existing.has_survey, Existing.one_recovered, Existing.recovers, FoundLemmas.found_one, FoundLemmas.found_same}
 use Rattle.bolt_recover.proofs.{FoundLemmas.passed, LostWays.nothing_lost}
 use Rattle.bolt_recover.proofs.{Tested.IsFirst, Tested.first_is, KeptWays.sound, Recovering.one_gaps, Recovering.whole, Recovering.whole_claimed}
-use Rattle.bolt_recover.proofs.{CourseSurveys.claims_in, CourseSurveys.either_or, CourseSurveys.surveyed}
+use Rattle.bolt_recover.proofs.{CourseSurveys.claims_in, CourseSurveys.surveyed}
 use Rattle.bolt_recover.proofs.{Courses.events_none, Courses.events_visit, SurveyIsOne.gives_same, SurveyIsOne.same_survey}
 
 -- a way of a survey is lost, or none is

@@ -1,7 +1,8 @@
 -- Each file has found pages: whether a page is found can be told.
 use Rattle.std.proofs.Common.{◌≡◌, ◌∙◌, ◌≢◌, ◌⊎◌, Bool, true, inl, inr, ℕ, zero, suc, List, [], ◌∷◌, ◌++◌, Option, Some, None, Ok, refl, sym, subst}
-use Rattle.std.proofs.Common.{arith, ◌↔◌}
-use Rattle.bolt_recover.proofs.Words.{AreFound, At_page, cases_Bool, cases_lt, false≢true, Entry, Finding, FoundBelow, Gives, IsFoundNext}
+use Rattle.std.proofs.Common.{arith}
+use Rattle.bolt_lemmas.proofs.Exports.{decided_by}
+use Rattle.bolt_recover.proofs.Words.{AreFound, At_page, cases_lt, Entry, Finding, FoundBelow, Gives, IsFoundNext}
 use Rattle.bolt_recover.proofs.Words.{IsFoundPage, IsKeptPage, IsListedFree, IsLoneLeaf, IsSurvey, Meta, Node, node_at, Nodes, passes_silent}
 use Rattle.bolt_recover.proofs.Words.{root_spot, SurveyedWay, test}
 use Rattle.bolt_recover.proofs.{Existing.has_survey, FoundAll.are_none, FoundAll.are_some, FoundAll.either_is, FoundAll.in_either}
@@ -11,9 +12,6 @@ use Rattle.bolt_format.specs.Freelists.{free_ids_of, freelist_fault_of}
 use Rattle.bolt_check.specs.Accounts.{times_in}
 use Rattle.std.proofs.Math.Decide.{map_dec}
 use mathlib.Core.Logic.Dec as decide
-
-decided_by : {P : Type 0} (b : Bool) → (b ≡ true) ↔ P → Dec P
-decided_by b is = elim (cases_Bool b) [ inl passes ↦ yes (is.0 passes) | inr none ↦ no (λ p. false≢true (sym none ∙ is.1 p)) ]
 
 empty_or_not : (entries : List Entry) → Dec (entries ≢ [])
 empty_or_not [] = no (λ some. some refl)

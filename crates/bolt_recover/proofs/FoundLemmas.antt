@@ -2,7 +2,7 @@
 use Rattle.std.proofs.Common.{◌≡◌, ◌∙◌, ◌≤◌, ◌<◌, ◌⊎◌, ◌↔◌, inl, inr, ℕ, zero, suc, ◌+◌, Bool, true, false, List, [], ◌∷◌, ◌++◌, Some, Ok, refl, sym}
 use Rattle.std.proofs.Common.{subst, arith}
 use Rattle.bolt_recover.proofs.Words.{At_page, cases_lt, cases_order, Contains, Contains-append_left, Contains-append_right, Contains-push_cases}
-use Rattle.bolt_recover.proofs.Words.{contains_head, contains_none, false_from_ne_true, false≢true, Found, FoundBelow, IsFoundNext, IsFoundPage}
+use Rattle.bolt_recover.proofs.Words.{contains_head, contains_none, false_from_ne_true, false≢true, FoundPage, FoundBelow, IsFoundNext, IsFoundPage}
 use Rattle.bolt_recover.proofs.Words.{IsFoundView, IsListedFree, IsLoneLeaf, Meta, node_at, Nodes, page_at, root_spot, shown_node, SpanAt}
 use Rattle.bolt_format.specs.{TreePages.leaves_on, TreePages.shown_page, declared.tree_page.LeafPage.LeafPage}
 use Rattle.bolt_format.specs.{declared.tree_page.TreePage.TheVariants.Leaf}
@@ -17,7 +17,7 @@ module _ (file : List ℕ) (meta : Meta) where
   nodes = node_at file meta
 
   -- a page of the code that is an intact leaf
-  pub view_of : (before : ℕ → Type 0) (f : Found) → page_at file meta f.number ≡ Some (shown_page (Leaf f.page))
+  pub view_of : (before : ℕ → Type 0) (f : FoundPage) → page_at file meta f.number ≡ Some (shown_page (Leaf f.page))
       → node_at file meta f.number ≡ Ok (shown_node (Leaf f.page))
       → IsLoneLeaf nodes before f.number → IsFoundView file meta f
   view_of before f page node lone = grind (arith, no_entries)

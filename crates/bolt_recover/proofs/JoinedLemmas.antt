@@ -1,15 +1,16 @@
 -- The joined listing is the recovered one with the bucket of what is found put in.
 use Rattle.std.proofs.Common.{◌≡◌, ◌∙◌, ◌⊎◌, inl, inr, ℕ, Bool, true, false, not, List, [], ◌∷◌, ◌++◌, filter, map, refl, sym, ap, subst, ◌≢◌, arith}
+use Rattle.bolt_lemmas.proofs.Exports.{flip_less}
 use Rattle.bolt_format.specs.TreePages.{leaves_on}
 use Rattle.bolt_recover.proofs.Words.{append-nil, AreFound, Bucket, cases_Bool, Contains, Contains-append_cases, contains_cases, contains_head}
 use Rattle.bolt_recover.proofs.Words.{contains_tail, end, filter-append, filter_all, filter_none, first_cmp, found_tree, Greater, is_found_path}
 use Rattle.bolt_recover.proofs.Words.{is_lt, IsJoined, IsRecovered, joined_listing, key_lt, key_total, LacksBucketKey, LeafElement, leaves_of, Less}
 use Rattle.bolt_recover.proofs.Words.{less_of, listing_below, listing_of, lost_and_found, Member, member_cmp, member_total, Meta, page_at, Path}
 use Rattle.bolt_recover.proofs.Words.{path_cmp, put_bucket, Rises, Tree, tree_of, with_bucket, with_value, All, All-head, All-tail, AreJoinable}
-use Rattle.bolt_recover.proofs.Words.{Found, found_listing, IsFoundView, found_numbers, found_pages_of, recovered_of}
+use Rattle.bolt_recover.proofs.Words.{FoundPage, found_listing, IsFoundView, found_numbers, found_pages_of, recovered_of}
 use Rattle.bolt_recover.proofs.{Existing.has_recovered, Existing.one_recovered, Existing.recovers, FoundAll.one_found, FoundExists.has_found}
 use Rattle.bolt_recover.proofs.{CourseTrees.all_tree, TreeOrder.Ordered, TreeOrder.ordered_rises, TreeOrder.rises_both, TreeOrder.under}
-use Rattle.bolt_tree.proofs.Exports.{merge_none, flip_less, path_total, tree_back}
+use Rattle.bolt_tree.proofs.Exports.{merge_none, path_total, tree_back}
 use Rattle.bolt_tree.specs.Merges.{merge, merge_first}
 use Rattle.std.specs.Prelude.{if◌then◌else◌}
 
@@ -172,7 +173,7 @@ module _ (file : List ℕ) (meta : Meta) where
   joined_tree recovered [] of = of
   joined_tree recovered (page ∷ found) of = (put_bucket lost_and_found (found_tree (page ∷ found)) (tree_of recovered), refl)
 
-  pages_same : (found : List Found) → All (IsFoundView file meta) found → with_elements (found_numbers found) ≡ found_pages_of found
+  pages_same : (found : List FoundPage) → All (IsFoundView file meta) found → with_elements (found_numbers found) ≡ found_pages_of found
   pages_same [] views = refl
   pages_same (f ∷ found) views =
       let view = All-head (IsFoundView file meta) f found views in
@@ -181,13 +182,13 @@ module _ (file : List ℕ) (meta : Meta) where
       ∙ ap (λ (pages : List (ℕ × List LeafElement)). (f.number, leaves_on f.page) ∷ pages) (pages_same found (All-tail (IsFoundView file meta) f found views))
 
   -- the joined listing, if these are the found pages
-  joined_is : (found : List Found) (listing : List Member) → AreJoinable file meta found → IsJoined file meta listing
+  joined_is : (found : List FoundPage) (listing : List Member) → AreJoinable file meta found → IsJoined file meta listing
       → listing ≡ joined_listing (recovered_of file meta) (found_pages_of found)
   joined_is found listing are is =
       joined_of listing (recovered_of file meta) (found_numbers found) is (recovers file meta) are.are_found
       ∙ ap (joined_listing (recovered_of file meta)) (pages_same found are.views)
 
-  pub merged_joined : (found : List Found) (listing : List Member) → AreJoinable file meta found → IsJoined file meta listing
+  pub merged_joined : (found : List FoundPage) (listing : List Member) → AreJoinable file meta found → IsJoined file meta listing
       → merge (recovered_of file meta) (found_listing found) ≡ listing
   merged_joined [] listing are is = merge_none (recovered_of file meta) ∙ sym (joined_is [] listing are is)
   merged_joined (f ∷ found) listing are is =

@@ -38,4 +38,5 @@ mod SurveyIsOne
 mod TaskLists
 mod Tested
 mod TreeOrder
+mod WholeFiles
 mod Words

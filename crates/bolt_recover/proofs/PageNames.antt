@@ -1,10 +1,8 @@
 -- The names of found pages rise with their numbers.
 use Rattle.std.proofs.Common.{◌≡◌, ◌∙◌, ℕ, zero, suc, ◌<◌, ◌+◌, ◌/◌, ◌%◌, ◌^◌, [], ◌∷◌, ◌++◌, length, refl, sym, arith}
-use Rattle.bolt_recover.proofs.Words.{cases_lt, Key, key_cmp, last_digits, length-append, Less, nat_cmp, nat_cmp_is, nat_cmp_total, Ordering}
-use Rattle.bolt_recover.proofs.Words.{ordering_then, tied_itself}
-
-then_less : (o r : Ordering) (after : Ordering) → ordering_then o r ≡ Less → (r ≡ Less → after ≡ Less) → ordering_then o after ≡ Less
-then_less o r after less further = grind arith
+use Rattle.bolt_lemmas.proofs.Exports.{then_less}
+use Rattle.bolt_recover.proofs.Words.{cases_lt, Key, key_cmp, last_digits, length-append, Less, nat_cmp, nat_cmp_is, nat_cmp_total}
+use Rattle.bolt_recover.proofs.Words.{tied_itself}
 
 -- texts of the same length, and more after them
 less_more : (xs ys a b : Key) → length xs ≡ length ys → key_cmp xs ys ≡ Less → key_cmp (xs ++ a) (ys ++ b) ≡ Less

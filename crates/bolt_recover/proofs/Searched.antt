@@ -1,7 +1,7 @@
 -- What is known of a file that was searched.
 use Rattle.std.proofs.Common.{◌≡◌, ◌≢◌, ◌∙◌, ◌<◌, ◌*◌, ◌^◌, true, false, List, [], ◌∷◌, ap, length, map, subst, sym, arith}
 use Rattle.bolt_recover.proofs.Words.{all_lost, AreJoinable, AreTreesOf, bytes_of, Checked, Contains, contains_cases, contains_head, contains_none}
-use Rattle.bolt_recover.proofs.Words.{contains_tail, Damaged, everything, Finding, ForRecovered, Found, ForGaps, HasBucketKey, holds_key, IsSearched}
+use Rattle.bolt_recover.proofs.Words.{contains_tail, Damaged, everything, Finding, ForRecovered, FoundPage, ForGaps, HasBucketKey, holds_key, IsSearched}
 use Rattle.bolt_recover.proofs.Words.{LacksBucketKey, LosesRoot, LossView, lost_of, Member, meta_of, or_cases, or_parts, page_gap_view, parts, props}
 use Rattle.bolt_recover.proofs.Words.{Rootless, Sound, ∥∥₁_elim, ∥∥₁_map}
 use Rattle.bolt_recover.proofs.{Existing.has_survey, FoundAll.loses_root, FoundAll.nothing_kept, FoundAll.nothing_recovered, KeptWays.none_lost}
@@ -40,7 +40,7 @@ module _ (both : LostAndFound) where
   not_everything losses is x all = grind (arith, parts_some)
 
   -- what is found can be joined, if there are few enough pages and room for the bucket
-  pub joinable : (found : List Found) → found ≡ both.found.items → length both.file.now < 10 ^ 16 * both.meta.page_size
+  pub joinable : (found : List FoundPage) → found ≡ both.found.items → length both.file.now < 10 ^ 16 * both.meta.page_size
       → (both.found.items ≢ [] → ForRecovered both.file.now both.meta LacksBucketKey)
       → ∥ AreJoinable both.file.now both.meta found ∥₁
   joinable found same few apart = ∥∥₁_map both.searched (λ searched. subst (AreJoinable both.file.now both.meta) (sym same) (record {

@@ -2,7 +2,7 @@
 use Rattle.std.proofs.Common.{◌≡◌, ◌∙◌, ◌≤◌, ◌<◌, ℕ, zero, suc, ◌+◌, ◌-◌, Bool, false, List, [], ◌∷◌, ◌++◌, Option, Some, None, slice_get, take, refl}
 use Rattle.std.proofs.Common.{sym, ap, arith, append_assoc, Vec, Global}
 use Rattle.bolt_recover.proofs.Words.{after_events, claims_file, claims_meta, content_elements, content_site, Event, events, further, gives_at}
-use Rattle.bolt_recover.proofs.Words.{is_claimed, AreStepsPlaced, item_of, LeafElement, Member, members_of, Meta, Nodes, open_tasks, OpenPage}
+use Rattle.bolt_recover.proofs.Words.{is_claimed, AreStepsPlaced, item_of, LeafElement, Member, members_of, Meta, open_tasks, OpenPage}
 use Rattle.bolt_recover.proofs.Words.{option_map, Outcome, page_spot, Path, shown_node, Site, slice_get-map, step_on, step_site, steps_left}
 use Rattle.bolt_recover.proofs.Words.{steps_path, Task, tasks_from, TreePage, visits_at, Way, way_of}
 use Rattle.bolt_format.specs.TreePages.{shown_page}

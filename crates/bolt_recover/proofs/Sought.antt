@@ -1,7 +1,7 @@
 -- The pages that a search finds, in any case or only if something is lost.
-use Rattle.std.proofs.Common.{◌≡◌, ◌∙◌, inl, inr, ℕ, Bool, true, false, List, [], ◌∷◌, refl, subst, sym}
-use Rattle.bolt_recover.proofs.Words.{AreFound, AreFoundAnyway, AreLosses, AreSought, everything, FoundBelow, IsKeptPage, IsSurvey, LosesNothing}
-use Rattle.bolt_recover.proofs.Words.{LossView, losses_of, Meta, parts, SurveyedWay}
+use Rattle.std.proofs.Common.{◌≡◌, ◌∙◌, inl, inr, ℕ, Bool, true, false, List, [], ◌∷◌, refl, subst}
+use Rattle.bolt_recover.proofs.Words.{AreFound, AreFoundAnyway, AreSought, everything, FoundBelow, IsKeptPage, IsSurvey, LosesNothing}
+use Rattle.bolt_recover.proofs.Words.{losses_of, Meta, parts, SurveyedWay}
 use Rattle.bolt_recover.proofs.{Existing.has_survey, FoundAll.loses_root, FoundAll.lost_or_none, FoundAll.one_found, FoundExists.below_exists}
 use Rattle.bolt_recover.proofs.{FoundExists.has_found, FoundLemmas.found_one, LostWays.no_losses, SurveyIsOne.same_survey}
 use Rattle.bolt_recover.specs.{Losses.LostView, Losses.is_nothing, Lost.IsAllLost}

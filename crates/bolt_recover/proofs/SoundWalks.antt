@@ -1,6 +1,6 @@
 -- The walk over sound trees returns what is recovered of them, and nothing of them is lost.
 use Rattle.std.proofs.Common.{◌≡◌, ℕ, List, [], inl, refl, sym, Option, Some, None, arith}
-use Rattle.bolt_recover.proofs.Words.{GivesNext, item_view, option_map, Path, All-nil, AreLosses, At_page, bytes_of, Checked, Found, HasSoundTrees}
+use Rattle.bolt_recover.proofs.Words.{GivesNext, item_view, option_map, Path, All-nil, AreLosses, At_page, bytes_of, Checked, FoundPage, HasSoundTrees}
 use Rattle.bolt_recover.proofs.Words.{IsClaimedBefore, IsFoundView, IsMetaPage, IsRecovered, IsSearched, KeepsRoot, LossView, Member, Meta, meta_of}
 use Rattle.bolt_recover.proofs.Words.{node_at, passes_fewer, reached, root_spot, shape_passes, Sound, ∥∥₁_elim, ∥∥₁_map, props}
 use Rattle.bolt_recover.proofs.{FoundAll.are_none, Existing.has_survey, LostWays.no_losses, SoundListing.sound_listing, KeptWays.none_lost}
@@ -18,7 +18,7 @@ keeps_root file meta trees =
     ((shape_passes nodes meta.root trees).passes [] root refl)
 
 -- a search of sound trees loses nothing and finds nothing
-pub sound_searched : (file : List ℕ) (meta : Meta) (checked : Checked) (found : List Found) → bytes_of checked ≡ file → meta_of checked ≡ meta
+pub sound_searched : (file : List ℕ) (meta : Meta) (checked : Checked) (found : List FoundPage) → bytes_of checked ≡ file → meta_of checked ≡ meta
     → found ≡ [] → HasSoundTrees file meta
     → IsSearched file meta (Sound checked) found
 sound_searched file meta checked found same_file same_meta none trees =

@@ -2,8 +2,10 @@
 use Rattle.std.proofs.Common.{◌≡◌, ◌∙◌, ◌⊎◌, ◌≤◌, ℕ, inl, inr, Bool, true, false, List, [], ◌∷◌, ◌++◌, refl, sym, ap, subst, arith, cond}
 use Rattle.std.proofs.lemmas.List.Sorted.{Contains-permutation, IsPermutation-sym, sum_by-IsPermutation}
 use Rattle.std.specs.List.{Sorted.IsPermutation, count_by}
+use Rattle.std.proofs.lemmas.Bool.{false_from_ne_true}
+use Rattle.bolt_lemmas.proofs.Exports.{none_counted}
 use Rattle.bolt_recover.proofs.Words.{Contains, Contains-append_cases, Contains-append_left, Contains-append_right, contains_cases, contains_head}
-use Rattle.bolt_recover.proofs.Words.{contains_none, contains_tail, sum_by-append, sum_by-cons}
+use Rattle.bolt_recover.proofs.Words.{contains_none, sum_by-append}
 use Rattle.bolt_recover.specs.States.{AreExactly, PlaceView, is_place}
 
 pub place_is : (a b : PlaceView) → is_place a b ≡ true → a ≡ b
@@ -11,17 +13,6 @@ place_is a b e = grind arith
 
 pub place_self : (a : PlaceView) → is_place a a ≡ true
 place_self a = grind arith
-
-none_counted : {X : Type 0} (f : X → Bool) (xs : List X) → ((y : X) → Contains xs y → f y ≡ false) → count_by f xs ≡ 0
-none_counted f [] out = refl
-none_counted f (x ∷ xs) out =
-    let later = none_counted f xs (λ y has. out y (contains_tail x y xs has)) in
-    let sum = sum_by-cons (λ y. cond (f y) 1 0) x xs in
-    let here : cond {A = ℕ} (f x) 1 0 ≡ 0 = ap (λ b. cond b 1 0) (out x (contains_head x xs)) in
-    omega (arith, later, sum, here)
-
-not_true : (b : Bool) → (b ≡ true → ⊥) → b ≡ false
-not_true b out = grind arith
 
 module _ {X : Type 0} (at : X → PlaceView) where
   pub grow : (Is More : X → Type 0) (xs : List X) (x : X) → AreExactly at Is xs → ((y : X) → Contains xs y → at y ≡ at x → ⊥)
@@ -51,7 +42,7 @@ module _ {X : Type 0} (at : X → PlaceView) where
           let here : cond {A = ℕ} (is_place place (at x)) 1 0 ≡ 1 = ap (λ b. cond b 1 0) is in
           let none =
           none_counted (λ y. is_place place (at y)) xs
-          (λ y has. not_true _ (λ there. apart y has (sym (place_is place (at y) there) ∙ place_is place (at x) is))) in
+          (λ y has. false_from_ne_true _ (λ there. apart y has (sym (place_is place (at y) there) ∙ place_is place (at x) is))) in
           omega (arith, sum, here, none)
 
   pub stay : (Is More : X → Type 0) (xs : List X) → AreExactly at Is xs → ((y : X) → More y → Is y) → ((y : X) → Is y → More y)

@@ -1,18 +1,12 @@
 -- The order of states tells any two apart.
-use Rattle.std.proofs.Common.{◌∙◌, Bool, ap, sym, is_lt}
+use Rattle.std.proofs.Common.{Bool, is_lt}
 use Rattle.std.proofs.lemmas.{Cmp.nat_cmp_total, Cmp.on_total, Cmp.then_total, List.MinMax.ranks_by}
-use Rattle.std.specs.{Cmp.IsStrictWeakOrder, Cmp.IsTotalOrder, Ordering.ordering_reverse, declared.cmp.Ordering.Ordering}
+use Rattle.std.specs.{Cmp.IsStrictWeakOrder, Cmp.IsTotalOrder}
+use Rattle.std.proofs.lemmas.Cmp.{back_total}
 use Rattle.bolt_recover.specs.ShownStates.{place_view, state_view}
 use Rattle.bolt_recover.specs.States.{PlaceView, StateView, entries_in_figures, place_cmp, state_cmp}
 use Rattle.bolt_recover.specs.declared.state.State.{State}
 use Rattle.bolt_recover.specs.declared.state.Place as code
-
-flip_total : {K : Type 0} {R : K → K → Ordering} → IsTotalOrder R → IsTotalOrder (λ x y. R y x)
-flip_total total = record {
-  antisymm = λ x y. total.antisymm y x;
-  trans = λ x y z a b. total.trans z y x b a;
-  congr = λ x y z e. total.antisymm z x ∙ ap ordering_reverse (total.congr x y z (total.antisymm x y ∙ ap ordering_reverse e)) ∙ sym (total.antisymm z y);
-}
 
 place_total : IsTotalOrder place_cmp
 place_total = then_total (on_total (λ (p : PlaceView). p.page_size) nat_cmp_total) (on_total (λ (p : PlaceView). p.root) nat_cmp_total)
@@ -20,7 +14,7 @@ place_total = then_total (on_total (λ (p : PlaceView). p.page_size) nat_cmp_tot
 state_total : IsTotalOrder state_cmp
 state_total =
     then_total (on_total (λ (s : StateView). s.losses) nat_cmp_total)
-    (then_total (flip_total (on_total (λ (s : StateView). entries_in_figures s.figures) nat_cmp_total)) (on_total (λ (s : StateView). s.place) place_total))
+    (then_total (back_total (on_total (λ (s : StateView). entries_in_figures s.figures) nat_cmp_total)) (on_total (λ (s : StateView). s.place) place_total))
 
 -- as the code has them
 abbrev pub code_state_lt : State → State → Bool

@@ -202,7 +202,11 @@ module _ (s : Steps) (front : List OpenPage) (top : OpenPage) (has : AreStepsPla
       -- an element of a branch
       pub took_branch : slice_get (content_elements top.content) top.next ≡ None → path.items ≡ s.path.items
           → StepsOn s on × (steps_weight on < steps_weight s)
-      took_branch none same = grind (arith, in_front, tasks_top, same_open, inner, open_last, map-append, are_open_push, weight_of, sum_by-append)
+      took_branch none same =
+          let left : tasks_left file_of meta_of (steps_path on) on.ahead on.open.items ≡ tasks_left file_of meta_of (steps_path s) s.ahead s.open.items =
+          grind (arith, in_front, tasks_top, same_open, inner, open_last, map-append) in
+          let weight_on = ap (sum_by page_weight) put ∙ sum_by-append page_weight front (moved ∷ []) in
+          grind (arith, in_front, left, same, inner, are_open_push, weight_of, weight_on)
 
       -- an element of a leaf
       pub took_leaf : (e : LeafElement) → slice_get (content_elements top.content) top.next ≡ Some e

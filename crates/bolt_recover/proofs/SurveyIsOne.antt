@@ -1,9 +1,10 @@
 -- There is at most one survey: if all that stands before a way is the same in two of them, so is what is open, claimed and found there.
 use Rattle.std.proofs.Common.{◌≡◌, ℕ, inl, inr, List, [], ◌∷◌, ◌++◌, map, Option, refl, subst, arith}
+use Rattle.bolt_lemmas.proofs.Exports.{has_map, one_list, rises_right}
 use Rattle.bolt_recover.proofs.Words.{Before, before_irreflexive, before_strict, before_trans, Finding, Gives, Has, has_split, Each, IsClaimedIn}
 use Rattle.bolt_recover.proofs.Words.{IsOpen, IsSurvey, Meta, node_at, Nodes, passes_fewer, passes_silent, Reach, reached, Spot, Surveys, tests_same}
 use Rattle.bolt_recover.proofs.Words.{SurveyedWay, RisesBy}
-use Rattle.bolt_check.proofs.Exports.{has_map, one_list, rises_right, tests_one}
+use Rattle.bolt_check.proofs.Exports.{tests_one}
 use Rattle.bolt_tree.proofs.Exports.{before_under}
 
 abbrev pub ways : List SurveyedWay → List (List ℕ)

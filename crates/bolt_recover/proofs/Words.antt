@@ -1,10 +1,13 @@
 -- The words that the proofs of this crate cite, passed on from the modules that define them.
+pub use Rattle.bolt_lemmas.proofs.Exports.{contains_cases, contains_from_has, contains_head, contains_none, contains_tail, filter_all, filter_none, get_before}
+pub use Rattle.bolt_lemmas.proofs.Exports.{has_at, has_from_contains, has_left, has_right, has_split, less_of, map_has, passed_on, rises_append, rises_map}
+pub use Rattle.bolt_lemmas.proofs.Exports.{rises_once}
+pub use Rattle.bolt_lemmas.specs.Lists.{Each, Has, RisesBy}
+pub use Rattle.bolt_lemmas.specs.Order.{Rises}
 pub use Rattle.bolt_check.proofs.Exports.{claims_bytes, counted_none, visited_fits, passes_fewer, passes_silent, span_spot, tests_same, below_less}
-pub use Rattle.bolt_check.proofs.Exports.{from_more, lt_not_trans, lt_trans, less_of, key_each, key_rise, shape_passes, sound_reports_nothing}
-pub use Rattle.bolt_check.proofs.Exports.{node_below, node_within, length_entries, finding_none, shape_of, passed_on, follow_append, key_at}
-pub use Rattle.bolt_check.proofs.Exports.{leads_none, leaf_node_at, before_irreflexive, before_strict, before_trans, Each, RisesBy, contains_from_has}
-pub use Rattle.bolt_check.proofs.Exports.{get_before, has_at, has_from_contains, has_left, has_right, has_split, map_has, rises_append, rises_map}
-pub use Rattle.bolt_check.proofs.Exports.{Has as Among}
+pub use Rattle.bolt_check.proofs.Exports.{from_more, lt_not_trans, lt_trans, key_each, key_rise, shape_passes, sound_reports_nothing}
+pub use Rattle.bolt_check.proofs.Exports.{node_below, node_within, length_entries, finding_none, shape_of, follow_append, key_at}
+pub use Rattle.bolt_check.proofs.Exports.{leads_none, leaf_node_at, before_irreflexive, before_strict, before_trans}
 unfoldable pub use Rattle.bolt_check.specs.CheckedFiles.{bytes_of, meta_of}
 unfoldable pub use Rattle.bolt_check.specs.Claims.{claims_file, claims_meta, claims_visited, is_claimed}
 unfoldable pub use Rattle.bolt_check.specs.Leftovers.{is_listed, is_taken, leftovers_file, leftovers_length, leftovers_meta}
@@ -13,7 +16,6 @@ pub use Rattle.bolt_check.specs.Counts.{counted}
 pub use Rattle.bolt_check.specs.Findings.{IsClaimedBefore, IsFirst, IsMetaPage, Passes, Tests, early_finding, finding, finding_of}
 pub use Rattle.bolt_check.specs.Findings.{keys_of, late, node_finding, twice}
 pub use Rattle.bolt_check.specs.Keys.{Key, KeysRise, is_below, is_from, key_cmp, key_lt, keys_order_fault}
-pub use Rattle.bolt_check.specs.Lists.{Has}
 pub use Rattle.bolt_check.specs.LoneLeaves.{IsListedFree, IsLoneLeaf}
 pub use Rattle.bolt_check.specs.Nodes.{Entry, InlinePage, IsInSpan, Node, Nodes, leaf_entry}
 pub use Rattle.bolt_check.specs.{Shape.child_at, Shape.child_in, Shape.child_of, Shape.leads, ShownSpots.page_spot, ShownSpots.spot_at}
@@ -21,7 +23,6 @@ pub use Rattle.bolt_check.specs.Sound.{HasSoundTrees}
 pub use Rattle.bolt_check.specs.Ways.{At_inline, At_page, Before, PageSpot, Reach, SpanAt, SpanHas, Spot, bucket_spot, child_spot, follow}
 pub use Rattle.bolt_check.specs.Ways.{reached, root_spot, step, step_at, step_entry, step_from, step_on, upper_from}
 pub use Rattle.bolt_check.specs.declared.checked.Checked.{Checked}
-pub use Rattle.bolt_check.specs.declared.check_fault.CheckFault.TheVariants.{Structure}
 pub use Rattle.bolt_check.specs.declared.finding.Finding.{Finding}
 pub use Rattle.bolt_format.specs.{ElementPlaces.leaf_view, Elements.LeafElement, Elements.head_root, Elements.head_sequence, Elements.inline_elements}
 pub use Rattle.bolt_format.specs.{declared.meta.Meta.Meta}
@@ -59,17 +60,18 @@ pub use Rattle.bolt_recover.specs.{ShownFound.IsFoundView, ShownLosses.loss_view
 pub use Rattle.bolt_recover.specs.Surveys.{Gives, IsClaimedIn, IsOpen, IsSurvey, LosesNothing, Surveys, SurveyedWay, way_kept, lost}
 pub use Rattle.bolt_format.specs.declared.tree_page.TreePage.{TreePage}
 pub use Rattle.bolt_recover.specs.{declared.kept_page.KeptPage.KeptPage, declared.kept_page.OpenPage.OpenPage}
-pub use Rattle.bolt_recover.specs.{declared.found.Found.Found}
+pub use Rattle.bolt_recover.specs.{declared.found_page.FoundPage.FoundPage}
 pub use Rattle.bolt_recover.specs.declared.lost_and_found.Trees.TheVariants.{Damaged, Rootless, Sound}
 pub use Rattle.bolt_recover.specs.{declared.steps.NextVisit.NextVisit}
 unfoldable pub use Rattle.bolt_recover.specs.JoinedMembers.{joined_file, joined_left, joined_meta, joined_path}
 unfoldable pub use Rattle.bolt_recover.specs.LostAndFound.{all_lost}
-unfoldable pub use Rattle.bolt_recover.specs.Recoveries.{recovery_begun, recovery_claimed, recovery_file, recovery_gaps, recovery_left, recovery_losses, recovery_meta}
+unfoldable pub use Rattle.bolt_recover.specs.Recoveries.{recovery_begun, recovery_claimed, recovery_file, recovery_gaps, recovery_left}
+unfoldable pub use Rattle.bolt_recover.specs.Recoveries.{recovery_losses, recovery_meta}
 unfoldable pub use Rattle.bolt_recover.specs.Recoveries.{recovery_visited, recovery_work}
-pub use Rattle.bolt_tree.proofs.Exports.{contains_at, filter_all, filter_none, contains_cases, contains_head, contains_none, contains_tail}
-pub use Rattle.bolt_tree.proofs.Exports.{rises_once, before_longer, key_same, key_total, same_front, lists_once, member_total}
+pub use Rattle.bolt_tree.proofs.Exports.{contains_at}
+pub use Rattle.bolt_tree.proofs.Exports.{before_longer, key_same, key_total, same_front, lists_once, member_total}
 pub use Rattle.bolt_tree.specs.Entries.{Bucket, Inline_page, IsEntry, Item, Root_page, ShowsEntry, Start, Value, item_of, start_of}
-pub use Rattle.bolt_tree.specs.{Listing.IsListing, Listing.Member, Listing.member_cmp, Order.Rises}
+pub use Rattle.bolt_tree.specs.{Listing.IsListing, Listing.Member, Listing.member_cmp}
 pub use Rattle.bolt_tree.specs.{Paths.Holds, Paths.Names, Paths.Path, Paths.path_cmp, Paths.path_of, ShownEntries.item_view}
 pub use Rattle.bolt_tree.specs.{Tree.Tree, Tree.end, Tree.listing_below, Tree.listing_of, Tree.tree_of, Tree.with_bucket, Tree.with_value}
 pub use Rattle.bolt_tree.specs.{Walks.GivesNext}
@@ -78,8 +80,7 @@ pub use Rattle.std.proofs.Math.Logic.{∥∥₁_elim, ∥∥₁_map}
 pub use Rattle.std.proofs.Math.Nat.{lt_of_mul-lt-mul_right}
 pub use Rattle.std.proofs.Props.{props}
 pub use Rattle.std.proofs.lemmas.Bool.{cases_Bool, cases_lt, cases_order, cond_both, eqb-true, false_from_ne_true, false≢true, not-true, or_cases}
-pub use Rattle.std.proofs.lemmas.Bool.{or_left}
-pub use Rattle.std.proofs.lemmas.Bool.{or_parts, or_right}
+pub use Rattle.std.proofs.lemmas.Bool.{or_parts}
 pub use Rattle.std.proofs.lemmas.Bool.Decides.{nat_tests}
 pub use Rattle.std.proofs.lemmas.Cmp.{nat_cmp_total, tied_itself}
 pub use Rattle.std.proofs.lemmas.Grind.{common_steps, merely}
@@ -93,7 +94,6 @@ pub use Rattle.std.proofs.lemmas.Option.{none-some, same_Some, slice_get-map, sl
 pub use Rattle.std.specs.Cmp.{both_ways, nat_cmp_is}
 pub use Rattle.std.specs.List.{All, Contains, count_by}
 pub use Rattle.std.specs.Option.{option_map, option_or, option_to_list}
-pub use Rattle.std.specs.Ordering.{is_lt, nat_cmp, ordering_then}
+pub use Rattle.std.specs.Ordering.{is_lt, nat_cmp}
 pub use Rattle.std.specs.Prelude.{IsTrue}
-pub use Rattle.std.specs.declared.cmp.Ordering.{Ordering}
 pub use Rattle.std.specs.declared.cmp.Ordering.TheVariants.{Greater, Less}

@@ -1,10 +1,11 @@
 -- The pages that are found though nothing leads to them: docs/RECOVERY.md, "Found pages".
 use Rattle.std.specs.Prelude.{◌≡◌, ℕ, zero, suc, ◌⊎◌, Bool, true, false, List, [], ◌∷◌, ◌++◌, Contains, map}
+use Rattle.bolt_lemmas.specs.Lists.{Has}
 use Rattle.bolt_format.specs.declared.meta.Meta.{Meta}
-use Rattle.bolt_check.specs.{Lists.Has, LoneLeaves.IsListedFree, LoneLeaves.IsLoneLeaf, Nodes.node_at, Ways.At_page, Ways.SpanAt, Ways.root_spot}
+use Rattle.bolt_check.specs.{LoneLeaves.IsListedFree, LoneLeaves.IsLoneLeaf, Nodes.node_at, Ways.At_page, Ways.SpanAt, Ways.root_spot}
 use Rattle.bolt_check.specs.{declared.finding.Finding.Finding}
 use Rattle.bolt_recover.specs.{KeptPages.IsKeptPage, Surveys.IsSurvey, Surveys.LosesNothing, Surveys.SurveyedWay, Surveys.lost}
-use Rattle.bolt_recover.specs.{declared.found.Found.Found}
+use Rattle.bolt_recover.specs.{declared.found_page.FoundPage.FoundPage}
 
 module _ (file : List ℕ) (meta : Meta) where
   -- page n lies in the span of one of these pages
@@ -51,5 +52,5 @@ abbrev pub ForFoundPages : (List ℕ → Meta → List ℕ → ℕ → Type 0) �
 ForFoundPages P = (file : List ℕ) (meta : Meta) (found : List ℕ) (n : ℕ) → AreFound file meta found → Contains found n → P file meta found n
 
 -- the numbers of found pages of the code
-abbrev pub found_numbers : List Found → List ℕ
-found_numbers found = map (λ (f : Found). f.number) found
+abbrev pub found_numbers : List FoundPage → List ℕ
+found_numbers found = map (λ (f : FoundPage). f.number) found

@@ -2,26 +2,27 @@
 use Rattle.std.specs.Prelude.{ℕ, List}
 use Rattle.bolt_format.specs.declared.meta.Meta.{Meta}
 use Rattle.bolt_tree.specs.{Listing.Member, Merging.merged_left, Merging.merged_path, Merging.merged_work, Paths.Path}
-use Rattle.bolt_recover.specs.{Joined.IsJoined, KeptMembers.kept_left, KeptMembers.kept_path, KeptMembers.kept_work, declared.joined.Joined.Joined}
+use Rattle.bolt_recover.specs.{Joined.IsJoined, KeptMembers.kept_left, KeptMembers.kept_path, KeptMembers.kept_work}
+use Rattle.bolt_recover.specs.{declared.joined_listing.JoinedListing.JoinedListing}
 use Rattle.bolt_recover.specs.Private.{FoundLeft.found_left, FoundLeft.found_path, FoundLeft.found_work, Merging.recovered_and_found}
 
-unfoldable pub joined_file : Joined → List ℕ
+unfoldable pub joined_file : JoinedListing → List ℕ
 joined_file joined = joined.file.now
 
-unfoldable pub joined_meta : Joined → Meta
+unfoldable pub joined_meta : JoinedListing → Meta
 joined_meta joined = joined.meta
 
 -- The part of the joined listing that is left. (There is one listing, so it is the same of each.)
-unfoldable pub joined_left : Joined → List Member → List Member
+unfoldable pub joined_left : JoinedListing → List Member → List Member
 joined_left joined listing =
     merged_left kept_path kept_left found_path found_left joined.members (recovered_and_found joined.file.now joined.meta joined.found.now)
 
 -- how much the joined members have to do at most, until everything is returned
-unfoldable pub joined_work : Joined → ℕ
+unfoldable pub joined_work : JoinedListing → ℕ
 joined_work joined = merged_work kept_work found_work joined.members
 
 -- the path of the last joined member that was returned
-unfoldable pub joined_path : Joined → Path
+unfoldable pub joined_path : JoinedListing → Path
 joined_path joined = merged_path kept_path found_path joined.members
 
 -- What is promised of the joined listing is promised for each; there is exactly one (`laws`).

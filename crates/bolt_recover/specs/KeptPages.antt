@@ -1,7 +1,8 @@
 -- The pages that kept ways take in: docs/RECOVERY.md, "Found pages".
 use Rattle.std.specs.Prelude.{◌≡◌, ◌↔◌, ℕ, ◌⊎◌, Bool, true, List}
+use Rattle.bolt_lemmas.specs.Lists.{Has}
 use Rattle.bolt_format.specs.declared.meta.Meta.{Meta}
-use Rattle.bolt_check.specs.{Findings.IsMetaPage, Lists.Has, Nodes.node_at, Ways.SpanHas, Ways.reached}
+use Rattle.bolt_check.specs.{Findings.IsMetaPage, Nodes.node_at, Ways.SpanHas, Ways.reached}
 use Rattle.bolt_recover.specs.Surveys.{ForSurvey, SurveyedWay, way_kept}
 
 -- page n is a meta page, or lies in the span of a kept way

@@ -1,8 +1,9 @@
 -- What a damaged file still holds: docs/RECOVERY.md, "The recovered listing".
 use Rattle.std.specs.Prelude.{◌≡◌, ◌↔◌, ℕ, List, [], ◌∷◌, ◌++◌, Contains, Some}
-use Rattle.bolt_check.specs.Lists.{Has}
+use Rattle.bolt_lemmas.specs.Lists.{Has}
+use Rattle.bolt_lemmas.specs.Order.{Rises}
 use Rattle.bolt_format.specs.{Elements.LeafElement, declared.meta.Meta.Meta}
-use Rattle.bolt_tree.specs.{Entries.IsEntry, Entries.Item, Entries.Root_page, Entries.item_of, Listing.Member, Listing.member_cmp, Order.Rises}
+use Rattle.bolt_tree.specs.{Entries.IsEntry, Entries.Item, Entries.Root_page, Entries.item_of, Listing.Member, Listing.member_cmp}
 use Rattle.bolt_tree.specs.{Paths.Holds, Paths.Path}
 use Rattle.bolt_recover.specs.{Sites.Site, Sites.site_at, Surveys.IsSurvey, Surveys.SurveyedWay, Surveys.way_kept}
 

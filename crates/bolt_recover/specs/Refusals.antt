@@ -5,6 +5,8 @@ use Rattle.bolt_check.specs.{Findings.IsMetaPage, Findings.Passes, Findings.Test
 use Rattle.bolt_check.specs.{declared.check_fault.CheckFault.CheckFault}
 use Rattle.bolt_check.specs.declared.check_fault.CheckFault.TheVariants.{Accounts, Memory, Open, Structure}
 use Rattle.bolt_check.specs.declared.finding.Finding.{Finding}
+use Rattle.bolt_recover.specs.declared.root_fault.RootFault.{RootFault}
+use Rattle.bolt_recover.specs.declared.root_fault.RootFault.TheVariants as root
 
 -- The root page, to which the empty way leads, is kept, or lost with this finding. The meta pages alone are claimed before.
 abbrev pub KeepsRoot : List ℕ → Meta → Type 0
@@ -14,11 +16,14 @@ abbrev pub LosesRoot : List ℕ → Meta → Finding → Type 0
 LosesRoot file meta x = Tests (node_at file meta) IsMetaPage (At_page (root_spot meta.root)) x
 
 -- why nothing is recovered under this meta
-abbrev pub IsRefusedRoot : List ℕ → Meta → CheckFault → Type 0
-IsRefusedRoot file meta (Structure x) = LosesRoot file meta x
-IsRefusedRoot file meta Memory = Unit {0}
-IsRefusedRoot file meta (Open fault) = ⊥
-IsRefusedRoot file meta (Accounts reported) = ⊥
+abbrev pub IsRefusedRoot : List ℕ → Meta → RootFault → Type 0
+IsRefusedRoot file meta (root.Lost x) = LosesRoot file meta x
+IsRefusedRoot file meta root.Memory = Unit {0}
+
+-- how the file is refused then
+abbrev pub root_refusal : RootFault → CheckFault
+root_refusal (root.Lost x) = Structure x
+root_refusal root.Memory = Memory
 
 -- Why nothing is recovered under a meta that is looked for: there is none, for this reason; or the root page is lost under the one that is found.
 abbrev pub IsUnrecoverable : List ℕ → (IsMeta : Meta → Type 0) → (HasNone : MetaFault → Type 0) → CheckFault → Type 0

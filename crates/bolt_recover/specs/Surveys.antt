@@ -1,8 +1,9 @@
 -- What is kept and what is lost of a damaged file: docs/RECOVERY.md, "Kept and lost".
 use Rattle.std.specs.Prelude.{◌≡◌, ℕ, ◌⊎◌, List, [], ◌∷◌, ◌++◌, Option, Some, None, map}
+use Rattle.bolt_lemmas.specs.Lists.{Has, RisesBy}
 use Rattle.bolt_format.specs.declared.meta.Meta.{Meta}
-use Rattle.bolt_check.specs.{Findings.IsMetaPage, Findings.Passes, Findings.Tests, Nodes.Nodes, Nodes.node_at, Lists.RisesBy}
-use Rattle.bolt_check.specs.{Lists.Has, Ways.Before, Ways.Reach, Ways.SpanHas, Ways.Spot, Ways.reached, declared.finding.Finding.Finding}
+use Rattle.bolt_check.specs.{Findings.IsMetaPage, Findings.Passes, Findings.Tests, Nodes.Nodes, Nodes.node_at}
+use Rattle.bolt_check.specs.{Ways.Before, Ways.Reach, Ways.SpanHas, Ways.Spot, Ways.reached, declared.finding.Finding.Finding}
 
 -- A way and what the tests find at it: nothing if the way is kept, and a finding if it is lost.
 pub record SurveyedWay : Type 0 where

@@ -1,5 +1,5 @@
 //! A look at what may be the root page of a state: the way to its first leaf. It needs no memory.
-ghost use Rattle.std.specs.Prelude.{◌≡◌, ◌⊎◌, ◌<◌, ◌≤◌, ℕ, List, None, [], false, length, true};
+ghost use Rattle.std.specs.Prelude.{◌≡◌, ◌⊎◌, ◌<◌, ◌≤◌, ℕ, List, [], false, length, true};
 ghost use Rattle.std.specs.List.{Contains};
 ghost use Rattle.bolt_check.specs.ShownSpots.{page_spot};
 ghost use Rattle.bolt_format.specs.{Elements.LeafElement, TreePages.leaves_on, TreePages.page_keys};
@@ -58,25 +58,13 @@ pub(crate) enum Look<'a> {
     Unknown,
 }
 
-/// The spot at the root page.
-fn root_spot<'a>(meta: &Meta) -> PageSpot<'a>
-    ensures { result ≡ record { number = meta.now.root; depth = 1; lower = None; upper = None } }
-{
-    PageSpot {
-        number: meta.root,
-        depth: 1,
-        lower: None,
-        upper: None,
-    }
-}
-
 /// Whether the root page can be that of a state: `false` only if it isn't. It isn't if the page is
 /// lost, or a leaf that has no element or a value, or if the way to its first leaf shows a value. Ends at the
 /// first value.
 pub(crate) fn may_be_root(file: &[u8], meta: &Meta) -> bool
     ensures { result ≡ false → HasBucketsAlone file.now meta.now → ⊥ }
 {
-    match test_page(file, meta, &root_spot(meta)) {
+    match test_page(file, meta, &PageSpot::root(meta.root)) {
         Ok(TreePage::Leaf(leaf)) => has_buckets_alone(&leaf),
         Ok(TreePage::Branch(_)) => !shows_value(file, meta),
         Err(_) => false,
@@ -97,7 +85,7 @@ fn shows_value(file: &[u8], meta: &Meta) -> bool
     ensures { result ≡ true → HasBucketsAlone file.now meta.now → ⊥ }
 {
     let mut way = FirstWay {
-        spot: root_spot(meta),
+        spot: PageSpot::root(meta.root),
         hull: Hull::none(),
     };
     'pages: for _ in 0..MAX_DEPTH {

@@ -4,7 +4,7 @@ ghost use Rattle.std.specs.Prelude.{IfOk};
 ghost use Rattle.bolt_check.specs.Leftovers.{leftovers_file, leftovers_meta};
 ghost use Rattle.bolt_recover.specs.{Private.LeavesLeft.AreAmong, Private.LeavesLeft.NotesFree, ShownFound.IsFoundView};
 
-use crate::found::Found;
+use crate::found_page::FoundPage;
 use bolt_check::{Leftovers, NoMemory};
 use std::alloc::Global;
 
@@ -12,7 +12,7 @@ use std::alloc::Global;
 pub(crate) fn find_leaves<'a>(
     alloc: Global,
     mut leftovers: Leftovers<'a>,
-) -> Result<Vec<Found<'a>>, NoMemory>
+) -> Result<Vec<FoundPage<'a>>, NoMemory>
     requires { NotesFree leftovers }
     ensures found { IfOk result (λ found. AreAmong leftovers.entry found.items) }
     ensures views { IfOk result (λ found.
@@ -23,7 +23,7 @@ pub(crate) fn find_leaves<'a>(
     for number in 0..leftovers.end() {
         found.reserve(1)?;
         if let Some(page) = leftovers.take(number) {
-            found.push_reserved(Found::new(number, page));
+            found.push_reserved(FoundPage::new(number, page));
         }
     }
     Ok(found)

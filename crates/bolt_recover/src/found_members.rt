@@ -6,7 +6,7 @@ ghost use Rattle.bolt_tree.specs.{Listing.Member, ShownEntries.item_view, Tree.e
 ghost use Rattle.bolt_recover.specs.Joined.{inside_of, tree_of_elements};
 
 use crate::bucket_key::lost_and_found;
-use crate::found::Found;
+use crate::found_page::FoundPage;
 use bolt_check::{BucketSpot, NoMemory};
 use bolt_format::{Leaf, Leaves, head, inline};
 use bolt_tree::{Item, Members};
@@ -15,7 +15,7 @@ use std::alloc::Global;
 /// The members of what is found, if a page is found.
 #[derive(Clone, Copy)]
 pub(crate) struct FoundMembers<'a> {
-    pub found: &'a [Found<'a>],
+    pub found: &'a [FoundPage<'a>],
     /// Whether the bucket of what is found is left.
     pub has_bucket: bool,
     /// The next page.
@@ -66,7 +66,7 @@ impl<'a> FoundMembers<'a> {
     ghost use Rattle.bolt_recover.specs.Private.FoundLeft.{GivesBelow, all_left, found_listing, found_path};
 
     /// All members of what is found.
-    pub fn new(found: &'a [Found<'a>]) -> FoundMembers<'a>
+    pub fn new(found: &'a [FoundPage<'a>]) -> FoundMembers<'a>
         ensures found { result.found.now ≡ found.now }
         ensures all { all_left result ≡ found_listing found.now }
         ensures path { found_path result ≡ [] }

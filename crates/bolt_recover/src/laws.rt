@@ -2,10 +2,12 @@
 ghost use Rattle.std.specs.List.{Contains, count_by};
 ghost use Rattle.std.specs.Prelude.{◌≡◌, ◌<◌, ◌⊎◌, ◌*◌, ◌^◌, ◌∷◌, ℕ, Bool, [], List, Some, false, filter, is_some, length, not};
 ghost use Rattle.bolt_format.specs.{Bytes.IsBytes, Metas.IsInSlot, declared.meta.Meta.Meta, declared.meta.Slot.Slot};
-ghost use Rattle.bolt_check.specs.{Lists.Has, LoneLeaves.IsListedFree, LoneLeaves.IsLoneLeaf, Nodes.node_at, Ones.AtMostOne, Sound.HasSoundTrees};
+ghost use Rattle.bolt_lemmas.specs.Lists.{Has};
+ghost use Rattle.bolt_check.specs.{LoneLeaves.IsListedFree, LoneLeaves.IsLoneLeaf, Nodes.node_at, Ones.AtMostOne, Sound.HasSoundTrees};
 ghost use Rattle.bolt_check.specs.{Sound.IsFirstFinding, Ways.Spot, Ways.reached};
 ghost use Rattle.bolt_check.specs.{declared.finding.Finding.Finding};
-ghost use Rattle.bolt_tree.specs.{Entries.Bucket, Listing.IsListing, Listing.Member, Listing.member_cmp, Order.Rises, Tree.Tree, Tree.listing_of};
+ghost use Rattle.bolt_lemmas.specs.Order.{Rises};
+ghost use Rattle.bolt_tree.specs.{Entries.Bucket, Listing.IsListing, Listing.Member, Listing.member_cmp, Tree.Tree, Tree.listing_of};
 ghost use Rattle.bolt_recover.specs.Found.{AreFound, AreFoundAnyway, AreSought, IsFoundPage, ForFoundPages, Spans};
 ghost use Rattle.bolt_recover.specs.PageGaps.{AreGaps, PageGapView};
 ghost use Rattle.bolt_recover.specs.Joined.{IsFoundMember, IsJoined, LacksBucketKey, LeavesRoom, is_found_path, lost_and_found};
@@ -18,7 +20,7 @@ ghost use Rattle.bolt_recover.specs.Surveys.{ForSurvey};
 ghost use Rattle.bolt_recover.specs.{Sites.AtSite, TheRecovered.the_recovered};
 ghost use Rattle.bolt_recover.specs.States.{AreStates, IsAmong, IsState, PlaceView, StateView};
 
-use crate::joined::Joined;
+use crate::joined_listing::JoinedListing;
 use crate::recovery::Recovery;
 
 /// A file has at most one survey.
@@ -254,14 +256,14 @@ pub fn joined_members_are_recovered_or_found()
 {}
 
 /// The members of a joined listing are in the order of paths.
-pub fn joined_members_rise(joined: &Joined<'_>)
+pub fn joined_members_rise(joined: &JoinedListing<'_>)
     ensures { ForJoined (joined_file joined.now) (joined_meta joined.now) (Rises member_cmp) }
 {
     joined_listing_rises();
 }
 
 /// The file of the members of a joined listing is bytes.
-pub fn the_file_of_joined_members_is_bytes(joined: &Joined<'_>)
+pub fn the_file_of_joined_members_is_bytes(joined: &JoinedListing<'_>)
     ensures { IsBytes (joined_file joined.now) }
 {}
 

@@ -8,11 +8,12 @@ ghost use Rattle.bolt_recover.specs.{Found.AreFound, Found.AreFoundAnyway, Found
 ghost use Rattle.bolt_recover.specs.{Recovered.ForRecovered, ShownFound.IsFoundView};
 ghost use Rattle.bolt_recover.specs.{PageGaps.ForGaps, PageGaps.page_gap_view, Losses.is_nothing, Refusals.LosesRoot, ShownLosses.lost_view};
 
-use crate::found::Found;
 use crate::found_leaves::find_leaves;
+use crate::found_page::FoundPage;
 use crate::losses::{Damage, Lost};
 use crate::page_gaps::PageGap;
 use crate::recovery::Recovery;
+use crate::root_fault::RootFault;
 use bolt_check::{CheckFault, Checked, Claims, Finding, Leftovers, NoMemory, check_under};
 use bolt_format::Meta;
 use std::alloc::Global;
@@ -37,7 +38,7 @@ pub struct LostAndFound<'a> {
     /// The meta that it is read under.
     pub meta: Meta,
     /// The found pages, by rising number. If nothing is lost, there are none.
-    pub found: Vec<Found<'a>>,
+    pub found: Vec<FoundPage<'a>>,
     pub(crate) trees: Trees<'a>,
     ghost sized: { 0 < meta.page_size },
     ghost bytes: { IsBytes file.now },
@@ -97,7 +98,7 @@ impl<'a> LostAndFound<'a> {
                     trees: Trees::Damaged(damage),
                 })
             }
-            Err(CheckFault::Structure(finding)) => {
+            Err(RootFault::Lost(finding)) => {
                 let found = found_without_root(alloc, file, meta)?;
                 Ok(LostAndFound {
                     file,
@@ -106,7 +107,7 @@ impl<'a> LostAndFound<'a> {
                     trees: Trees::Rootless(finding),
                 })
             }
-            Err(_) => Err(NoMemory),
+            Err(RootFault::Memory) => Err(NoMemory),
         }
     }
 
@@ -116,7 +117,7 @@ impl<'a> LostAndFound<'a> {
     /// # Errors
     ///
     /// `NoMemory` if memory runs out.
-    pub fn search_anyway(&self, alloc: Global) -> Result<Vec<Found<'a>>, NoMemory>
+    pub fn search_anyway(&self, alloc: Global) -> Result<Vec<FoundPage<'a>>, NoMemory>
         requires { is_nothing (all_lost self.now) ≡ true }
         ensures found { IfOk result (λ found.
             AreFoundAnyway self.now.file.now self.now.meta (found_numbers found.items)) }
@@ -175,7 +176,7 @@ fn found_without_root<'a>(
     alloc: Global,
     file: &'a [u8],
     meta: Meta,
-) -> Result<Vec<Found<'a>>, NoMemory>
+) -> Result<Vec<FoundPage<'a>>, NoMemory>
     requires size { 0 < meta.page_size }
     requires lost { (x : Finding) × LosesRoot file.now meta x }
     ensures found { IfOk result (λ found. AreFound file.now meta (found_numbers found.items)) }

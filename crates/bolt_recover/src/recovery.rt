@@ -1,23 +1,26 @@
 //! A walk over everything that is kept of a damaged file.
 ghost use Rattle.std.specs.List.{All};
 ghost use Rattle.std.specs.Option.{IfNone};
-ghost use Rattle.std.specs.Prelude.{◌≡◌, ◌<◌, ◌≤◌, ◌^◌, [], IfErr, IfOk, IfSome, List, OnErr, OnOk, length, map};
+ghost use Rattle.std.specs.Prelude.{◌≡◌, ◌<◌, ◌≤◌, ◌^◌, [], IfErr, IfOk, IfSome, IsTrue, List, OnErr, OnOk, length, map};
 ghost use Rattle.bolt_check.specs.{Claims.claims_file, Claims.claims_meta, Counts.counted, Counts.saturated};
-ghost use Rattle.bolt_check.specs.Sound.{HasSoundTrees};
+ghost use Rattle.bolt_check.specs.CheckedFiles.{bytes_of, meta_of};
+ghost use Rattle.bolt_check.specs.Sound.{HasRightAccounts, HasSoundTrees, IsRefusedFor};
+ghost use Rattle.bolt_format.specs.{Metas.IsInSlot, declared.meta.Slot.Slot};
 ghost use Rattle.bolt_tree.specs.{Listing.Member, Paths.path_of};
 ghost use Rattle.bolt_recover.specs.{KeptPages.AreKeptPages, Private.Frames.StepsAreOn, Private.Frames.AreStepsPlaced, Recovered.ForRecovered};
 ghost use Rattle.bolt_recover.specs.{Recovered.IsRecovered};
 ghost use Rattle.bolt_recover.specs.Refusals.{IsRefusedRoot, KeepsRoot};
 ghost use Rattle.bolt_recover.specs.{Found.AreFoundAnyway, Found.found_numbers, PageGaps.page_gap_view, ShownFound.IsFoundView};
-ghost use Rattle.bolt_recover.specs.{ShownLosses.loss_view};
+ghost use Rattle.bolt_recover.specs.{Losses.AreLosses, ShownLosses.loss_view};
 
 use crate::bucket_key::compare_first;
-use crate::found::Found;
 use crate::found_leaves::find_leaves;
+use crate::found_page::FoundPage;
 use crate::losses::{Damage, Loss};
 use crate::page_gaps::PageGap;
+use crate::root_fault::RootFault;
 use crate::steps::Steps;
-use bolt_check::{CheckFault, Claims, Leftovers, NoMemory};
+use bolt_check::{CheckFault, Checked, Claims, Leftovers, NoMemory, check_claimed};
 use bolt_format::Meta;
 use bolt_tree::{Item, Members};
 use std::alloc::Global;
@@ -50,9 +53,9 @@ impl<'a> Recovery<'a> {
     ///
     /// # Errors
     ///
-    /// `Structure` with the finding of the root page if that is lost, and nothing is recovered;
-    /// `Memory` if memory runs out. Never `Open` or `Accounts`.
-    pub fn under(alloc: Global, file: &'a [u8], meta: Meta) -> Result<Recovery<'a>, CheckFault>
+    /// `Lost` with the finding of the root page if that is lost, and nothing is recovered; `Memory` if
+    /// memory runs out.
+    pub fn under(alloc: Global, file: &'a [u8], meta: Meta) -> Result<Recovery<'a>, RootFault>
         requires { 0 < meta.page_size }
         ensures file { IfOk result (λ recovery. recovery_file recovery ≡ file.now) }
         ensures meta { IfOk result (λ recovery. recovery_meta recovery ≡ meta) }
@@ -65,9 +68,7 @@ impl<'a> Recovery<'a> {
         ensures root { OnOk result (KeepsRoot file.now meta) }
         ensures refused { IfErr result (IsRefusedRoot file.now meta) }
     {
-        let Ok(claims) = Claims::new(alloc, file, meta) else {
-            return Err(CheckFault::Memory);
-        };
+        let claims = Claims::new(alloc, file, meta)?;
         let steps = Steps::new(alloc, claims)?;
         Ok(Recovery {
             steps,
@@ -175,13 +176,40 @@ impl<'a> Recovery<'a> {
         self.steps.skip_values();
     }
 
+    /// Reads a file of which nothing is lost, so that its trees are sound: all of it was visited, and no
+    /// page is tested again. The accounts are tested if that is asked for. Returns the gaps of its pages
+    /// too.
+    ///
+    /// # Errors
+    ///
+    /// `Accounts` with all findings of the accounts; `Memory` if memory runs out. Never `Open` or
+    /// `Structure`.
+    pub fn check(self, accounts: bool) -> (Result<Checked<'a>, CheckFault>, Vec<PageGap<'a>>)
+        requires kept { AreKeptPages (recovery_file self) (recovery_meta self) (recovery_claimed self) }
+        requires whole { AreLosses (recovery_file self) (recovery_meta self) [] }
+        requires valid { IsTrue accounts → (slot : Slot)
+            × IsInSlot (recovery_file self) slot (recovery_meta self) }
+        ensures bytes { IfOk result.0 (λ checked. bytes_of checked ≡ recovery_file self.entry) }
+        ensures meta { IfOk result.0 (λ checked. meta_of checked ≡ recovery_meta self.entry) }
+        ensures trees { HasSoundTrees (recovery_file self.entry) (recovery_meta self.entry) }
+        ensures right { OnOk result.0 (IsTrue accounts
+            → HasRightAccounts (recovery_file self.entry) (recovery_meta self.entry)) }
+        ensures refused { IfErr result.0
+            (IsRefusedFor (recovery_file self.entry) (recovery_meta self.entry) accounts) }
+        ensures gaps { map page_gap_view result.1.items ≡ recovery_gaps self.entry }
+    {
+        let steps = self.steps;
+        let checked = check_claimed(steps.alloc, steps.claims, accounts);
+        (checked, steps.gaps)
+    }
+
     /// Drops what is left, and finds the intact leaves that nothing leads to (docs/RECOVERY.md, "Found
     /// pages"). It needs room for what is found, and no second table.
     ///
     /// # Errors
     ///
     /// `NoMemory` if memory runs out.
-    pub(crate) fn found(mut self) -> Result<(Damage<'a>, Vec<Found<'a>>), NoMemory>
+    pub(crate) fn found(mut self) -> Result<(Damage<'a>, Vec<FoundPage<'a>>), NoMemory>
         requires fresh { ForRecovered (recovery_file self) (recovery_meta self) (λ listing.
             recovery_left self listing ≡ listing) }
         requires root { KeepsRoot (recovery_file self) (recovery_meta self) }
@@ -210,7 +238,7 @@ impl<'a> Recovery<'a> {
     /// # Errors
     ///
     /// `NoMemory` if memory runs out.
-    pub(crate) fn unreached(mut self) -> Result<Vec<Found<'a>>, NoMemory>
+    pub(crate) fn unreached(mut self) -> Result<Vec<FoundPage<'a>>, NoMemory>
         requires { ForRecovered (recovery_file self) (recovery_meta self) (λ listing.
             recovery_left self listing ≡ listing) }
         ensures found { IfOk result (λ found.

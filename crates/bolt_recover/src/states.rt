@@ -11,9 +11,10 @@ ghost use Rattle.bolt_recover.specs.Recoveries.{recovery_file, recovery_left, re
 use crate::counting::count_recovered;
 use crate::first_leaf::may_be_root;
 use crate::recovery::Recovery;
+use crate::root_fault::RootFault;
 use crate::state::{Place, State};
 use crate::valid_metas::{ValidMetas, place_of};
-use bolt_check::{CheckFault, NoMemory};
+use bolt_check::NoMemory;
 use bolt_format::{Meta, assumed_meta};
 use std::alloc::Global;
 use std::cmp::Ordering;
@@ -159,8 +160,8 @@ fn named_state(alloc: Global, file: &[u8], place: Place) -> Result<Option<State<
 {
     match Recovery::under(alloc, file, place_meta(file, place)) {
         Ok(mut recovery) => state_of(&mut recovery, place, false),
-        Err(CheckFault::Structure(_)) => Ok(None),
-        Err(_) => Err(NoMemory),
+        Err(RootFault::Lost(_)) => Ok(None),
+        Err(RootFault::Memory) => Err(NoMemory),
     }
 }
 
@@ -178,8 +179,8 @@ fn bucket_state(alloc: Global, file: &[u8], place: Place) -> Result<Option<State
             let state = state_of(&mut recovery, place, true)?;
             Ok(with_buckets(state))
         }
-        Err(CheckFault::Structure(_)) => Ok(None),
-        Err(_) => Err(NoMemory),
+        Err(RootFault::Lost(_)) => Ok(None),
+        Err(RootFault::Memory) => Err(NoMemory),
     }
 }
 

@@ -14,7 +14,8 @@ ghost use Rattle.bolt_recover.specs.{Refusals.IsRefusedRoot, Refusals.KeepsRoot,
 use crate::kept_page::{KeptPage, OpenPage};
 use crate::losses::Loss;
 use crate::page_gaps::PageGap;
-use bolt_check::{CheckFault, Claims, Finding, NoMemory, PageSpot, Spot};
+use crate::root_fault::RootFault;
+use bolt_check::{Claims, Finding, NoMemory, PageSpot, Spot};
 use bolt_format::{Leaf, Meta};
 use std::alloc::Global;
 use std::mem::replace;
@@ -42,7 +43,7 @@ impl<'a> NextVisit<'a> {
 
 /// The result of a step.
 #[derive(Clone, Copy)]
-pub(crate) enum Taken<'a> {
+pub(crate) enum StepResult<'a> {
     /// The element of a leaf, which is returned next.
     Leaf(Leaf<'a>),
     /// Nothing to return.
@@ -73,12 +74,7 @@ fn root_of<'a>(meta: &Meta) -> Spot<'a>
     ensures { result ≡ spots.Page
         (record { number = meta.now.root; depth = 1; lower = None; upper = None }) }
 {
-    Spot::Page(PageSpot {
-        number: meta.root,
-        depth: 1,
-        lower: None,
-        upper: None,
-    })
+    Spot::Page(PageSpot::root(meta.root))
 }
 
 /// Adds the first gap of a kept page, if it has one. There is room for it.
@@ -98,8 +94,8 @@ impl<'a> Steps<'a> {
     ///
     /// # Errors
     ///
-    /// The finding of the root page if that is lost, or `Memory`.
-    pub fn new(alloc: Global, mut claims: Claims<'a>) -> Result<Steps<'a>, CheckFault>
+    /// `Lost` with the finding of the root page if that is lost; `Memory` if memory runs out.
+    pub fn new(alloc: Global, mut claims: Claims<'a>) -> Result<Steps<'a>, RootFault>
         requires { (n : ℕ) → (is_claimed claims n ≡ true) ↔ IsMetaPage n }
         ensures file { IfOk result (λ steps. claims_file steps.claims ≡ claims_file claims.entry) }
         ensures meta { IfOk result (λ steps. claims_meta steps.claims ≡ claims_meta claims.entry) }
@@ -240,7 +236,7 @@ impl<'a> Steps<'a> {
     }
 
     /// Goes to the next element of the innermost open page, or closes the page if it has no more.
-    fn step(&mut self) -> Result<Taken<'a>, NoMemory>
+    fn step(&mut self) -> Result<StepResult<'a>, NoMemory>
         requires placed { AreStepsPlaced self.old }
         requires ahead { self.old.ahead ≡ None }
         ensures taken { IfOk result (TakesStep self.old self.new) }
@@ -250,10 +246,10 @@ impl<'a> Steps<'a> {
         self.path.reserve(1)?;
         let Some(top) = self.open.pop() else {
             self.path.clear();
-            return Ok(Taken::End);
+            return Ok(StepResult::End);
         };
         if top.next == top.count {
-            return Ok(Taken::Nothing);
+            return Ok(StepResult::Nothing);
         }
         self.open.push_reserved(OpenPage {
             next: top.next + 1,
@@ -262,12 +258,12 @@ impl<'a> Steps<'a> {
         let spot = top.content.spot(top.next);
         let Some(leaf) = top.content.leaf(top.next) else {
             self.ahead = NextVisit::of(spot, top.path_len);
-            return Ok(Taken::Nothing);
+            return Ok(StepResult::Nothing);
         };
         self.path.truncate(top.path_len);
         self.path.push_reserved(leaf.key);
         self.ahead = NextVisit::of(spot, top.path_len + 1);
-        Ok(Taken::Leaf(leaf))
+        Ok(StepResult::Leaf(leaf))
     }
 
     /// Skips the values that come next in the innermost open page, if nothing is ahead of them. They
@@ -297,9 +293,9 @@ impl<'a> Steps<'a> {
         loop {
             self.enter()?;
             match self.step()? {
-                Taken::Leaf(leaf) => return Ok(Some(leaf)),
-                Taken::Nothing => {}
-                Taken::End => return Ok(None),
+                StepResult::Leaf(leaf) => return Ok(Some(leaf)),
+                StepResult::Nothing => {}
+                StepResult::End => return Ok(None),
             }
         }
     }

@@ -3,22 +3,22 @@ use Rattle.std.proofs.Common.{rules, ◌≡◌, ◌∙◌, ◌<◌, ◌++◌, �
 use Rattle.std.proofs.Common.{length-set, map, not, refl, set, sym, ap, subst, slice_index_or, take, arith}
 use Rattle.std.proofs.lemmas.Bool.{and_parts, cases_Bool, cond-false, cond-true, cond_both, false_from_ne_true, not-false, true_from_ne_false}
 use Rattle.std.proofs.lemmas.Cmp.{nat_list_eq_equiv}
-use Rattle.std.proofs.lemmas.List.{append-nil, append_assoc, drop-set-lt, drop_all, drop_more, get_or_default, map-append, take_more_set}
+use Rattle.std.proofs.lemmas.List.{append-nil, append_assoc, drop-set-lt, drop_all, drop_more, map-append, take_more_set}
 use Rattle.std.proofs.{lemmas.List.Kept.Contains-dedup, lemmas.List.Kept.Contains-from_dedup, lemmas.List.Kept.IsStrictlySortedBy-dedup}
 use Rattle.std.proofs.{lemmas.Map.Text.is_eq-slice_cmp}
 use Rattle.std.proofs.lemmas.Slice.Eq.{bytes_eq-Decides}
-use Rattle.std.specs.{Cmp.Lexicographic.same_text, List.Contains, List.dedup, List.dedup_from, Ordering.is_lt, Ordering.ordering_reverse}
+use Rattle.std.specs.{Cmp.Lexicographic.same_text, List.Contains, List.dedup, List.dedup_from, Ordering.is_lt}
 use Rattle.std.specs.{Ordering.ordering_then, Str.bytes_eq}
 use Rattle.std.specs.{declared.cmp.Ordering.Ordering, declared.cmp.Ordering.TheVariants.Less}
+use Rattle.bolt_lemmas.proofs.Exports.{Climbs, climbs_sorted, contains_cases, contains_head, contains_none, contains_tail, here_at, irreflexive, neither}
+use Rattle.bolt_lemmas.proofs.Exports.{rises_as, rises_from, shows_from, shows_has, then_not_above}
+use Rattle.bolt_lemmas.specs.Order.{Rises}
 use Rattle.bolt_check.specs.Keys.{Key, key_cmp}
-use Rattle.bolt_tree.proofs.Exports.{contains_cases, contains_head, contains_none, contains_tail, irreflexive, key_exact, key_total, Climbs}
-use Rattle.bolt_tree.proofs.Exports.{climbs_sorted, shows_from, shows_has, rises_as}
-use Rattle.bolt_tree.specs.{Entries.EntryView, InBuckets.view_cmp, Order.Rises}
+use Rattle.bolt_tree.proofs.Exports.{key_exact, key_total}
+use Rattle.bolt_tree.specs.{Entries.EntryView, InBuckets.view_cmp}
 use Rattle.bolt_repair.specs.{Candidates.whole_cmp, Undisputed.AreKeys, Undisputed.AreUndisputed, Undisputed.HaveKeys, Undisputed.is_last_of_key}
 use Rattle.bolt_etcd.specs.{Wire.ShownRevisions.value_bytes, Wire.ShownRevisions.entry_of, declared.wire.revision.Revision.Revision}
-use Rattle.bolt_etcd.proofs.Exports.{rises_from}
 use Rattle.bolt_repair.proofs.WholeOrder.{whole_total}
-use Rattle.bolt_check.proofs.Exports.{neither}
 
 -- ---- by key, entries climb
 
@@ -27,9 +27,6 @@ key_below a b = is_lt (key_cmp a b)
 
 abbrev pub entry_below : EntryView → EntryView → Bool
 entry_below a b = key_below a.key b.key
-
-then_not_above : (o later : Ordering) → ordering_then o later ≡ Less → is_lt (ordering_reverse o) ≡ false
-then_not_above o later e = grind arith
 
 not_below : (a b : EntryView) → whole_cmp a b ≡ Less → entry_below b a ≡ false
 not_below a b less = ap is_lt (key_total.antisymm b.key a.key) ∙ then_not_above (key_cmp a.key b.key) _ less
@@ -206,17 +203,7 @@ pub have_keys : (es : List EntryView) → Rises whole_cmp es → HaveKeys es (co
 have_keys [] rises = ([], are_keys [] tt, refl)
 have_keys (e ∷ es) rises = (dedup bytes_eq (keys_in (e ∷ es)), are_keys (e ∷ es) rises, sym (count_from e es))
 
--- ---- of the code
-
--- what stands at a place
-pub same_at : {X : Type 0} (xs : List X) (i : ℕ) (x y : X) → i < length xs → x ≡ slice_index_or xs i x → y ≡ slice_index_or xs i y → x ≡ y
-same_at xs i x y below is also = is ∙ get_or_default xs i x y below ∙ sym also
-
 -- ---- from one entry on to the next
-
-here_at : {X : Type 0} (xs : List X) (i : ℕ) → i < length xs → (x : X) × (drop i xs ≡ x ∷ drop (i + 1) xs)
-here_at [] i below = absurd (omega arith)
-here_at (d ∷ xs) i below = (slice_index_or (d ∷ xs) i d, drop_more (d ∷ xs) i d below)
 
 -- the last of all is the last with its key
 pub at_the_end : (xs : List Revision) (i : ℕ) → i < length xs → length xs ≤ i + 1 → is_last_of_key (map entry_of (drop i xs)) ≡ true

@@ -1,11 +1,11 @@
 -- The greatest of some bounds, and what lies within it.
-use Rattle.std.proofs.Common.{◌≡◌, ◌∙◌, ◌≤◌, ◌<◌, ◌+◌, ◌&&◌, inl, inr, ℕ, Bool, true, false, List, [], ◌∷◌, Option, Some, None, ap, ap₂, arith, codes}
+use Rattle.std.proofs.Common.{◌≡◌, ◌∙◌, ◌≤◌, ◌<◌, ◌+◌, ◌&&◌, inl, inr, ℕ, Bool, true, false, List, [], ◌∷◌, Option, Some, None, ap, ap₂, arith}
 use Rattle.std.proofs.Common.{cond, drop, get_or, length, map, max, not, refl, subst, suc, sym}
 use Rattle.std.proofs.{Math.Seq.drop-cons, lemmas.Bool.cases_lt, lemmas.Slice.Eq.bytes_eq-Decides}
 use Rattle.std.specs.{Cmp.nat_cmp_is, List.Contains, Ordering.bool_cmp, Ordering.is_lt, Ordering.nat_cmp, Ordering.ordering_then, Str.bytes_eq}
 use Rattle.std.specs.{declared.cmp.Ordering.Ordering, declared.cmp.Ordering.TheVariants.Greater}
+use Rattle.bolt_lemmas.proofs.Exports.{contains_cases, contains_none}
 use Rattle.bolt_check.specs.Keys.{Key, key_cmp}
-use Rattle.bolt_tree.proofs.Exports.{contains_cases, contains_none}
 use Rattle.bolt_format.specs.{Bytes.IsBytes, declared.meta.Meta.Meta}
 use Rattle.bolt_tree.specs.{Entries.EntryView, InBuckets.entry_in, Listing.Member, Paths.Path}
 use Rattle.bolt_repair.specs.{Readable.unread, Repaired.IsRepaired, Repairs.store_path}
@@ -17,6 +17,7 @@ use Rattle.bolt_etcd.specs.{Wire.Others.No_record, Wire.Others.OtherView, Wire.O
 use Rattle.bolt_etcd.specs.{Wire.RevisionKeys.numbers_cmp, Wire.RevisionKeys.revision_key, Wire.RevisionKeys.spelling, Wire.Revisions.RevisionView}
 use Rattle.bolt_etcd.specs.{Wire.Revisions.revision_in, Wire.Revisions.revision_of, Wire.Revisions.value_of}
 use Rattle.bolt_etcd.specs.{declared.wire.revision_key.RevisionKey.RevisionKey}
+use Rattle.bolt_etcd.specs.Store.BucketNames.{key_bucket}
 use Rattle.bolt_repair.specs.Bounds.{HaveByteBounds, IsKeyBetween, IsBytesIf, IsLastOfName, IsReported, IsWithinBound, LosesReported, MayHide}
 use Rattle.bolt_repair.specs.Bounds.{MayLose, MayTake, MayTakeOn, bound_below, bound_of_key, bound_of_loss, bound_of_losses, bound_of_lost}
 use Rattle.bolt_repair.specs.Bounds.{bound_of_other, bound_of_others, bound_on, greater, holds_store, is_name_before, is_name_from, repair_bound}
@@ -106,11 +107,11 @@ module _ (spelled : AreSpelled) (ordered : AreOrdered) where
   within_upper lower None key k bytes also is between = tt
   within_upper lower (Some end) key k bytes also is between = within_key key end k (revision_key end) bytes also is refl (between.before end refl)
 
-  from_lower : (lower : Option Key) → ((low : Key) → lower ≡ Some low → is_lt (key_cmp (codes "key") low) ≡ false) → is_name_from lower ≡ true
+  from_lower : (lower : Option Key) → ((low : Key) → lower ≡ Some low → is_lt (key_cmp key_bucket low) ≡ false) → is_name_from lower ≡ true
   from_lower None from = refl
   from_lower (Some low) from = ap not (from low refl)
 
-  before_upper : (upper : Option Key) → ((end : Key) → upper ≡ Some end → is_lt (key_cmp (codes "key") end) ≡ true) → is_name_before upper ≡ true
+  before_upper : (upper : Option Key) → ((end : Key) → upper ≡ Some end → is_lt (key_cmp key_bucket end) ≡ true) → is_name_before upper ≡ true
   before_upper None before = refl
   before_upper (Some end) before = before end refl
 
@@ -122,7 +123,7 @@ module _ (spelled : AreSpelled) (ordered : AreOrdered) where
       ap (λ (b : Bool). b && is_name_before upper) (from_lower lower between.from) ∙ before_upper upper between.before in
       subst (λ (b : Bool). IsWithinBound (cond b Any Nothing) k.main) (sym holds) tt
   within_on (bucket ∷ []) lower upper key k bytes also is (named, between) =
-      let same : bytes_eq bucket (codes "key") ≡ true = (bytes_eq-Decides bucket (codes "key")).1 named in
+      let same : bytes_eq bucket key_bucket ≡ true = (bytes_eq-Decides bucket key_bucket).1 named in
       subst (λ (b : Bool). IsWithinBound (cond b (bound_below upper) Nothing) k.main) (sym same) (within_upper lower upper key k bytes also is between)
   within_on (bucket ∷ part ∷ path) lower upper key k bytes also is takes = absurd takes
 

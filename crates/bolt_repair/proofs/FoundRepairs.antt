@@ -4,16 +4,18 @@ use Rattle.std.proofs.Common.{refl, sym, ap, ap₂, subst}
 use Rattle.std.proofs.{Math.Logic.∥∥₁_elim, Math.Logic.∥∥₁_map, Props.props, lemmas.List.Elements.All-head, lemmas.List.Elements.All-tail}
 use Rattle.std.proofs.lemmas.List.{length-map}
 use Rattle.std.specs.{Borrow.Bor, List.All, Option.option_map}
+use Rattle.bolt_lemmas.specs.Order.{Rises}
 use Rattle.bolt_format.specs.{Elements.LeafElement, Pages.page_at, TreePages.leaves_on, declared.meta.Meta.Meta}
 use Rattle.bolt_check.specs.{Keys.Key, declared.finding.Finding.Finding}
-use Rattle.bolt_tree.specs.{Entries.Bucket, Entries.EntryView, Entries.Item, Entries.Value, Listing.Member, Order.Rises, ShownEntries.item_view}
+use Rattle.bolt_tree.specs.{Entries.Bucket, Entries.EntryView, Entries.Item, Entries.Value, Listing.Member, ShownEntries.item_view}
 use Rattle.bolt_recover.proofs.Exports.{has_recovered}
 use Rattle.bolt_recover.specs.{Losses.LostView, Losses.everything, Losses.is_nothing, Losses.parts, Lost.IsAllLost, LostAndFound.all_lost}
 use Rattle.bolt_recover.specs.{Found.AreFound, Found.AreFoundAnyway, Found.AreSought, Found.found_numbers, Recovered.ForRecovered}
 use Rattle.bolt_recover.specs.{Recovered.IsRecovered, Refusals.LosesRoot, ShownFound.IsFoundView}
-use Rattle.bolt_recover.specs.{Sites.leaves_of, declared.found.Found.Found, declared.lost_and_found.LostAndFound.LostAndFound}
+use Rattle.bolt_recover.specs.{Sites.leaves_of, declared.found_page.FoundPage.FoundPage, declared.lost_and_found.LostAndFound.LostAndFound}
 use Rattle.bolt_etcd.specs.{declared.wire.revision.Revision.Revision, Wire.ShownRevisions.entry_of, Wire.ShownRevisions.shown_revision}
-use Rattle.bolt_etcd.specs.{Store.Among.without, Store.Compacted.compacted_by}
+use Rattle.bolt_etcd.specs.{Store.Compacted.compacted_by}
+use Rattle.bolt_repair.specs.Candidates.{without}
 use Rattle.bolt_repair.specs.{Candidates.AreCandidates, Candidates.AreSearched, Candidates.found_elements, Candidates.whole_cmp}
 use Rattle.bolt_repair.specs.{FullRepairs.IsFullRepair, Readable.readable, Repaired.IsRepair, Repaired.MakesMeta, Repaired.elements_on}
 use Rattle.bolt_repair.specs.{Repaired.lacks_bucket, Repairs.HasMeta}
@@ -24,7 +26,7 @@ use Rattle.bolt_repair.specs.declared.recovered_store.RecoveredStore.{RecoveredS
 use Rattle.bolt_repair.proofs.WholeRepairs.{back_least, full_repair, is_nil, repair}
 
 -- the elements of the pages of the code are those of the pages with their numbers
-elements_found : (file : List ℕ) (meta : Meta) (found : List Found) → All (IsFoundView file meta) found
+elements_found : (file : List ℕ) (meta : Meta) (found : List FoundPage) → All (IsFoundView file meta) found
     → elements_on file meta (found_numbers found) ≡ found_elements found
 elements_found file meta [] views = refl
 elements_found file meta (f ∷ found) views =
@@ -82,7 +84,7 @@ meta_if recovered false says = λ there. let wrong : false ≡ true = says.1 the
 -- ---- the candidates
 
 -- on pages that were looked for though nothing is lost
-pub searched_anyway : (both : LostAndFound) (search : Bool) (found : List Found) (es : List EntryView) → search ≡ true
+pub searched_anyway : (both : LostAndFound) (search : Bool) (found : List FoundPage) (es : List EntryView) → search ≡ true
     → AreFoundAnyway both.file.now both.meta (found_numbers found)
     → All (IsFoundView both.file.now both.meta) found → AreCandidates (found_elements found) es → AreSearched both search es
 searched_anyway both search found es is are views candidates =
@@ -107,7 +109,7 @@ lost_sought anyway both true loses are some = anyway both.file.now both.meta (al
 lost_sought anyway both false loses are some = are
 
 -- on pages that were found since something is lost
-pub searched_lost : FindsAnyway → (both : LostAndFound) (search : Bool) (found : List Found) (es : List EntryView) → found ≡ both.found.items
+pub searched_lost : FindsAnyway → (both : LostAndFound) (search : Bool) (found : List FoundPage) (es : List EntryView) → found ≡ both.found.items
     → (search ≡ true → is_nothing (all_lost both) ≡ false)
     → AreCandidates (found_elements found) es → AreSearched both search es
 unfolding all_lost

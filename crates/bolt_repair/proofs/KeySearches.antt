@@ -7,8 +7,9 @@ use Rattle.std.proofs.{lemmas.List.Sorted.searchable_from_sorted, lemmas.Cmp.tie
 use Rattle.std.specs.{List.Contains, List.HoldsAt, List.Sorted.IsBinarySearchResult, List.Sorted.IsPartitionPoint, List.Sorted.IsSearchInRange}
 use Rattle.std.specs.{List.Sorted.IsSortedBy, Ordering.is_lt, Result.is_ok}
 use Rattle.std.specs.declared.cmp.Ordering.TheVariants.{Equal, Greater, Less}
+use Rattle.bolt_lemmas.proofs.Exports.{shows_from}
 use Rattle.bolt_check.specs.Keys.{Key, key_cmp}
-use Rattle.bolt_tree.proofs.Exports.{key_exact, key_total, shows_from}
+use Rattle.bolt_tree.proofs.Exports.{key_exact, key_total}
 
 module _ {X : Type 0} (f : X → Key) (key : Key) where
   found_here : (xs : List X) (i : ℕ) → i < length xs → HoldsAt (λ x. key_cmp (f x) key ≡ Equal) xs i → Contains (map f xs) key

@@ -6,13 +6,14 @@ use Rattle.std.proofs.lemmas.List.{get_or_default}
 use Rattle.std.proofs.{lemmas.Bool.cases_lt, lemmas.Slice.Eq.bytes_eq-Decides}
 use Rattle.std.specs.{Ordering.is_lt, Ordering.ordering_reverse, Str.bytes_eq, declared.cmp.Ordering.Ordering}
 use Rattle.std.specs.declared.cmp.Ordering.TheVariants.{Equal, Greater, Less}
+use Rattle.bolt_lemmas.proofs.Exports.{Climbs, climbs_sorted, irreflexive, less_of, neither, shows_from, shows_has, sorted_by_shown}
+use Rattle.bolt_lemmas.specs.Order.{Rises}
 use Rattle.bolt_check.specs.Keys.{Key, key_cmp}
-use Rattle.bolt_tree.proofs.Exports.{irreflexive, key_exact, key_total, Climbs, climbs_sorted, sorted_by_shown, shows_from, shows_has}
-use Rattle.bolt_tree.specs.{Entries.EntryView, Order.Rises}
+use Rattle.bolt_tree.proofs.Exports.{key_exact, key_total}
+use Rattle.bolt_tree.specs.Entries.{EntryView}
 use Rattle.bolt_repair.specs.{Candidates.HasKey, Candidates.whole_cmp, Keyed.HaveLesserKeys}
 use Rattle.bolt_etcd.specs.{Wire.ShownRevisions.entry_of, declared.wire.revision.Revision.Revision}
 use Rattle.bolt_repair.proofs.Alones.{entries_climb, entry_below}
-use Rattle.bolt_check.proofs.Exports.{less_of, neither}
 
 -- what isn't above one that is below a key is below the key
 at_most : (a b key : Key) (o : Ordering) → key_cmp a b ≡ o → is_lt (ordering_reverse o) ≡ false → key_cmp b key ≡ Less → key_cmp a key ≡ Less

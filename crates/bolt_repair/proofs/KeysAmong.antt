@@ -3,10 +3,10 @@ use Rattle.std.proofs.Common.{◌≡◌, ◌↔◌, Bool, true, List, not, refl}
 use Rattle.std.proofs.{lemmas.Bool.Decides.Decides-by_or, lemmas.Bool.Decides.Decides-not, lemmas.Bool.Decides.same_from_decides}
 use Rattle.std.proofs.{lemmas.List.Elements.Decides-contains, lemmas.Slice.Eq.bytes_eq-Decides}
 use Rattle.std.specs.{Bool.Decides, List.Contains, Str.bytes_eq}
+use Rattle.bolt_lemmas.proofs.Exports.{kept, kept_from}
 use Rattle.bolt_check.specs.Keys.{Key}
-use Rattle.bolt_tree.proofs.Exports.{kept, kept_from}
 use Rattle.bolt_tree.specs.Entries.{EntryView}
-use Rattle.bolt_etcd.specs.Store.Among.{among, without}
+use Rattle.bolt_repair.specs.Candidates.{among, without}
 
 -- ---- whether a key is among these, as a test
 

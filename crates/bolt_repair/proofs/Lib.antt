@@ -15,7 +15,6 @@ pub mod RepairExists
 pub mod RepairLaws
 pub mod RepairedListings
 pub mod RestoredStores
-pub mod SortedChoice
 pub mod StrippedLemmas
 pub mod WholeOrder
 pub mod WholeRepairs

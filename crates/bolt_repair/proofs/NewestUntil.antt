@@ -3,11 +3,12 @@ use Rattle.std.proofs.Common.{◌≡◌, ◌∙◌, ◌↔◌, ◌||◌, ◌++�
 use Rattle.std.proofs.{lemmas.List.map-append, lemmas.List.Sorted.Contains-permutation, lemmas.List.Sorted.IsPermutation-map}
 use Rattle.std.proofs.{lemmas.List.Sorted.IsPermutation-sym, lemmas.List.Elements.All-contains}
 use Rattle.std.specs.{List.All, List.Contains, List.cons_option, List.filter_map, List.Sorted.IsPermutation}
+use Rattle.bolt_lemmas.proofs.Exports.{filter_all, filter_mapped, shows_from}
 use Rattle.bolt_check.specs.Keys.{Key}
-use Rattle.bolt_etcd.specs.{Store.Among.among, Store.Current.AreNewest, Store.Current.HaveOwnKeys, Store.Current.IsNewest, Store.Newest.is_until}
+use Rattle.bolt_etcd.specs.{Store.Current.AreNewest, Store.Current.HaveOwnKeys, Store.Current.IsNewest, Store.Newest.is_until}
+use Rattle.bolt_repair.specs.Candidates.{among}
 use Rattle.bolt_etcd.specs.{Store.Newest.until, Wire.Revisions.RevisionView, Wire.Revisions.revision_of}
 use Rattle.bolt_etcd.specs.{Wire.ShownRevisions.entry_of, Wire.ShownRevisions.shown_revision, declared.wire.revision.Revision.Revision}
-use Rattle.bolt_tree.proofs.Exports.{filter_all, filter_mapped, shows_from}
 use Rattle.bolt_tree.specs.Entries.{EntryView}
 use Rattle.bolt_etcd.proofs.Exports.{has_stored_key, is_revision}
 use Rattle.bolt_repair.specs.WhatGoesBack.{AreTheNewest, goes_back, is_old, old_revisions}

@@ -3,28 +3,21 @@ use Rattle.std.proofs.Common.{rules, ◌≡◌, ◌↔◌, ◌∙◌, inl, inr, 
 use Rattle.std.proofs.lemmas.List.{append-nil, append_assoc}
 use Rattle.std.proofs.lemmas.List.Elements.{Contains-append_cases, Contains-append_left, Contains-append_right, Contains-push, Contains-push_cases}
 use Rattle.std.proofs.lemmas.Option.{same_Some}
-use Rattle.std.specs.{List.Contains, Option.option_to_list, declared.cmp.Ordering.Ordering}
+use Rattle.std.specs.{List.Contains, Option.option_to_list}
 use Rattle.std.specs.declared.cmp.Ordering.TheVariants.{Less}
+use Rattle.bolt_lemmas.proofs.Exports.{before_it, contains_cases, contains_head, contains_none, first_decides, irreflexive, rises_push}
+use Rattle.bolt_lemmas.specs.Order.{Rises}
 use Rattle.bolt_check.specs.Keys.{Key, key_cmp}
-use Rattle.bolt_tree.proofs.Exports.{contains_cases, contains_head, contains_none, contains_tail, irreflexive, path_total, before_it}
+use Rattle.bolt_tree.proofs.Exports.{path_total}
 use Rattle.bolt_tree.specs.{Entries.Bucket, Entries.EntryView, Entries.Item, Entries.Value, InBuckets.entry_in, Listing.Member, Listing.member_cmp}
-use Rattle.bolt_tree.specs.{Order.Rises, Paths.Path, Paths.path_cmp}
+use Rattle.bolt_tree.specs.{Paths.Path, Paths.path_cmp}
 use Rattle.bolt_etcd.specs.Wire.Revisions.{RevisionView, revision_of}
 use Rattle.bolt_repair.specs.{Candidates.HasKey, Repairs.IsKeptRevision, Repairs.compaction_path, Repairs.store_path}
 use Rattle.bolt_repair.specs.RecoveredStores.{ComesAfter, HasKeptKey, IsRecoveredStore, KeepsRevision}
-use Rattle.bolt_check.proofs.Exports.{first_decides}
 
 only : {A : Type 0} (o : Option A) (x : A) → Contains (option_to_list o) x → o ≡ Some x
 only None x has = absurd (contains_none x has)
 only (Some y) x has = elim (contains_cases y x [] has) [ inl is ↦ ap Some is | inr none ↦ absurd (contains_none x none) ]
-
-pub rises_push : {A : Type 0} (cmp : A → A → Ordering) (xs : List A) (x : A) → Rises cmp xs → ((y : A) → Contains xs y → cmp y x ≡ Less)
-    → Rises cmp (xs ++ x ∷ [])
-rises_push {A = A} cmp [] x rises below = (λ y has. absurd (contains_none y has), tt)
-rises_push {A = A} cmp (z ∷ xs) x rises below = (
-  λ y has. elim (Contains-push_cases xs x y has) [ inl there ↦ rises.0 y there | inr is ↦ subst (λ (w : A). cmp z w ≡ Less) is (below z (contains_head z xs)) ],
-  rises_push cmp xs x rises.1 (λ y has. below y (contains_tail z y xs has)),
-)
 
 module _ (before : List Member) (m : Member) where
   -- at another path there is nothing more

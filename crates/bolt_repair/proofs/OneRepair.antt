@@ -2,10 +2,12 @@
 use Rattle.std.proofs.Common.{arith, ap₂, ◌≡◌, ◌∙◌, inl, inr, ℕ, Bool, true, false, List, [], ◌∷◌, refl, subst, sym, ap}
 use Rattle.std.proofs.lemmas.Cmp.{on_total}
 use Rattle.std.specs.{Cmp.IsTotalOrder, List.Contains}
+use Rattle.bolt_lemmas.proofs.Exports.{filter_rises, one_of, rises_once}
+use Rattle.bolt_lemmas.specs.Order.{Rises}
 use Rattle.bolt_format.specs.{Elements.LeafElement, declared.meta.Meta.Meta}
 use Rattle.bolt_tree.specs.{Entries.Bucket, Entries.EntryView, Entries.Value, Entries.Item, InBuckets.view_cmp, Listing.Member, Listing.member_cmp}
-use Rattle.bolt_tree.specs.{Order.Rises, Paths.Path}
-use Rattle.bolt_tree.proofs.Exports.{filter_rises, one_of, rises_once, key_total, path_total}
+use Rattle.bolt_tree.specs.Paths.{Path}
+use Rattle.bolt_tree.proofs.Exports.{key_total, path_total}
 use Rattle.bolt_recover.proofs.Exports.{one_recovered}
 use Rattle.bolt_check.specs.Ones.{AtMostOne}
 use Rattle.bolt_recover.specs.{Found.AreFound, Found.AreFoundAnyway, Found.AreSought, Recovered.IsRecovered}

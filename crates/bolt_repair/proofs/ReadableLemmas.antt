@@ -3,8 +3,8 @@ use Rattle.std.proofs.Common.{◌≡◌, ◌∙◌, ◌↔◌, inl, inr, Bool, t
 use Rattle.std.proofs.lemmas.List.{append-nil}
 use Rattle.std.proofs.lemmas.List.Elements.{Contains-append_left, Contains-push, Contains-push_cases, filter-append, filter_map-append}
 use Rattle.std.specs.{List.Contains, List.cons_option, Borrow.Bor, Option.option_map}
+use Rattle.bolt_lemmas.proofs.Exports.{kept_from}
 use Rattle.bolt_check.specs.Keys.{Key}
-use Rattle.bolt_tree.proofs.Exports.{kept_from}
 use Rattle.bolt_tree.specs.{Entries.EntryView, Entries.Item, Listing.Member, Paths.Path, ShownEntries.item_view}
 use Rattle.bolt_etcd.specs.{Wire.Others.OtherView, Wire.Others.shown_other, Wire.ShownRevisions.shown_revision}
 use Rattle.bolt_repair.specs.{Readable.is_readable, Readable.readable, Readable.unread, Readable.unread_at, Repairs.HasMeta, Repairs.meta_path}

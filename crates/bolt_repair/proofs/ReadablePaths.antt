@@ -1,27 +1,26 @@
 -- Which paths lead into the bucket of the revisions.
 use Rattle.std.proofs.Common.{◌≡◌, ◌∙◌, ◌⊎◌, ◌&&◌, ◌≤◌, inl, inr, ℕ, zero, suc, Bool, true, false, cond, List, [], ◌∷◌, ◌++◌, Option, Some, None, ap}
-use Rattle.std.proofs.Common.{append_assoc, arith, codes, is_none, length, not, refl, subst, sym}
+use Rattle.std.proofs.Common.{append_assoc, arith, is_none, length, not, refl, subst, sym}
 use Rattle.std.proofs.{Math.Bool.and-false, lemmas.Bool.false_from_ne_true, lemmas.List.append-nil, lemmas.List.length-append}
 use Rattle.std.proofs.{lemmas.List.same_from_push}
 use Rattle.std.specs.{Cmp.Lexicographic.same_text, List.Contains, Ordering.ordering_then, Str.bytes_eq, declared.cmp.Ordering.Ordering}
 use Rattle.std.specs.declared.cmp.Ordering.TheVariants.{Equal, Greater, Less}
+use Rattle.bolt_lemmas.proofs.Exports.{flip_less}
 use Rattle.bolt_check.specs.Keys.{Key, key_cmp}
-use Rattle.bolt_tree.proofs.Exports.{before_longer, flip_less, key_exact, key_total}
+use Rattle.bolt_tree.proofs.Exports.{before_longer, key_exact, key_total}
 use Rattle.bolt_tree.specs.{Entries.Bucket, Entries.EntryView, Entries.Item, Listing.Member, Merges.HasBucket, Merges.HaveParents, Paths.Path}
 use Rattle.bolt_tree.specs.{Paths.path_cmp}
 use Rattle.bolt_etcd.specs.{Wire.Others.OtherView, Wire.Others.other_of, Wire.Revisions.RevisionView, Wire.Revisions.revision_of}
+use Rattle.bolt_etcd.specs.Store.BucketNames.{key_bucket, meta_bucket}
 use Rattle.bolt_repair.specs.{Readable.is_in_inner_bucket, Readable.is_readable, Readable.unread_at, Readable.unread_in, Repairs.compaction_path}
 use Rattle.bolt_repair.specs.{Repairs.meta_path, Repairs.store_path, StorePaths.is_near}
 
-abbrev pub store : Key
-store = codes "key"
-
-named : (bucket : Key) → bytes_eq bucket store ≡ true → bucket ≡ store
-named bucket is = same_text bucket store (sym is)
+named : (bucket : Key) → bytes_eq bucket key_bucket ≡ true → bucket ≡ key_bucket
+named bucket is = same_text bucket key_bucket (sym is)
 
 -- ---- what etcd can't read is in the bucket
 
-in_bucket : (bucket : Key) (e : EntryView) (b : Bool) → bytes_eq bucket store ≡ b → (b ≡ true → ⊥) → unread_in bucket e ≡ None
+in_bucket : (bucket : Key) (e : EntryView) (b : Bool) → bytes_eq bucket key_bucket ≡ b → (b ≡ true → ⊥) → unread_in bucket e ≡ None
 in_bucket bucket e true is never = absurd (never refl)
 in_bucket bucket e false is never = ap (λ (b : Bool). cond b (other_of e) None) is
 
@@ -29,7 +28,7 @@ pub not_unread : (path : Path) (item : Item) → ((key : Key) → path ≡ store
 not_unread [] item never = refl
 not_unread (bucket ∷ []) item never = refl
 not_unread (bucket ∷ key ∷ []) item never =
-    in_bucket bucket (record { key = key; item = item }) (bytes_eq bucket store) refl (λ is. never key (ap (λ (k : Key). k ∷ key ∷ []) (named bucket is)))
+    in_bucket bucket (record { key = key; item = item }) (bytes_eq bucket key_bucket) refl (λ is. never key (ap (λ (k : Key). k ∷ key ∷ []) (named bucket is)))
 not_unread (bucket ∷ key ∷ more ∷ path) item never = refl
 
 -- what is neither such an entry nor below one
@@ -49,39 +48,39 @@ pub meta_below : (path : Path) → is_in_inner_bucket path ≡ true → path ≡
 meta_below path below at = let wrong : is_in_inner_bucket meta_path ≡ true = sym (ap is_in_inner_bucket at) ∙ below in cc
 
 -- such a path begins with the name of the bucket
-pub unreadable_in : (path : Path) (item : Item) → is_readable path item ≡ false → (key : Key) × (rest : Path) × (path ≡ store ∷ key ∷ rest)
+pub unreadable_in : (path : Path) (item : Item) → is_readable path item ≡ false → (key : Key) × (rest : Path) × (path ≡ key_bucket ∷ key ∷ rest)
 unreadable_in [] item is = cc
 unreadable_in (bucket ∷ []) item is = cc
-unreadable_in (bucket ∷ key ∷ []) item is = by (bytes_eq bucket store) refl
+unreadable_in (bucket ∷ key ∷ []) item is = by (bytes_eq bucket key_bucket) refl
   where
-    by : (b : Bool) → bytes_eq bucket store ≡ b → (k : Key) × (rest : Path) × ((bucket ∷ key ∷ []) ≡ store ∷ k ∷ rest)
+    by : (b : Bool) → bytes_eq bucket key_bucket ≡ b → (k : Key) × (rest : Path) × ((bucket ∷ key ∷ []) ≡ key_bucket ∷ k ∷ rest)
     by true same = (key, [], ap (λ (k : Key). k ∷ key ∷ []) (named bucket same))
     by false other =
         let e : EntryView = record { key = key; item = item } in
         let none = in_bucket bucket e false other (λ f. cc) in
         let yes = readable_if (bucket ∷ key ∷ []) item none refl in cc
-unreadable_in (bucket ∷ key ∷ more ∷ path) item is = by (bytes_eq bucket store) refl
+unreadable_in (bucket ∷ key ∷ more ∷ path) item is = by (bytes_eq bucket key_bucket) refl
   where
-    by : (b : Bool) → bytes_eq bucket store ≡ b → (k : Key) × (rest : Path) × ((bucket ∷ key ∷ more ∷ path) ≡ store ∷ k ∷ rest)
+    by : (b : Bool) → bytes_eq bucket key_bucket ≡ b → (k : Key) × (rest : Path) × ((bucket ∷ key ∷ more ∷ path) ≡ key_bucket ∷ k ∷ rest)
     by true same = (key, more ∷ path, ap (λ (k : Key). k ∷ key ∷ more ∷ path) (named bucket same))
     by false other = let yes : is_readable (bucket ∷ key ∷ more ∷ path) item ≡ true = ap not other in cc
 
 -- ---- paths beside that of the bucket
 
-by_key : (b : Key) (t rest : Path) (o : Ordering) → key_cmp store b ≡ o → ordering_then o (path_cmp [] t) ≡ Less
-    → path_cmp (b ∷ t) (store ∷ rest) ≡ Less → b ≡ store
+by_key : (b : Key) (t rest : Path) (o : Ordering) → key_cmp key_bucket b ≡ o → ordering_then o (path_cmp [] t) ≡ Less
+    → path_cmp (b ∷ t) (key_bucket ∷ rest) ≡ Less → b ≡ key_bucket
 by_key b t rest Less is less more =
-    let turned = flip_less key_total store b is in
+    let turned = flip_less key_total key_bucket b is in
     let wrong : Greater ≡ Less = sym (ap (λ (o : Ordering). ordering_then o (path_cmp t rest)) turned) ∙ more in
     cc
-by_key b t rest Equal is less more = sym (key_exact store b is)
+by_key b t rest Equal is less more = sym (key_exact key_bucket b is)
 by_key b t rest Greater is less more = cc
 
-pub between : (path rest : Path) → path_cmp store_path path ≡ Less → path_cmp path (store ∷ rest) ≡ Less → (tail : Path) × (path ≡ store ∷ tail)
+pub between : (path rest : Path) → path_cmp store_path path ≡ Less → path_cmp path (key_bucket ∷ rest) ≡ Less → (tail : Path) × (path ≡ key_bucket ∷ tail)
 between [] rest after before = cc
-between (b ∷ t) rest after before = (t, ap (λ (k : Key). k ∷ t) (by_key b t rest (key_cmp store b) refl after before))
+between (b ∷ t) rest after before = (t, ap (λ (k : Key). k ∷ t) (by_key b t rest (key_cmp key_bucket b) refl after before))
 
-pub near_if : (tail : Path) (item : Item) → is_readable (store ∷ tail) item ≡ true → is_near (store ∷ tail) ≡ true
+pub near_if : (tail : Path) (item : Item) → is_readable (key_bucket ∷ tail) item ≡ true → is_near (key_bucket ∷ tail) ≡ true
 near_if [] item is = refl
 near_if (key ∷ []) item is = refl
 near_if (key ∷ more ∷ path) item is = cc
@@ -101,9 +100,9 @@ near_entry path key at = ap is_near at
 
 pub not_near : (path : Path) → (path ≡ store_path → ⊥) → ((key : Key) → path ≡ store_path ++ key ∷ [] → ⊥) → is_near path ≡ false
 not_near [] no_bucket no_entry = refl
-not_near (bucket ∷ []) no_bucket no_entry = false_from_ne_true (bytes_eq bucket store) (λ is. no_bucket (ap (λ (k : Key). k ∷ []) (named bucket is)))
+not_near (bucket ∷ []) no_bucket no_entry = false_from_ne_true (bytes_eq bucket key_bucket) (λ is. no_bucket (ap (λ (k : Key). k ∷ []) (named bucket is)))
 not_near (bucket ∷ key ∷ []) no_bucket no_entry =
-    false_from_ne_true (bytes_eq bucket store) (λ is. no_entry key (ap (λ (k : Key). k ∷ key ∷ []) (named bucket is)))
+    false_from_ne_true (bytes_eq bucket key_bucket) (λ is. no_entry key (ap (λ (k : Key). k ∷ key ∷ []) (named bucket is)))
 not_near (bucket ∷ key ∷ more ∷ path) no_bucket no_entry = refl
 
 pub not_near_below : (path : Path) → is_in_inner_bucket path ≡ true → is_near path ≡ false
@@ -164,9 +163,9 @@ module _ (listing : List Member) (parents : HaveParents listing listing) where
 pub unreadable_above : (above : Path) (k : Key) (item inner : Item) → is_readable above item ≡ false → is_readable (above ++ k ∷ []) inner ≡ false
 unreadable_above above k item inner is =
     let (key, rest, at) = unreadable_in above item is in
-    ap (λ (p : Path). is_readable (p ++ k ∷ []) inner) at ∙ unreadable_below (store ∷ key ∷ rest ++ k ∷ []) inner (deep key rest k)
+    ap (λ (p : Path). is_readable (p ++ k ∷ []) inner) at ∙ unreadable_below (key_bucket ∷ key ∷ rest ++ k ∷ []) inner (deep key rest k)
   where
-    deep : (key : Key) (rest : Path) (k : Key) → is_in_inner_bucket (store ∷ key ∷ rest ++ k ∷ []) ≡ true
+    deep : (key : Key) (rest : Path) (k : Key) → is_in_inner_bucket (key_bucket ∷ key ∷ rest ++ k ∷ []) ≡ true
     deep key [] k = refl
     deep key (next ∷ rest) k = refl
 
@@ -200,7 +199,8 @@ first_key [] = []
 first_key (key ∷ path) = key
 
 pub store_no_meta : (path : Path) → path ≡ store_path → path ≡ meta_path → ⊥
-store_no_meta path at also = let wrong : length store ≡ length (codes "meta") = ap (λ (p : Path). length (first_key p)) (sym at ∙ also) in omega (arith, wrong)
+store_no_meta path at also =
+    let wrong : length key_bucket ≡ length meta_bucket = ap (λ (p : Path). length (first_key p)) (sym at ∙ also) in omega (arith, wrong)
 
 pub entry_no_meta : (path : Path) (key : Key) → path ≡ store_path ++ key ∷ [] → path ≡ meta_path → ⊥
 entry_no_meta path key at also = let wrong = ap length (sym at ∙ also) in omega (arith, wrong)

@@ -1,24 +1,26 @@
 -- Each file has a repaired listing, if the recovered listing has no value under the name of the bucket: whether an entry goes back can be decided.
-use Rattle.std.proofs.Common.{◌≡◌, ◌↔◌, ◌&&◌, ◌-◌, ◌++◌, ℕ, Bool, true, false, List, [], ◌∷◌, Option, Some, None, ap, codes, filter, length, map, not}
+use Rattle.std.proofs.Common.{◌≡◌, ◌↔◌, ◌&&◌, ◌-◌, ◌++◌, ℕ, Bool, true, false, List, [], ◌∷◌, Option, Some, None, ap, filter, length, map, not}
 use Rattle.std.proofs.Common.{refl, subst, sym}
 use Rattle.std.proofs.{lemmas.Cmp.tied_itself, lemmas.List.MinMax.ranks_by, lemmas.List.append-nil}
 use Rattle.std.specs.{List.Contains, List.dedup, Option.option_to_list, Ordering.is_lt, declared.cmp.Ordering.TheVariants.Equal}
+use Rattle.bolt_lemmas.proofs.Exports.{dec_each, dec_equal, dec_if, dec_some, kept_from, shows_from, shows_has, sorted_choice, sorted_elements, sorted_exists}
+use Rattle.bolt_lemmas.specs.Order.{Rises}
 use Rattle.bolt_format.specs.{Elements.LeafElement, declared.meta.Meta.Meta}
 use Rattle.bolt_check.specs.Keys.{Key}
 use Rattle.bolt_recover.specs.{Found.AreSought, Recovered.IsRecovered}
-use Rattle.bolt_tree.proofs.Exports.{key_exact, key_total, kept_from, shows_from, shows_has}
+use Rattle.bolt_tree.proofs.Exports.{key_exact, key_total}
 use Rattle.bolt_tree.specs.{Entries.Bucket, Entries.EntryView, Entries.Item, Entries.Value, Entries.entry_view, Listing.Member, Listing.member_cmp}
-use Rattle.bolt_tree.specs.{Order.Rises, Paths.Path}
-use Rattle.bolt_etcd.specs.{Store.Among.without, Store.Compacted.compacted_by, Wire.Revisions.RevisionView, Wire.Revisions.revision_of}
-use Rattle.bolt_repair.specs.Candidates.{AreCandidates, HasKey, candidates_in, is_candidate, is_same_entry, whole_cmp}
+use Rattle.bolt_tree.specs.Paths.{Path}
+use Rattle.bolt_etcd.specs.{Store.Compacted.compacted_by, Wire.Revisions.RevisionView, Wire.Revisions.revision_of}
+use Rattle.bolt_repair.specs.Candidates.{without, AreCandidates, HasKey, candidates_in, is_candidate, is_same_entry, whole_cmp}
+use Rattle.bolt_etcd.specs.Store.BucketNames.{key_bucket}
 use Rattle.bolt_repair.specs.{FullRepairs.IsFullRepair, FullRepairs.LacksStoreValue, Readable.is_readable, Readable.readable, Repaired.IsRepaired}
 use Rattle.bolt_repair.specs.{Repaired.Made, Repaired.MakesMeta, Repaired.elements_on, Repaired.lacks_bucket, Repaired.repaired_listing}
 use Rattle.bolt_repair.specs.{Repairs.compaction_path, Repairs.meta_path, Repairs.store_path, RecoveredStores.ComesAfter}
 use Rattle.bolt_repair.specs.{RecoveredStores.IsRecoveredStore, Undisputed.AreKeys, Undisputed.AreUndisputed}
 use Rattle.bolt_repair.specs.WhatGoesBack.{ArePutBack, goes_back, old_revisions}
-use Rattle.bolt_etcd.proofs.Exports.{dec_each, dec_equal, dec_if, dec_key, dec_path, dec_some, newest_exists, sorted_exists}
-use Rattle.bolt_repair.proofs.{KeysAmong.without_has, OneRepair.readable_rises, OneRepair.view_total, SortedChoice.sorted_choice}
-use Rattle.bolt_repair.proofs.{SortedChoice.sorted_elements}
+use Rattle.bolt_etcd.proofs.Exports.{dec_key, dec_path, newest_exists}
+use Rattle.bolt_repair.proofs.{KeysAmong.without_has, OneRepair.readable_rises, OneRepair.view_total}
 use Rattle.bolt_repair.proofs.NotedMembers.{bucket_there, compaction_noted, key_not_wanted, key_noted, next_member, no_members_noted, nothing_there}
 use Rattle.bolt_repair.proofs.NotedMembers.{store_noted}
 use Rattle.bolt_repair.proofs.{WholeOrder.merged_are_candidates, WholeOrder.same_whole, WholeOrder.whole_total, WholeRepairs.full_repair}
@@ -125,12 +127,12 @@ module _ (candidates : List EntryView) where
     )
 
   by_bucket : (before : List Member) (bucket : Key) (item : Item) → ComesAfter before (bucket ∷ [], item) → HasRecoveredStore before
-      → Dec (bucket ≡ codes "key") → HasRecoveredStore (before ++ (bucket ∷ [], item) ∷ [])
+      → Dec (bucket ≡ key_bucket) → HasRecoveredStore (before ++ (bucket ∷ [], item) ∷ [])
   by_bucket before bucket item after s (yes same) = at_store before (bucket ∷ []) item after s (ap (λ (k : Key). k ∷ []) same)
   by_bucket before bucket item after s (no never) = elsewhere before (bucket ∷ []) item after s (λ e. never cc) (λ key e. cc) (λ e. cc)
 
   by_entry : (before : List Member) (bucket key : Key) (item : Item) → ComesAfter before (bucket ∷ key ∷ [], item) → HasRecoveredStore before
-      → Dec (bucket ≡ codes "key")
+      → Dec (bucket ≡ key_bucket)
       → Dec ((bucket ∷ key ∷ []) ≡ compaction_path) → HasRecoveredStore (before ++ (bucket ∷ key ∷ [], item) ∷ [])
   by_entry before bucket key item after s (yes same) compaction =
       at_entry before (bucket ∷ key ∷ []) item after s key (ap (λ (k : Key). k ∷ key ∷ []) same) (dec_has_key key)
@@ -140,9 +142,9 @@ module _ (candidates : List EntryView) where
   step : (before : List Member) (path : Path) (item : Item) → ComesAfter before (path, item) → HasRecoveredStore before
       → HasRecoveredStore (before ++ (path, item) ∷ [])
   step before [] item after s = elsewhere before [] item after s (λ e. cc) (λ key e. cc) (λ e. cc)
-  step before (bucket ∷ []) item after s = by_bucket before bucket item after s (dec_key bucket (codes "key"))
+  step before (bucket ∷ []) item after s = by_bucket before bucket item after s (dec_key bucket key_bucket)
   step before (bucket ∷ key ∷ []) item after s =
-      by_entry before bucket key item after s (dec_key bucket (codes "key")) (dec_path (bucket ∷ key ∷ []) compaction_path)
+      by_entry before bucket key item after s (dec_key bucket key_bucket) (dec_path (bucket ∷ key ∷ []) compaction_path)
   step before (bucket ∷ key ∷ more ∷ path) item after s = elsewhere before (bucket ∷ key ∷ more ∷ path) item after s (λ e. cc) (λ k e. cc) (λ e. cc)
 
   noted_on : (left before : List Member) → Rises member_cmp (before ++ left) → HasRecoveredStore before → HasRecoveredStore (before ++ left)

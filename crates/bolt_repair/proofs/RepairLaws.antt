@@ -2,10 +2,11 @@
 use Rattle.std.proofs.Common.{◌≡◌, ◌≢◌, ◌∙◌, ◌⊎◌, ◌≤◌, inl, inr, ℕ, Bool, true, false, List, [], ◌∷◌, ap, arith, map, refl, subst, sym}
 use Rattle.std.specs.{List.Contains, declared.cmp.Ordering.Ordering, declared.cmp.Ordering.TheVariants.Equal, declared.cmp.Ordering.TheVariants.Less}
 use Rattle.std.specs.Ordering.{ordering_reverse}
+use Rattle.bolt_lemmas.proofs.Exports.{contains_cases, contains_head, contains_none, filter_all, kept as keeps_one, kept_from}
 use Rattle.bolt_format.specs.{Elements.LeafElement, declared.meta.Meta.Meta}
 use Rattle.bolt_check.specs.Keys.{key_cmp}
 use Rattle.bolt_tree.specs.{Entries.Bucket, Entries.EntryView, InBuckets.entry_in, InBuckets.members_in, Listing.Member, Merges.merge}
-use Rattle.bolt_tree.proofs.Exports.{entry_of, contains_cases, contains_head, contains_none, filter_all, kept as keeps_one, kept_from, merge_members}
+use Rattle.bolt_tree.proofs.Exports.{entry_of, merge_members}
 use Rattle.bolt_tree.proofs.Exports.{merge_none, key_exact, key_total}
 use Rattle.bolt_recover.proofs.Exports.{one_recovered}
 use Rattle.bolt_recover.specs.Recovered.{IsRecovered}

@@ -1,16 +1,19 @@
 -- A repaired listing is in the order of paths, and is what a tree lists.
-use Rattle.std.proofs.Common.{◌≡◌, ◌∙◌, inl, inr, ℕ, Bool, true, false, List, [], ◌∷◌, ◌++◌, ap, codes, map, refl, subst, sym}
+use Rattle.std.proofs.Common.{◌≡◌, ◌∙◌, inl, inr, ℕ, Bool, true, false, List, [], ◌∷◌, ◌++◌, ap, map, refl, subst, sym}
 use Rattle.std.specs.List.{Contains}
+use Rattle.bolt_lemmas.proofs.Exports.{contains_cases, contains_head, contains_none, kept, kept_from}
+use Rattle.bolt_lemmas.specs.Order.{Rises}
 use Rattle.bolt_format.specs.{Elements.LeafElement, declared.meta.Meta.Meta}
 use Rattle.bolt_check.specs.Keys.{Key}
 use Rattle.bolt_tree.specs.{Entries.Bucket, Entries.EntryView, Entries.Item, InBuckets.entry_in, InBuckets.members_in, Listing.Member}
-use Rattle.bolt_tree.specs.{Listing.member_cmp, Merges.AreApart, Merges.HasParent, Merges.HaveParents, Merges.merge, Order.Rises, Paths.Path}
+use Rattle.bolt_tree.specs.{Listing.member_cmp, Merges.AreApart, Merges.HasParent, Merges.HaveParents, Merges.merge, Paths.Path}
 use Rattle.bolt_tree.specs.{Tree.Tree, Tree.listing_of, Tree.tree_of}
-use Rattle.bolt_tree.proofs.Exports.{entry_of, kept, kept_from, members_have_parents, members_rise, tree_has_parents, contains_cases, contains_head}
-use Rattle.bolt_tree.proofs.Exports.{contains_none, merge_bucket, merge_members, merge_parents, merge_rises, path_exact, parented_tree}
+use Rattle.bolt_tree.proofs.Exports.{entry_of, members_have_parents, members_rise, tree_has_parents}
+use Rattle.bolt_tree.proofs.Exports.{merge_bucket, merge_members, merge_parents, merge_rises, path_exact, parented_tree}
 use Rattle.bolt_repair.specs.{Readable.is_readable, Readable.readable, Repaired.IsRepair, Repaired.IsRepaired, Repaired.Made, Repaired.MakesMeta}
 use Rattle.bolt_repair.specs.{Repaired.MakesStore, Repaired.elements_on, Repaired.repaired_listing, Repairs.AreBack, Repairs.meta_path}
 use Rattle.bolt_repair.specs.{Repairs.store_path}
+use Rattle.bolt_etcd.specs.Store.BucketNames.{key_bucket, meta_bucket}
 use Rattle.bolt_repair.proofs.{OneRepair.readable_rises, ReadablePaths.entry_no_meta, ReadablePaths.store_no_meta, ReadablePaths.unreadable_above}
 
 -- what is read, with what goes back in its bucket
@@ -53,7 +56,7 @@ module _ (recovered : List Member) where
       let more = members_in true store_path (e ∷ back) in
       members_have_parents (merge recovered more) true store_path (e ∷ back)
       (inr (0, (merge_members recovered more (store_path, Bucket 0)).1 (inr (contains_head (store_path, Bucket 0) (map (entry_in store_path) (e ∷ back))))))
-      (λ made. ([], codes "key", refl, inl refl))
+      (λ made. ([], key_bucket, refl, inl refl))
   parents_back (e ∷ back) false (sequence, has) =
       let more = members_in false store_path (e ∷ back) in
       members_have_parents (merge recovered more) false store_path (e ∷ back) (merge_bucket recovered more store_path (inr (sequence, has)))
@@ -121,7 +124,7 @@ module _ (recovered : List Member) (back : List EntryView) (store meta : Bool) (
   meta_placed : (made : Bool) → HaveParents (merge before (members_in made meta_path [])) (members_in made meta_path [])
   meta_placed false m has = absurd (contains_none m has)
   meta_placed true m has = elim (contains_cases (meta_path, Bucket 0) m [] has) [
-    | inl same ↦ subst (λ (x : Member). HasParent (merge before (members_in true meta_path [])) x.0) same ([], codes "meta", refl, inl refl)
+    | inl same ↦ subst (λ (x : Member). HasParent (merge before (members_in true meta_path [])) x.0) same ([], meta_bucket, refl, inl refl)
     | inr none ↦ absurd (contains_none m none)
   ]
 

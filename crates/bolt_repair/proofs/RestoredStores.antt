@@ -1,19 +1,22 @@
 -- The repaired listing of a compacted store that lost revisions which are found is the listing before.
-use Rattle.std.proofs.Common.{◌≡◌, ◌∙◌, ◌≤◌, inl, inr, ℕ, Bool, true, false, List, [], ◌∷◌, ◌++◌, Some, ap, arith, codes, length, map, refl, subst}
+use Rattle.std.proofs.Common.{◌≡◌, ◌∙◌, ◌≤◌, inl, inr, ℕ, Bool, true, false, List, [], ◌∷◌, ◌++◌, Some, ap, arith, length, map, refl, subst}
 use Rattle.std.proofs.Common.{sym}
 use Rattle.std.specs.declared.cmp.Ordering.TheVariants.{Less}
 use Rattle.std.proofs.lemmas.{Bool.cases_lt, Bool.true_from_ne_false, List.same_from_push}
 use Rattle.std.specs.List.{Contains}
+use Rattle.bolt_lemmas.proofs.Exports.{contains_head, contains_tail, filter_all, irreflexive, rises_once, shows_has}
+use Rattle.bolt_lemmas.specs.Order.{Rises}
 use Rattle.bolt_format.specs.{Elements.LeafElement, declared.meta.Meta.Meta}
 use Rattle.bolt_check.specs.{Keys.Key, Keys.key_cmp, Ones.AtMostOne}
 use Rattle.bolt_tree.specs.{Entries.Bucket, Entries.EntryView, Entries.Item, Entries.Value, Entries.entry_view, InBuckets.entry_in}
-use Rattle.bolt_tree.specs.{InBuckets.members_in, Listing.Member, Listing.member_cmp, Merges.HasBucket, Merges.HaveParents, Merges.merge, Order.Rises}
+use Rattle.bolt_tree.specs.{InBuckets.members_in, Listing.Member, Listing.member_cmp, Merges.HasBucket, Merges.HaveParents, Merges.merge}
 use Rattle.bolt_tree.specs.{Paths.Path, Tree.Tree, Tree.listing_of}
-use Rattle.bolt_tree.proofs.Exports.{entry_of, tree_has_parents, contains_head, contains_tail, irreflexive, rises_once, shows_has, filter_all}
+use Rattle.bolt_tree.proofs.Exports.{entry_of, tree_has_parents}
 use Rattle.bolt_tree.proofs.Exports.{merge_members, merge_none, key_total, member_total}
 use Rattle.bolt_recover.proofs.Exports.{one_recovered}
 use Rattle.bolt_recover.specs.Found.{AreFound}
 use Rattle.bolt_etcd.specs.{Check.Misplaced.is_misplaced, Wire.Revisions.RevisionView, Wire.Revisions.revision_of}
+use Rattle.bolt_etcd.specs.Store.BucketNames.{key_bucket, meta_bucket}
 use Rattle.bolt_repair.specs.LostRevisions.{IsCompactedStore, IsRecoveredOrFound, LosesRevisions}
 use Rattle.bolt_repair.specs.{Readable.is_readable, Readable.readable, Repaired.IsRepaired, Repaired.MakesMeta, Repaired.MakesStore}
 use Rattle.bolt_repair.specs.{Repaired.elements_on, Repairs.AreBack, Repairs.GoesBack, Repairs.HasMeta, Repairs.IsAgreed, Repairs.IsCandidate}
@@ -33,7 +36,7 @@ no_bucket : (e : EntryView) (item : Item) → entry_in store_path e ≡ (store_p
 no_bucket e item is = let f : length (store_path ++ e.key ∷ []) ≡ 1 = ap (λ (m : Member). length m.0) is in omega (arith, f)
 
 no_compaction : (e : EntryView) (item : Item) → entry_in store_path e ≡ (compaction_path, item) → ⊥
-no_compaction e item is = let f : length (codes "key") ≡ length (codes "meta") = ap (λ (m : Member). length (first_key m.0)) is in omega (arith, f)
+no_compaction e item is = let f : length key_bucket ≡ length meta_bucket = ap (λ (m : Member). length (first_key m.0)) is in omega (arith, f)
 
 no_meta : (e : EntryView) (item : Item) → entry_in store_path e ≡ (meta_path, item) → ⊥
 no_meta e item is = let f : length (store_path ++ e.key ∷ []) ≡ 1 = ap (λ (m : Member). length m.0) is in omega (arith, f)
@@ -206,7 +209,7 @@ module _ (listing recovered : List Member) (found : List LeafElement) (compacted
           let (r, is, in_place) = store.revisions e there in
           (readable_entry e (revision_read e r is)).0
 
-      by : (key : Key) (rest : Path) → m.0 ≡ codes "key" ∷ key ∷ rest → Contains listing m → is_readable m.0 m.1 ≡ false → ⊥
+      by : (key : Key) (rest : Path) → m.0 ≡ key_bucket ∷ key ∷ rest → Contains listing m → is_readable m.0 m.1 ≡ false → ⊥
       by key [] at there unread =
           let right = revision_there key m.1 (subst (λ (p : Path). Contains listing (p, m.1)) at there) in
           let wrong = sym (ap (λ (p : Path). is_readable p m.1) at) ∙ unread in cc

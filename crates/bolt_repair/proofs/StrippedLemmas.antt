@@ -2,10 +2,13 @@
 use Rattle.std.proofs.Common.{◌≡◌, ◌∙◌, ◌⊎◌, ◌||◌, inl, inr, Bool, true, false, List, [], ◌∷◌, ap, cond, not, refl, subst, sym}
 use Rattle.std.proofs.Math.Bool.{or-true}
 use Rattle.std.specs.{List.Contains, declared.cmp.Ordering.TheVariants.Less}
-use Rattle.bolt_tree.proofs.Exports.{asymmetric, before_longer, contains_cases, contains_head, contains_tail, path_total}
-use Rattle.bolt_tree.specs.{Entries.Item, Listing.Member, Listing.member_cmp, Merges.HaveParents, Order.Rises, Paths.Path, Paths.path_cmp}
+use Rattle.bolt_lemmas.proofs.Exports.{asymmetric, contains_cases, contains_head, contains_tail}
+use Rattle.bolt_lemmas.specs.Order.{Rises}
+use Rattle.bolt_tree.proofs.Exports.{before_longer, path_total}
+use Rattle.bolt_tree.specs.{Entries.Item, Listing.Member, Listing.member_cmp, Merges.HaveParents, Paths.Path, Paths.path_cmp}
+use Rattle.bolt_etcd.specs.Store.BucketNames.{key_bucket}
 use Rattle.bolt_repair.specs.{Readable.is_readable, Readable.readable, Repairs.store_path, StorePaths.is_near, Stripped.strip}
-use Rattle.bolt_repair.proofs.ReadablePaths.{between, has_store, near_after, near_if, near_there, store, unreadable_in}
+use Rattle.bolt_repair.proofs.ReadablePaths.{between, has_store, near_after, near_if, near_there, unreadable_in}
 
 -- after the bucket
 abbrev AreBeyond : List Member → Type 0
@@ -15,7 +18,7 @@ AreBeyond ms = (m : Member) → Contains ms m → path_cmp store_path m.0 ≡ Le
 abbrev FollowNear : Bool → List Member → Type 0
 FollowNear near ms = (m : Member) → Contains ms m → is_readable m.0 m.1 ≡ false → (near ≡ true) ⊎ ((item : Item) × Contains ms (store_path, item))
 
-near_between : (x : Member) (path : Path) → path_cmp store_path x.0 ≡ Less → path_cmp x.0 (store ∷ path) ≡ Less → is_readable x.0 x.1 ≡ true
+near_between : (x : Member) (path : Path) → path_cmp store_path x.0 ≡ Less → path_cmp x.0 (key_bucket ∷ path) ≡ Less → is_readable x.0 x.1 ≡ true
     → is_near x.0 ≡ true
 near_between x path after before is =
     let (tail, at) = between x.0 path after before in
@@ -46,7 +49,7 @@ module _ (near : Bool) (x : Member) (ms : List Member) (rises : Rises member_cmp
     | inr (item, there) ↦
         let (key, rest, at) = unreadable_in x.0 x.1 unread in
         elim (contains_cases x (store_path, item) ms there) [
-          | inl here ↦ let wrong : store_path ≡ store ∷ key ∷ rest = sym (ap (λ (y : Member). y.0) here) ∙ at in cc
+          | inl here ↦ let wrong : store_path ≡ key_bucket ∷ key ∷ rest = sym (ap (λ (y : Member). y.0) here) ∙ at in cc
           | inr later ↦
               absurd (asymmetric path_total store_path x.0 (subst (λ (p : Path). path_cmp store_path p ≡ Less) (sym at) (before_longer store_path key rest))
               (rises.0 (store_path, item) later))

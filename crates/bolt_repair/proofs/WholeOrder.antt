@@ -1,5 +1,5 @@
 -- Candidates by key and value.
-use Rattle.std.proofs.Common.{rules, arith, ◌≡◌, ◌∙◌, ◌&&◌, ℕ, Bool, true, List, map, Option, Some, None, false, refl, sym, ap, subst}
+use Rattle.std.proofs.Common.{rules, arith, ◌≡◌, ◌∙◌, ℕ, Bool, true, List, map, Option, Some, None, false, refl, sym, ap, subst}
 use Rattle.std.proofs.lemmas.Bool.{and_parts, not-true}
 use Rattle.std.proofs.lemmas.Cmp.{and_equiv, nat_list_cmp_total, nat_list_eq_equiv, on_equiv, on_total, then_total}
 use Rattle.std.proofs.{lemmas.List.Kept.Any-dedup, lemmas.List.Kept.Contains-from_dedup, lemmas.List.Kept.IsStrictlySortedBy-dedup}
@@ -8,8 +8,8 @@ use Rattle.std.proofs.{lemmas.List.Sorted.Contains-permutation, lemmas.List.Sort
 use Rattle.std.proofs.{lemmas.Map.Text.is_eq-slice_cmp}
 use Rattle.std.specs.{Cmp.IsEquivalence, Cmp.IsStrictWeakOrder, Cmp.IsTotalOrder, List.Contains, List.dedup}
 use Rattle.std.specs.{List.Sorted.IsPermutation, List.Sorted.IsSorted, List.Sorted.IsSortedBy, Ordering.eq_by_cmp, Ordering.is_eq, Ordering.is_lt}
-use Rattle.std.specs.{Ordering.ordering_then}
-use Rattle.std.specs.{declared.cmp.Ordering.Ordering, declared.cmp.Ordering.TheVariants.Equal}
+use Rattle.std.specs.declared.cmp.Ordering.TheVariants.{Equal}
+use Rattle.bolt_lemmas.proofs.Exports.{both_tied, dedup_mapped, kept_from, rises_from, sorted_mapped}
 use Rattle.bolt_format.specs.Elements.{LeafElement}
 use Rattle.bolt_check.specs.Keys.{Key}
 use Rattle.bolt_tree.specs.Entries.{EntryView, Item, Value, entry_view}
@@ -17,14 +17,10 @@ use Rattle.bolt_etcd.specs.{Wire.ShownRevisions.entry_of, Wire.ShownRevisions.va
 use Rattle.bolt_etcd.specs.{Check.Misplaced.is_misplaced}
 use Rattle.bolt_etcd.specs.Wire.Revisions.{RevisionView, revision_in, revision_of, value_of}
 use Rattle.bolt_repair.specs.Candidates.{AreCandidates, candidates_in, is_candidate, is_in_place, is_same_entry, whole_cmp}
-use Rattle.bolt_etcd.proofs.Exports.{bind_some, rises_from}
-use Rattle.bolt_tree.proofs.Exports.{dedup_mapped, sorted_mapped, kept_from}
+use Rattle.bolt_etcd.proofs.Exports.{bind_some}
 
 pub whole_total : IsTotalOrder whole_cmp
 whole_total = then_total (on_total (λ (e : EntryView). e.key) nat_list_cmp_total) (on_total value_bytes nat_list_cmp_total)
-
-both_tied : (a b : Ordering) → is_eq (ordering_then a b) ≡ (is_eq a && is_eq b)
-both_tied a b = grind arith
 
 ties : (x y : EntryView) → is_same_entry x y ≡ eq_by_cmp whole_cmp x y
 ties x y = grind (arith, is_eq-slice_cmp, both_tied)

@@ -6,13 +6,16 @@ use Rattle.std.proofs.{lemmas.List.length-map, lemmas.List.Elements.Contains-app
 use Rattle.std.proofs.{lemmas.List.Elements.Contains-append_right}
 use Rattle.std.proofs.lemmas.Option.{same_Some}
 use Rattle.std.specs.List.{Contains, filter_map}
+use Rattle.bolt_lemmas.proofs.Exports.{fewer, filter_rises, gives_from, gives_has, kept, kept_from, rises_mapped, shows_from, shows_has}
+use Rattle.bolt_lemmas.specs.Order.{Rises}
 use Rattle.bolt_format.specs.{Elements.LeafElement, declared.meta.Meta.Meta}
 use Rattle.bolt_check.specs.Keys.{Key, key_cmp}
 use Rattle.bolt_recover.specs.{Found.AreSought, Recovered.IsRecovered}
-use Rattle.bolt_tree.proofs.Exports.{kept, key_total, filter_rises, kept_from, gives_from, gives_has, shows_from, shows_has, fewer, rises_mapped}
+use Rattle.bolt_tree.proofs.Exports.{key_total}
 use Rattle.bolt_tree.specs.{Entries.Bucket, Entries.EntryView, Entries.Item, Entries.Value, Entries.entry_view, InBuckets.view_cmp, Listing.Member}
-use Rattle.bolt_tree.specs.{Listing.member_cmp, Order.Rises}
-use Rattle.bolt_etcd.specs.{Store.Among.without, Store.Among.among, Store.Compacted.compacted_by, Store.Current.HaveOwnKeys, Store.Current.IsNewest}
+use Rattle.bolt_tree.specs.Listing.{member_cmp}
+use Rattle.bolt_etcd.specs.{Store.Compacted.compacted_by, Store.Current.HaveOwnKeys, Store.Current.IsNewest}
+use Rattle.bolt_repair.specs.Candidates.{among, without}
 use Rattle.bolt_etcd.specs.{Store.Newest.is_until, Wire.Revisions.RevisionView, Wire.Revisions.revision_of}
 use Rattle.bolt_repair.specs.{Candidates.AreCandidates, Candidates.is_candidate, Candidates.is_in_place, FullRepairs.AreCandidateKeys}
 use Rattle.bolt_repair.specs.{FullRepairs.IsFullRepair}

@@ -1,5 +1,5 @@
 -- Up to which transaction the copy of a repair may lack revisions: docs/RECOVERY.md, "What may be missing".
-use Rattle.std.specs.Prelude.{◌≡◌, ◌&&◌, ◌≤◌, ◌⊎◌, ℕ, Bool, true, false, List, [], ◌∷◌, Option, Some, None, codes, if◌then◌else◌, max, not}
+use Rattle.std.specs.Prelude.{◌≡◌, ◌&&◌, ◌≤◌, ◌⊎◌, ℕ, Bool, true, false, List, [], ◌∷◌, Option, Some, None, if◌then◌else◌, max, not}
 use Rattle.std.specs.{List.Contains, Ordering.is_lt, Str.bytes_eq}
 use Rattle.bolt_check.specs.Keys.{Key, key_cmp}
 use Rattle.bolt_format.specs.Bytes.{IsBytes}
@@ -8,6 +8,7 @@ use Rattle.bolt_recover.specs.Losses.{LossView, LostView, everything, parts}
 use Rattle.bolt_etcd.specs.{Wire.Others.No_record, Wire.Others.OtherView, Wire.Others.Other_key, Wire.RevisionKeys.revision_key}
 use Rattle.bolt_etcd.specs.{Wire.Revisions.RevisionView, Wire.Revisions.name_of, Wire.Revisions.revision_of}
 use Rattle.bolt_etcd.specs.{declared.wire.revision_key.RevisionKey.RevisionKey}
+use Rattle.bolt_etcd.specs.Store.BucketNames.{key_bucket}
 use Rattle.bolt_repair.specs.{Readable.unread, Repairs.store_path}
 use Rattle.bolt_repair.specs.declared.bound.Bound.{Bound}
 use Rattle.bolt_repair.specs.declared.bound.Bound.TheVariants.{Any, Nothing, UpTo}
@@ -34,11 +35,11 @@ bound_below (Some key) = bound_of_key (revision_key key)
 -- the name of the bucket is within these bounds
 abbrev pub is_name_from : Option Key → Bool
 is_name_from None = true
-is_name_from (Some key) = not (is_lt (key_cmp (codes "key") key))
+is_name_from (Some key) = not (is_lt (key_cmp key_bucket key))
 
 abbrev pub is_name_before : Option Key → Bool
 is_name_before None = true
-is_name_before (Some key) = is_lt (key_cmp (codes "key") key)
+is_name_before (Some key) = is_lt (key_cmp key_bucket key)
 
 abbrev pub holds_store : (lower upper : Option Key) → Bool
 holds_store lower upper = is_name_from lower && is_name_before upper
@@ -49,7 +50,7 @@ bound_in lower upper = if holds_store lower upper then Any else Nothing
 
 abbrev pub bound_on : Path → (lower upper : Option Key) → Bound
 bound_on [] lower upper = bound_in lower upper
-bound_on (bucket ∷ []) lower upper = if bytes_eq bucket (codes "key") then bound_below upper else Nothing
+bound_on (bucket ∷ []) lower upper = if bytes_eq bucket key_bucket then bound_below upper else Nothing
 bound_on (bucket ∷ part ∷ path) lower upper = Nothing
 
 abbrev pub bound_of_loss : LossView → Bound
@@ -93,8 +94,8 @@ pub record IsKeyBetween (lower upper : Option Key) (key : Key) : Type 0 where
 -- A lost page may have had an entry of the bucket `key` under this key: It is one of the bucket between whose bounds the key lies, or one of the root
 -- bucket between whose bounds the name of the bucket lies.
 abbrev pub MayTakeOn : Path → (lower upper : Option Key) → Key → Type 0
-MayTakeOn [] lower upper key = IsKeyBetween lower upper (codes "key")
-MayTakeOn (bucket ∷ []) lower upper key = (bucket ≡ codes "key") × IsKeyBetween lower upper key
+MayTakeOn [] lower upper key = IsKeyBetween lower upper key_bucket
+MayTakeOn (bucket ∷ []) lower upper key = (bucket ≡ key_bucket) × IsKeyBetween lower upper key
 MayTakeOn (bucket ∷ part ∷ path) lower upper key = ⊥
 
 abbrev pub MayTake : LossView → Key → Type 0

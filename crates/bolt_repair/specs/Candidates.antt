@@ -1,10 +1,11 @@
 -- Which elements of found pages are candidates, as far as the recovered listing isn't looked at.
-use Rattle.std.specs.Prelude.{◌&&◌, ◌≡◌, ◌↔◌, ℕ, Bool, false, List, filter, flat_map, map, not, Option, Some, None, if◌then◌else◌}
+use Rattle.std.specs.Prelude.{◌&&◌, ◌||◌, ◌≡◌, ◌↔◌, ℕ, Bool, false, List, [], ◌∷◌, filter, flat_map, map, not, Option, Some, None, if◌then◌else◌}
 use Rattle.std.specs.{List.Contains, Option.is_some, Ordering.ordering_then, Str.bytes_eq, declared.cmp.Ordering.Ordering}
+use Rattle.bolt_lemmas.specs.Order.{Rises}
 use Rattle.bolt_format.specs.{Elements.LeafElement, TreePages.leaves_on}
 use Rattle.bolt_check.specs.Keys.{Key, key_cmp}
-use Rattle.bolt_recover.specs.{Found.AreSought, declared.found.Found.Found, declared.lost_and_found.LostAndFound.LostAndFound}
-use Rattle.bolt_tree.specs.{Entries.EntryView, Entries.entry_view, Order.Rises}
+use Rattle.bolt_recover.specs.{Found.AreSought, declared.found_page.FoundPage.FoundPage, declared.lost_and_found.LostAndFound.LostAndFound}
+use Rattle.bolt_tree.specs.{Entries.EntryView, Entries.entry_view}
 use Rattle.bolt_repair.specs.Repaired.{elements_on}
 use Rattle.bolt_etcd.specs.{Check.Misplaced.is_misplaced, Wire.RevisionKeys.revision_key, Wire.Revisions.RevisionView, Wire.Revisions.revision_of}
 use Rattle.bolt_etcd.specs.{Wire.ShownRevisions.value_bytes}
@@ -29,8 +30,8 @@ abbrev pub candidates_in : List LeafElement → List EntryView
 candidates_in elements = filter is_candidate (map entry_view elements)
 
 -- the elements of found pages of the code
-abbrev pub found_elements : List Found → List LeafElement
-found_elements found = flat_map (λ (f : Found). leaves_on f.page) found
+abbrev pub found_elements : List FoundPage → List LeafElement
+found_elements found = flat_map (λ (f : FoundPage). leaves_on f.page) found
 
 -- by key, and of one key by value
 abbrev pub whole_cmp : EntryView → EntryView → Ordering
@@ -52,3 +53,12 @@ AreSearched both search es =
 -- an entry has this key
 abbrev pub HasKey : List EntryView → Key → Type 0
 HasKey es key = (e : EntryView) × Contains es e × (e.key ≡ key)
+
+-- a key is among these
+abbrev pub among : List Key → Key → Bool
+among [] key = false
+among (k ∷ keys) key = bytes_eq k key || among keys key
+
+-- entries whose keys aren't among these
+abbrev pub without : List Key → List EntryView → List EntryView
+without keys es = filter (λ e. not (among keys e.key)) es

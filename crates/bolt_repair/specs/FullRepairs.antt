@@ -1,9 +1,10 @@
 -- All that goes back into the bucket `key` of a file, and how many candidates stay out: docs/RECOVERY.md, "The repaired listing".
 use Rattle.std.specs.Prelude.{◌≡◌, ◌↔◌, ◌+◌, ℕ, Bool, List, length}
 use Rattle.std.specs.List.{Contains}
+use Rattle.bolt_lemmas.specs.Order.{Rises}
 use Rattle.bolt_format.specs.{Elements.LeafElement, declared.meta.Meta.Meta}
 use Rattle.bolt_check.specs.Keys.{Key, key_cmp}
-use Rattle.bolt_tree.specs.{Entries.EntryView, Entries.Value, Listing.Member, Order.Rises}
+use Rattle.bolt_tree.specs.{Entries.EntryView, Entries.Value, Listing.Member}
 use Rattle.bolt_etcd.specs.Wire.Revisions.{RevisionView}
 use Rattle.bolt_repair.specs.{Readable.readable, Repaired.IsRepair, Repaired.Made, Repaired.elements_on, Repairs.IsCandidate, Repairs.store_path}
 

@@ -1,13 +1,14 @@
 -- What etcd can read of a recovered listing: docs/RECOVERY.md, "The repaired listing".
-use Rattle.std.specs.Prelude.{◌&&◌, Bool, false, List, [], ◌∷◌, Option, None, codes, filter, if◌then◌else◌, is_none, not}
+use Rattle.std.specs.Prelude.{◌&&◌, Bool, false, List, [], ◌∷◌, Option, None, filter, if◌then◌else◌, is_none, not}
 use Rattle.std.specs.{List.filter_map, Str.bytes_eq}
 use Rattle.bolt_check.specs.Keys.{Key}
 use Rattle.bolt_tree.specs.{Entries.EntryView, Entries.Item, Listing.Member, Paths.Path}
 use Rattle.bolt_etcd.specs.Wire.Others.{OtherView, other_of}
+use Rattle.bolt_etcd.specs.Store.BucketNames.{key_bucket}
 
 -- what an entry of the bucket `key` is, if it is neither a revision nor a mark
 abbrev pub unread_in : Key → EntryView → Option OtherView
-unread_in bucket entry = if bytes_eq bucket (codes "key") then other_of entry else None
+unread_in bucket entry = if bytes_eq bucket key_bucket then other_of entry else None
 
 abbrev pub unread_at : Path → Item → Option OtherView
 unread_at [] item = None
@@ -20,7 +21,7 @@ abbrev pub is_in_inner_bucket : Path → Bool
 is_in_inner_bucket [] = false
 is_in_inner_bucket (bucket ∷ []) = false
 is_in_inner_bucket (bucket ∷ key ∷ []) = false
-is_in_inner_bucket (bucket ∷ key ∷ more ∷ path) = bytes_eq bucket (codes "key")
+is_in_inner_bucket (bucket ∷ key ∷ more ∷ path) = bytes_eq bucket key_bucket
 
 -- etcd can read a member: In the bucket `key` it is a revision or a mark
 abbrev pub is_readable : Path → Item → Bool

@@ -2,9 +2,10 @@
 use Rattle.std.specs.Prelude.{◌≡◌, ◌↔◌, ◌<◌, ◌≤◌, ℕ, true, List, ◌∷◌, ◌++◌, [], Option, Some, length, map}
 use Rattle.std.specs.{Borrow.Bor, List.Contains, Option.option_map, Option.option_to_list}
 use Rattle.std.specs.declared.cmp.Ordering.TheVariants.{Less}
+use Rattle.bolt_lemmas.specs.Order.{Rises}
 use Rattle.bolt_check.specs.{Counts.counted, Counts.saturated, Keys.Key, Keys.key_cmp, Sound.HasSoundTrees}
 use Rattle.bolt_recover.specs.{Recovered.ForRecovered, declared.lost_and_found.LostAndFound.LostAndFound}
-use Rattle.bolt_tree.specs.{Entries.EntryView, Entries.Item, Entries.Value, InBuckets.entry_in, Listing.Member, Listing.member_cmp, Order.Rises}
+use Rattle.bolt_tree.specs.{Entries.EntryView, Entries.Item, Entries.Value, InBuckets.entry_in, Listing.Member, Listing.member_cmp}
 use Rattle.bolt_tree.specs.{ShownEntries.item_view}
 use Rattle.bolt_repair.specs.{Candidates.HasKey, Readable.readable, Readable.unread, Repairs.HasMeta, Repairs.IsKeptRevision, Repairs.compaction_path}
 use Rattle.bolt_repair.specs.{Repairs.store_path}

@@ -5,7 +5,7 @@ use Rattle.bolt_tree.specs.{Listing.Member, Merging.merged_left, Merging.merged_
 use Rattle.bolt_repair.specs.ReadableLeft.{readable_left, readable_path, readable_work}
 use Rattle.bolt_repair.specs.{FullRepairs.IsFullRepair, PutBackMembers.put_back_left, PutBackMembers.put_back_path, RepairedMerges.all_listings}
 use Rattle.bolt_repair.specs.{RepairedMerges.repair_back, RepairedMerges.repair_made, declared.put_back.PutBack.PutBack}
-use Rattle.bolt_repair.specs.{declared.repair.Repair.Repair, declared.repaired.Repaired.Repaired}
+use Rattle.bolt_repair.specs.{declared.repair.Repair.Repair, declared.repaired_listing.RepairedListing.RepairedListing}
 
 -- the file that is repaired, and the meta that it is read under
 abbrev pub repair_file : Repair → List ℕ
@@ -22,13 +22,13 @@ repair_search repair = repair.search
 abbrev pub IsWholeRepair : Repair → Type 0
 IsWholeRepair repair = ∥ IsFullRepair (repair_file repair) (repair_meta repair) repair.search (repair_back repair) (repair_made repair) repair.left_out ∥₁
 
-unfoldable pub repaired_file : Repaired → List ℕ
+unfoldable pub repaired_file : RepairedListing → List ℕ
 repaired_file repaired = repair_file repaired.repair.now
 
-unfoldable pub repaired_meta : Repaired → Meta
+unfoldable pub repaired_meta : RepairedListing → Meta
 repaired_meta repaired = repair_meta repaired.repair.now
 
-unfoldable pub repaired_search : Repaired → Bool
+unfoldable pub repaired_search : RepairedListing → Bool
 repaired_search repaired = repaired.repair.now.search
 
 -- what is put back of a listing
@@ -39,16 +39,16 @@ abbrev put_work : PutBack → ℕ
 put_work it = length (put_back_left it)
 
 -- The part of the repaired listing that is left. (There is one listing, so it is the same of each.)
-unfoldable pub repaired_left : Repaired → List Member → List Member
+unfoldable pub repaired_left : RepairedListing → List Member → List Member
 repaired_left repaired listing =
     merged_left (merged_path readable_path put_back_path) (merged_left readable_path readable_left put_back_path put_left) put_back_path put_left
     repaired.members
     (all_listings repaired.repair.now)
 
 -- how much it has to do at most, until it has returned everything
-unfoldable pub repaired_work : Repaired → ℕ
+unfoldable pub repaired_work : RepairedListing → ℕ
 repaired_work repaired = merged_work (merged_work readable_work put_work) put_work repaired.members
 
 -- the path of the last member that it returned
-unfoldable pub repaired_path : Repaired → Path
+unfoldable pub repaired_path : RepairedListing → Path
 repaired_path repaired = merged_path (merged_path readable_path put_back_path) put_back_path repaired.members

@@ -1,25 +1,27 @@
 -- Which revisions go back into the bucket `key`: docs/RECOVERY.md, "The repaired listing". Of a recovered listing, and of the elements of all
 -- found pages.
-use Rattle.std.specs.Prelude.{◌≡◌, ◌≢◌, ◌↔◌, ◌⊎◌, ◌<◌, ◌≤◌, ℕ, false, List, [], ◌∷◌, Contains, Some, codes}
+use Rattle.std.specs.Prelude.{◌≡◌, ◌≢◌, ◌↔◌, ◌⊎◌, ◌<◌, ◌≤◌, ℕ, false, List, [], ◌∷◌, Contains, Some}
 use Rattle.std.specs.declared.cmp.Ordering.TheVariants.{Less}
+use Rattle.bolt_lemmas.specs.Order.{Rises}
 use Rattle.bolt_format.specs.Elements.{LeafElement}
 use Rattle.bolt_check.specs.Keys.{key_cmp}
 use Rattle.bolt_tree.specs.{Entries.EntryView, Entries.Item, Entries.Value, Entries.entry_view, InBuckets.entry_in, InBuckets.view_cmp}
-use Rattle.bolt_tree.specs.{Listing.Member, Order.Rises, Paths.Path}
+use Rattle.bolt_tree.specs.{Listing.Member, Paths.Path}
 use Rattle.bolt_etcd.specs.{Store.Compacted.compacted_by, Check.Misplaced.is_misplaced, Wire.Revisions.RevisionView, Wire.Revisions.name_of}
 use Rattle.bolt_etcd.specs.{Wire.Revisions.revision_of}
+use Rattle.bolt_etcd.specs.Store.BucketNames.{compaction_key, key_bucket, meta_bucket}
 
 -- the bucket of the revisions
 abbrev pub store_path : Path
-store_path = codes "key" ∷ []
+store_path = key_bucket ∷ []
 
 -- the bucket in which the last compaction is noted
 abbrev pub meta_path : Path
-meta_path = codes "meta" ∷ []
+meta_path = meta_bucket ∷ []
 
 -- where the last compaction is noted
 abbrev pub compaction_path : Path
-compaction_path = codes "meta" ∷ codes "scheduledCompactRev" ∷ []
+compaction_path = meta_bucket ∷ compaction_key ∷ []
 
 -- something is under the name of that bucket
 abbrev pub HasMeta : List Member → Type 0

@@ -1,11 +1,12 @@
 -- Where a path leads, as far as a store is concerned.
-use Rattle.std.specs.Prelude.{◌≡◌, Bool, true, false, ◌∷◌, ◌++◌, [], codes}
+use Rattle.std.specs.Prelude.{◌≡◌, Bool, true, false, ◌∷◌, ◌++◌, []}
 use Rattle.std.specs.Str.{bytes_eq}
 use Rattle.bolt_check.specs.Keys.{Key}
 use Rattle.bolt_tree.specs.Paths.{Path}
 use Rattle.bolt_repair.specs.{Readable.is_in_inner_bucket, Repairs.compaction_path, Repairs.meta_path, Repairs.store_path}
 use Rattle.bolt_repair.specs.declared.store_path.StorePath.{StorePath}
 use Rattle.bolt_repair.specs.declared.store_path.StorePath.TheVariants.{Below, Compaction, InStore, Meta, Other, Store}
+use Rattle.bolt_etcd.specs.Store.BucketNames.{key_bucket}
 
 -- where a path leads
 abbrev pub IsStorePath : Path → StorePath → Type 0
@@ -21,6 +22,6 @@ IsStorePath path Other =
 -- the bucket, or an entry in it
 abbrev pub is_near : Path → Bool
 is_near [] = false
-is_near (bucket ∷ []) = bytes_eq bucket (codes "key")
-is_near (bucket ∷ key ∷ []) = bytes_eq bucket (codes "key")
+is_near (bucket ∷ []) = bytes_eq bucket key_bucket
+is_near (bucket ∷ key ∷ []) = bytes_eq bucket key_bucket
 is_near (bucket ∷ key ∷ more ∷ path) = false

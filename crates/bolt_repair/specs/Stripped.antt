@@ -1,7 +1,8 @@
 -- The members that etcd can read, one after another.
 use Rattle.std.specs.Prelude.{◌≡◌, ◌||◌, ◌⊎◌, Bool, true, false, List, [], ◌∷◌, Option, Some, None, IfSome, if◌then◌else◌, not}
 use Rattle.bolt_tree.specs.{Entries.Item, Listing.Member, Paths.Path}
-use Rattle.bolt_recover.specs.{KeptMembers.kept_file, KeptMembers.kept_meta, Recovered.IsRecovered, declared.kept.Kept.Kept}
+use Rattle.bolt_recover.specs.{KeptMembers.kept_file, KeptMembers.kept_meta, Recovered.IsRecovered}
+use Rattle.bolt_recover.specs.{declared.recovered_listing.RecoveredListing.RecoveredListing}
 use Rattle.bolt_repair.specs.{Readable.is_readable, NearPaths.near_path, StorePaths.is_near}
 use Rattle.bolt_repair.specs.declared.store_path.NearPath.{NearPath}
 
@@ -22,7 +23,7 @@ last_of true None path = path
 last_of false near path = path
 
 -- the recovered listing of its file
-abbrev pub ReadsKept : Kept → List Member → Type 0
+abbrev pub ReadsKept : RecoveredListing → List Member → Type 0
 ReadsKept kept listing = IsRecovered (kept_file kept) (kept_meta kept) listing
 
 -- the first of those that are left without these is returned, at this path; or none is left

@@ -1,8 +1,9 @@
 -- Which candidates are of keys that no others have: docs/RECOVERY.md, "The repaired listing".
 use Rattle.std.specs.Prelude.{◌≡◌, ◌↔◌, Bool, true, List, [], ◌∷◌, ℕ, length, not}
 use Rattle.std.specs.{List.Contains, Str.bytes_eq}
+use Rattle.bolt_lemmas.specs.Order.{Rises}
 use Rattle.bolt_check.specs.Keys.{Key, key_cmp}
-use Rattle.bolt_tree.specs.{Entries.EntryView, InBuckets.view_cmp, Order.Rises}
+use Rattle.bolt_tree.specs.{Entries.EntryView, InBuckets.view_cmp}
 use Rattle.bolt_repair.specs.Candidates.{HasKey}
 
 -- the first of these is the last that has its key

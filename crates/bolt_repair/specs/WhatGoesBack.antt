@@ -2,7 +2,8 @@
 use Rattle.std.specs.Prelude.{◌≡◌, ◌↔◌, ◌||◌, ◌++◌, ℕ, Bool, false, List, Option, Some, None, filter, map, not}
 use Rattle.std.specs.List.{Contains, filter_map}
 use Rattle.bolt_tree.specs.Entries.{EntryView}
-use Rattle.bolt_etcd.specs.{Store.Among.among, Store.Current.HaveOwnKeys, Store.Current.IsNewest, Store.Newest.is_until, Store.Newest.until}
+use Rattle.bolt_etcd.specs.{Store.Current.HaveOwnKeys, Store.Current.IsNewest, Store.Newest.is_until, Store.Newest.until}
+use Rattle.bolt_repair.specs.Candidates.{among}
 use Rattle.bolt_etcd.specs.{Wire.Revisions.RevisionView, Wire.Revisions.revision_of}
 
 -- a compaction at this transaction may have removed it

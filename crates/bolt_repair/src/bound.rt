@@ -6,8 +6,7 @@ ghost use Rattle.bolt_recover.specs.ShownLosses.{loss_view, lost_view};
 ghost use Rattle.bolt_repair.specs.Bounds.{bound_below, bound_in, bound_of_loss, bound_of_losses, bound_of_lost, bound_of_other, bound_of_others};
 ghost use Rattle.bolt_repair.specs.Bounds.{greater, holds_store, repair_bound};
 
-use crate::store_path::STORE;
-use bolt_etcd::{Other, RevisionKey};
+use bolt_etcd::{KEY_BUCKET, Other, RevisionKey};
 use bolt_recover::{Loss, Lost};
 
 /// Which revisions the copy may lack (docs/RECOVERY.md, "What may be missing").
@@ -71,7 +70,7 @@ fn of_loss(loss: &Loss<'_>) -> Bound
 {
     match loss.bucket.as_slice() {
         [] => in_root(loss.lower, loss.upper),
-        [bucket] if *bucket == STORE => below(loss.upper),
+        [bucket] if *bucket == KEY_BUCKET => below(loss.upper),
         _ => Bound::Nothing,
     }
 }
@@ -94,12 +93,12 @@ fn holds_store(lower: Option<&[u8]>, upper: Option<&[u8]>) -> bool
         (option_map (λ key. key.now) upper.entry) }
 {
     let is_above = match lower {
-        Some(key) => key <= STORE,
+        Some(key) => key <= KEY_BUCKET,
         None => true,
     };
     is_above
         && match upper {
-            Some(key) => STORE < key,
+            Some(key) => KEY_BUCKET < key,
             None => true,
         }
 }

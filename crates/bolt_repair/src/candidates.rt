@@ -3,7 +3,8 @@ ghost use Rattle.std.specs.Prelude.{◌≡◌, ◌++◌, ◌∷◌, ◌↔◌, [
 ghost use Rattle.std.specs.{Option.option_map, Ordering.is_lt, List.Contains, List.Sorted.IsSorted};
 ghost use Rattle.bolt_format.specs.{ElementPlaces.leaf_view, Elements.IsBucketValue, ElementsLeft.leaves_left};
 ghost use Rattle.bolt_check.specs.{Counts.counted, Keys.key_cmp};
-ghost use Rattle.bolt_tree.specs.{Entries.entry_view, Order.Rises};
+ghost use Rattle.bolt_lemmas.specs.Order.{Rises};
+ghost use Rattle.bolt_tree.specs.Entries.{entry_view};
 ghost use Rattle.bolt_repair.specs.{Candidates.AreCandidates, Candidates.HasKey, Candidates.candidates_in, Candidates.found_elements};
 ghost use Rattle.bolt_repair.specs.{Candidates.candidate_at, Candidates.is_same_entry, Candidates.under_revision_keys, Candidates.whole_cmp};
 ghost use Rattle.bolt_repair.specs.{Keyed.HaveLesserKeys};
@@ -11,7 +12,7 @@ ghost use Rattle.bolt_etcd.specs.Wire.ShownRevisions.{entry_of};
 
 use bolt_etcd::{Revision, RevisionKey};
 use bolt_format::{Leaf, Leaves};
-use bolt_recover::Found;
+use bolt_recover::FoundPage;
 use bolt_tree::{Entry, Item, NoMemory};
 use std::alloc::{AllocError, Global};
 use std::cmp::Ordering;
@@ -21,7 +22,7 @@ use std::cmp::Ordering;
 /// each under a revision key.
 pub(crate) fn candidates_of<'a>(
     alloc: Global,
-    found: &[Found<'a>],
+    found: &[FoundPage<'a>],
 ) -> Result<Vec<Revision<'a>>, NoMemory>
     ensures { IfOk result (λ candidates.
         AreCandidates (found_elements found.now) (map entry_of candidates.items)) }
@@ -33,7 +34,7 @@ pub(crate) fn candidates_of<'a>(
 }
 
 /// The candidates on all pages, page by page.
-fn collect<'a>(alloc: Global, found: &[Found<'a>]) -> Result<Vec<Revision<'a>>, NoMemory>
+fn collect<'a>(alloc: Global, found: &[FoundPage<'a>]) -> Result<Vec<Revision<'a>>, NoMemory>
     ensures { IfOk result (λ all.
         map entry_of all.items ≡ candidates_in (found_elements found.now)) }
 {
@@ -70,7 +71,7 @@ fn candidate_at<'a>(leaf: &Leaf<'a>) -> Option<Revision<'a>>
 }
 
 /// The number of elements on all pages that are under revision keys, as candidates are.
-fn count_candidates(found: &[Found<'_>]) -> usize
+fn count_candidates(found: &[FoundPage<'_>]) -> usize
     ensures { result ≡ counted 0 (length (under_revision_keys (found_elements found.now))) }
 {
     let mut n = 0_usize;

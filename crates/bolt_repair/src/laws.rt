@@ -3,7 +3,8 @@ ghost use Rattle.std.specs.Prelude.{[], ◌≡◌, ◌≤◌, ◌↔◌, ℕ, Bo
 ghost use Rattle.std.specs.{List.Contains};
 ghost use Rattle.bolt_check.specs.{Ones.AtMostOne, Sound.HasSoundTrees};
 ghost use Rattle.bolt_format.specs.{Elements.LeafElement, declared.meta.Meta.Meta};
-ghost use Rattle.bolt_tree.specs.{Entries.EntryView, Order.Rises, Entries.Bucket, InBuckets.entry_in, InBuckets.members_in, Listing.IsListing};
+ghost use Rattle.bolt_lemmas.specs.Order.{Rises};
+ghost use Rattle.bolt_tree.specs.{Entries.EntryView, Entries.Bucket, InBuckets.entry_in, InBuckets.members_in, Listing.IsListing};
 ghost use Rattle.bolt_tree.specs.{Listing.Member, Listing.member_cmp, Merges.merge, Tree.Tree, Tree.listing_of};
 ghost use Rattle.bolt_etcd.specs.Wire.Revisions.{RevisionView, name_of, revision_of};
 ghost use Rattle.bolt_recover.specs.{Losses.LostView, Losses.is_nothing, Lost.IsAllLost, Recovered.IsRecovered};

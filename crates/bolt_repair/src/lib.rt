@@ -10,11 +10,11 @@ mod readable_members;
 mod recovered_store;
 mod repair;
 mod repair_fault;
-mod repaired;
+mod repaired_listing;
 mod store_path;
 mod undisputed;
 
 pub use crate::bound::Bound;
 pub use crate::repair::Repair;
 pub use crate::repair_fault::RepairFault;
-pub use crate::repaired::Repaired;
+pub use crate::repaired_listing::RepairedListing;

@@ -8,7 +8,7 @@ ghost use Rattle.bolt_recover.specs.{Recovered.IsRecovered};
 ghost use Rattle.bolt_repair.specs.Stripped.{GivesReadable, KeepsPath, PassesOver, ReadsKept, strip};
 
 use crate::store_path::{NearPath, is_readable};
-use bolt_recover::{Kept, LostAndFound};
+use bolt_recover::{LostAndFound, RecoveredListing};
 use bolt_tree::{Item, Members, NoMemory};
 use std::alloc::Global;
 
@@ -17,7 +17,7 @@ use std::alloc::Global;
 /// kept while they are passed over, in which memory may run out.
 #[derive(Drop)]
 pub(crate) struct ReadableMembers<'a> {
-    kept: Kept<'a>,
+    kept: RecoveredListing<'a>,
     /// The path of the last member, if it is that of the bucket `key` or of an entry in it.
     near: Option<NearPath<'a>>,
     /// Whether members were passed over since.
@@ -29,7 +29,7 @@ pub(crate) struct ReadableMembers<'a> {
 impl<'a> ReadableMembers<'a> {
     ghost use Rattle.bolt_repair.specs.ReadableLeft.{readable_file, readable_left, readable_meta, readable_path};
 
-    /// The members of a file that was searched. It needs what `Kept::of` needs.
+    /// The members of a file that was searched. It needs what `RecoveredListing::of` needs.
     ///
     /// # Errors
     ///
@@ -41,7 +41,7 @@ impl<'a> ReadableMembers<'a> {
             readable_left members listing ≡ strip false listing)) }
         ensures path { IfOk result (λ members. readable_path members ≡ []) }
     {
-        let kept = Kept::of(alloc, both)?;
+        let kept = RecoveredListing::of(alloc, both)?;
         Ok(ReadableMembers {
             kept,
             near: None,
@@ -92,7 +92,7 @@ impl<'a> Members<'a> for ReadableMembers<'a> {
 /// Returns the first member that is left, without those that etcd can't read if they come after the bucket
 /// `key` or an entry in it. Says whether it passed over one.
 fn next_readable<'a>(
-    kept: &mut Kept<'a>,
+    kept: &mut RecoveredListing<'a>,
     has_passed: &mut bool,
     is_near: bool,
 ) -> Result<Option<Item<'a>>, NoMemory>

@@ -1,6 +1,7 @@
 //! What the recovered listing says of a store.
 ghost use Rattle.std.specs.Prelude.{◌≡◌, ◌++◌, ◌∷◌, [], IfOk, OnOk, length, map, vec_capacity};
-ghost use Rattle.bolt_tree.specs.{InBuckets.entry_in, Order.Rises, Paths.path_of, ShownEntries.item_view, ShownEntries.shown_entry};
+ghost use Rattle.bolt_lemmas.specs.Order.{Rises};
+ghost use Rattle.bolt_tree.specs.{InBuckets.entry_in, Paths.path_of, ShownEntries.item_view, ShownEntries.shown_entry};
 ghost use Rattle.bolt_recover.specs.Recovered.{ForRecovered};
 ghost use Rattle.bolt_repair.specs.{Candidates.whole_cmp, RecoveredStores.HasRoomForRecovered, RecoveredStores.KeepsRevision, Repairs.store_path};
 ghost use Rattle.bolt_etcd.specs.{Wire.ShownRevisions.entry_of, Wire.ShownRevisions.shown_revision};
@@ -8,7 +9,7 @@ ghost use Rattle.bolt_etcd.specs.{Wire.ShownRevisions.entry_of, Wire.ShownRevisi
 use crate::candidates::{add_key, has_candidate};
 use crate::store_path::{StorePath, store_path_of};
 use bolt_etcd::{Other, Revision};
-use bolt_recover::{Kept, LostAndFound};
+use bolt_recover::{LostAndFound, RecoveredListing};
 use bolt_tree::{Entry, Item, Members, NoMemory};
 use std::alloc::{AllocError, Global};
 
@@ -55,7 +56,7 @@ impl<'a> RecoveredStore<'a> {
             has_meta: false,
             at: 0,
         };
-        let mut kept = Kept::of(alloc, both)?;
+        let mut kept = RecoveredListing::of(alloc, both)?;
         'members: while let Some(item) = kept.next()? {
             store.note(kept.path(), item, candidates)?;
         }

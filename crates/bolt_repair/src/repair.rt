@@ -6,8 +6,10 @@ ghost use Rattle.bolt_recover.specs.Recovered.{ForRecovered};
 ghost use Rattle.bolt_repair.specs.{Candidates.AreSearched, Repaired.HasStore, Repaired.IsRepair, RepairRefusals.IsRepairRefusal, Readable.unread};
 ghost use Rattle.bolt_repair.specs.{Candidates.whole_cmp, Repaired.lacks_bucket, Undisputed.AreUndisputed, Undisputed.HaveKeys};
 ghost use Rattle.bolt_repair.specs.{WhatGoesBack.ArePutBack, WhatGoesBack.AreTheNewest, WhatGoesBack.goes_back, WhatGoesBack.old_revisions};
-ghost use Rattle.bolt_tree.specs.{Order.Rises, ShownEntries.item_view};
-ghost use Rattle.bolt_etcd.specs.{Store.Among.among, Store.Among.without, Store.Newest.is_until, Wire.ShownRevisions.entry_of};
+ghost use Rattle.bolt_lemmas.specs.Order.{Rises};
+ghost use Rattle.bolt_tree.specs.ShownEntries.{item_view};
+ghost use Rattle.bolt_etcd.specs.{Store.Newest.is_until, Wire.ShownRevisions.entry_of};
+ghost use Rattle.bolt_repair.specs.Candidates.{among, without};
 ghost use Rattle.bolt_etcd.specs.{Wire.ShownRevisions.shown_revision};
 
 use crate::candidates::{candidates_of, has_key};

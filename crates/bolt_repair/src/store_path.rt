@@ -3,17 +3,8 @@ ghost use Rattle.std.specs.Prelude.{◌≡◌, ◌≤◌, ◌∷◌, []};
 ghost use Rattle.bolt_tree.specs.{Paths.path_of, ShownEntries.item_view};
 ghost use Rattle.bolt_repair.specs.{Readable.is_readable, StorePaths.IsStorePath};
 
-use bolt_etcd::Other;
+use bolt_etcd::{COMPACTION_KEY, KEY_BUCKET, META_BUCKET, Other};
 use bolt_tree::{Entry, Item};
-
-/// The bucket of the revisions.
-pub(crate) const STORE: &[u8] = b"key";
-
-/// The bucket in which the last compaction is noted.
-pub(crate) const META: &[u8] = b"meta";
-
-/// The key under which it is noted.
-const SCHEDULED: &[u8] = b"scheduledCompactRev";
 
 /// Where a path leads.
 #[derive(Clone, Copy)]
@@ -39,7 +30,7 @@ pub(crate) fn store_path_of<'a>(path: &[&'a [u8]]) -> StorePath<'a>
     match path {
         [name] => root_entry(name),
         [bucket, key] => bucket_entry(bucket, key),
-        [bucket, ..] if *bucket == STORE => StorePath::Below,
+        [bucket, ..] if *bucket == KEY_BUCKET => StorePath::Below,
         _ => StorePath::Other,
     }
 }
@@ -48,9 +39,9 @@ pub(crate) fn store_path_of<'a>(path: &[&'a [u8]]) -> StorePath<'a>
 fn root_entry<'a>(name: &[u8]) -> StorePath<'a>
     ensures { IsStorePath (name.now ∷ []) result }
 {
-    if name == STORE {
+    if name == KEY_BUCKET {
         StorePath::Store
-    } else if name == META {
+    } else if name == META_BUCKET {
         StorePath::Meta
     } else {
         StorePath::Other
@@ -61,9 +52,9 @@ fn root_entry<'a>(name: &[u8]) -> StorePath<'a>
 fn bucket_entry<'a>(bucket: &[u8], key: &'a [u8]) -> StorePath<'a>
     ensures { IsStorePath (bucket.now ∷ key.now ∷ []) result }
 {
-    if bucket == STORE {
+    if bucket == KEY_BUCKET {
         StorePath::InStore(key)
-    } else if bucket == META && key == SCHEDULED {
+    } else if bucket == META_BUCKET && key == COMPACTION_KEY {
         StorePath::Compaction
     } else {
         StorePath::Other
@@ -99,11 +90,11 @@ impl<'a> NearPath<'a> {
     {
         match store_path_of(path) {
             StorePath::Store => Some(NearPath {
-                parts: [STORE; 2],
+                parts: [KEY_BUCKET; 2],
                 length: 1,
             }),
             StorePath::InStore(key) => Some(NearPath {
-                parts: [STORE, key],
+                parts: [KEY_BUCKET, key],
                 length: 2,
             }),
             _ => None,

@@ -1,6 +1,6 @@
 //! Candidates whose keys no others have.
 ghost use Rattle.std.specs.Prelude.{◌<◌, ◌≡◌, drop, length, map};
-ghost use Rattle.bolt_tree.specs.Order.{Rises};
+ghost use Rattle.bolt_lemmas.specs.Order.{Rises};
 ghost use Rattle.bolt_repair.specs.{Candidates.whole_cmp, Undisputed.AreUndisputed, Undisputed.HaveKeys, Undisputed.is_last_of_key};
 ghost use Rattle.bolt_etcd.specs.Wire.ShownRevisions.{entry_of};
 

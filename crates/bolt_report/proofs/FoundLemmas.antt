@@ -1,5 +1,5 @@
 -- The buckets among the first elements of a page.
-use Rattle.std.proofs.Common.{◌≡◌, length, ◌≢◌, ◌∙◌, ◌+◌, ◌<◌, ℕ, Bool, true, false, List, [], ◌∷◌, Some, ap, arith, refl, slice_get, take}
+use Rattle.std.proofs.Common.{◌≡◌, ◌∙◌, ◌+◌, ℕ, Bool, true, false, List, Some, ap, arith, slice_get, take}
 use Rattle.bolt_report.proofs.Words.{bucket_count, LeafElement}
 use Rattle.std.specs.Prelude.{cond}
 use Rattle.std.proofs.{lemmas.List.Filters.length-filter_more, lemmas.Option.get_or_from_slice_get, lemmas.Option.slice_get_within}
@@ -16,7 +16,3 @@ module _ (elements : List LeafElement) (i : ℕ) (e : LeafElement) (found : slic
 
   pub counts_none : (count : ℕ) → e.is_bucket ≡ false → count ≡ bucket_count (take i elements) → count ≡ bucket_count (take (i + 1) elements)
   counts_none count is before = let more = counted false is in omega (arith, more, before)
-
-pub not_empty : {X : Type 0} (xs : List X) → xs ≢ [] → 0 < length xs
-not_empty [] some = absurd (some refl)
-not_empty (x ∷ xs) some = omega arith

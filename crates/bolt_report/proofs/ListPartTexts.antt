@@ -1,6 +1,6 @@
 -- The text of the part of a listing below a path, or from a bucket on, member by member.
 -- The members are read once, in order: what begins with the path comes after the bucket at that path, if there is one.
-use Rattle.std.proofs.Common.{arith, ◌≡◌, ◌↔◌, List, subst, sym, ◌∙◌, ◌++◌, ◌∷◌, [], Bool, true, ap, refl, ◌&&◌, ◌||◌, false, not, inl, inr}
+use Rattle.std.proofs.Common.{arith, ◌≡◌, List, subst, sym, ◌∙◌, ◌++◌, ◌∷◌, [], Bool, true, ap, refl, ◌&&◌, ◌||◌, false, not, inl, inr}
 use Rattle.std.proofs.{lemmas.List.Sums.take_while-cons, Math.Bool.or_assoc, lemmas.Bool.cond-false, lemmas.Bool.or_cases}
 use Rattle.std.proofs.{lemmas.Slice.Eq.bytes_eq-Decides, lemmas.Slice.Eq.slice_eq-Decides}
 use Rattle.bolt_report.proofs.Words.{and_parts, begins_with, bytes_eq, bytes_of, Checked, cond-true, Contains, contains_head, contains_tail}
@@ -10,9 +10,6 @@ use Rattle.bolt_tree.specs.{Listing.IsListing, ListingParts.is_bucket, ListingPa
 use Rattle.bolt_tree.proofs.Exports.{begins_after}
 use Rattle.std.specs.Prelude.{if◌then◌else◌}
 use Rattle.std.specs.{Ordering.is_lt, declared.cmp.Ordering.TheVariants.Less}
-
-pub iff_then : {A B C : Type 0} → A ↔ B → B ↔ C → A ↔ C
-iff_then f g = (λ a. g.0 (f.0 a), λ c. f.1 (g.1 c))
 
 -- the listing of the same file
 pub same_listing : (a b : Checked) (listing : List Member) → a ≡ b → IsListing (bytes_of b) (meta_of b) listing

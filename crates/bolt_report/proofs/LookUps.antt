@@ -1,32 +1,12 @@
 -- What members hold at a path, one by one.
-use Rattle.std.proofs.Common.{arith, ◌≡◌, ◌∙◌, ◌∷◌, ◌||◌, Bool, Bor, List, None, Option, Some, ap, false, refl, rules, sym, true, ℕ}
-use Rattle.std.specs.{Bool.Decides, Option.IfNone, Option.option_or, Prelude.IfSome}
+use Rattle.std.proofs.Common.{arith, ◌≡◌, ◌∙◌, ◌∷◌, ◌||◌, Bool, Bor, List, ap, false, refl, rules, sym, true, ℕ}
+use Rattle.std.specs.Bool.{Decides}
 use Rattle.std.proofs.Math.Bool.{or_assoc}
 use Rattle.std.proofs.lemmas.Slice.Eq.{bytes_eq-Decides, slice_eq-Decides}
+use Rattle.bolt_lemmas.proofs.Exports.{contains_cases, contains_head, contains_tail}
 use Rattle.bolt_report.proofs.Words.{Contains, Member, Path, Value, bytes_eq, is_bucket_at, list_any, path_of, pointwise}
 use Rattle.bolt_text.proofs.Exports.{same_path}
 use Rattle.bolt_tree.specs.Entries.{Bucket, Item}
-use Rattle.bolt_tree.proofs.Exports.{contains_cases, contains_head, contains_tail}
-
--- the later of two values, or the earlier one
-pub some_later : {A : Type 0} {P Q : A → Type 0} (found before value : Option A) → value ≡ option_or found before → IfSome found Q → IfSome before P
-    → ((a : A) → Q a → P a) → IfSome value P
-some_later (Some a) before value is here there from = rw is (from a here)
-some_later None before value is here there from = rw is there
-
-pub none_later : {A : Type 0} {F N M : Type 0} (found before value : Option A) → value ≡ option_or found before → IfNone found F → IfNone before N
-    → (F → N → M) → IfNone value M
-none_later (Some a) before value is here there both = rw is tt
-none_later None (Some a) value is here there both = rw is tt
-none_later None None value is here there both = rw is (both here there)
-
-pub some_as : {A : Type 0} {P Q : A → Type 0} (o : Option A) → ((a : A) → P a → Q a) → IfSome o P → IfSome o Q
-some_as (Some a) step is = step a is
-some_as None step is = tt
-
-pub none_as : {A : Type 0} {N M : Type 0} (o : Option A) → (N → M) → IfNone o N → IfNone o M
-none_as (Some a) step is = tt
-none_as None step is = step is
 
 -- ---- a member at a path, as the code holds both
 

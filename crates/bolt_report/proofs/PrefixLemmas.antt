@@ -1,11 +1,11 @@
 -- The entries that begin with given bytes: none of them is below these bytes, and they lie side by side.
 use Rattle.std.proofs.Common.{◌≡◌, ◌==◌, ◌+◌, ℕ, suc, Bool, true, false, not, inl, inr, List, [], ◌∷◌, cond, drop, refl, ap, subst, arith}
 use Rattle.std.proofs.lemmas.Bool.Decides.{nat_tests}
+use Rattle.bolt_lemmas.proofs.Exports.{contains_cases, contains_none, filter_none, lt_of}
 use Rattle.bolt_report.proofs.Words.{has_key_prefix, Contains, entry_cmp, Key, key_lt, LeafElement, least_from, false_from_ne_true, Rises}
 use Rattle.bolt_report.proofs.Words.{starts_with, with_prefix}
 use Rattle.bolt_check.specs.Keys.{key_cmp}
-use Rattle.bolt_check.proofs.Exports.{lt_trans, lt_of}
-use Rattle.bolt_tree.proofs.Exports.{filter_none, contains_cases, contains_none}
+use Rattle.bolt_check.proofs.Exports.{lt_trans}
 
 abbrev pub key_begins : Key → Key → Bool
 key_begins key prefix = starts_with (λ a b. a == b) key prefix

@@ -1,7 +1,8 @@
 -- A cursor goes along the entries that begin with given bytes: what it has gone over, and what is left.
 -- Rests on that a bucket's entries in order exist, and are one.
-use Rattle.std.proofs.Common.{◌≡◌, ◌∙◌, ◌<◌, ◌⊎◌, inl, inr, ◌+◌, ℕ, zero, suc, Bool, true, false, List, [], ◌∷◌, Option, Some, None, Result, Ok, Err}
+use Rattle.std.proofs.Common.{◌≡◌, ◌∙◌, ◌<◌, inl, inr, ◌+◌, ℕ, zero, suc, Bool, true, false, List, [], ◌∷◌, Option, Some, None, Result, Ok, Err}
 use Rattle.std.proofs.Common.{cond, drop, length, nat_lt, refl, slice_get, sym, ap, subst, arith, add-one}
+use Rattle.std.proofs.lemmas.Bool.{ltb-false}
 use Rattle.bolt_report.proofs.Words.{bytes_of, cond-true, Contains, contains_head, contains_tail, cursor_checked, cursor_start, drop_all, drop_next}
 use Rattle.bolt_report.proofs.Words.{entries_left, entry_cmp, entry_view, EntryView, Form, Key, key_lt, LeafElement, least_from, meta_of, On, Past}
 use Rattle.bolt_report.proofs.Words.{Place, ReportFault, Rises, same_Some, with_prefix, ∥∥₁_elim}
@@ -12,9 +13,8 @@ use Rattle.bolt_tree.specs.{BucketViews.AreEntriesOf, BucketViews.BucketView, Cu
 use Rattle.bolt_tree.specs.{OpeningCounts.IsSeekCount, OpeningCounts.sum_to}
 use Rattle.bolt_tree.specs.{Places.next_move, Places.nothing_at, Places.move_onto, Places.place_in, Places.seek_move, declared.cursor.Cursor.Cursor}
 use Rattle.bolt_check.specs.Counts.{counted}
-use Rattle.bolt_tree.proofs.Exports.{none_past, not_below, TheEntries, the_one, counted_more, entries_at}
-use Rattle.bolt_text.specs.{declared.forms.Form.TheVariants.Json, declared.report_fault.ReportFault.TheVariants.NoMemory}
-use Rattle.bolt_text.specs.{declared.report_fault.ReportFault.TheVariants.Sink}
+use Rattle.bolt_tree.proofs.Exports.{none_past, TheEntries, the_one, counted_more, entries_at}
+use Rattle.bolt_text.specs.ReportEndings.{FailsByWritingJson}
 
 -- ---- the entries of a cursor's bucket
 
@@ -47,7 +47,7 @@ stands_by : (entries : List LeafElement) (n : ℕ) (place other : Place) (x : Op
     → place ≡ (cond b (move_onto entries n) (nothing_at other)).place → x ≡ option_map entry_view (cond b (move_onto entries n) (nothing_at other)).answer
     → StandsAt entries n place x
 stands_by entries n place other x true t p a = shows_by entries n place x (slice_get entries n) refl p a
-stands_by entries n place other None false t p a = drop_all n entries (not_below n (length entries) t)
+stands_by entries n place other None false t p a = drop_all n entries (ltb-false n (length entries) t)
 stands_by entries n place other (Some v) false t p a = cc
 
 pub sought : (prefix : Key) (entries : List LeafElement) (place : Place) (x : Option EntryView)
@@ -168,8 +168,7 @@ module _ (b : BucketView) (first : ℕ) (prefix : Key) (entries : List LeafEleme
 -- ---- a fault that is handed on
 
 pub fault_handed_on : (a b : Form) (fault : ReportFault) (result : Result ⊤ ReportFault) → a ≡ b → IsErrAnd result (λ f. f ≡ fault)
-    → (fault ≡ Sink) ⊎ ((fault ≡ NoMemory) × (a ≡ Json))
-    → IfErr result (λ f. (f ≡ Sink) ⊎ ((f ≡ NoMemory) × (b ≡ Json)))
+    → FailsByWritingJson a fault → IfErr result (FailsByWritingJson b)
 fault_handed_on a b fault (Ok x) same is either = tt
 fault_handed_on a b fault (Err f) same is (inl sink) = inl (is ∙ sink)
 fault_handed_on a b fault (Err f) same is (inr (full, json)) = inr (is ∙ full, sym same ∙ json)

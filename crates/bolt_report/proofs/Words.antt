@@ -1,4 +1,6 @@
 -- The words that the proofs of this crate cite, passed on from the modules that define them.
+pub use Rattle.bolt_lemmas.proofs.Exports.{contains_head, contains_tail}
+pub use Rattle.bolt_lemmas.specs.Order.{Rises}
 pub use Rattle.bolt_check.specs.CheckedFiles.{bytes_of, meta_of}
 pub use Rattle.bolt_check.specs.Keys.{Key, key_lt}
 pub use Rattle.bolt_check.specs.RoledFiles.{roles_checked}
@@ -36,7 +38,7 @@ pub use Rattle.bolt_text.specs.ListForms.{lines_form, list_line, listing_lines}
 pub use Rattle.bolt_text.specs.declared.report_fault.ReportFault.{ReportFault}
 pub use Rattle.bolt_text.specs.declared.forms.Form.{Form}
 pub use Rattle.bolt_text.specs.declared.forms.ListForm.{ListForm}
-pub use Rattle.bolt_tree.proofs.Exports.{fewer_left, next_shows, next_stands, the_entries, contains_head, contains_tail}
+pub use Rattle.bolt_tree.proofs.Exports.{fewer_left, next_shows, next_stands, the_entries}
 pub use Rattle.bolt_tree.specs.Buckets.{bucket_checked, bucket_start}
 pub use Rattle.bolt_tree.specs.Cursors.{cursor_bucket, cursor_opened, cursor_place}
 unfoldable pub use Rattle.bolt_tree.specs.Cursors.{cursor_checked, cursor_start}
@@ -44,7 +46,6 @@ pub use Rattle.bolt_tree.specs.Entries.{EntryView, IsStart, Root_page, Start, Va
 pub use Rattle.bolt_tree.specs.EntriesLeft.{ForEntries, entries_left}
 pub use Rattle.bolt_tree.specs.Listing.{Member, member_cmp, rest_from}
 pub use Rattle.bolt_tree.specs.ListingParts.{begins_with, is_bucket_at}
-pub use Rattle.bolt_tree.specs.Order.{Rises}
 pub use Rattle.bolt_tree.specs.Paths.{Path, path_of}
 pub use Rattle.bolt_tree.specs.Places.{On, Past, Place, least_from}
 pub use Rattle.bolt_tree.specs.ShownEntries.{item_view, shown_entry}

@@ -9,6 +9,8 @@ use Rattle.bolt_check.specs.declared.finding.Finding.{Finding}
 use Rattle.bolt_check.specs.declared.finding.TheConstants.Finding.{TWICE, ORDER, BELOW_PARENT, ABOVE_NEXT, EMPTY_BRANCH, TOO_DEEP, FREED_TWICE}
 use Rattle.bolt_check.specs.declared.finding.TheConstants.Finding.{REACHED_FREED, UNREACHABLE, FREE_RANGE, ONE_CHILD, ROOT_VALUE, LARGE_KEY}
 use Rattle.bolt_check.specs.declared.finding.TheConstants.Finding.{FIRST_KEY, LEAF_DEPTH, INLINE_NUMBER}
+use Rattle.bolt_etcd.specs.declared.check.snapshot.SnapshotFault.{SnapshotFault}
+use Rattle.bolt_etcd.specs.declared.check.snapshot.SnapshotFault.TheVariants.{HashMissing, HashCutOff, HashDiffers}
 use Rattle.bolt_text.specs.Lines.{line}
 
 -- why a file without a valid meta is refused
@@ -18,6 +20,12 @@ meta_fault_text Magic = line (codes "invalid database")
 meta_fault_text Version = line (codes "version mismatch")
 meta_fault_text Sum = line (codes "checksum error")
 meta_fault_text PageSize = line (codes "page size refused")
+
+-- why a file is no snapshot
+abbrev pub snapshot_fault_text : SnapshotFault → List ℕ
+snapshot_fault_text HashMissing = line (codes "snapshot hash missing")
+snapshot_fault_text HashCutOff = line (codes "snapshot hash cut off")
+snapshot_fault_text HashDiffers = line (codes "snapshot hash differs")
 
 -- The code of a fault, and its words.
 pub record FaultWords : Type 0 where

@@ -3,7 +3,7 @@ use Rattle.std.specs.Prelude.{◌≢◌, ◌+◌, ◌-◌, ℕ, List, [], ◌++�
 use Rattle.std.specs.List.{filter}
 use Rattle.bolt_format.specs.{Elements.LeafElement, TreePages.leaves_on}
 use Rattle.bolt_check.specs.Keys.{Key}
-use Rattle.bolt_recover.specs.{PageGaps.PageGapView, Losses.LostView, declared.found.Found.Found}
+use Rattle.bolt_recover.specs.{PageGaps.PageGapView, Losses.LostView, declared.found_page.FoundPage.FoundPage}
 use Rattle.bolt_report.specs.{FaultWords.count_line, GapLines.gaps_text, LossLines.lost_count, LossLines.lost_lines}
 use Rattle.bolt_text.specs.{Lines.line, NamedPaths.named_key}
 
@@ -12,11 +12,11 @@ pub record FoundView : Type 0 where
   pub number : ℕ
   pub elements : List LeafElement
 
-abbrev pub found_view : Found → FoundView
+abbrev pub found_view : FoundPage → FoundView
 found_view found = record { number = found.number; elements = leaves_on found.page }
 
 -- a found page has at least one element
-pub record IsFoundLeaf (found : Found) : Type 0 where
+pub record IsFoundLeaf (found : FoundPage) : Type 0 where
   pub some : leaves_on found.page ≢ []
 
 -- the key of an element

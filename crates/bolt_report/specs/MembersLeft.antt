@@ -1,6 +1,7 @@
 -- What members have left of their listing. What is promised of it is promised for all that they may read.
 use Rattle.std.specs.Prelude.{List}
-use Rattle.bolt_tree.specs.{Listing.Member, Listing.member_cmp, Order.Rises}
+use Rattle.bolt_lemmas.specs.Order.{Rises}
+use Rattle.bolt_tree.specs.{Listing.Member, Listing.member_cmp}
 
 -- a property holds of what members have left
 abbrev pub ForLeft : {M W : Type 0} → (reads : M → W → Type 0) → (left : M → W → List Member) → M → (List Member → Type 0) → Type 0

@@ -2,9 +2,10 @@
 ghost use Rattle.std.specs.Prelude.{◌≡◌, ◌++◌, flat_map};
 ghost use Rattle.bolt_format.specs.{Endings.ending, Wrote.Wrote};
 ghost use Rattle.bolt_report.specs.FaultWords.{count_line, finding_sentence, finding_text, finding_words, meta_fault_text, page_fault_text};
-ghost use Rattle.bolt_report.specs.FaultWords.{page_fault_words, pages_sentence};
+ghost use Rattle.bolt_report.specs.FaultWords.{page_fault_words, pages_sentence, snapshot_fault_text};
 
 use bolt_check::Finding;
+use bolt_etcd::SnapshotFault;
 use bolt_format::{MetaFault, PageFault, Sink, SinkFault};
 use bolt_text::{Piece, put, put_pieces};
 
@@ -17,6 +18,17 @@ pub fn put_meta_fault<S: Sink>(fault: MetaFault, sink: &mut S) -> Result<(), Sin
     ensures { Wrote S.Sink sink.old sink.new (meta_fault_text fault) (ending result) }
 {
     put(meta_fault_line(fault), sink)
+}
+
+/// Writes the line of a snapshot's fault.
+///
+/// # Errors
+///
+/// `SinkFault` if the sink failed. It has then accepted a prefix of the text.
+pub fn put_snapshot_fault<S: Sink>(fault: SnapshotFault, sink: &mut S) -> Result<(), SinkFault>
+    ensures { Wrote S.Sink sink.old sink.new (snapshot_fault_text fault) (ending result) }
+{
+    put(snapshot_fault_line(fault), sink)
 }
 
 /// Writes the line of a page's fault.
@@ -131,6 +143,16 @@ pub(crate) fn meta_fault_line(fault: MetaFault) -> &'static [u8]
         MetaFault::Version => b"version mismatch\n",
         MetaFault::Sum => b"checksum error\n",
         MetaFault::PageSize => b"page size refused\n",
+    }
+}
+
+fn snapshot_fault_line(fault: SnapshotFault) -> &'static [u8]
+    ensures { result.now ≡ snapshot_fault_text fault }
+{
+    match fault {
+        SnapshotFault::HashMissing => b"snapshot hash missing\n",
+        SnapshotFault::HashCutOff => b"snapshot hash cut off\n",
+        SnapshotFault::HashDiffers => b"snapshot hash differs\n",
     }
 }
 

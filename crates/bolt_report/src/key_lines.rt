@@ -1,11 +1,11 @@
 //! The keys of a bucket as a text.
-ghost use Rattle.std.specs.Prelude.{◌≡◌, ◌⊎◌, IfErr, OnOk};
+ghost use Rattle.std.specs.Prelude.{◌≡◌, IfErr, OnOk};
 ghost use Rattle.bolt_format.specs.{Elements.LeafElement, Wrote.Wrote};
 ghost use Rattle.bolt_tree.specs.{Entries.entry_view, ShownEntries.shown_entry};
 ghost use Rattle.bolt_tree.specs.Cursors.{cursor_bucket, cursor_checked, cursor_opened, cursor_start};
 ghost use Rattle.bolt_report.specs.KeyLines.{ForCursor, bucket_name, buckets_text, keys_text};
 ghost use Rattle.bolt_tree.specs.EntriesLeft.{ForBucket};
-ghost use Rattle.bolt_text.specs.ReportEndings.{HaltsShort, report_ending};
+ghost use Rattle.bolt_text.specs.ReportEndings.{FailsByWritingJson, HaltsShort, report_ending};
 ghost use Rattle.bolt_report.specs.KeyPrefixes.{OpensPrefix, with_prefix};
 
 use bolt_format::Sink;
@@ -17,9 +17,8 @@ use std::alloc::Global;
 ///
 /// # Errors
 ///
-/// `Sink` if the sink failed; `NoMemory` if memory ran out for a text in the form `Json`, and the sink
-/// had not failed. The sink has then accepted a prefix of the text, and not the whole if memory ran
-/// out. There is no other error, and no other form needs memory.
+/// As `ReportFault` says. Memory may run out in the form `Json` alone, and then the sink hasn't accepted
+/// all of the text.
 pub fn keys<S: Sink>(
     alloc: Global,
     bucket: &Bucket<'_>,
@@ -30,8 +29,7 @@ pub fn keys<S: Sink>(
         Wrote S.Sink sink.old sink.new (keys_text form entries) (report_ending result)) }
     ensures short { ForBucket bucket.now (λ entries.
         HaltsShort S.Sink sink.old sink.new (keys_text form entries) (report_ending result)) }
-    ensures fault { IfErr result (λ fault. (fault ≡ ReportFault.Sink)
-        ⊎ ((fault ≡ ReportFault.NoMemory) × (form ≡ Form.Json))) }
+    ensures fault { IfErr result (FailsByWritingJson form) }
 {
     put_keys_with_prefix(alloc, &mut bucket.cursor(), &[], form, sink)
 }
@@ -48,8 +46,7 @@ pub fn buckets<S: Sink>(
         Wrote S.Sink sink.old sink.new (buckets_text form entries) (report_ending result)) }
     ensures short { ForBucket bucket.now (λ entries.
         HaltsShort S.Sink sink.old sink.new (buckets_text form entries) (report_ending result)) }
-    ensures fault { IfErr result (λ fault. (fault ≡ ReportFault.Sink)
-        ⊎ ((fault ≡ ReportFault.NoMemory) × (form ≡ Form.Json))) }
+    ensures fault { IfErr result (FailsByWritingJson form) }
 {
     let mut items = ItemWriter::new(alloc, form);
     let mut cursor = bucket.cursor();
@@ -71,8 +68,7 @@ fn put_bucket<S: Sink>(
     ensures short { (e : LeafElement) → shown_entry entry.now ≡ entry_view e
         → HaltsShort S.Sink sink.old sink.new (bucket_name items.old.form e)
         (report_ending result) }
-    ensures fault { IfErr result (λ fault. (fault ≡ ReportFault.Sink)
-        ⊎ ((fault ≡ ReportFault.NoMemory) × (items.old.form ≡ Form.Json))) }
+    ensures fault { IfErr result (FailsByWritingJson items.old.form) }
 {
     match entry.item {
         Item::Value(_) => Ok(()),
@@ -87,9 +83,8 @@ fn put_bucket<S: Sink>(
 ///
 /// # Errors
 ///
-/// `Sink` if the sink failed; `NoMemory` if memory ran out for a text in the form `Json`, and the sink
-/// had not failed. The sink has then accepted a prefix of the text, and not the whole if memory ran
-/// out. There is no other error, and no other form needs memory.
+/// As `ReportFault` says. Memory may run out in the form `Json` alone, and then the sink hasn't accepted
+/// all of the text.
 pub fn put_keys_with_prefix<S: Sink>(
     alloc: Global,
     cursor: &mut Cursor<'_>,
@@ -108,8 +103,7 @@ pub fn put_keys_with_prefix<S: Sink>(
         (cursor_opened cursor.new)) }
     ensures checked { cursor_checked cursor.new ≡ cursor_checked cursor.old }
     ensures start { cursor_start cursor.new ≡ cursor_start cursor.old }
-    ensures fault { IfErr result (λ fault. (fault ≡ ReportFault.Sink)
-        ⊎ ((fault ≡ ReportFault.NoMemory) × (form ≡ Form.Json))) }
+    ensures fault { IfErr result (FailsByWritingJson form) }
 {
     let mut items = ItemWriter::new(alloc, form);
     let mut found = cursor.seek(prefix);

@@ -27,7 +27,9 @@ pub use at_path::{AtPath, look_up};
 pub use bbolt_lines::put_bbolt_findings;
 pub use bolt_stats::{Stats, add, stats};
 pub use bolt_text::{FigureForm, Form, ListForm, MemberLines, ReportFault, item, value};
-pub use fault_lines::{finding_text, put_error_count, put_meta_fault, put_page_fault};
+pub use fault_lines::{
+    finding_text, put_error_count, put_meta_fault, put_page_fault, put_snapshot_fault,
+};
 pub use gap_lines::put_findings;
 pub use key_lines::{buckets, keys, put_keys_with_prefix};
 pub use loss_lines::{lost_count, put_counted_lost, put_lost};

@@ -12,7 +12,7 @@ ghost use Rattle.bolt_report.specs.FoundLines.{IsFoundLeaf, bucket_count, counte
 use crate::fault_lines::{put_error_count, put_sentence};
 use crate::gap_lines::put_gaps;
 use bolt_format::{LeafPage, Sink, SinkFault};
-use bolt_recover::{Found, Loss, Lost, PageGap};
+use bolt_recover::{FoundPage, Loss, Lost, PageGap};
 use bolt_text::{Piece, put, put_pieces};
 
 /// Writes the line of each loss, or the one that says that everything is lost.
@@ -104,7 +104,11 @@ fn put_bounds<'a, S: Sink>(
 ///
 /// `SinkFault` if the sink failed. It has then accepted a prefix of the text.
 #[tactic(auto, using(bolt_format::proofs::Exports::wrote))]
-pub fn put_lost<S: Sink>(lost: Lost<'_>, found: &[Found<'_>], sink: &mut S) -> Result<(), SinkFault>
+pub fn put_lost<S: Sink>(
+    lost: Lost<'_>,
+    found: &[FoundPage<'_>],
+    sink: &mut S,
+) -> Result<(), SinkFault>
     requires { All IsFoundLeaf found.now }
     ensures { Wrote S.Sink sink.old sink.new
         (lost_text (lost_view lost.entry) (map found_view found.now)) (ending result) }
@@ -125,7 +129,7 @@ pub fn put_lost<S: Sink>(lost: Lost<'_>, found: &[Found<'_>], sink: &mut S) -> R
 pub fn put_counted_lost<S: Sink>(
     lost: Lost<'_>,
     gaps: &[PageGap<'_>],
-    found: &[Found<'_>],
+    found: &[FoundPage<'_>],
     earlier: u64,
     sink: &mut S,
 ) -> Result<(), SinkFault>
@@ -142,7 +146,7 @@ pub fn put_counted_lost<S: Sink>(
 /// Writes the line of each found page, and then the line with the number of errors.
 #[tactic(auto, using(bolt_format::proofs::Exports::wrote))]
 fn put_counted_found<S: Sink>(
-    found: &[Found<'_>],
+    found: &[FoundPage<'_>],
     errors: u64,
     sink: &mut S,
 ) -> Result<(), SinkFault>
@@ -155,7 +159,7 @@ fn put_counted_found<S: Sink>(
 }
 
 #[tactic(auto, using(bolt_text::proofs::Exports::elements))]
-fn put_all_found<S: Sink>(found: &[Found<'_>], sink: &mut S) -> Result<(), SinkFault>
+fn put_all_found<S: Sink>(found: &[FoundPage<'_>], sink: &mut S) -> Result<(), SinkFault>
     requires { All IsFoundLeaf found.now }
     ensures { Wrote S.Sink sink.old sink.new (found_text (map found_view found.now))
         (ending result) }
@@ -166,7 +170,7 @@ fn put_all_found<S: Sink>(found: &[Found<'_>], sink: &mut S) -> Result<(), SinkF
     Ok(())
 }
 
-fn put_found<S: Sink>(found: &Found<'_>, sink: &mut S) -> Result<(), SinkFault>
+fn put_found<S: Sink>(found: &FoundPage<'_>, sink: &mut S) -> Result<(), SinkFault>
     requires { IsFoundLeaf found.now }
     ensures { Wrote S.Sink sink.old sink.new (found_line (found_view found.now)) (ending result) }
 {

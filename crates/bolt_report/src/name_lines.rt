@@ -1,8 +1,8 @@
 //! The keys in a bucket of a listing as a text, member by member.
-ghost use Rattle.std.specs.Prelude.{◌≡◌, ◌⊎◌, IfErr, IfOk, OnOk, option_map};
+ghost use Rattle.std.specs.Prelude.{◌≡◌, IfErr, IfOk, OnOk, option_map};
 ghost use Rattle.bolt_format.specs.Wrote.{Wrote};
 ghost use Rattle.bolt_report.specs.MemberNames.{is_wanted, key_in, asked_name, asked_names};
-ghost use Rattle.bolt_text.specs.ReportEndings.{report_ending};
+ghost use Rattle.bolt_text.specs.ReportEndings.{FailsByWriting, FailsByWritingJson, report_ending};
 ghost use Rattle.bolt_tree.specs.{ListingParts.has_bucket};
 ghost use Rattle.bolt_tree.specs.{Paths.path_of, ShownEntries.item_view};
 ghost use Rattle.bolt_report.specs.MembersLeft.{ForLeft, ForRising};
@@ -36,9 +36,8 @@ pub struct NamesIn<'q> {
 ///
 /// # Errors
 ///
-/// `Sink` if the sink failed; `NoMemory` if memory ran out for the members or for a text in the form
-/// `Json`, and the sink had not failed. The sink has then accepted a prefix of the text: if memory ran
-/// out, maybe all of it, since all members are taken. There is no other error.
+/// As `ReportFault` says. Memory may run out for a text in the form `Json`, or for the members, all of
+/// which are taken: so the sink may have accepted all of the text then.
 pub fn put_member_names<'a, M: Members<'a>, S: Sink>(
     alloc: Global,
     members: &mut M,
@@ -52,8 +51,7 @@ pub fn put_member_names<'a, M: Members<'a>, S: Sink>(
         ForLeft M.reads M.left members.old (λ left.
         found ≡ has_bucket (path_of asked.entry.bucket.now) left)) }
     ensures end { OnOk result (M.ends_as members.old members.new) }
-    ensures fault { IfErr result (λ fault. (fault ≡ ReportFault.Sink)
-        ⊎ (fault ≡ ReportFault.NoMemory)) }
+    ensures fault { IfErr result FailsByWriting }
 {
     let mut items = ItemWriter::new(alloc, form);
     let mut found = asked.bucket.is_empty();
@@ -78,8 +76,7 @@ fn put_name<S: Sink>(
     ensures written { Wrote S.Sink sink.old sink.new
         (asked_name items.old.form asked.entry (path_of path.now, item_view item.now))
         (report_ending result) }
-    ensures fault { IfErr result (λ fault. (fault ≡ ReportFault.Sink)
-        ⊎ ((fault ≡ ReportFault.NoMemory) × (items.old.form ≡ Form.Json))) }
+    ensures fault { IfErr result (FailsByWritingJson items.old.form) }
 {
     match key_in(path, asked.bucket) {
         Some(key) if is_wanted(key, item, asked.names) => items.put_line(key, sink),

@@ -1,10 +1,10 @@
 //! The table of all pages of a file.
-ghost use Rattle.std.specs.Prelude.{◌≡◌, ◌<◌, ◌⊎◌, IfErr, IsSome, length, true, [], codes, decimal};
+ghost use Rattle.std.specs.Prelude.{◌≡◌, ◌<◌, IfErr, IsSome, length, true, [], codes, decimal};
 ghost use Rattle.bolt_format.specs.{Endings.ending, Freelists.free_ids_at, Pages.page_at, Wrote.Wrote};
 ghost use Rattle.bolt_check.specs.{CheckedFiles.bytes_of, CheckedFiles.has_accounts, CheckedFiles.meta_of, RoledFiles.roles_checked, Roles.HasRole};
 ghost use Rattle.bolt_report.specs.PageTables.{ForRoles, begun, free_past, head_rows, items_row, overflow_text, page_row, past_line, row, table_rows};
 ghost use Rattle.bolt_report.specs.PageTables.{table_text};
-ghost use Rattle.bolt_text.specs.{ReportEndings.report_ending, Lines.column, Pieces.piece_text};
+ghost use Rattle.bolt_text.specs.{ReportEndings.FailsByWriting, ReportEndings.report_ending, Lines.column, Pieces.piece_text};
 
 use bolt_check::{Checked, Role, Roles, roles};
 use bolt_format::{Sink, SinkFault, free_ids_at, known};
@@ -16,14 +16,12 @@ use std::alloc::Global;
 ///
 /// # Errors
 ///
-/// `Sink` if the sink failed; `NoMemory` if memory ran out for the roles of the pages, and the sink
-/// had not failed. The sink has then accepted a prefix of the text. There is no other error.
+/// As `ReportFault` says. Memory may run out for the roles of the pages.
 pub fn pages<S: Sink>(alloc: Global, checked: Checked<'_>, sink: &mut S) -> Result<(), ReportFault>
     requires { has_accounts checked ≡ true }
     ensures written { ForRoles checked.entry (λ roles.
         Wrote S.Sink sink.old sink.new (table_text checked.entry roles) (report_ending result)) }
-    ensures fault { IfErr result (λ fault. (fault ≡ ReportFault.Sink)
-        ⊎ (fault ≡ ReportFault.NoMemory)) }
+    ensures fault { IfErr result FailsByWriting }
 {
     let table = roles(alloc, checked)?;
     put_page_table(&table, sink)?;

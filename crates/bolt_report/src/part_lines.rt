@@ -1,5 +1,5 @@
 //! The text of what a file lists: all of it, from a path on, or below one.
-ghost use Rattle.std.specs.Prelude.{◌≡◌, ◌&&◌, ◌⊎◌, IfErr, IfOk, OnOk, not};
+ghost use Rattle.std.specs.Prelude.{◌≡◌, ◌&&◌, IfErr, IfOk, OnOk, not};
 ghost use Rattle.std.specs.Ordering.{is_lt};
 ghost use Rattle.bolt_format.specs.Wrote.{Wrote};
 ghost use Rattle.bolt_tree.specs.{FileListings.ForListing};
@@ -7,7 +7,7 @@ ghost use Rattle.bolt_tree.specs.{ListingParts.begins_with, ListingParts.has_buc
 ghost use Rattle.bolt_tree.specs.{Paths.path_cmp, Paths.path_of, ShownEntries.item_view};
 ghost use Rattle.bolt_report.specs.PartLines.{bucket_lines, lines_below, lines_while_below, rest_text};
 ghost use Rattle.bolt_text.specs.ListForms.{lines_form};
-ghost use Rattle.bolt_text.specs.ReportEndings.{report_ending};
+ghost use Rattle.bolt_text.specs.ReportEndings.{FailsByWriting, report_ending};
 ghost use Rattle.bolt_report.specs.MembersLeft.{ForLeft, ForRising};
 
 use bolt_check::Checked;
@@ -21,9 +21,8 @@ use std::alloc::Global;
 ///
 /// # Errors
 ///
-/// `Sink` if the sink failed; `NoMemory` if memory ran out for the walk, and the sink had not
-/// failed. The sink has then accepted a prefix of the text: if memory ran out, maybe all of it, since
-/// the walk goes on after the last line. There is no other error.
+/// As `ReportFault` says. Memory may run out for the walk, which goes on after the last line: so the
+/// sink may have accepted all of the text then.
 pub fn list<S: Sink>(
     alloc: Global,
     checked: Checked<'_>,
@@ -32,8 +31,7 @@ pub fn list<S: Sink>(
 ) -> Result<(), ReportFault>
     ensures written { ForListing checked.entry (λ listing.
         Wrote S.Sink sink.old sink.new (rest_text from.now listing) (report_ending result)) }
-    ensures fault { IfErr result (λ fault. (fault ≡ ReportFault.Sink)
-        ⊎ (fault ≡ ReportFault.NoMemory)) }
+    ensures fault { IfErr result FailsByWriting }
 {
     put_list_part(alloc, checked, &[], from, ListForm::Hex, sink)
 }
@@ -46,9 +44,8 @@ pub fn list<S: Sink>(
 ///
 /// # Errors
 ///
-/// `Sink` if the sink failed; `NoMemory` if memory ran out for the walk or for a line in the form
-/// `Json`, and the sink had not failed. The sink has then accepted a prefix of the text: if memory ran
-/// out, maybe all of it, since the walk goes on after the last line. There is no other error.
+/// As `ReportFault` says. Memory may run out for a line in the form `Json`, or for the walk, which goes
+/// on after the last line: so the sink may have accepted all of the text then.
 pub fn put_list_part<S: Sink>(
     alloc: Global,
     checked: Checked<'_>,
@@ -60,8 +57,7 @@ pub fn put_list_part<S: Sink>(
     ensures written { ForListing checked.entry (λ all.
         Wrote S.Sink sink.old sink.new (lines_below form from.now below.now all)
         (report_ending result)) }
-    ensures fault { IfErr result (λ fault. (fault ≡ ReportFault.Sink)
-        ⊎ (fault ≡ ReportFault.NoMemory)) }
+    ensures fault { IfErr result FailsByWriting }
 {
     let mut walk = Walk::from(alloc, checked, later_of(from, below))?;
     put_part(&mut walk, below, &mut MemberLines::new(alloc, form), sink)
@@ -85,8 +81,7 @@ pub fn put_member_part<'a, M: Members<'a>, S: Sink>(
     ensures found { IfOk result (λ found.
         ForLeft M.reads M.left members.old (λ left. found ≡ has_bucket (path_of below.now) left)) }
     ensures end { OnOk result (M.ends_as members.old members.new) }
-    ensures fault { IfErr result (λ fault. (fault ≡ ReportFault.Sink)
-        ⊎ (fault ≡ ReportFault.NoMemory)) }
+    ensures fault { IfErr result FailsByWriting }
 {
     let mut lines = MemberLines::new(alloc, form);
     put_bucket_part(members, below, from, &mut lines, sink)
@@ -103,8 +98,7 @@ fn put_part<'a, M: Members<'a>, S: Sink>(
     ensures written { ForLeft M.reads M.left members.old (λ left.
         Wrote S.Sink sink.old sink.new (lines_while_below (lines_form lines.old) below.now left)
         (report_ending result)) }
-    ensures fault { IfErr result (λ fault. (fault ≡ ReportFault.Sink)
-        ⊎ (fault ≡ ReportFault.NoMemory)) }
+    ensures fault { IfErr result FailsByWriting }
 {
     'part: while let Some(item) = members.next()? {
         if !is_below(members.path(), below) {
@@ -130,8 +124,7 @@ fn put_bucket_part<'a, M: Members<'a>, S: Sink>(
     ensures found { IfOk result (λ found.
         ForLeft M.reads M.left members.old (λ left. found ≡ has_bucket (path_of below.now) left)) }
     ensures end { OnOk result (M.ends_as members.old members.new) }
-    ensures fault { IfErr result (λ fault. (fault ≡ ReportFault.Sink)
-        ⊎ (fault ≡ ReportFault.NoMemory)) }
+    ensures fault { IfErr result FailsByWriting }
 {
     let mut found = below.is_empty();
     'part: while let Some(item) = members.next()? {

@@ -1,14 +1,14 @@
 //! Writes revisions as lines.
-ghost use Rattle.std.specs.Prelude.{◌≡◌, ◌⊎◌, IfErr, IfOk, length, map};
+ghost use Rattle.std.specs.Prelude.{◌≡◌, IfErr, IfOk, length, map};
 ghost use Rattle.bolt_check.specs.{Keys.Key, Counts.counted};
 ghost use Rattle.bolt_format.specs.{Endings.ending, Wrote.Wrote};
-ghost use Rattle.bolt_text.specs.{ReportEndings.report_ending};
+ghost use Rattle.bolt_text.specs.{ReportEndings.FailsByWriting, ReportEndings.FailsByWritingJson, ReportEndings.report_ending};
 ghost use Rattle.bolt_report.specs.RevisionLines.{columns, head, line_end, members, value_mark};
 ghost use Rattle.bolt_etcd.specs.{Wire.ShownRevisions.shown_decoded, Wire.ShownRevisions.shown_revision, Store.RevisionsLeft.pass_others};
 ghost use Rattle.bolt_etcd.specs.{Store.RevisionsLeft.ForAhead, Store.Stores.others, Store.Stores.revisions, Check.ForNames.ForCurrent};
 ghost use Rattle.bolt_tree.specs.EntriesLeft.{ForBucket};
 
-use bolt_etcd::{Current, Decoded, Revision, Revisions};
+use bolt_etcd::{Current, DecodedRevision, Revision, Revisions};
 use bolt_format::{Sink, SinkFault};
 use bolt_text::{Form, ItemWriter, Piece, ReportFault, put, put_pieces};
 use bolt_tree::Bucket;
@@ -41,15 +41,13 @@ impl RevisionWriter {
     ///
     /// # Errors
     ///
-    /// `Sink` if the sink failed; `NoMemory` if memory ran out for a text in the form `Json`, and the
-    /// sink had not failed. The sink has then accepted a prefix of the line. There is no other error.
+    /// As `ReportFault` says. Memory may run out in the form `Json` alone.
     pub fn put<S: Sink>(&mut self, revision: &Revision<'_>, sink: &mut S) -> Result<(), ReportFault>
         ensures form { self.new.items.form ≡ self.old.items.form }
         ensures values { self.new.values ≡ self.old.values }
         ensures written { Wrote S.Sink sink.old sink.new
             (line_by self.old (shown_revision revision.now)) (report_ending result) }
-        ensures fault { IfErr result (λ fault. (fault ≡ ReportFault.Sink)
-            ⊎ ((fault ≡ ReportFault.NoMemory) × (self.old.items.form ≡ Form.Json))) }
+        ensures fault { IfErr result (FailsByWritingJson self.old.items.form) }
     {
         let decoded = revision.decode();
         put_head(self.items.form, &decoded, sink)?;
@@ -71,8 +69,7 @@ impl RevisionWriter {
         ensures written { Wrote S.Sink sink.old sink.new
             (named_line_by self.old prefix.now (shown_revision revision.now))
             (report_ending result) }
-        ensures fault { IfErr result (λ fault. (fault ≡ ReportFault.Sink)
-            ⊎ ((fault ≡ ReportFault.NoMemory) × (self.old.items.form ≡ Form.Json))) }
+        ensures fault { IfErr result (FailsByWritingJson self.old.items.form) }
     {
         if revision.name().starts_with(prefix) {
             self.put(revision, sink)
@@ -84,7 +81,7 @@ impl RevisionWriter {
     /// Writes the value of a revision after its mark, if values are wanted.
     fn put_value<S: Sink>(
         &mut self,
-        revision: &Decoded<'_>,
+        revision: &DecodedRevision<'_>,
         sink: &mut S,
     ) -> Result<(), ReportFault>
         ensures form { self.new.items.form ≡ self.old.items.form }
@@ -92,8 +89,7 @@ impl RevisionWriter {
         ensures written { (place : Key)
             → Wrote S.Sink sink.old sink.new (value_by self.old (shown_decoded place revision.now))
             (report_ending result) }
-        ensures fault { IfErr result (λ fault. (fault ≡ ReportFault.Sink)
-            ⊎ ((fault ≡ ReportFault.NoMemory) × (self.old.items.form ≡ Form.Json))) }
+        ensures fault { IfErr result (FailsByWritingJson self.old.items.form) }
     {
         if !self.values {
             return Ok(());
@@ -122,7 +118,11 @@ fn line_end(form: Form) -> &'static [u8]
 }
 
 /// Writes the numbers of a revision, as columns or as the beginning of an object.
-fn put_head<S: Sink>(form: Form, revision: &Decoded<'_>, sink: &mut S) -> Result<(), SinkFault>
+fn put_head<S: Sink>(
+    form: Form,
+    revision: &DecodedRevision<'_>,
+    sink: &mut S,
+) -> Result<(), SinkFault>
     ensures { (place : Key) → Wrote S.Sink sink.old sink.new
         (head form (shown_decoded place revision.now)) (ending result) }
 {
@@ -135,7 +135,10 @@ fn put_head<S: Sink>(form: Form, revision: &Decoded<'_>, sink: &mut S) -> Result
 
 /// Writes the numbers, each followed by a space.
 #[tactic(auto, unfolding(crate::specs::RevisionLines::columns))]
-fn put_revision_columns<S: Sink>(revision: &Decoded<'_>, sink: &mut S) -> Result<(), SinkFault>
+fn put_revision_columns<S: Sink>(
+    revision: &DecodedRevision<'_>,
+    sink: &mut S,
+) -> Result<(), SinkFault>
     ensures { (place : Key) → Wrote S.Sink sink.old sink.new
         (columns (shown_decoded place revision.now)) (ending result) }
 {
@@ -156,7 +159,10 @@ fn put_revision_columns<S: Sink>(revision: &Decoded<'_>, sink: &mut S) -> Result
 
 /// Writes the beginning of the object, up to the name.
 #[tactic(auto, unfolding(crate::specs::RevisionLines::members))]
-fn put_revision_members<S: Sink>(revision: &Decoded<'_>, sink: &mut S) -> Result<(), SinkFault>
+fn put_revision_members<S: Sink>(
+    revision: &DecodedRevision<'_>,
+    sink: &mut S,
+) -> Result<(), SinkFault>
     ensures { (place : Key) → Wrote S.Sink sink.old sink.new
         (members (shown_decoded place revision.now)) (ending result) }
 {
@@ -185,8 +191,7 @@ impl RevisionWriter {
     ///
     /// # Errors
     ///
-    /// `Sink` if the sink failed; `NoMemory` if memory ran out for a text in the form `Json`, and the
-    /// sink had not failed. The sink has then accepted a prefix of the text. There is no other error.
+    /// As `ReportFault` says. Memory may run out in the form `Json` alone.
     pub fn put_pass<S: Sink>(
         &mut self,
         mut pass: Revisions<'_>,
@@ -201,8 +206,7 @@ impl RevisionWriter {
         ensures others { IfOk result (λ n.
             ForAhead pass.entry (λ rest.
             n ≡ counted (pass_others pass.entry) (length (others rest)))) }
-        ensures fault { IfErr result (λ fault. (fault ≡ ReportFault.Sink)
-            ⊎ ((fault ≡ ReportFault.NoMemory) × (self.old.items.form ≡ Form.Json))) }
+        ensures fault { IfErr result (FailsByWritingJson self.old.items.form) }
     {
         'rest: while let Some(revision) = pass.next() {
             self.put_named(prefix, &revision, sink)?;
@@ -217,8 +221,7 @@ impl RevisionWriter {
     ///
     /// # Errors
     ///
-    /// `Sink` if the sink failed; `NoMemory` if memory ran out, and the sink had not failed. The sink
-    /// has then accepted a prefix of the text. There is no other error.
+    /// As `ReportFault` says. Memory may run out in each form.
     pub fn put_current<S: Sink>(
         &mut self,
         alloc: Global,
@@ -234,8 +237,7 @@ impl RevisionWriter {
             (report_ending result)) }
         ensures others { IfOk result (λ n.
             ForBucket bucket.now (λ entries. n ≡ counted 0 (length (others entries)))) }
-        ensures fault { IfErr result (λ fault. (fault ≡ ReportFault.Sink)
-            ⊎ (fault ≡ ReportFault.NoMemory)) }
+        ensures fault { IfErr result FailsByWriting }
     {
         let current = Current::find(alloc, bucket, up_to)?;
         self.put_all(&current.revisions, prefix, sink)?;
@@ -255,8 +257,7 @@ impl RevisionWriter {
         ensures written { Wrote S.Sink sink.old sink.new
             (lines_by self.old prefix.now (map shown_revision revisions.now))
             (report_ending result) }
-        ensures fault { IfErr result (λ fault. (fault ≡ ReportFault.Sink)
-            ⊎ ((fault ≡ ReportFault.NoMemory) × (self.old.items.form ≡ Form.Json))) }
+        ensures fault { IfErr result (FailsByWritingJson self.old.items.form) }
     {
         'rest: for revision in revisions {
             self.put_named(prefix, revision, sink)?;

@@ -1,9 +1,9 @@
 //! The sizes of the buckets in a bucket as a text.
-ghost use Rattle.std.specs.Prelude.{◌≡◌, ◌++◌, ◌⊎◌, IfErr, true};
+ghost use Rattle.std.specs.Prelude.{◌≡◌, ◌++◌, IfErr, true};
 ghost use Rattle.bolt_format.specs.{Endings.ending, Wrote.Wrote};
 ghost use Rattle.bolt_stats.specs.StatsOf.{AreStats};
 ghost use Rattle.bolt_text.specs.{Forms.value_text, Forms.is_json, Forms.json_in, Forms.json_text, ReportEndings.HaltsShort};
-ghost use Rattle.bolt_text.specs.{ReportEndings.report_ending};
+ghost use Rattle.bolt_text.specs.{ReportEndings.FailsByWriting, ReportEndings.report_ending};
 ghost use Rattle.bolt_report.specs.SizeLines.{bytes_allocated, bytes_used, size_columns, size_text, sizes_text, size_json, size_members, ForSized};
 ghost use Rattle.bolt_text.specs.Lines.{line};
 
@@ -21,9 +21,8 @@ use std::alloc::Global;
 ///
 /// # Errors
 ///
-/// `Sink` if the sink failed; `NoMemory` if memory ran out for the figures of a bucket or for a
-/// name in the form `Json`, and the sink had not failed. The sink has then accepted a prefix of the
-/// text, and not the whole if memory ran out. There is no other error.
+/// As `ReportFault` says. Memory may run out for the figures of a bucket or for a name in the form
+/// `Json`, and then the sink hasn't accepted all of the text.
 pub fn put_sizes<S: Sink>(
     alloc: Global,
     bucket: &Bucket<'_>,
@@ -34,8 +33,7 @@ pub fn put_sizes<S: Sink>(
         Wrote S.Sink sink.old sink.new (sizes_text form sized) (report_ending result)) }
     ensures short { ForSized bucket.now (λ sized.
         HaltsShort S.Sink sink.old sink.new (sizes_text form sized) (report_ending result)) }
-    ensures fault { IfErr result (λ fault. (fault ≡ ReportFault.Sink)
-        ⊎ (fault ≡ ReportFault.NoMemory)) }
+    ensures fault { IfErr result FailsByWriting }
 {
     let mut cursor = bucket.cursor();
     let mut items = ItemWriter::new(alloc, form);
@@ -62,8 +60,7 @@ fn put_bucket_size<S: Sink>(
     ensures short { (own : Stats) → AreStats bucket.now own
         → HaltsShort S.Sink sink.old sink.new (size_text items.old.form own name.now)
         (report_ending result) }
-    ensures fault { IfErr result (λ fault. (fault ≡ ReportFault.Sink)
-        ⊎ (fault ≡ ReportFault.NoMemory)) }
+    ensures fault { IfErr result FailsByWriting }
 {
     let stats = stats(alloc, bucket)?;
     put_size(&stats, name, items, sink)
@@ -81,8 +78,7 @@ fn put_size<S: Sink>(
         (report_ending result) }
     ensures short { HaltsShort S.Sink sink.old sink.new (size_text items.old.form stats.now name.now)
         (report_ending result) }
-    ensures fault { IfErr result (λ fault. (fault ≡ ReportFault.Sink)
-        ⊎ (fault ≡ ReportFault.NoMemory)) }
+    ensures fault { IfErr result FailsByWriting }
 {
     if items.form.is_json() {
         put_object(stats, name, items, sink)
@@ -104,8 +100,7 @@ fn put_size_row<S: Sink>(
         (size_columns stats.now ++ value_text items.old.form name.now) (report_ending result) }
     ensures short { HaltsShort S.Sink sink.old sink.new
         (size_columns stats.now ++ value_text items.old.form name.now) (report_ending result) }
-    ensures fault { IfErr result (λ fault. (fault ≡ ReportFault.Sink)
-        ⊎ (fault ≡ ReportFault.NoMemory)) }
+    ensures fault { IfErr result FailsByWriting }
 {
     put_columns(stats, sink)?;
     items.put_line(name, sink)
@@ -163,8 +158,7 @@ fn put_object<S: Sink>(
     ensures short { HaltsShort S.Sink sink.old sink.new
         (line (json_text (size_json stats.now (json_in items.old.form name.now))))
         (report_ending result) }
-    ensures fault { IfErr result (λ fault. (fault ≡ ReportFault.Sink)
-        ⊎ (fault ≡ ReportFault.NoMemory)) }
+    ensures fault { IfErr result FailsByWriting }
 {
     put_members(stats, sink)?;
     items.put(name, sink)?;

@@ -1,13 +1,14 @@
 -- Sums over what is still to be read, through the reading of a page.
-use Rattle.std.proofs.Common.{◌≡◌, ◌∙◌, ◌+◌, ◌-◌, ◌≤◌, ◌⊎◌, ℕ, inl, inr, Bool, true, false, List, [], ◌∷◌, ◌++◌, Ok, map, take, sum_by, refl, sym, ap}
+use Rattle.std.proofs.Common.{◌≡◌, ◌∙◌, ◌+◌, ◌≤◌, ◌⊎◌, ℕ, inl, inr, Bool, true, false, List, [], ◌∷◌, ◌++◌, Ok, map, sum_by, refl, sym, ap}
 use Rattle.std.proofs.Common.{subst, arith}
 use Rattle.std.proofs.lemmas.List.Sums.{sum_by-append}
+use Rattle.bolt_lemmas.proofs.Exports.{has_left, has_split}
 use Rattle.bolt_stats.proofs.Words.{AreGood, bucket_figure, Enough, enough_kids, Figure, figure, Has, has_right, inner_pages, inner_roots, kid_pages}
 use Rattle.bolt_stats.proofs.Words.{map-append, Meta, Node, node_at, unread_numbers, pages_in_bucket, roots_in_bucket, roots_of, Stats, sum_by-cons}
 use Rattle.bolt_stats.proofs.Words.{total_of, UnreadBucket, UnreadPage, weight, ∥∥₁_map}
 use Rattle.bolt_stats.proofs.DepthSums.{page_has, root_has}
 use Rattle.bolt_check.specs.Nodes.{Entry}
-use Rattle.bolt_check.proofs.Exports.{has_left, has_split, weight_kids}
+use Rattle.bolt_check.proofs.Exports.{weight_kids}
 
 -- the last page was taken
 pub popped : (old new : List UnreadPage) (p : UnreadPage) → old ≡ new ++ p ∷ [] → unread_numbers old ≡ unread_numbers new ++ p.number ∷ []
@@ -74,10 +75,6 @@ zero_depth s zero = grind arith
 pub more_found : (file : List ℕ) (meta : Meta) (own : ℕ → ℕ) (roots found inner : List ℕ) → found ≡ roots ++ inner
     → total_of file meta own roots ≤ total_of file meta own found
 more_found file meta own roots found inner e = grind (arith, sum_by-append)
-
--- nothing was taken, so nothing is left
-pub none_left : {X : Type 0} {items rest : List X} {n : ℕ} → n ≡ 0 → rest ≡ take (n - 1) items → items ≡ rest ++ [] → items ≡ []
-none_left z r e = let r0 = rw z at r in rw r0 at e
 
 -- a root page goes over to the open buckets
 module _ (before more : List UnreadBucket) (b : UnreadBucket) (roots rest : List ℕ) (root : ℕ) (popped_ : roots ≡ rest ++ root ∷ [])

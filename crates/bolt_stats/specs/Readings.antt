@@ -1,8 +1,9 @@
 -- What is still to be read of a bucket, and sums over it.
 use Rattle.std.specs.Prelude.{◌==◌, ℕ, Bool, true, false, List, [], ◌∷◌, map, sum_by, if◌then◌else◌}
+use Rattle.bolt_lemmas.specs.Lists.{Has}
 use Rattle.bolt_format.specs.{Elements.LeafElement, Elements.head_root, Pages.page_at, declared.meta.Meta.Meta}
 use Rattle.bolt_check.specs.{CheckedFiles.bytes_of, CheckedFiles.meta_of, Nodes.Entry, Nodes.Node, Nodes.node_at}
-use Rattle.bolt_check.specs.{Subtrees.Enough, Lists.Has, Subtrees.kid_pages, Subtrees.weight, declared.checked.Checked.Checked}
+use Rattle.bolt_check.specs.{Subtrees.Enough, Subtrees.kid_pages, Subtrees.weight, declared.checked.Checked.Checked}
 use Rattle.bolt_stats.specs.{Figures.Figure, Figures.page_figure, declared.bucket_stats.UnreadBucket.UnreadBucket}
 use Rattle.bolt_stats.specs.{declared.bucket_stats.UnreadPage.UnreadPage}
 

@@ -4,7 +4,7 @@
 ghost use Rattle.std.specs.Prelude.{◌≡◌, ◌<◌, ◌+◌, ◌∷◌, ◌++◌, ◌⊎◌, ℕ, [], IfOk, IsTrue, Ok, OnOk, flat_map, map, max, sum_by};
 ghost use Rattle.bolt_format.specs.{ElementPlaces.leaf_view, Elements.IsBucketValue, TreePages.branches_on, TreePages.leaves_on};
 ghost use Rattle.bolt_check.specs.{CheckedFiles.bytes_of, CheckedFiles.meta_of, Nodes.Node, Nodes.leaf_entry, Nodes.node_at, Subtrees.Enough};
-ghost use Rattle.bolt_check.specs.{Lists.Has};
+ghost use Rattle.bolt_lemmas.specs.Lists.{Has};
 ghost use Rattle.bolt_stats.specs.Deepest.{deepest_in, depth_in, depth_of, greatest, height_of, inline_depth, inner_inline, counted_depth};
 ghost use Rattle.bolt_stats.specs.Figures.{Figure, bucket_figure, figure, HasFigures};
 ghost use Rattle.bolt_check.specs.Counts.{saturated};

@@ -1,8 +1,8 @@
 -- What was written, if a call also fails for other reasons than its sink.
-use Rattle.std.proofs.Common.{◌≡◌, ◌∙◌, ◌<◌, List, ℕ, ◌++◌, Result, Ok, Err, Some, ap, get_or, length, map, option_map, slice_get, sym, ◌+◌, flat_map}
+use Rattle.std.proofs.Common.{◌≡◌, ◌<◌, List, ℕ, ◌++◌, Result, Ok, Err, ap, get_or, length, map, sym, ◌+◌, flat_map}
 use Rattle.std.proofs.Common.{take}
-use Rattle.std.proofs.lemmas.Option.{slice_get-map}
 use Rattle.std.specs.Result.{IsErrAnd}
+use Rattle.bolt_lemmas.proofs.Exports.{view_at}
 use Rattle.bolt_text.proofs.Vocabulary.{broken, ending, Ghosts, IsErr, length-map, ReportFault, SinkFault, slice_get-get_or, whole, Wrote}
 use Rattle.bolt_text.proofs.Vocabulary.{Wrote-element, Wrote-element_return, Wrote-elements, Wrote-return, Wrote-then, WroteFront}
 use Rattle.bolt_format.proofs.Exports.{front_stop, Wrote-ends, Wrote-halt, Wrote-stop, Wrote-stop_halted}
@@ -56,10 +56,6 @@ front_broken rest result before one same err = front_stop before (Wrote-return r
 -- the lines of the elements before number i were written
 abbrev pub WroteLines : {S X : Type 0} (sink : Ghosts S) (old new : S) (line : X → List ℕ) (xs : List X) (i : ℕ) → Type 0
 WroteLines sink old new line xs i = Wrote sink old new (flat_map line (take i xs)) whole
-
--- the view of an element
-view_at : {X Y : Type 0} (view : X → Y) (xs : List X) (i : ℕ) (x : X) → i < length xs → x ≡ get_or xs i x → slice_get (map view xs) i ≡ Some (view x)
-view_at view xs i x within is = slice_get-map view xs i ∙ ap (option_map view) (slice_get-get_or xs i x within) ∙ ap (λ y. Some (view y)) (sym is)
 
 -- the line of one element more,
 pub view_more : {S X Y : Type 0} {sink : Ghosts S} (line : Y → List ℕ) (view : X → Y) (xs : List X) (i : ℕ) (x : X) {old mid new : S} → i < length xs

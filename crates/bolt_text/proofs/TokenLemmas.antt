@@ -1,5 +1,5 @@
 -- JSON tokens, written one after another, of bytes that are UTF-8 or not.
-use Rattle.std.proofs.Common.{arith, ◌≡◌, ℕ, List, Bool, true, false, Result, Ok, Err, nat_lt, refl, ◌+◌, Bor, [], ◌∷◌, ◌++◌, append_assoc, codes}
+use Rattle.std.proofs.Common.{arith, ◌≡◌, ℕ, List, Bool, true, false, Result, Ok, Err, nat_lt, refl, Bor, [], ◌∷◌, ◌++◌, append_assoc, codes}
 use Rattle.std.proofs.Common.{flat_map}
 use Rattle.std.proofs.{lemmas.Bool.ltb-true, lemmas.List.Elements.All-weaker, lemmas.Str.IsUtf8-from_ascii, lemmas.Str.IsUtf8-from_is_utf8}
 use Rattle.std.proofs.{lemmas.Str.Ascii.IsAscii-from_all}

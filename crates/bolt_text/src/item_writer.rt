@@ -1,9 +1,9 @@
 //! Keys and values in a form.
-ghost use Rattle.std.specs.Prelude.{◌≡◌, ◌⊎◌, IfErr, if◌then◌else◌};
+ghost use Rattle.std.specs.Prelude.{◌≡◌, IfErr, if◌then◌else◌};
 ghost use Rattle.hex.specs.Hex.{encode_lower};
 ghost use Rattle.bolt_format.specs.{Endings.ending, Wrote.Wrote};
 ghost use Rattle.bolt_text.specs.Forms.{digits_json, is_text, item_text, json_text, mixed_text, value_text};
-ghost use Rattle.bolt_text.specs.{Pieces.piece_text, ReportEndings.HaltsShort, ReportEndings.report_ending};
+ghost use Rattle.bolt_text.specs.{Pieces.piece_text, ReportEndings.HaltsShort, ReportEndings.FailsByWritingJson, ReportEndings.report_ending};
 
 use crate::forms::Form;
 use crate::gathered::put;
@@ -42,8 +42,7 @@ impl ItemWriter {
             (report_ending result) }
         ensures short { HaltsShort S.Sink sink.old sink.new (value_text self.old.form bytes.now)
             (report_ending result) }
-        ensures fault { IfErr result (λ fault. (fault ≡ ReportFault.Sink)
-            ⊎ ((fault ≡ ReportFault.NoMemory) × (self.old.form ≡ Form.Json))) }
+        ensures fault { IfErr result (FailsByWritingJson self.old.form) }
     {
         self.put(bytes, sink)?;
         put(b"\n", sink)?;
@@ -57,8 +56,7 @@ impl ItemWriter {
             (report_ending result) }
         ensures short { HaltsShort S.Sink sink.old sink.new (item_text self.old.form bytes.now)
             (report_ending result) }
-        ensures fault { IfErr result (λ fault. (fault ≡ ReportFault.Sink)
-            ⊎ ((fault ≡ ReportFault.NoMemory) × (self.old.form ≡ Form.Json))) }
+        ensures fault { IfErr result (FailsByWritingJson self.old.form) }
     {
         let written = match self.form {
             Form::Printable => put_or_hex(bytes, can_be_printed(bytes), sink),
@@ -129,9 +127,8 @@ fn is_text(bytes: &[u8]) -> bool
 ///
 /// # Errors
 ///
-/// `Sink` if the sink failed; `NoMemory` if memory ran out for a text in the form `Json`, and the sink
-/// had not failed. The sink has then accepted a prefix of the text, and not the whole if memory ran
-/// out. There is no other error, and no other form needs memory.
+/// As `ReportFault` says. Memory may run out in the form `Json` alone, and then the sink hasn't accepted
+/// all of the text.
 pub fn value<S: Sink>(
     alloc: Global,
     bytes: &[u8],
@@ -142,8 +139,7 @@ pub fn value<S: Sink>(
         (report_ending result) }
     ensures short { HaltsShort S.Sink sink.old sink.new (value_text form bytes.now)
         (report_ending result) }
-    ensures fault { IfErr result (λ fault. (fault ≡ ReportFault.Sink)
-        ⊎ ((fault ≡ ReportFault.NoMemory) × (form ≡ Form.Json))) }
+    ensures fault { IfErr result (FailsByWritingJson form) }
 {
     let mut items = ItemWriter::new(alloc, form);
     items.put_line(bytes, sink)
@@ -160,8 +156,7 @@ pub fn item<S: Sink>(
         (report_ending result) }
     ensures short { HaltsShort S.Sink sink.old sink.new (item_text form bytes.now)
         (report_ending result) }
-    ensures fault { IfErr result (λ fault. (fault ≡ ReportFault.Sink)
-        ⊎ ((fault ≡ ReportFault.NoMemory) × (form ≡ Form.Json))) }
+    ensures fault { IfErr result (FailsByWritingJson form) }
 {
     let mut items = ItemWriter::new(alloc, form);
     items.put(bytes, sink)

@@ -1,7 +1,8 @@
 //! The lines of members of a listing.
-ghost use Rattle.std.specs.Prelude.{◌≡◌, ◌⊎◌, IfErr};
+ghost use Rattle.std.specs.Prelude.{◌≡◌, IfErr};
 ghost use Rattle.bolt_format.specs.{Wrote.Wrote, Endings.ending};
-ghost use Rattle.bolt_text.specs.{ListForms.lines_form, ListForms.list_line, ReportEndings.report_ending, Forms.digits_json, JsonLines.json_line};
+ghost use Rattle.bolt_text.specs.{ListForms.lines_form, ListForms.list_line, ReportEndings.FailsByWritingIf, ReportEndings.report_ending};
+ghost use Rattle.bolt_text.specs.{Forms.digits_json, JsonLines.json_line};
 ghost use Rattle.bolt_text.specs.ListLines.{member_line};
 ghost use Rattle.bolt_tree.specs.{Paths.path_of, ShownEntries.item_view};
 
@@ -47,9 +48,8 @@ impl MemberLines {
     ///
     /// # Errors
     ///
-    /// `Sink` if the sink failed; `NoMemory` if memory ran out for a line in the form `Json`, and the
-    /// sink had not failed. The sink has then accepted a prefix of the line. There is no other
-    /// error, and no other form needs memory. After an error further lines can be written.
+    /// As `ReportFault` says. Memory may run out in the form `Json` alone. After an error further lines
+    /// can be written.
     pub fn put<S: Sink>(
         &mut self,
         path: &[&[u8]],
@@ -60,8 +60,7 @@ impl MemberLines {
         ensures written { Wrote S.Sink sink.old sink.new
             (list_line (lines_form self.old) (path_of path.now, item_view item.now))
             (report_ending result) }
-        ensures fault { IfErr result (λ fault. (fault ≡ ReportFault.Sink)
-            ⊎ ((fault ≡ ReportFault.NoMemory) × (lines_form self.old ≡ ListForm.Json))) }
+        ensures fault { IfErr result (FailsByWritingIf (lines_form self.old ≡ ListForm.Json)) }
     {
         let written = match &mut self.writer {
             LineWriter::Hex => put_member(path, item, sink),

@@ -5,12 +5,13 @@ ghost use Rattle.bolt_text.specs.declared.report_fault.ReportFault.TheVariants a
 use bolt_format::{PageFault, SinkFault};
 use bolt_tree::NoMemory;
 
-/// Why a text isn't whole on its sink.
+/// Why a text isn't whole on its sink. A call that writes a text fails with `Sink`, or with `NoMemory` if
+/// it needs memory. Only one that prints a page returns `Page`.
 #[derive(Clone, Copy, Debug, PartialEq, Eq)]
 pub enum ReportFault {
     /// The sink failed. It has accepted a prefix of the text.
     Sink,
-    /// Memory ran out. The sink has accepted a prefix of the text.
+    /// Memory ran out, and the sink had not failed. It has accepted a prefix of the text.
     NoMemory,
     /// The page to be printed is refused. The sink is unchanged.
     Page(PageFault),

@@ -1,10 +1,11 @@
 -- One turn of a climb, in what is known of open buckets: only that it is so.
 use Rattle.std.proofs.Common.{◌≡◌, ◌∙◌, ◌+◌, ◌-◌, ℕ, suc, List, [], ◌∷◌, ◌++◌, take, Option, Some, None, MatchOption, refl, sym, ap, subst, arith}
 use Rattle.std.proofs.Common.{vec_len, Bor}
+use Rattle.bolt_lemmas.proofs.Exports.{filter_none}
 use Rattle.bolt_tree.proofs.Words.{AreOpen, Checked, Cursor, CursorView, HasEntries, IsInPlace, LeafElement, Lists, Member, Moves, Names, Path, Start}
 use Rattle.bolt_tree.proofs.Words.{beyond, cursor_view, cursors_of, entries_of, innermost_views, is_beyond, item_of, next_move, open_path}
 use Rattle.bolt_tree.proofs.Words.{option_to_list, path_of, props, rest_after, root_start, waiting_of, ∥∥₁_elim, ∥∥₁_map}
-use Rattle.bolt_tree.proofs.{Filters.filter_none, KeptLemmas.none_open}
+use Rattle.bolt_tree.proofs.KeptLemmas.{none_open}
 use Rattle.bolt_tree.proofs.OpenSteps.{Top, path_popped, next_ended, next_entry, next_given, next_open, open_pop}
 use Rattle.bolt_tree.specs.declared.open_buckets.OpenBuckets.{OpenBuckets}
 

@@ -1,13 +1,14 @@
 -- Numbers of pages: an address is counted by its place on the tour.
 use Rattle.std.proofs.Common.{◌≡◌, ℕ, suc, ◌+◌, ◌-◌, ◌≤◌, ◌<◌, ◌⊎◌, inl, inr, List, [], ◌∷◌, ◌++◌, Some, length, map, refl, sym, ap, ◌∙◌, subst}
 use Rattle.std.proofs.Common.{arith, append_assoc, append-nil, length-append}
+use Rattle.bolt_lemmas.proofs.Exports.{contains_from_has, first_cut, flat_has, has_cut, has_from_contains, has_left, has_map, has_right, has_split, map_has}
+use Rattle.bolt_lemmas.proofs.Exports.{one_list, pairs_from_rises, rises_across, rises_from_pairs, rises_left, rises_map, rises_right, rises_weaker, two_cuts}
+use Rattle.bolt_lemmas.specs.Lists.{Has, RisesBy}
 use Rattle.bolt_tree.proofs.Words.{Before, BucketView, HasCount, HasSoundTrees, Inline_page, IsAddress, IsAfter, IsEntry, IsHome, IsPagesUpTo}
 use Rattle.bolt_tree.proofs.Words.{IsSeekPage, IsSoundBucket, IsStart, IsUpTo, LeafElement, Meta, Root_page, Start, TourPage, cases_lt, content_at}
 use Rattle.bolt_tree.proofs.Words.{length-map, lt_strict, pages_at, tour_pages_in}
 use Rattle.bolt_tree.proofs.RisingEntries.{entry_visited, home_visited, start_rises, visit_is}
 use Rattle.bolt_tree.proofs.TourLemmas.{IsApart, led_tour, tour_led, visit_of}
-use Rattle.bolt_check.proofs.Exports.{Has, RisesBy, contains_from_has, flat_has, has_from_contains, has_left, has_map, has_right, has_split, map_has}
-use Rattle.bolt_check.proofs.Exports.{one_list, pairs_from_rises, rises_across, rises_from_pairs, rises_left, rises_map, rises_right, rises_weaker}
 use Rattle.bolt_check.proofs.Exports.{before_irreflexive, before_strict, before_trans}
 
 -- A rising list of exactly these addresses.
@@ -43,29 +44,6 @@ pub record Cut (pages : List TourPage) : Type 0 where
 
 pub cut_size : {pages : List TourPage} (c : Cut pages) → length pages ≡ length c.left + suc (length c.right)
 cut_size c = ap length c.whole ∙ length-append c.left (c.page ∷ c.right)
-
-module _ {X : Type 0} where
-  pub has_cut : (xs : List X) (x : X) → Has xs x → (left : List X) × (right : List X) × (xs ≡ left ++ (x ∷ right))
-  has_cut [] x h = absurd h
-  has_cut (y ∷ xs) x (inl e) = ([], xs, ap (λ (z : X). z ∷ xs) e)
-  has_cut (y ∷ xs) x (inr h) = let r = has_cut xs x h in (y ∷ r.0, r.1, ap (λ (l : List X). y ∷ l) r.2)
-
-  -- of two places in one list, the one that comes first, and what lies between
-  first_cut : (a b c d : List X) (x y : X) → a ++ (x ∷ b) ≡ c ++ (y ∷ d) → length a < length c → Has c x
-  first_cut a b [] d x y e l = absurd (omega arith)
-  first_cut [] b (z ∷ c) d x y e l = let same : x ≡ z = cc in inl (sym same)
-  first_cut (w ∷ a) b (z ∷ c) d x y e l = let rest : a ++ (x ∷ b) ≡ c ++ (y ∷ d) = cc in inr (first_cut a b c d x y rest (omega arith))
-
-  two_cuts : (a b c d : List X) (x y : X) → a ++ (x ∷ b) ≡ c ++ (y ∷ d) → length d ≤ length b
-      → (between : List X) × (b ≡ between ++ d) × (a ++ x ∷ between ≡ c ++ y ∷ [])
-  two_cuts [] b [] d x y e l = ([], cc, cc)
-  two_cuts [] b (z ∷ c) d x y e l = grind (arith, append_assoc c (y ∷ []) d)
-  two_cuts (w ∷ a) b [] d x y e l = grind (arith, length-append)
-  two_cuts (w ∷ a) b (z ∷ c) d x y e l =
-      let rest : a ++ (x ∷ b) ≡ c ++ (y ∷ d) = cc in
-      let same : w ≡ z = cc in
-      let r = two_cuts a b c d x y rest l in
-      grind arith
 
 not_both : (a c : List ℕ) → Before c a → (a ≡ c) ⊎ Before a c → ⊥
 not_both a c after h = grind (arith, before_irreflexive, before_strict)

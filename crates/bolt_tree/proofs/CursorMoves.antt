@@ -1,14 +1,12 @@
 -- What a cursor's move says of the entry that it comes to.
-use Rattle.std.proofs.Common.{◌≡◌, ◌≤◌, Bool, false, ℕ, suc, List, [], ◌∷◌, length, Option, Some, None, cond, nat_lt, slice_get, refl, arith}
-use Rattle.bolt_tree.proofs.Words.{Key, LeafElement, Move, On, Past, Place, first_move, least_from, nat_tests, next_move, nothing_at, move_onto}
+use Rattle.std.proofs.Common.{◌≡◌, ◌≤◌, Bool, ℕ, suc, List, [], ◌∷◌, length, Option, Some, None, cond, nat_lt, slice_get, refl, arith}
+use Rattle.std.proofs.lemmas.Bool.{ltb-false}
+use Rattle.bolt_tree.proofs.Words.{Key, LeafElement, Move, On, Past, Place, first_move, least_from, next_move, nothing_at, move_onto}
 use Rattle.bolt_tree.proofs.Words.{place_in, seek_move}
 
 pub none_past : (entries : List LeafElement) (i : ℕ) → None ≡ slice_get entries i → length entries ≤ i
 none_past (x ∷ entries) (suc i) e = let h = none_past entries i e in omega (arith, h)
 none_past entries i e = grind arith
-
-pub not_below : (m n : ℕ) → nat_lt m n ≡ false → n ≤ m
-not_below m n e = grind (arith, nat_tests)
 
 -- it comes to entry n, or returns nothing if there is none
 abbrev pub ComesTo : List LeafElement → ℕ → Place → Option LeafElement → Type 0
@@ -17,7 +15,7 @@ ComesTo entries n place (Some g) = (place ≡ On n) × (slice_get entries n ≡ 
 
 pub by_length : (entries : List LeafElement) (n : ℕ) (stay place : Place) (o : Option LeafElement) (b : Bool) → nat_lt n (length entries) ≡ b
     → place ≡ (cond b (move_onto entries n) (nothing_at stay)).place → o ≡ (cond b (move_onto entries n) (nothing_at stay)).answer → ComesTo entries n place o
-by_length entries n stay place o b t p a = grind (arith, none_past, not_below)
+by_length entries n stay place o b t p a = grind (arith, none_past, ltb-false)
 
 pub comes_next : (entries : List LeafElement) (i : ℕ) (e : LeafElement) (before place : Place) (o : Option LeafElement) → before ≡ On i
     → slice_get entries i ≡ Some e

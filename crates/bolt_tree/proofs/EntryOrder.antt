@@ -2,10 +2,11 @@
 -- Over a list of elements whose keys rise.
 use Rattle.std.proofs.lemmas.Grind.{common_steps}
 use Rattle.std.proofs.Common.{◌≡◌, ◌∙◌, ◌≤◌, inl, inr, Bool, true, false, ℕ, suc, List, ◌∷◌, length, not, Some, slice_get, ap, subst, arith, ◌<◌}
+use Rattle.bolt_lemmas.proofs.Exports.{flip_less}
 use Rattle.bolt_tree.proofs.Words.{Contains, Key, LeafElement, Less, Rises, cases_lt, entry_cmp, fails_before_first, get_or_from_slice_get, is_lt}
 use Rattle.bolt_tree.proofs.Words.{key_cmp, key_lt, least_from, none-some, not-false, not-true, passes_at_first, same_Some, slice_get-get_or}
 use Rattle.bolt_tree.proofs.Words.{slice_get_within}
-use Rattle.bolt_tree.proofs.PathOrder.{flip_less, key_same, key_total}
+use Rattle.bolt_tree.proofs.PathOrder.{key_same, key_total}
 
 pub contains_at : (entries : List LeafElement) (i : ℕ) (e : LeafElement) → slice_get entries i ≡ Some e → Contains entries e
 contains_at entries i e at = (i, slice_get_within entries i e at, get_or_from_slice_get entries i e e at)

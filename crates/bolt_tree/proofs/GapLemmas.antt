@@ -1,11 +1,11 @@
 -- The gaps between entries exist, and cover all pages.
 use Rattle.std.proofs.Common.{◌≡◌, ℕ, zero, suc, ◌-◌, ◌≤◌, ◌<◌, inl, inr, List, Some, None, Option, slice_get, length, refl, sym, subst, arith}
+use Rattle.bolt_lemmas.proofs.Exports.{at_has, contains_from_has, rises_gets}
 use Rattle.bolt_tree.proofs.Words.{AreEntriesOf, BucketView, GapsCoverAll, IsGap, IsPagesUpTo, IsSoundBucket, LeafElement, cases_lt, lt_strict}
 use Rattle.bolt_tree.proofs.Words.{tour_pages_in, slice_get_past, sum_to}
 use Rattle.bolt_tree.proofs.TourLemmas.{IsBelowElement}
 use Rattle.bolt_tree.proofs.CountLemmas.{IsAt, all_exact, apart, cut_size, entry_at, exact_count, exact_is, upto_exists, upto_is}
 use Rattle.bolt_tree.proofs.{CursorMoves.none_past, RisingEntries.rises_back}
-use Rattle.bolt_check.proofs.Exports.{at_has, contains_from_has, rises_gets}
 
 module _ (b : BucketView) (s : IsSoundBucket b) (entries : List LeafElement) (sorted : AreEntriesOf b entries) where
   pub at_place : (i : ℕ) (x : LeafElement) → slice_get entries i ≡ Some x → IsAt b x

@@ -1,21 +1,16 @@
 -- Which member of a listing comes next if a bucket is entered, if its cursor moves on, or if it has ended.
 -- Rests on the order of paths, and on what a named bucket holds (Named).
-use Rattle.std.proofs.Common.{arith, ◌≡◌, ◌∙◌, ◌⊎◌, ◌≤◌, inl, inr, Bool, true, false, not, ℕ, suc, List, [], ◌∷◌, ◌++◌, length, filter, Some}
+use Rattle.std.proofs.Common.{◌≡◌, ◌∙◌, ◌⊎◌, ◌≤◌, inl, inr, Bool, true, false, not, ℕ, suc, List, [], ◌∷◌, ◌++◌, length, filter, Some}
 use Rattle.std.proofs.Common.{slice_get, refl, sym, ap, subst, append-nil}
-use Rattle.bolt_tree.proofs.Words.{AreEntries, Equal, HasEntries, Holds, Item, Key, LeafElement, Less, Lists, Member, Names, Ordering, Path, Start}
+use Rattle.bolt_lemmas.proofs.Exports.{contains_none, filter_first, filter_same, flip_less, greater_part, irreflexive, lt_of}
+use Rattle.bolt_tree.proofs.Words.{AreEntries, HasEntries, Holds, Item, Key, LeafElement, Less, Lists, Member, Names, Path, Start}
 use Rattle.bolt_tree.proofs.Words.{append_cancel_left, beyond, both_ways, false_from_ne_true, is_beyond, is_lt, item_of, key_cmp, less_of}
-use Rattle.bolt_tree.proofs.Words.{ordering_then, path_cmp, rest_after, rest_from}
+use Rattle.bolt_tree.proofs.Words.{path_cmp, rest_after, rest_from}
 use Rattle.bolt_tree.proofs.{EntryOrder.contains_at, EntryOrder.first_least, EntryOrder.last_greatest, EntryOrder.next_least, EntryOrder.next_less}
-use Rattle.bolt_tree.proofs.{Filters.filter_first, Filters.filter_same}
-use Rattle.bolt_tree.proofs.{Lists.contains_none, Lists.irreflexive, Named.first_of_held, Named.held_below, Named.held_down, Named.held_here}
-use Rattle.bolt_tree.proofs.PathOrder.{before_longer, beyond_here, beyond_less, beyond_longer, beyond_or_longer, beyond_push, beyond_up, flip_less}
+use Rattle.bolt_tree.proofs.{Named.first_of_held, Named.held_below, Named.held_down, Named.held_here}
+use Rattle.bolt_tree.proofs.PathOrder.{before_longer, beyond_here, beyond_less, beyond_longer, beyond_or_longer, beyond_push, beyond_up}
 use Rattle.bolt_tree.proofs.PathOrder.{path_same, path_total, same_front}
 use Rattle.bolt_tree.proofs.Single.{member_total}
-use Rattle.bolt_check.proofs.Exports.{lt_of}
-
--- a path is not after another with a part in the same place that is not after its own
-greater_part : (o r : Ordering) → is_lt o ≡ false → (o ≡ Equal → is_lt r ≡ false) → is_lt (ordering_then o r) ≡ false
-greater_part o r e more = grind arith
 
 pub after_end : (r : Path) → is_lt (path_cmp r []) ≡ false
 after_end [] = refl

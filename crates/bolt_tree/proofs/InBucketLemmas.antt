@@ -1,8 +1,9 @@
 -- Entries as members of one bucket are in the order of paths if their keys rise, and have their places if the bucket is there or has its own.
 use Rattle.std.proofs.Common.{◌≡◌, inl, inr, Bool, true, false, List, [], ◌∷◌, ◌++◌, map, refl, subst}
+use Rattle.bolt_lemmas.proofs.Exports.{contains_cases, contains_head, contains_none, contains_tail}
 use Rattle.bolt_tree.proofs.Words.{Contains, EntryView, Less, Member, Path, Rises, Tree, end, listing_below, listing_of, member_cmp, path_cmp}
 use Rattle.bolt_tree.proofs.Words.{with_bucket, with_value, Contains-append_cases, Contains-append_left, Contains-append_right}
-use Rattle.bolt_tree.proofs.{Lists.contains_cases, Lists.contains_head, Lists.contains_none, Lists.contains_tail, PathOrder.before_longer}
+use Rattle.bolt_tree.proofs.PathOrder.{before_longer}
 use Rattle.bolt_tree.proofs.{PathOrder.same_front}
 use Rattle.bolt_tree.specs.{Entries.Bucket, Entries.Value, InBuckets.entry_in, InBuckets.members_in, InBuckets.view_cmp, Merges.HasBucket}
 use Rattle.bolt_tree.specs.{Merges.HasParent, Merges.HaveParents}

@@ -10,16 +10,13 @@ mod Entering
 mod EntryOrder
 mod Existing
 pub mod Exports
-mod Filters
 mod GapLemmas
 mod Giving
 mod InBucketLemmas
 mod KeptLemmas
 mod KeySearchLemmas
 mod Leaving
-mod Lists
 mod Looking
-mod MappedLists
 mod Measured
 mod MergeLemmas
 mod MoveLemmas
@@ -37,7 +34,6 @@ mod PathOrder
 mod PlaceMoves
 mod ReadBack
 mod RestingLemmas
-mod Rising
 mod RisingEntries
 mod SeekCounts
 mod SeekLemmas

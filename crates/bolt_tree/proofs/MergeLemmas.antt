@@ -1,7 +1,8 @@
 -- Which members a merge has, their order, and their places.
-use Rattle.std.proofs.Common.{arith, ◌≡◌, ◌≢◌, ◌⊎◌, ◌↔◌, inl, inr, Bool, true, false, List, [], ◌∷◌, if◌then◌else◌, refl, ap, subst}
-use Rattle.bolt_tree.proofs.Words.{Contains, Equal, IsBelow, Less, Member, Ordering, Path, Rises, is_lt, less_of, member_cmp, ordering_reverse}
-use Rattle.bolt_tree.proofs.{Lists.contains_cases, Lists.contains_head, Lists.contains_none, Lists.contains_tail, Single.member_total}
+use Rattle.std.proofs.Common.{◌≡◌, ◌⊎◌, ◌↔◌, inl, inr, Bool, true, false, List, [], ◌∷◌, if◌then◌else◌, refl, ap, subst}
+use Rattle.bolt_lemmas.proofs.Exports.{contains_cases, contains_head, contains_none, contains_tail, is_before}
+use Rattle.bolt_tree.proofs.Words.{Contains, IsBelow, Less, Member, Path, Rises, is_lt, less_of, member_cmp}
+use Rattle.bolt_tree.proofs.Single.{member_total}
 use Rattle.bolt_tree.specs.Merges.{AreApart, HasBucket, HaveParents, merge}
 
 -- ---- what goes on over a first member of either holds of every merge
@@ -70,10 +71,6 @@ merge_members = merge_holds AreOfBoth
     ))
 
 -- ---- their order
-
--- x comes before y, if y doesn't come before it and they have two paths
-is_before : (a b : Ordering) → a ≡ ordering_reverse b → is_lt b ≡ false → a ≢ Equal → a ≡ Less
-is_before a b back not apart = grind arith
 
 below_first : (x : Member) (xs ys : List Member) → IsFirst x ys → Rises member_cmp ys → AreApart (x ∷ xs) ys → IsBelow member_cmp x ys
 below_first x xs [] is rise apart m has = absurd (contains_none m has)

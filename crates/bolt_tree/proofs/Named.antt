@@ -1,9 +1,10 @@
 -- What a bucket that a path names holds, and what the path holds below it.
 -- Entries of one key are one, so both say the same.
 use Rattle.std.proofs.Common.{arith, ◌≡◌, ◌∙◌, ◌⊎◌, inl, inr, IsTrue, List, [], ◌∷◌, ◌++◌, refl, sym, ap, subst, append_assoc}
+use Rattle.bolt_lemmas.proofs.Exports.{contains_cases, contains_none}
 use Rattle.bolt_tree.proofs.Words.{AreEntries, Contains, Equal, HasEntries, Holds, IsBelow, Item, Key, LeafElement, Less, Names, Path, Rises, Start}
 use Rattle.bolt_tree.proofs.Words.{entry_cmp, item_of, key_cmp, start_of}
-use Rattle.bolt_tree.proofs.{Lists.contains_cases, Lists.contains_none, PathOrder.key_same}
+use Rattle.bolt_tree.proofs.PathOrder.{key_same}
 
 no_less : (a b : Key) → key_cmp a b ≡ Less → a ≡ b → ⊥
 no_less a b e same = let f : key_cmp a b ≡ Equal = rw same (key_same b) in cc

@@ -1,6 +1,8 @@
 -- The nearest leaf to a key: the way down to it, step by step, and what lies ahead of the key there.
 use Rattle.std.proofs.Common.{◌≡◌, ℕ, suc, ◌+◌, ◌-◌, ◌≤◌, inl, inr, true, false, List, [], ◌∷◌, ◌++◌, Some, slice_get, length, map, drop, take, refl}
 use Rattle.std.proofs.Common.{sym, ap, ◌∙◌, subst, arith, append_assoc, length-append, append-nil}
+use Rattle.bolt_lemmas.proofs.Exports.{drop_front, drop_get, has_right, rises_gets, take_get}
+use Rattle.bolt_lemmas.specs.Lists.{Has}
 use Rattle.bolt_tree.proofs.Words.{AreBelow, BranchElement, BucketView, Content, Contents, Frame, HasSoundTrees, HasStack, Inline_page, IsBetween}
 use Rattle.bolt_tree.proofs.Words.{IsLeafTop, IsNear, IsNearFrom, IsNearTo, IsNearTop, IsNearest, IsOnWayDown, IsNumberBefore, IsSought}
 use Rattle.bolt_tree.proofs.Words.{IsSoundBucket, IsStart, Key, KeysRise, LeafElement, Meta, Of_branch, Of_leaf, Root_page, Start, TourPage}
@@ -8,11 +10,10 @@ use Rattle.bolt_tree.proofs.Words.{address_on, ahead_of, branch_key, branch_node
 use Rattle.bolt_tree.proofs.Words.{content_length, contents_in, elements_in, tour_elements, key_lt, least_from, passed_of, none-some, on_child}
 use Rattle.bolt_tree.proofs.Words.{opened_content, option_map, tour_pages_in, props, later_of, root_content, slice_get-map, spot_node, tour, ∥∥₁_elim}
 use Rattle.bolt_tree.proofs.Words.{∥∥₁_map, ∥∥₁_prop}
-use Rattle.bolt_tree.proofs.{PlaceMoves.drop_front, PlaceMoves.leaf_parts, SeekLemmas.are_append, SeekLemmas.drop_get, SeekLemmas.is_above}
-use Rattle.bolt_tree.proofs.{SeekLemmas.not_above, SeekLemmas.take_get}
+use Rattle.bolt_tree.proofs.{PlaceMoves.leaf_parts, SeekLemmas.are_append, SeekLemmas.is_above}
+use Rattle.bolt_tree.proofs.SeekLemmas.{not_above}
 use Rattle.bolt_tree.proofs.{RisingEntries.visit_is, TourLemmas.IsBelowElement, TourLemmas.filled, WayPages.a_branch, WayPages.a_leaf}
 use Rattle.bolt_tree.proofs.{WayPages.on_way_page, WayPages.branch_page, StackLemmas.retaken}
-use Rattle.bolt_check.proofs.Exports.{Has, has_right, rises_gets}
 use Rattle.bolt_format.specs.{TreePages.leaves_on, declared.tree_page.BranchPage.BranchPage, declared.tree_page.TreePage.TreePage}
 use Rattle.bolt_format.specs.declared.tree_page.TreePage.TheVariants.{Branch, Leaf}
 

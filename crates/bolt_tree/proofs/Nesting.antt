@@ -3,13 +3,14 @@
 use Rattle.std.proofs.Common.{◌≡◌, ◌∙◌, ◌≤◌, ◌<◌, Bool, true, false, not, ℕ, zero, suc, eqb, eq-eqb, eqb-true, List, [], ◌∷◌, ◌++◌, length, filter}
 use Rattle.std.proofs.Common.{Option, Some, refl, sym, ap, subst, arith, length-append}
 use Rattle.std.proofs.lemmas.List.FromFn.{get_or-range_with_len, length-range_with_len}
+use Rattle.std.proofs.lemmas.Bool.{ne_eqb, not_from_false}
+use Rattle.bolt_lemmas.proofs.Exports.{contains_head, contains_tail, filter_less, kept}
 use Rattle.bolt_tree.proofs.Words.{At_page, Contains, HasSoundTrees, Inline_page, IsEntry, IsStart, IsTreeOf, LeafElement, Meta, PageSpot, Root_page}
 use Rattle.bolt_tree.proofs.Words.{Shows, ShowsEntry, Spot, Start, Tree, file_entries, file_tree, follow, follow_append, head_root, head_sequence}
 use Rattle.bolt_tree.proofs.Words.{if◌then◌else◌, inline_elements, node_at, one_way, range_with_len, reached, root_spot, start_of, tree_with}
 use Rattle.bolt_tree.proofs.Words.{tree_within, with_bucket, with_value}
-use Rattle.bolt_tree.proofs.Lists.{contains_head, contains_tail}
 use Rattle.bolt_tree.proofs.{BucketWays.at_root, BucketWays.bucket_way, BucketWays.flat, BucketWays.in_itself, BucketWays.root_starts}
-use Rattle.bolt_tree.proofs.{BucketWays.starts_named, Filters.filter_less, Filters.kept}
+use Rattle.bolt_tree.proofs.BucketWays.{starts_named}
 use Rattle.bolt_tree.proofs.RisingEntries.{tour_entries}
 
 -- Numbers without one of them.
@@ -32,13 +33,6 @@ module _ (Own : Start → LeafElement → Type 0) (inside : Start → Tree) wher
   list_shows [] each = tt
   list_shows (e ∷ entries) each =
       shows_with e entries e.is_bucket refl (list_shows entries (λ f h b. each f (contains_tail e f entries h) b)) (λ b. each e (contains_head e entries) b)
-
-other_number : (m n : ℕ) → (m ≡ n → ⊥) → not (eqb m n) ≡ true
-other_number m n h = by (eqb m n) refl
-  where
-    by : (b : Bool) → eqb m n ≡ b → not b ≡ true
-    by true e = absurd (h (eqb-true m n e))
-    by false e = refl
 
 same_number : (m : ℕ) → not (eqb m m) ≡ false
 same_number m = ap not (eq-eqb m m refl)
@@ -103,8 +97,8 @@ module _ (file : List ℕ) (meta : Meta) (trees : HasSoundTrees file meta) where
             follow_append (node_at file meta) (Some (At_page (root_spot meta.root))) (w ++ (address ++ i ∷ [])) x
             ∙ (ap (λ (o : Option Spot). follow (node_at file meta) o x) there ∙ reach) in
             kept (λ m. not (eqb m s.number)) pages t.number (all_in ((address ++ i ∷ []) ++ x) t here)
-            (other_number t.number s.number
-            (λ same. no_longer w address i x (one_way (node_at file meta) meta.root trees w ((w ++ (address ++ i ∷ [])) ++ x) s t at whole (sym same))))))
+            (not_from_false _ (ne_eqb t.number s.number
+            (λ same. no_longer w address i x (one_way (node_at file meta) meta.root trees w ((w ++ (address ++ i ∷ [])) ++ x) s t at whole (sym same)))))))
       ] in by (eqb (head_root e.value) 0) refl in
       (entries, are, list_shows Own (tree (suc n)) entries inside)
 

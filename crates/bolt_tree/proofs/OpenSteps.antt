@@ -1,7 +1,8 @@
 -- How open buckets change: a cursor is removed and added again, or opened after the others and makes its first move.
-use Rattle.std.proofs.Common.{arith, rules, ◌≡◌, ◌∙◌, ◌-◌, ℕ, suc, List, [], ◌∷◌, ◌++◌, length, take, Option, Some, None, MatchOption, refl, sym, ap}
+use Rattle.std.proofs.Common.{arith, rules, ◌≡◌, ◌∙◌, ◌-◌, ℕ, suc, List, [], ◌∷◌, ◌++◌, take, Option, Some, None, MatchOption, refl, sym, ap}
 use Rattle.std.proofs.Common.{subst, append_assoc, append-nil, Bor, slice_get}
-use Rattle.std.proofs.lemmas.{Grind.common_steps, List.length_push}
+use Rattle.std.proofs.lemmas.Grind.{common_steps}
+use Rattle.bolt_lemmas.proofs.Exports.{not_nil}
 use Rattle.bolt_tree.proofs.Words.{AreEntries, AreOpen, Bucket, Checked, Cursor, CursorView, Fresh, HasEntries, Key, LeafElement, Lists, Member, Move}
 use Rattle.bolt_tree.proofs.Words.{Moves, Names, Opens, Path, Place, Start, beyond, cursor_checked, cursor_place, cursor_start, cursor_view}
 use Rattle.bolt_tree.proofs.Words.{cursors_of, entries_of, first_move, fresh_view, innermost_views, item_of, next_move, option_to_list, path_of}
@@ -112,9 +113,6 @@ module _ (old opened : OpenBuckets) (bucket : Bucket) (cursor moved : Cursor) (c
     moves = subst (λ (v : CursorView). Moves (entries_of v.checked) v.start move v.place (cursor_place moved) answer) same.1 moves;
     is = subst (λ (cs : List CursorView). MatchOption answer (after ≡ cs) (λ e. after ≡ cs ++ cursor_view moved ∷ [])) same.0 left;
   }
-
-not_nil : {A : Type 0} (xs : List A) (x : A) → xs ++ x ∷ [] ≡ [] → ⊥
-not_nil xs x e = let f = ap length e in grind (arith, length_push)
 
 -- it is there
 pub some_open : (old opened : OpenBuckets) (bucket : Bucket) → cursors_of opened ≡ cursors_of old ++ fresh_view bucket ∷ [] → opened.innermost ≡ None

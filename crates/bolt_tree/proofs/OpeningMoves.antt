@@ -1,14 +1,14 @@
 -- What the moves of a trail open, counted by the pages up to an entry, and what a seek opens and compares.
 use Rattle.std.proofs.Common.{false, ◌≡◌, ℕ, suc, ◌+◌, ◌-◌, ◌≤◌, List, [], ◌∷◌, ◌++◌, Some, None, Option, slice_get, length, refl, ap, ◌∙◌, subst}
 use Rattle.std.proofs.Common.{arith, ◌*◌, sym, length-append}
+use Rattle.bolt_lemmas.proofs.Exports.{at_has, get_exists, get_next}
 use Rattle.bolt_tree.proofs.Words.{BucketView, Content, Contents, Finds, Frame, HasCount, HasStack, IsAtRest, IsLeafContent, IsLeafTop, IsNear}
 use Rattle.bolt_tree.proofs.Words.{IsNearTop, IsPagesUpTo, IsSeekPage, IsSought, IsSoundBucket, IsStack, Key, Leaf, LeafElement, Of_branch, Of_leaf}
 use Rattle.bolt_tree.proofs.Words.{OpensByNext, OpensGap, OpensSeek, RestsOn, SeeksInBounds, LeafStandsOn, address_on, ahead_of, contents_in, counted}
 use Rattle.bolt_tree.proofs.Words.{elements_in, index_of, leaf_view, least_from, passed_of, opened_to, option_map, tour_pages_in, place_on, props}
 use Rattle.bolt_tree.proofs.Words.{later_of, slice_get_past, top_address, tour, ∥∥₁_elim}
 use Rattle.bolt_tree.proofs.CountLemmas.{Cut, IsAt, all_exact, cut_size, exact_is, upto_is, after_exact, seek_exact}
-use Rattle.bolt_check.proofs.Exports.{at_has, get_exists}
-use Rattle.bolt_tree.proofs.PlaceMoves.{on_rests, split, ahead_number, current, the_entries, get_next}
+use Rattle.bolt_tree.proofs.PlaceMoves.{on_rests, split, ahead_number, current, the_entries}
 use Rattle.bolt_tree.proofs.{NearestLeaf.one_near, StackLemmas.stack_short}
 
 -- the page of a leaf on a stack among the pages of the bucket

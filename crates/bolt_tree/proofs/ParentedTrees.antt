@@ -1,9 +1,9 @@
 -- A rising listing whose members have parents is what a tree lists: each member lies in the bucket that the one before it is or lies in, or
 -- in one further out.
 use Rattle.std.proofs.Common.{arith, ◌≡◌, ◌∙◌, ◌⊎◌, inl, inr, ℕ, List, [], ◌∷◌, ◌++◌, refl, sym, ap, subst, append_assoc}
+use Rattle.bolt_lemmas.proofs.Exports.{asymmetric, contains_cases, contains_head, contains_tail, irreflexive}
 use Rattle.bolt_tree.proofs.Words.{Contains, Item, Key, Less, Member, Path, Rises, Tree, Value, first_tree, later_trees, listing_below, listing_of}
 use Rattle.bolt_tree.proofs.Words.{member_cmp, path_cmp, put_first, tree_of, trees_by_depth, with_bucket, with_value}
-use Rattle.bolt_tree.proofs.{Lists.asymmetric, Lists.contains_cases, Lists.contains_head, Lists.contains_tail, Lists.irreflexive}
 use Rattle.bolt_tree.proofs.{PathOrder.before_longer, PathOrder.beyond_less, PathOrder.beyond_or_longer, PathOrder.path_total}
 use Rattle.bolt_tree.specs.{Entries.Bucket, Merges.HasBucket, Merges.HaveParents}
 

@@ -1,13 +1,13 @@
 -- The part of a listing below a path: its members stand together, and a walk from the later of two paths comes to all of them that don't
 -- come before the other.
 use Rattle.std.proofs.Common.{arith, ◌≡◌, ◌∙◌, Bool, true, false, not, List, [], ◌∷◌, ◌++◌, length, drop, cond, filter, refl, sym, ap, append-nil}
+use Rattle.bolt_lemmas.proofs.Exports.{contains_head, contains_tail, filter_all, filter_first, filter_none, filter_rises, filters_swap, flip_less, irreflexive}
+use Rattle.bolt_lemmas.proofs.Exports.{kept_from}
 use Rattle.bolt_tree.proofs.Words.{Contains, Equal, Greater, Item, Less, Member, Ordering, Path, Rises, bytes_eq-Decides, false_from_ne_true}
 use Rattle.bolt_tree.proofs.Words.{is_beyond, is_lt, less_of, member_cmp, not-true, ordering_reverse, path_cmp, rest_from, starts_is, take_while}
 use Rattle.bolt_tree.proofs.Words.{take_while-cons}
-use Rattle.bolt_tree.proofs.{Filters.filter_all, Filters.filter_first, Filters.filter_none, Filters.filter_rises, Filters.filters_swap}
-use Rattle.bolt_tree.proofs.{Filters.kept_from, Single.member_total}
-use Rattle.bolt_tree.proofs.Lists.{contains_head, contains_tail, irreflexive}
-use Rattle.bolt_tree.proofs.PathOrder.{before_longer, beyond_less, beyond_or_longer, beyond_up, flip_less, path_exact, path_same, path_total}
+use Rattle.bolt_tree.proofs.Single.{member_total}
+use Rattle.bolt_tree.proofs.PathOrder.{before_longer, beyond_less, beyond_or_longer, beyond_up, path_exact, path_same, path_total}
 use Rattle.bolt_tree.specs.ListingParts.{begins_with, later_path, part_below}
 
 -- a path that begins with another, by its parts

@@ -1,9 +1,10 @@
 -- A path leads to one bucket or to none, and holds one item or none; which of the two is computed from the entries of the buckets.
 -- Over any relation that says which elements a bucket has.
 use Rattle.std.proofs.Common.{arith, ◌≡◌, ◌∙◌, ◌⊎◌, inl, inr, true, false, IsTrue, List, [], ◌∷◌, ◌++◌, refl, sym, ap, subst, rules}
+use Rattle.bolt_lemmas.proofs.Exports.{contains_cases, contains_head, contains_none, contains_tail}
 use Rattle.bolt_tree.proofs.Words.{Contains, HasEntries, Holds, Item, Key, LeafElement, Names, Path, Start, bytes_eq-Decides, cases_Bool, item_of}
 use Rattle.bolt_tree.proofs.Words.{props, start_of, ∥∥₁_elim}
-use Rattle.bolt_tree.proofs.{Lists.contains_cases, Lists.contains_head, Lists.contains_none, Lists.contains_tail, Named.entries_below}
+use Rattle.bolt_tree.proofs.Named.{entries_below}
 use Rattle.bolt_tree.proofs.{Named.entry_once}
 use Rattle.std.specs.Str.{bytes_eq}
 

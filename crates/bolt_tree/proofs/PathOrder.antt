@@ -1,9 +1,10 @@
 -- The order of paths, part by part: what comes after a path, and where.
 -- Rests on the order of keys, which is total, and in which only equal keys are tied.
-use Rattle.std.proofs.Common.{arith, ◌≡◌, ◌∙◌, ◌⊎◌, inl, Bool, true, false, List, [], ◌∷◌, ◌++◌, refl, ap}
+use Rattle.std.proofs.Common.{arith, ◌≡◌, ◌⊎◌, inl, Bool, true, false, List, [], ◌∷◌, ◌++◌, refl}
 use Rattle.std.proofs.lemmas.Map.Lookups.{exact_bytes}
+use Rattle.bolt_lemmas.proofs.Exports.{lists_exact}
 use Rattle.bolt_tree.proofs.Words.{Equal, Greater, IsTotalOrder, Key, Less, Ordering, Path, by_first, is_beyond, key_cmp, lists_total}
-use Rattle.bolt_tree.proofs.Words.{nat_list_cmp_total, ordering_reverse, ordering_then, path_cmp, tied_itself}
+use Rattle.bolt_tree.proofs.Words.{nat_list_cmp_total, ordering_then, path_cmp, tied_itself}
 use Rattle.std.specs.{Borrow.Bor, Cmp.Derive.Mapped.lex_map, Cmp.Lexicographic.slice_cmp}
 use Rattle.bolt_tree.specs.Paths.{path_of}
 
@@ -17,17 +18,6 @@ path_total = lists_total nat_list_cmp_total
 pub slices_cmp : (xs ys : List (Bor Key)) → path_cmp (path_of xs) (path_of ys) ≡ slice_cmp (λ (a b : Bor Key). key_cmp a.now b.now) xs ys
 slices_cmp = lex_map (λ (part : Bor Key). part.now) key_cmp
 
--- only equal texts are tied
-then_equal : (a b : Ordering) → ordering_then a b ≡ Equal → (a ≡ Equal) × (b ≡ Equal)
-then_equal a b e = grind arith
-
-lists_exact : {K : Type 0} (R : K → K → Ordering) → ((x y : K) → R x y ≡ Equal → x ≡ y) → (xs ys : List K) → slice_cmp R xs ys ≡ Equal → xs ≡ ys
-lists_exact R exact (x ∷ xs) (y ∷ ys) e =
-    let both = then_equal (R x y) (slice_cmp R xs ys) e in
-    let first = exact x y both.0 in
-    let later = lists_exact R exact xs ys both.1 in cc
-lists_exact R exact xs ys e = grind arith
-
 pub key_exact : (a b : Key) → key_cmp a b ≡ Equal → a ≡ b
 key_exact a b e = exact_bytes a b e
 
@@ -39,10 +29,6 @@ key_same a = tied_itself key_total a
 
 pub path_same : (a : Path) → path_cmp a a ≡ Equal
 path_same a = tied_itself path_total a
-
--- the answer the other way round
-pub flip_less : {K : Type 0} {R : K → K → Ordering} → IsTotalOrder R → (a b : K) → R a b ≡ Less → R b a ≡ Greater
-flip_less {R = R} o a b e = o.antisymm b a ∙ ap ordering_reverse e
 
 -- a path stands before those that it begins
 pub before_longer : (p : Path) (k : Key) (r : Path) → path_cmp p (p ++ k ∷ r) ≡ Less

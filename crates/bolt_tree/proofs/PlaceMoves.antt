@@ -2,26 +2,14 @@
 use Rattle.std.proofs.lemmas.Grind.{common_steps}
 use Rattle.std.proofs.Common.{true, false, Bool, ◌≡◌, ℕ, suc, ◌+◌, ◌-◌, ◌≤◌, ◌<◌, List, [], ◌∷◌, ◌++◌, Some, None, Option, slice_get, length, drop}
 use Rattle.std.proofs.Common.{refl, sym, ap, ◌∙◌, arith, length-append, take, append_assoc}
+use Rattle.bolt_lemmas.proofs.Exports.{drop_front, get_behind, get_front, get_next}
 use Rattle.bolt_tree.proofs.Words.{AreEntriesOf, BucketView, Content, Contents, Finds, Frame, HasStack, IsAtRest, IsOn, IsSoundBucket, Key, Leaf}
 use Rattle.bolt_tree.proofs.Words.{LeafElement, Move, Of_branch, Of_leaf, On, Past, Place, RestsOn, LeafStandsOn, TourPage, address_on, ahead_of}
-use Rattle.bolt_tree.proofs.Words.{contents_in, drop-append_seam, elements_in, tour_elements, entries_to, first_move, flat_map-append, index_of}
+use Rattle.bolt_tree.proofs.Words.{contents_in, elements_in, tour_elements, entries_to, first_move, flat_map-append, index_of}
 use Rattle.bolt_tree.proofs.Words.{is_none, last_move, leaf_view, least_from, passed_of, length-drop, length-take, next_move, option_map}
 use Rattle.bolt_tree.proofs.Words.{tour_pages_in, place_by, place_in, place_on, preceding_of, prev_move, props, later_of, seek_move, slice_get_within}
 use Rattle.bolt_tree.proofs.Words.{take-append-drop, tour, ∥∥₁_elim, ∥∥₁_map}
 use Rattle.bolt_tree.proofs.{BackLemmas.behind_index, RisingEntries.tour_entries, RisingEntries.entries_once}
-use Rattle.bolt_check.proofs.Exports.{get_behind, get_front}
-
-module _ {X : Type 0} where
-  pub drop_front : (xs ys : List X) (n : ℕ) → n ≡ length xs → drop n (xs ++ ys) ≡ ys
-  drop_front xs ys n e = rw e (drop-append_seam xs ys)
-
-  -- elements by place
-  pub get_drop : (xs : List X) (n : ℕ) → slice_get xs n ≡ slice_get (drop n xs) 0
-  get_drop (x ∷ xs) (suc n) = get_drop xs n
-  get_drop xs n = grind (arith, common_steps)
-
-  pub get_next : (xs : List X) (n : ℕ) (x : X) (ys : List X) → drop n xs ≡ x ∷ ys → slice_get xs n ≡ Some x
-  get_next xs n x ys e = get_drop xs n ∙ ap (λ (l : List X). slice_get l 0) e
 
 -- what a stack on a leaf says of the bucket's entries
 pub record IsSplit (elements : List LeafElement) (contents : Contents) (frames : List Frame) : Type 0 where

@@ -1,12 +1,12 @@
 -- The entries of a bucket in order are the elements along its tour, and there is one such list.
 use Rattle.std.proofs.Common.{rules, ◌≡◌, ℕ, List, [], ◌∷◌, ◌++◌, Some, slice_get, map, refl, sym, ap, ◌∙◌, subst, arith, inl, inr, eq-eqb, eqb}
+use Rattle.bolt_lemmas.proofs.Exports.{contains_from_has, flat_has, has_at, has_flat, has_from_contains, one_list, rises_flat, rises_from_gets, rises_weaker}
+use Rattle.bolt_lemmas.specs.Lists.{Has, RisesBy}
+use Rattle.bolt_lemmas.specs.Order as order
 use Rattle.bolt_tree.proofs.Words.{AreEntries, Contains, HasSoundTrees, Inline_page, IsEntry, IsHome, IsStart, KeysRise, LeafElement, Meta, Root_page}
 use Rattle.bolt_tree.proofs.Words.{Start, TourPage, content_at, tour_elements, entry_cmp, head_root, inline_elements, inline_page, inline_reached}
 use Rattle.bolt_tree.proofs.Words.{leads, less_of, lt_strict, node_at, node_is, option_map, pages_at, slice_get-map}
 use Rattle.bolt_format.specs.declared.header.Kind.TheVariants as kind
-use Rattle.bolt_tree.specs.Order as order
-use Rattle.bolt_check.proofs.Exports.{Has, RisesBy, contains_from_has, flat_has, has_at, has_flat, has_from_contains, one_list, rises_flat}
-use Rattle.bolt_check.proofs.Exports.{rises_from_gets, rises_weaker}
 use Rattle.bolt_tree.proofs.TourLemmas.{IsApart, IsBelowElement, entries_shown, leaf_of, led_tour, page_rises, tour_led, tour_rises}
 use Rattle.bolt_tree.proofs.{WayPages.content_is, BucketWays.none_inside}
 

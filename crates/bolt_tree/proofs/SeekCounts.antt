@@ -2,15 +2,16 @@
 -- the nearest leaf is not below the key, so the page of the entry before is not after that leaf.
 use Rattle.std.proofs.Common.{◌≡◌, ℕ, zero, suc, ◌+◌, ◌-◌, ◌≤◌, ◌<◌, inl, inr, true, false, not, List, [], ◌∷◌, Some, None, Option, slice_get, length}
 use Rattle.std.proofs.Common.{refl, sym, ap, ◌∙◌, subst, arith}
+use Rattle.bolt_lemmas.proofs.Exports.{at_has, contains_from_has, get_exists, has_cut, has_from_contains, map_has}
+use Rattle.bolt_lemmas.specs.Lists.{Has}
 use Rattle.bolt_tree.proofs.Words.{AreEntriesOf, Before, BranchElement, BucketView, HasCount, HasSoundTrees, Inline_page, IsEntry, IsGap, IsHome}
 use Rattle.bolt_tree.proofs.Words.{IsNear, IsNearFrom, IsNearest, IsOnWay, IsPagesUpTo, IsSeekCount, IsSeekPage, IsSoundBucket, IsStart, Key}
 use Rattle.bolt_tree.proofs.Words.{LeafElement, Meta, Root_page, Start, TourPage, branch_step, cases_lt, content_at, key_lt, leads, leads_child}
 use Rattle.bolt_tree.proofs.Words.{leaf_ends, least_from, node_at, node_is, on_address, on_child, tour_pages_in, prefix_len-le-length}
 use Rattle.bolt_format.specs.declared.header.Kind.TheVariants as kind
-use Rattle.bolt_check.proofs.Exports.{Has, at_has, contains_from_has, get_exists, has_from_contains, map_has}
 use Rattle.bolt_tree.proofs.{SeekLemmas.not_below, TourLemmas.IsUnder, TourLemmas.entries_shown, TourLemmas.under_child, WayPages.content_is}
 use Rattle.bolt_tree.proofs.CountLemmas.{Cut, IsAt, address_of, address_visited, after_exact, all_exact, apart, cut_size, entry_at, exact_count}
-use Rattle.bolt_tree.proofs.CountLemmas.{exact_is, has_cut, its_home, seek_exact, upto_is}
+use Rattle.bolt_tree.proofs.CountLemmas.{exact_is, its_home, seek_exact, upto_is}
 use Rattle.bolt_tree.proofs.{GapLemmas.at_place, NearestLeaf.near_exists, NearestLeaf.one_near, EntryOrder.before_least}
 
 module _ (file : List ℕ) (meta : Meta) (trees : HasSoundTrees file meta) where

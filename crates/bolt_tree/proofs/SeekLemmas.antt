@@ -1,24 +1,15 @@
 -- On the way down to the leaf that is near a key, the key is between what was passed and what comes later.
-use Rattle.std.proofs.lemmas.Grind.{common_steps}
 use Rattle.std.proofs.Common.{◌≡◌, ℕ, suc, ◌+◌, ◌-◌, ◌≤◌, ◌<◌, inl, inr, Bool, true, false, List, [], ◌∷◌, ◌++◌, Some, Ok, slice_get, length, drop}
 use Rattle.std.proofs.Common.{take, refl, sym, ap, ◌∙◌, subst, arith}
+use Rattle.bolt_lemmas.proofs.Exports.{at_has, drop_get, flat_has, get_before, has_at, has_split, take_get}
+use Rattle.bolt_lemmas.specs.Lists.{Has}
 use Rattle.bolt_tree.proofs.Words.{AreBelow, BranchElement, BucketView, Contents, Frame, HasSoundTrees, HasStack, IsBetween, IsOnWay, IsNumberBefore}
 use Rattle.bolt_tree.proofs.Words.{Key, LeafElement, Meta, Of_branch, PageView, TourPage, address_on, branch_node, cases_lt, content_at, content_keys}
 use Rattle.bolt_tree.proofs.Words.{contents_in, tour_elements, false_from_ne_true, flat_map-append, key_lt, passed_of, lt_not_trans, lt_trans}
-use Rattle.bolt_tree.proofs.Words.{node_at, none-some, not-false, not-true, on_child, option_map, props, later_of, slice_get-map, tour, under_at}
+use Rattle.bolt_tree.proofs.Words.{node_at, not-false, not-true, on_child, option_map, props, later_of, slice_get-map, tour, under_at}
 use Rattle.bolt_tree.proofs.Words.{∥∥₁_elim}
 use Rattle.bolt_tree.proofs.{TourLemmas.IsUnder, TourLemmas.branches_rise, TourLemmas.tour_led, TourLemmas.under_child, TourLemmas.under_has}
 use Rattle.bolt_tree.proofs.{WayPages.branch_page}
-use Rattle.bolt_check.proofs.Exports.{Has, at_has, flat_has, get_before, has_at, has_split}
-
-module _ {X : Type 0} where
-  pub take_get : (xs : List X) (i j : ℕ) (x : X) → slice_get (take i xs) j ≡ Some x → (slice_get xs j ≡ Some x) × (j < i)
-  take_get (y ∷ xs) (suc i) (suc j) x g = let r = take_get xs i j x g in let l = r.1 in (r.0, omega (arith, l))
-  take_get xs i j x g = grind (arith, common_steps, none-some)
-
-  pub drop_get : (xs : List X) (i j m : ℕ) (x : X) → m ≡ i + j → slice_get (drop i xs) j ≡ Some x → slice_get xs m ≡ Some x
-  drop_get (y ∷ xs) (suc i) j (suc m) x e g = drop_get xs i j m x (omega arith) g
-  drop_get xs i j m x e g = grind (arith, common_steps, none-some)
 
 pub not_below : (x d key : Key) → key_lt x d ≡ false → key_lt key d ≡ true → key_lt x key ≡ false
 not_below x d key h k = false_from_ne_true (key_lt x key) (λ t. let less : key_lt x d ≡ true = lt_trans x key d t k in cc)

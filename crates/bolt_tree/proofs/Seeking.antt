@@ -3,13 +3,14 @@
 use Rattle.std.proofs.Common.{rules, ◌≡◌, ◌∙◌, ◌≤◌, inl, inr, true, false, not, List, [], ◌∷◌, ◌++◌, length, Some, slice_get, refl, ap, subst, ◌+◌}
 use Rattle.std.proofs.Common.{◌<◌, ℕ, suc, take, drop, get_or, eqb, eq-eqb, sym, arith, Bor}
 use Rattle.std.proofs.lemmas.Grind.{common_steps}
+use Rattle.bolt_lemmas.proofs.Exports.{filter_all, filter_same, flip_less}
 use Rattle.bolt_tree.proofs.Words.{AreEntries, AreOpen, Checked, CursorView, Equal, Greater, HasEntries, Holds, Item, Key, LeafElement, Less, Lists}
 use Rattle.bolt_tree.proofs.Words.{Member, Names, Ordering, Path, Start, beyond, both_ways, entries_of, false_from_ne_true, is_beyond, is_end, is_lt}
 use Rattle.bolt_tree.proofs.Words.{key_cmp, least_from, less_of, nat_tests, not-true, ordering_reverse, path_cmp, path_of, props, rest_after}
 use Rattle.bolt_tree.proofs.Words.{rest_from, root_start, ∥∥₁_elim}
-use Rattle.bolt_tree.proofs.{EntryOrder.seek_least, EntryOrder.seek_none, Filters.filter_all, Filters.filter_same}
+use Rattle.bolt_tree.proofs.{EntryOrder.seek_least, EntryOrder.seek_none}
 use Rattle.bolt_tree.proofs.{Giving.not_before, Giving.not_before_beyond, Giving.after_end, Named.first_of_held, Named.held_below, Named.held_down}
-use Rattle.bolt_tree.proofs.PathOrder.{before_longer, beyond_less, beyond_or_longer, flip_less, path_exact, path_total, same_front}
+use Rattle.bolt_tree.proofs.PathOrder.{before_longer, beyond_less, beyond_or_longer, path_exact, path_total, same_front}
 
 -- from p < w and not m < w
 behind_from : (p w m : Path) → path_cmp p w ≡ Less → is_lt (path_cmp m w) ≡ false → path_cmp p m ≡ Less

@@ -1,7 +1,8 @@
 -- There is one listing: it rises by the order of paths, which is total.
 use Rattle.std.proofs.Common.{◌≡◌, List}
+use Rattle.bolt_lemmas.proofs.Exports.{rises_once}
 use Rattle.bolt_tree.proofs.{Words.IsTotalOrder, Words.LeafElement, Words.Lists, Words.Member, Words.Start, Words.member_cmp, Words.on_total}
-use Rattle.bolt_tree.proofs.{Lists.rises_once, PathOrder.path_total}
+use Rattle.bolt_tree.proofs.PathOrder.{path_total}
 
 pub member_total : IsTotalOrder member_cmp
 member_total = on_total (λ (m : Member). m.0) path_total

@@ -2,13 +2,14 @@
 use Rattle.std.proofs.lemmas.Grind.{common_steps}
 use Rattle.std.proofs.Common.{◌≡◌, ℕ, zero, suc, ◌+◌, ◌≤◌, ◌<◌, inl, inr, List, [], ◌∷◌, ◌++◌, false, Some, Ok, slice_get, length, map, refl, sym, ap}
 use Rattle.std.proofs.Common.{◌∙◌, subst, arith, append_assoc, append-nil}
+use Rattle.bolt_lemmas.proofs.Exports.{at_has, get_before, has_at, has_left, has_right, has_split, rises_append, rises_from_gets}
+use Rattle.bolt_lemmas.specs.Lists.{Each, Has, RisesBy}
 use Rattle.bolt_tree.proofs.Words.{Before, BranchElement, Content, Contents, HasSoundTrees, IsOnWay, IsTrue, LeafElement, Meta, Of_branch, Of_leaf}
 use Rattle.bolt_tree.proofs.Words.{PageView, TourPage, all_under, branch_entry, branch_entry_at, branch_key, branch_node, branch_step, cases_lt}
 use Rattle.bolt_tree.proofs.Words.{content_at, key_lt, leads, leads_child, leaf_ends, leaf_key, lt_not_trans, lt_trans, node_at, none-some, on_child}
 use Rattle.bolt_tree.proofs.Words.{page_at, shallow, slice_get_within, spot_node, tour}
 use Rattle.bolt_format.specs.declared.header.Kind.TheVariants as kind
 use Rattle.bolt_check.specs.Findings.{keys_of}
-use Rattle.bolt_check.proofs.Exports.{Has, Each, RisesBy, get_before, has_at, has_left, has_right, has_split, rises_append, rises_from_gets, at_has}
 use Rattle.bolt_check.proofs.Exports.{leaf_node}
 use Rattle.bolt_tree.proofs.WayPages.{a_branch, a_leaf, on_way_page}
 

@@ -1,21 +1,13 @@
 -- What a tree lists is the listing of what it shows: each path that is held, with its item, once, in path order.
 use Rattle.std.proofs.Common.{arith, ◌≡◌, ◌∙◌, ◌⊎◌, inl, inr, true, false, IsTrue, List, [], ◌∷◌, ◌++◌, refl, sym, ap, subst, append_assoc}
+use Rattle.bolt_lemmas.proofs.Exports.{contains_cases, contains_head, contains_none, contains_tail, joined_rises}
 use Rattle.bolt_tree.proofs.Words.{AreEntries, Contains, Contains-append_cases, Contains-append_left, Contains-append_right, Holds, IsBelow, IsTreeOf}
-use Rattle.bolt_tree.proofs.Words.{Item, Key, LeafElement, Less, Lists, Member, Ordering, Path, Rises, Shows, Start, Tree, Value, entry_cmp}
+use Rattle.bolt_tree.proofs.Words.{Item, Key, LeafElement, Less, Lists, Member, Path, Rises, Shows, Start, Tree, Value, entry_cmp}
 use Rattle.bolt_tree.proofs.Words.{head_sequence, item_of, key_cmp, listing_below, listing_of, member_cmp, path_cmp, start_of, with_bucket}
 use Rattle.bolt_tree.proofs.Words.{with_value}
-use Rattle.bolt_tree.proofs.{Lists.contains_cases, Lists.contains_head, Lists.contains_none, Lists.contains_tail, PathOrder.before_longer}
+use Rattle.bolt_tree.proofs.PathOrder.{before_longer}
 use Rattle.bolt_tree.proofs.{PathOrder.same_front}
 use Rattle.bolt_tree.specs.Entries.{Bucket}
-
--- lists that rise, one after the other
-pub rises_append : {A : Type 0} (cmp : A → A → Ordering) (xs ys : List A) → Rises cmp xs → Rises cmp ys
-    → ((x y : A) → Contains xs x → Contains ys y → cmp x y ≡ Less) → Rises cmp (xs ++ ys)
-rises_append cmp [] ys r s between = s
-rises_append cmp (x ∷ xs) ys r s between = (
-  λ y h. elim (Contains-append_cases xs ys y h) [ inl a ↦ r.0 y a | inr b ↦ between x y (contains_head x xs) b ],
-  rises_append cmp xs ys r.1 s (λ a b h k. between a b (contains_tail x a xs h) k),
-)
 
 plain : (e : LeafElement) → e.is_bucket ≡ false → item_of e ≡ Value e.value
 plain e h = rw h refl
@@ -174,7 +166,7 @@ module _ (Entry : Start → LeafElement → Type 0) where
       let whole : a.0 ≡ front ++ key ∷ path = at ∙ append_assoc front (key ∷ []) path in
       subst (λ (p : Path). path_cmp p c.0 ≡ Less) (sym whole) (to_behind path c g) in (
         λ m h. elim (Contains-append_cases deep behind m h) [ inl a ↦ to_deep m a | inr c ↦ to_behind [] m c ],
-        rises_append member_cmp deep behind (listing_rises inside own_entries shows are.rises (front ++ key ∷ []))
+        joined_rises member_cmp deep behind (listing_rises inside own_entries shows are.rises (front ++ key ∷ []))
             (listing_rises after entries more r.1 front) deep_behind,
       )
   listing_rises tree entries s r front = grind arith

@@ -1,5 +1,7 @@
 -- The words that the proofs of this crate cite, passed on from the modules that define them.
-pub use Rattle.bolt_check.proofs.Exports.{checked_trees, good_on_way, good_page, with_trees, lt_not_trans, lt_strict, lt_trans, less_of}
+pub use Rattle.bolt_lemmas.proofs.Exports.{less_of}
+pub use Rattle.bolt_lemmas.specs.Order.{IsBelow, Rises}
+pub use Rattle.bolt_check.proofs.Exports.{checked_trees, good_on_way, good_page, with_trees, lt_not_trans, lt_strict, lt_trans}
 pub use Rattle.bolt_check.proofs.Exports.{branch_entry_at, branch_key, branch_node, branch_step, inline_reached, leads_child, leaf_ends, leaf_key}
 pub use Rattle.bolt_check.proofs.Exports.{node_is, on_address, on_child, shallow, spot_node, follow_append, leads_follow, one_way, leaf_node_at}
 pub use Rattle.bolt_check.specs.{CheckedFiles.bytes_of, CheckedFiles.meta_of, Counts.counted, Keys.Key, Keys.KeysRise, Keys.key_cmp, Keys.key_lt}
@@ -24,7 +26,7 @@ pub use Rattle.bolt_tree.specs.FileTrees.{file_entries, tree_with, tree_within}
 pub use Rattle.bolt_tree.specs.Listing.{IsListing, Lists, Member, member_cmp, rest_from}
 pub use Rattle.bolt_tree.specs.OpeningCounts.{GapsCoverAll, HasCount, IsAddress, IsAfter, IsGap, IsHome, IsNear, IsNearFrom, IsNearest, IsPagesUpTo}
 pub use Rattle.bolt_tree.specs.OpeningCounts.{IsSeekCount}
-pub use Rattle.bolt_tree.specs.{OpeningCounts.IsSeekPage, OpeningCounts.IsUpTo, OpeningCounts.sum_to, Order.IsBelow, Order.Rises}
+pub use Rattle.bolt_tree.specs.{OpeningCounts.IsSeekPage, OpeningCounts.IsUpTo, OpeningCounts.sum_to}
 pub use Rattle.bolt_tree.specs.Paths.{HasEntries, Holds, Names, Path, path_cmp, path_of}
 pub use Rattle.bolt_tree.specs.Places.{Fresh, Move, Moves, On, Past, Place, ShowsMove, first_move, last_move, least_from, next_move, nothing_at}
 pub use Rattle.bolt_tree.specs.Places.{move_onto, place_in}
@@ -74,8 +76,8 @@ pub use Rattle.std.proofs.lemmas.List.{append_cancel_left, drop_all, get_or_defa
 pub use Rattle.std.proofs.lemmas.List.{length-set}
 pub use Rattle.std.proofs.lemmas.List.{length-take, reverse-append, same_from_push, take-append-drop, take_all}
 pub use Rattle.std.proofs.lemmas.List.Concat.{flat_map-append}
-pub use Rattle.std.proofs.lemmas.List.Elements.{All-contains, All-contains_itself, All-filter, Contains-append_cases, Contains-append_left}
-pub use Rattle.std.proofs.lemmas.List.Elements.{Contains-append_right, filter_passes}
+pub use Rattle.std.proofs.lemmas.List.Elements.{Contains-append_cases, Contains-append_left}
+pub use Rattle.std.proofs.lemmas.List.Elements.{Contains-append_right}
 pub use Rattle.std.proofs.lemmas.List.Sums.{fails_before_first, passes_at_first, prefix_len-le-length, take_while-cons}
 pub use Rattle.std.proofs.lemmas.Option.{get_or_from_slice_get, none-some, same_Some, slice_get-get_or, slice_get-map, slice_get_past, slice_get_read}
 pub use Rattle.std.proofs.lemmas.Option.{slice_get_within}

@@ -1,11 +1,11 @@
 -- What a bucket has: the elements of the leaves that its addresses lead to, or those in its own value: docs/LISTING.md, "Entries".
 use Rattle.std.specs.Prelude.{◌≡◌, ◌==◌, ◌↔◌, ℕ, IsTrue, List, Some, Contains, if◌then◌else◌}
 use Rattle.std.specs.declared.cmp.Ordering.{Ordering}
+use Rattle.bolt_lemmas.specs.Order.{Rises}
 use Rattle.bolt_format.specs.{Elements.LeafElement, Elements.head_root, Elements.head_sequence, Elements.inline_elements, Pages.PageView}
 use Rattle.bolt_format.specs.{Pages.page_at, declared.meta.Meta.Meta}
 use Rattle.bolt_format.specs.declared.header.Kind.TheVariants as kind
 use Rattle.bolt_check.specs.{Keys.Key, Keys.key_cmp, Nodes.node_at, OnWays.IsOnWay, Shape.leads}
-use Rattle.bolt_tree.specs.Order.{Rises}
 
 -- where a bucket's tree begins: at a root page, or with the elements in its own value
 pub data Start : Type 0 where

@@ -15,7 +15,6 @@ pub mod Lookups
 pub mod Merges
 pub mod Merging
 pub mod OpeningCounts
-pub mod Order
 pub mod Pagers
 pub mod Paths
 pub mod Places

@@ -2,8 +2,9 @@
 -- The rising list of all paths with their items, over the order and the items of Paths.
 use Rattle.std.specs.Prelude.{◌↔◌, List, ℕ, filter, Contains, not}
 use Rattle.std.specs.{Ordering.is_lt, declared.cmp.Ordering.Ordering}
+use Rattle.bolt_lemmas.specs.Order.{Rises}
 use Rattle.bolt_format.specs.{Elements.LeafElement, declared.meta.Meta.Meta}
-use Rattle.bolt_tree.specs.{Entries.IsEntry, Entries.Item, Entries.Root_page, Entries.Start, Order.Rises, Paths.Holds, Paths.Path, Paths.path_cmp}
+use Rattle.bolt_tree.specs.{Entries.IsEntry, Entries.Item, Entries.Root_page, Entries.Start, Paths.Holds, Paths.Path, Paths.path_cmp}
 
 -- a path with its item
 abbrev pub Member : Type 0

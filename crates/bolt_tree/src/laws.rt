@@ -8,7 +8,8 @@ ghost use Rattle.bolt_tree.specs.Laws.{ForBucketElements, ForBuckets, ForListing
 ghost use Rattle.bolt_tree.specs.{Listing.IsListing, Listing.Lists, Listing.Member, Listing.member_cmp, Listing.rest_from};
 ghost use Rattle.bolt_tree.specs.{OpeningCounts.GapsCoverAll};
 ghost use Rattle.bolt_tree.specs.{Tree.IsTreeOf, Tree.Tree, Tree.listing_of, Tree.tree_of, ListingParts.begins_with, ListingParts.part_below};
-ghost use Rattle.bolt_tree.specs.{Order.Rises, Paths.Path};
+ghost use Rattle.bolt_lemmas.specs.Order.{Rises};
+ghost use Rattle.bolt_tree.specs.Paths.{Path};
 ghost use Rattle.bolt_tree.specs.Merges.{AreApart, HaveParents, merge};
 
 use bolt_check::laws::ways_go_on;

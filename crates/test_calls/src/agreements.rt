@@ -1,7 +1,7 @@
 //! What commands say of one file, compared with each other.
 
 use crate::fault::{Fault, require};
-use crate::runs::{Ran, Task, first_line, job_of};
+use crate::runs::{RunOutput, Task, first_line, job_of};
 use crate::sweeps::toggle;
 use crate::words::{Input, Text};
 use bolt_cli::Job;
@@ -21,7 +21,7 @@ enum Kind {
     /// The command lists what the copy after it has.
     List,
     /// As `List`, and what it lists beside the bucket of found pages is what the listing before has.
-    Joined,
+    JoinedListing,
     /// The command makes a copy.
     Copy,
 }
@@ -41,7 +41,7 @@ static TRIALS: [(Kind, &[&str]); 20] = [
         Kind::Copy,
         &["compact", "-o", "OUT", "--for-bbolt", "--recover", "FILE"],
     ),
-    (Kind::Joined, &["list", "--lost-and-found", "FILE"]),
+    (Kind::JoinedListing, &["list", "--lost-and-found", "FILE"]),
     (
         Kind::Copy,
         &["compact", "-o", "OUT", "--lost-and-found", "FILE"],
@@ -87,7 +87,7 @@ struct Trials<'a> {
 }
 
 impl Trials<'_> {
-    fn run(self, job: &Job, file: &[u8]) -> Ran {
+    fn run(self, job: &Job, file: &[u8]) -> RunOutput {
         let alloc = self.alloc;
         Task { alloc, job, file }.run()
     }
@@ -115,7 +115,13 @@ impl Trials<'_> {
     }
 
     /// Whether a command is right, by what `check` and the last listing before it said.
-    fn is_next(self, trial: &Trial, file: &[u8], check: &Ran, listed: &mut Ran) -> bool {
+    fn is_next(
+        self,
+        trial: &Trial,
+        file: &[u8],
+        check: &RunOutput,
+        listed: &mut RunOutput,
+    ) -> bool {
         let ran = self.run(&trial.job, file);
         let is_right = match trial.kind {
             Kind::Page => is_page(&ran, check.err.bytes()),
@@ -123,10 +129,10 @@ impl Trials<'_> {
             Kind::Check => ran.code == 1 || check.code == 0,
             Kind::States => has_states(&ran, check),
             Kind::List => true,
-            Kind::Joined => is_joined(ran.out.bytes(), listed.out.bytes()),
+            Kind::JoinedListing => is_joined(ran.out.bytes(), listed.out.bytes()),
             Kind::Copy => self.is_copied(&ran, listed),
         };
-        if matches!(trial.kind, Kind::List | Kind::Joined) {
+        if matches!(trial.kind, Kind::List | Kind::JoinedListing) {
             *listed = ran;
         }
         is_right
@@ -134,7 +140,7 @@ impl Trials<'_> {
 
     /// The copy is sound and lists what `list` prints, and the statuses are the same. Without a copy
     /// both refuse the file alike.
-    fn is_copied(self, copy: &Ran, list: &Ran) -> bool {
+    fn is_copied(self, copy: &RunOutput, list: &RunOutput) -> bool {
         let target = copy.target.bytes();
         if target.is_empty() {
             return list.is(1, b"", copy.err.bytes()) && copy.is(1, b"", list.err.bytes());
@@ -162,7 +168,7 @@ fn is_joined(joined: &[u8], recovered: &[u8]) -> bool {
 }
 
 /// `states` prints a line. Only of a file without a valid meta it may print none, and says so.
-fn has_states(ran: &Ran, check: &Ran) -> bool {
+fn has_states(ran: &RunOutput, check: &RunOutput) -> bool {
     if ran.code == 0 {
         return !ran.out.bytes().is_empty() && ran.err.bytes().is_empty();
     }
@@ -170,7 +176,7 @@ fn has_states(ran: &Ran, check: &Ran) -> bool {
 }
 
 /// `page` prints a page, or refuses it; if the file has this fault, it reports the same.
-fn is_page(ran: &Ran, fault: &[u8]) -> bool {
+fn is_page(ran: &RunOutput, fault: &[u8]) -> bool {
     let (out, err) = (ran.out.bytes(), ran.err.bytes());
     if ran.code == 0 {
         return !out.is_empty() && err.is_empty();
@@ -185,7 +191,7 @@ fn is_page(ran: &Ran, fault: &[u8]) -> bool {
 
 /// The command reads a file that `check` accepts. Another one it refuses with the fault of `check`, or
 /// with its first finding.
-fn is_read(ran: &Ran, check: &Ran) -> bool {
+fn is_read(ran: &RunOutput, check: &RunOutput) -> bool {
     let (found, fault) = (check.out.bytes(), check.err.bytes());
     if check.is(0, b"OK\n", b"") {
         return ran.code == 0 && ran.err.bytes().is_empty();

@@ -1,7 +1,7 @@
 //! A command whose standard output, copy or standard error fails at each byte, or at each call.
 
 use crate::fault::{Fault, require};
-use crate::runs::{Ran, Task, job_of};
+use crate::runs::{RunOutput, Task, job_of};
 use crate::sinks::{Halting, Refusal};
 use crate::words::{Input, Text};
 use bolt_format::{MemSink, Sink, WriteSink};
@@ -16,7 +16,7 @@ const NEVER: usize = usize::MAX;
 #[derive(Clone, Copy)]
 struct Whole<'a> {
     task: Task<'a>,
-    ran: &'a Ran,
+    ran: &'a RunOutput,
 }
 
 impl Whole<'_> {
@@ -139,7 +139,7 @@ fn fail_task(verb: &str, task: Task<'_>, text: &mut Text) -> Result<(), Fault> {
 }
 
 fn fail_each(whole: &Whole<'_>, text: &mut Text) -> Result<(), Fault> {
-    let Ran {
+    let RunOutput {
         out,
         err,
         target,

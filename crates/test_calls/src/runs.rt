@@ -44,18 +44,18 @@ pub struct Task<'a> {
 
 impl Task<'_> {
     /// A run over sinks that accept everything.
-    pub fn run(self) -> Ran {
+    pub fn run(self) -> RunOutput {
         self.run_to([usize::MAX; 3])
     }
 
     /// A run over sinks for standard output, standard error and the copy, which are full after these many
     /// bytes.
-    pub fn run_to(self, rooms: [usize; 3]) -> Ran {
+    pub fn run_to(self, rooms: [usize; 3]) -> RunOutput {
         let mut out = FullSink::new(self.alloc, rooms[0]);
         let mut err = FullSink::new(self.alloc, rooms[1]);
         let mut target = FullSink::new(self.alloc, rooms[2]);
         let code = self.status_of(&mut out, &mut err, &mut target);
-        Ran {
+        RunOutput {
             out,
             err,
             target,
@@ -77,21 +77,21 @@ impl Task<'_> {
 
 /// What a run wrote, and its status.
 #[derive(Drop)]
-pub struct Ran {
+pub struct RunOutput {
     pub out: FullSink,
     pub err: FullSink,
     pub target: FullSink,
     pub code: u8,
 }
 
-impl Ran {
+impl RunOutput {
     /// Whether the run has this status and wrote these texts.
     pub fn is(&self, code: u8, out: &[u8], err: &[u8]) -> bool {
         self.code == code && self.out.bytes() == out && self.err.bytes() == err
     }
 
     /// Whether the other run wrote and came to the same.
-    pub fn is_like(&self, other: &Ran) -> bool {
+    pub fn is_like(&self, other: &RunOutput) -> bool {
         self.is(other.code, other.out.bytes(), other.err.bytes())
             && self.target.bytes() == other.target.bytes()
     }

@@ -1,7 +1,7 @@
 //! One command on many files that are cut short or changed.
 
 use crate::fault::{Fault, require};
-use crate::runs::{Ran, Task, job_of};
+use crate::runs::{RunOutput, Task, job_of};
 use crate::words::{Input, number};
 use bolt_cli::Job;
 use std::alloc::Global;
@@ -25,7 +25,7 @@ impl Sweep {
     }
 
     /// What the job comes to on the file that differs at a place. The file is then as before.
-    fn run(self, alloc: Global, job: &Job, file: &mut [u8], at: usize, bits: u8) -> Ran {
+    fn run(self, alloc: Global, job: &Job, file: &mut [u8], at: usize, bits: u8) -> RunOutput {
         if self == Sweep::Cuts {
             let file = file.get(..at).unwrap_or(b"");
             return Task { alloc, job, file }.run();
@@ -42,7 +42,7 @@ impl Sweep {
         task: Task<'_>,
         file: &mut [u8],
         places: [usize; 2],
-        first: &Ran,
+        first: &RunOutput,
     ) -> Result<(), Fault> {
         for at in places[0]..=places[1] {
             for bits in 1..=self.last_bits() {
@@ -63,7 +63,7 @@ pub fn toggle(file: &mut [u8], at: usize, bits: u8) {
 
 /// What a command comes to on the first of many files. They differ at each place from the first word to
 /// the second, and it comes to the same each time.
-pub fn run_sweep(sweep: Sweep, input: Input<'_>) -> Result<Ran, Fault> {
+pub fn run_sweep(sweep: Sweep, input: Input<'_>) -> Result<RunOutput, Fault> {
     let Input { alloc, file, words } = input;
     let [first, last, command @ ..] = words else {
         return Err(Fault::UNREAD);
@@ -80,7 +80,7 @@ pub fn run_sweep(sweep: Sweep, input: Input<'_>) -> Result<Ran, Fault> {
     run_each(sweep, task, first, last)
 }
 
-fn run_each(sweep: Sweep, task: Task<'_>, first: usize, last: usize) -> Result<Ran, Fault> {
+fn run_each(sweep: Sweep, task: Task<'_>, first: usize, last: usize) -> Result<RunOutput, Fault> {
     let mut file = task.file.to_vec(task.alloc)?;
     let ran = sweep.run(task.alloc, task.job, &mut file, first, 1);
     sweep.compare_each(task, &mut file, [first, last], &ran)?;

@@ -7,12 +7,12 @@ use Rattle.bolt_layout.specs.{Laid.Placed, Layout.layout_held, Layout.layout_hig
 use Rattle.bolt_layout.specs.declared.Layout.TheVariants.{Balanced, Plain}
 use Rattle.bolt_bulk.specs.{Private.FormatLimits.longest_key, Private.Passes.FitLimits, Private.Passes.Wanted, Private.Passes.limits_with}
 use Rattle.bolt_bulk.specs.{declared.page_setup.PageSetup.PageSetup}
-use Rattle.bolt_bulk.specs.{declared.bulk_fault.BulkFault.BulkFault, declared.pass.Ended.Ended, BulkEndings.bulk_ending}
+use Rattle.bolt_bulk.specs.{declared.bulk_fault.BulkFault.BulkFault, declared.pass.PassEnd.PassEnd, BulkEndings.bulk_ending}
 use Rattle.bolt_bulk.specs.declared.bulk_fault.BulkFault.TheVariants as fault
 
 -- The root page, the high-water mark and the number of items held are returned and, if they are asked for, the limits that yield the balanced
 -- layout.
-pub record ReturnsEnded (wanted : Wanted) (setup : PageSetup) (result : Result Ended BulkFault) : Type 0 where
+pub record ReturnsEnded (wanted : Wanted) (setup : PageSetup) (result : Result PassEnd BulkFault) : Type 0 where
   pub root : IfOk result (λ ended. ended.root ≡ layout_root wanted.which setup.page_size wanted.tree)
   pub high_water : IfOk result (λ ended. ended.high_water ≡ layout_high_water wanted.which setup.page_size wanted.tree)
   pub within : IfOk result (λ ended. ended.high_water ≤ setup.greatest_high_water)
@@ -22,7 +22,7 @@ pub record ReturnsEnded (wanted : Wanted) (setup : PageSetup) (result : Result E
 
 -- The pages `put` were written earlier. The others of the layout are written, or a proper prefix of their bytes.
 pub record EndsPass {S : Type 0} (wanted : Wanted) (sink : Ghosts S) (old new : S) (setup : PageSetup) (put : List Placed)
-    (result : Result Ended BulkFault) : Type 0 where
+    (result : Result PassEnd BulkFault) : Type 0 where
   pub others : List Placed
   pub all : layout_pages wanted.which setup.page_size wanted.tree ≡ put ++ others
   pub puts : Wrote sink old new (placed_bytes setup.page_size others) (bulk_ending result)

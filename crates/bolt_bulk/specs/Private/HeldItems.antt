@@ -3,24 +3,24 @@ use Rattle.std.specs.Prelude.{◌≡◌, ◌<◌, ◌≤◌, ℕ, ◌+◌, ◌*�
 use Rattle.std.specs.List.{AllByRecursion}
 use Rattle.bolt_format.specs.{ElementPlaces.leaf_view, Elements.LeafElement, declared.element.Leaf.Leaf, Encoded.head_bytes}
 use Rattle.bolt_layout.specs.PageBytes.{inline_value, leaf_data}
-use Rattle.bolt_bulk.specs.{declared.held.Held.Held, declared.held.Stored.Stored, Private.FormatLimits.length_end, Private.FormatLimits.longest_key}
-use Rattle.bolt_bulk.specs.declared.held.Stored.TheVariants as stored
+use Rattle.bolt_bulk.specs.{declared.held.Held.Held, declared.held.StoredItem.StoredItem, Private.FormatLimits.length_end, Private.FormatLimits.longest_key}
+use Rattle.bolt_bulk.specs.declared.held.StoredItem.TheVariants as stored
 
 -- the entries of the inline buckets of a run are in one list
 abbrev pub entries_in : List Leaf → (first count : ℕ) → List LeafElement
 entries_in inlined first count = map leaf_view (take count (drop first inlined))
 
-abbrev pub stored_value : List Leaf → Stored → List ℕ
+abbrev pub stored_value : List Leaf → StoredItem → List ℕ
 stored_value inlined (stored.Value value) = value.now
 stored_value inlined (stored.Root page sequence) = head_bytes page sequence
 stored_value inlined (stored.Inline sequence first count size) = inline_value sequence (entries_in inlined first count)
 
-abbrev pub stored_length : Stored → ℕ
+abbrev pub stored_length : StoredItem → ℕ
 stored_length (stored.Value value) = length value.now
 stored_length (stored.Root page sequence) = 16
 stored_length (stored.Inline sequence first count size) = size
 
-abbrev pub is_stored_bucket : Stored → Bool
+abbrev pub is_stored_bucket : StoredItem → Bool
 is_stored_bucket (stored.Value value) = false
 is_stored_bucket (stored.Root page sequence) = true
 is_stored_bucket (stored.Inline sequence first count size) = true
@@ -42,7 +42,7 @@ pub record IsInlined (inlined : List Leaf) (first count size : ℕ) : Type 0 whe
   pub sized : size ≡ 32 + (16 * count + length (leaf_data (entries_in inlined first count)))
   pub small : size < length_end
 
-abbrev pub IsStored : List Leaf → Stored → Type 0
+abbrev pub IsStored : List Leaf → StoredItem → Type 0
 IsStored inlined (stored.Value value) = Unit {0}
 IsStored inlined (stored.Root page sequence) = Unit {0}
 IsStored inlined (stored.Inline sequence first count size) = IsInlined inlined first count size
@@ -59,7 +59,7 @@ abbrev pub held_size : List Leaf → Held → ℕ
 held_size inlined held = 16 + (length held.key.now + length (stored_value inlined held.stored))
 
 -- how many entries of inline buckets belong to an item, and to all
-abbrev pub inlined_by : Stored → ℕ
+abbrev pub inlined_by : StoredItem → ℕ
 inlined_by (stored.Value value) = 0
 inlined_by (stored.Root page sequence) = 0
 inlined_by (stored.Inline sequence first count size) = count

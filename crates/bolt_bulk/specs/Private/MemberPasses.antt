@@ -6,7 +6,7 @@ use Rattle.bolt_layout.specs.{Copies.IsOfOneTree, Copies.layout_of_listing, decl
 use Rattle.bolt_bulk.specs.{Compacting.too_many, WholeListings.IsAgain, Private.Endings.EndsPass, Private.Endings.ReturnsEnded}
 use Rattle.bolt_bulk.specs.{Private.Passes.FitLimits, Private.Passes.limits_with}
 use Rattle.bolt_bulk.specs.{Private.Stops.stops_as_planned, declared.bulk_fault.BulkFault.BulkFault, declared.limits.Limits.Limits}
-use Rattle.bolt_bulk.specs.{declared.page_setup.PageSetup.PageSetup, declared.pass.Ended.Ended}
+use Rattle.bolt_bulk.specs.{declared.page_setup.PageSetup.PageSetup, declared.pass.PassEnd.PassEnd}
 use Rattle.bolt_bulk.specs.{declared.bulk_fault.PlanFault.PlanFault, declared.bulk_fault.PlanFault.TheVariants.TooLarge}
 
 -- the limits are right for each tree that is listed
@@ -28,14 +28,14 @@ pub record FindsLimits {M W : Type 0} (reads : M → W → Type 0) (listing : W 
 
 -- a pass over all members, with limits that are right for them
 abbrev pub PutsMembers : {S M W : Type 0} → Ghosts S → (old new : S) → (M → W → Type 0) → (W → List Member) → M → PageSetup → Limits → (notes : Bool)
-    → Result Ended BulkFault → Type 0
+    → Result PassEnd BulkFault → Type 0
 PutsMembers {S} {M} {W} sink old new reads listing members setup limits notes result =
     (which : Layout) (whole : W) → reads members whole → FitLimits which (tree_of (listing whole)) setup.page_size (limits_with limits)
     → EndsPass (record { which = which; tree = tree_of (listing whole); notes = notes }) sink old new setup [] result
 
 -- a pass that writes nothing, and so doesn't fail to
 abbrev pub PassesOverMembers : {M W : Type 0} → (M → W → Type 0) → (W → List Member) → M → PageSetup → Limits → (notes : Bool)
-    → Result Ended PlanFault → Type 0
+    → Result PassEnd PlanFault → Type 0
 PassesOverMembers {M} {W} reads listing members setup limits notes result =
     (which : Layout) (whole : W) → reads members whole → FitLimits which (tree_of (listing whole)) setup.page_size (limits_with limits)
     → ReturnsEnded (record { which = which; tree = tree_of (listing whole); notes = notes }) setup (stops_as_planned result)

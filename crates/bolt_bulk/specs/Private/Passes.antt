@@ -131,13 +131,13 @@ pub record PassIsOn (which : Layout) (page_size : ℕ) (tree : Tree) (frames : L
   pub kept : AreOpenRuns runs state (base_in frames)
   pub put_is : put ≡ all_put frames state
 
--- The pass has written these pages, and these entries of the innermost bucket are left.
-pub record PassIsAt (wanted : Wanted) (pass : Pass) (parents : List Parent) (left : Tree) (put : List Placed) : Type 0 where
+-- The pass has written these pages, the next one has this number, and these entries of the innermost bucket are left.
+pub record PassIsAt (wanted : Wanted) (pass : Pass) (next : ℕ) (parents : List Parent) (left : Tree) (put : List Placed) : Type 0 where
   pub frames : List BucketFrame
   pub state : Open
   pub rest : Tree
   pub on : PassIsOn wanted.which pass.setup.page_size wanted.tree frames state (items_of wanted.which pass.setup.page_size rest)
-      (bucket_runs pass.bucket pass.next) put
+      (bucket_runs pass.bucket next) put
   pub waits : AreWaiting (reverse pass.waiting.items) frames
   pub pends : IsPending pass.pending pass.entries.items (map parent_of frames) rest parents left
   pub held : pass.most ≡ saturated (held_so_far frames state)
@@ -161,7 +161,6 @@ IsPendingSmall page_size (Some pending) entries = IsSmall page_size pending entr
 
 pub record IsReady (pass : Pass) : Type 0 where
   pub bucket : IsOpenBucket pass.bucket
-  pub next : pass.next ≤ pass.setup.greatest_high_water
   pub waiting : AllByRecursion (IsWaiting pass.setup.page_size) pass.waiting.items
   pub pending : IsPendingSmall pass.setup.page_size pass.pending pass.entries.items
   pub counted : AreCounted 0 pass.waiting.items
@@ -201,10 +200,10 @@ IsNoDeeper depth [] = Unit {0}
 IsNoDeeper depth (member ∷ members) = length member.0 ≤ depth
 
 -- the pass is where these members are left
-pub record HasLeft (wanted : Wanted) (pass : Pass) (members : List Member) (put : List Placed) : Type 0 where
+pub record HasLeft (wanted : Wanted) (pass : Pass) (next : ℕ) (members : List Member) (put : List Placed) : Type 0 where
   pub parents : List Parent
   pub left : Tree
-  pub at : PassIsAt wanted pass parents left put
+  pub at : PassIsAt wanted pass next parents left put
   pub members_are : left_in parents left ≡ members
 
 -- a pass goes on with the same setup, in at most this many buckets

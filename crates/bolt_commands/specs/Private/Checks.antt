@@ -6,18 +6,28 @@ use Rattle.bolt_recover.specs.{PageGaps.PageGapView, Losses.everything}
 use Rattle.bolt_format.specs.declared.sink.Sink.{Ghosts}
 use Rattle.bolt_commands.specs.{Answers.Answer, Answers.refused, Answers.status_of, CheckAnswers.IsCheckAnswerAfter, CheckAnswers.IsFindingsAnswer}
 use Rattle.bolt_commands.specs.{CheckAnswers.IsLostAnswer, CheckAnswers.check_refusal, CheckAnswers.lost_and_found_answer}
-use Rattle.bolt_commands.specs.{FileFaults.is_fine, Private.Opened.IsSoundOf, Private.Printing.PrintsAnswer, declared.failure.Failure.Failure}
+use Rattle.bolt_commands.specs.{FileFaults.is_fine, Private.Contents.IsSoundOf, Private.Printing.PrintsAnswer, declared.failure.Failure.Failure}
 use Rattle.bolt_commands.specs.{declared.file_faults.FileFaults.FileFaults}
 use Rattle.bolt_commands.specs.declared.verdict.{Checking.Checking, Verdict.Verdict}
 use Rattle.bolt_commands.specs.declared.failure.Failure.TheVariants as failure
 use Rattle.bolt_commands.specs.declared.verdict.Verdict.TheVariants as verdict
 use Rattle.bolt_job.specs.declared.choices.Extent.{Extent}
 
+-- what `check` answers to what is checked: to this extent; of a file that lost something, if it did; and of one with these gaps that lost nothing
+abbrev pub AnswersTo : Checking → Extent → Answer → Type 0
+AnswersTo c extent answer = IsCheckAnswerAfter extent c.for_bbolt c.faults c.input.file.now c.choice answer
+
+abbrev pub AnswersLosses : Checking → Extent → Answer → Type 0
+AnswersLosses c extent answer = IsLostAnswer extent c.for_bbolt c.faults c.input.file.now c.choice answer
+
+abbrev pub AnswersWhole : Checking → List PageGapView → Answer → Type 0
+AnswersWhole c gaps answer = IsFindingsAnswer c.for_bbolt c.faults c.input.file.now c.choice gaps answer
+
 -- Nothing is wrong with the file, which is read so. What `check` answers of a sound file without gaps is then wanted of it.
 pub record IsRight (IsWanted : Answer → Type 0) (c : Checking) (checked : Checked) : Type 0 where
   pub sound : IsSoundOf c.input.file.now c.choice checked
   pub fine : is_fine c.faults ≡ true
-  pub wanted : (answer : Answer) → IsFindingsAnswer c.for_bbolt c.faults c.input.file.now c.choice [] answer → IsWanted answer
+  pub wanted : (answer : Answer) → AnswersWhole c [] answer → IsWanted answer
 
 -- an answer that is wanted, and that isn't `OK`
 abbrev pub IsWrong : (Answer → Type 0) → Answer → Type 0
@@ -32,7 +42,7 @@ pub record ComesToVerdict {S : Type 0} (sink : Ghosts S) (old new : S) (IsWanted
   pub is : IsVerdict sink old new IsWanted c verdict
 
 abbrev pub ChecksTo : {S : Type 0} (sink : Ghosts S) (old new : S) → Extent → Checking → Verdict → Type 0
-ChecksTo sink old new extent c verdict = ComesToVerdict sink old new (IsCheckAnswerAfter extent c.for_bbolt c.faults c.input.file.now c.choice) c verdict
+ChecksTo sink old new extent c verdict = ComesToVerdict sink old new (AnswersTo c extent) c verdict
 
 -- why nothing is recovered: if the root page is lost, everything is
 abbrev pub unopened : FileFaults → Failure → Answer
@@ -42,8 +52,8 @@ unopened faults why = refused why
 
 -- what is lost and found of a file is written, and the gaps of what is kept; or if nothing is lost, what `check` writes
 abbrev pub ChecksLost : {S : Type 0} (sink : Ghosts S) (old new : S) → Extent → Checking → Verdict → Type 0
-ChecksLost sink old new extent c verdict = ComesToVerdict sink old new (IsLostAnswer extent c.for_bbolt c.faults c.input.file.now c.choice) c verdict
+ChecksLost sink old new extent c verdict = ComesToVerdict sink old new (AnswersLosses c extent) c verdict
 
 -- what `check` writes of a file with these gaps
 abbrev pub ChecksGaps : {S : Type 0} (sink : Ghosts S) (old new : S) → List PageGapView → Checking → Verdict → Type 0
-ChecksGaps sink old new gaps c verdict = ComesToVerdict sink old new (IsFindingsAnswer c.for_bbolt c.faults c.input.file.now c.choice gaps) c verdict
+ChecksGaps sink old new gaps c verdict = ComesToVerdict sink old new (AnswersWhole c gaps) c verdict

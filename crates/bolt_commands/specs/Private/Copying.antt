@@ -10,8 +10,9 @@ use Rattle.bolt_commands.specs.{Answers.JobEnding, CopyAnswers.copy_page_size, C
 use Rattle.bolt_commands.specs.{FilesRead.IsUnjoinedUnder, FilesRead.IsUnreadTo}
 use Rattle.bolt_commands.specs.{JobAnswers.Loads, JobAnswers.MakesCopy, CopyLayouts.layout_for, Failures.copied, GoodCopies.IsGoodCopy}
 use Rattle.bolt_commands.specs.{Private.Endings.failing}
-use Rattle.bolt_commands.specs.{Private.Opened.opened_found, Private.Opened.opened_lost, Private.Opened.opened_meta, declared.failure.Failure.Failure}
-use Rattle.bolt_commands.specs.{declared.opened.Opened.Opened}
+use Rattle.bolt_commands.specs.{Private.Contents.contents_found, Private.Contents.contents_lost, Private.Contents.contents_meta}
+use Rattle.bolt_commands.specs.{declared.failure.Failure.Failure}
+use Rattle.bolt_commands.specs.{declared.opening.Contents.Contents}
 use Rattle.bolt_job.specs.{declared.choices.CopyKind.CopyKind, declared.choices.PageSize.PageSize, CopyKinds.is_snapshot}
 use Rattle.bolt_job.specs.{declared.writing_commands.CompactJob.CompactJob}
 use Rattle.bolt_job.specs.declared.writing_commands.LoadJob.{LoadJob}
@@ -62,11 +63,11 @@ CopiesListing target old new layout listing snapshot result =
     (made : Result ℕ BulkFault) × CopiesTo target old new layout listing snapshot made × (result ≡ failing copied made)
 
 -- The copy of what is read was made; if it is whole, all that is lost is known then. Or it isn't read, and the target isn't touched.
-abbrev pub CopiesRead : {T : Type 0} (target : Ghosts T) (old new : T) → CompactJob → List ℕ → (before after : Opened) → Result ℕ Failure → Type 0
+abbrev pub CopiesRead : {T : Type 0} (target : Ghosts T) (old new : T) → CompactJob → List ℕ → (before after : Contents) → Result ℕ Failure → Type 0
 CopiesRead target old new job file before after result =
-    ((listing : List Member) × (lost : LostView) × IsReadTo job.extent file job.meta (opened_meta before) listing lost (map found_view (opened_found before))
-    × OnOk result (opened_lost after ≡ lost)
-    × CopiesListing target old new (job_layout job (opened_meta before) listing) listing (is_snapshot job.kind) result)
+    ((listing : List Member) × (lost : LostView) × IsReadTo job.extent file job.meta (contents_meta before) listing lost (map found_view (contents_found before))
+    × OnOk result (contents_lost after ≡ lost)
+    × CopiesListing target old new (job_layout job (contents_meta before) listing) listing (is_snapshot job.kind) result)
     ⊎ ((why : Failure) × IsUnreadTo job.extent file job.meta why × (new ≡ old) × (result ≡ Err why))
 
 -- The copy of a searched file was made by a blueprint. Or the file isn't read, and the target isn't touched.

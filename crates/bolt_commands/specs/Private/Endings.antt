@@ -1,8 +1,7 @@
 -- How a job ends that put a text: as it is to, or with the fault.
-use Rattle.std.specs.Prelude.{◌≡◌, ◌⊎◌, IfErr, Result, Ok, Err}
+use Rattle.std.specs.Prelude.{IfErr, Result, Ok, Err}
 use Rattle.bolt_format.specs.declared.sink.SinkFault.{SinkFault}
-use Rattle.bolt_text.specs.declared.report_fault.ReportFault.{ReportFault}
-use Rattle.bolt_text.specs.declared.report_fault.ReportFault.TheVariants as report
+use Rattle.bolt_text.specs.{ReportEndings.FailsByWriting, declared.report_fault.ReportFault.ReportFault}
 use Rattle.bolt_commands.specs.{Answers.JobEnding, Failures.reported, declared.failure.Failure.Failure, declared.failure.Failure.TheVariants.Write}
 
 abbrev pub ending_by : {A : Type 0} → Result A ReportFault → (wanted : JobEnding) → JobEnding
@@ -21,4 +20,4 @@ failing name (Err fault) = Err (name fault)
 
 -- a text that the sink may fail to accept, or that may need memory
 abbrev pub MayFail : {A : Type 0} → Result A ReportFault → Type 0
-MayFail put = IfErr put (λ fault. (fault ≡ report.Sink) ⊎ (fault ≡ report.NoMemory))
+MayFail put = IfErr put FailsByWriting

@@ -7,8 +7,8 @@ use Rattle.bolt_text.specs.{ListForms.listing_lines, ReportEndings.report_ending
 use Rattle.bolt_tree.specs.{Listing.Member, Listing.rest_from, ListingParts.has_bucket, ListingParts.part_below}
 use Rattle.bolt_commands.specs.{Answers.Answer, Answers.JobEnding, Answers.WritesAnswer, FilesRead.IsReadTo, FilesRead.IsSalvaged}
 use Rattle.bolt_commands.specs.{FilesRead.IsUnjoinedUnder, FilesRead.IsUnreadTo, ListAnswers.listing_part_text}
-use Rattle.bolt_commands.specs.{Failures.reported, Private.Endings.MayFail, Private.Endings.failing, Private.Opened.opened_lost}
-use Rattle.bolt_commands.specs.declared.{failure.Failure.Failure, opened.Opened.Opened}
+use Rattle.bolt_commands.specs.{Failures.reported, Private.Endings.MayFail, Private.Endings.failing, Private.Contents.contents_lost}
+use Rattle.bolt_commands.specs.declared.{failure.Failure.Failure, opening.Contents.Contents}
 use Rattle.bolt_job.specs.{PlainWords.owned_path, declared.bucket_commands.ListJob.ListJob}
 
 -- standard output accepts the text of one of the answers that are wanted, and the job ends as it says
@@ -39,10 +39,10 @@ module _ {S : Type 0} (sink : Ghosts S) (old new : S) (job : ListJob) where
       × IfOk put (λ found. found ≡ finds job listing) × (result ≡ failing reported put)
 
   -- The part of what was read is put; if it is whole, all that is lost is known then. Or the file isn't read, and nothing is put.
-  abbrev pub PutsPart : List ℕ → (after : Opened) → Result Bool Failure → Type 0
+  abbrev pub PutsPart : List ℕ → (after : Contents) → Result Bool Failure → Type 0
   PutsPart file after result =
       ((meta : Meta) × (listing : List Member) × (lost : LostView) × (found : List FoundView) × IsReadTo job.extent file job.meta meta listing lost found
-      × OnOk result (opened_lost after ≡ lost) × PutsListing result listing)
+      × OnOk result (contents_lost after ≡ lost) × PutsListing result listing)
       ⊎ ((why : Failure) × IsUnreadTo job.extent file job.meta why × (new ≡ old) × (result ≡ Err why))
 
   -- The part of a searched file's listing is put. Or the file isn't read, and nothing is put.

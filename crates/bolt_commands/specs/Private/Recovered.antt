@@ -1,8 +1,7 @@
 -- What the functions of `buckets`, `keys` and `get` with `--recover` promise.
-use Rattle.std.specs.Prelude.{◌≡◌, Contains, IfSome, List, ℕ, Bool, Option, Some, None, Result, Ok, Err, if◌then◌else◌}
+use Rattle.std.specs.Prelude.{List, ℕ, Bool, Option, Some, None, Result, Ok, Err, if◌then◌else◌}
 use Rattle.std.specs.Borrow.{Bor}
-use Rattle.std.specs.Option.{IfNone}
-use Rattle.bolt_tree.specs.{Entries.Value, Listing.Member, ListingParts.has_bucket, Paths.Path}
+use Rattle.bolt_tree.specs.{ListingParts.has_bucket}
 use Rattle.bolt_job.specs.PlainWords.{owned_path}
 use Rattle.bolt_report.specs.MemberNames.{is_wanted}
 use Rattle.bolt_commands.specs.{Answers.Answer, Answers.JobEnding, FilesRead.shortfall_ending, KeyAnswers.IsNamesAnswer, KeyAnswers.IsRecoveredAnswer}
@@ -15,9 +14,9 @@ IsNamesPrint asked file = IsRecoveredAnswer file asked.meta (IsNamesAnswer asked
 
 -- how a job ends that put what is recovered of a bucket, if that was found
 abbrev pub bucket_ending : (found : Bool) → Option Shortfall → JobEnding
-bucket_ending found lost = if found then shortfall_ending lost else Err (no_bucket lost)
+bucket_ending found lacking = if found then shortfall_ending lacking else Err (no_bucket lacking)
 
 -- the value, or why there is none
 abbrev pub value_or_why : (value : Option (Bor (List ℕ))) (has_bucket : Bool) → Option Shortfall → Result (Bor (List ℕ)) Failure
-value_or_why (Some value) has_bucket lost = Ok value
-value_or_why None has_bucket lost = Err (if has_bucket then no_key lost else no_bucket lost)
+value_or_why (Some value) has_bucket lacking = Ok value
+value_or_why None has_bucket lacking = Err (if has_bucket then no_key lacking else no_bucket lacking)

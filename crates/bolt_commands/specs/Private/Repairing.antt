@@ -1,17 +1,13 @@
 -- What the functions of `etcd-repair` promise.
-use Rattle.std.specs.Prelude.{◌≡◌, ◌⊎◌, ℕ, List, Bool, Result, Err, map}
-use Rattle.bolt_bulk.specs.{WholeListings.IsWholeListing, declared.blueprint.Blueprint.Blueprint}
-use Rattle.bolt_etcd.specs.Wire.Others.{shown_other}
+use Rattle.std.specs.Prelude.{◌≡◌, ◌⊎◌, ℕ, List, Bool, Result, Err}
+use Rattle.bolt_bulk.specs.declared.blueprint.Blueprint.{Blueprint}
 use Rattle.bolt_format.specs.declared.sink.Sink.{Ghosts}
 use Rattle.bolt_job.specs.declared.etcd_jobs.EtcdRepairJob.{EtcdRepairJob}
-use Rattle.bolt_recover.specs.ShownLosses.{lost_view}
 use Rattle.bolt_repair.specs.{Repaired.IsRepaired, RepairedMembers.repair_file, RepairedMembers.repair_meta, RepairedMembers.repair_search}
-use Rattle.bolt_repair.specs.{RepairedMembers.repaired_file, RepairedMembers.repaired_left, RepairedMembers.repaired_meta}
-use Rattle.bolt_repair.specs.{RepairedMembers.repaired_search, declared.repair.Repair.Repair, declared.repaired.Repaired.Repaired}
+use Rattle.bolt_repair.specs.declared.repair.Repair.{Repair}
 use Rattle.bolt_tree.specs.Listing.{Member}
-use Rattle.bolt_commands.specs.{Answers.Answer, Answers.JobEnding, JobAnswers.MakesRepair, RepairAnswers.repair_report}
+use Rattle.bolt_commands.specs.{Answers.JobEnding, JobAnswers.MakesRepair, declared.failure.Failure.Failure}
 use Rattle.bolt_commands.specs.Private.Copying.{CopiesListing, blueprint_layout}
-use Rattle.bolt_commands.specs.declared.{failure.Failure.Failure, commands.etcd_repair_command.RepairReport.RepairReport}
 use Rattle.bolt_commands.specs.declared.failure.Failure.TheVariants.{Memory}
 
 abbrev pub RepairsTo : {O T : Type 0} (out : Ghosts O) (out_old out_new : O) (target : Ghosts T) (target_old target_new : T) → EtcdRepairJob → List ℕ
@@ -25,17 +21,3 @@ CopiesRepaired target old new repair blueprint snapshot result =
     ((listing : List Member) → IsRepaired (repair_file repair) (repair_meta repair) (repair_search repair) listing
     → CopiesListing target old new (blueprint_layout blueprint listing) listing snapshot result)
     ⊎ ((new ≡ old) × (result ≡ Err Memory))
-
--- what is written of a repair, if the copy has this length
-abbrev pub repaired_answer : RepairReport → (copy : ℕ) → Answer
-repaired_answer r copy = repair_report r.faults (lost_view r.lost) (map shown_other r.unread.now) r.back r.left_out r.source copy
-
-abbrev pub repaired_text : RepairReport → (copy : ℕ) → List ℕ
-repaired_text r copy = (repaired_answer r copy).out
-
--- all members of the repaired listing
-abbrev pub IsWholeRepaired : Repaired → Type 0
-IsWholeRepaired repaired =
-    IsWholeListing (λ (r : Repaired) (listing : List Member). IsRepaired (repaired_file r) (repaired_meta r) (repaired_search r) listing)
-    (λ listing. listing) (λ (r : Repaired) (listing : List Member). repaired_left r listing)
-    repaired

@@ -3,7 +3,7 @@ ghost use Rattle.std.specs.Prelude.{◌≡◌, [], IfOk, true};
 ghost use Rattle.bolt_check.specs.CheckedFiles.{in_checked};
 ghost use Rattle.bolt_commands.specs.{Answers.WritesAnswer, CheckAnswers.AreFindingsFor, CheckAnswers.AreOfFile, CheckAnswers.IsCheckAnswer};
 ghost use Rattle.bolt_commands.specs.{CheckAnswers.IsFindingsAnswer, CheckAnswers.bbolt_answer, FileFaults.is_fine, FileFaults.no_faults};
-ghost use Rattle.bolt_commands.specs.{Private.Opened.IsSoundOf, Private.Printing.PrintsAnswer};
+ghost use Rattle.bolt_commands.specs.{Private.Contents.IsSoundOf, Private.Printing.PrintsAnswer};
 
 use crate::failure::Outcome;
 use crate::file_faults::FileFaults;

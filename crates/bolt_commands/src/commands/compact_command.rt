@@ -1,15 +1,15 @@
 //! The command `compact`: a copy of what a file holds, or of what is left of a damaged one.
 ghost use Rattle.std.specs.Prelude.{◌≡◌};
-ghost use Rattle.bolt_commands.specs.{Private.Copying.CompactsTo, Private.Copying.CopiesJoined, Private.Copying.CopiesRead, Private.Opened.IsOpened};
-ghost use Rattle.bolt_commands.specs.{Private.Opened.IsSearchOf, Private.Opened.opened_found, CopyAnswers.hash_refusal};
+ghost use Rattle.bolt_commands.specs.{Private.Copying.CompactsTo, Private.Copying.CopiesJoined, Private.Copying.CopiesRead, Private.Contents.IsOpened};
+ghost use Rattle.bolt_commands.specs.{Private.Contents.IsSearchOf, Private.Contents.contents_found, CopyAnswers.hash_refusal};
 
 use crate::copies::{CopyReport, blueprint_of, copy_members, end_copy};
 use crate::failure::{Failure, Outcome};
 use crate::file_faults::FileFaults;
-use crate::opened::Opened;
-use crate::opening::{Input, join};
+use crate::laws::{a_recovery_is_whole, joined_members_are_whole};
+use crate::opening::{Contents, Input, join};
 use bolt_bulk::Blueprint;
-use bolt_bulk::laws::{a_recovery_is_whole, a_walk_is_whole, joined_members_are_whole};
+use bolt_bulk::laws::a_walk_is_whole;
 use bolt_etcd::SnapshotFault;
 use bolt_format::Sink;
 use bolt_job::{CompactJob, Extent};
@@ -27,16 +27,18 @@ pub(crate) fn do_compact<O: Sink, T: Sink>(
     ensures { CompactsTo O.Sink out.old out.new T.Sink target.old target.new job.now input.entry.file.now result }
 {
     each_file_has_found_pages();
-    let mut opened = input.open(job.meta, job.extent)?;
+    let mut contents = input.open(job.meta, job.extent)?;
     let faults = FileFaults::of_copy(input.file, job.kind, job.extent, job.meta);
     if let Some(fault) = hash_refusal(job.extent, faults.hash) {
         return Err(Failure::Hash(fault));
     }
-    let copy = copy_opened(input, job, &mut opened, target)?;
+    let copy = copy_contents(input, job, &mut contents, target)?;
     let report = CopyReport {
         faults,
-        lost: opened.lost(),
-        found: opened.found(),
+        lost: contents.lost(),
+        found: contents.found(),
+        unread: &[],
+        counts: None,
         source: input.file.len() as u64,
     };
     end_copy(copy, &report, out)
@@ -53,30 +55,30 @@ fn hash_refusal(extent: Extent, hash: Option<SnapshotFault>) -> Option<SnapshotF
 }
 
 /// Writes the copy of what is read, and returns its length.
-fn copy_opened<T: Sink>(
+fn copy_contents<T: Sink>(
     input: Input<'_>,
     job: &CompactJob,
-    opened: &mut Opened<'_>,
+    contents: &mut Contents<'_>,
     target: &mut T,
 ) -> Result<u64, Failure>
-    requires { IsOpened job.now.extent input.file.now job.now.meta opened.old }
-    ensures read { CopiesRead T.Sink target.old target.new job.now input.entry.file.now opened.old opened.new result }
-    ensures found { opened_found opened.new ≡ opened_found opened.old }
+    requires { IsOpened job.now.extent input.file.now job.now.meta contents.old }
+    ensures read { CopiesRead T.Sink target.old target.new job.now input.entry.file.now contents.old contents.new result }
+    ensures found { contents_found contents.new ≡ contents_found contents.old }
 {
-    let blueprint = blueprint_of(job.kind, job.page_size, &opened.meta());
-    match opened {
-        Opened::Sound(checked) => {
+    let blueprint = blueprint_of(job.kind, job.page_size, &contents.meta());
+    match contents {
+        Contents::Sound(checked) => {
             let mut walk = Walk::new(input.alloc, *checked);
             a_walk_is_whole(&walk);
             let copied = copy_members(input.alloc, &mut walk, &blueprint, job.kind, target)?;
             Ok(copied)
         }
-        Opened::Recovered(recovery) => {
+        Contents::Recovered(recovery) => {
             a_recovery_is_whole(recovery);
             let copied = copy_members(input.alloc, recovery, &blueprint, job.kind, target)?;
             Ok(copied)
         }
-        Opened::Searched(both) => copy_joined(input, job, both, &blueprint, target),
+        Contents::Searched(both) => copy_joined(input, job, both, &blueprint, target),
     }
 }
 

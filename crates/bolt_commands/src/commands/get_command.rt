@@ -67,29 +67,29 @@ fn get_recovered<O: Sink>(input: Input<'_>, job: &GetJob, out: &mut O) -> Outcom
     let other = metas_fault(Extent::Losses, input.file, job.meta);
     let path = path_slices(input.alloc, job.path.as_slice())?;
     let at = look_up(&mut recovery, path.as_slice())?;
-    let lost = Shortfall::find(Lost::Parts(recovery.losses()), other);
-    let value = value_or_why(at, lost)?;
+    let shortfall = Shortfall::find(Lost::Parts(recovery.losses()), other);
+    let value = value_or_why(at, shortfall)?;
     put_value(input.alloc, value, job.form, job.no_newline, out)?;
-    end_listing(lost)
+    end_listing(shortfall)
 }
 
 /// The value that was looked up or, if this is lacking, why there is none.
-fn value_or_why<'a>(at: AtPath<'a>, lost: Option<Shortfall>) -> Result<&'a [u8], Failure>
-    ensures { result ≡ value_or_why at.entry.value at.entry.has_bucket lost }
+fn value_or_why<'a>(at: AtPath<'a>, shortfall: Option<Shortfall>) -> Result<&'a [u8], Failure>
+    ensures { result ≡ value_or_why at.entry.value at.entry.has_bucket shortfall }
 {
     match at.value {
         Some(value) => Ok(value),
-        None if at.has_bucket => Err(no_key(lost)),
-        None => Err(no_bucket(lost)),
+        None if at.has_bucket => Err(no_key(shortfall)),
+        None => Err(no_bucket(shortfall)),
     }
 }
 
 /// Why no value is recovered at a path.
-fn no_key(lost: Option<Shortfall>) -> Failure
-    ensures { result ≡ no_key lost }
+fn no_key(shortfall: Option<Shortfall>) -> Failure
+    ensures { result ≡ no_key shortfall }
 {
-    match lost {
+    match shortfall {
         None => Failure::NoKey,
-        Some(lost) => Failure::KeyMaybeLost(lost),
+        Some(shortfall) => Failure::KeyMaybeLost(shortfall),
     }
 }

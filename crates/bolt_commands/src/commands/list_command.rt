@@ -4,14 +4,13 @@ ghost use Rattle.bolt_format.specs.Wrote.{Wrote};
 ghost use Rattle.bolt_report.specs.MembersLeft.{ForLeft, ForRising};
 ghost use Rattle.bolt_text.specs.ReportEndings.{report_ending};
 ghost use Rattle.bolt_tree.specs.FileListings.{ForListing};
-ghost use Rattle.bolt_commands.specs.{ListAnswers.IsListPrint, Private.Endings.MayFail, Private.Opened.IsOpened, Private.Opened.IsSearchOf};
+ghost use Rattle.bolt_commands.specs.{ListAnswers.IsListPrint, Private.Endings.MayFail, Private.Contents.IsOpened, Private.Contents.IsSearchOf};
 ghost use Rattle.bolt_commands.specs.{Private.Printing.PrintsAnswer, Private.Printing.PutsJoined, Private.Printing.PutsListing};
 ghost use Rattle.bolt_commands.specs.{Private.Printing.PutsPart, Private.Printing.finds, Private.Printing.job_part, Private.Printing.sound_part};
 
 use crate::failure::{Failure, Outcome, end_listing};
 use crate::file_faults::metas_fault;
-use crate::opened::Opened;
-use crate::opening::{Input, join, open_bucket};
+use crate::opening::{Contents, Input, join, open_bucket};
 use crate::shortfall::Shortfall;
 use bolt_check::Checked;
 use bolt_format::Sink;
@@ -31,10 +30,10 @@ pub(crate) fn do_list<O: Sink>(input: Input<'_>, job: &ListJob, out: &mut O) -> 
         (IsListPrint job.now input.entry.file.now) result }
 {
     each_file_has_found_pages();
-    let mut opened = input.open(job.meta, job.extent)?;
+    let mut contents = input.open(job.meta, job.extent)?;
     let other = metas_fault(job.extent, input.file, job.meta);
-    if put_listed_part(input, job, &mut opened, out)? {
-        end_listing(Shortfall::find(opened.lost(), other))
+    if put_listed_part(input, job, &mut contents, out)? {
+        end_listing(Shortfall::find(contents.lost(), other))
     } else {
         Err(Failure::NoBucket)
     }
@@ -44,16 +43,16 @@ pub(crate) fn do_list<O: Sink>(input: Input<'_>, job: &ListJob, out: &mut O) -> 
 fn put_listed_part<O: Sink>(
     input: Input<'_>,
     job: &ListJob,
-    opened: &mut Opened<'_>,
+    contents: &mut Contents<'_>,
     out: &mut O,
 ) -> Result<bool, Failure>
-    requires { IsOpened job.now.extent input.file.now job.now.meta opened.old }
-    ensures { PutsPart O.Sink out.old out.new job.now input.entry.file.now opened.new result }
+    requires { IsOpened job.now.extent input.file.now job.now.meta contents.old }
+    ensures { PutsPart O.Sink out.old out.new job.now input.entry.file.now contents.new result }
 {
-    match opened {
-        Opened::Sound(checked) => put_sound_part(input.alloc, *checked, job, out),
-        Opened::Recovered(recovery) => Ok(put_members_part(input.alloc, recovery, job, out)?),
-        Opened::Searched(both) => put_joined_part(input, both, job, out),
+    match contents {
+        Contents::Sound(checked) => put_sound_part(input.alloc, *checked, job, out),
+        Contents::Recovered(recovery) => Ok(put_members_part(input.alloc, recovery, job, out)?),
+        Contents::Searched(both) => put_joined_part(input, both, job, out),
     }
 }
 

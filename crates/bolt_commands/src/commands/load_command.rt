@@ -34,6 +34,8 @@ pub(crate) fn do_load<O: Sink, T: Sink>(
         faults: FileFaults::none(),
         lost: Lost::Parts(&[]),
         found: &[],
+        unread: &[],
+        counts: None,
         source: input.file.len() as u64,
     };
     end_copy(copy, &report, out)

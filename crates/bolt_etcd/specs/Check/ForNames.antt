@@ -1,7 +1,9 @@
 -- What is promised of an order by name, or of the keys that there are, is promised for each list of them; there is exactly one (`laws`).
 use Rattle.std.specs.Prelude.{ℕ, List, Option, map, Bool, false, None, Some}
-use Rattle.bolt_tree.specs.{Order.Rises, declared.bucket.Bucket.Bucket, EntriesLeft.ForBucket}
-use Rattle.bolt_etcd.specs.{Store.Current.AreCurrent, Store.Current.stored_key_cmp, Check.NameFaults.AreByName, Store.Newest.until}
+use Rattle.bolt_lemmas.specs.Order.{Rises}
+use Rattle.bolt_tree.specs.{declared.bucket.Bucket.Bucket, EntriesLeft.ForBucket}
+use Rattle.bolt_etcd.specs.{Store.Current.AreCurrent, Check.NameFaults.AreByName, Store.Newest.until}
+use Rattle.bolt_etcd.specs.Store.Orders.{stored_key_cmp}
 use Rattle.bolt_etcd.specs.{Wire.Revisions.RevisionView, Wire.ShownRevisions.shown_revision}
 use Rattle.bolt_etcd.specs.{Check.StoreFaults.name_lines, Store.Stores.revisions, declared.wire.revision.Revision.Revision}
 use Rattle.bolt_etcd.specs.Check.NameFaults.{has_lease}

@@ -4,7 +4,8 @@ use Rattle.std.specs.Prelude.{ℕ, ◌==◌, ◌&&◌, ◌||◌, Bool, true, fal
 use Rattle.std.specs.{Int.to_be_bytes, Int.w64, List.list_any, List.Sorted.IsPermutation, List.Sorted.IsSortedBy, Ordering.is_lt}
 use Rattle.std.specs.{Ordering.ordering_then, Str.bytes_eq, declared.cmp.Ordering.Ordering}
 use Rattle.bolt_format.specs.Elements.{LeafElement}
-use Rattle.bolt_etcd.specs.{Store.Current.name_cmp, Store.Current.stored_key_cmp, Check.Follows.follows, Check.MissingNumbers.is_of_later}
+use Rattle.bolt_etcd.specs.{Check.Follows.follows, Check.MissingNumbers.is_of_later}
+use Rattle.bolt_etcd.specs.Store.Orders.{name_cmp, stored_key_cmp}
 use Rattle.bolt_etcd.specs.{Store.Newest.is_named, Wire.Revisions.RevisionView, Wire.Revisions.name_of}
 
 -- revisions are ordered by name, and those of one name by their stored keys

@@ -1,7 +1,6 @@
 -- etcd's snapshots: docs/COMMANDS.md, "Snapshots".
-use Rattle.std.specs.Prelude.{◌≡◌, ◌==◌, ◌-◌, ◌%◌, ℕ, List, ◌++◌, Bool, codes, drop, length, take, Option, None, Some, not, if◌then◌else◌}
+use Rattle.std.specs.Prelude.{◌≡◌, ◌==◌, ◌-◌, ◌%◌, ℕ, List, ◌++◌, Bool, drop, length, take, Option, None, Some, not, if◌then◌else◌}
 use Rattle.std.specs.Str.{bytes_eq}
-use Rattle.bolt_text.specs.Lines.{line}
 use Rattle.sha2.specs.Sha256.{sha256}
 use Rattle.bolt_etcd.specs.declared.check.snapshot.SnapshotFault.{SnapshotFault}
 use Rattle.bolt_etcd.specs.declared.check.snapshot.SnapshotFault.TheVariants.{HashMissing, HashCutOff, HashDiffers}
@@ -39,9 +38,3 @@ hash_fault file = fault_by (length file % 512) (bytes_eq (sha256 (body_of file))
 -- what is wrong if only this many bytes of a hash are there
 abbrev pub cut_hash_fault : ℕ → SnapshotFault
 cut_hash_fault n = if n == 0 then HashMissing else HashCutOff
-
--- the line of a fault
-abbrev pub snapshot_fault_text : SnapshotFault → List ℕ
-snapshot_fault_text HashMissing = line (codes "snapshot hash missing")
-snapshot_fault_text HashCutOff = line (codes "snapshot hash cut off")
-snapshot_fault_text HashDiffers = line (codes "snapshot hash differs")

@@ -9,10 +9,7 @@ use Rattle.bolt_etcd.specs.{Check.Misplaced.misplaced, Check.MissingNumbers.miss
 use Rattle.bolt_etcd.specs.{Wire.Numbered.numbered, Wire.Others.others_of, Wire.Revisions.RevisionView, Store.StoreBuckets.StoreView}
 use Rattle.bolt_etcd.specs.{Store.Stores.revisions}
 use Rattle.bolt_etcd.specs.declared.check.missing.Missing.{Missing}
-
--- the buckets that every store has
-abbrev pub bucket_names : List Key
-bucket_names = codes "auth" ∷ codes "authRoles" ∷ codes "authUsers" ∷ codes "key" ∷ codes "lease" ∷ codes "meta" ∷ []
+use Rattle.bolt_etcd.specs.Store.BucketNames.{bucket_names, key_bucket, lease_bucket, meta_bucket}
 
 abbrev pub bucket_line : Key → List ℕ
 bucket_line name = codes "bucket " ++ (name ++ codes ": missing\n")
@@ -45,7 +42,7 @@ name_lines compacted granted by_name = flat_map name_fault_lines (name_faults co
 
 -- up to which transaction it was compacted, if it has the bucket `meta`
 abbrev pub store_compacted : StoreView → Option ℕ
-store_compacted store = option_map compacted_in (store.bucket (codes "meta"))
+store_compacted store = option_map compacted_in (store.bucket meta_bucket)
 
 -- whether a lease is there; without the bucket `lease` none is
 abbrev pub granted_in : Option (List LeafElement) → ℕ → Bool
@@ -53,7 +50,7 @@ granted_in None lease = false
 granted_in (Some entries) lease = has_lease entries lease
 
 abbrev pub store_granted : StoreView → ℕ → Bool
-store_granted store = granted_in (store.bucket (codes "lease"))
+store_granted store = granted_in (store.bucket lease_bucket)
 
 -- without the bucket `key` nothing else is looked at
 abbrev pub key_lines : StoreView → Option (List LeafElement) → List (List ℕ)
@@ -62,4 +59,4 @@ key_lines store (Some entries) = entry_lines (store_compacted store) entries ++ 
 
 -- the lines of a store, in their order
 abbrev pub store_lines : StoreView → List (List ℕ)
-store_lines store = missing_bucket_lines store bucket_names ++ key_lines store (store.bucket (codes "key"))
+store_lines store = missing_bucket_lines store bucket_names ++ key_lines store (store.bucket key_bucket)

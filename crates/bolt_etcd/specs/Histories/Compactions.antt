@@ -4,7 +4,8 @@
 use Rattle.std.specs.Prelude.{◌≡◌, ◌<◌, ℕ, Bool, IsTrue, List, Some, filter, false, Option, None, bytes_eq, nat_lt, not, ◌==◌, ◌&&◌, ◌||◌}
 use Rattle.std.specs.{List.Contains, declared.cmp.Ordering.TheVariants.Less}
 use Rattle.bolt_check.specs.Keys.{Key}
-use Rattle.bolt_etcd.specs.{Store.Current.stored_key_cmp, Histories.Transactions.Transaction, Histories.Transactions.history}
+use Rattle.bolt_etcd.specs.{Histories.Transactions.Transaction, Histories.Transactions.history}
+use Rattle.bolt_etcd.specs.Store.Orders.{stored_key_cmp}
 use Rattle.bolt_etcd.specs.{Histories.Transactions.state_at, Wire.Revisions.RevisionView, Wire.Revisions.name_of}
 use Rattle.bolt_etcd.specs.{Store.Newest.newest, Store.Newest.until}
 

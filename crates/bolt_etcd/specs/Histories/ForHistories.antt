@@ -1,7 +1,7 @@
 -- What laws of histories hold of.
 use Rattle.std.specs.Prelude.{ℕ, Bool, List}
 use Rattle.std.specs.List.{Contains}
-use Rattle.bolt_tree.specs.Order.{Rises}
+use Rattle.bolt_lemmas.specs.Order.{Rises}
 use Rattle.bolt_etcd.specs.{Histories.Compactions.IsCompaction, Histories.Compactions.kept_revisions, Histories.Transactions.Transaction}
 use Rattle.bolt_etcd.specs.{Check.MissingNumbers.missing_numbers, Histories.Possible.ArePossible}
 use Rattle.bolt_etcd.specs.{Wire.Revisions.RevisionView, Histories.Taken.IsTaken, Histories.Told.number_cmp, declared.check.missing.Missing.Missing}

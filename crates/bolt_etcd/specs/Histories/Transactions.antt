@@ -1,12 +1,13 @@
 -- What etcd writes: transactions, one after another from an empty store on, and the revisions that they make. The first transaction has number 2,
 -- and each later one the next number. Each of its writes makes a revision: they have the numbers 0, 1, 2 and so on.
 use Rattle.std.specs.Prelude.{ℕ, ◌+◌, ◌-◌, Bool, true, false, List, [], ◌∷◌, ◌++◌, take, Option, Some, None, if◌then◌else◌, ◌≡◌, ◌↔◌}
+use Rattle.bolt_lemmas.specs.Order.{Rises}
 use Rattle.bolt_check.specs.Keys.{Key}
 use Rattle.bolt_etcd.specs.{Store.Newest.is_named, Wire.Records.RecordView, Wire.Records.empty, Wire.RevisionKeys.spelling}
 use Rattle.bolt_etcd.specs.{Wire.Revisions.RevisionView, declared.wire.revision_key.RevisionKey.RevisionKey}
 use Rattle.std.specs.List.{Contains}
-use Rattle.bolt_tree.specs.Order.{Rises}
-use Rattle.bolt_etcd.specs.{Store.Current.name_cmp, Wire.Revisions.name_of}
+use Rattle.bolt_etcd.specs.{Wire.Revisions.name_of}
+use Rattle.bolt_etcd.specs.Store.Orders.{name_cmp}
 
 pub data Write : Type 0 where
   Put : (name value : List ℕ) → (lease : ℕ) → Write

@@ -1,15 +1,9 @@
 -- Which keys there are, and what each is: the newest revision of each name, if that isn't a deletion.
 use Rattle.std.specs.Prelude.{◌≡◌, ◌≢◌, ◌↔◌, Bool, false, List, Some, not}
-use Rattle.std.specs.{List.Contains, declared.cmp.Ordering.Ordering, declared.cmp.Ordering.TheVariants.Less}
-use Rattle.bolt_check.specs.Keys.{key_cmp}
-use Rattle.bolt_tree.specs.Order.{Rises}
-use Rattle.bolt_etcd.specs.{Store.NameOrder.sums_cmp, Store.Newest.newest, Wire.Revisions.RevisionView, Wire.Revisions.name_of}
-
-abbrev pub name_cmp : RevisionView → RevisionView → Ordering
-name_cmp a b = key_cmp (name_of a) (name_of b)
-
-abbrev pub stored_key_cmp : RevisionView → RevisionView → Ordering
-stored_key_cmp a b = key_cmp a.stored_key b.stored_key
+use Rattle.std.specs.{List.Contains, declared.cmp.Ordering.TheVariants.Less}
+use Rattle.bolt_lemmas.specs.Order.{Rises}
+use Rattle.bolt_etcd.specs.{Store.Newest.newest, Wire.Revisions.RevisionView, Wire.Revisions.name_of}
+use Rattle.bolt_etcd.specs.Store.Orders.{name_cmp, name_sum_cmp, stored_key_cmp}
 
 -- r is the newest revision of its name, and its key is there
 abbrev pub IsCurrent : List RevisionView → RevisionView → Type 0
@@ -29,10 +23,6 @@ pub record IsNewest (rs : List RevisionView) (r : RevisionView) : Type 0 where
   pub has : Contains rs r
   pub there : r.key.deleted ≡ false
   pub last : (other : RevisionView) → Contains rs other → name_of other ≡ name_of r → stored_key_cmp r other ≢ Less
-
--- revisions are ordered by the sums of their names, and those of one sum by name
-abbrev pub name_sum_cmp : RevisionView → RevisionView → Ordering
-name_sum_cmp a b = sums_cmp (name_of a) (name_of b)
 
 -- exactly these, by the sums of their names
 pub record AreNewest (rs found : List RevisionView) : Type 0 where

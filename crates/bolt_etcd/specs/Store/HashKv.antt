@@ -1,11 +1,12 @@
 -- etcd's HashKV: the sum of what the bucket `key` has at a transaction.
-use Rattle.std.specs.Prelude.{ℕ, ◌==◌, ◌&&◌, ◌||◌, Bool, false, List, [], ◌∷◌, ◌++◌, codes, filter, flat_map, nat_lt, not, Option, Some, None}
+use Rattle.std.specs.Prelude.{ℕ, ◌==◌, ◌&&◌, ◌||◌, Bool, false, List, [], ◌∷◌, ◌++◌, filter, flat_map, nat_lt, not, Option, Some, None}
 use Rattle.std.specs.List.{list_any}
 use Rattle.bolt_format.specs.Elements.{LeafElement}
 use Rattle.bolt_tree.specs.Entries.{entry_view}
 use Rattle.bolt_etcd.specs.{Store.Crc32c.crc_of, Histories.Compactions.is_same_revision, Histories.Transactions.live_of, Store.Newest.is_until}
 use Rattle.bolt_etcd.specs.{Store.Newest.newest, Store.Newest.until, Wire.Numbered.numbered, Wire.Numbered.numbered_of, Wire.Revisions.RevisionView}
 use Rattle.bolt_etcd.specs.{Wire.Revisions.name_of, declared.wire.revision_key.RevisionKey.RevisionKey}
+use Rattle.bolt_etcd.specs.Store.BucketNames.{key_bucket}
 
 -- what a name holds, by its newest revision if it has one: that, unless it is a deletion
 abbrev pub live_in : Option RevisionView → Option RevisionView
@@ -34,7 +35,7 @@ summed up_to compacted entries = filter (λ e. passes (is_summed up_to compacted
 
 -- the sum of `key`, and then of the key and the value of each of these entries
 unfoldable pub hash_kv : (up_to compacted : ℕ) → List LeafElement → ℕ
-hash_kv up_to compacted entries = crc_of (codes "key" ++ flat_map (λ e. e.key ++ e.value) (summed up_to compacted entries))
+hash_kv up_to compacted entries = crc_of (key_bucket ++ flat_map (λ e. e.key ++ e.value) (summed up_to compacted entries))
 
 -- the hash is unknown if there are entries that aren't revisions
 abbrev pub hash_unless : (others : List LeafElement) → ℕ → Option ℕ

@@ -7,6 +7,7 @@ use Rattle.bolt_etcd.specs.{Store.Compacted.value_under, Store.HashKv.hash_kv, S
 use Rattle.bolt_etcd.specs.{Wire.Numbered.numbered, Wire.Revisions.RevisionView, Store.StoreBuckets.StoreView}
 use Rattle.bolt_etcd.specs.{Check.StoreFaults.store_compacted, Store.Stores.others, Store.Stores.revisions}
 use Rattle.bolt_etcd.specs.{declared.store.status.StoreStatus.StoreStatus}
+use Rattle.bolt_etcd.specs.Store.BucketNames.{meta_bucket}
 
 -- the greatest number of a transaction, or 0
 abbrev pub newest_main : List RevisionView → ℕ
@@ -47,8 +48,8 @@ store_status up_to store entries =
       compacted = compacted;
       keys = length (filter (is_current_at up_to (revisions entries)) (revisions entries));
       revisions = counted 0 (length (revisions entries));
-      consistent_index = meta_number (codes "consistent_index") (store.bucket (codes "meta"));
-      term = meta_number (codes "term") (store.bucket (codes "meta"));
+      consistent_index = meta_number (codes "consistent_index") (store.bucket meta_bucket);
+      term = meta_number (codes "term") (store.bucket meta_bucket);
       hash = hash_unless (others entries) (hash_kv up_to compacted entries);
       others = counted 0 (length (others entries));
     }

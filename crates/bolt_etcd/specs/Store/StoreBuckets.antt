@@ -1,10 +1,11 @@
 -- The buckets of a store: what the root bucket has under their names. Over any relation that says which elements a bucket has.
-use Rattle.std.specs.Prelude.{◌≡◌, false, IsTrue, List, [], Option, Some, None, codes}
+use Rattle.std.specs.Prelude.{◌≡◌, false, IsTrue, List, [], Option, Some, None}
 use Rattle.bolt_format.specs.Elements.{LeafElement}
 use Rattle.bolt_check.specs.Keys.{Key}
 use Rattle.bolt_tree.specs.{BucketViews.entries_of, Buckets.bucket_checked, Buckets.bucket_start, Entries.AreEntries, Entries.Start, Entries.start_of}
 use Rattle.bolt_tree.specs.{declared.bucket.Bucket.Bucket}
 use Rattle.bolt_etcd.specs.{Check.NameFaults.AreByName, Wire.Revisions.RevisionView, Store.Stores.revisions}
+use Rattle.bolt_etcd.specs.Store.BucketNames.{key_bucket}
 
 -- the bucket under a name has these entries in order; or no bucket is under it
 abbrev pub HasEntriesUnder : (Start → LeafElement → Type 0) → Start → Key → Option (List LeafElement) → Type 0
@@ -24,7 +25,7 @@ revisions_in (Some entries) = revisions entries
 
 pub record IsStore (Entry : Start → LeafElement → Type 0) (root : Start) (store : StoreView) : Type 0 where
   pub buckets : (name : Key) → HasEntriesUnder Entry root name (store.bucket name)
-  pub sorted : AreByName (revisions_in (store.bucket (codes "key"))) store.by_name
+  pub sorted : AreByName (revisions_in (store.bucket key_bucket)) store.by_name
 
 -- a property holds of the store with this root bucket
 abbrev pub ForStore : Bucket → (StoreView → Type 0) → Type 0

@@ -5,7 +5,7 @@ use Rattle.bolt_format.specs.Elements.{LeafElement}
 use Rattle.bolt_check.specs.{Counts.counted, Keys.Key}
 use Rattle.bolt_tree.specs.{Entries.entry_view, Places.least_from, declared.bucket.Bucket.Bucket, EntriesLeft.ForBucket}
 use Rattle.bolt_etcd.specs.{Wire.Others.other_of, Wire.Revisions.RevisionView, Wire.Revisions.revision_of, Wire.ShownRevisions.shown_revision}
-use Rattle.bolt_etcd.specs.{declared.store.collected.Collected.Collected}
+use Rattle.bolt_etcd.specs.{declared.store.revision_list.RevisionList.RevisionList}
 
 -- the revisions among entries
 abbrev pub revisions : List LeafElement → List RevisionView
@@ -20,11 +20,11 @@ abbrev pub entries_from : Key → List LeafElement → List LeafElement
 entries_from key entries = drop (least_from key entries) entries
 
 -- what was collected is all revisions among a bucket's entries, in their order, and the number of its other entries
-abbrev pub IsCollected : List LeafElement → Collected → Type 0
+abbrev pub IsCollected : List LeafElement → RevisionList → Type 0
 IsCollected entries found = (map shown_revision found.revisions.items ≡ revisions entries) × (found.others ≡ counted 0 (length (others entries)))
 
 -- a property holds of a bucket's entries, if what was collected is what they have
-abbrev pub ForCollected : Bucket → Collected → (List LeafElement → Type 0) → Type 0
+abbrev pub ForCollected : Bucket → RevisionList → (List LeafElement → Type 0) → Type 0
 ForCollected bucket found P = ForBucket bucket (λ entries. IsCollected entries found → P entries)
 
 -- a property holds of a bucket's entries, if `number` of them aren't revisions

@@ -3,10 +3,10 @@ use Rattle.std.specs.Prelude.{ℕ, false, List, [], Option, Some, None}
 use Rattle.bolt_check.specs.Keys.{Key}
 use Rattle.bolt_tree.specs.Entries.{Bucket, EntryView, Item, Value}
 use Rattle.bolt_etcd.specs.{Wire.Records.empty, Wire.Revisions.RevisionView, Wire.Revisions.revision_in, Wire.ShownRecords.shown_record}
-use Rattle.bolt_etcd.specs.{declared.wire.revision.Decoded.Decoded, declared.wire.revision.Revision.Revision}
+use Rattle.bolt_etcd.specs.{declared.wire.revision.DecodedRevision.DecodedRevision, declared.wire.revision.Revision.Revision}
 
 -- what was decoded, under its stored key, as a revision
-abbrev pub shown_decoded : Key → Decoded → RevisionView
+abbrev pub shown_decoded : Key → DecodedRevision → RevisionView
 shown_decoded stored_key d = record { stored_key = stored_key; key = d.key; content = shown_record d.content }
 
 -- the revision if there is one; of `None` any

@@ -10,7 +10,7 @@ ghost use Rattle.bolt_check.specs.Keys.{Key};
 use crate::check::missing::Missing;
 use crate::check::name_faults::NameFault;
 use crate::wire::other::Other;
-use crate::wire::revision::{Decoded, Revision};
+use crate::wire::revision::{DecodedRevision, Revision};
 use crate::wire::revision_key::RevisionKey;
 use bolt_format::{Sink, SinkFault};
 use bolt_text::{Piece, printable, put_pieces};
@@ -62,7 +62,7 @@ pub(crate) fn put_misplaced<S: Sink>(revision: &Revision<'_>, sink: &mut S) -> R
 }
 
 /// Writes that a record is that of another revision.
-fn put_record<S: Sink>(decoded: &Decoded<'_>, sink: &mut S) -> Result<(), SinkFault>
+fn put_record<S: Sink>(decoded: &DecodedRevision<'_>, sink: &mut S) -> Result<(), SinkFault>
     ensures { (stored_key : Key) → Wrote S.Sink sink.old sink.new
         (misplaced_line (shown_decoded stored_key decoded.now)) (ending result) }
 {
@@ -150,7 +150,7 @@ pub(crate) fn put_name_fault<S: Sink>(fault: &NameFault<'_>, sink: &mut S) -> Re
 
 /// Writes that the one before a revision is missing, if it is.
 fn put_one_before<S: Sink>(
-    decoded: &Decoded<'_>,
+    decoded: &DecodedRevision<'_>,
     is_missing: bool,
     sink: &mut S,
 ) -> Result<(), SinkFault>
@@ -176,7 +176,7 @@ fn put_one_before<S: Sink>(
 
 /// Writes that the lease of a revision is missing, if it is.
 fn put_lease<S: Sink>(
-    decoded: &Decoded<'_>,
+    decoded: &DecodedRevision<'_>,
     is_missing: bool,
     sink: &mut S,
 ) -> Result<(), SinkFault>

@@ -37,7 +37,7 @@ impl<'a> NameFaults<'a> {
     ghost use Rattle.bolt_etcd.specs.Private.FaultsLeft.{GivesFault, IsNextFault, faults_leases, faults_left, faults_number, revisions_left};
     ghost use Rattle.bolt_etcd.specs.Private.FaultsLeft.{StepsOver};
 
-    /// Of revisions as `Collected::sort_by_name` sorts them, after a compaction at this transaction, if it is
+    /// Of revisions as `RevisionList::sort_by_name` sorts them, after a compaction at this transaction, if it is
     /// known. These are the leases that there are; without them there is none.
     pub fn of(
         revisions: &'a [Revision<'a>],

@@ -1,12 +1,9 @@
 //! etcd's snapshots: a database file, and then 32 bytes, the SHA-256 of all bytes before them. This file has
-//! the check of that hash and the line of what is wrong with it. The laws of what holds of a
-//! snapshot, of the bytes after the database and of their hash, are in `laws.rt`.
+//! the check of that hash. The laws of what holds of a snapshot, of the bytes after the database and of
+//! their hash, are in `laws.rt`.
 ghost use Rattle.std.specs.Prelude.{◌≡◌, ◌↔◌, ◌<◌, ◌%◌, None, Some, length};
-ghost use Rattle.bolt_format.specs.{Endings.ending, Wrote.Wrote};
-ghost use Rattle.bolt_etcd.specs.{Check.SnapshotFaults.IsSnapshot, Check.SnapshotFaults.hash_fault, Check.SnapshotFaults.snapshot_fault_text};
+ghost use Rattle.bolt_etcd.specs.Check.SnapshotFaults.{IsSnapshot, hash_fault};
 
-use bolt_format::{Sink, SinkFault};
-use bolt_text::put;
 use sha2::{Digest, Sha256};
 
 /// The number of bytes in a hash.
@@ -44,25 +41,4 @@ pub fn snapshot_fault(file: &[u8]) -> Option<SnapshotFault>
         return Some(SnapshotFault::HashDiffers);
     }
     None
-}
-
-/// Writes the line of a snapshot's fault.
-///
-/// # Errors
-///
-/// `SinkFault` if the sink failed. It has then accepted a prefix of the text.
-pub fn put_snapshot_fault<S: Sink>(fault: SnapshotFault, sink: &mut S) -> Result<(), SinkFault>
-    ensures { Wrote S.Sink sink.old sink.new (snapshot_fault_text fault) (ending result) }
-{
-    put(snapshot_fault_line(fault), sink)
-}
-
-fn snapshot_fault_line(fault: SnapshotFault) -> &'static [u8]
-    ensures { result.now ≡ snapshot_fault_text fault }
-{
-    match fault {
-        SnapshotFault::HashMissing => b"snapshot hash missing\n",
-        SnapshotFault::HashCutOff => b"snapshot hash cut off\n",
-        SnapshotFault::HashDiffers => b"snapshot hash differs\n",
-    }
 }

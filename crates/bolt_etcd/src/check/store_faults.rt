@@ -1,9 +1,9 @@
 //! What is wrong with a store, of its root bucket.
-ghost use Rattle.std.specs.Prelude.{◌≡◌, ◌⊎◌, ◌↔◌, [], IfErr, IfOk, None, length, map, true};
+ghost use Rattle.std.specs.Prelude.{◌≡◌, ◌↔◌, [], IfErr, IfOk, None, length, map, true};
 ghost use Rattle.std.specs.List.{concat};
 ghost use Rattle.bolt_check.specs.Counts.{counted};
 ghost use Rattle.bolt_format.specs.{Endings.ending, Wrote.Wrote};
-ghost use Rattle.bolt_text.specs.ReportEndings.{report_ending};
+ghost use Rattle.bolt_text.specs.ReportEndings.{FailsByWriting, report_ending};
 ghost use Rattle.bolt_etcd.specs.{Check.CheckLines.missing_line};
 ghost use Rattle.bolt_etcd.specs.{Wire.Numbered.numbered, Store.Stores.others};
 ghost use Rattle.bolt_etcd.specs.Store.StoreBuckets.{ForStore};
@@ -17,25 +17,16 @@ ghost use Rattle.bolt_tree.specs.EntriesLeft.{ForBucket};
 use crate::check::check_texts::{put_all_misplaced, put_all_missing, put_name_faults, put_others};
 use crate::check::missing::MissingNumbers;
 use crate::check::name_faults::NameFaults;
-use crate::store::collected::Collected;
+use crate::store::buckets::{BUCKET_NAMES, KEY_BUCKET, LEASE_BUCKET};
 use crate::store::compaction::store_compacted;
 use crate::store::name_order::{sort_by_sum, sort_roughly};
+use crate::store::revision_list::RevisionList;
 use crate::store::revisions::Revisions;
 use crate::wire::revision::Revision;
 use bolt_format::{Sink, SinkFault};
 use bolt_text::{Piece, ReportFault, put_pieces};
 use bolt_tree::Bucket;
 use std::alloc::Global;
-
-/// The buckets that every store has.
-const BUCKETS: [&[u8]; 6] = [
-    b"auth",
-    b"authRoles",
-    b"authUsers",
-    b"key",
-    b"lease",
-    b"meta",
-];
 
 /// Writes what is wrong with the store that this is the root bucket of, and returns how many lines
 /// these are. In this order:
@@ -51,8 +42,7 @@ const BUCKETS: [&[u8]; 6] = [
 ///
 /// # Errors
 ///
-/// `Sink` if the sink failed; `NoMemory` if memory ran out for the revisions, and the sink had not
-/// failed. The sink has then accepted a prefix of the lines. There is no other error.
+/// As `ReportFault` says. Memory may run out for the revisions.
 pub fn put_store_faults<S: Sink>(
     alloc: Global,
     root: &Bucket<'_>,
@@ -62,17 +52,16 @@ pub fn put_store_faults<S: Sink>(
         Wrote S.Sink sink.old sink.new (concat (store_lines store)) (report_ending result)) }
     ensures number { IfOk result (λ n.
         ForStore root.now (λ store. n ≡ counted 0 (length (store_lines store)))) }
-    ensures fault { IfErr result (λ fault. (fault ≡ ReportFault.Sink)
-        ⊎ (fault ≡ ReportFault.NoMemory)) }
+    ensures fault { IfErr result FailsByWriting }
 {
-    let of_buckets = put_missing_buckets(root, &BUCKETS, sink)?;
-    let Some(keys) = root.bucket(b"key") else {
+    let of_buckets = put_missing_buckets(root, &BUCKET_NAMES, sink)?;
+    let Some(keys) = root.bucket(KEY_BUCKET) else {
         return Ok(of_buckets);
     };
     let compacted = store_compacted(root);
-    let found = Collected::of(alloc, &keys, u64::MAX)?;
+    let found = RevisionList::of(alloc, &keys, u64::MAX)?;
     let of_entries = put_entry_faults(&keys, &found, compacted, sink)?;
-    let of_names = put_faults_by_name(found, compacted, root.bucket(b"lease"), sink)?;
+    let of_names = put_faults_by_name(found, compacted, root.bucket(LEASE_BUCKET), sink)?;
     Ok(
         of_buckets
             .saturating_add(of_entries)
@@ -139,7 +128,7 @@ fn put_bucket_line<S: Sink>(name: &[u8], sink: &mut S) -> Result<(), SinkFault>
 /// revisions were found, and returns how many lines these are.
 fn put_entry_faults<S: Sink>(
     keys: &Bucket<'_>,
-    found: &Collected<'_>,
+    found: &RevisionList<'_>,
     compacted: Option<u64>,
     sink: &mut S,
 ) -> Result<u64, SinkFault>
@@ -197,7 +186,7 @@ fn put_missing_numbers<S: Sink>(
 /// many these are. If nothing is missing, which is seen in any order in which those of one name stand
 /// together, they aren't sorted by name.
 fn put_faults_by_name<S: Sink>(
-    mut found: Collected<'_>,
+    mut found: RevisionList<'_>,
     compacted: Option<u64>,
     leases: Option<Bucket<'_>>,
     sink: &mut S,

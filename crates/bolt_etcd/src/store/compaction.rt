@@ -5,18 +5,16 @@ ghost use Rattle.bolt_tree.specs.{BucketViews.entries_of, Buckets.bucket_checked
 ghost use Rattle.bolt_etcd.specs.Store.Compacted.{IsCompacted, compacted_by};
 ghost use Rattle.bolt_etcd.specs.{Store.StoreBuckets.ForStore, Check.StoreFaults.store_compacted};
 
+use crate::store::buckets::{COMPACTION_KEY, META_BUCKET};
 use crate::wire::revision_key::{LEN, RevisionKey};
 use bolt_tree::Bucket;
-
-/// The key under which etcd keeps the revision of the last compaction.
-const SCHEDULED: &[u8] = b"scheduledCompactRev";
 
 /// The number of the transaction up to which a store was compacted, by its bucket `meta`. It is 0
 /// if the bucket doesn't say. Needs no memory.
 pub fn compacted(meta: &Bucket<'_>) -> u64
     ensures { IsCompacted (entries_of (bucket_checked meta.now)) (bucket_start meta.now) result }
 {
-    compacted_by(meta.get(SCHEDULED))
+    compacted_by(meta.get(COMPACTION_KEY))
 }
 
 /// The number of the transaction up to which a store was compacted, by the value under
@@ -35,7 +33,7 @@ pub fn compacted_by(value: Option<&[u8]>) -> u64
 pub fn store_compacted(root: &Bucket<'_>) -> Option<u64>
     ensures { ForStore root.now (λ store. result ≡ store_compacted store) }
 {
-    let meta = root.bucket(b"meta")?;
+    let meta = root.bucket(META_BUCKET)?;
     Some(compacted(&meta))
 }
 

@@ -2,13 +2,14 @@
 ghost use Rattle.std.specs.Prelude.{◌≡◌, IfOk, filter, length, map};
 ghost use Rattle.bolt_check.specs.Counts.{counted};
 ghost use Rattle.std.specs.List.Sorted.{IsPermutation, IsSorted};
-ghost use Rattle.bolt_etcd.specs.Store.Current.{AreNewest, HaveOwnKeys, name_cmp, stored_key_cmp};
+ghost use Rattle.bolt_etcd.specs.Store.Current.{AreNewest, HaveOwnKeys};
+ghost use Rattle.bolt_etcd.specs.Store.Orders.{name_cmp, stored_key_cmp};
 ghost use Rattle.bolt_etcd.specs.{Store.HashKv.is_current_at, Wire.ShownRevisions.shown_revision, Store.Stores.others, Store.Stores.revisions};
 ghost use Rattle.bolt_tree.specs.EntriesLeft.{ForBucket};
 ghost use Rattle.bolt_etcd.specs.Check.ForNames.{AreCurrentAt};
 
-use crate::store::collected::Collected;
 use crate::store::name_order::{sort_newest_by_sum, sort_roughly};
+use crate::store::revision_list::RevisionList;
 use crate::wire::revision::Revision;
 use bolt_tree::{Bucket, NoMemory};
 use std::alloc::Global;
@@ -38,10 +39,10 @@ impl<'a> Current<'a> {
             ForBucket bucket.now (λ entries.
             current.others ≡ counted 0 (length (others entries)))) }
     {
-        let Collected {
+        let RevisionList {
             mut revisions,
             others,
-        } = Collected::of(alloc, bucket, up_to)?;
+        } = RevisionList::of(alloc, bucket, up_to)?;
         keep_newest(&mut revisions);
         sort_by_name(&mut revisions);
         Ok(Current { revisions, others })
@@ -81,20 +82,20 @@ pub(crate) fn current_by_key<'a>(
     alloc: Global,
     bucket: &Bucket<'a>,
     up_to: u64,
-) -> Result<Collected<'a>, NoMemory>
+) -> Result<RevisionList<'a>, NoMemory>
     ensures current { IfOk result (λ current. ForBucket bucket.now (λ entries.
         map shown_revision current.revisions.items
         ≡ filter (is_current_at up_to (revisions entries)) (revisions entries))) }
     ensures others { IfOk result (λ current.
         ForBucket bucket.now (λ entries. current.others ≡ counted 0 (length (others entries)))) }
 {
-    let Collected {
+    let RevisionList {
         mut revisions,
         others,
-    } = Collected::of(alloc, bucket, up_to)?;
+    } = RevisionList::of(alloc, bucket, up_to)?;
     keep_newest(&mut revisions);
     sort_by_key(&mut revisions);
-    Ok(Collected { revisions, others })
+    Ok(RevisionList { revisions, others })
 }
 
 /// Sorts revisions by their keys.

@@ -10,18 +10,16 @@ ghost use Rattle.bolt_etcd.specs.{Wire.Numbered.numbered, Wire.ShownRevisions.sh
 ghost use Rattle.bolt_check.specs.Counts.{counted};
 ghost use Rattle.bolt_tree.specs.EntriesLeft.{ForBucket};
 
+use crate::store::buckets::KEY_BUCKET;
 use crate::store::crc32c::Crc32c;
 use crate::store::revisions::Revisions;
-use crate::wire::numbered::Numbered;
+use crate::wire::numbered_entry::NumberedEntry;
 use crate::wire::revision::Revision;
 use bolt_tree::{Bucket, Entry};
 
-/// What is summed first.
-const BUCKET: &[u8] = b"key";
-
 /// Which revisions and marks are summed.
 #[derive(Clone, Copy)]
-pub(crate) struct Hashed<'s, 'a> {
+pub(crate) struct HashBounds<'s, 'a> {
     /// The transaction up to which they are.
     pub up_to: u64,
     /// The transaction of the last compaction.
@@ -32,8 +30,8 @@ pub(crate) struct Hashed<'s, 'a> {
     pub nameless: Option<&'a [u8]>,
 }
 
-impl<'s, 'a> Hashed<'s, 'a> {
-    /// The sum of those in a bucket. Goes over all its entries once, and needs no memory.
+impl<'s, 'a> HashBounds<'s, 'a> {
+    /// The sum of those in a bucket, after the name `key`. Goes over all its entries once, and needs no memory.
     pub(crate) fn sum(self, bucket: &Bucket<'a>) -> u32
         requires current { ForBucket bucket.now (λ entries.
             map shown_revision self.current.now
@@ -45,7 +43,7 @@ impl<'s, 'a> Hashed<'s, 'a> {
     {
         let any = self.has_current();
         let mut sum = Crc32c::new();
-        sum.update(BUCKET);
+        sum.update(KEY_BUCKET);
         let mut listed = self.current;
         let mut pass = Revisions::of(bucket);
         'rest: while let Some(entry) = pass.advance() {
@@ -82,7 +80,7 @@ impl<'s, 'a> Hashed<'s, 'a> {
             → crc_state sum.new ≡ sum_with self.now.up_to self.now.compacted (numbered entries)
             (shown_entry entry.now) (crc_state sum.old) }
     {
-        let Some(numbered) = Numbered::of(entry) else {
+        let Some(numbered) = NumberedEntry::of(entry) else {
             return;
         };
         let is_current = self.is_current(&numbered, is_listed);
@@ -109,7 +107,7 @@ impl<'s, 'a> Hashed<'s, 'a> {
     }
 
     /// Whether it is current, if it is listed among those that are.
-    fn is_current(&self, numbered: &Numbered<'_>, is_listed: bool) -> bool
+    fn is_current(&self, numbered: &NumberedEntry<'_>, is_listed: bool) -> bool
         ensures { result ≡ is_current_by (option_map (λ key. key.now) self.now.nameless) is_listed
             numbered.now.name.now numbered.now.stored_key.now }
     {
@@ -123,7 +121,7 @@ impl<'s, 'a> Hashed<'s, 'a> {
     }
 
     /// Whether it is summed, if it is current, and if any is.
-    fn includes(&self, numbered: &Numbered<'_>, is_current: bool, any_current: bool) -> bool
+    fn includes(&self, numbered: &NumberedEntry<'_>, is_current: bool, any_current: bool) -> bool
         ensures { result ≡ (not (nat_lt self.now.up_to numbered.now.key.main)
             && not (is_left_out self.now.compacted numbered.now.key is_current any_current)) }
     {

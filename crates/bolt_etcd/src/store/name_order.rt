@@ -2,8 +2,8 @@
 //! name, so it is quicker to sort by sums than by names.
 ghost use Rattle.std.specs.Prelude.{◌≡◌, map};
 ghost use Rattle.std.specs.List.Sorted.{IsPermutation};
-ghost use Rattle.bolt_etcd.specs.{Store.Current.name_sum_cmp, Wire.ShownRevisions.shown_revision};
-ghost use Rattle.bolt_etcd.specs.Store.SumOrder.{AreBySum, AreNewestBySum, by_sum_cmp, newest_by_sum_cmp};
+ghost use Rattle.bolt_etcd.specs.{Wire.ShownRevisions.shown_revision};
+ghost use Rattle.bolt_etcd.specs.Store.Orders.{AreBySum, AreNewestBySum, by_sum_cmp, name_sum_cmp, newest_by_sum_cmp};
 
 use crate::wire::revision::Revision;
 use std::cmp::Ordering;

@@ -6,7 +6,7 @@ ghost use Rattle.bolt_tree.specs.{ShownEntries.shown_entry};
 ghost use Rattle.bolt_etcd.specs.{Wire.ShownRevisions.shown_revision, Store.Stores.entries_from, Wire.Numbered.numbered_of};
 ghost use Rattle.bolt_etcd.specs.{Wire.RevisionKeys.IsSpelled, Wire.Others.shown_other};
 
-use crate::wire::numbered::Numbered;
+use crate::wire::numbered_entry::NumberedEntry;
 use crate::wire::other::{Other, others_in};
 use crate::wire::revision::Revision;
 use crate::wire::revision_key::RevisionKey;
@@ -170,6 +170,6 @@ fn number_of(entry: &Entry<'_>) -> Option<RevisionKey>
     ensures key { result ≡ option_map (λ r. r.key) (numbered_of (shown_entry entry.now)) }
     ensures numbers { IfSome result IsSpelled }
 {
-    let numbered = Numbered::of(entry)?;
+    let numbered = NumberedEntry::of(entry)?;
     Some(numbered.key)
 }

@@ -1,17 +1,19 @@
 //! What etcd would report of a store.
-ghost use Rattle.std.specs.Prelude.{◌≡◌, IfOk, codes, if◌then◌else◌, length, option_and_then, option_map};
+ghost use Rattle.std.specs.Prelude.{◌≡◌, IfOk, if◌then◌else◌, length, option_and_then, option_map};
 ghost use Rattle.bolt_check.specs.Counts.{counted};
 ghost use Rattle.bolt_etcd.specs.{Store.Compacted.value_under, Store.CurrentKeys.nameless_key, Store.CurrentKeys.nameless_with};
 ghost use Rattle.bolt_etcd.specs.{Wire.Numbered.numbered, Wire.Numbered.numbered_of, Wire.RevisionKeys.is_mark, Wire.Revisions.revision_of};
 ghost use Rattle.bolt_etcd.specs.{Store.StoreBuckets.ForStore, Store.Stores.revisions};
 ghost use Rattle.bolt_etcd.specs.Store.Statuses.{meta_number, newest_main, newest_with, number_of_eight, or_zero, revisions_with};
+ghost use Rattle.bolt_etcd.specs.Store.BucketNames.{meta_bucket};
 ghost use Rattle.bolt_tree.specs.{EntriesLeft.ForBucket, ShownEntries.shown_entry};
 
+use crate::store::buckets::META_BUCKET;
 use crate::store::compaction::store_compacted;
 use crate::store::current::current_by_key;
-use crate::store::hash_kv::Hashed;
+use crate::store::hash_kv::HashBounds;
 use crate::store::revisions::Revisions;
-use crate::wire::numbered::Numbered;
+use crate::wire::numbered_entry::NumberedEntry;
 use bolt_tree::{Bucket, Entry, NoMemory};
 use byteorder::{BigEndian, ByteOrder};
 use std::alloc::Global;
@@ -62,7 +64,7 @@ impl StoreStatus {
         let compacted = or_zero(store_compacted(root));
         let numbers = Numbers::count(keys, up_to);
         let current = current_by_key(alloc, keys, up_to)?;
-        let hashed = Hashed {
+        let hashed = HashBounds {
             up_to,
             compacted,
             current: &current.revisions,
@@ -92,9 +94,9 @@ fn or_zero(compacted: Option<u64>) -> u64
 /// The number under a key in the bucket `meta`, if there is one.
 fn meta_number(root: &Bucket<'_>, key: &[u8]) -> Option<u64>
     ensures { ForStore root.now (λ store.
-        result ≡ meta_number key.now (store.bucket (codes "meta"))) }
+        result ≡ meta_number key.now (store.bucket meta_bucket)) }
 {
-    let meta = root.bucket(b"meta")?;
+    let meta = root.bucket(META_BUCKET)?;
     number_under(&meta, key)
 }
 
@@ -150,7 +152,7 @@ impl<'a> Numbers<'a> {
             ≡ nameless_with up_to (numbered_of (shown_entry entry.now))
             (option_map (λ key. key.now) self.old.nameless) }
     {
-        let Some(numbered) = Numbered::of(entry) else {
+        let Some(numbered) = NumberedEntry::of(entry) else {
             return;
         };
         let main = numbered.key.main;
@@ -167,7 +169,7 @@ impl<'a> Numbers<'a> {
 }
 
 /// The number of revisions with this one, unless it is a mark. It saturates at 2^64 - 1.
-fn with_revision(revisions: u64, numbered: &Numbered<'_>) -> u64
+fn with_revision(revisions: u64, numbered: &NumberedEntry<'_>) -> u64
     ensures { result ≡ (if is_mark numbered.now.key numbered.now.value.now then revisions
         else counted revisions 1) }
 {

@@ -1,6 +1,6 @@
 //! The tag of a revision, by which most revisions are compared without a look at their names.
 ghost use Rattle.std.specs.Prelude.{◌≡◌, ◌+◌, ◌*◌, ◌/◌, ◌%◌, ◌^◌};
-ghost use Rattle.bolt_etcd.specs.Store.NameOrder.{name_sum};
+ghost use Rattle.bolt_etcd.specs.Store.Orders.{name_sum};
 
 use bolt_format::fnv1a;
 

@@ -5,7 +5,8 @@ ghost use Rattle.std.proofs.Props.{props};
 ghost use Rattle.bolt_format.specs.Bytes.{IsBytes};
 ghost use Rattle.bolt_check.specs.Keys.{key_cmp, Key};
 ghost use Rattle.bolt_tree.specs.ShownEntries.{shown_entry};
-ghost use Rattle.bolt_etcd.specs.{Store.NameOrder.name_sum, Private.Returns.Returns, Wire.RevisionKeys.IsSpelled, Wire.Revisions.name_of};
+ghost use Rattle.bolt_etcd.specs.{Private.Returns.Returns, Wire.RevisionKeys.IsSpelled, Wire.Revisions.name_of};
+ghost use Rattle.bolt_etcd.specs.Store.Orders.{name_sum};
 ghost use Rattle.bolt_etcd.specs.{Wire.Revisions.revision_in, Wire.Revisions.revision_of, Check.Misplaced.is_misplaced, Check.Follows.creates};
 ghost use Rattle.bolt_etcd.specs.{Check.Follows.follows, Check.Follows.is_next_of};
 
@@ -33,7 +34,7 @@ pub struct Revision<'a> {
 
 /// What a revision says: its key, and its record.
 #[derive(Clone, Copy, Debug, PartialEq, Eq)]
-pub struct Decoded<'a> {
+pub struct DecodedRevision<'a> {
     /// The revision's key.
     pub key: RevisionKey,
     /// The revision's record. Of a deletion it has the name and the revision alone.
@@ -69,7 +70,7 @@ impl<'a> Revision<'a> {
         let Item::Value(value) = entry.item else {
             return None;
         };
-        let decoded = Decoded::of(entry.key, value)?;
+        let decoded = DecodedRevision::of(entry.key, value)?;
         Some(Revision::new(entry.key, value, decoded.content.name, decoded.key.main))
     }
 
@@ -152,10 +153,10 @@ impl<'a> Revision<'a> {
     }
 
     /// What it says.
-    pub fn decode(&self) -> Decoded<'a>
+    pub fn decode(&self) -> DecodedRevision<'a>
         ensures { shown_decoded (shown_revision self.now).stored_key result ≡ shown_revision self.now }
     {
-        Decoded::of(self.key, self.value).unwrap()
+        DecodedRevision::of(self.key, self.value).unwrap()
     }
 }
 
@@ -193,11 +194,11 @@ impl<'a> Revision<'a> {
     }
 }
 
-impl<'a> Decoded<'a> {
+impl<'a> DecodedRevision<'a> {
     ghost use Rattle.bolt_etcd.specs.Wire.ShownRevisions.{shown_decoded};
 
     /// Decodes the revision under a key with a value, if it is one.
-    fn of(key: &'a [u8], value: &'a [u8]) -> Option<Decoded<'a>>
+    fn of(key: &'a [u8], value: &'a [u8]) -> Option<DecodedRevision<'a>>
         ensures { Returns (shown_decoded key.now) result (revision_in key.now value.now) }
     {
         let key = RevisionKey::read(key)?;
@@ -208,7 +209,7 @@ impl<'a> Decoded<'a> {
         if key.deleted {
             content.forget_value();
         }
-        Some(Decoded { key, content })
+        Some(DecodedRevision { key, content })
     }
 
     /// Whether its record says that another transaction wrote it. A deletion's doesn't say.
@@ -228,7 +229,7 @@ impl<'a> Decoded<'a> {
     }
 
     /// Whether it has the next version of the same key.
-    fn is_next_of(&self, before: &Decoded<'_>) -> bool
+    fn is_next_of(&self, before: &DecodedRevision<'_>) -> bool
         ensures { (stored_key other : Key)
             → result ≡ is_next_of (shown_decoded other before.now) (shown_decoded stored_key self.now) }
     {

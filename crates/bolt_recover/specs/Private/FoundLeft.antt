@@ -6,24 +6,24 @@ use Rattle.bolt_format.specs.{Elements.LeafElement, ElementsLeft.leaves_left, Tr
 use Rattle.bolt_tree.specs.{Entries.Bucket, Listing.Member, Paths.Path, Paths.path_of, ShownEntries.item_view, Tree.end, Tree.listing_below}
 use Rattle.bolt_tree.specs.{Walks.GivesNext}
 use Rattle.bolt_tree.specs.declared.entry.Item as shown
-use Rattle.bolt_recover.specs.{Joined.found_tree, Joined.inside_of, Joined.lost_and_found, Joined.tree_of_elements, declared.found.Found.Found}
+use Rattle.bolt_recover.specs.{Joined.found_tree, Joined.inside_of, Joined.lost_and_found, Joined.tree_of_elements, declared.found_page.FoundPage.FoundPage}
 use Rattle.bolt_recover.specs.{declared.found_members.FoundMembers.FoundMembers}
 
 -- found pages of the code with their elements
-abbrev pub found_pages_of : List Found → List (ℕ × List LeafElement)
-found_pages_of found = map (λ (f : Found). (f.number, leaves_on f.page)) found
+abbrev pub found_pages_of : List FoundPage → List (ℕ × List LeafElement)
+found_pages_of found = map (λ (f : FoundPage). (f.number, leaves_on f.page)) found
 
 -- the members below the bucket
-abbrev pub below_bucket : List Found → List Member
+abbrev pub below_bucket : List FoundPage → List Member
 below_bucket found = listing_below (lost_and_found ∷ []) (found_tree (found_pages_of found))
 
 -- the bucket and all members below it, if a page is found
-abbrev pub found_listing : List Found → List Member
+abbrev pub found_listing : List FoundPage → List Member
 found_listing [] = []
 found_listing (page ∷ found) = (lost_and_found ∷ [], Bucket 0) ∷ below_bucket (page ∷ found)
 
 -- the members of these elements of an inline bucket, of these ones of its page, and then of these pages
-abbrev pub found_members_left : (name key : Key) → (inner elements : List LeafElement) → List Found → List Member
+abbrev pub found_members_left : (name key : Key) → (inner elements : List LeafElement) → List FoundPage → List Member
 found_members_left name key inner elements found =
     listing_below (lost_and_found ∷ name ∷ key ∷ []) (tree_of_elements (λ e. end) inner)
     ++ (listing_below (lost_and_found ∷ name ∷ []) (tree_of_elements inside_of elements) ++ below_bucket found)

@@ -17,8 +17,8 @@ use Rattle.bolt_recover.specs.Private.Courses.{Event, Outcome, Task, To_visit, W
 use Rattle.bolt_recover.specs.Private.Courses.{members_of, outcome_of, tasks_from}
 use Rattle.bolt_recover.specs.{ShownLosses.loss_view, declared.kept_page.KeptPage.KeptPage, declared.kept_page.OpenPage.OpenPage}
 use Rattle.bolt_recover.specs.{declared.steps.NextVisit.NextVisit, declared.steps.Steps.Steps}
-use Rattle.bolt_recover.specs.{declared.steps.Taken.Taken, declared.steps.Taken.TheVariants.End, declared.steps.Taken.TheVariants.Leaf}
-use Rattle.bolt_recover.specs.{declared.steps.Taken.TheVariants.Nothing}
+use Rattle.bolt_recover.specs.{declared.steps.StepResult.StepResult, declared.steps.StepResult.TheVariants.End, declared.steps.StepResult.TheVariants.Leaf}
+use Rattle.bolt_recover.specs.{declared.steps.StepResult.TheVariants.Nothing}
 
 -- what a spot leads to
 abbrev pub spot_elements : List ℕ → Meta → CodeSpot → List LeafElement
@@ -195,13 +195,13 @@ pub record Ends (old new : Steps) : Type 0 where
   pub none : members_left old ≡ []
   pub ended : steps_left new ≡ []
 
-abbrev pub TakesStep : Steps → Steps → Taken → Type 0
+abbrev pub TakesStep : Steps → Steps → StepResult → Type 0
 TakesStep old new (Leaf leaf) = GivesHead old new (leaf_view leaf)
 TakesStep old new Nothing = StepsOn old new × (steps_weight new < steps_weight old)
 TakesStep old new End = Ends old new
 
 -- a bucket that is returned has a bucket's value
-abbrev pub TakesBucket : Taken → Type 0
+abbrev pub TakesBucket : StepResult → Type 0
 TakesBucket (Leaf leaf) = IsTrue leaf.is_bucket → IsBucketValue leaf.value.now
 TakesBucket Nothing = Unit {0}
 TakesBucket End = Unit {0}

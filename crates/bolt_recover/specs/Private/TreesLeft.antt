@@ -5,7 +5,7 @@ use Rattle.bolt_format.specs.declared.meta.Meta.{Meta}
 use Rattle.bolt_check.specs.{CheckedFiles.bytes_of, CheckedFiles.meta_of, Counts.saturated, Sound.HasSoundTrees}
 use Rattle.bolt_recover.specs.{Found.AreFound, Found.found_numbers, PageGaps.ForGaps, PageGaps.page_gap_view, Losses.LostView, Losses.everything}
 use Rattle.bolt_recover.specs.{Losses.parts, Lost.IsAllLost, Private.Joining.TellsBucketKey, Recovered.ForRecovered}
-use Rattle.bolt_recover.specs.{ShownFound.IsFoundView, ShownLosses.loss_view, declared.found.Found.Found, declared.losses.Damage.Damage}
+use Rattle.bolt_recover.specs.{ShownFound.IsFoundView, ShownLosses.loss_view, declared.found_page.FoundPage.FoundPage, declared.losses.Damage.Damage}
 use Rattle.bolt_recover.specs.{declared.lost_and_found.Trees.Trees}
 use Rattle.bolt_recover.specs.declared.lost_and_found.Trees.TheVariants.{Damaged, Rootless, Sound}
 
@@ -22,13 +22,13 @@ pub record IsDamage (file : List ℕ) (meta : Meta) (damage : Damage) : Type 0 w
   pub unsound : HasSoundTrees file meta → ⊥
 
 -- what is known of trees beside what is lost; if they are sound, nothing is found
-abbrev pub AreTreesOf : List ℕ → Meta → List Found → Trees → Type 0
+abbrev pub AreTreesOf : List ℕ → Meta → List FoundPage → Trees → Type 0
 AreTreesOf file meta found (Sound checked) = (bytes_of checked ≡ file) × (meta_of checked ≡ meta) × (found ≡ [])
 AreTreesOf file meta found (Damaged damage) = IsDamage file meta damage
 AreTreesOf file meta found (Rootless x) = Unit {0}
 
 -- A search of the file under this meta leads to these trees and found pages.
-pub record IsSearched (file : List ℕ) (meta : Meta) (trees : Trees) (found : List Found) : Type 0 where
+pub record IsSearched (file : List ℕ) (meta : Meta) (trees : Trees) (found : List FoundPage) : Type 0 where
   pub left : AreTreesOf file meta found trees
   pub lost : IsAllLost file meta (lost_of trees)
   pub are_found : AreFound file meta (found_numbers found)

@@ -1,16 +1,16 @@
 -- What a stack on a bucket's pages shows: the bucket, and the stack with its top first.
 use Rattle.std.specs.Prelude.{◌≡◌, ◌-◌, ◌∷◌, ◌++◌, [], ℕ, Bool, true, false, IfSome, IsTrue, List, MatchOption, Option, Some}
-use Rattle.std.specs.Prelude.{drop, length, map, reverse, slice_get}
+use Rattle.std.specs.Prelude.{length, map, reverse, slice_get}
 use Rattle.std.specs.Option.{option_map}
 use Rattle.bolt_format.specs.{ElementPlaces.leaf_view, Elements.BranchElement, Elements.IsBucketValue, Elements.LeafElement}
 use Rattle.bolt_format.specs.{declared.element.Leaf.Leaf}
-use Rattle.bolt_check.specs.{Counts.counted, Keys.Key}
+use Rattle.bolt_check.specs.{Counts.counted}
 use Rattle.bolt_tree.specs.{BucketViews.BucketView, BucketViews.bucket_in, Private.BucketPages.IsSoundBucket, Private.BucketPages.contents_in}
 use Rattle.bolt_tree.specs.{Private.BucketPages.tour_pages_in}
 use Rattle.bolt_tree.specs.{Pagers.pager_checked, Pagers.pager_opened, Private.ShownPages.opened_content}
 use Rattle.bolt_tree.specs.Private.{Contents.Content, Contents.Contents, Entered.opened_to, Entered.taken_at}
 use Rattle.bolt_tree.specs.Private.Stacks.{Frame, HasStack, IsAtRest, IsOn, ahead_of, pages_before, preceding_of, later_of}
-use Rattle.bolt_tree.specs.{Places.least_from, Starts.start_at, Private.Tours.TourPage, declared.bucket_pages.BucketPages.BucketPages}
+use Rattle.bolt_tree.specs.{Starts.start_at, Private.Tours.TourPage, declared.bucket_pages.BucketPages.BucketPages}
 use Rattle.bolt_tree.specs.{declared.pager.Pager.Pager, declared.stack.Position.Position}
 
 abbrev pub frame_of : Position → Frame

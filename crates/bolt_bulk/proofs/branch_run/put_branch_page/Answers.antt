@@ -1,7 +1,8 @@
 use Rattle.std.proofs.lemmas.Grind.{common_steps}
 use Rattle.std.proofs.Common.{arith}
 use Rattle.std.proofs.lemmas.List.{length-map}
-use Rattle.bolt_bulk.proofs.{BranchPuts.branch_run_wrote, BranchPuts.branch_size, BranchPuts.key_of, BranchPuts.no_length, ElementPuts.nothing_asked}
+use Rattle.bolt_lemmas.proofs.Exports.{nothing_asked}
+use Rattle.bolt_bulk.proofs.{BranchPuts.branch_run_wrote, BranchPuts.branch_size, BranchPuts.key_of, BranchPuts.no_length}
 use Rattle.bolt_bulk.proofs.{PutsLemmas.puts}
 use Rattle.bolt_bulk.proofs.branch_run.put_branch_page.Goals as goal
 

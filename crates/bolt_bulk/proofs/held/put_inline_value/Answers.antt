@@ -1,5 +1,6 @@
 use Rattle.std.proofs.Common.{arith}
-use Rattle.bolt_bulk.proofs.{ElementPuts.nothing_asked, LeafPuts.entries_size, LeafPuts.inline_wrote, PutsLemmas.puts}
+use Rattle.bolt_lemmas.proofs.Exports.{nothing_asked}
+use Rattle.bolt_bulk.proofs.{LeafPuts.entries_size, LeafPuts.inline_wrote, PutsLemmas.puts}
 use Rattle.bolt_bulk.proofs.held.put_inline_value.Goals as goal
 
 pub put_elements-requires-clause-held : goal.put_elements-requires-clause-held

@@ -1,7 +1,8 @@
 use Rattle.std.proofs.Common.{◌≡◌, ◌++◌, [], append-nil, append_assoc, arith, inl, refl}
 use Rattle.std.proofs.Math.Logic.{∥∥₁_prop}
+use Rattle.bolt_lemmas.proofs.Exports.{none_left}
 use Rattle.bolt_check.proofs.Words.{At_page, bytes_of, meta_of, Node, node_at, PageSpot, props, spot_at, ∥∥₁_elim, ∥∥₁_map}
-use Rattle.bolt_check.proofs.{CheckedLemmas.checked_trees, TourSums.enough_node, Visited.none_left}
+use Rattle.bolt_check.proofs.{CheckedLemmas.checked_trees, TourSums.enough_node}
 use Rattle.bolt_check.proofs.UnreadSteps.{first_reached, first_readable, node_of_page, step_left, step_reached, unread_pop}
 use Rattle.bolt_check.proofs.UnreadWays.{all_found, none_along, root_along, spots_in, unread_along}
 use Rattle.bolt_check.specs.Private.Unread.{own_findings, unread_view, unread_of}

@@ -11,7 +11,7 @@ returns-then-table-number-clause-none c = search (rules, node_in_table, get_or_d
 pub returns-in-Ok-Leaf-clause-leaf : goal.returns-in-Ok-Leaf-clause-leaf
 returns-in-Ok-Leaf-clause-leaf c =
     filled_lone (node_at c.args.file.now c.args.meta.now) (IsClaimed c.args.table.now) c.args.number (c.if-not-is_filled_leaf.ensures.filled refl)
-    c.in-Ok-Leaf.ensures.passes
+    (rw c.root.ensures at c.in-Ok-Leaf.ensures.passes)
 
 pub returns-in-Ok-Leaf-clause-unlisted : goal.returns-in-Ok-Leaf-clause-unlisted
 returns-in-Ok-Leaf-clause-unlisted c = grind (arith, get_or_default)

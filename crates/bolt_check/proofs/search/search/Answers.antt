@@ -1,6 +1,7 @@
 use Rattle.std.proofs.Common.{◌∙◌, ◌∷◌, ap, inl, length, vec_len}
+use Rattle.bolt_lemmas.proofs.Exports.{none_left, passed_on}
 use Rattle.bolt_check.proofs.Words.{forest, IsClaimed, IsMetaPage, IsSearchFault, node_at, spot_at, spots_of}
-use Rattle.bolt_check.proofs.{Visited.begin_carries, Visited.ended, Visited.none_left, Visited.passed_on, Visited.reported_back, Visited.spots_pop}
+use Rattle.bolt_check.proofs.{Visited.begin_carries, Visited.ended, Visited.reported_back, Visited.spots_pop}
 use Rattle.bolt_check.proofs.{Visited.stored, Visiting.carries_on}
 use Rattle.bolt_check.specs.Ways.{reached}
 use Rattle.bolt_check.proofs.search.search.Goals as goal

@@ -1,7 +1,8 @@
 use Rattle.std.proofs.Common.{◌∷◌, arith, sym}
+use Rattle.bolt_lemmas.proofs.Exports.{passed_on}
 use Rattle.bolt_check.proofs.Words.{At_inline, At_page, forest, shown_inner, IsClaimed, IsSearchFault, node_at, page_spot, shown_node, spots_of}
 use Rattle.bolt_check.proofs.Words.{Structure}
-use Rattle.bolt_check.proofs.{Forest.found_step, Visited.inline_carries, Visited.page_carries, Visited.passed_on}
+use Rattle.bolt_check.proofs.{Forest.found_step, Visited.inline_carries, Visited.page_carries}
 use Rattle.bolt_check.proofs.search.step.Goals as goal
 
 pub returns-in_err-node-in-Page-clause-reported : goal.returns-in_err-node-in-Page-clause-reported

@@ -1,6 +1,6 @@
 use Rattle.std.proofs.Common.{sym, arith}
+use Rattle.bolt_lemmas.proofs.Exports.{passed_on}
 use Rattle.bolt_check.proofs.{Words.late, Words.node_at, Words.page_spot, Words.PageTests, Words.shown_node, Lawful.early_passes}
-use Rattle.bolt_check.proofs.{Visited.passed_on}
 use Rattle.bolt_check.proofs.visit.test_page.Goals as goal
 
 pub returns-in_err-test_node-clause-found : goal.returns-in_err-test_node-clause-found

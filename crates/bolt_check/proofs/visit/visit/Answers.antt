@@ -1,6 +1,7 @@
+use Rattle.bolt_lemmas.proofs.Exports.{passed_on}
 use Rattle.bolt_check.proofs.{Spans.outside, Spans.not_both, Spans.still_unlisted, Words.IsClaimed, Words.late, Words.node_at, Words.page_spot}
 use Rattle.bolt_check.proofs.{Words.PageTests, Words.shown_node, Lawful.early_passes}
-use Rattle.bolt_check.proofs.{Visited.passed_on, VisitLemmas.in_room, VisitLemmas.overflow_shown}
+use Rattle.bolt_check.proofs.{VisitLemmas.in_room, VisitLemmas.overflow_shown}
 use Rattle.std.proofs.Common.{◌∙◌, sym, refl, arith}
 use Rattle.bolt_check.specs.Findings.{twice}
 use Rattle.bolt_check.proofs.visit.visit.Goals as goal

@@ -23,8 +23,8 @@ returns g c =
       is = record {
         answer = _;
         is = (
-          searched_lost checking.for_bbolt checking.faults file checking.choice both (map page_gap_view c.gaps-gaps.result.now) _ is whole
-              (some_lost checking.for_bbolt checking.faults file checking.choice (all_lost both) _ _ some),
+          searched_lost checking both (map page_gap_view c.gaps-gaps.result.now) _ is whole
+              (some_lost checking (all_lost both) _ _ some),
           refl,
         );
         does = rw (c.lost-lost.ensures, c.as_slice-found.ensures.value) at c.put_lost_after.ensures;

@@ -2,9 +2,10 @@
 use Rattle.std.proofs.Common.{arith, ◌≡◌, ℕ, List, [], Option, sym, subst, true}
 use Rattle.std.proofs.lemmas.Grind.{common_steps}
 use Rattle.std.specs.Prelude.{IfNone}
+use Rattle.bolt_lemmas.proofs.Exports.{is_absent}
 use Rattle.bolt_load.proofs.DecodedLines.{HasDecoded, all_decoded, all_shaped, front_decoded, front_shaped, head_is, line_decoded, none_decoded}
 use Rattle.bolt_load.proofs.DecodedLines.{stops}
-use Rattle.bolt_load.proofs.{PathLemmas.is_none, Words.is_some}
+use Rattle.bolt_load.proofs.Words.{is_some}
 use Rattle.bolt_load.proofs.decode.decode.Goals as goal
 
 -- what is said of no fault is said of none
@@ -39,7 +40,7 @@ returns-then-is_some-clause-stopped c =
     c.in-Some.after.now c.in-Some.ensures _ is c.in_ok-fault.fault c.in_ok-fault.ensures.fault
 
 pub loop-line-preserved : goal.loop-line-preserved
-loop-line-preserved c = grind (arith, common_steps, is_none, line_decoded)
+loop-line-preserved c = grind (arith, common_steps, is_absent, line_decoded)
 
 pub returns-clause-decoded : goal.returns-clause-decoded
 returns-clause-decoded c = all_decoded c.args.text.now c.loop-line.rest.now c.loop-line.bytes.items [] c.loop-line.invariant c.in_default.ensures

@@ -1,5 +1,5 @@
 use Rattle.std.proofs.Common.{◌≡◌, ◌∙◌, ◌⊎◌, ◌↔◌, ◌<◌, ◌+◌, ◌-◌, ◌++◌, ◌∷◌, inl, ℕ, true, List, [], ap, arith, subst, sym}
-use Rattle.bolt_recover.proofs.Words.{All, All-push, false_from_ne_true, false≢true, Found, FoundBelow, is_listed, is_taken, IsFoundPage, IsFoundView}
+use Rattle.bolt_recover.proofs.Words.{All, All-push, false_from_ne_true, false≢true, FoundPage, FoundBelow, is_listed, is_taken, IsFoundPage, IsFoundView}
 use Rattle.bolt_recover.proofs.Words.{leftovers_file, leftovers_length, leftovers_meta, map-append, found_numbers}
 use Rattle.bolt_recover.proofs.FoundLemmas.{found_next, found_not, found_up, taken_more, view_of}
 use Rattle.bolt_recover.proofs.found_leaves.find_leaves.Goals as goal
@@ -24,11 +24,11 @@ loop-number-preserved c =
     elim c.match-take.branch [
       | in-Some w ↦
           let some = rw (inv.file, inv.meta) at w.in-Some.ensures in
-          let f : Found = w.new.result in
+          let f : FoundPage = w.new.result in
           let items : c.match-take.found.items ≡ l.found.items ++ f ∷ [] =
-          ap (λ v. v.items) w.found-is ∙ w.push_reserved.ensures.items ∙ ap (λ (fs : List Found). fs ++ f ∷ []) c.in_ok-reserve.ensures.items in
+          ap (λ v. v.items) w.found-is ∙ w.push_reserved.ensures.items ∙ ap (λ (fs : List FoundPage). fs ++ f ∷ []) c.in_ok-reserve.ensures.items in
           let numbers : found_numbers c.match-take.found.items ≡ found ++ n ∷ [] =
-          ap found_numbers items ∙ map-append (λ (x : Found). x.number) l.found.items (f ∷ []) ∙ ap (λ (m : ℕ). found ++ m ∷ []) w.new.ensures.number in
+          ap found_numbers items ∙ map-append (λ (x : FoundPage). x.number) l.found.items (f ∷ []) ∙ ap (λ (m : ℕ). found ++ m ∷ []) w.new.ensures.number in
           let view =
           view_of file meta (λ k. old k ≡ true) f (rw (w.new.ensures.number, w.new.ensures.page) some.page)
           (rw (w.new.ensures.number, w.new.ensures.page) some.node) (rw w.new.ensures.number some.leaf) in

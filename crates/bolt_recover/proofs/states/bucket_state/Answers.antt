@@ -6,8 +6,8 @@ use Rattle.bolt_recover.proofs.states.bucket_state.Goals as goal
 pub returns-then-not-may_be_root : goal.returns-then-not-may_be_root
 returns-then-not-may_be_root c = rw c.place_meta-meta.ensures at (c.may_be_root.ensures c.if-not-may_be_root.true)
 
-pub returns-in-Ok : goal.returns-in-Ok
-returns-in-Ok c =
+pub returns-in_ok-state-in-Ok : goal.returns-in_ok-state-in-Ok
+returns-in_ok-state-in-Ok c =
     let file = c.args.file.now in
     let place = place_view c.args.place in
     let root = rw c.place_meta-meta.ensures at c.in-Ok.ensures.root in

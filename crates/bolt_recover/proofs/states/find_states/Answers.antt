@@ -1,11 +1,11 @@
 use Rattle.std.proofs.Common.{◌≡◌, ap, is_lt, rules}
 use Rattle.std.proofs.lemmas.List.Sorted.{IsPermutation-map, answers_always}
+use Rattle.bolt_lemmas.proofs.Exports.{sorted_mapped}
 use Rattle.bolt_recover.proofs.Words.{Contains}
 use Rattle.bolt_recover.proofs.{StatesGrow.moved, StatesGrow.stay}
 use Rattle.bolt_recover.proofs.StatesOrder.{code_place_lt, code_state_lt, place_ranks, state_ranks}
 use Rattle.bolt_recover.specs.ShownStates.{place_view, state_view}
 use Rattle.bolt_recover.specs.States.{IsKept, IsLost, IsState, PlaceView, StateView, place_cmp, state_cmp}
-use Rattle.bolt_tree.proofs.Exports.{sorted_mapped}
 use Rattle.bolt_recover.proofs.states.find_states.Goals as goal
 
 pub returns-clause-states : goal.returns-clause-states

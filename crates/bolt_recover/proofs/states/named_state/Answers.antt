@@ -13,6 +13,6 @@ returns-in-Ok c =
     let counted = rw (c.in-Ok.ensures.file, under) at c.state_of.ensures in
     IfOk-weaker _ _ _ (λ o is. counted_state file place o root is) counted
 
-pub returns-in-Err-Structure : goal.returns-in-Err-Structure
-returns-in-Err-Structure c =
-    merely (c.in-Err-Structure.field-0-0, rw (c.in-Err-Structure.field-0-is, c.place_meta.ensures) at c.in-Err-Structure.ensures.refused)
+pub returns-in-Err-Lost : goal.returns-in-Err-Lost
+returns-in-Err-Lost c =
+    merely (c.in-Err-Lost.field-0-0, rw (c.in-Err-Lost.field-0-is, c.place_meta.ensures) at c.in-Err-Lost.ensures.refused)

@@ -1,9 +1,10 @@
 use Rattle.std.proofs.Common.{◌∙◌, ap, arith, is_lt, sym, false, ◌≡◌}
 use Rattle.std.proofs.lemmas.Bool.{ltb-true}
 use Rattle.std.specs.Str.{bytes_eq}
+use Rattle.bolt_lemmas.proofs.Exports.{same_at}
 use Rattle.bolt_check.specs.Keys.{Key, key_cmp}
 use Rattle.bolt_etcd.specs.declared.wire.revision.Revision.{Revision}
-use Rattle.bolt_repair.proofs.{Alones.same_at, KeyWalks.found, KeyWalks.past_all}
+use Rattle.bolt_repair.proofs.{KeyWalks.found, KeyWalks.past_all}
 use Rattle.bolt_repair.proofs.candidates.has_candidate.Goals as goal
 use Rattle.bolt_repair.proofs.candidates.has_candidate.Goals.{then-loop-i-test+else-is_under_lesser_key, else-loop-i-test}
 

@@ -2,7 +2,7 @@
 use Rattle.std.proofs.Common.{List, ap, false, true, subst, sym, ◌∙◌, ◌≡◌, map}
 use Rattle.std.proofs.{lemmas.Bool.false≢true, lemmas.Result.IfOk-weaker}
 use Rattle.bolt_etcd.specs.Wire.ShownRevisions.{entry_of}
-use Rattle.bolt_recover.specs.declared.found.Found.{Found}
+use Rattle.bolt_recover.specs.declared.found_page.FoundPage.{FoundPage}
 use Rattle.bolt_recover.specs.{LostAndFound.all_lost, Losses.is_nothing}
 use Rattle.bolt_repair.specs.Candidates.{AreCandidates, found_elements}
 use Rattle.bolt_repair.proofs.FoundRepairs.{searched_anyway, searched_lost}
@@ -16,7 +16,7 @@ returns-then-is_nothing c =
     (λ candidates are.
     searched_anyway c.args.both.now c.args.search found (map entry_of candidates.items) c.if-search.true c.in_ok-unreached.ensures.found
     c.in_ok-unreached.ensures.views
-    (subst (λ (pages : List Found). AreCandidates (found_elements pages) (map entry_of candidates.items)) c.as_slice.ensures.value are))
+    (subst (λ (pages : List FoundPage). AreCandidates (found_elements pages) (map entry_of candidates.items)) c.as_slice.ensures.value are))
     c.candidates_of.ensures
 
 pub returns : goal.returns

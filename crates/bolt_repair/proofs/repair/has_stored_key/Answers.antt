@@ -1,7 +1,7 @@
 use Rattle.std.proofs.Common.{is_lt, rules}
 use Rattle.std.proofs.lemmas.Fn.{always_returns_same}
+use Rattle.bolt_lemmas.proofs.Exports.{sorted_by_shown}
 use Rattle.bolt_check.specs.Keys.{key_cmp}
-use Rattle.bolt_tree.proofs.Exports.{sorted_by_shown}
 use Rattle.bolt_repair.proofs.{KeySearches.found_key, NewestUntil.key_of}
 use Rattle.bolt_repair.proofs.repair.has_stored_key.Goals as goal
 

@@ -1,10 +1,11 @@
 -- Those that are met go, and then those of one key that differ.
 use Rattle.std.proofs.Common.{rules, ◌∙◌, Bor, List, ap, map, subst}
+use Rattle.bolt_lemmas.proofs.Exports.{filter_rises}
 use Rattle.bolt_check.specs.Keys.{Key}
 use Rattle.bolt_tree.specs.{Entries.EntryView}
-use Rattle.bolt_etcd.specs.{Store.Among.without, Wire.ShownRevisions.entry_of}
+use Rattle.bolt_etcd.specs.{Wire.ShownRevisions.entry_of}
+use Rattle.bolt_repair.specs.Candidates.{without}
 use Rattle.bolt_repair.specs.{Undisputed.HaveKeys}
-use Rattle.bolt_tree.proofs.Exports.{filter_rises}
 use Rattle.bolt_repair.proofs.repair.keep_agreed.Goals as goal
 
 abbrev now : Bor Key → Key

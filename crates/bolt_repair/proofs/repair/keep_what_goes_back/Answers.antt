@@ -1,10 +1,10 @@
 use Rattle.std.proofs.Common.{◌≡◌, ◌∙◌, List, ap, false, map, rules, subst, sym}
 use Rattle.std.proofs.lemmas.Fn.{filter_same}
 use Rattle.std.specs.List.{All}
+use Rattle.bolt_lemmas.proofs.Exports.{filter_mapped}
 use Rattle.bolt_etcd.specs.{Store.Newest.is_until, Wire.ShownRevisions.entry_of, Wire.ShownRevisions.shown_revision}
 use Rattle.bolt_etcd.specs.{declared.wire.revision.Revision.Revision}
 use Rattle.bolt_etcd.proofs.Exports.{newest_exists}
-use Rattle.bolt_tree.proofs.Exports.{filter_mapped}
 use Rattle.bolt_repair.specs.WhatGoesBack.{AreTheNewest, goes_back, old_revisions}
 use Rattle.bolt_repair.proofs.NewestUntil.{all_go_back}
 use Rattle.bolt_repair.proofs.repair.keep_what_goes_back.Goals as goal

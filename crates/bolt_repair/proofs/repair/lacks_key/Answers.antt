@@ -1,6 +1,6 @@
 use Rattle.std.proofs.Common.{◌∙◌, Bor, ap, map, not}
 use Rattle.bolt_check.specs.Keys.{Key}
-use Rattle.bolt_etcd.specs.Store.Among.{among}
+use Rattle.bolt_repair.specs.Candidates.{among}
 use Rattle.bolt_repair.proofs.KeysAmong.{among_is}
 use Rattle.bolt_repair.proofs.repair.lacks_key.Goals as goal
 

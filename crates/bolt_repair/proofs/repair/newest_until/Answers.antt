@@ -1,7 +1,8 @@
 use Rattle.std.proofs.Common.{◌≡◌, ◌++◌, ap, is_lt, rules}
 use Rattle.std.proofs.{lemmas.Fn.filter_same, lemmas.List.MinMax.ranks_by, lemmas.List.Sorted.answers_always}
+use Rattle.bolt_lemmas.proofs.Exports.{sorted_mapped}
 use Rattle.bolt_check.specs.Keys.{key_cmp}
-use Rattle.bolt_tree.proofs.Exports.{key_total, sorted_mapped}
+use Rattle.bolt_tree.proofs.Exports.{key_total}
 use Rattle.bolt_etcd.specs.{Store.Newest.is_until, Wire.ShownRevisions.shown_revision, declared.wire.revision.Revision.Revision}
 use Rattle.bolt_repair.proofs.NewestUntil.{are_the_newest, key_of}
 use Rattle.bolt_repair.proofs.repair.newest_until.Goals as goal

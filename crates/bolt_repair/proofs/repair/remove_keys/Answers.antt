@@ -1,9 +1,10 @@
 use Rattle.std.proofs.Common.{◌∙◌, Bor, ap, map, not, rules}
 use Rattle.std.proofs.lemmas.Fn.{filter_same}
+use Rattle.bolt_lemmas.proofs.Exports.{filter_mapped}
 use Rattle.bolt_check.specs.Keys.{Key}
 use Rattle.bolt_tree.specs.Entries.{EntryView}
-use Rattle.bolt_etcd.specs.{Wire.ShownRevisions.entry_of, declared.wire.revision.Revision.Revision, Store.Among.among}
-use Rattle.bolt_tree.proofs.Exports.{filter_mapped}
+use Rattle.bolt_etcd.specs.{Wire.ShownRevisions.entry_of, declared.wire.revision.Revision.Revision}
+use Rattle.bolt_repair.specs.Candidates.{among}
 use Rattle.bolt_repair.proofs.repair.remove_keys.Goals as goal
 
 pub returns : goal.returns

@@ -1,8 +1,9 @@
 use Rattle.std.proofs.Common.{rules, ◌≡◌, ◌∙◌, ◌∷◌, ◌||◌, Bool, ap, sym}
 use Rattle.std.proofs.{lemmas.List.length-map, Math.Bool.or-false}
+use Rattle.std.proofs.lemmas.Option.{IfSome_then}
+use Rattle.bolt_lemmas.proofs.Exports.{contains_none, if_none, none_later, some_later}
 use Rattle.bolt_report.proofs.Words.{Member, Value, is_bucket_at, list_any, path_of}
-use Rattle.bolt_report.proofs.LookUps.{bucket_next, first_there, later_there, none_as, none_later, not_first, some_as, some_later}
-use Rattle.bolt_tree.proofs.Exports.{contains_none}
+use Rattle.bolt_report.proofs.LookUps.{bucket_next, first_there, later_there, not_first}
 use Rattle.bolt_tree.specs.ShownEntries.{item_view}
 use Rattle.bolt_report.proofs.at_path.look_up.Goals as goal
 
@@ -44,7 +45,7 @@ returns-clause-held g c = λ whole lists.
     let none = (rw c.in_default.is at c.in_ok-item.ensures.given) whole ((c.members.invariant.same whole).1 lists) in
     let bucket = rw none.0 at (c.members.invariant.bucket whole lists) in
     record {
-      value = some_as c.members.value (λ value held. held whole lists) c.members.invariant.value;
-      none = none_as c.members.value (λ left value has. contains_none _ (rw none.0 at (left whole lists value has))) c.members.invariant.none;
+      value = IfSome_then c.members.value c.members.invariant.value (λ value held. held whole lists);
+      none = if_none c.members.value (λ left value has. contains_none _ (rw none.0 at (left whole lists value has))) c.members.invariant.none;
       bucket = sym (rw c.parents_of-parents.ensures at bucket ∙ or-false c.members.has_bucket);
     }

@@ -1,6 +1,7 @@
 -- The pieces are those of the line.
 use Rattle.std.proofs.Common.{◌≡◌, ◌∙◌, ◌-◌, List, [], ℕ, Option, Some, ap, arith, length, option_map, slice_get, sym, unwrap_or}
-use Rattle.bolt_report.proofs.{FoundLemmas.not_empty, Words.bucket_count, Words.found_line, Words.leaf_view, Words.LeafElement}
+use Rattle.bolt_lemmas.proofs.Exports.{length_some}
+use Rattle.bolt_report.proofs.{Words.bucket_count, Words.found_line, Words.leaf_view, Words.LeafElement}
 use Rattle.bolt_format.specs.TreePages.{leaves_on}
 use Rattle.bolt_report.specs.FoundLines.{key_at}
 use Rattle.bolt_report.proofs.loss_lines.put_found.Goals as goal
@@ -10,7 +11,7 @@ key_of : (elements : List LeafElement) (i : ℕ) (e : LeafElement) → slice_get
 key_of elements i e found = sym (ap (λ (o : Option LeafElement). unwrap_or (option_map (λ (x : LeafElement). x.key) o) []) found)
 
 pub overflow_sub-count : goal.overflow_sub-count
-overflow_sub-count g c = let some = not_empty (leaves_on c.args.found.now.page) c.requires.some in omega (arith, some, c.count-count.ensures)
+overflow_sub-count g c = let some = length_some (leaves_on c.args.found.now.page) c.requires.some in omega (arith, some, c.count-count.ensures)
 
 pub returns : goal.returns
 unfolding found_line

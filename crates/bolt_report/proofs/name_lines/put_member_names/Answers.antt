@@ -1,7 +1,8 @@
 -- The bucket comes before all that lies in it, so nothing is missed before it is found.
 use Rattle.std.proofs.Common.{rules, ◌≡◌, ◌∙◌, ◌∷◌, ◌||◌, [], Bool, Bor, List, ap, length, sym, ℕ, ◌==◌}
+use Rattle.bolt_lemmas.proofs.Exports.{iff_then}
 use Rattle.bolt_report.proofs.Words.{Form, front_more, is_bucket_at, item_view, length-map, list_any, Member, path_of, Wrote-none, Wrote-same}
-use Rattle.bolt_report.proofs.{ListPartTexts.has_next, ListPartTexts.iff_then, NameTexts.before_names, NameTexts.left_names, NameTexts.with_name}
+use Rattle.bolt_report.proofs.{ListPartTexts.has_next, NameTexts.before_names, NameTexts.left_names, NameTexts.with_name}
 use Rattle.bolt_report.specs.MemberNames.{is_wanted, member_name}
 use Rattle.bolt_text.proofs.Exports.{front_fault}
 use Rattle.bolt_format.proofs.Exports.{front_same}

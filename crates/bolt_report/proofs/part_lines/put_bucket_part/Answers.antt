@@ -1,8 +1,9 @@
 -- The bucket at the path comes before all that begins with the path, so nothing is missed before it is found.
 use Rattle.std.proofs.Common.{rules, ◌≡◌, ◌∙◌, ◌∷◌, ◌||◌, Bool, List, ap, sym}
+use Rattle.bolt_lemmas.proofs.Exports.{iff_then}
 use Rattle.bolt_report.proofs.Words.{front_more, is_bucket_at, item_view, length-map, lines_form, list_any, list_line, ListForm, listing_lines}
 use Rattle.bolt_report.proofs.Words.{Member, member_cmp, path_of, rest_from, Rises, Wrote-same}
-use Rattle.bolt_report.proofs.ListPartTexts.{iff_then, before_bucket, has_next, left_part, over_unwanted, with_wanted}
+use Rattle.bolt_report.proofs.ListPartTexts.{before_bucket, has_next, left_part, over_unwanted, with_wanted}
 use Rattle.bolt_text.proofs.Exports.{front_fault}
 use Rattle.bolt_format.proofs.Exports.{front_same}
 use Rattle.bolt_report.proofs.part_lines.put_bucket_part.Goals as goal

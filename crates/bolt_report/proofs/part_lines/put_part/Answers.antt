@@ -1,7 +1,8 @@
 -- Each member that begins with the path has its line written, and the first that doesn't ends the text.
 use Rattle.std.proofs.Common.{rules, ◌∙◌, ap, sym}
+use Rattle.bolt_lemmas.proofs.Exports.{iff_then}
 use Rattle.bolt_report.proofs.Words.{front_more, front_none, item_view, lines_form, list_line, ListForm, Member, path_of, Wrote-same}
-use Rattle.bolt_report.proofs.ListPartTexts.{iff_then, front_text}
+use Rattle.bolt_report.proofs.ListPartTexts.{front_text}
 use Rattle.bolt_text.proofs.Exports.{front_fault}
 use Rattle.bolt_report.proofs.part_lines.put_part.Goals as goal
 

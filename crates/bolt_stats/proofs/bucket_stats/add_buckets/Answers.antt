@@ -1,5 +1,6 @@
 use Rattle.std.proofs.Common.{◌∙◌, arith, inl, refl}
-use Rattle.bolt_stats.proofs.{ReadDepths.moved_depth, ReadSums.moved_from, ReadSums.moved_sum, ReadSums.none_left}
+use Rattle.bolt_lemmas.proofs.Exports.{none_left}
+use Rattle.bolt_stats.proofs.{ReadDepths.moved_depth, ReadSums.moved_from, ReadSums.moved_sum}
 use Rattle.bolt_stats.proofs.bucket_stats.add_buckets.Goals as goal
 
 pub roots-preserved : goal.roots-preserved
@@ -18,7 +19,7 @@ roots-preserved c = record {
 
 pub returns-clause-sums : goal.returns-clause-sums
 returns-clause-sums c =
-    λ w. let whole = rw (none_left c.in_default.ensures.cases.0 c.in_default.ensures.rest c.in_default.ensures.items) at (c.roots.invariant.sums w) in
+    λ w. let whole = rw (none_left _ _ _ c.in_default.ensures.cases.0 c.in_default.ensures.rest c.in_default.ensures.items) at (c.roots.invariant.sums w) in
     omega (arith, whole)
 
 pub returns-clause-from : goal.returns-clause-from
@@ -26,5 +27,5 @@ returns-clause-from c = λ m h. c.roots.invariant.from m (inl h)
 
 pub returns-clause-deepest : goal.returns-clause-deepest
 returns-clause-deepest c =
-    λ f. let whole = rw (none_left c.in_default.ensures.cases.0 c.in_default.ensures.rest c.in_default.ensures.items) at (c.roots.invariant.deepest f) in
+    λ f. let whole = rw (none_left _ _ _ c.in_default.ensures.cases.0 c.in_default.ensures.rest c.in_default.ensures.items) at (c.roots.invariant.deepest f) in
     omega (arith, whole)

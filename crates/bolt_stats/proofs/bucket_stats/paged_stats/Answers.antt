@@ -1,8 +1,9 @@
 use Rattle.std.proofs.Common.{rules, ◌≡◌, ◌∙◌, ◌∷◌, [], ℕ, List, ap, arith}
+use Rattle.bolt_lemmas.proofs.Exports.{none_left}
 use Rattle.bolt_stats.proofs.Words.{bytes_of, figure, meta_of, node_at, one, own_figure, roots_of, Stats, UnreadBucket, weight, ∥∥₁_elim, ∥∥₁_map}
 use Rattle.bolt_stats.proofs.Words.{∥∥₁_prop}
 use Rattle.bolt_stats.proofs.{FigureLemmas.figure_add, ReadDepths.bucket_end, ReadDepths.read_end}
-use Rattle.bolt_stats.proofs.ReadSums.{all_good, deepened, first_figure, first_fits, last_good, none_left, unread_popped, total_popped, zero_depth}
+use Rattle.bolt_stats.proofs.ReadSums.{all_good, deepened, first_figure, first_fits, last_good, unread_popped, total_popped, zero_depth}
 use Rattle.bolt_stats.proofs.bucket_stats.paged_stats.Goals as goal
 
 pub buckets-init : goal.buckets-init

@@ -1,9 +1,10 @@
 use Rattle.std.proofs.Common.{rules, ◌≡◌, ◌∙◌, ◌+◌, ◌<◌, ◌++◌, ◌∷◌, [], ℕ, List, inl, inr, ap, arith, map, sym}
+use Rattle.bolt_lemmas.proofs.Exports.{none_left}
 use Rattle.bolt_stats.proofs.Words.{bytes_of, saturated, deepest_of, figure, greatest, inner_pages, inner_roots, meta_of, Node, unread_numbers, one}
 use Rattle.bolt_stats.proofs.Words.{own_figure, props, total_of, unread_page, ∥∥₁_elim, ∥∥₁_map, ∥∥₁_prop}
 use Rattle.bolt_stats.proofs.{FigureLemmas.figure_add, ReadDepths.first_height, ReadDepths.numbers_opened, ReadDepths.read_deepest}
 use Rattle.bolt_stats.proofs.{ReadDepths.read_height}
-use Rattle.bolt_stats.proofs.ReadSums.{more_found, next_good, none_left, popped, read_good, read_sum, started, zero_figure}
+use Rattle.bolt_stats.proofs.ReadSums.{more_found, next_good, popped, read_good, read_sum, started, zero_figure}
 use Rattle.bolt_stats.proofs.bucket_stats.read_bucket.Goals as goal
 
 pub pages-init : goal.pages-init
@@ -96,17 +97,17 @@ pages-smaller c =
     omega (arith, sum, more, same)))
 
 pub returns-clause-good : goal.returns-clause-good
-returns-clause-good c = rw (none_left c.in_default.ensures.cases.0 c.in_default.ensures.rest c.in_default.ensures.items) at c.pages.invariant.good
+returns-clause-good c = rw (none_left _ _ _ c.in_default.ensures.cases.0 c.in_default.ensures.rest c.in_default.ensures.items) at c.pages.invariant.good
 
 pub returns-clause-stats : goal.returns-clause-stats
 returns-clause-stats c = search (rules, none_left)
 
 pub returns-clause-height : goal.returns-clause-height
 returns-clause-height c =
-    let whole = rw (none_left c.in_default.ensures.cases.0 c.in_default.ensures.rest c.in_default.ensures.items) at c.pages.invariant.height in
+    let whole = rw (none_left _ _ _ c.in_default.ensures.cases.0 c.in_default.ensures.rest c.in_default.ensures.items) at c.pages.invariant.height in
     omega (arith, whole)
 
 pub returns-clause-deepest : goal.returns-clause-deepest
 returns-clause-deepest c =
-    let whole = rw (none_left c.in_default.ensures.cases.0 c.in_default.ensures.rest c.in_default.ensures.items) at c.pages.invariant.deepest in
+    let whole = rw (none_left _ _ _ c.in_default.ensures.cases.0 c.in_default.ensures.rest c.in_default.ensures.items) at c.pages.invariant.deepest in
     omega (arith, whole)

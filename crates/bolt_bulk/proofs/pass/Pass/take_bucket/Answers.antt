@@ -15,4 +15,4 @@ returns-clause-steps g c = λ wanted inside after parents put is.
     steps_then c.in_ok-open_pending.ensures.on.setup
     (c.in_ok-open_pending.ensures.steps wanted (with_bucket c.args.key.now c.args.sequence inside after) parents put is
     (bucket_has_root wanted.which c.args.self.now.setup.page_size (map leaf_view c.args.self.now.entries.items) c.args.key.now c.args.sequence inside after))
-    (λ all mid. steps_none (Ok tt) mid tt (c.begin.ensures.begins wanted inside after parents all mid))
+    (λ all mid. steps_none (Ok tt) mid tt (c.begin.ensures.begins wanted _ inside after parents all mid))

@@ -46,7 +46,7 @@ returns-in-Value-clause-steps g c = λ wanted members put has.
     steps_then c.in_ok-leave_to.ensures.on.setup (c.in_ok-leave_to.ensures.steps wanted ((path, item_view c.args.item) ∷ members) put has (omega arith))
     (λ all mid. let deep = c.in_ok-leave_to.ensures.on.depth_is in
     let next =
-    has_next wanted c.leave_to.new.self path (key_of c.args.path.now).now (entries.Value c.in-Value.value.now) members all
+    has_next wanted c.leave_to.new.self c.leave_to.new.writer.next path (key_of c.args.path.now).now (entries.Value c.in-Value.value.now) members all
     (left_same (ap (λ (i : entries.Item). (path, i) ∷ members) item) mid) (omega arith) last in
     steps_map (λ then at. record { parents = next.parents; left = next.after; at = at; members_are = next.members_are })
     (c.take_value.ensures.steps wanted next.after next.parents all next.at))
@@ -60,7 +60,7 @@ returns-in-Bucket-clause-steps g c = λ wanted members put has.
     steps_then c.in_ok-leave_to.ensures.on.setup (c.in_ok-leave_to.ensures.steps wanted ((path, item_view c.args.item) ∷ members) put has (omega arith))
     (λ all mid. let deep = c.in_ok-leave_to.ensures.on.depth_is in
     let next =
-    has_next wanted c.leave_to.new.self path (key_of c.args.path.now).now (entries.Bucket c.in-Bucket.sequence) members all
+    has_next wanted c.leave_to.new.self c.leave_to.new.writer.next path (key_of c.args.path.now).now (entries.Bucket c.in-Bucket.sequence) members all
     (left_same (ap (λ (i : entries.Item). (path, i) ∷ members) item) mid) (omega arith) last in
     steps_map (λ then at. record { parents = _; left = next.inside; at = at; members_are = next.members_are })
     (c.take_bucket.ensures.steps wanted next.inside next.after next.parents all next.at))

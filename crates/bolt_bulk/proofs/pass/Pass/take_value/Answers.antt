@@ -16,7 +16,7 @@ rooted g c wanted after = grind (arith, common_steps, small_of, full_rooted)
 
 pub returns-then-len-lt-MAX_ITEMS-clause-steps : goal.returns-then-len-lt-MAX_ITEMS-clause-steps
 returns-then-len-lt-MAX_ITEMS-clause-steps g c =
-    λ wanted after parents put is. steps_none c.keep_value.result is c.keep_value.ensures.fault (c.keep_value.ensures.keeps wanted after parents put is)
+    λ wanted after parents put is. steps_none c.keep_value.result is c.keep_value.ensures.fault (c.keep_value.ensures.keeps wanted _ after parents put is)
 
 pub returns-in_err-open_pending-clause-steps : goal.returns-in_err-open_pending-clause-steps
 returns-in_err-open_pending-clause-steps g c = λ wanted after parents put is.

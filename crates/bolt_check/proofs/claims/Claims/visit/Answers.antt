@@ -1,5 +1,5 @@
-use Rattle.std.proofs.Common.{◌∙◌, ap, arith, length}
-use Rattle.std.proofs.{lemmas.Grind.common_steps, lemmas.Result.on_err_weaker}
+use Rattle.std.proofs.Common.{◌∙◌, ap, arith, inl, inr, length}
+use Rattle.std.proofs.{lemmas.Result.on_err_weaker, lemmas.Result.on_ok_weaker}
 use Rattle.bolt_check.proofs.{Words.claims_file, Words.unclaimed, Visited.stored}
 use Rattle.bolt_check.specs.Claims.{claims_length, claims_meta, is_claimed, pages_left}
 use Rattle.bolt_check.proofs.claims.Claims.visit.Goals as goal
@@ -25,7 +25,10 @@ returns-clause-left c =
 
 pub returns-clause-claims : goal.returns-clause-claims
 unfolding claims_file claims_meta is_claimed
-returns-clause-claims c = grind (arith, common_steps)
+returns-clause-claims c =
+    rw (stored c.args.self.now.table _ _ c.deref_mut.ensures.value c.visit.auto.table)
+    (on_ok_weaker c.visit.result (λ takes n. (takes.split n, λ h. elim h [ inl old ↦ takes.kept n old | inr span ↦ takes.span n span ]))
+    (rw c.deref_mut.ensures.value at c.visit.ensures.claims))
 
 pub returns-clause-fewer : goal.returns-clause-fewer
 unfolding pages_left

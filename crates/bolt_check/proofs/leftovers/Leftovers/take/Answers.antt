@@ -1,7 +1,8 @@
 use Rattle.std.proofs.lemmas.Grind.{common_steps}
 use Rattle.std.proofs.Common.{◌∙◌, ap, arith, length}
+use Rattle.bolt_lemmas.proofs.Exports.{if_none}
 use Rattle.bolt_check.specs.Leftovers.{is_listed, is_taken, leftovers_file, leftovers_length, leftovers_meta}
-use Rattle.bolt_check.proofs.{LeafLemmas.if_none, LeafLemmas.none_listed, Visited.stored}
+use Rattle.bolt_check.proofs.{LeafLemmas.none_listed, Visited.stored}
 use Rattle.bolt_check.proofs.leftovers.Leftovers.take.Goals as goal
 
 pub returns-clause-length : goal.returns-clause-length

@@ -10,4 +10,4 @@ returns c =
     let same = c.page_use.ensures ∙ ap (λ table. use_at table c.args.id) c.deref.ensures.value in
     rw (c.role_by.ensures, same)
     (∥∥₁_map roles.uses
-    (λ are. right_role roles.checked.bytes.now meta roles.table.items are c.args.id c.requires (omega (arith, c.high_water-high_water.ensures))))
+    (λ are. right_role roles.checked.bytes.now meta roles.table.items are c.args.id c.requires (omega (arith, c.fits.ensures))))

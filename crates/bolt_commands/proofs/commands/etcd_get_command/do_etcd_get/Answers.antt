@@ -1,8 +1,8 @@
-use Rattle.std.proofs.Common.{◌≡◌, ◌∙◌, Err, ap, option_map, refl, sym}
+use Rattle.std.proofs.Common.{◌∙◌, Err, ap, option_map, refl, sym}
 use Rattle.bolt_etcd.specs.Store.Newest.{value_if}
 use Rattle.bolt_commands.specs.{EtcdAnswers.IsAnswerAt, EtcdAnswers.IsNewestText, EtcdAnswers.entries_ending, KeyAnswers.value_shown}
 use Rattle.bolt_commands.specs.{declared.failure.Failure.TheVariants.NoKey}
-use Rattle.bolt_commands.proofs.{CutTexts.short_put, Doing.answer_as, Doing.answer_nothing, Vocabulary.Json}
+use Rattle.bolt_commands.proofs.{CutTexts.short_json_put, Doing.answer_as, Doing.answer_nothing}
 use Rattle.bolt_commands.proofs.EtcdAnswers.{answer_at, compacted_answer, here, keys, own, unread_store}
 use Rattle.bolt_commands.proofs.commands.etcd_get_command.do_etcd_get.Goals as goal
 
@@ -40,7 +40,7 @@ returns g c =
     let found = rw (c.as_slice.ensures.value, c.up_to.ensures) at (c.find-newest.ensures.revision entries are) in
     let some = ap value_if (sym found) ∙ sym c.value.ensures ∙ ap (option_map (λ value. value.now)) c.in-Some.is in
     let put =
-    short_put (job.form ≡ Json) (value_shown job.form job.no_newline c.in-Some.value.now) (entries_ending entries) c.put_value.result
-    c.put_value.ensures.written c.put_value.ensures.short c.put_value.ensures.fault in
+    short_json_put (value_shown job.form job.no_newline c.in-Some.value.now) (entries_ending entries) c.put_value.result
+    c.put_value.ensures.written job.form c.put_value.ensures.short c.put_value.ensures.fault in
     rw (c.end_value.ensures, c.find-newest.ensures.others entries are)
     (answer_at _ _ s of _ (λ store. IsNewestText job) job.at kept (answer_as put (λ answer shown. rw some shown)))

@@ -57,7 +57,7 @@ returns g c =
     let file = c.args.input.file.now in
     let choice = c.args.job.now.meta in
     let search = c.args.job.now.search in
-    let told = rw (c.lost.ensures, c.as_slice.ensures.value) at c.end_repair.ensures in
+    let told = rw (c.of.ensures, c.is_some.ensures, c.lost-lost.ensures, c.as_slice-unread.ensures.value) at c.end_copy.ensures in
     let faults = rw c.kind_of-kind.ensures.snapshot at c.of_copy-faults.ensures in
     elim c.in_ok-copy.ensures [
       | inl copies ↦

@@ -30,7 +30,7 @@ returns-in_err-value g c =
     let known = c.in_ok-at.ensures.end losses (rw of.bytes are) in
     let (none, why) =
     none_known own path c.in_ok-at.at holds (shortfall (parts losses) c.metas_fault-other.result) _
-    (rw (c.find-lost.ensures, c.losses.ensures.losses, known) at c.in_err-value.ensures) in
+    (rw (c.find-shortfall.ensures, c.losses.ensures.losses, known) at c.in_err-value.ensures) in
     of_recovery r of _ c.metas_fault-other.ensures (IsRecoveredValue c.args.job.now) _ own is losses are
     (answer_nothing (no_value path own (shortfall (parts losses) c.metas_fault-other.result)) _ (inr (none, refl))
     (rw why at c.from_residual-in_err-value.ensures.1))
@@ -49,7 +49,7 @@ returns-in_err-put_value g c =
     let known = c.in_ok-at.ensures.end losses (rw of.bytes are) in
     let held =
     value_known own path c.in_ok-at.at holds (shortfall (parts losses) c.metas_fault-other.result) _
-    (rw (c.find-lost.ensures, c.losses.ensures.losses, known) at c.in_ok-value.ensures) in
+    (rw (c.find-shortfall.ensures, c.losses.ensures.losses, known) at c.in_ok-value.ensures) in
     let put = c.in_err-put_value.ensures in
     rw (ends_as _ _ c.from_residual-in_err-put_value.ensures.1)
     (of_recovery r of _ c.metas_fault-other.ensures (IsRecoveredValue c.args.job.now) _ own is losses are
@@ -69,8 +69,8 @@ returns g c =
     let known = c.in_ok-at.ensures.end losses (rw of.bytes are) in
     let held =
     value_known own path c.in_ok-at.at holds (shortfall (parts losses) c.metas_fault-other.result) _
-    (rw (c.find-lost.ensures, c.losses.ensures.losses, known) at c.in_ok-value.ensures) in
+    (rw (c.find-shortfall.ensures, c.losses.ensures.losses, known) at c.in_ok-value.ensures) in
     let put = c.in_ok-put_value.ensures in
-    rw (c.end_listing.ensures, c.find-lost.ensures, c.losses.ensures.losses, known)
+    rw (c.end_listing.ensures, c.find-shortfall.ensures, c.losses.ensures.losses, known)
     (of_recovery r of _ c.metas_fault-other.ensures (IsRecoveredValue c.args.job.now) _ own is losses are
     (value_put {A = Bool} c.args.job.now own (shortfall (parts losses) c.metas_fault-other.result) _ held (Ok true) put.written put.short tt))

@@ -1,6 +1,6 @@
-use Rattle.std.proofs.Common.{◌≡◌, Ok, inl, inr, refl, sym}
-use Rattle.bolt_commands.proofs.Vocabulary.{Json, Value, owned_path, value_shown}
-use Rattle.bolt_commands.proofs.{AtPaths.held_at, CutTexts.short_put, Doing.answer_as, Doing.answer_nothing, ReadFiles.own_trees}
+use Rattle.std.proofs.Common.{Ok, inl, inr, refl, sym}
+use Rattle.bolt_commands.proofs.Vocabulary.{Value, owned_path, value_shown}
+use Rattle.bolt_commands.proofs.{AtPaths.held_at, CutTexts.short_json_put, Doing.answer_as, Doing.answer_nothing, ReadFiles.own_trees}
 use Rattle.bolt_commands.proofs.commands.get_command.get_sound.Goals as goal
 
 pub returns-in_err-checked : goal.returns-in_err-checked
@@ -21,5 +21,5 @@ returns g c =
     let held =
     held_at c.in_ok-checked.checked (owned_path job.path.items) (Value c.in_ok-value.value.now) trees
     (rw (sym c.as_slice.ensures.value) c.in_ok-value.ensures.holds) in
-    let put = short_put (job.form ≡ Json) shown (Ok 0) c.put_value.result c.put_value.ensures.written c.put_value.ensures.short c.put_value.ensures.fault in
+    let put = short_json_put shown (Ok 0) c.put_value.result c.put_value.ensures.written job.form c.put_value.ensures.short c.put_value.ensures.fault in
     rw c.ended.ensures (answer_as put (λ answer is. inl (_, opened.sound, inl (_, rw opened.bytes at held, is))))

@@ -1,8 +1,9 @@
 -- What is read, and the part of it that is put.
 use Rattle.std.proofs.Common.{Err, Ok, [], ap, inl, inr, refl}
+use Rattle.bolt_lemmas.proofs.Exports.{on_any}
 use Rattle.bolt_commands.proofs.Vocabulary.{IsRecovered, all_lost, has_listing, has_losses, has_recovered, meta_of, parts, recovery_file}
 use Rattle.bolt_commands.proofs.Vocabulary.{recovery_left, recovery_meta}
-use Rattle.bolt_commands.proofs.{Doing.ends_as, Doing.on_any, ListAnswers.members_put, ReadFiles.read_trees, OpenedReads.recovered_read}
+use Rattle.bolt_commands.proofs.{Doing.ends_as, ListAnswers.members_put, ReadFiles.read_trees, OpenedReads.recovered_read}
 use Rattle.bolt_commands.proofs.{OpenedReads.searched_read, OpenedReads.sound_read}
 use Rattle.bolt_commands.proofs.commands.list_command.put_listed_part.Goals as goal
 

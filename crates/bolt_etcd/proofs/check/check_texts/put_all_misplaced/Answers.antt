@@ -1,9 +1,9 @@
 use Rattle.std.proofs.Common.{◌∙◌, ℕ, List, ap, map, subst, sym}
+use Rattle.bolt_lemmas.proofs.Exports.{drops, keeps}
 use Rattle.bolt_etcd.specs.{Check.CheckLines.misplaced_line, Check.Misplaced.is_misplaced, Check.Misplaced.misplaced}
 use Rattle.bolt_etcd.specs.{Wire.ShownRevisions.shown_revision}
 use Rattle.bolt_etcd.proofs.ListedTexts.{Listed, listed_fault, listed_one, shown_at}
 use Rattle.bolt_etcd.proofs.check.check_texts.put_all_misplaced.Goals.{else-is_misplaced, then-is_misplaced+in_ok-put_misplaced}
-use Rattle.bolt_tree.proofs.Exports.{drops, keeps}
 use Rattle.bolt_etcd.proofs.check.check_texts.put_all_misplaced.Goals as goal
 
 pub rest-preserved : goal.rest-preserved

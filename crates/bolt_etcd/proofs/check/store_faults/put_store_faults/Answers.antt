@@ -1,25 +1,26 @@
-use Rattle.std.proofs.Common.{◌≡◌, ◌∙◌, ◌++◌, List, ℕ, None, Option, ap, append-nil, codes, length, sym}
+use Rattle.std.proofs.Common.{◌≡◌, ◌∙◌, ◌++◌, List, ℕ, None, Option, ap, append-nil, length, sym}
 use Rattle.std.proofs.lemmas.List.Folds.{concat-append}
 use Rattle.std.specs.List.{concat}
 use Rattle.bolt_check.specs.Counts.{counted}
 use Rattle.bolt_format.proofs.Exports.{Wrote-same, Wrote-then}
 use Rattle.bolt_format.specs.{Elements.LeafElement, Endings.broken, Endings.whole, Wrote.Wrote}
 use Rattle.bolt_text.proofs.Exports.{Wrote-passed, Wrote-sink, Wrote-unbegun}
-use Rattle.bolt_etcd.specs.Check.StoreFaults.{missing_bucket_lines, bucket_names, key_lines}
+use Rattle.bolt_etcd.specs.Check.StoreFaults.{missing_bucket_lines, key_lines}
+use Rattle.bolt_etcd.specs.Store.BucketNames.{bucket_names, key_bucket}
 use Rattle.bolt_etcd.proofs.{ByName.until_all, ListedTexts.counted_three}
 use Rattle.bolt_etcd.proofs.StoreLemmas.{entries_hold, fits, fits_none, found_names, lines_are, lines_text, names_hold, of_entries, of_names}
 use Rattle.bolt_etcd.proofs.check.store_faults.put_store_faults.Goals as goal
 
 pub returns-in_err-of_buckets-clause-written : goal.returns-in_err-of_buckets-clause-written
 returns-in_err-of_buckets-clause-written g c = λ store is.
-    Wrote-same (sym (concat-append (missing_bucket_lines store bucket_names) (key_lines store (store.bucket (codes "key")))))
+    Wrote-same (sym (concat-append (missing_bucket_lines store bucket_names) (key_lines store (store.bucket key_bucket))))
     (Wrote-sink _ _ (c.in_err-of_buckets.ensures.written store is) c.from_residual.ensures.1)
 
 pub returns-in_default-clause-written : goal.returns-in_default-clause-written
 returns-in_default-clause-written g c = λ store is.
     let none =
-    fits_none c.args.root.now (store.bucket (codes "key"))
-    (fits c.args.root.now (codes "key") None (store.bucket (codes "key")) (rw c.in_default.is at c.bucket.ensures.bucket) (is.buckets (codes "key"))) in
+    fits_none c.args.root.now (store.bucket key_bucket)
+    (fits c.args.root.now key_bucket None (store.bucket key_bucket) (rw c.in_default.is at c.bucket.ensures.bucket) (is.buckets key_bucket)) in
     Wrote-same (ap concat
     (sym (ap (λ (b : Option (List LeafElement)). missing_bucket_lines store bucket_names ++ key_lines store b) none
     ∙ append-nil (missing_bucket_lines store bucket_names))))
@@ -27,7 +28,7 @@ returns-in_default-clause-written g c = λ store is.
 
 pub returns-in_err-found-clause-written : goal.returns-in_err-found-clause-written
 returns-in_err-found-clause-written g c = λ store is.
-    Wrote-same (sym (concat-append (missing_bucket_lines store bucket_names) (key_lines store (store.bucket (codes "key")))))
+    Wrote-same (sym (concat-append (missing_bucket_lines store bucket_names) (key_lines store (store.bucket key_bucket))))
     (Wrote-then (c.in_ok-of_buckets.ensures.written store is) (Wrote-unbegun _ _ _ c.from_residual-in_err-found.ensures.1))
 
 pub returns-in_err-of_entries-clause-written : goal.returns-in_err-of_entries-clause-written

@@ -1,9 +1,10 @@
 use Rattle.std.proofs.Common.{List, map, subst, sym}
-use Rattle.bolt_tree.specs.Order.{Rises}
-use Rattle.bolt_etcd.specs.{Store.Current.AreNewest, Store.Current.stored_key_cmp, Store.Newest.is_until, Wire.Revisions.RevisionView}
+use Rattle.bolt_lemmas.proofs.Exports.{filter_rises}
+use Rattle.bolt_lemmas.specs.Order.{Rises}
+use Rattle.bolt_etcd.specs.{Store.Current.AreNewest, Store.Newest.is_until, Wire.Revisions.RevisionView}
+use Rattle.bolt_etcd.specs.Store.Orders.{stored_key_cmp}
 use Rattle.bolt_etcd.specs.{Wire.ShownRevisions.shown_revision, Store.Stores.revisions}
 use Rattle.bolt_etcd.proofs.{CurrentOnes.current_list, Currents.own_keys, Currents.revisions_rise}
-use Rattle.bolt_tree.proofs.Exports.{filter_rises}
 use Rattle.bolt_etcd.proofs.store.current.current_by_key.Goals as goal
 
 pub returns-clause-current : goal.returns-clause-current

@@ -1,8 +1,9 @@
 use Rattle.std.proofs.Common.{◌≡◌, ap, is_lt, rules}
 use Rattle.std.proofs.lemmas.List.Sorted.{IsPermutation-map, IsPermutation-trans, answers_always}
-use Rattle.bolt_etcd.specs.{Store.Current.stored_key_cmp, Wire.ShownRevisions.shown_revision}
+use Rattle.bolt_lemmas.proofs.Exports.{sorted_mapped}
+use Rattle.bolt_etcd.specs.{Wire.ShownRevisions.shown_revision}
+use Rattle.bolt_etcd.specs.Store.Orders.{stored_key_cmp}
 use Rattle.bolt_etcd.proofs.CurrentOnes.{code_by_key, code_key_ranks}
-use Rattle.bolt_tree.proofs.Exports.{sorted_mapped}
 use Rattle.bolt_etcd.proofs.store.current.sort_by_key.Goals as goal
 
 pub returns-clause-same : goal.returns-clause-same

@@ -1,8 +1,9 @@
 use Rattle.std.proofs.Common.{◌≡◌, ap, is_lt, rules}
 use Rattle.std.proofs.lemmas.List.Sorted.{IsPermutation-map, IsPermutation-trans, answers_always}
-use Rattle.bolt_etcd.specs.{Store.Current.name_cmp, Wire.ShownRevisions.shown_revision}
+use Rattle.bolt_lemmas.proofs.Exports.{sorted_mapped}
+use Rattle.bolt_etcd.specs.{Wire.ShownRevisions.shown_revision}
+use Rattle.bolt_etcd.specs.Store.Orders.{name_cmp}
 use Rattle.bolt_etcd.proofs.Currents.{code_by_name, code_name_ranks}
-use Rattle.bolt_tree.proofs.Exports.{sorted_mapped}
 use Rattle.bolt_etcd.proofs.store.current.sort_by_name.Goals as goal
 
 pub returns-clause-same : goal.returns-clause-same

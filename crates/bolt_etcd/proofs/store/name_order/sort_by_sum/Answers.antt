@@ -1,6 +1,7 @@
 use Rattle.std.proofs.Common.{◌≡◌, ap, is_lt, rules}
 use Rattle.std.proofs.lemmas.List.Sorted.{IsPermutation-trans, answers_always}
-use Rattle.bolt_etcd.specs.{Wire.ShownRevisions.shown_revision, Store.SumOrder.by_sum_cmp}
+use Rattle.bolt_etcd.specs.{Wire.ShownRevisions.shown_revision}
+use Rattle.bolt_etcd.specs.Store.Orders.{by_sum_cmp}
 use Rattle.bolt_etcd.proofs.SumOrders.{are_sorted, code_by_sum, code_by_sum_ranks}
 use Rattle.bolt_etcd.proofs.store.name_order.sort_by_sum.Goals as goal
 

@@ -1,4 +1,4 @@
-use Rattle.std.proofs.Common.{ap, arith, sym, true, ◌∙◌}
+use Rattle.std.proofs.Common.{ap, sym, ◌∙◌}
 use Rattle.bolt_recover.proofs.{Searched.gaps_known, Searched.no_gap, Words.all_lost, Words.false≢true, Words.lost_of}
 use Rattle.bolt_recover.specs.Losses.{is_nothing}
 use Rattle.bolt_recover.proofs.lost_and_found.LostAndFound.gaps.Goals as goal

@@ -10,19 +10,19 @@ pub invariant_of-result-clause-searched : goal.invariant_of-result-clause-search
 invariant_of-result-clause-searched c = grind (arith, merely, c.in-Ok.ensures.file, c.in-Ok.ensures.meta)
 
 pub found_without_root-requires-clause-lost : goal.found_without_root-requires-clause-lost
-found_without_root-requires-clause-lost c = (c.in-Err-Structure.finding, rw c.in-Err-Structure.field-0-is at c.in-Err-Structure.ensures.refused)
+found_without_root-requires-clause-lost c = (c.in-Err-Lost.finding, rw c.in-Err-Lost.field-0-is at c.in-Err-Lost.ensures.refused)
 
-pub invariant_of-result-in-Err-Structure-clause-bytes : goal.invariant_of-result-in-Err-Structure-clause-bytes
-invariant_of-result-in-Err-Structure-clause-bytes c = λ i. (c.type_inv.file i).fits
+pub invariant_of-result-in-Err-Lost-clause-bytes : goal.invariant_of-result-in-Err-Lost-clause-bytes
+invariant_of-result-in-Err-Lost-clause-bytes c = λ i. (c.type_inv.file i).fits
 
-pub invariant_of-result-in-Err-Structure-clause-searched : goal.invariant_of-result-in-Err-Structure-clause-searched
-invariant_of-result-in-Err-Structure-clause-searched c =
-    let loses = rw c.in-Err-Structure.field-0-is at c.in-Err-Structure.ensures.refused in
-    let part = c.in_ok-found-in-Err-Structure.ensures in
+pub invariant_of-result-in-Err-Lost-clause-searched : goal.invariant_of-result-in-Err-Lost-clause-searched
+invariant_of-result-in-Err-Lost-clause-searched c =
+    let loses = rw c.in-Err-Lost.field-0-is at c.in-Err-Lost.ensures.refused in
+    let part = c.in_ok-found-in-Err-Lost.ensures in
     merely (record { left = tt; lost = loses; are_found = part.found; views = part.views })
 
-pub returns-in-Err-Structure-clause-searched : goal.returns-in-Err-Structure-clause-searched
-returns-in-Err-Structure-clause-searched c =
-    let loses = rw c.in-Err-Structure.field-0-is at c.in-Err-Structure.ensures.refused in
-    let part = c.in_ok-found-in-Err-Structure.ensures in
+pub returns-in_ok-found-in-Err-Lost-clause-searched : goal.returns-in_ok-found-in-Err-Lost-clause-searched
+returns-in_ok-found-in-Err-Lost-clause-searched c =
+    let loses = rw c.in-Err-Lost.field-0-is at c.in-Err-Lost.ensures.refused in
+    let part = c.in_ok-found-in-Err-Lost.ensures in
     record { left = tt; lost = loses; are_found = part.found; views = part.views }

@@ -1,11 +1,12 @@
 use Rattle.std.proofs.Common.{arith, ◌∙◌, List, [], ◌∷◌, ◌++◌, None, Some, ap, refl}
-use Rattle.bolt_recover.proofs.Words.{claims_file, claims_meta, IsRefusedRoot, OpenPage, passed_on, Structure}
+use Rattle.bolt_recover.proofs.Words.{claims_file, claims_meta, IsRefusedRoot, OpenPage, passed_on}
+use Rattle.bolt_recover.specs.declared.root_fault.RootFault.TheVariants.{Lost}
 use Rattle.bolt_recover.proofs.StepLemmas.{begins, root_gives, root_visit}
 use Rattle.bolt_recover.proofs.steps.Steps.new.Goals as goal
 
 pub returns-in_err-content-clause-refused : goal.returns-in_err-content-clause-refused
 returns-in_err-content-clause-refused c =
-    passed_on c.from_residual.result (Structure c.in_err-content.field-0.0) (IsRefusedRoot (claims_file c.args.claims) (claims_meta c.args.claims))
+    passed_on c.from_residual.result (Lost c.in_err-content.field-0.0) (IsRefusedRoot (claims_file c.args.claims) (claims_meta c.args.claims))
     (root_gives c.args.claims (Some c.in_err-content.field-0.0) c.requires (rw (c.root_of-root.ensures, c.meta.ensures) at c.in_err-content.ensures.found))
     c.from_residual.ensures.1
 

@@ -1,8 +1,8 @@
 use Rattle.std.proofs.Common.{Bor, List, [], ap, map, subst, sym, ◌++◌, ◌∷◌, None, ℕ}
+use Rattle.bolt_lemmas.proofs.Exports.{contains_none}
 use Rattle.bolt_tree.specs.{Listing.Member, Paths.path_of, ShownEntries.item_view}
 use Rattle.bolt_etcd.specs.{Wire.ShownRevisions.entry_of, Wire.ShownRevisions.shown_revision, declared.wire.revision.Revision.Revision}
 use Rattle.bolt_etcd.specs.Wire.Others.{shown_other}
-use Rattle.bolt_tree.proofs.Exports.{contains_none}
 use Rattle.bolt_repair.specs.Repairs.{meta_path}
 use Rattle.bolt_repair.specs.RecoveredStores.{IsRecoveredStore, IsStoreNoted}
 use Rattle.bolt_repair.proofs.NotedMembers.{next_member, no_more, no_members_noted}

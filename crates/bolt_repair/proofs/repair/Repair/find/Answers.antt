@@ -1,14 +1,15 @@
 -- What is found, looked at beside the recovered listing.
 use Rattle.std.proofs.Common.{◌≡◌, ◌∙◌, ◌-◌, ◌≤◌, ◌&&◌, Bool, not, ap, false, refl, Some, subst, sym, vec_len, List, arith, map, length}
+use Rattle.bolt_lemmas.proofs.Exports.{kept, kept_from, rises_sorted}
+use Rattle.bolt_lemmas.specs.Order.{Rises}
 use Rattle.bolt_etcd.specs.{Wire.ShownRevisions.entry_of, declared.wire.revision.Revision.Revision}
-use Rattle.bolt_tree.proofs.Exports.{kept, kept_from, key_total}
-use Rattle.bolt_etcd.proofs.Exports.{rises_sorted}
+use Rattle.bolt_tree.proofs.Exports.{key_total}
 use Rattle.bolt_repair.proofs.FoundRepairs.{HasNothing, has_bucket, made_if, none_under, refused, searched_full, searched_least, searched_repair}
 use Rattle.bolt_repair.proofs.FoundRepairs.{searched_rise}
 use Rattle.bolt_repair.proofs.{WholeRepairs.is_nil, WholeRepairs.value_under}
 use Rattle.std.proofs.lemmas.Bool.{and_right}
 use Rattle.std.specs.Option.{option_map}
-use Rattle.bolt_tree.specs.{Entries.Bucket, Entries.EntryView, Entries.Value, Listing.Member, Order.Rises, ShownEntries.item_view}
+use Rattle.bolt_tree.specs.{Entries.Bucket, Entries.EntryView, Entries.Value, Listing.Member, ShownEntries.item_view}
 use Rattle.bolt_recover.specs.ShownLosses.{lost_view}
 use Rattle.std.proofs.Math.Logic.{∥∥₁_map}
 use Rattle.bolt_repair.specs.{Candidates.whole_cmp, Readable.is_readable, Repaired.IsRepair, RepairRefusals.IsRepairRefusal, Repairs.store_path}

@@ -1,7 +1,7 @@
 use Rattle.std.proofs.Common.{◌≤◌, Option, Some, None, length, sym, ap, ◌∙◌, arith}
 use Rattle.std.specs.Option.{option_to_list}
+use Rattle.bolt_lemmas.proofs.Exports.{if_given}
 use Rattle.bolt_etcd.specs.{Private.MissingLeft.missing_number, Store.RevisionsLeft.number_ahead, declared.check.missing.Missing.Missing}
-use Rattle.bolt_etcd.proofs.OtherSteps.{if_given}
 use Rattle.bolt_etcd.proofs.check.missing.MissingNumbers.next.Goals as goal
 
 at_most_one : (o : Option Missing) → length (option_to_list o) ≤ 1

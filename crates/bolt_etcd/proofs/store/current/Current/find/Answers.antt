@@ -1,9 +1,10 @@
 use Rattle.std.proofs.Common.{List, map, subst, sym}
-use Rattle.bolt_tree.specs.Order.{Rises}
-use Rattle.bolt_etcd.specs.{Store.Current.AreCurrent, Store.Current.stored_key_cmp, Store.Newest.is_until, Wire.Revisions.RevisionView}
+use Rattle.bolt_lemmas.proofs.Exports.{filter_rises}
+use Rattle.bolt_lemmas.specs.Order.{Rises}
+use Rattle.bolt_etcd.specs.{Store.Current.AreCurrent, Store.Newest.is_until, Wire.Revisions.RevisionView}
+use Rattle.bolt_etcd.specs.Store.Orders.{stored_key_cmp}
 use Rattle.bolt_etcd.specs.{Wire.ShownRevisions.shown_revision, Store.Stores.revisions}
 use Rattle.bolt_etcd.proofs.Currents.{own_keys, revisions_rise, sorted_are_current}
-use Rattle.bolt_tree.proofs.Exports.{filter_rises}
 use Rattle.bolt_etcd.proofs.store.current.Current.find.Goals as goal
 
 pub returns-clause-keys : goal.returns-clause-keys

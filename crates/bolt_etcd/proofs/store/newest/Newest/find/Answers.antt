@@ -1,9 +1,9 @@
 use Rattle.std.proofs.Common.{◌∙◌, List, None, ap, filter, sym}
 use Rattle.std.specs.{List.last_or, Option.option_map}
+use Rattle.bolt_lemmas.proofs.Exports.{filter_both, skips, takes_last}
 use Rattle.bolt_etcd.specs.{Store.Newest.is_named, Store.Newest.is_of, Store.Newest.is_until, Store.Newest.newest, Wire.Revisions.RevisionView}
 use Rattle.bolt_etcd.specs.{Store.RevisionsLeft.ahead_of, Wire.ShownRevisions.shown_revision, Store.Stores.revisions}
-use Rattle.bolt_etcd.proofs.{LastOfAll.skips, LastOfAll.takes_last, RevisionLoops.counted_all, RevisionLoops.given_in, RevisionLoops.passed_more}
-use Rattle.bolt_tree.proofs.Exports.{filter_both}
+use Rattle.bolt_etcd.proofs.{RevisionLoops.counted_all, RevisionLoops.given_in, RevisionLoops.passed_more}
 use Rattle.bolt_etcd.proofs.store.newest.Newest.find.Goals as goal
 
 pub rest-preserved-then-is_of : goal.rest-preserved-then-is_of

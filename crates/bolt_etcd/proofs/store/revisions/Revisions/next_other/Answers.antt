@@ -1,9 +1,10 @@
 use Rattle.std.proofs.Common.{Option, Some, ap, arith, sym, ◌∙◌, ◌<◌}
 use Rattle.std.specs.Option.{option_map}
+use Rattle.bolt_lemmas.proofs.Exports.{if_given}
 use Rattle.bolt_tree.specs.ShownEntries.{shown_entry}
 use Rattle.bolt_etcd.specs.{Wire.Others.GivesOther, Wire.Others.OtherView, Wire.Others.other_of, Store.RevisionsLeft.ahead_of}
 use Rattle.bolt_etcd.specs.{Store.RevisionsLeft.number_ahead}
-use Rattle.bolt_etcd.proofs.{OtherSteps.if_given, OtherSteps.none_other, OtherSteps.some_other, PassSteps.goes_by_one, PassSteps.one_shown}
+use Rattle.bolt_etcd.proofs.{OtherSteps.none_other, OtherSteps.some_other, PassSteps.goes_by_one, PassSteps.one_shown}
 use Rattle.bolt_etcd.proofs.RevisionSteps.{goes_none, number_falls}
 use Rattle.bolt_etcd.proofs.store.revisions.Revisions.next_other.Goals as goal
 

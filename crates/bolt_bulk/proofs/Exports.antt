@@ -1,2 +1,0 @@
--- What the proofs of other crates may cite of this one. Its other modules of proofs are its own.
-pub use Rattle.bolt_bulk.proofs.JoinedFits.{bucket_fits, recovered_fits}
